@@ -1,0 +1,11 @@
+// The vocabulary of the engine: values, rows, queries, schemas, requests and replies, and the definitions that every
+// contract cites. It stands on std alone; each crate above stands on it. The layer above uses the types as the lists,
+// ranges and networks that contracts see, `matches` and `row_matches`, and the definitions of private copies in specs/.
+#![tactic(auto)]
+
+pub mod name;
+pub mod sequence;
+
+/// Want of memory, and nothing else.
+#[derive(Clone, Copy, Debug, PartialEq, Eq)]
+pub struct NoMemory;

@@ -1,0 +1,8 @@
+-- what a sink has taken of some bytes
+use Rattle.std.specs.Prelude.{ℕ, List, take}
+use Rattle.std.specs.declared.option.Option.{Option}
+use Rattle.std.specs.Io.KnownBytes.{Appends}
+
+-- a front of the bytes was taken
+abbrev pub AppendsPart : Option (List ℕ) → Option (List ℕ) → List ℕ → Type 0
+AppendsPart old new bytes = (n : ℕ) × Appends old new (take n bytes)
