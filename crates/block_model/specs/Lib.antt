@@ -1,3 +1,9 @@
 pub mod Causes
 pub mod Padded
 pub mod Names
+pub mod Ranges
+pub mod Spans
+pub mod Networks
+pub mod Nets
+pub mod Matches
+pub mod RowMatches

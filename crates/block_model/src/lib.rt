@@ -4,7 +4,16 @@
 #![tactic(auto)]
 
 pub mod name;
+pub mod net;
+pub mod place;
+pub mod reply;
+pub mod request;
+pub mod row;
+pub mod schema;
 pub mod sequence;
+pub mod span;
+pub mod value;
+pub mod words;
 
 /// Want of memory, and nothing else.
 #[derive(Clone, Copy, Debug, PartialEq, Eq)]

@@ -47,7 +47,8 @@ impl<T> Sequence<T> {
 
     /// Adds one at the end. After a refusal nothing is changed.
     pub fn push(&mut self, item: T) -> Result<(), NoMemory>
-        where T: Drop
+    where
+        T: Drop,
         ensures ok { OnOk result (self.new ≡ self.old ++ item ∷ []) }
         ensures err { OnErr result (self.new ≡ self.old) }
     {
