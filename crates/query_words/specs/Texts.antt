@@ -1,0 +1,120 @@
+-- what is printed for a reply
+use Rattle.std.specs.Prelude.{ℕ, ◌+◌, ◌/◌, ◌%◌, ◌^◌, ◌==◌, List, [], ◌∷◌, ◌++◌, length, codes, decimal, if◌then◌else◌, ℤ, Option, None, Some}
+use Rattle.std.specs.Fmt.{signed_decimal}
+use Rattle.std.specs.List.{flat_map}
+use Rattle.block_model.specs.Ranges.{Range, Empty, Between}
+use Rattle.block_model.specs.Networks.{Network}
+use Rattle.block_model.specs.declared.value.Value.{Value}
+use Rattle.block_model.specs.declared.value.Value.TheVariants as values
+use Rattle.block_model.specs.declared.row.RowId.{RowId}
+use Rattle.block_model.specs.declared.row.Row.{Row}
+use Rattle.block_model.specs.declared.reply.Reply.{Reply}
+use Rattle.block_model.specs.declared.reply.Reply.TheVariants as replies
+use Rattle.block_model.specs.declared.reply.Refusal.{Refusal}
+use Rattle.block_model.specs.declared.reply.Refusal.TheVariants as refusals
+use Rattle.block_model.specs.declared.reply.What.{What}
+use Rattle.block_model.specs.declared.reply.What.TheVariants as whats
+
+-- the lower side of a range, open where it is infinite
+abbrev pub lower_text : Option ℤ → List ℕ
+lower_text None = codes "("
+lower_text (Some n) = codes "[" ++ signed_decimal n
+
+-- the upper side of a range
+abbrev pub upper_text : Option ℤ → List ℕ
+upper_text None = codes ")"
+upper_text (Some n) = signed_decimal n ++ codes ")"
+
+abbrev pub range_text : Range → List ℕ
+range_text Empty = codes "empty"
+range_text (Between lower upper) = lower_text lower ++ codes "," ++ upper_text upper
+
+-- the length of a prefix, where it isn't the whole address
+abbrev pub prefix_text : ℕ → List ℕ
+prefix_text bits = if bits == 32 then [] else codes "/" ++ decimal bits
+
+-- the four bytes of an address, the highest first
+abbrev pub address_text : ℕ → List ℕ
+address_text a =
+    decimal (a / 2 ^ 24 % 256) ++ codes "." ++ decimal (a / 2 ^ 16 % 256) ++ codes "." ++ decimal (a / 2 ^ 8 % 256) ++ codes "." ++ decimal (a % 256)
+
+abbrev pub network_text : Network → List ℕ
+network_text n = address_text n.address ++ prefix_text n.prefix
+
+abbrev pub value_text : Value → List ℕ
+value_text values.Null = codes "null"
+value_text (values.Int n) = signed_decimal n
+value_text (values.Span range) = range_text range
+value_text (values.Net network) = network_text network
+
+-- each behind a space
+abbrev pub values_text : List Value → List ℕ
+values_text vs = flat_map (λ v. codes " " ++ value_text v) vs
+
+-- T.K
+abbrev pub id_text : RowId → List ℕ
+id_text id = decimal id.t ++ codes "." ++ decimal id.k
+
+abbrev pub row_text : List ℕ → Row → List ℕ
+row_text name row = name ++ codes " row " ++ id_text row.id ++ values_text row.values ++ codes "\n"
+
+-- a line per row, and one with their number
+abbrev pub rows_text : List ℕ → List Row → List ℕ
+rows_text name rows = flat_map (row_text name) rows ++ (name ++ codes " rows " ++ decimal (length rows) ++ codes "\n")
+
+-- the runs of consecutive numbers, each by its first and its last one, behind a run that goes on
+abbrev pub runs_from : ℕ → ℕ → List ℕ → List (ℕ × ℕ)
+runs_from first last [] = (first, last) ∷ []
+runs_from first last (b ∷ bs) = if b == last + 1 then runs_from first b bs else (first, last) ∷ runs_from b b bs
+
+abbrev pub runs_of : List ℕ → List (ℕ × ℕ)
+runs_of [] = []
+runs_of (b ∷ bs) = runs_from b b bs
+
+-- one number, or the first and the last one
+abbrev pub run_text : ℕ × ℕ → List ℕ
+run_text run = if run.0 == run.1 then codes " " ++ decimal run.0 else codes " " ++ decimal run.0 ++ codes "-" ++ decimal run.1
+
+abbrev pub blocks_text : List ℕ → List ℕ
+blocks_text [] = codes " none"
+blocks_text (b ∷ bs) = flat_map run_text (runs_of (b ∷ bs))
+
+-- what is held, by whom
+abbrev pub held_text : What → List ℕ → List ℕ
+held_text (whats.Page relation block) holder = codes "page " ++ relation ++ codes " " ++ decimal block ++ codes " " ++ holder
+held_text (whats.Work table) holder = codes "work " ++ table ++ codes " " ++ holder
+
+-- a line that isn't read names no session
+abbrev pub refusal_text : List ℕ → Refusal → List ℕ
+refusal_text name (refusals.Syntax at) = codes "- error 1 " ++ decimal at ++ codes "\n"
+refusal_text name (refusals.NoTable at) = codes "- error 2 " ++ decimal at ++ codes "\n"
+refusal_text name (refusals.NoColumn at) = codes "- error 3 " ++ decimal at ++ codes "\n"
+refusal_text name refusals.NoTransaction = name ++ codes " error 4\n"
+refusal_text name refusals.UnderWay = name ++ codes " error 5\n"
+refusal_text name refusals.Doomed = name ++ codes " error 6\n"
+refusal_text name (refusals.Conflict id) = name ++ codes " error 7 " ++ id_text id ++ codes "\n"
+refusal_text name (refusals.Full relation number) = name ++ codes " error 8 " ++ relation ++ codes " " ++ decimal number ++ codes "\n"
+refusal_text name (refusals.NoIndex at) = codes "- error 9 " ++ decimal at ++ codes "\n"
+refusal_text name (refusals.Limit limit) = name ++ codes " error 10 " ++ decimal limit ++ codes "\n"
+refusal_text name (refusals.Blocked what holder) = name ++ codes " error 11 " ++ held_text what holder ++ codes "\n"
+refusal_text name refusals.InHand = name ++ codes " error 12\n"
+refusal_text name refusals.Memory = name ++ codes " error 13\n"
+refusal_text name refusals.NothingStarted = name ++ codes " error 14\n"
+
+-- the lines of a reply to the session of that name
+unfoldable pub reply_text : List ℕ → Reply → List ℕ
+reply_text name (replies.Begun t) = name ++ codes " begun " ++ decimal t ++ codes "\n"
+reply_text name (replies.Inserted id) = name ++ codes " inserted " ++ id_text id ++ codes "\n"
+reply_text name (replies.Found rows) = rows_text name rows
+reply_text name (replies.Deleted count) = name ++ codes " deleted " ++ decimal count ++ codes "\n"
+reply_text name replies.Committed = name ++ codes " committed\n"
+reply_text name replies.RolledBack = name ++ codes " rolled back\n"
+reply_text name (replies.Kept blocks) = name ++ codes " blocks" ++ blocks_text blocks ++ codes "\n"
+reply_text name (replies.Summarized count) = name ++ codes " summarized " ++ decimal count ++ codes "\n"
+reply_text name (replies.Desummarized count) = name ++ codes " desummarized " ++ decimal count ++ codes "\n"
+reply_text name (replies.Vacuumed rows orphans ranges) =
+    name ++ codes " vacuumed rows " ++ decimal rows ++ codes " orphans " ++ decimal orphans ++ codes " ranges " ++ decimal ranges ++ codes "\n"
+reply_text name (replies.Worked index range count) =
+    name ++ codes " worked " ++ index ++ codes " " ++ decimal range ++ codes " " ++ decimal count ++ codes "\n"
+reply_text name replies.Idle = name ++ codes " worked none\n"
+reply_text name (replies.Refused refusal) = refusal_text name refusal
