@@ -7,3 +7,7 @@ pub mod Networks
 pub mod Nets
 pub mod Matches
 pub mod RowMatches
+pub mod TableState
+pub mod DatabaseState
+pub mod RequestEffect
+pub mod SerialRun

@@ -12,6 +12,8 @@ pub mod row;
 pub mod schema;
 pub mod sequence;
 pub mod span;
+#[cfg(test)]
+mod tests;
 pub mod value;
 pub mod words;
 
