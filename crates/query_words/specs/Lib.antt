@@ -4,3 +4,5 @@ pub mod Statements
 pub mod Lines
 pub mod Declarations
 pub mod Texts
+pub mod StatementRequests
+pub mod ScriptTexts

@@ -5,6 +5,7 @@
 #![tactic(auto)]
 
 pub mod declaration;
+pub mod laws;
 pub mod line;
 pub mod reply;
 pub mod statement;
