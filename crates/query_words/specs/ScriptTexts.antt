@@ -2,15 +2,12 @@
 use Rattle.std.specs.Prelude.{◌≡◌, ℕ, ◌+◌, nat_lt, Bool, List, [], ◌∷◌, ◌++◌, length, Option, None, Some, Result, Ok, Err, if◌then◌else◌, refl}
 use Rattle.std.proofs.Common.{sym, ◌∙◌}
 use Rattle.std.specs.Str.{bytes_eq}
-use Rattle.std.specs.FinMap as map
 use Rattle.block_model.specs.declared.schema.Schema.{Schema}
 use Rattle.block_model.specs.declared.request.Entry.{Entry}
-use Rattle.block_model.specs.declared.reply.Reply.{Reply}
-use Rattle.block_model.specs.declared.reply.Reply.TheVariants as replies
 use Rattle.block_model.specs.declared.reply.Refusal.{Refusal}
 use Rattle.block_model.specs.declared.reply.Refusal.TheVariants as refusals
 use Rattle.block_model.specs.DatabaseState.{DatabaseState, initial_state}
-use Rattle.block_model.specs.SerialRun.{serial_run, replies_to, serial_run-append}
+use Rattle.block_model.specs.SerialRun.{serial_run, serial_run-append}
 use Rattle.query_words.specs.declared.statement.Statement.{Statement}
 use Rattle.query_words.specs.declared.line.Order.{Order}
 use Rattle.query_words.specs.declared.line.Order.TheVariants as orders
@@ -20,7 +17,7 @@ use Rattle.query_words.specs.declared.line.LineFault.{LineFault}
 use Rattle.query_words.specs.declared.line.LineFault.TheVariants as faults
 use Rattle.query_words.specs.Lines.{line_of}
 use Rattle.query_words.specs.Texts.{reply_text, refusal_text}
-use Rattle.query_words.specs.StatementRequests.{requests_of, reply_of, submission_refusal}
+use Rattle.query_words.specs.StatementRequests.{statement_requests, statement_reply}
 
 -- where a script stands: the sessions' names in the order of their first lines, and the database
 pub record ScriptPlace : Type 0 where
@@ -48,18 +45,13 @@ pub record LineAnswer : Type 0 where
   pub requests : List Entry
   pub text : List ℕ
 
-abbrev pub refused_answer : List (List ℕ) → List ℕ → Refusal → LineAnswer
-refused_answer names name refusal = record { names = names; requests = []; text = reply_text name (replies.Refused refusal) }
-
--- a statement that isn't taken makes no request; the reply to one that is taken is that of its requests, one after the other
-abbrev pub taken_unless : Option Refusal → DatabaseState → List (List ℕ) → List ℕ → List Entry → LineAnswer
-taken_unless (Some refusal) database names name entries = refused_answer names name refusal
-taken_unless None database names name entries = record { names = names; requests = entries; text = reply_text name (reply_of (replies_to database entries)) }
-
--- a statement of the session of that number
-abbrev pub statement_answer : ScriptPlace → List ℕ → ℕ → Statement → LineAnswer
-statement_answer p name n statement =
-    taken_unless (submission_refusal (map.get p.database.sessions n) statement) p.database (with_session p.names name) name (requests_of p.database n statement)
+-- a statement of the session of that name
+abbrev pub statement_answer : ScriptPlace → List ℕ → Statement → LineAnswer
+statement_answer p name statement = record {
+  names = with_session p.names name;
+  requests = statement_requests p.database (session_number p.names name) statement;
+  text = reply_text name (statement_reply p.database (session_number p.names name) statement);
+}
 
 -- why a line isn't read
 abbrev pub fault_refusal : LineFault → Refusal
@@ -77,7 +69,7 @@ without_request p text = record { names = p.names; requests = []; text = text }
 abbrev pub said_answer : ScriptPlace → Result Line LineFault → LineAnswer
 said_answer p (Err fault) = without_request p (refusal_text [] (fault_refusal fault))
 said_answer p (Ok lines.Nothing) = without_request p []
-said_answer p (Ok (lines.Say name (orders.Whole statement))) = statement_answer p name (session_number p.names name) statement
+said_answer p (Ok (lines.Say name (orders.Whole statement))) = statement_answer p name statement
 said_answer p (Ok (lines.Say name order)) = without_request p []
 
 abbrev pub line_answer : Schema → ScriptPlace → List ℕ → LineAnswer

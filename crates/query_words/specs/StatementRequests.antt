@@ -1,5 +1,6 @@
 -- which requests a statement is, and its reply ("Transaction Isolation": a statement works on its transaction's copy)
 use Rattle.std.specs.Prelude.{ℕ, ◌+◌, Bool, true, false, List, [], ◌∷◌, Option, None, Some, if◌then◌else◌}
+use Rattle.std.specs.FinMap as map
 use Rattle.block_model.specs.declared.row.Row.{Row}
 use Rattle.block_model.specs.declared.row.Query.{Query}
 use Rattle.block_model.specs.declared.request.Entry.{Entry}
@@ -12,6 +13,7 @@ use Rattle.block_model.specs.declared.reply.Refusal.{Refusal}
 use Rattle.block_model.specs.declared.reply.Refusal.TheVariants as refusals
 use Rattle.block_model.specs.DatabaseState.{DatabaseState, OpenTransaction}
 use Rattle.block_model.specs.RequestEffect.{Answer, Begun, Inserted, Found, Marked, Conflict, Committed, RolledBack, Full, NoMemory, Illegal, after_request, reply_to}
+use Rattle.block_model.specs.SerialRun.{replies_to}
 use Rattle.query_words.specs.declared.statement.Statement.{Statement}
 use Rattle.query_words.specs.declared.statement.Statement.TheVariants as statements
 
@@ -82,3 +84,20 @@ submission_refusal (Some x) (statements.Insert table values) = if x.failed then 
 submission_refusal (Some x) (statements.Select q) = if x.failed then Some refusals.Doomed else None
 submission_refusal (Some x) (statements.Delete q) = if x.failed then Some refusals.Doomed else None
 submission_refusal transaction statement = None
+
+-- a statement that isn't taken makes no request
+abbrev pub unless_refused : Option Refusal → List Entry → List Entry
+unless_refused None entries = entries
+unless_refused (Some refusal) entries = []
+
+abbrev pub reply_unless_refused : Option Refusal → List Answer → Reply
+reply_unless_refused None answers = reply_of answers
+reply_unless_refused (Some refusal) answers = replies.Refused refusal
+
+-- the requests that a statement of session n makes in state s
+unfoldable pub statement_requests : DatabaseState → ℕ → Statement → List Entry
+statement_requests s n statement = unless_refused (submission_refusal (map.get s.sessions n) statement) (requests_of s n statement)
+
+-- its reply: why it isn't taken, or what its requests were answered, one after the other
+unfoldable pub statement_reply : DatabaseState → ℕ → Statement → Reply
+statement_reply s n statement = reply_unless_refused (submission_refusal (map.get s.sessions n) statement) (replies_to s (requests_of s n statement))
