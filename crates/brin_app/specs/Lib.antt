@@ -1,0 +1,2 @@
+pub mod SessionPlaces
+pub mod Acts

@@ -1,0 +1,5 @@
+// The top call.
+
+ghost use Rattle.std.specs.Prelude.{◌≡◌};
+
+use crate::sessions::Sessions;
