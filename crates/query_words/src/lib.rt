@@ -6,5 +6,7 @@
 
 pub mod declaration;
 pub mod line;
+mod number;
 pub mod reply;
 pub mod statement;
+mod word;
