@@ -1,13 +1,14 @@
 -- the statements, by the words after the session's name
-use Rattle.std.specs.Prelude.{ℕ, ◌^◌, nat_lt, List, [], ◌∷◌, slice_get, Option, None, Some, if◌then◌else◌, codes}
+use Rattle.std.specs.Prelude.{ℕ, ◌^◌, nat_lt, List, [], ◌∷◌, slice_get, unwrap_or, Option, None, Some, if◌then◌else◌, codes}
 use Rattle.std.specs.Option.{option_and_then, option_map}
-use Rattle.std.specs.List.{position}
+use Rattle.std.specs.List.{position_from}
 use Rattle.std.specs.Str.{bytes_eq}
 use Rattle.block_model.specs.declared.value.Value.{Value}
 use Rattle.block_model.specs.declared.value.Value.TheVariants.{Int}
 use Rattle.block_model.specs.declared.value.Op.{Op}
 use Rattle.block_model.specs.declared.value.Op.TheVariants as ops
 use Rattle.block_model.specs.declared.row.Cond.{Cond}
+use Rattle.block_model.specs.declared.row.Query.{Query}
 use Rattle.block_model.specs.declared.schema.Schema.{Schema}
 use Rattle.block_model.specs.declared.schema.Table.{Table}
 use Rattle.block_model.specs.declared.schema.Column.{Column}
@@ -21,11 +22,11 @@ small n = if nat_lt n (2 ^ 8) then Some n else None
 
 -- the number of the table of that name
 abbrev pub table_of : Schema → List ℕ → Option ℕ
-table_of schema name = option_and_then small (position (λ (t : Table). bytes_eq t.name name) schema.tables)
+table_of schema name = option_and_then small (position_from (λ (t : Table). bytes_eq t.name name) 0 schema.tables)
 
 -- the number of the column of that name
 abbrev pub column_of : List Column → List ℕ → Option ℕ
-column_of columns name = option_and_then small (position (λ (c : Column). bytes_eq c.name name) columns)
+column_of columns name = option_and_then small (position_from (λ (c : Column). bytes_eq c.name name) 0 columns)
 
 -- the operators of int8
 abbrev pub op_of : List ℕ → Option Op
@@ -57,18 +58,22 @@ abbrev pub cond_of : List Column → List ℕ → List ℕ → List ℕ → Opti
 cond_of columns column op key =
     option_and_then (λ c. option_and_then (λ o. option_map (λ k. record { column = c; op = o; key = k }) (value_of key)) (op_of op)) (column_of columns column)
 
--- the same on the table of that number
-abbrev pub cond_on : Schema → ℕ → List ℕ → List ℕ → List ℕ → Option Cond
-cond_on schema t column op key = option_and_then (λ (x : Table). cond_of x.columns column op key) (slice_get schema.tables t)
+-- the columns of the table of that number
+abbrev pub columns_at : Schema → ℕ → List Column
+columns_at schema t = unwrap_or (option_map (λ (x : Table). x.columns) (slice_get schema.tables t)) []
 
--- TABLE, or TABLE where COLUMN OP value
-abbrev pub select_of : Schema → List (List ℕ) → Option Statement
-select_of schema (table ∷ []) = option_map (λ t. statements.Select (record { table = t; conds = [] })) (table_of schema table)
-select_of schema (table ∷ word ∷ column ∷ op ∷ key ∷ []) =
-    if bytes_eq word (codes "where")
-    then option_and_then (λ t. option_map (λ c. statements.Select (record { table = t; conds = c ∷ [] })) (cond_on schema t column op key)) (table_of schema table)
-    else None
-select_of schema words = None
+-- nothing, or where COLUMN OP value
+abbrev pub conds_of : List Column → List (List ℕ) → Option (List Cond)
+conds_of columns [] = Some []
+conds_of columns (word ∷ column ∷ op ∷ key ∷ []) =
+    if bytes_eq word (codes "where") then option_map (λ c. c ∷ []) (cond_of columns column op key) else None
+conds_of columns words = None
+
+-- TABLE and the conditions
+abbrev pub query_of : Schema → List (List ℕ) → Option Query
+query_of schema [] = None
+query_of schema (table ∷ words) =
+    option_and_then (λ t. option_map (λ cs. record { table = t; conds = cs }) (conds_of (columns_at schema t) words)) (table_of schema table)
 
 -- by the first word
 abbrev pub statement_of : Schema → List (List ℕ) → Option Statement
@@ -77,5 +82,5 @@ statement_of schema (verb ∷ words) =
     if bytes_eq verb (codes "begin") then alone statements.Begin words
     else if bytes_eq verb (codes "commit") then alone statements.Commit words
     else if bytes_eq verb (codes "insert") then insert_of schema words
-    else if bytes_eq verb (codes "select") then select_of schema words
+    else if bytes_eq verb (codes "select") then option_map statements.Select (query_of schema words)
     else None

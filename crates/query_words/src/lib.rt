@@ -7,5 +7,7 @@
 pub mod declaration;
 pub mod laws;
 pub mod line;
+mod number;
 pub mod reply;
 pub mod statement;
+mod word;

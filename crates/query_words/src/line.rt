@@ -1,8 +1,10 @@
 // What a line of a script says.
 
-ghost use Rattle.query_words.specs.Lines.{Reads, line_of};
+ghost use Rattle.std.specs.Prelude.{◌≡◌};
+ghost use Rattle.query_words.specs.Lines.{Reads, line_of, is_comment};
 
-use crate::statement::Statement;
+use crate::statement::{Statement, read_statement};
+use crate::word::next_word;
 use block_model::name::Name;
 use block_model::schema::Schema;
 use std::alloc::Global;
@@ -34,9 +36,40 @@ pub enum LineFault {
     Memory,
 }
 
+/// How many bytes a line has at most.
+pub const MAX_LINE: usize = 65535;
+
 /// Reads a line. Takes memory for the condition of a select alone.
+#[tactic(auto, unfolding(crate::specs::Lines::line_of))]
 pub fn read_line(alloc: Global, line: &[u8], schema: &Schema) -> Result<Line, LineFault>
     ensures { Reads result (line_of schema.now line.now) }
 {
-    Err(LineFault::Memory)
+    if line.len() > MAX_LINE {
+        return Err(LineFault::Syntax { at: 0 });
+    }
+    let Some((name, rest)) = next_word(line) else {
+        return Ok(Line::Nothing);
+    };
+    if is_comment(name) {
+        return Ok(Line::Nothing);
+    }
+    let Some(session) = Name::new(name) else {
+        return Err(LineFault::Syntax { at: 0 });
+    };
+    match read_statement(alloc, rest, schema) {
+        Ok(statement) => Ok(Line::Say {
+            session,
+            order: Order::Whole(statement),
+        }),
+        Err(fault) => Err(fault),
+    }
+}
+
+fn is_comment(word: &[u8]) -> bool
+    ensures { result ≡ is_comment word.now }
+{
+    match word {
+        [] => false,
+        [first, ..] => *first == b'#',
+    }
 }
