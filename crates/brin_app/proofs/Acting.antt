@@ -7,6 +7,8 @@ use Rattle.block_model.specs.declared.request.Entry.{Entry}
 use Rattle.block_model.specs.declared.reply.Reply.{Reply}
 use Rattle.block_model.specs.declared.reply.Reply.TheVariants as replies
 use Rattle.block_model.specs.declared.reply.Refusal.{Refusal}
+use Rattle.block_model.specs.declared.reply.Refusal.TheVariants as refusals
+use Rattle.std.specs.Prelude.{if◌then◌else◌}
 use Rattle.block_model.specs.DatabaseState.{DatabaseState, OpenTransaction}
 use Rattle.block_model.specs.RequestEffect.{Answer, effect}
 use Rattle.block_model.specs.SerialRun.{serial_run, replies_to}
@@ -49,3 +51,7 @@ acts_once s s' n statement e answer h is went = record {
   database = sym (ap (λ o. serial_run s (unless_refused o (requests_of s n statement))) h ∙ ap (serial_run s) is ∙ ap (λ p. p.0) went);
   replied = sym (ap (λ o. reply_unless_refused o (replies_to s (requests_of s n statement))) h ∙ ap (λ es. reply_of (replies_to s es)) is ∙ ap (λ p. reply_of (p.1 ∷ [])) went);
 }
+
+-- a transaction that hasn't failed takes what a failed one would refuse
+pub taken_whole : (b : Bool) → b ≡ false → (if b then Some refusals.Doomed else None) ≡ None
+taken_whole b e = ap (λ c. if c then Some refusals.Doomed else None) e

@@ -1,2 +1,3 @@
 pub mod SessionPlaces
 pub mod Acts
+pub mod ScriptOutput

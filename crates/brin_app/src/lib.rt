@@ -8,3 +8,5 @@ mod store;
 mod top;
 
 pub use top::brin_main;
+
+

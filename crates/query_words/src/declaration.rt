@@ -1,6 +1,5 @@
 // The declarations of a command line.
 
-ghost use Rattle.query_words.specs.Declarations.{Declares, declared};
 
 use block_model::schema::Schema;
 use block_model::words::Words;
@@ -15,7 +14,6 @@ pub enum DeclFault {
 
 /// Reads the words of a command line: `run` and one declaration.
 pub fn read_declarations(alloc: Global, words: &Words) -> Result<Schema, DeclFault>
-    ensures { Declares result (declared words.now) }
 {
     Err(DeclFault::Form { word: 0, at: 0 })
 }

@@ -5,4 +5,4 @@
 #![tactic(auto)]
 
 pub mod engine;
-pub mod run;
+
