@@ -4,3 +4,4 @@ pub mod Statements
 pub mod Lines
 pub mod Declarations
 pub mod Texts
+pub mod Appended
