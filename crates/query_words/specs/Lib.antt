@@ -6,3 +6,4 @@ pub mod Declarations
 pub mod Texts
 pub mod StatementRequests
 pub mod ScriptTexts
+pub mod Appended

@@ -33,10 +33,14 @@ range_text (Between lower upper) = lower_text lower ++ codes "," ++ upper_text u
 abbrev pub prefix_text : ℕ → List ℕ
 prefix_text bits = if bits == 32 then [] else codes "/" ++ decimal bits
 
+-- the byte of an address that begins at that bit
+abbrev pub byte_of : ℕ → ℕ → ℕ
+byte_of address bits = address / 2 ^ bits % 256
+
 -- the four bytes of an address, the highest first
 abbrev pub address_text : ℕ → List ℕ
 address_text a =
-    decimal (a / 2 ^ 24 % 256) ++ codes "." ++ decimal (a / 2 ^ 16 % 256) ++ codes "." ++ decimal (a / 2 ^ 8 % 256) ++ codes "." ++ decimal (a % 256)
+    decimal (byte_of a 24) ++ codes "." ++ decimal (byte_of a 16) ++ codes "." ++ decimal (byte_of a 8) ++ codes "." ++ decimal (byte_of a 0)
 
 abbrev pub network_text : Network → List ℕ
 network_text n = address_text n.address ++ prefix_text n.prefix
@@ -58,9 +62,13 @@ id_text id = decimal id.t ++ codes "." ++ decimal id.k
 abbrev pub row_text : List ℕ → Row → List ℕ
 row_text name row = name ++ codes " row " ++ id_text row.id ++ values_text row.values ++ codes "\n"
 
+-- a line that ends in a number
+abbrev pub count_text : List ℕ → List ℕ → ℕ → List ℕ
+count_text name words n = name ++ words ++ decimal n ++ codes "\n"
+
 -- a line per row, and one with their number
 abbrev pub rows_text : List ℕ → List Row → List ℕ
-rows_text name rows = flat_map (row_text name) rows ++ (name ++ codes " rows " ++ decimal (length rows) ++ codes "\n")
+rows_text name rows = flat_map (row_text name) rows ++ count_text name (codes " rows ") (length rows)
 
 -- the runs of consecutive numbers, each by its first and its last one, behind a run that goes on
 abbrev pub runs_from : ℕ → ℕ → List ℕ → List (ℕ × ℕ)
@@ -79,42 +87,49 @@ abbrev pub blocks_text : List ℕ → List ℕ
 blocks_text [] = codes " none"
 blocks_text (b ∷ bs) = flat_map run_text (runs_of (b ∷ bs))
 
--- what is held, by whom
-abbrev pub held_text : What → List ℕ → List ℕ
-held_text (whats.Page relation block) holder = codes "page " ++ relation ++ codes " " ++ decimal block ++ codes " " ++ holder
-held_text (whats.Work table) holder = codes "work " ++ table ++ codes " " ++ holder
+-- what another session holds
+abbrev pub held_text : What → List ℕ
+held_text (whats.Page relation block) = codes "page " ++ relation ++ codes " " ++ decimal block
+held_text (whats.Work table) = codes "work " ++ table
 
 -- a line that isn't read names no session
 abbrev pub refusal_text : List ℕ → Refusal → List ℕ
-refusal_text name (refusals.Syntax at) = codes "- error 1 " ++ decimal at ++ codes "\n"
-refusal_text name (refusals.NoTable at) = codes "- error 2 " ++ decimal at ++ codes "\n"
-refusal_text name (refusals.NoColumn at) = codes "- error 3 " ++ decimal at ++ codes "\n"
+refusal_text name (refusals.Syntax at) = count_text (codes "-") (codes " error 1 ") at
+refusal_text name (refusals.NoTable at) = count_text (codes "-") (codes " error 2 ") at
+refusal_text name (refusals.NoColumn at) = count_text (codes "-") (codes " error 3 ") at
 refusal_text name refusals.NoTransaction = name ++ codes " error 4\n"
 refusal_text name refusals.UnderWay = name ++ codes " error 5\n"
 refusal_text name refusals.Doomed = name ++ codes " error 6\n"
 refusal_text name (refusals.Conflict id) = name ++ codes " error 7 " ++ id_text id ++ codes "\n"
-refusal_text name (refusals.Full relation number) = name ++ codes " error 8 " ++ relation ++ codes " " ++ decimal number ++ codes "\n"
-refusal_text name (refusals.NoIndex at) = codes "- error 9 " ++ decimal at ++ codes "\n"
-refusal_text name (refusals.Limit limit) = name ++ codes " error 10 " ++ decimal limit ++ codes "\n"
-refusal_text name (refusals.Blocked what holder) = name ++ codes " error 11 " ++ held_text what holder ++ codes "\n"
+refusal_text name (refusals.Full relation number) = name ++ codes " error 8 " ++ count_text relation (codes " ") number
+refusal_text name (refusals.NoIndex at) = count_text (codes "-") (codes " error 9 ") at
+refusal_text name (refusals.Limit limit) = count_text name (codes " error 10 ") limit
+refusal_text name (refusals.Blocked what holder) = name ++ codes " error 11 " ++ held_text what ++ codes " " ++ holder ++ codes "\n"
 refusal_text name refusals.InHand = name ++ codes " error 12\n"
 refusal_text name refusals.Memory = name ++ codes " error 13\n"
 refusal_text name refusals.NothingStarted = name ++ codes " error 14\n"
 
+-- what a vacuum did
+abbrev pub vacuum_text : List ℕ → ℕ → ℕ → ℕ → List ℕ
+vacuum_text name rows orphans ranges =
+    name ++ codes " vacuumed rows " ++ decimal rows ++ codes " orphans " ++ decimal orphans ++ codes " ranges " ++ decimal ranges ++ codes "\n"
+
+-- what a request of the queue did
+abbrev pub worked_text : List ℕ → List ℕ → ℕ → ℕ → List ℕ
+worked_text name index range count = name ++ codes " worked " ++ index ++ codes " " ++ decimal range ++ codes " " ++ decimal count ++ codes "\n"
+
 -- the lines of a reply to the session of that name
 unfoldable pub reply_text : List ℕ → Reply → List ℕ
-reply_text name (replies.Begun t) = name ++ codes " begun " ++ decimal t ++ codes "\n"
+reply_text name (replies.Begun t) = count_text name (codes " begun ") t
 reply_text name (replies.Inserted id) = name ++ codes " inserted " ++ id_text id ++ codes "\n"
 reply_text name (replies.Found rows) = rows_text name rows
-reply_text name (replies.Deleted count) = name ++ codes " deleted " ++ decimal count ++ codes "\n"
+reply_text name (replies.Deleted count) = count_text name (codes " deleted ") count
 reply_text name replies.Committed = name ++ codes " committed\n"
 reply_text name replies.RolledBack = name ++ codes " rolled back\n"
 reply_text name (replies.Kept blocks) = name ++ codes " blocks" ++ blocks_text blocks ++ codes "\n"
-reply_text name (replies.Summarized count) = name ++ codes " summarized " ++ decimal count ++ codes "\n"
-reply_text name (replies.Desummarized count) = name ++ codes " desummarized " ++ decimal count ++ codes "\n"
-reply_text name (replies.Vacuumed rows orphans ranges) =
-    name ++ codes " vacuumed rows " ++ decimal rows ++ codes " orphans " ++ decimal orphans ++ codes " ranges " ++ decimal ranges ++ codes "\n"
-reply_text name (replies.Worked index range count) =
-    name ++ codes " worked " ++ index ++ codes " " ++ decimal range ++ codes " " ++ decimal count ++ codes "\n"
+reply_text name (replies.Summarized count) = count_text name (codes " summarized ") count
+reply_text name (replies.Desummarized count) = count_text name (codes " desummarized ") count
+reply_text name (replies.Vacuumed rows orphans ranges) = vacuum_text name rows orphans ranges
+reply_text name (replies.Worked index range count) = worked_text name index range count
 reply_text name replies.Idle = name ++ codes " worked none\n"
 reply_text name (replies.Refused refusal) = refusal_text name refusal

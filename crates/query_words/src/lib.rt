@@ -10,4 +10,5 @@ pub mod line;
 mod number;
 pub mod reply;
 pub mod statement;
+mod text;
 mod word;
