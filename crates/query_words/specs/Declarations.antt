@@ -5,6 +5,7 @@ use Rattle.std.specs.Str.{bytes_eq}
 use Rattle.block_model.specs.Names.{is_name}
 use Rattle.block_model.specs.declared.value.Kind.TheVariants as kinds
 use Rattle.block_model.specs.declared.schema.Schema.{Schema}
+use Rattle.query_words.specs.declared.declaration.TheConstants.{ROWS_PER_PAGE}
 use Rattle.query_words.specs.declared.declaration.DeclFault.{DeclFault}
 use Rattle.query_words.specs.declared.declaration.DeclFault.TheVariants as faults
 
@@ -23,7 +24,7 @@ is_table_name name = is_name name && not (bytes_eq name (codes "status"))
 -- a table of one column of numbers, without indexes
 abbrev pub one_table : List ℕ → List ℕ → Schema
 one_table table column = record {
-  tables = record { name = table; rows_per_page = 272; columns = record { name = column; kind = kinds.Int } ∷ [] } ∷ [];
+  tables = record { name = table; rows_per_page = ROWS_PER_PAGE; columns = record { name = column; kind = kinds.Int } ∷ [] } ∷ [];
   indexes = [];
 }
 
@@ -45,8 +46,8 @@ unfoldable pub declared : List (List ℕ) → Option Schema
 declared (command ∷ word ∷ []) = if bytes_eq command (codes "run") then declaration_of word else None
 declared words = None
 
--- The answer is what is declared. Want of memory may come in its place.
+-- The answer is what is declared. Want of memory may come in place of what is.
 abbrev pub Declares : Result Schema DeclFault → Option Schema → Type 0
 Declares (Ok schema) said = said ≡ Some schema
-Declares (Err (faults.Form word at)) said = said ≡ None
+Declares (Err (faults.Form word at)) said = (said ≡ None) × (word ≡ 0) × (at ≡ 0)
 Declares (Err faults.Memory) said = IsSome said
