@@ -135,7 +135,7 @@ pub memory_written : (o : Option Schema) (l k : Option (List ℕ)) → IfSome o 
 memory_written None l k = tt
 memory_written (Some schema) l k = nothing_written schema l k
 
-pub declared_something : (o : Option Schema) → IsSome o → (7 ≡ 2) ↔ (o ≡ None)
+pub declared_something : (o : Option Schema) → IsSome o → (◌≡◌ {A = ℕ} 7 2) ↔ (o ≡ None)
 declared_something None h = absurd (Rattle.std.proofs.lemmas.Bool.false≢true h)
 declared_something (Some schema) h = ((λ e. absurd (omega arith)), (λ n. cc))
 

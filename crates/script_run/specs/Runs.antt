@@ -24,7 +24,6 @@ pub record Wrote {S : Type 0} (R : S → List ℕ → List ℕ → S → Type 0)
   -- only where memory ran out for a line is the engine anywhere else
   pub state : end ≢ ends.Memory → after ≡ final
   pub within : end ≢ ends.Spent → length script ≤ limit
-
   -- all lines are done, and the source is at its end
   pub whole : end ≡ ends.Done → (done ≡ script_lines script) × (out ≡ concat texts) × IsAtEnd left
   -- the lines that had ended are done

@@ -5,4 +5,6 @@
 #![tactic(auto)]
 
 pub mod engine;
-
+pub mod run;
+#[cfg(test)]
+mod tests;

@@ -2,11 +2,15 @@
 
 ghost use Rattle.std.specs.Prelude.{◌≡◌, ◌≤◌, IsErrOf};
 ghost use Rattle.block_model.specs.Causes.{Rose};
+ghost use Rattle.script_run.specs.Serving.{Serves};
 ghost use Rattle.script_run.specs.Runs.{Ran};
 
 use crate::engine::Engine;
-use io_traits::sink::Sink;
+use block_model::NoMemory;
+use io_traits::sink::{Sink, SinkFault, write_all};
 use io_traits::source::Source;
+use script_lines::end::LinesEnd;
+use script_lines::reader::Lines;
 use std::alloc::Global;
 
 /// How a run ends.
@@ -42,5 +46,49 @@ pub fn run<E: Engine, S: Source, K: Sink>(
     ensures read_later { S.faults source.old ≤ S.faults source.new }
     ensures write_later { K.faults sink.old ≤ K.faults sink.new }
 {
-    RunEnd::Memory
+    let Ok(mut lines) = Lines::new(alloc, limit) else {
+        return RunEnd::Memory;
+    };
+    let mut reply = Vec::new(alloc);
+    'script: loop {
+        let line = match lines.next(source) {
+            Ok(Some(line)) => line,
+            Ok(None) => return RunEnd::Done,
+            Err(LinesEnd::Read) => return RunEnd::ReadFault,
+            Err(LinesEnd::Spent { .. }) => return RunEnd::Spent,
+        };
+        match serve(engine, line, &mut reply, sink) {
+            Ok(()) => (),
+            Err(Stop::Memory) => return RunEnd::Memory,
+            Err(Stop::Write) => return RunEnd::WriteFault,
+        }
+    }
+}
+
+/// Why no further line is answered.
+#[derive(Clone, Copy, Debug, PartialEq, Eq)]
+enum Stop {
+    Memory,
+    Write,
+}
+
+/// Answers a line, and writes the answer.
+fn serve<E: Engine, K: Sink>(
+    engine: &mut E,
+    line: &[u8],
+    reply: &mut Vec<u8>,
+    sink: &mut K,
+) -> Result<(), Stop>
+    ensures serves { Serves E.answers engine.old engine.new (K.taken sink.old) (K.taken sink.new) line.now result }
+    ensures later { K.faults sink.old ≤ K.faults sink.new }
+    ensures cause { IsErrOf result Stop.Write → Rose (K.faults sink.old) (K.faults sink.new) }
+{
+    reply.clear();
+    let Ok(()) = engine.answer(line, reply) else {
+        return Err(Stop::Memory);
+    };
+    match write_all(sink, reply.as_slice()) {
+        Ok(()) => Ok(()),
+        Err(_) => Err(Stop::Write),
+    }
 }

@@ -27,16 +27,19 @@ returns-in-Ok-clause-complete g c =
     (complete c.run_script.result c.in-Ok.schema _ _ _ _ _ _ c.run_script.ensures.script_output c.run_script.ensures.read_fault c.run_script.ensures.write_fault)
 
 pub returns-in-Err-Form-clause-script_output : goal.returns-in-Err-Form-clause-script_output
-returns-in-Err-Form-clause-script_output g c = nothing_declared (declared c.args.words.now) _ c.in-Err-Form.ensures
+returns-in-Err-Form-clause-script_output g c = nothing_declared (declared c.args.words.now) _ (rw c.in-Err-Form.field-0-is at c.in-Err-Form.ensures).0
 
 pub returns-in-Err-Form-clause-usage : goal.returns-in-Err-Form-clause-usage
-returns-in-Err-Form-clause-usage g c = ((λ e. c.in-Err-Form.ensures), (λ none. refl))
+returns-in-Err-Form-clause-usage g c = (
+  (λ e. (rw c.in-Err-Form.field-0-is at c.in-Err-Form.ensures).0),
+  (λ none. refl),
+)
 
 pub returns-in-Err-Form-clause-complete : goal.returns-in-Err-Form-clause-complete
-returns-in-Err-Form-clause-complete g c = nothing_declared (declared c.args.words.now) _ c.in-Err-Form.ensures
+returns-in-Err-Form-clause-complete g c = nothing_declared (declared c.args.words.now) _ (rw c.in-Err-Form.field-0-is at c.in-Err-Form.ensures).0
 
 pub returns-in-Err-Memory-clause-script_output : goal.returns-in-Err-Memory-clause-script_output
 returns-in-Err-Memory-clause-script_output g c = memory_written (declared c.args.words.now) _ _
 
 pub returns-in-Err-Memory-clause-usage : goal.returns-in-Err-Memory-clause-usage
-returns-in-Err-Memory-clause-usage g c = declared_something (declared c.args.words.now) c.in-Err-Memory.ensures
+returns-in-Err-Memory-clause-usage g c = declared_something (declared c.args.words.now) (rw c.in-Err-Memory.field-0-is at c.in-Err-Memory.ensures)
