@@ -20,7 +20,7 @@ use Rattle.snapshot_core.specs.declared.statuses.Status.{Status}
 use Rattle.snapshot_core.specs.declared.statuses.Status.TheVariants.{Unused, Begun}
 use Rattle.snapshot_core.specs.Visibility.{is_committed, had_ended}
 use Rattle.brin_app.specs.declared.store.Open.{Open}
-use Rattle.brin_app.specs.Requests.{ok_entry}
+use Rattle.query_words.specs.StatementRequests.{request_entry}
 use Rattle.brin_app.specs.VisibleState.{stored, status_of, is_settled, is_seen, table_of, visible_transaction, visible_state, transaction_of, IsStored, IsUnderWay, AreApart, Gains}
 use Rattle.brin_app.proofs.Choices.{chosen, same_number}
 use Rattle.brin_app.proofs.Tables.{stored_id, same_table}
@@ -158,8 +158,8 @@ begun_stored rows ss es es' n whole at = record {
 
 pub begun_effect : (rows : List Row) (ss : List Status) (es es' : List (ℕ × Open)) (n : ℕ) (s : DatabaseState) → visible_state rows ss es ≡ s → get s.sessions n ≡ None
     → IsStored rows ss es → IsStrictlySortedBy nat_cmp (keys_of es) → Gains es es' n (new_open (length ss) es)
-    → model.effect s (ok_entry n 0 requests.Begin) ≡ (visible_state rows (ss ++ Begun ∷ []) es', model.Begun (length ss))
+    → model.effect s (request_entry n 0 requests.Begin) ≡ (visible_state rows (ss ++ Begun ∷ []) es', model.Begun (length ss))
 begun_effect rows ss es es' n s view none whole sorted at =
-    model.effect_is s (ok_entry n 0 requests.Begin)
-    ∙ ap (λ o. model.effect_at o s (ok_entry n 0 requests.Begin)) none
+    model.effect_is s (request_entry n 0 requests.Begin)
+    ∙ ap (λ o. model.effect_at o s (request_entry n 0 requests.Begin)) none
     ∙ (λ i. ((ap (λ (s : DatabaseState). model.after_begin s n) (sym view) ∙ begun_state rows ss es es' n whole sorted at) i, model.Begun ((sym view i).next)))

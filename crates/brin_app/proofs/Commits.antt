@@ -17,7 +17,7 @@ use Rattle.snapshot_core.specs.declared.statuses.Status.{Status}
 use Rattle.snapshot_core.specs.declared.statuses.Status.TheVariants.{Unused, Committed}
 use Rattle.snapshot_core.specs.Visibility.{is_committed}
 use Rattle.brin_app.specs.declared.store.Open.{Open}
-use Rattle.brin_app.specs.Requests.{ok_entry}
+use Rattle.query_words.specs.StatementRequests.{request_entry}
 use Rattle.brin_app.specs.VisibleState.{stored, status_of, sees_rows_of, is_settled, is_seen, table_of, visible_transaction, visible_state, transaction_of, IsStored, IsUnderWay, AreApart, Loses}
 use Rattle.brin_app.proofs.Choices.{chosen_none, other_number, other_number_eqb}
 use Rattle.brin_app.proofs.Tables.{stored_id, get-table_of, same_table}
@@ -136,8 +136,8 @@ committed_stored rows ss es es' n o whole was at = record {
 
 pub committed_effect : (rows : List Row) (ss : List Status) (es es' : List (ℕ × Open)) (n : ℕ) (o : Open) (s : DatabaseState) → visible_state rows ss es ≡ s
     → IsStored rows ss es → transaction_of es n ≡ Some o → Loses es es' n
-    → model.effect s (ok_entry n 0 requests.Commit) ≡ (visible_state rows (set ss o.t Committed) es', model.Committed)
+    → model.effect s (request_entry n 0 requests.Commit) ≡ (visible_state rows (set ss o.t Committed) es', model.Committed)
 committed_effect rows ss es es' n o s view whole was at =
-    model.effect_is s (ok_entry n 0 requests.Commit)
-    ∙ ap (λ x. model.effect_at x s (ok_entry n 0 requests.Commit)) (get_open rows ss es n o s view was)
+    model.effect_is s (request_entry n 0 requests.Commit)
+    ∙ ap (λ x. model.effect_at x s (request_entry n 0 requests.Commit)) (get_open rows ss es n o s view was)
     ∙ ap (λ (s : DatabaseState). (s, model.Committed)) (ap (λ (s : DatabaseState). model.after_commit s n (visible_transaction ss rows o)) (sym view) ∙ committed_state rows ss es es' n o whole was at)

@@ -13,7 +13,7 @@ use Rattle.block_model.specs.DatabaseState.{DatabaseState}
 use Rattle.block_model.specs.RequestEffect as model
 use Rattle.snapshot_core.specs.declared.statuses.Status.{Status}
 use Rattle.brin_app.specs.declared.store.Open.{Open}
-use Rattle.brin_app.specs.Requests.{ok_entry}
+use Rattle.query_words.specs.StatementRequests.{request_entry}
 use Rattle.brin_app.specs.Places.{places}
 use Rattle.brin_app.specs.VisibleState.{is_seen, answers, visible_state, transaction_of, IsStored}
 use Rattle.brin_app.proofs.Results.{all_places, placed_rows, found_rows}
@@ -35,9 +35,9 @@ pub look_effect : (rows : List Row) (ss : List Status) (es : List (ℕ × Open))
     → IsStored rows ss es → transaction_of es n ≡ Some o → (hits : List (RowId × ℕ)) (found : List Row)
     → IsPermutation (places (answers ss o q) 0 rows) hits → IsSorted (λ (a b : RowId × ℕ). ordering_then (id_cmp a.0 b.0) (nat_cmp a.1 b.1)) hits
     → ((d : Row) → found ≡ map (λ (h : RowId × ℕ). get_or rows h.1 d) hits)
-    → model.effect s (ok_entry n q.table (requests.Look q)) ≡ (s, model.Found found)
+    → model.effect s (request_entry n q.table (requests.Look q)) ≡ (s, model.Found found)
 look_effect rows ss es n q o s view whole was hits found perm sorted gathered =
     let placed = placed_rows (answers ss o q) rows found hits whole.ids_differ perm sorted gathered in
-    model.effect_is s (ok_entry n q.table (requests.Look q))
-    ∙ ap (λ x. model.effect_at x s (ok_entry n q.table (requests.Look q))) (get_open rows ss es n o s view was)
+    model.effect_is s (request_entry n q.table (requests.Look q))
+    ∙ ap (λ x. model.effect_at x s (request_entry n q.table (requests.Look q))) (get_open rows ss es n o s view was)
     ∙ ap (λ (found : List Row). (s, model.Found found)) (sym (found_rows (is_seen ss o) (row_matches q) rows found whole.ids_differ placed.0 placed.1))

@@ -13,7 +13,7 @@ use Rattle.block_model.specs.RequestEffect as model
 use Rattle.snapshot_core.specs.declared.statuses.Status.{Status}
 use Rattle.snapshot_core.specs.Visibility.{is_committed, had_ended}
 use Rattle.brin_app.specs.declared.store.Open.{Open}
-use Rattle.brin_app.specs.Requests.{ok_entry}
+use Rattle.query_words.specs.StatementRequests.{request_entry}
 use Rattle.brin_app.specs.VisibleState.{stored, is_settled, is_seen, table_of, visible_transaction, visible_state, transaction_of, with_next_k, IsStored, IsUnderWay, AreApart, Gains}
 use Rattle.brin_app.proofs.Choices.{chosen, none_of, same_id, other_number}
 use Rattle.brin_app.proofs.Tables.{distinct_push, stored-push, table_of-push_seen, table_of-push_unseen}
@@ -109,9 +109,9 @@ put_stored rows ss es es' n table values o whole was at = record {
 
 pub put_effect : (rows : List Row) (ss : List Status) (es es' : List (ℕ × Open)) (n table : ℕ) (values : List Value) (o : Open) (s : DatabaseState) → visible_state rows ss es ≡ s
     → IsStored rows ss es → transaction_of es n ≡ Some o → Gains es es' n (with_next_k o (o.next_k + 1))
-    → model.effect s (ok_entry n table (requests.Put values)) ≡ (visible_state (rows ++ new_row o table values ∷ []) ss es', model.Inserted (record { t = o.t; k = o.next_k }))
+    → model.effect s (request_entry n table (requests.Put values)) ≡ (visible_state (rows ++ new_row o table values ∷ []) ss es', model.Inserted (record { t = o.t; k = o.next_k }))
 put_effect rows ss es es' n table values o s view whole was at =
-    model.effect_is s (ok_entry n table (requests.Put values))
-    ∙ ap (λ x. model.effect_at x s (ok_entry n table (requests.Put values))) (get_open rows ss es n o s view was)
+    model.effect_is s (request_entry n table (requests.Put values))
+    ∙ ap (λ x. model.effect_at x s (request_entry n table (requests.Put values))) (get_open rows ss es n o s view was)
     ∙ ap (λ (s : DatabaseState). (s, model.Inserted (record { t = o.t; k = o.next_k })))
     (ap (λ (s : DatabaseState). model.with_transaction s n (model.after_put (visible_transaction ss rows o) table values)) (sym view) ∙ put_state rows ss es es' n table values o whole was at)

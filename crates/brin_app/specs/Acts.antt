@@ -1,5 +1,6 @@
 -- what a statement does to the database, and which statements a script can say
-use Rattle.std.specs.Prelude.{◌≡◌, ℕ}
+use Rattle.std.specs.Prelude.{◌≡◌, ℕ, IsSome}
+use Rattle.std.specs.FinMap as map
 use Rattle.block_model.specs.declared.reply.Reply.{Reply}
 use Rattle.block_model.specs.DatabaseState.{DatabaseState}
 use Rattle.block_model.specs.SerialRun.{serial_run}
@@ -9,6 +10,10 @@ use Rattle.query_words.specs.declared.line.Line.{Line}
 use Rattle.query_words.specs.declared.line.Line.TheVariants as lines
 use Rattle.query_words.specs.declared.line.Order.TheVariants as orders
 use Rattle.query_words.specs.StatementRequests.{statement_requests, statement_reply}
+
+-- the session has a transaction under way
+abbrev pub HasTransaction : DatabaseState → ℕ → Type 0
+HasTransaction s n = IsSome (map.get s.sessions n)
 
 -- a statement of session n makes the second database of the first, and gets this reply
 pub record Acts (s : DatabaseState) (n : ℕ) (statement : Statement) (s' : DatabaseState) (reply : Reply) : Type 0 where

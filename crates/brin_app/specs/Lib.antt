@@ -2,5 +2,4 @@ pub mod SessionPlaces
 pub mod Acts
 pub mod ScriptOutput
 pub mod Places
-pub mod Requests
 pub mod VisibleState

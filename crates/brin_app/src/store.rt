@@ -11,7 +11,8 @@ ghost use Rattle.block_model.specs.declared.row.Row.{Row};
 ghost use Rattle.block_model.specs.declared.request.Request.TheVariants as requests;
 ghost use Rattle.block_model.specs.DatabaseState.{initial_state};
 ghost use Rattle.block_model.specs.RequestEffect.{effect, Begun, Inserted, Found, Committed};
-ghost use Rattle.brin_app.specs.Requests.{HasTransaction, ok_entry};
+ghost use Rattle.query_words.specs.StatementRequests.{request_entry};
+ghost use Rattle.brin_app.specs.Acts.{HasTransaction};
 ghost use Rattle.brin_app.specs.VisibleState.{transaction_of, sees_rows_of, status_of, answers, Gains, Loses, with_next_k};
 ghost use Rattle.brin_app.specs.Places.{places};
 
@@ -87,7 +88,7 @@ impl Store {
     /// Begins a transaction of the session, and answers its number. After a refusal nothing is changed.
     pub fn begin(&mut self, session: u32) -> Result<u64, NoMemory>
         requires { map_of.get self.old.sessions session ≡ None }
-        ensures ok { IfOk result (λ t. effect self.old (ok_entry session 0 requests.Begin) ≡ (self.new, Begun t)) }
+        ensures ok { IfOk result (λ t. effect self.old (request_entry session 0 requests.Begin) ≡ (self.new, Begun t)) }
         ensures err { OnErr result (self.new ≡ self.old) }
     {
         let active = numbers_of(self.alloc, &self.sessions)?;
@@ -107,7 +108,7 @@ impl Store {
     /// is changed.
     pub fn put(&mut self, session: u32, table: u8, values: Values) -> Result<RowId, NoMemory>
         requires { HasTransaction self.old session }
-        ensures ok { IfOk result (λ id. effect self.old (ok_entry session table (requests.Put values)) ≡ (self.new, Inserted id)) }
+        ensures ok { IfOk result (λ id. effect self.old (request_entry session table (requests.Put values)) ≡ (self.new, Inserted id)) }
         ensures err { OnErr result (self.new ≡ self.old) }
     {
         let Some(open) = self.sessions.get(&session) else {
@@ -128,7 +129,7 @@ impl Store {
     /// The rows that the session's transaction sees and that meet the query, in order of their ids.
     pub fn look(&self, session: u32, query: &Query) -> Result<Rows, NoMemory>
         requires { HasTransaction self.now session }
-        ensures { IfOk result (λ rows. effect self.now (ok_entry session query.now.table (requests.Look query.now)) ≡ (self.now, Found rows)) }
+        ensures { IfOk result (λ rows. effect self.now (request_entry session query.now.table (requests.Look query.now)) ≡ (self.now, Found rows)) }
     {
         let Some(open) = self.sessions.get(&session) else {
             unreachable!()
@@ -142,7 +143,7 @@ impl Store {
     /// Commits the session's transaction.
     pub fn commit(&mut self, session: u32)
         requires { HasTransaction self.old session }
-        ensures { effect self.old (ok_entry session 0 requests.Commit) ≡ (self.new, Committed) }
+        ensures { effect self.old (request_entry session 0 requests.Commit) ≡ (self.new, Committed) }
     {
         let Some(open) = remove_open(&mut self.sessions, session) else {
             unreachable!()

@@ -10,9 +10,9 @@ use Rattle.brin_app.proofs.sessions.begin.Goals as goal
 pub returns-then-is_open : goal.returns-then-is_open
 returns-then-is_open c =
     acts_refused c.args.store.now c.args.session statements.Begin refusals.UnderWay
-    (refusal_within c.args.store.now c.args.session statements.Begin (Some refusals.UnderWay) (sym c.if-is_open.ensures.is) c.is_open.ensures.whole (λ x e. refl))
+    (refusal_within c.args.store.now c.args.session statements.Begin (Some refusals.UnderWay) (sym c.if-is_open.ensures.under_way) c.is_open.ensures.unfailed (λ x e. refl))
 
 pub returns : goal.returns
 returns c =
     acts_once c.args.store.now c.begin.new.self c.args.session statements.Begin (request_entry c.args.session 0 requests.Begin) (effects.Begun c.in_ok-t.t)
-    (refusal_outside c.args.store.now c.args.session statements.Begin (sym c.if-is_open.ensures.is)) refl c.in_ok-t.ensures.begun
+    (refusal_outside c.args.store.now c.args.session statements.Begin (sym c.if-is_open.ensures.under_way)) refl c.in_ok-t.ensures.ok

@@ -10,9 +10,9 @@ use Rattle.brin_app.proofs.sessions.commit.Goals as goal
 pub returns-then-is_open : goal.returns-then-is_open
 returns-then-is_open c =
     acts_once c.args.store.now c.commit.new.self c.args.session statements.Commit (request_entry c.args.session 0 requests.Commit) effects.Committed
-    (refusal_within c.args.store.now c.args.session statements.Commit None (sym c.if-is_open.ensures.is) c.is_open.ensures.whole (λ x e. refl)) refl c.commit.ensures
+    (refusal_within c.args.store.now c.args.session statements.Commit None (sym c.if-is_open.ensures.under_way) c.is_open.ensures.unfailed (λ x e. refl)) refl c.commit.ensures
 
 pub returns : goal.returns
 returns c =
     acts_refused c.args.store.now c.args.session statements.Commit refusals.NoTransaction
-    (refusal_outside c.args.store.now c.args.session statements.Commit (sym c.if-is_open.ensures.is))
+    (refusal_outside c.args.store.now c.args.session statements.Commit (sym c.if-is_open.ensures.under_way))

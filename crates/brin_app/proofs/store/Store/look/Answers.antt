@@ -4,7 +4,7 @@ use Rattle.block_model.specs.declared.row.RowId.{RowId}
 use Rattle.block_model.specs.declared.row.Row.{Row}
 use Rattle.block_model.specs.declared.request.Request.TheVariants as requests
 use Rattle.block_model.specs.RequestEffect as model
-use Rattle.brin_app.specs.Requests.{ok_entry}
+use Rattle.query_words.specs.StatementRequests.{request_entry}
 use Rattle.brin_app.specs.Places.{places}
 use Rattle.brin_app.specs.VisibleState.{answers}
 use Rattle.brin_app.proofs.Copies.{is_there}
@@ -26,7 +26,7 @@ returns c =
     let moved = subst (λ (l : List (RowId × ℕ)). IsPermutation l c.sort_hits.new.hits.items) is c.sort_hits.ensures.permutation in
     IfOk-weaker c.gathered.result
     (λ (found : List Row). (d : Row) → found ≡ map (λ (h : RowId × ℕ). get_or c.as_slice-rows.result.now h.1 d) c.as_slice-2.result.now)
-    (λ (found : List Row). model.effect c.args.self.now (ok_entry c.args.session c.args.query.now.table (requests.Look c.args.query.now)) ≡ (c.args.self.now, model.Found found))
+    (λ (found : List Row). model.effect c.args.self.now (request_entry c.args.session c.args.query.now.table (requests.Look c.args.query.now)) ≡ (c.args.self.now, model.Found found))
     (λ (found : List Row) e. look_effect c.self.inside.rows.items c.self.inside.statuses.items c.self.inside.sessions.entries c.args.session c.args.query.now c.in-Some.«open».now c.args.self.now c.self.view_is c.self.invariant (sym c.in-Some.ensures.value) c.sort_hits.new.hits.items found
     moved c.sort_hits.ensures.sorted (λ d. e d ∙ (λ i. map (λ (h : RowId × ℕ). get_or (c.as_slice-rows.ensures.value i) h.1 d) (c.as_slice-2.ensures.value i))))
     c.gathered.ensures
