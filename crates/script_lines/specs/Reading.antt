@@ -68,7 +68,7 @@ Stops a b left left' (ends.Spent taken) = (came : List ℕ) × (past : List ℕ)
 -- What a call does by its answer: a line is the next one; where it answers none the end was seen and all were handed out.
 abbrev pub Answers : {T : Type 0} → (T → List ℕ) → Reading → Reading → Option (List ℕ) → Option (List ℕ) → Result (Option T) LinesEnd → Type 0
 Answers bytes a b left left' (Ok (Some line)) = (came : List ℕ) × Consumes left left' came × ReadsOn a b came (bytes line ∷ []) × ((b.stage ≡ a.stage) ⊎ (b.stage ≡ stages.Ended))
-Answers bytes a b left left' (Ok None) = Consumes left left' [] × ReadsOn a b [] [] × (b.ready ≡ []) × (b.stage ≡ stages.Ended)
+Answers bytes a b left left' (Ok None) = (came : List ℕ) × Consumes left left' came × ReadsOn a b came [] × (b.ready ≡ []) × (b.stage ≡ stages.Ended)
 Answers bytes a b left left' (Err end) = Stops a b left left' end
 
 -- an end that the reader has seen is the source's

@@ -2,7 +2,7 @@
 use Rattle.std.specs.Prelude.{ℕ, ◌==◌, List, [], ◌∷◌, ◌++◌, take, if◌then◌else◌}
 
 -- a line as it is handed out: its first 65536 bytes
-abbrev pub clip : List ℕ → List ℕ
+unfoldable pub clip : List ℕ → List ℕ
 clip line = take 65536 line
 
 -- the lines that a line feed ends, the first of which goes on from the line so far

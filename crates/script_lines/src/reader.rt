@@ -5,7 +5,7 @@ ghost use Rattle.std.specs.Borrow.{sem};
 ghost use Rattle.std.specs.Io.BufRead.{Rests};
 ghost use Rattle.block_model.specs.Causes.{Rose};
 
-use crate::cursor::Cursor;
+use crate::cursor::{Cursor, advance};
 use crate::end::{LinesEnd, Stage};
 use block_model::NoMemory;
 use io_traits::source::Source;
@@ -36,12 +36,13 @@ impl Model for Lines {
 }
 
 impl Lines {
-    ghost use Rattle.script_lines.specs.Reading.{fresh, Next};
+    ghost use Rattle.script_lines.specs.Reading.{fresh, HasRead, Next};
     ghost use Rattle.script_lines.specs.contracts.reader.Lines.{the_row};
 
     /// A reader that takes up to `limit` bytes. Takes the one buffer, of fixed size, that the reader ever needs.
     pub fn new(alloc: Global, limit: u64) -> Result<Lines, NoMemory>
-        ensures { IfOk result (λ lines. lines ≡ fresh limit) }
+        ensures limit { IfOk result (λ lines. lines ≡ fresh limit) }
+        ensures nothing { IfOk result (λ lines. HasRead lines [] []) }
     {
         match vec![in alloc; 0u8; SIZE] {
             Ok(buffer) => Ok(Lines {
@@ -69,6 +70,10 @@ impl Lines {
         ensures later { S.faults source.old ≤ S.faults source.new }
         ensures cause { IsErrOf result LinesEnd.Read → Rose (S.faults source.old) (S.faults source.new) }
     {
-        Ok(None)
+        match advance(&mut self.buffer, &mut self.cursor, source) {
+            Ok(Some(span)) => Ok(Some(&self.buffer[span.from..span.to])),
+            Ok(None) => Ok(None),
+            Err(end) => Err(end),
+        }
     }
 }
