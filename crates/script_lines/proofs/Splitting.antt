@@ -3,28 +3,8 @@ use Rattle.std.proofs.Common.{◌≡◌, ◌≢◌, ℕ, zero, suc, ◌≤◌, t
 use Rattle.std.proofs.lemmas.List.{append-nil, take-take, take_all, length-take}
 use Rattle.std.proofs.lemmas.Bool.{cases_lt}
 use Rattle.std.proofs.lemmas.Bool.Decides.{eqb_tells}
-use Rattle.script_lines.specs.Script.{clip, ended_from, rest_from}
+use Rattle.script_lines.specs.Script.{clip, ended_from, rest_from, ended_append, rest_append}
 use Rattle.script_lines.specs.Buffered.{HasNoFeed}
-
--- ---- bytes behind bytes
-
-pub ended_append : (line xs ys : List ℕ) → ended_from line (xs ++ ys) ≡ ended_from line xs ++ ended_from (rest_from line xs) ys
-ended_append line [] ys = refl
-ended_append line (b ∷ xs) ys =
-    let next = ended_append [] xs ys in
-    let same = ended_append (line ++ b ∷ []) xs ys in
-    elim (eqb b 10) as (λ c. cond c (clip line ∷ ended_from [] (xs ++ ys)) (ended_from (line ++ b ∷ []) (xs ++ ys))
-    ≡ cond c (clip line ∷ ended_from [] xs) (ended_from (line ++ b ∷ []) xs) ++ ended_from (cond c (rest_from [] xs) (rest_from (line ++ b ∷ []) xs)) ys) [
-      | true ↦ ap (λ ls. clip line ∷ ls) next
-      | false ↦ same
-    ]
-
-pub rest_append : (line xs ys : List ℕ) → rest_from line (xs ++ ys) ≡ rest_from (rest_from line xs) ys
-rest_append line [] ys = refl
-rest_append line (b ∷ xs) ys =
-    let next = rest_append [] xs ys in
-    let same = rest_append (line ++ b ∷ []) xs ys in
-    elim (eqb b 10) as (λ c. cond c (rest_from [] (xs ++ ys)) (rest_from (line ++ b ∷ []) (xs ++ ys)) ≡ rest_from (cond c (rest_from [] xs) (rest_from (line ++ b ∷ []) xs)) ys) [ true ↦ next | false ↦ same ]
 
 -- no more lines end than there are bytes
 pub length-ended : (line xs : List ℕ) → length (ended_from line xs) ≤ length xs

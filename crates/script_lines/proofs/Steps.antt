@@ -7,10 +7,10 @@ use Rattle.script_lines.specs.declared.end.LinesEnd.{LinesEnd}
 use Rattle.script_lines.specs.declared.end.LinesEnd.TheVariants as ends
 use Rattle.script_lines.specs.declared.end.Stage.{Stage}
 use Rattle.script_lines.specs.declared.end.Stage.TheVariants.{Open, Ended, Spent}
-use Rattle.script_lines.specs.Script.{clip, ended_from, rest_from, ended_lines, rest_line, last_line}
+use Rattle.script_lines.specs.Script.{clip, ended_append, rest_append, ended_from, rest_from, ended_lines, rest_line, last_line}
 use Rattle.script_lines.specs.Reading.{Reading, fresh, HasRead, ReadsOn, Stops, lines_at, line_at, beyond}
 use Rattle.script_lines.specs.Buffered.{reading_with, HasNoFeed}
-use Rattle.script_lines.proofs.Splitting.{ended_append, rest_append, length-ended, clip_is, clip_nil, clip_clip, ended_alike, rest_alike, ended_none, rest_none, ended_first, rest_first}
+use Rattle.script_lines.proofs.Splitting.{length-ended, clip_is, clip_nil, clip_clip, ended_alike, rest_alike, ended_none, rest_none, ended_first, rest_first}
 
 -- nothing changes
 pub stays : (a : Reading) → ReadsOn a a [] []
