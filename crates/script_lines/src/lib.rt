@@ -7,3 +7,5 @@
 mod cursor;
 pub mod end;
 pub mod reader;
+#[cfg(test)]
+mod tests;
