@@ -55,6 +55,7 @@ pub fn advance<S: Source>(
     ensures end { SeesEnd (reading buffer.old cursor.old) (S.left source.old) → SeesEnd (reading buffer.new cursor.new) (S.left source.new) }
     ensures waiting { (reading buffer.old cursor.old).ready ≢ [] → source.new ≡ source.old }
     ensures stopped { cursor.old.stage ≢ Stage.Open → source.new ≡ source.old }
+    ensures stays { cursor.old.stage ≢ Stage.Open → cursor.new.stage ≡ cursor.old.stage }
     ensures later { S.faults source.old ≤ S.faults source.new }
     ensures cause { IsErrOf result LinesEnd.Read → Rose (S.faults source.old) (S.faults source.new) }
 {
