@@ -42,9 +42,6 @@ module _ (buffer : List ℕ) (c : Cursor) (at : ℕ) (feed : FeedAt (held buffer
       (subst (λ xs. ReadsOn (reading_with c.limit c.taken c.stage xs) (reading_with c.limit c.taken c.stage (drop (at + 1) (held buffer c))) [] (clip (take at (held buffer c)) ∷ [])) (sym feed.splits)
       (hands_first c.limit c.taken c.stage (take at (held buffer c)) (drop (at + 1) (held buffer c)) feed.first)))
 
-  pub past_line : IsCursor buffer c → IsCursor buffer (record c { start = c.start + at + 1 })
-  past_line h = record { size = h.size; ordered = omega (arith, below, h.ordered); inside = h.inside; within = h.within; spent = h.spent }
-
 -- the last line
 module _ (buffer : List ℕ) (c : Cursor) (h : IsCursor buffer c) (ended : c.stage ≡ Ended) where
   pub hands_rest : HasNoFeed (held buffer c) → c.start < c.end → ReadsOn (reading buffer c) (reading buffer (record c { start = c.end })) [] (spanned buffer (record { from = c.start; to = c.start + min (c.end - c.start) 65536 }) ∷ [])

@@ -1,5 +1,5 @@
 -- what a reader of lines has, and what a call of it does
-use Rattle.std.specs.Prelude.{◌≡◌, ◌⊎◌, ℕ, ◌+◌, ◌-◌, ◌≤◌, List, [], ◌∷◌, ◌++◌, length, Option, Some, None, Result, Ok, Err}
+use Rattle.std.specs.Prelude.{◌≡◌, ◌≢◌, ◌⊎◌, ℕ, ◌+◌, ◌-◌, ◌≤◌, List, [], ◌∷◌, ◌++◌, length, Option, Some, None, Result, Ok, Err}
 use Rattle.std.specs.Io.KnownBytes.{Consumes, IsAtEnd}
 use Rattle.std.specs.Borrow.{Bor}
 use Rattle.script_lines.specs.declared.end.Stage.{Stage}
@@ -80,3 +80,4 @@ pub record Next (a b : Reading) (left left' : Option (List ℕ)) (result : Resul
   pub within : b.taken ≤ b.limit
   pub answers : Answers (λ line. line.now) a b left left' result
   pub end : SeesEnd a left → SeesEnd b left'
+  pub stays : a.stage ≢ stages.Open → b.stage ≡ a.stage

@@ -1,6 +1,6 @@
 // Where the lines stand in a reader's buffer.
 
-ghost use Rattle.std.specs.Prelude.{◌≡◌, ◌≢◌, ◌≤◌, ◌<◌, ◌+◌, ◌-◌, [], length, take, drop, min, slice_range, IfOk, IfSome, MatchOption, MatchResult, IsErrOf, IsOk, OnErr};
+ghost use Rattle.std.specs.Prelude.{◌≡◌, ◌≢◌, ◌≤◌, ◌<◌, ◌+◌, ◌-◌, [], length, take, drop, min, slice_range, IfOk, IfSome, MatchOption, MatchResult, IsErrOf, OnErr};
 ghost use Rattle.std.specs.Io.KnownBytes.{Consumes, IsAtEnd, Keeps};
 ghost use Rattle.block_model.specs.Causes.{HasCause, Rose};
 ghost use Rattle.script_lines.specs.Script.{clip};
@@ -55,7 +55,7 @@ pub fn advance<S: Source>(
     ensures end { SeesEnd (reading buffer.old cursor.old) (S.left source.old) → SeesEnd (reading buffer.new cursor.new) (S.left source.new) }
     ensures waiting { (reading buffer.old cursor.old).ready ≢ [] → source.new ≡ source.old }
     ensures stopped { cursor.old.stage ≢ Stage.Open → source.new ≡ source.old }
-    ensures ended { cursor.old.stage ≡ Stage.Ended → IsOk result }
+    ensures stays { cursor.old.stage ≢ Stage.Open → cursor.new.stage ≡ cursor.old.stage }
     ensures later { S.faults source.old ≤ S.faults source.new }
     ensures cause { IsErrOf result LinesEnd.Read → Rose (S.faults source.old) (S.faults source.new) }
 {

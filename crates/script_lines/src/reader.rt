@@ -1,6 +1,6 @@
 // A reader of lines.
 
-ghost use Rattle.std.specs.Prelude.{◌≡◌, ◌≢◌, ◌≤◌, [], IfOk, IfSome, IsErrOf, IsOk, length};
+ghost use Rattle.std.specs.Prelude.{◌≡◌, ◌≢◌, ◌≤◌, [], IfOk, IfSome, IsErrOf, length};
 ghost use Rattle.std.specs.Borrow.{sem};
 ghost use Rattle.std.specs.Io.BufRead.{Rests};
 ghost use Rattle.block_model.specs.Causes.{Rose};
@@ -59,15 +59,17 @@ impl Lines {
         }
     }
 
-    /// The next line, or none where the end was seen and all lines were handed out. After a read fault a further call
-    /// goes on where this one stopped. Once the end was seen, and once there was a byte past the limit, a further call
-    /// leaves the source alone and answers the same again.
+    /// The next line, or none where the end was seen and all lines were handed out. `Read` comes only where a read has
+    /// failed: each whole line that came was handed out, and a further call goes on where this one stopped. `Spent` comes
+    /// where `limit` bytes were taken and another came, and then again at each further call.
     pub fn next<S: Source>(&mut self, source: &mut S) -> Result<Option<&[u8]>, LinesEnd>
+        // The lines of the script come one after the other, and an end only where each line before it was handed out.
         ensures* next { sem 𝓛 (Rests the_row self.entry (λ lines. Next self.old lines (S.left source.old) (S.left source.new) result)) }
         ensures short { IfOk result (λ line. IfSome line (λ bytes. length bytes.now ≤ 65536)) }
+
+        // Nothing is read while a whole line is ready, nor once the end or a byte past the limit was seen.
         ensures waiting { self.old.ready ≢ [] → source.new ≡ source.old }
         ensures stopped { self.old.stage ≢ Stage.Open → source.new ≡ source.old }
-        ensures ended { self.old.stage ≡ Stage.Ended → IsOk result }
         ensures later { S.faults source.old ≤ S.faults source.new }
         ensures cause { IsErrOf result LinesEnd.Read → Rose (S.faults source.old) (S.faults source.new) }
     {
