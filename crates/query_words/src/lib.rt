@@ -9,5 +9,7 @@ pub mod line;
 mod number;
 pub mod reply;
 pub mod statement;
+#[cfg(test)]
+mod tests;
 mod text;
 mod word;
