@@ -5,7 +5,6 @@ use Rattle.std.specs.Str.{bytes_eq}
 use Rattle.block_model.specs.Names.{is_name}
 use Rattle.block_model.specs.declared.value.Kind.TheVariants as kinds
 use Rattle.block_model.specs.declared.schema.Schema.{Schema}
-use Rattle.query_words.specs.declared.declaration.TheConstants.{ROWS_PER_PAGE}
 use Rattle.query_words.specs.declared.declaration.DeclFault.{DeclFault}
 use Rattle.query_words.specs.declared.declaration.DeclFault.TheVariants as faults
 
@@ -24,7 +23,7 @@ is_table_name name = is_name name && not (bytes_eq name (codes "status"))
 -- a table of one column of numbers, without indexes
 abbrev pub one_table : List ℕ → List ℕ → Schema
 one_table table column = record {
-  tables = record { name = table; rows_per_page = ROWS_PER_PAGE; columns = record { name = column; kind = kinds.Int } ∷ [] } ∷ [];
+  tables = record { name = table; rows_per_page = 272; columns = record { name = column; kind = kinds.Int } ∷ [] } ∷ [];
   indexes = [];
 }
 
