@@ -1,5 +1,5 @@
 -- what the words of a command line declare
-use Rattle.std.specs.Prelude.{◌≡◌, ℕ, Bool, true, false, not, ◌==◌, ◌&&◌, List, [], ◌∷◌, ◌++◌, Option, None, Some, IsSome, Result, Ok, Err, if◌then◌else◌, codes}
+use Rattle.std.specs.Prelude.{◌≡◌, ◌≢◌, ℕ, Bool, true, false, not, ◌==◌, ◌&&◌, List, [], ◌∷◌, ◌++◌, Option, None, Some, IsSome, Result, Ok, Err, if◌then◌else◌, codes}
 use Rattle.std.specs.Option.{option_and_then}
 use Rattle.std.specs.Str.{bytes_eq}
 use Rattle.block_model.specs.Names.{is_name}
@@ -50,3 +50,24 @@ abbrev pub Declares : Result Schema DeclFault → Option Schema → Type 0
 Declares (Ok schema) said = said ≡ Some schema
 Declares (Err (faults.Form word at)) said = (said ≡ None) × (word ≡ 0) × (at ≡ 0)
 Declares (Err faults.Memory) said = IsSome said
+
+-- the words that declare a table of one column
+abbrev pub table_words : List ℕ → List ℕ → List (List ℕ)
+table_words table column = codes "run" ∷ (codes "table " ++ table ++ codes "(" ++ column ++ codes " int8)") ∷ []
+
+-- what a table and its column may be named
+pub record AreNames (table column : List ℕ) : Type 0 where
+  pub table_named : is_table_name table ≡ true
+  pub column_named : is_name column ≡ true
+
+-- the words declare that table
+pub record IsCommand (words : List (List ℕ)) (schema : Schema) : Type 0 where
+  pub table : List ℕ
+  pub column : List ℕ
+  pub named : AreNames table column
+  pub words_are : words ≡ table_words table column
+  pub schema_is : schema ≡ one_table table column
+
+-- the words declare no table
+abbrev pub IsNoCommand : List (List ℕ) → Type 0
+IsNoCommand words = (table column : List ℕ) → AreNames table column → words ≢ table_words table column
