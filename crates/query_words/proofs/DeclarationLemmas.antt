@@ -40,12 +40,12 @@ cut_from-name : (front : List ℕ) (mark : ℕ) (name rest : List ℕ) → is_mo
     → cut_from front mark (name ++ mark ∷ rest) ≡ Some (front ++ name, rest)
 cut_from-name front mark [] rest off on =
     ap (λ b. cond b (Some (front, rest)) (cut_from (front ++ mark ∷ []) mark rest)) (eq-eqb mark mark refl)
-        ∙ ap (λ (l : List ℕ). Some (l, rest)) (sym (append-nil front))
+    ∙ ap (λ (l : List ℕ). Some (l, rest)) (sym (append-nil front))
 cut_from-name front mark (c ∷ cs) rest off on =
     let parts : (is_more c ≡ true) × (list_all is_more cs ≡ true) = both (is_more c) (list_all is_more cs) on in
     ap (λ b. cond b (Some (front, cs ++ mark ∷ rest)) (cut_from (front ++ c ∷ []) mark (cs ++ mark ∷ rest))) (no_mark mark c off parts.0)
-        ∙ cut_from-name (front ++ c ∷ []) mark cs rest off parts.1
-        ∙ ap (λ (l : List ℕ). Some (l, rest)) (append_assoc front (c ∷ []) cs)
+    ∙ cut_from-name (front ++ c ∷ []) mark cs rest off parts.1
+    ∙ ap (λ (l : List ℕ). Some (l, rest)) (append_assoc front (c ∷ []) cs)
 
 -- every byte of a name may follow its first
 all_more : (name : List ℕ) → is_name name ≡ true → list_all is_more name ≡ true
@@ -65,10 +65,10 @@ unfolding declared
 table_declared table column names =
     let is_one : is_name table ≡ true = (both _ _ names.table_named).0 in
     ap (λ (l : List ℕ). option_and_then named_in (cut 40 l)) (regroup table column)
-        ∙ ap (option_and_then named_in) (cut_from-name [] 40 table (column ++ codes " int8)") refl (all_more table is_one))
-        ∙ ap (option_and_then (column_in table)) (cut_from-name [] 32 column (codes "int8)") refl (all_more column names.column_named))
-        ∙ ap (λ b. cond (b && is_name column && true) (Some (one_table table column)) None) names.table_named
-        ∙ ap (λ b. cond (b && true) (Some (one_table table column)) None) names.column_named
+    ∙ ap (option_and_then named_in) (cut_from-name [] 40 table (column ++ codes " int8)") refl (all_more table is_one))
+    ∙ ap (option_and_then (column_in table)) (cut_from-name [] 32 column (codes "int8)") refl (all_more column names.column_named))
+    ∙ ap (λ b. cond (b && is_name column && true) (Some (one_table table column)) None) names.table_named
+    ∙ ap (λ b. cond (b && true) (Some (one_table table column)) None) names.column_named
 
 -- an answer that depends on a test
 when : {A : Type 0} (b : Bool) (o : Option A) (y : A) → cond b o None ≡ Some y → (b ≡ true) × (o ≡ Some y)
@@ -84,10 +84,11 @@ column_word : (table rest : List ℕ) (r : List ℕ × List ℕ) (schema : Schem
 column_word table rest r schema cut_is h =
     let test = cond_some (is_table_name table && is_name r.0 && bytes_eq r.1 (codes "int8)")) (one_table table r.0) schema h in
     let kind = both (is_table_name table && is_name r.0) (bytes_eq r.1 (codes "int8)")) test.0 in
-    let names = both (is_table_name table) (is_name r.0) kind.0 in
-    (record { table_named = names.0; column_named = names.1 },
-     cut_from_is [] 32 rest r cut_is ∙ ap (λ (l : List ℕ). r.0 ++ 32 ∷ l) (same_bytes r.1 (codes "int8)") kind.1),
-     sym test.1)
+    let names = both (is_table_name table) (is_name r.0) kind.0 in (
+      record { table_named = names.0; column_named = names.1 },
+      cut_from_is [] 32 rest r cut_is ∙ ap (λ (l : List ℕ). r.0 ++ 32 ∷ l) (same_bytes r.1 (codes "int8)") kind.1),
+      sym test.1,
+    )
 
 -- what is declared is a word of the grammar
 declared_word : (words : List (List ℕ)) (schema : Schema) → declared words ≡ Some schema → IsCommand words schema
@@ -98,21 +99,21 @@ declared_word (command ∷ word ∷ more ∷ words) schema h = cc
 declared_word (command ∷ word ∷ []) schema h =
     let run = when (bytes_eq command (codes "run")) (declaration_of word) schema h in
     option_and_then_some table_in (cut 32 word) schema run.1 (λ (p : List ℕ × List ℕ) cut_p in_p.
-        let head = when (bytes_eq p.0 (codes "table")) (option_and_then named_in (cut 40 p.1)) schema in_p in
-        option_and_then_some named_in (cut 40 p.1) schema head.1 (λ (q : List ℕ × List ℕ) cut_q in_q.
-            option_and_then_some (column_in q.0) (cut 32 q.1) schema in_q (λ (r : List ℕ × List ℕ) cut_r in_r.
-                let column = column_word q.0 q.1 r schema cut_r in_r in
-                let word_is : word ≡ codes "table " ++ (q.0 ++ codes "(" ++ r.0 ++ codes " int8)") =
-                    cut_from_is [] 32 word p cut_p
-                        ∙ ap (λ (l : List ℕ). l ++ 32 ∷ p.1) (same_bytes p.0 (codes "table") head.0)
-                        ∙ ap (λ (l : List ℕ). codes "table " ++ l) (cut_from_is [] 40 p.1 q cut_q ∙ ap (λ (l : List ℕ). q.0 ++ 40 ∷ l) column.1 ∙ sym (regroup q.0 r.0)) in
-                record {
-                  table = q.0;
-                  column = r.0;
-                  named = column.0;
-                  words_are = ap (λ (c : List ℕ). c ∷ word ∷ []) (same_bytes command (codes "run") run.0) ∙ ap (λ (l : List ℕ). codes "run" ∷ l ∷ []) word_is;
-                  schema_is = column.2;
-                })))
+    let head = when (bytes_eq p.0 (codes "table")) (option_and_then named_in (cut 40 p.1)) schema in_p in
+    option_and_then_some named_in (cut 40 p.1) schema head.1 (λ (q : List ℕ × List ℕ) cut_q in_q.
+    option_and_then_some (column_in q.0) (cut 32 q.1) schema in_q (λ (r : List ℕ × List ℕ) cut_r in_r.
+    let column = column_word q.0 q.1 r schema cut_r in_r in
+    let word_is : word ≡ codes "table " ++ (q.0 ++ codes "(" ++ r.0 ++ codes " int8)") =
+    cut_from_is [] 32 word p cut_p
+    ∙ ap (λ (l : List ℕ). l ++ 32 ∷ p.1) (same_bytes p.0 (codes "table") head.0)
+    ∙ ap (λ (l : List ℕ). codes "table " ++ l) (cut_from_is [] 40 p.1 q cut_q ∙ ap (λ (l : List ℕ). q.0 ++ 40 ∷ l) column.1 ∙ sym (regroup q.0 r.0)) in
+    record {
+      table = q.0;
+      column = r.0;
+      named = column.0;
+      words_are = ap (λ (c : List ℕ). c ∷ word ∷ []) (same_bytes command (codes "run") run.0) ∙ ap (λ (l : List ℕ). codes "run" ∷ l ∷ []) word_is;
+      schema_is = column.2;
+    })))
 
 texts_at : (words : List (List ℕ)) (o : Option Schema) → declared words ≡ o → MatchOption o (IsNoCommand words) (IsCommand words)
 texts_at words None e = λ table column names same. let is_some = ap declared same ∙ table_declared table column names in cc

@@ -13,6 +13,7 @@ abbrev pub cut_from : List ℕ → ℕ → List ℕ → Option (List ℕ × List
 cut_from front mark [] = None
 cut_from front mark (c ∷ cs) = if c == mark then Some (front, cs) else cut_from (front ++ c ∷ []) mark cs
 
+-- the bytes before and after the first mark
 abbrev pub cut : ℕ → List ℕ → Option (List ℕ × List ℕ)
 cut mark bytes = cut_from [] mark bytes
 
@@ -27,12 +28,15 @@ one_table table column = record {
   indexes = [];
 }
 
+-- a column's name and its kind, of the table of that name
 abbrev pub column_in : List ℕ → List ℕ × List ℕ → Option Schema
 column_in table p = if is_table_name table && is_name p.0 && bytes_eq p.1 (codes "int8)") then Some (one_table table p.0) else None
 
+-- a table's name, and its column behind the bracket
 abbrev pub named_in : List ℕ × List ℕ → Option Schema
 named_in p = option_and_then (column_in p.0) (cut 32 p.1)
 
+-- the word `table`, and what is behind it
 abbrev pub table_in : List ℕ × List ℕ → Option Schema
 table_in p = if bytes_eq p.0 (codes "table") then option_and_then named_in (cut 40 p.1) else None
 

@@ -24,7 +24,7 @@ pub enum DeclFault {
 const FORM: DeclFault = DeclFault::Form { word: 0, at: 0 };
 
 /// How many rows a page of a table has.
-pub const ROWS_PER_PAGE: u16 = 272;
+const ROWS_PER_PAGE: u16 = 272;
 
 /// Reads the words of a command line: `run` and one declaration. Takes memory for the schema.
 #[tactic(auto, using(crate::proofs::DeclarationLemmas::declared_texts), unfolding(crate::specs::Declarations::declared))]
