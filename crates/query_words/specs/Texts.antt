@@ -14,6 +14,8 @@ use Rattle.block_model.specs.declared.reply.Refusal.{Refusal}
 use Rattle.block_model.specs.declared.reply.Refusal.TheVariants as refusals
 use Rattle.block_model.specs.declared.reply.What.{What}
 use Rattle.block_model.specs.declared.reply.What.TheVariants as whats
+use Rattle.query_words.specs.declared.line.LineFault.{LineFault}
+use Rattle.query_words.specs.declared.line.LineFault.TheVariants as faults
 
 -- the lower side of a range, open where it is infinite
 abbrev pub lower_text : Option ℤ → List ℕ
@@ -114,6 +116,15 @@ refusal_text name (refusals.Blocked what holder) = name ++ codes " error 11 " ++
 refusal_text name refusals.InHand = name ++ codes " error 12\n"
 refusal_text name refusals.Memory = name ++ codes " error 13\n"
 refusal_text name refusals.NothingStarted = name ++ codes " error 14\n"
+
+-- a line that isn't read; want of memory is no fault of a line, and has no text
+abbrev pub fault_text : LineFault → List ℕ
+fault_text (faults.Syntax at) = refusal_text [] (refusals.Syntax at)
+fault_text (faults.NoTable at) = refusal_text [] (refusals.NoTable at)
+fault_text (faults.NoIndex at) = refusal_text [] (refusals.NoIndex at)
+fault_text (faults.NoColumn at) = refusal_text [] (refusals.NoColumn at)
+fault_text (faults.Kind at) = refusal_text [] (refusals.NoColumn at)
+fault_text faults.Memory = []
 
 -- what a vacuum did
 abbrev pub vacuum_text : List ℕ → ℕ → ℕ → ℕ → List ℕ

@@ -2,7 +2,7 @@
 
 use crate::declaration::{DeclFault, read_declarations};
 use crate::line::{Line, LineFault, MAX_LINE, Order, read_line};
-use crate::reply::render;
+use crate::reply::{render, render_fault};
 use crate::statement::Statement;
 use block_model::name::Name;
 use block_model::net::Net;
@@ -249,7 +249,7 @@ fn refusals_are_printed_exactly(rt: HostRuntime) -> Result<(), Fail> {
     let expected =
         "- error 1 3\n- error 2 4\n- error 3 5\ns1 error 4\ns1 error 5\ns1 error 6\ns1 error 7 1.0\n\
         s1 error 8 t 16\n- error 9 6\ns1 error 10 64\ns1 error 11 page t 2 m\ns1 error 11 work t m\n\
-        s1 error 12\ns1 error 13\ns1 error 14\n";
+        s1 error 12\ns1 error 13\ns1 error 14\n- error 1 0\n- error 3 9\n";
     assert_eq!(rt; out.as_slice(), expected.as_bytes());
     Ok(())
 }
