@@ -246,6 +246,13 @@ fn refusals_are_printed_exactly(rt: HostRuntime) -> Result<(), Fail> {
     for refusal in refusals {
         render(&session, &Reply::Refused(refusal), &mut out)?;
     }
+    for fault in [
+        LineFault::Syntax { at: 0 },
+        LineFault::Kind { at: 9 },
+        LineFault::Memory,
+    ] {
+        render_fault(fault, &mut out)?;
+    }
     let expected =
         "- error 1 3\n- error 2 4\n- error 3 5\ns1 error 4\ns1 error 5\ns1 error 6\ns1 error 7 1.0\n\
         s1 error 8 t 16\n- error 9 6\ns1 error 10 64\ns1 error 11 page t 2 m\ns1 error 11 work t m\n\
