@@ -4,8 +4,6 @@ use Rattle.std.proofs.Common.{sym, ◌∙◌}
 use Rattle.std.specs.Str.{bytes_eq}
 use Rattle.block_model.specs.declared.schema.Schema.{Schema}
 use Rattle.block_model.specs.declared.request.Entry.{Entry}
-use Rattle.block_model.specs.declared.reply.Refusal.{Refusal}
-use Rattle.block_model.specs.declared.reply.Refusal.TheVariants as refusals
 use Rattle.block_model.specs.DatabaseState.{DatabaseState, initial_state}
 use Rattle.block_model.specs.SerialRun.{serial_run, serial_run-append}
 use Rattle.query_words.specs.declared.statement.Statement.{Statement}
@@ -14,9 +12,8 @@ use Rattle.query_words.specs.declared.line.Order.TheVariants as orders
 use Rattle.query_words.specs.declared.line.Line.{Line}
 use Rattle.query_words.specs.declared.line.Line.TheVariants as lines
 use Rattle.query_words.specs.declared.line.LineFault.{LineFault}
-use Rattle.query_words.specs.declared.line.LineFault.TheVariants as faults
 use Rattle.query_words.specs.Lines.{line_of}
-use Rattle.query_words.specs.Texts.{reply_text, refusal_text}
+use Rattle.query_words.specs.Texts.{reply_text, fault_text}
 use Rattle.query_words.specs.StatementRequests.{statement_requests, statement_reply}
 
 -- where a script stands: the sessions' names in the order of their first lines, and the database
@@ -53,21 +50,12 @@ statement_answer p name statement = record {
   text = reply_text name (statement_reply p.database (session_number p.names name) statement);
 }
 
--- why a line isn't read
-abbrev pub fault_refusal : LineFault → Refusal
-fault_refusal (faults.Syntax at) = refusals.Syntax at
-fault_refusal (faults.NoTable at) = refusals.NoTable at
-fault_refusal (faults.NoIndex at) = refusals.NoIndex at
-fault_refusal (faults.NoColumn at) = refusals.NoColumn at
-fault_refusal (faults.Kind at) = refusals.NoColumn at
-fault_refusal faults.Memory = refusals.Memory
-
 abbrev pub without_request : ScriptPlace → List ℕ → LineAnswer
 without_request p text = record { names = p.names; requests = []; text = text }
 
 -- A line that isn't read changes nothing and has the text of its fault; one that says nothing has no text.
 abbrev pub said_answer : ScriptPlace → Result Line LineFault → LineAnswer
-said_answer p (Err fault) = without_request p (refusal_text [] (fault_refusal fault))
+said_answer p (Err fault) = without_request p (fault_text fault)
 said_answer p (Ok lines.Nothing) = without_request p []
 said_answer p (Ok (lines.Say name (orders.Whole statement))) = statement_answer p name statement
 said_answer p (Ok (lines.Say name order)) = without_request p []

@@ -14,6 +14,8 @@ use Rattle.block_model.specs.declared.reply.Refusal.{Refusal}
 use Rattle.block_model.specs.declared.reply.Refusal.TheVariants as refusals
 use Rattle.block_model.specs.declared.reply.What.{What}
 use Rattle.block_model.specs.declared.reply.What.TheVariants as whats
+use Rattle.query_words.specs.declared.line.LineFault.{LineFault}
+use Rattle.query_words.specs.declared.line.LineFault.TheVariants as faults
 
 -- the lower side of a range, open where it is infinite
 abbrev pub lower_text : Option ℤ → List ℕ
@@ -25,6 +27,7 @@ abbrev pub upper_text : Option ℤ → List ℕ
 upper_text None = codes ")"
 upper_text (Some n) = signed_decimal n ++ codes ")"
 
+-- both sides, or `empty`
 abbrev pub range_text : Range → List ℕ
 range_text Empty = codes "empty"
 range_text (Between lower upper) = lower_text lower ++ codes "," ++ upper_text upper
@@ -42,9 +45,11 @@ abbrev pub address_text : ℕ → List ℕ
 address_text a =
     decimal (byte_of a 24) ++ codes "." ++ decimal (byte_of a 16) ++ codes "." ++ decimal (byte_of a 8) ++ codes "." ++ decimal (byte_of a 0)
 
+-- an address and its prefix
 abbrev pub network_text : Network → List ℕ
 network_text n = address_text n.address ++ prefix_text n.prefix
 
+-- a value as it is printed
 abbrev pub value_text : Value → List ℕ
 value_text values.Null = codes "null"
 value_text (values.Int n) = signed_decimal n
@@ -59,6 +64,7 @@ values_text vs = flat_map (λ v. codes " " ++ value_text v) vs
 abbrev pub id_text : RowId → List ℕ
 id_text id = decimal id.t ++ codes "." ++ decimal id.k
 
+-- a row's line
 abbrev pub row_text : List ℕ → Row → List ℕ
 row_text name row = name ++ codes " row " ++ id_text row.id ++ values_text row.values ++ codes "\n"
 
@@ -75,6 +81,7 @@ abbrev pub runs_from : ℕ → ℕ → List ℕ → List (ℕ × ℕ)
 runs_from first last [] = (first, last) ∷ []
 runs_from first last (b ∷ bs) = if b == last + 1 then runs_from first b bs else (first, last) ∷ runs_from b b bs
 
+-- the runs of a list
 abbrev pub runs_of : List ℕ → List (ℕ × ℕ)
 runs_of [] = []
 runs_of (b ∷ bs) = runs_from b b bs
@@ -83,6 +90,7 @@ runs_of (b ∷ bs) = runs_from b b bs
 abbrev pub run_text : ℕ × ℕ → List ℕ
 run_text run = if run.0 == run.1 then codes " " ++ decimal run.0 else codes " " ++ decimal run.0 ++ codes "-" ++ decimal run.1
 
+-- the runs, or `none`
 abbrev pub blocks_text : List ℕ → List ℕ
 blocks_text [] = codes " none"
 blocks_text (b ∷ bs) = flat_map run_text (runs_of (b ∷ bs))
@@ -108,6 +116,15 @@ refusal_text name (refusals.Blocked what holder) = name ++ codes " error 11 " ++
 refusal_text name refusals.InHand = name ++ codes " error 12\n"
 refusal_text name refusals.Memory = name ++ codes " error 13\n"
 refusal_text name refusals.NothingStarted = name ++ codes " error 14\n"
+
+-- a line that isn't read; want of memory is no fault of a line, and has no text
+abbrev pub fault_text : LineFault → List ℕ
+fault_text (faults.Syntax at) = refusal_text [] (refusals.Syntax at)
+fault_text (faults.NoTable at) = refusal_text [] (refusals.NoTable at)
+fault_text (faults.NoIndex at) = refusal_text [] (refusals.NoIndex at)
+fault_text (faults.NoColumn at) = refusal_text [] (refusals.NoColumn at)
+fault_text (faults.Kind at) = refusal_text [] (refusals.NoColumn at)
+fault_text faults.Memory = []
 
 -- what a vacuum did
 abbrev pub vacuum_text : List ℕ → ℕ → ℕ → ℕ → List ℕ

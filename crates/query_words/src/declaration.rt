@@ -2,7 +2,7 @@
 
 ghost use Rattle.std.specs.Prelude.{◌≡◌, true, false, MatchOption, None, Some, IfOk};
 ghost use Rattle.std.specs.Option.{option_and_then};
-ghost use Rattle.query_words.specs.Declarations.{Declares, declared, declaration_of, column_in, named_in, cut, one_table, is_table_name};
+ghost use Rattle.query_words.specs.Declarations.{Declares, declared, IsCommand, IsNoCommand, declaration_of, column_in, named_in, cut, one_table, is_table_name};
 
 use crate::word::is_word;
 use block_model::NoMemory;
@@ -24,12 +24,13 @@ pub enum DeclFault {
 const FORM: DeclFault = DeclFault::Form { word: 0, at: 0 };
 
 /// How many rows a page of a table has.
-pub const ROWS_PER_PAGE: u16 = 272;
+const ROWS_PER_PAGE: u16 = 272;
 
 /// Reads the words of a command line: `run` and one declaration. Takes memory for the schema.
-#[tactic(auto, unfolding(crate::specs::Declarations::declared))]
+#[tactic(auto, using(crate::proofs::DeclarationLemmas::declared_texts), unfolding(crate::specs::Declarations::declared))]
 pub fn read_declarations(alloc: Global, words: &Words) -> Result<Schema, DeclFault>
-    ensures { Declares result (declared words.now) }
+    ensures read { Declares result (declared words.now) }
+    ensures texts { MatchOption (declared words.now) (IsNoCommand words.now) (IsCommand words.now) }
 {
     if words.len() != 2 {
         return Err(FORM);

@@ -1,7 +1,7 @@
 // The words of the program: what a line of a script says, what the words of the command line declare, and the text of
-// each reply. A line, a declaration and a text are exactly those of the grammars in specs/, with a place for each
-// fault. It stands on block_model. The layer above uses `read_declarations`, `read_line` and `render`, and speaks of
-// them as `declared`, `line_of` and `reply_text`.
+// each reply, exactly as the grammars in specs/ say. The place of a fault is today the first byte of the line, or of the
+// command. It stands on block_model, and on itoa for numbers. The layer above uses `read_line`, `read_declarations` and
+// `render`, and speaks of them as `line_of`, `declared` and `reply_text`.
 #![tactic(auto)]
 
 pub mod declaration;
@@ -10,5 +10,7 @@ pub mod line;
 mod number;
 pub mod reply;
 pub mod statement;
+#[cfg(test)]
+mod tests;
 mod text;
 mod word;

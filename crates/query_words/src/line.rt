@@ -36,6 +36,9 @@ pub enum LineFault {
     Memory,
 }
 
+/// The fault of a line that isn't of the grammar.
+pub(crate) const SYNTAX: LineFault = LineFault::Syntax { at: 0 };
+
 /// How many bytes a line has at most.
 pub const MAX_LINE: usize = 65535;
 
@@ -45,7 +48,7 @@ pub fn read_line(alloc: Global, line: &[u8], schema: &Schema) -> Result<Line, Li
     ensures { Reads result (line_of schema.now line.now) }
 {
     if line.len() > MAX_LINE {
-        return Err(LineFault::Syntax { at: 0 });
+        return Err(SYNTAX);
     }
     let Some((name, rest)) = next_word(line) else {
         return Ok(Line::Nothing);
@@ -54,7 +57,7 @@ pub fn read_line(alloc: Global, line: &[u8], schema: &Schema) -> Result<Line, Li
         return Ok(Line::Nothing);
     }
     let Some(session) = Name::new(name) else {
-        return Err(LineFault::Syntax { at: 0 });
+        return Err(SYNTAX);
     };
     match read_statement(alloc, rest, schema) {
         Ok(statement) => Ok(Line::Say {

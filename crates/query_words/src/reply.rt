@@ -1,11 +1,10 @@
 // The texts of the replies.
 #![tactic(auto, using(crate::proofs::AppendedLemmas::longer_before))]
 
-ghost use Rattle.std.specs.Prelude.{◌≡◌, ◌+◌, ◌==◌, ◌++◌, OnOk, OnErr, decimal, codes, []};
+ghost use Rattle.std.specs.Prelude.{◌≡◌, ◌+◌, ◌==◌, ◌++◌, OnOk, OnErr, decimal, codes};
 ghost use Rattle.std.specs.List.{flat_map};
 ghost use Rattle.query_words.specs.Appended.{IsLonger};
-ghost use Rattle.query_words.specs.ScriptTexts.{fault_refusal};
-ghost use Rattle.query_words.specs.Texts.{reply_text, refusal_text, rows_text, row_text, blocks_text, runs_from, run_text, vacuum_text, worked_text, held_text, count_text, id_text};
+ghost use Rattle.query_words.specs.Texts.{reply_text, refusal_text, fault_text, rows_text, row_text, blocks_text, runs_from, run_text, vacuum_text, worked_text, held_text, count_text, id_text};
 
 use crate::line::LineFault;
 use crate::text::{add, add_id, add_number, add_values};
@@ -24,6 +23,21 @@ pub fn render(session: &Name, reply: &Reply, out: &mut Vec<u8>) -> Result<(), No
         Ok(()) => Ok(()),
         Err(refusal) => {
             out.truncate(before);
+            Err(refusal)
+        }
+    }
+}
+
+/// Appends the line of a fault, which names no session; nothing for want of memory. After a refusal nothing is changed.
+pub fn render_fault(fault: LineFault, out: &mut Vec<u8>) -> Result<(), NoMemory>
+    ensures ok { OnOk result (out.new.items ≡ out.old.items ++ fault_text fault) }
+    ensures err { OnErr result (out.new.items ≡ out.old.items) }
+{
+    let stood = out.len();
+    match add_fault(out, fault) {
+        Ok(()) => Ok(()),
+        Err(refusal) => {
+            out.truncate(stood);
             Err(refusal)
         }
     }
@@ -78,6 +92,20 @@ fn add_refusal(out: &mut Vec<u8>, name: &[u8], refusal: &Refusal) -> Result<(), 
         Refusal::InHand => add_words(out, name, b" error 12\n"),
         Refusal::Memory => add_words(out, name, b" error 13\n"),
         Refusal::NothingStarted => add_words(out, name, b" error 14\n"),
+    }
+}
+
+fn add_fault(out: &mut Vec<u8>, fault: LineFault) -> Result<(), NoMemory>
+    ensures ok { OnOk result (out.new.items ≡ out.old.items ++ fault_text fault) }
+    ensures longer { IsLonger out.old.items out.new.items }
+{
+    match fault {
+        LineFault::Syntax { at } => add_refusal(out, b"", &Refusal::Syntax { at }),
+        LineFault::NoTable { at } => add_refusal(out, b"", &Refusal::NoTable { at }),
+        LineFault::NoIndex { at } => add_refusal(out, b"", &Refusal::NoIndex { at }),
+        LineFault::NoColumn { at } => add_refusal(out, b"", &Refusal::NoColumn { at }),
+        LineFault::Kind { at } => add_refusal(out, b"", &Refusal::NoColumn { at }),
+        LineFault::Memory => Ok(()),
     }
 }
 
@@ -253,31 +281,4 @@ fn add_words(out: &mut Vec<u8>, name: &[u8], words: &[u8]) -> Result<(), NoMemor
 {
     add(out, name)?;
     add(out, words)
-}
-
-/// Appends the text of a line that isn't read. After a refusal nothing is changed.
-pub fn render_fault(fault: LineFault, out: &mut Vec<u8>) -> Result<(), NoMemory>
-    ensures ok { OnOk result (out.new.items ≡ out.old.items ++ refusal_text [] (fault_refusal fault)) }
-    ensures err { OnErr result (out.new.items ≡ out.old.items) }
-{
-    let before = out.len();
-    match add_refusal(out, b"", &refusal_of(fault)) {
-        Ok(()) => Ok(()),
-        Err(refusal) => {
-            out.truncate(before);
-            Err(refusal)
-        }
-    }
-}
-
-fn refusal_of(fault: LineFault) -> Refusal
-    ensures { result ≡ fault_refusal fault }
-{
-    match fault {
-        LineFault::Syntax { at } => Refusal::Syntax { at },
-        LineFault::NoTable { at } => Refusal::NoTable { at },
-        LineFault::NoIndex { at } => Refusal::NoIndex { at },
-        LineFault::NoColumn { at } | LineFault::Kind { at } => Refusal::NoColumn { at },
-        LineFault::Memory => Refusal::Memory,
-    }
 }

@@ -5,7 +5,7 @@ ghost use Rattle.query_words.specs.Words.{words_of};
 ghost use Rattle.query_words.specs.Statements.{statement_of, alone, insert_of, query_of, conds_of, cond_of, columns_at, op_of, value_of, table_of, column_of};
 ghost use Rattle.query_words.specs.Lines.{Reads, or_syntax};
 
-use crate::line::LineFault;
+use crate::line::{LineFault, SYNTAX};
 use crate::number::read_int;
 use crate::word::{is_word, next_word};
 use block_model::row::{Cond, Conds, Query};
@@ -28,9 +28,6 @@ pub enum Statement {
     Vacuum { table: u8 },
     Work,
 }
-
-/// The fault of words that are no text of the grammar.
-const SYNTAX: LineFault = LineFault::Syntax { at: 0 };
 
 /// Reads the words of a statement.
 pub fn read_statement(alloc: Global, line: &[u8], schema: &Schema) -> Result<Statement, LineFault>
