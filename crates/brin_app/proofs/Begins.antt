@@ -20,13 +20,8 @@ use Rattle.snapshot_core.specs.declared.statuses.Status.{Status}
 use Rattle.snapshot_core.specs.declared.statuses.Status.TheVariants.{Begun}
 use Rattle.snapshot_core.specs.Visibility.{is_committed}
 use Rattle.brin_app.specs.declared.store.Open.{Open}
-<<<<<<< HEAD
 use Rattle.query_words.specs.StatementRequests.{request_entry}
-use Rattle.brin_app.specs.VisibleState.{stored, status_of, is_settled, is_seen, table_of, visible_transaction, visible_state, transaction_of, IsStored, IsUnderWay, AreApart, Gains}
-=======
-use Rattle.brin_app.specs.Requests.{ok_entry}
 use Rattle.brin_app.specs.VisibleState.{status_of, is_settled, is_seen, table_of, visible_transaction, visible_state, transaction_of, IsStored, IsUnderWay, AreApart, Gains}
->>>>>>> 5c6fe5ec2e13ff5dd2663819fc6c5be81f8e8daa
 use Rattle.brin_app.proofs.Choices.{chosen, same_number}
 use Rattle.brin_app.proofs.Tables.{stored_id, same_table}
 use Rattle.brin_app.proofs.Sights.{status_before, status_new, sees_same, new_sees, not_begun, still_active}

@@ -2,10 +2,6 @@ use Rattle.std.proofs.Common.{◌≡◌, List, ◌+◌, Option, Some, IfSome, sy
 use Rattle.block_model.specs.declared.row.Row.{Row}
 use Rattle.block_model.specs.RequestEffect as model
 use Rattle.brin_app.specs.declared.store.Open.{Open}
-<<<<<<< HEAD
-use Rattle.query_words.specs.StatementRequests.{request_entry}
-=======
->>>>>>> 5c6fe5ec2e13ff5dd2663819fc6c5be81f8e8daa
 use Rattle.brin_app.specs.VisibleState.{transaction_of, visible_state, IsStored, Gains, with_next_k}
 use Rattle.brin_app.proofs.Copies.{is_there}
 use Rattle.brin_app.proofs.Puttings.{put_stored, put_effect}
