@@ -8,7 +8,8 @@ use Rattle.script_lines.specs.declared.end.LinesEnd.{LinesEnd}
 use Rattle.script_lines.specs.declared.end.LinesEnd.TheVariants as ends
 use Rattle.script_lines.specs.Script.{ended_lines, rest_line, script_lines}
 
--- how many bytes a reader may take and has taken, the whole lines that it hasn't handed out, the front of the line under way, and how far the source is known
+-- A reader of lines: how many bytes it may take and has taken, the whole lines that it hasn't handed out, the front of
+-- the line under way, and how far its source is known.
 pub record Reading : Type 0 where
   pub limit : ℕ
   pub taken : ℕ
@@ -38,12 +39,13 @@ pub record HasRead (a : Reading) (script : List ℕ) (out : List (List ℕ)) : T
   pub lines : lines_at a.stage script ≡ out ++ a.ready
   pub line : a.line ≡ line_at a.stage script
 
--- how many lines a reader may still hand out: the ready ones, one for each byte that it may take, and a last one
+-- how many last lines there may still be
 abbrev pub may_end : Stage → ℕ
 may_end stages.Open = 1
 may_end stages.Ended = 0
 may_end stages.Spent = 0
 
+-- how many lines a reader hands out at most: the ready ones, one for each byte that it may take, and a last one
 abbrev pub still : Reading → ℕ
 still a = length a.ready + (a.limit - a.taken) + may_end a.stage
 
@@ -53,7 +55,7 @@ pub record ReadsOn (a b : Reading) (came : List ℕ) (lines : List (List ℕ)) :
   pub reads : (script : List ℕ) (out : List (List ℕ)) → HasRead a script out → HasRead b (script ++ came) (out ++ lines)
   pub fewer : still b + length lines ≤ still a
 
--- a byte past the limit is taken once
+-- how many bytes past the limit a call takes that finds one: one, and none after it
 abbrev pub beyond : Stage → ℕ
 beyond stages.Open = 1
 beyond stages.Ended = 0

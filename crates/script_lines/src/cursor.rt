@@ -1,6 +1,6 @@
 // Where the lines stand in a reader's buffer.
 
-ghost use Rattle.std.specs.Prelude.{◌≡◌, ◌≢◌, ◌≤◌, ◌<◌, ◌+◌, ◌-◌, [], length, take, drop, min, slice_range, IfOk, IfSome, MatchOption, MatchResult, IsErrOf, OnErr};
+ghost use Rattle.std.specs.Prelude.{◌≡◌, ◌≢◌, ◌≤◌, ◌<◌, ◌+◌, ◌-◌, [], length, take, drop, min, slice_range, IfOk, IfSome, MatchOption, MatchResult, IsErrOf, IsOk, OnErr};
 ghost use Rattle.std.specs.Io.KnownBytes.{Consumes, IsAtEnd, Keeps};
 ghost use Rattle.block_model.specs.Causes.{HasCause, Rose};
 ghost use Rattle.script_lines.specs.Script.{clip};
@@ -15,7 +15,7 @@ use memchr::memchr;
 const KEPT: usize = 65536;
 
 /// The bytes that weren't handed out, from `start` up to `end`, and how far the source was read.
-#[derive(Clone, Copy, Debug, PartialEq, Eq)]
+#[derive(Clone, Copy)]
 pub struct Cursor {
     pub start: usize,
     pub end: usize,
@@ -25,14 +25,14 @@ pub struct Cursor {
 }
 
 /// A line in the buffer.
-#[derive(Clone, Copy, Debug, PartialEq, Eq)]
+#[derive(Clone, Copy)]
 pub struct Span {
     pub from: usize,
     pub to: usize,
 }
 
 /// What a read of a piece has brought.
-#[derive(Clone, Copy, Debug, PartialEq, Eq)]
+#[derive(Clone, Copy)]
 pub enum Came {
     /// A part of the line under way.
     Part,
@@ -56,6 +56,7 @@ pub fn advance<S: Source>(
     ensures waiting { (reading buffer.old cursor.old).ready ≢ [] → source.new ≡ source.old }
     ensures stopped { cursor.old.stage ≢ Stage.Open → source.new ≡ source.old }
     ensures stays { cursor.old.stage ≢ Stage.Open → cursor.new.stage ≡ cursor.old.stage }
+    ensures ended { cursor.old.stage ≡ Stage.Ended → IsOk result }
     ensures later { S.faults source.old ≤ S.faults source.new }
     ensures cause { IsErrOf result LinesEnd.Read → Rose (S.faults source.old) (S.faults source.new) }
 {

@@ -1,6 +1,6 @@
 // A reader of lines.
 
-ghost use Rattle.std.specs.Prelude.{◌≡◌, ◌≢◌, ◌≤◌, [], IfOk, IfSome, IsErrOf, length};
+ghost use Rattle.std.specs.Prelude.{◌≡◌, ◌≢◌, ◌≤◌, [], IfOk, IfSome, IsErrOf, IsOk, length};
 ghost use Rattle.std.specs.Borrow.{sem};
 ghost use Rattle.std.specs.Io.BufRead.{Rests};
 ghost use Rattle.block_model.specs.Causes.{Rose};
@@ -70,6 +70,7 @@ impl Lines {
         // Nothing is read while a whole line is ready, nor once the end or a byte past the limit was seen.
         ensures waiting { self.old.ready ≢ [] → source.new ≡ source.old }
         ensures stopped { self.old.stage ≢ Stage.Open → source.new ≡ source.old }
+        ensures ended { self.old.stage ≡ Stage.Ended → IsOk result }
         ensures later { S.faults source.old ≤ S.faults source.new }
         ensures cause { IsErrOf result LinesEnd.Read → Rose (S.faults source.old) (S.faults source.new) }
     {

@@ -4,6 +4,7 @@ use Rattle.script_lines.specs.Reading.{ReadsOn}
 use Rattle.script_lines.specs.Buffered.{reading, IsFilling}
 use Rattle.script_lines.proofs.cursor.fill.Given as goal
 
+-- no line ends in the pieces so far
 abbrev pub invariant-pieces : goal.invariant-pieces
 invariant-pieces g l = record {
   filling : IsFilling l.buffer l.cursor;
