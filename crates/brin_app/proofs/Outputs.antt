@@ -36,18 +36,27 @@ script_output a b schema end status l l' k k' start is said r = (
   end,
   place_of b,
   said,
-  (r.0, r.1, r.2, r.3, place_of r.4, r.5, r.6, record {
-    lines = r.7.lines;
-    answers = lifted_from a r.4 schema r.2 r.3 start is r.7.answers;
-    front = r.7.front;
-    state = λ e. ap place_of (r.7.state e);
-    within = r.7.within;
-    whole = r.7.whole;
-    faulty = r.7.faulty;
-    spent = r.7.spent;
-    unwritten = r.7.unwritten;
-    cut = r.7.cut;
-  }),
+  (
+    r.0,
+    r.1,
+    r.2,
+    r.3,
+    place_of r.4,
+    r.5,
+    r.6,
+    record {
+      lines = r.7.lines;
+      answers = lifted_from a r.4 schema r.2 r.3 start is r.7.answers;
+      front = r.7.front;
+      state = λ e. ap place_of (r.7.state e);
+      within = r.7.within;
+      whole = r.7.whole;
+      faulty = r.7.faulty;
+      spent = r.7.spent;
+      unwritten = r.7.unwritten;
+      cut = r.7.cut;
+    },
+  ),
 )
 
 -- memory ran out before the first line
@@ -56,18 +65,27 @@ nothing_written schema l k = (
   ends.Memory,
   script_start,
   refl,
-  ([], [], [], [], script_start, Consumes-nil l, Appends-nil k, record {
-    lines = (script_lines [], refl);
-    answers = refl;
-    front = ([], refl);
-    state = λ e. refl;
-    within = λ e. omega arith;
-    whole = λ e. cc;
-    faulty = λ e. cc;
-    spent = λ e. cc;
-    unwritten = λ e. refl;
-    cut = λ e. cc;
-  }),
+  (
+    [],
+    [],
+    [],
+    [],
+    script_start,
+    Consumes-nil l,
+    Appends-nil k,
+    record {
+      lines = (script_lines [], refl);
+      answers = refl;
+      front = ([], refl);
+      state = λ e. refl;
+      within = λ e. omega arith;
+      whole = λ e. cc;
+      faulty = λ e. cc;
+      spent = λ e. cc;
+      unwritten = λ e. refl;
+      cut = λ e. cc;
+    },
+  ),
 )
 
 -- the status tells whether the limit was passed

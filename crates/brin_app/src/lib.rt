@@ -8,5 +8,3 @@ mod store;
 mod top;
 
 pub use top::brin_main;
-
-

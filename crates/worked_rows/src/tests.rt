@@ -14,7 +14,10 @@ fn check<R: Abort + AllocGlobal>(rt: &R, script: &[u8], output: &[u8]) -> Result
         status: 0,
     };
     assert!(rt; holds(rt.alloc(), &row, 1, &NO_FAULTS)?, "byte by byte");
-    assert!(rt; holds(rt.alloc(), &row, 65536, &NO_FAULTS)?, "in large pieces");
+    assert!(rt;
+        holds(rt.alloc(), &row, 65536, &NO_FAULTS)?,
+        "in large pieces"
+    );
     Ok(())
 }
 
