@@ -1,0 +1,117 @@
+// Transactions that are under way.
+
+ghost use Rattle.std.specs.Prelude.{◌≡◌, ◌<◌, ◌-◌, ◌^◌, IfOk, OnOk, OnErr, false};
+ghost use Rattle.std.specs.FinSet as set;
+ghost use Rattle.block_model.specs.RequestEffect.{after_put, next_row, failed_transaction, after_mark, is_own};
+
+use crate::marks::Marks;
+use crate::table_copy::TableCopy;
+use block_model::NoMemory;
+use block_model::row::{Row, RowId};
+use block_model::value::Values;
+use std::alloc::Global;
+use std::marker::Model;
+
+/// A transaction: its number, the place of its next row, its own copy of the tables, the rows of others that it deleted
+/// there, and whether it has failed.
+#[derive(Debug, Drop)]
+pub struct Transaction {
+    pub(crate) t: u64,
+    pub(crate) next_k: u32,
+    pub(crate) view: TableCopy,
+    pub(crate) marks: Marks,
+    pub(crate) failed: bool,
+}
+
+impl Model for Transaction {
+    ghost use Rattle.block_model.specs.DatabaseState.{OpenTransaction, coded_transaction};
+
+    ghost Value = { OpenTransaction };
+
+    ghost coded = { coded_transaction };
+
+    ghost view = { λ a. record { t = a.t; next_k = a.next_k; view = a.view; marks = a.marks; failed = a.failed } };
+}
+
+impl Transaction {
+    /// The transaction of that number, which begins with that copy of the tables. Takes no memory.
+    pub fn begin(alloc: Global, t: u64, view: TableCopy) -> Transaction
+        ensures { result ≡ record { t = t; next_k = 0; view = view; marks = set.empty; failed = false } }
+    {
+        Transaction {
+            t,
+            next_k: 0,
+            view,
+            marks: Marks::new(alloc),
+            failed: false,
+        }
+    }
+
+    /// A copy of the transaction.
+    pub fn copied(&self, alloc: Global) -> Result<Transaction, NoMemory>
+        ensures { IfOk result (λ copy. copy ≡ self.now) }
+    {
+        let view = self.view.copied(alloc)?;
+        let marks = self.marks.copied(alloc)?;
+        Ok(Transaction {
+            t: self.t,
+            next_k: self.next_k,
+            view,
+            marks,
+            failed: self.failed,
+        })
+    }
+
+    /// Whether it put the row.
+    pub fn is_own(&self, id: RowId) -> bool
+        ensures { result ≡ is_own self.now id }
+    {
+        id.t == self.t
+    }
+
+    /// Whether it has marked the row.
+    pub fn has_marked(&self, id: RowId) -> bool
+        ensures { result ≡ set.contains self.now.marks id }
+    {
+        self.marks.has(id)
+    }
+
+    /// Puts a row into its own copy; the row's id. After a refusal nothing is changed.
+    pub fn put(&mut self, table: u8, values: &Values) -> Result<RowId, NoMemory>
+        requires { self.old.next_k < 2 ^ 32 - 1 }
+        ensures ok { OnOk result (self.new ≡ after_put self.old table values.now) }
+        ensures id { IfOk result (λ id. id ≡ (next_row self.old table values.now).id) }
+        ensures err { OnErr result (self.new ≡ self.old) }
+    {
+        let id = RowId {
+            t: self.t,
+            k: self.next_k,
+        };
+        self.view.put(Row {
+            table,
+            id,
+            values: *values,
+        })?;
+        self.next_k += 1;
+        Ok(id)
+    }
+
+    /// Takes a row out of its own copy, and marks it where it is another's. After a refusal nothing is changed.
+    pub fn mark(&mut self, id: RowId) -> Result<(), NoMemory>
+        ensures ok { OnOk result (self.new ≡ after_mark self.old id) }
+        ensures err { OnErr result (self.new ≡ self.old) }
+    {
+        if !self.is_own(id) {
+            self.marks.add(id)?;
+        }
+        self.view.remove(id);
+        Ok(())
+    }
+
+    /// Fails it.
+    pub fn fail(&mut self)
+        ensures { self.new ≡ failed_transaction self.old }
+    {
+        self.failed = true;
+    }
+}
