@@ -1,2 +1,5 @@
 pub mod Listed
 pub mod ListedSessions
+pub mod Answers
+pub mod Numbers
+pub mod Runs

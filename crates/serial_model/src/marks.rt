@@ -1,17 +1,21 @@
 // Marks of rows.
 
 ghost use Rattle.std.specs.Prelude.{◌≡◌, IfOk, OnOk, OnErr};
+ghost use Rattle.std.specs.List.{list_any};
+ghost use Rattle.std.specs.Ordering.{eq_by_cmp};
 ghost use Rattle.std.specs.FinSet as set;
+ghost use Rattle.block_model.specs.TableState.{id_cmp};
 
 use block_model::NoMemory;
 use block_model::row::RowId;
+use block_model::sequence::Sequence;
 use std::alloc::Global;
 use std::marker::Model;
 
 /// Ids of rows, seen as their set.
 #[derive(Debug, Drop)]
 pub struct Marks {
-    ids: Vec<RowId>,
+    ids: Sequence<RowId>,
 }
 
 impl Model for Marks {
@@ -23,7 +27,7 @@ impl Model for Marks {
 
     ghost coded = { coded_ids };
 
-    ghost view = { λ a. set.from_list a.ids.items };
+    ghost view = { λ a. set.from_list a.ids };
 }
 
 impl Marks {
@@ -32,7 +36,7 @@ impl Marks {
         ensures { result ≡ set.empty }
     {
         Marks {
-            ids: Vec::new(alloc),
+            ids: Sequence::new(alloc),
         }
     }
 
@@ -41,7 +45,9 @@ impl Marks {
         ensures { IfOk result (λ copy. copy ≡ self.now) }
     {
         match Vec::from_slice(alloc, self.ids.as_slice()) {
-            Ok(ids) => Ok(Marks { ids }),
+            Ok(ids) => Ok(Marks {
+                ids: Sequence::from_vec(ids),
+            }),
             Err(_) => Err(NoMemory),
         }
     }
@@ -50,7 +56,7 @@ impl Marks {
     pub fn has(&self, id: RowId) -> bool
         ensures { result ≡ set.contains self.now id }
     {
-        self.ids.iter().any(|mark| *mark == id)
+        is_among(self.ids.as_slice(), id)
     }
 
     /// Marks a row. After a refusal nothing is changed.
@@ -58,9 +64,20 @@ impl Marks {
         ensures ok { OnOk result (self.new ≡ set.insert self.old id) }
         ensures err { OnErr result (self.new ≡ self.old) }
     {
-        match self.ids.push(id) {
-            Ok(()) => Ok(()),
-            Err(_) => Err(NoMemory),
-        }
+        self.ids.push(id)?;
+        Ok(())
     }
+}
+
+fn is_among(ids: &[RowId], id: RowId) -> bool
+    ensures { result ≡ list_any (eq_by_cmp id_cmp id) ids.now }
+{
+    ids.iter().any(|other| same_id(id, *other))
+}
+
+/// Whether the ids are one.
+pub(crate) fn same_id(a: RowId, b: RowId) -> bool
+    ensures { result ≡ eq_by_cmp id_cmp a b }
+{
+    a == b
 }

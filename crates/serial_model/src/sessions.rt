@@ -1,11 +1,11 @@
 // The sessions' transactions.
 
-ghost use Rattle.std.specs.Prelude.{◌≡◌, ◌≢◌, ◌==◌, ◌&&◌, ◌++◌, ◌∷◌, ◌≤◌, ◌<◌, not, map, take, drop, length, slice_index_or, OnOk, OnErr};
+ghost use Rattle.std.specs.Prelude.{◌≡◌, ◌≢◌, ◌==◌, ◌&&◌, ◌++◌, ◌∷◌, ◌≤◌, ◌<◌, not, map, take, drop, length, slice_index_or, filter, OnOk, OnErr};
 ghost use Rattle.std.specs.Option.{option_copied};
 ghost use Rattle.std.specs.List.{list_any};
 ghost use Rattle.std.specs.Ordering.{nat_cmp};
 ghost use Rattle.std.specs.FinMap as open_ones;
-ghost use Rattle.std.specs.FinMap.{put};
+ghost use Rattle.std.specs.FinMap.{put, find};
 ghost use Rattle.std.specs.FinSet as set;
 ghost use Rattle.block_model.specs.DatabaseState.{OpenTransaction};
 
@@ -59,12 +59,7 @@ impl Sessions {
     pub fn get(&self, number: u32) -> Option<&Transaction>
         ensures { option_copied result ≡ open_ones.get self.now number }
     {
-        for session in &self.items {
-            if session.number == number {
-                return Some(&session.transaction);
-            }
-        }
-        None
+        find_transaction(self.items.as_slice(), number)
     }
 
     /// Gives the session this transaction. After a refusal nothing is changed.
@@ -78,14 +73,15 @@ impl Sessions {
                 number,
                 transaction,
             },
-        )
+        )?;
+        Ok(())
     }
 
     /// Takes the session's transaction away, if it has one.
     pub fn remove(&mut self, number: u32)
         ensures { self.new ≡ open_ones.remove self.old number }
     {
-        self.items.retain(|session| session.number != number);
+        remove_session(&mut self.items, number);
     }
 
     /// Whether the transaction of another session has marked the row.
@@ -94,6 +90,23 @@ impl Sessions {
     {
         marks_elsewhere(self.items.as_slice(), number, id)
     }
+}
+
+fn find_transaction(sessions: &[Session], number: u32) -> Option<&Transaction>
+    ensures { option_copied result ≡ find nat_cmp number (map (λ s. (s.number, s.transaction)) sessions.now) }
+{
+    for session in sessions {
+        if number == session.number {
+            return Some(&session.transaction);
+        }
+    }
+    None
+}
+
+fn remove_session(sessions: &mut Vec<Session>, number: u32)
+    ensures { sessions.new.items ≡ filter (λ s. not (number == s.number)) sessions.old.items }
+{
+    sessions.retain(|session| number != session.number);
 }
 
 fn marks_elsewhere(sessions: &[Session], number: u32, id: RowId) -> bool
@@ -110,7 +123,7 @@ fn put_session(sessions: &mut Vec<Session>, session: Session) -> Result<(), NoMe
     ensures err { OnErr result (sessions.new.items ≡ sessions.old.items) }
 {
     let at = place_in(sessions.as_slice(), session.number);
-    if at < sessions.len() && sessions[at].number == session.number {
+    if at < sessions.len() && session.number == sessions[at].number {
         sessions[at] = session;
         return Ok(());
     }

@@ -5,10 +5,12 @@ ghost use Rattle.std.specs.FinMap as tables;
 ghost use Rattle.std.specs.FinMap.{put};
 ghost use Rattle.std.specs.FinSet as set;
 ghost use Rattle.std.specs.declared.cmp.Ordering.TheVariants.{Greater};
+ghost use Rattle.std.specs.List.{list_any};
+ghost use Rattle.std.specs.Ordering.{eq_by_cmp};
 ghost use Rattle.block_model.specs.TableState.{id_cmp, rows_in};
 ghost use Rattle.block_model.specs.RowMatches.{row_matches};
 
-use crate::marks::Marks;
+use crate::marks::{Marks, same_id};
 use block_model::NoMemory;
 use block_model::row::{Query, Row, RowId, Rows, row_matches};
 use std::alloc::Global;
@@ -64,14 +66,15 @@ impl TableCopy {
     pub fn has(&self, id: RowId) -> bool
         ensures { result ≡ tables.contains_key self.now id }
     {
-        self.rows.iter().any(|row| row.id == id)
+        has_row(self.rows.as_slice(), id)
     }
 
     /// The rows that match, in order.
     pub fn found(&self, alloc: Global, query: &Query) -> Result<Rows, NoMemory>
         ensures { IfOk result (λ found. found ≡ filter (row_matches query.now) (rows_in self.now)) }
     {
-        matching_rows(alloc, self.rows.as_slice(), query)
+        let found = matching_rows(alloc, self.rows.as_slice(), query)?;
+        Ok(found)
     }
 
     /// Puts the row at its id. After a refusal nothing is changed.
@@ -79,42 +82,39 @@ impl TableCopy {
         ensures ok { OnOk result (self.new ≡ tables.insert self.old row.id row) }
         ensures err { OnErr result (self.new ≡ self.old) }
     {
-        put_row(&mut self.rows, row)
+        put_row(&mut self.rows, row)?;
+        Ok(())
     }
 
     /// Takes away the row at the id, if there is one.
     pub fn remove(&mut self, id: RowId)
         ensures { self.new ≡ tables.remove self.old id }
     {
-        self.rows.retain(|row| row.id != id);
+        remove_row(&mut self.rows, id);
     }
 
     /// Takes away the rows that are marked.
     pub fn remove_marked(&mut self, marks: &Marks)
         ensures { self.new ≡ tables.retain_keys self.old (λ id. not (set.contains marks.now id)) }
     {
-        self.rows.retain(|row| !marks.has(row.id));
+        remove_marked_rows(&mut self.rows, marks);
     }
 }
 
 fn copied_rows(alloc: Global, rows: &[Row]) -> Result<Vec<Row>, NoMemory>
     ensures { IfOk result (λ copy. copy.items ≡ rows.now) }
 {
-    let mut copy = Vec::new(alloc);
+    let mut copy = Rows::new(alloc);
     for row in rows {
-        push_row(&mut copy, row.copied())?;
+        copy.push(row.copied())?;
     }
-    Ok(copy)
+    Ok(copy.into_vec())
 }
 
-fn push_row(rows: &mut Vec<Row>, row: Row) -> Result<(), NoMemory>
-    ensures ok { OnOk result (rows.new.items ≡ rows.old.items ++ row ∷ []) }
-    ensures err { OnErr result (rows.new.items ≡ rows.old.items) }
+fn has_row(rows: &[Row], id: RowId) -> bool
+    ensures { result ≡ list_any (λ r. eq_by_cmp id_cmp id r.id) rows.now }
 {
-    match rows.push(row) {
-        Ok(()) => Ok(()),
-        Err(_) => Err(NoMemory),
-    }
+    rows.iter().any(|row| same_id(id, row.id))
 }
 
 fn matching_rows(alloc: Global, rows: &[Row], query: &Query) -> Result<Rows, NoMemory>
@@ -129,12 +129,24 @@ fn matching_rows(alloc: Global, rows: &[Row], query: &Query) -> Result<Rows, NoM
     Ok(found)
 }
 
+fn remove_row(rows: &mut Vec<Row>, id: RowId)
+    ensures { rows.new.items ≡ filter (λ r. not (eq_by_cmp id_cmp id r.id)) rows.old.items }
+{
+    rows.retain(|row| !same_id(id, row.id));
+}
+
+fn remove_marked_rows(rows: &mut Vec<Row>, marks: &Marks)
+    ensures { rows.new.items ≡ filter (λ r. not (set.contains marks.now r.id)) rows.old.items }
+{
+    rows.retain(|row| !marks.has(row.id));
+}
+
 fn put_row(rows: &mut Vec<Row>, row: Row) -> Result<(), NoMemory>
     ensures ok { OnOk result (map (λ r. (r.id, r)) rows.new.items ≡ put id_cmp row.id row (map (λ r. (r.id, r)) rows.old.items)) }
     ensures err { OnErr result (rows.new.items ≡ rows.old.items) }
 {
     let at = place_in(rows.as_slice(), row.id);
-    if at < rows.len() && rows[at].id == row.id {
+    if at < rows.len() && same_id(row.id, rows[at].id) {
         rows[at] = row;
         return Ok(());
     }

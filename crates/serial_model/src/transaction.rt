@@ -1,13 +1,15 @@
 // Transactions that are under way.
 
-ghost use Rattle.std.specs.Prelude.{◌≡◌, ◌<◌, ◌-◌, ◌^◌, IfOk, OnOk, OnErr, false};
+ghost use Rattle.std.specs.Prelude.{◌≡◌, IsTrue, IfOk, OnOk, OnErr, false};
+ghost use Rattle.std.specs.FinMap as tables;
 ghost use Rattle.std.specs.FinSet as set;
-ghost use Rattle.block_model.specs.RequestEffect.{after_put, next_row, failed_transaction, after_mark, is_own};
+ghost use Rattle.serial_model.specs.Numbers.{has_place_left};
+ghost use Rattle.block_model.specs.RequestEffect.{after_put, next_row, failed_transaction, after_mark, is_own, rows_found, merged};
 
 use crate::marks::Marks;
 use crate::table_copy::TableCopy;
 use block_model::NoMemory;
-use block_model::row::{Row, RowId};
+use block_model::row::{Query, Row, RowId, Rows};
 use block_model::value::Values;
 use std::alloc::Global;
 use std::marker::Model;
@@ -78,7 +80,7 @@ impl Transaction {
 
     /// Puts a row into its own copy; the row's id. After a refusal nothing is changed.
     pub fn put(&mut self, table: u8, values: &Values) -> Result<RowId, NoMemory>
-        requires { self.old.next_k < 2 ^ 32 - 1 }
+        requires { IsTrue (has_place_left self.old) }
         ensures ok { OnOk result (self.new ≡ after_put self.old table values.now) }
         ensures id { IfOk result (λ id. id ≡ (next_row self.old table values.now).id) }
         ensures err { OnErr result (self.new ≡ self.old) }
@@ -113,5 +115,49 @@ impl Transaction {
         ensures { self.new ≡ failed_transaction self.old }
     {
         self.failed = true;
+    }
+
+    /// Whether it has failed.
+    pub fn has_failed(&self) -> bool
+        ensures { result ≡ self.now.failed }
+    {
+        self.failed
+    }
+
+    /// Whether its own copy has a row at the id.
+    pub fn sees(&self, id: RowId) -> bool
+        ensures { result ≡ tables.contains_key self.now.view id }
+    {
+        self.view.has(id)
+    }
+
+    /// Whether it can put another row.
+    pub fn has_place_left(&self) -> bool
+        ensures { result ≡ has_place_left self.now }
+    {
+        self.next_k < u32::MAX
+    }
+
+    /// The rows of its own copy that match, in order.
+    pub fn found(&self, alloc: Global, query: &Query) -> Result<Rows, NoMemory>
+        ensures { IfOk result (λ found. found ≡ rows_found self.now query.now) }
+    {
+        let found = self.view.found(alloc, query)?;
+        Ok(found)
+    }
+
+    /// The tables without the rows that it marked and with its own.
+    pub fn merged_into(&self, alloc: Global, table: &TableCopy) -> Result<TableCopy, NoMemory>
+        ensures { IfOk result (λ rows. rows ≡ merged table.now self.now) }
+    {
+        let mut rows = table.copied(alloc)?;
+        rows.remove_marked(&self.marks);
+        let view = self.view.rows();
+        for at in (0..view.len()).rev() {
+            if self.is_own(view[at].id) {
+                rows.put(view[at].copied())?;
+            }
+        }
+        Ok(rows)
     }
 }
