@@ -1,5 +1,5 @@
 -- maps as lists of items, each of which has a key, in order of the keys
-use Rattle.std.proofs.Common.{◌≡◌, ◌≢◌, ℕ, suc, ◌+◌, ◌<◌, ◌≤◌, Bool, true, false, not, cond, ◌||◌, T, List, [], ◌∷◌, ◌++◌, map, length, take, drop, get_or, set, insert, refl, sym, ap, ◌∙◌, subst, add-one, arith}
+use Rattle.std.proofs.Common.{◌≡◌, ◌≢◌, ℕ, suc, ◌+◌, ◌-◌, ◌<◌, ◌≤◌, Bool, true, false, not, cond, ◌||◌, T, List, [], ◌∷◌, ◌++◌, map, length, take, drop, get_or, set, insert, refl, sym, ap, ◌∙◌, subst, add-one, arith}
 use Rattle.std.specs.declared.cmp.Ordering.{Ordering}
 use Rattle.std.specs.declared.cmp.Ordering.TheVariants.{Less, Equal, Greater}
 use Rattle.std.specs.Prelude.{Option, None, Some}
@@ -9,7 +9,7 @@ use Rattle.std.specs.Cmp.{IsTotalOrder, Equal-is}
 use Rattle.std.specs.FinMap as maps
 use Rattle.std.specs.FinMap.{FinMap, IsAntisymmetric, entries, get, find, put, from_sorted, is_sorted, values, retain_keys, remove, contains_key, empty, same_map, same_entries_map, entries_sorted, entries-insert, entries-from_sorted, get-entries, get-remove, get-retain_keys, len-entries, empty_of_len, contains_key-keys}
 use Rattle.std.specs.FinMap.Entries.{where_key, by_order, find-where_key, is_sorted-where_key, is_sorted-put, same_entries}
-use Rattle.std.proofs.lemmas.List.{set_split, map-append, drop_more}
+use Rattle.std.proofs.lemmas.List.{set_split, map-append, drop_more, drop_all}
 use Rattle.std.proofs.lemmas.Cmp.{eq_by_cmp_equiv}
 
 test_of : (b : Bool) → b ≡ true → T b
@@ -101,7 +101,7 @@ module _ {A K X : Type 0} (R : K → K → Ordering) (key : A → K × X) where
   put_in_place same at x new xs h is tied before =
       let rest : drop at xs ≡ x ∷ drop (at + 1) xs = drop_more xs at x h ∙ ap (λ y. y ∷ drop (at + 1) xs) (sym is) in
       let here : put R (key new).0 (key new).1 (map key (drop at xs)) ≡ key new ∷ map key (drop (at + 1) xs) =
-          ap (λ l. put R (key new).0 (key new).1 (map key l)) rest ∙ put_at (key new).0 (key new).1 x (drop (at + 1) xs) tied ∙ ap (λ k. (k, (key new).1) ∷ map key (drop (at + 1) xs)) (sym (same (key new).0 (key x).0 tied)) in
+      ap (λ l. put R (key new).0 (key new).1 (map key l)) rest ∙ put_at (key new).0 (key new).1 x (drop (at + 1) xs) tied ∙ ap (λ k. (k, (key new).1) ∷ map key (drop (at + 1) xs)) (sym (same (key new).0 (key x).0 tied)) in
       ap (map key) (set_split xs at new h) ∙ map-append key (take at xs) (new ∷ drop (suc at) xs)
       ∙ ap (λ k. map key (take at xs) ++ key new ∷ map key (drop k xs)) (sym (add-one at))
       ∙ sym (before ∙ ap (λ l. map key (take at xs) ++ l) here)
@@ -113,3 +113,17 @@ unkeyed key (x ∷ xs) = ap (λ l. x ∷ l) (unkeyed key xs)
 -- each item is the value at its key
 pub values_listed : {K X : Type 0} (R : K → K → Ordering) (key : X → K) (xs : List X) → is_sorted R (map (λ (x : X). (key x, x)) xs) ≡ true → values (from_sorted {R = R} (map (λ (x : X). (key x, x)) xs)) ≡ xs
 values_listed {K} {X} R key xs h = ap (map (λ (e : K × X). e.1)) (entries_listed R (map (λ (x : X). (key x, x)) xs) h) ∙ unkeyed key xs
+
+-- ---- a list from its end
+module _ {A K X : Type 0} (R : K → K → Ordering) (key : A → K × X) (p : K → Bool) where
+  one_more : (xs : List A) (at : ℕ) (x : A) → 0 < at → at ≤ length xs → x ≡ get_or xs (at - 1) x → drop (at - 1) xs ≡ x ∷ drop at xs
+  one_more xs at x some h is = drop_more xs (at - 1) x (omega arith) ∙ ap (λ y. y ∷ drop (at - 1 + 1) xs) (sym is) ∙ ap (λ k. x ∷ drop k xs) (omega arith)
+
+  pub kept_here : (xs : List A) (at : ℕ) (x : A) → 0 < at → at ≤ length xs → x ≡ get_or xs (at - 1) x → p (key x).0 ≡ true → where_key R p (map key (drop (at - 1) xs)) ≡ key x ∷ where_key R p (map key (drop at xs))
+  kept_here xs at x some h is passes = ap (λ l. where_key R p (map key l)) (one_more xs at x some h is) ∙ ap (λ b. cond b (key x ∷ where_key R p (map key (drop at xs))) (where_key R p (map key (drop at xs)))) passes
+
+  pub left_out_here : (xs : List A) (at : ℕ) (x : A) → 0 < at → at ≤ length xs → x ≡ get_or xs (at - 1) x → p (key x).0 ≡ false → where_key R p (map key (drop (at - 1) xs)) ≡ where_key R p (map key (drop at xs))
+  left_out_here xs at x some h is fails = ap (λ l. where_key R p (map key l)) (one_more xs at x some h is) ∙ ap (λ b. cond b (key x ∷ where_key R p (map key (drop at xs))) (where_key R p (map key (drop at xs)))) fails
+
+  pub none_kept_yet : (xs : List A) → where_key R p (map key (drop (length xs) xs)) ≡ []
+  none_kept_yet xs = ap (λ l. where_key R p (map key l)) (drop_all (length xs) xs (omega arith))

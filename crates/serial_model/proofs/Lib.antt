@@ -1,1 +1,2 @@
 pub mod KeyedLists
+pub mod RunSteps

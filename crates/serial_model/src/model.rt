@@ -1,9 +1,8 @@
 // The database, and runs over journals.
 
-ghost use Rattle.std.specs.Prelude.{◌≡◌, ◌<◌, ◌-◌, ◌^◌, IsTrue, ℕ, IfOk, OnOk, OnErr, if◌then◌else◌};
+ghost use Rattle.std.specs.Prelude.{◌≡◌, ◌<◌, ◌-◌, ◌^◌, IsTrue, ℕ, IfOk, OnOk, OnErr};
 ghost use Rattle.block_model.specs.DatabaseState.{DatabaseState, initial_state};
-ghost use Rattle.block_model.specs.RequestEffect.{after_request, reply_to, is_legal_request, is_legal_within, is_legal_outside, is_ok_tag, is_look_tag, effect_within, effect_outside, after_begin, after_commit, is_conflict, with_transaction, after_failure, merged};
-ghost use Rattle.block_model.specs.RequestEffect as effects;
+ghost use Rattle.block_model.specs.RequestEffect.{after_request, reply_to, is_legal_request, is_legal_within, is_legal_outside, is_ok_tag, is_look_tag, effect_within, effect_outside, is_conflict, with_transaction, after_failure, merged};
 ghost use Rattle.serial_model.specs.Answers.{answer_of};
 ghost use Rattle.serial_model.specs.Numbers.{has_number, has_number_within, has_number_outside, has_place_left, has_number_left};
 ghost use Rattle.serial_model.specs.Runs.{HasRun, HasBegunRun};
@@ -111,10 +110,35 @@ impl SerialModel {
         ensures err { OnErr result (self.new ≡ self.old) }
     {
         let Some(transaction) = self.sessions.get(entry.session) else {
-            return self.outside(entry.session, &entry.request);
+            let answer = self.outside(entry.session, &entry.request)?;
+            return Ok(answer);
         };
         let transaction = transaction.copied(self.alloc)?;
-        self.within(entry.session, transaction, entry)
+        let answer = self.within(entry.session, transaction, entry)?;
+        Ok(answer)
+    }
+
+    /// Applies the requests of the journal in order, up to its end or to the first that isn't legal or takes a number that
+    /// there isn't. At want of memory some of the first ones have been applied.
+    pub fn run(&mut self, journal: &[Entry]) -> Result<Run, NoMemory>
+        ensures ok { IfOk result (λ run. HasRun self.old self.new journal.now run.answers run.end) }
+        ensures err { OnErr result (HasBegunRun self.old self.new journal.now) }
+    {
+        let mut answers = Sequence::new(self.alloc);
+        for entry in journal {
+            if !self.is_legal(entry) {
+                let end = End::Illegal;
+                return Ok(Run { answers, end });
+            }
+            if !self.has_number(entry) {
+                let end = End::OutOfNumbers;
+                return Ok(Run { answers, end });
+            }
+            let answer = self.apply(entry)?;
+            answers.push(answer)?;
+        }
+        let end = End::Done;
+        Ok(Run { answers, end })
     }
 
     /// A request of a session that has no transaction.
@@ -131,7 +155,8 @@ impl SerialModel {
 
     fn begin(&mut self, number: u32) -> Result<Answered, NoMemory>
         requires { self.old.next < 2 ^ 64 - 1 }
-        ensures ok { IfOk result (λ answer. (self.new, answer_of answer) ≡ (after_begin self.old number, effects.Begun self.old.next)) }
+        ensures ok { IfOk result (λ answer. (self.new, answer_of answer)
+            ≡ effect_outside self.old number Request.Begin) }
         ensures err { OnErr result (self.new ≡ self.old) }
     {
         let t = self.next;
@@ -143,7 +168,12 @@ impl SerialModel {
     }
 
     /// A request of a session with this transaction.
-    fn within(&mut self, number: u32, transaction: Transaction, entry: &Entry) -> Result<Answered, NoMemory>
+    fn within(
+        &mut self,
+        number: u32,
+        transaction: Transaction,
+        entry: &Entry,
+    ) -> Result<Answered, NoMemory>
         requires { IsTrue (has_number_within transaction entry.now.request) }
         ensures ok { IfOk result (λ answer. (self.new, answer_of answer)
             ≡ effect_within self.old number transaction entry.now.table entry.now.request entry.now.tag) }
@@ -162,7 +192,14 @@ impl SerialModel {
         }
     }
 
-    fn put(&mut self, number: u32, mut transaction: Transaction, table: u8, values: &Values, tag: Tag) -> Result<Answered, NoMemory>
+    fn put(
+        &mut self,
+        number: u32,
+        mut transaction: Transaction,
+        table: u8,
+        values: &Values,
+        tag: Tag,
+    ) -> Result<Answered, NoMemory>
         requires { IsTrue (has_place_left transaction) }
         ensures ok { IfOk result (λ answer. (self.new, answer_of answer)
             ≡ effect_within self.old number transaction table (Request.Put values.now) tag) }
@@ -185,7 +222,13 @@ impl SerialModel {
         }
     }
 
-    fn look(&mut self, number: u32, transaction: Transaction, query: &Query, tag: Tag) -> Result<Answered, NoMemory>
+    fn look(
+        &mut self,
+        number: u32,
+        transaction: Transaction,
+        query: &Query,
+        tag: Tag,
+    ) -> Result<Answered, NoMemory>
         ensures ok { (table : ℕ) → IfOk result (λ answer. (self.new, answer_of answer)
             ≡ effect_within self.old number transaction table (Request.Look query.now) tag) }
         ensures err { OnErr result (self.new ≡ self.old) }
@@ -202,7 +245,12 @@ impl SerialModel {
         }
     }
 
-    fn mark(&mut self, number: u32, mut transaction: Transaction, id: RowId) -> Result<Answered, NoMemory>
+    fn mark(
+        &mut self,
+        number: u32,
+        mut transaction: Transaction,
+        id: RowId,
+    ) -> Result<Answered, NoMemory>
         ensures ok { (table : ℕ) (tag : Tag) → IfOk result (λ answer. (self.new, answer_of answer)
             ≡ effect_within self.old number transaction table (Request.Mark id) tag) }
         ensures err { OnErr result (self.new ≡ self.old) }
@@ -234,8 +282,8 @@ impl SerialModel {
     }
 
     fn commit(&mut self, number: u32, transaction: &Transaction) -> Result<Answered, NoMemory>
-        ensures ok { IfOk result (λ answer. (self.new, answer_of answer)
-            ≡ (after_commit self.old number transaction.now, (if transaction.now.failed then effects.RolledBack else effects.Committed))) }
+        ensures ok { (table : ℕ) (tag : Tag) → IfOk result (λ answer. (self.new, answer_of answer)
+            ≡ effect_within self.old number transaction.now table Request.Commit tag) }
         ensures err { OnErr result (self.new ≡ self.old) }
     {
         if transaction.has_failed() {

@@ -112,9 +112,7 @@ fn remove_session(sessions: &mut Vec<Session>, number: u32)
 fn marks_elsewhere(sessions: &[Session], number: u32, id: RowId) -> bool
     ensures { result ≡ list_any (λ s. not (s.number == number) && set.contains s.transaction.marks id) sessions.now }
 {
-    sessions
-        .iter()
-        .any(|session| session.number != number && session.transaction.has_marked(id))
+    sessions.iter().any(|session| session.number != number && session.transaction.has_marked(id))
 }
 
 fn put_session(sessions: &mut Vec<Session>, session: Session) -> Result<(), NoMemory>

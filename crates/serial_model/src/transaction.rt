@@ -154,8 +154,9 @@ impl Transaction {
         rows.remove_marked(&self.marks);
         let view = self.view.rows();
         for at in (0..view.len()).rev() {
-            if self.is_own(view[at].id) {
-                rows.put(view[at].copied())?;
+            let row = &view[at];
+            if self.is_own(row.id) {
+                rows.put(row.copied())?;
             }
         }
         Ok(rows)
