@@ -23,7 +23,7 @@ pub tied : (o : Ordering) → is_eq o ≡ true → o ≡ Equal
 tied o e = (Equal-is o).0 e
 
 -- a test answers alike at keys that tie
-alike : {K : Type 0} (R : K → K → Ordering) → IsAntisymmetric R → (p : K → Bool) (q x : K) → R q x ≡ Equal → p x ≡ p q
+pub alike : {K : Type 0} (R : K → K → Ordering) → IsAntisymmetric R → (p : K → Bool) (q x : K) → R q x ≡ Equal → p x ≡ p q
 alike R same p q x t = sym (ap p (same q x t))
 
 swapped_not : {X : Type 0} (b : Bool) (x y : Option X) → cond (not b) x y ≡ cond b y x

@@ -1,2 +1,5 @@
 pub mod KeyedLists
 pub mod RunSteps
+pub mod MapFacts
+pub mod Effects
+pub mod CommitLaws

@@ -3,3 +3,9 @@ pub mod ListedSessions
 pub mod Answers
 pub mod Numbers
 pub mod Runs
+pub mod Commits
+pub mod CommitChangesOwn
+pub mod FailedCommitChangesNothing
+pub mod TableIsCommits
+pub mod OwnRequestsAlone
+pub mod NoRowRemovedTwice

@@ -4,6 +4,7 @@
 // holds of every run.
 #![tactic(auto)]
 
+pub mod laws;
 pub mod marks;
 pub mod model;
 pub mod sessions;
