@@ -3,3 +3,4 @@ pub mod RunSteps
 pub mod MapFacts
 pub mod Effects
 pub mod CommitLaws
+pub mod OwnRuns
