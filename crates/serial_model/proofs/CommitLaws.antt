@@ -57,7 +57,7 @@ get_merged table x id =
     ∙ chosen (is_own x id) (set.contains x.marks id) (get x.view id) (get table id)
 
 -- the effect of a commit
-commit_effect : (s : DatabaseState) (e : Entry) (x : OpenTransaction) → Commits s e x → effect s e ≡ (after_commit s e.session x, if x.failed then RolledBack else Committed)
+pub commit_effect : (s : DatabaseState) (e : Entry) (x : OpenTransaction) → Commits s e x → effect s e ≡ (after_commit s e.session x, if x.failed then RolledBack else Committed)
 commit_effect s e x h = effect_by s e (Some x) h.under_way ∙ ap (λ r. effect_within s e.session x e.table r e.tag) h.commit
 
 ends_alone : (s : DatabaseState) (e : Entry) (x : OpenTransaction) → Commits s e x → EndsAlone s (after_request s e) e.session

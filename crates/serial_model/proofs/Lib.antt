@@ -4,3 +4,4 @@ pub mod MapFacts
 pub mod Effects
 pub mod CommitLaws
 pub mod OwnRuns
+pub mod Removals
