@@ -40,7 +40,6 @@ module _ (P : DatabaseState → Type 0) (s : DatabaseState) (n : ℕ) (x : OpenT
     (marked : (id : RowId) (y : OpenTransaction) → is_own x id ≡ false → is_conflict s n x id ≡ false → y.t ≡ x.t → y.marks ≡ set.insert x.marks id → P (with_transaction s n y))
     (gone : P (without_transaction s n))
     (merges : x.failed ≡ false → P (after_merge s n x)) where
-
   after_mark_leads : (id : RowId) → is_conflict s n x id ≡ false → P (with_transaction s n (after_mark x id))
   after_mark_leads id free =
       elim (is_own x id) as (λ b. is_own x id ≡ b → P (with_transaction s n (after_mark x id))) [
@@ -85,7 +84,7 @@ within_others s n m x table request tag apart =
     let same_at = λ (s' : DatabaseState). get s'.sessions m ≡ get s.sessions m in
     let away = numbers_apart m n apart in
     within_leads same_at s n x refl (λ y _ _. get_put_apart nat_cmp_total s.sessions n m y away) (λ id y _ _ _ _. get_put_apart nat_cmp_total s.sessions n m y away)
-        (get_removed_apart nat_cmp_total s.sessions n m away) (λ _. get_removed_apart nat_cmp_total s.sessions n m away) table request tag
+    (get_removed_apart nat_cmp_total s.sessions n m away) (λ _. get_removed_apart nat_cmp_total s.sessions n m away) table request tag
 
 at_others : (s : DatabaseState) (e : Entry) (m : ℕ) (o : Option OpenTransaction) → (m ≡ e.session → ⊥) → get (effect_at o s e).0.sessions m ≡ get s.sessions m
 at_others s e m None apart = outside_leads (λ (s' : DatabaseState). get s'.sessions m ≡ get s.sessions m) s e.session refl (get_put_apart nat_cmp_total s.sessions e.session m (new_transaction s) (numbers_apart m e.session apart)) e.request

@@ -76,8 +76,8 @@ module _ (n : ℕ) where
   own_runs s [] x y got ends last sound = record { transaction = sym (same_Some x y (sym got ∙ last)); replies = refl }
   own_runs s (e ∷ es) x y got ends last sound =
       let found = elim (e.session == n) as (λ b. (e.session == n) ≡ b → list_any (λ (f : Entry). is_end f.request) (cond b (e ∷ own_entries n es) (own_entries n es)) ≡ false
-          → (y ≡ fold own_step x (cond b (e ∷ own_entries n es) (own_entries n es)))
-          × ((if b then reply_to s e ∷ replies_of n (after_request s e) es else replies_of n (after_request s e) es) ≡ own_replies x (cond b (e ∷ own_entries n es) (own_entries n es)))) [
+      → (y ≡ fold own_step x (cond b (e ∷ own_entries n es) (own_entries n es)))
+      × ((if b then reply_to s e ∷ replies_of n (after_request s e) es else replies_of n (after_request s e) es) ≡ own_replies x (cond b (e ∷ own_entries n es) (own_entries n es)))) [
         | true ↦ λ is ends.
             let here : e.session ≡ n = eqb-true e.session n is in
             let step = own_effect s e x (ap (get s.sessions) here ∙ got) (or_parts (is_end e.request) (list_any (λ (f : Entry). is_end f.request) (own_entries n es)) ends).0 in

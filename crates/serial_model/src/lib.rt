@@ -5,8 +5,10 @@
 #![tactic(auto)]
 
 pub mod laws;
-pub mod marks;
+mod marks;
 pub mod model;
-pub mod sessions;
-pub mod table_copy;
-pub mod transaction;
+mod sessions;
+mod table_copy;
+#[cfg(test)]
+mod tests;
+mod transaction;

@@ -2,7 +2,7 @@
 
 ghost use Rattle.std.specs.Prelude.{◌≡◌, ◌<◌, ◌-◌, ◌^◌, IsTrue, ℕ, IfOk, OnOk, OnErr};
 ghost use Rattle.block_model.specs.DatabaseState.{DatabaseState, initial_state};
-ghost use Rattle.block_model.specs.RequestEffect.{after_request, reply_to, is_legal_request, is_legal_within, is_legal_outside, is_ok_tag, is_look_tag, effect_within, effect_outside, is_conflict, with_transaction, after_failure, merged};
+ghost use Rattle.block_model.specs.RequestEffect.{after_request, reply_to, is_legal_request, is_legal_within, is_legal_outside, is_ok_tag, is_look_tag, effect_within, effect_outside, is_conflict, after_failure, without_transaction};
 ghost use Rattle.serial_model.specs.Answers.{answer_of};
 ghost use Rattle.serial_model.specs.Numbers.{has_number, has_number_within, has_number_outside, has_place_left, has_number_left};
 ghost use Rattle.serial_model.specs.Runs.{HasRun, HasBegunRun};
@@ -184,10 +184,7 @@ impl SerialModel {
             Request::Look(query) => self.look(number, transaction, query, entry.tag),
             Request::Mark(id) => self.mark(number, transaction, *id),
             Request::Commit => self.commit(number, &transaction),
-            Request::Rollback => {
-                self.sessions.remove(number);
-                Ok(Answered::RolledBack)
-            }
+            Request::Rollback => Ok(self.roll_back(number)),
             Request::Begin => Ok(Answered::Illegal),
         }
     }
@@ -287,12 +284,19 @@ impl SerialModel {
         ensures err { OnErr result (self.new ≡ self.old) }
     {
         if transaction.has_failed() {
-            self.sessions.remove(number);
-            return Ok(Answered::RolledBack);
+            return Ok(self.roll_back(number));
         }
         self.table = transaction.merged_into(self.alloc, &self.table)?;
         self.sessions.remove(number);
         Ok(Answered::Committed)
+    }
+
+    fn roll_back(&mut self, number: u32) -> Answered
+        ensures after { self.new ≡ without_transaction self.old number }
+        ensures answer { result ≡ Answered.RolledBack }
+    {
+        self.sessions.remove(number);
+        Answered::RolledBack
     }
 }
 
