@@ -16,9 +16,13 @@ is_committed RolledBack = false
 abbrev pub was_active : Snapshot → ℕ → Bool
 was_active s t = list_any (λ u. u == t) s.active
 
--- a commit in the snapshot: of a transaction that had begun and ended when the snapshot was taken
+-- it had begun and ended when the snapshot was taken
+abbrev pub had_ended : Snapshot → ℕ → Bool
+had_ended s t = nat_lt t s.next && not (was_active s t)
+
+-- a commit in the snapshot
 abbrev pub in_snapshot : Snapshot → ℕ → Status → Bool
-in_snapshot s t status = is_committed status && nat_lt t s.next && not (was_active s t)
+in_snapshot s t status = is_committed status && had_ended s t
 
 -- what the transaction t did has happened for the one numbered own: it is own or a commit in the snapshot
 abbrev pub has_done : Snapshot → ℕ → ℕ → Status → Bool
