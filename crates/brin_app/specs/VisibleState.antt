@@ -5,7 +5,7 @@ use Rattle.std.specs.List.{IsDistinct}
 use Rattle.std.specs.Ordering.{nat_cmp, eq_by_cmp}
 use Rattle.std.specs.BTreeMap.{is_at}
 use Rattle.std.specs.Map.{lookup}
-use Rattle.std.specs.FinMap.{FinMap, from_entries, find}
+use Rattle.std.specs.FinMap.{FinMap, from_entries}
 use Rattle.std.specs.FinSet as set
 use Rattle.block_model.specs.declared.row.RowId.{RowId}
 use Rattle.block_model.specs.declared.row.Row.{Row}
@@ -28,7 +28,7 @@ table_of passes rows = from_entries (by_id (filter passes rows))
 
 -- the row of that id
 abbrev pub stored : List Row → RowId → Option Row
-stored rows id = find id_cmp id (by_id rows)
+stored rows id = lookup (is_at (id_cmp id)) (by_id rows)
 
 -- how a transaction stands
 abbrev pub status_of : List Status → ℕ → Status

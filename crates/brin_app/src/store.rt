@@ -4,7 +4,7 @@
 ghost use Rattle.std.specs.Prelude.{◌≡◌, ◌≢◌, ◌+◌, ◌^◌, ◌<◌, ◌==◌, false, None, Some, OnOk, OnErr, IfOk, IfSome, IsSome, map, [], ◌∷◌, ◌++◌};
 ghost use Rattle.std.specs.Prelude.{length, slice_index_or, vec_len, vec_capacity, All, IsPermutation, IsSorted};
 ghost use Rattle.std.specs.Ordering.{nat_cmp, ordering_then};
-ghost use Rattle.std.specs.BTreeMap.{IsOrdered};
+ghost use Rattle.std.specs.BTreeMap.{IsOrdered, values};
 ghost use Rattle.std.specs.FinMap as map_of;
 ghost use Rattle.block_model.specs.declared.row.Row.{Row};
 ghost use Rattle.block_model.specs.declared.request.Request.TheVariants as requests;
@@ -216,7 +216,7 @@ fn status_of(statuses: &[Status], t: u64) -> Status
 
 /// The numbers of the open transactions.
 fn numbers_of(alloc: Global, sessions: &BTreeMap<u32, Open>) -> Result<Numbers, NoMemory>
-    ensures numbers { IfOk result (λ numbers. numbers ≡ map (λ e. e.1.t) sessions.now.entries) }
+    ensures numbers { IfOk result (λ numbers. numbers ≡ map (λ o. o.t) (values sessions.now)) }
     ensures ordered { IsOrdered nat_cmp sessions.now }
 {
     match sessions.values().map(|open| open.t).collect(alloc) {
