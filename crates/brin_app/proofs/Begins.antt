@@ -21,7 +21,7 @@ use Rattle.snapshot_core.specs.declared.statuses.Status.TheVariants.{Unused, Beg
 use Rattle.snapshot_core.specs.Visibility.{is_committed, had_ended}
 use Rattle.brin_app.specs.declared.store.Open.{Open}
 use Rattle.brin_app.specs.Requests.{ok_entry}
-use Rattle.brin_app.specs.VisibleState.{stored, status_of, is_settled, is_seen, table_of, visible_transaction, visible_state, transaction_of, IsStored, IsUnderWay, AreApart, Puts}
+use Rattle.brin_app.specs.VisibleState.{stored, status_of, is_settled, is_seen, table_of, visible_transaction, visible_state, transaction_of, IsStored, IsUnderWay, AreApart, Gains}
 use Rattle.brin_app.proofs.Choices.{chosen, same_number}
 use Rattle.brin_app.proofs.Tables.{stored_id, same_table}
 use Rattle.brin_app.proofs.Sights.{status_before, status_new, sees_same, new_sees, not_begun, still_active}
@@ -61,10 +61,10 @@ committed_is_free : (rows : List Row) (ss : List Status) (es : List (ℕ × Open
 committed_is_free rows ss es t whole sorted committed =
     elim (list_any (λ u. eqb u t) (numbers es)) as (λ b. list_any (λ u. eqb u t) (numbers es) ≡ b → b ≡ false) [
       | true ↦ λ h.
-        let r = entry_of es t h in
-        let there = lookup-from_Contains (eq_by_cmp_equiv nat_cmp_total) r.0.0 r.0.1 es (IsDistinct-from_sorted nat_cmp (keys_of es) sorted) r.1 in
-        let begun : status_of ss t ≡ Begun = ap (status_of ss) (sym r.2) ∙ (whole.under_way r.0.0 r.0.1 there).begun in
-        absurd (false≢true (sym (ap is_committed begun) ∙ committed))
+          let r = entry_of es t h in
+          let there = lookup-from_Contains (eq_by_cmp_equiv nat_cmp_total) r.0.0 r.0.1 es (IsDistinct-from_sorted nat_cmp (keys_of es) sorted) r.1 in
+          let begun : status_of ss t ≡ Begun = ap (status_of ss) (sym r.2) ∙ (whole.under_way r.0.0 r.0.1 there).begun in
+          absurd (false≢true (sym (ap is_committed begun) ∙ committed))
       | false ↦ λ h. refl
     ] refl
 
@@ -83,19 +83,19 @@ begun_others : (rows : List Row) (ss : List Status) (es : List (ℕ × Open)) (n
 begun_others rows ss es n whole m p e h = same_table _ _ rows whole.ids_differ (λ q r d.
     sees_same (ss ++ Begun ∷ []) ss p r.id.t (status_before ss Begun r.id.t (subst (λ (i : RowId). i.t < length ss) (sym (stored_id rows q r d)) (whole.known q r d))))
 
-begun_state : (rows : List Row) (ss : List Status) (es es' : List (ℕ × Open)) (n : ℕ) → IsStored rows ss es → IsStrictlySortedBy nat_cmp (keys_of es) → Puts es es' n (new_open (length ss) es)
+begun_state : (rows : List Row) (ss : List Status) (es es' : List (ℕ × Open)) (n : ℕ) → IsStored rows ss es → IsStrictlySortedBy nat_cmp (keys_of es) → Gains es es' n (new_open (length ss) es)
     → model.after_begin (visible_state rows ss es) n ≡ visible_state rows (ss ++ Begun ∷ []) es'
 begun_state rows ss es es' n whole sorted at =
     let table = begun_table rows ss es whole in
     let x : OpenTransaction = model.new_transaction (visible_state rows ss es) in
     let view : visible_transaction (ss ++ Begun ∷ []) rows (new_open (length ss) es) ≡ x =
-        λ i. record { t = length ss; next_k = 0; view = begun_view rows ss es whole sorted i; marks = set.empty; failed = false } in
+    λ i. record { t = length ss; next_k = 0; view = begun_view rows ss es whole sorted i; marks = set.empty; failed = false } in
     let sessions = sessions_put ss (ss ++ Begun ∷ []) rows rows es es' n (new_open (length ss) es) x at view (begun_others rows ss es n whole) in
     let next : length (ss ++ Begun ∷ []) ≡ length ss + 1 = length-append ss (Begun ∷ []) in
     sym (λ i. record { next = next i; table = table i; sessions = sessions i })
 
 -- which transaction a session has afterwards
-pub which : (es es' : List (ℕ × Open)) (n : ℕ) (o : Open) → Puts es es' n o → (m : ℕ) (p : Open) → transaction_of es' m ≡ Some p
+pub which : (es es' : List (ℕ × Open)) (n : ℕ) (o : Open) → Gains es es' n o → (m : ℕ) (p : Open) → transaction_of es' m ≡ Some p
     → ((m ≡ n) × (o ≡ p)) ⊎ ((eq_by_cmp nat_cmp m n ≡ false) × (transaction_of es m ≡ Some p))
 which es es' n o at m p h = elim (chosen (eq_by_cmp nat_cmp m n) o p (transaction_of es m) (sym (at m) ∙ h)) [ inl a ↦ inl (same_number m n a.0, a.1) | inr b ↦ inr b ]
 
@@ -120,7 +120,7 @@ new_under_way rows ss es whole = record {
   placed = λ q r h e. absurd (let low : q.t < length ss = whole.known q r h in omega (arith, e));
 }
 
-pub begun_stored : (rows : List Row) (ss : List Status) (es es' : List (ℕ × Open)) (n : ℕ) → IsStored rows ss es → Puts es es' n (new_open (length ss) es) → IsStored rows (ss ++ Begun ∷ []) es'
+pub begun_stored : (rows : List Row) (ss : List Status) (es es' : List (ℕ × Open)) (n : ℕ) → IsStored rows ss es → Gains es es' n (new_open (length ss) es) → IsStored rows (ss ++ Begun ∷ []) es'
 begun_stored rows ss es es' n whole at = record {
   some = longer ss 0 whole.some;
   ids_differ = whole.ids_differ;
@@ -157,7 +157,7 @@ begun_stored rows ss es es' n whole at = record {
     }
 
 pub begun_effect : (rows : List Row) (ss : List Status) (es es' : List (ℕ × Open)) (n : ℕ) (s : DatabaseState) → visible_state rows ss es ≡ s → get s.sessions n ≡ None
-    → IsStored rows ss es → IsStrictlySortedBy nat_cmp (keys_of es) → Puts es es' n (new_open (length ss) es)
+    → IsStored rows ss es → IsStrictlySortedBy nat_cmp (keys_of es) → Gains es es' n (new_open (length ss) es)
     → model.effect s (ok_entry n 0 requests.Begin) ≡ (visible_state rows (ss ++ Begun ∷ []) es', model.Begun (length ss))
 begun_effect rows ss es es' n s view none whole sorted at =
     model.effect_is s (ok_entry n 0 requests.Begin)

@@ -18,7 +18,7 @@ use Rattle.snapshot_core.specs.declared.statuses.Status.TheVariants.{Unused, Com
 use Rattle.snapshot_core.specs.Visibility.{is_committed}
 use Rattle.brin_app.specs.declared.store.Open.{Open}
 use Rattle.brin_app.specs.Requests.{ok_entry}
-use Rattle.brin_app.specs.VisibleState.{stored, status_of, sees_rows_of, is_settled, is_seen, table_of, visible_transaction, visible_state, transaction_of, IsStored, IsUnderWay, AreApart, Takes}
+use Rattle.brin_app.specs.VisibleState.{stored, status_of, sees_rows_of, is_settled, is_seen, table_of, visible_transaction, visible_state, transaction_of, IsStored, IsUnderWay, AreApart, Loses}
 use Rattle.brin_app.proofs.Choices.{chosen_none, other_number, other_number_eqb}
 use Rattle.brin_app.proofs.Tables.{stored_id, get-table_of, same_table}
 use Rattle.brin_app.proofs.Sights.{sees_own, sees_not, sees_same}
@@ -82,9 +82,10 @@ committed_table rows ss es n o whole was = same_map ids_total ids_exact _ _ (λ 
 
     mine : (q : RowId) (r : Row) → stored rows q ≡ Some r → eqb q.t o.t ≡ true → (is_settled (set ss o.t Committed) r ≡ true) × (is_seen ss o r ≡ true)
     mine q r h e =
-        let same : r.id.t ≡ o.t = number q r h ∙ eqb-true q.t o.t e in
-        (ap (λ t. is_committed (status_of (set ss o.t Committed) t)) same ∙ ap is_committed (get_or-set_same ss o.t Committed Unused (whole.under_way n o was).known),
-        ap (sees_rows_of ss o) same ∙ sees_own ss o (whole.under_way n o was).numbered)
+        let same : r.id.t ≡ o.t = number q r h ∙ eqb-true q.t o.t e in (
+          ap (λ t. is_committed (status_of (set ss o.t Committed) t)) same ∙ ap is_committed (get_or-set_same ss o.t Committed Unused (whole.under_way n o was).known),
+          ap (sees_rows_of ss o) same ∙ sees_own ss o (whole.under_way n o was).numbered,
+        )
 
     others : (q : RowId) (r : Row) → stored rows q ≡ Some r → eqb q.t o.t ≡ false → is_settled (set ss o.t Committed) r ≡ is_settled ss r
     others q r h e = ap is_committed (get_or-set_other ss o.t r.id.t Committed Unused (λ d. other_number_eqb q.t o.t e (sym (number q r h) ∙ d)))
@@ -104,7 +105,7 @@ committed_others rows ss es n o whole was m p e h = same_table _ _ rows whole.id
         ap (sees_rows_of (set ss o.t Committed) p) same ∙ hidden (set ss o.t Committed) ∙ sym (ap (sees_rows_of ss p) same ∙ hidden ss)
     at t false d = sees_same (set ss o.t Committed) ss p t (get_or-set_other ss o.t t Committed Unused (other_number_eqb t o.t d))
 
-committed_state : (rows : List Row) (ss : List Status) (es es' : List (ℕ × Open)) (n : ℕ) (o : Open) → IsStored rows ss es → transaction_of es n ≡ Some o → Takes es es' n
+committed_state : (rows : List Row) (ss : List Status) (es es' : List (ℕ × Open)) (n : ℕ) (o : Open) → IsStored rows ss es → transaction_of es n ≡ Some o → Loses es es' n
     → model.after_commit (visible_state rows ss es) n (visible_transaction ss rows o) ≡ visible_state rows (set ss o.t Committed) es'
 committed_state rows ss es es' n o whole was at =
     let table = committed_table rows ss es n o whole was in
@@ -112,7 +113,7 @@ committed_state rows ss es es' n o whole was at =
     let next : length (set ss o.t Committed) ≡ length ss = length-set ss o.t Committed in
     sym (λ i. record { next = next i; table = table i; sessions = sessions i })
 
-pub committed_stored : (rows : List Row) (ss : List Status) (es es' : List (ℕ × Open)) (n : ℕ) (o : Open) → IsStored rows ss es → transaction_of es n ≡ Some o → Takes es es' n → IsStored rows (set ss o.t Committed) es'
+pub committed_stored : (rows : List Row) (ss : List Status) (es es' : List (ℕ × Open)) (n : ℕ) (o : Open) → IsStored rows ss es → transaction_of es n ≡ Some o → Loses es es' n → IsStored rows (set ss o.t Committed) es'
 committed_stored rows ss es es' n o whole was at = record {
   some = omega (arith, whole.some, length-set ss o.t Committed);
   ids_differ = whole.ids_differ;
@@ -134,7 +135,7 @@ committed_stored rows ss es es' n o whole was at = record {
     }
 
 pub committed_effect : (rows : List Row) (ss : List Status) (es es' : List (ℕ × Open)) (n : ℕ) (o : Open) (s : DatabaseState) → visible_state rows ss es ≡ s
-    → IsStored rows ss es → transaction_of es n ≡ Some o → Takes es es' n
+    → IsStored rows ss es → transaction_of es n ≡ Some o → Loses es es' n
     → model.effect s (ok_entry n 0 requests.Commit) ≡ (visible_state rows (set ss o.t Committed) es', model.Committed)
 committed_effect rows ss es es' n o s view whole was at =
     model.effect_is s (ok_entry n 0 requests.Commit)

@@ -11,7 +11,7 @@ use Rattle.block_model.specs.TableState.{TableState}
 use Rattle.block_model.specs.DatabaseState.{DatabaseState, OpenTransaction}
 use Rattle.snapshot_core.specs.declared.statuses.Status.{Status}
 use Rattle.brin_app.specs.declared.store.Open.{Open}
-use Rattle.brin_app.specs.VisibleState.{table_of, is_seen, visible_transaction, visible_sessions, visible_state, transaction_of, Puts, Takes}
+use Rattle.brin_app.specs.VisibleState.{table_of, is_seen, visible_transaction, visible_sessions, visible_state, transaction_of, Gains, Loses}
 use Rattle.brin_app.proofs.Tables.{find_is}
 
 mapped_cond : {X Y : Type 0} (f : X → Y) (b : Bool) (x : X) (o : Option X) → option_map f (cond b (Some x) o) ≡ cond b (Some (f x)) (option_map f o)
@@ -43,7 +43,7 @@ stayed ss ss' rows rows' (Some p) h = ap Some (visible_by_table ss' rows' p (tab
 
 -- a session has got a transaction
 pub sessions_put : (ss ss' : List Status) (rows rows' : List Row) (es es' : List (ℕ × Open)) (n : ℕ) (o : Open) (x : OpenTransaction)
-    → Puts es es' n o → visible_transaction ss' rows' o ≡ x → OthersStay ss ss' rows rows' es n
+    → Gains es es' n o → visible_transaction ss' rows' o ≡ x → OthersStay ss ss' rows rows' es n
     → visible_sessions ss' rows' es' ≡ insert (visible_sessions ss rows es) n x
 sessions_put ss ss' rows rows' es es' n o x at is stay = same_map nat_cmp_total nat_cmp-IsAntisymmetric _ _ (λ m.
     get_visible ss' rows' es' m
@@ -58,7 +58,7 @@ sessions_put ss ss' rows rows' es es' n o x at is stay = same_map nat_cmp_total 
 
 -- a session has none any more
 pub sessions_taken : (ss ss' : List Status) (rows rows' : List Row) (es es' : List (ℕ × Open)) (n : ℕ)
-    → Takes es es' n → OthersStay ss ss' rows rows' es n
+    → Loses es es' n → OthersStay ss ss' rows rows' es n
     → visible_sessions ss' rows' es' ≡ remove (visible_sessions ss rows es) n
 sessions_taken ss ss' rows rows' es es' n at stay = same_map nat_cmp_total nat_cmp-IsAntisymmetric _ _ (λ m.
     get_visible ss' rows' es' m

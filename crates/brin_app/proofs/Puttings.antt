@@ -14,7 +14,7 @@ use Rattle.snapshot_core.specs.declared.statuses.Status.{Status}
 use Rattle.snapshot_core.specs.Visibility.{is_committed, had_ended}
 use Rattle.brin_app.specs.declared.store.Open.{Open}
 use Rattle.brin_app.specs.Requests.{ok_entry}
-use Rattle.brin_app.specs.VisibleState.{stored, is_settled, is_seen, table_of, visible_transaction, visible_state, transaction_of, with_next_k, IsStored, IsUnderWay, AreApart, Puts}
+use Rattle.brin_app.specs.VisibleState.{stored, is_settled, is_seen, table_of, visible_transaction, visible_state, transaction_of, with_next_k, IsStored, IsUnderWay, AreApart, Gains}
 use Rattle.brin_app.proofs.Choices.{chosen, none_of, same_id, other_number}
 use Rattle.brin_app.proofs.Tables.{distinct_push, stored-push, table_of-push_seen, table_of-push_unseen}
 use Rattle.brin_app.proofs.Sights.{sees_own, sees_not}
@@ -33,7 +33,7 @@ put_others rows ss es n o r whole was own m p e h =
     let far = whole.apart n m o p was h (λ d. other_number m n e (sym d)) in
     table_of-push_unseen (is_seen ss p) rows r (sees_not ss p r.id.t (whole.under_way m p h).numbered (λ d. far.differ (sym own ∙ d)) (ap (had_ended p.snapshot) own ∙ far.unfinished))
 
-put_state : (rows : List Row) (ss : List Status) (es es' : List (ℕ × Open)) (n table : ℕ) (values : List Value) (o : Open) → IsStored rows ss es → transaction_of es n ≡ Some o → Puts es es' n (with_next_k o (o.next_k + 1))
+put_state : (rows : List Row) (ss : List Status) (es es' : List (ℕ × Open)) (n table : ℕ) (values : List Value) (o : Open) → IsStored rows ss es → transaction_of es n ≡ Some o → Gains es es' n (with_next_k o (o.next_k + 1))
     → model.with_transaction (visible_state rows ss es) n (model.after_put (visible_transaction ss rows o) table values) ≡ visible_state (rows ++ new_row o table values ∷ []) ss es'
 put_state rows ss es es' n table values o whole was at =
     let r = new_row o table values in
@@ -49,7 +49,7 @@ put_state rows ss es es' n table values o whole was at =
 stored_after : (rows : List Row) (r : Row) (q : RowId) (x : Row) → stored rows r.id ≡ None → stored (rows ++ r ∷ []) q ≡ Some x → (q ≡ r.id) ⊎ (stored rows q ≡ Some x)
 stored_after rows r q x none h = elim (chosen (eq_by_cmp id_cmp q r.id) r x (stored rows q) (sym (stored-push rows r q none) ∙ h)) [ inl a ↦ inl (same_id q r.id a.0) | inr b ↦ inr b.1 ]
 
-pub put_stored : (rows : List Row) (ss : List Status) (es es' : List (ℕ × Open)) (n table : ℕ) (values : List Value) (o : Open) → IsStored rows ss es → transaction_of es n ≡ Some o → Puts es es' n (with_next_k o (o.next_k + 1))
+pub put_stored : (rows : List Row) (ss : List Status) (es es' : List (ℕ × Open)) (n table : ℕ) (values : List Value) (o : Open) → IsStored rows ss es → transaction_of es n ≡ Some o → Gains es es' n (with_next_k o (o.next_k + 1))
     → IsStored (rows ++ new_row o table values ∷ []) ss es'
 put_stored rows ss es es' n table values o whole was at = record {
   some = whole.some;
@@ -108,10 +108,10 @@ put_stored rows ss es es' n table values o whole was at = record {
     }
 
 pub put_effect : (rows : List Row) (ss : List Status) (es es' : List (ℕ × Open)) (n table : ℕ) (values : List Value) (o : Open) (s : DatabaseState) → visible_state rows ss es ≡ s
-    → IsStored rows ss es → transaction_of es n ≡ Some o → Puts es es' n (with_next_k o (o.next_k + 1))
+    → IsStored rows ss es → transaction_of es n ≡ Some o → Gains es es' n (with_next_k o (o.next_k + 1))
     → model.effect s (ok_entry n table (requests.Put values)) ≡ (visible_state (rows ++ new_row o table values ∷ []) ss es', model.Inserted (record { t = o.t; k = o.next_k }))
 put_effect rows ss es es' n table values o s view whole was at =
     model.effect_is s (ok_entry n table (requests.Put values))
     ∙ ap (λ x. model.effect_at x s (ok_entry n table (requests.Put values))) (get_open rows ss es n o s view was)
     ∙ ap (λ (s : DatabaseState). (s, model.Inserted (record { t = o.t; k = o.next_k })))
-      (ap (λ (s : DatabaseState). model.with_transaction s n (model.after_put (visible_transaction ss rows o) table values)) (sym view) ∙ put_state rows ss es es' n table values o whole was at)
+    (ap (λ (s : DatabaseState). model.with_transaction s n (model.after_put (visible_transaction ss rows o) table values)) (sym view) ∙ put_state rows ss es es' n table values o whole was at)

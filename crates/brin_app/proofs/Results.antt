@@ -94,7 +94,7 @@ by_id-values xs =
 ordered_rows : (xs rows : List Row) → AreInOrder rows → ((q : RowId) → stored rows q ≡ stored xs q) → values (from_entries {R = id_cmp} (by_id xs)) ≡ rows
 ordered_rows xs rows s h =
     let same : from_entries {R = id_cmp} (by_id xs) ≡ from_sorted (by_id rows) = same_map ids_total ids_exact _ _ (λ q.
-        get-from_entries ids_total (by_id xs) q ∙ find_is id_cmp q (by_id xs) ∙ sym (h q) ∙ sym (get-from_sorted id_cmp (by_id rows) q s ∙ find_is id_cmp q (by_id rows))) in
+    get-from_entries ids_total (by_id xs) q ∙ find_is id_cmp q (by_id xs) ∙ sym (h q) ∙ sym (get-from_sorted id_cmp (by_id rows) q s ∙ find_is id_cmp q (by_id rows))) in
     ap (λ (l : List (RowId × Row)). map (λ (e : RowId × Row). e.1) l) (ap entries same ∙ entries-from_sorted id_cmp (by_id rows) s) ∙ values_by_id rows
 
 -- ---- a permutation is found as the list is
@@ -120,9 +120,10 @@ distinct-permutation xs ys perm d = IsDistinct-IsPermutation (eq_by_cmp id_cmp) 
 seen_rows : (p : Row → Bool) (rows : List Row) → AreInOrder (values (table_of p rows)) × ((q : RowId) → AreDistinct rows → stored (values (table_of p rows)) q ≡ option_filter p (stored rows q))
 unfolding table_of
 seen_rows p rows =
-    let is = by_id-values (filter p rows) in
-    (subst (λ es. T (is_sorted id_cmp es)) (sym is) (entries_sorted (from_entries (by_id (filter p rows)))),
-    λ q d. ap (lookup (is_at (id_cmp q))) is ∙ sym (find_is id_cmp q (entries (from_entries (by_id (filter p rows))))) ∙ sym (get-entries (from_entries (by_id (filter p rows))) q) ∙ get-table_of p rows q d)
+    let is = by_id-values (filter p rows) in (
+      subst (λ es. T (is_sorted id_cmp es)) (sym is) (entries_sorted (from_entries (by_id (filter p rows)))),
+      λ q d. ap (lookup (is_at (id_cmp q))) is ∙ sym (find_is id_cmp q (entries (from_entries (by_id (filter p rows))))) ∙ sym (get-entries (from_entries (by_id (filter p rows))) q) ∙ get-table_of p rows q d,
+    )
 
 -- the rows that pass both tests, in order, are those of a table of the first that pass the second
 pub found_rows : (p m : Row → Bool) (rows out : List Row) → AreDistinct rows → IsPermutation (filter (λ r. p r && m r) rows) out → AreInOrder out → out ≡ filter m (values (table_of p rows))
@@ -132,10 +133,10 @@ found_rows p m rows out d perm ordered =
     let xs = filter t rows in
     sym (ordered_rows xs out ordered (λ q. stored-permutation xs out q perm (distinct-filter t rows d) (in_order_distinct out ordered)))
     ∙ ordered_rows xs (filter m (values (table_of p rows))) (in_order-filter m (values (table_of p rows)) seen.0) (λ q.
-        stored-filter m (values (table_of p rows)) q (in_order_distinct (values (table_of p rows)) seen.0)
-        ∙ ap (option_filter m) (seen.1 q d)
-        ∙ filtered_twice p m (stored rows q)
-        ∙ sym (stored-filter t rows q d))
+    stored-filter m (values (table_of p rows)) q (in_order_distinct (values (table_of p rows)) seen.0)
+    ∙ ap (option_filter m) (seen.1 q d)
+    ∙ filtered_twice p m (stored rows q)
+    ∙ sym (stored-filter t rows q d))
 
 -- ---- the rows at sorted places
 
@@ -207,10 +208,10 @@ placed_rows p rows out hits d perm sorted gathered =
     let f : ℕ → Row = λ k. get_or rows k nobody in
     let there : (k : ℕ) (x : Row) → k < length rows → get_or rows (0 + k) nobody ≡ get_or rows k x = λ k x h. let same : 0 + k ≡ k = omega arith in ap f same ∙ get_or_default rows k nobody x h in
     let moved : IsPermutation (filter p rows) out =
-        subst (λ (l : List Row). IsPermutation l out) (at_places f p 0 rows there)
-        (subst (IsPermutation (map (λ (h : RowId × ℕ). get_or rows h.1 nobody) (places p 0 rows))) (sym (gathered nobody)) (IsPermutation-map (λ (h : RowId × ℕ). get_or rows h.1 nobody) (places p 0 rows) hits perm)) in
+    subst (λ (l : List Row). IsPermutation l out) (at_places f p 0 rows there)
+    (subst (IsPermutation (map (λ (h : RowId × ℕ). get_or rows h.1 nobody) (places p 0 rows))) (sym (gathered nobody)) (IsPermutation-map (λ (h : RowId × ℕ). get_or rows h.1 nobody) (places p 0 rows) hits perm)) in
     let stand = All-permutation (λ (h : RowId × ℕ). (get_or rows h.1 nobody).id ≡ h.0) (places p 0 rows) hits perm
-        (all_places (λ (h : RowId × ℕ). (get_or rows h.1 nobody).id ≡ h.0) p 0 rows (λ k x h. ap (λ (r : Row). r.id) (there k x h))) in
+    (all_places (λ (h : RowId × ℕ). (get_or rows h.1 nobody).id ≡ h.0) p 0 rows (λ k x h. ap (λ (r : Row). r.id) (there k x h))) in
     let ids : ids_of out ≡ map (λ (h : RowId × ℕ). h.0) hits = ap ids_of (gathered nobody) ∙ ids_at rows hits stand in
     let distinct = subst (IsDistinct (eq_by_cmp id_cmp)) ids (distinct-permutation (filter p rows) out moved (distinct-filter p rows d)) in
     (moved, in_order_from out (subst (IsStrictlySortedBy id_cmp) (sym ids) (strictly hits distinct sorted)))

@@ -79,7 +79,7 @@ stored-push rows r q none =
 pub distinct_push : (rows : List Row) (r : Row) → AreDistinct rows → stored rows r.id ≡ None → AreDistinct (rows ++ r ∷ [])
 distinct_push rows r d none =
     let absent : list_any (eq_by_cmp id_cmp r.id) (ids_of rows) ≡ false =
-        ap (list_any (eq_by_cmp id_cmp r.id)) (sym (keys_by_id rows)) ∙ sym (is_some-find id_cmp r.id (by_id rows)) ∙ ap is_some (find_is id_cmp r.id (by_id rows) ∙ none) in
+    ap (list_any (eq_by_cmp id_cmp r.id)) (sym (keys_by_id rows)) ∙ sym (is_some-find id_cmp r.id (by_id rows)) ∙ ap is_some (find_is id_cmp r.id (by_id rows) ∙ none) in
     subst (IsDistinct (eq_by_cmp id_cmp)) (sym (map_push (λ (r : Row). r.id) rows r)) (IsDistinct-push (eq_by_cmp_equiv ids_total) (ids_of rows) r.id d absent)
 
 pub get-table_of : (p : Row → Bool) (rows : List Row) (q : RowId) → AreDistinct rows → get (table_of p rows) q ≡ option_filter p (stored rows q)

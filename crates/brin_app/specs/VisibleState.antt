@@ -66,13 +66,13 @@ transaction_of sessions session = lookup (is_at (nat_cmp session)) sessions
 abbrev pub with_next_k : Open → ℕ → Open
 with_next_k o k = record o { next_k = k }
 
--- the session has got this transaction
-abbrev pub Puts : List (ℕ × Open) → List (ℕ × Open) → ℕ → Open → Type 0
-Puts old new session o = (other : ℕ) → transaction_of new other ≡ (if eq_by_cmp nat_cmp other session then Some o else transaction_of old other)
+-- the session gains this transaction, and the others keep theirs
+abbrev pub Gains : List (ℕ × Open) → List (ℕ × Open) → ℕ → Open → Type 0
+Gains old new session o = (other : ℕ) → transaction_of new other ≡ (if eq_by_cmp nat_cmp other session then Some o else transaction_of old other)
 
--- the session has none any more
-abbrev pub Takes : List (ℕ × Open) → List (ℕ × Open) → ℕ → Type 0
-Takes old new session = (other : ℕ) → transaction_of new other ≡ (if eq_by_cmp nat_cmp other session then None else transaction_of old other)
+-- the session loses its transaction, and the others keep theirs
+abbrev pub Loses : List (ℕ × Open) → List (ℕ × Open) → ℕ → Type 0
+Loses old new session = (other : ℕ) → transaction_of new other ≡ (if eq_by_cmp nat_cmp other session then None else transaction_of old other)
 
 -- an open transaction has begun, and its rows stand before the place of its next one
 pub record IsUnderWay (rows : List Row) (statuses : List Status) (o : Open) : Type 0 where

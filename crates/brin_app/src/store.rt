@@ -6,12 +6,13 @@ ghost use Rattle.std.specs.Prelude.{length, slice_index_or, vec_len, vec_capacit
 ghost use Rattle.std.specs.Ordering.{nat_cmp, ordering_then};
 ghost use Rattle.std.specs.BTreeMap.{IsOrdered, values};
 ghost use Rattle.std.specs.FinMap as map_of;
+ghost use Rattle.block_model.specs.TableState.{id_cmp};
 ghost use Rattle.block_model.specs.declared.row.Row.{Row};
 ghost use Rattle.block_model.specs.declared.request.Request.TheVariants as requests;
 ghost use Rattle.block_model.specs.DatabaseState.{initial_state};
 ghost use Rattle.block_model.specs.RequestEffect.{effect, Begun, Inserted, Found, Committed};
 ghost use Rattle.brin_app.specs.Requests.{HasTransaction, ok_entry};
-ghost use Rattle.brin_app.specs.VisibleState.{transaction_of, sees_rows_of, status_of, answers, Puts, Takes, with_next_k};
+ghost use Rattle.brin_app.specs.VisibleState.{transaction_of, sees_rows_of, status_of, answers, Gains, Loses, with_next_k};
 ghost use Rattle.brin_app.specs.Places.{places};
 
 use block_model::NoMemory;
@@ -23,9 +24,9 @@ use std::alloc::Global;
 use std::collections::BTreeMap;
 use std::marker::Model;
 
-/// The place that no row of a transaction has, so that the next place is a number too. As many rows take over a terabyte
-/// of memory, since each takes 288 bytes: memory has run out before.
-const LAST_PLACE: u32 = u32::MAX;
+/// How many rows a transaction puts at most, since their places are numbered by a `u32`. Want of memory is answered there:
+/// a row takes 288 bytes, so as many take over a terabyte.
+const MAX_PLACES: u32 = u32::MAX;
 
 /// A session's transaction that is under way: its number, the place of its next row, and what it sees of others.
 #[derive(Debug, Drop)]
@@ -112,7 +113,7 @@ impl Store {
         let Some(open) = self.sessions.get(&session) else {
             unreachable!()
         };
-        if open.next_k == LAST_PLACE {
+        if open.next_k == MAX_PLACES {
             return Err(NoMemory);
         }
         let id = RowId {
@@ -133,8 +134,8 @@ impl Store {
             unreachable!()
         };
         let rows = self.rows.as_slice();
-        let mut hits = hits(self.alloc, rows, self.statuses.as_slice(), open, query)?;
-        hits.sort_unstable();
+        let mut hits = find_hits(self.alloc, rows, self.statuses.as_slice(), open, query)?;
+        sort_hits(&mut hits);
         gathered(self.alloc, rows, hits.as_slice())
     }
 
@@ -155,7 +156,7 @@ type Hit = (RowId, usize);
 
 /// The rows that the transaction sees and that meet the query, in the order in which they were put. Rows of one
 /// transaction mostly stand together, so the last transaction's verdict is kept.
-fn hits(
+fn find_hits(
     alloc: Global,
     rows: &[Row],
     statuses: &[Status],
@@ -177,6 +178,14 @@ fn hits(
         }
     }
     Ok(hits)
+}
+
+/// Brings them in order of their ids. Takes no memory, and time in proportion to their number where they are in order.
+fn sort_hits(hits: &mut Vec<Hit>)
+    ensures permutation { IsPermutation hits.old.items hits.new.items }
+    ensures sorted { IsSorted (λ a b. ordering_then (id_cmp a.0 b.0) (nat_cmp a.1 b.1)) hits.new.items }
+{
+    hits.sort_unstable();
 }
 
 /// Copies of the rows at these places.
@@ -227,7 +236,7 @@ fn numbers_of(alloc: Global, sessions: &BTreeMap<u32, Open>) -> Result<Numbers, 
 
 /// The session gets the transaction. After a refusal nothing is changed.
 fn insert_open(sessions: &mut BTreeMap<u32, Open>, session: u32, new: Open) -> Result<(), NoMemory>
-    ensures ok { OnOk result (Puts sessions.old.entries sessions.new.entries session new) }
+    ensures ok { OnOk result (Gains sessions.old.entries sessions.new.entries session new) }
     ensures err { OnErr result (sessions.new.entries ≡ sessions.old.entries) }
 {
     match sessions.insert(session, new) {
@@ -239,7 +248,7 @@ fn insert_open(sessions: &mut BTreeMap<u32, Open>, session: u32, new: Open) -> R
 /// The session's transaction ends.
 fn remove_open(sessions: &mut BTreeMap<u32, Open>, session: u32) -> Option<Open>
     ensures was { result ≡ transaction_of sessions.old.entries session }
-    ensures gone { Takes sessions.old.entries sessions.new.entries session }
+    ensures gone { Loses sessions.old.entries sessions.new.entries session }
 {
     sessions.remove(&session)
 }
@@ -247,7 +256,7 @@ fn remove_open(sessions: &mut BTreeMap<u32, Open>, session: u32) -> Option<Open>
 /// The session's transaction has put one row more.
 fn count_row(sessions: &mut BTreeMap<u32, Open>, session: u32)
     requires { IfSome (transaction_of sessions.old.entries session) (λ o. o.next_k + 1 < 2 ^ 32) }
-    ensures { IfSome (transaction_of sessions.old.entries session) (λ o. Puts sessions.old.entries sessions.new.entries session (with_next_k o (o.next_k + 1))) }
+    ensures { IfSome (transaction_of sessions.old.entries session) (λ o. Gains sessions.old.entries sessions.new.entries session (with_next_k o (o.next_k + 1))) }
 {
     if let Some(open) = sessions.get_mut(&session) {
         open.next_k += 1;
@@ -286,4 +295,41 @@ fn push_within(statuses: &mut Vec<Status>, status: Status)
     let Ok(()) = statuses.push(status) else {
         unreachable!()
     };
+}
+
+#[cfg(test)]
+mod tests {
+    use super::*;
+    use block_model::row::Conds;
+
+    #[test]
+    fn rows_are_found_in_order_of_their_transactions(rt: HostRuntime) {
+        let mut store = Store::new(rt.alloc()).expect(&rt, "memory for a store");
+        for session in 0..2 {
+            if !store.is_open(session) {
+                assert!(rt; store.begin(session).is_ok());
+            }
+        }
+        for session in [1, 0] {
+            if store.is_open(session) {
+                assert!(rt; store.put(session, 0, Values::new()).is_ok());
+                store.commit(session);
+            }
+        }
+        if !store.is_open(2) {
+            assert_eq!(rt; store.begin(2), Ok(3));
+        }
+        let query = Query {
+            table: 0,
+            conds: Conds::new(rt.alloc()),
+        };
+        if store.is_open(2) {
+            let rows = store.look(2, &query).expect(&rt, "memory for two rows");
+            let mut numbers = [0; 2];
+            for (number, row) in numbers.iter_mut().zip(rows.as_slice()) {
+                *number = row.id.t;
+            }
+            assert_eq!(rt; (rows.len(), numbers), (2, [1, 2]));
+        }
+    }
 }
