@@ -1,9 +1,9 @@
 -- what a commit makes of the visible state
-use Rattle.std.proofs.Common.{◌≡◌, ◌≢◌, Bool, true, false, cond, not, ℕ, ◌<◌, List, [], ◌∷◌, length, set, Option, None, Some, refl, sym, ap, ◌∙◌, arith, eqb, eqb-true, length-set}
+use Rattle.std.proofs.Common.{◌≡◌, Bool, true, false, cond, not, ℕ, ◌<◌, List, [], ◌∷◌, length, set, Option, None, Some, refl, sym, ap, ◌∙◌, arith, eqb, eqb-true, length-set}
 use Rattle.std.specs.declared.cmp.Ordering.TheVariants.{Equal}
 use Rattle.std.specs.Option.{is_some}
 use Rattle.std.specs.Ordering.{nat_cmp, eq_by_cmp}
-use Rattle.std.specs.FinMap.{get, remove, retain_keys, entries, find, get-insert, get-entries, get-retain_keys, same_map}
+use Rattle.std.specs.FinMap.{get, retain_keys, entries, find, get-insert, get-entries, get-retain_keys, same_map}
 use Rattle.std.specs.FinSet as marks
 use Rattle.std.proofs.lemmas.List.{get_or-set_other, get_or-set_same}
 use Rattle.std.proofs.lemmas.Map.Entries.{option_filter}

@@ -313,6 +313,8 @@ mod tests {
         for session in [1, 0] {
             if store.is_open(session) {
                 assert!(rt; store.put(session, 0, Values::new()).is_ok());
+            }
+            if store.is_open(session) {
                 store.commit(session);
             }
         }

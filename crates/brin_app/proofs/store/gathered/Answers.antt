@@ -1,4 +1,4 @@
-use Rattle.std.proofs.Common.{◌≡◌, ◌++◌, ◌∷◌, [], ℕ, map, get_or, length, ◌≤◌, ap, ◌∙◌, arith}
+use Rattle.std.proofs.Common.{◌++◌, ◌∷◌, [], ℕ, map, get_or, length, ◌≤◌, ap, ◌∙◌, arith}
 use Rattle.std.proofs.lemmas.List.{take_all}
 use Rattle.block_model.specs.declared.row.RowId.{RowId}
 use Rattle.block_model.specs.declared.row.Row.{Row}

@@ -2,7 +2,6 @@ use Rattle.std.proofs.Common.{◌≡◌, List, ◌++◌, ◌∷◌, [], length, 
 use Rattle.block_model.specs.RequestEffect as model
 use Rattle.snapshot_core.specs.declared.statuses.Status.{Status}
 use Rattle.snapshot_core.specs.declared.statuses.Status.TheVariants as statuses
-use Rattle.brin_app.specs.declared.store.Open.{Open}
 use Rattle.brin_app.specs.VisibleState.{visible_state, IsStored, Gains}
 use Rattle.brin_app.proofs.Begins.{begun_stored, begun_effect}
 use Rattle.brin_app.proofs.store.Store.begin.Goals as goal

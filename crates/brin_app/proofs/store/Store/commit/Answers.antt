@@ -1,4 +1,4 @@
-use Rattle.std.proofs.Common.{◌≡◌, ◌<◌, Some, sym, ◌∙◌, arith, length}
+use Rattle.std.proofs.Common.{◌<◌, sym, ◌∙◌, arith, length}
 use Rattle.brin_app.proofs.Copies.{is_there}
 use Rattle.brin_app.proofs.Commits.{committed_stored, committed_effect}
 use Rattle.brin_app.proofs.store.Store.commit.Goals as goal

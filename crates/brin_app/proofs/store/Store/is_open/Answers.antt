@@ -1,4 +1,4 @@
-use Rattle.std.proofs.Common.{◌≡◌, ◌∙◌}
+use Rattle.std.proofs.Common.{◌∙◌}
 use Rattle.brin_app.proofs.Copies.{is_open_test, none_failed}
 use Rattle.brin_app.proofs.store.Store.is_open.Goals as goal
 

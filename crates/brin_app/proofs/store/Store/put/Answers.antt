@@ -1,9 +1,7 @@
-use Rattle.std.proofs.Common.{◌≡◌, List, ℕ, ◌+◌, Option, Some, IfSome, sym, ◌∙◌, subst, refl}
+use Rattle.std.proofs.Common.{◌≡◌, List, ◌+◌, Option, Some, IfSome, sym, ◌∙◌, subst}
 use Rattle.block_model.specs.declared.row.Row.{Row}
-use Rattle.block_model.specs.declared.request.Request.TheVariants as requests
 use Rattle.block_model.specs.RequestEffect as model
 use Rattle.brin_app.specs.declared.store.Open.{Open}
-use Rattle.brin_app.specs.Requests.{ok_entry}
 use Rattle.brin_app.specs.VisibleState.{transaction_of, visible_state, IsStored, Gains, with_next_k}
 use Rattle.brin_app.proofs.Copies.{is_there}
 use Rattle.brin_app.proofs.Puttings.{put_stored, put_effect}
