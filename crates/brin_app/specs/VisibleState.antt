@@ -1,5 +1,4 @@
--- the state of private copies for which the stored row versions stand: the table has the rows of commits, and a
--- transaction's copy has those that it sees with its snapshot
+-- the state of private copies for which the stored row versions, statuses and open transactions stand
 use Rattle.std.specs.Prelude.{◌≡◌, ◌≢◌, ℕ, ◌<◌, ◌≤◌, Bool, false, ◌&&◌, List, filter, map, length, slice_index_or, Option, None, Some, if◌then◌else◌}
 use Rattle.std.specs.List.{IsDistinct}
 use Rattle.std.specs.Ordering.{nat_cmp, eq_by_cmp}
@@ -42,6 +41,7 @@ is_settled statuses r = is_committed (status_of statuses r.id.t)
 abbrev pub sees_rows_of : List Status → Open → ℕ → Bool
 sees_rows_of statuses o t = sees o.snapshot o.t t 0 (status_of statuses t) Unused
 
+-- whether it sees the row
 abbrev pub is_seen : List Status → Open → Row → Bool
 is_seen statuses o r = sees_rows_of statuses o r.id.t
 
@@ -49,12 +49,15 @@ is_seen statuses o r = sees_rows_of statuses o r.id.t
 abbrev pub answers : List Status → Open → Query → Row → Bool
 answers statuses o q r = is_seen statuses o r && row_matches q r
 
+-- its copy of the tables has the rows that it sees
 abbrev pub visible_transaction : List Status → List Row → Open → OpenTransaction
 visible_transaction statuses rows o = record { t = o.t; next_k = o.next_k; view = table_of (is_seen statuses o) rows; marks = set.empty; failed = false }
 
+-- each session's, by the session's number
 abbrev pub visible_sessions : List Status → List Row → List (ℕ × Open) → FinMap nat_cmp OpenTransaction
 visible_sessions statuses rows sessions = from_entries (map (λ e. (e.0, visible_transaction statuses rows e.1)) sessions)
 
+-- the table has the rows of commits, and the number 0 isn't used
 abbrev pub visible_state : List Row → List Status → List (ℕ × Open) → DatabaseState
 visible_state rows statuses sessions = record { next = length statuses; table = table_of (is_settled statuses) rows; sessions = visible_sessions statuses rows sessions }
 

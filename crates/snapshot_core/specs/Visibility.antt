@@ -6,6 +6,7 @@ use Rattle.snapshot_core.specs.declared.statuses.Status.{Status}
 use Rattle.snapshot_core.specs.declared.statuses.Status.TheVariants.{Unused, Begun, Committed, RolledBack}
 use Rattle.snapshot_core.specs.declared.snapshots.Snapshot.{Snapshot}
 
+-- the transaction has committed
 abbrev pub is_committed : Status → Bool
 is_committed Unused = false
 is_committed Begun = false
