@@ -3,5 +3,10 @@
 // count rose. It stands on block_model's causes. The layer above uses the traits, and `write_all`.
 #![tactic(auto)]
 
+mod calls;
+pub mod memory_sink;
+pub mod memory_source;
 pub mod sink;
 pub mod source;
+#[cfg(test)]
+mod tests;

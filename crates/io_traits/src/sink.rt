@@ -4,6 +4,7 @@ ghost use Rattle.std.specs.Prelude.{◌≡◌, ℕ, List, ◌<◌, ◌≤◌, le
 ghost use Rattle.std.specs.declared.option.Option.{Option};
 ghost use Rattle.std.specs.Io.KnownBytes.{WriteAppends, Appends};
 ghost use Rattle.block_model.specs.Causes.{HasCause};
+ghost use Rattle.io_traits.specs.Calls.{CountsFault};
 ghost use Rattle.io_traits.specs.Written.{AppendsPart};
 
 use std::io::Write;
@@ -38,8 +39,12 @@ pub struct WriterSink<W> {
     faults: u64,
 }
 
-impl<W> WriterSink<W> {
-    pub fn on(writer: W) -> WriterSink<W> {
+impl<W: Write> WriterSink<W> {
+    /// What the writer holds. No write has failed so far.
+    pub fn on(writer: W) -> WriterSink<W>
+        ensures taken { ⟦<WriterSink<W> as Sink>⟧.taken result ≡ W.contents writer }
+        ensures faults { ⟦<WriterSink<W> as Sink>⟧.faults result ≡ 0 }
+    {
         WriterSink { writer, faults: 0 }
     }
 }
@@ -49,17 +54,16 @@ impl<W: Write> Sink for WriterSink<W> {
 
     ghost faults = { λ s. s.faults };
 
-    fn write(&mut self, bytes: &[u8]) -> Result<usize, SinkFault> {
+    fn write(&mut self, bytes: &[u8]) -> Result<usize, SinkFault>
+        ensures bound { IfOk result (λ n. n ≤ length bytes.now) }
+        ensures some { IfOk result (λ n. 0 < length bytes.now → 0 < n) }
+        ensures bytes { WriteAppends (⟦<WriterSink<W> as Sink>⟧.taken self.old) (⟦<WriterSink<W> as Sink>⟧.taken self.new) result bytes.now }
+        ensures cause { HasCause (⟦<WriterSink<W> as Sink>⟧.faults self.old) (⟦<WriterSink<W> as Sink>⟧.faults self.new) result }
+        ensures counted { CountsFault (⟦<WriterSink<W> as Sink>⟧.faults self.old) (⟦<WriterSink<W> as Sink>⟧.faults self.new) result }
+    {
         match self.writer.write(bytes) {
-            Ok(count) => {
-                if count == 0 && !bytes.is_empty() {
-                    self.faults = self.faults.saturating_add(1);
-                    Err(SinkFault)
-                } else {
-                    Ok(count)
-                }
-            }
-            Err(_) => {
+            Ok(count) if count > 0 || bytes.is_empty() => Ok(count),
+            _ => {
                 self.faults = self.faults.saturating_add(1);
                 Err(SinkFault)
             }
@@ -71,10 +75,11 @@ impl<W: Write> Sink for WriterSink<W> {
     }
 }
 
-/// Writes all of the bytes, or a front of them and then a fault.
+/// Writes all of the bytes, or a front of them and then a fault. Of no bytes it makes no call of the sink.
 pub fn write_all<K: Sink>(sink: &mut K, bytes: &[u8]) -> Result<(), SinkFault>
     ensures all { OnOk result (Appends (K.taken sink.old) (K.taken sink.new) bytes.now) }
     ensures part { OnErr result (AppendsPart (K.taken sink.old) (K.taken sink.new) bytes.now) }
+    ensures none { length bytes.now ≡ 0 → sink.new ≡ sink.old }
     ensures cause { HasCause (K.faults sink.old) (K.faults sink.new) result }
 {
     let mut at = 0;

@@ -5,6 +5,7 @@ ghost use Rattle.std.specs.declared.option.Option.{Option};
 ghost use Rattle.std.specs.Io.{ReadsAtMost};
 ghost use Rattle.std.specs.Io.KnownBytes.{ReadConsumes};
 ghost use Rattle.block_model.specs.Causes.{HasCause};
+ghost use Rattle.io_traits.specs.Calls.{CountsFault};
 
 use std::io::Read;
 
@@ -37,8 +38,12 @@ pub struct ReaderSource<R> {
     faults: u64,
 }
 
-impl<R> ReaderSource<R> {
-    pub fn on(reader: R) -> ReaderSource<R> {
+impl<R: Read> ReaderSource<R> {
+    /// What the reader has left. No read has failed so far.
+    pub fn on(reader: R) -> ReaderSource<R>
+        ensures left { ⟦<ReaderSource<R> as Source>⟧.left result ≡ R.remaining reader }
+        ensures faults { ⟦<ReaderSource<R> as Source>⟧.faults result ≡ 0 }
+    {
         ReaderSource { reader, faults: 0 }
     }
 }
@@ -48,7 +53,12 @@ impl<R: Read> Source for ReaderSource<R> {
 
     ghost faults = { λ s. s.faults };
 
-    fn read(&mut self, into: &mut [u8]) -> Result<usize, SourceFault> {
+    fn read(&mut self, into: &mut [u8]) -> Result<usize, SourceFault>
+        ensures bound { ReadsAtMost result into.new }
+        ensures bytes { ReadConsumes (⟦<ReaderSource<R> as Source>⟧.left self.old) (⟦<ReaderSource<R> as Source>⟧.left self.new) result into.new }
+        ensures cause { HasCause (⟦<ReaderSource<R> as Source>⟧.faults self.old) (⟦<ReaderSource<R> as Source>⟧.faults self.new) result }
+        ensures counted { CountsFault (⟦<ReaderSource<R> as Source>⟧.faults self.old) (⟦<ReaderSource<R> as Source>⟧.faults self.new) result }
+    {
         match self.reader.read(into) {
             Ok(count) => Ok(count),
             Err(_) => {

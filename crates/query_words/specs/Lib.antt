@@ -1,0 +1,9 @@
+pub mod Words
+pub mod Numbers
+pub mod Statements
+pub mod Lines
+pub mod Declarations
+pub mod Texts
+pub mod StatementRequests
+pub mod ScriptTexts
+pub mod Appended

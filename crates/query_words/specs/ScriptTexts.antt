@@ -1,0 +1,92 @@
+-- the text of each line of a script, as if each session worked on its own copy of the tables
+use Rattle.std.specs.Prelude.{◌≡◌, ℕ, ◌+◌, nat_lt, Bool, List, [], ◌∷◌, ◌++◌, length, Option, None, Some, Result, Ok, Err, if◌then◌else◌, refl}
+use Rattle.std.proofs.Common.{sym, ◌∙◌}
+use Rattle.std.specs.Str.{bytes_eq}
+use Rattle.block_model.specs.declared.schema.Schema.{Schema}
+use Rattle.block_model.specs.declared.request.Entry.{Entry}
+use Rattle.block_model.specs.DatabaseState.{DatabaseState, initial_state}
+use Rattle.block_model.specs.SerialRun.{serial_run, serial_run-append}
+use Rattle.query_words.specs.declared.statement.Statement.{Statement}
+use Rattle.query_words.specs.declared.line.Order.{Order}
+use Rattle.query_words.specs.declared.line.Order.TheVariants as orders
+use Rattle.query_words.specs.declared.line.Line.{Line}
+use Rattle.query_words.specs.declared.line.Line.TheVariants as lines
+use Rattle.query_words.specs.declared.line.LineFault.{LineFault}
+use Rattle.query_words.specs.Lines.{line_of}
+use Rattle.query_words.specs.Texts.{reply_text, fault_text}
+use Rattle.query_words.specs.StatementRequests.{statement_requests, statement_reply}
+
+-- where a script stands: the sessions' names in the order of their first lines, and the database
+pub record ScriptPlace : Type 0 where
+  pub names : List (List ℕ)
+  pub database : DatabaseState
+
+abbrev pub script_start : ScriptPlace
+script_start = record { names = []; database = initial_state }
+
+abbrev pub number_from : List (List ℕ) → ℕ → List ℕ → ℕ
+number_from [] n name = n
+number_from (m ∷ ms) n name = if bytes_eq m name then n else number_from ms (n + 1) name
+
+-- the number of a session's name, from 0: the next one, where it is new
+abbrev pub session_number : List (List ℕ) → List ℕ → ℕ
+session_number names name = number_from names 0 name
+
+-- a session is made by its first line
+abbrev pub with_session : List (List ℕ) → List ℕ → List (List ℕ)
+with_session names name = if nat_lt (session_number names name) (length names) then names else names ++ name ∷ []
+
+-- the sessions after a line, the requests that it makes, and its text
+pub record LineAnswer : Type 0 where
+  pub names : List (List ℕ)
+  pub requests : List Entry
+  pub text : List ℕ
+
+-- a statement of the session of that name
+abbrev pub statement_answer : ScriptPlace → List ℕ → Statement → LineAnswer
+statement_answer p name statement = record {
+  names = with_session p.names name;
+  requests = statement_requests p.database (session_number p.names name) statement;
+  text = reply_text name (statement_reply p.database (session_number p.names name) statement);
+}
+
+abbrev pub without_request : ScriptPlace → List ℕ → LineAnswer
+without_request p text = record { names = p.names; requests = []; text = text }
+
+-- A line that isn't read changes nothing and has the text of its fault; one that says nothing has no text.
+abbrev pub said_answer : ScriptPlace → Result Line LineFault → LineAnswer
+said_answer p (Err fault) = without_request p (fault_text fault)
+said_answer p (Ok lines.Nothing) = without_request p []
+said_answer p (Ok (lines.Say name (orders.Whole statement))) = statement_answer p name statement
+said_answer p (Ok (lines.Say name order)) = without_request p []
+
+abbrev pub line_answer : Schema → ScriptPlace → List ℕ → LineAnswer
+line_answer schema p line = said_answer p (line_of schema line)
+
+-- where the line's requests lead, one after the other
+abbrev pub place_after : ScriptPlace → LineAnswer → ScriptPlace
+place_after p answer = record { names = answer.names; database = serial_run p.database answer.requests }
+
+-- at the first place the line has this text, and it leads to the second
+abbrev pub IsLineText : Schema → ScriptPlace → List ℕ → List ℕ → ScriptPlace → Type 0
+IsLineText schema p line text p' = (text ≡ (line_answer schema p line).text) × (p' ≡ place_after p (line_answer schema p line))
+
+-- where lines lead, one after the other
+abbrev pub after_lines : Schema → ScriptPlace → List (List ℕ) → ScriptPlace
+after_lines schema p [] = p
+after_lines schema p (line ∷ rest) = after_lines schema (place_after p (line_answer schema p line)) rest
+
+-- the journal of lines: the requests of each, in the order of the lines
+abbrev pub journal_of_lines : Schema → ScriptPlace → List (List ℕ) → List Entry
+journal_of_lines schema p [] = []
+journal_of_lines schema p (line ∷ rest) = (line_answer schema p line).requests ++ journal_of_lines schema (place_after p (line_answer schema p line)) rest
+
+-- lines lead to the database that their journal makes
+pub database-after_lines : (schema : Schema) (p : ScriptPlace) (script : List (List ℕ)) → (after_lines schema p script).database ≡ serial_run p.database (journal_of_lines schema p script)
+database-after_lines schema p [] = refl
+database-after_lines schema p (line ∷ rest) =
+    database-after_lines schema (place_after p (line_answer schema p line)) rest
+    ∙ sym (serial_run-append p.database (line_answer schema p line).requests (journal_of_lines schema (place_after p (line_answer schema p line)) rest))
+
+abbrev pub JournalMakesDatabase : Type 0
+JournalMakesDatabase = (schema : Schema) (p : ScriptPlace) (script : List (List ℕ)) → (after_lines schema p script).database ≡ serial_run p.database (journal_of_lines schema p script)

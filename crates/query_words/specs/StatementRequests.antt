@@ -1,0 +1,103 @@
+-- which requests a statement is, and its reply ("Transaction Isolation": a statement works on its transaction's copy)
+use Rattle.std.specs.Prelude.{ℕ, ◌+◌, Bool, true, false, List, [], ◌∷◌, Option, None, Some, if◌then◌else◌}
+use Rattle.std.specs.FinMap as map
+use Rattle.block_model.specs.declared.row.Row.{Row}
+use Rattle.block_model.specs.declared.row.Query.{Query}
+use Rattle.block_model.specs.declared.request.Entry.{Entry}
+use Rattle.block_model.specs.declared.request.Request.{Request}
+use Rattle.block_model.specs.declared.request.Request.TheVariants as requests
+use Rattle.block_model.specs.declared.request.Tag.TheVariants as tags
+use Rattle.block_model.specs.declared.reply.Reply.{Reply}
+use Rattle.block_model.specs.declared.reply.Reply.TheVariants as replies
+use Rattle.block_model.specs.declared.reply.Refusal.{Refusal}
+use Rattle.block_model.specs.declared.reply.Refusal.TheVariants as refusals
+use Rattle.block_model.specs.DatabaseState.{DatabaseState, OpenTransaction}
+use Rattle.block_model.specs.RequestEffect.{Answer, Begun, Inserted, Found, Marked, Conflict, Committed, RolledBack, Full, NoMemory, Illegal, after_request, reply_to}
+use Rattle.block_model.specs.SerialRun.{replies_to}
+use Rattle.query_words.specs.declared.statement.Statement.{Statement}
+use Rattle.query_words.specs.declared.statement.Statement.TheVariants as statements
+
+-- a request of a session, for which there is room and memory
+abbrev pub request_entry : ℕ → ℕ → Request → Entry
+request_entry n table request = record { session = n; table = table; request = request; tag = tags.Ok }
+
+abbrev pub look_entry : ℕ → Query → Entry
+look_entry n q = request_entry n q.table (requests.Look q)
+
+abbrev pub mark_entry : ℕ → ℕ → Row → Entry
+mark_entry n table row = request_entry n table (requests.Mark row.id)
+
+-- nothing is marked behind a conflict
+abbrev pub unless_conflict : Answer → List Entry → List Entry
+unless_conflict (Conflict id) entries = []
+unless_conflict answer entries = entries
+
+-- a mark of each row, in order, up to and with the first that conflicts
+abbrev pub mark_entries : DatabaseState → ℕ → ℕ → List Row → List Entry
+mark_entries s n table [] = []
+mark_entries s n table (row ∷ rows) =
+    mark_entry n table row ∷ unless_conflict (reply_to s (mark_entry n table row)) (mark_entries (after_request s (mark_entry n table row)) n table rows)
+
+-- the rows that a look found
+abbrev pub found_in : Answer → List Row
+found_in (Found rows) = rows
+found_in answer = []
+
+-- The requests that a statement of session n is, from state s on: one each, but a delete looks and then marks what it
+-- found. Explain and maintenance aren't requests of a transaction.
+abbrev pub requests_of : DatabaseState → ℕ → Statement → List Entry
+requests_of s n statements.Begin = request_entry n 0 requests.Begin ∷ []
+requests_of s n statements.Commit = request_entry n 0 requests.Commit ∷ []
+requests_of s n statements.Rollback = request_entry n 0 requests.Rollback ∷ []
+requests_of s n (statements.Insert table values) = request_entry n table (requests.Put values) ∷ []
+requests_of s n (statements.Select q) = look_entry n q ∷ []
+requests_of s n (statements.Delete q) = look_entry n q ∷ mark_entries s n q.table (found_in (reply_to s (look_entry n q)))
+requests_of s n statement = []
+
+-- how many rows were marked, or the conflict that ended it
+abbrev pub marks_reply : ℕ → List Answer → Reply
+marks_reply count [] = replies.Deleted count
+marks_reply count (Conflict id ∷ answers) = replies.Refused (refusals.Conflict id)
+marks_reply count (answer ∷ answers) = marks_reply (count + 1) answers
+
+-- the reply to a statement whose requests got these answers
+abbrev pub reply_of : List Answer → Reply
+reply_of (Begun t ∷ []) = replies.Begun t
+reply_of (Inserted id ∷ []) = replies.Inserted id
+reply_of (Found rows ∷ []) = replies.Found rows
+reply_of (Committed ∷ []) = replies.Committed
+reply_of (RolledBack ∷ []) = replies.RolledBack
+reply_of (Found rows ∷ answers) = marks_reply 0 answers
+reply_of answers = replies.Refused refusals.Memory
+
+-- Why a session's statement isn't taken: there is no transaction under way, or one already, or it has failed. Ending a
+-- failed transaction is taken, and so is what isn't a request of a transaction.
+abbrev pub submission_refusal : Option OpenTransaction → Statement → Option Refusal
+submission_refusal None statements.Begin = None
+submission_refusal None statements.Commit = Some refusals.NoTransaction
+submission_refusal None statements.Rollback = Some refusals.NoTransaction
+submission_refusal None (statements.Insert table values) = Some refusals.NoTransaction
+submission_refusal None (statements.Select q) = Some refusals.NoTransaction
+submission_refusal None (statements.Delete q) = Some refusals.NoTransaction
+submission_refusal (Some x) statements.Begin = Some refusals.UnderWay
+submission_refusal (Some x) (statements.Insert table values) = if x.failed then Some refusals.Doomed else None
+submission_refusal (Some x) (statements.Select q) = if x.failed then Some refusals.Doomed else None
+submission_refusal (Some x) (statements.Delete q) = if x.failed then Some refusals.Doomed else None
+submission_refusal transaction statement = None
+
+-- a statement that isn't taken makes no request
+abbrev pub unless_refused : Option Refusal → List Entry → List Entry
+unless_refused None entries = entries
+unless_refused (Some refusal) entries = []
+
+abbrev pub reply_unless_refused : Option Refusal → List Answer → Reply
+reply_unless_refused None answers = reply_of answers
+reply_unless_refused (Some refusal) answers = replies.Refused refusal
+
+-- the requests that a statement of session n makes in state s
+unfoldable pub statement_requests : DatabaseState → ℕ → Statement → List Entry
+statement_requests s n statement = unless_refused (submission_refusal (map.get s.sessions n) statement) (requests_of s n statement)
+
+-- its reply: why it isn't taken, or what its requests were answered, one after the other
+unfoldable pub statement_reply : DatabaseState → ℕ → Statement → Reply
+statement_reply s n statement = reply_unless_refused (submission_refusal (map.get s.sessions n) statement) (replies_to s (requests_of s n statement))

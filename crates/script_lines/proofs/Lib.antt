@@ -1,0 +1,6 @@
+pub mod Splitting
+pub mod Steps
+pub mod Feeds
+pub mod Fronts
+pub mod Pieces
+pub mod Hands

@@ -1,0 +1,41 @@
+-- what a run has answered and written
+use Rattle.std.specs.Prelude.{◌≡◌, ◌≢◌, ℕ, ◌+◌, ◌-◌, ◌≤◌, List, ◌++◌, length, take, Option}
+use Rattle.std.specs.List.{concat}
+use Rattle.std.specs.Io.KnownBytes.{Appends, Consumes, IsAtEnd}
+use Rattle.script_lines.specs.Script.{ended_lines, script_lines}
+use Rattle.script_run.specs.declared.run.RunEnd.{RunEnd}
+use Rattle.script_run.specs.declared.run.RunEnd.TheVariants as ends
+use Rattle.script_run.specs.Answers.{AreAnswers}
+
+-- the first list is a front of the second
+abbrev pub IsFront : {A : Type 0} → List A → List A → Type 0
+IsFront {A} front all = (rest : List A) × (front ++ rest ≡ all)
+
+-- all but the last one
+abbrev pub before_last : List (List ℕ) → List (List ℕ)
+before_last texts = take (length texts - 1) texts
+
+-- what a run that took this script from the source wrote for the lines that it has done, up to a final state
+pub record Wrote {S : Type 0} (R : S → List ℕ → List ℕ → S → Type 0) (start after final : S) (limit : ℕ) (end : RunEnd) (left : Option (List ℕ))
+    (script out : List ℕ) (done texts : List (List ℕ)) : Type 0 where
+  pub lines : IsFront done (script_lines script)
+  pub answers : AreAnswers R start done texts final
+  pub front : IsFront out (concat texts)
+  -- only where memory ran out for a line is the engine anywhere else
+  pub state : end ≢ ends.Memory → after ≡ final
+  pub within : end ≢ ends.Spent → length script ≤ limit
+  -- all lines are done, and the source is at its end
+  pub whole : end ≡ ends.Done → (done ≡ script_lines script) × (out ≡ concat texts) × IsAtEnd left
+  -- the lines that had ended are done
+  pub faulty : end ≡ ends.ReadFault → (done ≡ ended_lines script) × (out ≡ concat texts)
+  -- the lines that ended within the limit are done, and one byte past it was taken
+  pub spent : end ≡ ends.Spent → (length script ≡ limit + 1) × (done ≡ ended_lines (take limit script)) × (out ≡ concat texts)
+  -- no text of the line for which memory ran out is written
+  pub unwritten : end ≡ ends.Memory → out ≡ concat texts
+  -- the last text is the one that couldn't be written
+  pub cut : end ≡ ends.WriteFault → IsFront (concat (before_last texts)) out
+
+-- a run took a script from the source, and wrote to the sink
+abbrev pub Ran : {S : Type 0} → (S → List ℕ → List ℕ → S → Type 0) → S → S → ℕ → RunEnd → Option (List ℕ) → Option (List ℕ) → Option (List ℕ) → Option (List ℕ) → Type 0
+Ran {S} R start after limit end left left' taken taken' = (script : List ℕ) × (out : List ℕ) × (done : List (List ℕ)) × (texts : List (List ℕ)) × (final : S)
+    × Consumes left left' script × Appends taken taken' out × Wrote R start after final limit end left' script out done texts

@@ -1,0 +1,16 @@
+use Rattle.std.proofs.Common.{◌≡◌, IfOk, sym, subst}
+use Rattle.block_model.specs.DatabaseState.{DatabaseState, OpenTransaction}
+use Rattle.block_model.specs.RequestEffect.{Answer, effect_within}
+use Rattle.block_model.specs.declared.request.Request.{Request}
+use Rattle.serial_model.specs.declared.model.Answered.{Answered}
+use Rattle.serial_model.specs.Answers.{answer_of}
+use Rattle.serial_model.proofs.model.SerialModel.within.Goals as goal
+
+pub returns-in-Look-clause-ok : goal.returns-in-Look-clause-ok
+returns-in-Look-clause-ok c = rw c.in-Look.is (c.look.ensures.ok c.args.entry.now.table)
+
+pub returns-in-Mark-clause-ok : goal.returns-in-Mark-clause-ok
+returns-in-Mark-clause-ok c = rw c.in-Mark.is (c.mark.ensures.ok c.args.entry.now.table c.args.entry.now.tag)
+
+pub returns-in-Commit-clause-ok : goal.returns-in-Commit-clause-ok
+returns-in-Commit-clause-ok c = rw c.in-Commit.is (c.commit.ensures.ok c.args.entry.now.table c.args.entry.now.tag)

@@ -1,0 +1,11 @@
+pub mod Listed
+pub mod ListedSessions
+pub mod Answers
+pub mod Numbers
+pub mod Runs
+pub mod Commits
+pub mod CommitChangesOwn
+pub mod FailedCommitChangesNothing
+pub mod TableIsCommits
+pub mod OwnRequestsAlone
+pub mod NoRowRemovedTwice

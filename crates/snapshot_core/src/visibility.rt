@@ -1,0 +1,65 @@
+// The rule that decides what is seen.
+
+ghost use Rattle.std.specs.Prelude.{◌≡◌};
+ghost use Rattle.snapshot_core.specs.Visibility.{sees, has_done, in_snapshot};
+
+use crate::snapshots::Snapshot;
+use crate::statuses::Status;
+
+/// Whether the transaction numbered `own` sees the row with its snapshot, where `put` and `gone` are the statuses of `t`,
+/// which put the row, and of `deleter`: the row is own or of a commit in the snapshot, and its deleter is neither own nor
+/// such a commit. A row that nobody has deleted has deleter 0, which is Unused.
+pub fn sees(s: &Snapshot, own: u64, t: u64, deleter: u64, put: Status, gone: Status) -> bool
+    ensures { result ≡ sees s.now own t deleter put gone }
+{
+    has_done(s, own, t, put) && !has_done(s, own, deleter, gone)
+}
+
+fn has_done(s: &Snapshot, own: u64, t: u64, status: Status) -> bool
+    ensures { result ≡ has_done s.now own t status }
+{
+    t == own || in_snapshot(s, t, status)
+}
+
+fn in_snapshot(s: &Snapshot, t: u64, status: Status) -> bool
+    ensures { result ≡ in_snapshot s.now t status }
+{
+    status == Status::Committed && t < s.next && !s.active.as_slice().contains(&t)
+}
+
+#[cfg(test)]
+mod tests {
+    use super::*;
+    use block_model::place::Numbers;
+
+    #[test]
+    fn a_snapshot_sees_own_rows_and_what_was_committed(rt: HostRuntime) {
+        let mut active = Numbers::new(rt.alloc());
+        assert_eq!(rt; active.push(3), Ok(()));
+        let s = Snapshot { next: 5, active };
+        let (unused, begun, committed, rolled_back) = (
+            Status::Unused,
+            Status::Begun,
+            Status::Committed,
+            Status::RolledBack,
+        );
+        for (t, put, deleter, gone, want) in [
+            (2, committed, 0, unused, true),
+            (2, rolled_back, 0, unused, false),
+            (3, committed, 0, unused, false),
+            (5, committed, 0, unused, false),
+            (4, begun, 0, unused, true),
+            (2, committed, 4, begun, false),
+            (2, committed, 1, committed, false),
+            (2, committed, 1, rolled_back, true),
+            (2, committed, 3, committed, true),
+            (2, committed, 6, committed, true),
+        ] {
+            assert_eq!(rt;
+                sees(&s, 4, t, deleter, put, gone),
+                want,
+                "at {t} deleted by {deleter}"
+            );
+        }
+    }
+}

@@ -1,0 +1,55 @@
+// A run of the program in memory.
+
+use block_model::words::Words;
+use brin_app::brin_main;
+use io_traits::memory_sink::MemorySink;
+use io_traits::memory_source::MemorySource;
+use std::alloc::Global;
+use std::test::Fail;
+
+/// How many bytes of output there is room for.
+const ROOM: usize = 4096;
+
+/// The words of a command line, a script, and what is written for it.
+#[derive(Clone, Copy, Debug)]
+pub struct Row<'a> {
+    pub words: &'a [&'a [u8]],
+    pub script: &'a [u8],
+    pub output: &'a [u8],
+    pub status: u8,
+}
+
+/// Which calls of the source and the sink fail, by their numbers from 1.
+#[derive(Clone, Copy, Debug)]
+pub struct Faults<'a> {
+    pub reads: &'a [u64],
+    pub writes: &'a [u64],
+}
+
+/// No call fails.
+pub const NO_FAULTS: Faults<'static> = Faults {
+    reads: &[],
+    writes: &[],
+};
+
+pub fn words_of(alloc: Global, words: &[&[u8]]) -> Result<Words, Fail> {
+    let mut list = Words::new(alloc);
+    for word in words {
+        list.push(word)?;
+    }
+    Ok(list)
+}
+
+/// Whether the row's words and script give its output and status, where at most `piece` bytes come and go a call.
+pub fn holds(alloc: Global, row: &Row<'_>, piece: usize, faults: &Faults<'_>) -> Result<bool, Fail>
+    requires { 0 < piece }
+{
+    let script = Vec::from_slice(alloc, row.script)?;
+    let reads = Vec::from_slice(alloc, faults.reads)?;
+    let writes = Vec::from_slice(alloc, faults.writes)?;
+    let words = words_of(alloc, row.words)?;
+    let mut source = MemorySource::new(script, piece, reads);
+    let mut sink = MemorySink::new(alloc, ROOM, piece, writes)?;
+    let status = brin_main(alloc, &words, &mut source, &mut sink);
+    Ok(status == row.status && sink.bytes() == row.output)
+}
