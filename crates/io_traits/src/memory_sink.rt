@@ -1,6 +1,6 @@
 // A sink into memory.
 
-ghost use Rattle.std.specs.Prelude.{◌≡◌, ◌↔◌, ◌⊎◌, ◌<◌, ◌≤◌, ◌++◌, [], Some, length, take, IfOk, IsErr, OnErr};
+ghost use Rattle.std.specs.Prelude.{◌≡◌, ◌↔◌, ◌⊎◌, ◌<◌, ◌≤◌, ◌++◌, [], Some, length, take, IfOk, IsOk, IsErr, OnErr};
 ghost use Rattle.std.specs.Io.KnownBytes.{WriteAppends};
 ghost use Rattle.block_model.specs.Causes.{HasCause};
 ghost use Rattle.io_traits.specs.Calls.{FailsNext, succeeded, failed};
@@ -34,7 +34,7 @@ impl Model for MemorySink {
 
 impl MemorySink {
     /// Takes at most `room` bytes, and at most `piece` a call. The calls of the numbers `fails`, from 1, fail. All memory
-    /// is taken here.
+    /// is taken here; `Err` is want of it.
     pub fn new(
         alloc: Global,
         room: usize,
@@ -42,7 +42,8 @@ impl MemorySink {
         fails: Vec<u64>,
     ) -> Result<MemorySink, NoMemory>
         requires { 0 < piece }
-        ensures { IfOk result (λ s. s ≡ record { taken = []; room = room; piece = piece; calls = record { fails = fails.items; made = 0; faults = 0 } }) }
+        ensures ok { IfOk result (λ s. s ≡ record { taken = []; room = room; piece = piece; calls = record { fails = fails.items; made = 0; faults = 0 } }) }
+        ensures none { room ≡ 0 → IsOk result }
     {
         let Ok(bytes) = Vec::with_capacity(alloc, room) else {
             return Err(NoMemory);

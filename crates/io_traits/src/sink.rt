@@ -40,7 +40,7 @@ pub struct WriterSink<W> {
 }
 
 impl<W: Write> WriterSink<W> {
-    /// What the writer holds. No write has failed so far.
+    /// A sink into the writer, of which no write has failed so far.
     pub fn on(writer: W) -> WriterSink<W>
         ensures taken { ⟦<WriterSink<W> as Sink>⟧.taken result ≡ W.contents writer }
         ensures faults { ⟦<WriterSink<W> as Sink>⟧.faults result ≡ 0 }

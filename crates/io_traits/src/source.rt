@@ -39,7 +39,7 @@ pub struct ReaderSource<R> {
 }
 
 impl<R: Read> ReaderSource<R> {
-    /// What the reader has left. No read has failed so far.
+    /// A source of what the reader has left, of which no read has failed so far.
     pub fn on(reader: R) -> ReaderSource<R>
         ensures left { ⟦<ReaderSource<R> as Source>⟧.left result ≡ R.remaining reader }
         ensures faults { ⟦<ReaderSource<R> as Source>⟧.faults result ≡ 0 }

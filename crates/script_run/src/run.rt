@@ -7,7 +7,7 @@ ghost use Rattle.script_run.specs.Runs.{Ran};
 
 use crate::engine::Engine;
 use block_model::NoMemory;
-use io_traits::sink::{Sink, SinkFault, write_all};
+use io_traits::sink::{Sink, write_all};
 use io_traits::source::Source;
 use script_lines::end::LinesEnd;
 use script_lines::reader::Lines;
