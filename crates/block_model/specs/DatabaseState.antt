@@ -1,5 +1,5 @@
 -- the state of a database whose transactions each work on a copy of the tables ("Transaction Isolation", repeatable read)
-use Rattle.std.specs.Prelude.{◌≡◌, ℕ, Bool, refl}
+use Rattle.std.specs.Prelude.{ℕ, Bool, refl}
 use Rattle.std.specs.Coded.{Coded, code_by, coded×, coded_ℕ, coded_bool}
 use Rattle.std.specs.Ordering.{nat_cmp}
 use Rattle.std.specs.FinMap as map
@@ -7,7 +7,7 @@ use Rattle.std.specs.FinSet as set
 use Rattle.block_model.specs.declared.row.RowId.{RowId}
 use Rattle.block_model.specs.declared.row.Row.{Row}
 use Rattle.block_model.specs.contracts.row.Row as row_contract
-use Rattle.block_model.specs.TableState.{TableState, RowIds, id_cmp}
+use Rattle.block_model.specs.TableState.{TableState, RowIds}
 
 -- A transaction that is under way: its number, the place of its next row, its own copy of the tables, the rows of
 -- others that it deleted there, and whether it has failed, so that it can only end.

@@ -1,8 +1,7 @@
 -- when a value meets a condition ("Comparison Functions and Operators", "Range Functions and Operators", "Network
 -- Address Functions and Operators")
-use Rattle.std.specs.Prelude.{ℤ, int_lt, int_le, Bool, true, false, not, ◌&&◌, ◌||◌, ◌==◌, nat_le, nat_lt, List, slice_get, Option, None, Some}
+use Rattle.std.specs.Prelude.{ℤ, int_lt, int_le, Bool, true, false, ◌&&◌, ◌||◌, ◌==◌, nat_le, nat_lt, Option}
 use Rattle.std.specs.Ordering.{int_eq}
-use Rattle.std.specs.List.{list_all}
 use Rattle.block_model.specs.declared.value.Value.{Value}
 use Rattle.block_model.specs.declared.value.Value.TheVariants.{Null, Int, Span, Net}
 use Rattle.block_model.specs.declared.value.Op.{Op}

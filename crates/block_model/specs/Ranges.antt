@@ -1,5 +1,5 @@
 -- ranges of whole numbers ("Range Types")
-use Rattle.std.specs.Prelude.{◌≡◌, ℤ, ◌<ℤ◌, int_lt, int_le, Bool, true, false, ◌&&◌, ◌||◌, not, Option, None, Some}
+use Rattle.std.specs.Prelude.{◌≡◌, ℤ, int_lt, int_le, Bool, true, false, ◌&&◌, Option, None, Some}
 use Rattle.std.specs.Ordering.{int_eq}
 
 -- no number, or those from the first bound on and below the second; a missing bound is infinite

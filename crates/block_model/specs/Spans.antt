@@ -1,10 +1,10 @@
 -- how a range is kept: its shape, with 0 for a bound that it lacks
-use Rattle.std.specs.Prelude.{◌≡◌, ℤ, pos, int_lt, Bool, true, Option, None, Some, refl}
+use Rattle.std.specs.Prelude.{◌≡◌, ℤ, pos, int_lt, true, None, Some, refl}
 use Rattle.std.proofs.Common.{sym}
 use Rattle.block_model.specs.declared.span.Span8.TheInside.{Inside}
 use Rattle.block_model.specs.declared.span.Shape.{Shape}
 use Rattle.block_model.specs.declared.span.Shape.TheVariants as shapes
-use Rattle.block_model.specs.Ranges.{Range, Empty, Between, leaves_room}
+use Rattle.block_model.specs.Ranges.{Range, Empty, Between}
 
 abbrev pub range_in : Shape → ℤ → ℤ → Range
 range_in shapes.Empty l h = Empty

@@ -1,4 +1,4 @@
-use Rattle.std.proofs.Common.{◌≡◌, ◌≢◌, ◌++◌, codes, refl, Option, ℤ}
+use Rattle.std.proofs.Common.{◌≡◌, ◌≢◌, ◌++◌, codes, refl}
 use Rattle.block_model.specs.Ranges.{Range, Empty, Between, lower_of, upper_of}
 use Rattle.query_words.specs.Texts.{range_text, lower_text, upper_text}
 

@@ -1,5 +1,5 @@
 -- the text of each line of a script, as if each session worked on its own copy of the tables
-use Rattle.std.specs.Prelude.{◌≡◌, ℕ, ◌+◌, nat_lt, Bool, List, [], ◌∷◌, ◌++◌, length, Option, None, Some, Result, Ok, Err, if◌then◌else◌, refl}
+use Rattle.std.specs.Prelude.{◌≡◌, ℕ, ◌+◌, nat_lt, List, [], ◌∷◌, ◌++◌, length, Result, Ok, Err, if◌then◌else◌, refl}
 use Rattle.std.proofs.Common.{sym, ◌∙◌}
 use Rattle.std.specs.Str.{bytes_eq}
 use Rattle.block_model.specs.declared.schema.Schema.{Schema}
@@ -7,7 +7,6 @@ use Rattle.block_model.specs.declared.request.Entry.{Entry}
 use Rattle.block_model.specs.DatabaseState.{DatabaseState, initial_state}
 use Rattle.block_model.specs.SerialRun.{serial_run, serial_run-append}
 use Rattle.query_words.specs.declared.statement.Statement.{Statement}
-use Rattle.query_words.specs.declared.line.Order.{Order}
 use Rattle.query_words.specs.declared.line.Order.TheVariants as orders
 use Rattle.query_words.specs.declared.line.Line.{Line}
 use Rattle.query_words.specs.declared.line.Line.TheVariants as lines

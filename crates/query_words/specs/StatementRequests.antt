@@ -1,5 +1,5 @@
 -- which requests a statement is, and its reply ("Transaction Isolation": a statement works on its transaction's copy)
-use Rattle.std.specs.Prelude.{ℕ, ◌+◌, Bool, true, false, List, [], ◌∷◌, Option, None, Some, if◌then◌else◌}
+use Rattle.std.specs.Prelude.{ℕ, ◌+◌, List, [], ◌∷◌, Option, None, Some, if◌then◌else◌}
 use Rattle.std.specs.FinMap as map
 use Rattle.block_model.specs.declared.row.Row.{Row}
 use Rattle.block_model.specs.declared.row.Query.{Query}
@@ -12,7 +12,7 @@ use Rattle.block_model.specs.declared.reply.Reply.TheVariants as replies
 use Rattle.block_model.specs.declared.reply.Refusal.{Refusal}
 use Rattle.block_model.specs.declared.reply.Refusal.TheVariants as refusals
 use Rattle.block_model.specs.DatabaseState.{DatabaseState, OpenTransaction}
-use Rattle.block_model.specs.RequestEffect.{Answer, Begun, Inserted, Found, Marked, Conflict, Committed, RolledBack, Full, NoMemory, Illegal, after_request, reply_to}
+use Rattle.block_model.specs.RequestEffect.{Answer, Begun, Inserted, Found, Conflict, Committed, RolledBack, after_request, reply_to}
 use Rattle.block_model.specs.SerialRun.{replies_to}
 use Rattle.query_words.specs.declared.statement.Statement.{Statement}
 use Rattle.query_words.specs.declared.statement.Statement.TheVariants as statements
