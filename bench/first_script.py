@@ -1,60 +1,59 @@
 #!/usr/bin/env python3
 """Times the built program on large scripts: first_script.py PROGRAM. No part of the gate.
 
-Inserts 1,000,000 rows in one transaction and then selects them all, and runs 1,000,000 comment lines; tells lines a second
-and the peak of memory. The answers go to a file.
+Runs a million inserts in one transaction, alone and with a select of all, the same of two sessions in turn, and a million
+comments, each three times; tells the best time, lines a second and the peak of memory. The answers go to a file.
 """
 import os
 import subprocess
 import sys
 import tempfile
-import time
 
 LINES = 1_000_000
 WORDS = ["run", "table t(a int8)"]
 
 
-def run(program, script, folder):
-    """The seconds, the peak of memory in bytes and the number of bytes written for a script."""
-    out = os.path.join(folder, "out")
+def inserts(sessions):
+    """The lines that put LINES rows, of the sessions in turn."""
+    yield from (f"s{n + 1} begin\n" for n in range(sessions))
+    yield from (f"s{1 + n % sessions} insert t {n}\n" for n in range(LINES))
+    yield from (f"s{n + 1} commit\n" for n in range(sessions))
+
+
+def select():
+    yield "r begin\n"
+    yield "r select t\n"
+
+
+def run(program, script, out):
+    """The seconds and the peak of memory, in kilobytes, of a run; GNU time keeps this process out of the peak."""
     with open(script, "rb") as source, open(out, "wb") as sink:
-        start = time.perf_counter()
-        child = subprocess.Popen([program] + WORDS, stdin=source, stdout=sink)
-        _, status, used = os.wait4(child.pid, 0)
-        seconds = time.perf_counter() - start
-    if status != 0:
-        sys.exit(f"status {status}")
-    return seconds, used.ru_maxrss * 1024, os.path.getsize(out)
-
-
-def write(path, lines):
-    with open(path, "w") as file:
-        file.writelines(lines)
+        command = ["/usr/bin/time", "-f", "%e %M", program] + WORDS
+        child = subprocess.run(command, stdin=source, stdout=sink, stderr=subprocess.PIPE, text=True)
+    if child.returncode != 0:
+        sys.exit(child.stderr)
+    seconds, peak = child.stderr.split()
+    return float(seconds), int(peak)
 
 
 def main():
     program = os.path.abspath(sys.argv[1])
-    inserts = [f"s1 insert t {n}\n" for n in range(LINES)]
     scripts = {
-        "inserts": ["s1 begin\n"] + inserts + ["s1 commit\n"],
-        "inserts and a select of all": ["s1 begin\n"] + inserts + ["s1 select t\n", "s1 commit\n"],
-        "comments": ["# a comment\n"] * LINES,
-        "two sessions in turn and a select of all": ["s1 begin\n", "s2 begin\n"]
-        + [f"s{1 + n % 2} insert t {n}\n" for n in range(LINES)]
-        + ["s1 commit\n", "s2 commit\n", "s1 begin\n", "s1 select t\n"],
+        "inserts": lambda: inserts(1),
+        "inserts, then a select of all": lambda: (line for part in (inserts(1), select()) for line in part),
+        "inserts of two sessions in turn, then a select of all": lambda: (
+            line for part in (inserts(2), select()) for line in part
+        ),
+        "comments": lambda: ("# a comment\n" for _ in range(LINES)),
     }
     with tempfile.TemporaryDirectory() as folder:
-        empty = os.path.join(folder, "empty")
-        write(empty, [])
-        base = run(program, empty, folder)
+        script, out = os.path.join(folder, "script"), os.path.join(folder, "out")
         for name, lines in scripts.items():
-            script = os.path.join(folder, "script")
-            write(script, lines)
-            seconds, peak, written = min(run(program, script, folder) for _ in range(3))
-            print(
-                f"{name}: {seconds:.2f} s, {len(lines) / seconds:,.0f} lines/s, peak {peak / 1e6:.0f} MB "
-                f"({(peak - base[1]) / LINES:.0f} bytes a line), {written / 1e6:.0f} MB written"
-            )
+            with open(script, "w") as file:
+                file.writelines(lines())
+            seconds, peak = min(run(program, script, out) for _ in range(3))
+            rate = f"{LINES / seconds:,.0f} lines/s" if seconds else "no time to measure"
+            print(f"{name}: {seconds:.2f} s, {rate}, peak {peak / 1000:.0f} MB ({peak * 1024 / LINES:.0f} bytes a line)")
 
 
 if __name__ == "__main__":

@@ -14,11 +14,11 @@ status_before ss s t h = get_or_append_left ss (s ∷ []) Unused t h
 pub status_new : (ss : List Status) (s : Status) → status_of (ss ++ s ∷ []) (length ss) ≡ s
 status_new ss s = get_or_push ss s Unused (length ss) refl
 
-pub and_true : (b : Bool) → (b && true) ≡ b
+and_true : (b : Bool) → (b && true) ≡ b
 and_true true = refl
 and_true false = refl
 
-pub and_false : (b : Bool) → (b && false) ≡ false
+and_false : (b : Bool) → (b && false) ≡ false
 and_false true = refl
 and_false false = refl
 

@@ -1,7 +1,7 @@
 // The store: one list of row versions in the order in which they were put, the status of each transaction, and the open
 // transactions with their snapshots.
 
-ghost use Rattle.std.specs.Prelude.{◌≡◌, ◌≢◌, ◌+◌, ◌^◌, ◌<◌, ◌==◌, false, None, Some, OnOk, OnErr, IfOk, IfSome, IsSome, map, [], ◌∷◌, ◌++◌};
+ghost use Rattle.std.specs.Prelude.{◌≡◌, ◌+◌, ◌^◌, ◌<◌, false, None, OnOk, OnErr, IfOk, IfSome, map, [], ◌∷◌, ◌++◌};
 ghost use Rattle.std.specs.Prelude.{length, slice_index_or, vec_len, vec_capacity, All, IsPermutation, IsSorted};
 ghost use Rattle.std.specs.Ordering.{nat_cmp, ordering_then};
 ghost use Rattle.std.specs.BTreeMap.{IsOrdered, values};

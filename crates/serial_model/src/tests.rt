@@ -1,182 +1,201 @@
 use crate::model::{Answered, End, SerialModel};
 use block_model::NoMemory;
 use block_model::request::{Entry, Request, Tag};
-use block_model::row::{Cond, Conds, Query, RowId};
+use block_model::row::{Cond, Conds, Query, Row, RowId};
+use block_model::sequence::Sequence;
 use block_model::value::{Op, Value, Values};
-use std::alloc::{AllocError, Global};
+use std::alloc::Global;
+use std::process::Abort;
 use std::test::Fail;
 
-fn asks(session: u32, request: Request) -> Entry {
-    Entry {
+const ONE: RowId = RowId { t: 1, k: 0 };
+
+/// A request of the table with one column; the rows found are those with the value.
+#[derive(Clone, Copy)]
+enum Line {
+    Begin,
+    Insert(i64),
+    Refused(i64),
+    Select,
+    Find(i64),
+    Mark(RowId),
+    Commit,
+    Rollback,
+}
+
+/// What it is answered, with the number of rows found and the first one's id in place of the rows.
+#[derive(Clone, Copy, PartialEq, Eq)]
+enum Told {
+    Begun(u64),
+    Inserted(u64, u32),
+    Found(usize, Option<RowId>),
+    Marked,
+    Conflict(RowId),
+    Committed,
+    RolledBack,
+    Full,
+    Nothing,
+}
+
+fn entry(alloc: Global, session: u32, line: Line) -> Result<Entry, NoMemory> {
+    let request = match line {
+        Line::Begin => Request::Begin,
+        Line::Insert(value) => Request::Put(one_value(value)),
+        Line::Refused(value) => Request::Put(one_value(value)),
+        Line::Select => Request::Look(all_rows(alloc)),
+        Line::Find(value) => Request::Look(rows_with(alloc, value)?),
+        Line::Mark(id) => Request::Mark(id),
+        Line::Commit => Request::Commit,
+        Line::Rollback => Request::Rollback,
+    };
+    let tag = match line {
+        Line::Refused(_) => Tag::Full,
+        _ => Tag::Ok,
+    };
+    Ok(Entry {
         session,
         table: 0,
         request,
-        tag: Tag::Ok,
+        tag,
+    })
+}
+
+fn one_value(value: i64) -> Values {
+    let mut values = Values::new();
+    values.push(Value::Int(value));
+    values
+}
+
+fn all_rows(alloc: Global) -> Query {
+    Query {
+        table: 0,
+        conds: Conds::new(alloc),
     }
 }
 
-fn insert(session: u32, value: i64) -> Entry {
-    let mut values = Values::new();
-    values.push(Value::Int(value));
-    asks(session, Request::Put(values))
-}
-
-fn select(alloc: Global, session: u32) -> Entry {
-    let conds = Conds::new(alloc);
-    asks(session, Request::Look(Query { table: 0, conds }))
-}
-
-fn find(alloc: Global, session: u32, value: i64) -> Result<Entry, NoMemory> {
+fn rows_with(alloc: Global, value: i64) -> Result<Query, NoMemory> {
     let mut conds = Conds::new(alloc);
     conds.push(Cond {
         column: 0,
         op: Op::Eq,
         key: Value::Int(value),
     })?;
-    Ok(asks(session, Request::Look(Query { table: 0, conds })))
+    Ok(Query { table: 0, conds })
 }
 
-fn mark(session: u32, t: u64, k: u32) -> Entry {
-    asks(session, Request::Mark(RowId { t, k }))
-}
-
-fn text_of(alloc: Global, answer: &Answered) -> Result<String, AllocError> {
+fn shown(answer: &Answered) -> Told {
     match answer {
-        Answered::Begun(t) => format!(in alloc; "begun {t}"),
-        Answered::Inserted(id) => format!(in alloc; "inserted {}.{}", id.t, id.k),
-        Answered::Found(rows) => {
-            let mut text = String::new(alloc);
-            for row in rows.as_slice() {
-                let one = format!(in alloc; "row {}.{} | ", row.id.t, row.id.k)?;
-                text.push_str(&one)?;
-            }
-            let count = format!(in alloc; "rows {}", rows.len())?;
-            text.push_str(&count)?;
-            Ok(text)
-        }
-        Answered::Marked => format!(in alloc; "marked"),
-        Answered::Conflict(id) => format!(in alloc; "conflict {}.{}", id.t, id.k),
-        Answered::Committed => format!(in alloc; "committed"),
-        Answered::RolledBack => format!(in alloc; "rolled back"),
-        Answered::Full => format!(in alloc; "full"),
-        Answered::NoMemory => format!(in alloc; "no memory"),
-        Answered::Illegal => format!(in alloc; "illegal"),
+        Answered::Begun(t) => Told::Begun(*t),
+        Answered::Inserted(id) => Told::Inserted(id.t, id.k),
+        Answered::Found(rows) => Told::Found(rows.len(), first_id(rows.as_slice())),
+        Answered::Marked => Told::Marked,
+        Answered::Conflict(id) => Told::Conflict(*id),
+        Answered::Committed => Told::Committed,
+        Answered::RolledBack => Told::RolledBack,
+        Answered::Full => Told::Full,
+        Answered::NoMemory | Answered::Illegal => Told::Nothing,
     }
 }
 
-/// The texts of the answers, and why the run ended, with `; ` between them.
-fn run(alloc: Global, model: &mut SerialModel, journal: &[Entry]) -> Result<String, Fail> {
-    let run = model.run(journal)?;
-    let mut text = String::new(alloc);
-    for answer in run.answers.as_slice() {
-        let one = text_of(alloc, answer)?;
-        text.push_str(&one)?;
-        text.push_str("; ")?;
+fn first_id(rows: &[Row]) -> Option<RowId> {
+    match rows {
+        [] => None,
+        [first, ..] => Some(first.id),
     }
-    text.push_str(match run.end {
-        End::Done => "done",
-        End::Illegal => "not legal",
-        End::OutOfNumbers => "out of numbers",
-    })?;
-    Ok(text)
+}
+
+/// The lines, run in a new database, get these answers; the run ends so, before the first line that is told nothing.
+fn check(
+    rt: &impl Abort,
+    alloc: Global,
+    lines: &[(u32, Line, Told)],
+    end: End,
+) -> Result<(), NoMemory> {
+    let mut journal = Sequence::new(alloc);
+    for (session, line, _) in lines {
+        journal.push(entry(alloc, *session, *line)?)?;
+    }
+    let run = SerialModel::new(alloc).run(journal.as_slice())?;
+    assert!(rt; run.end == end);
+    assert!(rt; run.answers.len() == lines.iter().filter(|line| line.2 != Told::Nothing).count());
+    for (answer, line) in run.answers.as_slice().iter().zip(lines) {
+        assert!(rt; shown(answer) == line.2);
+    }
+    Ok(())
 }
 
 #[test]
 fn uncommitted_insert_is_invisible(rt: HostRuntime) -> Result<(), Fail> {
-    let alloc = rt.alloc();
-    let mut model = SerialModel::new(alloc);
-    let journal = [
-        asks(1, Request::Begin),
-        insert(1, 5),
-        asks(2, Request::Begin),
-        asks(1, Request::Commit),
-        select(alloc, 2),
+    let lines = [
+        (1, Line::Begin, Told::Begun(1)),
+        (1, Line::Insert(5), Told::Inserted(1, 0)),
+        (2, Line::Begin, Told::Begun(2)),
+        (1, Line::Commit, Told::Committed),
+        (2, Line::Select, Told::Found(0, None)),
     ];
-    let told = run(alloc, &mut model, &journal)?;
-    assert_eq!(rt;
-        told.as_str(),
-        "begun 1; inserted 1.0; begun 2; committed; rows 0; done"
-    );
+    check(&rt, rt.alloc(), &lines, End::Done)?;
     Ok(())
 }
 
 #[test]
 fn second_delete_conflicts_and_fails(rt: HostRuntime) -> Result<(), Fail> {
-    let alloc = rt.alloc();
-    let mut model = SerialModel::new(alloc);
-    let journal = [
-        asks(1, Request::Begin),
-        insert(1, 5),
-        asks(1, Request::Commit),
-        asks(1, Request::Begin),
-        asks(2, Request::Begin),
-        find(alloc, 1, 5)?,
-        mark(1, 1, 0),
-        find(alloc, 2, 5)?,
-        mark(2, 1, 0),
-        select(alloc, 2),
+    let lines = [
+        (1, Line::Begin, Told::Begun(1)),
+        (1, Line::Insert(5), Told::Inserted(1, 0)),
+        (1, Line::Commit, Told::Committed),
+        (1, Line::Begin, Told::Begun(2)),
+        (2, Line::Begin, Told::Begun(3)),
+        (1, Line::Find(5), Told::Found(1, Some(ONE))),
+        (1, Line::Mark(ONE), Told::Marked),
+        (2, Line::Find(5), Told::Found(1, Some(ONE))),
+        (2, Line::Mark(ONE), Told::Conflict(ONE)),
+        (2, Line::Commit, Told::RolledBack),
+        (1, Line::Commit, Told::Committed),
     ];
-    let told = run(alloc, &mut model, &journal)?;
-    assert_eq!(rt;
-        told.as_str(),
-        "begun 1; inserted 1.0; committed; begun 2; begun 3; row 1.0 | rows 1; marked; row 1.0 | rows 1; conflict 1.0; not legal"
-    );
-    let ends = [asks(2, Request::Commit), asks(1, Request::Commit)];
-    let told = run(alloc, &mut model, &ends)?;
-    assert_eq!(rt; told.as_str(), "rolled back; committed; done");
+    check(&rt, rt.alloc(), &lines, End::Done)?;
+    // a failed transaction can't look
+    let mut refused = lines;
+    refused[9] = (2, Line::Select, Told::Nothing);
+    check(&rt, rt.alloc(), &refused[..10], End::Illegal)?;
     Ok(())
 }
 
 #[test]
 fn full_heap_is_refused_then_vacuumed(rt: HostRuntime) -> Result<(), Fail> {
-    let alloc = rt.alloc();
-    let mut model = SerialModel::new(alloc);
-    let mut refused = insert(1, 3);
-    refused.tag = Tag::Full;
-    let journal = [
-        asks(1, Request::Begin),
-        insert(1, 1),
-        insert(1, 2),
-        asks(1, Request::Commit),
-        asks(1, Request::Begin),
-        refused,
-        asks(1, Request::Rollback),
-        asks(1, Request::Begin),
-        find(alloc, 1, 1)?,
-        mark(1, 1, 0),
-        asks(1, Request::Commit),
-        asks(1, Request::Begin),
-        insert(1, 6),
-        asks(1, Request::Commit),
+    let lines = [
+        (1, Line::Begin, Told::Begun(1)),
+        (1, Line::Insert(1), Told::Inserted(1, 0)),
+        (1, Line::Insert(2), Told::Inserted(1, 1)),
+        (1, Line::Commit, Told::Committed),
+        (1, Line::Begin, Told::Begun(2)),
+        (1, Line::Refused(3), Told::Full),
+        (1, Line::Rollback, Told::RolledBack),
+        (1, Line::Begin, Told::Begun(3)),
+        (1, Line::Find(1), Told::Found(1, Some(ONE))),
+        (1, Line::Mark(ONE), Told::Marked),
+        (1, Line::Commit, Told::Committed),
+        (1, Line::Begin, Told::Begun(4)),
+        (1, Line::Insert(6), Told::Inserted(4, 0)),
+        (1, Line::Commit, Told::Committed),
     ];
-    let told = run(alloc, &mut model, &journal)?;
-    assert_eq!(rt;
-        told.as_str(),
-        "begun 1; inserted 1.0; inserted 1.1; committed; begun 2; full; rolled back; begun 3; row 1.0 | rows 1; marked; committed; begun 4; inserted 4.0; committed; done"
-    );
+    check(&rt, rt.alloc(), &lines, End::Done)?;
     Ok(())
 }
 
 #[test]
 fn vacuum_keeps_rows_of_old_snapshots(rt: HostRuntime) -> Result<(), Fail> {
-    let alloc = rt.alloc();
-    let mut model = SerialModel::new(alloc);
-    let journal = [
-        asks(1, Request::Begin),
-        insert(1, 5),
-        asks(1, Request::Commit),
-        asks(2, Request::Begin),
-        asks(1, Request::Begin),
-        find(alloc, 1, 5)?,
-        mark(1, 1, 0),
-        asks(1, Request::Commit),
-        select(alloc, 2),
-        asks(2, Request::Commit),
+    let lines = [
+        (1, Line::Begin, Told::Begun(1)),
+        (1, Line::Insert(5), Told::Inserted(1, 0)),
+        (1, Line::Commit, Told::Committed),
+        (2, Line::Begin, Told::Begun(2)),
+        (1, Line::Begin, Told::Begun(3)),
+        (1, Line::Find(5), Told::Found(1, Some(ONE))),
+        (1, Line::Mark(ONE), Told::Marked),
+        (1, Line::Commit, Told::Committed),
+        (2, Line::Select, Told::Found(1, Some(ONE))),
+        (2, Line::Commit, Told::Committed),
     ];
-    let told = run(alloc, &mut model, &journal)?;
-    assert_eq!(rt;
-        told.as_str(),
-        "begun 1; inserted 1.0; committed; begun 2; begun 3; row 1.0 | rows 1; marked; committed; row 1.0 | rows 1; committed; done"
-    );
+    check(&rt, rt.alloc(), &lines, End::Done)?;
     Ok(())
 }
