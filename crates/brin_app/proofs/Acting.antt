@@ -13,7 +13,7 @@ use Rattle.block_model.specs.DatabaseState.{DatabaseState, OpenTransaction}
 use Rattle.block_model.specs.RequestEffect.{Answer, effect}
 use Rattle.block_model.specs.SerialRun.{serial_run, replies_to}
 use Rattle.query_words.specs.declared.statement.Statement.{Statement}
-use Rattle.query_words.specs.StatementRequests.{submission_refusal, requests_of, reply_of, unless_refused, reply_unless_refused, statement_requests, statement_reply}
+use Rattle.query_words.specs.StatementRequests.{submission_refusal, requests_of, reply_to_statement, unless_refused, reply_unless_refused, statement_requests, statement_reply}
 use Rattle.brin_app.specs.Acts.{Acts}
 
 pub none_of : {X : Type 0} (o : Option X) → is_some o ≡ false → o ≡ None
@@ -40,16 +40,16 @@ pub acts_refused : (s : DatabaseState) (n : ℕ) (statement : Statement) (r : Re
 unfolding statement_requests statement_reply
 acts_refused s n statement r h = record {
   database = sym (ap (λ o. serial_run s (unless_refused o (requests_of s n statement))) h);
-  replied = sym (ap (λ o. reply_unless_refused o (replies_to s (requests_of s n statement))) h);
+  replied = sym (ap (λ o. reply_unless_refused o statement (replies_to s (requests_of s n statement))) h);
 }
 
 -- a statement of one request
 pub acts_once : (s s' : DatabaseState) (n : ℕ) (statement : Statement) (e : Entry) (answer : Answer) → submission_refusal (map.get s.sessions n) statement ≡ None → requests_of s n statement ≡ e ∷ []
-    → effect s e ≡ (s', answer) → Acts s n statement s' (reply_of (answer ∷ []))
+    → effect s e ≡ (s', answer) → Acts s n statement s' (reply_to_statement statement (answer ∷ []))
 unfolding statement_requests statement_reply
 acts_once s s' n statement e answer h is went = record {
   database = sym (ap (λ o. serial_run s (unless_refused o (requests_of s n statement))) h ∙ ap (serial_run s) is ∙ ap (λ p. p.0) went);
-  replied = sym (ap (λ o. reply_unless_refused o (replies_to s (requests_of s n statement))) h ∙ ap (λ es. reply_of (replies_to s es)) is ∙ ap (λ p. reply_of (p.1 ∷ [])) went);
+  replied = sym (ap (λ o. reply_unless_refused o statement (replies_to s (requests_of s n statement))) h ∙ ap (λ es. reply_to_statement statement (replies_to s es)) is ∙ ap (λ p. reply_to_statement statement (p.1 ∷ [])) went);
 }
 
 -- a transaction that hasn't failed takes what a failed one would refuse

@@ -21,7 +21,7 @@ use Rattle.snapshot_core.specs.declared.statuses.Status.TheVariants.{Begun}
 use Rattle.snapshot_core.specs.Visibility.{is_committed}
 use Rattle.brin_app.specs.declared.store.Open.{Open}
 use Rattle.query_words.specs.StatementRequests.{request_entry}
-use Rattle.brin_app.specs.VisibleState.{status_of, is_settled, is_seen, table_of, visible_transaction, visible_state, transaction_of, IsStored, IsUnderWay, AreApart, Gains}
+use Rattle.brin_app.specs.VisibleState.{status_of, is_of_commit, is_seen, table_of, visible_transaction, visible_state, transaction_of, IsStored, IsUnderWay, AreApart, Gains}
 use Rattle.brin_app.proofs.Choices.{chosen, same_number}
 use Rattle.brin_app.proofs.Tables.{stored_id, same_table}
 use Rattle.brin_app.proofs.Sights.{status_before, status_new, sees_same, new_sees, not_begun, still_active}
@@ -68,13 +68,13 @@ committed_is_free rows ss es t whole sorted committed =
       | false ↦ λ h. refl
     ] refl
 
-begun_table : (rows : List Row) (ss : List Status) (es : List (ℕ × Open)) → IsStored rows ss es → table_of (is_settled (ss ++ Begun ∷ [])) rows ≡ table_of (is_settled ss) rows
+begun_table : (rows : List Row) (ss : List Status) (es : List (ℕ × Open)) → IsStored rows ss es → table_of (is_of_commit (ss ++ Begun ∷ [])) rows ≡ table_of (is_of_commit ss) rows
 begun_table rows ss es whole = same_table _ _ rows whole.ids_differ (λ q r h.
     let id = stored_id rows q r h in
     ap is_committed (status_before ss Begun r.id.t (let low : q.t < length ss = whole.known q r h in subst (λ (i : RowId). i.t < length ss) (sym id) low)))
 
 begun_view : (rows : List Row) (ss : List Status) (es : List (ℕ × Open)) → IsStored rows ss es → IsStrictlySortedBy nat_cmp (keys_of es)
-    → table_of (is_seen (ss ++ Begun ∷ []) (new_open (length ss) es)) rows ≡ table_of (is_settled ss) rows
+    → table_of (is_seen (ss ++ Begun ∷ []) (new_open (length ss) es)) rows ≡ table_of (is_of_commit ss) rows
 begun_view rows ss es whole sorted = same_table _ _ rows whole.ids_differ (λ q r h.
     let low : r.id.t < length ss = subst (λ (i : RowId). i.t < length ss) (sym (stored_id rows q r h)) (whole.known q r h) in
     new_sees ss (ss ++ Begun ∷ []) (new_open (length ss) es) r.id.t whole.some refl low (status_before ss Begun r.id.t low) (committed_is_free rows ss es r.id.t whole sorted))

@@ -18,7 +18,7 @@ use Rattle.snapshot_core.specs.declared.statuses.Status.TheVariants.{Unused, Com
 use Rattle.snapshot_core.specs.Visibility.{is_committed}
 use Rattle.brin_app.specs.declared.store.Open.{Open}
 use Rattle.query_words.specs.StatementRequests.{request_entry}
-use Rattle.brin_app.specs.VisibleState.{stored, status_of, sees_rows_of, is_settled, is_seen, table_of, visible_transaction, visible_state, transaction_of, IsStored, IsUnderWay, AreApart, Loses}
+use Rattle.brin_app.specs.VisibleState.{stored, status_of, sees_rows_of, is_of_commit, is_seen, table_of, visible_transaction, visible_state, transaction_of, IsStored, IsUnderWay, AreApart, Loses}
 use Rattle.brin_app.proofs.Choices.{chosen_none, other_number, other_number_eqb}
 use Rattle.brin_app.proofs.Tables.{stored_id, get-table_of, same_table}
 use Rattle.brin_app.proofs.Sights.{sees_own, sees_not, sees_same}
@@ -68,26 +68,26 @@ laid_over p' p v true (Some r) mine others =
 laid_over p' p v false (Some r) mine others = ap (λ b. cond b (Some r) None) (others r refl refl)
 
 committed_table : (rows : List Row) (ss : List Status) (es : List (ℕ × Open)) (n : ℕ) (o : Open) → IsStored rows ss es → transaction_of es n ≡ Some o
-    → table_of (is_settled (set ss o.t Committed)) rows ≡ model.merged (table_of (is_settled ss) rows) (visible_transaction ss rows o)
+    → table_of (is_of_commit (set ss o.t Committed)) rows ≡ model.merged (table_of (is_of_commit ss) rows) (visible_transaction ss rows o)
 committed_table rows ss es n o whole was = same_map ids_total ids_exact _ _ (λ q.
     let own : Bool = eqb q.t o.t in
-    get-table_of (is_settled (set ss o.t Committed)) rows q whole.ids_differ
-    ∙ laid_over (is_settled (set ss o.t Committed)) (is_settled ss) (is_seen ss o) own (stored rows q) (mine q) (others q)
-    ∙ sym (get-merged (table_of (is_settled ss) rows) (visible_transaction ss rows o) q refl
-    ∙ ap (λ (v : Option Row). cond (is_some (cond own v None)) (cond own v None) (get (table_of (is_settled ss) rows) q)) (get-table_of (is_seen ss o) rows q whole.ids_differ)
-    ∙ ap (cond (is_some (cond own (option_filter (is_seen ss o) (stored rows q)) None)) (cond own (option_filter (is_seen ss o) (stored rows q)) None)) (get-table_of (is_settled ss) rows q whole.ids_differ)))
+    get-table_of (is_of_commit (set ss o.t Committed)) rows q whole.ids_differ
+    ∙ laid_over (is_of_commit (set ss o.t Committed)) (is_of_commit ss) (is_seen ss o) own (stored rows q) (mine q) (others q)
+    ∙ sym (get-merged (table_of (is_of_commit ss) rows) (visible_transaction ss rows o) q refl
+    ∙ ap (λ (v : Option Row). cond (is_some (cond own v None)) (cond own v None) (get (table_of (is_of_commit ss) rows) q)) (get-table_of (is_seen ss o) rows q whole.ids_differ)
+    ∙ ap (cond (is_some (cond own (option_filter (is_seen ss o) (stored rows q)) None)) (cond own (option_filter (is_seen ss o) (stored rows q)) None)) (get-table_of (is_of_commit ss) rows q whole.ids_differ)))
   where
     number : (q : RowId) (r : Row) → stored rows q ≡ Some r → r.id.t ≡ q.t
     number q r h = ap (λ (i : RowId). i.t) (stored_id rows q r h)
 
-    mine : (q : RowId) (r : Row) → stored rows q ≡ Some r → eqb q.t o.t ≡ true → (is_settled (set ss o.t Committed) r ≡ true) × (is_seen ss o r ≡ true)
+    mine : (q : RowId) (r : Row) → stored rows q ≡ Some r → eqb q.t o.t ≡ true → (is_of_commit (set ss o.t Committed) r ≡ true) × (is_seen ss o r ≡ true)
     mine q r h e =
         let same : r.id.t ≡ o.t = number q r h ∙ eqb-true q.t o.t e in (
           ap (λ t. is_committed (status_of (set ss o.t Committed) t)) same ∙ ap is_committed (get_or-set_same ss o.t Committed Unused (whole.under_way n o was).known),
           ap (sees_rows_of ss o) same ∙ sees_own ss o (whole.under_way n o was).numbered,
         )
 
-    others : (q : RowId) (r : Row) → stored rows q ≡ Some r → eqb q.t o.t ≡ false → is_settled (set ss o.t Committed) r ≡ is_settled ss r
+    others : (q : RowId) (r : Row) → stored rows q ≡ Some r → eqb q.t o.t ≡ false → is_of_commit (set ss o.t Committed) r ≡ is_of_commit ss r
     others q r h e = ap is_committed (get_or-set_other ss o.t r.id.t Committed Unused (λ d. other_number_eqb q.t o.t e (sym (number q r h) ∙ d)))
 
 committed_others : (rows : List Row) (ss : List Status) (es : List (ℕ × Open)) (n : ℕ) (o : Open) → IsStored rows ss es → transaction_of es n ≡ Some o → OthersStay ss (set ss o.t Committed) rows rows es n

@@ -5,14 +5,14 @@ use Rattle.std.specs.Io.KnownBytes.{Appends, Consumes, IsAtEnd}
 use Rattle.std.proofs.KnownBytes.{Appends-nil, Consumes-nil}
 use Rattle.block_model.specs.declared.schema.Schema.{Schema}
 use Rattle.query_words.specs.ScriptTexts.{ScriptPlace, script_start, IsLineText}
-use Rattle.script_lines.specs.Script.{script_lines}
+use Rattle.script_lines.specs.Script.{ended_lines}
 use Rattle.script_run.specs.declared.run.RunEnd.{RunEnd}
 use Rattle.script_run.specs.declared.run.RunEnd.TheVariants as ends
 use Rattle.script_run.specs.Answers.{AreAnswers}
 use Rattle.script_run.specs.Runs.{Ran, Wrote}
 use Rattle.brin_app.specs.declared.sessions.Sessions.{Sessions}
 use Rattle.brin_app.specs.SessionPlaces.{place_of, AnswersLine}
-use Rattle.brin_app.specs.ScriptOutput.{script_limit, status_of, IsScriptOutput, IsSpentExactly, FitsLimit, IsComplete}
+use Rattle.brin_app.specs.ScriptOutput.{script_limit, exit_status, IsScriptOutput, IsSpentExactly, FitsLimit, IsComplete}
 
 -- the answers of the sessions are texts of the script
 lifted : (a b : Sessions) (lines texts : List (List ℕ)) → AreAnswers AnswersLine a lines texts b → AreAnswers (IsLineText a.schema) (place_of a) lines texts (place_of b)
@@ -30,7 +30,7 @@ lifted_from a b schema lines texts start is e =
     let moved : AreAnswers (IsLineText schema) (place_of a) lines texts (place_of b) = subst (λ (s : Schema). AreAnswers (IsLineText s) (place_of a) lines texts (place_of b)) is own in
     subst (λ (p : ScriptPlace). AreAnswers (IsLineText schema) p lines texts (place_of b)) start moved
 
-pub script_output : (a b : Sessions) (schema : Schema) (end : RunEnd) (status : ℕ) (l l' k k' : Option (List ℕ)) → place_of a ≡ script_start → a.schema ≡ schema → status ≡ status_of end
+pub script_output : (a b : Sessions) (schema : Schema) (end : RunEnd) (status : ℕ) (l l' k k' : Option (List ℕ)) → place_of a ≡ script_start → a.schema ≡ schema → status ≡ exit_status end
     → Ran AnswersLine a b script_limit end l l' k k' → IsScriptOutput status schema l l' k k'
 script_output a b schema end status l l' k k' start is said r = (
   end,
@@ -74,7 +74,7 @@ nothing_written schema l k = (
     Consumes-nil l,
     Appends-nil k,
     record {
-      lines = (script_lines [], refl);
+      lines = inl (ended_lines [], refl);
       answers = refl;
       front = ([], refl);
       state = λ e. refl;
@@ -89,14 +89,14 @@ nothing_written schema l k = (
 )
 
 -- the status tells whether the limit was passed
-spent_end : (end : RunEnd) → status_of end ≡ 8 → end ≡ ends.Spent
+spent_end : (end : RunEnd) → exit_status end ≡ 8 → end ≡ ends.Spent
 spent_end ends.Done e = absurd (omega arith)
 spent_end ends.ReadFault e = absurd (omega arith)
 spent_end ends.WriteFault e = absurd (omega arith)
 spent_end ends.Memory e = absurd (omega arith)
 spent_end ends.Spent e = refl
 
-not_spent : (end : RunEnd) (n : ℕ) → (end ≢ ends.Spent → n ≤ script_limit) → n ≡ script_limit + 1 → status_of end ≡ 8
+not_spent : (end : RunEnd) (n : ℕ) → (end ≢ ends.Spent → n ≤ script_limit) → n ≡ script_limit + 1 → exit_status end ≡ 8
 not_spent ends.Done n within is = absurd (let h : n ≤ script_limit = within (λ e. cc) in omega arith)
 not_spent ends.ReadFault n within is = absurd (let h : n ≤ script_limit = within (λ e. cc) in omega arith)
 not_spent ends.WriteFault n within is = absurd (let h : n ≤ script_limit = within (λ e. cc) in omega arith)
@@ -121,7 +121,7 @@ fits_less None l' script f c = absurd f
 fits_less (Some old) None script f c = absurd c
 fits_less (Some old) (Some new) script f c = let count : length old ≡ length script + length new = came_length old new script c in let small : length old ≤ script_limit = f in omega arith
 
-ended : (end : RunEnd) (n : ℕ) (F G : Type 0) → (end ≡ ends.Spent → n ≡ script_limit + 1) → n ≤ script_limit → (status_of end ≡ 4 → F) → (status_of end ≡ 5 → G) → ¬ F → ¬ G → (status_of end ≡ 0) ⊎ (status_of end ≡ 7)
+ended : (end : RunEnd) (n : ℕ) (F G : Type 0) → (end ≡ ends.Spent → n ≡ script_limit + 1) → n ≤ script_limit → (exit_status end ≡ 4 → F) → (exit_status end ≡ 5 → G) → ¬ F → ¬ G → (exit_status end ≡ 0) ⊎ (exit_status end ≡ 7)
 ended ends.Done n F G long small read write f g = inl refl
 ended ends.ReadFault n F G long small read write f g = absurd (f (read refl))
 ended ends.WriteFault n F G long small read write f g = absurd (g (write refl))
@@ -139,7 +139,7 @@ complete status schema l l' k k' F G o read write f g fits =
 pub at_declared : (o : Option Schema) (x : Schema) (P : Schema → Type 0) → o ≡ Some x → P x → IfSome o P
 at_declared o x P e h = subst (λ (o : Option Schema). IfSome o P) (sym e) h
 
-no_usage : (end : RunEnd) → status_of end ≢ 2
+no_usage : (end : RunEnd) → exit_status end ≢ 2
 no_usage ends.Done e = omega arith
 no_usage ends.ReadFault e = omega arith
 no_usage ends.WriteFault e = omega arith

@@ -14,7 +14,7 @@ use Rattle.snapshot_core.specs.declared.statuses.Status.{Status}
 use Rattle.snapshot_core.specs.Visibility.{is_committed, had_ended}
 use Rattle.brin_app.specs.declared.store.Open.{Open}
 use Rattle.query_words.specs.StatementRequests.{request_entry}
-use Rattle.brin_app.specs.VisibleState.{stored, is_settled, is_seen, table_of, visible_transaction, visible_state, transaction_of, with_next_k, IsStored, IsUnderWay, AreApart, Gains}
+use Rattle.brin_app.specs.VisibleState.{stored, is_of_commit, is_seen, table_of, visible_transaction, visible_state, transaction_of, with_next_k, IsStored, IsUnderWay, AreApart, Gains}
 use Rattle.brin_app.proofs.Choices.{chosen, none_of, same_id, other_number}
 use Rattle.brin_app.proofs.Tables.{distinct_push, stored-push, table_of-push_seen, table_of-push_unseen}
 use Rattle.brin_app.proofs.Sights.{sees_own, sees_not}
@@ -39,7 +39,7 @@ put_state rows ss es es' n table values o whole was at =
     let r = new_row o table values in
     let h = whole.under_way n o was in
     let none = new_is_absent rows ss o h in
-    let committed : table_of (is_settled ss) (rows ++ r ∷ []) ≡ table_of (is_settled ss) rows = table_of-push_unseen (is_settled ss) rows r (ap is_committed h.begun) in
+    let committed : table_of (is_of_commit ss) (rows ++ r ∷ []) ≡ table_of (is_of_commit ss) rows = table_of-push_unseen (is_of_commit ss) rows r (ap is_committed h.begun) in
     let seen : table_of (is_seen ss (with_next_k o (o.next_k + 1))) (rows ++ r ∷ []) ≡ insert (table_of (is_seen ss o) rows) r.id r = table_of-push_seen (is_seen ss o) rows r whole.ids_differ none (sees_own ss o h.numbered) in
     let x : OpenTransaction = model.after_put (visible_transaction ss rows o) table values in
     let shown : visible_transaction ss (rows ++ r ∷ []) (with_next_k o (o.next_k + 1)) ≡ x = λ i. record { t = o.t; next_k = o.next_k + 1; view = seen i; marks = set.empty; failed = false } in

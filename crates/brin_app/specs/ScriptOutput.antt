@@ -12,18 +12,18 @@ abbrev pub script_limit : ℕ
 script_limit = 2 ^ 30
 
 -- the status of each way in which a run ends
-abbrev pub status_of : RunEnd → ℕ
-status_of ends.Done = 0
-status_of ends.ReadFault = 4
-status_of ends.WriteFault = 5
-status_of ends.Memory = 7
-status_of ends.Spent = 8
+abbrev pub exit_status : RunEnd → ℕ
+exit_status ends.Done = 0
+exit_status ends.ReadFault = 4
+exit_status ends.WriteFault = 5
+exit_status ends.Memory = 7
+exit_status ends.Spent = 8
 
 -- The script of the source was run over a new database of this schema: what was written are the texts of its lines, as if
 -- each session worked on its own copy of the tables, and the status says how far that went.
 abbrev pub IsScriptOutput : ℕ → Schema → Option (List ℕ) → Option (List ℕ) → Option (List ℕ) → Option (List ℕ) → Type 0
 IsScriptOutput status schema left left' taken taken' =
-    (end : RunEnd) × (after : ScriptPlace) × (status ≡ status_of end) × Ran (IsLineText schema) script_start after script_limit end left left' taken taken'
+    (end : RunEnd) × (after : ScriptPlace) × (status ≡ exit_status end) × Ran (IsLineText schema) script_start after script_limit end left left' taken taken'
 
 -- Where the source tells its bytes, status 8 comes exactly where as many as the limit were taken and then another.
 abbrev pub IsSpentExactly : ℕ → Option (List ℕ) → Option (List ℕ) → Type 0

@@ -34,8 +34,8 @@ abbrev pub status_of : List Status → ℕ → Status
 status_of statuses t = slice_index_or statuses t Unused
 
 -- whether a row is of a commit
-abbrev pub is_settled : List Status → Row → Bool
-is_settled statuses r = is_committed (status_of statuses r.id.t)
+abbrev pub is_of_commit : List Status → Row → Bool
+is_of_commit statuses r = is_committed (status_of statuses r.id.t)
 
 -- whether an open transaction sees the rows of the one numbered t; no row has been deleted
 abbrev pub sees_rows_of : List Status → Open → ℕ → Bool
@@ -59,7 +59,7 @@ visible_sessions statuses rows sessions = from_entries (map (λ e. (e.0, visible
 
 -- the table has the rows of commits, and the number 0 isn't used
 abbrev pub visible_state : List Row → List Status → List (ℕ × Open) → DatabaseState
-visible_state rows statuses sessions = record { next = length statuses; table = table_of (is_settled statuses) rows; sessions = visible_sessions statuses rows sessions }
+visible_state rows statuses sessions = record { next = length statuses; table = table_of (is_of_commit statuses) rows; sessions = visible_sessions statuses rows sessions }
 
 -- the transaction of the session of that number
 abbrev pub transaction_of : List (ℕ × Open) → ℕ → Option Open

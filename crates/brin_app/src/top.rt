@@ -3,7 +3,7 @@
 ghost use Rattle.std.specs.Prelude.{◌≡◌, ◌↔◌, ◌≤◌, None, IfSome, OnSome};
 ghost use Rattle.block_model.specs.Causes.{Rose};
 ghost use Rattle.query_words.specs.Declarations.{declared};
-ghost use Rattle.brin_app.specs.ScriptOutput.{IsScriptOutput, IsSpentExactly, IsComplete, status_of, script_limit};
+ghost use Rattle.brin_app.specs.ScriptOutput.{IsScriptOutput, IsSpentExactly, IsComplete, exit_status, script_limit};
 
 use crate::sessions::Sessions;
 use block_model::schema::Schema;
@@ -26,7 +26,7 @@ const MEMORY: u8 = 7;
 /// Does what the words of a command line say: `run` and the declaration of one table run the script of the source over a
 /// new database, line after line, and write the text of each line to the sink before the next line is judged. The status
 /// is 0 where the script was read to its end, 2 where the words are no command, 4 for a read fault, 5 for a write fault, 7
-/// for want of memory, and 8 where the script has more than 1073741824 bytes.
+/// for want of memory, and 8 where 1073741824 bytes of script were taken and another came.
 pub fn brin_main<S: Source, K: Sink>(
     alloc: Global,
     words: &Words,
@@ -63,7 +63,7 @@ fn run_script<S: Source, K: Sink>(alloc: Global, schema: Schema, source: &mut S,
 }
 
 fn status(end: RunEnd) -> u8
-    ensures { result ≡ status_of end }
+    ensures { result ≡ exit_status end }
 {
     match end {
         RunEnd::Done => 0,

@@ -15,7 +15,7 @@ use Rattle.query_words.specs.Lines.{line_of}
 use Rattle.query_words.specs.Texts.{reply_text, fault_text}
 use Rattle.query_words.specs.StatementRequests.{statement_requests, statement_reply}
 
--- where a script stands: the sessions' names in the order of their first lines, and the database
+-- where a script stands: the sessions' names in the order of their first lines that were read, and the database
 pub record ScriptPlace : Type 0 where
   pub names : List (List ℕ)
   pub database : DatabaseState
@@ -23,15 +23,15 @@ pub record ScriptPlace : Type 0 where
 abbrev pub script_start : ScriptPlace
 script_start = record { names = []; database = initial_state }
 
-abbrev pub number_from : List (List ℕ) → ℕ → List ℕ → ℕ
-number_from [] n name = n
-number_from (m ∷ ms) n name = if bytes_eq m name then n else number_from ms (n + 1) name
+abbrev pub session_from : List (List ℕ) → ℕ → List ℕ → ℕ
+session_from [] n name = n
+session_from (m ∷ ms) n name = if bytes_eq m name then n else session_from ms (n + 1) name
 
 -- the number of a session's name, from 0: the next one, where it is new
 abbrev pub session_number : List (List ℕ) → List ℕ → ℕ
-session_number names name = number_from names 0 name
+session_number names name = session_from names 0 name
 
--- a session is made by its first line
+-- a session is made by its first line that is read
 abbrev pub with_session : List (List ℕ) → List ℕ → List (List ℕ)
 with_session names name = if nat_lt (session_number names name) (length names) then names else names ++ name ∷ []
 

@@ -60,17 +60,26 @@ marks_reply count [] = replies.Deleted count
 marks_reply count (Conflict id ∷ answers) = replies.Refused (refusals.Conflict id)
 marks_reply count (answer ∷ answers) = marks_reply (count + 1) answers
 
--- the reply to a statement whose requests got these answers
+-- the reply for what one request was answered; the last case is for what no request that finds room and memory is answered
 abbrev pub reply_of : List Answer → Reply
 reply_of (Begun t ∷ []) = replies.Begun t
 reply_of (Inserted id ∷ []) = replies.Inserted id
 reply_of (Found rows ∷ []) = replies.Found rows
 reply_of (Committed ∷ []) = replies.Committed
 reply_of (RolledBack ∷ []) = replies.RolledBack
-reply_of (Found rows ∷ answers) = marks_reply 0 answers
 reply_of answers = replies.Refused refusals.Memory
 
--- Why a session's statement isn't taken: there is no transaction under way, or one already, or it has failed. Ending a
+-- a delete is answered the rows that it found and then its marks
+abbrev pub deleted_reply : List Answer → Reply
+deleted_reply (Found rows ∷ answers) = marks_reply 0 answers
+deleted_reply answers = reply_of answers
+
+-- the reply to a statement whose requests got these answers
+abbrev pub reply_to_statement : Statement → List Answer → Reply
+reply_to_statement (statements.Delete q) answers = deleted_reply answers
+reply_to_statement statement answers = reply_of answers
+
+-- Why a session's statement of a transaction isn't taken: there is no transaction under way, or one already, or it has failed. Ending a
 -- failed transaction is taken, and so is what isn't a request of a transaction.
 abbrev pub submission_refusal : Option OpenTransaction → Statement → Option Refusal
 submission_refusal None statements.Begin = None
@@ -90,14 +99,16 @@ abbrev pub unless_refused : Option Refusal → List Entry → List Entry
 unless_refused None entries = entries
 unless_refused (Some refusal) entries = []
 
-abbrev pub reply_unless_refused : Option Refusal → List Answer → Reply
-reply_unless_refused None answers = reply_of answers
-reply_unless_refused (Some refusal) answers = replies.Refused refusal
+abbrev pub reply_unless_refused : Option Refusal → Statement → List Answer → Reply
+reply_unless_refused None statement answers = reply_to_statement statement answers
+reply_unless_refused (Some refusal) statement answers = replies.Refused refusal
 
 -- the requests that a statement of session n makes in state s
 unfoldable pub statement_requests : DatabaseState → ℕ → Statement → List Entry
 statement_requests s n statement = unless_refused (submission_refusal (map.get s.sessions n) statement) (requests_of s n statement)
 
--- its reply: why it isn't taken, or what its requests were answered, one after the other
+-- The reply to a statement of a transaction: why it isn't taken, or what its requests were answered, one after the other.
+-- Explain and maintenance make no requests, and what they are answered isn't said here.
 unfoldable pub statement_reply : DatabaseState → ℕ → Statement → Reply
-statement_reply s n statement = reply_unless_refused (submission_refusal (map.get s.sessions n) statement) (replies_to s (requests_of s n statement))
+statement_reply s n statement =
+    reply_unless_refused (submission_refusal (map.get s.sessions n) statement) statement (replies_to s (requests_of s n statement))

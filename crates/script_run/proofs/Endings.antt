@@ -1,28 +1,36 @@
 -- what a run has done where it ends
-use Rattle.std.proofs.Common.{◌≡◌, ◌≢◌, ℕ, ◌+◌, ◌-◌, ◌≤◌, List, [], ◌∷◌, ◌++◌, Option, None, Some, Ok, Err, length, take, drop, refl, sym, ap, ◌∙◌, subst, arith, append_assoc, length-append, take-append-drop}
+use Rattle.std.proofs.Common.{◌≡◌, ◌≢◌, ℕ, ◌+◌, ◌-◌, ◌≤◌, List, [], ◌∷◌, ◌++◌, Option, None, Some, Ok, Err, length, take, drop, refl, sym, ap, ◌∙◌, subst, arith, append_assoc, length-append, take-append-drop, ◌⊎◌, inl, inr}
 use Rattle.std.proofs.lemmas.List.{append-nil, take_at}
 use Rattle.std.proofs.KnownBytes.{Appends-trans, Appends-nil, Appends-kept, Consumes-nil, Consumes-trans}
 use Rattle.std.specs.Borrow.{Bor}
 use Rattle.std.specs.List.{concat}
-use Rattle.std.specs.Io.KnownBytes.{Keeps}
+use Rattle.std.specs.Io.KnownBytes.{Keeps, IsAtEnd}
 use Rattle.io_traits.specs.Written.{AppendsPart}
 use Rattle.script_lines.specs.declared.end.Stage.{Stage}
 use Rattle.script_lines.specs.declared.end.Stage.TheVariants as stages
 use Rattle.script_lines.specs.declared.end.LinesEnd.TheVariants as stops
 use Rattle.script_lines.specs.Script.{script_lines, ended_lines, ended_from, rest_from, rest_line, last_line, ended_append}
-use Rattle.script_lines.specs.Reading.{Reading, HasRead, ReadsOn, Next, lines_at, beyond}
+use Rattle.script_lines.specs.Reading.{Reading, HasRead, ReadsOn, Next, SeesEnd, lines_at, beyond}
 use Rattle.script_run.specs.declared.run.RunEnd.TheVariants as ends
-use Rattle.script_run.specs.Runs.{IsFront, Ran, before_last}
+use Rattle.script_run.specs.Runs.{IsFront, AreFirst, Ran, before_last}
 use Rattle.script_run.proofs.Progress.{SoFar, answers_more, concat_more}
 
 front_self : {A : Type 0} (xs : List A) → IsFront xs xs
 front_self xs = ([], append-nil xs)
 
--- what was handed out is a front of the script's lines
-lines_front : (stage : Stage) (script : List ℕ) (done ready : List (List ℕ)) → lines_at stage script ≡ done ++ ready → IsFront done (script_lines script)
-lines_front stages.Open script done ready e = (ready ++ last_line (rest_line script), sym (append_assoc done ready _) ∙ ap (λ ls. ls ++ last_line (rest_line script)) (sym e))
-lines_front stages.Spent script done ready e = (ready ++ last_line (rest_line script), sym (append_assoc done ready _) ∙ ap (λ ls. ls ++ last_line (rest_line script)) (sym e))
-lines_front stages.Ended script done ready e = (ready, sym e)
+-- what was handed out are the first lines
+first_lines : (stage : Stage) (script : List ℕ) (done ready : List (List ℕ)) (left : Option (List ℕ)) → lines_at stage script ≡ done ++ ready → (stage ≡ stages.Ended → IsAtEnd left) → AreFirst done script left
+first_lines stages.Open script done ready left e end = inl (ready, sym e)
+first_lines stages.Spent script done ready left e end = inl (ready, sym e)
+first_lines stages.Ended script done ready left e end = inr (end refl, (ready, sym e))
+
+-- and so are fewer of them
+front_less : {A : Type 0} (xs ys all : List A) → IsFront (xs ++ ys) all → IsFront xs all
+front_less xs ys all f = (ys ++ f.0, sym (append_assoc xs ys f.0) ∙ f.1)
+
+first_less : (done more : List (List ℕ)) (script : List ℕ) (left : Option (List ℕ)) → AreFirst (done ++ more) script left → AreFirst done script left
+first_less done more script left (inl f) = inl (front_less done more (ended_lines script) f)
+first_less done more script left (inr f) = inr (f.0, front_less done more (script_lines script) f.1)
 
 -- all lines that were ready were handed out
 all_handed : (stage stage' : Stage) (script : List ℕ) (done ready : List (List ℕ)) → lines_at stage script ≡ (done ++ []) ++ ready → ready ≡ [] → stage ≡ stage' → done ≡ lines_at stage' script
@@ -43,7 +51,7 @@ ran_nothing R start limit l k = (
   Consumes-nil l,
   Appends-nil k,
   record {
-    lines = (script_lines [], refl);
+    lines = inl (ended_lines [], refl);
     answers = refl;
     front = ([], refl);
     state = λ _. refl;
@@ -71,7 +79,7 @@ ran_done {R} {start} {now} {limit} {a} {b} {l} {l'} {l''} {k} {k'} {script} {don
       Consumes-trans l l' l'' script came far.came call.answers.1,
       far.written,
       record {
-        lines = subst (IsFront done) all (front_self done);
+        lines = inr (call.end far.end call.answers.4, subst (IsFront done) all (front_self done));
         answers = far.answers;
         front = front_self (concat texts);
         state = λ _. refl;
@@ -99,7 +107,7 @@ ran_faulty {R} {start} {now} {limit} {a} {b} {l} {l'} {l''} {k} {k'} {script} {d
       Consumes-trans l l' l'' script came far.came call.answers.1,
       far.written,
       record {
-        lines = lines_front stages.Open (script ++ came) done [] (sym all ∙ sym (append-nil done));
+        lines = inl (subst (IsFront done) all (front_self done));
         answers = far.answers;
         front = front_self (concat texts);
         state = λ _. refl;
@@ -147,7 +155,7 @@ ran_spent {R} {start} {now} {limit} {told} {a} {b} {l} {l'} {l''} {k} {k'} {scri
       Consumes-trans l l' l'' script (came ++ past) far.came call.answers.2,
       far.written,
       record {
-        lines = lines_front stages.Open (script ++ (came ++ past)) done _ more;
+        lines = inl (ended_from (rest_from [] (script ++ came)) past, sym more);
         answers = far.answers;
         front = front_self (concat texts);
         state = λ _. refl;
@@ -160,16 +168,16 @@ ran_spent {R} {start} {now} {limit} {told} {a} {b} {l} {l'} {l''} {k} {k'} {scri
       },
     )
 
--- a line that was handed out ends a front of the script's lines
-handed : (a b : Reading) (script came : List ℕ) (done : List (List ℕ)) (line : List ℕ) → HasRead a script done → ReadsOn a b came (line ∷ []) → IsFront (done ++ line ∷ []) (script_lines (script ++ came))
-handed a b script came done line read on = lines_front b.stage (script ++ came) (done ++ line ∷ []) b.ready ((on.reads script done read).lines)
+-- a line that was handed out ends the first lines
+handed : (a b : Reading) (script came : List ℕ) (done : List (List ℕ)) (line : List ℕ) (left : Option (List ℕ)) → HasRead a script done → ReadsOn a b came (line ∷ []) → SeesEnd b left → AreFirst (done ++ line ∷ []) (script ++ came) left
+handed a b script came done line left read on end = first_lines b.stage (script ++ came) (done ++ line ∷ []) b.ready left ((on.reads script done read).lines) end
 
 pub ran_starved : {S : Type 0} {R : S → List ℕ → List ℕ → S → Type 0} {start now after : S} {limit : ℕ} {a b : Reading} {l l' l'' k k' : Option (List ℕ)} (k'' : Option (List ℕ)) {script : List ℕ} {done texts : List (List ℕ)} {line : Bor (List ℕ)}
     → SoFar R start now limit a l l' k k' script done texts → Next a b l' l'' (Ok (Some line)) → Keeps k' k'' → Ran R start after limit ends.Memory l l'' k k''
 ran_starved {R} {start} {now} {after} {limit} {a} {b} {l} {l'} {l''} {k} {k'} k'' {script} {done} {texts} {line} far call kept =
     let came = call.answers.0 in
     let on = call.answers.2 in
-    let front = handed a b script came done line.now far.read on in (
+    let first = handed a b script came done line.now l'' far.read on (call.end far.end) in (
       script ++ came,
       concat texts,
       done,
@@ -178,7 +186,7 @@ ran_starved {R} {start} {now} {after} {limit} {a} {b} {l} {l'} {l''} {k} {k'} k'
       Consumes-trans l l' l'' script came far.came call.answers.1,
       Appends-kept k k' k'' (concat texts) far.written kept,
       record {
-        lines = (line.now ∷ front.0, sym (append_assoc done (line.now ∷ []) front.0) ∙ front.1);
+        lines = first_less done (line.now ∷ []) (script ++ came) l'' first;
         answers = far.answers;
         front = front_self (concat texts);
         state = λ e. absurd (e refl);
@@ -209,7 +217,7 @@ ran_unwritten {R} {start} {now} {next} {limit} {a} {b} {l} {l'} {l''} {k} {k'} k
       Consumes-trans l l' l'' script came far.came call.answers.1,
       Appends-trans k k' k'' (concat texts) (take part.0 text) far.written part.1,
       record {
-        lines = handed a b script came done line.now far.read on;
+        lines = handed a b script came done line.now l'' far.read on (call.end far.end);
         answers = answers_more R start now next done texts line.now text far.answers told.1;
         front = (drop part.0 text, append_assoc (concat texts) (take part.0 text) (drop part.0 text) ∙ ap (λ t. concat texts ++ t) (take-append-drop part.0 text) ∙ sym (concat_more texts text));
         state = λ _. refl;

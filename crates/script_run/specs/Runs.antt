@@ -1,5 +1,5 @@
 -- what a run has answered and written
-use Rattle.std.specs.Prelude.{◌≡◌, ◌≢◌, ℕ, ◌+◌, ◌-◌, ◌≤◌, List, ◌++◌, length, take, Option}
+use Rattle.std.specs.Prelude.{◌≡◌, ◌≢◌, ℕ, ◌+◌, ◌-◌, ◌≤◌, List, ◌++◌, ◌⊎◌, length, take, Option}
 use Rattle.std.specs.List.{concat}
 use Rattle.std.specs.Io.KnownBytes.{Appends, Consumes, IsAtEnd}
 use Rattle.script_lines.specs.Script.{ended_lines, script_lines}
@@ -7,18 +7,23 @@ use Rattle.script_run.specs.declared.run.RunEnd.{RunEnd}
 use Rattle.script_run.specs.declared.run.RunEnd.TheVariants as ends
 use Rattle.script_run.specs.Answers.{AreAnswers}
 
--- the first list is a front of the second
+-- the first list is a front, a prefix, of the second
 abbrev pub IsFront : {A : Type 0} → List A → List A → Type 0
 IsFront {A} front all = (rest : List A) × (front ++ rest ≡ all)
+
+-- done are the first of the lines that ended in what was taken; the end of the source ends the last one
+abbrev pub AreFirst : List (List ℕ) → List ℕ → Option (List ℕ) → Type 0
+AreFirst done script left = IsFront done (ended_lines script) ⊎ (IsAtEnd left × IsFront done (script_lines script))
 
 -- all but the last one
 abbrev pub before_last : List (List ℕ) → List (List ℕ)
 before_last texts = take (length texts - 1) texts
 
--- what a run that took this script from the source wrote for the lines that it has done, up to a final state
+-- What a run that took this script from the source wrote for the lines that it has done. They lead from the start to the
+-- final state; the engine is in the state after.
 pub record Wrote {S : Type 0} (R : S → List ℕ → List ℕ → S → Type 0) (start after final : S) (limit : ℕ) (end : RunEnd) (left : Option (List ℕ))
     (script out : List ℕ) (done texts : List (List ℕ)) : Type 0 where
-  pub lines : IsFront done (script_lines script)
+  pub lines : AreFirst done script left
   pub answers : AreAnswers R start done texts final
   pub front : IsFront out (concat texts)
   -- only where memory ran out for a line is the engine anywhere else

@@ -1,6 +1,6 @@
 -- what a commit does
 use Rattle.std.proofs.Common.{◌≡◌, ℕ, Bool, true, false, not, cond, ◌&&◌, ◌++◌, List, [], ◌∷◌, if◌then◌else◌, refl, sym, ap, ◌∙◌, Option, Some, None, is_some, fold}
-use Rattle.std.specs.FinMap.{FinMap, get, insert, retain_keys, contains_key, entries, find, get-insert, get-retain_keys, get-entries}
+use Rattle.std.specs.FinMap.{get, retain_keys, entries, find, get-insert, get-retain_keys, get-entries}
 use Rattle.std.specs.Ordering.{eq_by_cmp}
 use Rattle.std.specs.FinSet as set
 use Rattle.block_model.specs.declared.row.RowId.{RowId}
@@ -12,7 +12,7 @@ use Rattle.block_model.specs.declared.request.Request.{Request}
 use Rattle.block_model.specs.declared.request.Request.TheVariants.{Begin, Put, Look, Mark, Commit, Rollback}
 use Rattle.block_model.specs.declared.request.Tag.{Tag}
 use Rattle.block_model.specs.declared.request.Tag.TheVariants as tags
-use Rattle.block_model.specs.RequestEffect.{Answer, Conflict, Marked, Committed, RolledBack, effect, effect_at, effect_is, effect_within, after_request, after_commit, after_failure, after_mark, with_transaction, with_rows, own_rows, merged, is_own, is_conflict}
+use Rattle.block_model.specs.RequestEffect.{Answer, Committed, RolledBack, effect, effect_at, effect_is, effect_within, after_request, after_commit, with_rows, own_rows, merged, is_own, is_conflict}
 use Rattle.serial_model.specs.Commits.{Commits, EndsAlone, merged_of, merged_by, committed_in}
 use Rattle.serial_model.specs.CommitChangesOwn.{CommitChangesOwn, row_after}
 use Rattle.serial_model.specs.FailedCommitChangesNothing.{FailedCommitChangesNothing}

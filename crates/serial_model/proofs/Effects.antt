@@ -1,6 +1,5 @@
 -- the effect of a request, seen from one session's transaction and from the others'
-use Rattle.std.proofs.Common.{◌≡◌, ℕ, Bool, true, false, not, cond, ◌&&◌, if◌then◌else◌, refl, sym, ap, subst, ◌∙◌, Option, Some, None}
-use Rattle.std.specs.Ordering.{nat_cmp}
+use Rattle.std.proofs.Common.{◌≡◌, ℕ, Bool, true, false, if◌then◌else◌, refl, sym, ap, subst, ◌∙◌, Option, Some, None}
 use Rattle.std.specs.FinMap.{get}
 use Rattle.std.specs.FinSet as set
 use Rattle.std.proofs.lemmas.Cmp.{nat_cmp_total}
@@ -12,7 +11,7 @@ use Rattle.block_model.specs.declared.request.Tag.{Tag}
 use Rattle.block_model.specs.declared.request.Tag.TheVariants as tags
 use Rattle.block_model.specs.DatabaseState.{DatabaseState, OpenTransaction}
 use Rattle.block_model.specs.RequestEffect.{Answer, effect, effect_at, effect_is, effect_within, effect_outside, after_request, with_transaction, without_transaction, after_begin, after_commit, after_failure, after_mark, failed_transaction, new_transaction, merged, is_conflict, is_own, Conflict, Marked}
-use Rattle.serial_model.proofs.MapFacts.{get_put_here, get_put_apart, get_removed_here, get_removed_apart, numbers_apart}
+use Rattle.serial_model.proofs.MapFacts.{get_put_apart, get_removed_apart, numbers_apart}
 
 -- the effect by what is found at the session's number
 pub effect_by : (s : DatabaseState) (e : Entry) (o : Option OpenTransaction) → get s.sessions e.session ≡ o → effect s e ≡ effect_at o s e

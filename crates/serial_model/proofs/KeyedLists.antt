@@ -1,8 +1,8 @@
 -- maps as lists of items, each of which has a key, in order of the keys
-use Rattle.std.proofs.Common.{◌≡◌, ◌≢◌, ℕ, suc, ◌+◌, ◌-◌, ◌<◌, ◌≤◌, Bool, true, false, not, cond, ◌||◌, T, List, [], ◌∷◌, ◌++◌, map, length, take, drop, get_or, set, insert, refl, sym, ap, ◌∙◌, subst, add-one, arith}
+use Rattle.std.proofs.Common.{◌≡◌, ℕ, suc, ◌+◌, ◌-◌, ◌<◌, ◌≤◌, Bool, true, false, not, cond, ◌||◌, T, List, [], ◌∷◌, ◌++◌, map, length, take, drop, get_or, set, refl, sym, ap, ◌∙◌, subst, add-one, arith}
 use Rattle.std.specs.declared.cmp.Ordering.{Ordering}
-use Rattle.std.specs.declared.cmp.Ordering.TheVariants.{Less, Equal, Greater}
-use Rattle.std.specs.Prelude.{Option, None, Some}
+use Rattle.std.specs.declared.cmp.Ordering.TheVariants.{Equal}
+use Rattle.std.specs.Prelude.{Option, None}
 use Rattle.std.specs.List.{filter, list_any}
 use Rattle.std.specs.Ordering.{eq_by_cmp, is_eq}
 use Rattle.std.specs.Cmp.{IsTotalOrder, Equal-is}
@@ -85,13 +85,7 @@ module _ {A K X : Type 0} (R : K → K → Ordering) (key : A → K × X) where
   pub has_keyed : (q : K) (xs : List A) → is_sorted R (map key xs) ≡ true → list_any (λ a. eq_by_cmp R q (key a).0) xs ≡ contains_key (from_sorted {R = R} (map key xs)) q
   has_keyed q xs h = any_mapped (λ (e : K × X). eq_by_cmp R q e.0) key xs ∙ any_mapped (eq_by_cmp R q) (λ (e : K × X). e.0) (map key xs) ∙ ap (λ es. list_any (eq_by_cmp R q) (map (λ (e : K × X). e.0) es)) (sym (entries_listed R (map key xs) h)) ∙ sym (contains_key-keys (from_sorted (map key xs)) q)
 
-  -- one more item before the place
-  pub put_after : (k : K) (v : X) (a : A) (xs : List A) → R k (key a).0 ≡ Greater → put R k v (map key (a ∷ xs)) ≡ key a ∷ put R k v (map key xs)
-  put_after k v a xs e = ap (λ o. by_order o ((k, v) ∷ key a ∷ map key xs) (((key a).0, v) ∷ map key xs) (key a ∷ put R k v (map key xs))) e
-
-  put_before : (k : K) (v : X) (a : A) (xs : List A) → R k (key a).0 ≡ Less → put R k v (map key (a ∷ xs)) ≡ (k, v) ∷ map key (a ∷ xs)
-  put_before k v a xs e = ap (λ o. by_order o ((k, v) ∷ key a ∷ map key xs) (((key a).0, v) ∷ map key xs) (key a ∷ put R k v (map key xs))) e
-
+  -- a put where the first key ties
   put_at : (k : K) (v : X) (a : A) (xs : List A) → R k (key a).0 ≡ Equal → put R k v (map key (a ∷ xs)) ≡ ((key a).0, v) ∷ map key xs
   put_at k v a xs e = ap (λ o. by_order o ((k, v) ∷ key a ∷ map key xs) (((key a).0, v) ∷ map key xs) (key a ∷ put R k v (map key xs))) e
 

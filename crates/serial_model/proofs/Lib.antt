@@ -5,3 +5,4 @@ pub mod Effects
 pub mod CommitLaws
 pub mod OwnRuns
 pub mod Removals
+pub mod StandAtIds

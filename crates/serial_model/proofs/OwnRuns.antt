@@ -1,8 +1,7 @@
 -- what a session's own requests make of its transaction
-use Rattle.std.proofs.Common.{◌≡◌, ℕ, Bool, true, false, not, cond, ◌==◌, ◌&&◌, ◌||◌, ◌⊎◌, inl, inr, List, [], ◌∷◌, fold, if◌then◌else◌, refl, sym, ap, subst, ◌∙◌, Option, Some, None, eqb-true}
+use Rattle.std.proofs.Common.{◌≡◌, ℕ, Bool, true, false, cond, ◌==◌, ◌⊎◌, inl, inr, List, [], ◌∷◌, fold, if◌then◌else◌, refl, sym, ap, subst, ◌∙◌, Some, eqb-true}
 use Rattle.std.specs.List.{list_any}
 use Rattle.std.specs.FinMap.{get}
-use Rattle.std.specs.FinSet as set
 use Rattle.std.proofs.lemmas.Bool.{false≢true, true≢false, or_parts, eqb-false}
 use Rattle.std.proofs.lemmas.Cmp.{nat_cmp_total}
 use Rattle.block_model.specs.declared.row.RowId.{RowId}
@@ -15,7 +14,7 @@ use Rattle.block_model.specs.DatabaseState.{DatabaseState, OpenTransaction}
 use Rattle.block_model.specs.RequestEffect.{Answer, effect, effect_within, after_request, reply_to, is_conflict, failed_transaction, after_put, after_mark}
 use Rattle.block_model.specs.SerialRun.{serial_run}
 use Rattle.serial_model.specs.OwnRequestsAlone.{OwnRequestsAlone, IsOwnRun, NeverEnds, is_end, own_entries, own_after, own_step, own_reply, own_replies, replies_of}
-use Rattle.serial_model.proofs.MapFacts.{get_put_here}
+use Rattle.serial_model.proofs.MapFacts.{get_put_here, same_Some}
 use Rattle.serial_model.proofs.Effects.{effect_by, others_stay, mark_effect}
 
 -- After a request that isn't an end the transaction x is under way, and has failed, or is what the request made of it alone.
@@ -44,9 +43,6 @@ module _ (s : DatabaseState) (n : ℕ) (x : OpenTransaction) (got : get s.sessio
 
 own_effect : (s : DatabaseState) (e : Entry) (x : OpenTransaction) → get s.sessions e.session ≡ Some x → is_end e.request ≡ false → OwnStep e.session x e.table e.request (effect s e)
 own_effect s e x got h = subst (OwnStep e.session x e.table e.request) (sym (effect_by s e (Some x) got)) (own_within s e.session x got e.table e.request e.tag h)
-
-same_Some : (x y : OpenTransaction) → Some x ≡ Some y → x ≡ y
-same_Some x y e = cc
 
 -- the journal's first request is the session's own, or another's
 ends_rest : (e : Entry) (n : ℕ) (es : List Entry) (b : Bool) → list_any (λ (f : Entry). is_end f.request) (cond b (e ∷ own_entries n es) (own_entries n es)) ≡ false → NeverEnds n es

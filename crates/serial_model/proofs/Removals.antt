@@ -1,12 +1,11 @@
 -- rows are removed once
-use Rattle.std.proofs.Common.{◌≡◌, ℕ, zero, suc, ◌+◌, ◌<◌, ◌≤◌, Bool, true, false, not, cond, ◌==◌, ◌&&◌, ◌||◌, ◌⊎◌, inl, inr, List, [], ◌∷◌, ◌++◌, length, get_or, if◌then◌else◌, All, AllPairs, refl, sym, ap, subst, ◌∙◌, Option, Some, None, is_some, eqb-true, ne_eqb, arith}
+use Rattle.std.proofs.Common.{◌≡◌, ℕ, zero, suc, ◌+◌, ◌<◌, Bool, true, false, not, cond, ◌==◌, ◌&&◌, ◌||◌, ◌⊎◌, inl, inr, List, [], ◌∷◌, ◌++◌, if◌then◌else◌, All, AllPairs, refl, sym, ap, subst, ◌∙◌, Option, Some, None, is_some, eqb-true, ne_eqb, arith}
 use Rattle.std.specs.List.{list_any}
 use Rattle.std.specs.Ordering.{eq_by_cmp, nat_cmp}
-use Rattle.std.specs.FinMap.{FinMap, get, insert, remove, contains_key, entries, empty, find, get-empty, get-entries}
+use Rattle.std.specs.FinMap.{get, contains_key, entries, find, get-empty, get-entries}
 use Rattle.std.specs.Cmp.{unsigned_tied}
 use Rattle.std.specs.FinSet as set
-use Rattle.std.proofs.lemmas.Bool.{false≢true, true≢false, or_parts, and_parts, or_cases, or_left, or_right, and_from, not-false, false_from_ne_true, cases_eq}
-use Rattle.std.proofs.lemmas.Cmp.{nat_cmp_total}
+use Rattle.std.proofs.lemmas.Bool.{false≢true, true≢false, or_parts, or_cases, or_left, or_right, and_from, not-false, false_from_ne_true}
 use Rattle.std.proofs.lemmas.List.Elements.{All-nil, All-cons}
 use Rattle.block_model.specs.declared.row.RowId.{RowId}
 use Rattle.block_model.specs.declared.row.Row.{Row}
@@ -15,13 +14,12 @@ use Rattle.block_model.specs.declared.request.Request.{Request}
 use Rattle.block_model.specs.declared.request.Request.TheVariants.{Begin, Put, Look, Mark, Commit, Rollback}
 use Rattle.block_model.specs.TableState.{TableState, id_cmp, ids_total, ids_exact}
 use Rattle.block_model.specs.DatabaseState.{DatabaseState, OpenTransaction}
-use Rattle.block_model.specs.RequestEffect.{Answer, effect, effect_at, effect_is, effect_within, after_request, is_conflict, is_own, marked_elsewhere, with_transaction, without_transaction, after_begin, new_transaction, merged}
+use Rattle.block_model.specs.RequestEffect.{Answer, effect_at, effect_is, after_request, is_conflict, is_own, marked_elsewhere, with_transaction, without_transaction, after_begin, new_transaction, merged}
 use Rattle.block_model.specs.SerialRun.{serial_run}
-use Rattle.serial_model.specs.Commits.{Commits, merged_of, merged_by, committed_in}
-use Rattle.serial_model.specs.CommitChangesOwn.{row_after}
-use Rattle.serial_model.specs.NoRowRemovedTwice.{IsOpening, InitialIsOpening, MarksApart, MarksStand, RemovesOnce, NoRowRemovedTwice}
+use Rattle.serial_model.specs.Commits.{merged_of, committed_in}
+use Rattle.serial_model.specs.NoRowRemovedTwice.{IsOpening, InitialIsOpening, MarksApart, MarksStand, NoRowRemovedTwice}
 use Rattle.serial_model.proofs.KeyedLists.{tied}
-use Rattle.serial_model.proofs.MapFacts.{get_put_here, get_put_apart, get_removed_here, get_removed_apart, numbers_apart}
+use Rattle.serial_model.proofs.MapFacts.{found_after_put, found_after_removal, same_Some, none_Some}
 use Rattle.serial_model.proofs.Effects.{within_leads, outside_leads, after_merge, commit_merges}
 use Rattle.serial_model.proofs.CommitLaws.{get_merged, commit_effect}
 
@@ -41,25 +39,7 @@ pub record IsGone (s : DatabaseState) (id : RowId) : Type 0 where
   pub not_open : (n : ℕ) (x : OpenTransaction) → get s.sessions n ≡ Some x → id.t ≡ x.t → ⊥
   pub absent : contains_key s.table id ≡ true → ⊥
 
--- ---- who is under way after a change
-
-same_Some : {X : Type 0} (x y : X) → Some x ≡ Some y → x ≡ y
-same_Some x y e = cc
-
-none_Some : {X : Type 0} (x : X) → None ≡ Some x → ⊥
-none_Some x e = cc
-
-found_after_put : (ss : FinMap nat_cmp OpenTransaction) (n m : ℕ) (y z : OpenTransaction) → get (insert ss n y) m ≡ Some z → ((m ≡ n) × (y ≡ z)) ⊎ ((m ≡ n → ⊥) × (get ss m ≡ Some z))
-found_after_put ss n m y z got = elim (cases_eq m n) [
-  | inl same ↦ inl (same, same_Some y z (sym (ap (get (insert ss n y)) same ∙ get_put_here nat_cmp_total ss n y) ∙ got))
-  | inr apart ↦ inr (apart, sym (get_put_apart nat_cmp_total ss n m y (numbers_apart m n apart)) ∙ got)
-]
-
-found_after_removal : (ss : FinMap nat_cmp OpenTransaction) (n m : ℕ) (z : OpenTransaction) → get (remove ss n) m ≡ Some z → (m ≡ n → ⊥) × (get ss m ≡ Some z)
-found_after_removal ss n m z got = elim (cases_eq m n) [
-  | inl same ↦ absurd (none_Some z (sym (ap (get (remove ss n)) same ∙ get_removed_here nat_cmp_total ss n) ∙ got))
-  | inr apart ↦ (apart, sym (get_removed_apart nat_cmp_total ss n m (numbers_apart m n apart)) ∙ got)
-]
+-- ---- who is under way
 
 -- a transaction that passes a test is among the open ones
 any_found : (p : ℕ × OpenTransaction → Bool) (es : List (ℕ × OpenTransaction)) (m : ℕ) (z : OpenTransaction) → find nat_cmp m es ≡ Some z → p (m, z) ≡ true → list_any p es ≡ true

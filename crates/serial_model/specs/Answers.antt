@@ -3,6 +3,7 @@ use Rattle.block_model.specs.RequestEffect as effects
 use Rattle.serial_model.specs.declared.model.Answered.{Answered}
 use Rattle.serial_model.specs.declared.model.Answered.TheVariants.{Begun, Inserted, Found, Marked, Conflict, Committed, RolledBack, Full, NoMemory, Illegal}
 
+-- one for each
 abbrev pub answer_of : Answered → effects.Answer
 answer_of (Begun t) = effects.Begun t
 answer_of (Inserted id) = effects.Inserted id

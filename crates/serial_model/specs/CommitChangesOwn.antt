@@ -17,9 +17,11 @@ row_after table x id =
     else if set.contains x.marks id then None
     else map.get table id
 
+-- each id has its row by that, and but for the end of the transaction nothing else is changed
 pub record ChangesOwn (s after : DatabaseState) (e : Entry) (x : OpenTransaction) : Type 0 where
   pub rows : (id : RowId) → map.get after.table id ≡ row_after s.table x id
   pub ends : EndsAlone s after e.session
 
+-- wherever a transaction that hasn't failed commits
 abbrev pub CommitChangesOwn : Type 0
 CommitChangesOwn = (s : DatabaseState) (e : Entry) (x : OpenTransaction) → Commits s e x → x.failed ≡ false → ChangesOwn s (after_request s e) e x

@@ -17,6 +17,7 @@ abbrev pub merged_of : Option OpenTransaction → Request → List OpenTransacti
 merged_of (Some x) Commit = if x.failed then [] else x ∷ []
 merged_of o request = []
 
+-- in that state
 abbrev pub merged_by : DatabaseState → Entry → List OpenTransaction
 merged_by s e = merged_of (map.get s.sessions e.session) e.request
 

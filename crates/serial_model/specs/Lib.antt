@@ -9,3 +9,4 @@ pub mod FailedCommitChangesNothing
 pub mod TableIsCommits
 pub mod OwnRequestsAlone
 pub mod NoRowRemovedTwice
+pub mod RowsStandAtTheirIds

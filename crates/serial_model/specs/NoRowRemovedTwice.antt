@@ -1,5 +1,5 @@
 -- No row is removed by two commits, and each that is removed stood in the table.
-use Rattle.std.specs.Prelude.{◌≡◌, ℕ, ◌<◌, true, List, [], ◌∷◌, ◌++◌, AllPairs, Some}
+use Rattle.std.specs.Prelude.{◌≡◌, ◌<◌, true, List, ◌∷◌, ◌++◌, AllPairs}
 use Rattle.std.specs.FinMap as map
 use Rattle.std.specs.FinSet as set
 use Rattle.block_model.specs.declared.row.RowId.{RowId}
@@ -25,11 +25,13 @@ MarksApart x y = (id : RowId) → set.contains x.marks id ≡ true → set.conta
 abbrev pub MarksStand : DatabaseState → OpenTransaction → Type 0
 MarksStand s x = (id : RowId) → set.contains x.marks id ≡ true → map.contains_key s.table id ≡ true
 
+-- the commits of the journal remove each row once, and only rows that are there
 pub record RemovesOnce (s : DatabaseState) (journal : List Entry) : Type 0 where
   -- no two committed transactions marked a row in common
   pub once : AllPairs MarksApart (committed_in s journal)
   -- at each commit, what the transaction marked stands in the table
   pub stood : (before after : List Entry) (e : Entry) (x : OpenTransaction) → journal ≡ before ++ e ∷ after → Commits (serial_run s before) e x → MarksStand (serial_run s before) x
 
+-- from each opening on
 abbrev pub NoRowRemovedTwice : Type 0
 NoRowRemovedTwice = (s : DatabaseState) (journal : List Entry) → IsOpening s → RemovesOnce s journal

@@ -6,5 +6,6 @@ use Rattle.block_model.specs.RequestEffect.{merged}
 use Rattle.block_model.specs.SerialRun.{serial_run}
 use Rattle.serial_model.specs.Commits.{committed_in}
 
+-- from each state and for each journal
 abbrev pub TableIsCommits : Type 0
 TableIsCommits = (s : DatabaseState) (journal : List Entry) → (serial_run s journal).table ≡ fold merged s.table (committed_in s journal)

@@ -5,6 +5,7 @@ ghost use Rattle.serial_model.specs.FailedCommitChangesNothing.{FailedCommitChan
 ghost use Rattle.serial_model.specs.TableIsCommits.{TableIsCommits};
 ghost use Rattle.serial_model.specs.OwnRequestsAlone.{OwnRequestsAlone};
 ghost use Rattle.serial_model.specs.NoRowRemovedTwice.{InitialIsOpening, NoRowRemovedTwice};
+ghost use Rattle.serial_model.specs.RowsStandAtTheirIds.{RowsStandAtTheirIds};
 
 /// A commit of a transaction that hasn't failed puts its own rows and takes away those that it marked. It changes nothing
 /// else, but that the transaction is over.
@@ -38,4 +39,9 @@ pub fn initial_is_opening()
 /// commits.
 pub fn no_row_removed_twice()
     ensures { NoRowRemovedTwice }
+{}
+
+/// Each row of the tables and of each copy stands at its own id, from a new database on.
+pub fn rows_stand_at_their_ids()
+    ensures { RowsStandAtTheirIds }
 {}

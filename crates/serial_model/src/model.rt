@@ -90,8 +90,8 @@ impl SerialModel {
         }
     }
 
-    /// Whether the numbers that the request takes are there: a transaction's are below 2^64 - 1, the places of its rows
-    /// below 2^32 - 1.
+    /// Whether the number or place that the request takes is there: a transaction's number is below 2^64 - 1, a row's
+    /// place below 2^32 - 1.
     pub fn has_number(&self, entry: &Entry) -> bool
         ensures { result ≡ has_number self.now entry.now }
     {

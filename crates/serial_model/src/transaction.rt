@@ -18,11 +18,11 @@ use std::marker::Model;
 /// there, and whether it has failed.
 #[derive(Debug, Drop)]
 pub struct Transaction {
-    pub(crate) t: u64,
-    pub(crate) next_k: u32,
-    pub(crate) view: TableCopy,
-    pub(crate) marks: Marks,
-    pub(crate) failed: bool,
+    t: u64,
+    next_k: u32,
+    view: TableCopy,
+    marks: Marks,
+    failed: bool,
 }
 
 impl Model for Transaction {

@@ -1,4 +1,4 @@
-use Rattle.std.proofs.Common.{◌≡◌, ◌++◌, List, take, drop, map, subst, arith, sym, ◌∙◌, eq-eqb}
+use Rattle.std.proofs.Common.{◌≡◌, ◌++◌, List, take, drop, subst, arith, ◌∙◌, eq-eqb}
 use Rattle.std.specs.Ordering.{nat_cmp}
 use Rattle.std.specs.FinMap.{put}
 use Rattle.std.specs.Cmp.{unsigned_tied}

@@ -1,4 +1,4 @@
-use Rattle.std.proofs.Common.{◌≡◌, ◌++◌, List, take, drop, map, subst, arith, sym, ◌∙◌}
+use Rattle.std.proofs.Common.{◌≡◌, ◌++◌, List, take, drop, subst, arith, sym, ◌∙◌}
 use Rattle.std.specs.FinMap.{put}
 use Rattle.block_model.specs.declared.row.Row.{Row}
 use Rattle.block_model.specs.TableState.{id_cmp, ids_exact}

@@ -1,6 +1,6 @@
-use Rattle.std.proofs.Common.{◌≡◌, ap, sym, ◌∙◌, Some, None, rules}
+use Rattle.std.proofs.Common.{ap, Some, None, rules}
 use Rattle.block_model.specs.DatabaseState.{DatabaseState}
-use Rattle.block_model.specs.RequestEffect.{Answer, effect}
+use Rattle.block_model.specs.RequestEffect.{Answer}
 use Rattle.serial_model.specs.Answers.{answer_of}
 use Rattle.serial_model.proofs.RunSteps.{effect_from}
 use Rattle.serial_model.proofs.model.SerialModel.apply.Goals as goal

@@ -1,9 +1,3 @@
-use Rattle.std.proofs.Common.{◌≡◌, IfOk, sym, subst}
-use Rattle.block_model.specs.DatabaseState.{DatabaseState, OpenTransaction}
-use Rattle.block_model.specs.RequestEffect.{Answer, effect_within}
-use Rattle.block_model.specs.declared.request.Request.{Request}
-use Rattle.serial_model.specs.declared.model.Answered.{Answered}
-use Rattle.serial_model.specs.Answers.{answer_of}
 use Rattle.serial_model.proofs.model.SerialModel.within.Goals as goal
 
 pub returns-in-Look-clause-ok : goal.returns-in-Look-clause-ok

@@ -1,10 +1,9 @@
-use Rattle.std.proofs.Common.{◌≡◌, List, ap, sym, ◌∙◌}
+use Rattle.std.proofs.Common.{ap, sym, ◌∙◌}
 use Rattle.std.specs.List.{filter}
 use Rattle.block_model.specs.declared.row.Row.{Row}
 use Rattle.block_model.specs.RowMatches.{row_matches}
 use Rattle.block_model.specs.TableState.{id_cmp, rows_in}
-use Rattle.serial_model.specs.Listed.{at_ids, table_of}
-use Rattle.serial_model.proofs.KeyedLists.{entries_listed, values_listed}
+use Rattle.serial_model.proofs.KeyedLists.{values_listed}
 use Rattle.serial_model.proofs.table_copy.TableCopy.found.Goals as goal
 
 pub returns : goal.returns

@@ -1,4 +1,4 @@
-use Rattle.std.proofs.Common.{◌≡◌, List, not, drop, ap, sym, ◌∙◌, arith}
+use Rattle.std.proofs.Common.{◌≡◌, not, drop, ap, sym, ◌∙◌, arith}
 use Rattle.std.specs.FinMap.{retain_keys, insert, entries}
 use Rattle.std.specs.FinMap.Entries.{where_key}
 use Rattle.std.specs.FinSet.{contains}

@@ -1,4 +1,4 @@
-use Rattle.std.proofs.Common.{◌≡◌, map, not, drop}
+use Rattle.std.proofs.Common.{◌≡◌, not, drop}
 use Rattle.std.specs.FinMap.{retain_keys}
 use Rattle.std.specs.FinMap.Entries.{where_key}
 use Rattle.std.specs.FinSet.{contains}
