@@ -1,5 +1,7 @@
 // A run of the program in memory.
 
+ghost use Rattle.std.specs.Prelude.{◌<◌};
+
 use block_model::words::Words;
 use brin_app::brin_main;
 use io_traits::memory_sink::MemorySink;
