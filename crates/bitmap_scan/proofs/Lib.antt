@@ -1,0 +1,4 @@
+pub mod InARow
+pub mod Judging
+pub mod Keeping
+pub mod LeftOut

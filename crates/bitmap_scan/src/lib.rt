@@ -1,0 +1,13 @@
+// Which blocks a scan must read: those whose range's summary may hold a match of the conditions. `given` appends exactly
+// these below the table's extent, in ascending order, and a law says that no other block holds a match. It stands on
+// block_model and on the laws of operator classes, with minmax as the class. Ranges are judged once each, in order.
+#![tactic(auto)]
+
+mod blocks;
+mod judge;
+mod laws;
+#[cfg(test)]
+mod tests;
+
+pub use blocks::given;
+pub use laws::a_block_left_out_holds_no_match;

@@ -1,0 +1,106 @@
+-- the bytes of a summary, written and read
+use Rattle.std.proofs.Common.{◌≡◌, ℕ, ℤ, pos, negsuc, ◌+◌, ◌≤◌, ◌≤ℤ◌, ◌<ℤ◌, ◌^◌, ◌<◌, List, [], ◌++◌, length, drop, refl, sym, ap, ◌∙◌, arith, length-append}
+use Rattle.std.proofs.lemmas.List.{take_at, drop_at, drop-drop, append-nil}
+use Rattle.std.proofs.Math.ListN.{drop_of_length-le}
+use Rattle.std.specs.Prelude.{FitsSigned}
+use Rattle.std.specs.Int.{w64, cast_unsigned, cast_signed}
+use Rattle.std.proofs.lemmas.Int.{to_z-of_z, ints}
+use Rattle.byte_fields.specs.Fields.{number_of, put_at, field_at, number-put}
+use Rattle.opclass_minmax.specs.Bounds.{Bounds, NothingYet, Between, IsSummary, IsOrdered}
+use Rattle.opclass_minmax.specs.Encoding.{int8_bytes, bytes_of}
+
+length-int8 : (z : ℤ) → length (int8_bytes z) ≡ 8
+unfolding int8_bytes
+length-int8 z = refl
+
+pub length-between : (l g : ℤ) → length (bytes_of (Between l g)) ≡ 16
+length-between l g = length-append (int8_bytes l) (int8_bytes g) ∙ omega (arith, length-int8 l, length-int8 g)
+
+-- a number put at the front
+put_front : (z : ℤ) (bytes : List ℕ) → put_at bytes 0 8 (cast_unsigned w64 z) ≡ int8_bytes z ++ drop 8 bytes
+unfolding put_at int8_bytes
+put_front z bytes = refl
+
+-- and one behind it
+put_behind : (l g : ℤ) (rest : List ℕ) → put_at (int8_bytes l ++ rest) 8 8 (cast_unsigned w64 g) ≡ bytes_of (Between l g) ++ drop 8 rest
+unfolding put_at int8_bytes
+put_behind l g rest =
+    let front = take_at (int8_bytes l) rest 8 (length-int8 l) in
+    let back : drop 16 (int8_bytes l ++ rest) ≡ drop 8 rest = sym (drop-drop 8 8 (int8_bytes l ++ rest)) ∙ ap (drop 8) (drop_at (int8_bytes l) rest 8 (length-int8 l)) in
+    ap (λ (f : List ℕ). f ++ int8_bytes g ++ drop 16 (int8_bytes l ++ rest)) front ∙ ap (λ (b : List ℕ). int8_bytes l ++ int8_bytes g ++ b) back
+
+-- what two puts leave, of numbers as they are passed
+pub written_both : (l g : ℤ) (out first new : List ℕ) → FitsSigned w64 l → FitsSigned w64 g
+    → first ≡ put_at out 0 8 (cast_unsigned w64 (cast_signed w64 (cast_unsigned w64 l)))
+    → new ≡ put_at first 8 8 (cast_unsigned w64 (cast_signed w64 (cast_unsigned w64 g)))
+    → new ≡ bytes_of (Between l g) ++ drop 16 out
+written_both l g out first new fits also put after =
+    after
+    ∙ ap (λ (z : ℤ). put_at first 8 8 (cast_unsigned w64 z)) (to_z-of_z w64 g also)
+    ∙ ap (λ (b : List ℕ). put_at b 8 8 (cast_unsigned w64 g)) (put ∙ ap (λ (z : ℤ). put_at out 0 8 (cast_unsigned w64 z)) (to_z-of_z w64 l fits) ∙ put_front l out)
+    ∙ put_behind l g (drop 8 out)
+    ∙ ap (λ (d : List ℕ). bytes_of (Between l g) ++ d) (drop-drop 8 8 out)
+
+unsigned_small : (z : ℤ) → FitsSigned w64 z → cast_unsigned w64 z < 256 ^ 8
+unsigned_small (pos n) fits = omega (arith, fits.sfits)
+unsigned_small (negsuc n) fits = omega arith
+
+-- a number of int8 is in its bytes
+number_in : (z : ℤ) (bytes : List ℕ) (at : ℕ) → FitsSigned w64 z → at + 8 ≤ length bytes → put_at bytes at 8 (cast_unsigned w64 z) ≡ bytes → cast_signed w64 (number_of (field_at bytes at 8)) ≡ z
+number_in z bytes at fits within same =
+    ap (λ (b : List ℕ). cast_signed w64 (number_of (field_at b at 8))) (sym same)
+    ∙ ap (cast_signed w64) (number-put bytes at 8 (cast_unsigned w64 z) within (unsigned_small z fits))
+    ∙ to_z-of_z w64 z fits
+
+-- what was written is read
+first_read : (l g : ℤ) (bytes : List ℕ) → IsOrdered l g → bytes ≡ bytes_of (Between l g) → cast_signed w64 (number_of (field_at bytes 0 8)) ≡ l
+first_read l g bytes ordered is =
+    let same : put_at bytes 0 8 (cast_unsigned w64 l) ≡ bytes =
+    put_front l bytes
+    ∙ ap (λ (b : List ℕ). int8_bytes l ++ drop 8 b) is
+    ∙ ap (λ (d : List ℕ). int8_bytes l ++ d) (drop_at (int8_bytes l) (int8_bytes g) 8 (length-int8 l))
+    ∙ sym is in
+    number_in l bytes 0 ordered.least_fits (omega (arith, ap length is, length-between l g)) same
+
+second_read : (l g : ℤ) (bytes : List ℕ) → IsOrdered l g → bytes ≡ bytes_of (Between l g) → cast_signed w64 (number_of (field_at bytes 8 8)) ≡ g
+second_read l g bytes ordered is =
+    let none : drop 8 (int8_bytes g) ≡ [] = drop_of_length-le (int8_bytes g) {i = 8} (omega (arith, length-int8 g)) in
+    let same : put_at bytes 8 8 (cast_unsigned w64 g) ≡ bytes =
+    ap (λ (b : List ℕ). put_at b 8 8 (cast_unsigned w64 g)) is
+    ∙ put_behind l g (int8_bytes g)
+    ∙ ap (λ (d : List ℕ). bytes_of (Between l g) ++ d) none
+    ∙ append-nil (bytes_of (Between l g))
+    ∙ sym is in
+    number_in g bytes 8 ordered.greatest_fits (omega (arith, ap length is, length-between l g)) same
+
+-- bytes that were read are those of what was read
+pub bytes_again : (l g : ℤ) (bytes : List ℕ) → length bytes ≡ 16 → put_at bytes 0 8 (cast_unsigned w64 l) ≡ bytes → put_at bytes 8 8 (cast_unsigned w64 g) ≡ bytes → bytes ≡ bytes_of (Between l g)
+bytes_again l g bytes size first second =
+    let parts : bytes ≡ int8_bytes l ++ drop 8 bytes = sym first ∙ put_front l bytes in
+    sym second ∙ ap (λ (b : List ℕ). put_at b 8 8 (cast_unsigned w64 g)) parts ∙ put_behind l g (drop 8 bytes)
+    ∙ ap (λ (d : List ℕ). bytes_of (Between l g) ++ d) (drop-drop 8 8 bytes ∙ drop_of_length-le bytes {i = 16} (omega arith))
+    ∙ append-nil (bytes_of (Between l g))
+
+-- two values out of order are no summary
+pub out_of_order : (l g : ℤ) (bytes : List ℕ) → length bytes ≡ 16 → l ≡ cast_signed w64 (number_of (field_at bytes 0 8)) → g ≡ cast_signed w64 (number_of (field_at bytes 8 8)) → g <ℤ l → (s : Bounds) → IsSummary s → bytes ≡ bytes_of s → ⊥
+out_of_order l g bytes size first second below NothingYet lawful is = absurd (omega (arith, size, ap length is))
+out_of_order l g bytes size first second below (Between low high) lawful is =
+    let least : l ≡ low = first ∙ first_read low high bytes lawful is in
+    let greatest : g ≡ high = second ∙ second_read low high bytes lawful is in
+    let order : low ≤ℤ high = lawful.in_order in
+    omega (arith, ints)
+
+-- no summary has another number of bytes
+pub wrong_size : (bytes : List ℕ) → (length bytes ≡ 0 → ⊥) → (length bytes ≡ 16 → ⊥) → (s : Bounds) → IsSummary s → bytes ≡ bytes_of s → ⊥
+wrong_size bytes none full NothingYet lawful is = none (ap length is)
+wrong_size bytes none full (Between l g) lawful is = full (ap length is ∙ length-between l g)
+
+-- no two summaries have the same bytes
+pub one_meaning : (s t : Bounds) (bytes : List ℕ) → IsSummary s → IsSummary t → bytes ≡ bytes_of s → bytes ≡ bytes_of t → s ≡ t
+one_meaning NothingYet NothingYet bytes first second is was = refl
+one_meaning NothingYet (Between l g) bytes first second is was = absurd (omega (arith, length-between l g, ap length is, ap length was))
+one_meaning (Between l g) NothingYet bytes first second is was = absurd (omega (arith, length-between l g, ap length is, ap length was))
+one_meaning (Between l g) (Between low high) bytes first second is was =
+    let least : l ≡ low = sym (first_read l g bytes first is) ∙ first_read low high bytes second was in
+    let greatest : g ≡ high = sym (second_read l g bytes first is) ∙ second_read low high bytes second was in
+    rw (least, greatest) refl

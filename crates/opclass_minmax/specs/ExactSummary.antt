@@ -1,0 +1,22 @@
+-- the exact summary of a list of values, whatever their order
+use Rattle.std.specs.Prelude.{◌≡◌, ℤ, List, [], All, Contains}
+use Rattle.block_model.specs.declared.value.Value.{Value}
+use Rattle.block_model.specs.declared.value.Value.TheVariants.{Int}
+use Rattle.opclass_minmax.specs.Bounds.{Bounds, NothingYet, Between}
+use Rattle.opclass_minmax.specs.Includes.{IsWithin}
+
+-- the least and the greatest are among the values, and no value is beyond them
+pub record AreExtremes (values : List Value) (least greatest : ℤ) : Type 0 where
+  pub has_least : Contains values (Int least)
+  pub has_greatest : Contains values (Int greatest)
+  pub none_beyond : All (IsWithin least greatest) values
+
+-- nothing yet where there is no value
+abbrev pub ExactSummary : List Value → Bounds → Type 0
+ExactSummary values NothingYet = values ≡ []
+ExactSummary values (Between least greatest) = AreExtremes values least greatest
+
+-- the same values in any order, however often each
+pub record HaveSameValues (values others : List Value) : Type 0 where
+  pub all_there : (v : Value) → Contains values v → Contains others v
+  pub no_more : (v : Value) → Contains others v → Contains values v

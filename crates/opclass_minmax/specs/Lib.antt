@@ -1,0 +1,6 @@
+pub mod Bounds
+pub mod Consistent
+pub mod Encoding
+pub mod ExactSummary
+pub mod Includes
+pub mod Kept

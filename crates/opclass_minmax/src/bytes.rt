@@ -1,0 +1,51 @@
+// Summaries as bytes.
+
+ghost use Rattle.std.specs.Prelude.{◌≡◌, ◌≤◌, ◌++◌, ℕ, length, drop, IfErr, IfOk, IsErr};
+ghost use Rattle.opclass_minmax.specs.Bounds.{Bounds, IsSummary};
+ghost use Rattle.opclass_minmax.specs.Encoding.{bytes_of, fault_place};
+
+use crate::summary::{Extremes, Summary};
+use byte_fields::{get_i64, put_i64};
+use opclass_api::class::Malformed;
+
+/// How many bytes a summary has at most: those of two numbers.
+pub(crate) const GREATEST_SIZE: usize = 16;
+
+/// Writes the bytes of a summary to the front of `out`, and answers how many they are.
+pub(crate) fn write(s: &Summary, out: &mut [u8]) -> usize
+    requires { 16 ≤ length out.old }
+    ensures size { result ≡ length (bytes_of s.now) }
+    ensures within { result ≤ 16 }
+    ensures written { out.new ≡ bytes_of s.now ++ drop result out.old }
+{
+    match s.extremes() {
+        None => 0,
+        Some(extremes) => {
+            put_i64(out, 0, extremes.least);
+            put_i64(out, 8, extremes.greatest);
+            GREATEST_SIZE
+        }
+    }
+}
+
+/// The summary that the bytes encode. `Err` exactly where they encode none.
+pub(crate) fn read(bytes: &[u8]) -> Result<Summary, Malformed>
+    ensures found { IfOk result (λ s. IsSummary s × (bytes.now ≡ bytes_of s)) }
+    ensures refused { IsErr result → (s : Bounds) → IsSummary s → bytes.now ≡ bytes_of s → ⊥ }
+    ensures place { IfErr result (λ e. e.at ≡ fault_place (length bytes.now)) }
+{
+    match bytes.len() {
+        0 => Ok(Summary::new()),
+        16 => {
+            let least = get_i64(bytes, 0);
+            let greatest = get_i64(bytes, 8);
+            if greatest < least {
+                return Err(Malformed { at: 8 });
+            }
+            Ok(Summary::of(least, greatest))
+        }
+        len => Err(Malformed {
+            at: len.min(GREATEST_SIZE),
+        }),
+    }
+}
