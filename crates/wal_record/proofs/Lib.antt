@@ -1,0 +1,5 @@
+pub mod Lawful
+pub mod Fields
+pub mod Changes
+pub mod Fault
+pub mod Written
