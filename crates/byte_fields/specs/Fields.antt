@@ -33,11 +33,15 @@ number-big [] = refl
 number-big (x ∷ xs) = rw (big_from-cons 0 (length xs) x xs, number-big xs) refl
 
 -- no number of n bytes reaches 256 ^ n
-number-fits : (xs : List ℕ) → AreBytes xs → number_of xs < 256 ^ length xs
+pub number-fits : (xs : List ℕ) → AreBytes xs → number_of xs < 256 ^ length xs
 number-fits xs small = rw (number-big xs) (big_from-lt 0 (length xs) xs small)
 
+-- a number of n bytes has n bytes
+pub length-number : (n x : ℕ) → length (bytes_high_first n x) ≡ n
+length-number = length-bytes_high_first
+
 -- the bytes of a number spell it
-number-bytes : (n x : ℕ) → x < 256 ^ n → number_of (bytes_high_first n x) ≡ x
+pub number-bytes : (n x : ℕ) → x < 256 ^ n → number_of (bytes_high_first n x) ≡ x
 number-bytes n x fits =
     number-big (bytes_high_first n x)
     ∙ ap (λ (k : ℕ). big_from 0 k (bytes_high_first n x)) (length-bytes_high_first n x)
@@ -70,7 +74,7 @@ AreBytes-number (suc n) x zero = byte-small n x
 AreBytes-number (suc n) x (suc i) = AreBytes-number n x i
 
 -- the bytes of the number that bytes spell are those bytes
-bytes-number : (xs : List ℕ) → AreBytes xs → bytes_high_first (length xs) (number_of xs) ≡ xs
+pub bytes-number : (xs : List ℕ) → AreBytes xs → bytes_high_first (length xs) (number_of xs) ≡ xs
 bytes-number xs small =
     same-bytes (bytes_high_first (length xs) (number_of xs)) xs (length-bytes_high_first (length xs) (number_of xs)) (AreBytes-number (length xs) (number_of xs)) small (number-bytes (length xs) (number_of xs) (number-fits xs small))
 

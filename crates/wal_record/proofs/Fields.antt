@@ -1,13 +1,12 @@
 -- The fields of changes: a byte, a number, a part, a place, a spot, and bytes with their count.
-use Rattle.std.proofs.Common.{◌≡◌, ◌⊎◌, inl, inr, ℕ, zero, suc, ◌+◌, ◌-◌, ◌*◌, ◌/◌, ◌^◌, ◌<◌, ◌≤◌, false, ltb, List, [], ◌∷◌, ◌++◌, length, take, drop, Option, Some, None, refl, sym, ap, subst, ◌∙◌, append_assoc, length-append, arith}
+use Rattle.std.proofs.Common.{◌≡◌, ◌⊎◌, inl, inr, ℕ, zero, suc, ◌-◌, ◌*◌, ◌/◌, ◌^◌, ◌<◌, ◌≤◌, false, ltb, List, [], ◌∷◌, ◌++◌, length, take, drop, Option, Some, None, refl, sym, ap, subst, ◌∙◌, append_assoc, length-append, arith}
 use Rattle.std.proofs.Math.ListN.{replicate}
 use Rattle.std.specs.Int.{bytes_high_first}
 use Rattle.std.proofs.lemmas.Bool.{ltb-true, ltb-false, le-ltb}
 use Rattle.std.proofs.lemmas.List.{length-replicate, take_all, take_at, drop_at, take-append-drop, length-take-le}
-use Rattle.byteorder.specs.Numbers.{big_from-lt, length-bytes_high_first}
 use Rattle.block_model.specs.declared.place.Place.{Place}
 use Rattle.block_model.specs.declared.place.Spot.{Spot}
-use Rattle.byte_fields.specs.Fields.{AreBytes, number-big, number-put, number_of, put-number, put_at}
+use Rattle.byte_fields.specs.Fields.{AreBytes, bytes-number, length-number, number-bytes, number-fits, number_of}
 use Rattle.wal_record.specs.Changes.{AreSlots}
 use Rattle.wal_record.specs.ChangeBytes.{place_bytes, spot_bytes, counted_bytes, counted_slots, put_bytes}
 use Rattle.wal_record.specs.Reading.{◌>>=◌, one_byte, part_at, number_at, place_at, spot_at, sized_at, counted_at, slots_at, put_bytes_at}
@@ -56,26 +55,19 @@ part_law n = record {
 
 -- a number
 
--- the bytes of the number that bytes spell are those bytes
+-- the bytes of the number that n bytes spell are those bytes
 field_bytes : (l : List ℕ) (n : ℕ) → n ≤ length l → AreBytes l → bytes_high_first n (number_of (take n l)) ≡ take n l
-unfolding put_at
 field_bytes l n long small =
-    let x = number_of (take n l) in
-    sym (take_at (bytes_high_first n x) (drop (0 + n) l) n (length-bytes_high_first n x)) ∙ ap (take n) (put-number l 0 n (omega arith) small)
+    let field = take n l in
+    let same = bytes-number field (AreBytes-front field (drop n l) (rw (take-append-drop n l) small)) in
+    subst (λ (k : ℕ). bytes_high_first k (number_of field) ≡ field) (length-take-le n l long) same
 
 -- and it is below 256 ^ n
 field_fits : (l : List ℕ) (n : ℕ) → n ≤ length l → AreBytes l → number_of (take n l) < 256 ^ n
 field_fits l n long small =
     let field = take n l in
-    let bound : number_of field < 256 ^ length field = rw (number-big field) (big_from-lt 0 (length field) field (AreBytes-front field (drop n l) (rw (take-append-drop n l) small))) in
+    let bound = number-fits field (AreBytes-front field (drop n l) (rw (take-append-drop n l) small)) in
     subst (λ (k : ℕ). number_of field < 256 ^ k) (length-take-le n l long) bound
-
-number_bytes : (n x : ℕ) → x < 256 ^ n → number_of (bytes_high_first n x) ≡ x
-unfolding put_at
-number_bytes n x fits =
-    let b = bytes_high_first n x in
-    let len = length-bytes_high_first n x in
-    ap number_of (sym (take_at b (drop (0 + n) b) n len)) ∙ number-put b 0 n x (omega arith) fits
 
 pub number_law : (n : ℕ) → Lawful ℕ (bytes_high_first n) (λ x. x < 256 ^ n) (number_at n)
 number_law n = record {
@@ -85,9 +77,9 @@ number_law n = record {
       let parts : l ≡ bytes_high_first n (number_of (take n l)) ++ drop n l = rw (field_bytes l n long small) (sym (take-append-drop n l)) in
       subst (λ (q : ℕ × List ℕ). (q.0 < 256 ^ n) × (l ≡ bytes_high_first n q.0 ++ q.1)) g.1 (field_fits l n long small, parts);
   again = λ x rest fits.
-      let len = length-bytes_high_first n x in
+      let len = length-number n x in
       let long : ltb (length (bytes_high_first n x ++ rest)) n ≡ false = le-ltb _ _ (omega (arith, length-append (bytes_high_first n x) rest)) in
-      rw (long, take_at (bytes_high_first n x) rest n len, drop_at (bytes_high_first n x) rest n len, number_bytes n x fits) refl;
+      rw (long, take_at (bytes_high_first n x) rest n len, drop_at (bytes_high_first n x) rest n len, number-bytes n x fits) refl;
   grows = λ l small e.
       let short : length l < n = ltb-true _ _ (guard_none (ltb (length l) n) (number_of (take n l), drop n l) e) in
       let zeros = replicate (n - length l) 0 in
