@@ -6,7 +6,7 @@ use Rattle.opclass_api.specs.Conditions.{compares}
 use Rattle.opclass_minmax.specs.Bounds.{Bounds, NothingYet}
 use Rattle.opclass_minmax.specs.Consistent.{consistent}
 
--- the summary may include a value that meets each condition; `is null` and `is not null` say nothing of it
+-- each condition by itself may be met by a value that the summary includes; `is null` and `is not null` are passed over
 abbrev pub keeps : Bounds → List Cond → Bool
 keeps s conds = consistent s (filter (λ c. compares c.op) conds)
 

@@ -14,7 +14,7 @@ use opclass_minmax::class::MinMax;
 use opclass_minmax::summary::Summary;
 use std::slice;
 
-/// Whether the summary may include a value that meets each condition.
+/// Whether each condition by itself may be met by a value that the summary includes.
 pub(crate) fn keeps(summary: &Summary, conds: &[Cond]) -> bool
     ensures answer { result ≡ keeps summary.now conds.now }
     ensures misses_no_match { result ≡ false → (v : Value) → Includes summary.now v → meets_all conds.now v ≡ false }

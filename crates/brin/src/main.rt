@@ -3,6 +3,8 @@
 // on standard error.
 #![tactic(auto)]
 
+ghost use Rattle.std.specs.Prelude.{◌≡◌, ◌↔◌, None};
+
 use block_model::NoMemory;
 use block_model::words::Words;
 use brin_app::brin_main;
@@ -28,8 +30,10 @@ fn words(rt: &HostRuntime) -> io::Result<Result<Words, NoMemory>> {
     Ok(Ok(words))
 }
 
-/// What is said of a status on standard error.
-fn text(status: u8) -> Option<&'static str> {
+/// What is said of a status on standard error. Only 0 has no text.
+fn text(status: u8) -> Option<&'static str>
+    ensures { (result ≡ None) ↔ (status ≡ 0) }
+{
     match status {
         0 => None,
         USAGE => Some("brin: usage"),
@@ -54,4 +58,14 @@ fn main(rt: HostRuntime) -> ExitCode {
         let _ = eprintln!(rt; "{text}");
     }
     ExitCode::from(status)
+}
+
+#[test]
+fn statuses_have_their_texts(rt: HostRuntime) {
+    assert!(rt; text(0) == None);
+    assert!(rt; text(2) == Some("brin: usage"));
+    assert!(rt; text(4) == Some("brin: read fault"));
+    assert!(rt; text(5) == Some("brin: write fault"));
+    assert!(rt; text(7) == Some("brin: out of memory"));
+    assert!(rt; text(8) == Some("brin: spent"));
 }
