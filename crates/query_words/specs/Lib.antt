@@ -2,6 +2,7 @@ pub mod Words
 pub mod Numbers
 pub mod Statements
 pub mod Lines
+pub mod OneColumn
 pub mod Declarations
 pub mod Texts
 pub mod StatementRequests

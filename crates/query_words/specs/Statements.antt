@@ -83,4 +83,5 @@ statement_of schema (verb ∷ words) =
     else if bytes_eq verb (codes "commit") then alone statements.Commit words
     else if bytes_eq verb (codes "insert") then insert_of schema words
     else if bytes_eq verb (codes "select") then option_map statements.Select (query_of schema words)
+    else if bytes_eq verb (codes "explain") then option_map statements.Explain (query_of schema words)
     else None

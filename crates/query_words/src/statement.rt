@@ -47,6 +47,11 @@ pub fn read_statement(alloc: Global, line: &[u8], schema: &Schema) -> Result<Sta
             Ok(query) => Ok(Statement::Select(query)),
             Err(fault) => Err(fault),
         }
+    } else if is_word(verb, b"explain") {
+        match read_query(alloc, rest, schema) {
+            Ok(query) => Ok(Statement::Explain(query)),
+            Err(fault) => Err(fault),
+        }
     } else {
         Err(SYNTAX)
     }
