@@ -19,7 +19,7 @@ use Rattle.block_model.specs.RequestEffect as model
 use Rattle.snapshot_core.specs.declared.statuses.Status.{Status}
 use Rattle.snapshot_core.specs.declared.statuses.Status.TheVariants.{Begun}
 use Rattle.snapshot_core.specs.Visibility.{is_committed}
-use Rattle.brin_app.specs.declared.store.Open.{Open}
+use Rattle.brin_app.specs.declared.versions.Open.{Open}
 use Rattle.query_words.specs.StatementRequests.{request_entry}
 use Rattle.brin_app.specs.VisibleState.{status_of, is_of_commit, is_seen, table_of, visible_transaction, visible_state, transaction_of, IsStored, IsUnderWay, AreApart, Gains}
 use Rattle.brin_app.proofs.Choices.{chosen, same_number}

@@ -16,7 +16,7 @@ use Rattle.block_model.specs.RequestEffect as model
 use Rattle.snapshot_core.specs.declared.statuses.Status.{Status}
 use Rattle.snapshot_core.specs.declared.statuses.Status.TheVariants.{Unused, Committed}
 use Rattle.snapshot_core.specs.Visibility.{is_committed}
-use Rattle.brin_app.specs.declared.store.Open.{Open}
+use Rattle.brin_app.specs.declared.versions.Open.{Open}
 use Rattle.query_words.specs.StatementRequests.{request_entry}
 use Rattle.brin_app.specs.VisibleState.{stored, status_of, sees_rows_of, is_of_commit, is_seen, table_of, visible_transaction, visible_state, transaction_of, IsStored, IsUnderWay, AreApart, Loses}
 use Rattle.brin_app.proofs.Choices.{chosen_none, other_number, other_number_eqb}

@@ -10,7 +10,7 @@ use Rattle.block_model.specs.declared.row.Row.{Row}
 use Rattle.block_model.specs.TableState.{TableState}
 use Rattle.block_model.specs.DatabaseState.{DatabaseState, OpenTransaction}
 use Rattle.snapshot_core.specs.declared.statuses.Status.{Status}
-use Rattle.brin_app.specs.declared.store.Open.{Open}
+use Rattle.brin_app.specs.declared.versions.Open.{Open}
 use Rattle.brin_app.specs.VisibleState.{table_of, is_seen, visible_transaction, visible_sessions, visible_state, transaction_of, Gains, Loses}
 
 mapped_cond : {X Y : Type 0} (f : X → Y) (b : Bool) (x : X) (o : Option X) → option_map f (cond b (Some x) o) ≡ cond b (Some (f x)) (option_map f o)

@@ -5,7 +5,7 @@ use Rattle.block_model.specs.declared.row.Row.{Row}
 use Rattle.block_model.specs.DatabaseState.{initial_state}
 use Rattle.snapshot_core.specs.declared.statuses.Status.{Status}
 use Rattle.snapshot_core.specs.declared.statuses.Status.TheVariants.{Unused}
-use Rattle.brin_app.specs.declared.store.Open.{Open}
+use Rattle.brin_app.specs.declared.versions.Open.{Open}
 use Rattle.brin_app.specs.VisibleState.{table_of, visible_state, IsStored}
 
 empty_parts : visible_state [] (Unused ∷ []) [] ≡ initial_state

@@ -12,7 +12,7 @@ use Rattle.block_model.specs.TableState.{id_cmp}
 use Rattle.block_model.specs.DatabaseState.{DatabaseState}
 use Rattle.block_model.specs.RequestEffect as model
 use Rattle.snapshot_core.specs.declared.statuses.Status.{Status}
-use Rattle.brin_app.specs.declared.store.Open.{Open}
+use Rattle.brin_app.specs.declared.versions.Open.{Open}
 use Rattle.query_words.specs.StatementRequests.{request_entry}
 use Rattle.brin_app.specs.Places.{places}
 use Rattle.brin_app.specs.VisibleState.{is_seen, answers, visible_state, transaction_of, IsStored}

@@ -5,7 +5,7 @@ use Rattle.snapshot_core.specs.declared.statuses.Status.{Status}
 use Rattle.snapshot_core.specs.declared.statuses.Status.TheVariants.{Unused}
 use Rattle.snapshot_core.specs.declared.snapshots.Snapshot.{Snapshot}
 use Rattle.snapshot_core.specs.Visibility.{sees, is_committed, was_active, had_ended, has_done}
-use Rattle.brin_app.specs.declared.store.Open.{Open}
+use Rattle.brin_app.specs.declared.versions.Open.{Open}
 use Rattle.brin_app.specs.VisibleState.{status_of, sees_rows_of}
 
 pub status_before : (ss : List Status) (s : Status) (t : ℕ) → t < length ss → status_of (ss ++ s ∷ []) t ≡ status_of ss t

@@ -1,5 +1,11 @@
+pub mod Chunks
+pub mod ExplainedBlocks
+pub mod CoversMatches
+pub mod RangeSummaries
+pub mod VisibleState
+pub mod StoreState
+pub mod StoreInvariant
 pub mod SessionPlaces
 pub mod Acts
 pub mod ScriptOutput
 pub mod Places
-pub mod VisibleState

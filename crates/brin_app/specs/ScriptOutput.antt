@@ -3,6 +3,7 @@ use Rattle.std.specs.Prelude.{◌≡◌, ◌↔◌, ◌⊎◌, ℕ, ◌+◌, ◌
 use Rattle.block_model.specs.declared.schema.Schema.{Schema}
 use Rattle.block_model.specs.Causes.{Rose}
 use Rattle.query_words.specs.ScriptTexts.{ScriptPlace, script_start, IsLineText}
+use Rattle.brin_app.specs.ExplainedBlocks.{explained}
 use Rattle.script_run.specs.declared.run.RunEnd.{RunEnd}
 use Rattle.script_run.specs.declared.run.RunEnd.TheVariants as ends
 use Rattle.script_run.specs.Runs.{Ran}
@@ -23,7 +24,7 @@ exit_status ends.Spent = 8
 -- each session worked on its own copy of the tables, and the status says how far that went.
 abbrev pub IsScriptOutput : ℕ → Schema → Option (List ℕ) → Option (List ℕ) → Option (List ℕ) → Option (List ℕ) → Type 0
 IsScriptOutput status schema left left' taken taken' =
-    (end : RunEnd) × (after : ScriptPlace) × (status ≡ exit_status end) × Ran (IsLineText schema) script_start after script_limit end left left' taken taken'
+    (end : RunEnd) × (after : ScriptPlace) × (status ≡ exit_status end) × Ran (IsLineText (explained schema) schema) script_start after script_limit end left left' taken taken'
 
 -- Where the source tells its bytes, status 8 comes exactly where as many as the limit were taken and then another.
 abbrev pub IsSpentExactly : ℕ → Option (List ℕ) → Option (List ℕ) → Type 0

@@ -1,5 +1,6 @@
 -- the state of private copies for which the stored row versions, statuses and open transactions stand
-use Rattle.std.specs.Prelude.{◌≡◌, ◌≢◌, ℕ, ◌<◌, ◌≤◌, Bool, false, ◌&&◌, List, filter, map, length, slice_index_or, Option, None, Some, if◌then◌else◌}
+use Rattle.std.specs.Prelude.{refl, ◌≡◌, ◌≢◌, ℕ, ◌<◌, ◌≤◌, Bool, false, ◌&&◌, List, filter, map, length, slice_index_or, Option, None, Some, if◌then◌else◌}
+use Rattle.std.specs.Coded.{Coded, code_by, coded×, coded_list}
 use Rattle.std.specs.List.{IsDistinct}
 use Rattle.std.specs.Ordering.{nat_cmp, eq_by_cmp}
 use Rattle.std.specs.BTreeMap.{is_at}
@@ -11,11 +12,11 @@ use Rattle.block_model.specs.declared.row.Row.{Row}
 use Rattle.block_model.specs.declared.row.Query.{Query}
 use Rattle.block_model.specs.RowMatches.{row_matches}
 use Rattle.block_model.specs.TableState.{TableState, id_cmp}
-use Rattle.block_model.specs.DatabaseState.{DatabaseState, OpenTransaction}
+use Rattle.block_model.specs.DatabaseState.{DatabaseState, OpenTransaction, coded_database, coded_row}
 use Rattle.snapshot_core.specs.declared.statuses.Status.{Status}
 use Rattle.snapshot_core.specs.declared.statuses.Status.TheVariants.{Unused, Begun}
 use Rattle.snapshot_core.specs.Visibility.{sees, is_committed, had_ended}
-use Rattle.brin_app.specs.declared.store.Open.{Open}
+use Rattle.brin_app.specs.declared.versions.Open.{Open}
 
 -- each row with its id
 abbrev pub by_id : List Row → List (RowId × Row)
@@ -60,6 +61,18 @@ visible_sessions statuses rows sessions = from_entries (map (λ e. (e.0, visible
 -- the table has the rows of commits, and the number 0 isn't used
 abbrev pub visible_state : List Row → List Status → List (ℕ × Open) → DatabaseState
 visible_state rows statuses sessions = record { next = length statuses; table = table_of (is_of_commit statuses) rows; sessions = visible_sessions statuses rows sessions }
+
+-- what is stored: the database, and the rows in the order in which they were put
+pub record StoredRows : Type 0 where
+  pub database : DatabaseState
+  pub rows : List Row
+
+-- what rows, statuses and open transactions stand for
+abbrev pub stored_rows : List Row → List Status → List (ℕ × Open) → StoredRows
+stored_rows rows statuses sessions = record { database = visible_state rows statuses sessions; rows = rows }
+
+abbrev pub coded_rows : Coded StoredRows
+coded_rows = code_by (DatabaseState × List Row) (coded× coded_database (coded_list coded_row)) (λ s. (s.database, s.rows)) (λ p. record { database = p.0; rows = p.1 }) (λ _. refl)
 
 -- the transaction of the session of that number
 abbrev pub transaction_of : List (ℕ × Open) → ℕ → Option Open

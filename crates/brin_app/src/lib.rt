@@ -3,8 +3,11 @@
 // table. It stands on the words (query_words), the loop over lines (script_run) and the store of row versions.
 #![tactic(auto)]
 
+mod list;
+mod ranges;
 mod sessions;
 mod store;
 mod top;
+mod versions;
 
 pub use top::brin_main;

@@ -1,9 +1,12 @@
 // The sessions of a script.
 
-ghost use Rattle.std.specs.Prelude.{◌≡◌, ◌≤◌, ◌++◌, Ok, Some, IfOk, OnOk, OnErr, length};
+ghost use Rattle.std.specs.Prelude.{◌≡◌, ◌≤◌, ◌++◌, ℕ, Ok, Some, IfOk, OnOk, OnErr, length};
 ghost use Rattle.query_words.specs.ScriptTexts.{script_start, session_number, with_session, line_answer, said_answer, statement_answer, place_after};
 ghost use Rattle.brin_app.specs.Acts.{Acts, IsSpoken, IsSpokenLine};
 ghost use Rattle.brin_app.specs.SessionPlaces.{place_of};
+ghost use Rattle.brin_app.specs.StoreInvariant.{IsOneNumber, AreOnFirst};
+ghost use Rattle.brin_app.specs.ExplainedBlocks.{explained};
+ghost use Rattle.query_words.specs.OneColumn.{IsOneColumn};
 
 use crate::store::Store;
 use block_model::NoMemory;
@@ -22,7 +25,6 @@ use std::alloc::Global;
 #[derive(Drop)]
 pub struct Sessions {
     pub alloc: Global,
-    pub schema: Schema,
     pub names: Vec<Name>,
     pub store: Store,
 }
@@ -42,13 +44,13 @@ impl Sessions {
 
     /// No session and no row.
     pub fn new(alloc: Global, schema: Schema) -> Result<Sessions, NoMemory>
+        requires { IsOneColumn schema }
         ensures place { IfOk result (λ s. place_of s ≡ script_start) }
-        ensures schema { IfOk result (λ s. s.schema ≡ schema) }
+        ensures schema { IfOk result (λ s. s.store.schema ≡ schema) }
     {
-        let store = Store::new(alloc)?;
+        let store = Store::new(alloc, schema)?;
         Ok(Sessions {
             alloc,
-            schema,
             names: Vec::new(alloc),
             store,
         })
@@ -88,11 +90,11 @@ fn place_of_name(names: &[Name], name: &Name) -> usize
 
 /// Appends the text of a line, and does what it says.
 fn answer_line(sessions: &mut Sessions, line: &[u8], out: &mut Vec<u8>) -> Result<(), NoMemory>
-    ensures text { OnOk result (out.new.items ≡ out.old.items ++ (line_answer sessions.old.schema (place_of sessions.old) line.now).text) }
-    ensures place { OnOk result (place_of sessions.new ≡ place_after (place_of sessions.old) (line_answer sessions.old.schema (place_of sessions.old) line.now)) }
-    ensures schema { OnOk result (sessions.new.schema ≡ sessions.old.schema) }
+    ensures text { OnOk result (out.new.items ≡ out.old.items ++ (line_answer (explained sessions.old.store.schema) sessions.old.store.schema (place_of sessions.old) line.now).text) }
+    ensures place { OnOk result (place_of sessions.new ≡ place_after (place_of sessions.old) (line_answer (explained sessions.old.store.schema) sessions.old.store.schema (place_of sessions.old) line.now)) }
+    ensures schema { OnOk result (sessions.new.store.schema ≡ sessions.old.store.schema) }
 {
-    match read_line(sessions.alloc, line, &sessions.schema) {
+    match read_line(sessions.alloc, line, sessions.store.schema()) {
         Ok(line) => obey(sessions, line, out),
         Err(LineFault::Memory) => Err(NoMemory),
         Err(fault) => render_fault(fault, out),
@@ -101,9 +103,9 @@ fn answer_line(sessions: &mut Sessions, line: &[u8], out: &mut Vec<u8>) -> Resul
 
 fn obey(sessions: &mut Sessions, line: Line, out: &mut Vec<u8>) -> Result<(), NoMemory>
     requires { IsSpokenLine line }
-    ensures text { OnOk result (out.new.items ≡ out.old.items ++ (said_answer (place_of sessions.old) (Ok line)).text) }
-    ensures place { OnOk result (place_of sessions.new ≡ place_after (place_of sessions.old) (said_answer (place_of sessions.old) (Ok line))) }
-    ensures schema { OnOk result (sessions.new.schema ≡ sessions.old.schema) }
+    ensures text { OnOk result (out.new.items ≡ out.old.items ++ (said_answer (explained sessions.old.store.schema) (place_of sessions.old) (Ok line)).text) }
+    ensures place { OnOk result (place_of sessions.new ≡ place_after (place_of sessions.old) (said_answer (explained sessions.old.store.schema) (place_of sessions.old) (Ok line))) }
+    ensures schema { OnOk result (sessions.new.store.schema ≡ sessions.old.store.schema) }
 {
     match line {
         Line::Nothing => Ok(()),
@@ -121,9 +123,9 @@ fn say(
     out: &mut Vec<u8>,
 ) -> Result<(), NoMemory>
     requires { IsSpoken statement }
-    ensures text { OnOk result (out.new.items ≡ out.old.items ++ (statement_answer (place_of sessions.old) session.now statement).text) }
-    ensures place { OnOk result (place_of sessions.new ≡ place_after (place_of sessions.old) (statement_answer (place_of sessions.old) session.now statement)) }
-    ensures schema { OnOk result (sessions.new.schema ≡ sessions.old.schema) }
+    ensures text { OnOk result (out.new.items ≡ out.old.items ++ (statement_answer (explained sessions.old.store.schema) (place_of sessions.old) session.now statement).text) }
+    ensures place { OnOk result (place_of sessions.new ≡ place_after (place_of sessions.old) (statement_answer (explained sessions.old.store.schema) (place_of sessions.old) session.now statement)) }
+    ensures schema { OnOk result (sessions.new.store.schema ≡ sessions.old.store.schema) }
 {
     let number = number_for(&mut sessions.names, session)?;
     let reply = act(&mut sessions.store, number, statement)?;
@@ -140,6 +142,7 @@ fn act(store: &mut Store, session: u32, statement: Statement) -> Result<Reply, N
         Statement::Commit => commit(store, session),
         Statement::Insert { table, values } => insert(store, session, table, values),
         Statement::Select(query) => select(store, session, &query),
+        Statement::Explain(query) => explain(store, &query),
         _ => unreachable!(),
     }
 }
@@ -165,6 +168,7 @@ fn commit(store: &mut Store, session: u32) -> Result<Reply, NoMemory>
 }
 
 fn insert(store: &mut Store, session: u32, table: u8, values: Values) -> Result<Reply, NoMemory>
+    requires { IsOneNumber values }
     ensures { IfOk result (λ reply. Acts store.old session (Statement.Insert table values) store.new reply) }
 {
     if store.is_open(session) {
@@ -175,6 +179,7 @@ fn insert(store: &mut Store, session: u32, table: u8, values: Values) -> Result<
 }
 
 fn select(store: &Store, session: u32, query: &Query) -> Result<Reply, NoMemory>
+    requires { AreOnFirst query.now.conds }
     ensures { IfOk result (λ reply. Acts store.now session (Statement.Select query.now) store.now reply) }
 {
     if store.is_open(session) {
@@ -182,4 +187,12 @@ fn select(store: &Store, session: u32, query: &Query) -> Result<Reply, NoMemory>
         return Ok(Reply::Found(rows));
     }
     Ok(Reply::Refused(Refusal::NoTransaction))
+}
+
+fn explain(store: &Store, query: &Query) -> Result<Reply, NoMemory>
+    requires { AreOnFirst query.now.conds }
+    ensures { IfOk result (λ reply. (session : ℕ) → Acts store.now session (Statement.Explain query.now) store.now reply) }
+{
+    let blocks = store.explain(query)?;
+    Ok(Reply::Kept(blocks))
 }

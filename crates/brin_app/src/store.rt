@@ -1,338 +1,182 @@
-// The store: one list of row versions in the order in which they were put, the status of each transaction, and the open
-// transactions with their snapshots.
+// The store of one table: its row versions, and the summaries of its ranges where it has an index. A select reads the
+// candidate blocks alone, and an explain names them.
 
-ghost use Rattle.std.specs.Prelude.{◌≡◌, ◌+◌, ◌^◌, ◌<◌, false, None, OnOk, OnErr, IfOk, IfSome, map, [], ◌∷◌, ◌++◌};
-ghost use Rattle.std.specs.Prelude.{length, slice_index_or, vec_len, vec_capacity, All, IsPermutation, IsSorted};
-ghost use Rattle.std.specs.Ordering.{nat_cmp, ordering_then};
-ghost use Rattle.std.specs.BTreeMap.{IsOrdered, values};
+ghost use Rattle.std.specs.Prelude.{◌≡◌, ◌+◌, ◌-◌, ◌/◌, ◌^◌, ◌∷◌, ◌++◌, ◌<◌, ◌≤◌, [], None, false, OnOk, OnErr, IfOk, IfSome, length};
 ghost use Rattle.std.specs.FinMap as map_of;
-ghost use Rattle.block_model.specs.TableState.{id_cmp};
-ghost use Rattle.block_model.specs.declared.row.Row.{Row};
 ghost use Rattle.block_model.specs.declared.request.Request.TheVariants as requests;
-ghost use Rattle.block_model.specs.DatabaseState.{initial_state};
 ghost use Rattle.block_model.specs.RequestEffect.{effect, Begun, Inserted, Found, Committed};
 ghost use Rattle.query_words.specs.StatementRequests.{request_entry};
+ghost use Rattle.query_words.specs.ScriptTexts.{row_put};
+ghost use Rattle.query_words.specs.OneColumn.{IsOneColumn};
 ghost use Rattle.brin_app.specs.Acts.{HasTransaction};
-ghost use Rattle.brin_app.specs.VisibleState.{transaction_of, sees_rows_of, status_of, answers, Gains, Loses, with_next_k};
-ghost use Rattle.brin_app.specs.Places.{places};
+ghost use Rattle.brin_app.specs.Chunks.{extent_of};
+ghost use Rattle.brin_app.specs.CoversMatches.{CoversMatches};
+ghost use Rattle.brin_app.specs.ExplainedBlocks.{explained, rows_per_page_of};
+ghost use Rattle.brin_app.specs.StoreState.{StoreState, empty_store, with_database};
+ghost use Rattle.brin_app.specs.StoreInvariant.{IsOneNumber, AreOnFirst};
 
+use crate::ranges::{Ranges, make_room_for_range, ranges_of, widen};
+use crate::versions::Versions;
+use bitmap_scan::{all_blocks, given};
 use block_model::NoMemory;
-use block_model::place::Numbers;
-use block_model::row::{Query, Row, RowId, Rows, row_matches};
+use block_model::place::Blocks;
+use block_model::row::{Query, RowId, Rows};
+use block_model::schema::Schema;
 use block_model::value::Values;
-use snapshot_core::{Snapshot, Status, sees};
 use std::alloc::Global;
-use std::collections::BTreeMap;
 use std::marker::Model;
 
-/// How many rows a transaction puts at most, since their places are numbered by a `u32`. Want of memory is answered there:
-/// a row takes 288 bytes, so as many take over a terabyte.
-const MAX_PLACES: u32 = u32::MAX;
+/// How many rows a table takes, since its blocks are numbered by a `u32`. Want of memory is answered there: a row takes 288
+/// bytes, so as many take over a terabyte.
+const MAX_ROWS: usize = u32::MAX as usize;
 
-/// A session's transaction that is under way: its number, the place of its next row, and what it sees of others.
-#[derive(Debug, Drop)]
-struct Open {
-    t: u64,
-    next_k: u32,
-    snapshot: Snapshot,
-}
-
-/// The tables of a database, in memory. Seen as the database whose transactions each work on a copy of the tables.
+/// A database of one table, in memory, with the summaries of its index. Seen as its schema, the database whose transactions
+/// each work on a copy of the table, and the rows in the order in which they were put.
 #[derive(Drop)]
 pub struct Store {
     alloc: Global,
-    rows: Vec<Row>,
-    statuses: Vec<Status>,
-    sessions: BTreeMap<u32, Open>,
+    schema: Schema,
+    rows_per_page: u32,
+    versions: Versions,
+    ranges: Option<Ranges>,
 }
 
 impl Model for Store {
-    ghost use Rattle.block_model.specs.DatabaseState.{DatabaseState, coded_database};
+    ghost use Rattle.brin_app.specs.StoreState.{StoreState, coded_store};
 
-    ghost Value = { DatabaseState };
+    ghost Value = { StoreState };
 
-    ghost coded = { coded_database };
+    ghost coded = { coded_store };
 
-    ghost use Rattle.brin_app.specs.VisibleState.{visible_state, IsStored};
+    ghost use Rattle.brin_app.specs.StoreInvariant.{IsKept};
 
-    ghost view = { λ a. visible_state a.rows.items a.statuses.items a.sessions.entries };
+    ghost view = { λ a. record { schema = a.schema; database = a.versions.database; rows = a.versions.rows } };
 
-    ghost invariant = { λ a. IsStored a.rows.items a.statuses.items a.sessions.entries };
+    ghost invariant = { λ a. IsKept a.schema a.rows_per_page a.versions.rows a.ranges };
 }
 
 impl Store {
-    /// A new database: no rows, and no transactions.
-    pub fn new(alloc: Global) -> Result<Store, NoMemory>
-        ensures { IfOk result (λ store. store ≡ initial_state) }
+    /// A new database of these tables and indexes: no rows, and no transactions.
+    pub fn new(alloc: Global, schema: Schema) -> Result<Store, NoMemory>
+        requires { IsOneColumn schema }
+        ensures { IfOk result (λ store. store ≡ empty_store schema) }
     {
-        let mut statuses = Vec::new(alloc);
-        match statuses.push(Status::Unused) {
-            Ok(()) => Ok(Store {
-                alloc,
-                rows: Vec::new(alloc),
-                statuses,
-                sessions: BTreeMap::new(alloc),
-            }),
-            Err(_) => Err(NoMemory),
-        }
+        let rows_per_page = rows_per_page(&schema);
+        let ranges = ranges_of(alloc, &schema);
+        let versions = Versions::new(alloc)?;
+        Ok(Store {
+            alloc,
+            schema,
+            rows_per_page,
+            versions,
+            ranges,
+        })
+    }
+
+    /// The tables and indexes: one table of one column of numbers, and at most one index.
+    pub fn schema(&self) -> &Schema
+        ensures schema { result.now ≡ self.now.schema }
+        ensures one_column { IsOneColumn self.now.schema }
+    {
+        &self.schema
     }
 
     /// Whether the session has a transaction under way. None of them has failed.
     pub fn is_open(&self, session: u32) -> bool
-        ensures under_way { result ≡ map_of.contains_key self.now.sessions session }
-        ensures unfailed { IfSome (map_of.get self.now.sessions session) (λ x. x.failed ≡ false) }
+        ensures under_way { result ≡ map_of.contains_key self.now.database.sessions session }
+        ensures unfailed { IfSome (map_of.get self.now.database.sessions session) (λ x. x.failed ≡ false) }
     {
-        self.sessions.contains_key(&session)
+        self.versions.is_open(session)
     }
 
     /// Begins a transaction of the session, and answers its number. After a refusal nothing is changed.
     pub fn begin(&mut self, session: u32) -> Result<u64, NoMemory>
-        requires { map_of.get self.old.sessions session ≡ None }
-        ensures ok { IfOk result (λ t. effect self.old (request_entry session 0 requests.Begin) ≡ (self.new, Begun t)) }
+        requires { map_of.get self.old.database.sessions session ≡ None }
+        ensures ok { IfOk result (λ t. effect self.old.database (request_entry session 0 requests.Begin) ≡ (self.new.database, Begun t)) }
+        ensures rest { OnOk result (self.new ≡ with_database self.old self.new.database) }
         ensures err { OnErr result (self.new ≡ self.old) }
     {
-        let active = numbers_of(self.alloc, &self.sessions)?;
-        make_room(&mut self.statuses)?;
-        let t = self.statuses.len() as u64;
-        let open = Open {
-            t,
-            next_k: 0,
-            snapshot: Snapshot { next: t, active },
-        };
-        insert_open(&mut self.sessions, session, open)?;
-        push_within(&mut self.statuses, Status::Begun);
-        Ok(t)
+        self.versions.begin(session)
     }
 
-    /// Puts a row of the session's transaction into the table of that number, and answers its id. After a refusal nothing
-    /// is changed.
+    /// Puts a row of the session's transaction into the table of that number, widens the summary of the row's range, and
+    /// answers the row's id. After a refusal nothing is changed.
     pub fn put(&mut self, session: u32, table: u8, values: Values) -> Result<RowId, NoMemory>
-        requires { HasTransaction self.old session }
-        ensures ok { IfOk result (λ id. effect self.old (request_entry session table (requests.Put values)) ≡ (self.new, Inserted id)) }
+        requires under_way { HasTransaction self.old.database session }
+        requires number { IsOneNumber values }
+        ensures ok { IfOk result (λ id. effect self.old.database (request_entry session table (requests.Put values)) ≡ (self.new.database, Inserted id)) }
+        ensures rows { IfOk result (λ id. self.new.rows ≡ self.old.rows ++ row_put table id values ∷ []) }
+        ensures schema { self.new.schema ≡ self.old.schema }
         ensures err { OnErr result (self.new ≡ self.old) }
     {
-        let Some(open) = self.sessions.get(&session) else {
-            unreachable!()
-        };
-        if open.next_k == MAX_PLACES {
+        let place = self.versions.len();
+        if place == MAX_ROWS {
             return Err(NoMemory);
         }
-        let id = RowId {
-            t: open.t,
-            k: open.next_k,
-        };
-        push(&mut self.rows, Row { table, id, values })?;
-        count_row(&mut self.sessions, session);
+        make_room_for_range(&mut self.ranges)?;
+        let id = self.versions.put(session, table, values)?;
+        widen(&mut self.ranges, self.rows_per_page, place, values.as_slice());
         Ok(id)
     }
 
-    /// The rows that the session's transaction sees and that meet the query, in order of their ids.
+    /// The rows that the session's transaction sees and that meet the query, in order of their ids. Only candidate blocks
+    /// are read.
     pub fn look(&self, session: u32, query: &Query) -> Result<Rows, NoMemory>
-        requires { HasTransaction self.now session }
-        ensures { IfOk result (λ rows. effect self.now (request_entry session query.now.table (requests.Look query.now)) ≡ (self.now, Found rows)) }
+        requires under_way { HasTransaction self.now.database session }
+        requires on_first { AreOnFirst query.now.conds }
+        ensures { IfOk result (λ rows. effect self.now.database (request_entry session query.now.table (requests.Look query.now)) ≡ (self.now.database, Found rows)) }
     {
-        let Some(open) = self.sessions.get(&session) else {
-            unreachable!()
-        };
-        let rows = self.rows.as_slice();
-        let mut hits = find_hits(self.alloc, rows, self.statuses.as_slice(), open, query)?;
-        sort_hits(&mut hits);
-        gathered(self.alloc, rows, hits.as_slice())
+        let blocks = self.explain(query)?;
+        self.versions
+            .look(session, query, blocks.as_slice(), self.rows_per_page)
+    }
+
+    /// The candidate blocks of the query: those that a scan must read, in ascending order.
+    pub fn explain(&self, query: &Query) -> Result<Blocks, NoMemory>
+        requires { AreOnFirst query.now.conds }
+        ensures blocks { IfOk result (λ blocks. blocks ≡ explained self.now.schema self.now.rows query.now) }
+        ensures covers { IfOk result (CoversMatches self.now.rows query.now (rows_per_page_of self.now.schema.tables)) }
+    {
+        let mut blocks = Blocks::new(self.alloc);
+        let extent = extent(self.versions.len(), self.rows_per_page);
+        match &self.ranges {
+            Some(ranges) => given(
+                ranges.summaries.as_slice(),
+                query.conds.as_slice(),
+                extent,
+                ranges.pages_per_range,
+                &mut blocks,
+            )?,
+            None => all_blocks(extent, &mut blocks)?,
+        }
+        Ok(blocks)
     }
 
     /// Commits the session's transaction.
     pub fn commit(&mut self, session: u32)
-        requires { HasTransaction self.old session }
-        ensures { effect self.old (request_entry session 0 requests.Commit) ≡ (self.new, Committed) }
+        requires { HasTransaction self.old.database session }
+        ensures database { effect self.old.database (request_entry session 0 requests.Commit) ≡ (self.new.database, Committed) }
+        ensures rest { self.new ≡ with_database self.old self.new.database }
     {
-        let Some(open) = remove_open(&mut self.sessions, session) else {
-            unreachable!()
-        };
-        self.statuses[open.t as usize] = Status::Committed;
+        self.versions.commit(session);
     }
 }
 
-/// The id of a row, and where it stands in the list of rows.
-type Hit = (RowId, usize);
-
-/// The rows that the transaction sees and that meet the query, in the order in which they were put. Rows of one
-/// transaction mostly stand together, so the last transaction's verdict is kept.
-fn find_hits(
-    alloc: Global,
-    rows: &[Row],
-    statuses: &[Status],
-    open: &Open,
-    query: &Query,
-) -> Result<Vec<Hit>, NoMemory>
-    ensures { IfOk result (λ hits. hits.items ≡ places (answers statuses.now «open».now query.now) 0 rows.now) }
+/// How many rows a page of the table has.
+fn rows_per_page(schema: &Schema) -> u32
+    ensures { result ≡ rows_per_page_of schema.now.tables }
 {
-    let mut hits = Vec::new(alloc);
-    let mut judged = open.t;
-    let mut seen = sees_rows_of(statuses, open, judged);
-    for (at, row) in rows.iter().enumerate() {
-        if row.id.t != judged {
-            judged = row.id.t;
-            seen = sees_rows_of(statuses, open, judged);
-        }
-        if seen && row_matches(row, query) {
-            push(&mut hits, (row.id, at))?;
-        }
-    }
-    Ok(hits)
-}
-
-/// Brings them in order of their ids. Takes no memory, and time in proportion to their number where they are in order.
-fn sort_hits(hits: &mut Vec<Hit>)
-    ensures permutation { IsPermutation hits.old.items hits.new.items }
-    ensures sorted { IsSorted (λ a b. ordering_then (id_cmp a.0 b.0) (nat_cmp a.1 b.1)) hits.new.items }
-{
-    hits.sort_unstable();
-}
-
-/// Copies of the rows at these places.
-fn gathered(alloc: Global, rows: &[Row], hits: &[Hit]) -> Result<Rows, NoMemory>
-    requires { All (λ hit. hit.1 < length rows.now) hits.now }
-    ensures { IfOk result (λ found. (d : Row) → found ≡ map (λ hit. slice_index_or rows.now hit.1 d) hits.now) }
-{
-    let mut found = Rows::new(alloc);
-    for (_, at) in hits {
-        found.push(rows[*at].copied())?;
-    }
-    Ok(found)
-}
-
-fn sees_rows_of(statuses: &[Status], open: &Open, t: u64) -> bool
-    ensures { result ≡ sees_rows_of statuses.now «open».now t }
-{
-    sees(
-        &open.snapshot,
-        open.t,
-        t,
-        0,
-        status_of(statuses, t),
-        Status::Unused,
-    )
-}
-
-fn status_of(statuses: &[Status], t: u64) -> Status
-    ensures { result ≡ status_of statuses.now t }
-{
-    if t < statuses.len() as u64 {
-        statuses[t as usize]
-    } else {
-        Status::Unused
+    match schema.tables.as_slice() {
+        [] => 1,
+        [table, ..] => u32::from(table.rows_per_page),
     }
 }
 
-/// The numbers of the open transactions.
-fn numbers_of(alloc: Global, sessions: &BTreeMap<u32, Open>) -> Result<Numbers, NoMemory>
-    ensures numbers { IfOk result (λ numbers. numbers ≡ map (λ o. o.t) (values sessions.now)) }
-    ensures ordered { IsOrdered nat_cmp sessions.now }
+/// How many blocks so many rows fill.
+fn extent(rows: usize, rows_per_page: u32) -> u32
+    requires some { 1 ≤ rows_per_page }
+    requires few { rows < 2 ^ 32 }
+    ensures { result ≡ (rows + (rows_per_page - 1)) / rows_per_page }
 {
-    match sessions.values().map(|open| open.t).collect(alloc) {
-        Ok(numbers) => Ok(Numbers::from_vec(numbers)),
-        Err(_) => Err(NoMemory),
-    }
-}
-
-/// The session gets the transaction. After a refusal nothing is changed.
-fn insert_open(sessions: &mut BTreeMap<u32, Open>, session: u32, new: Open) -> Result<(), NoMemory>
-    ensures ok { OnOk result (Gains sessions.old.entries sessions.new.entries session new) }
-    ensures err { OnErr result (sessions.new.entries ≡ sessions.old.entries) }
-{
-    match sessions.insert(session, new) {
-        Ok(_) => Ok(()),
-        Err(_) => Err(NoMemory),
-    }
-}
-
-/// The session's transaction ends.
-fn remove_open(sessions: &mut BTreeMap<u32, Open>, session: u32) -> Option<Open>
-    ensures was { result ≡ transaction_of sessions.old.entries session }
-    ensures gone { Loses sessions.old.entries sessions.new.entries session }
-{
-    sessions.remove(&session)
-}
-
-/// The session's transaction has put one row more.
-fn count_row(sessions: &mut BTreeMap<u32, Open>, session: u32)
-    requires { IfSome (transaction_of sessions.old.entries session) (λ o. o.next_k + 1 < 2 ^ 32) }
-    ensures { IfSome (transaction_of sessions.old.entries session) (λ o. Gains sessions.old.entries sessions.new.entries session (with_next_k o (o.next_k + 1))) }
-{
-    if let Some(open) = sessions.get_mut(&session) {
-        open.next_k += 1;
-    }
-}
-
-/// Adds one at the end. After a refusal nothing is changed.
-fn push<T>(list: &mut Vec<T>, item: T) -> Result<(), NoMemory>
-where
-    T: Drop,
-    ensures ok { OnOk result (list.new.items ≡ list.old.items ++ item ∷ []) }
-    ensures err { OnErr result (list.new.items ≡ list.old.items) }
-{
-    match list.push(item) {
-        Ok(()) => Ok(()),
-        Err(_) => Err(NoMemory),
-    }
-}
-
-/// Makes room for one more.
-fn make_room(statuses: &mut Vec<Status>) -> Result<(), NoMemory>
-    ensures same { statuses.new.items ≡ statuses.old.items }
-    ensures ok { OnOk result (vec_len statuses.new < vec_capacity statuses.new) }
-{
-    match statuses.reserve(1) {
-        Ok(()) => Ok(()),
-        Err(_) => Err(NoMemory),
-    }
-}
-
-/// Adds one at the end, where there is room. Takes no memory.
-fn push_within(statuses: &mut Vec<Status>, status: Status)
-    requires { vec_len statuses.old < vec_capacity statuses.old }
-    ensures { statuses.new.items ≡ statuses.old.items ++ status ∷ [] }
-{
-    let Ok(()) = statuses.push(status) else {
-        unreachable!()
-    };
-}
-
-#[cfg(test)]
-mod tests {
-    use super::*;
-    use block_model::row::Conds;
-
-    #[test]
-    fn rows_are_found_in_order_of_their_transactions(rt: HostRuntime) {
-        let mut store = Store::new(rt.alloc()).expect(&rt, "memory for a store");
-        for session in 0..2 {
-            if !store.is_open(session) {
-                assert!(rt; store.begin(session).is_ok());
-            }
-        }
-        for session in [1, 0] {
-            if store.is_open(session) {
-                assert!(rt; store.put(session, 0, Values::new()).is_ok());
-            }
-            if store.is_open(session) {
-                store.commit(session);
-            }
-        }
-        if !store.is_open(2) {
-            assert_eq!(rt; store.begin(2), Ok(3));
-        }
-        let query = Query {
-            table: 0,
-            conds: Conds::new(rt.alloc()),
-        };
-        if store.is_open(2) {
-            let rows = store.look(2, &query).expect(&rt, "memory for two rows");
-            let mut numbers = [0; 2];
-            for (number, row) in numbers.iter_mut().zip(rows.as_slice()) {
-                *number = row.id.t;
-            }
-            assert_eq!(rt; (rows.len(), numbers), (2, [1, 2]));
-        }
-    }
+    (rows as u32).div_ceil(rows_per_page)
 }

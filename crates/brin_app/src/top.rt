@@ -3,6 +3,7 @@
 ghost use Rattle.std.specs.Prelude.{◌≡◌, ◌↔◌, ◌≤◌, None, IfSome, OnSome};
 ghost use Rattle.block_model.specs.Causes.{Rose};
 ghost use Rattle.query_words.specs.Declarations.{declared};
+ghost use Rattle.query_words.specs.OneColumn.{IsOneColumn};
 ghost use Rattle.brin_app.specs.ScriptOutput.{IsScriptOutput, IsSpentExactly, IsComplete, exit_status, script_limit};
 
 use crate::sessions::Sessions;
@@ -52,6 +53,7 @@ pub fn brin_main<S: Source, K: Sink>(
 
 /// Runs the script of the source over a new database.
 fn run_script<S: Source, K: Sink>(alloc: Global, schema: Schema, source: &mut S, sink: &mut K) -> u8
+    requires { IsOneColumn schema }
     ensures script_output { IsScriptOutput result schema (S.left source.old) (S.left source.new) (K.taken sink.old) (K.taken sink.new) }
     ensures read_fault { result ≡ 4 → Rose (S.faults source.old) (S.faults source.new) }
     ensures write_fault { result ≡ 5 → Rose (K.faults sink.old) (K.faults sink.new) }

@@ -4,7 +4,7 @@ use Rattle.snapshot_core.specs.declared.statuses.Status.{Status}
 use Rattle.snapshot_core.specs.declared.statuses.Status.TheVariants as statuses
 use Rattle.brin_app.specs.VisibleState.{visible_state, IsStored, Gains}
 use Rattle.brin_app.proofs.Begins.{begun_stored, begun_effect}
-use Rattle.brin_app.proofs.store.Store.begin.Goals as goal
+use Rattle.brin_app.proofs.versions.Versions.begin.Goals as goal
 
 -- the number is that of the statuses
 number : (c : goal.After-push_within) → c.len-t.result ≡ length c.self.inside.statuses.items

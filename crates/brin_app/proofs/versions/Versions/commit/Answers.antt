@@ -1,7 +1,7 @@
 use Rattle.std.proofs.Common.{◌<◌, sym, ◌∙◌, arith, length}
 use Rattle.brin_app.proofs.Copies.{is_there}
 use Rattle.brin_app.proofs.Commits.{committed_stored, committed_effect}
-use Rattle.brin_app.proofs.store.Store.commit.Goals as goal
+use Rattle.brin_app.proofs.versions.Versions.commit.Goals as goal
 
 pub unreachable-requires : goal.unreachable-requires
 unreachable-requires c = is_there c.self.inside.rows.items c.self.inside.statuses.items c.self.inside.sessions.entries c.args.session c.args.self.now c.self.view_is c.requires (sym c.remove_open.ensures.was ∙ c.in_default.is)

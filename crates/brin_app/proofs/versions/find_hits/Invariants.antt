@@ -1,7 +1,7 @@
 use Rattle.std.proofs.Common.{◌≡◌, ◌++◌, drop}
 use Rattle.brin_app.specs.Places.{places}
 use Rattle.brin_app.specs.VisibleState.{sees_rows_of, answers}
-use Rattle.brin_app.proofs.store.find_hits.Given as goal
+use Rattle.brin_app.proofs.versions.find_hits.Given as goal
 
 abbrev pub invariant-loop-at : goal.invariant-loop-at
 invariant-loop-at l = record {

@@ -3,7 +3,7 @@ use Rattle.std.proofs.lemmas.List.{take_all}
 use Rattle.block_model.specs.declared.row.RowId.{RowId}
 use Rattle.block_model.specs.declared.row.Row.{Row}
 use Rattle.brin_app.proofs.Looks.{gathered_more}
-use Rattle.brin_app.proofs.store.gathered.Goals as goal
+use Rattle.brin_app.proofs.versions.gathered.Goals as goal
 
 pub loop-at-preserved : goal.loop-at-preserved
 loop-at-preserved c = λ d. gathered_more c.args.rows.now c.args.hits.now c.loop-at.at-index (record { t = 0; k = 0 }, 0) c.index-rows-at.result c.loop-at.found _ d c.loop-at-test.true c.requires c.index-rows-at.is

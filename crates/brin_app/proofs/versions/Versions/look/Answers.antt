@@ -9,7 +9,7 @@ use Rattle.brin_app.specs.Places.{places}
 use Rattle.brin_app.specs.VisibleState.{answers}
 use Rattle.brin_app.proofs.Copies.{is_there}
 use Rattle.brin_app.proofs.Looks.{places_within, look_effect}
-use Rattle.brin_app.proofs.store.Store.look.Goals as goal
+use Rattle.brin_app.proofs.versions.Versions.look.Goals as goal
 
 pub unreachable-requires : goal.unreachable-requires
 unreachable-requires c = is_there c.self.inside.rows.items c.self.inside.statuses.items c.self.inside.sessions.entries c.args.session c.args.self.now c.self.view_is c.requires (sym c.in_default.ensures.value)

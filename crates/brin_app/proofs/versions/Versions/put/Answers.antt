@@ -1,11 +1,11 @@
 use Rattle.std.proofs.Common.{◌≡◌, List, ◌+◌, Option, Some, IfSome, sym, ◌∙◌, subst}
 use Rattle.block_model.specs.declared.row.Row.{Row}
 use Rattle.block_model.specs.RequestEffect as model
-use Rattle.brin_app.specs.declared.store.Open.{Open}
+use Rattle.brin_app.specs.declared.versions.Open.{Open}
 use Rattle.brin_app.specs.VisibleState.{transaction_of, visible_state, IsStored, Gains, with_next_k}
 use Rattle.brin_app.proofs.Copies.{is_there}
 use Rattle.brin_app.proofs.Puttings.{put_stored, put_effect}
-use Rattle.brin_app.proofs.store.Store.put.Goals as goal
+use Rattle.brin_app.proofs.versions.Versions.put.Goals as goal
 
 pub unreachable-requires : goal.unreachable-requires
 unreachable-requires c = is_there c.self.inside.rows.items c.self.inside.statuses.items c.self.inside.sessions.entries c.args.session c.args.self.now c.self.view_is c.requires (sym c.in_default.ensures.value)

@@ -1,6 +1,6 @@
 use Rattle.std.proofs.Common.{◌∙◌}
 use Rattle.brin_app.proofs.Copies.{is_open_test, none_failed}
-use Rattle.brin_app.proofs.store.Store.is_open.Goals as goal
+use Rattle.brin_app.proofs.versions.Versions.is_open.Goals as goal
 
 pub returns-clause-under_way : goal.returns-clause-under_way
 returns-clause-under_way c = c.contains_key.ensures ∙ is_open_test c.self.inside.rows.items c.self.inside.statuses.items c.self.inside.sessions.entries c.args.session c.args.self.now c.self.view_is
