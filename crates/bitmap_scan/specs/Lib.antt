@@ -1,1 +1,2 @@
 pub mod CandidateBlocks
+pub mod LeftOut

@@ -1,5 +1,6 @@
-// Which blocks a scan must read: those whose range's summary may hold a match of the conditions. `given` appends exactly
-// these below the table's extent, in ascending order, and a law says that no other block holds a match. It stands on
+// Which blocks a scan must read: those whose range's summary may hold a match of the conditions. `given` appends
+// exactly these below the table's extent, in ascending order: no value that the summary of another block includes meets
+// the conditions, and a law says the same of its rows. `all_blocks` is for a table without summaries. It stands on
 // block_model and on the laws of operator classes, with minmax as the class. Ranges are judged once each, in order.
 #![tactic(auto)]
 
@@ -9,5 +10,5 @@ mod laws;
 #[cfg(test)]
 mod tests;
 
-pub use blocks::given;
+pub use blocks::{all_blocks, given};
 pub use laws::a_block_left_out_holds_no_match;

@@ -1,6 +1,6 @@
 ghost use Rattle.std.specs.Prelude.{◌<◌, ◌≤◌, ◌/◌, ℕ, length};
 
-use super::given;
+use super::{all_blocks, given};
 use block_model::place::Blocks;
 use block_model::row::Cond;
 use block_model::value::{Op, Value};
@@ -42,6 +42,14 @@ fn where_a(op: Op, key: i64) -> Cond {
     }
 }
 
+fn where_null() -> Cond {
+    Cond {
+        column: 0,
+        op: Op::IsNull,
+        key: Value::Null,
+    }
+}
+
 #[test]
 fn explain_reads_chunk_summaries(rt: HostRuntime) {
     let alloc = rt.alloc();
@@ -72,4 +80,24 @@ fn the_last_range_may_be_partly_filled(rt: HostRuntime) {
     assert_eq!(rt; low.as_slice(), [0, 1].as_slice());
     let high = given_blocks(alloc, &summaries, &[where_a(Op::Gt, 50)], 3, 2).expect(&rt, "memory");
     assert_eq!(rt; high.as_slice(), [2].as_slice());
+}
+
+#[test]
+fn null_tests_leave_no_block_out(rt: HostRuntime) {
+    let alloc = rt.alloc();
+    let summaries = [summary_of(alloc, &[5, 7]).expect(&rt, "memory")];
+    let all = given_blocks(alloc, &summaries, &[where_null()], 1, 1).expect(&rt, "memory");
+    assert_eq!(rt; all.as_slice(), [0].as_slice());
+    let none = given_blocks(alloc, &summaries, &[where_null(), where_a(Op::Lt, 5)], 1, 1).expect(
+        &rt, "memory",
+    );
+    assert!(rt; none.is_empty());
+}
+
+#[test]
+fn every_block_without_summaries(rt: HostRuntime) {
+    let mut out = Blocks::new(rt.alloc());
+    out.push(7).ok().expect(&rt, "memory");
+    all_blocks(3, &mut out).ok().expect(&rt, "memory");
+    assert_eq!(rt; out.as_slice(), [7, 0, 1, 2].as_slice());
 }

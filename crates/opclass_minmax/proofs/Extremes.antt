@@ -8,7 +8,7 @@ use Rattle.std.specs.Int.{int_min, int_max}
 use Rattle.block_model.specs.declared.value.Value.{Value}
 use Rattle.block_model.specs.declared.value.Value.TheVariants.{Null, Int, Span, Net}
 use Rattle.opclass_minmax.specs.Bounds.{Bounds, NothingYet, Between, with_value, united}
-use Rattle.opclass_minmax.specs.Includes.{IsInt, IsWithin}
+use Rattle.opclass_minmax.specs.Includes.{IsInt, IsWithin, Includes}
 use Rattle.opclass_minmax.specs.ExactSummary.{ExactSummary, HaveSameValues}
 
 chosen_there : (xs : List Value) (b : Bool) (x y : ℤ) → Contains xs (Int x) → Contains xs (Int y) → Contains xs (Int (cond b x y))
@@ -68,6 +68,11 @@ added seen (v ∷ rest) s all exact =
 
 pub exact_in_order : (values : List Value) → All IsInt values → ExactSummary values (fold with_value NothingYet values)
 exact_in_order values all = added [] values NothingYet all refl
+
+-- an exact summary includes each value
+pub exact_includes : (values : List Value) (s : Bounds) → ExactSummary values s → All (Includes s) values
+exact_includes values NothingYet none = rw none (All-nil (Includes NothingYet))
+exact_includes values (Between l g) exact = exact.none_beyond
 
 empty_lacks : (v : Value) → Contains [] v → ⊥
 empty_lacks v there = omega (arith, there.1)

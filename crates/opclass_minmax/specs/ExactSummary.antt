@@ -1,8 +1,8 @@
 -- the exact summary of a list of values, whatever their order
-use Rattle.std.specs.Prelude.{◌≡◌, ℤ, List, [], All, Contains}
+use Rattle.std.specs.Prelude.{◌≡◌, ℤ, List, [], All, Contains, fold}
 use Rattle.block_model.specs.declared.value.Value.{Value}
 use Rattle.block_model.specs.declared.value.Value.TheVariants.{Int}
-use Rattle.opclass_minmax.specs.Bounds.{Bounds, NothingYet, Between}
+use Rattle.opclass_minmax.specs.Bounds.{Bounds, NothingYet, Between, with_value}
 use Rattle.opclass_minmax.specs.Includes.{IsWithin}
 
 -- the least and the greatest are among the values, and no value is beyond them
@@ -20,3 +20,7 @@ ExactSummary values (Between least greatest) = AreExtremes values least greatest
 pub record HaveSameValues (values others : List Value) : Type 0 where
   pub all_there : (v : Value) → Contains values v → Contains others v
   pub no_more : (v : Value) → Contains others v → Contains values v
+
+-- the summary of values that are added one by one, in their order
+abbrev pub summary_of : List Value → Bounds
+summary_of values = fold with_value NothingYet values

@@ -1,8 +1,11 @@
 use Rattle.std.proofs.Common.{◌≡◌, ◌*◌, ◌++◌, min}
 use Rattle.bitmap_scan.specs.CandidateBlocks.{candidate_blocks}
+use Rattle.bitmap_scan.specs.LeftOut.{LeaveNoMatch}
 use Rattle.bitmap_scan.proofs.blocks.given.Given as goal
 
 abbrev pub invariant-judging : goal.invariant-judging
-invariant-judging l =
-    (l.block ≡ min l.blocks (l.summary-index * l.pages_per_range))
-    × (l.out ≡ l.initial.out ++ candidate_blocks l.summaries l.conds l.block l.pages_per_range)
+invariant-judging l = record {
+  start : l.block ≡ min l.blocks (l.summary-index * l.pages_per_range);
+  appended : l.out ≡ l.initial.out ++ candidate_blocks l.summaries l.conds l.block l.pages_per_range;
+  left_out : LeaveNoMatch l.summaries l.conds l.block l.pages_per_range;
+}
