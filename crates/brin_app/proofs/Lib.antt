@@ -11,3 +11,4 @@ pub mod Begins
 pub mod Puttings
 pub mod Commits
 pub mod Looks
+pub mod Chunked

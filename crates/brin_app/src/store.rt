@@ -2,6 +2,7 @@
 // candidate blocks alone, and an explain names them.
 
 ghost use Rattle.std.specs.Prelude.{◌≡◌, ◌+◌, ◌-◌, ◌/◌, ◌^◌, ◌∷◌, ◌++◌, ◌<◌, ◌≤◌, [], None, false, OnOk, OnErr, IfOk, IfSome, length};
+ghost use Rattle.std.specs.Int.{div_ceil};
 ghost use Rattle.std.specs.FinMap as map_of;
 ghost use Rattle.block_model.specs.declared.request.Request.TheVariants as requests;
 ghost use Rattle.block_model.specs.RequestEffect.{effect, Begun, Inserted, Found, Committed};
@@ -176,7 +177,7 @@ fn rows_per_page(schema: &Schema) -> u32
 fn extent(rows: usize, rows_per_page: u32) -> u32
     requires some { 1 ≤ rows_per_page }
     requires few { rows < 2 ^ 32 }
-    ensures { result ≡ (rows + (rows_per_page - 1)) / rows_per_page }
+    ensures { result ≡ div_ceil rows rows_per_page }
 {
     (rows as u32).div_ceil(rows_per_page)
 }

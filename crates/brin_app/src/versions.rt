@@ -198,7 +198,7 @@ fn find_hits(
     ensures { IfOk result (λ hits. hits.items ≡ flat_map (places_in_block (answers statuses.now «open».now query.now) rows_per_page rows.now) blocks.now) }
 {
     let mut hits = Vec::new(alloc);
-    for block in blocks {
+    'finding: for block in blocks {
         let from = *block as usize * rows_per_page as usize;
         let page = rows_from(rows, from, rows_per_page as usize);
         find_among(&mut hits, page, from, statuses, open, query)?;
@@ -229,14 +229,16 @@ fn find_among(
 {
     let mut judged = open.t;
     let mut seen = sees_rows_of(statuses, open, judged);
-    for (at, row) in rows.iter().enumerate() {
+    let mut at = from;
+    'reading: for row in rows {
         if row.id.t != judged {
             judged = row.id.t;
             seen = sees_rows_of(statuses, open, judged);
         }
         if seen && row_matches(row, query) {
-            push(hits, (row.id, from + at))?;
+            push(hits, (row.id, at))?;
         }
+        at += 1;
     }
     Ok(())
 }

@@ -1,10 +1,8 @@
-use Rattle.std.proofs.Common.{◌≡◌, ◌++◌, drop}
-use Rattle.brin_app.specs.Places.{places}
-use Rattle.brin_app.specs.VisibleState.{sees_rows_of, answers}
+use Rattle.std.proofs.Common.{◌≡◌, take}
+use Rattle.std.specs.List.{flat_map}
+use Rattle.brin_app.specs.Places.{places_in_block}
+use Rattle.brin_app.specs.VisibleState.{answers}
 use Rattle.brin_app.proofs.versions.find_hits.Given as goal
 
-abbrev pub invariant-loop-at : goal.invariant-loop-at
-invariant-loop-at l = record {
-  verdict : l.seen ≡ sees_rows_of l.statuses l.«open» l.judged;
-  so_far : l.hits.items ++ places (answers l.statuses l.«open» l.query) l.at (drop l.at l.rows) ≡ places (answers l.statuses l.«open» l.query) 0 l.rows;
-}
+abbrev pub invariant-finding : goal.invariant-finding
+invariant-finding l = l.hits.items ≡ flat_map (places_in_block (answers l.statuses l.«open» l.query) l.rows_per_page l.rows) (take l.block-index l.blocks)
