@@ -3,6 +3,8 @@ use Rattle.std.specs.Prelude.{◌≡◌, ℕ, ◌+◌, nat_lt, List, [], ◌∷�
 use Rattle.std.proofs.Common.{sym, ◌∙◌}
 use Rattle.std.specs.Str.{bytes_eq}
 use Rattle.block_model.specs.declared.schema.Schema.{Schema}
+use Rattle.block_model.specs.declared.value.Value.{Value}
+use Rattle.block_model.specs.declared.row.RowId.{RowId}
 use Rattle.block_model.specs.declared.row.Row.{Row}
 use Rattle.block_model.specs.declared.row.Query.{Query}
 use Rattle.block_model.specs.declared.request.Entry.{Entry}
@@ -53,15 +55,19 @@ pub record LineAnswer : Type 0 where
   pub rows : List Row
   pub text : List ℕ
 
--- the row that was put joins those before it
+-- the row that an insert puts
+abbrev pub row_put : ℕ → RowId → List Value → Row
+row_put table id values = record { table = table; id = id; values = values }
+
+-- it joins those before it
 abbrev pub rows_after : List Row → Statement → Reply → List Row
-rows_after rows (statements.Insert table values) (replies.Inserted id) = rows ++ record { table = table; id = id; values = values } ∷ []
+rows_after rows (statements.Insert table values) (replies.Inserted id) = rows ++ row_put table id values ∷ []
 rows_after rows statement reply = rows
 
 -- An explain needs no transaction and is answered the blocks; a statement of a transaction the reply to its requests.
-abbrev pub reply_at : Explaining → ScriptPlace → ℕ → Statement → Reply
-reply_at explained p n (statements.Explain q) = replies.Kept (explained p.rows q)
-reply_at explained p n statement = statement_reply p.database n statement
+abbrev pub reply_at : Explaining → DatabaseState → List Row → ℕ → Statement → Reply
+reply_at explained database rows n (statements.Explain q) = replies.Kept (explained rows q)
+reply_at explained database rows n statement = statement_reply database n statement
 
 -- a statement of the session of that name, with its reply
 abbrev pub replied_answer : ScriptPlace → List ℕ → Statement → Reply → LineAnswer
@@ -73,7 +79,7 @@ replied_answer p name statement reply = record {
 }
 
 abbrev pub statement_answer : Explaining → ScriptPlace → List ℕ → Statement → LineAnswer
-statement_answer explained p name statement = replied_answer p name statement (reply_at explained p (session_number p.names name) statement)
+statement_answer explained p name statement = replied_answer p name statement (reply_at explained p.database p.rows (session_number p.names name) statement)
 
 abbrev pub without_request : ScriptPlace → List ℕ → LineAnswer
 without_request p text = record { names = p.names; requests = []; rows = p.rows; text = text }
