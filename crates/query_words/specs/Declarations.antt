@@ -30,16 +30,16 @@ abbrev pub number_in : List ℕ → Limit → List ℕ → Option ℕ
 number_in setting limit [] = number_said limit None
 number_in setting limit (c ∷ cs) = option_and_then (λ digits. number_said limit (Some digits)) (behind setting (c ∷ cs))
 
--- a column of a table, and a number, where both have names
+-- a column of a table and a number, where both have names
 abbrev pub named_column : List ℕ → List ℕ → ℕ → Option ColumnWord
 named_column table column number = if is_name table && is_name column then Some (record { table = table; column = column; number = number }) else None
 
--- COLUMN, KIND and the setting, on that table
+-- behind TABLE(, a column, a space, the kind with its bracket and perhaps a setting
 abbrev pub column_behind : List ℕ → List ℕ → Limit → List ℕ → List ℕ → Option ColumnWord
 column_behind kind setting limit table text =
     option_and_then (λ p. option_and_then (named_column table p.0) (option_and_then (number_in setting limit) (behind kind p.1))) (cut 32 text)
 
--- TABLE(COLUMN KIND and the setting
+-- TABLE(COLUMN and a kind with its bracket, and perhaps a setting
 abbrev pub column_in : List ℕ → List ℕ → Limit → List ℕ → Option ColumnWord
 column_in kind setting limit text = option_and_then (λ p. column_behind kind setting limit p.0 p.1) (cut 40 text)
 
@@ -47,7 +47,7 @@ column_in kind setting limit text = option_and_then (λ p. column_behind kind se
 abbrev pub unless_status : ColumnWord → Option ColumnWord
 unless_status t = if bytes_eq t.table (codes "status") then None else Some t
 
--- table TABLE(COLUMN int8) and rows_per_page
+-- `table TABLE(COLUMN int8)`, and perhaps how many rows a page has
 abbrev pub table_in : List ℕ → Option ColumnWord
 table_in word =
     option_and_then unless_status (option_and_then (column_in (codes "int8)") (codes " rows_per_page ") rows_limit) (behind (codes "table ") word))
@@ -61,16 +61,16 @@ abbrev pub index_on : ColumnWord → List ℕ → ColumnWord → Option IndexCom
 index_on t name on =
     if is_relation_name name && not (bytes_eq name t.table) && is_same_column on t then Some (record { name = name; pages_per_range = on.number }) else None
 
--- on TABLE(COLUMN minmax) and pages_per_range, behind a name
+-- `on TABLE(COLUMN minmax)` behind a name, and perhaps how many blocks a range has
 abbrev pub index_behind : ColumnWord → List ℕ → List ℕ → Option IndexCommand
 index_behind t name text =
     option_and_then (index_on t name) (option_and_then (column_in (codes "minmax)") (codes " pages_per_range ") pages_limit) (behind (codes "on ") text))
 
--- index NAME on TABLE(COLUMN minmax) and pages_per_range
+-- `index NAME on TABLE(COLUMN minmax)`, and perhaps how many blocks a range has
 abbrev pub index_in : ColumnWord → List ℕ → Option IndexCommand
 index_in t word = option_and_then (λ p. index_behind t p.0 p.1) (option_and_then (cut 32) (behind (codes "index ") word))
 
--- a table, and the index where there is one
+-- the command of a table, with the index where there is one
 abbrev pub command_with : ColumnWord → Option IndexCommand → Command
 command_with t index = record { table = t.table; column = t.column; rows_per_page = t.number; index = index }
 
