@@ -3,6 +3,7 @@ pub mod Numbers
 pub mod Statements
 pub mod Lines
 pub mod OneColumn
+pub mod Commands
 pub mod Declarations
 pub mod Texts
 pub mod StatementRequests

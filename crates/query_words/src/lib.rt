@@ -4,6 +4,7 @@
 // `render`, and speaks of them as `line_of`, `declared` and `reply_text`.
 #![tactic(auto)]
 
+mod command;
 pub mod declaration;
 pub mod laws;
 pub mod line;

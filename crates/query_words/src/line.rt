@@ -42,7 +42,7 @@ pub(crate) const SYNTAX: LineFault = LineFault::Syntax { at: 0 };
 /// How many bytes a line has at most.
 pub const MAX_LINE: usize = 65535;
 
-/// Reads a line. Takes memory for the condition of a select alone.
+/// Reads a line. Takes memory for the condition of a select or an explain alone.
 #[tactic(auto, unfolding(crate::specs::Lines::line_of))]
 pub fn read_line(alloc: Global, line: &[u8], schema: &Schema) -> Result<Line, LineFault>
     ensures { Reads result (line_of schema.now line.now) }

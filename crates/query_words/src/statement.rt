@@ -43,15 +43,9 @@ pub fn read_statement(alloc: Global, line: &[u8], schema: &Schema) -> Result<Sta
     } else if is_word(verb, b"insert") {
         read_insert(rest, schema)
     } else if is_word(verb, b"select") {
-        match read_query(alloc, rest, schema) {
-            Ok(query) => Ok(Statement::Select(query)),
-            Err(fault) => Err(fault),
-        }
+        Ok(Statement::Select(read_query(alloc, rest, schema)?))
     } else if is_word(verb, b"explain") {
-        match read_query(alloc, rest, schema) {
-            Ok(query) => Ok(Statement::Explain(query)),
-            Err(fault) => Err(fault),
-        }
+        Ok(Statement::Explain(read_query(alloc, rest, schema)?))
     } else {
         Err(SYNTAX)
     }
