@@ -2,7 +2,7 @@
 use Rattle.std.proofs.Common.{◌≡◌, Bool, true, false, ℕ, suc, zero, ◌+◌, ◌*◌, ◌-◌, ◌/◌, ◌≤◌, ◌<◌, List, [], ◌∷◌, ◌++◌, take, drop, length, refl, sym, ap, ◌∙◌, cond, arith, All, ◌⊎◌, inl, inr, subst}
 use Rattle.std.specs.List.{filter, flat_map, range_with_len}
 use Rattle.std.proofs.Math.Seq.{take-add, take-nil, drop-nil}
-use Rattle.std.proofs.Math.Nat.{zero-mul, suc-mul, add-mul, mul-le-mul_right, div-mul-le_self, lt-div-mul-add}
+use Rattle.std.proofs.Math.Nat.{zero-mul, mul_comm, mul_assoc, suc-mul, add-mul, mul-le-mul_right, div-mul-le_self, lt-div-mul-add}
 use Rattle.std.proofs.lemmas.List.{take_all, drop_all, drop-append-le, take-append-le, length-take, length-drop, length-append, drop-take, take-take}
 use Rattle.std.proofs.lemmas.List.Elements.{All-head, All-tail, All-take, All-drop}
 use Rattle.block_model.specs.declared.row.RowId.{RowId}
@@ -138,5 +138,23 @@ block_in_range P size pages rows block some h = subst (All P) same (All-take P s
     range : List Row
     range = take (size * pages) d
 
+    at : first * (size * pages) + over ≡ block * size
+    at =
+        ap (λ k. k + over) (ap (λ m. first * m) (mul_comm size pages) ∙ sym (mul_assoc first pages size))
+        ∙ sym (add-mul (first * pages) page size)
+        ∙ ap (λ k. k * size) (let e : first * pages + page ≡ block = omega (arith, div-mul-le_self block pages) in e)
+
+    fits : over + size ≤ size * pages
+    fits =
+        let within : page + 1 ≤ pages = omega (arith, lt-div-mul-add {a = block} some, div-mul-le_self block pages) in
+        let more : (page + 1) * size ≤ pages * size = mul-le-mul_right size within in
+        omega (arith, more, add-mul page 1 size, mul_comm pages size)
+
     same : take size (drop over range) ≡ chunk size rows block
-    same = ?
+    same =
+        let rest = size * pages - over in
+        let parts : size * pages ≡ over + rest = omega (arith, fits) in
+        let inside : drop over range ≡ take rest (drop over d) = ap (λ k. drop over (take k d)) parts ∙ drop-take over rest d in
+        let enough : size ≤ rest = omega (arith, fits) in
+        ap (take size) inside ∙ take-take size rest (drop over d) enough
+        ∙ ap (take size) (sym (drop-more (first * (size * pages)) over rows) ∙ ap (λ k. drop k rows) at)

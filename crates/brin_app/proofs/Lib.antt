@@ -12,3 +12,4 @@ pub mod Puttings
 pub mod Commits
 pub mod Looks
 pub mod Chunked
+pub mod Summaries

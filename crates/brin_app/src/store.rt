@@ -18,12 +18,13 @@ ghost use Rattle.brin_app.specs.StoreInvariant.{IsOneNumber, AreOnFirst};
 
 use crate::ranges::{Ranges, make_room_for_range, ranges_of, widen};
 use crate::versions::Versions;
-use bitmap_scan::{all_blocks, given};
+use bitmap_scan::{a_block_left_out_holds_no_match, all_blocks, given};
 use block_model::NoMemory;
 use block_model::place::Blocks;
 use block_model::row::{Query, RowId, Rows};
 use block_model::schema::Schema;
 use block_model::value::Values;
+use opclass_minmax::exact::summaries_include_their_values;
 use std::alloc::Global;
 use std::marker::Model;
 
@@ -138,6 +139,8 @@ impl Store {
         ensures blocks { IfOk result (λ blocks. blocks ≡ explained self.now.schema self.now.rows query.now) }
         ensures covers { IfOk result (CoversMatches self.now.rows query.now (rows_per_page_of self.now.schema.tables)) }
     {
+        a_block_left_out_holds_no_match();
+        summaries_include_their_values();
         let mut blocks = Blocks::new(self.alloc);
         let extent = extent(self.versions.len(), self.rows_per_page);
         match &self.ranges {

@@ -5,10 +5,20 @@ use std::test::Fail;
 /// The words of the first script.
 const WORDS: &[&[u8]] = &[b"run", b"table t(a int8)"];
 
-/// Checks a row with bytes one by one, and in large pieces.
+/// Checks a row of the first script's words.
 fn check<R: Abort + AllocGlobal>(rt: &R, script: &[u8], output: &[u8]) -> Result<(), Fail> {
+    check_with(rt, WORDS, script, output)
+}
+
+/// Checks a row with bytes one by one, and in large pieces.
+fn check_with<R: Abort + AllocGlobal>(
+    rt: &R,
+    words: &[&[u8]],
+    script: &[u8],
+    output: &[u8],
+) -> Result<(), Fail> {
     let row = Row {
-        words: WORDS,
+        words,
         script,
         output,
         status: 0,
@@ -55,6 +65,44 @@ fn refusals_of_the_first_script(rt: HostRuntime) -> Result<(), Fail> {
 }
 
 #[test]
+fn explain_reads_chunk_summaries(rt: HostRuntime) -> Result<(), Fail> {
+    check_with(
+        &rt,
+        &[
+            b"run",
+            b"table t(a int8) rows_per_page 2",
+            b"index i on t(a minmax) pages_per_range 1",
+        ],
+        b"s1 begin\ns1 insert t 5\ns1 insert t 7\ns1 insert t 100\ns1 explain t where a = 6\ns1 explain t where a = 50\ns1 explain t where a >= 7\ns1 explain t\n",
+        b"s1 begun 1\ns1 inserted 1.0\ns1 inserted 1.1\ns1 inserted 1.2\ns1 blocks 0\ns1 blocks none\ns1 blocks 0-1\ns1 blocks 0-1\n",
+    )
+}
+
+#[test]
+fn ranges_take_several_pages_and_the_last_may_be_short(rt: HostRuntime) -> Result<(), Fail> {
+    check_with(
+        &rt,
+        &[
+            b"run",
+            b"table t(a int8) rows_per_page 1",
+            b"index i on t(a minmax) pages_per_range 2",
+        ],
+        b"x explain t\ns1 begin\ns1 insert t 1\ns1 insert t 2\ns1 insert t 3\ns1 insert t 4\ns1 insert t 5\nx explain t where a = 3\nx explain t where a < 2\nx explain t where a >= 5\nx explain t where a > 5\ns1 select t where a = 3\ns1 select t where a > 4\n",
+        b"x blocks none\ns1 begun 1\ns1 inserted 1.0\ns1 inserted 1.1\ns1 inserted 1.2\ns1 inserted 1.3\ns1 inserted 1.4\nx blocks 2-3\nx blocks 0-1\nx blocks 4\nx blocks none\ns1 row 1.2 3\ns1 rows 1\ns1 row 1.4 5\ns1 rows 1\n",
+    )
+}
+
+#[test]
+fn without_an_index_each_block_is_read(rt: HostRuntime) -> Result<(), Fail> {
+    check_with(
+        &rt,
+        &[b"run", b"table t(a int8) rows_per_page 2"],
+        b"s1 begin\ns1 insert t 5\ns1 insert t 7\ns1 insert t 6\ns1 explain t where a = 9\ns1 select t where a <= 6\n",
+        b"s1 begun 1\ns1 inserted 1.0\ns1 inserted 1.1\ns1 inserted 1.2\ns1 blocks 0-1\ns1 row 1.0 5\ns1 row 1.2 6\ns1 rows 2\n",
+    )
+}
+
+#[test]
 fn rows_of_interleaved_transactions_come_in_order(rt: HostRuntime) -> Result<(), Fail> {
     check(
         &rt,
@@ -74,7 +122,7 @@ fn other_lines_are_refused_and_change_nothing(rt: HostRuntime) -> Result<(), Fai
 
 #[test]
 fn other_words_are_no_command(rt: HostRuntime) -> Result<(), Fail> {
-    let cases: [&[&[u8]]; 9] = [
+    let cases: [&[&[u8]]; 14] = [
         &[],
         &[b"run"],
         &[b"runn", b"table t(a int8)"],
@@ -83,6 +131,19 @@ fn other_words_are_no_command(rt: HostRuntime) -> Result<(), Fail> {
         &[b"run", b"table t(a int8) "],
         &[b"run", b"table T(a int8)"],
         &[b"run", b"table t(a int8)", b"table u(a int8)"],
+        &[b"run", b"table t(a int8) rows_per_page 0"],
+        &[b"run", b"table t(a int8) rows_per_page 273"],
+        &[
+            b"run",
+            b"table t(a int8)",
+            b"index i on t(a minmax) pages_per_range 0",
+        ],
+        &[
+            b"run",
+            b"table t(a int8)",
+            b"index i on t(a minmax) pages_per_range 131073",
+        ],
+        &[b"run", b"table t(a int8)", b"index t on t(a minmax)"],
         &[b"--help"],
     ];
     for words in cases {
@@ -95,6 +156,20 @@ fn other_words_are_no_command(rt: HostRuntime) -> Result<(), Fail> {
         assert!(rt; holds(rt.alloc(), &row, 1, &NO_FAULTS)?);
     }
     Ok(())
+}
+
+#[test]
+fn the_greatest_pages_and_ranges_are_lawful(rt: HostRuntime) -> Result<(), Fail> {
+    check_with(
+        &rt,
+        &[
+            b"run",
+            b"table t(a int8) rows_per_page 272",
+            b"index i on t(a minmax) pages_per_range 131072",
+        ],
+        b"s1 explain t\n",
+        b"s1 blocks none\n",
+    )
 }
 
 #[test]
