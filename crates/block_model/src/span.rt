@@ -167,7 +167,8 @@ fn grown_lower(bound: Option<(i64, bool)>) -> Result<Option<i64>, SpanFault>
 {
     match bound {
         None => Ok(None),
-        Some((l, inclusive)) => { if inclusive { Ok(Some(l)) } else { next_of(l) } }
+        Some((l, true)) => Ok(Some(l)),
+        Some((l, false)) => next_of(l),
     }
 }
 
@@ -176,7 +177,8 @@ fn grown_upper(bound: Option<(i64, bool)>) -> Result<Option<i64>, SpanFault>
 {
     match bound {
         None => Ok(None),
-        Some((h, inclusive)) => { if inclusive { next_of(h) } else { Ok(Some(h)) } }
+        Some((h, true)) => next_of(h),
+        Some((h, false)) => Ok(Some(h)),
     }
 }
 
