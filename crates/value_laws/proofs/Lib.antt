@@ -1,0 +1,4 @@
+mod Converses
+mod Bounds
+mod Sets
+mod Within
