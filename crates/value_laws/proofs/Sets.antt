@@ -1,8 +1,8 @@
 -- ranges as sets of numbers
 use Rattle.std.specs.Prelude.{◌≡◌, ◌⊎◌, ℤ, pos, ◌-ℤ◌, ◌≤ℤ◌, true, false, ◌&&◌, ◌||◌, Option, refl}
-use Rattle.std.proofs.Common.{sym, ◌∙◌, inl, inr}
+use Rattle.std.proofs.Common.{sym, ap, ◌∙◌, inl, inr}
 use Rattle.std.proofs.lemmas.Bool.{false≢true, and_from, and_parts, or_cases, or_left, or_right}
-use Rattle.block_model.specs.Ranges.{Range, Empty, Between, is_from, is_below, leaves_room, starts_first, ends_last, same_bound, meets_before, touches}
+use Rattle.block_model.specs.Ranges.{Range, Empty, Between, has_number, is_from, is_below, leaves_room, starts_first, ends_last, same_bound, meets_before, touches}
 use Rattle.value_laws.specs.NumbersOfRanges.{Has, HasNumbers}
 use Rattle.value_laws.specs.ContainsIsSuperset.{IsSuperset, ContainsIsSuperset}
 use Rattle.value_laws.specs.EqualIsSameNumbers.{HaveSameNumbers, EqualIsSameNumbers}
@@ -11,7 +11,8 @@ use Rattle.value_laws.specs.AdjacentIsNeighbours.{GoesOverInto, AreNeighbours, A
 use Rattle.value_laws.specs.BeforeIsLess.{IsLess, BeforeIsLess}
 use Rattle.value_laws.specs.NotAfterIsReached.{IsReached, NotAfterIsReached}
 use Rattle.value_laws.specs.NotBeforeIsPreceded.{IsPreceded, NotBeforeIsPreceded}
-use Rattle.value_laws.proofs.Bounds.{NumberBetween, number_between, room_for, from_first, below_last, first_of, last_of, CommonNumber, common_number, same_bound_is, same_lower, same_upper, touches_at, ends_at, begins_at, Touching, touching, touching_apart, less_across, meets_where_less, NumberAfter, number_after, ends_where_reached, NumberBefore, number_before, starts_where_preceded}
+use Rattle.value_laws.proofs.Equality.{same_range}
+use Rattle.value_laws.proofs.Bounds.{NumberBetween, number_between, room_for, from_first, below_last, first_of, last_of, CommonNumber, common_number, same_lower, same_upper, touches_at, ends_at, begins_at, Touching, touching, touching_apart, less_across, meets_where_less, NumberAfter, number_after, ends_where_reached, NumberBefore, number_before, starts_where_preceded}
 
 -- no number is in an empty range, and no test that fails holds
 not_true : {X : Type 0} → false ≡ true → X
@@ -49,9 +50,7 @@ contains_is_superset (Between a b) (Between c d) r s = (superset_of a b c d, λ 
 -- ---- `=`
 
 same_numbers_of : (a b c d : Option ℤ) → (same_bound a c && same_bound b d) ≡ true → HaveSameNumbers (Between a b) (Between c d)
-same_numbers_of a b c d e n =
-    let p : (same_bound a c ≡ true) × (same_bound b d ≡ true) = and_parts _ _ e in
-    λ i. is_from (same_bound_is a c p.0 i) n && is_below (same_bound_is b d p.1 i) n
+same_numbers_of a b c d e n = ap (λ (r : Range). has_number r n) (same_range a b c d e)
 
 same_bounds_of : (a b c d : Option ℤ) → leaves_room a b ≡ true → leaves_room c d ≡ true → HaveSameNumbers (Between a b) (Between c d) → (same_bound a c && same_bound b d) ≡ true
 same_bounds_of a b c d r s all =
