@@ -2,6 +2,7 @@ pub mod Causes
 pub mod Padded
 pub mod Names
 pub mod Ranges
+pub mod RangeBounds
 pub mod Spans
 pub mod Networks
 pub mod Nets

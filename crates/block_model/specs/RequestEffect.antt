@@ -29,7 +29,7 @@ pub data Answer : Type 0 where
   RolledBack : Answer
   Full : Answer
   NoMemory : Answer
-  -- nothing: the request isn't legal there
+  -- a begin with a transaction under way, or another request with none
   Illegal : Answer
 
 abbrev pub with_transaction : DatabaseState → ℕ → OpenTransaction → DatabaseState
@@ -120,7 +120,7 @@ abbrev pub effect_at : Option OpenTransaction → DatabaseState → Entry → Da
 effect_at None s e = effect_outside s e.session e.request
 effect_at (Some x) s e = effect_within s e.session x e.table e.request e.tag
 
--- the state after a request, and its answer
+-- the state after a request, and its answer; where the request isn't legal, neither means anything
 unfoldable pub effect : DatabaseState → Entry → DatabaseState × Answer
 effect s e = effect_at (map.get s.sessions e.session) s e
 

@@ -15,7 +15,7 @@ use Rattle.block_model.specs.declared.row.Row.{Row}
 abbrev pub id_cmp : RowId → RowId → Ordering
 id_cmp a b = ordering_then (nat_cmp a.t b.t) (nat_cmp a.k b.k)
 
--- rows in order of their ids, no two with one id; each stands at its own
+-- at each of some ids one row, in order of those ids; that a row stands at its own id is a law of runs, not of the type
 abbrev pub TableState : Type 0
 TableState = FinMap id_cmp Row
 

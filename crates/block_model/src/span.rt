@@ -1,7 +1,8 @@
 // Ranges of whole numbers.
 
-ghost use Rattle.std.specs.Prelude.{◌≡◌, ◌≢◌, ◌↔◌, IsTrue, MatchOption, None, Some};
-ghost use Rattle.block_model.specs.Ranges.{Range, Empty, Between, lower_of, upper_of};
+ghost use Rattle.std.specs.Prelude.{◌≡◌, ◌≢◌, ◌↔◌, pos, ◌+ℤ◌, IsTrue, MatchOption, IfOk, ◌||◌, if◌then◌else◌, None, Some};
+ghost use Rattle.block_model.specs.Ranges.{Range, Empty, Between, lower_of, upper_of, leaves_room, touches};
+ghost use Rattle.block_model.specs.RangeBounds.{grown_lower, grown_upper, canonical_range, within_int8, range_between, range_from_bounds, HasNumbersBetween};
 
 use std::marker::Model;
 
@@ -13,6 +14,13 @@ enum Shape {
     From,
     Below,
     Bounded,
+}
+
+/// Why bounds make no range: the lower one is above the upper one, or the canonical form has a bound past int8.
+#[derive(Clone, Copy, Debug, PartialEq, Eq)]
+pub enum SpanFault {
+    Order,
+    Range,
 }
 
 /// A range of numbers in its canonical form: empty, or the numbers from `lower` on and below `upper`, either of which
@@ -49,6 +57,26 @@ impl Span8 {
             shape: Shape::Empty,
             lower: 0,
             upper: 0,
+        }
+    }
+
+    /// The range of these bounds, each a number and whether it is inclusive; a missing one is infinite. `Order` exactly
+    /// where the lower number is above the upper one, `Range` exactly where the canonical form of a range that isn't empty
+    /// needs a bound past int8. Takes no memory.
+    pub fn from_bounds(
+        lower: Option<(i64, bool)>,
+        upper: Option<(i64, bool)>,
+    ) -> Result<Span8, SpanFault>
+        ensures range { result ≡ range_from_bounds lower upper }
+        ensures numbers { IfOk result (HasNumbersBetween lower upper) }
+    {
+        match (lower, upper) {
+            (Some(l), Some(h)) => Span8::between(l, h),
+            _ => {
+                let l = grown_lower(lower)?;
+                let h = grown_upper(upper)?;
+                Ok(Span8::canonical(l, h))
+            }
         }
     }
 
@@ -92,5 +120,73 @@ impl Span8 {
                 Some((self.lower(), self.upper()))
             }
         }
+    }
+
+    fn between(lower: (i64, bool), upper: (i64, bool)) -> Result<Span8, SpanFault>
+        ensures { result ≡ range_between lower upper }
+    {
+        let (l, lower_inclusive) = lower;
+        let (h, upper_inclusive) = upper;
+        if h < l {
+            return Err(SpanFault::Order);
+        }
+        if l == h && !(lower_inclusive && upper_inclusive) {
+            return Ok(Span8::empty());
+        }
+        let l = grown_lower(Some(lower))?;
+        let h = grown_upper(Some(upper))?;
+        Ok(Span8::canonical(l, h))
+    }
+
+    /// The range of bounds that have grown and are in order.
+    fn canonical(lower: Option<i64>, upper: Option<i64>) -> Span8
+        requires { IsTrue (leaves_room lower upper || touches lower upper) }
+        ensures { result ≡ (if touches lower upper then Empty else Between lower upper) }
+    {
+        let (shape, lower, upper) = match (lower, upper) {
+            (None, None) => (Shape::All, 0, 0),
+            (Some(l), None) => (Shape::From, l, 0),
+            (None, Some(h)) => (Shape::Below, 0, h),
+            (Some(l), Some(h)) => {
+                if l == h {
+                    return Span8::empty();
+                }
+                (Shape::Bounded, l, h)
+            }
+        };
+        Span8 {
+            shape,
+            lower,
+            upper,
+        }
+    }
+}
+
+fn grown_lower(bound: Option<(i64, bool)>) -> Result<Option<i64>, SpanFault>
+    ensures { result ≡ within_int8 (grown_lower bound) }
+{
+    match bound {
+        None => Ok(None),
+        Some((l, true)) => Ok(Some(l)),
+        Some((l, false)) => next_of(l),
+    }
+}
+
+fn grown_upper(bound: Option<(i64, bool)>) -> Result<Option<i64>, SpanFault>
+    ensures { result ≡ within_int8 (grown_upper bound) }
+{
+    match bound {
+        None => Ok(None),
+        Some((h, true)) => next_of(h),
+        Some((h, false)) => Ok(Some(h)),
+    }
+}
+
+fn next_of(n: i64) -> Result<Option<i64>, SpanFault>
+    ensures { result ≡ within_int8 (Some (n +ℤ pos 1)) }
+{
+    match n.checked_add(1) {
+        Some(next) => Ok(Some(next)),
+        None => Err(SpanFault::Range),
     }
 }

@@ -1,0 +1,5 @@
+mod Converses
+mod Bounds
+mod Sets
+mod Equality
+mod Within

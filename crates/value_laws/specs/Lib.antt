@@ -1,0 +1,12 @@
+pub mod EqualityIsIdentity
+pub mod ConverseOperators
+pub mod NumbersOfRanges
+pub mod ContainsIsSuperset
+pub mod EqualIsSameNumbers
+pub mod OverlapsIsCommonNumber
+pub mod AdjacentIsNeighbours
+pub mod BeforeIsLess
+pub mod NotAfterIsReached
+pub mod NotBeforeIsPreceded
+pub mod WithinIsPreorder
+pub mod MutualWithinIsOneNetwork
