@@ -1,1 +1,4 @@
 mod BoundsNumbers
+pub mod NameLists
+pub mod FirstBroken
+pub mod DiskPlaces

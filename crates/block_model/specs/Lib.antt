@@ -12,3 +12,10 @@ pub mod TableState
 pub mod DatabaseState
 pub mod RequestEffect
 pub mod SerialRun
+pub mod IndexedColumns
+pub mod RowSize
+pub mod TupleSize
+pub mod Limits
+pub mod FirstBrokenRule
+pub mod DiskLayout
+pub mod PagesFillDisk

@@ -3,6 +3,7 @@
 // ranges and networks that contracts see, `matches` and `row_matches`, and the definitions of private copies in specs/.
 #![tactic(auto)]
 
+pub mod layout;
 pub mod name;
 pub mod net;
 pub mod place;
