@@ -1,7 +1,7 @@
 // Addresses with a prefix.
 
 ghost use Rattle.std.specs.Prelude.{◌≡◌, ◌<◌, ◌≤◌, MatchOption, None};
-ghost use Rattle.block_model.specs.Networks.{Network, network_v4, leading_bits};
+ghost use Rattle.block_model.specs.Networks.{Network, IsNetwork, network_v4, leading_bits};
 ghost use Rattle.block_model.specs.Matches.{is_within};
 
 use std::marker::Model;
@@ -46,6 +46,13 @@ impl Net {
             high: 0,
             low: u64::from(address),
         })
+    }
+
+    /// Every address is one of 32 bits with a prefix of up to 32 bits. Does nothing.
+    pub fn known(&self)
+        ensures { IsNetwork self.now }
+    {
+        let _ = &self.family;
     }
 
     /// Its family: 4.

@@ -1,7 +1,7 @@
 // Ranges of whole numbers.
 
 ghost use Rattle.std.specs.Prelude.{◌≡◌, ◌≢◌, ◌↔◌, pos, ◌+ℤ◌, IsTrue, MatchOption, IfOk, ◌||◌, if◌then◌else◌, None, Some};
-ghost use Rattle.block_model.specs.Ranges.{Range, Empty, Between, lower_of, upper_of, leaves_room, touches};
+ghost use Rattle.block_model.specs.Ranges.{Range, Empty, Between, lower_of, upper_of, leaves_room, touches, IsRange};
 ghost use Rattle.block_model.specs.RangeBounds.{grown_lower, grown_upper, canonical_range, within_int8, range_between, range_from_bounds, HasNumbersBetween};
 
 use std::marker::Model;
@@ -78,6 +78,13 @@ impl Span8 {
                 Ok(Span8::canonical(l, h))
             }
         }
+    }
+
+    /// Every range that isn't empty has a number. Does nothing.
+    pub fn known(&self)
+        ensures { IsRange self.now }
+    {
+        let _ = &self.shape;
     }
 
     /// Whether no number is in it.

@@ -12,25 +12,26 @@ use Rattle.script_run.specs.Answers.{AreAnswers}
 use Rattle.script_run.specs.Runs.{Ran, Wrote}
 use Rattle.brin_app.specs.declared.sessions.Sessions.{Sessions}
 use Rattle.brin_app.specs.SessionPlaces.{place_of, AnswersLine}
+use Rattle.brin_app.specs.ExplainedBlocks.{explained}
 use Rattle.brin_app.specs.ScriptOutput.{script_limit, exit_status, IsScriptOutput, IsSpentExactly, FitsLimit, IsComplete}
 
 -- the answers of the sessions are texts of the script
-lifted : (a b : Sessions) (lines texts : List (List ℕ)) → AreAnswers AnswersLine a lines texts b → AreAnswers (IsLineText a.schema) (place_of a) lines texts (place_of b)
+lifted : (a b : Sessions) (lines texts : List (List ℕ)) → AreAnswers AnswersLine a lines texts b → AreAnswers (IsLineText (explained a.store.schema) a.store.schema) (place_of a) lines texts (place_of b)
 lifted a b [] [] e = ap place_of e
 lifted a b [] (t ∷ ts) e = e
 lifted a b (l ∷ ls) [] e = e
 lifted a b (l ∷ ls) (t ∷ ts) e =
     let middle = e.0 in
-    (place_of middle, e.1.1, subst (λ (s : Schema). AreAnswers (IsLineText s) (place_of middle) ls ts (place_of b)) e.1.0 (lifted middle b ls ts e.2))
+    (place_of middle, e.1.1, subst (λ (s : Schema). AreAnswers (IsLineText (explained s) s) (place_of middle) ls ts (place_of b)) e.1.0 (lifted middle b ls ts e.2))
 
-lifted_from : (a b : Sessions) (schema : Schema) (lines texts : List (List ℕ)) → place_of a ≡ script_start → a.schema ≡ schema → AreAnswers AnswersLine a lines texts b
-    → AreAnswers (IsLineText schema) script_start lines texts (place_of b)
+lifted_from : (a b : Sessions) (schema : Schema) (lines texts : List (List ℕ)) → place_of a ≡ script_start → a.store.schema ≡ schema → AreAnswers AnswersLine a lines texts b
+    → AreAnswers (IsLineText (explained schema) schema) script_start lines texts (place_of b)
 lifted_from a b schema lines texts start is e =
-    let own : AreAnswers (IsLineText a.schema) (place_of a) lines texts (place_of b) = lifted a b lines texts e in
-    let moved : AreAnswers (IsLineText schema) (place_of a) lines texts (place_of b) = subst (λ (s : Schema). AreAnswers (IsLineText s) (place_of a) lines texts (place_of b)) is own in
-    subst (λ (p : ScriptPlace). AreAnswers (IsLineText schema) p lines texts (place_of b)) start moved
+    let own : AreAnswers (IsLineText (explained a.store.schema) a.store.schema) (place_of a) lines texts (place_of b) = lifted a b lines texts e in
+    let moved : AreAnswers (IsLineText (explained schema) schema) (place_of a) lines texts (place_of b) = subst (λ (s : Schema). AreAnswers (IsLineText (explained s) s) (place_of a) lines texts (place_of b)) is own in
+    subst (λ (p : ScriptPlace). AreAnswers (IsLineText (explained schema) schema) p lines texts (place_of b)) start moved
 
-pub script_output : (a b : Sessions) (schema : Schema) (end : RunEnd) (status : ℕ) (l l' k k' : Option (List ℕ)) → place_of a ≡ script_start → a.schema ≡ schema → status ≡ exit_status end
+pub script_output : (a b : Sessions) (schema : Schema) (end : RunEnd) (status : ℕ) (l l' k k' : Option (List ℕ)) → place_of a ≡ script_start → a.store.schema ≡ schema → status ≡ exit_status end
     → Ran AnswersLine a b script_limit end l l' k k' → IsScriptOutput status schema l l' k k'
 script_output a b schema end status l l' k k' start is said r = (
   end,

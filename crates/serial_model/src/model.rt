@@ -18,7 +18,7 @@ use block_model::value::Values;
 use std::alloc::Global;
 use std::marker::Model;
 
-/// What a request is answered. `Illegal`: nothing, since it isn't legal there.
+/// What a request is answered. `Illegal`: a begin with a transaction under way, or another request with none.
 #[derive(Debug, Drop)]
 pub enum Answered {
     Begun(u64),
