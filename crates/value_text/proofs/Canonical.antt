@@ -1,12 +1,12 @@
 -- A value's canonical text is a text that denotes it.
-use Rattle.std.proofs.Common.{◌≡◌, ◌≢◌, ℕ, suc, ◌+◌, ◌*◌, ◌/◌, ◌%◌, ◌-◌, ◌^◌, ◌<◌, ◌≤◌, ◌==◌, Bool, true, false, cond, ◌&&◌, not, List, [], ◌++◌, codes, decimal, ℤ, pos, negsuc, neg_ℤ, Result, Ok, Err, Option, Some, None, unwrap_or, refl, sym, ap, ◌∙◌, inl, inr, arith}
+use Rattle.std.proofs.Common.{◌≡◌, ℕ, suc, ◌+◌, ◌*◌, ◌-◌, ◌^◌, ◌<◌, ◌≤◌, ◌==◌, Bool, true, false, cond, ◌&&◌, [], ◌++◌, codes, decimal, ℤ, pos, negsuc, neg_ℤ, Result, Ok, Err, Option, Some, None, unwrap_or, refl, sym, ap, ◌∙◌, inl, inr, arith}
 use Rattle.std.specs.Prelude.{int_lt, int_le, IfSome}
 use Rattle.std.specs.Fmt.{signed_decimal}
 use Rattle.std.specs.Ordering.{int_eq}
 use Rattle.std.proofs.lemmas.Bool.{ltb-true}
 use Rattle.std.proofs.lemmas.Bool.Decides.{eqb_tells}
 use Rattle.std.proofs.lemmas.Int.{ints}
-use Rattle.block_model.specs.Ranges.{Range, Empty, Between, IsRange, touches}
+use Rattle.block_model.specs.Ranges.{Range, Empty, Between, IsRange}
 use Rattle.block_model.specs.RangeBounds.{Bound, within_int8, canonical_range, range_from_bounds}
 use Rattle.block_model.specs.Networks.{Network, IsNetwork}
 use Rattle.block_model.specs.declared.span.SpanFault.{SpanFault}
@@ -15,11 +15,11 @@ use Rattle.block_model.specs.declared.value.Kind.{Kind}
 use Rattle.block_model.specs.declared.value.Kind.TheVariants as kinds
 use Rattle.block_model.specs.declared.value.Value.{Value}
 use Rattle.block_model.specs.declared.value.Value.TheVariants as values
-use Rattle.value_text.specs.IntTexts.{NumberText, IsNumber, number_bytes, digits_from, number_of, is_int8, int8_of}
-use Rattle.value_text.specs.RangeTexts.{BoundText, IsBound, bounds_bytes, lower_bytes, upper_bytes, bound_of, placed, range_with, range_of}
+use Rattle.value_text.specs.IntTexts.{NumberText, IsNumber, number_bytes, number_of, is_int8, int8_of}
+use Rattle.value_text.specs.RangeTexts.{BoundText, IsBound, lower_bytes, upper_bytes, bound_of, placed, range_with}
 use Rattle.value_text.specs.NetTexts.{NetText, IsNet, prefix_bytes, net_bytes, network_of}
-use Rattle.value_text.specs.ValueTexts.{ValueText, Null, Number, NoNumber, Bounds, Address, IsTextOf, bytes_of, int_value, range_value, meaning, Denotes}
-use Rattle.value_text.specs.CanonicalTexts.{lower_text, upper_text, range_text, prefix_text, byte_of, network_text, canonical_text, HasBounds, IsValueOf}
+use Rattle.value_text.specs.ValueTexts.{Null, Number, NoNumber, Bounds, Address, int_value, range_value, meaning, Denotes}
+use Rattle.value_text.specs.CanonicalTexts.{lower_text, upper_text, byte_of, network_text, canonical_text, IsValueOf}
 use Rattle.value_text.proofs.Decimals.{decimal-digits, digits_from-decimal}
 use Rattle.value_text.proofs.ValueReading.{null_is, one-text}
 

@@ -1,7 +1,7 @@
 -- What a reading of any bytes is to the texts that it reads, and how that is kept by readings one behind another.
-use Rattle.std.proofs.Common.{◌≡◌, ℕ, Bool, true, false, cond, List, [], ◌∷◌, ◌++◌, Result, Ok, Err, refl, sym, ap, ◌∙◌, append_assoc, append-nil, ◌⊎◌, inl, inr, ◌==◌, ◌≢◌}
+use Rattle.std.proofs.Common.{◌≡◌, ℕ, Bool, true, false, cond, List, [], ◌∷◌, ◌++◌, Result, Ok, Err, refl, sym, ap, ◌∙◌, append_assoc, ◌⊎◌, inl, inr, ◌==◌, ◌≢◌}
 use Rattle.std.proofs.lemmas.Bool.Decides.{eqb_tells}
-use Rattle.value_text.specs.Reading.{Reading, ◌>>=◌, mapped, both, begins, choice, nothing, end_at, byte_at, word_at, bracket_at}
+use Rattle.value_text.specs.Reading.{Reading, ◌>>=◌, mapped, both, begins, choice, nothing, end_at, byte_at, word_at}
 
 -- what is left of the bytes
 abbrev pub left : {A : Type 0} → Result (A × List ℕ) (List ℕ) → List ℕ

@@ -8,3 +8,4 @@ pub mod NetReading
 pub mod Decimals
 pub mod ValueReading
 pub mod Canonical
+pub mod OfKind

@@ -6,8 +6,8 @@ use Rattle.std.proofs.lemmas.Bool.Decides.{eqb_tells}
 use Rattle.std.proofs.lemmas.Fmt.{decimal_digit, decimal_step, decimal_by_steps}
 use Rattle.block_model.specs.Names.{is_digit}
 use Rattle.value_text.specs.NetTexts.{NetText, IsNet, prefix_bytes, net_bytes}
-use Rattle.value_text.specs.Reading.{Reading, ◌>>=◌, mapped, both, begins, choice, nothing, byte_at, grown, decimal_at, pointed_at, prefix_at, ending_at, front_at, whole_net, net_at}
-use Rattle.value_text.proofs.Lawful.{left, Obeys, Lawful, both-lawful, mapped-lawful, choice-lawful, nothing-lawful, same-lawful, byte-lawful, both-read, mapped-read, choice-first, choice-second}
+use Rattle.value_text.specs.Reading.{mapped, both, begins, choice, nothing, byte_at, grown, decimal_at, pointed_at, prefix_at, ending_at, front_at, whole_net, net_at}
+use Rattle.value_text.proofs.Lawful.{Obeys, Lawful, both-lawful, mapped-lawful, choice-lawful, nothing-lawful, same-lawful, byte-lawful, both-read, mapped-read}
 use Rattle.value_text.proofs.NumberReading.{and_parts}
 
 digit_range : (c : ℕ) → is_digit c ≡ true → (48 ≤ c) × (c ≤ 57)

@@ -1,11 +1,11 @@
 -- The texts of int8 are what is read as them.
-use Rattle.std.proofs.Common.{◌≡◌, ◌≢◌, ℕ, ◌<◌, ◌≤◌, Bool, true, false, cond, ◌&&◌, ◌||◌, ◌==◌, List, [], ◌∷◌, ◌++◌, length, Result, Ok, Err, Option, Some, None, refl, sym, ap, ◌∙◌, append_assoc, ◌⊎◌, inl, inr, arith}
+use Rattle.std.proofs.Common.{◌≡◌, ℕ, ◌<◌, Bool, true, false, cond, ◌&&◌, ◌==◌, List, [], ◌∷◌, ◌++◌, length, Result, Ok, Err, refl, sym, ap, ◌∙◌, inl, inr, arith}
 use Rattle.std.specs.List.{list_all}
 use Rattle.std.proofs.lemmas.Bool.Decides.{eqb_tells}
 use Rattle.block_model.specs.Names.{is_digit}
 use Rattle.value_text.specs.IntTexts.{NumberText, IsNumber, number_bytes}
-use Rattle.value_text.specs.Reading.{Reading, ◌>>=◌, mapped, both, begins, choice, byte_at, split_digits, digits_at, is_minus, number_at}
-use Rattle.value_text.proofs.Lawful.{left, Obeys, Lawful, both-lawful, mapped-lawful, choice-lawful, same-lawful, byte-lawful, both-read, mapped-read, choice-second}
+use Rattle.value_text.specs.Reading.{mapped, both, begins, choice, byte_at, split_digits, digits_at, is_minus, number_at}
+use Rattle.value_text.proofs.Lawful.{Obeys, Lawful, both-lawful, mapped-lawful, choice-lawful, same-lawful, byte-lawful, both-read, mapped-read, choice-second}
 
 -- both sides of a conjunction
 pub and_parts : (a b : Bool) → (a && b) ≡ true → (a ≡ true) × (b ≡ true)

@@ -1,5 +1,5 @@
 -- The texts of int8range are what is read as them.
-use Rattle.std.proofs.Common.{◌≡◌, ◌≢◌, ℕ, Bool, true, false, cond, ◌&&◌, ◌||◌, ◌==◌, List, [], ◌∷◌, ◌++◌, codes, Result, Ok, Err, Option, Some, None, refl, sym, ap, ◌∙◌, append_assoc, ◌⊎◌, inl, inr, arith}
+use Rattle.std.proofs.Common.{◌≡◌, ◌≢◌, ℕ, Bool, true, false, cond, ◌||◌, ◌==◌, List, [], ◌∷◌, ◌++◌, codes, Result, Ok, Err, Option, Some, None, refl, sym, ap, ◌∙◌, append_assoc, ◌⊎◌, inl, inr, arith}
 use Rattle.std.specs.Prelude.{IfSome}
 use Rattle.std.specs.List.{list_all}
 use Rattle.std.proofs.lemmas.Bool.Decides.{eqb_tells}
@@ -8,9 +8,9 @@ use Rattle.block_model.specs.declared.value.Kind.TheVariants as kinds
 use Rattle.value_text.specs.IntTexts.{NumberText, IsNumber, number_bytes}
 use Rattle.value_text.specs.RangeTexts.{BoundText, IsBound, side_bytes, lower_bytes, upper_bytes, bounds_bytes}
 use Rattle.value_text.specs.ValueTexts.{ValueText, NoNumber, Bounds, IsTextOf, bytes_of}
-use Rattle.value_text.specs.Reading.{Reading, ◌>>=◌, mapped, both, begins, choice, nothing, byte_at, word_at, is_minus, is_sign_or_digit, number_at, side_at, bracket_at, lower_at, upper_at, bounds_at, range_at}
-use Rattle.value_text.proofs.Lawful.{left, Obeys, Lawful, both-lawful, mapped-lawful, choice-lawful, nothing-lawful, same-lawful, byte-lawful, word-lawful, both-read, mapped-read, choice-first, choice-second}
-use Rattle.value_text.proofs.NumberReading.{AreDigits, and_parts, number-lawful, number-complete}
+use Rattle.value_text.specs.Reading.{Reading, mapped, both, begins, choice, nothing, byte_at, word_at, is_minus, is_sign_or_digit, number_at, side_at, bracket_at, lower_at, upper_at, bounds_at, range_at}
+use Rattle.value_text.proofs.Lawful.{Obeys, Lawful, both-lawful, mapped-lawful, choice-lawful, nothing-lawful, same-lawful, byte-lawful, word-lawful, both-read, mapped-read, choice-first, choice-second}
+use Rattle.value_text.proofs.NumberReading.{and_parts, number-lawful, number-complete}
 
 abbrev IsSide : Option NumberText → Type 0
 IsSide side = IfSome side IsNumber

@@ -1,5 +1,5 @@
 -- The texts of each kind are what is read as them, and other bytes are refused where no text goes on.
-use Rattle.std.proofs.Common.{◌≡◌, ℕ, ◌+◌, ◌-◌, ◌^◌, ◌<◌, ◌≤◌, Bool, true, false, ◌&&◌, ◌==◌, List, [], ◌∷◌, ◌++◌, length, take, codes, decimal, Result, Ok, Err, Option, Some, None, refl, sym, ap, ◌∙◌, append_assoc, append-nil, length-append, subst, arith}
+use Rattle.std.proofs.Common.{◌≡◌, ℕ, ◌+◌, ◌-◌, ◌<◌, ◌≤◌, Bool, true, false, ◌==◌, List, [], ◌∷◌, ◌++◌, length, take, codes, decimal, Result, Ok, Err, Option, refl, sym, ap, ◌∙◌, append_assoc, append-nil, length-append, subst, arith}
 use Rattle.std.proofs.Math.Seq.{take-append_seam}
 use Rattle.std.specs.Result.{is_ok}
 use Rattle.std.proofs.lemmas.Bool.{false≢true}
@@ -8,14 +8,13 @@ use Rattle.block_model.specs.Names.{is_digit}
 use Rattle.block_model.specs.declared.value.Kind.{Kind}
 use Rattle.block_model.specs.declared.value.Kind.TheVariants as kinds
 use Rattle.value_text.specs.IntTexts.{NumberText, IsNumber, number_bytes}
-use Rattle.value_text.specs.RangeTexts.{BoundText, side_bytes, lower_bytes, upper_bytes, bounds_bytes}
+use Rattle.value_text.specs.RangeTexts.{lower_bytes, upper_bytes, bounds_bytes}
 use Rattle.value_text.specs.NetTexts.{NetText, IsNet, prefix_bytes, net_bytes}
 use Rattle.value_text.specs.ValueTexts.{ValueText, Null, Number, NoNumber, Bounds, Address, IsTextOf, bytes_of, Answers}
 use Rattle.block_model.specs.declared.value.Value.{Value}
-use Rattle.value_text.specs.declared.read.TextFault.{TextFault}
 use Rattle.value_text.specs.declared.read.TextFault.TheVariants as faults
 use Rattle.value_text.specs.StopsAt.{BeginsText, StopsAt}
-use Rattle.value_text.specs.Reading.{Reading, ◌>>=◌, mapped, both, begins, choice, word_at, end_at, number_at, range_at, net_at, kind_at, text_at, whole_at}
+use Rattle.value_text.specs.Reading.{mapped, both, begins, word_at, end_at, number_at, range_at, net_at, kind_at, text_at, whole_at}
 use Rattle.value_text.proofs.Lawful.{left, Obeys, Lawful, both-lawful, mapped-lawful, choice-lawful, same-lawful, word-lawful, end-lawful, both-read, mapped-read, choice-second}
 use Rattle.value_text.proofs.NumberReading.{AreDigits, and_parts, other_byte, number-lawful, number-complete}
 use Rattle.value_text.proofs.RangeReading.{range-lawful, empty-complete, bounds-complete}

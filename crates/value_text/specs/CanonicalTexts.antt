@@ -1,5 +1,5 @@
 -- the one text that a value is printed as
-use Rattle.std.specs.Prelude.{◌≡◌, ℕ, ◌/◌, ◌%◌, ◌^◌, ◌<◌, ◌==◌, true, if◌then◌else◌, List, [], ◌∷◌, ◌++◌, codes, decimal, ℤ, Option, None, Some, IfSome}
+use Rattle.std.specs.Prelude.{◌≡◌, ℕ, ◌/◌, ◌%◌, ◌^◌, ◌==◌, true, if◌then◌else◌, List, [], ◌++◌, codes, decimal, ℤ, Option, None, Some, IfSome}
 use Rattle.std.specs.Fmt.{signed_decimal}
 use Rattle.block_model.specs.Ranges.{Range, Empty, Between, IsRange}
 use Rattle.block_model.specs.Networks.{Network, IsNetwork}

@@ -1,5 +1,5 @@
 -- what texts and values are to one another
-use Rattle.std.specs.Prelude.{◌≡◌, ℕ, List, Result, Ok}
+use Rattle.std.specs.Prelude.{◌≡◌, ℕ, List, Ok}
 use Rattle.block_model.specs.declared.value.Kind.{Kind}
 use Rattle.block_model.specs.declared.value.Value.{Value}
 use Rattle.value_text.specs.ValueTexts.{ValueText, IsTextOf, bytes_of, Denotes}
@@ -16,3 +16,7 @@ CanonicalTextDenotes = (kind : Kind) (value : Value) → IsValueOf kind value �
 -- no two values of one kind have one text
 abbrev pub CanonicalTextIsOwn : Type 0
 CanonicalTextIsOwn = (kind : Kind) (a b : Value) → IsValueOf kind a → IsValueOf kind b → canonical_text a ≡ canonical_text b → a ≡ b
+
+-- a value that a text denotes is one of the text's kind
+abbrev pub DenotedIsOfKind : Type 0
+DenotedIsOfKind = (kind : Kind) (bytes : List ℕ) (value : Value) → Denotes kind bytes (Ok value) → IsValueOf kind value

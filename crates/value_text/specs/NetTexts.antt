@@ -1,5 +1,5 @@
 -- the texts of inet ("Network Address Types"): four decimal numbers and the length of a prefix
-use Rattle.std.specs.Prelude.{◌≡◌, ℕ, ◌+◌, ◌*◌, ◌^◌, ◌≤◌, unwrap_or, List, [], ◌∷◌, ◌++◌, codes, decimal, Option, None, Some, IfSome}
+use Rattle.std.specs.Prelude.{ℕ, ◌+◌, ◌*◌, ◌^◌, ◌≤◌, unwrap_or, List, [], ◌++◌, codes, decimal, Option, None, Some, IfSome}
 use Rattle.block_model.specs.Networks.{Network, network_v4}
 
 -- an address as it is written

@@ -1,5 +1,5 @@
 -- the texts of int8range ("Range Types"): two bounds in brackets, each with a number or infinite
-use Rattle.std.specs.Prelude.{◌≡◌, ℕ, ◌+◌, ◌-◌, ◌^◌, Bool, false, not, ◌&&◌, if◌then◌else◌, List, [], ◌∷◌, ◌++◌, length, codes, ℤ, pos, Option, None, Some, IfSome, Result, Ok, Err}
+use Rattle.std.specs.Prelude.{ℕ, ◌+◌, ◌-◌, ◌^◌, Bool, false, not, ◌&&◌, if◌then◌else◌, List, [], ◌++◌, length, codes, ℤ, pos, Option, None, Some, IfSome, Result, Ok, Err}
 use Rattle.std.specs.Ordering.{int_eq}
 use Rattle.block_model.specs.Ranges.{Range}
 use Rattle.block_model.specs.RangeBounds.{Bound, range_from_bounds}

@@ -1,4 +1,4 @@
--- Reading from the front of a text: what stands there and what is left behind it, or what is left where no text goes on.
+-- How a text is read from its front, part by part.
 use Rattle.std.specs.Prelude.{◌≡◌, ℕ, ◌+◌, ◌-◌, ◌*◌, nat_le, ◌==◌, Bool, true, false, ◌&&◌, ◌||◌, if◌then◌else◌, List, [], ◌∷◌, codes, Option, None, Some, Result, Ok, Err}
 use Rattle.std.specs.Borrow.{Bor}
 use Rattle.block_model.specs.Names.{is_digit}
@@ -9,6 +9,7 @@ use Rattle.value_text.specs.RangeTexts.{BoundText}
 use Rattle.value_text.specs.NetTexts.{NetText}
 use Rattle.value_text.specs.ValueTexts.{ValueText, Null, Number, NoNumber, Bounds, Address}
 
+-- what stands at the front of bytes, and what is left behind it, or what is left where no text goes on
 abbrev pub Reading : Type 0 → Type 0
 Reading A = List ℕ → Result (A × List ℕ) (List ℕ)
 
@@ -68,17 +69,19 @@ split_digits (c ∷ cs) = if is_digit c then (c ∷ (split_digits cs).0, (split_
 unfoldable pub digits_at : Reading (List ℕ)
 digits_at bytes = if begins is_digit bytes then Ok (split_digits bytes) else Err bytes
 
--- an optional `-` and digits
+-- the byte `-`
 abbrev pub is_minus : ℕ → Bool
 is_minus c = c == 45
 
+-- an optional `-` and digits
 unfoldable pub number_at : Reading NumberText
 number_at bytes = choice is_minus (mapped (λ x. record { negative = true; digits = x.1 }) (both (byte_at 45) digits_at)) (mapped (λ ds. record { negative = false; digits = ds }) digits_at) bytes
 
--- a number, or nothing
+-- a byte that begins a number
 abbrev pub is_sign_or_digit : ℕ → Bool
 is_sign_or_digit c = is_minus c || is_digit c
 
+-- a number, or nothing
 unfoldable pub side_at : Reading (Option NumberText)
 side_at bytes = choice is_sign_or_digit (mapped Some number_at) (nothing None) bytes
 
@@ -87,12 +90,15 @@ abbrev pub bracket_at : ℕ → ℕ → Reading Bool
 bracket_at square round [] = Err []
 bracket_at square round (c ∷ cs) = if c == square then Ok (true, cs) else if c == round then Ok (false, cs) else Err (c ∷ cs)
 
+-- a bracket and an optional number
 unfoldable pub lower_at : Reading BoundText
 lower_at bytes = mapped (λ x. record { number = x.1; inclusive = x.0 }) (both (bracket_at 91 40) side_at) bytes
 
+-- an optional number and a bracket
 unfoldable pub upper_at : Reading BoundText
 upper_at bytes = mapped (λ x. record { number = x.0; inclusive = x.1 }) (both side_at (bracket_at 93 41)) bytes
 
+-- both bounds, and `,` between them
 unfoldable pub bounds_at : Reading ValueText
 bounds_at bytes = mapped (λ x. Bounds x.0 x.1.1) (both lower_at (both (byte_at 44) upper_at)) bytes
 
@@ -126,9 +132,11 @@ ending_at bytes = both (decimal_at 255) prefix_at bytes
 unfoldable pub front_at : Reading (ℕ × (ℕ × ℕ))
 front_at bytes = both pointed_at (both pointed_at pointed_at) bytes
 
+-- an address of those parts
 abbrev pub whole_net : (ℕ × (ℕ × ℕ)) × (ℕ × Option ℕ) → NetText
 whole_net x = record { first = x.0.0; second = x.0.1.0; third = x.0.1.1; fourth = x.1.0; prefix = x.1.1 }
 
+-- four bytes, and a prefix or none
 unfoldable pub net_at : Reading NetText
 net_at bytes = mapped whole_net (both front_at ending_at) bytes
 

@@ -1,5 +1,5 @@
 -- which bytes are a text of a value, and which value it denotes
-use Rattle.std.specs.Prelude.{◌≡◌, ℕ, List, [], ◌∷◌, codes, ℤ, Option, None, Some, Result, Ok, Err}
+use Rattle.std.specs.Prelude.{◌≡◌, ℕ, List, codes, ℤ, Option, None, Some, Result, Ok, Err}
 use Rattle.block_model.specs.Ranges.{Range, Empty}
 use Rattle.block_model.specs.declared.value.Kind.{Kind}
 use Rattle.block_model.specs.declared.value.Kind.TheVariants as kinds
@@ -41,6 +41,7 @@ abbrev pub int_value : Option ℤ → Result Value ℕ
 int_value None = Err 0
 int_value (Some n) = Ok (values.Int n)
 
+-- the range, or where its number begins that doesn't fit
 abbrev pub range_value : Result Range ℕ → Result Value ℕ
 range_value (Ok range) = Ok (values.Span range)
 range_value (Err at) = Err at

@@ -15,6 +15,8 @@ mod read;
 mod tests;
 mod write;
 
-pub use laws::{bytes_are_one_text, canonical_text_denotes, canonical_text_is_own};
+pub use laws::{
+    bytes_are_one_text, canonical_text_denotes, canonical_text_is_own, denoted_is_of_kind,
+};
 pub use read::{TextFault, read_value};
 pub use write::write_value;

@@ -84,13 +84,11 @@ pub fn range_of(lower: &Bound<'_>, upper: &Bound<'_>) -> Result<Span8, usize>
 fn bound_of(bound: &Bound<'_>) -> Option<Option<(i64, bool)>>
     ensures { result ≡ bound_of (bound_text bound.now) }
 {
-    match &bound.number {
-        None => Some(None),
-        Some(number) => match number.value() {
-            None => None,
-            Some(n) => Some(Some((n, bound.inclusive))),
-        },
-    }
+    let Some(number) = &bound.number else {
+        return Some(None);
+    };
+    let n = number.value()?;
+    Some(Some((n, bound.inclusive)))
 }
 
 /// Where the number of the upper bound begins.

@@ -1,4 +1,4 @@
-use Rattle.std.proofs.Common.{◌<◌, arith}
+use Rattle.std.proofs.Common.{arith}
 use Rattle.value_text.proofs.NumberLemmas.{digits_at-count}
 use Rattle.value_text.proofs.number.digits.Goals as goal
 

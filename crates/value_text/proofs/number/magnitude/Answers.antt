@@ -1,4 +1,4 @@
-use Rattle.std.proofs.Common.{◌≡◌, ◌+◌, ◌*◌, ◌-◌, ◌^◌, min, get_or, ◌∙◌, arith}
+use Rattle.std.proofs.Common.{◌+◌, ◌^◌, ◌∙◌, arith}
 use Rattle.value_text.proofs.NumberLemmas.{capped-next}
 use Rattle.value_text.proofs.number.magnitude.Goals as goal
 

@@ -1,5 +1,5 @@
-use Rattle.std.proofs.Common.{◌≡◌, ℕ, ◌-◌, length, Ok, Err, sym, ap, ◌∙◌, subst, arith}
-use Rattle.value_text.specs.ValueTexts.{meaning, Denotes, Answers}
+use Rattle.std.proofs.Common.{◌≡◌, ◌-◌, length, Err, sym, ap, ◌∙◌}
+use Rattle.value_text.specs.ValueTexts.{meaning}
 use Rattle.value_text.specs.Parts.{value_text}
 use Rattle.value_text.proofs.ValueReading.{read-is_text, read-is_only, refused-leaves, refused-is_no_text, refused-stops_at, answers-value, answers-range}
 use Rattle.value_text.proofs.read.read_value.Goals as goal
