@@ -1,0 +1,11 @@
+pub mod AppendedLemmas
+pub mod PrintedLemmas
+pub mod NumberLemmas
+pub mod Lawful
+pub mod NumberReading
+pub mod RangeReading
+pub mod NetReading
+pub mod Decimals
+pub mod ValueReading
+pub mod Canonical
+pub mod OfKind

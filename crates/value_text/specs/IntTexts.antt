@@ -1,0 +1,36 @@
+-- the texts of int8 ("Numeric Types"): an optional `-` and one or more digits
+use Rattle.std.specs.Prelude.{◌≡◌, ℕ, ◌+◌, ◌-◌, ◌*◌, ◌^◌, ◌<◌, nat_lt, Bool, true, if◌then◌else◌, List, [], ◌∷◌, length, ℤ, pos, negsuc, neg_ℤ, Option, None, Some}
+use Rattle.std.specs.List.{list_all}
+use Rattle.block_model.specs.Names.{is_digit}
+
+-- a number as it is written
+pub record NumberText : Type 0 where
+  pub negative : Bool
+  pub digits : List ℕ
+
+-- one or more digits, and no other byte
+pub record IsNumber (n : NumberText) : Type 0 where
+  pub some : 0 < length n.digits
+  pub digits : list_all is_digit n.digits ≡ true
+
+-- the bytes that write it
+abbrev pub number_bytes : NumberText → List ℕ
+number_bytes n = if n.negative then 45 ∷ n.digits else n.digits
+
+-- the number of the digits behind n's
+abbrev pub digits_from : ℕ → List ℕ → ℕ
+digits_from n [] = n
+digits_from n (c ∷ cs) = digits_from (10 * n + (c - 48)) cs
+
+-- the number that is written, however many digits it has
+abbrev pub number_of : NumberText → ℤ
+number_of n = if n.negative then neg_ℤ (pos (digits_from 0 n.digits)) else pos (digits_from 0 n.digits)
+
+-- from -9223372036854775808 to 9223372036854775807
+abbrev pub is_int8 : ℤ → Bool
+is_int8 (pos n) = nat_lt n (2 ^ 63)
+is_int8 (negsuc n) = nat_lt n (2 ^ 63)
+
+-- the number, where it is one of int8
+abbrev pub int8_of : NumberText → Option ℤ
+int8_of n = if is_int8 (number_of n) then Some (number_of n) else None

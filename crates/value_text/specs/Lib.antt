@@ -1,0 +1,10 @@
+pub mod IntTexts
+pub mod RangeTexts
+pub mod NetTexts
+pub mod ValueTexts
+pub mod StopsAt
+pub mod CanonicalTexts
+pub mod Laws
+pub mod Appended
+pub mod Parts
+pub mod Reading

@@ -1,0 +1,22 @@
+// Values as texts, both ways: `read_value` answers Ok exactly on the texts of a kind whose value is representable, with the
+// value that the text denotes, and else where the text goes wrong or which number doesn't fit; `write_value` appends the one
+// canonical text, which reads as the same value. The texts are specs/ValueTexts.antt, apart from reader and printer. It
+// stands on block_model, and on itoa for printed numbers. Reading takes no memory, and writing takes none but `out`'s.
+#![tactic(auto)]
+
+mod cursor;
+mod laws;
+mod literal;
+mod net;
+mod number;
+mod range;
+mod read;
+#[cfg(test)]
+mod tests;
+mod write;
+
+pub use laws::{
+    bytes_are_one_text, canonical_text_denotes, canonical_text_is_own, denoted_is_of_kind,
+};
+pub use read::{TextFault, read_value};
+pub use write::write_value;
