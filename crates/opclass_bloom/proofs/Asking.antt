@@ -1,6 +1,9 @@
 -- a summary that is asked misses no value that it includes
-use Rattle.std.proofs.Common.{◌≡◌, ℤ, Bool, true, false, ◌&&◌, ◌||◌, ◌==◌, List, [], ◌∷◌, refl, sym, ap, ◌∙◌, subst, arith, eqb-true, int_eq}
-use Rattle.std.proofs.lemmas.Bool.{and_parts}
+use Rattle.std.proofs.Common.{◌≡◌, ℤ, Bool, true, false, ◌&&◌, ◌==◌, List, get_or, true≢false, refl, sym, ap, ◌∙◌, subst, arith, eqb-true, int_eq}
+use Rattle.std.specs.List.{AllPass}
+use Rattle.std.proofs.lemmas.Bool.{and_parts, false_from_ne_true}
+use Rattle.std.proofs.lemmas.List.Folds.{Any-from_list_any, list_all_at}
+use Rattle.std.proofs.lemmas.List.Sums.{AllPass-from_list_all, list_all-from_AllPass}
 use Rattle.std.proofs.lemmas.Int.{ints}
 use Rattle.block_model.specs.declared.value.Value.{Value}
 use Rattle.block_model.specs.declared.value.Value.TheVariants.{Null, Int, Span, Net}
@@ -64,17 +67,13 @@ kept p s (Net v) cond included c m = key_kept p s (Net v) cond.op cond.key inclu
 kept p s Null cond included c m = absurd included.0
 kept p s (Span v) cond included c m = absurd included.0
 
--- the first of two lists of tests fails where the second does
-carried : (c h m cs hs ms : Bool) → (c && cs) ≡ true → (h && hs) ≡ false → (c ≡ true → m ≡ true → h ≡ true) → (cs ≡ true → hs ≡ false → ms ≡ false) → (m && ms) ≡ false
-carried c h false cs hs ms all none here later = refl
-carried false h true cs hs ms all none here later = cc
-carried true true true cs hs ms all none here later = later all none
-carried true false true cs hs ms all none here later = cc (here refl refl)
-
 pub misses_none : (p : Parameters) (s : List Bool) (conds : List Cond) (v : Value) → AllCompare conds → consistent p s conds ≡ false → Includes p s v → meets_all conds v ≡ false
-misses_none p s [] v all none included = none
-misses_none p s (cond ∷ conds) v all none included =
-    carried (compares cond.op) (key_holds p s cond.op cond.key) (meets v cond) _ (consistent p s conds) (meets_all conds v) all none (kept p s v cond included) (λ rest fails. misses_none p s conds v rest fails included)
+misses_none p s conds v all none included =
+    let holds : Cond → Bool = λ c. key_holds p s c.op c.key in
+    false_from_ne_true (meets_all conds v)
+    (λ met.
+    let each : AllPass holds conds = λ k d within. kept p s v (get_or conds k d) included (AllPass-from_list_all (λ c. compares c.op) conds all k d within) (AllPass-from_list_all (meets v) conds met k d within) in
+    true≢false (sym (list_all-from_AllPass holds conds each) ∙ none))
 
 key_null : (p : Parameters) (s : List Bool) (op : Op) (key : Value) → is_null key ≡ true → key_holds p s op key ≡ false
 key_null p s op Null null = refl
@@ -82,13 +81,10 @@ key_null p s op (Int k) null = cc
 key_null p s op (Span k) null = cc
 key_null p s op (Net k) null = cc
 
-one_fails : (n h ns hs : Bool) → (n || ns) ≡ true → (n ≡ true → h ≡ false) → (ns ≡ true → hs ≡ false) → (h && hs) ≡ false
-one_fails n false ns hs some here later = refl
-one_fails true true ns hs some here later = cc (here refl)
-one_fails false true ns hs some here later = later some
-
 -- a null key holds nothing
 pub null_holds_nothing : (p : Parameters) (s : List Bool) (conds : List Cond) → has_null_key conds ≡ true → consistent p s conds ≡ false
-null_holds_nothing p s [] some = cc
-null_holds_nothing p s (cond ∷ conds) some =
-    one_fails (is_null cond.key) (key_holds p s cond.op cond.key) (has_null_key conds) (consistent p s conds) some (key_null p s cond.op cond.key) (null_holds_nothing p s conds)
+null_holds_nothing p s conds some =
+    let any = Any-from_list_any (λ (c : Cond). is_null c.key) conds some in
+    let cond = any.1 in
+    let holds : Cond → Bool = λ c. key_holds p s c.op c.key in
+    list_all_at holds conds any.0 cond any.2 (ap holds any.3 ∙ key_null p s cond.op cond.key any.4)

@@ -1,7 +1,5 @@
 -- how words are mixed into a hash (the last steps of the generator SplitMix64)
-use Rattle.std.specs.Prelude.{ℕ, ◌*◌, ◌/◌, ◌%◌, ◌^◌, bit_xor}
-use Rattle.std.specs.List.{fold}
-use Rattle.std.specs.Prelude.{List}
+use Rattle.std.specs.Prelude.{ℕ, ◌*◌, ◌/◌, ◌%◌, ◌^◌, bit_xor, List, fold}
 
 -- a number and its bits from the n-th on, by exclusive or
 abbrev pub folded : ℕ → ℕ → ℕ
