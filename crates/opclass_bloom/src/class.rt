@@ -56,6 +56,13 @@ impl Bloom {
         }
     }
 
+    /// The parameters of every class are within their limits.
+    pub fn known(&self)
+        ensures { AreWithinLimits self.now }
+    {
+        let _ = &self.bits;
+    }
+
     /// How many bytes each summary has.
     fn size(&self) -> usize
         ensures size { result ≡ size_of self.now }
