@@ -1,0 +1,4 @@
+pub mod Asking
+pub mod Bytes
+pub mod Exactness
+pub mod Setting

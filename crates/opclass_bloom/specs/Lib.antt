@@ -1,0 +1,9 @@
+pub mod Bits
+pub mod Consistent
+pub mod Encoding
+pub mod ExactSummary
+pub mod Includes
+pub mod Kept
+pub mod Mixing
+pub mod Parameters
+pub mod Positions
