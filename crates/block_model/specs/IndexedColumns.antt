@@ -7,6 +7,7 @@ use Rattle.block_model.specs.declared.schema.Table.{Table}
 use Rattle.block_model.specs.declared.schema.Index.{Index}
 use Rattle.block_model.specs.declared.schema.Schema.{Schema}
 
+-- the columns of a table, and none where there is no table
 abbrev pub columns_in : Option Table → List Column
 columns_in None = []
 columns_in (Some table) = table.columns
@@ -15,6 +16,7 @@ columns_in (Some table) = table.columns
 abbrev pub columns_of : Schema → Index → List Column
 columns_of schema index = columns_in (slice_get schema.tables index.table)
 
+-- the kind of a column, and int8 where there is no column
 abbrev pub kind_in : Option Column → Kind
 kind_in None = kinds.Int
 kind_in (Some column) = column.kind

@@ -25,6 +25,7 @@ abbrev pub are_distinct : {X : Type 0} → (X → X → Bool) → List X → Boo
 are_distinct equal [] = true
 are_distinct equal (x ∷ xs) = not (list_any (equal x) xs) && are_distinct equal xs
 
+-- the name is among them
 abbrev pub has_name : List ℕ → List (List ℕ) → Bool
 has_name name names = list_any (bytes_eq name) names
 
@@ -37,9 +38,11 @@ abbrev pub has_lawful_tables : Schema → Bool
 has_lawful_tables schema =
     is_within 1 8 (length schema.tables) && are_distinct bytes_eq (relation_names schema) && not (has_name (codes "status") (relation_names schema))
 
+-- a table's columns
 abbrev pub columns_are_lawful : Table → Bool
 columns_are_lawful table = is_within 1 8 (length table.columns) && are_distinct (λ a b. bytes_eq a.name b.name) table.columns
 
+-- an index's columns
 abbrev pub parts_are_lawful : Index → Bool
 parts_are_lawful index = is_within 1 8 (length index.parts) && are_distinct (λ a b. a.column == b.column) index.parts
 
@@ -86,6 +89,7 @@ has_lawful_parameters (classes.Multi limit) = is_within 8 256 limit
 has_lawful_parameters classes.Inclusion = true
 has_lawful_parameters (classes.Bloom bits hashes) = is_within 64 16384 bits && (bits % 8 == 0) && is_within 1 16 hashes
 
+-- one indexed column's class
 abbrev pub class_is_lawful : List Column → Part → Bool
 class_is_lawful columns part = takes_kind part.class (kind_at columns part.column) && has_lawful_parameters part.class
 

@@ -7,6 +7,7 @@ use Rattle.block_model.specs.DiskLayout.{DiskLayout, IsPlace, page_offset, disk_
 abbrev pub AreApart : DiskLayout → Place → Place → Type 0
 AreApart d p q = (page_offset d p + 8192 ≤ page_offset d q) ⊎ (page_offset d q + 8192 ≤ page_offset d p)
 
+-- every page has its own place on the disk, and none is left over
 pub record PagesFillDisk (d : DiskLayout) : Type 0 where
   -- the pages of two places share no byte
   pub disjoint : (p q : Place) → IsPlace d p → IsPlace d q → p ≢ q → AreApart d p q
