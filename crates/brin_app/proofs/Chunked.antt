@@ -5,7 +5,6 @@ use Rattle.std.proofs.Math.Seq.{take-add, take-nil, drop-nil}
 use Rattle.std.proofs.Math.Nat.{zero-mul, mul_comm, mul_assoc, suc-mul, add-mul, mul-le-mul_right, div-mul-le_self, lt-div-mul-add}
 use Rattle.std.proofs.lemmas.List.{take_all, drop_all, drop-append-le, take-append-le, length-take, length-drop, length-append, drop-take, take-take}
 use Rattle.std.proofs.lemmas.List.Elements.{All-head, All-tail, All-take, All-drop}
-use Rattle.block_model.specs.declared.row.RowId.{RowId}
 use Rattle.block_model.specs.declared.row.Row.{Row}
 use Rattle.brin_app.specs.Chunks.{chunk}
 use Rattle.brin_app.specs.Places.{places, places_in_block}

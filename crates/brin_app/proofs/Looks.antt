@@ -1,5 +1,5 @@
 -- what a look finds of the visible state
-use Rattle.std.proofs.Common.{◌≡◌, ℕ, ◌+◌, ◌<◌, ◌&&◌, Bool, false, List, [], ◌∷◌, ◌++◌, map, take, length, get_or, Some, sym, ap, ◌∙◌, subst, arith, All, IsPermutation, IsSorted}
+use Rattle.std.proofs.Common.{◌≡◌, ℕ, ◌+◌, ◌<◌, ◌&&◌, Bool, List, [], ◌∷◌, ◌++◌, map, take, length, get_or, Some, sym, ap, ◌∙◌, subst, arith, All, IsPermutation, IsSorted}
 use Rattle.std.proofs.lemmas.List.{get_or_default, map_more}
 use Rattle.std.proofs.lemmas.List.Sorted.{All-permutation}
 use Rattle.std.specs.Ordering.{nat_cmp, ordering_then}

@@ -1,7 +1,7 @@
 -- from a run of the sessions to the texts of the script
-use Rattle.std.proofs.Common.{◌≡◌, ◌≢◌, ℕ, ◌+◌, ◌^◌, ◌≤◌, List, [], ◌∷◌, ◌++◌, length, Option, None, Some, IfSome, refl, sym, ap, ◌∙◌, subst, arith, length-append, ◌⊎◌, inl, inr}
-use Rattle.std.specs.Prelude.{◌↔◌, IsSomeAnd, IsSome}
-use Rattle.std.specs.Io.KnownBytes.{Appends, Consumes, IsAtEnd}
+use Rattle.std.proofs.Common.{◌≡◌, ◌≢◌, ℕ, ◌+◌, ◌≤◌, List, [], ◌∷◌, length, Option, None, Some, IfSome, refl, sym, ap, ◌∙◌, subst, arith, length-append, ◌⊎◌, inl, inr}
+use Rattle.std.specs.Prelude.{◌↔◌, IsSome}
+use Rattle.std.specs.Io.KnownBytes.{Consumes}
 use Rattle.std.proofs.KnownBytes.{Appends-nil, Consumes-nil}
 use Rattle.block_model.specs.declared.schema.Schema.{Schema}
 use Rattle.query_words.specs.ScriptTexts.{ScriptPlace, script_start, IsLineText}
@@ -9,7 +9,7 @@ use Rattle.script_lines.specs.Script.{ended_lines}
 use Rattle.script_run.specs.declared.run.RunEnd.{RunEnd}
 use Rattle.script_run.specs.declared.run.RunEnd.TheVariants as ends
 use Rattle.script_run.specs.Answers.{AreAnswers}
-use Rattle.script_run.specs.Runs.{Ran, Wrote}
+use Rattle.script_run.specs.Runs.{Ran}
 use Rattle.brin_app.specs.declared.sessions.Sessions.{Sessions}
 use Rattle.brin_app.specs.SessionPlaces.{place_of, AnswersLine}
 use Rattle.brin_app.specs.ExplainedBlocks.{explained}

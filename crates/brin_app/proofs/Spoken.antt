@@ -1,5 +1,5 @@
 -- the lines of the grammar have the statements of today
-use Rattle.std.proofs.Common.{◌≡◌, ℕ, zero, suc, ℤ, Bool, true, false, List, [], ◌∷◌, Option, None, Some, IfSome, Ok, Err, Result, refl, sym, subst, All}
+use Rattle.std.proofs.Common.{◌≡◌, ℕ, zero, suc, ℤ, Bool, true, false, List, [], ◌∷◌, Option, None, Some, IfSome, Ok, Err, Result, refl, sym, subst}
 use Rattle.std.specs.Prelude.{if◌then◌else◌, nat_lt, length, codes, IfOk, slice_get, unwrap_or}
 use Rattle.std.specs.Option.{option_and_then, option_map}
 use Rattle.std.specs.Str.{bytes_eq}
@@ -19,7 +19,7 @@ use Rattle.query_words.specs.declared.line.LineFault.TheVariants as faults
 use Rattle.query_words.specs.Statements.{alone, insert_of, statement_of, small, table_of, column_of, columns_at, value_of, op_of, cond_of, conds_of, query_of}
 use Rattle.query_words.specs.Numbers.{int_of}
 use Rattle.query_words.specs.OneColumn.{IsOneColumn}
-use Rattle.query_words.specs.Lines.{line_of, line_of_words, said, is_comment, or_syntax}
+use Rattle.query_words.specs.Lines.{line_of, line_of_words, is_comment, or_syntax}
 use Rattle.query_words.specs.declared.line.Order.TheVariants as orders
 use Rattle.query_words.specs.declared.line.Line.TheVariants as lines
 use Rattle.query_words.specs.declared.line.TheConstants.{MAX_LINE}

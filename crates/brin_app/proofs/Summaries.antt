@@ -1,10 +1,9 @@
 -- the summaries of ranges, when a row is put and when they are asked
-use Rattle.std.proofs.Common.{◌≡◌, Bool, true, false, cond, ◌&&◌, ℕ, zero, suc, ◌+◌, ◌*◌, ◌/◌, ◌<◌, ◌≤◌, List, [], ◌∷◌, ◌++◌, map, take, drop, length, get_or, Option, None, Some, IfSome, refl, sym, ap, ◌∙◌, subst, arith, All, eqb, eqb-true, ◌⊎◌, inl, inr}
+use Rattle.std.proofs.Common.{◌≡◌, Bool, true, false, cond, ◌&&◌, ℕ, zero, suc, ◌+◌, ◌*◌, ◌/◌, ◌<◌, ◌≤◌, List, [], ◌∷◌, ◌++◌, map, take, length, get_or, Option, None, Some, IfSome, refl, sym, ap, ◌∙◌, subst, arith, All, eqb, eqb-true, ◌⊎◌, inl, inr}
 use Rattle.std.specs.Prelude.{slice_get, slice_index_or, ◌==◌}
-use Rattle.std.specs.Int.{div_ceil}
 use Rattle.std.specs.List.{filter, list_all, range_with_len}
 use Rattle.std.proofs.Math.Bool.{and-true, and-false}
-use Rattle.std.proofs.Math.Nat.{mul-le-mul_right, add-mul, mul_comm, mul_assoc, div-mul-le_self, lt-div-mul-add, div-lt_iff_lt-mul}
+use Rattle.std.proofs.Math.Nat.{mul-le-mul_right, add-mul, mul_comm, mul_assoc, lt-div-mul-add, div-lt_iff_lt-mul}
 use Rattle.std.proofs.lemmas.Bool.{eqb-false, true≢false}
 use Rattle.std.proofs.Math.Seq.{take-nil}
 use Rattle.std.proofs.lemmas.Grind.{div_ceil_times}
@@ -19,13 +18,13 @@ use Rattle.block_model.specs.declared.row.Query.{Query}
 use Rattle.block_model.specs.declared.schema.Index.{Index}
 use Rattle.block_model.specs.declared.schema.Table.{Table}
 use Rattle.block_model.specs.declared.schema.Schema.{Schema}
-use Rattle.block_model.specs.RowMatches.{column_matches, row_matches}
+use Rattle.block_model.specs.RowMatches.{row_matches}
 use Rattle.opclass_minmax.specs.Bounds.{Bounds, NothingYet, with_value}
 use Rattle.opclass_minmax.specs.ExactSummary.{summary_of}
 use Rattle.opclass_minmax.specs.Includes.{IsInt, Includes}
 use Rattle.bitmap_scan.specs.CandidateBlocks.{keeps, range_summary, is_candidate, candidate_blocks}
-use Rattle.bitmap_scan.specs.LeftOut.{LeaveNoMatch, LeaveNoRow}
-use Rattle.query_words.specs.OneColumn.{IsOneIndex, IsFirstColumnIndex, IsOneColumn}
+use Rattle.bitmap_scan.specs.LeftOut.{LeaveNoRow}
+use Rattle.query_words.specs.OneColumn.{IsOneIndex, IsOneColumn}
 use Rattle.brin_app.specs.declared.ranges.Ranges.{Ranges}
 use Rattle.brin_app.specs.Chunks.{chunk, extent_of}
 use Rattle.brin_app.specs.CoversMatches.{CoversMatches}

@@ -1,7 +1,6 @@
 -- what the program writes for a script, and when each status comes
-use Rattle.std.specs.Prelude.{◌≡◌, ◌↔◌, ◌⊎◌, ℕ, ◌+◌, ◌^◌, ◌≤◌, List, length, Option, None, Some, IsSomeAnd}
+use Rattle.std.specs.Prelude.{◌≡◌, ◌↔◌, ◌⊎◌, ℕ, ◌+◌, ◌^◌, ◌≤◌, List, length, Option, Some, IsSomeAnd}
 use Rattle.block_model.specs.declared.schema.Schema.{Schema}
-use Rattle.block_model.specs.Causes.{Rose}
 use Rattle.query_words.specs.ScriptTexts.{ScriptPlace, script_start, IsLineText}
 use Rattle.brin_app.specs.ExplainedBlocks.{explained}
 use Rattle.script_run.specs.declared.run.RunEnd.{RunEnd}

@@ -1,5 +1,5 @@
 -- what the store is seen as
-use Rattle.std.specs.Prelude.{◌≡◌, List, [], refl}
+use Rattle.std.specs.Prelude.{List, [], refl}
 use Rattle.std.specs.Coded.{Coded, code_by, coded×, coded_list}
 use Rattle.block_model.specs.declared.row.Row.{Row}
 use Rattle.block_model.specs.declared.schema.Schema.{Schema}

@@ -117,7 +117,12 @@ impl Store {
         }
         make_room_for_range(&mut self.ranges)?;
         let id = self.versions.put(session, table, values)?;
-        widen(&mut self.ranges, self.rows_per_page, place, values.as_slice());
+        widen(
+            &mut self.ranges,
+            self.rows_per_page,
+            place,
+            values.as_slice(),
+        );
         Ok(id)
     }
 

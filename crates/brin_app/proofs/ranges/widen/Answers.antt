@@ -1,4 +1,4 @@
-use Rattle.std.proofs.Common.{ℕ, ◌*◌, ◌≤◌, length, Option, subst, sym, ◌∙◌}
+use Rattle.std.proofs.Common.{◌*◌, ◌≤◌, length, Option, subst, sym}
 use Rattle.std.proofs.Math.Nat.{div-le_of_le-mul, mul_comm}
 use Rattle.brin_app.specs.declared.ranges.Ranges.{Ranges}
 use Rattle.brin_app.specs.RangeSummaries.{IsWithin}

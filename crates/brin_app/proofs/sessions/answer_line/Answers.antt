@@ -1,4 +1,4 @@
-use Rattle.std.proofs.Common.{◌≡◌, Ok, ap, sym, ◌∙◌}
+use Rattle.std.proofs.Common.{ap, sym, ◌∙◌}
 use Rattle.block_model.specs.declared.schema.Schema.{Schema}
 use Rattle.query_words.specs.Lines.{line_of}
 use Rattle.brin_app.proofs.Spoken.{line_is_spoken}

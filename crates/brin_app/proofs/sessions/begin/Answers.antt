@@ -1,11 +1,11 @@
-use Rattle.std.proofs.Common.{ap, ◌≡◌, true, false, None, Some, refl, sym, ◌∙◌}
+use Rattle.std.proofs.Common.{ap, Some, refl, sym}
 use Rattle.block_model.specs.declared.reply.Refusal.TheVariants as refusals
 use Rattle.block_model.specs.declared.request.Request.TheVariants as requests
 use Rattle.block_model.specs.RequestEffect as effects
 use Rattle.query_words.specs.declared.statement.Statement.TheVariants as statements
-use Rattle.query_words.specs.StatementRequests.{request_entry, look_entry}
+use Rattle.query_words.specs.StatementRequests.{request_entry}
 use Rattle.brin_app.specs.StoreState.{StoreState}
-use Rattle.brin_app.proofs.Acting.{refusal_outside, refusal_within, acts_refused, acts_once, taken_whole}
+use Rattle.brin_app.proofs.Acting.{refusal_outside, refusal_within, acts_refused, acts_once}
 use Rattle.brin_app.proofs.sessions.begin.Goals as goal
 
 pub returns-then-is_open : goal.returns-then-is_open

@@ -1,9 +1,9 @@
-use Rattle.std.proofs.Common.{◌≡◌, true, false, None, Some, refl, sym, ◌∙◌}
+use Rattle.std.proofs.Common.{None, refl, sym}
 use Rattle.block_model.specs.declared.reply.Refusal.TheVariants as refusals
 use Rattle.block_model.specs.declared.request.Request.TheVariants as requests
 use Rattle.block_model.specs.RequestEffect as effects
 use Rattle.query_words.specs.declared.statement.Statement.TheVariants as statements
-use Rattle.query_words.specs.StatementRequests.{request_entry, look_entry}
+use Rattle.query_words.specs.StatementRequests.{request_entry}
 use Rattle.brin_app.proofs.Acting.{refusal_outside, refusal_within, acts_refused, acts_once, taken_whole}
 use Rattle.brin_app.proofs.sessions.insert.Goals as goal
 

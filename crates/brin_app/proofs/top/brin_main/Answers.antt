@@ -1,7 +1,7 @@
-use Rattle.std.proofs.Common.{◌≡◌, Some, None, refl}
+use Rattle.std.proofs.Common.{◌≡◌, Some, refl}
 use Rattle.block_model.specs.Causes.{Rose}
 use Rattle.query_words.specs.Declarations.{declared}
-use Rattle.brin_app.specs.ScriptOutput.{IsScriptOutput, IsSpentExactly, IsComplete}
+use Rattle.brin_app.specs.ScriptOutput.{IsSpentExactly, IsComplete}
 use Rattle.brin_app.proofs.Outputs.{at_declared, not_usage, spent_exactly, complete, memory_written, declared_something, nothing_declared}
 use Rattle.brin_app.proofs.top.brin_main.Goals as goal
 

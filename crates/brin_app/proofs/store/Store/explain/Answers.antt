@@ -1,11 +1,11 @@
-use Rattle.std.proofs.Common.{◌≡◌, ℕ, ◌+◌, ◌*◌, ◌/◌, ◌<◌, ◌≤◌, List, [], ◌++◌, length, Option, Some, None, sym, ap, ◌∙◌, subst}
+use Rattle.std.proofs.Common.{◌≡◌, ℕ, ◌/◌, ◌<◌, ◌≤◌, List, ◌++◌, length, Option, sym, ap, ◌∙◌, subst}
 use Rattle.std.specs.Int.{div_ceil}
 use Rattle.std.specs.List.{range_with_len}
 use Rattle.block_model.specs.declared.row.Cond.{Cond}
 use Rattle.block_model.specs.declared.row.Row.{Row}
 use Rattle.opclass_minmax.specs.Bounds.{Bounds}
 use Rattle.bitmap_scan.specs.CandidateBlocks.{candidate_blocks}
-use Rattle.bitmap_scan.specs.LeftOut.{LeaveNoMatch, LeaveNoRow}
+use Rattle.bitmap_scan.specs.LeftOut.{LeaveNoMatch}
 use Rattle.brin_app.specs.declared.ranges.Ranges.{Ranges}
 use Rattle.brin_app.specs.Chunks.{extent_of}
 use Rattle.brin_app.specs.CoversMatches.{CoversMatches}

@@ -1,8 +1,8 @@
-use Rattle.std.proofs.Common.{◌≡◌, ℕ, refl, ◌++◌, ◌∷◌, [], ◌<◌, ◌^◌, ◌≤◌, List, length, sym, subst, arith, length-append, All}
+use Rattle.std.proofs.Common.{ℕ, refl, ◌++◌, ◌∷◌, [], ◌<◌, ◌^◌, ◌≤◌, List, length, sym, subst, arith, length-append}
 use Rattle.block_model.specs.declared.value.Value.{Value}
 use Rattle.block_model.specs.declared.row.Row.{Row}
 use Rattle.query_words.specs.ScriptTexts.{row_put}
-use Rattle.brin_app.specs.RangeSummaries.{AreRangesOf, AreWidened}
+use Rattle.brin_app.specs.RangeSummaries.{AreWidened}
 use Rattle.brin_app.specs.StoreInvariant.{IsKept}
 use Rattle.brin_app.proofs.Summaries.{same_ranges, pushed_ranges, numbers_pushed, some_rows}
 use Rattle.brin_app.proofs.store.Store.put.Goals as goal
