@@ -1,5 +1,4 @@
-ghost use Rattle.std.specs.Prelude.{◌≡◌, true, IfOk};
-ghost use Rattle.opclass_api.specs.Conditions.{compares};
+ghost use Rattle.std.specs.Prelude.{◌≡◌, IfOk};
 ghost use Rattle.opclass_multi.specs.Kept.{IsSummary};
 
 use crate::class::Multi;
@@ -33,12 +32,11 @@ fn added(class: &Multi, alloc: Global, numbers: &[i64]) -> Result<Summary, NoMem
     Ok(summary)
 }
 
-/// Whether an element of the summary meets a condition.
-fn asked(class: &Multi, summary: &Summary, op: Op, key: i64) -> bool
-    requires of_class { IsSummary class.now summary.now }
-    requires comparison { compares op ≡ true }
+/// Whether an element of the summary holds the number.
+fn finds(class: &Multi, summary: &Summary, number: i64) -> bool
+    requires { IsSummary class.now summary.now }
 {
-    class.consistent(summary, &[cond(op, key)])
+    class.consistent(summary, &[cond(Op::Eq, number)])
 }
 
 fn cond(op: Op, key: i64) -> Cond
@@ -88,10 +86,9 @@ fn multi_merges_the_least_gap(rt: HostRuntime) {
         point(3000),
     ];
     assert_eq!(rt; summary.elements(), wanted.as_slice());
-    assert!(rt; asked(&class, &summary, Op::Eq, 25));
-    assert!(rt; !asked(&class, &summary, Op::Eq, 2010));
-    assert!(rt; asked(&class, &summary, Op::Eq, 2020));
-    assert!(rt; !asked(&class, &summary, Op::Eq, 31));
+    for (number, found) in [(25, true), (2010, false), (2020, true), (31, false)] {
+        assert_eq!(rt; finds(&class, &summary, number), found);
+    }
     assert!(rt; !class.consistent(&summary, &[cond(Op::Gt, 30), cond(Op::Lt, 500)]));
 }
 
@@ -169,7 +166,7 @@ fn summaries_are_written(rt: HostRuntime) {
     assert_eq!(rt; class.encode(&summary, &mut out), 2);
     assert_eq!(rt; &out[..3], [0, 0, 9].as_slice());
     assert!(rt; class.consistent(&summary, &[]));
-    assert!(rt; !asked(&class, &summary, Op::Le, 0));
+    assert!(rt; !finds(&class, &summary, 0));
     assert_eq!(rt; class.decode(&APART, &mut summary), Ok(()));
     assert_eq!(rt; class.encode(&summary, &mut out), 28);
     assert_eq!(rt; &out[..28], APART.as_slice());
@@ -178,62 +175,42 @@ fn summaries_are_written(rt: HostRuntime) {
 
 #[test]
 fn malformed_bytes_name_their_place(rt: HostRuntime) {
-    let alloc = rt.alloc();
-    // no number of elements
-    assert_eq!(rt; refused_at(alloc, b""), Ok(Some(0)));
-    // half a number of elements
-    assert_eq!(rt; refused_at(alloc, b"\0"), Ok(Some(1)));
-    // more elements than the limit
-    assert_eq!(rt; refused_at(alloc, b"\0\x09"), Ok(Some(0)));
-    // no element where one is to come
-    assert_eq!(rt; refused_at(alloc, b"\0\x01"), Ok(Some(2)));
-    // neither a point nor an interval
-    assert_eq!(rt;
-        refused_at(alloc, b"\0\x01\x02\0\0\0\0\0\0\0\x05"),
-        Ok(Some(2))
-    );
-    // a cut point
-    assert_eq!(rt; refused_at(alloc, b"\0\x01\0\0\0\0\0\0\0\0"), Ok(Some(10)));
-    // a point like the one before it
-    assert_eq!(rt;
-        refused_at(alloc, b"\0\x02\0\0\0\0\0\0\0\0\x05\0\0\0\0\0\0\0\0\x05"),
-        Ok(Some(12))
-    );
-    // a point below the one before it
-    assert_eq!(rt;
-        refused_at(alloc, b"\0\x02\0\0\0\0\0\0\0\0\x05\0\0\0\0\0\0\0\0\x04"),
-        Ok(Some(12))
-    );
-    // a cut least number
-    assert_eq!(rt; refused_at(alloc, b"\0\x01\x01\0\0"), Ok(Some(5)));
-    // a cut greatest number
-    assert_eq!(rt;
-        refused_at(alloc, b"\0\x01\x01\0\0\0\0\0\0\0\x05\0\0\0"),
-        Ok(Some(14))
-    );
-    // an interval of one number
-    assert_eq!(rt;
-        refused_at(alloc, b"\0\x01\x01\0\0\0\0\0\0\0\x05\0\0\0\0\0\0\0\x05"),
-        Ok(Some(11))
-    );
-    // an interval that is turned
-    assert_eq!(rt;
-        refused_at(alloc, b"\0\x01\x01\0\0\0\0\0\0\0\x05\0\0\0\0\0\0\0\x04"),
-        Ok(Some(11))
-    );
-    // an interval that starts in the one before it
-    assert_eq!(rt;
-        refused_at(
-            alloc,
-            b"\0\x02\x01\0\0\0\0\0\0\0\x01\0\0\0\0\0\0\0\x05\x01\0\0\0\0\0\0\0\x05\0\0\0\0\0\0\0\x07"
+    let cases: [(&[u8], usize); 15] = [
+        // no number of elements
+        (b"", 0),
+        // half a number of elements
+        (b"\0", 1),
+        // more elements than the limit
+        (b"\0\x09", 0),
+        // no element where one is to come
+        (b"\0\x01", 2),
+        // neither a point nor an interval
+        (b"\0\x01\x02\0\0\0\0\0\0\0\x05", 2),
+        // a cut point
+        (b"\0\x01\0\0\0\0\0\0\0\0", 10),
+        // a point like the one before it
+        (b"\0\x02\0\0\0\0\0\0\0\0\x05\0\0\0\0\0\0\0\0\x05", 12),
+        // a point below the one before it
+        (b"\0\x02\0\0\0\0\0\0\0\0\x05\0\0\0\0\0\0\0\0\x04", 12),
+        // a cut least number
+        (b"\0\x01\x01\0\0", 5),
+        // a cut greatest number
+        (b"\0\x01\x01\0\0\0\0\0\0\0\x05\0\0\0", 14),
+        // an interval of one number
+        (b"\0\x01\x01\0\0\0\0\0\0\0\x05\0\0\0\0\0\0\0\x05", 11),
+        // an interval that is turned
+        (b"\0\x01\x01\0\0\0\0\0\0\0\x05\0\0\0\0\0\0\0\x04", 11),
+        // an interval that starts in the one before it
+        (
+            b"\0\x02\x01\0\0\0\0\0\0\0\x01\0\0\0\0\0\0\0\x05\x01\0\0\0\0\0\0\0\x05\0\0\0\0\0\0\0\x07",
+            20,
         ),
-        Ok(Some(20))
-    );
-    // an interval among as many elements as the limit
-    assert_eq!(rt;
-        refused_at(alloc, b"\0\x08\x01\0\0\0\0\0\0\0\x01\0\0\0\0\0\0\0\x05"),
-        Ok(Some(2))
-    );
-    // a byte behind the last element
-    assert_eq!(rt; refused_at(alloc, b"\0\0\0"), Ok(Some(2)));
+        // an interval among as many elements as the limit
+        (b"\0\x08\x01\0\0\0\0\0\0\0\x01\0\0\0\0\0\0\0\x05", 2),
+        // a byte behind the last element
+        (b"\0\0\0", 2),
+    ];
+    for (bytes, at) in cases {
+        assert_eq!(rt; refused_at(rt.alloc(), bytes), Ok(Some(at)));
+    }
 }
