@@ -31,5 +31,6 @@ all_hold conds e = list_all (λ cond. key_holds e cond.op cond.key) conds
 abbrev pub may_meet : List Element → List Cond → Bool
 may_meet es conds = (length conds == 0) || list_any (all_hold conds) es
 
+-- whether the summary may include a value that meets each condition
 abbrev pub consistent : Kept → List Cond → Bool
 consistent s conds = may_meet s.elements conds

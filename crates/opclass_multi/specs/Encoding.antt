@@ -21,6 +21,7 @@ size_of e = if int_lt e.least e.greatest then 17 else 9
 abbrev pub elements_bytes : List Element → List ℕ
 elements_bytes es = bytes_high_first 2 (length es) ++ flat_map element_bytes es
 
+-- the bytes of the elements; how many they may be is not written
 abbrev pub bytes_of : Kept → List ℕ
 bytes_of s = elements_bytes s.elements
 

@@ -26,9 +26,10 @@ pub record AreJoined (es fs all : List Element) : Type 0 where
   pub numbers : (v : ℤ) → holds all v v ≡ (holds es v v || holds fs v v)
   pub neighbours : (v : ℤ) → let next = v +ℤ pos 1 in holds all v next ≡ (holds es v next || holds fs v next)
 
--- where the elements start, and where they end
+-- where the elements start
 abbrev pub starts_of : List Element → List ℤ
 starts_of es = map (λ e. e.least) es
 
+-- where the elements end
 abbrev pub ends_of : List Element → List ℤ
 ends_of es = map (λ e. e.greatest) es

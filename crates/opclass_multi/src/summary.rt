@@ -18,7 +18,7 @@ use std::marker::Model;
 
 /// Points and intervals in ascending order, no two with a common number, that count at most a limit: a point 1, an
 /// interval 2. It has room for the elements of two summaries.
-#[derive(Drop)]
+#[derive(Debug, Drop)]
 pub struct Summary {
     limit: u16,
     elements: Vec<Element>,
