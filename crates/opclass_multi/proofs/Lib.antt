@@ -1,0 +1,9 @@
+pub mod Asking
+pub mod Decoding
+pub mod Ends
+pub mod Joining
+pub mod Judging
+pub mod Reducing
+pub mod Unique
+pub mod Widening
+pub mod Writing

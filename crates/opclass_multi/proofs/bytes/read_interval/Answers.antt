@@ -1,0 +1,39 @@
+use Rattle.std.proofs.Common.{◌≡◌, true, false, Ok, sym, ap, ◌∙◌, rules, arith, FitsSigned}
+use Rattle.std.specs.Prelude.{int_lt}
+use Rattle.std.specs.Int.{w64}
+use Rattle.std.proofs.lemmas.Int.{to_z-of_z, ints}
+use Rattle.opclass_multi.specs.Reading.{is_above}
+use Rattle.opclass_multi.proofs.Judging.{interval_below, interval_short, interval_narrow, interval_found}
+use Rattle.opclass_multi.proofs.bytes.read_interval.Goals as goal
+
+pub returns-then-not-is_above : goal.returns-then-not-is_above
+returns-then-not-is_above c =
+    let fits : FitsSigned w64 c.int8_at-least.result = search rules in
+    let same = to_z-of_z w64 c.int8_at-least.result fits ∙ c.int8_at-least.ensures in
+    interval_below c.args.before c.args.bytes.now c.if-bytes-lt-INT8_SIZE.false (sym (c.is_above.ensures ∙ ap (is_above c.args.before) same) ∙ c.if-not-is_above.true)
+
+pub returns-then-bytes : goal.returns-then-bytes
+returns-then-bytes c =
+    let fits : FitsSigned w64 c.int8_at-least.result = search rules in
+    let same = to_z-of_z w64 c.int8_at-least.result fits ∙ c.int8_at-least.ensures in
+    interval_short c.args.before c.args.bytes.now c.if-bytes-lt-INT8_SIZE.false (sym (c.is_above.ensures ∙ ap (is_above c.args.before) same) ∙ c.if-not-is_above.false) c.if-bytes.true
+
+pub returns-then-greatest-least : goal.returns-then-greatest-least
+returns-then-greatest-least c =
+    let fits : FitsSigned w64 c.int8_at-least.result = search rules in
+    let also : FitsSigned w64 c.int8_at-greatest.result = search rules in
+    let same = to_z-of_z w64 c.int8_at-least.result fits ∙ c.int8_at-least.ensures in
+    let narrow : int_lt c.int8_at-least.result c.int8_at-greatest.result ≡ false = grind (arith, ints) in
+    interval_narrow c.args.before c.args.bytes.now (sym (c.is_above.ensures ∙ ap (is_above c.args.before) same) ∙ c.if-not-is_above.false) c.if-bytes.false
+    ((λ i. int_lt (sym c.int8_at-least.ensures i) (sym c.int8_at-greatest.ensures i)) ∙ narrow)
+
+pub returns : goal.returns
+returns c =
+    let fits : FitsSigned w64 c.int8_at-least.result = search rules in
+    let also : FitsSigned w64 c.int8_at-greatest.result = search rules in
+    let same = to_z-of_z w64 c.int8_at-least.result fits ∙ c.int8_at-least.ensures in
+    let other = to_z-of_z w64 c.int8_at-greatest.result also ∙ c.int8_at-greatest.ensures in
+    let wide : int_lt c.int8_at-least.result c.int8_at-greatest.result ≡ true = grind (arith, ints) in
+    (λ i. Ok (record { least = same i; greatest = other i }))
+    ∙ interval_found c.args.before c.args.bytes.now (sym (c.is_above.ensures ∙ ap (is_above c.args.before) same) ∙ c.if-not-is_above.false) c.if-bytes.false
+    ((λ i. int_lt (sym c.int8_at-least.ensures i) (sym c.int8_at-greatest.ensures i)) ∙ wide)

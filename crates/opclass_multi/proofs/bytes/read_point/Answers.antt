@@ -1,0 +1,20 @@
+use Rattle.std.proofs.Common.{Ok, sym, ap, ◌∙◌, rules, FitsSigned}
+use Rattle.std.specs.Int.{w64}
+use Rattle.std.proofs.lemmas.Int.{to_z-of_z}
+use Rattle.opclass_multi.specs.Elements.{point}
+use Rattle.opclass_multi.specs.Reading.{is_above}
+use Rattle.opclass_multi.proofs.Judging.{point_below, point_found}
+use Rattle.opclass_multi.proofs.bytes.read_point.Goals as goal
+
+pub returns-then-not-is_above : goal.returns-then-not-is_above
+returns-then-not-is_above c =
+    let fits : FitsSigned w64 c.int8_at-number.result = search rules in
+    let same = to_z-of_z w64 c.int8_at-number.result fits ∙ c.int8_at-number.ensures in
+    point_below c.args.before c.args.bytes.now c.if-bytes-lt-INT8_SIZE.false (sym (c.is_above.ensures ∙ ap (is_above c.args.before) same) ∙ c.if-not-is_above.true)
+
+pub returns : goal.returns
+returns c =
+    let fits : FitsSigned w64 c.int8_at-number.result = search rules in
+    let same = to_z-of_z w64 c.int8_at-number.result fits ∙ c.int8_at-number.ensures in
+    ap Ok (c.point.ensures ∙ ap point same)
+    ∙ point_found c.args.before c.args.bytes.now c.if-bytes-lt-INT8_SIZE.false (sym (c.is_above.ensures ∙ ap (is_above c.args.before) same) ∙ c.if-not-is_above.false)

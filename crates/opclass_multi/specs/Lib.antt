@@ -1,0 +1,9 @@
+pub mod Consistent
+pub mod Elements
+pub mod Encoding
+pub mod ExactSummary
+pub mod Includes
+pub mod Joined
+pub mod Kept
+pub mod Reading
+pub mod Reduced
