@@ -1,8 +1,9 @@
 #!/usr/bin/env python3
 """Times the built program on large scripts: first_script.py PROGRAM. No part of the gate.
 
-Runs a million inserts in one transaction, alone and with a select of all, the same of two sessions in turn, and a million
-comments, each three times; tells the best time, lines a second and the peak of memory. The answers go to a file.
+Runs a million inserts in one transaction, alone and with a select of all, the same of two sessions in turn, a million
+comments, and inserts with a hundred selects of one row each, without and with an index; each three times. Tells the best
+time, lines a second and the peak of memory. The answers go to a file.
 """
 import os
 import subprocess
@@ -11,6 +12,7 @@ import tempfile
 
 LINES = 1_000_000
 WORDS = ["run", "table t(a int8)"]
+INDEX = ["index i on t(a minmax)"]
 
 
 def inserts(sessions):
@@ -25,10 +27,16 @@ def select():
     yield "r select t\n"
 
 
-def run(program, script, out):
+def lookups():
+    """The lines that select a hundred rows, one each."""
+    yield "r begin\n"
+    yield from (f"r select t where a = {n * (LINES // 100)}\n" for n in range(100))
+
+
+def run(program, words, script, out):
     """The seconds and the peak of memory, in kilobytes, of a run; GNU time keeps this process out of the peak."""
     with open(script, "rb") as source, open(out, "wb") as sink:
-        command = ["/usr/bin/time", "-f", "%e %M", program] + WORDS
+        command = ["/usr/bin/time", "-f", "%e %M", program] + words
         child = subprocess.run(command, stdin=source, stdout=sink, stderr=subprocess.PIPE, text=True)
     if child.returncode != 0:
         sys.exit(child.stderr)
@@ -39,19 +47,21 @@ def run(program, script, out):
 def main():
     program = os.path.abspath(sys.argv[1])
     scripts = {
-        "inserts": lambda: inserts(1),
-        "inserts, then a select of all": lambda: (line for part in (inserts(1), select()) for line in part),
-        "inserts of two sessions in turn, then a select of all": lambda: (
-            line for part in (inserts(2), select()) for line in part
-        ),
-        "comments": lambda: ("# a comment\n" for _ in range(LINES)),
+        "inserts": (WORDS, lambda: [inserts(1)]),
+        "inserts with an index": (WORDS + INDEX, lambda: [inserts(1)]),
+        "inserts, then a select of all": (WORDS, lambda: [inserts(1), select()]),
+        "inserts of two sessions in turn, then a select of all": (WORDS, lambda: [inserts(2), select()]),
+        "inserts, then 100 selects of one row": (WORDS, lambda: [inserts(1), lookups()]),
+        "the same with an index": (WORDS + INDEX, lambda: [inserts(1), lookups()]),
+        "comments": (WORDS, lambda: ["# a comment\n" for _ in range(LINES)]),
     }
     with tempfile.TemporaryDirectory() as folder:
         script, out = os.path.join(folder, "script"), os.path.join(folder, "out")
-        for name, lines in scripts.items():
+        for name, (words, parts) in scripts.items():
             with open(script, "w") as file:
-                file.writelines(lines())
-            seconds, peak = min(run(program, script, out) for _ in range(3))
+                for part in parts():
+                    file.writelines(part)
+            seconds, peak = min(run(program, words, script, out) for _ in range(3))
             rate = f"{LINES / seconds:,.0f} lines/s" if seconds else "no time to measure"
             print(f"{name}: {seconds:.2f} s, {rate}, peak {peak / 1000:.0f} MB ({peak * 1024 / LINES:.0f} bytes a line)")
 
