@@ -1,11 +1,8 @@
 -- what is printed for a reply
-use Rattle.std.specs.Prelude.{ℕ, ◌+◌, ◌/◌, ◌%◌, ◌^◌, ◌==◌, List, [], ◌∷◌, ◌++◌, length, codes, decimal, if◌then◌else◌, ℤ, Option, None, Some}
-use Rattle.std.specs.Fmt.{signed_decimal}
+use Rattle.std.specs.Prelude.{ℕ, ◌+◌, ◌==◌, List, [], ◌∷◌, ◌++◌, length, codes, decimal, if◌then◌else◌}
 use Rattle.std.specs.List.{flat_map}
-use Rattle.block_model.specs.Ranges.{Range, Empty, Between}
-use Rattle.block_model.specs.Networks.{Network}
 use Rattle.block_model.specs.declared.value.Value.{Value}
-use Rattle.block_model.specs.declared.value.Value.TheVariants as values
+use Rattle.value_text.specs.CanonicalTexts.{canonical_text}
 use Rattle.block_model.specs.declared.row.RowId.{RowId}
 use Rattle.block_model.specs.declared.row.Row.{Row}
 use Rattle.block_model.specs.declared.reply.Reply.{Reply}
@@ -17,48 +14,9 @@ use Rattle.block_model.specs.declared.reply.What.TheVariants as whats
 use Rattle.query_words.specs.declared.line.LineFault.{LineFault}
 use Rattle.query_words.specs.declared.line.LineFault.TheVariants as faults
 
--- the lower side of a range, open where it is infinite
-abbrev pub lower_text : Option ℤ → List ℕ
-lower_text None = codes "("
-lower_text (Some n) = codes "[" ++ signed_decimal n
-
--- the upper side of a range
-abbrev pub upper_text : Option ℤ → List ℕ
-upper_text None = codes ")"
-upper_text (Some n) = signed_decimal n ++ codes ")"
-
--- both sides, or `empty`
-abbrev pub range_text : Range → List ℕ
-range_text Empty = codes "empty"
-range_text (Between lower upper) = lower_text lower ++ codes "," ++ upper_text upper
-
--- the length of a prefix, where it isn't the whole address
-abbrev pub prefix_text : ℕ → List ℕ
-prefix_text bits = if bits == 32 then [] else codes "/" ++ decimal bits
-
--- the byte of an address that begins at that bit
-abbrev pub byte_of : ℕ → ℕ → ℕ
-byte_of address bits = address / 2 ^ bits % 256
-
--- the four bytes of an address, the highest first
-abbrev pub address_text : ℕ → List ℕ
-address_text a =
-    decimal (byte_of a 24) ++ codes "." ++ decimal (byte_of a 16) ++ codes "." ++ decimal (byte_of a 8) ++ codes "." ++ decimal (byte_of a 0)
-
--- an address and its prefix
-abbrev pub network_text : Network → List ℕ
-network_text n = address_text n.address ++ prefix_text n.prefix
-
--- a value as it is printed
-abbrev pub value_text : Value → List ℕ
-value_text values.Null = codes "null"
-value_text (values.Int n) = signed_decimal n
-value_text (values.Span range) = range_text range
-value_text (values.Net network) = network_text network
-
 -- each behind a space
 abbrev pub values_text : List Value → List ℕ
-values_text vs = flat_map (λ v. codes " " ++ value_text v) vs
+values_text vs = flat_map (λ v. codes " " ++ canonical_text v) vs
 
 -- T.K
 abbrev pub id_text : RowId → List ℕ

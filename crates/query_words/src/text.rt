@@ -1,17 +1,16 @@
 // Texts of numbers and values.
 #![tactic(auto, using(crate::proofs::AppendedLemmas::longer_before))]
 
-ghost use Rattle.std.specs.Prelude.{◌≡◌, ◌<◌, ◌++◌, OnOk, OnErr, decimal, codes};
-ghost use Rattle.std.specs.Fmt.{signed_decimal};
+ghost use Rattle.std.specs.Prelude.{◌≡◌, ◌++◌, OnOk, decimal};
+ghost use Rattle.value_text.specs.CanonicalTexts.{canonical_text};
 ghost use Rattle.query_words.specs.Appended.{IsLonger};
-ghost use Rattle.query_words.specs.Texts.{value_text, values_text, range_text, lower_text, upper_text, network_text, address_text, byte_of, prefix_text, id_text};
+ghost use Rattle.query_words.specs.Texts.{values_text, id_text};
 
 use block_model::NoMemory;
-use block_model::net::Net;
 use block_model::row::RowId;
-use block_model::span::Span8;
 use block_model::value::Value;
 use itoa::Buffer;
+use value_text::write_value;
 
 /// Appends values, each behind a space.
 pub fn add_values(out: &mut Vec<u8>, values: &[Value]) -> Result<(), NoMemory>
@@ -26,96 +25,10 @@ pub fn add_values(out: &mut Vec<u8>, values: &[Value]) -> Result<(), NoMemory>
 }
 
 fn add_value(out: &mut Vec<u8>, value: &Value) -> Result<(), NoMemory>
-    ensures ok { OnOk result (out.new.items ≡ out.old.items ++ value_text value.now) }
+    ensures ok { OnOk result (out.new.items ≡ out.old.items ++ canonical_text value.now) }
     ensures longer { IsLonger out.old.items out.new.items }
 {
-    match value {
-        Value::Null => add(out, b"null"),
-        Value::Int(n) => add_int(out, *n),
-        Value::Span(span) => add_span(out, span),
-        Value::Net(net) => add_net(out, net),
-    }
-}
-
-#[tactic(auto, using(crate::proofs::AppendedLemmas::longer_before, crate::proofs::RangeLemmas::printed_by_sides))]
-fn add_span(out: &mut Vec<u8>, span: &Span8) -> Result<(), NoMemory>
-    ensures ok { OnOk result (out.new.items ≡ out.old.items ++ range_text span.now) }
-    ensures longer { IsLonger out.old.items out.new.items }
-{
-    if span.is_empty() {
-        return add(out, b"empty");
-    }
-    add_lower(out, span.lower())?;
-    add(out, b",")?;
-    add_upper(out, span.upper())?;
-    Ok(())
-}
-
-fn add_lower(out: &mut Vec<u8>, lower: Option<i64>) -> Result<(), NoMemory>
-    ensures ok { OnOk result (out.new.items ≡ out.old.items ++ lower_text lower) }
-    ensures longer { IsLonger out.old.items out.new.items }
-{
-    match lower {
-        None => add(out, b"("),
-        Some(n) => {
-            add(out, b"[")?;
-            add_int(out, n)
-        }
-    }
-}
-
-fn add_upper(out: &mut Vec<u8>, upper: Option<i64>) -> Result<(), NoMemory>
-    ensures ok { OnOk result (out.new.items ≡ out.old.items ++ upper_text upper) }
-    ensures longer { IsLonger out.old.items out.new.items }
-{
-    match upper {
-        None => add(out, b")"),
-        Some(n) => {
-            add_int(out, n)?;
-            add(out, b")")
-        }
-    }
-}
-
-fn add_net(out: &mut Vec<u8>, net: &Net) -> Result<(), NoMemory>
-    ensures ok { OnOk result (out.new.items ≡ out.old.items ++ network_text net.now) }
-    ensures longer { IsLonger out.old.items out.new.items }
-{
-    add_address(out, net.address())?;
-    add_prefix(out, net.prefix())?;
-    Ok(())
-}
-
-fn add_address(out: &mut Vec<u8>, address: u128) -> Result<(), NoMemory>
-    ensures ok { OnOk result (out.new.items ≡ out.old.items ++ address_text address) }
-    ensures longer { IsLonger out.old.items out.new.items }
-{
-    add_number(out, byte_of(address, 24))?;
-    add(out, b".")?;
-    add_number(out, byte_of(address, 16))?;
-    add(out, b".")?;
-    add_number(out, byte_of(address, 8))?;
-    add(out, b".")?;
-    add_number(out, byte_of(address, 0))?;
-    Ok(())
-}
-
-fn byte_of(address: u128, bits: u32) -> u64
-    requires { bits < 128 }
-    ensures { result ≡ byte_of address bits }
-{
-    ((address >> bits) % 256) as u64
-}
-
-fn add_prefix(out: &mut Vec<u8>, bits: u8) -> Result<(), NoMemory>
-    ensures ok { OnOk result (out.new.items ≡ out.old.items ++ prefix_text bits) }
-    ensures longer { IsLonger out.old.items out.new.items }
-{
-    if bits == 32 {
-        return Ok(());
-    }
-    add(out, b"/")?;
-    add_number(out, u64::from(bits))
+    write_value(value, out)
 }
 
 /// Appends the numbers of a row.
@@ -126,14 +39,6 @@ pub fn add_id(out: &mut Vec<u8>, id: &RowId) -> Result<(), NoMemory>
     add_number(out, id.t)?;
     add(out, b".")?;
     add_number(out, u64::from(id.k))
-}
-
-fn add_int(out: &mut Vec<u8>, n: i64) -> Result<(), NoMemory>
-    ensures ok { OnOk result (out.new.items ≡ out.old.items ++ signed_decimal n) }
-    ensures longer { IsLonger out.old.items out.new.items }
-{
-    let mut buffer = Buffer::new();
-    add(out, buffer.format(n).as_bytes())
 }
 
 /// Appends a number in decimal digits.
