@@ -1,0 +1,5 @@
+pub mod SpanAsking
+pub mod SpanBounds
+pub mod SpanExactness
+pub mod SpanHullLaws
+pub mod SpanReading
