@@ -1,5 +1,5 @@
 -- a summary of ranges that is asked misses no range that it includes
-use Rattle.std.proofs.Common.{◌≡◌, ℤ, Bool, true, false, not, ◌&&◌, ◌||◌, Option, None, Some, List, [], ◌∷◌, refl, sym, ◌∙◌, inl, inr, arith}
+use Rattle.std.proofs.Common.{◌≡◌, ℤ, Bool, true, false, not, ◌&&◌, ◌||◌, Option, None, Some, List, refl, sym, ◌∙◌, inl, inr, arith}
 use Rattle.std.proofs.lemmas.Bool.{false≢true, and_from, and_parts, or_cases, or_left, or_right}
 use Rattle.std.proofs.lemmas.Int.{ints}
 use Rattle.block_model.specs.declared.value.Value.{Value}
@@ -13,6 +13,7 @@ use Rattle.opclass_api.specs.Conditions.{compares, has_null_key, is_null}
 use Rattle.opclass_inclusion.specs.SpanConsistent.{condition_holds, consistent, ends_after, hull_holds, key_holds, range_key_holds, starts_before}
 use Rattle.opclass_inclusion.specs.SpanIncludes.{IncludesRange, Includes}
 use Rattle.opclass_inclusion.specs.declared.span_summary.SpanSummary.{SpanSummary}
+use Rattle.opclass_inclusion.proofs.ValueLists.{null_fails}
 use Rattle.opclass_inclusion.proofs.SpanHullLaws.{lower_further, upper_further}
 
 -- ---- bounds
@@ -171,13 +172,6 @@ key_null e u op (Int n) null = absurd (false≢true null)
 key_null e u op (Span r) null = absurd (false≢true null)
 key_null e u op (Net n) null = absurd (false≢true null)
 
-one_fails : (n h ns hs : Bool) → (n || ns) ≡ true → (n ≡ true → h ≡ false) → (ns ≡ true → hs ≡ false) → (h && hs) ≡ false
-one_fails n false ns hs some here later = refl
-one_fails true true ns hs some here later = absurd (false≢true (sym (here refl)))
-one_fails false true ns hs some here later = later some
-
 -- a null key holds nothing
 pub null_holds_nothing : (s : SpanSummary) (conds : List Cond) → has_null_key conds ≡ true → consistent s conds ≡ false
-null_holds_nothing s [] some = absurd (false≢true some)
-null_holds_nothing s (cond ∷ conds) some =
-    one_fails (is_null cond.key) (condition_holds s cond) (has_null_key conds) (consistent s conds) some (key_null s.empty_added s.hull cond.op cond.key) (null_holds_nothing s conds)
+null_holds_nothing s conds some = null_fails (condition_holds s) conds (λ cond null. key_null s.empty_added s.hull cond.op cond.key null) some

@@ -2,24 +2,19 @@
 use Rattle.std.proofs.Common.{◌≡◌, ℤ, Bool, true, false, ◌||◌, Option, None, Some, List, [], ◌∷◌, ◌++◌, fold, All, Contains as Has, refl, sym, ap, inl, inr, arith, append_assoc}
 use Rattle.std.specs.Prelude.{◌↔◌}
 use Rattle.std.proofs.lemmas.List.{append-nil}
-use Rattle.std.proofs.lemmas.List.Elements.{All-nil, All-cons, All-weaker, All-head, All-tail, All-contains, All-contains_itself, All-append, Contains-append_left, Contains-append_right, Contains-append_cases}
+use Rattle.std.proofs.lemmas.List.Elements.{All-nil, All-cons, All-weaker, All-head, All-tail, All-contains, All-append, Contains-append_left, Contains-append_right, Contains-append_cases}
 use Rattle.std.proofs.lemmas.Bool.{false≢true, and_parts, or_cases, or_left, or_right}
 use Rattle.std.proofs.lemmas.Int.{ints}
 use Rattle.block_model.specs.declared.value.Value.{Value}
 use Rattle.block_model.specs.declared.value.Value.TheVariants.{Null, Int, Span, Net}
 use Rattle.block_model.specs.Ranges.{Range, Empty, Between, starts_first, ends_last}
-use Rattle.opclass_inclusion.specs.SpanExact.{ExactSummary, HaveSameValues, HoldsRange, HoldsValue}
+use Rattle.opclass_inclusion.specs.SameValues.{HaveSameValues}
+use Rattle.opclass_inclusion.specs.SpanExact.{ExactSummary, HoldsRange, HoldsValue}
 use Rattle.opclass_inclusion.specs.SpanHulls.{hull_of, is_empty, no_range, of_range, united, with_value}
 use Rattle.opclass_inclusion.specs.SpanIncludes.{IsSpan}
 use Rattle.opclass_inclusion.specs.declared.span_summary.SpanSummary.{SpanSummary}
+use Rattle.opclass_inclusion.proofs.ValueLists.{all_back, all_first, all_same, all_second, empty_lacks}
 use Rattle.opclass_inclusion.proofs.SpanHullLaws.{holds_further, holds_itself, hull_holds_first, hull_holds_second, hull_is_smallest}
-
--- what holds of all values of two lists, holds of those of each
-all_first : (P : Value → Type 0) (first second : List Value) → All P (first ++ second) → All P first
-all_first P first second all = All-weaker (Has first) P (λ v there. All-contains P (first ++ second) v all (Contains-append_left first second v there)) first (All-contains_itself first)
-
-all_second : (P : Value → Type 0) (first second : List Value) → All P (first ++ second) → All P second
-all_second P first second all = All-weaker (Has second) P (λ v there. All-contains P (first ++ second) v all (Contains-append_right first second v there)) second (All-contains_itself second)
 
 -- a range that contains another contains each value that the other does
 value_further : (r u : Range) (v : Value) → HoldsRange r u → HoldsValue u v → HoldsValue r v
@@ -73,9 +68,6 @@ exact_of_one r = record {
     smallest = λ k all. All-head (HoldsValue k) (Span r) [] all;
   };
 }
-
-empty_lacks : (v : Value) → Has [] v → ⊥
-empty_lacks v there = omega (arith, there.1)
 
 exact_of_none : ExactSummary [] no_range
 exact_of_none = record {
@@ -135,12 +127,6 @@ one_exact values s t first second =
     let flag = same_flag t.empty_added s.empty_added (λ e. first.flag.1 (second.flag.0 e)) (λ e. second.flag.1 (first.flag.0 e)) in
     let hull = one_range t.hull s.hull (first.hull.smallest t.hull second.hull.holds_each) (second.hull.smallest s.hull first.hull.holds_each) in
     λ i. record { empty_added = flag i; hull = hull i }
-
-all_same : (P : Value → Type 0) (values others : List Value) → HaveSameValues values others → All P values → All P others
-all_same P values others same all = All-weaker (Has others) P (λ v there. All-contains P values v all (same.no_more v there)) others (All-contains_itself others)
-
-all_back : (P : Value → Type 0) (values others : List Value) → HaveSameValues values others → All P others → All P values
-all_back P values others same all = All-weaker (Has values) P (λ v there. All-contains P others v all (same.all_there v there)) values (All-contains_itself values)
 
 -- the exact summary of the same values
 exact_same : (values others : List Value) (s : SpanSummary) → HaveSameValues values others → ExactSummary values s → ExactSummary others s

@@ -1,3 +1,10 @@
+pub mod NetConsistent
+pub mod NetEncoding
+pub mod NetExact
+pub mod NetFaults
+pub mod NetHulls
+pub mod NetIncludes
+pub mod SameValues
 pub mod SpanConsistent
 pub mod SpanEncoding
 pub mod SpanExact

@@ -28,11 +28,6 @@ pub record ExactSummary (values : List Value) (s : SpanSummary) : Type 0 where
   pub flag : (s.empty_added ≡ true) ↔ Has values (Span Empty)
   pub hull : IsSmallestRange values s.hull
 
--- the same values in any order, however often each
-pub record HaveSameValues (values others : List Value) : Type 0 where
-  pub all_there : (v : Value) → Has values v → Has others v
-  pub no_more : (v : Value) → Has others v → Has values v
-
 -- the summary of values that are added one by one, in their order
 abbrev pub summary_of : List Value → SpanSummary
 summary_of values = fold with_value no_range values

@@ -3,6 +3,11 @@
 // They stand on block_model, opclass_api and byte_fields. Layers above name a class by its trait.
 #![tactic(auto)]
 
+mod net_bytes;
+pub mod net_class;
+pub mod net_exact;
+mod net_keys;
+pub mod net_summary;
 mod span_bytes;
 pub mod span_class;
 pub mod span_exact;
