@@ -13,3 +13,5 @@ pub mod span_class;
 pub mod span_exact;
 mod span_keys;
 pub mod span_summary;
+#[cfg(test)]
+mod tests;
