@@ -1,0 +1,11 @@
+pub mod NetAsking
+pub mod NetBits
+pub mod NetExactness
+pub mod NetHullLaws
+pub mod NetReading
+pub mod SpanAsking
+pub mod SpanBounds
+pub mod SpanExactness
+pub mod SpanHullLaws
+pub mod SpanReading
+pub mod ValueLists

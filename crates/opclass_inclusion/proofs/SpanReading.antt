@@ -1,0 +1,155 @@
+-- the bytes of a summary of ranges, written and read
+use Rattle.std.proofs.Common.{◌≡◌, ℕ, ℤ, pos, negsuc, ◌+◌, ◌≤◌, ◌^◌, ◌<◌, Bool, true, false, Option, None, Some, List, [], ◌∷◌, ◌++◌, length, drop, set, get_or, refl, sym, ap, subst, ◌∙◌, arith, length-append}
+use Rattle.std.specs.Prelude.{FitsSigned, ◌==◌, nat_lt, min, ◌||◌, if◌then◌else◌}
+use Rattle.std.proofs.lemmas.List.{drop_at, drop-drop, append-nil}
+use Rattle.std.proofs.Math.ListN.{drop_of_length-le}
+use Rattle.std.specs.Int.{w64, cast_unsigned, cast_signed}
+use Rattle.std.proofs.lemmas.Int.{to_z-of_z}
+use Rattle.byte_fields.specs.Fields.{number_of, put_at, field_at, number-put}
+use Rattle.block_model.specs.Ranges.{Range, Empty, Between, IsRange, lower_of, upper_of}
+use Rattle.opclass_inclusion.specs.SpanEncoding.{int8_bytes, bytes_of, field_bytes, fields_of, number_of_bound}
+use Rattle.opclass_inclusion.specs.SpanFaults.{fault_in, field_fault, fields_in}
+use Rattle.opclass_inclusion.specs.SpanHulls.{BoundFits, IsSummary}
+use Rattle.opclass_inclusion.specs.declared.span_bytes.SpanFields.{SpanFields}
+use Rattle.opclass_inclusion.specs.declared.span_summary.SpanSummary.{SpanSummary}
+
+length-int8 : (z : ℤ) → length (int8_bytes z) ≡ 8
+unfolding int8_bytes
+length-int8 z = refl
+
+pub length-fields : (f : SpanFields) → length (field_bytes f) ≡ 18
+length-fields f = omega (arith, length-append (int8_bytes f.lower) (int8_bytes f.upper), length-int8 f.lower, length-int8 f.upper)
+
+-- a number put behind two bytes
+put_lower : (z : ℤ) (a b : ℕ) (rest : List ℕ) → put_at (a ∷ b ∷ rest) 2 8 (cast_unsigned w64 z) ≡ a ∷ b ∷ (int8_bytes z ++ drop 8 rest)
+unfolding put_at int8_bytes
+put_lower z a b rest = refl
+
+-- and one behind it
+put_upper : (l g : ℤ) (a b : ℕ) (rest : List ℕ) → put_at (a ∷ b ∷ (int8_bytes l ++ rest)) 10 8 (cast_unsigned w64 g) ≡ a ∷ b ∷ (int8_bytes l ++ int8_bytes g ++ drop 8 rest)
+unfolding put_at int8_bytes
+put_upper l g a b rest = refl
+
+-- what two bytes and two numbers leave, as the numbers are passed
+pub written : (f : SpanFields) (out first new : List ℕ) → 18 ≤ length out → FitsSigned w64 f.lower → FitsSigned w64 f.upper
+    → first ≡ put_at (set (set out 0 f.flags) 1 f.shape) 2 8 (cast_unsigned w64 (cast_signed w64 (cast_unsigned w64 f.lower)))
+    → new ≡ put_at first 10 8 (cast_unsigned w64 (cast_signed w64 (cast_unsigned w64 f.upper)))
+    → new ≡ field_bytes f ++ drop 18 out
+written f [] first new room fits also put after = absurd (omega (arith, room))
+written f (a ∷ []) first new room fits also put after = absurd (omega (arith, room))
+written f (a ∷ b ∷ rest) first new room fits also put after =
+    after
+    ∙ ap (λ (z : ℤ). put_at first 10 8 (cast_unsigned w64 z)) (to_z-of_z w64 f.upper also)
+    ∙ ap (λ (x : List ℕ). put_at x 10 8 (cast_unsigned w64 f.upper)) (put ∙ ap (λ (z : ℤ). put_at (f.flags ∷ f.shape ∷ rest) 2 8 (cast_unsigned w64 z)) (to_z-of_z w64 f.lower fits) ∙ put_lower f.lower f.flags f.shape rest)
+    ∙ put_upper f.lower f.upper f.flags f.shape (drop 8 rest)
+    ∙ ap (λ (d : List ℕ). field_bytes f ++ d) (drop-drop 8 8 rest)
+
+-- bytes that were read are those of what was read
+pub bytes_again : (l g : ℤ) (bytes : List ℕ) → length bytes ≡ 18 → put_at bytes 2 8 (cast_unsigned w64 l) ≡ bytes → put_at bytes 10 8 (cast_unsigned w64 g) ≡ bytes → bytes ≡ get_or bytes 0 0 ∷ get_or bytes 1 0 ∷ (int8_bytes l ++ int8_bytes g)
+bytes_again l g [] size first second = absurd (omega (arith, size))
+bytes_again l g (a ∷ []) size first second = absurd (omega (arith, size))
+bytes_again l g (a ∷ b ∷ rest) size first second =
+    let parts : a ∷ b ∷ rest ≡ a ∷ b ∷ (int8_bytes l ++ drop 8 rest) = sym first ∙ put_lower l a b rest in
+    let none : drop 8 (drop 8 rest) ≡ [] = drop-drop 8 8 rest ∙ drop_of_length-le rest {i = 16} (omega (arith, size)) in
+    sym second ∙ ap (λ (x : List ℕ). put_at x 10 8 (cast_unsigned w64 g)) parts ∙ put_upper l g a b (drop 8 rest)
+    ∙ ap (λ (d : List ℕ). a ∷ b ∷ (int8_bytes l ++ int8_bytes g ++ d)) none
+    ∙ ap (λ (d : List ℕ). a ∷ b ∷ d) (append-nil (int8_bytes l ++ int8_bytes g))
+
+unsigned_small : (z : ℤ) → FitsSigned w64 z → cast_unsigned w64 z < 256 ^ 8
+unsigned_small (pos n) fits = omega (arith, fits.sfits)
+unsigned_small (negsuc n) fits = omega arith
+
+-- a number of int8 is in its bytes
+number_in : (z : ℤ) (bytes : List ℕ) (at : ℕ) → FitsSigned w64 z → at + 8 ≤ length bytes → put_at bytes at 8 (cast_unsigned w64 z) ≡ bytes → cast_signed w64 (number_of (field_at bytes at 8)) ≡ z
+number_in z bytes at fits within same =
+    ap (λ (b : List ℕ). cast_signed w64 (number_of (field_at b at 8))) (sym same)
+    ∙ ap (cast_signed w64) (number-put bytes at 8 (cast_unsigned w64 z) within (unsigned_small z fits))
+    ∙ to_z-of_z w64 z fits
+
+-- what was written is read
+lower_read : (f : SpanFields) → FitsSigned w64 f.lower → cast_signed w64 (number_of (field_at (field_bytes f) 2 8)) ≡ f.lower
+lower_read f fits =
+    let same : put_at (field_bytes f) 2 8 (cast_unsigned w64 f.lower) ≡ field_bytes f =
+    put_lower f.lower f.flags f.shape (int8_bytes f.lower ++ int8_bytes f.upper)
+    ∙ ap (λ (d : List ℕ). f.flags ∷ f.shape ∷ (int8_bytes f.lower ++ d)) (drop_at (int8_bytes f.lower) (int8_bytes f.upper) 8 (length-int8 f.lower)) in
+    number_in f.lower (field_bytes f) 2 fits (omega (arith, length-fields f)) same
+
+upper_read : (f : SpanFields) → FitsSigned w64 f.upper → cast_signed w64 (number_of (field_at (field_bytes f) 10 8)) ≡ f.upper
+upper_read f fits =
+    let none : drop 8 (int8_bytes f.upper) ≡ [] = drop_of_length-le (int8_bytes f.upper) {i = 8} (omega (arith, length-int8 f.upper)) in
+    let same : put_at (field_bytes f) 10 8 (cast_unsigned w64 f.upper) ≡ field_bytes f =
+    put_upper f.lower f.upper f.flags f.shape (int8_bytes f.upper)
+    ∙ ap (λ (d : List ℕ). f.flags ∷ f.shape ∷ (int8_bytes f.lower ++ int8_bytes f.upper ++ d)) none
+    ∙ ap (λ (d : List ℕ). f.flags ∷ f.shape ∷ d) (append-nil (int8_bytes f.lower ++ int8_bytes f.upper)) in
+    number_in f.upper (field_bytes f) 10 fits (omega (arith, length-fields f)) same
+
+bound_fits : (b : Option ℤ) → BoundFits b → FitsSigned w64 (number_of_bound b)
+bound_fits None fits = record { sfits = omega arith }
+bound_fits (Some z) fits = fits
+
+fields_read : (s : SpanSummary) → IsSummary s → fields_in (bytes_of s) ≡ fields_of s
+fields_read s lawful =
+    let f = fields_of s in
+    let lower = lower_read f (bound_fits (lower_of s.hull) lawful.lower_fits) in
+    let upper = upper_read f (bound_fits (upper_of s.hull) lawful.upper_fits) in
+    λ i. record { flags = f.flags; shape = f.shape; lower = lower i; upper = upper i }
+
+-- the fields of a summary are in form
+in_form : (e : Bool) (u : Range) → IsRange u → field_fault (fields_of (record { empty_added = e; hull = u })) ≡ None
+in_form true Empty is = refl
+in_form false Empty is = refl
+in_form true (Between None None) is = refl
+in_form false (Between None None) is = refl
+in_form true (Between (Some l) None) is = refl
+in_form false (Between (Some l) None) is = refl
+in_form true (Between None (Some h)) is = refl
+in_form false (Between None (Some h)) is = refl
+in_form true (Between (Some l) (Some h)) is = rw is refl
+in_form false (Between (Some l) (Some h)) is = rw is refl
+
+-- bytes of a summary have no fault
+pub no_fault : (bytes : List ℕ) (s : SpanSummary) → IsSummary s → bytes ≡ bytes_of s → fault_in bytes ≡ None
+no_fault bytes s lawful is =
+    ap fault_in is
+    ∙ ap (λ (n : ℕ). if n == 18 then field_fault (fields_in (bytes_of s)) else Some (min n 18)) (sized s)
+    ∙ ap field_fault (fields_read s lawful) ∙ in_form s.empty_added s.hull lawful.is_range
+  where
+    sized : (s : SpanSummary) → length (bytes_of s) ≡ 18
+    sized s = length-fields (fields_of s)
+
+is_none : Option ℕ → Type 0
+is_none None = Unit {0}
+is_none (Some at) = ⊥
+
+-- so bytes with a fault are those of no summary
+pub faulty : (bytes : List ℕ) (at : ℕ) → fault_in bytes ≡ Some at → (s : SpanSummary) → IsSummary s → bytes ≡ bytes_of s → ⊥
+unfolding is_none
+faulty bytes at fault s lawful is = subst is_none (sym (no_fault bytes s lawful is) ∙ fault) tt
+
+-- the summary of fields in form
+from_fields : SpanFields → SpanSummary
+from_fields f = record {
+  empty_added = (f.flags == 1) || (f.flags == 3);
+  hull =
+      if nat_lt f.flags 2 then Empty
+      else Between (if (f.shape == 2) || (f.shape == 6) then None else Some f.lower) (if (f.shape == 4) || (f.shape == 6) then None else Some f.upper);
+}
+
+from_its_fields : (e : Bool) (u : Range) → from_fields (fields_of (record { empty_added = e; hull = u })) ≡ record { empty_added = e; hull = u }
+unfolding from_fields
+from_its_fields true Empty = refl
+from_its_fields false Empty = refl
+from_its_fields true (Between None None) = refl
+from_its_fields false (Between None None) = refl
+from_its_fields true (Between (Some l) None) = refl
+from_its_fields false (Between (Some l) None) = refl
+from_its_fields true (Between None (Some h)) = refl
+from_its_fields false (Between None (Some h)) = refl
+from_its_fields true (Between (Some l) (Some h)) = refl
+from_its_fields false (Between (Some l) (Some h)) = refl
+
+-- no two summaries have the same bytes
+pub one_meaning : (s t : SpanSummary) (bytes : List ℕ) → IsSummary s → IsSummary t → bytes ≡ bytes_of s → bytes ≡ bytes_of t → s ≡ t
+one_meaning s t bytes first second is was =
+    let same : fields_of s ≡ fields_of t = sym (fields_read s first) ∙ ap fields_in (sym is ∙ was) ∙ fields_read t second in
+    sym (from_its_fields s.empty_added s.hull) ∙ ap from_fields same ∙ from_its_fields t.empty_added t.hull

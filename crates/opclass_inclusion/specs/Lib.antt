@@ -1,0 +1,13 @@
+pub mod NetConsistent
+pub mod NetEncoding
+pub mod NetExact
+pub mod NetFaults
+pub mod NetHulls
+pub mod NetIncludes
+pub mod SameValues
+pub mod SpanConsistent
+pub mod SpanEncoding
+pub mod SpanExact
+pub mod SpanFaults
+pub mod SpanHulls
+pub mod SpanIncludes

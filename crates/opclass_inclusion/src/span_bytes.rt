@@ -1,0 +1,198 @@
+// Summaries of ranges as bytes.
+
+ghost use Rattle.std.specs.Prelude.{◌≡◌, ◌≤◌, ◌+◌, ◌++◌, None, Some, IfOk, MatchResult, length, drop};
+ghost use Rattle.opclass_inclusion.specs.SpanEncoding.{bit, bytes_of, field_bytes, fields_of, shape_of};
+ghost use Rattle.opclass_inclusion.specs.SpanFaults.{IsHullIn, fault_in, field_fault, fields_in};
+ghost use Rattle.opclass_inclusion.specs.SpanHulls.{IsSummary};
+
+use crate::span_summary::{SpanSummary, between};
+use block_model::span::Span8;
+use byte_fields::{get_i64, put_i64};
+use opclass_api::class::Malformed;
+
+/// How many bytes a summary has: one of flags, one of the hull's shape, and its two bounds.
+pub(crate) const SIZE: usize = 18;
+
+const BOTH_FINITE: u8 = 0;
+
+const LOWER_INFINITE: u8 = 2;
+
+const UPPER_INFINITE: u8 = 4;
+
+const BOTH_INFINITE: u8 = 6;
+
+const FLAGS_AT: usize = 0;
+
+const SHAPE_AT: usize = 1;
+
+const LOWER_AT: usize = 2;
+
+const UPPER_AT: usize = 10;
+
+/// The fields of the bytes. `shape` says which bounds of the hull are infinite; a bound that is absent is 0.
+#[derive(Clone, Copy, Debug, PartialEq, Eq)]
+pub(crate) struct SpanFields {
+    pub(crate) flags: u8,
+    pub(crate) shape: u8,
+    pub(crate) lower: i64,
+    pub(crate) upper: i64,
+}
+
+/// Writes the bytes of a summary to the front of `out`.
+pub(crate) fn write(s: &SpanSummary, out: &mut [u8])
+    requires room { 18 ≤ length out.old }
+    ensures size { length (bytes_of s.now) ≡ 18 }
+    ensures written { out.new ≡ bytes_of s.now ++ drop 18 out.old }
+{
+    let fields = fields_of(s);
+    out[FLAGS_AT] = fields.flags;
+    out[SHAPE_AT] = fields.shape;
+    put_i64(out, LOWER_AT, fields.lower);
+    put_i64(out, UPPER_AT, fields.upper);
+}
+
+fn fields_of(s: &SpanSummary) -> SpanFields
+    ensures { result ≡ fields_of s.now }
+{
+    SpanFields {
+        flags: flags_of(s.empty_added, !s.hull.is_empty()),
+        shape: shape_of(&s.hull),
+        lower: s.hull.lower().unwrap_or(0),
+        upper: s.hull.upper().unwrap_or(0),
+    }
+}
+
+fn flags_of(empty_added: bool, has_hull: bool) -> u8
+    ensures { result ≡ bit empty_added 1 + bit has_hull 2 }
+{
+    match (empty_added, has_hull) {
+        (false, false) => 0,
+        (true, false) => 1,
+        (false, true) => 2,
+        (true, true) => 3,
+    }
+}
+
+fn shape_of(hull: &Span8) -> u8
+    ensures { result ≡ shape_of hull.now }
+{
+    if hull.is_empty() {
+        return 0;
+    }
+    match (hull.lower(), hull.upper()) {
+        (Some(_), Some(_)) => BOTH_FINITE,
+        (None, Some(_)) => LOWER_INFINITE,
+        (Some(_), None) => UPPER_INFINITE,
+        (None, None) => BOTH_INFINITE,
+    }
+}
+
+/// The summary that the bytes encode. `Err` exactly where they encode none.
+pub(crate) fn read(bytes: &[u8]) -> Result<SpanSummary, Malformed>
+    ensures found { IfOk result (λ s. IsSummary s × (bytes.now ≡ bytes_of s)) }
+    ensures place { MatchResult result (λ s. fault_in bytes.now ≡ None) (λ e. fault_in bytes.now ≡ Some e.at) }
+{
+    if bytes.len() != SIZE {
+        return Err(Malformed {
+            at: bytes.len().min(SIZE),
+        });
+    }
+    summary_in(&fields_in(bytes))
+}
+
+fn fields_in(bytes: &[u8]) -> SpanFields
+    requires { length bytes.now ≡ 18 }
+    ensures fields { result ≡ fields_in bytes.now }
+    ensures whole { bytes.now ≡ field_bytes result }
+{
+    SpanFields {
+        flags: bytes[FLAGS_AT],
+        shape: bytes[SHAPE_AT],
+        lower: get_i64(bytes, LOWER_AT),
+        upper: get_i64(bytes, UPPER_AT),
+    }
+}
+
+fn summary_in(fields: &SpanFields) -> Result<SpanSummary, Malformed>
+    ensures found { IfOk result (λ s. IsSummary s × (fields_of s ≡ fields.now)) }
+    ensures place { MatchResult result (λ s. field_fault fields.now ≡ None) (λ e. field_fault fields.now ≡ Some e.at) }
+{
+    match fields.flags {
+        0 => without_hull(fields, false),
+        1 => without_hull(fields, true),
+        2 => with_hull(fields, false),
+        3 => with_hull(fields, true),
+        _ => Err(Malformed { at: FLAGS_AT }),
+    }
+}
+
+fn without_hull(fields: &SpanFields, empty_added: bool) -> Result<SpanSummary, Malformed>
+    requires { fields.now.flags ≡ bit empty_added 1 }
+    ensures found { IfOk result (λ s. IsSummary s × (fields_of s ≡ fields.now)) }
+    ensures place { MatchResult result (λ s. field_fault fields.now ≡ None) (λ e. field_fault fields.now ≡ Some e.at) }
+{
+    if fields.shape != 0 {
+        return Err(Malformed { at: SHAPE_AT });
+    }
+    if fields.lower != 0 {
+        return Err(Malformed { at: LOWER_AT });
+    }
+    if fields.upper != 0 {
+        return Err(Malformed { at: UPPER_AT });
+    }
+    Ok(SpanSummary {
+        empty_added,
+        hull: Span8::empty(),
+    })
+}
+
+fn with_hull(fields: &SpanFields, empty_added: bool) -> Result<SpanSummary, Malformed>
+    requires { fields.now.flags ≡ bit empty_added 1 + 2 }
+    ensures found { IfOk result (λ s. IsSummary s × (fields_of s ≡ fields.now)) }
+    ensures place { MatchResult result (λ s. field_fault fields.now ≡ None) (λ e. field_fault fields.now ≡ Some e.at) }
+{
+    let hull = hull_in(fields)?;
+    let summary = SpanSummary::of(&hull);
+    Ok(SpanSummary {
+        empty_added,
+        hull: summary.hull,
+    })
+}
+
+fn hull_in(fields: &SpanFields) -> Result<Span8, Malformed>
+    requires at_least { 2 ≤ fields.now.flags }
+    requires at_most { fields.now.flags ≤ 3 }
+    ensures found { IfOk result (IsHullIn fields.now) }
+    ensures place { MatchResult result (λ s. field_fault fields.now ≡ None) (λ e. field_fault fields.now ≡ Some e.at) }
+{
+    match fields.shape {
+        BOTH_FINITE => {
+            if fields.upper <= fields.lower {
+                return Err(Malformed { at: UPPER_AT });
+            }
+            Ok(between(Some(fields.lower), Some(fields.upper)))
+        }
+        LOWER_INFINITE => {
+            if fields.lower != 0 {
+                return Err(Malformed { at: LOWER_AT });
+            }
+            Ok(between(None, Some(fields.upper)))
+        }
+        UPPER_INFINITE => {
+            if fields.upper != 0 {
+                return Err(Malformed { at: UPPER_AT });
+            }
+            Ok(between(Some(fields.lower), None))
+        }
+        BOTH_INFINITE => {
+            if fields.lower != 0 {
+                return Err(Malformed { at: LOWER_AT });
+            }
+            if fields.upper != 0 {
+                return Err(Malformed { at: UPPER_AT });
+            }
+            Ok(between(None, None))
+        }
+        _ => Err(Malformed { at: SHAPE_AT }),
+    }
+}

@@ -1,0 +1,91 @@
+// The class of ranges under the trait.
+
+ghost use Rattle.std.specs.Prelude.{◌≡◌, None, Some, OnOk, OnErr, IsOk, IsOkAnd, MatchResult};
+ghost use Rattle.opclass_inclusion.specs.SpanConsistent.{consistent};
+ghost use Rattle.opclass_inclusion.specs.SpanEncoding.{bytes_of};
+ghost use Rattle.opclass_inclusion.specs.SpanFaults.{fault_in};
+ghost use Rattle.opclass_inclusion.specs.SpanHulls.{IsSummary, no_range, united, with_value};
+ghost use Rattle.opclass_inclusion.specs.SpanIncludes.{Includes, IsSpan};
+
+use crate::span_bytes::{SIZE, read, write};
+use crate::span_summary::SpanSummary;
+use block_model::NoMemory;
+use block_model::row::Cond;
+use block_model::value::Value;
+use opclass_api::class::{Malformed, OpClass};
+use std::alloc::Global;
+
+/// The inclusion class of int8range ("Built-in Operator Classes" of BRIN indexes). It has no parameters.
+#[derive(Clone, Copy, Debug, PartialEq, Eq)]
+pub struct SpanHull;
+
+impl SpanHull {
+    /// The class.
+    pub fn new() -> SpanHull {
+        SpanHull
+    }
+}
+
+impl OpClass for SpanHull {
+    type Summary = SpanSummary;
+
+    ghost takes = { λ class. IsSpan };
+
+    ghost is_of = { λ class. IsSummary };
+
+    ghost includes = { λ class. Includes };
+
+    ghost empty = { λ class. no_range };
+
+    ghost add = { λ class. with_value };
+
+    ghost union = { λ class. united };
+
+    ghost consistent = { λ class. consistent };
+
+    ghost bytes_of = { λ class. bytes_of };
+
+    ghost greatest_size = { λ class. 18 };
+
+    fn empty(&self, _alloc: Global) -> Result<SpanSummary, NoMemory>
+        ensures { IsOkAnd result (λ s. (s ≡ no_range) × IsSummary s) }
+    {
+        Ok(SpanSummary::new())
+    }
+
+    fn add(&self, s: &mut SpanSummary, v: &Value) -> bool {
+        match v {
+            Value::Span(range) => s.unite(&SpanSummary::of(range)),
+            Value::Null | Value::Int(_) | Value::Net(_) => false,
+        }
+    }
+
+    fn union(&self, s: &mut SpanSummary, other: &SpanSummary) -> bool {
+        s.unite(other)
+    }
+
+    fn consistent(&self, s: &SpanSummary, conds: &[Cond]) -> bool {
+        s.hold(conds)
+    }
+
+    fn encode(&self, s: &SpanSummary, out: &mut [u8]) -> usize {
+        write(s, out);
+        SIZE
+    }
+
+    fn decode(&self, bytes: &[u8], into: &mut SpanSummary) -> Result<(), Malformed>
+        requires of_class { IsSummary into.old }
+        ensures stays_of_class { IsSummary into.new }
+        ensures found { OnOk result (bytes.now ≡ bytes_of into.new) }
+        ensures again { (s : SpanSummary) → IsSummary s → bytes.now ≡ bytes_of s → IsOk result × (into.new ≡ s) }
+        ensures unchanged { OnErr result (into.new ≡ into.old) }
+        ensures place { MatchResult result (λ ok. fault_in bytes.now ≡ None) (λ e. fault_in bytes.now ≡ Some e.at) }
+    {
+        *into = read(bytes)?;
+        Ok(())
+    }
+
+    fn greatest_size(&self) -> usize {
+        SIZE
+    }
+}
