@@ -5,6 +5,9 @@
 #![tactic(auto)]
 
 mod column;
+mod page;
 mod row;
+mod slot;
 
+pub use page::{Form, Page, PageFault};
 pub use row::{decode_row, encode_row, kinds_of, row_size};

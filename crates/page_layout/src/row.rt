@@ -12,8 +12,10 @@ use block_model::schema::Table;
 use block_model::value::{Kind, Kinds, Value, Values};
 use byte_fields::{get_u32, get_u64, put_u32, put_u64};
 
-/// The first byte of a slot in use.
+/// The first byte of a slot in use, and of a free one.
 pub(crate) const IN_USE: u8 = 1;
+
+pub(crate) const FREE: u8 = 0;
 
 /// Where the transaction, the place in it, the deleter, the null bits and the columns of a row begin.
 pub(crate) const ID_T: usize = 1;
