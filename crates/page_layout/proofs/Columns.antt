@@ -1,19 +1,19 @@
 -- Columns as bytes: sizes, and what is read from what was written.
 use Rattle.std.specs.Int.{w64, bytes_high_first, cast_unsigned}
-use Rattle.std.proofs.Common.{◌≡◌, ℤ, ℕ, suc, ◌+◌, ◌-◌, ◌*◌, ◌/◌, ◌%◌, eqb, ◌<◌, ◌≤◌, ◌^◌, Bool, true, false, List, [], ◌∷◌, ◌++◌, length, take, drop, get_or, refl, sym, ap, ◌∙◌, length-append, arith, length-drop}
-use Rattle.std.specs.Prelude.{sum_by, replicate, if◌then◌else◌}
+use Rattle.std.proofs.Common.{◌≡◌, ℤ, ℕ, ◌+◌, ◌-◌, ◌*◌, ◌/◌, ◌%◌, eqb, ◌<◌, ◌≤◌, true, List, [], ◌∷◌, ◌++◌, length, take, drop, get_or, refl, sym, ap, ◌∙◌, length-append, arith, length-drop}
+use Rattle.std.specs.Prelude.{sum_by}
 use Rattle.std.proofs.lemmas.List.{length-replicate, take_all}
 use Rattle.std.proofs.lemmas.List.Sums.{sum_by-cons}
 use Rattle.block_model.specs.declared.value.Kind.{Kind}
 use Rattle.block_model.specs.declared.value.Kind.TheVariants as kinds
 use Rattle.block_model.specs.declared.value.Value.{Value}
 use Rattle.block_model.specs.declared.value.Value.TheVariants.{Null, Int, Span, Net}
-use Rattle.block_model.specs.Ranges.{Range, Empty, Between, lower_of, upper_of}
+use Rattle.block_model.specs.Ranges.{lower_of, upper_of}
 use Rattle.block_model.specs.RowSize.{value_size}
 use Rattle.std.specs.Prelude.{Option, None, Some}
-use Rattle.page_layout.specs.RowFaults.{first_of, shifted, fault_unless, column_fault, columns_fault}
+use Rattle.page_layout.specs.RowFaults.{shifted, column_fault, columns_fault}
 use Rattle.page_layout.proofs.Faults.{first-none, shifted-none}
-use Rattle.page_layout.specs.RowBytes.{HaveKinds, has_kind, column_bytes, columns_bytes, bound_bytes, range_bytes, null_bits}
+use Rattle.page_layout.specs.RowBytes.{HaveKinds, has_kind, column_bytes, columns_bytes, bound_bytes}
 
 pub size-small : (kind : Kind) → value_size kind ≤ 17
 size-small kinds.Int = omega arith

@@ -1,5 +1,5 @@
 -- The parts of a fault: there is none exactly where no part has one.
-use Rattle.std.proofs.Common.{◌≡◌, ℕ, ◌+◌, Bool, true, false, refl}
+use Rattle.std.proofs.Common.{◌≡◌, ℕ, Bool, true, false, refl}
 use Rattle.std.specs.Prelude.{Option, None, Some}
 use Rattle.page_layout.specs.RowFaults.{first_of, shifted, fault_unless}
 

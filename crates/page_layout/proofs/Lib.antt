@@ -4,3 +4,6 @@ pub mod Faults
 pub mod Columns
 pub mod Values
 pub mod Rows
+pub mod Slots
+pub mod Pages
+pub mod OnPages

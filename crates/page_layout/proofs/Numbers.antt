@@ -1,13 +1,12 @@
 -- Numbers in fields: what was put is read, and what is read was put.
-use Rattle.std.proofs.Common.{◌≡◌, ℕ, ℤ, pos, negsuc, ◌+◌, ◌*◌, ◌^◌, ◌<◌, ◌≤◌, ◌⊎◌, inl, inr, [], Bool, true, eqb, List, ◌++◌, length, take, drop, refl, sym, ap, subst, ◌∙◌, FitsSigned, length-drop, arith}
+use Rattle.std.proofs.Common.{◌≡◌, ℕ, ℤ, pos, negsuc, ◌+◌, ◌^◌, ◌<◌, ◌≤◌, inl, inr, [], true, eqb, List, ◌++◌, length, take, drop, refl, sym, ap, subst, ◌∙◌, FitsSigned, arith}
 use Rattle.std.specs.Int.{w64, bytes_high_first, cast_signed, cast_unsigned}
-use Rattle.std.specs.Ordering.{int_eq}
 use Rattle.std.specs.Prelude.{Option, None, Some, unwrap_or}
 use Rattle.std.proofs.lemmas.Bool.{eqb-true}
 use Rattle.std.proofs.lemmas.Int.{of_z-to_z, to_z-of_z}
-use Rattle.std.proofs.lemmas.List.{take_at, drop_at, length-take-le, take-append-drop, drop-drop, get_or-take, get_or-drop, get_or_past, length-take}
+use Rattle.std.proofs.lemmas.List.{length-take-le, get_or-take, get_or-drop, get_or_past, length-take}
 use Rattle.std.proofs.lemmas.Bool.{cases_lt}
-use Rattle.byte_fields.specs.Fields.{AreBytes, number_of, bytes-number, number-bytes, number-fits, length-field, put_at}
+use Rattle.byte_fields.specs.Fields.{AreBytes, number_of, bytes-number, number-bytes, number-fits, put_at}
 use Rattle.page_layout.specs.RowBytes.{bound_bytes}
 use Rattle.page_layout.proofs.Written.{put-next}
 

@@ -1,10 +1,10 @@
 -- A row in its bytes: what was written is read and has no fault, and what has no fault was written.
-use Rattle.std.proofs.Common.{◌≡◌, ℕ, ℤ, pos, zero, suc, ◌+◌, ◌-◌, ◌*◌, ◌/◌, ◌%◌, ◌<◌, ◌≤◌, ◌^◌, Bool, true, false, cond, eqb, List, [], ◌∷◌, ◌++◌, length, take, drop, get_or, refl, sym, ap, subst, ◌∙◌, length-append, length-drop, arith}
-use Rattle.std.specs.Prelude.{Option, None, Some, sum_by, nat_lt}
+use Rattle.std.proofs.Common.{◌≡◌, ℕ, suc, ◌+◌, ◌*◌, ◌/◌, ◌%◌, ◌<◌, ◌≤◌, ◌^◌, Bool, true, false, cond, eqb, List, [], ◌∷◌, ◌++◌, length, take, drop, get_or, refl, sym, ap, ◌∙◌, append_assoc, drop-cons, length-drop, arith}
+use Rattle.std.specs.Prelude.{None, sum_by, nat_lt}
 use Rattle.std.specs.Int.{bytes_high_first}
 use Rattle.std.proofs.Math.Nat.{pow-suc}
 use Rattle.std.proofs.lemmas.Bool.{eqb-true, eqb-false, ltb-true, lt-ltb}
-use Rattle.std.proofs.lemmas.List.{take_at, drop_at, take-append-drop, drop-drop}
+use Rattle.std.proofs.lemmas.List.{drop_at, take-append-drop, drop-drop}
 use Rattle.std.proofs.lemmas.List.Sums.{sum_by-cons}
 use Rattle.block_model.specs.declared.value.Kind.{Kind}
 use Rattle.block_model.specs.declared.value.Value.{Value}
@@ -126,3 +126,47 @@ length-row ks row h = omega (arith, length-columns ks row.values h)
 pub record RowTaken (ks : List Kind) (bytes : List ℕ) (row : StoredRow) : Type 0 where
   pub is : IsRow ks row
   pub written : row_bytes ks row ≡ bytes
+
+head-whole : (c : List ℕ) → 21 ≤ length c → (((take 8 c ++ take 4 (drop 8 c)) ++ take 8 (drop 12 c)) ++ (get_or c 20 0 ∷ [])) ++ drop 21 c ≡ c
+head-whole c long =
+    append_assoc ((take 8 c ++ take 4 (drop 8 c)) ++ take 8 (drop 12 c)) (get_or c 20 0 ∷ []) (drop 21 c)
+    ∙ ap (λ (l : List ℕ). ((take 8 c ++ take 4 (drop 8 c)) ++ take 8 (drop 12 c)) ++ l) (sym (drop-cons c 20 0 (omega arith)))
+    ∙ append_assoc (take 8 c ++ take 4 (drop 8 c)) (take 8 (drop 12 c)) (drop 20 c)
+    ∙ ap (λ (l : List ℕ). (take 8 c ++ take 4 (drop 8 c)) ++ (take 8 (drop 12 c) ++ l)) (sym (drop-drop 8 12 c))
+    ∙ ap (λ (l : List ℕ). (take 8 c ++ take 4 (drop 8 c)) ++ l) (take-append-drop 8 (drop 12 c))
+    ∙ append_assoc (take 8 c) (take 4 (drop 8 c)) (drop 12 c)
+    ∙ ap (λ (l : List ℕ). take 8 c ++ (take 4 (drop 8 c) ++ l)) (sym (drop-drop 4 8 c))
+    ∙ ap (λ (l : List ℕ). take 8 c ++ l) (take-append-drop 4 (drop 8 c))
+    ∙ take-append-drop 8 c
+
+-- the head's fields, and what stands behind them
+pub head-again : (x : ℕ) (c : List ℕ) (first t k d bits : ℕ) (columns : List ℕ) → 21 ≤ length c → AreBytes c
+    → first ≡ x → t ≡ number_of (take 8 c) → k ≡ number_of (take 4 (drop 8 c)) → d ≡ number_of (take 8 (drop 12 c)) → bits ≡ get_or c 20 0 → columns ≡ drop 21 c
+    → first ∷ ((((bytes_high_first 8 t ++ bytes_high_first 4 k) ++ bytes_high_first 8 d) ++ (bits ∷ [])) ++ columns) ≡ x ∷ c
+head-again x c first t k d bits columns long small ef et ek ed eb ec =
+    let t_is : bytes_high_first 8 t ≡ take 8 c = ap (bytes_high_first 8) et ∙ field-bytes 8 c (omega arith) small in
+    let k_is : bytes_high_first 4 k ≡ take 4 (drop 8 c) = ap (bytes_high_first 4) ek ∙ field-bytes 4 (drop 8 c) (omega (arith, length-drop 8 c)) (AreBytes-drop 8 c small) in
+    let d_is : bytes_high_first 8 d ≡ take 8 (drop 12 c) = ap (bytes_high_first 8) ed ∙ field-bytes 8 (drop 12 c) (omega (arith, length-drop 12 c)) (AreBytes-drop 12 c small) in
+    (λ i. ef i ∷ ((((t_is i ++ k_is i) ++ d_is i) ++ (eb i ∷ [])) ++ ec i)) ∙ ap (λ (l : List ℕ). x ∷ l) (head-whole c long)
+
+-- bytes of a slot in use that have no fault are those of their row
+pub row-takes : (ks : List Kind) (bytes : List ℕ) → length bytes ≡ row_size ks → AreBytes bytes → get_or bytes 0 0 ≡ 1 → row_fault ks bytes ≡ None → RowTaken ks bytes (row_in ks bytes)
+unfolding row_fault row_in row_bytes head_bytes
+row-takes ks [] len small used f = absurd (omega arith)
+row-takes ks (x ∷ c) len small used f =
+    let long : 21 ≤ length c = omega arith in
+    let tight : AreBytes c = λ i. small (suc i) in
+    let bits = get_or c 20 0 in
+    let parts = first-none (fault_unless (nat_lt bits (2 ^ length ks)) 21) (shifted 22 (columns_fault ks bits (drop 21 c))) f in
+    let low : bits < 2 ^ length ks = ltb-true bits (2 ^ length ks) (holds-unless (nat_lt bits (2 ^ length ks)) 21 parts.0) in
+    let behind = columns-take ks bits (drop 21 c) (omega (arith, length-drop 21 c)) (AreBytes-drop 21 c tight) (shifted-none 22 _ parts.1) in
+    record {
+      is = record {
+        t = field-small 8 c (omega arith) tight;
+        k = field-small 4 (drop 8 c) (omega (arith, length-drop 8 c)) (AreBytes-drop 8 c tight);
+        deleter = field-small 8 (drop 12 c) (omega (arith, length-drop 12 c)) (AreBytes-drop 12 c tight);
+        columns = behind.have;
+        values = behind.are;
+      };
+      written = head-again x c 1 (number_of (take 8 c)) (number_of (take 4 (drop 8 c))) (number_of (take 8 (drop 12 c))) (null_bits (columns_in ks bits (drop 21 c))) (columns_bytes ks (columns_in ks bits (drop 21 c))) long tight (sym used) refl refl refl (behind.nulled low) behind.written;
+    }

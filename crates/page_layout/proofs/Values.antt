@@ -1,23 +1,22 @@
 -- A value in its column: what was written is read and has no fault, and what has no fault was written.
-use Rattle.std.proofs.Common.{◌≡◌, ℕ, ℤ, pos, suc, ◌+◌, ◌-◌, ◌*◌, ◌<◌, ◌≤◌, ◌^◌, ◌<ℤ◌, Bool, true, false, ◌&&◌, cond, eqb, true≢false, List, [], ◌∷◌, ◌++◌, length, take, drop, get_or, refl, sym, ap, subst, ◌∙◌, FitsSigned, append_assoc, length-append, length-drop, arith, rules}
-use Rattle.std.specs.Prelude.{Option, None, Some, int_lt, nat_lt}
+use Rattle.std.proofs.Common.{◌≡◌, ℕ, ℤ, pos, suc, ◌<◌, ◌≤◌, ◌^◌, Bool, true, false, cond, eqb, List, [], ◌∷◌, ◌++◌, length, take, drop, refl, sym, ap, ◌∙◌, FitsSigned, append_assoc, length-drop, arith}
+use Rattle.std.specs.Prelude.{None, Some, int_lt, nat_lt}
 use Rattle.std.specs.Int.{w64, bytes_high_first, cast_signed, cast_unsigned}
 use Rattle.std.specs.Ordering.{int_eq}
 use Rattle.std.proofs.lemmas.Bool.{eqb-true, ltb-true}
 use Rattle.std.proofs.lemmas.Int.{ints}
 use Rattle.std.proofs.Math.Facts.{sfits_to_z}
-use Rattle.std.proofs.lemmas.List.{take_at, drop_at, take-append-drop, drop-drop}
+use Rattle.std.proofs.lemmas.List.{take-append-drop, drop-drop}
 use Rattle.block_model.specs.declared.value.Kind.{Kind}
 use Rattle.block_model.specs.declared.value.Kind.TheVariants as kinds
 use Rattle.block_model.specs.declared.value.Value.{Value}
 use Rattle.block_model.specs.declared.value.Value.TheVariants.{Null, Int, Span, Net}
 use Rattle.block_model.specs.Ranges.{Range, Empty, Between, IsRange, lower_of, upper_of}
-use Rattle.block_model.specs.Networks.{Network, IsNetwork, network_v4}
 use Rattle.block_model.specs.RowSize.{value_size}
 use Rattle.byte_fields.specs.Fields.{AreBytes, number_of, number-bytes}
-use Rattle.page_layout.specs.RowBytes.{has_kind, IsValue, IsBound, column_bytes, range_flags, range_bytes, bound_bytes, network_bytes, is_null}
-use Rattle.page_layout.specs.RowReading.{number_at, signed_at, range_of, value_in, column_in}
-use Rattle.page_layout.specs.RowFaults.{first_of, fault_unless, absent_fault, range_fault, network_fault, value_fault, null_fault, column_fault}
+use Rattle.page_layout.specs.RowBytes.{has_kind, IsValue, IsBound, column_bytes, range_flags, bound_bytes, is_null}
+use Rattle.page_layout.specs.RowReading.{signed_at, range_of, value_in, column_in}
+use Rattle.page_layout.specs.RowFaults.{first_of, fault_unless, absent_fault, range_fault, value_fault, null_fault, column_fault}
 use Rattle.page_layout.proofs.Faults.{first-none, holds-unless}
 use Rattle.page_layout.proofs.Numbers.{signed-back, signed-bytes, field-bytes, field-small, zero-bytes, AreBytes-drop}
 
@@ -41,7 +40,7 @@ column-again kinds.Net (Net n) rest h fits = λ i. Net (record { family = sym fi
 zero-signed : int_eq (cast_signed w64 (number_of (bytes_high_first 8 0))) (pos 0) ≡ true
 zero-signed = ap (λ (n : ℕ). int_eq (cast_signed w64 n) (pos 0)) (number-bytes 8 0 (omega arith))
 
-zero-number : (n : ℕ) → 0 < 256 ^ n → eqb (number_of (bytes_high_first n 0)) 0 ≡ true
+pub zero-number : (n : ℕ) → 0 < 256 ^ n → eqb (number_of (bytes_high_first n 0)) 0 ≡ true
 zero-number n some = ap (λ (x : ℕ). eqb x 0) (number-bytes n 0 some)
 
 -- a value's column has no fault

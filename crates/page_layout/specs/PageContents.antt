@@ -1,10 +1,10 @@
 -- pages as lists
-use Rattle.std.specs.Prelude.{◌≡◌, ℕ, ◌-◌, ◌*◌, ◌/◌, ◌%◌, ◌<◌, ◌≤◌, ◌⊎◌, List, [], ◌∷◌, ◌++◌, length, Option, None, Some, replicate}
+use Rattle.std.specs.Prelude.{◌≡◌, ℕ, ◌-◌, ◌*◌, ◌/◌, ◌%◌, ◌<◌, ◌≤◌, ◌⊎◌, List, [], ◌∷◌, ◌++◌, length, Option, None, Some, replicate, slice_get, slice_index, ◌==◌, if◌then◌else◌}
 use Rattle.block_model.specs.declared.value.Kind.{Kind}
 use Rattle.block_model.specs.RowSize.{row_size}
 use Rattle.page_layout.specs.declared.page.Form.{Form}
 use Rattle.page_layout.specs.declared.page.Form.TheVariants as forms
-use Rattle.page_layout.specs.RowBytes.{StoredRow, IsRow, row_bytes}
+use Rattle.page_layout.specs.RowBytes.{StoredRow, IsRow, IsRowBytes, row_bytes}
 
 -- a heap slot is free or has a row
 abbrev pub Slot : Type 0
@@ -42,6 +42,14 @@ pub record IsHeap (columns : List Kind) (count : ℕ) (slots : List Slot) (page 
   pub are : AreSlots columns slots
   pub bytes : page ≡ heap_bytes columns slots
 
+-- one of the four statuses in a byte
+abbrev pub status_in : ℕ → ℕ → ℕ
+status_in byte place =
+    if place == 0 then byte % 4
+    else (if place == 1 then byte / 4 % 4
+    else (if place == 2 then byte / 16 % 4
+    else byte / 64 % 4))
+
 -- four statuses a byte, two bits each, the lowest ones first
 unfoldable pub statuses : List ℕ → List ℕ
 statuses [] = []
@@ -67,3 +75,36 @@ IsPageOf form page = IsUnstarted page ⊎ IsStarted form page
 abbrev pub IsForm : Form → Type 0
 IsForm forms.Status = Unit {0}
 IsForm (forms.Heap row count kinds format) = (row ≡ row_size kinds) × (count * row ≤ 8160) × (format ≡ 1)
+
+-- a table has at most eight columns
+abbrev pub HasFewColumns : Form → Type 0
+HasFewColumns forms.Status = Unit {0}
+HasFewColumns (forms.Heap row count kinds format) = length kinds ≤ 8
+
+-- the page has these slots
+abbrev pub HasSlots : Form → List ℕ → List Slot → Type 0
+HasSlots forms.Status page slots = ⊥
+HasSlots (forms.Heap row count kinds format) page slots = IsHeap kinds count slots page
+
+-- a slot of that number is on each page
+abbrev pub HasSlot : Form → ℕ → Type 0
+HasSlot forms.Status slot = ⊥
+HasSlot (forms.Heap row count kinds format) slot = slot < count
+
+-- the bytes of a row, where a slot is in use
+abbrev pub used_bytes : List Kind → Option Slot → Option (List ℕ)
+used_bytes kinds (Some (Some row)) = Some (row_bytes kinds row)
+used_bytes kinds slot = None
+
+abbrev pub row_bytes_in : Form → List Slot → ℕ → Option (List ℕ)
+row_bytes_in forms.Status slots slot = None
+row_bytes_in (forms.Heap row count kinds format) slots slot = used_bytes kinds (slice_get slots slot)
+
+-- the bytes are those of a row
+abbrev pub IsRowOf : Form → List ℕ → Type 0
+IsRowOf forms.Status bytes = ⊥
+IsRowOf (forms.Heap row count kinds format) bytes = IsRowBytes kinds bytes
+
+-- the bytes of a slot, unless it is free
+abbrev pub used_in : List ℕ → Option (List ℕ)
+used_in bytes = if slice_index bytes 0 == 0 then None else Some bytes

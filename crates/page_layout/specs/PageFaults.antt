@@ -1,5 +1,5 @@
 -- the first field of a page whose rule is broken, as its place on the page
-use Rattle.std.specs.Prelude.{◌≡◌, ℕ, zero, suc, ◌==◌, not, List, take, drop, slice_index, Option, None, Some, if◌then◌else◌}
+use Rattle.std.specs.Prelude.{ℕ, zero, suc, ◌==◌, not, List, take, drop, slice_index, Option, None, Some, if◌then◌else◌}
 use Rattle.std.specs.List.{position}
 use Rattle.block_model.specs.declared.value.Kind.{Kind}
 use Rattle.block_model.specs.RowSize.{row_size}

@@ -1,12 +1,12 @@
 -- the values that stand in the bytes of a row
-use Rattle.std.specs.Prelude.{ℕ, ℤ, ◌/◌, ◌%◌, ◌==◌, Bool, List, [], ◌∷◌, drop, slice_index, Option, None, Some, if◌then◌else◌}
+use Rattle.std.specs.Prelude.{ℕ, ℤ, ◌/◌, ◌%◌, ◌==◌, Bool, List, [], ◌∷◌, drop, slice_index, None, Some, if◌then◌else◌}
 use Rattle.std.specs.Int.{w64, cast_signed}
 use Rattle.block_model.specs.declared.value.Kind.{Kind}
 use Rattle.block_model.specs.declared.value.Kind.TheVariants as kinds
 use Rattle.block_model.specs.declared.value.Value.{Value}
 use Rattle.block_model.specs.declared.value.Value.TheVariants.{Null, Int, Span, Net}
 use Rattle.block_model.specs.Ranges.{Range, Empty, Between}
-use Rattle.block_model.specs.Networks.{Network, network_v4}
+use Rattle.block_model.specs.Networks.{network_v4}
 use Rattle.block_model.specs.RowSize.{value_size}
 use Rattle.page_layout.specs.RowBytes.{StoredRow}
 use Rattle.byte_fields.specs.Fields.{field_at, number_of}

@@ -4,10 +4,14 @@
 // a page as its 8192 bytes, and the bytes as the lists of specs/.
 #![tactic(auto)]
 
+mod checking;
 mod column;
 mod page;
+mod readers;
 mod row;
 mod slot;
 
+pub use checking::check;
 pub use page::{Form, Page, PageFault};
+pub use readers::{kind_of, row_at, status_at};
 pub use row::{decode_row, encode_row, kinds_of, row_size};

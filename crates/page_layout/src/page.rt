@@ -1,6 +1,7 @@
 // Pages and their forms.
 
 ghost use Rattle.std.specs.Prelude.{◌≡◌, length, replicate};
+ghost use Rattle.byte_fields.specs.Fields.{AreBytes};
 
 use block_model::value::Kinds;
 use std::marker::Model;
@@ -46,6 +47,20 @@ impl Page {
     {
         &self.bytes
     }
+
+    /// Every page has 8192 bytes. Does nothing.
+    pub fn known(&self)
+        ensures whole { length self.now ≡ 8192 }
+        ensures small { AreBytes self.now }
+    {
+        bytes_known(self.as_bytes());
+    }
+}
+
+fn bytes_known(bytes: &[u8])
+    ensures { AreBytes bytes.now }
+{
+    let _ = bytes;
 }
 
 /// What a page of a relation is: statuses, or the heap of a table with the bytes of its rows, the slots of a page, the

@@ -1,4 +1,4 @@
-use Rattle.std.proofs.Common.{rules, FitsSigned, ◌∙◌}
+use Rattle.std.proofs.Common.{rules, FitsSigned}
 use Rattle.std.specs.Int.{w64}
 use Rattle.page_layout.proofs.Numbers.{written-signed}
 use Rattle.page_layout.proofs.Columns.{int-column}

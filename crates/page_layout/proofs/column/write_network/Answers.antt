@@ -1,4 +1,4 @@
-use Rattle.std.proofs.Common.{[], ◌∷◌, refl, sym, ap, ◌∙◌, arith, ℕ, List, ◌++◌, drop}
+use Rattle.std.proofs.Common.{[], ◌∷◌, refl, ◌∙◌, arith, ◌++◌, drop}
 use Rattle.std.specs.Int.{bytes_high_first}
 use Rattle.page_layout.proofs.Written.{set-next, put-next}
 use Rattle.page_layout.proofs.column.write_network.Goals as goal

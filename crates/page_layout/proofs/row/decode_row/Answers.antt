@@ -1,7 +1,7 @@
 use Rattle.std.proofs.Common.{◌≡◌, List, length, ap, sym, ◌∙◌}
 use Rattle.block_model.specs.declared.value.Kind.{Kind}
 use Rattle.block_model.specs.RowSize.{row_size}
-use Rattle.page_layout.specs.RowBytes.{StoredRow, row_bytes}
+use Rattle.page_layout.specs.RowBytes.{StoredRow}
 use Rattle.page_layout.specs.RowReading.{row_in}
 use Rattle.page_layout.specs.RowFaults.{row_fault}
 use Rattle.page_layout.proofs.Rows.{row-again, row-passes, length-row}

@@ -1,4 +1,4 @@
-use Rattle.std.proofs.Common.{◌≡◌, map, take, length, ◌≤◌}
+use Rattle.std.proofs.Common.{◌≡◌, map, take}
 use Rattle.block_model.specs.declared.schema.Column.{Column}
 use Rattle.page_layout.proofs.row.kinds_of.Given as goal
 
