@@ -10,6 +10,8 @@ mod page;
 mod readers;
 mod row;
 mod slot;
+#[cfg(test)]
+mod tests;
 
 pub use checking::check;
 pub use page::{Form, Page, PageFault};
