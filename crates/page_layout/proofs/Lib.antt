@@ -1,0 +1,9 @@
+pub mod Written
+pub mod Numbers
+pub mod Faults
+pub mod Columns
+pub mod Values
+pub mod Rows
+pub mod Slots
+pub mod Pages
+pub mod OnPages

@@ -1,0 +1,5 @@
+pub mod RowBytes
+pub mod RowReading
+pub mod RowFaults
+pub mod PageContents
+pub mod PageFaults

@@ -1,0 +1,129 @@
+// Whether bytes are a page of a form.
+
+ghost use Rattle.std.specs.Prelude.{◌≡◌, ◌*◌, ◌≤◌, ◌<◌, length, IfErr, IfSome, OnOk, OnErr, MatchResult, None, Some};
+ghost use Rattle.block_model.specs.RowSize.{row_size};
+ghost use Rattle.page_layout.specs.PageContents.{HasFewColumns, IsForm, IsPageOf};
+ghost use Rattle.page_layout.specs.PageFaults.{body_fault, kind_for, page_fault, slots_fault, started_fault, zeros_fault};
+
+use crate::page::{Form, HEADER, Page, PageFault};
+use crate::slot::slot_fault;
+use block_model::value::Kind;
+
+/// The kinds of pages.
+const UNSTARTED: u8 = 0;
+
+const STATUS: u8 = 1;
+
+const HEAP: u8 = 2;
+
+/// Whether the page is one of the form, whose slots are of the size of a row and fit a page; a page that isn't started is
+/// one of every form. The fault is the lowest place of a field whose rule is broken.
+pub fn check(page: &Page, form: Form) -> Result<(), PageFault>
+    requires { IsForm form }
+    ensures place { MatchResult result (λ _. page_fault form page.now ≡ None) (λ fault. page_fault form page.now ≡ Some fault.at) }
+    ensures within { IfErr result (λ fault. fault.at < 8192) }
+    ensures passed { OnOk result (IsPageOf form page.now) }
+    ensures refused { OnErr result (IsPageOf form page.now → ⊥) }
+{
+    page.known();
+    form_known(&form);
+    match page_fault(page.as_bytes(), &form) {
+        Some(at) => Err(PageFault { at: at as u16 }),
+        None => Ok(()),
+    }
+}
+
+#[tactic(auto, unfolding(crate::specs::PageFaults::page_fault))]
+fn page_fault(page: &[u8], form: &Form) -> Option<usize>
+    requires form { IsForm form.now }
+    requires few { HasFewColumns form.now }
+    requires whole { length page.now ≡ 8192 }
+    ensures fault { result ≡ page_fault form.now page.now }
+    ensures within { IfSome result (λ at. at < 8192) }
+{
+    let kind = page[0];
+    if kind == UNSTARTED {
+        return zeros_fault(page);
+    }
+    if kind == kind_for(form) {
+        return started_fault(page, form);
+    }
+    Some(0)
+}
+
+/// The kind of a started page of the form.
+fn kind_for(form: &Form) -> u8
+    ensures { result ≡ kind_for form.now }
+{
+    match form {
+        Form::Status => STATUS,
+        Form::Heap { .. } => HEAP,
+    }
+}
+
+#[tactic(auto, unfolding(crate::specs::PageFaults::started_fault))]
+fn started_fault(page: &[u8], form: &Form) -> Option<usize>
+    requires form { IsForm form.now }
+    requires whole { length page.now ≡ 8192 }
+    ensures fault { result ≡ started_fault form.now page.now }
+    ensures within { IfSome result (λ at. at < 8192) }
+{
+    if let Some(at) = zeros_fault(&page[1..HEADER]) {
+        return Some(1 + at);
+    }
+    let at = body_fault(&page[HEADER..], form)?;
+    Some(HEADER + at)
+}
+
+fn body_fault(body: &[u8], form: &Form) -> Option<usize>
+    requires form { IsForm form.now }
+    requires whole { length body.now ≡ 8160 }
+    ensures fault { result ≡ body_fault form.now body.now }
+    ensures within { IfSome result (λ at. at < 8160) }
+{
+    match form {
+        Form::Status => None,
+        Form::Heap {
+            row,
+            slots,
+            kinds,
+            ..
+        } => slots_fault(kinds.as_slice(), *slots, usize::from(*row), body),
+    }
+}
+
+/// The first field of the slots, or of the zeros behind them, whose rule is broken.
+fn slots_fault(kinds: &[Kind], slots: u16, row: usize, body: &[u8]) -> Option<usize>
+    requires columns { length kinds.now ≤ 8 }
+    requires row { row ≡ row_size kinds.now }
+    requires room { slots * row ≤ length body.now }
+    ensures fault { result ≡ slots_fault kinds.now slots body.now }
+    ensures within { IfSome result (λ at. at < length body.now) }
+{
+    for slot in 0..slots {
+        let at = usize::from(slot) * row;
+        if let Some(fault) = slot_fault(kinds, &body[at..at + row]) {
+            return Some(at + fault);
+        }
+    }
+    let at = usize::from(slots) * row;
+    let fault = zeros_fault(&body[at..])?;
+    Some(at + fault)
+}
+
+/// The first byte that isn't zero.
+fn zeros_fault(bytes: &[u8]) -> Option<usize>
+    ensures fault { result ≡ zeros_fault bytes.now }
+    ensures within { IfSome result (λ at. at < length bytes.now) }
+{
+    bytes.iter().position(|byte| *byte != 0)
+}
+
+/// A form has at most eight columns. Does nothing.
+fn form_known(form: &Form)
+    ensures { HasFewColumns form.now }
+{
+    if let Form::Heap { kinds, .. } = form {
+        let _ = kinds.as_slice();
+    }
+}

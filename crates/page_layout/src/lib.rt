@@ -1,0 +1,19 @@
+// Pages as lists: `check` passes exactly the bytes of a page of its form, a page of statuses or of heap slots, and names
+// the first field whose rule is broken; the readers give the statuses and rows of a page that passed. Rows are written to
+// their bytes and read from them, the same row both ways. It stands on block_model and byte_fields. The layer above sees
+// a page as its 8192 bytes, and the bytes as the lists of specs/.
+#![tactic(auto)]
+
+mod checking;
+mod column;
+mod page;
+mod readers;
+mod row;
+mod slot;
+#[cfg(test)]
+mod tests;
+
+pub use checking::check;
+pub use page::{Form, Page, PageFault};
+pub use readers::{kind_of, row_at, status_at};
+pub use row::{decode_row, encode_row, kinds_of, row_size};

@@ -1,0 +1,83 @@
+// Pages and their forms.
+
+ghost use Rattle.std.specs.Prelude.{◌≡◌, length, replicate};
+ghost use Rattle.byte_fields.specs.Fields.{AreBytes};
+
+use block_model::value::Kinds;
+use std::marker::Model;
+
+/// How many bytes a page has, and its header.
+pub(crate) const PAGE: usize = 8192;
+
+pub(crate) const HEADER: usize = 32;
+
+/// A page, seen as its 8192 bytes.
+#[derive(Debug, Drop)]
+pub struct Page {
+    bytes: [u8; 8192],
+}
+
+impl Model for Page {
+    ghost use Rattle.std.specs.Prelude.{ℕ, List};
+
+    ghost Value = { List ℕ };
+
+    ghost view = { λ page. page.bytes };
+}
+
+impl Page {
+    /// A page that isn't started.
+    pub fn zeroed() -> Page
+        ensures { result ≡ replicate 8192 0 }
+    {
+        Page { bytes: [0; PAGE] }
+    }
+
+    /// The page of these bytes, whatever they are.
+    pub fn from_bytes(bytes: &[u8; 8192]) -> Page
+        ensures { result ≡ bytes.now }
+    {
+        Page { bytes: *bytes }
+    }
+
+    /// Its bytes.
+    pub fn as_bytes(&self) -> &[u8]
+        ensures bytes { result.now ≡ self.now }
+        ensures whole { length result.now ≡ 8192 }
+    {
+        &self.bytes
+    }
+
+    /// Every page has 8192 bytes. Does nothing.
+    pub fn known(&self)
+        ensures whole { length self.now ≡ 8192 }
+        ensures small { AreBytes self.now }
+    {
+        bytes_known(self.as_bytes());
+    }
+}
+
+fn bytes_known(bytes: &[u8])
+    ensures { AreBytes bytes.now }
+{
+    let _ = bytes;
+}
+
+/// What a page of a relation is: statuses, or the heap of a table with the bytes of its rows, the slots of a page, the
+/// kinds of its columns, and the format of the store.
+#[derive(Clone, Copy, Debug, PartialEq, Eq)]
+pub enum Form {
+    Status,
+    Heap {
+        row: u16,
+        slots: u16,
+        kinds: Kinds,
+        format: u16,
+    },
+}
+
+/// The lowest place of a field whose rule is broken.
+#[derive(Clone, Copy, Debug, PartialEq, Eq)]
+pub struct PageFault {
+    pub at: u16,
+}

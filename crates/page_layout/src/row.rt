@@ -1,0 +1,131 @@
+// Rows as bytes.
+
+ghost use Rattle.std.specs.Prelude.{◌≡◌, ◌≤◌, ◌<◌, ◌^◌, ◌++◌, drop, length, map, None};
+ghost use Rattle.block_model.specs.RowSize.{row_size};
+ghost use Rattle.page_layout.specs.RowReading.{row_in};
+ghost use Rattle.page_layout.specs.RowFaults.{row_fault};
+ghost use Rattle.page_layout.specs.RowBytes.{StoredRow, HaveKinds, IsRow, IsRowBytes, head_bytes, null_bits, row_bytes};
+
+use crate::column::{columns_size, read_columns, write_columns};
+use block_model::row::RowId;
+use block_model::schema::Table;
+use block_model::value::{Kind, Kinds, Value, Values};
+use byte_fields::{get_u32, get_u64, put_u32, put_u64};
+
+/// The first byte of a slot in use, and of a free one.
+pub(crate) const IN_USE: u8 = 1;
+
+pub(crate) const FREE: u8 = 0;
+
+/// Where the transaction, the place in it, the deleter, the null bits and the columns of a row begin.
+pub(crate) const ID_T: usize = 1;
+
+pub(crate) const ID_K: usize = 9;
+
+pub(crate) const DELETER: usize = 13;
+
+pub(crate) const NULL_BITS: usize = 21;
+
+pub(crate) const COLUMNS: usize = 22;
+
+/// The kinds of a table's columns, of which a table has at most eight.
+pub fn kinds_of(table: &Table) -> Kinds
+    requires { length table.now.columns ≤ 8 }
+    ensures { result ≡ map (λ c. c.kind) table.now.columns }
+{
+    let mut kinds = Kinds::new();
+    for column in table.columns.as_slice() {
+        kinds.push(column.kind);
+    }
+    kinds
+}
+
+/// The bytes of a row of the table, which has at most eight columns.
+pub fn row_size(table: &Table, format: u16) -> u16
+    requires columns { length table.now.columns ≤ 8 }
+    requires format { format ≡ 1 }
+    ensures { result ≡ row_size (map (λ c. c.kind) table.now.columns) }
+{
+    let _ = format;
+    let kinds = kinds_of(table);
+    22 + columns_size(kinds.as_slice())
+}
+
+/// Writes a row into the bytes of a slot. The values are of the kinds of the table's columns.
+pub fn encode_row(
+    table: &Table,
+    format: u16,
+    id: RowId,
+    deleter: u64,
+    values: &[Value],
+    out: &mut [u8],
+)
+    requires columns { length table.now.columns ≤ 8 }
+    requires format { format ≡ 1 }
+    requires kinds { HaveKinds (map (λ c. c.kind) table.now.columns) values.now }
+    requires room { length out.old ≡ row_size (map (λ c. c.kind) table.now.columns) }
+    ensures written { out.new ≡ row_bytes (map (λ c. c.kind) table.now.columns) (record { id = id; deleter = deleter; values = values.now }) }
+    // So `decode_row` answers it again.
+    ensures row { IsRow (map (λ c. c.kind) table.now.columns) (record { id = id; deleter = deleter; values = values.now }) }
+{
+    let _ = format;
+    let kinds = kinds_of(table);
+    write_head(id, deleter, null_bits(values), out);
+    write_columns(kinds.as_slice(), values, &mut out[COLUMNS..]);
+}
+
+/// Writes all in front of the columns.
+fn write_head(id: RowId, deleter: u64, bits: u8, out: &mut [u8])
+    requires { 22 ≤ length out.old }
+    ensures written { out.new ≡ head_bytes id deleter bits ++ drop 22 out.old }
+    ensures numbers { (id.t < 2 ^ 64) × (id.k < 2 ^ 32) × (deleter < 2 ^ 64) }
+{
+    out[0] = IN_USE;
+    put_u64(out, ID_T, id.t);
+    put_u32(out, ID_K, id.k);
+    put_u64(out, DELETER, deleter);
+    out[NULL_BITS] = bits;
+}
+
+#[tactic(auto, unfolding(crate::specs::RowBytes::null_bits))]
+/// Bit c is set where the value of column c is null.
+fn null_bits(values: &[Value]) -> u8
+    requires { length values.now ≤ 8 }
+    ensures bits { result ≡ null_bits values.now }
+    ensures small { result < 2 ^ length values.now }
+{
+    match values {
+        [] => 0,
+        [value, values @ ..] => u8::from(*value == Value::Null) + 2 * null_bits(values),
+    }
+}
+
+/// The id and the deleter of the row with these bytes, which are those of a row of the table. `values` becomes its values.
+pub fn decode_row(table: &Table, format: u16, bytes: &[u8], values: &mut Values) -> (RowId, u64)
+    requires columns { length table.now.columns ≤ 8 }
+    requires format { format ≡ 1 }
+    requires row { IsRowBytes (map (λ c. c.kind) table.now.columns) bytes.now }
+    ensures row { (row : StoredRow) → IsRow (map (λ c. c.kind) table.now.columns) row → bytes.now ≡ row_bytes (map (λ c. c.kind) table.now.columns) row → (result ≡ (row.id, row.deleter)) × (values.new ≡ row.values) }
+{
+    let _ = format;
+    let kinds = kinds_of(table);
+    read_row(kinds.as_slice(), bytes, values)
+}
+
+#[tactic(auto, unfolding(crate::specs::RowReading::row_in, crate::specs::RowFaults::row_fault))]
+fn read_row(kinds: &[Kind], bytes: &[u8], values: &mut Values) -> (RowId, u64)
+    requires columns { length kinds.now ≤ 8 }
+    requires whole { length bytes.now ≡ row_size kinds.now }
+    requires sound { row_fault kinds.now bytes.now ≡ None }
+    ensures id { result ≡ ((row_in kinds.now bytes.now).id, (row_in kinds.now bytes.now).deleter) }
+    ensures values { values.new ≡ (row_in kinds.now bytes.now).values }
+{
+    let id = RowId {
+        t: get_u64(bytes, ID_T),
+        k: get_u32(bytes, ID_K),
+    };
+    let deleter = get_u64(bytes, DELETER);
+    *values = Values::new();
+    read_columns(kinds, bytes[NULL_BITS], &bytes[COLUMNS..], values);
+    (id, deleter)
+}
