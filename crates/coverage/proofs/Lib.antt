@@ -1,0 +1,5 @@
+pub mod Sound
+pub mod Carried
+pub mod BuildingGoesOn
+pub mod OthersGoOn
+pub mod Settled

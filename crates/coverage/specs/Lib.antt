@@ -1,0 +1,5 @@
+pub mod Board
+pub mod IsSettled
+pub mod IsSound
+pub mod GoesOn
+pub mod Changes

@@ -1,0 +1,55 @@
+// No scan loses a row to a summary, whatever the order in which inserts, summarisers, vacuums and scans take their steps:
+// the definitions of a covered index (specs/) and the laws of its changes. A change keeps the board sound, and leaves all
+// other sessions what they know (`GoesOn`). It stands on block_model's rows alone: on no page, no class and no machine.
+// A layer above shows of each of its steps which kind of change it is, and has the rest from here.
+#![tactic(auto)]
+
+ghost use Rattle.std.specs.Prelude.{ℕ, Bool, Option};
+ghost use Rattle.block_model.specs.declared.row.Row.{Row};
+ghost use Rattle.coverage.specs.Board.{Board, Spot, Tuple, Progress};
+ghost use Rattle.coverage.specs.IsSettled.{IsSettled, IsAccounted};
+ghost use Rattle.coverage.specs.IsSound.{IsSound};
+ghost use Rattle.coverage.specs.GoesOn.{GoesOn};
+ghost use Rattle.coverage.specs.Changes.{PutsRow, Places, Names, Turn, Swaps, MovePuts, MoveSets, DropsLoose, Clears, Sweeps, Prunes, Takes, Ends, TurnsLocks};
+
+/// Each kind of change leaves the index sound.
+pub fn changes_are_sound()
+    ensures puts_row { (s : ℕ) (w v : Board) (b k : ℕ) (r : Row) → IsSound w → PutsRow s w v b k r → IsSound v }
+    ensures places { (s : ℕ) (w v : Board) (x : Spot) (t : Tuple) → IsSound w → Places s w v x t → IsSound v }
+    ensures names { (s : ℕ) (w v : Board) (range : ℕ) (x : Spot) (t : Tuple) → IsSound w → Names s w v range x t → IsSound v }
+    ensures turn { (s : ℕ) (w v : Board) (range : ℕ) (old new : Option Progress) → IsSound w → Turn s w v range old new → IsSound v }
+    ensures swaps { (s : ℕ) (w v : Board) (range : ℕ) (x : Spot) (old new : Tuple) → IsSound w → Swaps s w v range x old new → IsSound v }
+    ensures move_puts { (s : ℕ) (w v : Board) (range : ℕ) (x y : Spot) (old new : Tuple) → IsSound w → MovePuts s w v range x y old new → IsSound v }
+    ensures move_sets { (s : ℕ) (w v : Board) (range : ℕ) (x y : Spot) (old new : Tuple) → IsSound w → MoveSets s w v range x y old new → IsSound v }
+    ensures drops { (s : ℕ) (w v : Board) (x : Spot) (old : Tuple) → IsSound w → DropsLoose s w v x old → IsSound v }
+    ensures clears { (s : ℕ) (w v : Board) (range : ℕ) (x : Spot) → IsSound w → Clears s w v range x → IsSound v }
+    ensures sweeps { (s : ℕ) (w v : Board) (x : Spot) → IsSound w → Sweeps s w v x → IsSound v }
+    ensures prunes { (s : ℕ) (dropped : ℕ → ℕ → Bool) (w v : Board) → IsSound w → Prunes s dropped w v → IsSound v }
+    ensures takes { (s : ℕ) (w v : Board) → IsSound w → Takes s w v → IsSound v }
+    ensures ends { (s : ℕ) (w v : Board) → IsSound w → Ends s w v → IsSound v }
+    ensures turns_locks { (s : ℕ) (w v : Board) → IsSound w → TurnsLocks s w v → IsSound v }
+{}
+
+/// Each kind of change lets all other sessions go on.
+pub fn others_go_on()
+    ensures puts_row { (s : ℕ) (d : ℕ → ℕ → Bool) (w v : Board) (b k : ℕ) (r : Row) → IsSound w → PutsRow s w v b k r → GoesOn s d w v }
+    ensures places { (s : ℕ) (d : ℕ → ℕ → Bool) (w v : Board) (x : Spot) (t : Tuple) → IsSound w → Places s w v x t → GoesOn s d w v }
+    ensures names { (s : ℕ) (d : ℕ → ℕ → Bool) (w v : Board) (range : ℕ) (x : Spot) (t : Tuple) → IsSound w → Names s w v range x t → GoesOn s d w v }
+    ensures turn { (s : ℕ) (d : ℕ → ℕ → Bool) (w v : Board) (range : ℕ) (old new : Option Progress) → IsSound w → Turn s w v range old new → GoesOn s d w v }
+    ensures swaps { (s : ℕ) (d : ℕ → ℕ → Bool) (w v : Board) (range : ℕ) (x : Spot) (old new : Tuple) → IsSound w → Swaps s w v range x old new → GoesOn s d w v }
+    ensures move_puts { (s : ℕ) (d : ℕ → ℕ → Bool) (w v : Board) (range : ℕ) (x y : Spot) (old new : Tuple) → IsSound w → MovePuts s w v range x y old new → GoesOn s d w v }
+    ensures move_sets { (s : ℕ) (d : ℕ → ℕ → Bool) (w v : Board) (range : ℕ) (x y : Spot) (old new : Tuple) → IsSound w → MoveSets s w v range x y old new → GoesOn s d w v }
+    ensures drops { (s : ℕ) (d : ℕ → ℕ → Bool) (w v : Board) (x : Spot) (old : Tuple) → IsSound w → DropsLoose s w v x old → GoesOn s d w v }
+    ensures clears { (s : ℕ) (d : ℕ → ℕ → Bool) (w v : Board) (range : ℕ) (x : Spot) → IsSound w → Clears s w v range x → GoesOn s d w v }
+    ensures sweeps { (s : ℕ) (d : ℕ → ℕ → Bool) (w v : Board) (x : Spot) → IsSound w → Sweeps s w v x → GoesOn s d w v }
+    ensures prunes { (s : ℕ) (dropped : ℕ → ℕ → Bool) (w v : Board) → IsSound w → Prunes s dropped w v → GoesOn s dropped w v }
+    ensures takes { (s : ℕ) (d : ℕ → ℕ → Bool) (w v : Board) → IsSound w → Takes s w v → GoesOn s d w v }
+    ensures ends { (s : ℕ) (d : ℕ → ℕ → Bool) (w v : Board) → IsSound w → Ends s w v → GoesOn s d w v }
+    ensures turns_locks { (s : ℕ) (d : ℕ → ℕ → Bool) (w v : Board) → IsSound w → TurnsLocks s w v → GoesOn s d w v }
+{}
+
+/// A row is settled exactly where the tuple that the map names includes it, or is a placeholder whose builder awaits it.
+pub fn settled_is_accounted()
+    ensures accounted { (w : Board) (b : ℕ) (r : Row) → IsSound w → IsSettled w b r → IsAccounted w b r }
+    ensures settled { (w : Board) (b : ℕ) (r : Row) → IsSound w → IsAccounted w b r → IsSettled w b r }
+{}
