@@ -79,6 +79,7 @@ turn_go_on s d w v range old new sound kind = record {
   unset = search rules;
   placeholders = search rules;
   right = search rules;
+  no_right_given = search rules;
 }
 
 -- rows of a range without an entry are settled, so a placeholder may come
@@ -120,6 +121,7 @@ module _ (s : ℕ) (d : ℕ → ℕ → Bool) (w v : Board) (x : Spot) (t : Tupl
     unset = search rules;
     placeholders = search rules;
     right = search rules;
+    no_right_given = search rules;
   }
 
 -- whoever has put the placeholder hasn't read the extent yet, and nobody else builds
@@ -158,4 +160,5 @@ module _ (s : ℕ) (d : ℕ → ℕ → Bool) (w v : Board) (range : ℕ) (x : S
     unset = search rules;
     placeholders = search rules;
     right = search rules;
+    no_right_given = search rules;
   }

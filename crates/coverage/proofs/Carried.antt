@@ -99,6 +99,7 @@ module _ (s : ℕ) (d : ℕ → ℕ → Bool) (w v : Board) (range : ℕ) (x : S
     unset = search rules;
     placeholders = swap_flags;
     right = λ n held. inr (kind.kept ∙ held);
+    no_right_given = search rules;
   }
 
 module _ (s : ℕ) (d : ℕ → ℕ → Bool) (w v : Board) (range : ℕ) (x y : Spot) (old new : Tuple) (sound : IsSound w) (kind : MovePuts s w v range x y old new) where
@@ -128,6 +129,7 @@ module _ (s : ℕ) (d : ℕ → ℕ → Bool) (w v : Board) (range : ℕ) (x y :
     unset = search rules;
     placeholders = search rules;
     right = search rules;
+    no_right_given = search rules;
   }
 
 module _ (s : ℕ) (d : ℕ → ℕ → Bool) (w v : Board) (range : ℕ) (x y : Spot) (old new : Tuple) (sound : IsSound w) (kind : MoveSets s w v range x y old new) where
@@ -179,4 +181,5 @@ module _ (s : ℕ) (d : ℕ → ℕ → Bool) (w v : Board) (range : ℕ) (x y :
     unset = search rules;
     placeholders = set_flags;
     right = λ n held. inr (kind.kept ∙ held);
+    no_right_given = search rules;
   }

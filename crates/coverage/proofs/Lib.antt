@@ -3,3 +3,4 @@ pub mod Carried
 pub mod BuildingGoesOn
 pub mod OthersGoOn
 pub mod Settled
+pub mod Stable

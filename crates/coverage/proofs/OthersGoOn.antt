@@ -26,6 +26,7 @@ puts_row_go_on s d w v b k r sound kind = record {
   unset = search rules;
   placeholders = search rules;
   right = search rules;
+  no_right_given = search rules;
 }
 
 pub drops_go_on : (s : ℕ) (d : ℕ → ℕ → Bool) (w v : Board) (x : Spot) (old : Tuple) → IsSound w → DropsLoose s w v x old → GoesOn s d w v
@@ -43,6 +44,7 @@ drops_go_on s d w v x old sound kind = record {
   unset = search rules;
   placeholders = search rules;
   right = search rules;
+  no_right_given = search rules;
 }
 
 pub clears_go_on : (s : ℕ) (d : ℕ → ℕ → Bool) (w v : Board) (range : ℕ) (x : Spot) → IsSound w → Clears s w v range x → GoesOn s d w v
@@ -60,6 +62,7 @@ clears_go_on s d w v range x sound kind = record {
   unset = search rules;
   placeholders = search rules;
   right = search rules;
+  no_right_given = search rules;
 }
 
 pub sweeps_go_on : (s : ℕ) (d : ℕ → ℕ → Bool) (w v : Board) (x : Spot) → IsSound w → Sweeps s w v x → GoesOn s d w v
@@ -77,6 +80,7 @@ sweeps_go_on s d w v x sound kind = record {
   unset = search rules;
   placeholders = search rules;
   right = search rules;
+  no_right_given = search rules;
 }
 
 pub prunes_go_on : (s : ℕ) (d : ℕ → ℕ → Bool) (w v : Board) → IsSound w → Prunes s d w v → GoesOn s d w v
@@ -94,6 +98,7 @@ prunes_go_on s d w v sound kind = record {
   unset = search rules;
   placeholders = search rules;
   right = search rules;
+  no_right_given = search rules;
 }
 
 pub takes_go_on : (s : ℕ) (d : ℕ → ℕ → Bool) (w v : Board) → IsSound w → Takes s w v → GoesOn s d w v
@@ -111,6 +116,7 @@ takes_go_on s d w v sound kind = record {
   unset = search rules;
   placeholders = search rules;
   right = search rules;
+  no_right_given = search rules;
 }
 
 pub ends_go_on : (s : ℕ) (d : ℕ → ℕ → Bool) (w v : Board) → IsSound w → Ends s w v → GoesOn s d w v
@@ -128,6 +134,7 @@ ends_go_on s d w v sound kind = record {
   unset = search rules;
   placeholders = search rules;
   right = search rules;
+  no_right_given = search rules;
 }
 
 pub turns_locks_go_on : (s : ℕ) (d : ℕ → ℕ → Bool) (w v : Board) → IsSound w → TurnsLocks s w v → GoesOn s d w v
@@ -145,4 +152,5 @@ turns_locks_go_on s d w v sound kind = record {
   unset = search rules;
   placeholders = search rules;
   right = search rules;
+  no_right_given = search rules;
 }

@@ -29,3 +29,4 @@ pub record GoesOn (actor : ℕ) (dropped : ℕ → ℕ → Bool) (w v : Board) :
   pub unset : (range : ℕ) → w.entry range ≡ None → (v.entry range ≡ None) ⊎ (w.right ≡ Some actor)
   pub placeholders : (range : ℕ) → NamesPlaceholder w range → NamesPlaceholder v range ⊎ (w.right ≡ Some actor)
   pub right : (s : ℕ) → w.right ≡ Some s → (s ≡ actor) ⊎ (v.right ≡ Some s)
+  pub no_right_given : (s : ℕ) → v.right ≡ Some s → s ≢ actor → w.right ≡ Some s

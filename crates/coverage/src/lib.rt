@@ -4,13 +4,15 @@
 // A layer above shows of each of its steps which kind of change it is, and has the rest from here.
 #![tactic(auto)]
 
-ghost use Rattle.std.specs.Prelude.{ℕ, Bool, Option};
+ghost use Rattle.std.specs.Prelude.{◌≡◌, ◌≢◌, ℕ, Bool, Option, Some};
 ghost use Rattle.block_model.specs.declared.row.Row.{Row};
-ghost use Rattle.coverage.specs.Board.{Board, Spot, Tuple, Progress};
+ghost use Rattle.coverage.specs.Board.{Board, Spot, Tuple, Progress, NamesPlaceholder};
 ghost use Rattle.coverage.specs.IsSettled.{IsSettled, IsAccounted};
 ghost use Rattle.coverage.specs.IsSound.{IsSound};
-ghost use Rattle.coverage.specs.GoesOn.{GoesOn};
-ghost use Rattle.coverage.specs.Changes.{PutsRow, Places, Names, Turn, Swaps, MovePuts, MoveSets, DropsLoose, Clears, Sweeps, Prunes, Takes, Ends, TurnsLocks};
+ghost use Rattle.coverage.specs.GoesOn.{GoesOn, IsHeld};
+ghost use Rattle.coverage.specs.Changes.{PutsRow, Places, Names, Turn, IsFree, Swaps, MovePuts, MoveSets, DropsLoose, Clears, Sweeps, Prunes, Takes, Ends, TurnsLocks};
+ghost use Rattle.coverage.specs.Statements.{Statement};
+ghost use Rattle.coverage.specs.Knowing.{LocksNone, Knows, Spares};
 
 /// Each kind of change leaves the index sound.
 pub fn changes_are_sound()
@@ -52,4 +54,11 @@ pub fn others_go_on()
 pub fn settled_is_accounted()
     ensures accounted { (w : Board) (b : ℕ) (r : Row) → IsSound w → IsSettled w b r → IsAccounted w b r }
     ensures settled { (w : Board) (b : ℕ) (r : Row) → IsSound w → IsAccounted w b r → IsSettled w b r }
+{}
+
+/// What a session's statement knows stays true while another session steps.
+pub fn knowledge_is_stable()
+    ensures kept { (a : ℕ) (d : ℕ → ℕ → Bool) (w v : Board) (s : ℕ) (statement : Statement) → IsSound w → GoesOn a d w v → s ≢ a → Spares d statement → Knows w s statement → Knows v s statement }
+    ensures placeholder { (a : ℕ) (d : ℕ → ℕ → Bool) (w v : Board) (s range : ℕ) → IsSound w → GoesOn a d w v → s ≢ a → w.right ≡ Some s → NamesPlaceholder w range → NamesPlaceholder v range }
+    ensures compared { (w : Board) (s range : ℕ) (x : Spot) (t : Tuple) → IsSound w → IsHeld w range x → w.tuple x ≡ Some t → t.range ≡ range → IsFree w s x.block → LocksNone w s → w.entry range ≡ Some x }
 {}
