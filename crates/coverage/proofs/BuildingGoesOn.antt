@@ -9,7 +9,7 @@ use Rattle.coverage.specs.Board.{Spot, Tuple, Progress, ExtentUnread, Passing, B
 use Rattle.coverage.specs.IsSettled.{IsAhead, IsInResult, IsSettled, NoEntry, FinalIncludes, PlaceholderIncludes, NobodyBuilding, ResultIncludes, AheadOfPass, IsAwaited, AllAwait, IsAccounted, Shows}
 use Rattle.coverage.specs.IsSound.{IsOrphan, IsSound}
 use Rattle.coverage.specs.GoesOn.{IsHeld, GoesOn}
-use Rattle.coverage.specs.Changes.{ChangesAt, SameHeap, SameMap, SameTuples, SameOrphans, SameLoose, SameWork, IsWithin, LocksBy, IsFree, at_work, Turns, Begins, Reads, Passes, Carries, MayEnd, PutsRow, Places, Names, Turn, Swaps, MovePuts, MoveSets, DropsLoose, Clears, Sweeps, Prunes, Takes, Ends, TurnsLocks}
+use Rattle.coverage.specs.Changes.{ChangesAt, SameHeap, SameMap, SameTuples, SameOrphans, SameLoose, SameWork, IsWithin, LocksBy, IsFree, at_work, Turns, StartsBuilding, ReadsExtent, PassesBlock, Carries, MayEnd, PutsRow, Places, Names, Turn, Swaps, MovePuts, MoveSets, DropsLoose, Clears, Sweeps, Prunes, Takes, Ends, TurnsLocks}
 
 at_work_range : (m n : ℕ) (p q : Progress) → at_work m (Some p) ≡ at_work n (Some q) → m ≡ n
 at_work_range m n p q e = ap (λ (g : Building). g.range) (same_Some _ _ e)
@@ -38,10 +38,10 @@ passed_on w b k r next extent result wider more block there before = ⊎_elim
 module _ (w : Board) (s b k : ℕ) (r : Row) (sound : IsSound w) (there : w.row b k ≡ Some r) (all : AllAwait w b r) where
   -- where the session builds the block's range afterwards, it still awaits the row
   turned : (old new : Option Progress) → Turns w s (range_of w b) old new → w.building s ≡ at_work (range_of w b) old → (p : Progress) → new ≡ Some p → IsAwaited p b r
-  turned _ _ (Begins h) was p is = subst (λ q. IsAwaited q b r) (same_Some _ _ is) tt
-  turned _ _ (Reads extent result e) was p is = subst (λ q. IsAwaited q b r) (same_Some _ _ is)
+  turned _ _ (StartsBuilding h) was p is = subst (λ q. IsAwaited q b r) (same_Some _ _ is) tt
+  turned _ _ (ReadsExtent extent result e) was p is = subst (λ q. IsAwaited q b r) (same_Some _ _ is)
       (inr (block_first b w.pages_per_range sound.ranged, omega (arith, e, sound.rows_below b k r there, block_last b w.pages_per_range sound.ranged)))
-  turned _ _ (Passes extent next result wider more block) was p is = subst (λ q. IsAwaited q b r) (same_Some _ _ is)
+  turned _ _ (PassesBlock extent next result wider more block) was p is = subst (λ q. IsAwaited q b r) (same_Some _ _ is)
       (passed_on w b k r next extent result wider more block there (all s (Passing extent next result) was))
 
 -- after a turn every builder of the block's range awaits the row, as before

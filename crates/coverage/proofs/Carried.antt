@@ -9,7 +9,7 @@ use Rattle.coverage.specs.Board.{Spot, Tuple, Progress, ExtentUnread, Passing, B
 use Rattle.coverage.specs.IsSettled.{IsAhead, IsInResult, IsSettled, NoEntry, FinalIncludes, PlaceholderIncludes, NobodyBuilding, ResultIncludes, AheadOfPass, IsAwaited, AllAwait, IsAccounted, Shows}
 use Rattle.coverage.specs.IsSound.{IsOrphan, IsSound}
 use Rattle.coverage.specs.GoesOn.{IsHeld, GoesOn}
-use Rattle.coverage.specs.Changes.{ChangesAt, SameHeap, SameMap, SameTuples, SameOrphans, SameLoose, SameWork, IsWithin, LocksBy, IsFree, at_work, Turns, Begins, Reads, Passes, Carries, MayEnd, PutsRow, Places, Names, Turn, Swaps, MovePuts, MoveSets, DropsLoose, Clears, Sweeps, Prunes, Takes, Ends, TurnsLocks}
+use Rattle.coverage.specs.Changes.{ChangesAt, SameHeap, SameMap, SameTuples, SameOrphans, SameLoose, SameWork, IsWithin, LocksBy, IsFree, at_work, Turns, StartsBuilding, ReadsExtent, PassesBlock, Carries, MayEnd, PutsRow, Places, Names, Turn, Swaps, MovePuts, MoveSets, DropsLoose, Clears, Sweeps, Prunes, Takes, Ends, TurnsLocks}
 
 module _ (w : Board) (s range : ℕ) (x : Spot) (old new : Tuple) (entry : w.entry range ≡ Some x) (here : w.tuple x ≡ Some old) (carries : Carries w s range old new) (b : ℕ) (r : Row) (of : range ≡ range_of w b) where
   pub carried : IsAccounted w b r → IsTrue (new.includes r) ⊎ ((new.placeholder ≡ true) × AllAwait w b r)

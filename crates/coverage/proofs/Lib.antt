@@ -4,3 +4,4 @@ pub mod BuildingGoesOn
 pub mod OthersGoOn
 pub mod Settled
 pub mod Stable
+pub mod Covered

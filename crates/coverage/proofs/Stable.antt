@@ -9,8 +9,8 @@ use Rattle.coverage.specs.Board.{Spot, Tuple, Progress, ExtentUnread, Passing, B
 use Rattle.coverage.specs.IsSettled.{IsAhead, IsInResult, IsSettled, NoEntry, FinalIncludes, PlaceholderIncludes, NobodyBuilding, ResultIncludes, AheadOfPass, IsAwaited, AllAwait, IsAccounted, Shows}
 use Rattle.coverage.specs.IsSound.{IsOrphan, IsSound}
 use Rattle.coverage.specs.GoesOn.{IsHeld, GoesOn}
-use Rattle.coverage.specs.Changes.{ChangesAt, SameHeap, SameMap, SameTuples, SameOrphans, SameLoose, SameWork, IsWithin, LocksBy, IsFree, at_work, Turns, Begins, Reads, Passes, Carries, MayEnd, PutsRow, Places, Names, Turn, Swaps, MovePuts, MoveSets, DropsLoose, Clears, Sweeps, Prunes, Takes, Ends, TurnsLocks}
-use Rattle.coverage.specs.Statements.{Hand, Empty, Held, Copied, Moving, Dropping, Phase, NotBuilding, Vacant, Evacuating, Placing, IsAt, Scan, Statement, Idle, Inserting, Summarising, Scanning, IsAdded, IsUnited, loose_in, loose_at, loose_of, building_at, building_of}
+use Rattle.coverage.specs.Changes.{ChangesAt, SameHeap, SameMap, SameTuples, SameOrphans, SameLoose, SameWork, IsWithin, LocksBy, IsFree, at_work, Turns, StartsBuilding, ReadsExtent, PassesBlock, Carries, MayEnd, PutsRow, Places, Names, Turn, Swaps, MovePuts, MoveSets, DropsLoose, Clears, Sweeps, Prunes, Takes, Ends, TurnsLocks}
+use Rattle.coverage.specs.Statements.{Hand, Empty, Held, Copied, Moving, Dropping, Phase, NotBuilding, Vacant, Growing, Evacuating, Placing, IsAt, Scan, Statement, Idle, Inserting, Maintaining, Scanning, IsAdded, IsUnited, loose_in, loose_at, loose_of, building_at, building_of}
 use Rattle.coverage.specs.Knowing.{LocksNone, HoldsNothing, KnowsHand, SettledBy, MakesUnited, MakesNone, MakesSame, HasPlaced, KnowsPhase, KnowsRow, Knows, Spares}
 
 
@@ -79,6 +79,7 @@ module _ (a : ℕ) (d : ℕ → ℕ → Bool) (w v : Board) (sound : IsSound w) 
   phase_on : w.right ≡ Some s → (range : ℕ) (phase : Phase) → KnowsPhase w s range phase → KnowsPhase v s range phase
   phase_on held range (NotBuilding hand) known = hand_on range MakesNone hand known
   phase_on held range Vacant known = (none_on known.0, unset_on held range known.1)
+  phase_on held range Growing known = unset_on held range known
   phase_on held range (Evacuating m hand) known = (unset_on held range known.0, hand_on m MakesSame hand known.1)
   phase_on held range (Placing x) known = (unset_on held range known.0, placed_on range x known.1)
   phase_on held range (IsAt p hand) known = hand_on range (MakesUnited p) hand known
@@ -105,5 +106,5 @@ module _ (a : ℕ) (d : ℕ → ℕ → Bool) (w v : Board) (sound : IsSound w) 
     subst (λ n. KnowsHand v s (b / n) (IsAdded r) hand) (sym on.pages_per_range) (hand_on (range_of w b) (IsAdded r) hand known.2),
     settled_by_on b k r hand known.0 known.3,
   )
-  knows_on (Summarising range phase) spared known = (right_on known.0, phase_on known.0 range phase known.1)
-  knows_on (Scanning scan) spared known = (nothing_on known.0, λ b k sees. let row = known.1 b k sees in (row.0, row_on scan b k row.0 (spared b k sees) row.1))
+  knows_on (Maintaining range phase) spared known = (right_on known.0, phase_on known.0 range phase known.1)
+  knows_on (Scanning scan) spared known = (nothing_on known.0, (λ range x held. on.held range x (known.1 range x held)), λ b k sees. let row = known.2 b k sees in (row.0, row_on scan b k row.0 (spared b k sees) row.1))

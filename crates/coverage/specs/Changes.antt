@@ -94,10 +94,10 @@ pub record Names (s : ℕ) (w v : Board) (range : ℕ) (x : Spot) (t : Tuple) : 
 
 -- A building session takes up a placeholder that it found, reads the extent, or adds all rows in use of the next block.
 pub data Turns (w : Board) (s range : ℕ) : Option Progress → Option Progress → Type 0 where
-  Begins : w.right ≡ Some s → Turns w s range None (Some ExtentUnread)
-  Reads : (extent : ℕ) (result : Row → Bool) → extent ≡ min w.blocks ((range + 1) * w.pages_per_range)
+  StartsBuilding : w.right ≡ Some s → Turns w s range None (Some ExtentUnread)
+  ReadsExtent : (extent : ℕ) (result : Row → Bool) → extent ≡ min w.blocks ((range + 1) * w.pages_per_range)
       → Turns w s range (Some ExtentUnread) (Some (Passing extent (range * w.pages_per_range) result))
-  Passes : (extent next : ℕ) (result wider : Row → Bool) → IsWithin result wider
+  PassesBlock : (extent next : ℕ) (result wider : Row → Bool) → IsWithin result wider
       → ((k : ℕ) (r : Row) → w.row next k ≡ Some r → IsTrue (wider r))
       → Turns w s range (Some (Passing extent next result)) (Some (Passing extent (next + 1) wider))
 

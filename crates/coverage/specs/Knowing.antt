@@ -4,7 +4,7 @@ use Rattle.block_model.specs.declared.row.Row.{Row}
 use Rattle.coverage.specs.Board.{Spot, Tuple, Progress, ExtentUnread, Passing, Board, range_of}
 use Rattle.coverage.specs.IsSettled.{IsAccounted, Shows}
 use Rattle.coverage.specs.GoesOn.{IsHeld}
-use Rattle.coverage.specs.Statements.{Hand, Empty, Held, Copied, Moving, Dropping, Phase, NotBuilding, Vacant, Evacuating, Placing, IsAt, Scan, Statement, Idle, Inserting, Summarising, Scanning, IsAdded, IsUnited}
+use Rattle.coverage.specs.Statements.{Hand, Empty, Held, Copied, Moving, Dropping, Phase, NotBuilding, Vacant, Growing, Evacuating, Placing, IsAt, Scan, Statement, Idle, Inserting, Maintaining, Scanning, IsAdded, IsUnited}
 
 -- the session locks no page: so it is between steps, but in a put, a move or a clear
 abbrev pub LocksNone : Board → ℕ → Type 0
@@ -50,6 +50,7 @@ HasPlaced w s range x = (w.lock x.block ≡ Some s) × ((t : Tuple) × (w.tuple 
 abbrev pub KnowsPhase : Board → ℕ → ℕ → Phase → Type 0
 KnowsPhase w s range (NotBuilding hand) = KnowsHand w s range MakesNone hand
 KnowsPhase w s range Vacant = LocksNone w s × (w.entry range ≡ None)
+KnowsPhase w s range Growing = w.entry range ≡ None
 KnowsPhase w s range (Evacuating m hand) = (w.entry range ≡ None) × KnowsHand w s m MakesSame hand
 KnowsPhase w s range (Placing x) = (w.entry range ≡ None) × HasPlaced w s range x
 KnowsPhase w s range (IsAt p hand) = KnowsHand w s range (MakesUnited p) hand
@@ -65,12 +66,13 @@ pub record KnowsRow (w : Board) (scan : Scan) (b k : ℕ) (r : Row) : Type 0 whe
 abbrev pub Knows : Board → ℕ → Statement → Type 0
 Knows w s Idle = HoldsNothing w s
 Knows w s (Inserting b k r hand) = (w.row b k ≡ Some r) × (w.right ≢ Some s) × KnowsHand w s (range_of w b) (IsAdded r) hand × SettledBy w b r hand
-Knows w s (Summarising range phase) = (w.right ≡ Some s) × KnowsPhase w s range phase
-Knows w s (Scanning scan) = HoldsNothing w s × ((b k : ℕ) → IsTrue (scan.sees b k) → (r : Row) × KnowsRow w scan b k r)
+Knows w s (Maintaining range phase) = (w.right ≡ Some s) × KnowsPhase w s range phase
+Knows w s (Scanning scan) = HoldsNothing w s × ((range : ℕ) (x : Spot) → scan.held ≡ Some (range, x) → IsHeld w range x)
+    × ((b k : ℕ) → IsTrue (scan.sees b k) → (r : Row) × KnowsRow w scan b k r)
 
 -- the places of dropped rows are none that the statement sees, or has put
 abbrev pub Spares : (ℕ → ℕ → Bool) → Statement → Type 0
 Spares dropped Idle = Unit
 Spares dropped (Inserting b k r hand) = IsTrue (dropped b k) → ⊥
-Spares dropped (Summarising range phase) = Unit
+Spares dropped (Maintaining range phase) = Unit
 Spares dropped (Scanning scan) = (b k : ℕ) → IsTrue (scan.sees b k) → IsTrue (dropped b k) → ⊥

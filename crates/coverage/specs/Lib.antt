@@ -5,3 +5,5 @@ pub mod GoesOn
 pub mod Changes
 pub mod Statements
 pub mod Knowing
+pub mod IsCovered
+pub mod Steps

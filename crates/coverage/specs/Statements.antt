@@ -13,11 +13,12 @@ pub data Hand : Type 0 where
   Moving : Spot → Spot → Tuple → Tuple → Hand
   Dropping : Spot → Hand
 
--- Where a summariser is with its range: not building; it read that the map has no entry; it makes room in the map and moves
--- a tuple of another range; it has put a placeholder that isn't named; it is building.
+-- Where a maintenance statement is with its range: not building; it read that the map has no entry; the map grows, and a page
+-- is locked for it; a page is emptied for the map, and a tuple of another range moves; its placeholder is put and isn't named; it is building.
 pub data Phase : Type 0 where
   NotBuilding : Hand → Phase
   Vacant : Phase
+  Growing : Phase
   Evacuating : ℕ → Hand → Phase
   Placing : Spot → Phase
   IsAt : Progress → Hand → Phase
@@ -36,7 +37,8 @@ pub data Statement : Type 0 where
   Idle : Statement
   -- the row stands at block and slot, and the index isn't complete
   Inserting : ℕ → ℕ → Row → Hand → Statement
-  Summarising : ℕ → Phase → Statement
+  -- the holder of the summarise lock, at this range: summarise, desummarise, vacuum or a queued request
+  Maintaining : ℕ → Phase → Statement
   Scanning : Scan → Statement
 
 -- the loose tuple of a hand
@@ -50,6 +52,7 @@ loose_in (Dropping x) = Some x
 abbrev pub loose_at : Phase → Option Spot
 loose_at (NotBuilding hand) = loose_in hand
 loose_at Vacant = None
+loose_at Growing = None
 loose_at (Evacuating m hand) = loose_in hand
 loose_at (Placing x) = Some x
 loose_at (IsAt p hand) = loose_in hand
@@ -57,13 +60,14 @@ loose_at (IsAt p hand) = loose_in hand
 abbrev pub loose_of : Statement → Option Spot
 loose_of Idle = None
 loose_of (Inserting b k r hand) = loose_in hand
-loose_of (Summarising range phase) = loose_at phase
+loose_of (Maintaining range phase) = loose_at phase
 loose_of (Scanning scan) = None
 
 -- a summariser is building from the put of its placeholder on, or from where it found one
 abbrev pub building_at : ℕ → Phase → Option Building
 building_at range (NotBuilding hand) = None
 building_at range Vacant = None
+building_at range Growing = None
 building_at range (Evacuating m hand) = None
 building_at range (Placing x) = Some (record { range = range; progress = ExtentUnread })
 building_at range (IsAt p hand) = Some (record { range = range; progress = p })
@@ -71,7 +75,7 @@ building_at range (IsAt p hand) = Some (record { range = range; progress = p })
 abbrev pub building_of : Statement → Option Building
 building_of Idle = None
 building_of (Inserting b k r hand) = None
-building_of (Summarising range phase) = building_at range phase
+building_of (Maintaining range phase) = building_at range phase
 building_of (Scanning scan) = None
 
 -- the new tuple is the old one with the row added

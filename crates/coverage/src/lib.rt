@@ -12,6 +12,7 @@ ghost use Rattle.coverage.specs.IsSound.{IsSound};
 ghost use Rattle.coverage.specs.GoesOn.{GoesOn, IsHeld};
 ghost use Rattle.coverage.specs.Changes.{PutsRow, Places, Names, Turn, IsFree, Swaps, MovePuts, MoveSets, DropsLoose, Clears, Sweeps, Prunes, Takes, Ends, TurnsLocks};
 ghost use Rattle.coverage.specs.Statements.{Statement};
+ghost use Rattle.coverage.specs.IsCovered.{IndexState, IsCovered, IsKept};
 ghost use Rattle.coverage.specs.Knowing.{LocksNone, Knows, Spares};
 
 /// Each kind of change leaves the index sound.
@@ -61,4 +62,9 @@ pub fn knowledge_is_stable()
     ensures kept { (a : ℕ) (d : ℕ → ℕ → Bool) (w v : Board) (s : ℕ) (statement : Statement) → IsSound w → GoesOn a d w v → s ≢ a → Spares d statement → Knows w s statement → Knows v s statement }
     ensures placeholder { (a : ℕ) (d : ℕ → ℕ → Bool) (w v : Board) (s range : ℕ) → IsSound w → GoesOn a d w v → s ≢ a → w.right ≡ Some s → NamesPlaceholder w range → NamesPlaceholder v range }
     ensures compared { (w : Board) (s range : ℕ) (x : Spot) (t : Tuple) → IsSound w → IsHeld w range x → w.tuple x ≡ Some t → t.range ≡ range → IsFree w s x.block → LocksNone w s → w.entry range ≡ Some x }
+{}
+
+/// An index that every step keeps so is covered.
+pub fn kept_is_covered()
+    ensures covered { (w : IndexState) → IsKept w → IsCovered w }
 {}
