@@ -5,3 +5,5 @@ pub mod OthersGoOn
 pub mod Settled
 pub mod Stable
 pub mod Covered
+pub mod HandSteps
+pub mod InsertSteps
