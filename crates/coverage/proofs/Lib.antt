@@ -7,3 +7,4 @@ pub mod Stable
 pub mod Covered
 pub mod HandSteps
 pub mod InsertSteps
+pub mod MaintainSteps

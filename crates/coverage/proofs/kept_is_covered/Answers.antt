@@ -1,5 +1,5 @@
 use Rattle.coverage.proofs.Covered.{kept_covered}
-use Rattle.coverage.proofs.InsertSteps.{insert_outcome}
+use Rattle.coverage.proofs.MaintainSteps.{maintain_left}
 use Rattle.coverage.proofs.kept_is_covered.Goals as goal
 
 pub returns : goal.returns
