@@ -15,13 +15,11 @@ use Rattle.coverage.specs.Knowing.{LocksNone, HoldsNothing, KnowsHand, SettledBy
 use Rattle.std.specs.Prelude.{List, [], ◌∷◌}
 use Rattle.coverage.specs.IsCovered.{IndexState, board, HandHolds, PhaseHolds, Holds, IsCovered, IsKept}
 use Rattle.coverage.specs.Steps.{OwnLocks, Looks, Reads, PutsTuple, ReplacesTuple, SetsEntry, ClearsEntry, DropsTuple, IsGone, HandStep, Maps, Gone, Copies, Again, MovePut, InsertStep, InsertHand, InsertNoEntry, InsertUnchanged, InsertSwap, InsertSet, InsertDrop, MaintainStep, Look, NoEntry as ReadNoEntry, IsFinal, Found, Put, Set, Extent, Pass, Unite, SwapFinal, SetFinal, DropOld, Clear, Grow, Grown, Flag, EvacuatePut, EvacuateSet, EvacuateDrop, Evacuated, Excludes, ScanStep, ScanMap, ScanOn, ScanDrops, ScanPage, Turned, SameCounts, RowPut, RightPasses, ScanBegins, Step, PutRow, Insert, Refused, TakeRight, Maintain, NextRange, GiveRight, BeginScan, Scans, EndScan, Counts, Run, Done, Next}
-
 use Rattle.coverage.proofs.Sound.{puts_row_sound, places_sound, names_sound, turn_sound, swaps_sound, move_puts_sound, move_sets_sound, drops_sound, clears_sound, sweeps_sound, prunes_sound, takes_sound, ends_sound, turns_locks_sound}
 use Rattle.coverage.proofs.Carried.{swaps_go_on, move_puts_go_on, move_sets_go_on}
 use Rattle.coverage.proofs.BuildingGoesOn.{turn_go_on, places_go_on, names_go_on}
 use Rattle.coverage.proofs.OthersGoOn.{puts_row_go_on, drops_go_on, clears_go_on, sweeps_go_on, prunes_go_on, takes_go_on, ends_go_on, turns_locks_go_on}
 use Rattle.coverage.proofs.Stable.{held_named}
-
 
 abbrev pub never : ℕ → ℕ → Bool
 never b k = false
@@ -32,10 +30,12 @@ Both s w v = IsSound v × GoesOn s never w v
 
 module _ (s : ℕ) (w v : IndexState) (d e : Statement) (turned : Turned s w v d e) where
   pub loose_same : loose_of e ≡ loose_of d → SameLoose (board w) (board v)
-  loose_same same = record { loose = λ n. ⊎_elim
-      (λ (is : n ≡ s). ap (λ m. loose_of (v.statement m)) is ∙ ap loose_of turned.now ∙ same ∙ sym (ap loose_of turned.was) ∙ ap (λ m. loose_of (w.statement m)) (sym is))
-      (λ (is : v.statement n ≡ w.statement n). ap loose_of is)
-      (turned.others n) }
+  loose_same same = record {
+    loose = λ n. ⊎_elim
+        (λ (is : n ≡ s). ap (λ m. loose_of (v.statement m)) is ∙ ap loose_of turned.now ∙ same ∙ sym (ap loose_of turned.was) ∙ ap (λ m. loose_of (w.statement m)) (sym is))
+        (λ (is : v.statement n ≡ w.statement n). ap loose_of is)
+        (turned.others n);
+  }
 
   pub loose_turns : (o p : Option Spot) → loose_of d ≡ o → loose_of e ≡ p → ChangesAt (λ n. loose_of (w.statement n)) (λ n. loose_of (v.statement n)) s o p
   loose_turns o p was now = record {

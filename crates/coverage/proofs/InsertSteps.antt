@@ -21,7 +21,6 @@ use Rattle.coverage.proofs.OthersGoOn.{puts_row_go_on, clears_go_on, sweeps_go_o
 use Rattle.coverage.proofs.Stable.{held_named, knows_on}
 use Rattle.coverage.proofs.HandSteps.{never, Both, loose_same, loose_turns, building_same, building_turns, may_end, locks_by, nothing_loose, loose_locked, looks_both, drop_both, copied_named, swap_both, set_both, set_unnamed, set_knows, put_both, put_knows, hand_step}
 
-
 -- an insert that is done has its row settled, if that still counts
 abbrev pub SettledOrOn : Board → (ℕ → Bool) → Statement → Statement → Type 0
 SettledOrOn v counts Idle new = Unit

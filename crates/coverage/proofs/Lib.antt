@@ -8,3 +8,4 @@ pub mod Covered
 pub mod HandSteps
 pub mod InsertSteps
 pub mod MaintainSteps
+pub mod Runs

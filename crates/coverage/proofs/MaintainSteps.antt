@@ -14,13 +14,12 @@ use Rattle.coverage.specs.Statements.{Hand, Empty, Held, Copied, Moving, Droppin
 use Rattle.coverage.specs.Knowing.{LocksNone, HoldsNothing, KnowsHand, SettledBy, MakesUnited, MakesNone, MakesSame, HasPlaced, KnowsPhase, KnowsRow, Knows, Spares}
 use Rattle.std.specs.Prelude.{List, [], ◌∷◌}
 use Rattle.coverage.specs.IsCovered.{IndexState, board, HandHolds, PhaseHolds, Holds, IsCovered, IsKept}
-use Rattle.coverage.specs.Steps.{OwnLocks, Looks, Reads, PutsTuple, ReplacesTuple, SetsEntry, ClearsEntry, DropsTuple, IsGone, HandStep, Maps, Gone, Copies, Again, MovePut, InsertStep, InsertHand, InsertNoEntry, InsertUnchanged, InsertSwap, InsertSet, InsertDrop, MaintainStep, Look, NoEntry as ReadNoEntry, IsFinal, Found, Put, Set, Extent, Pass, Unite, SwapFinal, SetFinal, DropOld, Clear, Grow, Grown, Flag, EvacuatePut, EvacuateSet, EvacuateDrop, Evacuated, Excludes, ScanStep, ScanMap, ScanOn, ScanDrops, ScanPage, Turned, SameCounts, RowPut, RightPasses, ScanBegins, Step, PutRow, Insert, Refused, TakeRight, Maintain, NextRange, GiveRight, BeginScan, Scans, EndScan, Counts, Run, Done, Next}
+use Rattle.coverage.specs.Steps.{OwnLocks, Looks, Reads, PutsTuple, ReplacesTuple, SetsEntry, ClearsEntry, DropsTuple, SweepsTuple, RowsDropped, IsGone, HandStep, Maps, Gone, Copies, Again, MovePut, InsertStep, InsertHand, InsertNoEntry, InsertUnchanged, InsertSwap, InsertSet, InsertDrop, MaintainStep, Look, NoEntry as ReadNoEntry, IsFinal, Found, Put, Set, Extent, Pass, Unite, SwapFinal, SetFinal, DropOld, Clear, Sweep, Grow, Grown, Flag, EvacuatePut, EvacuateSet, EvacuateDrop, EvacuateSweep, Evacuated, Excludes, ScanStep, ScanMap, ScanOn, ScanDrops, ScanPage, Turned, SameCounts, RowPut, RightPasses, ScanBegins, Step, PutRow, Insert, Refused, TakeRight, Maintain, Prune, NextRange, GiveRight, BeginScan, Scans, EndScan, Counts, Run, Done, Next}
 use Rattle.coverage.proofs.Sound.{puts_row_sound, places_sound, names_sound, turn_sound, clears_sound, sweeps_sound, prunes_sound, takes_sound, ends_sound, turns_locks_sound}
 use Rattle.coverage.proofs.BuildingGoesOn.{turn_go_on, places_go_on, names_go_on}
 use Rattle.coverage.proofs.OthersGoOn.{puts_row_go_on, clears_go_on, sweeps_go_on, prunes_go_on, takes_go_on, ends_go_on, turns_locks_go_on}
 use Rattle.coverage.proofs.Stable.{held_named, knows_on}
 use Rattle.coverage.proofs.HandSteps.{never, Both, loose_same, loose_turns, building_same, building_turns, may_end, locks_by, nothing_loose, loose_locked, looks_both, drop_both, copied_named, swap_both, set_both, set_unnamed, set_knows, put_both, put_knows, hand_step}
-
 use Rattle.coverage.proofs.InsertSteps.{hand_right}
 
 makes_none : (w : Board) (s range : ℕ) (old new : Tuple) → MakesNone old new → (new.range ≡ old.range) × Carries w s range old new
@@ -80,9 +79,11 @@ module _ (s range : ℕ) (w v : IndexState) (sound : IsSound (board w)) (right :
         map = puts.map;
         orphans = puts.orphans;
         locks = locks_by s w v (Maintaining range Vacant) (Maintaining range (Placing x)) turned puts.locks (loose_locked s w v (Maintaining range Vacant) (Maintaining range (Placing x)) turned x refl puts.locked);
-      } in
-      ((places_sound s (board w) (board v) x t sound kind, places_go_on s never (board w) (board v) x t sound kind), puts.right ∙ right,
-      (puts.map.entry range ∙ none, (puts.locked, (t, puts.tuple.now, of, flag))))
+      } in (
+        (places_sound s (board w) (board v) x t sound kind, places_go_on s never (board w) (board v) x t sound kind),
+        puts.right ∙ right,
+        (puts.map.entry range ∙ none, (puts.locked, (t, puts.tuple.now, of, flag))),
+      )
 
   set : (x : Spot) → Turned s w v (Maintaining range (Placing x)) (Maintaining range (IsAt ExtentUnread Empty)) → SetsEntry s (board w) (board v) range x → LocksNone (board v) s
       → KnowsPhase (board w) s range (Placing x) → Left (IsAt ExtentUnread Empty)
@@ -116,9 +117,11 @@ module _ (s range : ℕ) (w v : IndexState) (sound : IsSound (board w)) (right :
         work = record { building = building_same s w v (Maintaining range (NotBuilding (Held x))) (Maintaining range (NotBuilding (Dropping x))) turned refl; right = clears.right };
         locks = locks_by s w v (Maintaining range (NotBuilding (Held x))) (Maintaining range (NotBuilding (Dropping x))) turned clears.locks
             (loose_locked s w v (Maintaining range (NotBuilding (Held x))) (Maintaining range (NotBuilding (Dropping x))) turned x refl clears.locked);
-      } in
-      ((clears_sound s (board w) (board v) range x sound kind, clears_go_on s never (board w) (board v) range x sound kind), clears.right ∙ right,
-      (clears.locked, unnamed, (there.0, clears.tuples.tuple x ∙ there.1)))
+      } in (
+        (clears_sound s (board w) (board v) range x sound kind, clears_go_on s never (board w) (board v) range x sound kind),
+        clears.right ∙ right,
+        (clears.locked, unnamed, (there.0, clears.tuples.tuple x ∙ there.1)),
+      )
     where
       there : (t : Tuple) × (w.tuple x ≡ Some t) × (t.range ≡ range)
       there = sound.entries_name_tuples range x clears.entry.was
@@ -131,6 +134,29 @@ module _ (s range : ℕ) (w v : IndexState) (sound : IsSound (board w)) (right :
           let at : m ≡ range = sym t.2 ∙ ap (λ (u : Tuple). u.range) (same_Some _ _ (sym t.1 ∙ there.1)) ∙ there.2 in
           none-some _ (sym clears.entry.now ∙ ap v.entry (sym at) ∙ is))
           (clears.entry.others m)
+
+  sweep : (phase : Phase) (x : Spot) (t : Tuple) → Turned s w v (Maintaining range phase) (Maintaining range phase) → loose_at phase ≡ None → SweepsTuple s (board w) (board v) x t → KnowsPhase (board v) s range phase → Left phase
+  sweep phase x t turned none sweeps knows =
+      let kind : Sweeps s (board w) (board v) x = record {
+        now = sweeps.now;
+        others = sweeps.others;
+        gone = sweeps.gone;
+        kept = sweeps.kept;
+        unnamed = unnamed;
+        free = sweeps.free;
+        loose = loose_same s w v (Maintaining range phase) (Maintaining range phase) turned refl;
+        heap = sweeps.heap;
+        map = sweeps.map;
+        work = record { building = building_same s w v (Maintaining range phase) (Maintaining range phase) turned refl; right = sweeps.right };
+        locks = locks_by s w v (Maintaining range phase) (Maintaining range phase) turned sweeps.locks (nothing_loose s w v (Maintaining range phase) (Maintaining range phase) turned none);
+      } in
+      ((sweeps_sound s (board w) (board v) x sound kind, sweeps_go_on s never (board w) (board v) x sound kind), sweeps.right ∙ right, knows)
+    where
+      unnamed : (m : ℕ) → w.entry m ≢ Some x
+      unnamed m is =
+          let by_map = sound.entries_name_tuples m x is in
+          let of : t.range ≡ m = ap (λ (u : Tuple). u.range) (same_Some _ _ (sym sweeps.was ∙ by_map.1)) ∙ by_map.2 in
+          sweeps.unnamed (ap w.entry of ∙ is)
 
   building_here : (p : Progress) (hand : Hand) → w.statement s ≡ Maintaining range (IsAt p hand) → IsBuilding (board w) s range p
   building_here p hand was = ap building_of was
@@ -177,8 +203,7 @@ module _ (s range : ℕ) (w v : IndexState) (sound : IsSound (board w)) (right :
   maintain_left _ _ (Flag m reads) turned known = read Vacant (Evacuating m Empty) turned refl refl refl reads.looks (reads.looks.map.entry range ∙ known.1, reads.none)
   maintain_left _ _ (EvacuatePut m n x y t named here free puts locked) turned known =
       let by_map = sound.entries_name_tuples n x named in
-      let of : t.range ≡ n = ap (λ (u : Tuple). u.range) (same_Some _ _ (sym here ∙ by_map.1)) ∙ by_map.2 in
-      (
+      let of : t.range ≡ n = ap (λ (u : Tuple). u.range) (same_Some _ _ (sym here ∙ by_map.1)) ∙ by_map.2 in (
         put_both s w v (Maintaining range (Evacuating m Empty)) (Maintaining range (Evacuating n (Moving x y t t))) turned sound n MakesSame (makes_same (board w) s n) x y t t named here of refl refl refl refl puts,
         puts.right ∙ right,
         (
@@ -203,4 +228,6 @@ module _ (s range : ℕ) (w v : IndexState) (sound : IsSound (board w)) (right :
     drops.right ∙ right,
     (drops.map.entry range ∙ known.0, drops.none),
   )
+  maintain_left _ _ (Sweep x t sweeps) turned known = sweep (NotBuilding Empty) x t turned refl sweeps sweeps.none
+  maintain_left _ _ (EvacuateSweep m x t sweeps) turned known = sweep (Evacuating m Empty) x t turned refl sweeps (sweeps.map.entry range ∙ known.0, sweeps.none)
   maintain_left _ _ (Evacuated m looks) turned known = read (Evacuating m Empty) Growing turned refl refl refl looks (looks.map.entry range ∙ known.0)

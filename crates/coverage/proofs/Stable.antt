@@ -13,7 +13,6 @@ use Rattle.coverage.specs.Changes.{ChangesAt, SameHeap, SameMap, SameTuples, Sam
 use Rattle.coverage.specs.Statements.{Hand, Empty, Held, Copied, Moving, Dropping, Phase, NotBuilding, Vacant, Growing, Evacuating, Placing, IsAt, Scan, Statement, Idle, Inserting, Maintaining, Scanning, IsAdded, IsUnited, loose_in, loose_at, loose_of, building_at, building_of}
 use Rattle.coverage.specs.Knowing.{LocksNone, HoldsNothing, KnowsHand, SettledBy, MakesUnited, MakesNone, MakesSame, HasPlaced, KnowsPhase, KnowsRow, Knows, Spares}
 
-
 -- Where nobody else locks the page and the session locks none, a tuple of the range at a spot that it holds is the one that the map names.
 pub held_named : (w : Board) (s range : ℕ) (x : Spot) (t : Tuple) → IsSound w → IsHeld w range x → w.tuple x ≡ Some t → t.range ≡ range → IsFree w s x.block → LocksNone w s → w.entry range ≡ Some x
 held_named w s range x t sound held here of free none = ⊎_elim

@@ -80,6 +80,21 @@ pub record DropsTuple (s : ℕ) (w v : Board) (x : Spot) : Type 0 where
   pub locks : OwnLocks s w v
   pub none : LocksNone v s
 
+-- a tuple that the map doesn't name is judged and dropped at once, on a page that no other locks
+pub record SweepsTuple (s : ℕ) (w v : Board) (x : Spot) (t : Tuple) : Type 0 where
+  pub was : w.tuple x ≡ Some t
+  pub unnamed : w.entry t.range ≢ Some x
+  pub now : v.tuple x ≡ None
+  pub others : (y : Spot) → (y ≡ x) ⊎ (v.tuple y ≡ w.tuple y)
+  pub gone : v.orphan x ≡ false
+  pub kept : (y : Spot) → (y ≡ x) ⊎ (v.orphan y ≡ w.orphan y)
+  pub free : IsFree w s x.block
+  pub heap : SameHeap w v
+  pub map : SameMap w v
+  pub right : v.right ≡ w.right
+  pub locks : OwnLocks s w v
+  pub none : LocksNone v s
+
 -- no tuple of the range stands there
 abbrev pub IsGone : Board → ℕ → Spot → Type 0
 IsGone w range x = (t : Tuple) → w.tuple x ≡ Some t → t.range ≢ range
@@ -128,6 +143,8 @@ pub data MaintainStep (s range : ℕ) (w v : Board) : Phase → Phase → Type 0
   DropOld : (x : Spot) → DropsTuple s w v x → MaintainStep s range w v (NotBuilding (Dropping x)) (NotBuilding Empty)
   -- desummarise takes the entry out of the map
   Clear : (x : Spot) → ClearsEntry s w v range x → MaintainStep s range w v (NotBuilding (Held x)) (NotBuilding (Dropping x))
+  -- vacuum drops an unnamed tuple
+  Sweep : (x : Spot) (t : Tuple) → SweepsTuple s w v x t → MaintainStep s range w v (NotBuilding Empty) (NotBuilding Empty)
   -- the map grows onto a page, which is emptied first: each of its tuples moves unchanged
   Grow : Looks s w v → MaintainStep s range w v Vacant Growing
   Grown : Reads s w v → MaintainStep s range w v Growing Vacant
@@ -137,6 +154,7 @@ pub data MaintainStep (s range : ℕ) (w v : Board) : Phase → Phase → Type 0
   EvacuateSet : (m : ℕ) (x y : Spot) (t u : Tuple) → SetsEntry s w v m y → v.lock x.block ≡ Some s
       → MaintainStep s range w v (Evacuating m (Moving x y t u)) (Evacuating m (Dropping x))
   EvacuateDrop : (m : ℕ) (x : Spot) → DropsTuple s w v x → MaintainStep s range w v (Evacuating m (Dropping x)) (Evacuating m Empty)
+  EvacuateSweep : (m : ℕ) (x : Spot) (t : Tuple) → SweepsTuple s w v x t → MaintainStep s range w v (Evacuating m Empty) (Evacuating m Empty)
   Evacuated : (m : ℕ) → Looks s w v → MaintainStep s range w v (Evacuating m Empty) Growing
 
 -- a tuple that doesn't keep the query is final and includes no row that matches
@@ -182,6 +200,19 @@ pub record RowPut (s : ℕ) (w v : Board) (b k : ℕ) (r : Row) : Type 0 where
   pub orphans : SameOrphans w v
   pub right : v.right ≡ w.right
   pub locks : OwnLocks s w v
+  pub none : LocksNone v s
+
+-- rows at these places are dropped
+pub record RowsDropped (s : ℕ) (dropped : ℕ → ℕ → Bool) (w v : Board) : Type 0 where
+  pub row : (b k : ℕ) → (v.row b k ≡ w.row b k) ⊎ (IsTrue (dropped b k) × (v.row b k ≡ None))
+  pub pages_per_range : v.pages_per_range ≡ w.pages_per_range
+  pub blocks : v.blocks ≡ w.blocks
+  pub map : SameMap w v
+  pub tuples : SameTuples w v
+  pub orphans : SameOrphans w v
+  pub right : v.right ≡ w.right
+  pub locks : OwnLocks s w v
+  pub none : LocksNone v s
 
 -- the summarise lock passes from one to the other, and no page changes
 pub record RightPasses (s : ℕ) (w v : Board) (old new : Option ℕ) : Type 0 where
@@ -212,6 +243,9 @@ pub data Step (s : ℕ) (w v : IndexState) : Type 0 where
   TakeRight : (range : ℕ) → Turned s w v Idle (Maintaining range (NotBuilding Empty)) → RightPasses s (board w) (board v) None (Some s) → SameCounts w v → Step s w v
   Maintain : (range : ℕ) (old new : Phase) → Turned s w v (Maintaining range old) (Maintaining range new)
       → MaintainStep s range (board w) (board v) old new → SameCounts w v → Step s w v
+  -- vacuum drops rows that no other statement sees or has put
+  Prune : (range : ℕ) (dropped : ℕ → ℕ → Bool) → ((n : ℕ) → n ≢ s → Spares dropped (w.statement n))
+      → Turned s w v (Maintaining range (NotBuilding Empty)) (Maintaining range (NotBuilding Empty)) → RowsDropped s dropped (board w) (board v) → SameCounts w v → Step s w v
   NextRange : (range m : ℕ) → Turned s w v (Maintaining range (NotBuilding Empty)) (Maintaining m (NotBuilding Empty)) → Reads s (board w) (board v) → SameCounts w v → Step s w v
   -- the reply, or a refusal: what was being built stays a placeholder
   GiveRight : (range : ℕ) (phase : Phase) → loose_at phase ≡ None → Turned s w v (Maintaining range phase) Idle → RightPasses s (board w) (board v) (Some s) None → SameCounts w v → Step s w v

@@ -4,7 +4,7 @@
 // A layer above shows of each of its steps which kind of change it is, and has the rest from here.
 #![tactic(auto)]
 
-ghost use Rattle.std.specs.Prelude.{◌≡◌, ◌≢◌, ℕ, Bool, Option, Some};
+ghost use Rattle.std.specs.Prelude.{◌≡◌, ◌≢◌, ℕ, Bool, Option, Some, List};
 ghost use Rattle.block_model.specs.declared.row.Row.{Row};
 ghost use Rattle.coverage.specs.Board.{Board, Spot, Tuple, Progress, NamesPlaceholder};
 ghost use Rattle.coverage.specs.IsSettled.{IsSettled, IsAccounted};
@@ -13,6 +13,7 @@ ghost use Rattle.coverage.specs.GoesOn.{GoesOn, IsHeld};
 ghost use Rattle.coverage.specs.Changes.{PutsRow, Places, Names, Turn, IsFree, Swaps, MovePuts, MoveSets, DropsLoose, Clears, Sweeps, Prunes, Takes, Ends, TurnsLocks};
 ghost use Rattle.coverage.specs.Statements.{Statement};
 ghost use Rattle.coverage.specs.IsCovered.{IndexState, IsCovered, IsKept};
+ghost use Rattle.coverage.specs.Steps.{Run};
 ghost use Rattle.coverage.specs.Knowing.{LocksNone, Knows, Spares};
 
 /// Each kind of change leaves the index sound.
@@ -64,7 +65,8 @@ pub fn knowledge_is_stable()
     ensures compared { (w : Board) (s range : ℕ) (x : Spot) (t : Tuple) → IsSound w → IsHeld w range x → w.tuple x ≡ Some t → t.range ≡ range → IsFree w s x.block → LocksNone w s → w.entry range ≡ Some x }
 {}
 
-/// An index that every step keeps so is covered.
-pub fn kept_is_covered()
+/// Whatever the sessions do, in any interleaving: what an index rests on is kept, and the index is covered.
+pub fn index_stays_covered()
+    ensures kept { (steps : List ℕ) (w v : IndexState) → IsKept w → Run steps w v → IsKept v }
     ensures covered { (w : IndexState) → IsKept w → IsCovered w }
 {}
