@@ -1,15 +1,14 @@
 -- A tuple that carries another: in its place, or by a move.
-use Rattle.std.proofs.Common.{◌≡◌, ◌≢◌, ◌⊎◌, inl, inr, ⊎_elim, ℕ, ◌+◌, ◌*◌, ◌/◌, ◌≤◌, ◌<◌, min, Option, Some, None, Bool, true, false, sym, ◌∙◌, ap, subst, arith, rules}
-use Rattle.std.specs.Prelude.{refl, IsTrue}
+use Rattle.std.proofs.Common.{◌≡◌, ◌⊎◌, inl, inr, ⊎_elim, ℕ, ◌/◌, ◌≤◌, ◌<◌, Some, None, Bool, true, false, sym, ◌∙◌, ap, subst, arith, rules}
+use Rattle.std.specs.Prelude.{IsTrue}
 use Rattle.std.proofs.lemmas.Option.{same_Some, none-some}
-use Rattle.std.proofs.lemmas.Bool.{cases_eq, false≢true}
-use Rattle.std.proofs.lemmas.Grind.{common_steps}
+use Rattle.std.proofs.lemmas.Bool.{false≢true}
 use Rattle.block_model.specs.declared.row.Row.{Row}
-use Rattle.coverage.specs.Board.{Spot, Tuple, Progress, ExtentUnread, Passing, Building, Board, range_of, IsBuilding, NamesTuple, NamesPlaceholder}
-use Rattle.coverage.specs.IsSettled.{IsAhead, IsInResult, IsSettled, NoEntry, FinalIncludes, PlaceholderIncludes, NobodyBuilding, ResultIncludes, AheadOfPass, IsAwaited, AllAwait, IsAccounted, Shows}
-use Rattle.coverage.specs.IsSound.{IsOrphan, IsSound}
-use Rattle.coverage.specs.GoesOn.{IsHeld, GoesOn}
-use Rattle.coverage.specs.Changes.{ChangesAt, SameHeap, SameMap, SameTuples, SameOrphans, SameLoose, SameWork, IsWithin, LocksBy, IsFree, at_work, Turns, StartsBuilding, ReadsExtent, PassesBlock, Carries, MayEnd, PutsRow, Places, Names, Turn, Swaps, MovePuts, MoveSets, DropsLoose, Clears, Sweeps, Prunes, Takes, Ends, TurnsLocks}
+use Rattle.coverage.specs.Board.{Spot, Tuple, Passing, Board, range_of, IsBuilding, NamesPlaceholder}
+use Rattle.coverage.specs.IsSettled.{AllAwait, IsAccounted, Shows}
+use Rattle.coverage.specs.IsSound.{IsSound}
+use Rattle.coverage.specs.GoesOn.{GoesOn}
+use Rattle.coverage.specs.Changes.{IsWithin, Carries, MayEnd, Swaps, MovePuts, MoveSets}
 
 module _ (w : Board) (s range : ℕ) (x : Spot) (old new : Tuple) (entry : w.entry range ≡ Some x) (here : w.tuple x ≡ Some old) (carries : Carries w s range old new) (b : ℕ) (r : Row) (of : range ≡ range_of w b) where
   pub carried : IsAccounted w b r → IsTrue (new.includes r) ⊎ ((new.placeholder ≡ true) × AllAwait w b r)

@@ -1,20 +1,13 @@
 -- What every step keeps makes the index covered.
-use Rattle.std.proofs.Common.{◌≡◌, ◌≢◌, ◌⊎◌, inl, inr, ⊎_elim, ℕ, ◌+◌, ◌*◌, ◌/◌, ◌≤◌, ◌<◌, min, Option, Some, None, Bool, true, false, sym, ◌∙◌, ap, subst, arith, rules}
-use Rattle.std.specs.Prelude.{refl, IsTrue}
-use Rattle.std.proofs.lemmas.Option.{same_Some, none-some}
-use Rattle.std.proofs.lemmas.Bool.{cases_eq, false≢true}
-use Rattle.std.proofs.lemmas.Grind.{common_steps}
-use Rattle.block_model.specs.declared.row.Row.{Row}
-use Rattle.coverage.specs.Board.{Spot, Tuple, Progress, ExtentUnread, Passing, Building, Board, range_of, IsBuilding, NamesTuple, NamesPlaceholder}
-use Rattle.coverage.specs.IsSettled.{IsAhead, IsInResult, IsSettled, NoEntry, FinalIncludes, PlaceholderIncludes, NobodyBuilding, ResultIncludes, AheadOfPass, IsAwaited, AllAwait, IsAccounted, Shows}
-use Rattle.coverage.specs.IsSound.{IsOrphan, IsSound}
-use Rattle.coverage.specs.GoesOn.{IsHeld, GoesOn}
-use Rattle.coverage.specs.Changes.{ChangesAt, SameHeap, SameMap, SameTuples, SameOrphans, SameLoose, SameWork, IsWithin, LocksBy, IsFree, at_work, Turns, StartsBuilding, ReadsExtent, PassesBlock, Carries, MayEnd, PutsRow, Places, Names, Turn, Swaps, MovePuts, MoveSets, DropsLoose, Clears, Sweeps, Prunes, Takes, Ends, TurnsLocks}
-use Rattle.coverage.specs.Statements.{Hand, Empty, Held, Copied, Moving, Dropping, Phase, NotBuilding, Vacant, Growing, Evacuating, Placing, IsAt, Scan, Statement, Idle, Inserting, Maintaining, Scanning, IsAdded, IsUnited, loose_in, loose_at, loose_of, building_at, building_of}
-use Rattle.coverage.specs.Knowing.{LocksNone, HoldsNothing, KnowsHand, SettledBy, MakesUnited, MakesNone, MakesSame, HasPlaced, KnowsPhase, KnowsRow, Knows, Spares}
-use Rattle.std.specs.Prelude.{List, [], ◌∷◌}
+use Rattle.std.proofs.Common.{◌≡◌, ◌⊎◌, inl, inr, ⊎_elim, ℕ, Some, sym, ◌∙◌, ap, subst}
+use Rattle.std.specs.Prelude.{IsTrue}
+use Rattle.std.proofs.lemmas.Option.{same_Some}
+use Rattle.coverage.specs.Board.{Spot, Tuple, Board, range_of}
+use Rattle.coverage.specs.IsSettled.{IsAccounted}
+use Rattle.coverage.specs.GoesOn.{IsHeld}
+use Rattle.coverage.specs.Statements.{Hand, Empty, Held, Copied, Moving, Dropping, Phase, NotBuilding, Vacant, Growing, Evacuating, Placing, IsAt, Statement, Idle, Inserting, Maintaining, Scanning, IsAdded, loose_of}
+use Rattle.coverage.specs.Knowing.{KnowsHand, MakesUnited, MakesNone, MakesSame, KnowsPhase, Knows}
 use Rattle.coverage.specs.IsCovered.{IndexState, board, HandHolds, PhaseHolds, Holds, IsCovered, IsKept}
-use Rattle.coverage.specs.Steps.{OwnLocks, Looks, Reads, PutsTuple, ReplacesTuple, SetsEntry, ClearsEntry, DropsTuple, IsGone, HandStep, Maps, Gone, Copies, Again, MovePut, InsertStep, InsertHand, InsertNoEntry, InsertUnchanged, InsertSwap, InsertSet, InsertDrop, MaintainStep, Look, NoEntry as ReadNoEntry, IsFinal, Found, Put, Set, Extent, Pass, Unite, SwapFinal, SetFinal, DropOld, Clear, Grow, Grown, Flag, EvacuatePut, EvacuateSet, EvacuateDrop, Evacuated, Excludes, ScanStep, ScanMap, ScanOn, ScanDrops, ScanPage, Turned, SameCounts, RowPut, RightPasses, ScanBegins, Step, PutRow, Insert, Refused, TakeRight, Maintain, NextRange, GiveRight, BeginScan, Scans, EndScan, Counts, Run, Done, Next}
 use Rattle.coverage.proofs.Settled.{accounted_settled}
 
 hand_held : (w : Board) (s m : ℕ) (Makes : Tuple → Tuple → Type 0) (hand : Hand) → KnowsHand w s m Makes hand → (range : ℕ) (x : Spot) → HandHolds m hand range x → IsHeld w range x

@@ -1,24 +1,17 @@
 -- The steps towards a new tuple in the old one's place, for every statement that takes them.
-use Rattle.std.proofs.Common.{◌≡◌, ◌≢◌, ◌⊎◌, inl, inr, ⊎_elim, ℕ, ◌+◌, ◌*◌, ◌/◌, ◌≤◌, ◌<◌, min, Option, Some, None, Bool, true, false, sym, ◌∙◌, ap, subst, arith, rules}
-use Rattle.std.specs.Prelude.{refl, IsTrue}
+use Rattle.std.proofs.Common.{◌≡◌, ◌≢◌, inl, inr, ⊎_elim, ℕ, Option, Some, None, Bool, false, sym, ◌∙◌, ap, subst}
 use Rattle.std.proofs.lemmas.Option.{same_Some, none-some}
-use Rattle.std.proofs.lemmas.Bool.{cases_eq, false≢true}
-use Rattle.std.proofs.lemmas.Grind.{common_steps}
-use Rattle.block_model.specs.declared.row.Row.{Row}
-use Rattle.coverage.specs.Board.{Spot, Tuple, Progress, ExtentUnread, Passing, Building, Board, range_of, IsBuilding, NamesTuple, NamesPlaceholder}
-use Rattle.coverage.specs.IsSettled.{IsAhead, IsInResult, IsSettled, NoEntry, FinalIncludes, PlaceholderIncludes, NobodyBuilding, ResultIncludes, AheadOfPass, IsAwaited, AllAwait, IsAccounted, Shows}
-use Rattle.coverage.specs.IsSound.{IsOrphan, IsSound}
-use Rattle.coverage.specs.GoesOn.{IsHeld, GoesOn}
-use Rattle.coverage.specs.Changes.{ChangesAt, SameHeap, SameMap, SameTuples, SameOrphans, SameLoose, SameWork, IsWithin, LocksBy, IsFree, at_work, Turns, StartsBuilding, ReadsExtent, PassesBlock, Carries, MayEnd, PutsRow, Places, Names, Turn, Swaps, MovePuts, MoveSets, DropsLoose, Clears, Sweeps, Prunes, Takes, Ends, TurnsLocks}
-use Rattle.coverage.specs.Statements.{Hand, Empty, Held, Copied, Moving, Dropping, Phase, NotBuilding, Vacant, Growing, Evacuating, Placing, IsAt, Scan, Statement, Idle, Inserting, Maintaining, Scanning, IsAdded, IsUnited, loose_in, loose_at, loose_of, building_at, building_of}
-use Rattle.coverage.specs.Knowing.{LocksNone, HoldsNothing, KnowsHand, SettledBy, MakesUnited, MakesNone, MakesSame, HasPlaced, KnowsPhase, KnowsRow, Knows, Spares}
-use Rattle.std.specs.Prelude.{List, [], ◌∷◌}
-use Rattle.coverage.specs.IsCovered.{IndexState, board, HandHolds, PhaseHolds, Holds, IsCovered, IsKept}
-use Rattle.coverage.specs.Steps.{OwnLocks, Looks, Reads, PutsTuple, ReplacesTuple, SetsEntry, ClearsEntry, DropsTuple, IsGone, HandStep, Maps, Gone, Copies, Again, MovePut, InsertStep, InsertHand, InsertNoEntry, InsertUnchanged, InsertSwap, InsertSet, InsertDrop, MaintainStep, Look, NoEntry as ReadNoEntry, IsFinal, Found, Put, Set, Extent, Pass, Unite, SwapFinal, SetFinal, DropOld, Clear, Grow, Grown, Flag, EvacuatePut, EvacuateSet, EvacuateDrop, Evacuated, Excludes, ScanStep, ScanMap, ScanOn, ScanDrops, ScanPage, Turned, SameCounts, RowPut, RightPasses, ScanBegins, Step, PutRow, Insert, Refused, TakeRight, Maintain, NextRange, GiveRight, BeginScan, Scans, EndScan, Counts, Run, Done, Next}
-use Rattle.coverage.proofs.Sound.{puts_row_sound, places_sound, names_sound, turn_sound, swaps_sound, move_puts_sound, move_sets_sound, drops_sound, clears_sound, sweeps_sound, prunes_sound, takes_sound, ends_sound, turns_locks_sound}
+use Rattle.coverage.specs.Board.{Spot, Tuple, Building, Board}
+use Rattle.coverage.specs.IsSound.{IsSound}
+use Rattle.coverage.specs.GoesOn.{GoesOn}
+use Rattle.coverage.specs.Changes.{ChangesAt, SameLoose, LocksBy, IsFree, Carries, MayEnd, Swaps, MovePuts, MoveSets, DropsLoose, TurnsLocks}
+use Rattle.coverage.specs.Statements.{Hand, Copied, Moving, Dropping, Statement, loose_in, loose_of, building_of}
+use Rattle.coverage.specs.Knowing.{KnowsHand}
+use Rattle.coverage.specs.IsCovered.{IndexState, board}
+use Rattle.coverage.specs.Steps.{OwnLocks, Looks, PutsTuple, ReplacesTuple, SetsEntry, DropsTuple, HandStep, Maps, Gone, Copies, Again, MovePut, Turned}
+use Rattle.coverage.proofs.Sound.{swaps_sound, move_puts_sound, move_sets_sound, drops_sound, turns_locks_sound}
 use Rattle.coverage.proofs.Carried.{swaps_go_on, move_puts_go_on, move_sets_go_on}
-use Rattle.coverage.proofs.BuildingGoesOn.{turn_go_on, places_go_on, names_go_on}
-use Rattle.coverage.proofs.OthersGoOn.{puts_row_go_on, drops_go_on, clears_go_on, sweeps_go_on, prunes_go_on, takes_go_on, ends_go_on, turns_locks_go_on}
+use Rattle.coverage.proofs.OthersGoOn.{drops_go_on, turns_locks_go_on}
 use Rattle.coverage.proofs.Stable.{held_named}
 
 abbrev pub never : ℕ → ℕ → Bool

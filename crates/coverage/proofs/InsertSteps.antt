@@ -1,25 +1,20 @@
 -- What a step of an insert leaves.
-use Rattle.std.proofs.Common.{◌≡◌, ◌≢◌, ◌⊎◌, inl, inr, ⊎_elim, ℕ, ◌+◌, ◌*◌, ◌/◌, ◌≤◌, ◌<◌, min, Option, Some, None, Bool, true, false, sym, ◌∙◌, ap, subst, arith, rules}
+use Rattle.std.proofs.Common.{◌≡◌, ◌≢◌, ◌⊎◌, inl, inr, ⊎_elim, ℕ, ◌/◌, Some, Bool, sym, ◌∙◌, ap, subst}
 use Rattle.std.specs.Prelude.{refl, IsTrue}
 use Rattle.std.proofs.lemmas.Option.{same_Some, none-some}
-use Rattle.std.proofs.lemmas.Bool.{cases_eq, false≢true}
-use Rattle.std.proofs.lemmas.Grind.{common_steps}
+use Rattle.std.proofs.lemmas.Bool.{false≢true}
 use Rattle.block_model.specs.declared.row.Row.{Row}
-use Rattle.coverage.specs.Board.{Spot, Tuple, Progress, ExtentUnread, Passing, Building, Board, range_of, IsBuilding, NamesTuple, NamesPlaceholder}
-use Rattle.coverage.specs.IsSettled.{IsAhead, IsInResult, IsSettled, NoEntry, FinalIncludes, PlaceholderIncludes, NobodyBuilding, ResultIncludes, AheadOfPass, IsAwaited, AllAwait, IsAccounted, Shows}
-use Rattle.coverage.specs.IsSound.{IsOrphan, IsSound}
-use Rattle.coverage.specs.GoesOn.{IsHeld, GoesOn}
-use Rattle.coverage.specs.Changes.{ChangesAt, SameHeap, SameMap, SameTuples, SameOrphans, SameLoose, SameWork, IsWithin, LocksBy, IsFree, at_work, Turns, StartsBuilding, ReadsExtent, PassesBlock, Carries, MayEnd, PutsRow, Places, Names, Turn, Swaps, MovePuts, MoveSets, DropsLoose, Clears, Sweeps, Prunes, Takes, Ends, TurnsLocks}
-use Rattle.coverage.specs.Statements.{Hand, Empty, Held, Copied, Moving, Dropping, Phase, NotBuilding, Vacant, Growing, Evacuating, Placing, IsAt, Scan, Statement, Idle, Inserting, Maintaining, Scanning, IsAdded, IsUnited, loose_in, loose_at, loose_of, building_at, building_of}
-use Rattle.coverage.specs.Knowing.{LocksNone, HoldsNothing, KnowsHand, SettledBy, MakesUnited, MakesNone, MakesSame, HasPlaced, KnowsPhase, KnowsRow, Knows, Spares}
-use Rattle.std.specs.Prelude.{List, [], ◌∷◌}
-use Rattle.coverage.specs.IsCovered.{IndexState, board, HandHolds, PhaseHolds, Holds, IsCovered, IsKept}
-use Rattle.coverage.specs.Steps.{OwnLocks, Looks, Reads, PutsTuple, ReplacesTuple, SetsEntry, ClearsEntry, DropsTuple, IsGone, HandStep, Maps, Gone, Copies, Again, MovePut, InsertStep, InsertHand, InsertNoEntry, InsertUnchanged, InsertSwap, InsertSet, InsertDrop, MaintainStep, Look, NoEntry as ReadNoEntry, IsFinal, Found, Put, Set, Extent, Pass, Unite, SwapFinal, SetFinal, DropOld, Clear, Grow, Grown, Flag, EvacuatePut, EvacuateSet, EvacuateDrop, Evacuated, Excludes, ScanStep, ScanMap, ScanOn, ScanDrops, ScanPage, Turned, SameCounts, RowPut, RightPasses, ScanBegins, Step, PutRow, Insert, Refused, TakeRight, Maintain, NextRange, GiveRight, BeginScan, Scans, EndScan, Counts, Run, Done, Next}
-use Rattle.coverage.proofs.Sound.{puts_row_sound, places_sound, names_sound, turn_sound, clears_sound, sweeps_sound, prunes_sound, takes_sound, ends_sound, turns_locks_sound}
-use Rattle.coverage.proofs.BuildingGoesOn.{turn_go_on, places_go_on, names_go_on}
-use Rattle.coverage.proofs.OthersGoOn.{puts_row_go_on, clears_go_on, sweeps_go_on, prunes_go_on, takes_go_on, ends_go_on, turns_locks_go_on}
-use Rattle.coverage.proofs.Stable.{held_named, knows_on}
-use Rattle.coverage.proofs.HandSteps.{never, Both, loose_same, loose_turns, building_same, building_turns, may_end, locks_by, nothing_loose, loose_locked, looks_both, drop_both, copied_named, swap_both, set_both, set_unnamed, set_knows, put_both, put_knows, hand_step}
+use Rattle.coverage.specs.Board.{Spot, Tuple, Board, range_of}
+use Rattle.coverage.specs.IsSettled.{IsAccounted}
+use Rattle.coverage.specs.IsSound.{IsSound}
+use Rattle.coverage.specs.GoesOn.{GoesOn}
+use Rattle.coverage.specs.Changes.{Carries}
+use Rattle.coverage.specs.Statements.{Hand, Empty, Held, Copied, Moving, Dropping, Statement, Idle, Inserting, Maintaining, Scanning, IsAdded}
+use Rattle.coverage.specs.Knowing.{LocksNone, KnowsHand, SettledBy, Knows}
+use Rattle.coverage.specs.IsCovered.{IndexState, board}
+use Rattle.coverage.specs.Steps.{HandStep, Maps, Gone, Copies, Again, MovePut, InsertStep, InsertHand, InsertNoEntry, InsertUnchanged, InsertSwap, InsertSet, InsertDrop, Turned}
+use Rattle.coverage.proofs.Stable.{held_named}
+use Rattle.coverage.proofs.HandSteps.{never, Both, may_end, looks_both, drop_both, copied_named, swap_both, set_both, set_knows, hand_step}
 
 -- an insert that is done has its row settled, if that still counts
 abbrev pub SettledOrOn : Board → (ℕ → Bool) → Statement → Statement → Type 0

@@ -9,3 +9,4 @@ pub mod HandSteps
 pub mod InsertSteps
 pub mod MaintainSteps
 pub mod Runs
+pub mod Opening

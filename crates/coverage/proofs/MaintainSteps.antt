@@ -1,25 +1,18 @@
 -- What a step of a maintenance statement leaves.
-use Rattle.std.proofs.Common.{◌≡◌, ◌≢◌, ◌⊎◌, inl, inr, ⊎_elim, ℕ, ◌+◌, ◌*◌, ◌/◌, ◌≤◌, ◌<◌, min, Option, Some, None, Bool, true, false, sym, ◌∙◌, ap, subst, arith, rules}
+use Rattle.std.proofs.Common.{◌≡◌, ◌≢◌, inl, inr, ⊎_elim, ℕ, ◌+◌, ◌*◌, Option, Some, None, true, sym, ◌∙◌, ap, subst}
 use Rattle.std.specs.Prelude.{refl, IsTrue}
 use Rattle.std.proofs.lemmas.Option.{same_Some, none-some}
-use Rattle.std.proofs.lemmas.Bool.{cases_eq, false≢true}
-use Rattle.std.proofs.lemmas.Grind.{common_steps}
-use Rattle.block_model.specs.declared.row.Row.{Row}
-use Rattle.coverage.specs.Board.{Spot, Tuple, Progress, ExtentUnread, Passing, Building, Board, range_of, IsBuilding, NamesTuple, NamesPlaceholder}
-use Rattle.coverage.specs.IsSettled.{IsAhead, IsInResult, IsSettled, NoEntry, FinalIncludes, PlaceholderIncludes, NobodyBuilding, ResultIncludes, AheadOfPass, IsAwaited, AllAwait, IsAccounted, Shows}
-use Rattle.coverage.specs.IsSound.{IsOrphan, IsSound}
-use Rattle.coverage.specs.GoesOn.{IsHeld, GoesOn}
-use Rattle.coverage.specs.Changes.{ChangesAt, SameHeap, SameMap, SameTuples, SameOrphans, SameLoose, SameWork, IsWithin, LocksBy, IsFree, at_work, Turns, StartsBuilding, ReadsExtent, PassesBlock, Carries, MayEnd, PutsRow, Places, Names, Turn, Swaps, MovePuts, MoveSets, DropsLoose, Clears, Sweeps, Prunes, Takes, Ends, TurnsLocks}
-use Rattle.coverage.specs.Statements.{Hand, Empty, Held, Copied, Moving, Dropping, Phase, NotBuilding, Vacant, Growing, Evacuating, Placing, IsAt, Scan, Statement, Idle, Inserting, Maintaining, Scanning, IsAdded, IsUnited, loose_in, loose_at, loose_of, building_at, building_of}
-use Rattle.coverage.specs.Knowing.{LocksNone, HoldsNothing, KnowsHand, SettledBy, MakesUnited, MakesNone, MakesSame, HasPlaced, KnowsPhase, KnowsRow, Knows, Spares}
-use Rattle.std.specs.Prelude.{List, [], ◌∷◌}
-use Rattle.coverage.specs.IsCovered.{IndexState, board, HandHolds, PhaseHolds, Holds, IsCovered, IsKept}
-use Rattle.coverage.specs.Steps.{OwnLocks, Looks, Reads, PutsTuple, ReplacesTuple, SetsEntry, ClearsEntry, DropsTuple, SweepsTuple, RowsDropped, IsGone, HandStep, Maps, Gone, Copies, Again, MovePut, InsertStep, InsertHand, InsertNoEntry, InsertUnchanged, InsertSwap, InsertSet, InsertDrop, MaintainStep, Look, NoEntry as ReadNoEntry, IsFinal, Found, Put, Set, Extent, Pass, Unite, SwapFinal, SetFinal, DropOld, Clear, Sweep, Grow, Grown, Flag, EvacuatePut, EvacuateSet, EvacuateDrop, EvacuateSweep, Evacuated, Excludes, ScanStep, ScanMap, ScanOn, ScanDrops, ScanPage, Turned, SameCounts, RowPut, RightPasses, ScanBegins, Step, PutRow, Insert, Refused, TakeRight, Maintain, Prune, NextRange, GiveRight, BeginScan, Scans, EndScan, Counts, Run, Done, Next}
-use Rattle.coverage.proofs.Sound.{puts_row_sound, places_sound, names_sound, turn_sound, clears_sound, sweeps_sound, prunes_sound, takes_sound, ends_sound, turns_locks_sound}
+use Rattle.coverage.specs.Board.{Spot, Tuple, Progress, ExtentUnread, Passing, Board, IsBuilding}
+use Rattle.coverage.specs.IsSound.{IsSound}
+use Rattle.coverage.specs.Changes.{at_work, Turns, StartsBuilding, ReadsExtent, PassesBlock, Carries, Places, Names, Turn, Clears, Sweeps}
+use Rattle.coverage.specs.Statements.{Hand, Empty, Held, Copied, Moving, Dropping, Phase, NotBuilding, Vacant, Growing, Evacuating, Placing, IsAt, Maintaining, loose_at, building_at, building_of}
+use Rattle.coverage.specs.Knowing.{LocksNone, MakesUnited, MakesNone, MakesSame, KnowsPhase}
+use Rattle.coverage.specs.IsCovered.{IndexState, board}
+use Rattle.coverage.specs.Steps.{Looks, PutsTuple, SetsEntry, ClearsEntry, SweepsTuple, MaintainStep, Look, NoEntry as ReadNoEntry, IsFinal, Found, Put, Set, Extent, Pass, Unite, SwapFinal, SetFinal, DropOld, Clear, ClearAgain, Sweep, Grow, Grown, Flag, EvacuatePut, EvacuateSet, EvacuateDrop, EvacuateSweep, Turned}
+use Rattle.coverage.proofs.Sound.{places_sound, names_sound, turn_sound, clears_sound, sweeps_sound}
 use Rattle.coverage.proofs.BuildingGoesOn.{turn_go_on, places_go_on, names_go_on}
-use Rattle.coverage.proofs.OthersGoOn.{puts_row_go_on, clears_go_on, sweeps_go_on, prunes_go_on, takes_go_on, ends_go_on, turns_locks_go_on}
-use Rattle.coverage.proofs.Stable.{held_named, knows_on}
-use Rattle.coverage.proofs.HandSteps.{never, Both, loose_same, loose_turns, building_same, building_turns, may_end, locks_by, nothing_loose, loose_locked, looks_both, drop_both, copied_named, swap_both, set_both, set_unnamed, set_knows, put_both, put_knows, hand_step}
+use Rattle.coverage.proofs.OthersGoOn.{clears_go_on, sweeps_go_on}
+use Rattle.coverage.proofs.HandSteps.{never, Both, loose_same, loose_turns, building_same, building_turns, may_end, locks_by, nothing_loose, loose_locked, looks_both, drop_both, swap_both, set_both, set_knows, put_both, put_knows, hand_step}
 use Rattle.coverage.proofs.InsertSteps.{hand_right}
 
 makes_none : (w : Board) (s range : ℕ) (old new : Tuple) → MakesNone old new → (new.range ≡ old.range) × Carries w s range old new
@@ -200,15 +193,17 @@ module _ (s range : ℕ) (w v : IndexState) (sound : IsSound (board w)) (right :
   maintain_left _ _ (Clear x clears) turned known = clear x turned clears
   maintain_left _ _ (Grow looks) turned known = read Vacant Growing turned refl refl refl looks (looks.map.entry range ∙ known.1)
   maintain_left _ _ (Grown reads) turned known = read Growing Vacant turned refl refl refl reads.looks (reads.none, reads.looks.map.entry range ∙ known)
-  maintain_left _ _ (Flag m reads) turned known = read Vacant (Evacuating m Empty) turned refl refl refl reads.looks (reads.looks.map.entry range ∙ known.1, reads.none)
-  maintain_left _ _ (EvacuatePut m n x y t named here free puts locked) turned known =
-      let by_map = sound.entries_name_tuples n x named in
-      let of : t.range ≡ n = ap (λ (u : Tuple). u.range) (same_Some _ _ (sym here ∙ by_map.1)) ∙ by_map.2 in (
-        put_both s w v (Maintaining range (Evacuating m Empty)) (Maintaining range (Evacuating n (Moving x y t t))) turned sound n MakesSame (makes_same (board w) s n) x y t t named here of refl refl refl refl puts,
+  maintain_left _ _ (ClearAgain x reads) turned known = read (NotBuilding (Held x)) (NotBuilding Empty) turned refl refl refl reads.looks reads.none
+  maintain_left _ _ (Sweep x t sweeps) turned known = sweep (NotBuilding Empty) x t turned refl sweeps sweeps.none
+  maintain_left _ _ (Flag reads) turned known = read Vacant Vacant turned refl refl refl reads.looks (reads.none, reads.looks.map.entry range ∙ known.1)
+  maintain_left _ _ (EvacuatePut m x y t named here free puts locked) turned known =
+      let by_map = sound.entries_name_tuples m x named in
+      let of : t.range ≡ m = ap (λ (u : Tuple). u.range) (same_Some _ _ (sym here ∙ by_map.1)) ∙ by_map.2 in (
+        put_both s w v (Maintaining range Vacant) (Maintaining range (Evacuating m (Moving x y t t))) turned sound m MakesSame (makes_same (board w) s m) x y t t named here of refl refl refl refl puts,
         puts.right ∙ right,
         (
-          puts.map.entry range ∙ known.0,
-          put_knows s w v (Maintaining range (Evacuating m Empty)) (Maintaining range (Evacuating n (Moving x y t t))) turned sound n MakesSame (makes_same (board w) s n) x y t t named here of refl puts locked,
+          puts.map.entry range ∙ known.1,
+          put_knows s w v (Maintaining range Vacant) (Maintaining range (Evacuating m (Moving x y t t))) turned sound m MakesSame (makes_same (board w) s m) x y t t named here of refl puts locked,
         ),
       )
   maintain_left _ _ (EvacuateSet m x y t u sets locked) turned known = (
@@ -224,10 +219,8 @@ module _ (s range : ℕ) (w v : IndexState) (sound : IsSound (board w)) (right :
     ),
   )
   maintain_left _ _ (EvacuateDrop m x drops) turned known = (
-    drop_both s w v (Maintaining range (Evacuating m (Dropping x))) (Maintaining range (Evacuating m Empty)) turned sound x known.1.0 known.1.1 known.1.2 refl refl refl drops,
+    drop_both s w v (Maintaining range (Evacuating m (Dropping x))) (Maintaining range Vacant) turned sound x known.1.0 known.1.1 known.1.2 refl refl refl drops,
     drops.right ∙ right,
-    (drops.map.entry range ∙ known.0, drops.none),
+    (drops.none, drops.map.entry range ∙ known.0),
   )
-  maintain_left _ _ (Sweep x t sweeps) turned known = sweep (NotBuilding Empty) x t turned refl sweeps sweeps.none
-  maintain_left _ _ (EvacuateSweep m x t sweeps) turned known = sweep (Evacuating m Empty) x t turned refl sweeps (sweeps.map.entry range ∙ known.0, sweeps.none)
-  maintain_left _ _ (Evacuated m looks) turned known = read (Evacuating m Empty) Growing turned refl refl refl looks (looks.map.entry range ∙ known.0)
+  maintain_left _ _ (EvacuateSweep x t sweeps) turned known = sweep Vacant x t turned refl sweeps (sweeps.none, sweeps.map.entry range ∙ known.1)

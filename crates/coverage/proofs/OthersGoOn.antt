@@ -1,15 +1,10 @@
 -- Each kind of change that carries no tuple lets all others go on.
-use Rattle.std.proofs.Common.{◌≡◌, ◌≢◌, ◌⊎◌, inl, inr, ⊎_elim, ℕ, ◌+◌, ◌*◌, ◌/◌, ◌≤◌, ◌<◌, min, Option, Some, None, Bool, true, false, sym, ◌∙◌, ap, subst, arith, rules}
-use Rattle.std.specs.Prelude.{refl, IsTrue}
-use Rattle.std.proofs.lemmas.Option.{same_Some, none-some}
-use Rattle.std.proofs.lemmas.Bool.{cases_eq, false≢true}
-use Rattle.std.proofs.lemmas.Grind.{common_steps}
+use Rattle.std.proofs.Common.{ℕ, Bool, rules}
 use Rattle.block_model.specs.declared.row.Row.{Row}
-use Rattle.coverage.specs.Board.{Spot, Tuple, Progress, ExtentUnread, Passing, Building, Board, range_of, IsBuilding, NamesTuple, NamesPlaceholder}
-use Rattle.coverage.specs.IsSettled.{IsAhead, IsInResult, IsSettled, NoEntry, FinalIncludes, PlaceholderIncludes, NobodyBuilding, ResultIncludes, AheadOfPass, IsAwaited, AllAwait, IsAccounted, Shows}
-use Rattle.coverage.specs.IsSound.{IsOrphan, IsSound}
-use Rattle.coverage.specs.GoesOn.{IsHeld, GoesOn}
-use Rattle.coverage.specs.Changes.{ChangesAt, SameHeap, SameMap, SameTuples, SameOrphans, SameLoose, SameWork, IsWithin, LocksBy, IsFree, at_work, Turns, StartsBuilding, ReadsExtent, PassesBlock, Carries, MayEnd, PutsRow, Places, Names, Turn, Swaps, MovePuts, MoveSets, DropsLoose, Clears, Sweeps, Prunes, Takes, Ends, TurnsLocks}
+use Rattle.coverage.specs.Board.{Spot, Tuple, Board}
+use Rattle.coverage.specs.IsSound.{IsSound}
+use Rattle.coverage.specs.GoesOn.{GoesOn}
+use Rattle.coverage.specs.Changes.{PutsRow, DropsLoose, Clears, Sweeps, Prunes, Takes, Ends, TurnsLocks}
 
 pub puts_row_go_on : (s : ℕ) (d : ℕ → ℕ → Bool) (w v : Board) (b k : ℕ) (r : Row) → IsSound w → PutsRow s w v b k r → GoesOn s d w v
 puts_row_go_on s d w v b k r sound kind = record {

@@ -1,26 +1,23 @@
 -- Every step of every statement keeps what the index rests on.
-use Rattle.std.proofs.Common.{◌≡◌, ◌≢◌, ◌⊎◌, inl, inr, ⊎_elim, ℕ, ◌+◌, ◌*◌, ◌/◌, ◌≤◌, ◌<◌, min, Option, Some, None, Bool, true, false, sym, ◌∙◌, ap, subst, arith, rules}
+use Rattle.std.proofs.Common.{◌≡◌, ◌≢◌, ◌⊎◌, inl, inr, ⊎_elim, ℕ, ◌+◌, ◌/◌, ◌≤◌, Some, None, Bool, true, false, sym, ◌∙◌, ap, subst, arith}
 use Rattle.std.specs.Prelude.{refl, IsTrue}
 use Rattle.std.proofs.lemmas.Option.{same_Some, none-some}
 use Rattle.std.proofs.lemmas.Bool.{cases_eq, false≢true}
-use Rattle.std.proofs.lemmas.Grind.{common_steps}
 use Rattle.block_model.specs.declared.row.Row.{Row}
-use Rattle.coverage.specs.Board.{Spot, Tuple, Progress, ExtentUnread, Passing, Building, Board, range_of, IsBuilding, NamesTuple, NamesPlaceholder}
-use Rattle.coverage.specs.IsSettled.{IsAhead, IsInResult, IsSettled, NoEntry, FinalIncludes, PlaceholderIncludes, NobodyBuilding, ResultIncludes, AheadOfPass, IsAwaited, AllAwait, IsAccounted, Shows}
-use Rattle.coverage.specs.IsSound.{IsOrphan, IsSound}
+use Rattle.coverage.specs.Board.{Spot, Tuple, Board, range_of}
+use Rattle.coverage.specs.IsSettled.{AllAwait, IsAccounted, Shows}
 use Rattle.coverage.specs.GoesOn.{IsHeld, GoesOn}
-use Rattle.coverage.specs.Changes.{ChangesAt, SameHeap, SameMap, SameTuples, SameOrphans, SameLoose, SameWork, IsWithin, LocksBy, IsFree, at_work, Turns, StartsBuilding, ReadsExtent, PassesBlock, Carries, MayEnd, PutsRow, Places, Names, Turn, Swaps, MovePuts, MoveSets, DropsLoose, Clears, Sweeps, Prunes, Takes, Ends, TurnsLocks}
-use Rattle.coverage.specs.Statements.{Hand, Empty, Held, Copied, Moving, Dropping, Phase, NotBuilding, Vacant, Growing, Evacuating, Placing, IsAt, Scan, Statement, Idle, Inserting, Maintaining, Scanning, IsAdded, IsUnited, loose_in, loose_at, loose_of, building_at, building_of}
-use Rattle.coverage.specs.Knowing.{LocksNone, HoldsNothing, KnowsHand, SettledBy, MakesUnited, MakesNone, MakesSame, HasPlaced, KnowsPhase, KnowsRow, Knows, Spares}
-use Rattle.std.specs.Prelude.{List, [], ◌∷◌}
-use Rattle.coverage.specs.IsCovered.{IndexState, board, HandHolds, PhaseHolds, Holds, IsCovered, IsKept}
-use Rattle.coverage.specs.Steps.{OwnLocks, Looks, Reads, PutsTuple, ReplacesTuple, SetsEntry, ClearsEntry, DropsTuple, SweepsTuple, RowsDropped, IsGone, HandStep, Maps, Gone, Copies, Again, MovePut, InsertStep, InsertHand, InsertNoEntry, InsertUnchanged, InsertSwap, InsertSet, InsertDrop, MaintainStep, Look, NoEntry as ReadNoEntry, IsFinal, Found, Put, Set, Extent, Pass, Unite, SwapFinal, SetFinal, DropOld, Clear, Sweep, Grow, Grown, Flag, EvacuatePut, EvacuateSet, EvacuateDrop, EvacuateSweep, Evacuated, Excludes, ScanStep, ScanMap, ScanOn, ScanDrops, ScanPage, Turned, SameCounts, RowPut, RightPasses, ScanBegins, Step, PutRow, Insert, Refused, TakeRight, Maintain, Prune, NextRange, GiveRight, BeginScan, Scans, EndScan, Counts, Run, Done, Next}
-use Rattle.coverage.proofs.Sound.{puts_row_sound, places_sound, names_sound, turn_sound, clears_sound, sweeps_sound, prunes_sound, takes_sound, ends_sound, turns_locks_sound}
-use Rattle.coverage.proofs.BuildingGoesOn.{turn_go_on, places_go_on, names_go_on}
-use Rattle.coverage.proofs.OthersGoOn.{puts_row_go_on, clears_go_on, sweeps_go_on, prunes_go_on, takes_go_on, ends_go_on, turns_locks_go_on}
-use Rattle.coverage.proofs.Stable.{held_named, knows_on}
-use Rattle.coverage.proofs.HandSteps.{never, Both, loose_same, loose_turns, building_same, building_turns, may_end, locks_by, nothing_loose, loose_locked, looks_both, drop_both, copied_named, swap_both, set_both, set_unnamed, set_knows, put_both, put_knows, hand_step}
-use Rattle.coverage.proofs.InsertSteps.{Outcome, SettledOrOn, insert_outcome, hand_right}
+use Rattle.coverage.specs.Changes.{SameHeap, PutsRow, Prunes, Takes, Ends}
+use Rattle.coverage.specs.Statements.{Hand, Empty, Phase, NotBuilding, Scan, Statement, Idle, Inserting, Maintaining, Scanning, IsAdded, loose_in, loose_at, loose_of, building_of}
+use Rattle.coverage.specs.Knowing.{MakesUnited, MakesNone, KnowsRow, Knows, Spares}
+use Rattle.std.specs.Prelude.{List}
+use Rattle.coverage.specs.IsCovered.{IndexState, board, IsKept}
+use Rattle.coverage.specs.Steps.{Looks, Reads, RowsDropped, HandStep, Maps, Gone, Copies, Again, MovePut, InsertStep, InsertHand, InsertNoEntry, InsertUnchanged, InsertSwap, InsertSet, InsertDrop, MaintainStep, Look, NoEntry as ReadNoEntry, IsFinal, Found, Put, Set, Extent, Pass, Unite, SwapFinal, SetFinal, DropOld, Clear, ClearAgain, Sweep, Grow, Grown, Flag, EvacuatePut, EvacuateSet, EvacuateDrop, EvacuateSweep, ScanStep, ScanMap, ScanOn, ScanDrops, ScanElsewhere, ScanPage, Turned, SameCounts, RowPut, RightPasses, ScanBegins, Rests, Step, PutRow, Insert, Refused, TakeRight, Maintain, Prune, NextRange, GiveRight, BeginScan, Scans, EndScan, Elsewhere, Counts, Run, Done, Next}
+use Rattle.coverage.proofs.Sound.{puts_row_sound, prunes_sound, takes_sound, ends_sound}
+use Rattle.coverage.proofs.OthersGoOn.{puts_row_go_on, prunes_go_on, takes_go_on, ends_go_on}
+use Rattle.coverage.proofs.Stable.{knows_on}
+use Rattle.coverage.proofs.HandSteps.{never, Both, loose_same, building_same, locks_by, nothing_loose, looks_both}
+use Rattle.coverage.proofs.InsertSteps.{Outcome, SettledOrOn, insert_outcome}
 use Rattle.coverage.proofs.MaintainSteps.{maintain_left}
 
 hand_heap : (s range : ℕ) (Makes : Tuple → Tuple → Type 0) (w v : Board) (h g : Hand) → HandStep s range Makes w v h g → SameHeap w v
@@ -55,12 +52,12 @@ maintain_heap s range w v _ _ (Clear x clears) = clears.heap
 maintain_heap s range w v _ _ (Sweep x t sweeps) = sweeps.heap
 maintain_heap s range w v _ _ (Grow looks) = looks.heap
 maintain_heap s range w v _ _ (Grown reads) = reads.looks.heap
-maintain_heap s range w v _ _ (Flag m reads) = reads.looks.heap
-maintain_heap s range w v _ _ (EvacuatePut m n x y t named here free puts locked) = puts.heap
+maintain_heap s range w v _ _ (Flag reads) = reads.looks.heap
+maintain_heap s range w v _ _ (ClearAgain x reads) = reads.looks.heap
+maintain_heap s range w v _ _ (EvacuatePut m x y t named here free puts locked) = puts.heap
 maintain_heap s range w v _ _ (EvacuateSet m x y t u sets locked) = sets.heap
 maintain_heap s range w v _ _ (EvacuateDrop m x drops) = drops.heap
-maintain_heap s range w v _ _ (EvacuateSweep m x t sweeps) = sweeps.heap
-maintain_heap s range w v _ _ (Evacuated m looks) = looks.heap
+maintain_heap s range w v _ _ (EvacuateSweep x t sweeps) = sweeps.heap
 
 spares_never : (d : Statement) → Spares never d
 spares_never Idle = tt
@@ -143,6 +140,15 @@ module _ (w : Board) (b k : ℕ) (r : Row) where
         (others b left.0))
         (known.kept matches);
   }
+  scan_row old _ (ScanElsewhere candidate others) sees known = record {
+    there = known.there;
+    settled = known.settled;
+    shown = known.shown;
+    kept = λ matches. ⊎_elim
+        (λ (found : IsTrue (old.found b k)). inl found)
+        (λ (left : IsTrue (old.candidate b) × (old.read ≤ b)). inr (others b k r known.there sees matches left.0, left.1))
+        (known.kept matches);
+  }
   scan_row old _ (ScanPage next found first keeps page) sees known = record {
     there = known.there;
     settled = known.settled;
@@ -163,6 +169,7 @@ scan_sees : (w : Board) (old new : Scan) → ScanStep w old new → (b k : ℕ) 
 scan_sees w old _ (ScanMap range x named) b k sees = sees
 scan_sees w old _ ScanOn b k sees = sees
 scan_sees w old _ (ScanDrops range x t candidate held here of excludes others) b k sees = sees
+scan_sees w old _ (ScanElsewhere candidate others) b k sees = sees
 scan_sees w old _ (ScanPage next found first keeps page) b k sees = sees
 
 scan_held : (w : Board) (old new : Scan) → ScanStep w old new → ((range : ℕ) (x : Spot) → old.held ≡ Some (range, x) → IsHeld w range x) → (range : ℕ) (x : Spot) → new.held ≡ Some (range, x) → IsHeld w range x
@@ -171,6 +178,7 @@ scan_held w old _ (ScanMap m y named) before range x held =
     λ t here of. inl (ap w.entry (sym (ap (λ (q : ℕ × Spot). q.0) both)) ∙ named ∙ ap Some (ap (λ (q : ℕ × Spot). q.1) both))
 scan_held w old _ ScanOn before range x held = absurd (none-some _ held)
 scan_held w old _ (ScanDrops m y t candidate was here of excludes others) before range x held = absurd (none-some _ held)
+scan_held w old _ (ScanElsewhere candidate others) before range x held = before range x held
 scan_held w old _ (ScanPage next found first keeps page) before range x held = before range x held
 
 -- what a scan knows of a row stays true while no row is dropped
@@ -180,6 +188,21 @@ row_on s w v on scan b k r known = record {
   settled = on.settled b k r known.there known.settled;
   shown = λ x held. on.shows x b k r known.there known.settled (known.shown x (held ∙ ap (λ n. Some (b / n, x)) on.pages_per_range));
   kept = known.kept;
+}
+
+-- where nothing changes, the index is the same one
+rests_path : (w v : IndexState) → Rests w v → v ≡ w
+rests_path w v rests = λ i. record {
+  pages_per_range = rests.heap.pages_per_range i;
+  blocks = rests.heap.blocks i;
+  row = λ b k. rests.heap.row b k i;
+  entry = λ m. rests.map.entry m i;
+  tuple = λ x. rests.tuples.tuple x i;
+  lock = λ p. rests.lock p i;
+  right = rests.right i;
+  orphan = λ x. rests.orphans.orphan x i;
+  statement = λ n. rests.statement n i;
+  counts = λ t. rests.counts.counts t i;
 }
 
 module _ (s : ℕ) (w v : IndexState) (kept : IsKept w) where
@@ -383,6 +406,7 @@ module _ (s : ℕ) (w v : IndexState) (kept : IsKept w) where
       let known = knows_it (Scanning scan) turned.was in
       let both = looks (Scanning scan) Idle turned refl refl refl reads.looks in
       steps (Scanning scan) Idle turned (record { sound = both.0; on = both.1; knows = (reads.none, λ held. known.0.1 (sym reads.looks.right ∙ held)); done = tt }) reads.looks.heap counts
+  step_kept (Elsewhere rests) = subst (λ u. IsKept u) (sym (rests_path w v rests)) kept
   step_kept (Counts counts few same) = subst (λ u. IsKept u) (sym same) (record {
     sound = kept.sound;
     knows = kept.knows;

@@ -1,13 +1,10 @@
 -- Each kind of change leaves the index sound.
-use Rattle.std.proofs.Common.{◌≡◌, ◌≢◌, ◌⊎◌, inl, inr, ⊎_elim, ℕ, ◌+◌, ◌*◌, ◌/◌, ◌≤◌, ◌<◌, Option, Some, None, Bool, true, false, sym, ◌∙◌, ap, subst, arith, rules}
-use Rattle.std.specs.Prelude.{refl, IsTrue}
-use Rattle.std.proofs.lemmas.Option.{same_Some, none-some}
-use Rattle.std.proofs.lemmas.Bool.{cases_eq, false≢true}
-use Rattle.std.proofs.lemmas.Grind.{common_steps}
+use Rattle.std.proofs.Common.{◌≡◌, ◌≢◌, ◌⊎◌, inr, ⊎_elim, ℕ, Option, Some, Bool, sym, ◌∙◌, subst, rules}
+use Rattle.std.proofs.lemmas.Bool.{cases_eq}
 use Rattle.block_model.specs.declared.row.Row.{Row}
-use Rattle.coverage.specs.Board.{Spot, Tuple, Progress, ExtentUnread, Passing, Building, Board, IsBuilding}
-use Rattle.coverage.specs.IsSound.{IsOrphan, IsSound}
-use Rattle.coverage.specs.Changes.{ChangesAt, SameHeap, SameMap, SameTuples, SameOrphans, SameLoose, SameWork, IsWithin, LocksBy, IsFree, at_work, Turns, StartsBuilding, ReadsExtent, PassesBlock, Carries, MayEnd, PutsRow, Places, Names, Turn, Swaps, MovePuts, MoveSets, DropsLoose, Clears, Sweeps, Prunes, Takes, Ends, TurnsLocks}
+use Rattle.coverage.specs.Board.{Spot, Tuple, Progress, Board}
+use Rattle.coverage.specs.IsSound.{IsSound}
+use Rattle.coverage.specs.Changes.{LocksBy, PutsRow, Places, Names, Turn, Swaps, MovePuts, MoveSets, DropsLoose, Clears, Sweeps, Prunes, Takes, Ends, TurnsLocks}
 
 -- a loose tuple's page stays locked
 lock_kept : (s : ℕ) (w v : Board) → IsSound w → LocksBy s w v → ((n : ℕ) → (n ≡ s) ⊎ (v.loose n ≡ w.loose n)) → (n : ℕ) (x : Spot) → v.loose n ≡ Some x → v.lock x.block ≡ Some n

@@ -1,16 +1,13 @@
 -- What a statement knows stays true while others step.
-use Rattle.std.proofs.Common.{◌≡◌, ◌≢◌, ◌⊎◌, inl, inr, ⊎_elim, ℕ, ◌+◌, ◌*◌, ◌/◌, ◌≤◌, ◌<◌, min, Option, Some, None, Bool, true, false, sym, ◌∙◌, ap, subst, arith, rules}
-use Rattle.std.specs.Prelude.{refl, IsTrue}
-use Rattle.std.proofs.lemmas.Option.{same_Some, none-some}
-use Rattle.std.proofs.lemmas.Bool.{cases_eq, false≢true}
-use Rattle.std.proofs.lemmas.Grind.{common_steps}
+use Rattle.std.proofs.Common.{◌≡◌, ◌≢◌, ⊎_elim, ℕ, ◌/◌, Some, None, Bool, sym, ◌∙◌, ap, subst}
+use Rattle.std.specs.Prelude.{IsTrue}
+use Rattle.std.proofs.lemmas.Option.{same_Some}
 use Rattle.block_model.specs.declared.row.Row.{Row}
-use Rattle.coverage.specs.Board.{Spot, Tuple, Progress, ExtentUnread, Passing, Building, Board, range_of, IsBuilding, NamesTuple, NamesPlaceholder}
-use Rattle.coverage.specs.IsSettled.{IsAhead, IsInResult, IsSettled, NoEntry, FinalIncludes, PlaceholderIncludes, NobodyBuilding, ResultIncludes, AheadOfPass, IsAwaited, AllAwait, IsAccounted, Shows}
-use Rattle.coverage.specs.IsSound.{IsOrphan, IsSound}
+use Rattle.coverage.specs.Board.{Spot, Tuple, Board, range_of, NamesPlaceholder}
+use Rattle.coverage.specs.IsSound.{IsSound}
 use Rattle.coverage.specs.GoesOn.{IsHeld, GoesOn}
-use Rattle.coverage.specs.Changes.{ChangesAt, SameHeap, SameMap, SameTuples, SameOrphans, SameLoose, SameWork, IsWithin, LocksBy, IsFree, at_work, Turns, StartsBuilding, ReadsExtent, PassesBlock, Carries, MayEnd, PutsRow, Places, Names, Turn, Swaps, MovePuts, MoveSets, DropsLoose, Clears, Sweeps, Prunes, Takes, Ends, TurnsLocks}
-use Rattle.coverage.specs.Statements.{Hand, Empty, Held, Copied, Moving, Dropping, Phase, NotBuilding, Vacant, Growing, Evacuating, Placing, IsAt, Scan, Statement, Idle, Inserting, Maintaining, Scanning, IsAdded, IsUnited, loose_in, loose_at, loose_of, building_at, building_of}
+use Rattle.coverage.specs.Changes.{IsFree}
+use Rattle.coverage.specs.Statements.{Hand, Empty, Held, Copied, Moving, Dropping, Phase, NotBuilding, Vacant, Growing, Evacuating, Placing, IsAt, Scan, Statement, Idle, Inserting, Maintaining, Scanning, IsAdded}
 use Rattle.coverage.specs.Knowing.{LocksNone, HoldsNothing, KnowsHand, SettledBy, MakesUnited, MakesNone, MakesSame, HasPlaced, KnowsPhase, KnowsRow, Knows, Spares}
 
 -- Where nobody else locks the page and the session locks none, a tuple of the range at a spot that it holds is the one that the map names.

@@ -1,9 +1,9 @@
 -- When an index is covered: no scan loses a row to it, whatever is running.
-use Rattle.std.specs.Prelude.{◌≡◌, ◌≢◌, ◌⊎◌, ℕ, Bool, false, IsTrue, Option, None, Some}
+use Rattle.std.specs.Prelude.{◌≡◌, ◌⊎◌, ℕ, ◌<◌, Bool, false, IsTrue, Option, None, Some}
 use Rattle.block_model.specs.declared.row.Row.{Row}
 use Rattle.coverage.specs.Board.{Spot, Tuple, Progress, Board, range_of, IsBuilding}
 use Rattle.coverage.specs.IsSettled.{IsSettled, IsAccounted}
-use Rattle.coverage.specs.IsSound.{IsSound}
+use Rattle.coverage.specs.IsSound.{IsOrphan, IsSound}
 use Rattle.coverage.specs.GoesOn.{IsHeld}
 use Rattle.coverage.specs.Statements.{Hand, Empty, Held, Copied, Moving, Dropping, Phase, NotBuilding, Vacant, Growing, Evacuating, Placing, IsAt, Scan, Statement, Idle, Inserting, Maintaining, Scanning, loose_of, building_of}
 use Rattle.coverage.specs.Knowing.{Knows}
@@ -76,6 +76,15 @@ pub record IsCovered (w : IndexState) : Type 0 where
   pub held_tuples_include : (s : ℕ) (scan : Scan) → w.statement s ≡ Scanning scan → (range : ℕ) (x : Spot) → scan.held ≡ Some (range, x)
       → (t : Tuple) → w.tuple x ≡ Some t → t.range ≡ range → t.placeholder ≡ false
       → (b k : ℕ) (r : Row) → IsTrue (scan.sees b k) → w.row b k ≡ Some r → range_of (board w) b ≡ range → IsTrue (t.includes r)
+
+-- nobody has a statement running: no session holds a page lock or the summarise lock
+pub record IsAtRest (w : IndexState) : Type 0 where
+  pub idle : (s : ℕ) → w.statement s ≡ Idle
+  pub unlocked : (p : ℕ) → w.lock p ≡ None
+  pub free : w.right ≡ None
+  pub ranged : 0 < w.pages_per_range
+  pub rows_below : (b k : ℕ) (r : Row) → w.row b k ≡ Some r → b < w.blocks
+  pub orphans : (x : Spot) → IsTrue (w.orphan x) → IsOrphan (board w) x
 
 -- What every step keeps, and whatever is covered rests on: the board is sound, each statement's knowledge is true, and every
 -- row that counts is settled or its insert is running.

@@ -145,17 +145,18 @@ pub data MaintainStep (s range : ℕ) (w v : Board) : Phase → Phase → Type 0
   Clear : (x : Spot) → ClearsEntry s w v range x → MaintainStep s range w v (NotBuilding (Held x)) (NotBuilding (Dropping x))
   -- vacuum drops an unnamed tuple
   Sweep : (x : Spot) (t : Tuple) → SweepsTuple s w v x t → MaintainStep s range w v (NotBuilding Empty) (NotBuilding Empty)
-  -- the map grows onto a page, which is emptied first: each of its tuples moves unchanged
+  -- where the map doesn't name the held spot any more, desummarise reads it again
+  ClearAgain : (x : Spot) → Reads s w v → MaintainStep s range w v (NotBuilding (Held x)) (NotBuilding Empty)
+  -- the map grows onto a page, which is flagged and emptied first: each of its tuples moves unchanged, and the unnamed ones are dropped
   Grow : Looks s w v → MaintainStep s range w v Vacant Growing
   Grown : Reads s w v → MaintainStep s range w v Growing Vacant
-  Flag : (m : ℕ) → Reads s w v → MaintainStep s range w v Vacant (Evacuating m Empty)
-  EvacuatePut : (m n : ℕ) (x y : Spot) (t : Tuple) → w.entry n ≡ Some x → w.tuple x ≡ Some t → IsFree w s x.block → PutsTuple s w v y t → v.lock x.block ≡ Some s
-      → MaintainStep s range w v (Evacuating m Empty) (Evacuating n (Moving x y t t))
+  Flag : Reads s w v → MaintainStep s range w v Vacant Vacant
+  EvacuatePut : (m : ℕ) (x y : Spot) (t : Tuple) → w.entry m ≡ Some x → w.tuple x ≡ Some t → IsFree w s x.block → PutsTuple s w v y t → v.lock x.block ≡ Some s
+      → MaintainStep s range w v Vacant (Evacuating m (Moving x y t t))
   EvacuateSet : (m : ℕ) (x y : Spot) (t u : Tuple) → SetsEntry s w v m y → v.lock x.block ≡ Some s
       → MaintainStep s range w v (Evacuating m (Moving x y t u)) (Evacuating m (Dropping x))
-  EvacuateDrop : (m : ℕ) (x : Spot) → DropsTuple s w v x → MaintainStep s range w v (Evacuating m (Dropping x)) (Evacuating m Empty)
-  EvacuateSweep : (m : ℕ) (x : Spot) (t : Tuple) → SweepsTuple s w v x t → MaintainStep s range w v (Evacuating m Empty) (Evacuating m Empty)
-  Evacuated : (m : ℕ) → Looks s w v → MaintainStep s range w v (Evacuating m Empty) Growing
+  EvacuateDrop : (m : ℕ) (x : Spot) → DropsTuple s w v x → MaintainStep s range w v (Evacuating m (Dropping x)) Vacant
+  EvacuateSweep : (x : Spot) (t : Tuple) → SweepsTuple s w v x t → MaintainStep s range w v Vacant Vacant
 
 -- a tuple that doesn't keep the query is final and includes no row that matches
 pub record Excludes (t : Tuple) (matches : Row → Bool) : Type 0 where
@@ -171,6 +172,10 @@ pub data ScanStep (w : Board) (old : Scan) : Scan → Type 0 where
   ScanDrops : (range : ℕ) (x : Spot) (t : Tuple) (candidate : ℕ → Bool) → old.held ≡ Some (range, x) → w.tuple x ≡ Some t → t.range ≡ range → Excludes t old.matches
       → ((b : ℕ) → IsTrue (old.candidate b) → (range_of w b ≡ range) ⊎ IsTrue (candidate b))
       → ScanStep w old (record old { held = None; candidate = candidate })
+  -- another index of the table excludes every match in these blocks
+  ScanElsewhere : (candidate : ℕ → Bool)
+      → ((b k : ℕ) (r : Row) → w.row b k ≡ Some r → IsTrue (old.sees b k) → IsTrue (old.matches r) → IsTrue (old.candidate b) → IsTrue (candidate b))
+      → ScanStep w old (record old { candidate = candidate })
   -- the next candidate block is read, and its visible matches are found
   ScanPage : (next : ℕ) (found : ℕ → ℕ → Bool)
       → ((b : ℕ) → IsTrue (old.candidate b) → old.read ≤ b → next ≤ b)
@@ -231,6 +236,17 @@ ScanBegins w scan = (scan.held ≡ None) × ((b k : ℕ) → IsTrue (scan.sees b
     → (r : Row) × (w.row b k ≡ Some r) × IsTrue (w.counts r.id.t) × ((n : ℕ) (hand : Hand) → w.statement n ≢ Inserting b k r hand)
     × (IsTrue (scan.matches r) → IsTrue (scan.candidate b) × (scan.read ≤ b)))
 
+-- nothing of this index changes
+pub record Rests (w v : IndexState) : Type 0 where
+  pub heap : SameHeap (board w) (board v)
+  pub map : SameMap (board w) (board v)
+  pub tuples : SameTuples (board w) (board v)
+  pub orphans : SameOrphans (board w) (board v)
+  pub lock : (p : ℕ) → v.lock p ≡ w.lock p
+  pub right : v.right ≡ w.right
+  pub statement : (n : ℕ) → v.statement n ≡ w.statement n
+  pub counts : SameCounts w v
+
 -- One step of session s.
 pub data Step (s : ℕ) (w v : IndexState) : Type 0 where
   -- an insert puts its row, and has the index before it
@@ -252,6 +268,8 @@ pub data Step (s : ℕ) (w v : IndexState) : Type 0 where
   BeginScan : (scan : Scan) → ScanBegins w scan → Turned s w v Idle (Scanning scan) → Reads s (board w) (board v) → SameCounts w v → Step s w v
   Scans : (old new : Scan) → Turned s w v (Scanning old) (Scanning new) → ScanStep (board w) old new → Reads s (board w) (board v) → SameCounts w v → Step s w v
   EndScan : (scan : Scan) → Turned s w v (Scanning scan) Idle → Reads s (board w) (board v) → SameCounts w v → Step s w v
+  -- a step in another index of the table, or of a statement that touches no index
+  Elsewhere : Rests w v → Step s w v
   -- a transaction begins, commits or ends: rows come to count only where there are none
   Counts : (counts : ℕ → Bool) → ((t : ℕ) → IsTrue (counts t) → IsTrue (w.counts t) ⊎ ((b k : ℕ) (r : Row) → w.row b k ≡ Some r → r.id.t ≢ t))
       → v ≡ record w { counts = counts } → Step s w v

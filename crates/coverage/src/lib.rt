@@ -4,16 +4,16 @@
 // A layer above shows of each of its steps which kind of change it is, and has the rest from here.
 #![tactic(auto)]
 
-ghost use Rattle.std.specs.Prelude.{◌≡◌, ◌≢◌, ℕ, Bool, Option, Some, List};
+ghost use Rattle.std.specs.Prelude.{◌≡◌, ◌≢◌, ◌⊎◌, ◌<◌, ◌≤◌, ℕ, Bool, false, IsTrue, Option, None, Some, List};
 ghost use Rattle.block_model.specs.declared.row.Row.{Row};
-ghost use Rattle.coverage.specs.Board.{Board, Spot, Tuple, Progress, NamesPlaceholder};
+ghost use Rattle.coverage.specs.Board.{Board, Spot, Tuple, Progress, range_of, NamesPlaceholder};
 ghost use Rattle.coverage.specs.IsSettled.{IsSettled, IsAccounted};
 ghost use Rattle.coverage.specs.IsSound.{IsSound};
 ghost use Rattle.coverage.specs.GoesOn.{GoesOn, IsHeld};
 ghost use Rattle.coverage.specs.Changes.{PutsRow, Places, Names, Turn, IsFree, Swaps, MovePuts, MoveSets, DropsLoose, Clears, Sweeps, Prunes, Takes, Ends, TurnsLocks};
-ghost use Rattle.coverage.specs.Statements.{Statement};
-ghost use Rattle.coverage.specs.IsCovered.{IndexState, IsCovered, IsKept};
-ghost use Rattle.coverage.specs.Steps.{Run};
+ghost use Rattle.coverage.specs.Statements.{Scan, Statement, Idle, Scanning};
+ghost use Rattle.coverage.specs.IsCovered.{IndexState, board, IsCovered, IsAtRest, IsKept};
+ghost use Rattle.coverage.specs.Steps.{Excludes, Run};
 ghost use Rattle.coverage.specs.Knowing.{LocksNone, Knows, Spares};
 
 /// Each kind of change leaves the index sound.
@@ -69,4 +69,17 @@ pub fn knowledge_is_stable()
 pub fn index_stays_covered()
     ensures kept { (steps : List ℕ) (w v : IndexState) → IsKept w → Run steps w v → IsKept v }
     ensures covered { (w : IndexState) → IsKept w → IsCovered w }
+{}
+
+/// An index that is covered while nobody is at work is kept by what follows; so is the empty one of a new table.
+pub fn opened_index_is_kept()
+    ensures opened { (w : IndexState) → IsCovered w → IsAtRest w → IsKept w }
+    ensures new { (per blocks : ℕ) (counts : ℕ → Bool) → 0 < per → IsKept (record { pages_per_range = per; blocks = blocks; row = λ b k. None; entry = λ m. None; tuple = λ x. None; lock = λ p. None; right = None; orphan = λ x. false; statement = λ s. Idle; counts = counts }) }
+{}
+
+/// Each matching row that a scan's session sees is found, or lies in a candidate block that isn't read yet; and a range
+/// whose tuple excludes the matches has none of them.
+pub fn scans_miss_nothing()
+    ensures found { (w : IndexState) (s b k : ℕ) (scan : Scan) → IsKept w → w.statement s ≡ Scanning scan → IsTrue (scan.sees b k) → (r : Row) × (w.row b k ≡ Some r) × (IsTrue (scan.matches r) → IsTrue (scan.found b k) ⊎ (IsTrue (scan.candidate b) × (scan.read ≤ b))) }
+    ensures excluded { (w : IndexState) (s b k range : ℕ) (x : Spot) (t : Tuple) (r : Row) (scan : Scan) → IsKept w → w.statement s ≡ Scanning scan → IsTrue (scan.sees b k) → w.row b k ≡ Some r → scan.held ≡ Some (range, x) → w.tuple x ≡ Some t → t.range ≡ range → Excludes t scan.matches → range_of (board w) b ≡ range → IsTrue (scan.matches r) → ⊥ }
 {}
