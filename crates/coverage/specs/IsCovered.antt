@@ -1,5 +1,5 @@
 -- When an index is covered: no scan loses a row to it, whatever is running.
-use Rattle.std.specs.Prelude.{◌≡◌, ◌⊎◌, ℕ, ◌<◌, Bool, false, IsTrue, Option, None, Some}
+use Rattle.std.specs.Prelude.{◌≡◌, ◌⊎◌, ℕ, Bool, false, IsTrue, Option, None, Some}
 use Rattle.block_model.specs.declared.row.Row.{Row}
 use Rattle.coverage.specs.Board.{Spot, Tuple, Progress, Board, range_of, IsBuilding}
 use Rattle.coverage.specs.IsSettled.{IsSettled, IsAccounted}
@@ -82,8 +82,6 @@ pub record IsAtRest (w : IndexState) : Type 0 where
   pub idle : (s : ℕ) → w.statement s ≡ Idle
   pub unlocked : (p : ℕ) → w.lock p ≡ None
   pub free : w.right ≡ None
-  pub ranged : 0 < w.pages_per_range
-  pub rows_below : (b k : ℕ) (r : Row) → w.row b k ≡ Some r → b < w.blocks
   pub orphans : (x : Spot) → IsTrue (w.orphan x) → IsOrphan (board w) x
 
 -- What every step keeps, and whatever is covered rests on: the board is sound, each statement's knowledge is true, and every

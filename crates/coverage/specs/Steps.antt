@@ -5,7 +5,7 @@ use Rattle.coverage.specs.Board.{Spot, Tuple, Progress, ExtentUnread, Passing, B
 use Rattle.coverage.specs.Changes.{ChangesAt, SameHeap, SameMap, SameTuples, SameOrphans, IsFree, IsWithin}
 use Rattle.coverage.specs.Statements.{Hand, Empty, Held, Copied, Moving, Dropping, Phase, NotBuilding, Vacant, Growing, Evacuating, Placing, IsAt, Scan, Statement, Idle, Inserting, Maintaining, Scanning, IsAdded, loose_at, loose_in}
 use Rattle.coverage.specs.Knowing.{LocksNone, MakesUnited, MakesNone, Spares}
-use Rattle.coverage.specs.IsCovered.{IndexState, board}
+use Rattle.coverage.specs.IsCovered.{IndexState, board, IsAtRest}
 
 -- the locks of other sessions stay, and none are given to them
 pub record OwnLocks (s : ℕ) (w v : Board) : Type 0 where
@@ -278,3 +278,14 @@ pub data Step (s : ℕ) (w v : IndexState) : Type 0 where
 pub data Run : List ℕ → IndexState → IndexState → Type 0 where
   Done : (w : IndexState) → Run [] w w
   Next : (s : ℕ) (rest : List ℕ) (w u v : IndexState) → Step s w u → Run rest u v → Run (s ∷ rest) w v
+
+-- After a stop nobody is at work. The pages are the same; each tuple that was loose is one that the map doesn't name; and rows
+-- whose insert was running don't count.
+pub record Stops (w v : IndexState) : Type 0 where
+  pub rest : IsAtRest v
+  pub heap : SameHeap (board w) (board v)
+  pub map : SameMap (board w) (board v)
+  pub tuples : SameTuples (board w) (board v)
+  pub unnamed : (x : Spot) (t : Tuple) → v.tuple x ≡ Some t → (v.entry t.range ≡ Some x) ⊎ IsTrue (v.orphan x)
+  pub counts : (t : ℕ) → IsTrue (v.counts t) → IsTrue (w.counts t)
+  pub running : (s b k : ℕ) (r : Row) (hand : Hand) → w.statement s ≡ Inserting b k r hand → v.counts r.id.t ≡ false

@@ -1,7 +1,8 @@
 // No scan loses a row to a summary, whatever the order in which inserts, summarisers, vacuums and scans take their steps:
-// the definitions of a covered index (specs/) and the laws of its changes. A change keeps the board sound, and leaves all
-// other sessions what they know (`GoesOn`). It stands on block_model's rows alone: on no page, no class and no machine.
-// A layer above shows of each of its steps which kind of change it is, and has the rest from here.
+// the definitions of a covered index (specs/) and the laws of its changes. Each kind of change keeps the board of rows,
+// tuples, range map and locks sound, and leaves to all other sessions what they know (`GoesOn`); so every list of steps
+// keeps the index covered. It stands on block_model's rows alone: on no page's bytes, no operator class and no machine.
+// A layer above shows of each of its steps which one of specs/Steps it is, and has the rest from here.
 #![tactic(auto)]
 
 ghost use Rattle.std.specs.Prelude.{◌≡◌, ◌≢◌, ◌⊎◌, ◌<◌, ◌≤◌, ℕ, Bool, false, IsTrue, Option, None, Some, List};
@@ -13,7 +14,7 @@ ghost use Rattle.coverage.specs.GoesOn.{GoesOn, IsHeld};
 ghost use Rattle.coverage.specs.Changes.{PutsRow, Places, Names, Turn, IsFree, Swaps, MovePuts, MoveSets, DropsLoose, Clears, Sweeps, Prunes, Takes, Ends, TurnsLocks};
 ghost use Rattle.coverage.specs.Statements.{Scan, Statement, Idle, Scanning};
 ghost use Rattle.coverage.specs.IsCovered.{IndexState, board, IsCovered, IsAtRest, IsKept};
-ghost use Rattle.coverage.specs.Steps.{Excludes, Run};
+ghost use Rattle.coverage.specs.Steps.{Excludes, Run, Stops};
 ghost use Rattle.coverage.specs.Knowing.{LocksNone, Knows, Spares};
 
 /// Each kind of change leaves the index sound.
@@ -71,9 +72,11 @@ pub fn index_stays_covered()
     ensures covered { (w : IndexState) → IsKept w → IsCovered w }
 {}
 
-/// An index that is covered while nobody is at work is kept by what follows; so is the empty one of a new table.
+/// What an index rests on holds of one that is covered while nobody is at work, of the one that a stop at any moment leaves,
+/// and of the empty one of a new table.
 pub fn opened_index_is_kept()
-    ensures opened { (w : IndexState) → IsCovered w → IsAtRest w → IsKept w }
+    ensures opened { (w : IndexState) → IsCovered w → IsAtRest w → 0 < w.pages_per_range → ((b k : ℕ) (r : Row) → w.row b k ≡ Some r → b < w.blocks) → IsKept w }
+    ensures stopped { (w v : IndexState) → IsKept w → Stops w v → IsKept v }
     ensures new { (per blocks : ℕ) (counts : ℕ → Bool) → 0 < per → IsKept (record { pages_per_range = per; blocks = blocks; row = λ b k. None; entry = λ m. None; tuple = λ x. None; lock = λ p. None; right = None; orphan = λ x. false; statement = λ s. Idle; counts = counts }) }
 {}
 
