@@ -8,7 +8,7 @@ use Rattle.coverage.specs.Changes.{at_work, Turns, StartsBuilding, ReadsExtent, 
 use Rattle.coverage.specs.Statements.{Hand, Empty, Held, Copied, Moving, Dropping, Phase, NotBuilding, Vacant, Growing, Evacuating, Placing, IsAt, Maintaining, loose_at, building_at, building_of}
 use Rattle.coverage.specs.Knowing.{LocksNone, MakesUnited, MakesNone, MakesSame, KnowsPhase}
 use Rattle.coverage.specs.IsCovered.{IndexState, board}
-use Rattle.coverage.specs.Steps.{Looks, PutsTuple, SetsEntry, ClearsEntry, SweepsTuple, MaintainStep, Look, NoEntry as ReadNoEntry, IsFinal, Found, Put, Set, Extent, Pass, Unite, SwapFinal, SetFinal, DropOld, Clear, ClearAgain, Sweep, Grow, Grown, Flag, EvacuatePut, EvacuateSet, EvacuateDrop, EvacuateSweep, Turned}
+use Rattle.coverage.specs.Steps.{Looks, PutsTuple, SetsEntry, ClearsEntry, SweepsTuple, MaintainStep, Look, ReadNoEntry, IsFinal, Found, Put, Set, Extent, Pass, Unite, SwapFinal, SetFinal, DropOld, Clear, ClearAgain, Sweep, Grow, Grown, Flag, EvacuatePut, EvacuateSet, EvacuateDrop, EvacuateSweep, Turned}
 use Rattle.coverage.proofs.Sound.{places_sound, names_sound, turn_sound, clears_sound, sweeps_sound}
 use Rattle.coverage.proofs.BuildingGoesOn.{turn_go_on, places_go_on, names_go_on}
 use Rattle.coverage.proofs.OthersGoOn.{clears_go_on, sweeps_go_on}

@@ -12,7 +12,7 @@ use Rattle.coverage.specs.Statements.{Hand, Empty, Phase, NotBuilding, Scan, Sta
 use Rattle.coverage.specs.Knowing.{MakesUnited, MakesNone, KnowsRow, Knows, Spares}
 use Rattle.std.specs.Prelude.{List}
 use Rattle.coverage.specs.IsCovered.{IndexState, board, IsKept}
-use Rattle.coverage.specs.Steps.{Looks, Reads, RowsDropped, HandStep, Maps, Gone, Copies, Again, MovePut, InsertStep, InsertHand, InsertNoEntry, InsertUnchanged, InsertSwap, InsertSet, InsertDrop, MaintainStep, Look, NoEntry as ReadNoEntry, IsFinal, Found, Put, Set, Extent, Pass, Unite, SwapFinal, SetFinal, DropOld, Clear, ClearAgain, Sweep, Grow, Grown, Flag, EvacuatePut, EvacuateSet, EvacuateDrop, EvacuateSweep, ScanStep, ScanMap, ScanOn, ScanDrops, ScanElsewhere, ScanPage, Turned, SameCounts, RowPut, RightPasses, ScanBegins, Rests, Step, PutRow, Insert, Refused, TakeRight, Maintain, Prune, NextRange, GiveRight, BeginScan, Scans, EndScan, Elsewhere, Counts, Run, Done, Next}
+use Rattle.coverage.specs.Steps.{Looks, Reads, RowsDropped, HandStep, Maps, Gone, Copies, Again, MovePut, InsertStep, InsertHand, InsertNoEntry, InsertUnchanged, InsertSwap, InsertSet, InsertDrop, MaintainStep, Look, ReadNoEntry, IsFinal, Found, Put, Set, Extent, Pass, Unite, SwapFinal, SetFinal, DropOld, Clear, ClearAgain, Sweep, Grow, Grown, Flag, EvacuatePut, EvacuateSet, EvacuateDrop, EvacuateSweep, ScanStep, ScanMap, ScanOn, ScanDrops, ScanElsewhere, ScanPage, Turned, SameCounts, RowPut, RightPasses, ScanBegins, Rests, Step, PutRow, Insert, Refused, TakeRight, Maintain, Prune, NextRange, GiveRight, BeginScan, Scans, EndScan, Elsewhere, Counts, Run, Done, Next}
 use Rattle.coverage.proofs.Sound.{puts_row_sound, prunes_sound, takes_sound, ends_sound}
 use Rattle.coverage.proofs.OthersGoOn.{puts_row_go_on, prunes_go_on, takes_go_on, ends_go_on}
 use Rattle.coverage.proofs.Stable.{knows_on}

@@ -125,7 +125,7 @@ pub data InsertStep (s b k : ℕ) (r : Row) (w v : Board) : Hand → Statement �
 -- One step of a maintenance statement on its range.
 pub data MaintainStep (s range : ℕ) (w v : Board) : Phase → Phase → Type 0 where
   Look : (old new : Hand) → HandStep s range MakesNone w v old new → MaintainStep s range w v (NotBuilding old) (NotBuilding new)
-  NoEntry : w.entry range ≡ None → Reads s w v → MaintainStep s range w v (NotBuilding Empty) Vacant
+  ReadNoEntry : w.entry range ≡ None → Reads s w v → MaintainStep s range w v (NotBuilding Empty) Vacant
   -- a final tuple ends the range
   IsFinal : (x : Spot) (t : Tuple) → w.tuple x ≡ Some t → t.range ≡ range → t.placeholder ≡ false → Reads s w v → MaintainStep s range w v (NotBuilding (Held x)) (NotBuilding Empty)
   Found : (x : Spot) (t : Tuple) → w.tuple x ≡ Some t → t.range ≡ range → t.placeholder ≡ true → Reads s w v → MaintainStep s range w v (NotBuilding (Held x)) (IsAt ExtentUnread Empty)
