@@ -1,0 +1,12 @@
+pub mod Sound
+pub mod Carried
+pub mod BuildingGoesOn
+pub mod OthersGoOn
+pub mod Settled
+pub mod Stable
+pub mod Covered
+pub mod HandSteps
+pub mod InsertSteps
+pub mod MaintainSteps
+pub mod Runs
+pub mod Opening

@@ -1,0 +1,60 @@
+-- One index and its table, as the running statements meet them: rows and tuples on their pages, the range map, who locks
+-- what, and how far each summarising has come.
+use Rattle.std.specs.Prelude.{◌≡◌, ℕ, ◌/◌, Bool, true, Option, Some}
+use Rattle.block_model.specs.declared.row.Row.{Row}
+
+-- where a tuple stands: an index page and a slot of it
+pub record Spot : Type 0 where
+  pub block : ℕ
+  pub slot : ℕ
+
+-- a tuple: its range, whether it is a placeholder, and which rows it includes
+pub record Tuple : Type 0 where
+  pub range : ℕ
+  pub placeholder : Bool
+  pub includes : Row → Bool
+
+-- How far the building of a summary has come: the table's extent isn't read yet; or it is read, the blocks of the range
+-- below `next` are passed, and the result so far includes these rows.
+pub data Progress : Type 0 where
+  ExtentUnread : Progress
+  Passing : (extent next : ℕ) → (Row → Bool) → Progress
+
+-- what a session is building: the summary of this range
+pub record Building : Type 0 where
+  pub range : ℕ
+  pub progress : Progress
+
+pub record Board : Type 0 where
+  -- heap blocks of a range, heap blocks of the table, and the rows in use by block and slot
+  pub pages_per_range : ℕ
+  pub blocks : ℕ
+  pub row : ℕ → ℕ → Option Row
+  -- the range map by range, the tuples by spot
+  pub entry : ℕ → Option Spot
+  pub tuple : Spot → Option Tuple
+  -- who locks an index page, and who holds the table's summarise lock
+  pub lock : ℕ → Option ℕ
+  pub right : Option ℕ
+  -- what a session is building
+  pub building : ℕ → Option Building
+  -- the one tuple that a session has put and not named yet, or no longer names and has still to drop
+  pub loose : ℕ → Option Spot
+  -- the tuples that were unnamed when the store was opened, and stand still
+  pub orphan : Spot → Bool
+
+-- the range in which a heap block lies
+abbrev pub range_of : Board → ℕ → ℕ
+range_of w b = b / w.pages_per_range
+
+-- a statement of this session is building the range's summary, and has come so far
+abbrev pub IsBuilding : Board → ℕ → ℕ → Progress → Type 0
+IsBuilding w s range progress = w.building s ≡ Some (record { range = range; progress = progress })
+
+-- the map names this tuple for the range
+abbrev pub NamesTuple : Board → ℕ → Tuple → Type 0
+NamesTuple w range t = (x : Spot) × (w.entry range ≡ Some x) × (w.tuple x ≡ Some t)
+
+-- the map names a placeholder for the range
+abbrev pub NamesPlaceholder : Board → ℕ → Type 0
+NamesPlaceholder w range = (x : Spot) × (t : Tuple) × (w.entry range ≡ Some x) × (w.tuple x ≡ Some t) × (t.placeholder ≡ true)

@@ -1,0 +1,88 @@
+// No scan loses a row to a summary, whatever the order in which inserts, summarisers, vacuums and scans take their steps:
+// the definitions of a covered index (specs/) and the laws of its changes. Each kind of change keeps the board of rows,
+// tuples, range map and locks sound, and leaves to all other sessions what they know (`GoesOn`); so every list of steps
+// keeps the index covered. It stands on block_model's rows alone: on no page's bytes, no operator class and no machine.
+// A layer above shows of each of its steps which one of specs/Steps it is, and has the rest from here.
+#![tactic(auto)]
+
+ghost use Rattle.std.specs.Prelude.{◌≡◌, ◌≢◌, ◌⊎◌, ◌<◌, ◌≤◌, ℕ, Bool, false, IsTrue, Option, None, Some, List};
+ghost use Rattle.block_model.specs.declared.row.Row.{Row};
+ghost use Rattle.coverage.specs.Board.{Board, Spot, Tuple, Progress, range_of, NamesPlaceholder};
+ghost use Rattle.coverage.specs.IsSettled.{IsSettled, IsAccounted};
+ghost use Rattle.coverage.specs.IsSound.{IsSound};
+ghost use Rattle.coverage.specs.GoesOn.{GoesOn, IsHeld};
+ghost use Rattle.coverage.specs.Changes.{PutsRow, Places, Names, Turn, IsFree, Swaps, MovePuts, MoveSets, DropsLoose, Clears, Sweeps, Prunes, Takes, Ends, TurnsLocks};
+ghost use Rattle.coverage.specs.Statements.{Scan, Statement, Idle, Scanning};
+ghost use Rattle.coverage.specs.IsCovered.{IndexState, board, IsCovered, IsAtRest, IsKept};
+ghost use Rattle.coverage.specs.Steps.{Excludes, Run, Stops};
+ghost use Rattle.coverage.specs.Knowing.{LocksNone, Knows, Spares};
+
+/// Each kind of change leaves the index sound.
+pub fn changes_are_sound()
+    ensures puts_row { (s : ℕ) (w v : Board) (b k : ℕ) (r : Row) → IsSound w → PutsRow s w v b k r → IsSound v }
+    ensures places { (s : ℕ) (w v : Board) (x : Spot) (t : Tuple) → IsSound w → Places s w v x t → IsSound v }
+    ensures names { (s : ℕ) (w v : Board) (range : ℕ) (x : Spot) (t : Tuple) → IsSound w → Names s w v range x t → IsSound v }
+    ensures turn { (s : ℕ) (w v : Board) (range : ℕ) (old new : Option Progress) → IsSound w → Turn s w v range old new → IsSound v }
+    ensures swaps { (s : ℕ) (w v : Board) (range : ℕ) (x : Spot) (old new : Tuple) → IsSound w → Swaps s w v range x old new → IsSound v }
+    ensures move_puts { (s : ℕ) (w v : Board) (range : ℕ) (x y : Spot) (old new : Tuple) → IsSound w → MovePuts s w v range x y old new → IsSound v }
+    ensures move_sets { (s : ℕ) (w v : Board) (range : ℕ) (x y : Spot) (old new : Tuple) → IsSound w → MoveSets s w v range x y old new → IsSound v }
+    ensures drops { (s : ℕ) (w v : Board) (x : Spot) (old : Tuple) → IsSound w → DropsLoose s w v x old → IsSound v }
+    ensures clears { (s : ℕ) (w v : Board) (range : ℕ) (x : Spot) → IsSound w → Clears s w v range x → IsSound v }
+    ensures sweeps { (s : ℕ) (w v : Board) (x : Spot) → IsSound w → Sweeps s w v x → IsSound v }
+    ensures prunes { (s : ℕ) (dropped : ℕ → ℕ → Bool) (w v : Board) → IsSound w → Prunes s dropped w v → IsSound v }
+    ensures takes { (s : ℕ) (w v : Board) → IsSound w → Takes s w v → IsSound v }
+    ensures ends { (s : ℕ) (w v : Board) → IsSound w → Ends s w v → IsSound v }
+    ensures turns_locks { (s : ℕ) (w v : Board) → IsSound w → TurnsLocks s w v → IsSound v }
+{}
+
+/// Each kind of change lets all other sessions go on.
+pub fn others_go_on()
+    ensures puts_row { (s : ℕ) (d : ℕ → ℕ → Bool) (w v : Board) (b k : ℕ) (r : Row) → IsSound w → PutsRow s w v b k r → GoesOn s d w v }
+    ensures places { (s : ℕ) (d : ℕ → ℕ → Bool) (w v : Board) (x : Spot) (t : Tuple) → IsSound w → Places s w v x t → GoesOn s d w v }
+    ensures names { (s : ℕ) (d : ℕ → ℕ → Bool) (w v : Board) (range : ℕ) (x : Spot) (t : Tuple) → IsSound w → Names s w v range x t → GoesOn s d w v }
+    ensures turn { (s : ℕ) (d : ℕ → ℕ → Bool) (w v : Board) (range : ℕ) (old new : Option Progress) → IsSound w → Turn s w v range old new → GoesOn s d w v }
+    ensures swaps { (s : ℕ) (d : ℕ → ℕ → Bool) (w v : Board) (range : ℕ) (x : Spot) (old new : Tuple) → IsSound w → Swaps s w v range x old new → GoesOn s d w v }
+    ensures move_puts { (s : ℕ) (d : ℕ → ℕ → Bool) (w v : Board) (range : ℕ) (x y : Spot) (old new : Tuple) → IsSound w → MovePuts s w v range x y old new → GoesOn s d w v }
+    ensures move_sets { (s : ℕ) (d : ℕ → ℕ → Bool) (w v : Board) (range : ℕ) (x y : Spot) (old new : Tuple) → IsSound w → MoveSets s w v range x y old new → GoesOn s d w v }
+    ensures drops { (s : ℕ) (d : ℕ → ℕ → Bool) (w v : Board) (x : Spot) (old : Tuple) → IsSound w → DropsLoose s w v x old → GoesOn s d w v }
+    ensures clears { (s : ℕ) (d : ℕ → ℕ → Bool) (w v : Board) (range : ℕ) (x : Spot) → IsSound w → Clears s w v range x → GoesOn s d w v }
+    ensures sweeps { (s : ℕ) (d : ℕ → ℕ → Bool) (w v : Board) (x : Spot) → IsSound w → Sweeps s w v x → GoesOn s d w v }
+    ensures prunes { (s : ℕ) (dropped : ℕ → ℕ → Bool) (w v : Board) → IsSound w → Prunes s dropped w v → GoesOn s dropped w v }
+    ensures takes { (s : ℕ) (d : ℕ → ℕ → Bool) (w v : Board) → IsSound w → Takes s w v → GoesOn s d w v }
+    ensures ends { (s : ℕ) (d : ℕ → ℕ → Bool) (w v : Board) → IsSound w → Ends s w v → GoesOn s d w v }
+    ensures turns_locks { (s : ℕ) (d : ℕ → ℕ → Bool) (w v : Board) → IsSound w → TurnsLocks s w v → GoesOn s d w v }
+{}
+
+/// A row is settled exactly where the tuple that the map names includes it, or is a placeholder whose builder awaits it.
+pub fn settled_is_accounted()
+    ensures accounted { (w : Board) (b : ℕ) (r : Row) → IsSound w → IsSettled w b r → IsAccounted w b r }
+    ensures settled { (w : Board) (b : ℕ) (r : Row) → IsSound w → IsAccounted w b r → IsSettled w b r }
+{}
+
+/// What a session's statement knows stays true while another session steps.
+pub fn knowledge_is_stable()
+    ensures kept { (a : ℕ) (d : ℕ → ℕ → Bool) (w v : Board) (s : ℕ) (statement : Statement) → IsSound w → GoesOn a d w v → s ≢ a → Spares d statement → Knows w s statement → Knows v s statement }
+    ensures placeholder { (a : ℕ) (d : ℕ → ℕ → Bool) (w v : Board) (s range : ℕ) → IsSound w → GoesOn a d w v → s ≢ a → w.right ≡ Some s → NamesPlaceholder w range → NamesPlaceholder v range }
+    ensures compared { (w : Board) (s range : ℕ) (x : Spot) (t : Tuple) → IsSound w → IsHeld w range x → w.tuple x ≡ Some t → t.range ≡ range → IsFree w s x.block → LocksNone w s → w.entry range ≡ Some x }
+{}
+
+/// Whatever the sessions do, in any interleaving: what an index rests on is kept, and the index is covered.
+pub fn index_stays_covered()
+    ensures kept { (steps : List ℕ) (w v : IndexState) → IsKept w → Run steps w v → IsKept v }
+    ensures covered { (w : IndexState) → IsKept w → IsCovered w }
+{}
+
+/// What an index rests on holds of one that is covered while nobody is at work, of the one that a stop at any moment leaves,
+/// and of the empty one of a new table.
+pub fn opened_index_is_kept()
+    ensures opened { (w : IndexState) → IsCovered w → IsAtRest w → 0 < w.pages_per_range → ((b k : ℕ) (r : Row) → w.row b k ≡ Some r → b < w.blocks) → IsKept w }
+    ensures stopped { (w v : IndexState) → IsKept w → Stops w v → IsKept v }
+    ensures new { (per blocks : ℕ) (counts : ℕ → Bool) → 0 < per → IsKept (record { pages_per_range = per; blocks = blocks; row = λ b k. None; entry = λ m. None; tuple = λ x. None; lock = λ p. None; right = None; orphan = λ x. false; statement = λ s. Idle; counts = counts }) }
+{}
+
+/// Each matching row that a scan's session sees is found, or lies in a candidate block that isn't read yet; and a range
+/// whose tuple excludes the matches has none of them.
+pub fn scans_miss_nothing()
+    ensures found { (w : IndexState) (s b k : ℕ) (scan : Scan) → IsKept w → w.statement s ≡ Scanning scan → IsTrue (scan.sees b k) → (r : Row) × (w.row b k ≡ Some r) × (IsTrue (scan.matches r) → IsTrue (scan.found b k) ⊎ (IsTrue (scan.candidate b) × (scan.read ≤ b))) }
+    ensures excluded { (w : IndexState) (s b k range : ℕ) (x : Spot) (t : Tuple) (r : Row) (scan : Scan) → IsKept w → w.statement s ≡ Scanning scan → IsTrue (scan.sees b k) → w.row b k ≡ Some r → scan.held ≡ Some (range, x) → w.tuple x ≡ Some t → t.range ≡ range → Excludes t scan.matches → range_of (board w) b ≡ range → IsTrue (scan.matches r) → ⊥ }
+{}
