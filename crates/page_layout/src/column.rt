@@ -56,8 +56,8 @@ pub(crate) fn columns_size(kinds: &[Kind]) -> u16
     kinds.iter().map(|kind| value_size(*kind)).sum()
 }
 
-#[tactic(auto, unfolding(crate::specs::RowBytes::columns_bytes))]
 /// Writes the values to their columns.
+#[tactic(auto, unfolding(crate::specs::RowBytes::columns_bytes))]
 pub(crate) fn write_columns(kinds: &[Kind], values: &[Value], out: &mut [u8])
     requires kinds { HaveKinds kinds.now values.now }
     requires room { length out.old ≡ sum_by value_size kinds.now }
@@ -138,8 +138,8 @@ fn write_network(net: &Net, out: &mut [u8])
     put_u32(out, ADDRESS, net.address() as u32);
 }
 
-#[tactic(auto, unfolding(crate::specs::RowReading::columns_in, crate::specs::RowFaults::columns_fault))]
 /// Adds the values of the columns with these null bits. The bytes are those of values.
+#[tactic(auto, unfolding(crate::specs::RowReading::columns_in, crate::specs::RowFaults::columns_fault))]
 pub(crate) fn read_columns(kinds: &[Kind], bits: u8, bytes: &[u8], values: &mut Values)
     requires room { length values.old + length kinds.now ≤ 8 }
     requires whole { length bytes.now ≡ sum_by value_size kinds.now }

@@ -87,8 +87,8 @@ fn write_head(id: RowId, deleter: u64, bits: u8, out: &mut [u8])
     out[NULL_BITS] = bits;
 }
 
-#[tactic(auto, unfolding(crate::specs::RowBytes::null_bits))]
 /// Bit c is set where the value of column c is null.
+#[tactic(auto, unfolding(crate::specs::RowBytes::null_bits))]
 fn null_bits(values: &[Value]) -> u8
     requires { length values.now ≤ 8 }
     ensures bits { result ≡ null_bits values.now }
