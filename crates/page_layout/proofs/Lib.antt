@@ -7,3 +7,4 @@ pub mod Rows
 pub mod Slots
 pub mod Pages
 pub mod OnPages
+pub mod Writes

@@ -3,3 +3,4 @@ pub mod RowReading
 pub mod RowFaults
 pub mod PageContents
 pub mod PageFaults
+pub mod PageWrites

@@ -12,8 +12,10 @@ mod row;
 mod slot;
 #[cfg(test)]
 mod tests;
+mod writers;
 
 pub use checking::check;
 pub use page::{Form, Page, PageFault};
 pub use readers::{kind_of, row_at, status_at};
 pub use row::{decode_row, encode_row, kinds_of, row_size};
+pub use writers::{free_slot, is_row, mark_row, put_row, set_status, start_heap};

@@ -1,7 +1,8 @@
 // Pages and their forms.
 
-ghost use Rattle.std.specs.Prelude.{◌≡◌, length, replicate};
+ghost use Rattle.std.specs.Prelude.{◌≡◌, ◌+◌, ◌≤◌, length, replicate};
 ghost use Rattle.byte_fields.specs.Fields.{AreBytes};
+ghost use borrow.Rule.Slice.PartMut.{put_mid};
 
 use block_model::value::Kinds;
 use std::marker::Model;
@@ -46,6 +47,22 @@ impl Page {
         ensures whole { length result.now ≡ 8192 }
     {
         &self.bytes
+    }
+
+    /// The bytes stand from that place on.
+    pub(crate) fn write(&mut self, at: usize, bytes: &[u8])
+        requires within { at + length bytes.now ≤ 8192 }
+        ensures written { self.new ≡ put_mid at (length bytes.now) self.old bytes.now }
+    {
+        self.bytes[at..at + bytes.len()].copy_from_slice(bytes);
+    }
+
+    /// Zeros stand in that many bytes from that place on.
+    pub(crate) fn clear(&mut self, at: usize, size: usize)
+        requires within { at + size ≤ 8192 }
+        ensures cleared { self.new ≡ put_mid at size self.old (replicate size 0) }
+    {
+        self.bytes[at..at + size].fill(0);
     }
 
     /// Every page has 8192 bytes. Does nothing.

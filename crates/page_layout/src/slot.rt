@@ -27,8 +27,9 @@ pub(crate) fn slot_fault(kinds: &[Kind], bytes: &[u8]) -> Option<usize>
     }
 }
 
+/// The first field of a row whose rule is broken.
 #[tactic(auto, unfolding(crate::specs::RowFaults::row_fault))]
-fn row_fault(kinds: &[Kind], bytes: &[u8]) -> Option<usize>
+pub(crate) fn row_fault(kinds: &[Kind], bytes: &[u8]) -> Option<usize>
     requires columns { length kinds.now ≤ 8 }
     requires whole { length bytes.now ≡ row_size kinds.now }
     ensures fault { result ≡ row_fault kinds.now bytes.now }

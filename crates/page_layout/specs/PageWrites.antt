@@ -1,0 +1,33 @@
+-- what is written to pages
+use Rattle.std.specs.Prelude.{◌≡◌, ℕ, ◌+◌, ◌*◌, ◌/◌, ◌%◌, List, None, replicate, ◌==◌, if◌then◌else◌}
+use Rattle.page_layout.specs.declared.page.Form.{Form}
+use Rattle.page_layout.specs.declared.page.Form.TheVariants as forms
+use Rattle.page_layout.specs.RowBytes.{StoredRow, IsRow, row_bytes}
+use Rattle.page_layout.specs.PageContents.{IsHeap}
+
+-- the bytes are those of this row
+abbrev pub RowHasBytes : Form → List ℕ → StoredRow → Type 0
+RowHasBytes forms.Status bytes row = ⊥
+RowHasBytes (forms.Heap size count kinds format) bytes row = IsRow kinds row × (bytes ≡ row_bytes kinds row)
+
+-- a form of heap pages
+abbrev pub IsOfHeap : Form → Type 0
+IsOfHeap forms.Status = ⊥
+IsOfHeap (forms.Heap size count kinds format) = Unit {0}
+
+-- a heap page whose slots are all free
+abbrev pub IsEmptyHeap : Form → List ℕ → Type 0
+IsEmptyHeap forms.Status page = ⊥
+IsEmptyHeap (forms.Heap size count kinds format) page = IsHeap kinds count (replicate count None) page
+
+-- the row with that deleter
+abbrev pub marked : StoredRow → ℕ → StoredRow
+marked row t = record { id = row.id; deleter = t; values = row.values }
+
+-- the byte with one of its four statuses in that place
+abbrev pub put_status : ℕ → ℕ → ℕ → ℕ
+put_status byte place status =
+    if place == 0 then byte / 4 * 4 + status
+    else (if place == 1 then byte / 16 * 16 + status * 4 + byte % 4
+    else (if place == 2 then byte / 64 * 64 + status * 16 + byte % 16
+    else status * 64 + byte % 64))

@@ -1,0 +1,121 @@
+// What is written to a page that passed its check.
+
+ghost use Rattle.std.specs.Prelude.{◌≡◌, ◌+◌, ◌*◌, ◌<◌, ◌≤◌, ◌^◌, drop, length, replicate, set, slice_get, List, ℕ, None, Some, true, false};
+ghost use Rattle.std.specs.Int.{bytes_high_first};
+ghost use Rattle.block_model.specs.RowSize.{row_size};
+ghost use Rattle.page_layout.specs.PageContents.{HasSlot, HasSlots, IsForm, IsRowOf, IsStatusPage, Slot, heap_bytes, header_bytes, status_in, statuses};
+ghost use Rattle.page_layout.specs.PageWrites.{IsEmptyHeap, IsOfHeap, RowHasBytes, marked, put_status};
+ghost use Rattle.page_layout.specs.RowBytes.{IsRowBytes, StoredRow, row_bytes};
+ghost use Rattle.page_layout.specs.RowFaults.{row_fault};
+ghost use borrow.Rule.Slice.PartMut.{put_mid};
+
+use crate::page::{Form, HEADER, PAGE, Page};
+use crate::row::{DELETER, IN_USE};
+use crate::slot::row_fault;
+use block_model::value::Kind;
+
+/// The kind of a heap page.
+const HEAP: u8 = 2;
+
+/// How many statuses a byte has.
+const STATUSES_A_BYTE: u16 = 4;
+
+/// Whether the bytes are those of a row.
+pub fn is_row(form: Form, bytes: &[u8]) -> bool
+    requires form { IsForm form }
+    ensures row { result ≡ true → IsRowOf form bytes.now }
+    ensures other { result ≡ false → IsRowOf form bytes.now → ⊥ }
+{
+    match form {
+        Form::Status => false,
+        Form::Heap { row, kinds, .. } => has_row(kinds.as_slice(), usize::from(row), bytes),
+    }
+}
+
+fn has_row(kinds: &[Kind], row: usize, bytes: &[u8]) -> bool
+    requires columns { length kinds.now ≤ 8 }
+    requires row { row ≡ row_size kinds.now }
+    ensures row { result ≡ true → IsRowBytes kinds.now bytes.now }
+    ensures other { result ≡ false → IsRowBytes kinds.now bytes.now → ⊥ }
+{
+    if bytes.len() != row {
+        return false;
+    }
+    if bytes[0] != IN_USE {
+        return false;
+    }
+    row_fault(kinds, bytes).is_none()
+}
+
+/// The page becomes an empty heap page.
+pub fn start_heap(page: &mut Page, form: Form)
+    requires form { IsForm form }
+    requires heap { IsOfHeap form }
+    ensures empty { IsEmptyHeap form page.new }
+{
+    let _ = form;
+    page.known();
+    page.clear(0, PAGE);
+    page.write(0, &[HEAP]);
+}
+
+/// The row of these bytes stands in the slot.
+pub fn put_row(page: &mut Page, form: Form, slot: u16, bytes: &[u8])
+    requires form { IsForm form }
+    requires slot { HasSlot form slot }
+    requires row { IsRowOf form bytes.now }
+    ensures put { (slots : List Slot) (row : StoredRow) → HasSlots form page.old slots → RowHasBytes form bytes.now row → HasSlots form page.new (set slots slot (Some row)) }
+{
+    if let Form::Heap { row, .. } = form {
+        page.write(HEADER + usize::from(slot) * usize::from(row), bytes);
+    }
+}
+
+/// The deleter of the row in the slot.
+pub fn mark_row(page: &mut Page, form: Form, slot: u16, deleter: u64)
+    requires form { IsForm form }
+    requires slot { HasSlot form slot }
+    ensures marked { (slots : List Slot) (row : StoredRow) → HasSlots form page.old slots → slice_get slots slot ≡ Some (Some row) → HasSlots form page.new (set slots slot (Some (marked row deleter))) }
+{
+    if let Form::Heap { row, .. } = form {
+        let at = HEADER + usize::from(slot) * usize::from(row);
+        page.write(at + DELETER, &deleter.to_be_bytes());
+    }
+}
+
+/// The slot is free.
+pub fn free_slot(page: &mut Page, form: Form, slot: u16)
+    requires form { IsForm form }
+    requires slot { HasSlot form slot }
+    ensures freed { (slots : List Slot) → HasSlots form page.old slots → HasSlots form page.new (set slots slot None) }
+{
+    if let Form::Heap { row, .. } = form {
+        let row = usize::from(row);
+        page.clear(HEADER + usize::from(slot) * row, row);
+    }
+}
+
+/// The status of that entry of a page of statuses, of which a page has 32640.
+pub fn set_status(page: &mut Page, entry: u16, status: u8)
+    requires entry { entry < 32640 }
+    requires status { status < 4 }
+    ensures set { (entries : List ℕ) → IsStatusPage page.old entries → IsStatusPage page.new (set entries entry status) }
+{
+    let at = HEADER + usize::from(entry / STATUSES_A_BYTE);
+    let byte = page.as_bytes()[at];
+    page.write(at, &[put_status(byte, entry % STATUSES_A_BYTE, status)]);
+}
+
+/// The byte with the status in that place.
+fn put_status(byte: u8, place: u16, status: u8) -> u8
+    requires place { place < 4 }
+    requires status { status < 4 }
+    ensures { result ≡ put_status byte place status }
+{
+    match place {
+        0 => byte / 4 * 4 + status,
+        1 => byte / 16 * 16 + status * 4 + byte % 4,
+        2 => byte / 64 * 64 + status * 16 + byte % 16,
+        _ => status * 64 + byte % 64,
+    }
+}

@@ -1,0 +1,73 @@
+-- which pages a change of the log fits, and what it does to them
+use Rattle.std.specs.Prelude.{◌≡◌, ℕ, ◌+◌, ◌*◌, ◌<◌, ◌&&◌, Bool, true, false, List, [], ◌∷◌, None, Some, length, nat_le, nat_lt, set, slice_get}
+use Rattle.byte_fields.specs.Fields.{AreBytes}
+use Rattle.page_layout.specs.declared.page.Form.{Form}
+use Rattle.page_layout.specs.declared.page.Form.TheVariants as forms
+use Rattle.page_layout.specs.RowBytes.{StoredRow}
+use Rattle.page_layout.specs.PageContents.{Slot, HasSlots, IsPageOf, IsRowOf, IsStatusPage}
+use Rattle.page_layout.specs.PageWrites.{IsEmptyHeap, IsOfHeap, RowHasBytes, marked}
+use Rattle.wal_record.specs.Changes.{LoggedChange, FullPage, PageStart, RowPut, RowMark, RowsDrop, StatusSet}
+
+-- how many slots a page of the form has
+abbrev pub slot_count : Form → ℕ
+slot_count forms.Status = 0
+slot_count (forms.Heap row count kinds format) = count
+
+-- a page of statuses is no page that a change starts
+abbrev pub IsStart : Form → ℕ → Type 0
+IsStart form kind = IsOfHeap form × (kind ≡ 2)
+
+-- a heap page
+abbrev pub IsHeapPage : Form → List ℕ → Type 0
+IsHeapPage form page = (slots : List Slot) × HasSlots form page slots
+
+-- a slot of a heap page that is free
+abbrev pub IsFreeSlot : Form → List ℕ → ℕ → Type 0
+IsFreeSlot form page n = (slots : List Slot) × HasSlots form page slots × (slice_get slots n ≡ Some None)
+
+-- a slot of a heap page that has a row
+abbrev pub IsUsedSlot : Form → List ℕ → ℕ → Type 0
+IsUsedSlot form page n = (slots : List Slot) × (row : StoredRow) × HasSlots form page slots × (slice_get slots n ≡ Some (Some row))
+
+-- a page of statuses
+abbrev pub IsOfStatuses : Form → List ℕ → Type 0
+IsOfStatuses forms.Status page = (entries : List ℕ) × IsStatusPage page entries
+IsOfStatuses (forms.Heap row count kinds format) page = ⊥
+
+-- slots of two bytes each, ascending from the least one, and all below the count
+unfoldable pub are_ascending : ℕ → ℕ → List ℕ → Bool
+are_ascending least count [] = true
+are_ascending least count (high ∷ []) = false
+are_ascending least count (high ∷ low ∷ slots) = (nat_le least (high * 256 + low) && nat_lt (high * 256 + low) count) && are_ascending (high * 256 + low + 1) count slots
+
+-- the slots with those of two bytes each free
+unfoldable pub dropped : List Slot → List ℕ → List Slot
+dropped slots [] = slots
+dropped slots (high ∷ []) = slots
+dropped slots (high ∷ low ∷ rest) = dropped (set slots (high * 256 + low) None) rest
+
+-- Whole pages and starts fit whatever bytes stand there. Other changes fit a page that passes its check and has the kind
+-- that they need: a free slot for a row, a used one for a deleter, slots of the page, entries and statuses in range.
+abbrev pub Fits : Form → List ℕ → LoggedChange → Type 0
+Fits form page (FullPage place bytes) = (length bytes ≡ 8192) × IsPageOf form bytes
+Fits form page (PageStart place kind) = IsStart form kind
+Fits form page (RowPut place slot bytes) = IsFreeSlot form page slot × IsRowOf form bytes
+Fits form page (RowMark place slot deleter) = IsUsedSlot form page slot
+Fits form page (RowsDrop place slots) = IsHeapPage form page × (are_ascending 0 (slot_count form) slots ≡ true)
+Fits form page (StatusSet place entry status) = IsOfStatuses form page × (entry < 32640) × (status < 4)
+Fits form page change = ⊥
+
+-- by the lists of slots or statuses that the page has before: those that it has afterwards
+abbrev pub Means : Form → List ℕ → LoggedChange → List ℕ → Type 0
+Means form old (FullPage place bytes) new = new ≡ bytes
+Means form old (PageStart place kind) new = IsEmptyHeap form new
+Means form old (RowPut place slot bytes) new = (slots : List Slot) (row : StoredRow) → HasSlots form old slots → RowHasBytes form bytes row → HasSlots form new (set slots slot (Some row))
+Means form old (RowMark place slot deleter) new = (slots : List Slot) (row : StoredRow) → HasSlots form old slots → slice_get slots slot ≡ Some (Some row) → HasSlots form new (set slots slot (Some (marked row deleter)))
+Means form old (RowsDrop place bytes) new = (slots : List Slot) → HasSlots form old slots → HasSlots form new (dropped slots bytes)
+Means form old (StatusSet place entry status) new = (entries : List ℕ) → IsStatusPage old entries → IsStatusPage new (set entries entry status)
+Means form old change new = ⊥
+
+-- the changes, one after the other, make one page of another
+abbrev pub Redone : Form → List ℕ → List LoggedChange → List ℕ → Type 0
+Redone form page [] new = new ≡ page
+Redone form page (change ∷ changes) new = (next : List ℕ) × AreBytes next × Fits form page change × Means form page change next × Redone form next changes new

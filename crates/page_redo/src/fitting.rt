@@ -1,0 +1,220 @@
+// Whether a page takes a change.
+
+ghost use Rattle.std.specs.Prelude.{◌≡◌, ◌<◌, ◌≤◌, length, slice_index, true, false};
+ghost use Rattle.page_layout.specs.PageContents.{HasSlot, IsForm, IsPageOf, IsRowOf};
+ghost use Rattle.page_redo.specs.Redo.{Fits, IsFreeSlot, IsHeapPage, IsOfStatuses, IsStart, IsUsedSlot, are_ascending, slot_count};
+ghost use Rattle.wal_record.specs.Changes.{logged};
+
+use page_layout::{Form, Page, check, is_row, kind_of, row_at};
+use wal_record::Change;
+
+/// How many bytes a page has.
+const PAGE: usize = 8192;
+
+/// How many statuses a page has, and how many there are.
+const ENTRIES: u16 = 32640;
+
+const STATUSES: u8 = 4;
+
+/// The kinds of started pages.
+const STATUS: u8 = 1;
+
+const HEAP: u8 = 2;
+
+/// Whether the page takes the change.
+pub fn fits(page: &Page, change: &Change<'_>, form: Form) -> bool
+    requires form { IsForm form }
+    ensures fits { result ≡ true → Fits form page.now (logged change.now) }
+    ensures misfits { result ≡ false → Fits form page.now (logged change.now) → ⊥ }
+{
+    takes(page, change, &form)
+}
+
+/// Whether the page takes the change.
+pub(crate) fn takes(page: &Page, change: &Change<'_>, form: &Form) -> bool
+    requires form { IsForm form.now }
+    ensures fits { result ≡ true → Fits form.now page.now (logged change.now) }
+    ensures misfits { result ≡ false → Fits form.now page.now (logged change.now) → ⊥ }
+{
+    match *change {
+        Change::FullPage { bytes, .. } => is_page(bytes, form),
+        Change::PageStart { kind, .. } => is_start(kind, form),
+        Change::RowPut { slot, bytes, .. } => can_put(page, form, slot, bytes),
+        Change::RowMark { slot, .. } => is_used(page, form, slot),
+        Change::RowsDrop { slots, .. } => can_drop(page, form, slots),
+        Change::StatusSet { entry, status, .. } => can_set(page, form, entry, status),
+        _ => false,
+    }
+}
+
+/// Whether the bytes are a page of the form.
+fn is_page(bytes: &[u8], form: &Form) -> bool
+    requires form { IsForm form.now }
+    ensures is { result ≡ true → (length bytes.now ≡ 8192) × IsPageOf form.now bytes.now }
+    ensures isnt { result ≡ false → (length bytes.now ≡ 8192) × IsPageOf form.now bytes.now → ⊥ }
+{
+    if bytes.len() != PAGE {
+        return false;
+    }
+    let mut copy = [0; PAGE];
+    copy.copy_from_slice(bytes);
+    passes(&Page::from_bytes(&copy), form)
+}
+
+fn passes(page: &Page, form: &Form) -> bool
+    requires form { IsForm form.now }
+    ensures is { result ≡ true → IsPageOf form.now page.now }
+    ensures isnt { result ≡ false → IsPageOf form.now page.now → ⊥ }
+{
+    match check(page, *form) {
+        Ok(()) => true,
+        Err(_) => false,
+    }
+}
+
+fn is_start(kind: u8, form: &Form) -> bool
+    ensures is { result ≡ true → IsStart form.now kind }
+    ensures isnt { result ≡ false → IsStart form.now kind → ⊥ }
+{
+    match form {
+        Form::Status => false,
+        Form::Heap { .. } => kind == HEAP,
+    }
+}
+
+/// Whether the page passes its check and is started as one of that kind.
+fn is_of_kind(page: &Page, form: &Form, kind: u8) -> bool
+    requires form { IsForm form.now }
+    ensures is { result ≡ true → IsPageOf form.now page.now × (slice_index page.now 0 ≡ kind) }
+    ensures isnt { result ≡ false → IsPageOf form.now page.now × (slice_index page.now 0 ≡ kind) → ⊥ }
+{
+    if !passes(page, form) {
+        return false;
+    }
+    kind_of(page) == kind
+}
+
+fn is_heap(page: &Page, form: &Form) -> bool
+    requires form { IsForm form.now }
+    ensures is { result ≡ true → IsHeapPage form.now page.now }
+    ensures isnt { result ≡ false → IsHeapPage form.now page.now → ⊥ }
+{
+    page.known();
+    match form {
+        Form::Status => false,
+        Form::Heap { .. } => is_of_kind(page, form, HEAP),
+    }
+}
+
+fn is_of_statuses(page: &Page, form: &Form) -> bool
+    requires form { IsForm form.now }
+    ensures is { result ≡ true → IsOfStatuses form.now page.now }
+    ensures isnt { result ≡ false → IsOfStatuses form.now page.now → ⊥ }
+{
+    page.known();
+    match form {
+        Form::Status => is_of_kind(page, form, STATUS),
+        Form::Heap { .. } => false,
+    }
+}
+
+fn slot_count(form: &Form) -> u16
+    ensures { result ≡ slot_count form.now }
+{
+    match form {
+        Form::Status => 0,
+        Form::Heap { slots, .. } => *slots,
+    }
+}
+
+fn is_free(page: &Page, form: &Form, slot: u16) -> bool
+    requires form { IsForm form.now }
+    ensures is { result ≡ true → IsFreeSlot form.now page.now slot }
+    ensures isnt { result ≡ false → IsFreeSlot form.now page.now slot → ⊥ }
+{
+    if !is_heap(page, form) {
+        return false;
+    }
+    if slot >= slot_count(form) {
+        return false;
+    }
+    match row_at(page, *form, slot) {
+        None => true,
+        Some(_) => false,
+    }
+}
+
+fn is_used(page: &Page, form: &Form, slot: u16) -> bool
+    requires form { IsForm form.now }
+    ensures is { result ≡ true → IsUsedSlot form.now page.now slot }
+    ensures isnt { result ≡ false → IsUsedSlot form.now page.now slot → ⊥ }
+{
+    if !is_heap(page, form) {
+        return false;
+    }
+    if slot >= slot_count(form) {
+        return false;
+    }
+    match row_at(page, *form, slot) {
+        None => false,
+        Some(_) => true,
+    }
+}
+
+fn can_put(page: &Page, form: &Form, slot: u16, bytes: &[u8]) -> bool
+    requires form { IsForm form.now }
+    ensures is { result ≡ true → IsFreeSlot form.now page.now slot × IsRowOf form.now bytes.now }
+    ensures isnt { result ≡ false → IsFreeSlot form.now page.now slot × IsRowOf form.now bytes.now → ⊥ }
+{
+    if !is_free(page, form, slot) {
+        return false;
+    }
+    is_row(*form, bytes)
+}
+
+fn can_drop(page: &Page, form: &Form, slots: &[u8]) -> bool
+    requires form { IsForm form.now }
+    ensures is { result ≡ true → IsHeapPage form.now page.now × (are_ascending 0 (slot_count form.now) slots.now ≡ true) }
+    ensures isnt { result ≡ false → IsHeapPage form.now page.now × (are_ascending 0 (slot_count form.now) slots.now ≡ true) → ⊥ }
+{
+    if !is_heap(page, form) {
+        return false;
+    }
+    are_ascending(0, slot_count(form), slots)
+}
+
+/// Whether the slots ascend from the least one, and all are below the count.
+#[tactic(auto, unfolding(crate::specs::Redo::are_ascending))]
+fn are_ascending(least: u32, count: u16, slots: &[u8]) -> bool
+    requires { least ≤ 65536 }
+    ensures { result ≡ are_ascending least count slots.now }
+{
+    match slots {
+        [] => true,
+        [_] => false,
+        [high, low, slots @ ..] => {
+            let slot = u32::from(*high) * 256 + u32::from(*low);
+            if slot < least {
+                return false;
+            }
+            if slot >= u32::from(count) {
+                return false;
+            }
+            are_ascending(slot + 1, count, slots)
+        }
+    }
+}
+
+fn can_set(page: &Page, form: &Form, entry: u16, status: u8) -> bool
+    requires form { IsForm form.now }
+    ensures is { result ≡ true → IsOfStatuses form.now page.now × (entry < 32640) × (status < 4) }
+    ensures isnt { result ≡ false → IsOfStatuses form.now page.now × (entry < 32640) × (status < 4) → ⊥ }
+{
+    if entry >= ENTRIES {
+        return false;
+    }
+    if status >= STATUSES {
+        return false;
+    }
+    is_of_statuses(page, form)
+}

@@ -1,0 +1,77 @@
+// What a change does to a page.
+
+ghost use Rattle.std.specs.Prelude.{◌≡◌, ◌≤◌, length, set, slice_index, List, true, IfErr, OnOk};
+ghost use Rattle.page_layout.specs.PageContents.{HasSlot, HasSlots, IsForm, IsRowOf, Slot};
+ghost use Rattle.page_redo.specs.Redo.{Fits, Means, are_ascending, dropped, slot_count};
+ghost use Rattle.wal_record.specs.ChangeBytes.{bytes_of};
+ghost use Rattle.wal_record.specs.Changes.{logged};
+
+use crate::fitting::takes;
+use crate::tag::tag_of;
+use page_layout::{Form, Page, free_slot, mark_row, put_row, set_status, start_heap};
+use wal_record::Change;
+
+/// The change of that tag doesn't fit the page.
+#[derive(Clone, Copy, Debug, PartialEq, Eq)]
+pub struct Misfit {
+    pub tag: u8,
+}
+
+/// Makes the change. Misfit exactly where it doesn't fit, and the page is unchanged then.
+pub fn redo(page: &mut Page, change: &Change<'_>, form: Form) -> Result<(), Misfit>
+    requires form { IsForm form }
+    ensures fitted { OnOk result (Fits form page.old (logged change.now)) }
+    ensures done { OnOk result (Means form page.old (logged change.now) page.new) }
+    ensures misfit { IfErr result (λ e. Fits form page.old (logged change.now) → ⊥) }
+    ensures tag { IfErr result (λ e. e.tag ≡ slice_index (bytes_of (logged change.now)) 0) }
+    ensures same { IfErr result (λ e. page.new ≡ page.old) }
+{
+    if !takes(page, change, &form) {
+        return Err(Misfit {
+            tag: tag_of(change),
+        });
+    }
+    make(page, change, &form);
+    Ok(())
+}
+
+/// Makes a change that fits.
+fn make(page: &mut Page, change: &Change<'_>, form: &Form)
+    requires form { IsForm form.now }
+    requires fits { Fits form.now page.old (logged change.now) }
+    ensures { Means form.now page.old (logged change.now) page.new }
+{
+    match *change {
+        Change::FullPage { bytes, .. } => put_page(page, bytes),
+        Change::PageStart { .. } => start_heap(page, *form),
+        Change::RowPut { slot, bytes, .. } => put_row(page, *form, slot, bytes),
+        Change::RowMark { slot, deleter, .. } => mark_row(page, *form, slot, deleter),
+        Change::RowsDrop { slots, .. } => drop_rows(page, form, 0, slots),
+        Change::StatusSet { entry, status, .. } => set_status(page, entry, status),
+        _ => unreachable!(),
+    }
+}
+
+/// The page is these bytes.
+fn put_page(page: &mut Page, bytes: &[u8])
+    requires whole { length bytes.now ≡ 8192 }
+    ensures { page.new ≡ bytes.now }
+{
+    let mut copy = [0; 8192];
+    copy.copy_from_slice(bytes);
+    *page = Page::from_bytes(&copy);
+}
+
+/// The slots are free.
+#[tactic(auto, unfolding(crate::specs::Redo::are_ascending, crate::specs::Redo::dropped))]
+fn drop_rows(page: &mut Page, form: &Form, least: u32, slots: &[u8])
+    requires form { IsForm form.now }
+    requires ascending { are_ascending least (slot_count form.now) slots.now ≡ true }
+    ensures { (list : List Slot) → HasSlots form.now page.old list → HasSlots form.now page.new (dropped list slots.now) }
+{
+    if let [high, low, slots @ ..] = slots {
+        let slot = u16::from(*high) * 256 + u16::from(*low);
+        free_slot(page, *form, slot);
+        drop_rows(page, form, u32::from(slot) + 1, slots);
+    }
+}
