@@ -121,9 +121,9 @@ status-page-write page page_new entries e s byte q r below small qe re is byte_i
         set body (e / 4) next,
         length-set body (e / 4) next ∙ long,
         written
-        ∙ (λ i. put_mid (32 + qe i) 1 (is.bytes.2 i) (same i ∷ []))
-        ∙ write-behind (e / 4) 1 (header_bytes 1) body (next ∷ [])
-        ∙ ap (λ (l : List ℕ). header_bytes 1 ++ l) one,
+            ∙ (λ i. put_mid (32 + qe i) 1 (is.bytes.2 i) (same i ∷ []))
+            ∙ write-behind (e / 4) 1 (header_bytes 1) body (next ∷ [])
+            ∙ ap (λ (l : List ℕ). header_bytes 1 ++ l) one,
         ap (λ (l : List ℕ). set l e s) is.bytes.3 ∙ sym (status-write body e s (omega arith) small),
       );
     }
