@@ -1,11 +1,11 @@
 // Whether bytes are a page of a form.
 
-ghost use Rattle.std.specs.Prelude.{◌≡◌, ◌*◌, ◌≤◌, ◌<◌, length, IfErr, IfSome, OnOk, OnErr, MatchResult, None, Some};
+ghost use Rattle.std.specs.Prelude.{◌≡◌, ◌*◌, ◌≤◌, ◌<◌, length, true, false, IfErr, IfSome, OnOk, OnErr, MatchResult, None, Some};
 ghost use Rattle.block_model.specs.RowSize.{row_size};
 ghost use Rattle.page_layout.specs.PageContents.{HasFewColumns, IsForm, IsPageOf};
 ghost use Rattle.page_layout.specs.PageFaults.{body_fault, kind_for, page_fault, slots_fault, started_fault, zeros_fault};
 
-use crate::page::{Form, HEADER, Page, PageFault};
+use crate::page::{Form, HEADER, PAGE, Page, PageFault, bytes_known};
 use crate::slot::slot_fault;
 use block_model::value::Kind;
 
@@ -30,6 +30,23 @@ pub fn check(page: &Page, form: Form) -> Result<(), PageFault>
     match page_fault(page.as_bytes(), &form) {
         Some(at) => Err(PageFault { at: at as u16 }),
         None => Ok(()),
+    }
+}
+
+/// Whether the bytes are a page of the form, whose slots are of the size of a row and fit a page. Copies none of them.
+pub fn is_page(bytes: &[u8], form: Form) -> bool
+    requires { IsForm form }
+    ensures page { result ≡ true → (length bytes.now ≡ 8192) × IsPageOf form bytes.now }
+    ensures other { result ≡ false → (length bytes.now ≡ 8192) × IsPageOf form bytes.now → ⊥ }
+{
+    if bytes.len() != PAGE {
+        return false;
+    }
+    bytes_known(bytes);
+    form_known(&form);
+    match page_fault(bytes, &form) {
+        Some(_) => false,
+        None => true,
     }
 }
 

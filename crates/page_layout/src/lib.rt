@@ -14,7 +14,7 @@ mod slot;
 mod tests;
 mod writers;
 
-pub use checking::check;
+pub use checking::{check, is_page};
 pub use page::{Form, Page, PageFault};
 pub use readers::{kind_of, row_at, status_at};
 pub use row::{decode_row, encode_row, kinds_of, row_size};

@@ -49,6 +49,14 @@ impl Page {
         &self.bytes
     }
 
+    /// The page becomes these bytes.
+    pub fn replace(&mut self, bytes: &[u8])
+        requires whole { length bytes.now ≡ 8192 }
+        ensures { self.new ≡ bytes.now }
+    {
+        self.bytes.copy_from_slice(bytes);
+    }
+
     /// The bytes stand from that place on.
     pub(crate) fn write(&mut self, at: usize, bytes: &[u8])
         requires within { at + length bytes.now ≤ 8192 }
@@ -74,7 +82,8 @@ impl Page {
     }
 }
 
-fn bytes_known(bytes: &[u8])
+/// A byte is below 256. Does nothing.
+pub(crate) fn bytes_known(bytes: &[u8])
     ensures { AreBytes bytes.now }
 {
     let _ = bytes;

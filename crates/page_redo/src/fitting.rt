@@ -1,15 +1,12 @@
 // Whether a page takes a change.
 
-ghost use Rattle.std.specs.Prelude.{◌≡◌, ◌<◌, ◌≤◌, length, slice_index, true, false};
+ghost use Rattle.std.specs.Prelude.{◌≡◌, ◌<◌, ◌≤◌, slice_index, true, false};
 ghost use Rattle.page_layout.specs.PageContents.{HasSlot, IsForm, IsPageOf, IsRowOf};
 ghost use Rattle.page_redo.specs.Redo.{Fits, IsFreeSlot, IsHeapPage, IsOfStatuses, IsStart, IsUsedSlot, are_ascending, slot_count};
 ghost use Rattle.wal_record.specs.Changes.{logged};
 
-use page_layout::{Form, Page, check, is_row, kind_of, row_at};
+use page_layout::{Form, Page, check, is_page, is_row, kind_of, row_at};
 use wal_record::Change;
-
-/// How many bytes a page has.
-const PAGE: usize = 8192;
 
 /// How many statuses a page has, and how many there are.
 const ENTRIES: u16 = 32640;
@@ -37,7 +34,7 @@ pub(crate) fn takes(page: &Page, change: &Change<'_>, form: &Form) -> bool
     ensures misfits { result ≡ false → Fits form.now page.now (logged change.now) → ⊥ }
 {
     match *change {
-        Change::FullPage { bytes, .. } => is_page(bytes, form),
+        Change::FullPage { bytes, .. } => is_page(bytes, *form),
         Change::PageStart { kind, .. } => is_start(kind, form),
         Change::RowPut { slot, bytes, .. } => can_put(page, form, slot, bytes),
         Change::RowMark { slot, .. } => is_used(page, form, slot),
@@ -45,20 +42,6 @@ pub(crate) fn takes(page: &Page, change: &Change<'_>, form: &Form) -> bool
         Change::StatusSet { entry, status, .. } => can_set(page, form, entry, status),
         _ => false,
     }
-}
-
-/// Whether the bytes are a page of the form.
-fn is_page(bytes: &[u8], form: &Form) -> bool
-    requires form { IsForm form.now }
-    ensures is { result ≡ true → (length bytes.now ≡ 8192) × IsPageOf form.now bytes.now }
-    ensures isnt { result ≡ false → (length bytes.now ≡ 8192) × IsPageOf form.now bytes.now → ⊥ }
-{
-    if bytes.len() != PAGE {
-        return false;
-    }
-    let mut copy = [0; PAGE];
-    copy.copy_from_slice(bytes);
-    passes(&Page::from_bytes(&copy), form)
 }
 
 fn passes(page: &Page, form: &Form) -> bool

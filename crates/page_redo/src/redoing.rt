@@ -42,7 +42,7 @@ fn make(page: &mut Page, change: &Change<'_>, form: &Form)
     ensures { Means form.now page.old (logged change.now) page.new }
 {
     match *change {
-        Change::FullPage { bytes, .. } => put_page(page, bytes),
+        Change::FullPage { bytes, .. } => page.replace(bytes),
         Change::PageStart { .. } => start_heap(page, *form),
         Change::RowPut { slot, bytes, .. } => put_row(page, *form, slot, bytes),
         Change::RowMark { slot, deleter, .. } => mark_row(page, *form, slot, deleter),
@@ -50,16 +50,6 @@ fn make(page: &mut Page, change: &Change<'_>, form: &Form)
         Change::StatusSet { entry, status, .. } => set_status(page, entry, status),
         _ => unreachable!(),
     }
-}
-
-/// The page is these bytes.
-fn put_page(page: &mut Page, bytes: &[u8])
-    requires whole { length bytes.now ≡ 8192 }
-    ensures { page.new ≡ bytes.now }
-{
-    let mut copy = [0; 8192];
-    copy.copy_from_slice(bytes);
-    *page = Page::from_bytes(&copy);
 }
 
 /// The slots are free.
