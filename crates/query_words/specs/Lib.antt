@@ -7,5 +7,7 @@ pub mod Commands
 pub mod Declarations
 pub mod Texts
 pub mod StatementRequests
+pub mod RowsPut
 pub mod ScriptTexts
+pub mod LineFits
 pub mod Appended

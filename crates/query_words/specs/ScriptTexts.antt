@@ -1,17 +1,15 @@
 -- the text of each line of a script, as if each session worked on its own copy of the tables
-use Rattle.std.specs.Prelude.{◌≡◌, ℕ, ◌+◌, nat_lt, List, [], ◌∷◌, ◌++◌, length, Result, Ok, Err, if◌then◌else◌, refl}
-use Rattle.std.proofs.Common.{sym, ◌∙◌}
+use Rattle.std.specs.Prelude.{◌≡◌, ℕ, ◌+◌, ◌^◌, ◌<◌, ◌≤◌, nat_lt, nat_le, Bool, List, [], ◌∷◌, ◌++◌, length, Result, Ok, Err, if◌then◌else◌}
 use Rattle.std.specs.Str.{bytes_eq}
 use Rattle.block_model.specs.declared.schema.Schema.{Schema}
-use Rattle.block_model.specs.declared.value.Value.{Value}
-use Rattle.block_model.specs.declared.row.RowId.{RowId}
 use Rattle.block_model.specs.declared.row.Row.{Row}
 use Rattle.block_model.specs.declared.row.Query.{Query}
 use Rattle.block_model.specs.declared.request.Entry.{Entry}
 use Rattle.block_model.specs.declared.reply.Reply.{Reply}
 use Rattle.block_model.specs.declared.reply.Reply.TheVariants as replies
+use Rattle.block_model.specs.declared.reply.Refusal.TheVariants as refusals
 use Rattle.block_model.specs.DatabaseState.{DatabaseState, initial_state}
-use Rattle.block_model.specs.SerialRun.{serial_run, serial_run-append}
+use Rattle.block_model.specs.SerialRun.{serial_run}
 use Rattle.query_words.specs.declared.statement.Statement.{Statement}
 use Rattle.query_words.specs.declared.statement.Statement.TheVariants as statements
 use Rattle.query_words.specs.declared.line.Order.TheVariants as orders
@@ -19,18 +17,25 @@ use Rattle.query_words.specs.declared.line.Line.{Line}
 use Rattle.query_words.specs.declared.line.Line.TheVariants as lines
 use Rattle.query_words.specs.declared.line.LineFault.{LineFault}
 use Rattle.query_words.specs.Lines.{line_of}
+use Rattle.query_words.specs.RowsPut.{rows_put}
 use Rattle.query_words.specs.Texts.{reply_text, fault_text}
 use Rattle.query_words.specs.StatementRequests.{statement_requests, statement_reply}
 
--- where a script stands: the sessions' names in the order of their first lines that were read, the database, and the rows
--- in the order in which they were put, whatever became of their transactions
+-- where a script stands: the sessions' names in the order of their first lines that were read, and the journal of all requests
 pub record ScriptPlace : Type 0 where
   pub names : List (List ℕ)
-  pub database : DatabaseState
-  pub rows : List Row
+  pub journal : List Entry
 
 abbrev pub script_start : ScriptPlace
-script_start = record { names = []; database = initial_state; rows = [] }
+script_start = record { names = []; journal = [] }
+
+-- the database that the journal makes, one request after the other
+abbrev pub database_of : List Entry → DatabaseState
+database_of journal = serial_run initial_state journal
+
+-- the rows that it puts, in their order
+abbrev pub rows_of : List Entry → List Row
+rows_of journal = rows_put initial_state journal
 
 -- which blocks an explain of a query names, where rows were put in this order
 abbrev pub Explaining : Type 0
@@ -48,80 +53,89 @@ session_number names name = session_from names 0 name
 abbrev pub with_session : List (List ℕ) → List ℕ → List (List ℕ)
 with_session names name = if nat_lt (session_number names name) (length names) then names else names ++ name ∷ []
 
--- the sessions after a line, the requests that it makes, the rows that have been put then, and its text
+-- how many sessions there are at most
+abbrev pub max_sessions : ℕ
+max_sessions = 64
+
+-- the name would be that of a further session
+abbrev pub is_past_sessions : List (List ℕ) → List ℕ → Bool
+is_past_sessions names name = nat_le max_sessions (session_number names name)
+
+-- how many requests the journal has at most
+abbrev pub max_entries : ℕ
+max_entries = 2 ^ 20
+
+-- the sessions after a line, the requests that it makes, and its text
 pub record LineAnswer : Type 0 where
   pub names : List (List ℕ)
   pub requests : List Entry
-  pub rows : List Row
   pub text : List ℕ
 
--- the row that an insert puts
-abbrev pub row_put : ℕ → RowId → List Value → Row
-row_put table id values = record { table = table; id = id; values = values }
+-- An explain needs no transaction and is answered the blocks, or that memory is short; a statement of a transaction gets the
+-- reply to its requests.
+abbrev pub reply_at : Explaining → DatabaseState → List Row → ℕ → Bool → Statement → Reply
+reply_at explained database rows n short (statements.Explain q) =
+    if short then replies.Refused refusals.Memory else replies.Kept (explained rows q)
+reply_at explained database rows n short statement = statement_reply database n short statement
 
--- it joins those before it
-abbrev pub rows_after : List Row → Statement → Reply → List Row
-rows_after rows (statements.Insert table values) (replies.Inserted id) = rows ++ row_put table id values ∷ []
-rows_after rows statement reply = rows
+-- the reply to a statement of session n, behind these requests
+abbrev pub reply_behind : Explaining → List Entry → ℕ → Bool → Statement → Reply
+reply_behind explained journal n short statement = reply_at explained (database_of journal) (rows_of journal) n short statement
 
--- An explain needs no transaction and is answered the blocks; a statement of a transaction the reply to its requests.
-abbrev pub reply_at : Explaining → DatabaseState → List Row → ℕ → Statement → Reply
-reply_at explained database rows n (statements.Explain q) = replies.Kept (explained rows q)
-reply_at explained database rows n statement = statement_reply database n statement
+-- its requests
+abbrev pub requests_behind : List Entry → ℕ → Bool → Statement → List Entry
+requests_behind journal n short statement = statement_requests (database_of journal) n short statement
 
--- a statement of the session of that name, with its reply
-abbrev pub replied_answer : ScriptPlace → List ℕ → Statement → Reply → LineAnswer
-replied_answer p name statement reply = record {
+-- a statement of the session of that number and name
+abbrev pub session_answer : Explaining → ScriptPlace → ℕ → List ℕ → Bool → Statement → LineAnswer
+session_answer explained p n name short statement = record {
   names = with_session p.names name;
-  requests = statement_requests p.database (session_number p.names name) statement;
-  rows = rows_after p.rows statement reply;
-  text = reply_text name reply;
+  requests = requests_behind p.journal n short statement;
+  text = reply_text name (reply_behind explained p.journal n short statement);
 }
 
-abbrev pub statement_answer : Explaining → ScriptPlace → List ℕ → Statement → LineAnswer
-statement_answer explained p name statement = replied_answer p name statement (reply_at explained p.database p.rows (session_number p.names name) statement)
-
 abbrev pub without_request : ScriptPlace → List ℕ → LineAnswer
-without_request p text = record { names = p.names; requests = []; rows = p.rows; text = text }
+without_request p text = record { names = p.names; requests = []; text = text }
+
+-- one session more than there may be is refused and isn't made
+abbrev pub statement_answer : Explaining → ScriptPlace → List ℕ → Bool → Statement → LineAnswer
+statement_answer explained p name short statement =
+    if is_past_sessions p.names name then without_request p (reply_text name (replies.Refused (refusals.Limit max_sessions)))
+    else session_answer explained p (session_number p.names name) name short statement
 
 -- A line that isn't read changes nothing and has the text of its fault; one that says nothing has no text.
-abbrev pub said_answer : Explaining → ScriptPlace → Result Line LineFault → LineAnswer
-said_answer explained p (Err fault) = without_request p (fault_text fault)
-said_answer explained p (Ok lines.Nothing) = without_request p []
-said_answer explained p (Ok (lines.Say name (orders.Whole statement))) = statement_answer explained p name statement
-said_answer explained p (Ok (lines.Say name order)) = without_request p []
+abbrev pub said_answer : Explaining → ScriptPlace → Bool → Result Line LineFault → LineAnswer
+said_answer explained p short (Err fault) = without_request p (fault_text fault)
+said_answer explained p short (Ok lines.Nothing) = without_request p []
+said_answer explained p short (Ok (lines.Say name (orders.Whole statement))) = statement_answer explained p name short statement
+said_answer explained p short (Ok (lines.Say name order)) = without_request p []
 
-abbrev pub line_answer : Explaining → Schema → ScriptPlace → List ℕ → LineAnswer
-line_answer explained schema p line = said_answer explained p (line_of schema line)
+-- what a line does and is answered, where memory is short for it or isn't
+abbrev pub line_answer : Explaining → Schema → ScriptPlace → Bool → List ℕ → LineAnswer
+line_answer explained schema p short line = said_answer explained p short (line_of schema line)
 
--- where the line's requests lead, one after the other
+-- the line's requests join the journal
 abbrev pub place_after : ScriptPlace → LineAnswer → ScriptPlace
-place_after p answer = record { names = answer.names; database = serial_run p.database answer.requests; rows = answer.rows }
+place_after p answer = record { names = answer.names; journal = p.journal ++ answer.requests }
 
--- at the first place the line has this text, and it leads to the second
-abbrev pub IsLineText : Explaining → Schema → ScriptPlace → List ℕ → List ℕ → ScriptPlace → Type 0
-IsLineText explained schema p line text p' =
-    (text ≡ (line_answer explained schema p line).text) × (p' ≡ place_after p (line_answer explained schema p line))
+-- at the first place the line has this text, and it leads to the second; its requests fit into the journal
+pub record IsLineText (explained : Explaining) (schema : Schema) (p : ScriptPlace) (line text : List ℕ) (p' : ScriptPlace) : Type 0 where
+  pub short : Bool
+  pub text_is : text ≡ (line_answer explained schema p short line).text
+  pub leads : p' ≡ place_after p (line_answer explained schema p short line)
+  pub fits : length p'.journal ≤ max_entries
 
--- where lines lead, one after the other
-abbrev pub after_lines : Explaining → Schema → ScriptPlace → List (List ℕ) → ScriptPlace
-after_lines explained schema p [] = p
-after_lines explained schema p (line ∷ rest) = after_lines explained schema (place_after p (line_answer explained schema p line)) rest
+-- the requests of the line don't all fit into the journal
+pub record LacksRoom (explained : Explaining) (schema : Schema) (p : ScriptPlace) (line : List ℕ) : Type 0 where
+  pub short : Bool
+  pub past : max_entries < length p.journal + length (line_answer explained schema p short line).requests
 
--- the journal of lines: the requests of each, in the order of the lines
-abbrev pub journal_of_lines : Explaining → Schema → ScriptPlace → List (List ℕ) → List Entry
-journal_of_lines explained schema p [] = []
-journal_of_lines explained schema p (line ∷ rest) =
-    (line_answer explained schema p line).requests ++ journal_of_lines explained schema (place_after p (line_answer explained schema p line)) rest
+-- the database and the rows behind a line, by its requests
+pub record IsMadeBy (before after requests : List Entry) : Type 0 where
+  pub database : database_of after ≡ serial_run (database_of before) requests
+  pub rows : rows_of after ≡ rows_of before ++ rows_put (database_of before) requests
 
--- lines lead to the database that their journal makes
-pub database-after_lines : (explained : Explaining) (schema : Schema) (p : ScriptPlace) (script : List (List ℕ))
-    → (after_lines explained schema p script).database ≡ serial_run p.database (journal_of_lines explained schema p script)
-database-after_lines explained schema p [] = refl
-database-after_lines explained schema p (line ∷ rest) =
-    database-after_lines explained schema (place_after p (line_answer explained schema p line)) rest
-    ∙ sym (serial_run-append p.database (line_answer explained schema p line).requests (journal_of_lines explained schema (place_after p (line_answer explained schema p line)) rest))
-
-abbrev pub JournalMakesDatabase : Type 0
-JournalMakesDatabase = (explained : Explaining) (schema : Schema) (p : ScriptPlace) (script : List (List ℕ))
-    → (after_lines explained schema p script).database ≡ serial_run p.database (journal_of_lines explained schema p script)
+-- a line's requests make what stands behind it of what stands before it
+abbrev pub LinesMakeTheDatabase : Type 0
+LinesMakeTheDatabase = (explained : Explaining) (schema : Schema) (p p' : ScriptPlace) (line text : List ℕ)
+    → (said : IsLineText explained schema p line text p') → IsMadeBy p.journal p'.journal (line_answer explained schema p said.short line).requests

@@ -1,25 +1,30 @@
 -- which requests a statement is, and its reply ("Transaction Isolation": a statement works on its transaction's copy)
-use Rattle.std.specs.Prelude.{ℕ, ◌+◌, List, [], ◌∷◌, Option, None, Some, if◌then◌else◌}
+use Rattle.std.specs.Prelude.{ℕ, ◌+◌, Bool, true, false, List, [], ◌∷◌, Option, None, Some, if◌then◌else◌}
 use Rattle.std.specs.FinMap as map
 use Rattle.block_model.specs.declared.row.Row.{Row}
 use Rattle.block_model.specs.declared.row.Query.{Query}
 use Rattle.block_model.specs.declared.request.Entry.{Entry}
 use Rattle.block_model.specs.declared.request.Request.{Request}
 use Rattle.block_model.specs.declared.request.Request.TheVariants as requests
+use Rattle.block_model.specs.declared.request.Tag.{Tag}
 use Rattle.block_model.specs.declared.request.Tag.TheVariants as tags
 use Rattle.block_model.specs.declared.reply.Reply.{Reply}
 use Rattle.block_model.specs.declared.reply.Reply.TheVariants as replies
 use Rattle.block_model.specs.declared.reply.Refusal.{Refusal}
 use Rattle.block_model.specs.declared.reply.Refusal.TheVariants as refusals
 use Rattle.block_model.specs.DatabaseState.{DatabaseState, OpenTransaction}
-use Rattle.block_model.specs.RequestEffect.{Answer, Begun, Inserted, Found, Conflict, Committed, RolledBack, after_request, reply_to}
+use Rattle.block_model.specs.RequestEffect.{Answer, Begun, Inserted, Found, Conflict, Committed, RolledBack, NoMemory, after_request, reply_to}
 use Rattle.block_model.specs.SerialRun.{replies_to}
 use Rattle.query_words.specs.declared.statement.Statement.{Statement}
 use Rattle.query_words.specs.declared.statement.Statement.TheVariants as statements
 
--- a request of a session, for which there is room and memory
+-- a request of a session, and how it went
+abbrev pub tagged_entry : ℕ → ℕ → Request → Tag → Entry
+tagged_entry n table request tag = record { session = n; table = table; request = request; tag = tag }
+
+-- a request for which there is room and memory
 abbrev pub request_entry : ℕ → ℕ → Request → Entry
-request_entry n table request = record { session = n; table = table; request = request; tag = tags.Ok }
+request_entry n table request = tagged_entry n table request tags.Ok
 
 abbrev pub look_entry : ℕ → Query → Entry
 look_entry n q = request_entry n q.table (requests.Look q)
@@ -43,16 +48,29 @@ abbrev pub found_in : Answer → List Row
 found_in (Found rows) = rows
 found_in answer = []
 
--- The requests that a statement of session n is, from state s on: one each, but a delete looks and then marks what it
--- found. Explain and maintenance aren't requests of a transaction.
-abbrev pub requests_of : DatabaseState → ℕ → Statement → List Entry
-requests_of s n statements.Begin = request_entry n 0 requests.Begin ∷ []
-requests_of s n statements.Commit = request_entry n 0 requests.Commit ∷ []
-requests_of s n statements.Rollback = request_entry n 0 requests.Rollback ∷ []
-requests_of s n (statements.Insert table values) = request_entry n table (requests.Put values) ∷ []
-requests_of s n (statements.Select q) = look_entry n q ∷ []
-requests_of s n (statements.Delete q) = look_entry n q ∷ mark_entries s n q.table (found_in (reply_to s (look_entry n q)))
-requests_of s n statement = []
+-- a put or a look goes well, or memory is short for it
+abbrev pub tag_where : Bool → Tag
+tag_where short = if short then tags.NoMemory else tags.Ok
+
+-- a begin for which memory is short is no request
+abbrev pub begin_entries : ℕ → Bool → List Entry
+begin_entries n short = if short then [] else request_entry n 0 requests.Begin ∷ []
+
+-- a delete looks, and then marks what it found; its memory is taken before the first mark
+abbrev pub delete_entries : DatabaseState → ℕ → Bool → Query → List Entry
+delete_entries s n true q = tagged_entry n q.table (requests.Look q) tags.NoMemory ∷ []
+delete_entries s n false q = look_entry n q ∷ mark_entries s n q.table (found_in (reply_to s (look_entry n q)))
+
+-- The requests that a statement of session n is, from state s on, where memory is short or isn't: one each, but a delete has
+-- one for each row too. A commit and a rollback take no memory. Explain and maintenance aren't requests of a transaction.
+abbrev pub requests_of : DatabaseState → ℕ → Bool → Statement → List Entry
+requests_of s n short statements.Begin = begin_entries n short
+requests_of s n short statements.Commit = request_entry n 0 requests.Commit ∷ []
+requests_of s n short statements.Rollback = request_entry n 0 requests.Rollback ∷ []
+requests_of s n short (statements.Insert table values) = tagged_entry n table (requests.Put values) (tag_where short) ∷ []
+requests_of s n short (statements.Select q) = tagged_entry n q.table (requests.Look q) (tag_where short) ∷ []
+requests_of s n short (statements.Delete q) = delete_entries s n short q
+requests_of s n short statement = []
 
 -- how many rows were marked, or the conflict that ended it
 abbrev pub marks_reply : ℕ → List Answer → Reply
@@ -60,8 +78,11 @@ marks_reply count [] = replies.Deleted count
 marks_reply count (Conflict id ∷ answers) = replies.Refused (refusals.Conflict id)
 marks_reply count (answer ∷ answers) = marks_reply (count + 1) answers
 
--- the reply for what one request was answered; the last case is for what no request that finds room and memory is answered
+-- The reply for what one request was answered. Where there was no request, or memory was short for it, want of memory is
+-- the reply; the last case is for what no request that finds room is answered.
 abbrev pub reply_of : List Answer → Reply
+reply_of [] = replies.Refused refusals.Memory
+reply_of (NoMemory ∷ []) = replies.Refused refusals.Memory
 reply_of (Begun t ∷ []) = replies.Begun t
 reply_of (Inserted id ∷ []) = replies.Inserted id
 reply_of (Found rows ∷ []) = replies.Found rows
@@ -103,12 +124,16 @@ abbrev pub reply_unless_refused : Option Refusal → Statement → List Answer �
 reply_unless_refused None statement answers = reply_to_statement statement answers
 reply_unless_refused (Some refusal) statement answers = replies.Refused refusal
 
+-- why the statement of session n isn't taken in state s
+abbrev pub refusal_at : DatabaseState → ℕ → Statement → Option Refusal
+refusal_at s n statement = submission_refusal (map.get s.sessions n) statement
+
 -- the requests that a statement of session n makes in state s
-unfoldable pub statement_requests : DatabaseState → ℕ → Statement → List Entry
-statement_requests s n statement = unless_refused (submission_refusal (map.get s.sessions n) statement) (requests_of s n statement)
+unfoldable pub statement_requests : DatabaseState → ℕ → Bool → Statement → List Entry
+statement_requests s n short statement = unless_refused (refusal_at s n statement) (requests_of s n short statement)
 
 -- The reply to a statement of a transaction: why it isn't taken, or what its requests were answered, one after the other.
 -- Explain and maintenance make no requests, and what they are answered isn't said here.
-unfoldable pub statement_reply : DatabaseState → ℕ → Statement → Reply
-statement_reply s n statement =
-    reply_unless_refused (submission_refusal (map.get s.sessions n) statement) statement (replies_to s (requests_of s n statement))
+unfoldable pub statement_reply : DatabaseState → ℕ → Bool → Statement → Reply
+statement_reply s n short statement =
+    reply_unless_refused (refusal_at s n statement) statement (replies_to s (requests_of s n short statement))

@@ -1,8 +1,9 @@
 // What the definitions of a script's texts mean.
 
-ghost use Rattle.query_words.specs.ScriptTexts.{JournalMakesDatabase};
+ghost use Rattle.query_words.specs.ScriptTexts.{LinesMakeTheDatabase};
+ghost use Rattle.query_words.specs.LineFits.{IsStatementFor};
 
-/// The database at which lines arrive is the one that the journal of their requests makes, one after the other.
-pub fn journal_makes_database()
-    ensures { JournalMakesDatabase }
+/// The database behind a line is what the line's requests make of the one before it, and the rows that they put join those before.
+pub fn lines_make_the_database()
+    ensures { LinesMakeTheDatabase }
 {}

@@ -1,0 +1,4 @@
+pub mod Chunks
+pub mod CoversMatches
+pub mod VersionsState
+pub mod Hits

@@ -1,0 +1,201 @@
+// Row versions, statuses and open transactions.
+
+ghost use Rattle.std.specs.Prelude.{◌≡◌, ◌+◌, ◌<◌, ◌≤◌, None, [], ◌∷◌, ◌++◌, length, take, map, OnOk, OnErr, IfOk, IfSome, MatchOption, if◌then◌else◌, slice_set, replicate, vec_capacity};
+ghost use Rattle.std.specs.FinMap as map_of;
+ghost use Rattle.block_model.specs.declared.request.Request.TheVariants as requests;
+ghost use Rattle.block_model.specs.DatabaseState.{initial_state};
+ghost use Rattle.block_model.specs.RequestEffect.{effect, after_failure, rows_found, Begun, Inserted, Found, Committed, RolledBack};
+ghost use Rattle.block_model.specs.SerialRun.{serial_run, replies_to};
+ghost use Rattle.query_words.specs.RowsPut.{row_put};
+ghost use Rattle.query_words.specs.StatementRequests.{request_entry, mark_entries, marks_reply};
+ghost use Rattle.row_versions.specs.VersionsState.{HasTransaction, StandAtTheirIds, rows_at, standing_of};
+ghost use Rattle.row_versions.specs.CoversMatches.{CoversMatches};
+ghost use Rattle.row_versions.specs.Hits.{AreHits, mark_of, delete_reply};
+
+use crate::standing::Standing;
+use block_model::NoMemory;
+use block_model::row::{Query, RowId, Rows};
+use block_model::value::Values;
+use std::alloc::Global;
+use std::marker::Model;
+
+/// A row that a delete found: its id, and its place among its table's rows.
+#[derive(Clone, Copy, Debug, PartialEq, Eq)]
+pub struct Hit {
+    pub id: RowId,
+    pub place: usize,
+}
+
+/// The tables of a database, in memory, with the transactions of up to 64 sessions.
+#[derive(Drop)]
+pub struct Versions {
+    never: Never,
+}
+
+#[derive(Clone, Copy, Debug, PartialEq, Eq)]
+enum Never {}
+
+impl Model for Versions {
+    ghost use Rattle.row_versions.specs.VersionsState.{VersionsState, coded_versions};
+    ghost use Rattle.block_model.specs.DatabaseState.{initial_state};
+    ghost use Rattle.std.specs.Prelude.{[]};
+
+    ghost Value = { VersionsState };
+
+    ghost coded = { coded_versions };
+
+    ghost view = { λ a. record { database = initial_state; tables = []; room = 0 } };
+}
+
+impl Versions {
+    /// No rows and no transactions, in as many tables as said.
+    pub fn new(alloc: Global, tables: usize) -> Result<Versions, NoMemory>
+        ensures database { IfOk result (λ v. v.database ≡ initial_state) }
+        ensures tables { IfOk result (λ v. v.tables ≡ replicate tables []) }
+    {
+        Err(NoMemory)
+    }
+
+    /// What the layer above may take as known.
+    pub fn known(&self)
+        ensures { StandAtTheirIds self.now.database }
+    {
+        match self.never {}
+    }
+
+    /// How many rows have been put into the table.
+    pub fn rows_in(&self, table: u8) -> usize
+        requires { table < length self.now.tables }
+        ensures { result ≡ length (rows_at self.now.tables table) }
+    {
+        match self.never {}
+    }
+
+    /// How the session stands.
+    pub fn standing(&self, session: u32) -> Standing
+        ensures { result ≡ standing_of (map_of.get self.now.database.sessions session) }
+    {
+        match self.never {}
+    }
+
+    /// Makes room for 64 begins.
+    pub fn make_room(&mut self) -> Result<(), NoMemory>
+        ensures database { self.new.database ≡ self.old.database }
+        ensures tables { self.new.tables ≡ self.old.tables }
+        ensures ok { OnOk result (64 ≤ self.new.room) }
+        ensures kept { self.old.room ≤ self.new.room }
+    {
+        match self.never {}
+    }
+
+    /// Begins a transaction of the session, and answers its number. `active` is empty, with room for 64 numbers. Takes no
+    /// memory.
+    pub fn begin(&mut self, session: u32, active: Vec<u64>) -> u64
+        requires session { session < 64 }
+        requires idle { map_of.get self.old.database.sessions session ≡ None }
+        requires room { 0 < self.old.room }
+        requires empty { active.items ≡ [] }
+        requires numbers { 64 ≤ vec_capacity active }
+        ensures database { effect self.old.database (request_entry session 0 requests.Begin) ≡ (self.new.database, Begun result) }
+        ensures tables { self.new.tables ≡ self.old.tables }
+        ensures room { self.old.room ≤ self.new.room + 1 }
+    {
+        match self.never {}
+    }
+
+    /// Puts a row of the session's transaction into the table, and answers its id. After a refusal nothing is changed.
+    pub fn put(&mut self, session: u32, table: u8, values: Values) -> Result<RowId, NoMemory>
+        requires under_way { HasTransaction self.old.database session }
+        requires table { table < length self.old.tables }
+        ensures ok { IfOk result (λ id. effect self.old.database (request_entry session table (requests.Put values)) ≡ (self.new.database, Inserted id)) }
+        ensures rows { IfOk result (λ id. self.new.tables ≡ slice_set self.old.tables table (rows_at self.old.tables table ++ row_put table id values ∷ [])) }
+        ensures room { OnOk result (self.new.room ≡ self.old.room) }
+        ensures err { OnErr result (self.new ≡ self.old) }
+    {
+        match self.never {}
+    }
+
+    /// The rows that the session's transaction sees and that meet the query, in order of their ids. Of the table's rows only
+    /// those of the given blocks are read, where each block has as many rows as said.
+    pub fn look(
+        &self,
+        session: u32,
+        query: &Query,
+        blocks: &[u32],
+        rows_per_page: u32,
+    ) -> Result<Rows, NoMemory>
+        requires under_way { HasTransaction self.now.database session }
+        requires table { query.now.table < length self.now.tables }
+        requires covered { CoversMatches (rows_at self.now.tables query.now.table) query.now rows_per_page blocks.now }
+        ensures { IfOk result (λ rows. effect self.now.database (request_entry session query.now.table (requests.Look query.now)) ≡ (self.now.database, Found rows)) }
+    {
+        match self.never {}
+    }
+
+    /// The same rows by their places, for a delete.
+    pub fn find(
+        &self,
+        session: u32,
+        query: &Query,
+        blocks: &[u32],
+        rows_per_page: u32,
+    ) -> Result<Vec<Hit>, NoMemory>
+        requires under_way { HasTransaction self.now.database session }
+        requires table { query.now.table < length self.now.tables }
+        requires covered { CoversMatches (rows_at self.now.tables query.now.table) query.now rows_per_page blocks.now }
+        ensures { IfOk result (λ hits. AreHits self.now session query.now hits.items) }
+    {
+        match self.never {}
+    }
+
+    /// How many marks a delete of these hits makes: one for each, up to and with the first that conflicts.
+    pub fn marks(&self, session: u32, query: &Query, hits: &[Hit]) -> usize
+        requires { AreHits self.now session query.now hits.now }
+        ensures within { result ≤ length hits.now }
+        ensures marks { IfSome (map_of.get self.now.database.sessions session) (λ x. mark_entries self.now.database session query.now.table (rows_found x query.now) ≡ map (mark_of session query.now.table) (take result hits.now)) }
+    {
+        match self.never {}
+    }
+
+    /// Marks the hits, in order, up to the first that conflicts: the transaction fails there, and its id is answered. Takes
+    /// no memory.
+    pub fn mark(&mut self, session: u32, query: &Query, hits: &[Hit]) -> Option<RowId>
+        requires { AreHits self.old session query.now hits.now }
+        ensures database { IfSome (map_of.get self.old.database.sessions session) (λ x. self.new.database ≡ serial_run self.old.database (mark_entries self.old.database session query.now.table (rows_found x query.now))) }
+        ensures reply { IfSome (map_of.get self.old.database.sessions session) (λ x. marks_reply 0 (replies_to self.old.database (mark_entries self.old.database session query.now.table (rows_found x query.now))) ≡ delete_reply (length hits.now) result) }
+        ensures tables { self.new.tables ≡ self.old.tables }
+        ensures room { self.new.room ≡ self.old.room }
+    {
+        match self.never {}
+    }
+
+    /// The session's transaction fails. Takes no memory.
+    pub fn fail(&mut self, session: u32)
+        requires { HasTransaction self.old.database session }
+        ensures database { IfSome (map_of.get self.old.database.sessions session) (λ x. self.new.database ≡ after_failure self.old.database session x) }
+        ensures tables { self.new.tables ≡ self.old.tables }
+        ensures room { self.new.room ≡ self.old.room }
+    {
+        match self.never {}
+    }
+
+    /// Commits the session's transaction, or rolls it back where it has failed; whether it was committed. Takes no memory.
+    pub fn commit(&mut self, session: u32) -> bool
+        requires { HasTransaction self.old.database session }
+        ensures database { effect self.old.database (request_entry session 0 requests.Commit) ≡ (self.new.database, if result then Committed else RolledBack) }
+        ensures tables { self.new.tables ≡ self.old.tables }
+        ensures room { self.new.room ≡ self.old.room }
+    {
+        match self.never {}
+    }
+
+    /// Rolls the session's transaction back. Takes no memory.
+    pub fn rollback(&mut self, session: u32)
+        requires { HasTransaction self.old.database session }
+        ensures database { effect self.old.database (request_entry session 0 requests.Rollback) ≡ (self.new.database, RolledBack) }
+        ensures tables { self.new.tables ≡ self.old.tables }
+        ensures room { self.new.room ≡ self.old.room }
+    {
+        match self.never {}
+    }
+}
