@@ -1,0 +1,3 @@
+pub mod ExplainedBlocks
+pub mod MinMaxIndexes
+pub mod Summarised
