@@ -1,0 +1,3 @@
+pub mod StoreState
+pub mod Submits
+pub mod Steps

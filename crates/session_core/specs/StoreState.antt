@@ -1,0 +1,64 @@
+-- what a store of sessions is seen as
+use Rattle.std.specs.Prelude.{◌≡◌, ℕ, ◌≤◌, ◌<◌, Bool, List, [], ◌∷◌, ◌++◌, length, slice_get, slice_set, slice_index_or, nat_lt, Option, None, Some, All, IfSome, refl, if◌then◌else◌}
+use Rattle.std.specs.Coded.{Coded, code_by, coded×, coded_list, coded_option, coded_ℕ}
+use Rattle.std.specs.FinMap as map
+use Rattle.block_model.specs.DiskLayout.{DiskLayout}
+use Rattle.block_model.specs.contracts.schema.Schema as schema_contract
+use Rattle.block_model.specs.contracts.schema.Sizes as sizes_contract
+use Rattle.block_model.specs.declared.request.Entry.{Entry}
+use Rattle.block_model.specs.contracts.request.Entry as entry_contract
+use Rattle.block_model.specs.DatabaseState.{DatabaseState, OpenTransaction, initial_state, coded_database}
+use Rattle.block_model.specs.SerialRun.{IsLegal}
+use Rattle.query_words.specs.declared.statement.Statement.{Statement}
+use Rattle.query_words.specs.contracts.statement.Statement as statement_contract
+use Rattle.query_words.specs.LineFits.{IsStatementFor}
+use Rattle.query_words.specs.StatementRequests.{refusal_at}
+use Rattle.query_words.specs.ScriptTexts.{session_number, with_session, database_of, max_entries, max_sessions}
+
+-- the tables, indexes and sizes; the sessions' names by their numbers, and the statement that each has in hand; the journal of all
+-- requests since the store was made; and the database that the stored row versions show
+pub record StoreState : Type 0 where
+  pub layout : DiskLayout
+  pub names : List (List ℕ)
+  pub hands : List (Option Statement)
+  pub journal : List Entry
+  pub database : DatabaseState
+
+-- a store of this layout without sessions and rows
+abbrev pub empty_store : DiskLayout → StoreState
+empty_store layout = record { layout = layout; names = []; hands = []; journal = []; database = initial_state }
+
+-- the statement that session n has in hand
+abbrev pub hand_of : StoreState → ℕ → Option Statement
+hand_of s n = slice_index_or s.hands n None
+
+-- session n has this in hand, and the others what they had
+abbrev pub with_hand : StoreState → ℕ → Option Statement → StoreState
+with_hand s n hand = record s { hands = slice_set s.hands n hand }
+
+-- a session of that name is there, made where it is new, with nothing in hand
+abbrev pub with_name : StoreState → List ℕ → StoreState
+with_name s name = record s {
+  names = with_session s.names name;
+  hands = if nat_lt (session_number s.names name) (length s.names) then s.hands else s.hands ++ None ∷ [];
+}
+
+-- What holds of every store: its journal is legal from a new database on, and makes the database that the versions show; each
+-- session has a place for a statement; and a statement in hand is one that was taken.
+pub record IsRefinement (s : StoreState) : Type 0 where
+  pub legal : IsLegal initial_state s.journal
+  pub shown : s.database ≡ database_of s.journal
+  pub fits : length s.journal ≤ max_entries
+  pub few_sessions : length s.names ≤ max_sessions
+  pub a_hand_each : length s.hands ≡ length s.names
+  pub taken : (n : ℕ) (statement : Statement) → hand_of s n ≡ Some statement → refusal_at s.database n statement ≡ None
+  pub fitting : (n : ℕ) (statement : Statement) → hand_of s n ≡ Some statement → IsStatementFor s.layout.schema statement
+
+abbrev pub coded_layout : Coded DiskLayout
+coded_layout = code_by _ (coded× schema_contract.the_row.coded sizes_contract.the_row.coded) (λ (d : DiskLayout). (d.schema, d.sizes)) (λ p. record { schema = p.0; sizes = p.1 }) (λ _. refl)
+
+abbrev pub coded_store : Coded StoreState
+coded_store =
+    code_by _ (coded× coded_layout (coded× (coded_list (coded_list coded_ℕ)) (coded× (coded_list (coded_option statement_contract.the_row.coded)) (coded× (coded_list entry_contract.the_row.coded) coded_database))))
+    (λ (s : StoreState). (s.layout, (s.names, (s.hands, (s.journal, s.database)))))
+    (λ p. record { layout = p.0; names = p.1.0; hands = p.1.1.0; journal = p.1.1.1.0; database = p.1.1.1.1 }) (λ _. refl)

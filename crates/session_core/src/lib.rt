@@ -1,0 +1,11 @@
+// The store of sessions: it takes the statements of up to 64 sessions, does each in one step, and keeps the journal of their
+// requests. Contracts see it by its journal: the journal is legal, the database that the stored row versions show is the one that
+// the journal makes, one request after the other, and each reply is the definition's for the requests of the statement. It stands
+// on block_model, query_words (statements), row_versions and range_summaries. The layer above uses `Store`.
+#![tactic(auto)]
+
+mod faults;
+mod store;
+
+pub use faults::{SessionFault, Step, StoreFault};
+pub use store::Store;
