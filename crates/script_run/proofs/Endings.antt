@@ -41,8 +41,8 @@ all_handed stage stage' script done ready e none at =
 bounded : (a b : Reading) (limit : ℕ) (script came : List ℕ) (done lines : List (List ℕ)) → HasRead a script done → ReadsOn a b came lines → a.limit ≡ limit → b.taken ≤ b.limit → length (script ++ came) ≤ limit
 bounded a b limit script came done lines read on same within = omega (arith, (on.reads script done read).taken, on.limit)
 
-pub ran_nothing : {S : Type 0} (R : S → List ℕ → List ℕ → S → Type 0) (start : S) (limit : ℕ) (l k : Option (List ℕ)) → Ran R start start limit ends.Memory l l k k
-ran_nothing R start limit l k = (
+pub ran_nothing : {S : Type 0} (R : S → List ℕ → List ℕ → S → Type 0) (L : S → List ℕ → Type 0) (start : S) (limit : ℕ) (l k : Option (List ℕ)) → Ran R L start start limit ends.Memory l l k k
+ran_nothing R L start limit l k = (
   [],
   [],
   [],
@@ -54,19 +54,20 @@ ran_nothing R start limit l k = (
     lines = inl (ended_lines [], refl);
     answers = refl;
     front = ([], refl);
-    state = λ _. refl;
+    state = λ _ _. refl;
     within = λ _. omega arith;
     whole = λ e. absurd (cc);
     faulty = λ e. absurd (cc);
     spent = λ e. absurd (cc);
-    unwritten = λ _. refl;
+    full = λ e. absurd (cc);
+        unwritten = λ _. refl;
     cut = λ e. absurd (cc);
   },
 )
 
-pub ran_done : {S : Type 0} {R : S → List ℕ → List ℕ → S → Type 0} {start now : S} {limit : ℕ} {a b : Reading} {l l' l'' k k' : Option (List ℕ)} {script : List ℕ} {done texts : List (List ℕ)}
-    → SoFar R start now limit a l l' k k' script done texts → Next a b l' l'' (Ok None) → Ran R start now limit ends.Done l l'' k k'
-ran_done {R} {start} {now} {limit} {a} {b} {l} {l'} {l''} {k} {k'} {script} {done} {texts} far call =
+pub ran_done : {S : Type 0} {R : S → List ℕ → List ℕ → S → Type 0} {L : S → List ℕ → Type 0} {start now : S} {limit : ℕ} {a b : Reading} {l l' l'' k k' : Option (List ℕ)} {script : List ℕ} {done texts : List (List ℕ)}
+    → SoFar R start now limit a l l' k k' script done texts → Next a b l' l'' (Ok None) → Ran R L start now limit ends.Done l l'' k k'
+ran_done {R} {L} {start} {now} {limit} {a} {b} {l} {l'} {l''} {k} {k'} {script} {done} {texts} far call =
     let came = call.answers.0 in
     let on = call.answers.2 in
     let read : HasRead b (script ++ came) (done ++ []) = on.reads script done far.read in
@@ -82,19 +83,20 @@ ran_done {R} {start} {now} {limit} {a} {b} {l} {l'} {l''} {k} {k'} {script} {don
         lines = inr (call.end far.end call.answers.4, subst (IsFront done) all (front_self done));
         answers = far.answers;
         front = front_self (concat texts);
-        state = λ _. refl;
+        state = λ _ _. refl;
         within = λ _. bounded a b limit script came done [] far.read on far.same_limit call.within;
         whole = λ _. (all, refl, call.end far.end call.answers.4);
         faulty = λ e. absurd (cc);
         spent = λ e. absurd (cc);
+        full = λ e. absurd (cc);
         unwritten = λ e. absurd (cc);
         cut = λ e. absurd (cc);
       },
     )
 
-pub ran_faulty : {S : Type 0} {R : S → List ℕ → List ℕ → S → Type 0} {start now : S} {limit : ℕ} {a b : Reading} {l l' l'' k k' : Option (List ℕ)} {script : List ℕ} {done texts : List (List ℕ)}
-    → SoFar R start now limit a l l' k k' script done texts → Next a b l' l'' (Err stops.Read) → Ran R start now limit ends.ReadFault l l'' k k'
-ran_faulty {R} {start} {now} {limit} {a} {b} {l} {l'} {l''} {k} {k'} {script} {done} {texts} far call =
+pub ran_faulty : {S : Type 0} {R : S → List ℕ → List ℕ → S → Type 0} {L : S → List ℕ → Type 0} {start now : S} {limit : ℕ} {a b : Reading} {l l' l'' k k' : Option (List ℕ)} {script : List ℕ} {done texts : List (List ℕ)}
+    → SoFar R start now limit a l l' k k' script done texts → Next a b l' l'' (Err stops.Read) → Ran R L start now limit ends.ReadFault l l'' k k'
+ran_faulty {R} {L} {start} {now} {limit} {a} {b} {l} {l'} {l''} {k} {k'} {script} {done} {texts} far call =
     let came = call.answers.0 in
     let on = call.answers.2 in
     let read : HasRead b (script ++ came) (done ++ []) = on.reads script done far.read in
@@ -110,11 +112,12 @@ ran_faulty {R} {start} {now} {limit} {a} {b} {l} {l'} {l''} {k} {k'} {script} {d
         lines = inl (subst (IsFront done) all (front_self done));
         answers = far.answers;
         front = front_self (concat texts);
-        state = λ _. refl;
+        state = λ _ _. refl;
         within = λ _. bounded a b limit script came done [] far.read on far.same_limit call.within;
         whole = λ e. absurd (cc);
         faulty = λ _. (all, refl);
         spent = λ e. absurd (cc);
+        full = λ e. absurd (cc);
         unwritten = λ e. absurd (cc);
         cut = λ e. absurd (cc);
       },
@@ -133,9 +136,9 @@ past_limit a b limit script came past done read on same full one =
     let within : length (script ++ came) ≡ limit = omega (arith, (on.reads script done read).taken, on.limit) in
     (within, ap length (sym (append_assoc script came past)) ∙ length-append (script ++ came) past ∙ (λ i. within i + one i))
 
-pub ran_spent : {S : Type 0} {R : S → List ℕ → List ℕ → S → Type 0} {start now : S} {limit told : ℕ} {a b : Reading} {l l' l'' k k' : Option (List ℕ)} {script : List ℕ} {done texts : List (List ℕ)}
-    → SoFar R start now limit a l l' k k' script done texts → Next a b l' l'' (Err (stops.Spent told)) → a.stage ≢ stages.Ended → Ran R start now limit ends.Spent l l'' k k'
-ran_spent {R} {start} {now} {limit} {told} {a} {b} {l} {l'} {l''} {k} {k'} {script} {done} {texts} far call unended =
+pub ran_spent : {S : Type 0} {R : S → List ℕ → List ℕ → S → Type 0} {L : S → List ℕ → Type 0} {start now : S} {limit told : ℕ} {a b : Reading} {l l' l'' k k' : Option (List ℕ)} {script : List ℕ} {done texts : List (List ℕ)}
+    → SoFar R start now limit a l l' k k' script done texts → Next a b l' l'' (Err (stops.Spent told)) → a.stage ≢ stages.Ended → Ran R L start now limit ends.Spent l l'' k k'
+ran_spent {R} {L} {start} {now} {limit} {told} {a} {b} {l} {l'} {l''} {k} {k'} {script} {done} {texts} far call unended =
     let going : a.stage ≡ stages.Open = still_going a.stage unended far.unspent in
     let came = call.answers.0 in
     let past = call.answers.1 in
@@ -158,11 +161,12 @@ ran_spent {R} {start} {now} {limit} {told} {a} {b} {l} {l'} {l''} {k} {k'} {scri
         lines = inl (ended_from (rest_from [] (script ++ came)) past, sym more);
         answers = far.answers;
         front = front_self (concat texts);
-        state = λ _. refl;
+        state = λ _ _. refl;
         within = λ e. absurd (e refl);
         whole = λ e. absurd (cc);
         faulty = λ e. absurd (cc);
         spent = λ _. (many.1, all ∙ ap ended_lines (sym front), refl);
+        full = λ e. absurd (cc);
         unwritten = λ e. absurd (cc);
         cut = λ e. absurd (cc);
       },
@@ -172,9 +176,9 @@ ran_spent {R} {start} {now} {limit} {told} {a} {b} {l} {l'} {l''} {k} {k'} {scri
 handed : (a b : Reading) (script came : List ℕ) (done : List (List ℕ)) (line : List ℕ) (left : Option (List ℕ)) → HasRead a script done → ReadsOn a b came (line ∷ []) → SeesEnd b left → AreFirst (done ++ line ∷ []) (script ++ came) left
 handed a b script came done line left read on end = first_lines b.stage (script ++ came) (done ++ line ∷ []) b.ready left ((on.reads script done read).lines) end
 
-pub ran_starved : {S : Type 0} {R : S → List ℕ → List ℕ → S → Type 0} {start now after : S} {limit : ℕ} {a b : Reading} {l l' l'' k k' : Option (List ℕ)} (k'' : Option (List ℕ)) {script : List ℕ} {done texts : List (List ℕ)} {line : Bor (List ℕ)}
-    → SoFar R start now limit a l l' k k' script done texts → Next a b l' l'' (Ok (Some line)) → Keeps k' k'' → Ran R start after limit ends.Memory l l'' k k''
-ran_starved {R} {start} {now} {after} {limit} {a} {b} {l} {l'} {l''} {k} {k'} k'' {script} {done} {texts} {line} far call kept =
+pub ran_starved : {S : Type 0} {R : S → List ℕ → List ℕ → S → Type 0} {L : S → List ℕ → Type 0} {start now after : S} {limit : ℕ} {a b : Reading} {l l' l'' k k' : Option (List ℕ)} (k'' : Option (List ℕ)) {script : List ℕ} {done texts : List (List ℕ)} {line : Bor (List ℕ)}
+    → SoFar R start now limit a l l' k k' script done texts → Next a b l' l'' (Ok (Some line)) → Keeps k' k'' → Ran R L start after limit ends.Memory l l'' k k''
+ran_starved {R} {L} {start} {now} {after} {limit} {a} {b} {l} {l'} {l''} {k} {k'} k'' {script} {done} {texts} {line} far call kept =
     let came = call.answers.0 in
     let on = call.answers.2 in
     let first = handed a b script came done line.now l'' far.read on (call.end far.end) in (
@@ -189,12 +193,41 @@ ran_starved {R} {start} {now} {after} {limit} {a} {b} {l} {l'} {l''} {k} {k'} k'
         lines = first_less done (line.now ∷ []) (script ++ came) l'' first;
         answers = far.answers;
         front = front_self (concat texts);
-        state = λ e. absurd (e refl);
+        state = λ e _. absurd (e refl);
         within = λ _. bounded a b limit script came done (line.now ∷ []) far.read on far.same_limit call.within;
         whole = λ e. absurd (cc);
         faulty = λ e. absurd (cc);
         spent = λ e. absurd (cc);
+        full = λ e. absurd (cc);
         unwritten = λ _. refl;
+        cut = λ e. absurd (cc);
+      },
+    )
+
+pub ran_full : {S : Type 0} {R : S → List ℕ → List ℕ → S → Type 0} {L : S → List ℕ → Type 0} {start now after : S} {limit : ℕ} {a b : Reading} {l l' l'' k k' : Option (List ℕ)} (k'' : Option (List ℕ)) {script : List ℕ} {done texts : List (List ℕ)} {line : Bor (List ℕ)}
+    → SoFar R start now limit a l l' k k' script done texts → Next a b l' l'' (Ok (Some line)) → L now line.now × Keeps k' k'' → Ran R L start after limit ends.Full l l'' k k''
+ran_full {R} {L} {start} {now} {after} {limit} {a} {b} {l} {l'} {l''} {k} {k'} k'' {script} {done} {texts} {line} far call told =
+    let came = call.answers.0 in
+    let on = call.answers.2 in
+    let first = handed a b script came done line.now l'' far.read on (call.end far.end) in (
+      script ++ came,
+      concat texts,
+      done,
+      texts,
+      now,
+      Consumes-trans l l' l'' script came far.came call.answers.1,
+      Appends-kept k k' k'' (concat texts) far.written told.1,
+      record {
+        lines = first_less done (line.now ∷ []) (script ++ came) l'' first;
+        answers = far.answers;
+        front = front_self (concat texts);
+        state = λ _ e. absurd (e refl);
+        within = λ _. bounded a b limit script came done (line.now ∷ []) far.read on far.same_limit call.within;
+        whole = λ e. absurd (cc);
+        faulty = λ e. absurd (cc);
+        spent = λ e. absurd (cc);
+        full = λ _. (line.now, first, told.0, refl);
+        unwritten = λ e. absurd (cc);
         cut = λ e. absurd (cc);
       },
     )
@@ -202,9 +235,9 @@ ran_starved {R} {start} {now} {after} {limit} {a} {b} {l} {l'} {l''} {k} {k'} k'
 before_more : (texts : List (List ℕ)) (text : List ℕ) → before_last (texts ++ text ∷ []) ≡ texts
 before_more texts text = take_at texts (text ∷ []) (length (texts ++ text ∷ []) - 1) (let e : length texts ≡ length (texts ++ text ∷ []) - 1 = omega (arith, length-append texts (text ∷ [])) in e)
 
-pub ran_unwritten : {S : Type 0} {R : S → List ℕ → List ℕ → S → Type 0} {start now next : S} {limit : ℕ} {a b : Reading} {l l' l'' k k' : Option (List ℕ)} (k'' : Option (List ℕ)) {script : List ℕ} {done texts : List (List ℕ)} {line : Bor (List ℕ)}
-    → SoFar R start now limit a l l' k k' script done texts → Next a b l' l'' (Ok (Some line)) → (text : List ℕ) × R now line.now text next × AppendsPart k' k'' text → Ran R start next limit ends.WriteFault l l'' k k''
-ran_unwritten {R} {start} {now} {next} {limit} {a} {b} {l} {l'} {l''} {k} {k'} k'' {script} {done} {texts} {line} far call told =
+pub ran_unwritten : {S : Type 0} {R : S → List ℕ → List ℕ → S → Type 0} {L : S → List ℕ → Type 0} {start now next : S} {limit : ℕ} {a b : Reading} {l l' l'' k k' : Option (List ℕ)} (k'' : Option (List ℕ)) {script : List ℕ} {done texts : List (List ℕ)} {line : Bor (List ℕ)}
+    → SoFar R start now limit a l l' k k' script done texts → Next a b l' l'' (Ok (Some line)) → (text : List ℕ) × R now line.now text next × AppendsPart k' k'' text → Ran R L start next limit ends.WriteFault l l'' k k''
+ran_unwritten {R} {L} {start} {now} {next} {limit} {a} {b} {l} {l'} {l''} {k} {k'} k'' {script} {done} {texts} {line} far call told =
     let came = call.answers.0 in
     let on = call.answers.2 in
     let text = told.0 in
@@ -220,11 +253,12 @@ ran_unwritten {R} {start} {now} {next} {limit} {a} {b} {l} {l'} {l''} {k} {k'} k
         lines = handed a b script came done line.now l'' far.read on (call.end far.end);
         answers = answers_more R start now next done texts line.now text far.answers told.1;
         front = (drop part.0 text, append_assoc (concat texts) (take part.0 text) (drop part.0 text) ∙ ap (λ t. concat texts ++ t) (take-append-drop part.0 text) ∙ sym (concat_more texts text));
-        state = λ _. refl;
+        state = λ _ _. refl;
         within = λ _. bounded a b limit script came done (line.now ∷ []) far.read on far.same_limit call.within;
         whole = λ e. absurd (cc);
         faulty = λ e. absurd (cc);
         spent = λ e. absurd (cc);
+        full = λ e. absurd (cc);
         unwritten = λ e. absurd (cc);
         cut = λ _. (take part.0 text, ap (λ ts. concat ts ++ take part.0 text) (before_more texts text));
       },

@@ -1,5 +1,5 @@
 -- what a run has answered and written
-use Rattle.std.specs.Prelude.{◌≡◌, ◌≢◌, ℕ, ◌+◌, ◌-◌, ◌≤◌, List, ◌++◌, ◌⊎◌, length, take, Option}
+use Rattle.std.specs.Prelude.{◌≡◌, ◌≢◌, ℕ, ◌+◌, ◌-◌, ◌≤◌, List, [], ◌∷◌, ◌++◌, ◌⊎◌, length, take, Option}
 use Rattle.std.specs.List.{concat}
 use Rattle.std.specs.Io.KnownBytes.{Appends, Consumes, IsAtEnd}
 use Rattle.script_lines.specs.Script.{ended_lines, script_lines}
@@ -21,13 +21,13 @@ before_last texts = take (length texts - 1) texts
 
 -- What a run that took this script from the source wrote for the lines that it has done. They lead from the start to the
 -- final state; the engine is in the state after.
-pub record Wrote {S : Type 0} (R : S → List ℕ → List ℕ → S → Type 0) (start after final : S) (limit : ℕ) (end : RunEnd) (left : Option (List ℕ))
+pub record Wrote {S : Type 0} (R : S → List ℕ → List ℕ → S → Type 0) (L : S → List ℕ → Type 0) (start after final : S) (limit : ℕ) (end : RunEnd) (left : Option (List ℕ))
     (script out : List ℕ) (done texts : List (List ℕ)) : Type 0 where
   pub lines : AreFirst done script left
   pub answers : AreAnswers R start done texts final
   pub front : IsFront out (concat texts)
-  -- only where memory ran out for a line is the engine anywhere else
-  pub state : end ≢ ends.Memory → after ≡ final
+  -- only where a line wasn't answered is the engine anywhere else
+  pub state : end ≢ ends.Memory → end ≢ ends.Full → after ≡ final
   pub within : end ≢ ends.Spent → length script ≤ limit
   -- all lines are done, and the source is at its end
   pub whole : end ≡ ends.Done → (done ≡ script_lines script) × (out ≡ concat texts) × IsAtEnd left
@@ -35,12 +35,14 @@ pub record Wrote {S : Type 0} (R : S → List ℕ → List ℕ → S → Type 0)
   pub faulty : end ≡ ends.ReadFault → (done ≡ ended_lines script) × (out ≡ concat texts)
   -- the lines that ended within the limit are done, and one byte past it was taken
   pub spent : end ≡ ends.Spent → (length script ≡ limit + 1) × (done ≡ ended_lines (take limit script)) × (out ≡ concat texts)
+  -- there is no room for what the next line would have the engine keep
+  pub full : end ≡ ends.Full → (line : List ℕ) × AreFirst (done ++ line ∷ []) script left × L final line × (out ≡ concat texts)
   -- no text of the line for which memory ran out is written
   pub unwritten : end ≡ ends.Memory → out ≡ concat texts
   -- the last text is the one that couldn't be written
   pub cut : end ≡ ends.WriteFault → IsFront (concat (before_last texts)) out
 
 -- a run took a script from the source, and wrote to the sink
-abbrev pub Ran : {S : Type 0} → (S → List ℕ → List ℕ → S → Type 0) → S → S → ℕ → RunEnd → Option (List ℕ) → Option (List ℕ) → Option (List ℕ) → Option (List ℕ) → Type 0
-Ran {S} R start after limit end left left' taken taken' = (script : List ℕ) × (out : List ℕ) × (done : List (List ℕ)) × (texts : List (List ℕ)) × (final : S)
-    × Consumes left left' script × Appends taken taken' out × Wrote R start after final limit end left' script out done texts
+abbrev pub Ran : {S : Type 0} → (S → List ℕ → List ℕ → S → Type 0) → (S → List ℕ → Type 0) → S → S → ℕ → RunEnd → Option (List ℕ) → Option (List ℕ) → Option (List ℕ) → Option (List ℕ) → Type 0
+Ran {S} R L start after limit end left left' taken taken' = (script : List ℕ) × (out : List ℕ) × (done : List (List ℕ)) × (texts : List (List ℕ)) × (final : S)
+    × Consumes left left' script × Appends taken taken' out × Wrote R L start after final limit end left' script out done texts

@@ -1,15 +1,24 @@
 // What answers the lines of a script.
 
-ghost use Rattle.std.specs.Prelude.{◌≡◌, ◌++◌, ℕ, List, OnOk};
+ghost use Rattle.std.specs.Prelude.{◌≡◌, ◌++◌, ℕ, List, OnOk, IsErrOf};
 
-use block_model::NoMemory;
+/// Why a line isn't answered: memory ran out, or there is no room for what the line would have the engine keep.
+#[derive(Clone, Copy, Debug, PartialEq, Eq)]
+pub enum AnswerFault {
+    Memory,
+    Full,
+}
 
 /// Answers the lines of a script, one after the other.
 pub trait Engine {
     /// Whether an engine that is the first answers a line with a text, and is the second then.
     ghost answers: { Self → List ℕ → List ℕ → Self → Type 0 };
 
-    /// Appends the text of a line. `Err` is want of memory: what was appended then is no text.
-    fn answer(&mut self, line: &[u8], out: &mut Vec<u8>) -> Result<(), NoMemory>
-        ensures { OnOk result ((text : List ℕ) × (out.new.items ≡ out.old.items ++ text) × answers self.old line.now text self.new) };
+    /// Whether an engine has no room for what a line would have it keep.
+    ghost lacks_room: { Self → List ℕ → Type 0 };
+
+    /// Appends the text of a line. What was appended where it isn't answered is no text.
+    fn answer(&mut self, line: &[u8], out: &mut Vec<u8>) -> Result<(), AnswerFault>
+        ensures full { IsErrOf result AnswerFault.Full → lacks_room self.old line.now }
+        ensures ok { OnOk result ((text : List ℕ) × (out.new.items ≡ out.old.items ++ text) × answers self.old line.now text self.new) };
 }

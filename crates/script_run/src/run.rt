@@ -5,8 +5,7 @@ ghost use Rattle.block_model.specs.Causes.{Rose};
 ghost use Rattle.script_run.specs.Serving.{Serves};
 ghost use Rattle.script_run.specs.Runs.{Ran};
 
-use crate::engine::Engine;
-use block_model::NoMemory;
+use crate::engine::{AnswerFault, Engine};
 use io_traits::sink::{Sink, write_all};
 use io_traits::source::Source;
 use script_lines::end::LinesEnd;
@@ -26,6 +25,8 @@ pub enum RunEnd {
     Memory,
     /// As many bytes as the limit says were taken, and another came.
     Spent,
+    /// The engine had no room for what a line would have it keep.
+    Full,
 }
 
 /// Runs the script of the source, of up to `limit` bytes: each line is answered by the engine, and the answer written to
@@ -38,7 +39,7 @@ pub fn run<E: Engine, S: Source, K: Sink>(
     source: &mut S,
     sink: &mut K,
 ) -> RunEnd
-    ensures ran { Ran E.answers engine.old engine.new limit result (S.left source.old) (S.left source.new) (K.taken sink.old) (K.taken sink.new) }
+    ensures ran { Ran E.answers E.lacks_room engine.old engine.new limit result (S.left source.old) (S.left source.new) (K.taken sink.old) (K.taken sink.new) }
 
     // A fault is answered only where its count rose.
     ensures read { result ≡ RunEnd.ReadFault → Rose (S.faults source.old) (S.faults source.new) }
@@ -60,6 +61,7 @@ pub fn run<E: Engine, S: Source, K: Sink>(
         match serve(engine, line, &mut reply, sink) {
             Ok(()) => (),
             Err(Stop::Memory) => return RunEnd::Memory,
+            Err(Stop::Full) => return RunEnd::Full,
             Err(Stop::Write) => return RunEnd::WriteFault,
         }
     }
@@ -69,6 +71,7 @@ pub fn run<E: Engine, S: Source, K: Sink>(
 #[derive(Clone, Copy, Debug, PartialEq, Eq)]
 enum Stop {
     Memory,
+    Full,
     Write,
 }
 
@@ -79,14 +82,16 @@ fn serve<E: Engine, K: Sink>(
     reply: &mut Vec<u8>,
     sink: &mut K,
 ) -> Result<(), Stop>
-    ensures serves { Serves E.answers engine.old engine.new (K.taken sink.old) (K.taken sink.new) line.now result }
+    ensures serves { Serves E.answers E.lacks_room engine.old engine.new (K.taken sink.old) (K.taken sink.new) line.now result }
     ensures later { K.faults sink.old ≤ K.faults sink.new }
     ensures cause { IsErrOf result Stop.Write → Rose (K.faults sink.old) (K.faults sink.new) }
 {
     reply.clear();
-    let Ok(()) = engine.answer(line, reply) else {
-        return Err(Stop::Memory);
-    };
+    match engine.answer(line, reply) {
+        Ok(()) => (),
+        Err(AnswerFault::Memory) => return Err(Stop::Memory),
+        Err(AnswerFault::Full) => return Err(Stop::Full),
+    }
     match write_all(sink, reply.as_slice()) {
         Ok(()) => Ok(()),
         Err(_) => Err(Stop::Write),

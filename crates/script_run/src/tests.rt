@@ -1,27 +1,31 @@
-ghost use Rattle.std.specs.Prelude.{◌≡◌, ◌<◌};
+ghost use Rattle.std.specs.Prelude.{◌≡◌, ◌<◌, codes};
 
-use crate::engine::Engine;
+use crate::engine::{AnswerFault, Engine};
 use crate::run::{RunEnd, run};
-use block_model::NoMemory;
 use io_traits::memory_sink::MemorySink;
 use io_traits::memory_source::MemorySource;
 use std::alloc::Global;
 use std::test::Fail;
 
-/// Answers each line with itself, and runs out of memory at the line `!`.
+/// Answers each line with itself, runs out of memory at the line `!`, and of room at `?`.
 #[derive(Drop)]
 struct Echo;
 
 impl Engine for Echo {
     ghost answers = { λ _ line text _. text ≡ line };
 
-    fn answer(&mut self, line: &[u8], out: &mut Vec<u8>) -> Result<(), NoMemory> {
+    ghost lacks_room = { λ _ line. line ≡ codes "?" };
+
+    fn answer(&mut self, line: &[u8], out: &mut Vec<u8>) -> Result<(), AnswerFault> {
         if line == b"!".as_slice() {
-            return Err(NoMemory);
+            return Err(AnswerFault::Memory);
+        }
+        if line == b"?".as_slice() {
+            return Err(AnswerFault::Full);
         }
         match out.extend_from_slice(line) {
             Ok(()) => Ok(()),
-            Err(_) => Err(NoMemory),
+            Err(_) => Err(AnswerFault::Memory),
         }
     }
 }
@@ -69,6 +73,7 @@ fn each_end_comes_where_it_should(rt: HostRuntime) -> Result<(), Fail> {
         ("ab\ncd", 9, 9, (0, 2), RunEnd::WriteFault, "ab"),
         ("ab\ncd", 9, 3, (0, 0), RunEnd::WriteFault, "abc"),
         ("ab\n!\ncd", 9, 9, (0, 0), RunEnd::Memory, "ab"),
+        ("ab\n?\ncd", 9, 9, (0, 0), RunEnd::Full, "ab"),
     ] {
         let (ended, sink) = ran(rt.alloc(), script.as_bytes(), limit, 4, room, fails)?;
         assert_eq!(rt; ended, end, "{script:?}");

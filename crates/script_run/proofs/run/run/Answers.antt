@@ -2,11 +2,11 @@ use Rattle.std.proofs.Common.{[], Ok, Err, subst, ap, ◌∙◌, arith}
 use Rattle.std.proofs.lemmas.Bool.{false≢true}
 use Rattle.script_lines.specs.Reading.{Next}
 use Rattle.script_run.proofs.Progress.{started, served}
-use Rattle.script_run.proofs.Endings.{ran_nothing, ran_done, ran_faulty, ran_spent, ran_starved, ran_unwritten}
+use Rattle.script_run.proofs.Endings.{ran_nothing, ran_done, ran_faulty, ran_spent, ran_starved, ran_full, ran_unwritten}
 use Rattle.script_run.proofs.run.run.Goals as goal
 
 pub returns-in_default-clause-ran : goal.returns-in_default-clause-ran
-returns-in_default-clause-ran g c = ran_nothing g.E.Engine.answers c.args.engine.now c.args.limit (g.S.Source.left c.args.source.now) (g.K.Sink.taken c.args.sink.now)
+returns-in_default-clause-ran g c = ran_nothing g.E.Engine.answers g.E.Engine.lacks_room c.args.engine.now c.args.limit (g.S.Source.left c.args.source.now) (g.K.Sink.taken c.args.sink.now)
 
 pub script-init : goal.script-init
 script-init g c = record {
@@ -42,3 +42,8 @@ pub returns-in-Err-Write-clause-ran : goal.returns-in-Err-Write-clause-ran
 returns-in-Err-Write-clause-ran g c =
     let told = rw c.in-Err-Write.field-0-is at c.in-Err-Write.ensures.serves in
     ran_unwritten (g.K.Sink.taken c.serve.new.sink) c.script.invariant.so_far.3 (subst (Next _ _ _ _) (c.in-Ok-Some.is ∙ ap Ok c.in-Ok-Some.field-0-is) c.next.follows.holds-at-none) told
+
+pub returns-in-Err-Full-clause-ran : goal.returns-in-Err-Full-clause-ran
+returns-in-Err-Full-clause-ran g c =
+    let told = rw c.in-Err-Full.field-0-is at c.in-Err-Full.ensures.serves in
+    ran_full (g.K.Sink.taken c.serve.new.sink) c.script.invariant.so_far.3 (subst (Next _ _ _ _) (c.in-Ok-Some.is ∙ ap Ok c.in-Ok-Some.field-0-is) c.next.follows.holds-at-none) told
