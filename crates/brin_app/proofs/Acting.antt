@@ -1,83 +1,170 @@
--- a statement's reply and the database after it, from what the store's calls say
-use Rattle.std.proofs.Common.{◌≡◌, Bool, true, false, ℕ, List, [], ◌∷◌, Option, None, Some, IfSome, refl, sym, ap, ◌∙◌, subst}
-use Rattle.std.specs.Option.{is_some}
+-- a statement that is submitted and stepped does what its requests do
+use Rattle.std.proofs.Common.{◌≡◌, ◌≢◌, ℕ, zero, suc, ◌+◌, ◌<◌, ◌≤◌, Bool, true, false, List, [], ◌∷◌, ◌++◌, length, Option, None, Some, refl, sym, ap, ◌∙◌, subst, arith}
+use Rattle.std.specs.Prelude.{slice_set, slice_index_or, MatchOption, IfOk, Result, Ok, Err}
 use Rattle.std.specs.FinMap as map
-use Rattle.std.proofs.lemmas.Bool.{false≢true, true≢false}
+use Rattle.std.proofs.lemmas.List.{append-nil, get_or-set_same, set-get_or}
+use Rattle.block_model.specs.DatabaseState.{DatabaseState, OpenTransaction}
+use Rattle.block_model.specs.SerialRun.{replies_to}
+use Rattle.block_model.specs.declared.row.Row.{Row}
+use Rattle.block_model.specs.declared.row.Query.{Query}
 use Rattle.block_model.specs.declared.request.Entry.{Entry}
+use Rattle.block_model.specs.declared.reply.Reply.{Reply}
 use Rattle.block_model.specs.declared.reply.Reply.TheVariants as replies
 use Rattle.block_model.specs.declared.reply.Refusal.{Refusal}
 use Rattle.block_model.specs.declared.reply.Refusal.TheVariants as refusals
-use Rattle.std.specs.Prelude.{if◌then◌else◌}
-use Rattle.block_model.specs.DatabaseState.{DatabaseState, OpenTransaction}
-use Rattle.block_model.specs.RequestEffect.{Answer, effect}
-use Rattle.block_model.specs.SerialRun.{serial_run, replies_to}
 use Rattle.query_words.specs.declared.statement.Statement.{Statement}
-use Rattle.query_words.specs.StatementRequests.{submission_refusal, requests_of, reply_to_statement, unless_refused, reply_unless_refused, statement_requests, statement_reply}
 use Rattle.query_words.specs.declared.statement.Statement.TheVariants as statements
-use Rattle.query_words.specs.ScriptTexts.{rows_after, reply_at}
-use Rattle.block_model.specs.declared.row.Query.{Query}
-use Rattle.brin_app.specs.StoreState.{StoreState}
-use Rattle.brin_app.specs.ExplainedBlocks.{explained}
-use Rattle.brin_app.specs.Acts.{Acts}
+use Rattle.query_words.specs.StatementRequests.{refusal_at, submission_refusal, requests_of, unless_refused, reply_unless_refused, statement_requests, statement_reply}
+use Rattle.query_words.specs.ScriptTexts.{Explaining, database_of, rows_of, reply_at, reply_behind, requests_behind, max_entries}
+use Rattle.range_summaries.specs.ExplainedBlocks.{explained}
+use Rattle.session_core.specs.StoreState.{StoreState, IsRefinement, hand_of, with_hand}
+use Rattle.session_core.specs.Submits.{Submits, submit_refusal, refusal_behind, may_want_memory}
+use Rattle.session_core.specs.Steps.{Ends, LacksRoom}
+use Rattle.brin_app.specs.Acting.{Acts, IsPast, IsFull}
 
-pub none_of : {X : Type 0} (o : Option X) → is_some o ≡ false → o ≡ None
-none_of None h = refl
-none_of (Some x) h = absurd (true≢false h)
+-- nothing speaks against an explain
+explain_taken : (o : Option OpenTransaction) (q : Query) (r : Refusal) → submission_refusal o (statements.Explain q) ≡ Some r → ⊥
+explain_taken None q r e = cc
+explain_taken (Some x) q r e = cc
 
-some_of : {X : Type 0} (o : Option X) → is_some o ≡ true → (x : X) × (o ≡ Some x)
-some_of None h = absurd (false≢true h)
-some_of (Some x) h = (x, refl)
+-- what isn't taken is answered why
+refused_reply : (s : DatabaseState) (n : ℕ) (statement : Statement) (r : Refusal) → refusal_at s n statement ≡ Some r → statement_reply s n false statement ≡ replies.Refused r
+unfolding statement_reply
+refused_reply s n statement r h = ap (λ o. reply_unless_refused o statement (replies_to s (requests_of s n false statement))) h
 
--- the refusal of a statement of a session that has none, and of one whose transaction is whole
-pub refusal_outside : (s : DatabaseState) (n : ℕ) (statement : Statement) → map.contains_key s.sessions n ≡ false → submission_refusal (map.get s.sessions n) statement ≡ submission_refusal None statement
-refusal_outside s n statement h = ap (λ o. submission_refusal o statement) (none_of (map.get s.sessions n) h)
+refused_at : (explained : Explaining) (s : DatabaseState) (rows : List Row) (n : ℕ) (statement : Statement) (r : Refusal) → refusal_at s n statement ≡ Some r → reply_at explained s rows n false statement ≡ replies.Refused r
+refused_at explained s rows n statements.Begin r h = refused_reply s n statements.Begin r h
+refused_at explained s rows n statements.Commit r h = refused_reply s n statements.Commit r h
+refused_at explained s rows n statements.Rollback r h = refused_reply s n statements.Rollback r h
+refused_at explained s rows n (statements.Insert table values) r h = refused_reply s n (statements.Insert table values) r h
+refused_at explained s rows n (statements.Select q) r h = refused_reply s n (statements.Select q) r h
+refused_at explained s rows n (statements.Delete q) r h = refused_reply s n (statements.Delete q) r h
+refused_at explained s rows n (statements.Explain q) r h = absurd (explain_taken (map.get s.sessions n) q r h)
+refused_at explained s rows n (statements.Summarize index block) r h = refused_reply s n (statements.Summarize index block) r h
+refused_at explained s rows n (statements.Desummarize index block) r h = refused_reply s n (statements.Desummarize index block) r h
+refused_at explained s rows n (statements.Vacuum table) r h = refused_reply s n (statements.Vacuum table) r h
+refused_at explained s rows n statements.Work r h = refused_reply s n statements.Work r h
 
-pub refusal_within : (s : DatabaseState) (n : ℕ) (statement : Statement) (r : Option Refusal) → map.contains_key s.sessions n ≡ true → IfSome (map.get s.sessions n) (λ x. x.failed ≡ false)
-    → ((x : OpenTransaction) → x.failed ≡ false → submission_refusal (Some x) statement ≡ r) → submission_refusal (map.get s.sessions n) statement ≡ r
-refusal_within s n statement r h whole is =
-    let p = some_of (map.get s.sessions n) h in
-    let x = p.0 in
-    ap (λ o. submission_refusal o statement) p.1 ∙ is x (subst (λ (o : Option OpenTransaction). IfSome o (λ y. y.failed ≡ false)) p.1 whole)
-
--- a statement that isn't taken
-pub acts_refused : (s : StoreState) (n : ℕ) (statement : Statement) (r : Refusal) → submission_refusal (map.get s.database.sessions n) statement ≡ Some r
-    → reply_at (explained s.schema) s.database s.rows n statement ≡ statement_reply s.database n statement → rows_after s.rows statement (replies.Refused r) ≡ s.rows
-    → Acts s n statement s (replies.Refused r)
-unfolding statement_requests statement_reply
-acts_refused s n statement r h replied stay = record {
-  schema = refl;
-  database = sym (ap (λ o. serial_run s.database (unless_refused o (requests_of s.database n statement))) h);
-  rows = sym stay;
-  replied = sym (replied ∙ ap (λ o. reply_unless_refused o statement (replies_to s.database (requests_of s.database n statement))) h);
-}
-
--- a statement of one request
-pub acts_once : (s s' : StoreState) (n : ℕ) (statement : Statement) (e : Entry) (answer : Answer) → submission_refusal (map.get s.database.sessions n) statement ≡ None → requests_of s.database n statement ≡ e ∷ []
-    → effect s.database e ≡ (s'.database, answer) → reply_at (explained s.schema) s.database s.rows n statement ≡ statement_reply s.database n statement
-    → s'.schema ≡ s.schema → s'.rows ≡ rows_after s.rows statement (reply_to_statement statement (answer ∷ []))
-    → Acts s n statement s' (reply_to_statement statement (answer ∷ []))
-unfolding statement_requests statement_reply
-acts_once s s' n statement e answer h is went replied schema rows = record {
-  schema = schema;
-  database = sym (ap (λ o. serial_run s.database (unless_refused o (requests_of s.database n statement))) h ∙ ap (serial_run s.database) is ∙ ap (λ p. p.0) went);
-  rows = rows;
-  replied = sym (replied ∙ ap (λ o. reply_unless_refused o statement (replies_to s.database (requests_of s.database n statement))) h ∙ ap (λ es. reply_to_statement statement (replies_to s.database es)) is ∙ ap (λ p. reply_to_statement statement (p.1 ∷ [])) went);
-}
-
--- an explain makes no request
-pub acts_explain : (s : StoreState) (q : Query) (blocks : List ℕ) → blocks ≡ explained s.schema s.rows q → (n : ℕ) → Acts s n (statements.Explain q) s (replies.Kept blocks)
+-- and makes no request
+refused_requests : (s : DatabaseState) (n : ℕ) (short : Bool) (statement : Statement) (r : Refusal) → refusal_at s n statement ≡ Some r → statement_requests s n short statement ≡ []
 unfolding statement_requests
-acts_explain s q blocks is n = record {
-  schema = refl;
-  database = sym (ap (λ o. serial_run s.database (unless_refused o [])) (not_refused (map.get s.database.sessions n)));
-  rows = refl;
-  replied = ap replies.Kept is;
-}
-  where
-    not_refused : (o : Option OpenTransaction) → submission_refusal o (statements.Explain q) ≡ None
-    not_refused None = refl
-    not_refused (Some x) = refl
+refused_requests s n short statement r h = ap (λ o. unless_refused o (requests_of s n short statement)) h
 
--- a transaction that hasn't failed takes what a failed one would refuse
-pub taken_whole : (b : Bool) → b ≡ false → (if b then Some refusals.Doomed else None) ≡ None
-taken_whole b e = ap (λ c. if c then Some refusals.Doomed else None) e
+taken_requests : (s : DatabaseState) (n : ℕ) (short : Bool) (statement : Statement) → refusal_at s n statement ≡ None → statement_requests s n short statement ≡ requests_of s n short statement
+unfolding statement_requests
+taken_requests s n short statement h = ap (λ o. unless_refused o (requests_of s n short statement)) h
+
+taken_reply : (s : DatabaseState) (n : ℕ) (short : Bool) (statement : Statement) → refusal_at s n statement ≡ None → statement_reply s n short statement ≡ reply_unless_refused None statement (replies_to s (requests_of s n short statement))
+unfolding statement_reply
+taken_reply s n short statement h = ap (λ o. reply_unless_refused o statement (replies_to s (requests_of s n short statement))) h
+
+-- nothing is done, and this is the reply
+unchanged : (s : StoreState) (n : ℕ) (statement : Statement) (short : Bool) (reply : Reply) → IsRefinement s → requests_behind s.journal n short statement ≡ [] → reply ≡ reply_behind (explained s.layout.schema) s.journal n short statement → Acts s n statement s reply
+unchanged s n statement short reply known none replied = record {
+  short = short;
+  replied = replied;
+  journal = sym (ap (λ l. s.journal ++ l) none ∙ append-nil s.journal);
+  fits = known.fits;
+  layout = refl;
+  names = refl;
+  hands = refl;
+}
+
+-- what speaks against a statement is what its reply says
+refused_acts : (s : StoreState) (n : ℕ) (statement : Statement) (r : Refusal) → IsRefinement s → refusal_at s.database n statement ≡ Some r → Acts s n statement s (replies.Refused r)
+refused_acts s n statement r known h =
+    let at : refusal_at (database_of s.journal) n statement ≡ Some r = subst (λ (d : DatabaseState). refusal_at d n statement ≡ Some r) known.shown h in
+    unchanged s n statement false (replies.Refused r) known (refused_requests (database_of s.journal) n false statement r at)
+    (sym (refused_at (explained s.layout.schema) (database_of s.journal) (rows_of s.journal) n statement r at))
+
+-- memory is short before the step
+short_requests : (s : DatabaseState) (n : ℕ) (statement : Statement) → may_want_memory statement ≡ true → refusal_at s n statement ≡ None → statement_requests s n true statement ≡ []
+short_requests s n statements.Begin may h = taken_requests s n true statements.Begin h
+short_requests s n statements.Commit may h = absurd (cc)
+short_requests s n statements.Rollback may h = absurd (cc)
+short_requests s n (statements.Insert table values) may h = absurd (cc)
+short_requests s n (statements.Select q) may h = absurd (cc)
+short_requests s n (statements.Delete q) may h = absurd (cc)
+short_requests s n (statements.Explain q) may h = taken_requests s n true (statements.Explain q) h
+short_requests s n (statements.Summarize index block) may h = absurd (cc)
+short_requests s n (statements.Desummarize index block) may h = absurd (cc)
+short_requests s n (statements.Vacuum table) may h = absurd (cc)
+short_requests s n statements.Work may h = absurd (cc)
+
+short_reply : (explained : Explaining) (s : DatabaseState) (rows : List Row) (n : ℕ) (statement : Statement) → may_want_memory statement ≡ true → refusal_at s n statement ≡ None → reply_at explained s rows n true statement ≡ replies.Refused refusals.Memory
+short_reply explained s rows n statements.Begin may h = taken_reply s n true statements.Begin h
+short_reply explained s rows n statements.Commit may h = absurd (cc)
+short_reply explained s rows n statements.Rollback may h = absurd (cc)
+short_reply explained s rows n (statements.Insert table values) may h = absurd (cc)
+short_reply explained s rows n (statements.Select q) may h = absurd (cc)
+short_reply explained s rows n (statements.Delete q) may h = absurd (cc)
+short_reply explained s rows n (statements.Explain q) may h = refl
+short_reply explained s rows n (statements.Summarize index block) may h = absurd (cc)
+short_reply explained s rows n (statements.Desummarize index block) may h = absurd (cc)
+short_reply explained s rows n (statements.Vacuum table) may h = absurd (cc)
+short_reply explained s rows n statements.Work may h = absurd (cc)
+
+short_acts : (s : StoreState) (n : ℕ) (statement : Statement) → IsRefinement s → may_want_memory statement ≡ true → refusal_at s.database n statement ≡ None → Acts s n statement s (replies.Refused refusals.Memory)
+short_acts s n statement known may h =
+    let at : refusal_at (database_of s.journal) n statement ≡ None = subst (λ (d : DatabaseState). refusal_at d n statement ≡ None) known.shown h in
+    unchanged s n statement true (replies.Refused refusals.Memory) known (short_requests (database_of s.journal) n statement may at)
+    (sym (short_reply (explained s.layout.schema) (database_of s.journal) (rows_of s.journal) n statement may at))
+
+-- why a statement wasn't taken, where nothing is in hand
+because_of : (s : StoreState) (n : ℕ) (statement : Statement) (refusal : Refusal) (o : Option Refusal) → IsRefinement s → refusal_at s.database n statement ≡ o
+    → MatchOption o ((refusal ≡ refusals.Memory) × (may_want_memory statement ≡ true)) (λ because. refusal ≡ because) → Acts s n statement s (replies.Refused refusal)
+because_of s n statement refusal None known at m = subst (λ (r : Refusal). Acts s n statement s (replies.Refused r)) (sym m.0) (short_acts s n statement known m.1 at)
+because_of s n statement refusal (Some because) known at m = subst (λ (r : Refusal). Acts s n statement s (replies.Refused r)) (sym m) (refused_acts s n statement because known at)
+
+-- with nothing in hand the transaction alone decides
+judged : (s : StoreState) (n : ℕ) (statement : Statement) → hand_of s n ≡ None → submit_refusal s n statement ≡ refusal_at s.database n statement
+judged s n statement idle = ap (λ o. refusal_behind o (refusal_at s.database n statement)) idle
+
+pub not_taken : (T : Type 0) (s s' : StoreState) (n : ℕ) (statement : Statement) (refusal : Refusal) → IsRefinement s → hand_of s n ≡ None → Submits {T = T} s n statement s' (Err refusal) → Acts s n statement s' (replies.Refused refusal)
+not_taken T s s' n statement refusal known idle sub =
+    subst (λ (t : StoreState). Acts s n statement t (replies.Refused refusal)) (sym sub.0)
+    (because_of s n statement refusal (submit_refusal s n statement) known (sym (judged s n statement idle)) sub.1)
+
+-- the later of two values at one place stands
+set_again : {A : Type 0} (xs : List A) (i : ℕ) (a b : A) → slice_set (slice_set xs i a) i b ≡ slice_set xs i b
+set_again [] zero a b = refl
+set_again [] (suc i) a b = refl
+set_again (x ∷ xs) zero a b = refl
+set_again (x ∷ xs) (suc i) a b = ap (λ l. x ∷ l) (set_again xs i a b)
+
+-- what is put in hand is what is there
+put_in_hand : (s : StoreState) (n : ℕ) (statement other : Statement) → n < length s.hands → hand_of (with_hand s n (Some statement)) n ≡ Some other → statement ≡ other
+put_in_hand s n statement other within e = some_injective statement other (sym (get_or-set_same s.hands n (Some statement) None within) ∙ e)
+  where
+    some_injective : (a b : Statement) → Some a ≡ Some b → a ≡ b
+    some_injective a b e = cc
+
+-- a statement that was taken and has ended
+pub taken_ends : (s s₁ s' : StoreState) (n : ℕ) (statement : Statement) (reply : Reply) → n < length s.hands → hand_of s n ≡ None → s₁ ≡ with_hand s n (Some statement) → Ends s₁ n s' reply → Acts s n statement s' reply
+taken_ends s s₁ s' n statement reply within idle is ends =
+    let at : Ends (with_hand s n (Some statement)) n s' reply = subst (λ (t : StoreState). Ends t n s' reply) is ends in
+    let same : at.statement ≡ statement = sym (put_in_hand s n statement at.statement within at.in_hand) in
+    record {
+      short = at.short;
+      replied = at.replied ∙ ap (λ st. reply_behind (explained s.layout.schema) s.journal n at.short st) same;
+      journal = at.journal ∙ ap (λ st. s.journal ++ requests_behind s.journal n at.short st) same;
+      fits = at.fits;
+      layout = at.layout;
+      names = at.names;
+      hands = at.hands ∙ set_again s.hands n (Some statement) None ∙ ap (λ h. slice_set s.hands n h) (sym idle) ∙ set-get_or s.hands n None;
+    }
+
+-- a statement that was taken and doesn't fit
+pub taken_past : (s s₁ : StoreState) (n : ℕ) (statement : Statement) → n < length s.hands → s₁ ≡ with_hand s n (Some statement) → IsFull s₁ n → IsPast s n statement
+taken_past s s₁ n statement within is full =
+    let at : IsFull (with_hand s n (Some statement)) n = subst (λ (t : StoreState). IsFull t n) is full in
+    let same : at.lacks.statement ≡ statement = sym (put_in_hand s n statement at.lacks.statement within at.lacks.in_hand) in
+    record {
+      short = at.lacks.short;
+      past = subst (λ (st : Statement). max_entries < length s.journal + length (requests_behind s.journal n at.lacks.short st)) same at.lacks.past;
+    }
+
+pub ok_ends : {E : Type 0} (s s₁ s' : StoreState) (n : ℕ) (statement : Statement) (result : Result Reply E) → n < length s.hands → hand_of s n ≡ None → s₁ ≡ with_hand s n (Some statement) → IfOk result (λ reply. Ends s₁ n s' reply)
+    → IfOk result (λ reply. Acts s n statement s' reply)
+ok_ends s s₁ s' n statement (Ok reply) within idle is ends = taken_ends s s₁ s' n statement reply within idle is ends
+ok_ends s s₁ s' n statement (Err fault) within idle is ends = tt

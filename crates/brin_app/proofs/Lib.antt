@@ -1,15 +1,4 @@
 pub mod Acting
-pub mod Spoken
+pub mod Saying
 pub mod Outputs
-pub mod Fresh
-pub mod Choices
-pub mod Tables
-pub mod Sights
-pub mod Copies
-pub mod Results
-pub mod Begins
-pub mod Puttings
-pub mod Commits
-pub mod Looks
-pub mod Chunked
-pub mod Summaries
+pub mod Asked

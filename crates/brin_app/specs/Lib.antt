@@ -1,11 +1,3 @@
-pub mod Chunks
-pub mod ExplainedBlocks
-pub mod CoversMatches
-pub mod RangeSummaries
-pub mod VisibleState
-pub mod StoreState
-pub mod StoreInvariant
+pub mod Acting
 pub mod SessionPlaces
-pub mod Acts
 pub mod ScriptOutput
-pub mod Places

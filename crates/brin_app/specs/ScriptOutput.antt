@@ -1,11 +1,29 @@
 -- what the program writes for a script, and when each status comes
-use Rattle.std.specs.Prelude.{◌≡◌, ◌↔◌, ◌⊎◌, ℕ, ◌+◌, ◌^◌, ◌≤◌, List, length, Option, Some, IsSomeAnd}
+use Rattle.std.specs.Prelude.{◌≡◌, ◌⊎◌, ℕ, ◌+◌, ◌^◌, ◌≤◌, List, [], ◌∷◌, ◌++◌, length, Option, None, Some, IsSomeAnd}
+use Rattle.std.specs.Io.KnownBytes.{Consumes}
+use Rattle.block_model.specs.DiskLayout.{DiskLayout}
+use Rattle.block_model.specs.FirstBrokenRule.{first_broken_rule}
 use Rattle.block_model.specs.declared.schema.Schema.{Schema}
-use Rattle.query_words.specs.ScriptTexts.{ScriptPlace, script_start, IsLineText}
-use Rattle.brin_app.specs.ExplainedBlocks.{explained}
+use Rattle.query_words.specs.ScriptTexts.{ScriptPlace, script_start, IsLineText, LacksRoom}
+use Rattle.command_words.specs.declared.command.Command.TheVariants.{Run}
+use Rattle.command_words.specs.CommandWords.{command_of}
+use Rattle.schema_words.specs.DeclaredSchema.{Denotes}
+use Rattle.range_summaries.specs.ExplainedBlocks.{explained}
 use Rattle.script_run.specs.declared.run.RunEnd.{RunEnd}
 use Rattle.script_run.specs.declared.run.RunEnd.TheVariants as ends
-use Rattle.script_run.specs.Runs.{Ran}
+use Rattle.script_run.specs.Answers.{AreAnswers}
+use Rattle.script_run.specs.Runs.{AreFirst, Ran}
+
+-- the words are `run` with options and declarations, which make this layout, and no limit is passed
+pub record AsksFor (words : List (List ℕ)) (layout : DiskLayout) : Type 0 where
+  pub declared : List (List ℕ)
+  pub command : command_of words ≡ Some (Run layout.sizes declared)
+  pub schema : Denotes declared layout.schema
+  pub within : first_broken_rule layout.schema layout.sizes ≡ None
+
+-- they are no command, or a limit is passed
+abbrev pub AsksForNothing : List (List ℕ) → Type 0
+AsksForNothing words = (layout : DiskLayout) → AsksFor words layout → ⊥
 
 -- how many bytes of script are taken
 abbrev pub script_limit : ℕ
@@ -18,22 +36,55 @@ exit_status ends.ReadFault = 4
 exit_status ends.WriteFault = 5
 exit_status ends.Memory = 7
 exit_status ends.Spent = 8
+exit_status ends.Full = 8
+
+-- the texts of lines over tables and indexes of this schema
+abbrev pub Texts : Schema → ScriptPlace → List ℕ → List ℕ → ScriptPlace → Type 0
+Texts schema = IsLineText (explained schema) schema
+
+-- the lines for whose requests the journal has no room
+abbrev pub Past : Schema → ScriptPlace → List ℕ → Type 0
+Past schema = LacksRoom (explained schema) schema
 
 -- The script of the source was run over a new database of this schema: what was written are the texts of its lines, as if
 -- each session worked on its own copy of the tables, and the status says how far that went.
 abbrev pub IsScriptOutput : ℕ → Schema → Option (List ℕ) → Option (List ℕ) → Option (List ℕ) → Option (List ℕ) → Type 0
 IsScriptOutput status schema left left' taken taken' =
-    (end : RunEnd) × (after : ScriptPlace) × (status ≡ exit_status end) × Ran (IsLineText (explained schema) schema) script_start after script_limit end left left' taken taken'
+    (end : RunEnd) × (after : ScriptPlace) × (status ≡ exit_status end) × Ran (Texts schema) (Past schema) script_start after script_limit end left left' taken taken'
 
--- Where the source tells its bytes, status 8 comes exactly where as many as the limit were taken and then another.
-abbrev pub IsSpentExactly : ℕ → Option (List ℕ) → Option (List ℕ) → Type 0
-IsSpentExactly status (Some old) (Some new) = (status ≡ 8) ↔ (length old ≡ (script_limit + 1) + length new)
-IsSpentExactly status old new = Unit {0}
+-- first lines of this script, with texts of theirs, lead to a journal that has no room for the requests of the next one
+pub record FillsJournal (schema : Schema) (script : List ℕ) (left : Option (List ℕ)) : Type 0 where
+  pub done : List (List ℕ)
+  pub texts : List (List ℕ)
+  pub place : ScriptPlace
+  pub line : List ℕ
+  pub first : AreFirst (done ++ line ∷ []) script left
+  pub answers : AreAnswers (Texts schema) script_start done texts place
+  pub past : Past schema place line
+
+-- the script that was taken fills the journal
+abbrev pub JournalWasFull : Schema → Option (List ℕ) → Option (List ℕ) → Type 0
+JournalWasFull schema left left' = (script : List ℕ) × Consumes left left' script × FillsJournal schema script left'
+
+-- Where the source tells its bytes, status 8 comes where as many as the limit were taken and then another, and else only where
+-- the journal was full.
+pub record IsSpentExactly (status : ℕ) (schema : Schema) (old new : List ℕ) : Type 0 where
+  pub past_limit : length old ≡ (script_limit + 1) + length new → status ≡ 8
+  pub only : status ≡ 8 → (length old ≡ (script_limit + 1) + length new) ⊎ JournalWasFull schema (Some old) (Some new)
+
+abbrev pub HasSpentCauses : ℕ → Schema → Option (List ℕ) → Option (List ℕ) → Type 0
+HasSpentCauses status schema (Some old) (Some new) = IsSpentExactly status schema old new
+HasSpentCauses status schema old new = Unit {0}
 
 -- the source tells its bytes, and has no more than are taken
 abbrev pub FitsLimit : Option (List ℕ) → Type 0
 FitsLimit left = IsSomeAnd left (λ bytes. length bytes ≤ script_limit)
 
--- where neither count rose and the script isn't too long, it was run to its end or memory ran out
-abbrev pub IsComplete : ℕ → Option (List ℕ) → Type 0 → Type 0 → Type 0
-IsComplete status left read_fault write_fault = ¬ read_fault → ¬ write_fault → FitsLimit left → (status ≡ 0) ⊎ (status ≡ 7)
+-- no part of the source's bytes fills the journal
+abbrev pub FitsJournal : Schema → Option (List ℕ) → Type 0
+FitsJournal schema left = (left' : Option (List ℕ)) → JournalWasFull schema left left' → ⊥
+
+-- where neither count rose, the script isn't too long and its requests fit the journal, it was run to its end or memory ran out
+abbrev pub IsComplete : ℕ → Schema → Option (List ℕ) → Type 0 → Type 0 → Type 0
+IsComplete status schema left read_fault write_fault =
+    ¬ read_fault → ¬ write_fault → FitsLimit left → FitsJournal schema left → (status ≡ 0) ⊎ (status ≡ 7)

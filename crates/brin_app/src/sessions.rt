@@ -1,198 +1,164 @@
 // The sessions of a script.
 
-ghost use Rattle.std.specs.Prelude.{◌≡◌, ◌≤◌, ◌++◌, ℕ, Ok, Some, IfOk, OnOk, OnErr, length};
-ghost use Rattle.query_words.specs.ScriptTexts.{script_start, session_number, with_session, line_answer, said_answer, statement_answer, place_after};
-ghost use Rattle.brin_app.specs.Acts.{Acts, IsSpoken, IsSpokenLine};
-ghost use Rattle.brin_app.specs.SessionPlaces.{place_of};
-ghost use Rattle.brin_app.specs.StoreInvariant.{IsOneNumber, AreOnFirst};
-ghost use Rattle.brin_app.specs.ExplainedBlocks.{explained};
-ghost use Rattle.query_words.specs.OneColumn.{IsOneColumn};
+ghost use Rattle.std.specs.Prelude.{◌≡◌, ◌≢◌, ◌<◌, ◌++◌, None, Ok, IfOk, OnOk, IsErrOf, IsSome, ℕ, List, length};
+ghost use Rattle.query_words.specs.LineFits.{IsLineFor, IsStatementFor};
+ghost use Rattle.query_words.specs.Texts.{fault_text};
+ghost use Rattle.query_words.specs.ScriptTexts.{script_start, line_answer, said_answer, statement_answer, place_after, LacksRoom};
+ghost use Rattle.range_summaries.specs.ExplainedBlocks.{explained};
+ghost use Rattle.range_summaries.specs.MinMaxIndexes.{HasMinMaxIndexes};
+ghost use Rattle.session_core.specs.StoreState.{hand_of};
+ghost use Rattle.session_core.specs.Steps.{Ends};
+ghost use Rattle.brin_app.specs.Acting.{Acts, IsPast, IsFull, AreIdle};
+ghost use Rattle.brin_app.specs.SessionPlaces.{place_of, IsAnswered, IsSaid, IsTooMuch};
 
-use crate::store::Store;
 use block_model::NoMemory;
+use block_model::layout::Layout;
 use block_model::name::Name;
 use block_model::reply::{Refusal, Reply};
-use block_model::row::Query;
-use block_model::schema::Schema;
-use block_model::value::Values;
 use query_words::line::{Line, LineFault, Order, read_line};
 use query_words::reply::{render, render_fault};
 use query_words::statement::Statement;
-use script_run::engine::Engine;
+use script_run::engine::{AnswerFault, Engine};
+use session_core::{SessionFault, Step, Store, StoreFault};
 use std::alloc::Global;
 
-/// The sessions' names in the order of their first lines, and the store that they work on.
+/// The store that the sessions of a script work on.
 #[derive(Drop)]
 pub struct Sessions {
     pub alloc: Global,
-    pub names: Vec<Name>,
     pub store: Store,
 }
 
 impl Engine for Sessions {
-    ghost use Rattle.brin_app.specs.SessionPlaces.{AnswersLine};
+    ghost use Rattle.brin_app.specs.SessionPlaces.{AnswersLine, LacksRoomFor};
 
     ghost answers = { AnswersLine };
 
-    fn answer(&mut self, line: &[u8], out: &mut Vec<u8>) -> Result<(), NoMemory> {
+    ghost lacks_room = { LacksRoomFor };
+
+    fn answer(&mut self, line: &[u8], out: &mut Vec<u8>) -> Result<(), AnswerFault> {
         answer_line(self, line, out)
     }
 }
 
 impl Sessions {
-    ghost use Rattle.brin_app.specs.SessionPlaces.{place_of};
-
-    /// No session and no row.
-    pub fn new(alloc: Global, schema: Schema) -> Result<Sessions, NoMemory>
-        requires { IsOneColumn schema }
-        ensures place { IfOk result (λ s. place_of s ≡ script_start) }
-        ensures schema { IfOk result (λ s. s.store.schema ≡ schema) }
+    /// No session and no row, over a store of this layout.
+    pub fn new(alloc: Global, layout: Layout) -> Result<Sessions, NoMemory>
+        requires { HasMinMaxIndexes layout.schema }
+        ensures place { IfOk result (λ s. place_of s.store ≡ script_start) }
+        ensures layout { IfOk result (λ s. s.store.layout ≡ layout) }
+        ensures idle { IfOk result (λ s. AreIdle s.store) }
     {
-        let store = Store::new(alloc, schema)?;
-        Ok(Sessions {
-            alloc,
-            names: Vec::new(alloc),
-            store,
-        })
+        let store = Store::new(alloc, layout)?;
+        Ok(Sessions { alloc, store })
     }
-}
-
-/// The number of a session's name, which is kept from now on.
-fn number_for(names: &mut Vec<Name>, name: &Name) -> Result<u32, NoMemory>
-    ensures number { IfOk result (λ n. n ≡ session_number names.old.items name.now) }
-    ensures names { OnOk result (names.new.items ≡ with_session names.old.items name.now) }
-    ensures err { OnErr result (names.new.items ≡ names.old.items) }
-{
-    let at = place_of_name(names.as_slice(), name);
-    if at > u32::MAX as usize {
-        return Err(NoMemory);
-    }
-    if at < names.len() {
-        return Ok(at as u32);
-    }
-    match names.push(*name) {
-        Ok(()) => Ok(at as u32),
-        Err(_) => Err(NoMemory),
-    }
-}
-
-fn place_of_name(names: &[Name], name: &Name) -> usize
-    ensures is { result ≡ session_number names.now name.now }
-    ensures within { result ≤ length names.now }
-{
-    for (i, known) in names.iter().enumerate() {
-        if known.as_bytes() == name.as_bytes() {
-            return i;
-        }
-    }
-    names.len()
 }
 
 /// Appends the text of a line, and does what it says.
-fn answer_line(sessions: &mut Sessions, line: &[u8], out: &mut Vec<u8>) -> Result<(), NoMemory>
-    ensures text { OnOk result (out.new.items ≡ out.old.items ++ (line_answer (explained sessions.old.store.schema) sessions.old.store.schema (place_of sessions.old) line.now).text) }
-    ensures place { OnOk result (place_of sessions.new ≡ place_after (place_of sessions.old) (line_answer (explained sessions.old.store.schema) sessions.old.store.schema (place_of sessions.old) line.now)) }
-    ensures schema { OnOk result (sessions.new.store.schema ≡ sessions.old.store.schema) }
+fn answer_line(
+    sessions: &mut Sessions,
+    line: &[u8],
+    out: &mut Vec<u8>,
+) -> Result<(), AnswerFault>
+    ensures ok { OnOk result ((text : List ℕ) × (out.new.items ≡ out.old.items ++ text) × (AreIdle sessions.old.store → IsAnswered sessions.old.store line.now text sessions.new.store)) }
+    ensures full { AreIdle sessions.old.store → IsErrOf result AnswerFault.Full → LacksRoom (explained sessions.old.store.layout.schema) sessions.old.store.layout.schema (place_of sessions.old.store) line.now }
 {
-    match read_line(sessions.alloc, line, sessions.store.schema()) {
-        Ok(line) => obey(sessions, line, out),
-        Err(LineFault::Memory) => Err(NoMemory),
-        Err(fault) => render_fault(fault, out),
+    match read_line(sessions.alloc, line, sessions.store.layout()) {
+        Ok(line) => obey(&mut sessions.store, line, out),
+        Err(fault) => {
+            sessions.store.known();
+            refuse(fault, out)
+        }
     }
 }
 
-fn obey(sessions: &mut Sessions, line: Line, out: &mut Vec<u8>) -> Result<(), NoMemory>
-    requires { IsSpokenLine line }
-    ensures text { OnOk result (out.new.items ≡ out.old.items ++ (said_answer (explained sessions.old.store.schema) (place_of sessions.old) (Ok line)).text) }
-    ensures place { OnOk result (place_of sessions.new ≡ place_after (place_of sessions.old) (said_answer (explained sessions.old.store.schema) (place_of sessions.old) (Ok line))) }
-    ensures schema { OnOk result (sessions.new.store.schema ≡ sessions.old.store.schema) }
+/// Appends the text of a line that isn't read; want of memory is no fault of the line.
+fn refuse(fault: LineFault, out: &mut Vec<u8>) -> Result<(), AnswerFault>
+    ensures ok { OnOk result (out.new.items ≡ out.old.items ++ fault_text fault) }
+    ensures read { OnOk result (fault ≢ LineFault.Memory) }
+    ensures full { ¬ (IsErrOf result AnswerFault.Full) }
+{
+    match fault {
+        LineFault::Memory => Err(AnswerFault::Memory),
+        _ => rendered(render_fault(fault, out)),
+    }
+}
+
+/// Want of memory for a text.
+fn rendered(text: Result<(), NoMemory>) -> Result<(), AnswerFault>
+    ensures ok { OnOk result (text ≡ Ok tt) }
+    ensures err { ¬ (IsErrOf result AnswerFault.Full) }
+{
+    match text {
+        Ok(()) => Ok(()),
+        Err(_) => Err(AnswerFault::Memory),
+    }
+}
+
+fn obey(store: &mut Store, line: Line, out: &mut Vec<u8>) -> Result<(), AnswerFault>
+    requires { IsLineFor store.old.layout.schema line }
+    ensures ok { OnOk result ((text : List ℕ) × (out.new.items ≡ out.old.items ++ text) × (AreIdle store.old → IsSaid store.old (Ok line) text store.new)) }
+    ensures full { AreIdle store.old → IsErrOf result AnswerFault.Full → IsTooMuch store.old (Ok line) }
 {
     match line {
-        Line::Nothing => Ok(()),
+        Line::Nothing => {
+            store.known();
+            Ok(())
+        }
         Line::Say { session, order } => match order {
-            Order::Whole(statement) => say(sessions, &session, statement, out),
+            Order::Whole(statement) => say(store, &session, statement, out),
             Order::Start(_) | Order::Step | Order::Finish => unreachable!(),
         },
     }
 }
 
+/// Does what a statement of the session of that name says, and appends its text.
 fn say(
-    sessions: &mut Sessions,
+    store: &mut Store,
     session: &Name,
     statement: Statement,
     out: &mut Vec<u8>,
-) -> Result<(), NoMemory>
-    requires { IsSpoken statement }
-    ensures text { OnOk result (out.new.items ≡ out.old.items ++ (statement_answer (explained sessions.old.store.schema) (place_of sessions.old) session.now statement).text) }
-    ensures place { OnOk result (place_of sessions.new ≡ place_after (place_of sessions.old) (statement_answer (explained sessions.old.store.schema) (place_of sessions.old) session.now statement)) }
-    ensures schema { OnOk result (sessions.new.store.schema ≡ sessions.old.store.schema) }
+) -> Result<(), AnswerFault>
+    requires { IsStatementFor store.old.layout.schema statement }
+    ensures ok { OnOk result ((text : List ℕ) × (out.new.items ≡ out.old.items ++ text) × (AreIdle store.old → IsSaid store.old (Ok (Line.Say session.now (Order.Whole statement))) text store.new)) }
+    ensures full { AreIdle store.old → IsErrOf result AnswerFault.Full → IsTooMuch store.old (Ok (Line.Say session.now (Order.Whole statement))) }
 {
-    let number = number_for(&mut sessions.names, session)?;
-    let reply = act(&mut sessions.store, number, statement)?;
-    render(session, &reply, out)
+    let number = match store.session(*session) {
+        Ok(number) => number,
+        Err(SessionFault::Limit { limit }) => {
+            store.known();
+            let reply = Reply::Refused(Refusal::Limit { limit });
+            return rendered(render(session, &reply, out));
+        }
+        Err(SessionFault::Memory) => return Err(AnswerFault::Memory),
+    };
+    let reply = act(store, number, statement)?;
+    rendered(render(session, &reply, out))
 }
 
 /// Does what a statement of the session says, or says why it isn't taken.
-fn act(store: &mut Store, session: u32, statement: Statement) -> Result<Reply, NoMemory>
-    requires { IsSpoken statement }
-    ensures { IfOk result (λ reply. Acts store.old session statement store.new reply) }
+fn act(store: &mut Store, session: u32, statement: Statement) -> Result<Reply, AnswerFault>
+    requires session { session < length store.old.names }
+    requires statement { IsStatementFor store.old.layout.schema statement }
+    ensures ok { hand_of store.old session ≡ None → IfOk result (λ reply. Acts store.old session statement store.new reply) }
+    ensures full { hand_of store.old session ≡ None → IsErrOf result AnswerFault.Full → IsPast store.old session statement }
 {
-    match statement {
-        Statement::Begin => begin(store, session),
-        Statement::Commit => commit(store, session),
-        Statement::Insert { table, values } => insert(store, session, table, values),
-        Statement::Select(query) => select(store, session, &query),
-        Statement::Explain(query) => explain(store, &query),
-        _ => unreachable!(),
+    store.known();
+    match store.submit(session, statement) {
+        Ok(()) => step(store, session),
+        Err(refusal) => Ok(Reply::Refused(refusal)),
     }
 }
 
-fn begin(store: &mut Store, session: u32) -> Result<Reply, NoMemory>
-    ensures { IfOk result (λ reply. Acts store.old session Statement.Begin store.new reply) }
+/// Ends the statement that the session has in hand.
+fn step(store: &mut Store, session: u32) -> Result<Reply, AnswerFault>
+    requires { IsSome (hand_of store.old session) }
+    ensures ok { IfOk result (λ reply. Ends store.old session store.new reply) }
+    ensures full { IsErrOf result AnswerFault.Full → IsFull store.old session }
+    ensures memory { ¬ (IsErrOf result AnswerFault.Memory) }
 {
-    if store.is_open(session) {
-        return Ok(Reply::Refused(Refusal::UnderWay));
+    match store.step(session) {
+        Ok(Step::Done(reply)) => Ok(reply),
+        Err(StoreFault::Spent { .. }) => Err(AnswerFault::Full),
     }
-    let t = store.begin(session)?;
-    Ok(Reply::Begun { t })
-}
-
-fn commit(store: &mut Store, session: u32) -> Result<Reply, NoMemory>
-    ensures { IfOk result (λ reply. Acts store.old session Statement.Commit store.new reply) }
-{
-    if store.is_open(session) {
-        store.commit(session);
-        return Ok(Reply::Committed);
-    }
-    Ok(Reply::Refused(Refusal::NoTransaction))
-}
-
-fn insert(store: &mut Store, session: u32, table: u8, values: Values) -> Result<Reply, NoMemory>
-    requires { IsOneNumber values }
-    ensures { IfOk result (λ reply. Acts store.old session (Statement.Insert table values) store.new reply) }
-{
-    if store.is_open(session) {
-        let id = store.put(session, table, values)?;
-        return Ok(Reply::Inserted { id });
-    }
-    Ok(Reply::Refused(Refusal::NoTransaction))
-}
-
-fn select(store: &Store, session: u32, query: &Query) -> Result<Reply, NoMemory>
-    requires { AreOnFirst query.now.conds }
-    ensures { IfOk result (λ reply. Acts store.now session (Statement.Select query.now) store.now reply) }
-{
-    if store.is_open(session) {
-        let rows = store.look(session, query)?;
-        return Ok(Reply::Found(rows));
-    }
-    Ok(Reply::Refused(Refusal::NoTransaction))
-}
-
-fn explain(store: &Store, query: &Query) -> Result<Reply, NoMemory>
-    requires { AreOnFirst query.now.conds }
-    ensures { IfOk result (λ reply. (session : ℕ) → Acts store.now session (Statement.Explain query.now) store.now reply) }
-{
-    let blocks = store.explain(query)?;
-    Ok(Reply::Kept(blocks))
 }

@@ -9,5 +9,6 @@ pub mod Texts
 pub mod StatementRequests
 pub mod RowsPut
 pub mod ScriptTexts
+pub mod Operators
 pub mod LineFits
 pub mod Appended

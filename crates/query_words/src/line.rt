@@ -1,12 +1,13 @@
 // What a line of a script says.
 
-ghost use Rattle.std.specs.Prelude.{◌≡◌};
+ghost use Rattle.std.specs.Prelude.{◌≡◌, IfOk};
+ghost use Rattle.query_words.specs.LineFits.{IsLineFor};
 ghost use Rattle.query_words.specs.Lines.{Reads, line_of, is_comment};
 
 use crate::statement::{Statement, read_statement};
 use crate::word::next_word;
+use block_model::layout::Layout;
 use block_model::name::Name;
-use block_model::schema::Schema;
 use std::alloc::Global;
 
 /// What a session is to do: a statement as a whole, its submission alone, one step, or all steps that are left.
@@ -44,9 +45,10 @@ pub const MAX_LINE: usize = 65535;
 
 /// Reads a line. Takes memory for the condition of a select or an explain alone.
 #[tactic(auto, unfolding(crate::specs::Lines::line_of))]
-pub fn read_line(alloc: Global, line: &[u8], schema: &Schema) -> Result<Line, LineFault>
-    ensures { Reads result (line_of schema.now line.now) }
+pub fn read_line(alloc: Global, line: &[u8], layout: &Layout) -> Result<Line, LineFault>
+    ensures reads { Reads result (line_of layout.now.schema line.now) }
 {
+    let schema = layout.schema();
     if line.len() > MAX_LINE {
         return Err(SYNTAX);
     }
