@@ -1,0 +1,4 @@
+pub mod CommandWords
+pub mod ClapReading
+pub mod ClapRules
+pub mod ClapCommands
