@@ -9,8 +9,8 @@ use Rattle.clap.specs.Faults.{fault_of, built_fault, level_fault, walk_fault, tu
 use Rattle.clap.specs.Kinds.{Kinds, or_else}
 use Rattle.clap.proofs.FaultLemmas.{stopped_fault}
 use Rattle.clap.specs.declared.error.kind.ErrorKind.TheVariants.{MissingSubcommand}
-use Rattle.command_words.specs.CommandWords.{Text, Said, nothing_read, is_end, option_in}
-use Rattle.command_words.specs.ClapReading.{clap_read, has_single_hyphen}
+use Rattle.command_words.specs.CommandWords.{Text, Said, nothing_read, option_in}
+use Rattle.command_words.specs.ClapReading.{is_end, clap_read, has_single_hyphen}
 use Rattle.command_words.specs.ClapRules.{declared_id, option_rule, declared_rule, rules, leaf, Shows, Agrees}
 use Rattle.command_words.specs.ClapCommands.{Sub, entry, command_said, raw_option, raw_declared, raw_rules, raw_leaf, top, raw_app, leaf_of, built_app, Enters, program_subs, leaf_app}
 use Rattle.command_words.proofs.RowLemmas.{same_text}
@@ -58,9 +58,9 @@ shape_found word (s ∷ ss) = go (bytes_eq s.0 word) (shape_found word ss)
 entry_named : (word : Text) (subs : List Sub) (s : Sub) → entry word subs ≡ Some s → s.0 ≡ word
 entry_named word [] s e = cc
 entry_named word (q ∷ qs) s e = elim (cases_Bool (bytes_eq q.0 word)) [
-    | inl h ↦ let first : Some q ≡ Some s = rw h at e in let same : q ≡ s = cc in ap (λ (x : Sub). x.0) (sym same) ∙ same_text q.0 word h
-    | inr h ↦ entry_named word qs s (rw h at e)
-  ]
+  | inl h ↦ let first : Some q ≡ Some s = rw h at e in let same : q ≡ s = cc in ap (λ (x : Sub). x.0) (sym same) ∙ same_text q.0 word h
+  | inr h ↦ entry_named word qs s (rw h at e)
+]
 
 -- ---- the walk at the top
 
@@ -83,9 +83,10 @@ named_walk : (name : Text) (subs : List Sub) (word : Text) (words : List Text) (
     × (walk [] (names_of (built_app name subs)) nothing_held (word ∷ words) ≡ stopped_at s.0 words)
 unfolding walk_fault
 named_walk name subs word words s e =
-    let t = named_turn name subs word s e in
-    (rw (t.0, t.1) (stopped_fault (built_app name subs).top (names_of (built_app name subs)) (walk_from nothing_held) (s.0, []) words),
-    rw t.1 (stopped_end [] (names_of (built_app name subs)) s.0 [] words))
+    let t = named_turn name subs word s e in (
+      rw (t.0, t.1) (stopped_fault (built_app name subs).top (names_of (built_app name subs)) (walk_from nothing_held) (s.0, []) words),
+      rw t.1 (stopped_end [] (names_of (built_app name subs)) s.0 [] words),
+    )
 
 named_shape : (word : Text) (subs : List Sub) (s : Sub) → entry word subs ≡ Some s → find (λ x. answers_to s.0 (label_of x)) (map leaf_of subs) ≡ Some (leaf_of s)
 named_shape word subs s e = ap (λ (x : Text). find (λ q. answers_to x (label_of q)) (map leaf_of subs)) (entry_named word subs s e) ∙ shape_found word subs ∙ ap (option_map leaf_of) e
@@ -120,9 +121,9 @@ over_bad name subs (word ∷ words) e = cc
 none_turn : (name : Text) (subs : List Sub) (word : Text) → entry word subs ≡ None → has_single_hyphen word ≡ false → is_end word ≡ false
     → turn_fault (built_app name subs).top (names_of (built_app name subs)) (walk_from nothing_held) word ≡ [] → ⊥
 none_turn name subs word e n end = elim (some_or_none (option_in word)) [
-    | inl f ↦ rw (names_found word subs, e, end, f.1) (λ x. cc)
-    | inr o ↦ rw (names_found word subs, e, end, o, no_short word n) (λ x. cc)
-  ]
+  | inl f ↦ rw (names_found word subs, e, end, f.1) (λ x. cc)
+  | inr o ↦ rw (names_found word subs, e, end, o, no_short word n) (λ x. cc)
+]
 
 empty_fault : (name : Text) (subs : List Sub) → fault_of (raw_app name subs) [] ≡ MissingSubcommand ∷ []
 unfolding walk_fault defaults_fault
@@ -166,14 +167,14 @@ named_has word (q ∷ qs) s e ok =
 -- clap refuses exactly the words that the grammar refuses, and else its matches hold what they say
 pub clap_agrees : (name : Text) (subs : List Sub) (words : List Text) → list_all has_names subs ≡ true → list_all (λ w. not (has_single_hyphen w)) words ≡ true
     → MatchOption (command_said subs words) (fault_of (raw_app name subs) words ≡ [] → ⊥)
-      (λ said. (fault_of (raw_app name subs) words ≡ []) × Enters (subcommand_of (raw_app name subs) words) said)
+    (λ said. (fault_of (raw_app name subs) words ≡ []) × Enters (subcommand_of (raw_app name subs) words) said)
 clap_agrees name subs [] named ok = rw (empty_fault name subs) (λ x. cc)
 clap_agrees name subs (word ∷ words) named ok =
     let parts = and_parts _ _ ok in
     elim (some_or_none (entry word subs)) [
       | inr e ↦ rw e (none_fault name subs word words e (not-true _ parts.0))
       | inl f ↦ rw (f.1, named_fault name subs word words f.0 f.1) (go f.0.0 (clap_read f.0.1 nothing_read words) (level_fault (leaf f.0.0 f.0.1) [] nothing_held words false []) (rows_after (rules f.0.1) [] words)
-        (subcommand_of (raw_app name subs) (word ∷ words)) (named_rows name subs word words f.0 f.1) (leaf_agrees f.0.0 f.0.1 words (not-true _ (named_has word subs f.0 f.1 named)) parts.1))
+          (subcommand_of (raw_app name subs) (word ∷ words)) (named_rows name subs word words f.0 f.1) (leaf_agrees f.0.0 f.0.1 words (not-true _ (named_has word subs f.0 f.1 named)) parts.1))
     ]
   where
     go : (n : Text) (said : Option Said) (fault : Kinds) (rows : List Row) (entered : Option (Text × List Row)) → entered ≡ Some (n, rows) → Agrees fault rows said

@@ -3,8 +3,8 @@ use Rattle.std.proofs.Common.{◌≡◌, ◌∙◌, refl, sym, ap, subst, List, 
 use Rattle.std.specs.List.{list_any, list_all}
 use Rattle.std.proofs.lemmas.Bool.{cases_Bool, and_parts, not-true, false_from_ne_true, eqb-true}
 use Rattle.command_words.specs.declared.command.Command.{Command}
-use Rattle.command_words.specs.CommandWords.{Text, Said, Reading, value_of, give, declare, option_in, is_end, nothing_read, is_number, begins_with_hyphen, give_number, take_option, take_declared, take_word, read_words, CommandForm, command_in, commands, form_named}
-use Rattle.command_words.specs.ClapReading.{has_single_hyphen, clap_read, clap_word, numbers_given, is_number_if_given, is_declared, is_checked}
+use Rattle.command_words.specs.CommandWords.{Text, Said, Reading, value_of, give, declare, option_in, nothing_read, is_number, begins_with_hyphen, give_number, take_option, take_declared, take_word, read_words, CommandForm, command_in, commands, form_named}
+use Rattle.command_words.specs.ClapReading.{is_end, has_single_hyphen, clap_read, clap_word, numbers_given, is_number_if_given, is_declared, is_checked}
 use Rattle.command_words.specs.ClapCommands.{has_no_single_hyphen, entry, Sub, command_said, command_matched, judged, meaning_checked}
 use Rattle.command_words.proofs.RowLemmas.{given_at, same_text, text_is}
 use Rattle.command_words.proofs.TurnLemmas.{some_or_none, and_false}
@@ -43,6 +43,7 @@ number_keeps (n ∷ ns) values name v none e = rw (number_keeps ns values name v
         none_passes : (o : Option Text) → is_some o ≡ false → is_number_if_given o ≡ true
         none_passes None k = refl
         none_passes (Some x) k = absurd (true≢false k)
+
     one : is_number_if_given (value_of n (values ++ (name, v) ∷ [])) ≡ is_number_if_given (value_of n values)
     one = rw (given_at name v n values none) (go (bytes_eq name n) (λ h. ap (λ (x : Text). is_some (value_of x values)) (sym (same_text name n h)) ∙ none))
 
@@ -51,16 +52,16 @@ word_fails : (names : List Text) (values : List (Text × Text)) (name v : Text) 
     → numbers_given names (values ++ (name, v) ∷ []) ≡ false
 word_fails [] values name v none k e = absurd (true≢false (sym k))
 word_fails (n ∷ ns) values name v none k e = elim (cases_Bool (bytes_eq n name)) [
-    | inl h ↦ let back : bytes_eq name n ≡ true = ap (λ (x : Text). bytes_eq x n) (sym (same_text n name h)) ∙ text_is n in rw (given_at name v n values none, back, e) refl
-    | inr h ↦ rw (word_fails ns values name v none (rw h at k) e) (and_false _)
-  ]
+  | inl h ↦ let back : bytes_eq name n ≡ true = ap (λ (x : Text). bytes_eq x n) (sym (same_text n name h)) ∙ text_is n in rw (given_at name v n values none, back, e) refl
+  | inr h ↦ rw (word_fails ns values name v none (rw h at k) e) (and_false _)
+]
 
 checked_give : (names : List Text) (said : Said) (name v : Text) → is_some (value_of name said.values) ≡ false → list_any (λ n. bytes_eq n name) names ≡ true
     → is_checked names (record { values = said.values ++ (name, v) ∷ []; declared = said.declared }) ≡ (is_checked names said && is_number v)
 checked_give names said name v none k = elim (cases_Bool (is_number v)) [
-    | inl e ↦ rw (e, number_keeps names said.values name v none e) (sym (and_true (is_checked names said)))
-    | inr e ↦ rw (e, word_fails names said.values name v none k e) (sym (and_false (is_checked names said)))
-  ]
+  | inl e ↦ rw (e, number_keeps names said.values name v none e) (sym (and_true (is_checked names said)))
+  | inr e ↦ rw (e, word_fails names said.values name v none k e) (sym (and_false (is_checked names said)))
+]
 
 checked_declare : (names : List Text) (said : Said) (w : Text) → is_checked names (record { values = said.values; declared = said.declared ++ w ∷ [] }) ≡ (is_checked names said && is_declared w)
 checked_declare names said w = rw (all_append is_declared said.declared w) (go (numbers_given names said.values))
@@ -128,15 +129,15 @@ added said word ended = record { said = record { values = said.values; declared 
 waiting_step : (names : List Text) (said : Said) (name : Text) (ended : Bool) (word : Text) → list_any (λ n. bytes_eq n name) names ≡ true
     → Judges names (record { said = said; waits = Some name; ended = ended }) word
 waiting_step names said name ended word k = elim (cases_Bool (is_end word)) [
-    | inl e ↦ inr (rw e refl, rw (no_form word (end_hyphen word e)).0 refl)
-    | inr e ↦ elim (some_or_none (option_in word)) [
-      | inl f ↦ inr (rw (e, f.1) refl, rw (no_form word (option_hyphen word f.0 f.1)).0 refl)
-      | inr o ↦ elim (cases_Bool (is_some (value_of name said.values))) [
-        | inl has ↦ inr (rw (e, o, has) refl, rw has (none_either (is_number word)))
-        | inr none ↦ inl (gave said name word ended, is_number word, (rw (e, o, none) refl, rw none refl, checked_give names said name word none k, tt))
-      ]
+  | inl e ↦ inr (rw e refl, rw (no_form word (end_hyphen word e)).0 refl)
+  | inr e ↦ elim (some_or_none (option_in word)) [
+    | inl f ↦ inr (rw (e, f.1) refl, rw (no_form word (option_hyphen word f.0 f.1)).0 refl)
+    | inr o ↦ elim (cases_Bool (is_some (value_of name said.values))) [
+      | inl has ↦ inr (rw (e, o, has) refl, rw has (none_either (is_number word)))
+      | inr none ↦ inl (gave said name word ended, is_number word, (rw (e, o, none) refl, rw none refl, checked_give names said name word none k, tt))
     ]
   ]
+]
 
 hyphen_none : {X : Type 0} (b : Bool) (x : X) → cond b None (Some x) ≡ cond (not b) (Some x) None
 hyphen_none true x = refl
@@ -149,22 +150,21 @@ known_step : (names : List Text) (said : Said) (word name : Text) (v : Option Te
     → Judges names (record { said = said; waits = None; ended = false }) word
 known_step names said word name None e o k = inl (record { said = said; waits = Some name; ended = false }, true, (rw (e, o, k) refl, rw (e, o, k) refl, sym (and_true _), k))
 known_step names said word name (Some v) e o k = elim (cases_Bool (is_some (value_of name said.values))) [
-    | inl has ↦ inr (rw (e, o, k, has) refl, rw (e, o, k, has) (none_either (is_number v)))
-    | inr none ↦ inl (gave said name v false, is_number v, (rw (e, o, k, none) refl, rw (e, o, k, none) refl, checked_give names said name v none k, tt))
-  ]
-
+  | inl has ↦ inr (rw (e, o, k, has) refl, rw (e, o, k, has) (none_either (is_number v)))
+  | inr none ↦ inl (gave said name v false, is_number v, (rw (e, o, k, none) refl, rw (e, o, k, none) refl, checked_give names said name v none k, tt))
+]
 
 free_step : (names : List Text) (said : Said) (word : Text) → Judges names (record { said = said; waits = None; ended = false }) word
 free_step names said word = elim (cases_Bool (is_end word)) [
-    | inl e ↦ inl (record { said = said; waits = None; ended = true }, true, (rw e refl, rw e refl, sym (and_true _), tt))
-    | inr e ↦ elim (some_or_none (option_in word)) [
-      | inl f ↦ elim (cases_Bool (list_any (λ n. bytes_eq n f.0.0) names)) [
-        | inl k ↦ known_step names said word f.0.0 f.0.1 e f.1 k
-        | inr k ↦ inr (rw (e, f.1, k) refl, rw (e, f.1, k) refl)
-      ]
-      | inr o ↦ inl (added said word false, is_declared word, (rw (e, o) refl, rw (e, o) (hyphen_none (begins_with_hyphen word) (added said word false)), checked_declare names said word, tt))
+  | inl e ↦ inl (record { said = said; waits = None; ended = true }, true, (rw e refl, rw e refl, sym (and_true _), tt))
+  | inr e ↦ elim (some_or_none (option_in word)) [
+    | inl f ↦ elim (cases_Bool (list_any (λ n. bytes_eq n f.0.0) names)) [
+      | inl k ↦ known_step names said word f.0.0 f.0.1 e f.1 k
+      | inr k ↦ inr (rw (e, f.1, k) refl, rw (e, f.1, k) refl)
     ]
+    | inr o ↦ inl (added said word false, is_declared word, (rw (e, o) refl, rw (e, o) (hyphen_none (begins_with_hyphen word) (added said word false)), checked_declare names said word, tt))
   ]
+]
 
 step : (names : List Text) (r : Reading) (word : Text) → WaitsKnown names r.waits → Judges names r word
 step names r word k = go r.waits r.ended k
@@ -179,8 +179,10 @@ single_step names r word c = go r.waits r.ended
   where
     form : (is_number word ≡ false) × (is_declared word ≡ false)
     form = no_form word (single_hyphen word c)
+
     free : (is_end word ≡ false) × (option_in word ≡ None)
     free = single_free word c
+
     go : (waits : Option Text) (ended : Bool) → take_word names waits word (record { said = r.said; waits = waits; ended = ended }) ≡ None
     go (Some name) ended = rw form.0 refl
     go None true = rw (single_hyphen word c) refl
@@ -201,12 +203,12 @@ checked_reading names r [] k = go (is_some r.waits)
     go true = sym (none_either (is_checked names r.said))
     go false = refl
 checked_reading names r (word ∷ words) k = elim (cases_Bool (has_single_hyphen word)) [
-    | inl c ↦ rw (c, single_step names r word c) (sym (none_either (is_checked names r.said)))
-    | inr c ↦ elim (step names r word k) [
-      | inl s ↦ rw (c, s.2.0, s.2.1) (checked_reading names s.0 words s.2.3 ∙ ap (λ (b : Bool). cond b (read_words names s.0 words) None) s.2.2 ∙ both_tests (is_checked names r.said) s.1 (read_words names s.0 words) ∙ ap (λ (o : Option Said). cond (is_checked names r.said) o None) (inside s.1 s.0))
-      | inr s ↦ rw (c, s.0, s.1) (ap (checked names) (none_either (has_no_single_hyphen words)) ∙ sym (none_either (is_checked names r.said)))
-    ]
+  | inl c ↦ rw (c, single_step names r word c) (sym (none_either (is_checked names r.said)))
+  | inr c ↦ elim (step names r word k) [
+    | inl s ↦ rw (c, s.2.0, s.2.1) (checked_reading names s.0 words s.2.3 ∙ ap (λ (b : Bool). cond b (read_words names s.0 words) None) s.2.2 ∙ both_tests (is_checked names r.said) s.1 (read_words names s.0 words) ∙ ap (λ (o : Option Said). cond (is_checked names r.said) o None) (inside s.1 s.0))
+    | inr s ↦ rw (c, s.0, s.1) (ap (checked names) (none_either (has_no_single_hyphen words)) ∙ sym (none_either (is_checked names r.said)))
   ]
+]
   where
     inside : (b : Bool) (q : Reading) → cond b (read_words names q words) None ≡ option_and_then (λ x. read_words names x words) (cond b (Some q) None)
     inside true q = refl
@@ -226,9 +228,9 @@ start_reading names words = checked_reading names nothing_read words tt ∙ ap (
 form_has_word : (word : Text) (forms : List CommandForm) (f : CommandForm) → find (λ form. bytes_eq form.word word) forms ≡ Some f → f.word ≡ word
 form_has_word word [] f e = cc
 form_has_word word (g ∷ gs) f e = elim (cases_Bool (bytes_eq g.word word)) [
-    | inl h ↦ let first : Some g ≡ Some f = rw h at e in let same : g ≡ f = cc in ap (λ (x : CommandForm). x.word) (sym same) ∙ same_text g.word word h
-    | inr h ↦ form_has_word word gs f (rw h at e)
-  ]
+  | inl h ↦ let first : Some g ≡ Some f = rw h at e in let same : g ≡ f = cc in ap (λ (x : CommandForm). x.word) (sym same) ∙ same_text g.word word h
+  | inr h ↦ form_has_word word gs f (rw h at e)
+]
 
 -- no command's word is one that the test before the parse refuses
 form_is_plain : (word : Text) (forms : List CommandForm) (f : CommandForm) → find (λ form. bytes_eq form.word word) forms ≡ Some f
@@ -270,9 +272,9 @@ judged_said form (Some s) e = ap (option_and_then (λ f. meaning_checked f s)) e
 pub command_alike : (words : List Text) → command_matched words ≡ command_in words
 command_alike [] = refl
 command_alike (word ∷ words) = elim (some_or_none (form_named word)) [
-    | inr e ↦ rw (entry_of_form word commands, e) (none_either (has_no_single_hyphen (word ∷ words)))
-    | inl f ↦ named f.0 f.1
-  ]
+  | inr e ↦ rw (entry_of_form word commands, e) (none_either (has_no_single_hyphen (word ∷ words)))
+  | inl f ↦ named f.0 f.1
+]
   where
     named : (form : CommandForm) → form_named word ≡ Some form → command_matched (word ∷ words) ≡ command_in (word ∷ words)
     named form e =

@@ -7,3 +7,4 @@ pub mod BuildLemmas
 pub mod NumberLemmas
 pub mod SizeLemmas
 pub mod TextLemmas
+pub mod LawLemmas

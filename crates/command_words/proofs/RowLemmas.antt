@@ -48,9 +48,9 @@ values_at n how s vs id [] = go (bytes_eq n id)
     go true = refl
     go false = refl
 values_at n how s vs id (r ∷ rs) = elim (cases_Bool (bytes_eq r.id n)) [
-      | inl e ↦ rw (e, named_alike r.id n id e) (same (bytes_eq n id) _ _ _)
-      | inr e ↦ rw e (past_one (λ (q : Row). q.values) (bytes_eq r.id id) (bytes_eq n id) r _ _ _ (apart r.id n id e) (values_at n how s vs id rs))
-    ]
+  | inl e ↦ rw (e, named_alike r.id n id e) (same (bytes_eq n id) _ _ _)
+  | inr e ↦ rw e (past_one (λ (q : Row). q.values) (bytes_eq r.id id) (bytes_eq n id) r _ _ _ (apart r.id n id e) (values_at n how s vs id rs))
+]
   where
     same : (b : Bool) (x y : Row) (found : Option Row) → option_map (λ (q : Row). q.values) (cond b (Some x) found) ≡ cond b (Some x.values) (option_map (λ (q : Row). q.values) (cond b (Some y) found))
     same true x y found = refl
@@ -72,39 +72,39 @@ given_at n v id [] e = go (bytes_eq n id)
     go true = refl
     go false = refl
 given_at n v id (p ∷ ps) e = elim (cases_Bool (bytes_eq p.0 n)) [
-      | inl h ↦ absurd (true≢false (rw h at e))
-      | inr h ↦ past_one (λ (q : Text × Text). q.1) (bytes_eq p.0 id) (bytes_eq n id) p _ _ _ (apart p.0 n id h) (given_at n v id ps (rw h at e))
-    ]
+  | inl h ↦ absurd (true≢false (rw h at e))
+  | inr h ↦ past_one (λ (q : Text × Text). q.1) (bytes_eq p.0 id) (bytes_eq n id) p _ _ _ (apart p.0 n id h) (given_at n v id ps (rw h at e))
+]
 
 -- ---- which rule a name leads to
 
 pub long_known : (names : List Text) (name : Text) → list_any (λ n. bytes_eq n name) names ≡ true → arg_by_long (rules names) name ≡ Some (option_rule name)
 long_known [] name e = absurd (true≢false (sym e))
 long_known (n ∷ ns) name e = elim (cases_Bool (bytes_eq n name)) [
-      | inl h ↦ rw h (ap (λ (x : Text). Some (option_rule x)) (same_text n name h))
-      | inr h ↦ rw h (long_known ns name (rw h at e))
-    ]
+  | inl h ↦ rw h (ap (λ (x : Text). Some (option_rule x)) (same_text n name h))
+  | inr h ↦ rw h (long_known ns name (rw h at e))
+]
 
 pub long_unknown : (names : List Text) (name : Text) → list_any (λ n. bytes_eq n name) names ≡ false → arg_by_long (rules names) name ≡ None
 long_unknown [] name e = refl
 long_unknown (n ∷ ns) name e = elim (cases_Bool (bytes_eq n name)) [
-      | inl h ↦ absurd (true≢false (rw h at e))
-      | inr h ↦ rw h (long_unknown ns name (rw h at e))
-    ]
+  | inl h ↦ absurd (true≢false (rw h at e))
+  | inr h ↦ rw h (long_unknown ns name (rw h at e))
+]
 
 pub id_known : (names : List Text) (name : Text) → list_any (λ n. bytes_eq n name) names ≡ true → arg_by_id (rules names) name ≡ Some (option_rule name)
 id_known [] name e = absurd (true≢false (sym e))
 id_known (n ∷ ns) name e = elim (cases_Bool (bytes_eq n name)) [
-      | inl h ↦ rw h (ap (λ (x : Text). Some (option_rule x)) (same_text n name h))
-      | inr h ↦ rw h (id_known ns name (rw h at e))
-    ]
+  | inl h ↦ rw h (ap (λ (x : Text). Some (option_rule x)) (same_text n name h))
+  | inr h ↦ rw h (id_known ns name (rw h at e))
+]
 
 pub id_declared : (names : List Text) → list_any (λ n. bytes_eq n declared_id) names ≡ false → arg_by_id (rules names) declared_id ≡ Some declared_rule
 id_declared [] e = refl
 id_declared (n ∷ ns) e = elim (cases_Bool (bytes_eq n declared_id)) [
-      | inl h ↦ absurd (true≢false (rw h at e))
-      | inr h ↦ rw h (id_declared ns (rw h at e))
-    ]
+  | inl h ↦ absurd (true≢false (rw h at e))
+  | inr h ↦ rw h (id_declared ns (rw h at e))
+]
 
 pub first_place : (names : List Text) → arg_by_index (rules names) 1 ≡ Some declared_rule
 first_place [] = refl

@@ -11,9 +11,9 @@ IsSize default o n = (is_number_if_given o ≡ true) × (n ≡ unwrap_or (option
 pub size_is : (default : ℕ) (o : Option Text) (n : ℕ) → Some n ≡ size_given default o → IsSize default o n
 size_is default None n e = (refl, cc)
 size_is default (Some text) n e = elim (cases_Bool (is_number text)) [
-    | inl h ↦ let same : Some n ≡ Some (number_of text) = rw h at e in (h, cc)
-    | inr h ↦ let bad : Some n ≡ None = rw h at e in cc
-  ]
+  | inl h ↦ let same : Some n ≡ Some (number_of text) = rw h at e in (h, cc)
+  | inr h ↦ let bad : Some n ≡ None = rw h at e in cc
+]
 
 pub sizes_are : (said : Said) (heap index status log frames : ℕ)
     → IsSize 4096 (value_of (codes "heap-blocks") said.values) heap

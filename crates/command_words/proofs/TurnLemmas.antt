@@ -11,8 +11,8 @@ use Rattle.clap.specs.Takes.{is_given}
 use Rattle.clap.specs.Kinds.{Kinds, or_else}
 use Rattle.clap.specs.declared.builder.value_parser.Reading.{Reading as HowRead}
 use Rattle.clap.specs.declared.error.kind.ErrorKind.TheVariants.{TooManyValues}
-use Rattle.command_words.specs.CommandWords.{Text, Said, Reading, value_of, nothing_read, give, is_end, option_in, begins_with_hyphen}
-use Rattle.command_words.specs.ClapReading.{clap_word, clap_read, has_single_hyphen}
+use Rattle.command_words.specs.CommandWords.{Text, Said, Reading, value_of, nothing_read, give, option_in, begins_with_hyphen}
+use Rattle.command_words.specs.ClapReading.{is_end, clap_word, clap_read, has_single_hyphen}
 use Rattle.command_words.specs.ClapRules.{declared_id, option_rule, declared_rule, rules, leaf, Shows, shown, Agrees}
 use Rattle.command_words.proofs.RowLemmas.{same_text, text_is, none_without, values_at, has_is, given_at, long_known, long_unknown, id_known, id_declared, first_place, known_apart, known_other, has_value, set_shows, add_shows, no_defaults}
 
@@ -108,6 +108,7 @@ no_short (x ∷ xs) e = go (x == 45) xs e
     second : (b : Bool) (ys : Text) → not b ≡ false → cond b None (Some ys) ≡ None
     second true ys h = refl
     second false ys h = absurd (true≢false h)
+
     go : (b : Bool) (ys : Text) → (b && not (begins_with_hyphen ys)) ≡ false → option_and_then short_of_rest (cond b (Some ys) None) ≡ None
     go false ys h = refl
     go true [] h = refl
@@ -155,11 +156,12 @@ given_turn : (names : List Text) (h : Held) (b : Bool) (said : Said) (word name 
     → GoesOn names (calm h b false said) word (calm (reacted (rules names) (option_rule name) (v ∷ []) h) false false (record { values = said.values ++ (name, v) ∷ []; declared = said.declared }))
 unfolding walked
 given_turn names h b said word name v d e o k holds none =
-    let no_row : has_row name (settled (rules names) h).rows ≡ false = has_value _ said name (known_apart names name d k) holds.shows ∙ none in
-    (rw (no_sub (calm_waiting b) word, e, o, long_known names name k, holds.settles, no_row) refl,
-    rw (no_sub (calm_waiting b) word, e, o, long_known names name k) refl,
-    rw (e, o, k, none) refl,
-    record { settles = refl; shows = set_shows names _ said name v d k none holds.shows })
+    let no_row : has_row name (settled (rules names) h).rows ≡ false = has_value _ said name (known_apart names name d k) holds.shows ∙ none in (
+      rw (no_sub (calm_waiting b) word, e, o, long_known names name k, holds.settles, no_row) refl,
+      rw (no_sub (calm_waiting b) word, e, o, long_known names name k) refl,
+      rw (e, o, k, none) refl,
+      record { settles = refl; shows = set_shows names _ said name v d k none holds.shows },
+    )
 
 taken_turn : (names : List Text) (h : Held) (b : Bool) (said : Said) (word name v : Text) → list_any (λ n. bytes_eq n declared_id) names ≡ false
     → is_end word ≡ false → option_in word ≡ Some (name, Some v) → list_any (λ n. bytes_eq n name) names ≡ true → Calm names h said
@@ -175,11 +177,12 @@ begin_turn : (names : List Text) (h : Held) (b : Bool) (said : Said) (word name 
     → is_end word ≡ false → option_in word ≡ Some (name, None) → list_any (λ n. bytes_eq n name) names ≡ true → Calm names h said
     → GoesOn names (calm h b false said) word (hungry (record (settled (rules names) h) { pending = Some (name, []) }) name said)
 unfolding walked
-begin_turn names h b said word name e o k holds =
-    (rw (no_sub (calm_waiting b) word, e, o, long_known names name k, holds.settles) refl,
-    rw (no_sub (calm_waiting b) word, e, o, long_known names name k) refl,
-    rw (e, o, k) refl,
-    record { known = k; pending = refl; shows = holds.shows })
+begin_turn names h b said word name e o k holds = (
+  rw (no_sub (calm_waiting b) word, e, o, long_known names name k, holds.settles) refl,
+  rw (no_sub (calm_waiting b) word, e, o, long_known names name k) refl,
+  rw (e, o, k) refl,
+  record { known = k; pending = refl; shows = holds.shows },
+)
 
 -- ---- a declared word
 
@@ -199,20 +202,22 @@ plain_turn : (names : List Text) (h : Held) (b : Bool) (said : Said) (word : Tex
     → is_end word ≡ false → option_in word ≡ None → has_single_hyphen word ≡ false → Calm names h said
     → GoesOn names (calm h b false said) word (calm (plain_held names h word) true false (with_declared said word))
 unfolding walked
-plain_turn names h b said word d e o n holds =
-    (rw (no_sub (calm_waiting b) word, e, o, no_short word n, plain_calm (rules names) b word h, first_place names, and_false, holds.settles) refl,
-    rw (no_sub (calm_waiting b) word, e, o, no_short word n, plain_calm (rules names) b word h, first_place names, and_false) refl,
-    rw (e, o) refl,
-    plain_calmly names h said word d holds)
+plain_turn names h b said word d e o n holds = (
+  rw (no_sub (calm_waiting b) word, e, o, no_short word n, plain_calm (rules names) b word h, first_place names, and_false, holds.settles) refl,
+  rw (no_sub (calm_waiting b) word, e, o, no_short word n, plain_calm (rules names) b word h, first_place names, and_false) refl,
+  rw (e, o) refl,
+  plain_calmly names h said word d holds,
+)
 
 over_turn : (names : List Text) (h : Held) (b : Bool) (said : Said) (word : Text) → list_any (λ n. bytes_eq n declared_id) names ≡ false → Calm names h said
     → GoesOn names (calm h b true said) word (calm (plain_held names h word) true true (with_declared said word))
 unfolding walked
-over_turn names h b said word d holds =
-    (rw (first_place names, and_false, holds.settles) refl,
-    rw (first_place names, and_false) refl,
-    refl,
-    plain_calmly names h said word d holds)
+over_turn names h b said word d holds = (
+  rw (first_place names, and_false, holds.settles) refl,
+  rw (first_place names, and_false) refl,
+  refl,
+  plain_calmly names h said word d holds,
+)
 
 -- ---- the value of an option that waits for it
 
@@ -249,40 +254,44 @@ hungry_fed : (names : List Text) (h : Held) (said : Said) (name word : Text) →
     → GoesOn names (hungry h name said) word (calm (fed_held h name word) false false (record { values = said.values ++ (name, word) ∷ []; declared = said.declared }))
 unfolding walked
 hungry_fed names h said name word d e o n holds none =
-    let no_row : has_row name h.rows ≡ false = has_value _ said name (known_apart names name d holds.known) holds.shows ∙ none in
-    (rw (e, o, no_short word n) refl,
-    rw (e, o, no_short word n, id_known names name holds.known, holds.pending, text_is name) refl,
-    rw (e, o, none) refl,
-    record {
-      settles = rw (id_known names name holds.known, no_row) refl;
-      shows = rw (id_known names name holds.known) (set_shows names _ said name word d holds.known none holds.shows);
-    })
+    let no_row : has_row name h.rows ≡ false = has_value _ said name (known_apart names name d holds.known) holds.shows ∙ none in (
+      rw (e, o, no_short word n) refl,
+      rw (e, o, no_short word n, id_known names name holds.known, holds.pending, text_is name) refl,
+      rw (e, o, none) refl,
+      record {
+        settles = rw (id_known names name holds.known, no_row) refl;
+        shows = rw (id_known names name holds.known) (set_shows names _ said name word d holds.known none holds.shows);
+      },
+    )
 
 hungry_twice : (names : List Text) (h : Held) (said : Said) (name word : Text) → list_any (λ n. bytes_eq n declared_id) names ≡ false → is_end word ≡ false → option_in word ≡ None → has_single_hyphen word ≡ false → Hungry names h name said
     → is_some (value_of name said.values) ≡ true
     → (clap_word names (reading_of (hungry h name said)) word ≡ None) × Jams names (walk_of (hungry h name said)) word (loose (fed_held h name word) false)
 unfolding walked
 hungry_twice names h said name word d e o n holds has =
-    let row : has_row name h.rows ≡ true = has_value _ said name (known_apart names name d holds.known) holds.shows ∙ has in
-    (rw (e, o, has) refl,
-    (rw (e, o, no_short word n, id_known names name holds.known, holds.pending, text_is name) refl,
-    rw (id_known names name holds.known) (use_taken h.rows name word row)))
+    let row : has_row name h.rows ≡ true = has_value _ said name (known_apart names name d holds.known) holds.shows ∙ has in (
+      rw (e, o, has) refl,
+      (
+        rw (e, o, no_short word n, id_known names name holds.known, holds.pending, text_is name) refl,
+        rw (id_known names name holds.known) (use_taken h.rows name word row),
+      ),
+    )
 
 -- ---- any word, of a state that holds
 
 calm_long : (names : List Text) (h : Held) (b : Bool) (said : Said) (word name : Text) (v : Option Text) → list_any (λ n. bytes_eq n declared_id) names ≡ false
     → is_end word ≡ false → option_in word ≡ Some (name, v) → Calm names h said → Turns names (calm h b false said) word
 calm_long names h b said word name v d e o holds = elim (cases_Bool (list_any (λ n. bytes_eq n name) names)) [
-    | inr k ↦ let t = unknown_turn names h b said word (name, v) e o k in inr (t.0, inl t.1)
-    | inl k ↦ known v o k
-  ]
+  | inr k ↦ let t = unknown_turn names h b said word (name, v) e o k in inr (t.0, inl t.1)
+  | inl k ↦ known v o k
+]
   where
     known : (v : Option Text) → option_in word ≡ Some (name, v) → list_any (λ n. bytes_eq n name) names ≡ true → Turns names (calm h b false said) word
     known None o k = inl (hungry (record (settled (rules names) h) { pending = Some (name, []) }) name said, begin_turn names h b said word name e o k holds)
     known (Some v) o k = elim (cases_Bool (is_some (value_of name said.values))) [
-        | inl has ↦ let t = taken_turn names h b said word name v d e o k holds has in inr (t.0, inl t.1)
-        | inr none ↦ inl (calm (reacted (rules names) (option_rule name) (v ∷ []) h) false false (record { values = said.values ++ (name, v) ∷ []; declared = said.declared }), given_turn names h b said word name v d e o k holds none)
-      ]
+      | inl has ↦ let t = taken_turn names h b said word name v d e o k holds has in inr (t.0, inl t.1)
+      | inr none ↦ inl (calm (reacted (rules names) (option_rule name) (v ∷ []) h) false false (record { values = said.values ++ (name, v) ∷ []; declared = said.declared }), given_turn names h b said word name v d e o k holds none)
+    ]
 
 pub some_or_none : {X : Type 0} (o : Option X) → ((x : X) × (o ≡ Some x)) ⊎ (o ≡ None)
 some_or_none None = inr refl
@@ -291,22 +300,22 @@ some_or_none (Some x) = inl (x, refl)
 turns : (names : List Text) (s : State) (word : Text) → list_any (λ n. bytes_eq n declared_id) names ≡ false → has_single_hyphen word ≡ false → Holds names s → Turns names s word
 turns names (calm h b true said) word d n holds = inl (calm (plain_held names h word) true true (with_declared said word), over_turn names h b said word d holds)
 turns names (calm h b false said) word d n holds = elim (cases_Bool (is_end word)) [
-    | inl e ↦ inl (calm h b true said, end_turn names h b said word e holds)
-    | inr e ↦ elim (some_or_none (option_in word)) [
-      | inl f ↦ calm_long names h b said word f.0.0 f.0.1 d e f.1 holds
-      | inr o ↦ inl (calm (plain_held names h word) true false (with_declared said word), plain_turn names h b said word d e o n holds)
-    ]
+  | inl e ↦ inl (calm h b true said, end_turn names h b said word e holds)
+  | inr e ↦ elim (some_or_none (option_in word)) [
+    | inl f ↦ calm_long names h b said word f.0.0 f.0.1 d e f.1 holds
+    | inr o ↦ inl (calm (plain_held names h word) true false (with_declared said word), plain_turn names h b said word d e o n holds)
   ]
+]
 turns names (hungry h name said) word d n holds = elim (cases_Bool (is_end word)) [
-    | inl e ↦ let t = hungry_end names h said name word e holds in inr (t.0, inr (over h (option name), t.1))
-    | inr e ↦ elim (some_or_none (option_in word)) [
-      | inl f ↦ let t = hungry_option names h said name word f.0 e f.1 holds in inr (t.0, inl t.1)
-      | inr o ↦ elim (cases_Bool (is_some (value_of name said.values))) [
-        | inl has ↦ let t = hungry_twice names h said name word d e o n holds has in inr (t.0, inr (loose (fed_held h name word) false, t.1))
-        | inr none ↦ inl (calm (fed_held h name word) false false (record { values = said.values ++ (name, word) ∷ []; declared = said.declared }), hungry_fed names h said name word d e o n holds none)
-      ]
+  | inl e ↦ let t = hungry_end names h said name word e holds in inr (t.0, inr (over h (option name), t.1))
+  | inr e ↦ elim (some_or_none (option_in word)) [
+    | inl f ↦ let t = hungry_option names h said name word f.0 e f.1 holds in inr (t.0, inl t.1)
+    | inr o ↦ elim (cases_Bool (is_some (value_of name said.values))) [
+      | inl has ↦ let t = hungry_twice names h said name word d e o n holds has in inr (t.0, inr (loose (fed_held h name word) false, t.1))
+      | inr none ↦ inl (calm (fed_held h name word) false false (record { values = said.values ++ (name, word) ∷ []; declared = said.declared }), hungry_fed names h said name word d e o n holds none)
     ]
   ]
+]
 
 -- ---- any word, of a walk that is jammed
 
@@ -314,12 +323,12 @@ jam_turn : (names : List Text) (j : Jam) (word : Text) → has_single_hyphen wor
 unfolding walked
 jam_turn names (over h x) word n bad = inl (rw (first_place names, and_false) bad)
 jam_turn names (loose h b) word n bad = elim (cases_Bool (is_end word)) [
-    | inl e ↦ inr (over h (calm_waiting b), (rw (no_sub (calm_waiting b) word, e) refl, bad))
-    | inr e ↦ elim (some_or_none (option_in word)) [
-      | inl f ↦ inl (rw (no_sub (calm_waiting b) word, e, f.1) (or_bad _ _ (long_bad (rules names) (arg_by_long (rules names) f.0.0) f.0.1 h bad)))
-      | inr o ↦ inl (rw (no_sub (calm_waiting b) word, e, o, no_short word n, plain_calm (rules names) b word h, first_place names, and_false) bad)
-    ]
+  | inl e ↦ inr (over h (calm_waiting b), (rw (no_sub (calm_waiting b) word, e) refl, bad))
+  | inr e ↦ elim (some_or_none (option_in word)) [
+    | inl f ↦ inl (rw (no_sub (calm_waiting b) word, e, f.1) (or_bad _ _ (long_bad (rules names) (arg_by_long (rules names) f.0.0) f.0.1 h bad)))
+    | inr o ↦ inl (rw (no_sub (calm_waiting b) word, e, o, no_short word n, plain_calm (rules names) b word h, first_place names, and_false) bad)
   ]
+]
 
 -- ---- all the words
 

@@ -1,29 +1,31 @@
 -- how clap reads the words behind a command: which word belongs to which option, with no look at what a value is
-use Rattle.std.specs.Prelude.{ℕ, ◌==◌, ◌&&◌, Bool, true, false, not, List, [], ◌∷◌, Option, Some, None, is_some, bytes_eq, if◌then◌else◌, option_and_then}
+use Rattle.std.specs.Prelude.{ℕ, ◌==◌, ◌&&◌, Bool, true, false, not, List, [], ◌∷◌, Option, Some, None, is_some, codes, bytes_eq, if◌then◌else◌, option_and_then}
 use Rattle.std.specs.List.{list_any, list_all}
-use Rattle.command_words.specs.CommandWords.{Text, Said, Reading, give, declare, option_in, is_end, value_of, is_number, number_of, begins_with_hyphen}
+use Rattle.command_words.specs.CommandWords.{Text, Said, Reading, give, declare, option_in, value_of, is_number, number_of, begins_with_hyphen}
 
 -- one hyphen, and no second
 abbrev pub has_single_hyphen : Text → Bool
 has_single_hyphen [] = false
 has_single_hyphen (c ∷ cs) = c == 45 && not (begins_with_hyphen cs)
 
+abbrev pub is_end : Text → Bool
+is_end word = bytes_eq word (codes "--")
+
 abbrev pub clap_option : Text → Option Text → Reading → Option Reading
 clap_option name None r = Some (record r { waits = Some name })
 clap_option name (Some value) r = give name value r
 
-abbrev pub clap_free : List Text → Option (Text × Option Text) → Text → Reading → Option Reading
-clap_free names (Some p) word r = if list_any (λ n. bytes_eq n p.0) names then clap_option p.0 p.1 r else None
-clap_free names None word r = declare word r
+abbrev pub clap_named : List Text → Option (Text × Option Text) → Text → Reading → Option Reading
+clap_named names (Some p) word r = if list_any (λ n. bytes_eq n p.0) names then clap_option p.0 p.1 r else None
+clap_named names None word r = declare word r
 
-abbrev pub clap_unended : List Text → Bool → Text → Reading → Option Reading
-clap_unended names true word r = declare word r
-clap_unended names false word r = if is_end word then Some (record r { ended = true }) else clap_free names (option_in word) word r
+abbrev pub clap_free : List Text → Text → Reading → Option Reading
+clap_free names word r = if is_end word then Some (record r { ended = true }) else clap_named names (option_in word) word r
 
 abbrev pub clap_next : List Text → Option Text → Text → Reading → Option Reading
 clap_next names (Some name) word r =
     if is_end word then None else (if is_some (option_in word) then None else give name word r)
-clap_next names None word r = clap_unended names r.ended word r
+clap_next names None word r = if r.ended then declare word r else clap_free names word r
 
 -- one word more
 abbrev pub clap_word : List Text → Reading → Text → Option Reading

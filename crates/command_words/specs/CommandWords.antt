@@ -5,7 +5,7 @@ use Rattle.std.specs.Str.{is_utf8}
 use Rattle.block_model.specs.Names.{is_digit}
 use Rattle.block_model.specs.declared.schema.Sizes.{Sizes}
 use Rattle.command_words.specs.declared.command.Command.{Command}
-use Rattle.command_words.specs.declared.command.Command.TheVariants as commands_read
+use Rattle.command_words.specs.declared.command.Command.TheVariants.{Run}
 
 -- ---- one word
 
@@ -97,25 +97,21 @@ abbrev pub take_option : Text → Option Text → Reading → Option Reading
 take_option name None r = Some (record r { waits = Some name })
 take_option name (Some value) r = give_number name value r
 
--- an option is one of those names, in full
-abbrev pub take_free : List Text → Option (Text × Option Text) → Text → Reading → Option Reading
-take_free names (Some p) word r = if list_any (λ n. bytes_eq n p.0) names then take_option p.0 p.1 r else None
-take_free names None word r = take_declared word r
-
-abbrev pub is_end : Text → Bool
-is_end word = bytes_eq word (45 ∷ 45 ∷ [])
+-- an option has one of the names, in full; what is no option is a declared word
+abbrev pub take_named : List Text → Option (Text × Option Text) → Text → Reading → Option Reading
+take_named names (Some p) word r = if list_any (λ n. bytes_eq n p.0) names then take_option p.0 p.1 r else None
+take_named names None word r = take_declared word r
 
 -- `--` ends the options
-abbrev pub take_unended : List Text → Bool → Text → Reading → Option Reading
-take_unended names true word r = take_declared word r
-take_unended names false word r = if is_end word then Some (record r { ended = true }) else take_free names (option_in word) word r
+abbrev pub take_free : List Text → Text → Reading → Option Reading
+take_free names word r = if bytes_eq word (codes "--") then Some (record r { ended = true }) else take_named names (option_in word) word r
 
--- a word is the value of the option that waits for one, else an option, `--` or a declared word
+-- one word more: the value of the option that waits for one; else, behind `--`, a declared word
 abbrev pub take_word : List Text → Option Text → Text → Reading → Option Reading
 take_word names (Some name) word r = give_number name word r
-take_word names None word r = take_unended names r.ended word r
+take_word names None word r = if r.ended then take_declared word r else take_free names word r
 
--- what the words say, with options of those names; nothing, where one is refused or an option waits at the end
+-- what the words say, with options of those names; nothing, where a word is refused or an option waits at the end
 unfoldable pub read_words : List Text → Reading → List Text → Option Said
 read_words names r [] = if is_some r.waits then None else Some r.said
 read_words names r (word ∷ words) = option_and_then (λ q. read_words names q words) (take_word names r.waits word r)
@@ -142,7 +138,7 @@ sizes_of said = record {
 -- `run` has a declared word
 abbrev pub run_with : Sizes → List Text → Option Command
 run_with sizes [] = None
-run_with sizes (word ∷ words) = Some (commands_read.Run sizes (word ∷ words))
+run_with sizes (word ∷ words) = Some (Run sizes (word ∷ words))
 
 abbrev pub run_of : Said → Option Command
 run_of said = run_with (sizes_of said) said.declared

@@ -2,3 +2,4 @@ pub mod CommandWords
 pub mod ClapReading
 pub mod ClapRules
 pub mod ClapCommands
+pub mod Laws

@@ -87,5 +87,8 @@ fn run_in(alloc: Global, matches: &ArgMatches<'_>) -> Result<Command, CommandFau
     if declarations.len() == 0 {
         return Err(CommandFault::Usage);
     }
-    Ok(Command::Run { sizes, declarations })
+    Ok(Command::Run {
+        sizes,
+        declarations,
+    })
 }

@@ -6,7 +6,10 @@
 #![tactic(auto)]
 
 pub mod command;
+pub mod laws;
 mod matching;
 mod number;
 mod program;
+#[cfg(test)]
+mod tests;
 mod text;

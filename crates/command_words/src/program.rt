@@ -12,7 +12,13 @@ use std::alloc::{AllocError, Global};
 pub const DECLARED: &str = "DECL";
 
 /// The options of a store's sizes.
-static SIZE_OPTIONS: [&str; 5] = ["heap-blocks", "index-blocks", "status-blocks", "log-pages", "frames"];
+static SIZE_OPTIONS: [&str; 5] = [
+    "heap-blocks",
+    "index-blocks",
+    "status-blocks",
+    "log-pages",
+    "frames",
+];
 
 /// The program's command line.
 pub fn program<'a>(alloc: Global) -> Result<Command<'a>, AllocError>
@@ -34,7 +40,12 @@ fn no_commands<'a>(alloc: Global) -> Command<'a>
 }
 
 /// One command more.
-fn with_command<'a>(alloc: Global, command: Command<'a>, name: &'a str, options: &'a [&'a str]) -> Result<Command<'a>, AllocError>
+fn with_command<'a>(
+    alloc: Global,
+    command: Command<'a>,
+    name: &'a str,
+    options: &'a [&'a str],
+) -> Result<Command<'a>, AllocError>
     ensures { IfOk result (λ r. app_of r ≡ with_subcommand (app_of command.entry) (raw_leaf (name.now, map (λ o. o.now) options.now))) }
 {
     let added = command_named(alloc, name, options)?;
@@ -42,7 +53,11 @@ fn with_command<'a>(alloc: Global, command: Command<'a>, name: &'a str, options:
 }
 
 /// A command with options of these names and declared words.
-fn command_named<'a>(alloc: Global, name: &'a str, options: &'a [&'a str]) -> Result<Command<'a>, AllocError>
+fn command_named<'a>(
+    alloc: Global,
+    name: &'a str,
+    options: &'a [&'a str],
+) -> Result<Command<'a>, AllocError>
     ensures shape { IfOk result (λ c. shape_of c ≡ raw_leaf (name.now, map (λ o. o.now) options.now)) }
     ensures local { IfOk result (λ c. (fields_of c).has_globals ≡ false) }
 {

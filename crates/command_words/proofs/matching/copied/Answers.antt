@@ -9,4 +9,4 @@ pub returns-then-begins_with_hyphen-clause-usage :
 returns-then-begins_with_hyphen-clause-usage c = λ u.
     list_all-map is_declared (λ (w : Bor Text). w.now) c.args.words.now
     ∙ list_all_at (λ (w : Bor Text). is_declared w.now) c.args.words.now _ _ c.words-test.true
-      (ap not (ap begins_with_hyphen (sym c.as_bytes-bytes.ensures.value) ∙ sym c.begins_with_hyphen.ensures ∙ c.if-begins_with_hyphen.true))
+    (ap not (ap begins_with_hyphen (sym c.as_bytes-bytes.ensures.value) ∙ sym c.begins_with_hyphen.ensures ∙ c.if-begins_with_hyphen.true))
