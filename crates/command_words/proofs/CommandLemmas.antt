@@ -10,11 +10,11 @@ use Rattle.clap.specs.Kinds.{Kinds, or_else}
 use Rattle.clap.proofs.FaultLemmas.{stopped_fault}
 use Rattle.clap.specs.declared.error.kind.ErrorKind.TheVariants.{MissingSubcommand}
 use Rattle.command_words.specs.CommandWords.{Text, Said, nothing_read, option_in}
-use Rattle.command_words.specs.ClapReading.{is_end, clap_read, has_single_hyphen}
+use Rattle.command_words.specs.ClapReading.{is_end, clap_read, has_single_hyphen, has_no_single_hyphen}
 use Rattle.command_words.specs.ClapRules.{declared_id, option_rule, declared_rule, rules, leaf, Shows, Agrees}
 use Rattle.command_words.specs.ClapCommands.{Sub, entry, command_said, raw_option, raw_declared, raw_rules, raw_leaf, top, raw_app, leaf_of, built_app, Enters, program_subs, leaf_app}
 use Rattle.command_words.proofs.RowLemmas.{same_text}
-use Rattle.command_words.proofs.TurnLemmas.{leaf_agrees, or_nil, or_bad, or_parts, some_or_none, no_short, and_false}
+use Rattle.command_words.proofs.TurnLemmas.{IsPlain, first_plain, rest_plain, not_single, leaf_agrees, or_nil, or_bad, or_parts, some_or_none, no_short, and_false}
 
 -- ---- what building makes of the command
 
@@ -140,20 +140,20 @@ unfolding walk_fault defaults_fault
 dash_bad name subs word [] e end = let t = dash_turn name subs word e end in rw (t.0, t.1) (λ x. cc)
 dash_bad name subs word (v ∷ vs) e end = let t = dash_turn name subs word e end in rw (t.0, t.1) (λ x. cc)
 
-none_fault : (name : Text) (subs : List Sub) (word : Text) (words : List Text) → entry word subs ≡ None → has_single_hyphen word ≡ false → fault_of (raw_app name subs) (word ∷ words) ≡ [] → ⊥
+none_fault : (name : Text) (subs : List Sub) (word : Text) (words : List Text) → entry word subs ≡ None → IsPlain false word → fault_of (raw_app name subs) (word ∷ words) ≡ [] → ⊥
 unfolding walk_fault
 none_fault name subs word words e n bad =
     let now : built_fault (built_app name subs) nothing_held (word ∷ words) ≡ [] = ap (λ (a : App). built_fault a nothing_held (word ∷ words)) (sym (built_is name subs)) ∙ bad in
     elim (cases_Bool (is_end word)) [
-      | inr end ↦ or_bad _ _ (or_bad _ _ (none_turn name subs word e n end)) now
+      | inr end ↦ or_bad _ _ (or_bad _ _ (none_turn name subs word e (not_single _ _ end n) end)) now
       | inl end ↦ dash_bad name subs word words e end now
     ]
 
 -- ---- the whole command line
 
--- the option names of each command are none of clap's own word for the declared words
+-- no option has clap's own word for the declared words, and no command is `--`
 abbrev pub has_names : Sub → Bool
-has_names s = not (list_any (λ n. bytes_eq n declared_id) s.1)
+has_names s = not (list_any (λ n. bytes_eq n declared_id) s.1) && not (is_end s.0)
 
 named_has : (word : Text) (subs : List Sub) (s : Sub) → entry word subs ≡ Some s → list_all has_names subs ≡ true → has_names s ≡ true
 named_has word [] s e ok = cc
@@ -164,17 +164,25 @@ named_has word (q ∷ qs) s e ok =
       | inr h ↦ named_has word qs s (rw h at e) parts.1
     ]
 
+named_apart : (word : Text) (subs : List Sub) (s : Sub) → entry word subs ≡ Some s → list_all has_names subs ≡ true → list_any (λ n. bytes_eq n declared_id) s.1 ≡ false
+named_apart word subs s e named = not-true _ (and_parts _ (not (is_end s.0)) (named_has word subs s e named)).0
+
+named_plain : (word : Text) (words : List Text) (subs : List Sub) (s : Sub) → entry word subs ≡ Some s → list_all has_names subs ≡ true → has_no_single_hyphen (word ∷ words) ≡ true
+    → has_no_single_hyphen words ≡ true
+named_plain word words subs s e named ok =
+    let goes_on : is_end word ≡ false = ap is_end (sym (entry_named word subs s e)) ∙ not-true _ (and_parts (not (list_any (λ n. bytes_eq n declared_id) s.1)) (not (is_end s.0)) (named_has word subs s e named)).1 in
+    rest_plain false (is_end word) (has_single_hyphen word) (has_no_single_hyphen words) false ok (sym goes_on)
+
 -- clap refuses exactly the words that the grammar refuses, and else its matches hold what they say
-pub clap_agrees : (name : Text) (subs : List Sub) (words : List Text) → list_all has_names subs ≡ true → list_all (λ w. not (has_single_hyphen w)) words ≡ true
+pub clap_agrees : (name : Text) (subs : List Sub) (words : List Text) → list_all has_names subs ≡ true → has_no_single_hyphen words ≡ true
     → MatchOption (command_said subs words) (fault_of (raw_app name subs) words ≡ [] → ⊥)
     (λ said. (fault_of (raw_app name subs) words ≡ []) × Enters (subcommand_of (raw_app name subs) words) said)
 clap_agrees name subs [] named ok = rw (empty_fault name subs) (λ x. cc)
 clap_agrees name subs (word ∷ words) named ok =
-    let parts = and_parts _ _ ok in
     elim (some_or_none (entry word subs)) [
-      | inr e ↦ rw e (none_fault name subs word words e (not-true _ parts.0))
+      | inr e ↦ rw e (none_fault name subs word words e (first_plain false (is_end word) (has_single_hyphen word) (has_no_single_hyphen words) ok))
       | inl f ↦ rw (f.1, named_fault name subs word words f.0 f.1) (go f.0.0 (clap_read f.0.1 nothing_read words) (level_fault (leaf f.0.0 f.0.1) [] nothing_held words false []) (rows_after (rules f.0.1) [] words)
-          (subcommand_of (raw_app name subs) (word ∷ words)) (named_rows name subs word words f.0 f.1) (leaf_agrees f.0.0 f.0.1 words (not-true _ (named_has word subs f.0 f.1 named)) parts.1))
+          (subcommand_of (raw_app name subs) (word ∷ words)) (named_rows name subs word words f.0 f.1) (leaf_agrees f.0.0 f.0.1 words (named_apart word subs f.0 f.1 named) (named_plain word words subs f.0 f.1 named ok)))
     ]
   where
     go : (n : Text) (said : Option Said) (fault : Kinds) (rows : List Row) (entered : Option (Text × List Row)) → entered ≡ Some (n, rows) → Agrees fault rows said

@@ -3,28 +3,19 @@ use Rattle.std.proofs.Common.{◌≡◌, ◌∙◌, refl, sym, ap, subst, List, 
 use Rattle.std.specs.List.{list_any, list_all}
 use Rattle.std.proofs.lemmas.Bool.{cases_Bool, and_parts, not-true, false_from_ne_true, eqb-true}
 use Rattle.command_words.specs.declared.command.Command.{Command}
-use Rattle.command_words.specs.CommandWords.{Text, Said, Reading, value_of, give, declare, option_in, nothing_read, is_number, begins_with_hyphen, give_number, take_option, take_declared, take_word, read_words, CommandForm, command_in, commands, form_named}
-use Rattle.command_words.specs.ClapReading.{is_end, has_single_hyphen, clap_read, clap_word, numbers_given, is_number_if_given, is_declared, is_checked}
-use Rattle.command_words.specs.ClapCommands.{has_no_single_hyphen, entry, Sub, command_said, command_matched, judged, meaning_checked}
+use Rattle.command_words.specs.CommandWords.{Text, Said, Reading, value_of, give, declare, option_in, nothing_read, is_number, begins_with_hyphen, give_number, take_option, take_word, name_and_value, read_words, CommandForm, command_in, commands, form_named}
+use Rattle.command_words.specs.ClapReading.{is_end, has_single_hyphen, clap_read, clap_word, numbers_given, is_number_if_given, has_no_single_hyphen}
+use Rattle.command_words.specs.ClapCommands.{entry, Sub, command_said, command_matched, judged, meaning_checked}
 use Rattle.command_words.proofs.RowLemmas.{given_at, same_text, text_is}
-use Rattle.command_words.proofs.TurnLemmas.{some_or_none, and_false}
+use Rattle.command_words.proofs.TurnLemmas.{IsPlain, not_single, some_or_none, and_false}
+
+abbrev is_checked : List Text → Said → Bool
+is_checked names said = numbers_given names said.values
 
 abbrev pub checked : List Text → Option Said → Option Said
 checked names said = option_and_then (λ s. cond (is_checked names s) (Some s) None) said
 
 -- ---- one value or one declared word more
-
-all_append : (p : Text → Bool) (xs : List Text) (x : Text) → list_all p (xs ++ x ∷ []) ≡ (list_all p xs && p x)
-all_append p [] x = go (p x)
-  where
-    go : (b : Bool) → (b && true) ≡ b
-    go true = refl
-    go false = refl
-all_append p (y ∷ ys) x = go (p y) (all_append p ys x)
-  where
-    go : (b : Bool) → list_all p (ys ++ x ∷ []) ≡ (list_all p ys && p x) → (b && list_all p (ys ++ x ∷ [])) ≡ ((b && list_all p ys) && p x)
-    go true h = h
-    go false h = refl
 
 -- a number for a name that had none keeps the test
 and_true : (b : Bool) → (b && true) ≡ b
@@ -63,21 +54,11 @@ checked_give names said name v none k = elim (cases_Bool (is_number v)) [
   | inr e ↦ rw (e, word_fails names said.values name v none k e) (sym (and_false (is_checked names said)))
 ]
 
-checked_declare : (names : List Text) (said : Said) (w : Text) → is_checked names (record { values = said.values; declared = said.declared ++ w ∷ [] }) ≡ (is_checked names said && is_declared w)
-checked_declare names said w = rw (all_append is_declared said.declared w) (go (numbers_given names said.values))
-  where
-    go : (a : Bool) → (a && (list_all is_declared said.declared && is_declared w)) ≡ ((a && list_all is_declared said.declared) && is_declared w)
-    go true = refl
-    go false = refl
-
 -- ---- a word that begins with a hyphen
 
-hyphen : (x : ℕ) (xs : Text) → (x == 45) ≡ true → (is_number (x ∷ xs) ≡ false) × (is_declared (x ∷ xs) ≡ false)
-hyphen x xs e = let is : x ≡ 45 = eqb-true x 45 e in (rw is refl, rw is refl)
-
-no_form : (word : Text) → begins_with_hyphen word ≡ true → (is_number word ≡ false) × (is_declared word ≡ false)
-no_form [] e = absurd (true≢false (sym e))
-no_form (x ∷ xs) e = hyphen x xs e
+no_number : (word : Text) → begins_with_hyphen word ≡ true → is_number word ≡ false
+no_number [] e = absurd (true≢false (sym e))
+no_number (x ∷ xs) e = let is : x ≡ 45 = eqb-true x 45 e in rw is refl
 
 option_hyphen : (word : Text) (p : Text × Option Text) → option_in word ≡ Some p → begins_with_hyphen word ≡ true
 option_hyphen [] p e = cc
@@ -90,7 +71,23 @@ single_hyphen (x ∷ xs) e = (and_parts _ _ e).0
 end_hyphen : (word : Text) → is_end word ≡ true → begins_with_hyphen word ≡ true
 end_hyphen word e = rw (same_text word _ e) refl
 
--- a cluster is no `--`, and no option
+-- a word that begins with a hyphen is `--` or an option, or has no second one
+no_hyphen : (word : Text) → is_end word ≡ false → has_single_hyphen word ≡ false → option_in word ≡ None → begins_with_hyphen word ≡ false
+no_hyphen [] e n o = refl
+no_hyphen (x ∷ xs) e n o = false_from_ne_true (x == 45) (λ h. more xs h e n o)
+  where
+    more : (ys : Text) → (x == 45) ≡ true → is_end (x ∷ ys) ≡ false → has_single_hyphen (x ∷ ys) ≡ false → option_in (x ∷ ys) ≡ None → ⊥
+    more [] h e n o = true≢false (sym (rw h refl) ∙ n)
+    more (y ∷ ys) h e n o = elim (cases_Bool (y == 45)) [
+      | inr k ↦ true≢false (sym (rw (h, k) refl) ∙ n)
+      | inl k ↦ last ys h k e o
+    ]
+      where
+        last : (zs : Text) → (x == 45) ≡ true → (y == 45) ≡ true → is_end (x ∷ y ∷ zs) ≡ false → option_in (x ∷ y ∷ zs) ≡ None → ⊥
+        last [] h k e o = true≢false (sym (rw (h, k) refl) ∙ e)
+        last (z ∷ zs) h k e o = let bad : name_and_value (z ∷ zs) ≡ None = rw (h, k) at o in cc
+
+-- what has one hyphen alone is no `--`, and no option
 single_free : (word : Text) → has_single_hyphen word ≡ true → (is_end word ≡ false) × (option_in word ≡ None)
 single_free [] e = cc
 single_free (x ∷ []) e = let a : (x == 45) ≡ true = (and_parts (x == 45) true e).0 in (rw a refl, rw a refl)
@@ -108,7 +105,7 @@ WaitsKnown names (Some name) = list_any (λ n. bytes_eq n name) names ≡ true
 
 abbrev Same : List Text → Reading → Text → Reading → Bool → Type 0
 Same names r word q b = (clap_word names r word ≡ Some q) × (take_word names r.waits word r ≡ cond b (Some q) None)
-    × (is_checked names q.said ≡ (is_checked names r.said && b)) × WaitsKnown names q.waits
+    × (is_checked names q.said ≡ (is_checked names r.said && b)) × WaitsKnown names q.waits × (q.ended ≡ (r.ended || is_end word))
 
 abbrev Refuses : List Text → Reading → Text → Type 0
 Refuses names r word = (clap_word names r word ≡ None) × (take_word names r.waits word r ≡ None)
@@ -126,67 +123,64 @@ gave said name v ended = record { said = record { values = said.values ++ (name,
 abbrev added : Said → Text → Bool → Reading
 added said word ended = record { said = record { values = said.values; declared = said.declared ++ word ∷ [] }; waits = None; ended = ended }
 
+or_false : (b : Bool) → (b || false) ≡ b
+or_false true = refl
+or_false false = refl
+
 waiting_step : (names : List Text) (said : Said) (name : Text) (ended : Bool) (word : Text) → list_any (λ n. bytes_eq n name) names ≡ true
     → Judges names (record { said = said; waits = Some name; ended = ended }) word
 waiting_step names said name ended word k = elim (cases_Bool (is_end word)) [
-  | inl e ↦ inr (rw e refl, rw (no_form word (end_hyphen word e)).0 refl)
+  | inl e ↦ inr (rw e refl, rw (no_number word (end_hyphen word e)) refl)
   | inr e ↦ elim (some_or_none (option_in word)) [
-    | inl f ↦ inr (rw (e, f.1) refl, rw (no_form word (option_hyphen word f.0 f.1)).0 refl)
+    | inl f ↦ inr (rw (e, f.1) refl, rw (no_number word (option_hyphen word f.0 f.1)) refl)
     | inr o ↦ elim (cases_Bool (is_some (value_of name said.values))) [
       | inl has ↦ inr (rw (e, o, has) refl, rw has (none_either (is_number word)))
-      | inr none ↦ inl (gave said name word ended, is_number word, (rw (e, o, none) refl, rw none refl, checked_give names said name word none k, tt))
+      | inr none ↦ inl (gave said name word ended, is_number word, (rw (e, o, none) refl, rw none refl, checked_give names said name word none k, tt, rw e (sym (or_false ended))))
     ]
   ]
 ]
 
-hyphen_none : {X : Type 0} (b : Bool) (x : X) → cond b None (Some x) ≡ cond (not b) (Some x) None
-hyphen_none true x = refl
-hyphen_none false x = refl
-
 over_step : (names : List Text) (said : Said) (word : Text) → Judges names (record { said = said; waits = None; ended = true }) word
-over_step names said word = inl (added said word true, is_declared word, (refl, hyphen_none (begins_with_hyphen word) (added said word true), checked_declare names said word, tt))
+over_step names said word = inl (added said word true, true, (refl, refl, sym (and_true _), tt, refl))
 
 known_step : (names : List Text) (said : Said) (word name : Text) (v : Option Text) → is_end word ≡ false → option_in word ≡ Some (name, v) → list_any (λ n. bytes_eq n name) names ≡ true
     → Judges names (record { said = said; waits = None; ended = false }) word
-known_step names said word name None e o k = inl (record { said = said; waits = Some name; ended = false }, true, (rw (e, o, k) refl, rw (e, o, k) refl, sym (and_true _), k))
+known_step names said word name None e o k = inl (record { said = said; waits = Some name; ended = false }, true, (rw (e, o, k) refl, rw (e, o, k) refl, sym (and_true _), k, sym e))
 known_step names said word name (Some v) e o k = elim (cases_Bool (is_some (value_of name said.values))) [
   | inl has ↦ inr (rw (e, o, k, has) refl, rw (e, o, k, has) (none_either (is_number v)))
-  | inr none ↦ inl (gave said name v false, is_number v, (rw (e, o, k, none) refl, rw (e, o, k, none) refl, checked_give names said name v none k, tt))
+  | inr none ↦ inl (gave said name v false, is_number v, (rw (e, o, k, none) refl, rw (e, o, k, none) refl, checked_give names said name v none k, tt, sym e))
 ]
 
-free_step : (names : List Text) (said : Said) (word : Text) → Judges names (record { said = said; waits = None; ended = false }) word
-free_step names said word = elim (cases_Bool (is_end word)) [
-  | inl e ↦ inl (record { said = said; waits = None; ended = true }, true, (rw e refl, rw e refl, sym (and_true _), tt))
+free_step : (names : List Text) (said : Said) (word : Text) → IsPlain false word → Judges names (record { said = said; waits = None; ended = false }) word
+free_step names said word n = elim (cases_Bool (is_end word)) [
+  | inl e ↦ inl (record { said = said; waits = None; ended = true }, true, (rw e refl, rw e refl, sym (and_true _), tt, sym e))
   | inr e ↦ elim (some_or_none (option_in word)) [
     | inl f ↦ elim (cases_Bool (list_any (λ n. bytes_eq n f.0.0) names)) [
       | inl k ↦ known_step names said word f.0.0 f.0.1 e f.1 k
       | inr k ↦ inr (rw (e, f.1, k) refl, rw (e, f.1, k) refl)
     ]
-    | inr o ↦ inl (added said word false, is_declared word, (rw (e, o) refl, rw (e, o) (hyphen_none (begins_with_hyphen word) (added said word false)), checked_declare names said word, tt))
+    | inr o ↦ inl (added said word false, true, (rw (e, o) refl, rw (e, o, no_hyphen word e (not_single _ _ e n) o) refl, sym (and_true _), tt, sym e))
   ]
 ]
 
-step : (names : List Text) (r : Reading) (word : Text) → WaitsKnown names r.waits → Judges names r word
-step names r word k = go r.waits r.ended k
+step : (names : List Text) (r : Reading) (word : Text) → IsPlain r.ended word → WaitsKnown names r.waits → Judges names r word
+step names r word n k = go r.waits r.ended n k
   where
-    go : (waits : Option Text) (ended : Bool) → WaitsKnown names waits → Judges names (record { said = r.said; waits = waits; ended = ended }) word
-    go (Some name) ended h = waiting_step names r.said name ended word h
-    go None true h = over_step names r.said word
-    go None false h = free_step names r.said word
+    go : (waits : Option Text) (ended : Bool) → IsPlain ended word → WaitsKnown names waits → Judges names (record { said = r.said; waits = waits; ended = ended }) word
+    go (Some name) ended n h = waiting_step names r.said name ended word h
+    go None true n h = over_step names r.said word
+    go None false n h = free_step names r.said word n
 
-single_step : (names : List Text) (r : Reading) (word : Text) → has_single_hyphen word ≡ true → take_word names r.waits word r ≡ None
-single_step names r word c = go r.waits r.ended
+single_step : (names : List Text) (r : Reading) (word : Text) → has_single_hyphen word ≡ true → r.ended ≡ false → take_word names r.waits word r ≡ None
+single_step names r word c open_still = go r.waits r.ended open_still
   where
-    form : (is_number word ≡ false) × (is_declared word ≡ false)
-    form = no_form word (single_hyphen word c)
-
     free : (is_end word ≡ false) × (option_in word ≡ None)
     free = single_free word c
 
-    go : (waits : Option Text) (ended : Bool) → take_word names waits word (record { said = r.said; waits = waits; ended = ended }) ≡ None
-    go (Some name) ended = rw form.0 refl
-    go None true = rw (single_hyphen word c) refl
-    go None false = rw (free.0, free.1, single_hyphen word c) refl
+    go : (waits : Option Text) (ended : Bool) → ended ≡ false → take_word names waits word (record { said = r.said; waits = waits; ended = ended }) ≡ None
+    go (Some name) ended e = rw (no_number word (single_hyphen word c)) refl
+    go None true e = absurd (true≢false e)
+    go None false e = rw (free.0, free.1, single_hyphen word c) refl
 
 -- ---- all words
 
@@ -194,19 +188,38 @@ both_tests : {X : Type 0} (c b : Bool) (x : Option X) → cond (c && b) x None �
 both_tests true b x = refl
 both_tests false b x = refl
 
+plain_split : (ended end single rest : Bool) → (ended || (end || not single)) ≡ true → (ended || (end || (not single && rest))) ≡ ((ended || end) || rest)
+plain_split true end single rest p = refl
+plain_split false true single rest p = refl
+plain_split false false false rest p = refl
+plain_split false false true rest p = absurd (true≢false (sym p))
+
+not_plain : (ended end single : Bool) → (ended || (end || not single)) ≡ false → (ended ≡ false) × (end ≡ false) × (single ≡ true)
+not_plain true end single p = absurd (true≢false p)
+not_plain false true single p = absurd (true≢false p)
+not_plain false false true p = (refl, refl, refl)
+not_plain false false false p = absurd (true≢false p)
+
 pub checked_reading : (names : List Text) (r : Reading) (words : List Text) → WaitsKnown names r.waits
-    → checked names (cond (has_no_single_hyphen words) (clap_read names r words) None) ≡ cond (is_checked names r.said) (read_words names r words) None
+    → checked names (cond (r.ended || has_no_single_hyphen words) (clap_read names r words) None) ≡ cond (is_checked names r.said) (read_words names r words) None
 unfolding clap_read read_words
-checked_reading names r [] k = go (is_some r.waits)
+checked_reading names r [] k = go r.ended (is_some r.waits)
   where
-    go : (b : Bool) → checked names (cond b None (Some r.said)) ≡ cond (is_checked names r.said) (cond b None (Some r.said)) None
-    go true = sym (none_either (is_checked names r.said))
-    go false = refl
-checked_reading names r (word ∷ words) k = elim (cases_Bool (has_single_hyphen word)) [
-  | inl c ↦ rw (c, single_step names r word c) (sym (none_either (is_checked names r.said)))
-  | inr c ↦ elim (step names r word k) [
-    | inl s ↦ rw (c, s.2.0, s.2.1) (checked_reading names s.0 words s.2.3 ∙ ap (λ (b : Bool). cond b (read_words names s.0 words) None) s.2.2 ∙ both_tests (is_checked names r.said) s.1 (read_words names s.0 words) ∙ ap (λ (o : Option Said). cond (is_checked names r.said) o None) (inside s.1 s.0))
-    | inr s ↦ rw (c, s.0, s.1) (ap (checked names) (none_either (has_no_single_hyphen words)) ∙ sym (none_either (is_checked names r.said)))
+    go : (ended b : Bool) → checked names (cond (ended || true) (cond b None (Some r.said)) None) ≡ cond (is_checked names r.said) (cond b None (Some r.said)) None
+    go true true = sym (none_either (is_checked names r.said))
+    go true false = refl
+    go false true = sym (none_either (is_checked names r.said))
+    go false false = refl
+checked_reading names r (word ∷ words) k = elim (cases_Bool (r.ended || (is_end word || not (has_single_hyphen word)))) [
+  | inr p ↦
+    let no = not_plain r.ended (is_end word) (has_single_hyphen word) p in
+    rw (single_step names r word no.2 no.0, no.0, no.1, no.2) (sym (none_either (is_checked names r.said)))
+  | inl p ↦ elim (step names r word p k) [
+    | inl s ↦
+      let alike : (r.ended || (is_end word || (not (has_single_hyphen word) && has_no_single_hyphen words))) ≡ (s.0.ended || has_no_single_hyphen words) =
+        plain_split r.ended (is_end word) (has_single_hyphen word) (has_no_single_hyphen words) p ∙ ap (λ (b : Bool). b || has_no_single_hyphen words) (sym s.2.4) in
+      rw (alike, s.2.0, s.2.1) (checked_reading names s.0 words s.2.3 ∙ ap (λ (b : Bool). cond b (read_words names s.0 words) None) s.2.2 ∙ both_tests (is_checked names r.said) s.1 (read_words names s.0 words) ∙ ap (λ (o : Option Said). cond (is_checked names r.said) o None) (inside s.1 s.0))
+    | inr s ↦ rw (s.0, s.1) (ap (checked names) (none_either (r.ended || has_no_single_hyphen (word ∷ words))) ∙ sym (none_either (is_checked names r.said)))
   ]
 ]
   where
@@ -232,16 +245,20 @@ form_has_word word (g ∷ gs) f e = elim (cases_Bool (bytes_eq g.word word)) [
   | inr h ↦ form_has_word word gs f (rw h at e)
 ]
 
--- no command's word is one that the test before the parse refuses
+-- no command's word begins with a hyphen
 form_is_plain : (word : Text) (forms : List CommandForm) (f : CommandForm) → find (λ form. bytes_eq form.word word) forms ≡ Some f
-    → list_all (λ form. not (has_single_hyphen form.word)) forms ≡ true → not (has_single_hyphen f.word) ≡ true
+    → list_all (λ form. not (begins_with_hyphen form.word)) forms ≡ true → begins_with_hyphen f.word ≡ false
 form_is_plain word [] f e ok = cc
 form_is_plain word (g ∷ gs) f e ok =
-    let parts = and_parts (not (has_single_hyphen g.word)) (list_all (λ form. not (has_single_hyphen form.word)) gs) ok in
+    let parts = and_parts (not (begins_with_hyphen g.word)) (list_all (λ form. not (begins_with_hyphen form.word)) gs) ok in
     elim (cases_Bool (bytes_eq g.word word)) [
-      | inl h ↦ let first : Some g ≡ Some f = rw h at e in let same : g ≡ f = cc in subst (λ (x : CommandForm). not (has_single_hyphen x.word) ≡ true) same parts.0
+      | inl h ↦ let first : Some g ≡ Some f = rw h at e in let same : g ≡ f = cc in subst (λ (x : CommandForm). begins_with_hyphen x.word ≡ false) same (not-true _ parts.0)
       | inr h ↦ form_is_plain word gs f (rw h at e) parts.1
     ]
+
+plain_word : (word : Text) → begins_with_hyphen word ≡ false → (is_end word ≡ false) × (has_single_hyphen word ≡ false)
+plain_word [] e = (refl, refl)
+plain_word (c ∷ cs) e = (rw e refl, rw e refl)
 
 entry_of_form : (word : Text) (forms : List CommandForm) → entry word (map (λ (form : CommandForm). (form.word, form.options)) forms) ≡ option_map (λ (form : CommandForm). (form.word, form.options)) (find (λ form. bytes_eq form.word word) forms)
 entry_of_form word [] = refl
@@ -279,9 +296,9 @@ command_alike (word ∷ words) = elim (some_or_none (form_named word)) [
     named : (form : CommandForm) → form_named word ≡ Some form → command_matched (word ∷ words) ≡ command_in (word ∷ words)
     named form e =
         let same : form.word ≡ word = form_has_word word commands form e in
-        let plain : not (has_single_hyphen word) ≡ true = ap (λ (x : Text). not (has_single_hyphen x)) (sym same) ∙ form_is_plain word commands form e refl in
+        let plain = plain_word word (ap begins_with_hyphen (sym same) ∙ form_is_plain word commands form e refl) in
         let again : form_named form.word ≡ Some form = ap form_named same ∙ e in
-        rw (entry_of_form word commands, e, plain)
+        rw (entry_of_form word commands, e, plain.0, plain.1)
         (ap (λ (o : Option Command). cond (has_no_single_hyphen words) o None) (judged_said form (clap_read form.options nothing_read words) again)
         ∙ matched_alike form (has_no_single_hyphen words) (clap_read form.options nothing_read words)
         ∙ ap (option_and_then form.meaning) (start_reading form.options words))

@@ -6,7 +6,8 @@ use Rattle.clap.specs.declared.parser.matches.ArgMatches.{ArgMatches}
 use Rattle.clap.specs.declared.error.Error.{Error}
 use Rattle.clap.specs.declared.error.kind.ErrorKind.TheVariants.{OutOfMemory}
 use Rattle.command_words.specs.CommandWords.{Text, Said, value_of}
-use Rattle.command_words.specs.ClapCommands.{raw_app, program_subs, command_said, has_no_single_hyphen, Enters}
+use Rattle.command_words.specs.ClapCommands.{raw_app, program_subs, command_said, Enters}
+use Rattle.command_words.specs.ClapReading.{has_no_single_hyphen}
 use Rattle.command_words.proofs.CommandLemmas.{clap_agrees, program_simple, program_is_simple, program_named}
 use Rattle.clap.specs.Walk.{Row, first_of, all_of}
 use Rattle.clap.specs.Words.{rows_of, first_value, matched_of, raw_values}

@@ -12,7 +12,7 @@ use Rattle.clap.specs.Kinds.{Kinds, or_else}
 use Rattle.clap.specs.declared.builder.value_parser.Reading.{Reading as HowRead}
 use Rattle.clap.specs.declared.error.kind.ErrorKind.TheVariants.{TooManyValues}
 use Rattle.command_words.specs.CommandWords.{Text, Said, Reading, value_of, nothing_read, give, option_in, begins_with_hyphen}
-use Rattle.command_words.specs.ClapReading.{is_end, clap_word, clap_read, has_single_hyphen}
+use Rattle.command_words.specs.ClapReading.{is_end, clap_word, clap_read, has_single_hyphen, has_no_single_hyphen}
 use Rattle.command_words.specs.ClapRules.{declared_id, option_rule, declared_rule, rules, leaf, Shows, shown, Agrees}
 use Rattle.command_words.proofs.RowLemmas.{same_text, text_is, none_without, values_at, has_is, given_at, long_known, long_unknown, id_known, id_declared, first_place, known_apart, known_other, has_value, set_shows, add_shows, no_defaults}
 
@@ -46,6 +46,10 @@ pub record Hungry (names : List Text) (h : Held) (name : Text) (said : Said) : T
   pub pending : h.pending ≡ Some (name, [])
   pub shows : Shows h.rows said
 
+abbrev pub state_ended : State → Bool
+state_ended (calm h b ended said) = ended
+state_ended (hungry h name said) = false
+
 abbrev pub Holds : List Text → State → Type 0
 Holds names (calm h b ended said) = Calm names h said
 Holds names (hungry h name said) = Hungry names h name said
@@ -58,6 +62,10 @@ pub data Jam : Type 0 where
 abbrev pub jam_walk : Jam → Walk
 jam_walk (loose h b) = walk_at h (calm_waiting b) false
 jam_walk (over h waiting) = walk_at h waiting true
+
+abbrev pub jam_ended : Jam → Bool
+jam_ended (loose h b) = false
+jam_ended (over h waiting) = true
 
 abbrev pub jam_held : Jam → Held
 jam_held (loose h b) = h
@@ -74,17 +82,17 @@ after names w word = walked (rules names) [] w word
 
 abbrev pub GoesOn : List Text → State → Text → State → Type 0
 GoesOn names s word q = (fault_at names (walk_of s) word ≡ []) × (after names (walk_of s) word ≡ walk_of q)
-    × (clap_word names (reading_of s) word ≡ Some (reading_of q)) × Holds names q
+    × (clap_word names (reading_of s) word ≡ Some (reading_of q)) × Holds names q × (state_ended q ≡ (state_ended s || is_end word))
 
-abbrev pub Jams : List Text → Walk → Text → Jam → Type 0
-Jams names w word j = (after names w word ≡ jam_walk j) × Jammed names j
+abbrev pub Jams : List Text → Walk → Text → Bool → Jam → Type 0
+Jams names w word ended j = (after names w word ≡ jam_walk j) × Jammed names j × (jam_ended j ≡ ended)
 
-abbrev pub EndsBadly : List Text → Walk → Text → Type 0
-EndsBadly names w word = (fault_at names w word ≡ [] → ⊥) ⊎ ((j : Jam) × Jams names w word j)
+abbrev pub EndsBadly : List Text → Walk → Text → Bool → Type 0
+EndsBadly names w word ended = (fault_at names w word ≡ [] → ⊥) ⊎ ((j : Jam) × Jams names w word ended j)
 
 abbrev pub Turns : List Text → State → Text → Type 0
 Turns names s word = ((q : State) × GoesOn names s word q)
-    ⊎ ((clap_word names (reading_of s) word ≡ None) × EndsBadly names (walk_of s) word)
+    ⊎ ((clap_word names (reading_of s) word ≡ None) × EndsBadly names (walk_of s) word (state_ended s || is_end word))
 
 -- ---- simple facts
 
@@ -129,7 +137,7 @@ end_turn : (names : List Text) (h : Held) (b : Bool) (said : Said) (word : Text)
     → GoesOn names (calm h b false said) word (calm h b true said)
 unfolding walked
 end_turn names h b said word e holds =
-    (rw (no_sub (calm_waiting b) word, e) refl, rw (no_sub (calm_waiting b) word, e) refl, rw e refl, holds)
+    (rw (no_sub (calm_waiting b) word, e) refl, rw (no_sub (calm_waiting b) word, e) refl, rw e refl, holds, sym e)
 
 -- ---- a use of an option
 
@@ -161,6 +169,7 @@ given_turn names h b said word name v d e o k holds none =
       rw (no_sub (calm_waiting b) word, e, o, long_known names name k) refl,
       rw (e, o, k, none) refl,
       record { settles = refl; shows = set_shows names _ said name v d k none holds.shows },
+      sym e,
     )
 
 taken_turn : (names : List Text) (h : Held) (b : Bool) (said : Said) (word name v : Text) → list_any (λ n. bytes_eq n declared_id) names ≡ false
@@ -182,6 +191,7 @@ begin_turn names h b said word name e o k holds = (
   rw (no_sub (calm_waiting b) word, e, o, long_known names name k) refl,
   rw (e, o, k) refl,
   record { known = k; pending = refl; shows = holds.shows },
+  sym e,
 )
 
 -- ---- a declared word
@@ -207,6 +217,7 @@ plain_turn names h b said word d e o n holds = (
   rw (no_sub (calm_waiting b) word, e, o, no_short word n, plain_calm (rules names) b word h, first_place names, and_false) refl,
   rw (e, o) refl,
   plain_calmly names h said word d holds,
+  sym e,
 )
 
 over_turn : (names : List Text) (h : Held) (b : Bool) (said : Said) (word : Text) → list_any (λ n. bytes_eq n declared_id) names ≡ false → Calm names h said
@@ -217,6 +228,7 @@ over_turn names h b said word d holds = (
   rw (first_place names, and_false) refl,
   refl,
   plain_calmly names h said word d holds,
+  refl,
 )
 
 -- ---- the value of an option that waits for it
@@ -225,10 +237,10 @@ abbrev fed_held : Held → Text → Text → Held
 fed_held h name word = record { rows = h.rows; pending = Some (name, word ∷ []); skip = h.skip }
 
 hungry_end : (names : List Text) (h : Held) (said : Said) (name word : Text) → is_end word ≡ true → Hungry names h name said
-    → (clap_word names (reading_of (hungry h name said)) word ≡ None) × Jams names (walk_of (hungry h name said)) word (over h (option name))
+    → (clap_word names (reading_of (hungry h name said)) word ≡ None) × Jams names (walk_of (hungry h name said)) word (is_end word) (over h (option name))
 unfolding walked
 hungry_end names h said name word e holds =
-    (rw e refl, (rw e refl, rw (holds.pending, id_known names name holds.known) (use_empty h.rows name)))
+    (rw e refl, (rw e refl, rw (holds.pending, id_known names name holds.known) (use_empty h.rows name), sym e))
 
 long_bad : (c : List Rule) (found : Option Rule) (v : Option Text) (h : Held) → (settle_fault c false h ≡ [] → ⊥) → long_fault c false found v h ≡ [] → ⊥
 long_bad c None v h bad e = cc
@@ -262,11 +274,12 @@ hungry_fed names h said name word d e o n holds none =
         settles = rw (id_known names name holds.known, no_row) refl;
         shows = rw (id_known names name holds.known) (set_shows names _ said name word d holds.known none holds.shows);
       },
+      sym e,
     )
 
 hungry_twice : (names : List Text) (h : Held) (said : Said) (name word : Text) → list_any (λ n. bytes_eq n declared_id) names ≡ false → is_end word ≡ false → option_in word ≡ None → has_single_hyphen word ≡ false → Hungry names h name said
     → is_some (value_of name said.values) ≡ true
-    → (clap_word names (reading_of (hungry h name said)) word ≡ None) × Jams names (walk_of (hungry h name said)) word (loose (fed_held h name word) false)
+    → (clap_word names (reading_of (hungry h name said)) word ≡ None) × Jams names (walk_of (hungry h name said)) word (is_end word) (loose (fed_held h name word) false)
 unfolding walked
 hungry_twice names h said name word d e o n holds has =
     let row : has_row name h.rows ≡ true = has_value _ said name (known_apart names name d holds.known) holds.shows ∙ has in (
@@ -274,6 +287,7 @@ hungry_twice names h said name word d e o n holds has =
       (
         rw (e, o, no_short word n, id_known names name holds.known, holds.pending, text_is name) refl,
         rw (id_known names name holds.known) (use_taken h.rows name word row),
+        sym e,
       ),
     )
 
@@ -297,13 +311,21 @@ pub some_or_none : {X : Type 0} (o : Option X) → ((x : X) × (o ≡ Some x)) �
 some_or_none None = inr refl
 some_or_none (Some x) = inl (x, refl)
 
-turns : (names : List Text) (s : State) (word : Text) → list_any (λ n. bytes_eq n declared_id) names ≡ false → has_single_hyphen word ≡ false → Holds names s → Turns names s word
+-- a word behind `--`, or `--` itself, or one that hasn't one hyphen and no second
+abbrev pub IsPlain : Bool → Text → Type 0
+IsPlain ended word = (ended || (is_end word || not (has_single_hyphen word))) ≡ true
+
+pub not_single : (end single : Bool) → end ≡ false → (end || not single) ≡ true → single ≡ false
+not_single end true e n = absurd (true≢false (sym n ∙ rw e refl))
+not_single end false e n = refl
+
+turns : (names : List Text) (s : State) (word : Text) → list_any (λ n. bytes_eq n declared_id) names ≡ false → IsPlain (state_ended s) word → Holds names s → Turns names s word
 turns names (calm h b true said) word d n holds = inl (calm (plain_held names h word) true true (with_declared said word), over_turn names h b said word d holds)
 turns names (calm h b false said) word d n holds = elim (cases_Bool (is_end word)) [
   | inl e ↦ inl (calm h b true said, end_turn names h b said word e holds)
   | inr e ↦ elim (some_or_none (option_in word)) [
     | inl f ↦ calm_long names h b said word f.0.0 f.0.1 d e f.1 holds
-    | inr o ↦ inl (calm (plain_held names h word) true false (with_declared said word), plain_turn names h b said word d e o n holds)
+    | inr o ↦ inl (calm (plain_held names h word) true false (with_declared said word), plain_turn names h b said word d e o (not_single _ _ e n) holds)
   ]
 ]
 turns names (hungry h name said) word d n holds = elim (cases_Bool (is_end word)) [
@@ -311,22 +333,22 @@ turns names (hungry h name said) word d n holds = elim (cases_Bool (is_end word)
   | inr e ↦ elim (some_or_none (option_in word)) [
     | inl f ↦ let t = hungry_option names h said name word f.0 e f.1 holds in inr (t.0, inl t.1)
     | inr o ↦ elim (cases_Bool (is_some (value_of name said.values))) [
-      | inl has ↦ let t = hungry_twice names h said name word d e o n holds has in inr (t.0, inr (loose (fed_held h name word) false, t.1))
-      | inr none ↦ inl (calm (fed_held h name word) false false (record { values = said.values ++ (name, word) ∷ []; declared = said.declared }), hungry_fed names h said name word d e o n holds none)
+      | inl has ↦ let t = hungry_twice names h said name word d e o (not_single _ _ e n) holds has in inr (t.0, inr (loose (fed_held h name word) false, t.1))
+      | inr none ↦ inl (calm (fed_held h name word) false false (record { values = said.values ++ (name, word) ∷ []; declared = said.declared }), hungry_fed names h said name word d e o (not_single _ _ e n) holds none)
     ]
   ]
 ]
 
 -- ---- any word, of a walk that is jammed
 
-jam_turn : (names : List Text) (j : Jam) (word : Text) → has_single_hyphen word ≡ false → Jammed names j → EndsBadly names (jam_walk j) word
+jam_turn : (names : List Text) (j : Jam) (word : Text) → IsPlain (jam_ended j) word → Jammed names j → EndsBadly names (jam_walk j) word (jam_ended j || is_end word)
 unfolding walked
 jam_turn names (over h x) word n bad = inl (rw (first_place names, and_false) bad)
 jam_turn names (loose h b) word n bad = elim (cases_Bool (is_end word)) [
-  | inl e ↦ inr (over h (calm_waiting b), (rw (no_sub (calm_waiting b) word, e) refl, bad))
+  | inl e ↦ inr (over h (calm_waiting b), (rw (no_sub (calm_waiting b) word, e) refl, bad, sym e))
   | inr e ↦ elim (some_or_none (option_in word)) [
     | inl f ↦ inl (rw (no_sub (calm_waiting b) word, e, f.1) (or_bad _ _ (long_bad (rules names) (arg_by_long (rules names) f.0.0) f.0.1 h bad)))
-    | inr o ↦ inl (rw (no_sub (calm_waiting b) word, e, o, no_short word n, plain_calm (rules names) b word h, first_place names, and_false) bad)
+    | inr o ↦ inl (rw (no_sub (calm_waiting b) word, e, o, no_short word (not_single _ _ e n), plain_calm (rules names) b word h, first_place names, and_false) bad)
   ]
 ]
 
@@ -359,30 +381,50 @@ rest_jam names w u word words a bad e =
     let first : fault_at names w word ≡ [] = (or_parts _ _ (or_parts _ _ e).0).0 in
     bad (sym (rest_on names w u word words first a) ∙ e)
 
-jammed : (names : List Text) (j : Jam) (words : List Text) → list_all (λ w. not (has_single_hyphen w)) words ≡ true → Jammed names j → rest_fault names (jam_walk j) words ≡ [] → ⊥
+-- the words from a place on, as they are judged before the parse
+abbrev pub ArePlain : Bool → List Text → Type 0
+ArePlain ended words = (ended || has_no_single_hyphen words) ≡ true
+
+pub first_plain : (ended end single rest : Bool) → (ended || (end || (not single && rest))) ≡ true → (ended || (end || not single)) ≡ true
+first_plain true end single rest e = refl
+first_plain false true single rest e = refl
+first_plain false false true rest e = e
+first_plain false false false rest e = refl
+
+pub rest_plain : (ended end single rest later : Bool) → (ended || (end || (not single && rest))) ≡ true → later ≡ (ended || end) → (later || rest) ≡ true
+rest_plain true end single rest later e is = rw is refl
+rest_plain false true single rest later e is = rw is refl
+rest_plain false false true rest later e is = absurd (true≢false (sym e))
+rest_plain false false false rest later e is = rw is e
+
+jammed : (names : List Text) (j : Jam) (words : List Text) → ArePlain (jam_ended j) words → Jammed names j → rest_fault names (jam_walk j) words ≡ [] → ⊥
 unfolding walk_fault
 jammed names (loose h b) [] ok bad e = bad e
 jammed names (over h x) [] ok bad e = bad e
 jammed names j (word ∷ words) ok bad e =
-    let parts = and_parts _ _ ok in
-    elim (jam_turn names j word (not-true _ parts.0) bad) [
+    elim (jam_turn names j word (first_plain (jam_ended j) (is_end word) (has_single_hyphen word) (has_no_single_hyphen words) ok) bad) [
       | inl worse ↦ rest_bad names (jam_walk j) word words worse e
-      | inr q ↦ rest_jam names (jam_walk j) (jam_walk q.0) word words q.1.0 (jammed names q.0 words parts.1 q.1.1) e
+      | inr q ↦
+        let plain = rest_plain (jam_ended j) (is_end word) (has_single_hyphen word) (has_no_single_hyphen words) (jam_ended q.0) ok q.1.2 in
+        rest_jam names (jam_walk j) (jam_walk q.0) word words q.1.0 (jammed names q.0 words plain q.1.1) e
     ]
 
 -- the parse and the reading agree from any place where they stand alike
-pub agrees_from : (names : List Text) (s : State) (words : List Text) → list_any (λ n. bytes_eq n declared_id) names ≡ false → list_all (λ w. not (has_single_hyphen w)) words ≡ true → Holds names s
+pub agrees_from : (names : List Text) (s : State) (words : List Text) → list_any (λ n. bytes_eq n declared_id) names ≡ false → ArePlain (state_ended s) words → Holds names s
     → Agrees (rest_fault names (walk_of s) words) (settled (rules names) (end_of names (walk_of s) words)).rows (clap_read names (reading_of s) words)
 unfolding clap_read walk_fault
 agrees_from names (calm h b ended said) [] d ok holds = (holds.settles, holds.shows)
 agrees_from names (hungry h name said) [] d ok holds = rw (holds.pending, id_known names name holds.known) (use_empty h.rows name)
 agrees_from names s (word ∷ words) d ok holds =
-    let parts = and_parts _ _ ok in
-    elim (turns names s word d (not-true _ parts.0) holds) [
-      | inl g ↦ rw (g.1.2, end_on names (walk_of s) (walk_of g.0) word words g.1.1, g.1.0, g.1.1) (agrees_from names g.0 words d parts.1 g.1.3)
+    elim (turns names s word d (first_plain (state_ended s) (is_end word) (has_single_hyphen word) (has_no_single_hyphen words) ok) holds) [
+      | inl g ↦
+        let plain = rest_plain (state_ended s) (is_end word) (has_single_hyphen word) (has_no_single_hyphen words) (state_ended g.0) ok g.1.4 in
+        rw (g.1.2, end_on names (walk_of s) (walk_of g.0) word words g.1.1, g.1.0, g.1.1) (agrees_from names g.0 words d plain g.1.3)
       | inr g ↦ rw g.0 (elim g.1 [
         | inl bad ↦ rest_bad names (walk_of s) word words bad
-        | inr j ↦ rest_jam names (walk_of s) (jam_walk j.0) word words j.1.0 (jammed names j.0 words parts.1 j.1.1)
+        | inr j ↦
+          let plain = rest_plain (state_ended s) (is_end word) (has_single_hyphen word) (has_no_single_hyphen words) (jam_ended j.0) ok j.1.2 in
+          rest_jam names (walk_of s) (jam_walk j.0) word words j.1.0 (jammed names j.0 words plain j.1.1)
       ])
     ]
 
@@ -417,8 +459,8 @@ nameless name names w (word ∷ words) = ap (λ (k : Kinds). or_else (fault_at n
 level_is : (name : Text) (names : List Text) (words : List Text) → level_fault (leaf name names) [] nothing_held words false [] ≡ rest_fault names (walk_from nothing_held) words
 level_is name names words = rw (nameless name names (walk_from nothing_held) words, no_default_fault names _, none_required names (finished (rules names) (end_of names (walk_from nothing_held) words)), or_nil) refl
 
--- a parse of the subcommand's words fails exactly where the grammar does not clap_read them
-pub leaf_agrees : (name : Text) (names words : List Text) → list_any (λ n. bytes_eq n declared_id) names ≡ false → list_all (λ w. not (has_single_hyphen w)) words ≡ true
+-- a parse of the words behind a command fails exactly where they aren't read
+pub leaf_agrees : (name : Text) (names words : List Text) → list_any (λ n. bytes_eq n declared_id) names ≡ false → has_no_single_hyphen words ≡ true
     → Agrees (level_fault (leaf name names) [] nothing_held words false []) (rows_after (rules names) [] words) (clap_read names nothing_read words)
 leaf_agrees name names words d ok =
     let start : Calm names nothing_held nothing_read.said = record { settles = refl; shows = record { value = λ id ne. refl; declared = refl } } in

@@ -6,7 +6,7 @@ use Rattle.clap.specs.Simple.{App, Shape, new_rule, new_shape}
 use Rattle.clap.specs.declared.builder.action.ArgAction.TheVariants.{Set, Append}
 use Rattle.command_words.specs.declared.command.Command.{Command}
 use Rattle.command_words.specs.CommandWords.{Text, Said, CommandForm, commands, form_named, nothing_read}
-use Rattle.command_words.specs.ClapReading.{clap_read, has_single_hyphen, is_checked}
+use Rattle.command_words.specs.ClapReading.{clap_read, has_no_single_hyphen, numbers_given}
 use Rattle.command_words.specs.ClapRules.{declared_id, leaf, Shows}
 
 -- a command's word, and the names of its options
@@ -73,11 +73,8 @@ Enters entered said = (rows : List Row) × (entered ≡ Some (said.0, rows)) × 
 
 -- ---- what is judged of it
 
-abbrev pub has_no_single_hyphen : List Text → Bool
-has_no_single_hyphen words = list_all (λ w. not (has_single_hyphen w)) words
-
 abbrev pub meaning_checked : CommandForm → Said → Option Command
-meaning_checked form said = if is_checked form.options said then form.meaning said else None
+meaning_checked form said = if numbers_given form.options said.values then form.meaning said else None
 
 abbrev pub judged : Text → Said → Option Command
 judged name said = option_and_then (λ form. meaning_checked form said) (form_named name)

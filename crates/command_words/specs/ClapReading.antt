@@ -1,5 +1,5 @@
 -- how clap reads the words behind a command: which word belongs to which option, with no look at what a value is
-use Rattle.std.specs.Prelude.{ℕ, ◌==◌, ◌&&◌, Bool, true, false, not, List, [], ◌∷◌, Option, Some, None, is_some, codes, bytes_eq, if◌then◌else◌, option_and_then}
+use Rattle.std.specs.Prelude.{ℕ, ◌==◌, ◌&&◌, ◌||◌, Bool, true, false, not, List, [], ◌∷◌, Option, Some, None, is_some, codes, bytes_eq, if◌then◌else◌, option_and_then}
 use Rattle.std.specs.List.{list_any, list_all}
 use Rattle.command_words.specs.CommandWords.{Text, Said, Reading, give, declare, option_in, value_of, is_number, number_of, begins_with_hyphen}
 
@@ -36,7 +36,13 @@ unfoldable pub clap_read : List Text → Reading → List Text → Option Said
 clap_read names r [] = if is_some r.waits then None else Some r.said
 clap_read names r (word ∷ words) = option_and_then (λ q. clap_read names q words) (clap_word names r word)
 
--- ---- what is judged of it: values are numbers, and declared words don't begin with a hyphen
+-- ---- what is judged before: no word in front of `--` has one hyphen and no second
+
+abbrev pub has_no_single_hyphen : List Text → Bool
+has_no_single_hyphen [] = true
+has_no_single_hyphen (word ∷ words) = is_end word || (not (has_single_hyphen word) && has_no_single_hyphen words)
+
+-- ---- what is judged behind: values are numbers
 
 abbrev pub is_number_if_given : Option Text → Bool
 is_number_if_given None = true
@@ -44,12 +50,6 @@ is_number_if_given (Some text) = is_number text
 
 abbrev pub numbers_given : List Text → List (Text × Text) → Bool
 numbers_given names values = list_all (λ n. is_number_if_given (value_of n values)) names
-
-abbrev pub is_declared : Text → Bool
-is_declared word = not (begins_with_hyphen word)
-
-abbrev pub is_checked : List Text → Said → Bool
-is_checked names said = numbers_given names said.values && list_all is_declared said.declared
 
 -- the number of an option or its default; nothing, where its value is no number
 abbrev pub size_given : ℕ → Option Text → Option ℕ

@@ -88,19 +88,15 @@ declare word r = Some (record {
 abbrev pub give_number : Text → Text → Reading → Option Reading
 give_number name value r = if is_number value then give name value r else None
 
--- a declared word doesn't begin with a hyphen, also behind `--`
-abbrev pub take_declared : Text → Reading → Option Reading
-take_declared word r = if begins_with_hyphen word then None else declare word r
-
 -- `--name` waits for the next word, and `--name=value` has its value
 abbrev pub take_option : Text → Option Text → Reading → Option Reading
 take_option name None r = Some (record r { waits = Some name })
 take_option name (Some value) r = give_number name value r
 
--- an option has one of the names, in full; what is no option is a declared word
+-- an option has one of the names, in full; any other word that begins with a hyphen is refused
 abbrev pub take_named : List Text → Option (Text × Option Text) → Text → Reading → Option Reading
 take_named names (Some p) word r = if list_any (λ n. bytes_eq n p.0) names then take_option p.0 p.1 r else None
-take_named names None word r = take_declared word r
+take_named names None word r = if begins_with_hyphen word then None else declare word r
 
 -- `--` ends the options
 abbrev pub take_free : List Text → Text → Reading → Option Reading
@@ -109,7 +105,7 @@ take_free names word r = if bytes_eq word (codes "--") then Some (record r { end
 -- one word more: the value of the option that waits for one; else, behind `--`, a declared word
 abbrev pub take_word : List Text → Option Text → Text → Reading → Option Reading
 take_word names (Some name) word r = give_number name word r
-take_word names None word r = if r.ended then take_declared word r else take_free names word r
+take_word names None word r = if r.ended then declare word r else take_free names word r
 
 -- what the words say, with options of those names; nothing, where a word is refused or an option waits at the end
 unfoldable pub read_words : List Text → Reading → List Text → Option Said

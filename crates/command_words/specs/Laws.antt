@@ -1,6 +1,6 @@
 -- what the words of `run` mean
-use Rattle.std.specs.Prelude.{◌≡◌, ℕ, Bool, true, false, List, [], ◌∷◌, ◌++◌, codes, Some, None}
-use Rattle.std.specs.List.{All}
+use Rattle.std.specs.Prelude.{◌≡◌, ℕ, Bool, true, false, List, [], ◌∷◌, ◌++◌, codes, bytes_eq, not, Some, None}
+use Rattle.std.specs.List.{All, list_all}
 use Rattle.std.specs.Str.{is_utf8}
 use Rattle.block_model.specs.declared.schema.Sizes.{Sizes}
 use Rattle.command_words.specs.declared.command.Command.TheVariants.{Run}
@@ -11,9 +11,13 @@ abbrev pub option_words : Bool → Text → Text → List Text
 option_words true name value = (codes "--" ++ name ++ codes "=" ++ value) ∷ []
 option_words false name value = (codes "--" ++ name) ∷ value ∷ []
 
+-- none of the words ends the options
+abbrev pub has_no_end : List Text → Bool
+has_no_end words = list_all (λ w. not (bytes_eq w (codes "--"))) words
+
 -- an option that stands twice is refused, whatever is said of it and around it
 abbrev pub OptionStandsOnce : Text → Type 0
-OptionStandsOnce name = (a b : Bool) (v w : Text) (before between after : List Text)
+OptionStandsOnce name = (a b : Bool) (v w : Text) (before between after : List Text) → has_no_end before ≡ true → has_no_end between ≡ true
     → command_of (codes "run" ∷ before ++ option_words a name v ++ between ++ option_words b name w ++ after) ≡ None
 
 abbrev pub OptionsStandOnce : Type 0
@@ -21,7 +25,7 @@ OptionsStandOnce = All OptionStandsOnce size_options
 
 -- an option that stands in the words gives its size the number of its digits
 abbrev pub OptionHasItsNumber : Text × (Sizes → ℕ) → Type 0
-OptionHasItsNumber option = (a : Bool) (digits : Text) (before after : List Text) (sizes : Sizes) (declared : List Text)
+OptionHasItsNumber option = (a : Bool) (digits : Text) (before after : List Text) (sizes : Sizes) (declared : List Text) → has_no_end before ≡ true
     → command_of (codes "run" ∷ before ++ option_words a option.0 digits ++ after) ≡ Some (Run sizes declared)
     → (is_number digits ≡ true) × (option.1 sizes ≡ number_of digits)
 

@@ -3,7 +3,6 @@
 ghost use Rattle.std.specs.Prelude.{◌≡◌, IfOk, IfErr, codes, map, Some, None};
 ghost use Rattle.clap.specs.Words.{found_of, rows_of};
 ghost use Rattle.command_words.specs.ClapCommands.{command_matched, meaning_checked};
-ghost use Rattle.command_words.specs.ClapReading.{is_checked};
 ghost use Rattle.command_words.specs.ClapRules.{Shows};
 ghost use Rattle.command_words.specs.CommandWords.{Said, command_in, command_of, run_of, size_options};
 ghost use Rattle.command_words.specs.declared.command.CommandFault.TheVariants.{Usage};
@@ -80,9 +79,8 @@ fn run_in(alloc: Global, matches: &ArgMatches<'_>) -> Result<Command, CommandFau
     let Some(sizes) = sizes_in(matches) else {
         return Err(CommandFault::Usage);
     };
-    let declarations = match declared_in(alloc, matches) {
-        Ok(declarations) => declarations,
-        Err(fault) => return Err(fault),
+    let Ok(declarations) = declared_in(alloc, matches) else {
+        return Err(CommandFault::Memory);
     };
     if declarations.len() == 0 {
         return Err(CommandFault::Usage);

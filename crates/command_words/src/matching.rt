@@ -1,18 +1,17 @@
 // What clap finds in words.
 
 ghost use Rattle.std.specs.Prelude.{◌≡◌, IfOk, IfErr, MatchOption, map, false, true, Some, None, option_map, bytes_eq, codes};
-ghost use Rattle.std.specs.List.{list_all};
 ghost use Rattle.clap.specs.Words.{found_of, rows_of, subcommand_rows_of};
-ghost use Rattle.command_words.specs.ClapCommands.{Enters, command_said, has_no_single_hyphen, program_subs};
-ghost use Rattle.command_words.specs.ClapReading.{is_declared, numbers_given, size_given};
+ghost use Rattle.command_words.specs.ClapCommands.{Enters, command_said, program_subs};
+ghost use Rattle.command_words.specs.ClapReading.{has_no_single_hyphen, numbers_given, size_given};
 ghost use Rattle.command_words.specs.ClapRules.{Shows, declared_id};
 ghost use Rattle.command_words.specs.CommandWords.{Said, Text, size_options, sizes_of, value_of};
 ghost use Rattle.command_words.specs.declared.command.CommandFault.TheVariants.{Usage};
 
 use crate::command::CommandFault;
 use crate::number::read_number;
-use crate::program::program;
-use crate::text::begins_with_hyphen;
+use crate::program::{DECLARED, program};
+use block_model::NoMemory;
 use block_model::schema::Sizes;
 use block_model::words::Words;
 use clap::ArgMatches;
@@ -68,32 +67,23 @@ fn value_in<'a>(matches: &ArgMatches<'a>, name: &str) -> Option<&'a str>
     matches.get_str(name)
 }
 
-/// The declared words, in their order. Usage comes exactly where one begins with a hyphen.
-pub fn declared_in(alloc: Global, matches: &ArgMatches<'_>) -> Result<Words, CommandFault>
-    ensures ok { IfOk result (λ words. (said : Said) → Shows (rows_of (found_of matches.now)) said → (words ≡ said.declared) × (list_all is_declared said.declared ≡ true)) }
-    ensures usage { IfErr result (λ fault. fault ≡ Usage → (said : Said) → Shows (rows_of (found_of matches.now)) said → list_all is_declared said.declared ≡ false) }
+/// The declared words, in their order.
+pub fn declared_in(alloc: Global, matches: &ArgMatches<'_>) -> Result<Words, NoMemory>
+    ensures { IfOk result (λ words. (said : Said) → Shows (rows_of (found_of matches.now)) said → words ≡ said.declared) }
 {
-    match matches.get_raw("DECL") {
+    match matches.get_raw(DECLARED) {
         Some(words) => copied(alloc, words),
         None => Ok(Words::new(alloc)),
     }
 }
 
-/// The words, none of which may begin with a hyphen.
-fn copied(alloc: Global, words: &[&str]) -> Result<Words, CommandFault>
-    ensures ok { IfOk result (λ copy. (copy ≡ map (λ w. w.now) words.now) × (list_all is_declared (map (λ w. w.now) words.now) ≡ true)) }
-    ensures usage { IfErr result (λ fault. fault ≡ Usage → list_all is_declared (map (λ w. w.now) words.now) ≡ false) }
+/// A copy of the words.
+fn copied(alloc: Global, words: &[&str]) -> Result<Words, NoMemory>
+    ensures { IfOk result (λ copy. copy ≡ map (λ w. w.now) words.now) }
 {
     let mut copy = Words::new(alloc);
     'words: for word in words {
-        let bytes = word.as_bytes();
-        if begins_with_hyphen(bytes) {
-            return Err(CommandFault::Usage);
-        }
-        match copy.push(bytes) {
-            Ok(()) => (),
-            Err(_) => return Err(CommandFault::Memory),
-        }
+        copy.push(word.as_bytes())?;
     }
     Ok(copy)
 }

@@ -81,5 +81,5 @@ fn declared_words<'a>(alloc: Global) -> Arg<'a>
     ensures rule { rule_of result ≡ raw_declared }
     ensures local { result.global ≡ false }
 {
-    Arg::new(alloc, "DECL").action(ArgAction::Append)
+    Arg::new(alloc, DECLARED).action(ArgAction::Append)
 }

@@ -3,9 +3,7 @@
 ghost use Rattle.std.specs.Prelude.{◌≡◌, IfOk, IfErr, map, true, false};
 ghost use Rattle.std.specs.List.{list_all};
 ghost use Rattle.std.specs.Str.{is_utf8};
-ghost use Rattle.command_words.specs.ClapCommands.{has_no_single_hyphen};
-ghost use Rattle.command_words.specs.ClapReading.{has_single_hyphen};
-ghost use Rattle.command_words.specs.CommandWords.{begins_with_hyphen};
+ghost use Rattle.command_words.specs.ClapReading.{has_no_single_hyphen, has_single_hyphen};
 ghost use Rattle.command_words.specs.declared.command.CommandFault.TheVariants.{Usage};
 
 use crate::command::CommandFault;
@@ -31,28 +29,27 @@ pub fn texts_of(alloc: Global, words: &Words) -> Result<Vec<&str>, CommandFault>
     Ok(texts)
 }
 
-/// No word has one hyphen at its front and no second.
+/// No word in front of the first `--` has one hyphen at its front and no second.
 pub fn has_no_single_hyphen(words: &[&str]) -> bool
     ensures { result ≡ has_no_single_hyphen (map (λ w. w.now) words.now) }
 {
-    words.iter().all(|word| !has_single_hyphen(word))
+    'words: for word in words {
+        if *word == "--" {
+            return true;
+        }
+        if has_single_hyphen(word) {
+            return false;
+        }
+    }
+    true
 }
 
 fn has_single_hyphen(word: &str) -> bool
     ensures { result ≡ has_single_hyphen word.now }
 {
     match word.as_bytes() {
-        [first, rest @ ..] => *first == b'-' && !begins_with_hyphen(rest),
-        [] => false,
-    }
-}
-
-/// The word begins with a hyphen.
-pub fn begins_with_hyphen(word: &[u8]) -> bool
-    ensures { result ≡ begins_with_hyphen word.now }
-{
-    match word {
-        [first, ..] => *first == b'-',
-        [] => false,
+        [b'-', b'-', ..] => false,
+        [b'-', ..] => true,
+        _ => false,
     }
 }
