@@ -212,13 +212,13 @@ checked_reading names r [] k = go r.ended (is_some r.waits)
     go false false = refl
 checked_reading names r (word ∷ words) k = elim (cases_Bool (r.ended || (is_end word || not (has_single_hyphen word)))) [
   | inr p ↦
-    let no = not_plain r.ended (is_end word) (has_single_hyphen word) p in
-    rw (single_step names r word no.2 no.0, no.0, no.1, no.2) (sym (none_either (is_checked names r.said)))
+      let no = not_plain r.ended (is_end word) (has_single_hyphen word) p in
+      rw (single_step names r word no.2 no.0, no.0, no.1, no.2) (sym (none_either (is_checked names r.said)))
   | inl p ↦ elim (step names r word p k) [
     | inl s ↦
-      let alike : (r.ended || (is_end word || (not (has_single_hyphen word) && has_no_single_hyphen words))) ≡ (s.0.ended || has_no_single_hyphen words) =
+        let alike : (r.ended || (is_end word || (not (has_single_hyphen word) && has_no_single_hyphen words))) ≡ (s.0.ended || has_no_single_hyphen words) =
         plain_split r.ended (is_end word) (has_single_hyphen word) (has_no_single_hyphen words) p ∙ ap (λ (b : Bool). b || has_no_single_hyphen words) (sym s.2.4) in
-      rw (alike, s.2.0, s.2.1) (checked_reading names s.0 words s.2.3 ∙ ap (λ (b : Bool). cond b (read_words names s.0 words) None) s.2.2 ∙ both_tests (is_checked names r.said) s.1 (read_words names s.0 words) ∙ ap (λ (o : Option Said). cond (is_checked names r.said) o None) (inside s.1 s.0))
+        rw (alike, s.2.0, s.2.1) (checked_reading names s.0 words s.2.3 ∙ ap (λ (b : Bool). cond b (read_words names s.0 words) None) s.2.2 ∙ both_tests (is_checked names r.said) s.1 (read_words names s.0 words) ∙ ap (λ (o : Option Said). cond (is_checked names r.said) o None) (inside s.1 s.0))
     | inr s ↦ rw (s.0, s.1) (ap (checked names) (none_either (r.ended || has_no_single_hyphen (word ∷ words))) ∙ sym (none_either (is_checked names r.said)))
   ]
 ]

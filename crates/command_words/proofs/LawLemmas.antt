@@ -45,9 +45,9 @@ named_keeps P stays names (Some p) word r h = either (Kept P word r) (list_any (
 
 free_keeps : (P : Said → Type 0) → Stays P → (names : List Text) (word : Text) (r : Reading) → P r.said → Keeps P word r (take_free names word r)
 free_keeps P stays names word r h = elim (cases_Bool (bytes_eq word (codes "--"))) [
-    | inl e ↦ rw e (h, λ n. absurd (true≢false n))
-    | inr e ↦ let kept = named_keeps P stays names (option_in word) word r h in go (bytes_eq word (codes "--")) e kept
-  ]
+  | inl e ↦ rw e (h, λ n. absurd (true≢false n))
+  | inr e ↦ let kept = named_keeps P stays names (option_in word) word r h in go (bytes_eq word (codes "--")) e kept
+]
   where
     go : (b : Bool) → b ≡ false → Keeps P word r (take_named names (option_in word) word r)
         → Keeps P word r (cond b (Some (record r { ended = true })) (take_named names (option_in word) word r))
@@ -105,17 +105,17 @@ pub record Given (name v : Text) (before : Said) (q : Reading) : Type 0 where
 
 number_gives : (name v : Text) (r : Reading) → r.ended ≡ false → IfSome (give_number name v r) (Given name v r.said)
 number_gives name v r still = elim (cases_Bool (is_number v)) [
-    | inr h ↦ rw h tt
-    | inl h ↦ elim (cases_Bool (is_some (value_of name r.said.values))) [
-      | inl has ↦ rw (h, has) tt
-      | inr none ↦ rw (h, none) (record {
-        first = none;
-        number = h;
-        value = given_at name v name r.said.values none ∙ ap (λ (b : Bool). cond b (Some v) (value_of name r.said.values)) (text_is name);
-        still = still;
-      })
-    ]
+  | inr h ↦ rw h tt
+  | inl h ↦ elim (cases_Bool (is_some (value_of name r.said.values))) [
+    | inl has ↦ rw (h, has) tt
+    | inr none ↦ rw (h, none) (record {
+      first = none;
+      number = h;
+      value = given_at name v name r.said.values none ∙ ap (λ (b : Bool). cond b (Some v) (value_of name r.said.values)) (text_is name);
+      still = still;
+    })
   ]
+]
 
 one_word : (names : List Text) (name v : Text) → IsOption names name → (r : Reading) → r.ended ≡ false
     → IfSome (take_word names r.waits (codes "--" ++ name ++ codes "=" ++ v) r) (Given name v r.said)
@@ -189,16 +189,16 @@ none_either false = refl
 pub stands_once : (name : Text) → IsOption size_options name → OptionStandsOnce name
 stands_once name o = λ a b v w before between after free free_between.
     let whole : Says size_options (λ s. ⊥) nothing_read (before ++ (option_words a name v ++ (between ++ (option_words b name w ++ after)))) =
-      reach size_options (λ s. Unit {0}) (λ s. ⊥) nothing_stays nothing_read before _ free refl tt
+    reach size_options (λ s. Unit {0}) (λ s. ⊥) nothing_stays nothing_read before _ free refl tt
     (λ q still u. at_option size_options name v (λ s. ⊥) o a q _ still
-      (λ p g. reach size_options (λ s. value_of name s.values ≡ Some v) (λ s. ⊥) (value_stays name v) p between _ free_between g.still g.value
-      (λ x open_still h. at_option size_options name w (λ s. ⊥) o b x after open_still
-      (λ y given. absurd (true≢false (sym (ap (λ (t : Option Text). is_some t) h) ∙ given.first)))))) in
+    (λ p g. reach size_options (λ s. value_of name s.values ≡ Some v) (λ s. ⊥) (value_stays name v) p between _ free_between g.still g.value
+    (λ x open_still h. at_option size_options name w (λ s. ⊥) o b x after open_still
+    (λ y given. absurd (true≢false (sym (ap (λ (t : Option Text). is_some t) h) ∙ given.first)))))) in
     let moved = append_assoc (before ++ option_words a name v ++ between) (option_words b name w) after
-      ∙ append_assoc (before ++ option_words a name v) between (option_words b name w ++ after)
-      ∙ append_assoc before (option_words a name v) (between ++ (option_words b name w ++ after)) in
+    ∙ append_assoc (before ++ option_words a name v) between (option_words b name w ++ after)
+    ∙ append_assoc before (option_words a name v) (between ++ (option_words b name w ++ after)) in
     let none : read_words size_options nothing_read (before ++ option_words a name v ++ between ++ option_words b name w ++ after) ≡ None =
-      ap (read_words size_options nothing_read) moved ∙ none_said _ whole in
+    ap (read_words size_options nothing_read) moved ∙ none_said _ whole in
     rw none (none_either _)
 
 abbrev RunParts : List Text → Sizes → List Text → Type 0

@@ -405,8 +405,8 @@ jammed names j (word ∷ words) ok bad e =
     elim (jam_turn names j word (first_plain (jam_ended j) (is_end word) (has_single_hyphen word) (has_no_single_hyphen words) ok) bad) [
       | inl worse ↦ rest_bad names (jam_walk j) word words worse e
       | inr q ↦
-        let plain = rest_plain (jam_ended j) (is_end word) (has_single_hyphen word) (has_no_single_hyphen words) (jam_ended q.0) ok q.1.2 in
-        rest_jam names (jam_walk j) (jam_walk q.0) word words q.1.0 (jammed names q.0 words plain q.1.1) e
+          let plain = rest_plain (jam_ended j) (is_end word) (has_single_hyphen word) (has_no_single_hyphen words) (jam_ended q.0) ok q.1.2 in
+          rest_jam names (jam_walk j) (jam_walk q.0) word words q.1.0 (jammed names q.0 words plain q.1.1) e
     ]
 
 -- the parse and the reading agree from any place where they stand alike
@@ -418,13 +418,13 @@ agrees_from names (hungry h name said) [] d ok holds = rw (holds.pending, id_kno
 agrees_from names s (word ∷ words) d ok holds =
     elim (turns names s word d (first_plain (state_ended s) (is_end word) (has_single_hyphen word) (has_no_single_hyphen words) ok) holds) [
       | inl g ↦
-        let plain = rest_plain (state_ended s) (is_end word) (has_single_hyphen word) (has_no_single_hyphen words) (state_ended g.0) ok g.1.4 in
-        rw (g.1.2, end_on names (walk_of s) (walk_of g.0) word words g.1.1, g.1.0, g.1.1) (agrees_from names g.0 words d plain g.1.3)
+          let plain = rest_plain (state_ended s) (is_end word) (has_single_hyphen word) (has_no_single_hyphen words) (state_ended g.0) ok g.1.4 in
+          rw (g.1.2, end_on names (walk_of s) (walk_of g.0) word words g.1.1, g.1.0, g.1.1) (agrees_from names g.0 words d plain g.1.3)
       | inr g ↦ rw g.0 (elim g.1 [
         | inl bad ↦ rest_bad names (walk_of s) word words bad
         | inr j ↦
-          let plain = rest_plain (state_ended s) (is_end word) (has_single_hyphen word) (has_no_single_hyphen words) (jam_ended j.0) ok j.1.2 in
-          rest_jam names (walk_of s) (jam_walk j.0) word words j.1.0 (jammed names j.0 words plain j.1.1)
+            let plain = rest_plain (state_ended s) (is_end word) (has_single_hyphen word) (has_no_single_hyphen words) (jam_ended j.0) ok j.1.2 in
+            rest_jam names (walk_of s) (jam_walk j.0) word words j.1.0 (jammed names j.0 words plain j.1.1)
       ])
     ]
 

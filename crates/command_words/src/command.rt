@@ -31,6 +31,7 @@ pub enum CommandFault {
 }
 
 /// The command that the words are. Usage comes exactly where they are none; want of memory is free.
+#[tactic(auto, using(crate::proofs::JudgedLemmas::command_alike))]
 pub fn read_command(alloc: Global, words: &Words) -> Result<Command, CommandFault>
     ensures ok { IfOk result (λ command. command_of words.now ≡ Some command) }
     ensures usage { IfErr result (λ fault. fault ≡ Usage → command_of words.now ≡ None) }
@@ -39,35 +40,18 @@ pub fn read_command(alloc: Global, words: &Words) -> Result<Command, CommandFaul
     read_texts(alloc, texts.as_slice())
 }
 
-/// The command that the texts are.
+/// The command that the texts are, by clap's matches.
 fn read_texts<'a>(alloc: Global, words: &'a [&'a str]) -> Result<Command, CommandFault>
-    ensures ok { IfOk result (λ command. command_in (map (λ w. w.now) words.now) ≡ Some command) }
-    ensures usage { IfErr result (λ fault. fault ≡ Usage → command_in (map (λ w. w.now) words.now) ≡ None) }
-{
-    match_texts(alloc, words)
-}
-
-/// The command that clap finds in the texts.
-fn match_texts<'a>(alloc: Global, words: &'a [&'a str]) -> Result<Command, CommandFault>
     ensures ok { IfOk result (λ command. command_matched (map (λ w. w.now) words.now) ≡ Some command) }
     ensures usage { IfErr result (λ fault. fault ≡ Usage → command_matched (map (λ w. w.now) words.now) ≡ None) }
 {
     if !has_no_single_hyphen(words) {
         return Err(CommandFault::Usage);
     }
-    let matches = match matched(alloc, words) {
-        Ok(matches) => matches,
-        Err(fault) => return Err(fault),
-    };
+    let matches = matched(alloc, words)?;
     match matches.subcommand() {
-        Some((name, inner)) => {
-            if name == "run" {
-                run_in(alloc, inner)
-            } else {
-                Err(CommandFault::Usage)
-            }
-        }
-        None => Err(CommandFault::Usage),
+        Some(("run", inner)) => run_in(alloc, inner),
+        _ => Err(CommandFault::Usage),
     }
 }
 

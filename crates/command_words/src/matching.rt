@@ -24,9 +24,8 @@ pub fn matched<'a>(alloc: Global, words: &'a [&'a str]) -> Result<ArgMatches<'a>
     ensures ok { IfOk result (λ m. (said : Text × Said) × (command_said program_subs (map (λ w. w.now) words.now) ≡ Some said) × Enters (subcommand_rows_of m) said) }
     ensures usage { IfErr result (λ e. e ≡ Usage → command_said program_subs (map (λ w. w.now) words.now) ≡ None) }
 {
-    let command = match program(alloc) {
-        Ok(command) => command,
-        Err(_) => return Err(CommandFault::Memory),
+    let Ok(command) = program(alloc) else {
+        return Err(CommandFault::Memory);
     };
     match command.try_get_matches_from(words) {
         Ok(matches) => Ok(matches),

@@ -1,22 +1,22 @@
-// Command lines, and what they ask for, by hand.
+// Command lines, and what they ask for, by hand. A bar stands between two words.
 
 use crate::command::{Command, CommandFault, read_command};
+use block_model::NoMemory;
 use block_model::schema::Sizes;
 use block_model::words::Words;
-use std::alloc::AllocGlobal;
-use std::process::Abort;
+use std::alloc::Global;
 use std::test::Fail;
 
-/// The sizes where no option is given.
-const USUAL: Sizes = Sizes {
-    heap_blocks: 4096,
-    index_blocks: 1024,
-    status_blocks: 4,
-    log_pages: 128,
-    frames: 256,
-};
+/// The words between bars.
+fn words_of(alloc: Global, line: &str) -> Result<Words, NoMemory> {
+    let mut words = Words::new(alloc);
+    for word in line.split('|') {
+        words.push(word.as_bytes())?;
+    }
+    Ok(words)
+}
 
-/// The sizes with that many frames.
+/// The usual sizes, but that many frames.
 fn with_frames(frames: u32) -> Sizes {
     Sizes {
         heap_blocks: 4096,
@@ -27,290 +27,187 @@ fn with_frames(frames: u32) -> Sizes {
     }
 }
 
-/// The command that the words are, None where they are none.
-fn command_of<R: AllocGlobal>(rt: &R, words: &[&[u8]]) -> Result<Option<Command>, Fail> {
-    let mut line = Words::new(rt.alloc());
-    for word in words {
-        line.push(word)?;
+fn is_usage(alloc: Global, words: &Words) -> bool {
+    matches!(read_command(alloc, words), Err(CommandFault::Usage))
+}
+
+fn are_alike(words: &Words, others: &Words) -> bool {
+    if words.len() != others.len() {
+        return false;
     }
-    match read_command(rt.alloc(), &line) {
-        Ok(command) => Ok(Some(command)),
-        Err(CommandFault::Usage) => Ok(None),
-        Err(fault) => Err(Fail::from(fault)),
+    for at in 0..words.len() {
+        if at < others.len() && words.word(at) != others.word(at) {
+            return false;
+        }
+    }
+    true
+}
+
+/// The line is `run` with those sizes and declared words.
+fn is_run(alloc: Global, line: &str, wanted: Sizes, declared: &str) -> Result<bool, NoMemory> {
+    let words = words_of(alloc, line)?;
+    let declared = words_of(alloc, declared)?;
+    match read_command(alloc, &words) {
+        Ok(
+            Command::Run {
+                sizes,
+                declarations,
+            },
+        ) => Ok(sizes == wanted && are_alike(&declarations, &declared)),
+        Err(_) => Ok(false),
     }
 }
 
-/// The texts as words of bytes, with `run` before them.
-fn behind_run<'a, R: AllocGlobal>(rt: &R, texts: &[&'a str]) -> Result<Vec<&'a [u8]>, Fail> {
-    let mut words = Vec::new(rt.alloc());
-    words.push("run".as_bytes())?;
-    for text in texts {
-        words.push(text.as_bytes())?;
-    }
-    Ok(words)
-}
-
-/// `run` with these words has those sizes and declared words.
-fn asserts_run<R: Abort + AllocGlobal>(
-    rt: &R,
-    texts: &[&str],
-    wanted: Sizes,
-    declared: &[&str],
-) -> Result<(), Fail> {
-    let words = behind_run(rt, texts)?;
-    let Some(
-        Command::Run {
-            sizes,
-            declarations,
-        },
-    ) = command_of(rt, words.as_slice())?
-    else {
-        assert!(rt; false, "{texts:?} are no command");
-        return Ok(());
-    };
-    assert_eq!(rt; sizes, wanted, "{texts:?}");
-    assert_eq!(rt; declarations.len(), declared.len(), "{texts:?}");
-    for at in 0..declared.len() {
-        assert_eq!(rt; declarations.word(at), declared[at].as_bytes(), "{texts:?}");
+#[test]
+fn options_and_declared_words_are_read(rt: HostRuntime) -> Result<(), Fail> {
+    let alloc = rt.alloc();
+    let lines = [
+        ("run|t", 256, "t"),
+        ("run|u|t|v", 256, "u|t|v"),
+        (
+            "run|table t(a int8)|index i on t(a minmax)",
+            256,
+            "table t(a int8)|index i on t(a minmax)",
+        ),
+        ("run|run|help|16|a=b", 256, "run|help|16|a=b"),
+        ("run|", 256, ""),
+        ("run|t|", 256, "t|"),
+        ("run|é", 256, "é"),
+        ("run|--frames|16|t", 16, "t"),
+        ("run|--frames=16|t", 16, "t"),
+        ("run|t|--frames|16", 16, "t"),
+        ("run|t|--frames=16|u", 16, "t|u"),
+        ("run|t|--frames|16|u|v", 16, "t|u|v"),
+        ("run|--frames=0016|t", 16, "t"),
+        ("run|--frames=0|t", 0, "t"),
+        ("run|--frames=4294967294|t", 4294967294, "t"),
+        ("run|--frames=4294967295|t", 4294967295, "t"),
+        ("run|--frames|4294967296|t", 4294967295, "t"),
+        ("run|--frames|99999999999999999999999999|t", 4294967295, "t"),
+        (
+            "run|--frames|00000000000000000000000000000000000000000000000000000000000000016|t",
+            16,
+            "t",
+        ),
+        ("run|--|t|u", 256, "t|u"),
+        ("run|t|--|u", 256, "t|u"),
+        ("run|t|--", 256, "t"),
+        ("run|--frames=16|--|t", 16, "t"),
+        ("run|--|t|--", 256, "t|--"),
+        ("run|t|--|-x|-", 256, "t|-x|-"),
+        ("run|t|--|--frames=16", 256, "t|--frames=16"),
+        ("run|--|--frames|16", 256, "--frames|16"),
+    ];
+    for (line, frames, declared) in lines {
+        assert!(&rt;
+            is_run(alloc, line, with_frames(frames), declared)?,
+            "at {line}"
+        );
     }
     Ok(())
 }
 
-/// The words are no command.
-fn asserts_usage<R: Abort + AllocGlobal>(rt: &R, words: &[&[u8]]) -> Result<(), Fail> {
-    assert!(rt; command_of(rt, words)?.is_none(), "{words:?}");
-    Ok(())
-}
-
-/// `run` with these words is no command.
-fn asserts_no_run<R: Abort + AllocGlobal>(rt: &R, texts: &[&str]) -> Result<(), Fail> {
-    let words = behind_run(rt, texts)?;
-    asserts_usage(rt, words.as_slice())
-}
-
 #[test]
-fn declared_words_keep_their_order(rt: HostRuntime) -> Result<(), Fail> {
-    let rt = &rt;
-    asserts_run(rt, &["t"], USUAL, &["t"])?;
-    asserts_run(rt, &["u", "t", "v"], USUAL, &["u", "t", "v"])?;
-    asserts_run(
-        rt,
-        &[
-            "table t(a int8)",
-            "index i on t(a minmax) pages_per_range 2",
-        ],
-        USUAL,
-        &[
-            "table t(a int8)",
-            "index i on t(a minmax) pages_per_range 2",
-        ],
-    )?;
-    asserts_run(
-        rt,
-        &["run", "help", "16", "a=b"],
-        USUAL,
-        &["run", "help", "16", "a=b"],
-    )?;
-    asserts_run(rt, &["t", ""], USUAL, &["t", ""])?;
-    asserts_run(rt, &[""], USUAL, &[""])?;
-    asserts_run(rt, &["é"], USUAL, &["é"])
-}
-
-#[test]
-fn options_stand_anywhere(rt: HostRuntime) -> Result<(), Fail> {
-    let rt = &rt;
-    asserts_run(rt, &["--frames", "16", "t"], with_frames(16), &["t"])?;
-    asserts_run(rt, &["--frames=16", "t"], with_frames(16), &["t"])?;
-    asserts_run(rt, &["t", "--frames", "16"], with_frames(16), &["t"])?;
-    asserts_run(rt, &["t", "--frames=16", "u"], with_frames(16), &["t", "u"])?;
-    let all = Sizes {
+fn each_option_gives_its_size(rt: HostRuntime) -> Result<(), Fail> {
+    let alloc = rt.alloc();
+    let sizes = Sizes {
         heap_blocks: 1,
         index_blocks: 2,
         status_blocks: 3,
         log_pages: 4,
         frames: 5,
     };
-    asserts_run(
-        rt,
-        &[
-            "--frames=5",
-            "t",
-            "--log-pages",
-            "4",
-            "--status-blocks=3",
-            "u",
-            "--index-blocks",
-            "2",
-            "v",
-            "--heap-blocks=1",
-        ],
-        all,
-        &["t", "u", "v"],
-    )?;
-    asserts_run(
-        rt,
-        &[
-            "--heap-blocks",
-            "1",
-            "--index-blocks",
-            "2",
-            "--status-blocks",
-            "3",
-            "--log-pages",
-            "4",
-            "--frames",
-            "5",
-            "t",
-        ],
-        all,
-        &["t"],
-    )
+    let lines = [
+        "run|--heap-blocks|1|--index-blocks|2|--status-blocks|3|--log-pages|4|--frames|5|t|u",
+        "run|--frames=5|t|--log-pages|4|--status-blocks=3|u|--index-blocks|2|--heap-blocks=1",
+    ];
+    for line in lines {
+        assert!(&rt; is_run(alloc, line, sizes, "t|u")?, "at {line}");
+    }
+    Ok(())
 }
 
 #[test]
-fn the_value_of_a_number_counts(rt: HostRuntime) -> Result<(), Fail> {
-    let rt = &rt;
-    asserts_run(rt, &["--frames=0016", "t"], with_frames(16), &["t"])?;
-    asserts_run(rt, &["--frames=0", "t"], with_frames(0), &["t"])?;
-    asserts_run(
-        rt,
-        &["--frames=4294967294", "t"],
-        with_frames(4294967294),
-        &["t"],
-    )?;
-    asserts_run(
-        rt,
-        &["--frames=4294967295", "t"],
-        with_frames(4294967295),
-        &["t"],
-    )?;
-    asserts_run(
-        rt,
-        &["--frames", "4294967296", "t"],
-        with_frames(4294967295),
-        &["t"],
-    )?;
-    asserts_run(
-        rt,
-        &["--frames", "99999999999999999999999999", "t"],
-        with_frames(4294967295),
-        &["t"],
-    )?;
-    asserts_run(
-        rt,
-        &[
-            "--frames",
-            "0000000000000000000000000000000000000000000000000000000000000000000000000000000000000000000000000000000000000000000000000000000000000000000000000000000000000000000000000000000000000000000000000000000016",
-            "t",
-        ],
-        with_frames(16),
-        &["t"],
-    )
-}
-
-#[test]
-fn two_hyphens_end_the_options(rt: HostRuntime) -> Result<(), Fail> {
-    let rt = &rt;
-    asserts_run(rt, &["--", "t", "u"], USUAL, &["t", "u"])?;
-    asserts_run(rt, &["t", "--", "u"], USUAL, &["t", "u"])?;
-    asserts_run(rt, &["t", "--"], USUAL, &["t"])?;
-    asserts_run(rt, &["--frames=16", "--", "t"], with_frames(16), &["t"])?;
-    asserts_no_run(rt, &["--"])?;
-    asserts_no_run(rt, &["--", "t", "--"])?;
-    asserts_no_run(rt, &["t", "--", "-x"])?;
-    asserts_no_run(rt, &["t", "--", "--frames=16"])?;
-    asserts_no_run(rt, &["--", "--frames", "16", "t"])?;
-    asserts_no_run(rt, &["--frames", "--", "16", "t"])
-}
-
-#[test]
-fn values_are_numbers(rt: HostRuntime) -> Result<(), Fail> {
-    let rt = &rt;
-    asserts_no_run(rt, &["--frames=", "t"])?;
-    asserts_no_run(rt, &["--frames", "", "t"])?;
-    asserts_no_run(rt, &["--frames", "t"])?;
-    asserts_no_run(rt, &["t", "--frames"])?;
-    asserts_no_run(rt, &["--frames", "--log-pages", "16", "t"])?;
-    asserts_no_run(rt, &["--frames", "-16", "t"])?;
-    asserts_no_run(rt, &["--frames=-16", "t"])?;
-    asserts_no_run(rt, &["--frames", "-", "t"])?;
-    asserts_no_run(rt, &["--frames=+16", "t"])?;
-    asserts_no_run(rt, &["--frames==16", "t"])?;
-    asserts_no_run(rt, &["--frames=1=6", "t"])?;
-    asserts_no_run(rt, &["--frames=0x10", "t"])?;
-    asserts_no_run(rt, &["--frames= 16", "t"])?;
-    asserts_no_run(rt, &["--frames=16 ", "t"])?;
-    asserts_no_run(rt, &["--frames=1_6", "t"])?;
-    asserts_no_run(rt, &["--frames=１６", "t"])
-}
-
-#[test]
-fn an_option_stands_once(rt: HostRuntime) -> Result<(), Fail> {
-    let rt = &rt;
-    asserts_no_run(rt, &["--frames=16", "--frames=16", "t"])?;
-    asserts_no_run(rt, &["--frames", "16", "--frames", "17", "t"])?;
-    asserts_no_run(rt, &["--frames=16", "t", "--frames", "17"])?;
-    asserts_no_run(
-        rt,
-        &["--frames", "16", "--log-pages=16", "--frames=17", "t"],
-    )
-}
-
-#[test]
-fn options_have_their_names(rt: HostRuntime) -> Result<(), Fail> {
-    let rt = &rt;
-    asserts_no_run(rt, &["--frame", "16", "t"])?;
-    asserts_no_run(rt, &["--Frames=16", "t"])?;
-    asserts_no_run(rt, &["--fråmes=16", "t"])?;
-    asserts_no_run(rt, &["--seed=1", "t"])?;
-    asserts_no_run(rt, &["--DECL=1", "t"])?;
-    asserts_no_run(rt, &["--=16", "t"])?;
-    asserts_no_run(rt, &["---frames=16", "t"])?;
-    asserts_no_run(rt, &["-f", "16", "t"])?;
-    asserts_no_run(rt, &["-frames=16", "t"])?;
-    asserts_no_run(rt, &["-", "t"])?;
-    asserts_no_run(rt, &["t", "-1"])?;
-    asserts_no_run(rt, &["--help"])?;
-    asserts_no_run(rt, &["-h", "t"])?;
-    asserts_no_run(rt, &["--version", "t"])?;
-    asserts_no_run(rt, &["-V", "t"])
-}
-
-#[test]
-fn run_has_a_declared_word(rt: HostRuntime) -> Result<(), Fail> {
-    let rt = &rt;
-    asserts_no_run(rt, &[])?;
-    asserts_no_run(rt, &["--frames=16"])?;
-    asserts_no_run(rt, &["--frames", "16", "--"])
-}
-
-#[test]
-fn other_words_are_no_command(rt: HostRuntime) -> Result<(), Fail> {
-    let rt = &rt;
-    asserts_usage(rt, &[])?;
-    asserts_usage(rt, &[b""])?;
-    asserts_usage(rt, &[b"runn", b"t"])?;
-    asserts_usage(rt, &[b"ru", b"t"])?;
-    asserts_usage(rt, &[b"RUN", b"t"])?;
-    asserts_usage(rt, &[b"t", b"run"])?;
-    asserts_usage(rt, &[b"--", b"run", b"t"])?;
-    asserts_usage(rt, &[b"--frames=16", b"run", b"t"])?;
-    asserts_usage(rt, &[b"help"])?;
-    asserts_usage(rt, &[b"--help"])?;
-    asserts_usage(rt, &[b"-h"])?;
-    asserts_usage(rt, &[b"--version"])?;
-    asserts_usage(rt, &[b"-V"])?;
-    asserts_usage(rt, &[b"init", b"t"])?;
-    asserts_usage(rt, &[b"threads", b"t"])?;
-    asserts_usage(rt, &[b"demo", b"--seed", b"1", b"--rows", b"2"])
+fn other_words_are_usage(rt: HostRuntime) -> Result<(), Fail> {
+    let alloc = rt.alloc();
+    assert!(&rt; is_usage(alloc, &Words::new(alloc)));
+    let lines = [
+        // The command's word.
+        "",
+        "runn|t",
+        "ru|t",
+        "RUN|t",
+        "t|run",
+        "--|run|t",
+        "--frames=16|run|t",
+        "help",
+        "--help",
+        "-h",
+        "--version",
+        "-V",
+        "init|t",
+        "threads|t",
+        "demo|--seed|1|--rows|2",
+        // No declared word.
+        "run",
+        "run|--frames=16",
+        "run|--",
+        "run|--frames|16|--",
+        // A value that is no number.
+        "run|--frames=|t",
+        "run|--frames||t",
+        "run|--frames|t",
+        "run|t|--frames",
+        "run|--frames|--|16|t",
+        "run|--frames|--log-pages|16|t",
+        "run|--frames|-16|t",
+        "run|--frames=-16|t",
+        "run|--frames|-|t",
+        "run|--frames=+16|t",
+        "run|--frames==16|t",
+        "run|--frames=1=6|t",
+        "run|--frames=0x10|t",
+        "run|--frames= 16|t",
+        "run|--frames=16 |t",
+        "run|--frames=1_6|t",
+        "run|--frames=１６|t",
+        // An option that stands twice.
+        "run|--frames=16|--frames=16|t",
+        "run|--frames|16|--frames|17|t",
+        "run|--frames=16|t|--frames|17",
+        "run|--frames|16|--log-pages=16|--frames=17|t",
+        // No option.
+        "run|--frame|16|t",
+        "run|--Frames=16|t",
+        "run|--fråmes=16|t",
+        "run|--seed=1|t",
+        "run|--DECL=1|t",
+        "run|--=16|t",
+        "run|---frames=16|t",
+        "run|-f|16|t",
+        "run|-frames=16|t",
+        "run|-|t",
+        "run|t|-1",
+        "run|-x|--|t",
+        "run|--help|t",
+        "run|-h|t",
+        "run|--version|t",
+        "run|-V|t",
+    ];
+    for line in lines {
+        assert!(&rt; is_usage(alloc, &words_of(alloc, line)?), "at {line}");
+    }
+    Ok(())
 }
 
 #[test]
 fn words_are_utf8(rt: HostRuntime) -> Result<(), Fail> {
-    let rt = &rt;
-    asserts_usage(rt, &[b"\xff"])?;
-    asserts_usage(rt, &[b"run", b"t\xff"])?;
-    asserts_usage(rt, &[b"run", b"t", b"\xc3"])?;
-    asserts_usage(rt, &[b"run", b"-\xe0", b"t"])?;
-    asserts_usage(rt, &[b"run", b"--frames=1\xff", b"t"])
+    let alloc = rt.alloc();
+    let others: [&[u8]; 5] = [b"\xff", b"t\xff", b"\xc3", b"-\xe0", b"--frames=1\xff"];
+    for other in others {
+        let mut words = words_of(alloc, "run|t")?;
+        words.push(other)?;
+        assert!(&rt; is_usage(alloc, &words), "at {other:?}");
+    }
+    Ok(())
 }

@@ -21,10 +21,9 @@ pub fn texts_of(alloc: Global, words: &Words) -> Result<Vec<&str>, CommandFault>
             Ok(text) => text,
             Err(_) => return Err(CommandFault::Usage),
         };
-        match texts.push(text) {
-            Ok(()) => (),
-            Err(_) => return Err(CommandFault::Memory),
-        }
+        let Ok(()) = texts.push(text) else {
+            return Err(CommandFault::Memory);
+        };
     }
     Ok(texts)
 }

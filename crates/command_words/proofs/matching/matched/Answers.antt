@@ -10,5 +10,5 @@ returns-in-Ok-try_get_matches_from-clause-ok c =
 pub returns : goal.returns
 returns c = record {
   ok = tt;
-  usage = λ u. agreed_err _ _ c.in-Err-try_get_matches_from.error c.in-Ok.ensures c.requires c.in-Err-try_get_matches_from.ensures.kinds (λ h. c.in_default.not-OutOfMemory (c.kind.ensures ∙ h));
+  usage = λ u. agreed_err _ _ c.in-Err.error c.in-Ok.ensures c.requires c.in-Err.ensures.kinds (λ h. c.in_default-kind.not-OutOfMemory (c.kind.ensures ∙ h));
 }
