@@ -1,0 +1,10 @@
+pub mod RowLemmas
+pub mod TurnLemmas
+pub mod CommandLemmas
+pub mod JudgedLemmas
+pub mod MatchLemmas
+pub mod BuildLemmas
+pub mod NumberLemmas
+pub mod SizeLemmas
+pub mod TextLemmas
+pub mod LawLemmas

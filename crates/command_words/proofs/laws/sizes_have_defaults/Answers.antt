@@ -1,0 +1,5 @@
+use Rattle.command_words.proofs.LawLemmas.{defaults}
+use Rattle.command_words.proofs.laws.sizes_have_defaults.Goals as goal
+
+pub returns : goal.returns
+returns c = defaults

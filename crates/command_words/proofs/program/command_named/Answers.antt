@@ -1,0 +1,12 @@
+use Rattle.std.proofs.Common.{rules, ◌≡◌, ◌∙◌, ap₂, map, false}
+use Rattle.clap.specs.Words.{app_of, shape_of, rule_of}
+use Rattle.clap.specs.Simple.{with_rule}
+use Rattle.command_words.specs.ClapCommands.{raw_option, leaf_app}
+use Rattle.command_words.proofs.BuildLemmas.{app_more}
+use Rattle.command_words.proofs.program.command_named.Goals as goal
+
+pub options-preserved : goal.options-preserved
+options-preserved c = record {
+  app = c.in_ok-command.ensures.shape c.option_named.ensures.local ∙ ap₂ with_rule c.options.invariant.app c.option_named.ensures.rule ∙ app_more _ _ _ _ c.options-test.true;
+  local = search rules;
+}

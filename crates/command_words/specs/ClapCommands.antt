@@ -1,0 +1,85 @@
+-- the commands as clap is given them, and what it finds of them
+use Rattle.std.specs.Prelude.{◌≡◌, Bool, true, false, not, List, [], ◌∷◌, ◌++◌, codes, map, find, bytes_eq, Option, Some, None, option_map, option_and_then, if◌then◌else◌}
+use Rattle.std.specs.List.{list_all}
+use Rattle.clap.specs.Walk.{Rule, Row}
+use Rattle.clap.specs.Simple.{App, Shape, new_rule, new_shape}
+use Rattle.clap.specs.declared.builder.action.ArgAction.TheVariants.{Set, Append}
+use Rattle.command_words.specs.declared.command.Command.{Command}
+use Rattle.command_words.specs.CommandWords.{Text, Said, CommandForm, commands, form_named, nothing_read}
+use Rattle.command_words.specs.ClapReading.{clap_read, has_no_single_hyphen, numbers_given}
+use Rattle.command_words.specs.ClapRules.{declared_id, leaf, Shows}
+
+-- a command's word, and the names of its options
+abbrev pub Sub : Type 0
+Sub = Text × List Text
+
+abbrev pub program_subs : List Sub
+program_subs = map (λ (form : CommandForm). (form.word, form.options)) commands
+
+abbrev pub entry : Text → List Sub → Option Sub
+entry word subs = find (λ s. bytes_eq s.0 word) subs
+
+-- the command that the words name, with what they say
+abbrev pub command_said : List Sub → List Text → Option (Text × Said)
+command_said subs [] = None
+command_said subs (word ∷ words) =
+    option_and_then (λ s. option_map (λ said. (s.0, said)) (clap_read s.1 nothing_read words)) (entry word subs)
+
+-- ---- what clap is given
+
+abbrev pub raw_option : Text → Rule
+raw_option name = record (new_rule name) { long = Some name; action = Some Set }
+
+abbrev pub raw_declared : Rule
+raw_declared = record (new_rule declared_id) { action = Some Append }
+
+abbrev pub raw_rules : List Text → List Rule
+raw_rules names = map raw_option names ++ raw_declared ∷ []
+
+abbrev pub raw_leaf : Sub → Shape
+raw_leaf s = record (new_shape s.0) { rules = raw_rules s.1 }
+
+abbrev pub top : Text → Shape
+top name = record (new_shape name) {
+  is_leaf = false;
+  no_binary_name = true;
+  disable_help_flag = true;
+  disable_help_subcommand = true;
+  disable_version_flag = true;
+  subcommand_required = true;
+}
+
+abbrev pub raw_app : Text → List Sub → App
+raw_app name subs = record { top = top name; subs = map raw_leaf subs }
+
+abbrev pub no_commands : App
+no_commands = record { top = record (top (codes "brin")) { is_leaf = true }; subs = [] }
+
+-- a command with the rules so far
+abbrev pub leaf_app : Text → List Rule → App
+leaf_app name rules = record { top = record (new_shape name) { rules = rules }; subs = [] }
+
+-- ---- what clap makes of it
+
+abbrev pub leaf_of : Sub → Shape
+leaf_of s = leaf s.0 s.1
+
+abbrev pub built_app : Text → List Sub → App
+built_app name subs = record { top = record (top name) { is_built = true }; subs = map leaf_of subs }
+
+-- the command that was entered shows what was said
+abbrev pub Enters : Option (Text × List Row) → Text × Said → Type 0
+Enters entered said = (rows : List Row) × (entered ≡ Some (said.0, rows)) × Shows rows said.1
+
+-- ---- what is judged of it
+
+abbrev pub meaning_checked : CommandForm → Said → Option Command
+meaning_checked form said = if numbers_given form.options said.values then form.meaning said else None
+
+abbrev pub judged : Text → Said → Option Command
+judged name said = option_and_then (λ form. meaning_checked form said) (form_named name)
+
+-- the command that the words are, by clap's reading
+abbrev pub command_matched : List Text → Option Command
+command_matched words =
+    if has_no_single_hyphen words then option_and_then (λ p. judged p.0 p.1) (command_said program_subs words) else None

@@ -1,0 +1,55 @@
+-- what the words of `run` mean
+use Rattle.std.specs.Prelude.{◌≡◌, ℕ, Bool, true, false, List, [], ◌∷◌, ◌++◌, codes, bytes_eq, not, Some, None}
+use Rattle.std.specs.List.{All, list_all}
+use Rattle.std.specs.Str.{is_utf8}
+use Rattle.block_model.specs.declared.schema.Sizes.{Sizes}
+use Rattle.command_words.specs.declared.command.Command.TheVariants.{Run}
+use Rattle.command_words.specs.CommandWords.{Text, begins_with_hyphen, command_of, is_number, number_of, size_options}
+
+-- an option with its value, in one word or in two
+abbrev pub option_words : Bool → Text → Text → List Text
+option_words true name value = (codes "--" ++ name ++ codes "=" ++ value) ∷ []
+option_words false name value = (codes "--" ++ name) ∷ value ∷ []
+
+-- none of the words ends the options
+abbrev pub has_no_end : List Text → Bool
+has_no_end words = list_all (λ w. not (bytes_eq w (codes "--"))) words
+
+-- an option that stands twice is refused, whatever is said of it and around it
+abbrev pub OptionStandsOnce : Text → Type 0
+OptionStandsOnce name = (a b : Bool) (v w : Text) (before between after : List Text) → has_no_end before ≡ true → has_no_end between ≡ true
+    → command_of (codes "run" ∷ before ++ option_words a name v ++ between ++ option_words b name w ++ after) ≡ None
+
+abbrev pub OptionsStandOnce : Type 0
+OptionsStandOnce = All OptionStandsOnce size_options
+
+-- an option that stands in the words gives its size the number of its digits
+abbrev pub OptionHasItsNumber : Text × (Sizes → ℕ) → Type 0
+OptionHasItsNumber option = (a : Bool) (digits : Text) (before after : List Text) (sizes : Sizes) (declared : List Text) → has_no_end before ≡ true
+    → command_of (codes "run" ∷ before ++ option_words a option.0 digits ++ after) ≡ Some (Run sizes declared)
+    → (is_number digits ≡ true) × (option.1 sizes ≡ number_of digits)
+
+-- the options, each with the size that it gives
+abbrev pub sizes_by_option : List (Text × (Sizes → ℕ))
+sizes_by_option =
+    (codes "heap-blocks", λ s. s.heap_blocks)
+    ∷ (codes "index-blocks", λ s. s.index_blocks)
+    ∷ (codes "status-blocks", λ s. s.status_blocks)
+    ∷ (codes "log-pages", λ s. s.log_pages)
+    ∷ (codes "frames", λ s. s.frames)
+    ∷ []
+
+abbrev pub OptionsHaveTheirNumbers : Type 0
+OptionsHaveTheirNumbers = All OptionHasItsNumber sizes_by_option
+
+-- a further word without a hyphen is declared last, and changes nothing else
+abbrev pub FurtherWordIsDeclaredLast : Type 0
+FurtherWordIsDeclaredLast = (words : List Text) (word : Text) (sizes : Sizes) (declared : List Text)
+    → command_of words ≡ Some (Run sizes declared) → is_utf8 word ≡ true → begins_with_hyphen word ≡ false
+    → command_of (words ++ word ∷ []) ≡ Some (Run sizes (declared ++ word ∷ []))
+
+-- without options the sizes are the defaults
+abbrev pub SizesHaveDefaults : Type 0
+SizesHaveDefaults = (word : Text) → is_utf8 word ≡ true → begins_with_hyphen word ≡ false
+    → command_of (codes "run" ∷ word ∷ [])
+    ≡ Some (Run (record { heap_blocks = 4096; index_blocks = 1024; status_blocks = 4; log_pages = 128; frames = 256 }) (word ∷ []))

@@ -1,0 +1,76 @@
+// The command that words are.
+
+ghost use Rattle.std.specs.Prelude.{◌≡◌, IfOk, IfErr, codes, map, Some, None};
+ghost use Rattle.clap.specs.Words.{found_of, rows_of};
+ghost use Rattle.command_words.specs.ClapCommands.{command_matched, meaning_checked};
+ghost use Rattle.command_words.specs.ClapRules.{Shows};
+ghost use Rattle.command_words.specs.CommandWords.{Said, command_in, command_of, run_of, size_options};
+ghost use Rattle.command_words.specs.declared.command.CommandFault.TheVariants.{Usage};
+
+use crate::matching::{declared_in, matched, sizes_in};
+use crate::text::{has_no_single_hyphen, texts_of};
+use block_model::schema::Sizes;
+use block_model::words::Words;
+use clap::ArgMatches;
+use std::alloc::Global;
+
+/// What the words of a command line ask for.
+#[derive(Debug, Drop)]
+pub enum Command {
+    /// `run`: the sizes of a store, each the number of its option or its default, and the declared words in their order.
+    Run { sizes: Sizes, declarations: Words },
+}
+
+/// Why words aren't read as a command.
+#[derive(Clone, Copy, Debug, PartialEq, Eq)]
+pub enum CommandFault {
+    /// They are none.
+    Usage,
+    /// Memory ran out.
+    Memory,
+}
+
+/// The command that the words are. Usage comes exactly where they are none; want of memory is free.
+#[tactic(auto, using(crate::proofs::JudgedLemmas::command_alike))]
+pub fn read_command(alloc: Global, words: &Words) -> Result<Command, CommandFault>
+    ensures ok { IfOk result (λ command. command_of words.now ≡ Some command) }
+    ensures usage { IfErr result (λ fault. fault ≡ Usage → command_of words.now ≡ None) }
+{
+    let texts = texts_of(alloc, words)?;
+    read_texts(alloc, texts.as_slice())
+}
+
+/// The command that the texts are, by clap's matches.
+fn read_texts<'a>(alloc: Global, words: &'a [&'a str]) -> Result<Command, CommandFault>
+    ensures ok { IfOk result (λ command. command_matched (map (λ w. w.now) words.now) ≡ Some command) }
+    ensures usage { IfErr result (λ fault. fault ≡ Usage → command_matched (map (λ w. w.now) words.now) ≡ None) }
+{
+    if !has_no_single_hyphen(words) {
+        return Err(CommandFault::Usage);
+    }
+    let matches = matched(alloc, words)?;
+    match matches.subcommand() {
+        Some(("run", inner)) => run_in(alloc, inner),
+        _ => Err(CommandFault::Usage),
+    }
+}
+
+/// The matches of `run`, read.
+fn run_in(alloc: Global, matches: &ArgMatches<'_>) -> Result<Command, CommandFault>
+    ensures ok { IfOk result (λ command. (said : Said) → Shows (rows_of (found_of matches.now)) said → meaning_checked (record { word = codes "run"; options = size_options; meaning = run_of }) said ≡ Some command) }
+    ensures usage { IfErr result (λ fault. fault ≡ Usage → (said : Said) → Shows (rows_of (found_of matches.now)) said → meaning_checked (record { word = codes "run"; options = size_options; meaning = run_of }) said ≡ None) }
+{
+    let Some(sizes) = sizes_in(matches) else {
+        return Err(CommandFault::Usage);
+    };
+    let Ok(declarations) = declared_in(alloc, matches) else {
+        return Err(CommandFault::Memory);
+    };
+    if declarations.len() == 0 {
+        return Err(CommandFault::Usage);
+    }
+    Ok(Command::Run {
+        sizes,
+        declarations,
+    })
+}
