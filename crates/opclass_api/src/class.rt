@@ -1,6 +1,6 @@
 // The trait of operator classes.
 
-ghost use Rattle.std.specs.Prelude.{◌≡◌, ◌≢◌, ◌≤◌, ◌++◌, ◌⊎◌, ℕ, Bool, true, false, List, [], length, drop, OnOk, OnErr, IfOk, IsOk};
+ghost use Rattle.std.specs.Prelude.{◌≡◌, ◌≢◌, ◌<◌, ◌≤◌, ◌++◌, ◌⊎◌, ℕ, Bool, true, false, List, [], length, drop, OnOk, OnErr, IfOk, IsOk};
 ghost use Rattle.block_model.specs.declared.value.Value.{Value};
 ghost use Rattle.block_model.specs.declared.row.Cond.{Cond};
 ghost use Rattle.opclass_api.specs.Conditions.{AllCompare, meets_all, has_null_key};
@@ -55,7 +55,8 @@ pub trait OpClass {
     fn empty(&self, alloc: Global) -> Result<Self::Summary, NoMemory>
         ensures { IfOk result (λ s. (s ≡ empty self.now) × is_of self.now s) };
 
-    /// Widens a summary so that it includes a value; answers whether it changed.
+    /// Widens a summary so that it includes a value; answers whether it changed. A summary to which a value was added has
+    /// bytes, so that none with no bytes hides one.
     fn add(&self, s: &mut Self::Summary, v: &Value) -> bool
         requires of_class { is_of self.now s.old }
         requires of_kind { takes self.now v.now }
@@ -63,6 +64,7 @@ pub trait OpClass {
         ensures stays_of_class { is_of self.now s.new }
         ensures includes_the_value { includes self.now s.new v.now }
         ensures keeps_what_it_included { (w : Value) → includes self.now s.old w → includes self.now s.new w }
+        ensures has_bytes { 0 < length (bytes_of self.now s.new) }
         ensures same { result ≡ false → s.new ≡ s.old }
         ensures changed { result ≡ true → s.new ≢ s.old };
 
@@ -74,6 +76,7 @@ pub trait OpClass {
         ensures stays_of_class { is_of self.now s.new }
         ensures keeps_what_it_included { (w : Value) → includes self.now s.old w → includes self.now s.new w }
         ensures includes_the_others { (w : Value) → includes self.now other.now w → includes self.now s.new w }
+        ensures has_bytes { 0 < length (bytes_of self.now other.now) → 0 < length (bytes_of self.now s.new) }
         ensures same { result ≡ false → s.new ≡ s.old }
         ensures changed { result ≡ true → s.new ≢ s.old };
 

@@ -1,27 +1,19 @@
 -- a summary that is asked misses no value that it includes
-use Rattle.std.proofs.Common.{◌≡◌, ℤ, Bool, true, false, ◌&&◌, ◌==◌, List, get_or, true≢false, refl, sym, ap, ◌∙◌, subst, arith, eqb-true, int_eq}
-use Rattle.std.specs.List.{AllPass}
-use Rattle.std.proofs.lemmas.Bool.{and_parts, false_from_ne_true}
-use Rattle.std.proofs.lemmas.List.Folds.{Any-from_list_any, list_all_at}
-use Rattle.std.proofs.lemmas.List.Sums.{AllPass-from_list_all, list_all-from_AllPass}
+use Rattle.std.proofs.Common.{◌≡◌, ℤ, Bool, true, false, ◌&&◌, ◌==◌, List, refl, sym, ap, ◌∙◌, subst, arith, eqb-true, int_eq}
+use Rattle.std.proofs.lemmas.Bool.{and_parts}
 use Rattle.std.proofs.lemmas.Int.{ints}
 use Rattle.block_model.specs.declared.value.Value.{Value}
 use Rattle.block_model.specs.declared.value.Value.TheVariants.{Null, Int, Span, Net}
 use Rattle.block_model.specs.declared.value.Op.{Op}
-use Rattle.block_model.specs.declared.value.Op.TheVariants.{Eq, IsNull, NotNull}
+use Rattle.block_model.specs.declared.value.Op.TheVariants.{Eq}
 use Rattle.block_model.specs.declared.row.Cond.{Cond}
-use Rattle.block_model.specs.Matches.{value_matches, kind_matches, number_matches, network_matches}
+use Rattle.block_model.specs.Matches.{kind_matches, number_matches, network_matches}
 use Rattle.block_model.specs.Networks.{Network}
 use Rattle.opclass_api.specs.Conditions.{compares, AllCompare, meets, meets_all, has_null_key, is_null}
+use Rattle.opclass_api.proofs.Asking as Asked
 use Rattle.opclass_bloom.specs.Consistent.{consistent, key_holds, operator_holds, equal_holds}
 use Rattle.opclass_bloom.specs.Includes.{Includes, has_all}
 use Rattle.opclass_bloom.specs.Parameters.{Parameters}
-
--- an operator that compares is that of the kind
-by_kind : (v : Value) (op : Op) (key : Value) → compares op ≡ true → value_matches v op key ≡ kind_matches v op key
-by_kind v IsNull key c = cc
-by_kind v NotNull key c = cc
-by_kind v op key c = refl
 
 -- each operator holds where `=` does
 unless_equal : (p : Parameters) (s : List Bool) (op : Op) (key : Value) → (op ≡ Eq → equal_holds p s key ≡ true) → operator_holds p s op key ≡ true
@@ -62,18 +54,14 @@ key_kept p s Null op key included m = absurd included.0
 key_kept p s (Span v) op key included m = absurd included.0
 
 kept : (p : Parameters) (s : List Bool) (v : Value) (cond : Cond) → Includes p s v → compares cond.op ≡ true → meets v cond ≡ true → key_holds p s cond.op cond.key ≡ true
-kept p s (Int v) cond included c m = key_kept p s (Int v) cond.op cond.key included (sym (by_kind (Int v) cond.op cond.key c) ∙ m)
-kept p s (Net v) cond included c m = key_kept p s (Net v) cond.op cond.key included (sym (by_kind (Net v) cond.op cond.key c) ∙ m)
+kept p s (Int v) cond included c m = key_kept p s (Int v) cond.op cond.key included (sym (Asked.by_kind (Int v) cond.op cond.key c) ∙ m)
+kept p s (Net v) cond included c m = key_kept p s (Net v) cond.op cond.key included (sym (Asked.by_kind (Net v) cond.op cond.key c) ∙ m)
 kept p s Null cond included c m = absurd included.0
 kept p s (Span v) cond included c m = absurd included.0
 
 pub misses_none : (p : Parameters) (s : List Bool) (conds : List Cond) (v : Value) → AllCompare conds → consistent p s conds ≡ false → Includes p s v → meets_all conds v ≡ false
 misses_none p s conds v all none included =
-    let holds : Cond → Bool = λ c. key_holds p s c.op c.key in
-    false_from_ne_true (meets_all conds v)
-    (λ met.
-    let each : AllPass holds conds = λ k d within. kept p s v (get_or conds k d) included (AllPass-from_list_all (λ c. compares c.op) conds all k d within) (AllPass-from_list_all (meets v) conds met k d within) in
-    true≢false (sym (list_all-from_AllPass holds conds each) ∙ none))
+    Asked.misses_none (λ c. key_holds p s c.op c.key) conds v (λ cond c m. kept p s v cond included c m) all none
 
 key_null : (p : Parameters) (s : List Bool) (op : Op) (key : Value) → is_null key ≡ true → key_holds p s op key ≡ false
 key_null p s op Null null = refl
@@ -84,7 +72,4 @@ key_null p s op (Net k) null = cc
 -- a null key holds nothing
 pub null_holds_nothing : (p : Parameters) (s : List Bool) (conds : List Cond) → has_null_key conds ≡ true → consistent p s conds ≡ false
 null_holds_nothing p s conds some =
-    let any = Any-from_list_any (λ (c : Cond). is_null c.key) conds some in
-    let cond = any.1 in
-    let holds : Cond → Bool = λ c. key_holds p s c.op c.key in
-    list_all_at holds conds any.0 cond any.2 (ap holds any.3 ∙ key_null p s cond.op cond.key any.4)
+    Asked.null_fails (λ c. key_holds p s c.op c.key) conds (λ c null. key_null p s c.op c.key null) some

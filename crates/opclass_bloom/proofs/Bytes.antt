@@ -1,5 +1,5 @@
 -- bytes as bits, and bits as bytes
-use Rattle.std.proofs.Common.{◌≡◌, ℕ, zero, suc, ◌+◌, ◌-◌, ◌*◌, ◌/◌, ◌%◌, ◌^◌, ◌<◌, max, Bool, true, false, ◌||◌, ◌==◌, List, [], ◌∷◌, ◌++◌, length, get_or, set, replicate, bit_or, refl, sym, ap, ◌∙◌, arith, w8, Fits, inl, inr, true≢false, length-set, pow-suc, get_or-set_same, get_or-set_other, ext_get_or}
+use Rattle.std.proofs.Common.{◌≡◌, ℕ, zero, suc, ◌+◌, ◌-◌, ◌*◌, ◌/◌, ◌%◌, ◌^◌, ◌<◌, ◌≤◌, max, Bool, true, false, ◌||◌, ◌==◌, List, [], ◌∷◌, ◌++◌, length, get_or, set, replicate, bit_or, refl, sym, ap, ◌∙◌, arith, w8, Fits, inl, inr, true≢false, length-set, pow-suc, get_or-set_same, get_or-set_other, ext_get_or}
 use Rattle.std.specs.Int.{bit_at}
 use Rattle.std.proofs.lemmas.Bool.{cases_eq}
 use Rattle.std.proofs.lemmas.List.{get_or_append_left, get_or-append_right, set-append_left, set-append_right, replicate-append-replicate}
@@ -141,3 +141,8 @@ bits_of_zeros zero = refl
 bits_of_zeros (suc n) =
     let size : 8 + 8 * n ≡ 8 * suc n = omega arith in
     ap (λ (s : List Bool). replicate 8 false ++ s) (bits_of_zeros n) ∙ replicate-append-replicate 8 (8 * n) false ∙ ap (λ (m : ℕ). replicate m false) size
+
+-- eight positions are a byte
+pub bytes_there : (s : List Bool) → 8 ≤ length s → 0 < length (bytes_of s)
+bytes_there (b0 ∷ b1 ∷ b2 ∷ b3 ∷ b4 ∷ b5 ∷ b6 ∷ b7 ∷ s) long = omega arith
+bytes_there s long = absurd (omega (arith, long))

@@ -5,8 +5,9 @@ use Rattle.std.proofs.Math.Bool.{or_assoc, or-false}
 use Rattle.std.proofs.lemmas.List.{length-replicate, get_or-replicate}
 use Rattle.std.proofs.lemmas.List.Folds.{list_any-append, list_any_at, Any-from_list_any}
 use Rattle.block_model.specs.declared.value.Value.{Value}
+use Rattle.opclass_api.specs.SameValues.{HaveSameValues}
 use Rattle.opclass_bloom.specs.Bits.{is_set, nothing_set, with_value, united}
-use Rattle.opclass_bloom.specs.ExactSummary.{ExactSummary, HaveSameValues, has_position}
+use Rattle.opclass_bloom.specs.ExactSummary.{ExactSummary, has_position}
 use Rattle.opclass_bloom.specs.Parameters.{Parameters}
 use Rattle.opclass_bloom.specs.Positions.{positions}
 use Rattle.opclass_bloom.proofs.Setting.{only_these_set, length-with_value, either_set, length-united}

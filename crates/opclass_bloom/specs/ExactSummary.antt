@@ -1,5 +1,5 @@
 -- the exact summary of a list of values, whatever their order
-use Rattle.std.specs.Prelude.{◌≡◌, ℕ, ◌<◌, ◌==◌, Bool, List, Contains}
+use Rattle.std.specs.Prelude.{◌≡◌, ℕ, ◌<◌, ◌==◌, Bool, List}
 use Rattle.std.specs.List.{list_any}
 use Rattle.block_model.specs.declared.value.Value.{Value}
 use Rattle.opclass_bloom.specs.Bits.{IsSummary, is_set}
@@ -14,8 +14,3 @@ has_position p q v = list_any (λ r. r == q) (positions p v)
 pub record ExactSummary (p : Parameters) (values : List Value) (s : List Bool) : Type 0 where
   pub of_class : IsSummary p s
   pub exact : (q : ℕ) → q < p.bits → is_set s q ≡ list_any (has_position p q) values
-
--- the same values in any order, however often each
-pub record HaveSameValues (values others : List Value) : Type 0 where
-  pub all_there : (v : Value) → Contains values v → Contains others v
-  pub no_more : (v : Value) → Contains others v → Contains values v

@@ -155,6 +155,7 @@ impl OpClass for Bloom {
     }
 
     fn add(&self, s: &mut Summary, v: &Value) -> bool {
+        self.known();
         let Some(hash) = hash(v) else {
             return false;
         };
@@ -166,6 +167,7 @@ impl OpClass for Bloom {
     }
 
     fn union(&self, s: &mut Summary, other: &Summary) -> bool {
+        self.known();
         s.unite(other)
     }
 

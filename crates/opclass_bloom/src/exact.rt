@@ -2,8 +2,9 @@
 
 ghost use Rattle.std.specs.Prelude.{◌≡◌, ℕ, ◌<◌, ◌||◌, ◌++◌, Bool, All, List, fold, IfOk};
 ghost use Rattle.block_model.specs.declared.value.Value.{Value};
+ghost use Rattle.opclass_api.specs.SameValues.{HaveSameValues};
 ghost use Rattle.opclass_bloom.specs.Bits.{IsSummary, nothing_set, is_set, with_value, united};
-ghost use Rattle.opclass_bloom.specs.ExactSummary.{ExactSummary, HaveSameValues, has_position};
+ghost use Rattle.opclass_bloom.specs.ExactSummary.{ExactSummary, has_position};
 ghost use Rattle.opclass_bloom.specs.Includes.{HasWords};
 ghost use Rattle.opclass_bloom.specs.Parameters.{Parameters};
 

@@ -1,12 +1,12 @@
 -- a summary of networks that is asked misses no address that it includes
-use Rattle.std.proofs.Common.{◌≡◌, ◌≤◌, Bool, true, false, ◌&&◌, List, refl, sym, ◌∙◌, subst, inl, inr, arith}
+use Rattle.std.proofs.Common.{◌≡◌, ◌≤◌, true, false, ◌&&◌, List, refl, sym, ◌∙◌, subst, inl, inr, arith}
 use Rattle.std.specs.Prelude.{◌==◌, ◌⊎◌, nat_lt}
 use Rattle.std.proofs.lemmas.Bool.{cases_lt, false≢true, and_parts, or_cases, or_left, or_right}
 use Rattle.block_model.specs.declared.row.Cond.{Cond}
 use Rattle.block_model.specs.declared.value.Value.{Value}
 use Rattle.block_model.specs.declared.value.Value.TheVariants.{Null, Int, Span, Net}
 use Rattle.block_model.specs.declared.value.Op.{Op}
-use Rattle.block_model.specs.declared.value.Op.TheVariants.{Eq, Overlaps, Before, After, WithinEq, ContainsEq, IsNull, NotNull}
+use Rattle.block_model.specs.declared.value.Op.TheVariants.{Eq, Overlaps, Before, After, WithinEq, ContainsEq}
 use Rattle.block_model.specs.Matches.{is_within, matches, kind_matches, network_matches}
 use Rattle.block_model.specs.Networks.{Network}
 use Rattle.opclass_api.specs.Conditions.{compares, has_null_key, is_null}
@@ -15,7 +15,7 @@ use Rattle.opclass_inclusion.specs.NetIncludes.{Includes, IsIn, IsNet}
 use Rattle.opclass_inclusion.specs.declared.net_summary.NetSummary.{NetSummary}
 use Rattle.opclass_inclusion.specs.declared.net_summary.NetSummary.TheVariants.{NothingYet, Unmergeable, Hull}
 use Rattle.opclass_inclusion.proofs.NetBits.{Within, equal, fewer_bits, parts, whole, within_further}
-use Rattle.opclass_inclusion.proofs.ValueLists.{null_fails}
+use Rattle.opclass_api.proofs.Asking.{by_kind, fails, null_fails}
 
 -- of two networks that an address is in, one is in the other
 shorter_holds : (v a b : Network) → Within v a → Within v b → b.prefix ≤ a.prefix → is_within a b ≡ true
@@ -60,19 +60,9 @@ key_kept u v op Null within m = m
 key_kept u v op (Int k) within m = m
 key_kept u v op (Span k) within m = m
 
--- an operator that compares is that of the kind
-by_kind : (v : Network) (op : Op) (key : Value) → compares op ≡ true → matches (Net v) op key ≡ kind_matches (Net v) op key
-by_kind v IsNull key c = absurd (false≢true c)
-by_kind v NotNull key c = absurd (false≢true c)
-by_kind v op key c = refl
-
-fails : (b h : Bool) → h ≡ false → (b ≡ true → h ≡ true) → b ≡ false
-fails false h none there = refl
-fails true h none there = absurd (false≢true (sym none ∙ there refl))
-
 -- where a key holds nothing, no value that is included meets it
 pub misses_none : (u : Network) (op : Op) (key : Value) → key_holds u op key ≡ false → compares op ≡ true → (v : Value) → IsIn u v → matches v op key ≡ false
-misses_none u op key none c (Net v) within = fails (matches (Net v) op key) (key_holds u op key) none (λ m. key_kept u v op key within (sym (by_kind v op key c) ∙ m))
+misses_none u op key none c (Net v) within = fails (matches (Net v) op key) (key_holds u op key) none (λ m. key_kept u v op key within (sym (by_kind (Net v) op key c) ∙ m))
 misses_none u op key none c Null within = absurd within
 misses_none u op key none c (Int n) within = absurd within
 misses_none u op key none c (Span r) within = absurd within

@@ -1,12 +1,12 @@
 -- addresses added one by one give the smallest network that each is in, whatever the order
-use Rattle.std.proofs.Common.{◌≡◌, ℕ, suc, Bool, true, false, List, [], ◌∷◌, ◌++◌, fold, All, Contains, refl, sym, subst, arith, append_assoc, ◌∙◌}
+use Rattle.std.proofs.Common.{◌≡◌, ℕ, suc, Bool, true, false, List, [], ◌∷◌, ◌++◌, fold, All, Contains, refl, sym, arith, append_assoc, ◌∙◌}
 use Rattle.std.specs.Prelude.{◌==◌, if◌then◌else◌}
 use Rattle.std.proofs.lemmas.List.{append-nil}
 use Rattle.std.proofs.lemmas.List.Elements.{All-nil, All-cons, All-weaker, All-head, All-tail, All-contains, All-append, Contains-append_left, Contains-append_right}
 use Rattle.block_model.specs.declared.value.Value.{Value}
 use Rattle.block_model.specs.declared.value.Value.TheVariants.{Null, Int, Span, Net}
 use Rattle.block_model.specs.Networks.{Network, IsNetwork}
-use Rattle.opclass_inclusion.specs.SameValues.{HaveSameValues}
+use Rattle.opclass_api.specs.SameValues.{HaveSameValues}
 use Rattle.opclass_inclusion.specs.NetExact.{ExactSummary, HaveTwoFamilies, IsAddress, IsSmallestNetwork}
 use Rattle.opclass_inclusion.specs.NetHulls.{IsSummary, common_prefix, merged, network_with, of_network, united, with_value}
 use Rattle.opclass_inclusion.specs.NetIncludes.{IsIn}
@@ -14,7 +14,8 @@ use Rattle.opclass_inclusion.specs.declared.net_summary.NetSummary.{NetSummary}
 use Rattle.opclass_inclusion.specs.declared.net_summary.NetSummary.TheVariants.{NothingYet, Unmergeable, Hull}
 use Rattle.opclass_inclusion.proofs.NetBits.{also_within_merged, equal, merged_within, network_within, no_host_with, one_network, parts, within_further, within_its_network, within_merged}
 use Rattle.opclass_inclusion.proofs.NetHullLaws.{hull_with, in_wider, none_agree, union_lawful}
-use Rattle.opclass_inclusion.proofs.ValueLists.{all_back, all_first, all_same, all_second, empty_lacks}
+use Rattle.opclass_api.proofs.ValueLists.{all_back, all_same, none_has, none_same}
+use Rattle.opclass_inclusion.proofs.ValueLists.{all_first, all_second}
 
 -- ---- two families
 
@@ -131,9 +132,6 @@ no_two values u all two =
     let other = parts two.other u (All-contains (IsIn u) values (Net two.other) all two.has_other) in
     two.apart (one.family ∙ sym other.family)
 
-none_has : (values : List Value) (v : Value) → values ≡ [] → Contains values v → ⊥
-none_has values v none there = empty_lacks v (subst (λ (xs : List Value). Contains xs v) none there)
-
 pub one_exact : (values : List Value) (s t : NetSummary) → ExactSummary values s → ExactSummary values t → t ≡ s
 one_exact values NothingYet NothingYet first second = refl
 one_exact values NothingYet Unmergeable first second = absurd (none_has values (Net second.one) first second.has_one)
@@ -146,10 +144,6 @@ one_exact values (Hull a) Unmergeable first second = absurd (no_two values a fir
 one_exact values (Hull a) (Hull b) first second =
     let same = one_network b a second.no_host first.no_host (second.smallest a first.holds_each) (first.smallest b second.holds_each) in
     λ i. Hull (same i)
-
-none_same : (values others : List Value) → HaveSameValues values others → values ≡ [] → others ≡ []
-none_same values [] same none = refl
-none_same values (v ∷ others) same none = absurd (none_has values v none (same.no_more v (0, omega arith, refl)))
 
 -- the exact summary of the same values
 exact_same : (values others : List Value) (s : NetSummary) → HaveSameValues values others → ExactSummary values s → ExactSummary others s

@@ -5,15 +5,15 @@ use Rattle.std.proofs.lemmas.Int.{ints}
 use Rattle.block_model.specs.declared.value.Value.{Value}
 use Rattle.block_model.specs.declared.value.Value.TheVariants.{Null, Int, Span, Net}
 use Rattle.block_model.specs.declared.value.Op.{Op}
-use Rattle.block_model.specs.declared.value.Op.TheVariants.{Eq, Overlaps, Contains, Within, Before, After, NotAfter, NotBefore, Adjacent, IsNull, NotNull}
+use Rattle.block_model.specs.declared.value.Op.TheVariants.{Eq, Overlaps, Contains, Within, Before, After, NotAfter, NotBefore, Adjacent}
 use Rattle.block_model.specs.declared.row.Cond.{Cond}
-use Rattle.block_model.specs.Matches.{matches, kind_matches, range_matches, bounds_match}
+use Rattle.block_model.specs.Matches.{matches, range_matches, bounds_match}
 use Rattle.block_model.specs.Ranges.{Range, Empty, Between, IsRange, leaves_room, starts_first, ends_last, same_bound, meets_before, touches}
 use Rattle.opclass_api.specs.Conditions.{compares, has_null_key, is_null}
 use Rattle.opclass_inclusion.specs.SpanConsistent.{condition_holds, consistent, ends_after, hull_holds, key_holds, range_key_holds, starts_before}
 use Rattle.opclass_inclusion.specs.SpanIncludes.{IncludesRange, Includes}
 use Rattle.opclass_inclusion.specs.declared.span_summary.SpanSummary.{SpanSummary}
-use Rattle.opclass_inclusion.proofs.ValueLists.{null_fails}
+use Rattle.opclass_api.proofs.Asking.{by_kind, fails, null_fails}
 use Rattle.opclass_inclusion.proofs.SpanHullLaws.{lower_further, upper_further}
 
 -- ---- bounds
@@ -149,19 +149,9 @@ range_kept e (Between ul uh) (Between vl vh) op (Between kl kh) within is m =
     let p : (starts_first ul vl ≡ true) × (ends_last uh vh ≡ true) = and_parts _ _ within.1 in
     bounded_kept e ul uh vl vh op kl kh (record { room = within.0; lower = p.0; upper = p.1 }) is m
 
--- an operator that compares is that of the kind
-by_kind : (v : Range) (op : Op) (key : Value) → compares op ≡ true → matches (Span v) op key ≡ kind_matches (Span v) op key
-by_kind v IsNull key c = absurd (false≢true c)
-by_kind v NotNull key c = absurd (false≢true c)
-by_kind v op key c = refl
-
-fails : (b h : Bool) → h ≡ false → (b ≡ true → h ≡ true) → b ≡ false
-fails false h none there = refl
-fails true h none there = absurd (false≢true (sym none ∙ there refl))
-
 -- where a key holds nothing, no value that is included meets it
 pub misses_none : (s : SpanSummary) (op : Op) (k : Range) → IsRange k → range_key_holds s.empty_added s.hull op k ≡ false → compares op ≡ true → (v : Value) → Includes s v → matches v op (Span k) ≡ false
-misses_none s op k is none c (Span v) within = fails (matches (Span v) op (Span k)) (range_key_holds s.empty_added s.hull op k) none (λ m. range_kept s.empty_added s.hull v op k within is (sym (by_kind v op (Span k) c) ∙ m))
+misses_none s op k is none c (Span v) within = fails (matches (Span v) op (Span k)) (range_key_holds s.empty_added s.hull op k) none (λ m. range_kept s.empty_added s.hull v op k within is (sym (by_kind (Span v) op (Span k) c) ∙ m))
 misses_none s op k is none c Null within = absurd within
 misses_none s op k is none c (Int n) within = absurd within
 misses_none s op k is none c (Net n) within = absurd within

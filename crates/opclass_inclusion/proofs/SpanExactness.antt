@@ -8,12 +8,13 @@ use Rattle.std.proofs.lemmas.Int.{ints}
 use Rattle.block_model.specs.declared.value.Value.{Value}
 use Rattle.block_model.specs.declared.value.Value.TheVariants.{Null, Int, Span, Net}
 use Rattle.block_model.specs.Ranges.{Range, Empty, Between, starts_first, ends_last}
-use Rattle.opclass_inclusion.specs.SameValues.{HaveSameValues}
+use Rattle.opclass_api.specs.SameValues.{HaveSameValues}
 use Rattle.opclass_inclusion.specs.SpanExact.{ExactSummary, HoldsRange, HoldsValue}
 use Rattle.opclass_inclusion.specs.SpanHulls.{hull_of, is_empty, no_range, of_range, united, with_value}
 use Rattle.opclass_inclusion.specs.SpanIncludes.{IsSpan}
 use Rattle.opclass_inclusion.specs.declared.span_summary.SpanSummary.{SpanSummary}
-use Rattle.opclass_inclusion.proofs.ValueLists.{all_back, all_first, all_same, all_second, empty_lacks}
+use Rattle.opclass_api.proofs.ValueLists.{all_back, all_same, empty_lacks}
+use Rattle.opclass_inclusion.proofs.ValueLists.{all_first, all_second}
 use Rattle.opclass_inclusion.proofs.SpanHullLaws.{holds_further, holds_itself, hull_holds_first, hull_holds_second, hull_is_smallest}
 
 -- a range that contains another contains each value that the other does

@@ -4,7 +4,6 @@ pub mod NetExact
 pub mod NetFaults
 pub mod NetHulls
 pub mod NetIncludes
-pub mod SameValues
 pub mod SpanConsistent
 pub mod SpanEncoding
 pub mod SpanExact

@@ -3,7 +3,7 @@
 ghost use Rattle.std.specs.Prelude.{◌≡◌, ◌++◌, All, List};
 ghost use Rattle.block_model.specs.declared.value.Value.{Value};
 ghost use Rattle.opclass_inclusion.specs.SpanExact.{ExactSummary, summary_of};
-ghost use Rattle.opclass_inclusion.specs.SameValues.{HaveSameValues};
+ghost use Rattle.opclass_api.specs.SameValues.{HaveSameValues};
 ghost use Rattle.opclass_inclusion.specs.SpanHulls.{IsSummary, united};
 ghost use Rattle.opclass_inclusion.specs.SpanIncludes.{Includes, IsSpan};
 

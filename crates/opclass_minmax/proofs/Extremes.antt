@@ -1,7 +1,7 @@
 -- values added one by one give their least and greatest, whatever the order
-use Rattle.std.proofs.Common.{◌≡◌, ℤ, Bool, true, false, cond, List, [], ◌∷◌, ◌++◌, fold, All, Contains, refl, subst, arith, append_assoc}
+use Rattle.std.proofs.Common.{◌≡◌, ℤ, Bool, true, false, cond, List, [], ◌∷◌, ◌++◌, fold, All, Contains, refl, arith, append_assoc}
 use Rattle.std.proofs.lemmas.List.{append-nil}
-use Rattle.std.proofs.lemmas.List.Elements.{All-nil, All-cons, All-weaker, All-head, All-tail, All-contains, All-contains_itself, All-append, Contains-append_left, Contains-append_right}
+use Rattle.std.proofs.lemmas.List.Elements.{All-nil, All-cons, All-weaker, All-head, All-tail, All-contains, All-append, Contains-append_left, Contains-append_right}
 use Rattle.std.proofs.lemmas.Int.{ints, clamps}
 use Rattle.std.specs.Prelude.{int_lt}
 use Rattle.std.specs.Int.{int_min, int_max}
@@ -9,7 +9,9 @@ use Rattle.block_model.specs.declared.value.Value.{Value}
 use Rattle.block_model.specs.declared.value.Value.TheVariants.{Null, Int, Span, Net}
 use Rattle.opclass_minmax.specs.Bounds.{Bounds, NothingYet, Between, with_value, united}
 use Rattle.opclass_minmax.specs.Includes.{IsInt, IsWithin, Includes}
-use Rattle.opclass_minmax.specs.ExactSummary.{ExactSummary, HaveSameValues}
+use Rattle.opclass_api.specs.SameValues.{HaveSameValues}
+use Rattle.opclass_api.proofs.ValueLists.{all_same, none_has, none_same}
+use Rattle.opclass_minmax.specs.ExactSummary.{ExactSummary}
 
 chosen_there : (xs : List Value) (b : Bool) (x y : ℤ) → Contains xs (Int x) → Contains xs (Int y) → Contains xs (Int (cond b x y))
 chosen_there xs true x y first second = first
@@ -74,14 +76,11 @@ pub exact_includes : (values : List Value) (s : Bounds) → ExactSummary values 
 exact_includes values NothingYet none = rw none (All-nil (Includes NothingYet))
 exact_includes values (Between l g) exact = exact.none_beyond
 
-empty_lacks : (v : Value) → Contains [] v → ⊥
-empty_lacks v there = omega (arith, there.1)
-
 -- a list has one exact summary
 pub one_exact : (values : List Value) (s t : Bounds) → ExactSummary values s → ExactSummary values t → t ≡ s
 one_exact values NothingYet NothingYet first second = refl
-one_exact values NothingYet (Between l g) first second = absurd (empty_lacks (Int l) (subst (λ (xs : List Value). Contains xs (Int l)) first second.has_least))
-one_exact values (Between l g) NothingYet first second = absurd (empty_lacks (Int l) (subst (λ (xs : List Value). Contains xs (Int l)) second first.has_least))
+one_exact values NothingYet (Between l g) first second = absurd (none_has values (Int l) first second.has_least)
+one_exact values (Between l g) NothingYet first second = absurd (none_has values (Int l) second first.has_least)
 one_exact values (Between l g) (Between low high) first second =
     let lows = All-contains (IsWithin low high) values (Int l) second.none_beyond first.has_least in
     let least = All-contains (IsWithin l g) values (Int low) first.none_beyond second.has_least in
@@ -90,13 +89,6 @@ one_exact values (Between l g) (Between low high) first second =
     let same_low : low ≡ l = omega (arith, ints, lows.0, least.0) in
     let same_high : high ≡ g = omega (arith, ints, highs.1, greatest.1) in
     rw (same_low, same_high) refl
-
-all_same : (P : Value → Type 0) (values others : List Value) → HaveSameValues values others → All P values → All P others
-all_same P values others same all = All-weaker (Contains others) P (λ v there. All-contains P values v all (same.no_more v there)) others (All-contains_itself others)
-
-none_same : (values others : List Value) → HaveSameValues values others → values ≡ [] → others ≡ []
-none_same values [] same none = refl
-none_same values (v ∷ others) same none = absurd (empty_lacks v (subst (λ (xs : List Value). Contains xs v) none (same.no_more v (0, omega arith, refl))))
 
 -- the exact summary of the same values
 exact_same : (values others : List Value) (s : Bounds) → HaveSameValues values others → ExactSummary values s → ExactSummary others s

@@ -3,10 +3,10 @@ use Rattle.std.proofs.Common.{◌≡◌, ℕ, ℤ, pos, negsuc, ◌+◌, ◌≤�
 use Rattle.std.proofs.lemmas.List.{take_at, drop_at, drop-drop, append-nil}
 use Rattle.std.proofs.Math.ListN.{drop_of_length-le}
 use Rattle.std.specs.Prelude.{FitsSigned}
-use Rattle.std.specs.Int.{w64, cast_unsigned, cast_signed}
+use Rattle.std.specs.Int.{w64, cast_unsigned, cast_signed, int_min, int_max}
 use Rattle.std.proofs.lemmas.Int.{to_z-of_z, ints}
 use Rattle.byte_fields.specs.Fields.{number_of, put_at, field_at, number-put}
-use Rattle.opclass_minmax.specs.Bounds.{Bounds, NothingYet, Between, IsSummary, IsOrdered}
+use Rattle.opclass_minmax.specs.Bounds.{Bounds, NothingYet, Between, IsSummary, IsOrdered, widened}
 use Rattle.opclass_minmax.specs.Encoding.{int8_bytes, bytes_of}
 
 length-int8 : (z : ℤ) → length (int8_bytes z) ≡ 8
@@ -104,3 +104,8 @@ one_meaning (Between l g) (Between low high) bytes first second is was =
     let least : l ≡ low = sym (first_read l g bytes first is) ∙ first_read low high bytes second was in
     let greatest : g ≡ high = sym (second_read l g bytes first is) ∙ second_read low high bytes second was in
     rw (least, greatest) refl
+
+-- widened bounds have bytes
+pub widened_has_bytes : (s : Bounds) (low high : ℤ) → 0 < length (bytes_of (widened s low high))
+widened_has_bytes NothingYet low high = omega (arith, length-between low high)
+widened_has_bytes (Between l g) low high = omega (arith, length-between (int_min l low) (int_max g high))

@@ -16,11 +16,6 @@ abbrev pub ExactSummary : List Value → Bounds → Type 0
 ExactSummary values NothingYet = values ≡ []
 ExactSummary values (Between least greatest) = AreExtremes values least greatest
 
--- the same values in any order, however often each
-pub record HaveSameValues (values others : List Value) : Type 0 where
-  pub all_there : (v : Value) → Contains values v → Contains others v
-  pub no_more : (v : Value) → Contains others v → Contains values v
-
 -- the summary of values that are added one by one, in their order
 abbrev pub summary_of : List Value → Bounds
 summary_of values = fold with_value NothingYet values

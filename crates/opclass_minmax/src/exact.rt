@@ -3,7 +3,8 @@
 ghost use Rattle.std.specs.Prelude.{◌≡◌, ◌++◌, All, List};
 ghost use Rattle.block_model.specs.declared.value.Value.{Value};
 ghost use Rattle.opclass_minmax.specs.Bounds.{Bounds, united};
-ghost use Rattle.opclass_minmax.specs.ExactSummary.{ExactSummary, HaveSameValues, summary_of};
+ghost use Rattle.opclass_minmax.specs.ExactSummary.{ExactSummary, summary_of};
+ghost use Rattle.opclass_api.specs.SameValues.{HaveSameValues};
 ghost use Rattle.opclass_minmax.specs.Includes.{IsInt, Includes};
 
 use crate::class::MinMax;

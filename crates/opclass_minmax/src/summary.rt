@@ -2,11 +2,11 @@
 
 ghost use Rattle.std.specs.Prelude.{◌≡◌, ◌≢◌, ◌≤ℤ◌, true, false};
 ghost use Rattle.opclass_minmax.specs.Bounds.{NothingYet, Between, IsSummary, widened};
-ghost use Rattle.opclass_minmax.specs.Consistent.{consistent, condition_holds, key_holds, number_holds};
+ghost use Rattle.opclass_minmax.specs.Consistent.{consistent, condition_holds};
 ghost use Rattle.opclass_minmax.specs.Kept.{bounds_of};
 
 use block_model::row::Cond;
-use block_model::value::{Op, Value};
+use opclass_api::bounds::key_holds;
 use std::marker::Model;
 
 /// The least and the greatest of some values.
@@ -106,27 +106,5 @@ impl Summary {
             None => false,
             Some(kept) => key_holds(kept.least, kept.greatest, cond.op, &cond.key),
         }
-    }
-}
-
-fn key_holds(least: i64, greatest: i64, op: Op, key: &Value) -> bool
-    ensures { result ≡ key_holds least greatest op key.now }
-{
-    match key {
-        Value::Int(k) => number_holds(least, greatest, op, *k),
-        Value::Null | Value::Span(_) | Value::Net(_) => false,
-    }
-}
-
-fn number_holds(least: i64, greatest: i64, op: Op, k: i64) -> bool
-    ensures { result ≡ number_holds least greatest op k }
-{
-    match op {
-        Op::Lt => least < k,
-        Op::Le => least <= k,
-        Op::Eq => least <= k && k <= greatest,
-        Op::Ge => k <= greatest,
-        Op::Gt => k < greatest,
-        _ => false,
     }
 }

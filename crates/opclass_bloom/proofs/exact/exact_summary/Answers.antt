@@ -2,7 +2,8 @@ use Rattle.std.proofs.Common.{◌≡◌, Bool, List, fold, sym, subst, ◌∙◌
 use Rattle.std.proofs.lemmas.Result.{IfOk-weaker}
 use Rattle.block_model.specs.declared.value.Value.{Value}
 use Rattle.opclass_bloom.specs.Bits.{nothing_set, with_value}
-use Rattle.opclass_bloom.specs.ExactSummary.{ExactSummary, HaveSameValues}
+use Rattle.opclass_api.specs.SameValues.{HaveSameValues}
+use Rattle.opclass_bloom.specs.ExactSummary.{ExactSummary}
 use Rattle.opclass_bloom.proofs.Exactness.{exact_in_order, one_exact, exact_in_any_order}
 use Rattle.opclass_bloom.proofs.exact.exact_summary.Goals as goal
 

@@ -1,5 +1,6 @@
-use Rattle.std.proofs.Common.{length, Some, sym, ap, ◌∙◌}
+use Rattle.std.proofs.Common.{length, Some, sym, ap, ◌∙◌, arith}
 use Rattle.opclass_bloom.specs.Positions.{positions_by}
+use Rattle.opclass_bloom.proofs.Bytes.{bytes_there}
 use Rattle.opclass_bloom.proofs.Setting.{length-with_positions, kept_by_positions, already_set, still_included, with_value_is, has_all_is}
 use Rattle.opclass_bloom.proofs.class.BloomOpClass.add.Goals as goal
 
@@ -27,3 +28,11 @@ returns-clause-includes_the_value c =
 pub returns-clause-keeps_what_it_included : goal.returns-clause-keeps_what_it_included
 returns-clause-keeps_what_it_included c = λ w included.
     rw c.set_positions.ensures.set (still_included c.args.self.now c.args.s.now _ w (kept_by_positions (positions_by c.args.self.now (Some c.in-Some.hash)) c.args.s.now) included)
+
+pub returns-then-has_positions-clause-has_bytes : goal.returns-then-has_positions-clause-has_bytes
+returns-then-has_positions-clause-has_bytes c = bytes_there c.args.s.now (omega (arith, c.requires.of_class, c.known.ensures.least_bits))
+
+pub returns-clause-has_bytes : goal.returns-clause-has_bytes
+returns-clause-has_bytes c =
+    let long = ap length c.set_positions.ensures.set ∙ length-with_positions (positions_by c.args.self.now (Some c.in-Some.hash)) c.args.s.now ∙ c.requires.of_class in
+    bytes_there c.set_positions.new.s (omega (arith, long, c.known.ensures.least_bits))
