@@ -1,5 +1,6 @@
 -- which bytes declare a table or an index
-use Rattle.std.specs.Prelude.{◌≡◌, ℕ, ◌≤◌, true, List, [], ◌∷◌, ◌++◌, All, length, codes, Option, None, Some, IfSome}
+use Rattle.std.specs.Prelude.{◌≡◌, ℕ, ◌≤◌, true, List, [], ◌∷◌, ◌++◌, length, codes, Option, None, Some, IfSome}
+use Rattle.std.specs.List.{list_all}
 use Rattle.block_model.specs.Names.{is_name}
 use Rattle.block_model.specs.declared.value.Kind.{Kind}
 use Rattle.block_model.specs.declared.value.Kind.TheVariants as kinds
@@ -86,7 +87,7 @@ IsNamed name = is_name name ≡ true
 -- one column or more, up to the 256 that a byte numbers
 abbrev pub AreColumns : List Column → Type 0
 AreColumns [] = ⊥
-AreColumns (c ∷ cs) = IsNamed c.name × All (λ c. IsNamed c.name) cs × (length cs ≤ 255)
+AreColumns (c ∷ cs) = IsNamed c.name × (list_all (λ c. is_name c.name) cs ≡ true) × (length cs ≤ 255)
 
 -- what stands for a number is one
 abbrev pub IsSetting : Option (List ℕ) → Type 0

@@ -1,6 +1,8 @@
 -- which schema a list of declarations denotes
-use Rattle.std.specs.Prelude.{◌≡◌, ℕ, ◌+◌, ◌^◌, ◌-◌, ◌/◌, min, false, if◌then◌else◌, List, [], ◌∷◌, ◌++◌, length, map, Option, None, Some, Result, Ok, Err}
+use Rattle.std.specs.Prelude.{◌≡◌, ℕ, ◌+◌, ◌^◌, ◌-◌, ◌/◌, min, false, List, [], ◌∷◌, ◌++◌, length, map, slice_get, Option, None, Some, Result, Ok, Err}
+use Rattle.std.specs.List.{position_from}
 use Rattle.std.specs.Str.{bytes_eq}
+use Rattle.block_model.specs.IndexedColumns.{columns_in}
 use Rattle.block_model.specs.RowSize.{row_size}
 use Rattle.block_model.specs.declared.schema.Class.{Class}
 use Rattle.block_model.specs.declared.schema.Class.TheVariants as classes
@@ -28,15 +30,13 @@ table_of t = record { name = t.name; rows_per_page = number_said 16 (most_rows t
 abbrev pub class_of : ClassText → Class
 class_of MinMax = classes.MinMax
 
--- the first table of that name, with its number
-abbrev pub table_named : List ℕ → ℕ → List Table → Option (ℕ × Table)
-table_named name n [] = None
-table_named name n (t ∷ ts) = if bytes_eq name t.name then Some (n, t) else table_named name (n + 1) ts
+-- the number of the first table of that name
+abbrev pub table_named : List ℕ → List Table → Option ℕ
+table_named name tables = position_from (λ t. bytes_eq name t.name) 0 tables
 
 -- the number of the first column of that name
-abbrev pub column_named : List ℕ → ℕ → List Column → Option ℕ
-column_named name n [] = None
-column_named name n (c ∷ cs) = if bytes_eq name c.name then Some n else column_named name (n + 1) cs
+abbrev pub column_named : List ℕ → List Column → Option ℕ
+column_named name columns = position_from (λ c. bytes_eq name c.name) 0 columns
 
 -- an index on the table and the column of those numbers, without a number of pages per range of 128 each
 abbrev pub index_on : IndexText → ℕ → ℕ → Index
@@ -53,14 +53,14 @@ abbrev pub on_column : IndexText → ℕ → Option ℕ → Result Index ℕ
 on_column i table None = Err (length (before_column i))
 on_column i table (Some column) = Ok (index_on i table column)
 
--- the index on a table, or where the name begins that isn't declared
-abbrev pub on_table : IndexText → Option (ℕ × Table) → Result Index ℕ
-on_table i None = Err (length (before_table i))
-on_table i (Some t) = on_column i t.0 (column_named i.column 0 t.1.columns)
+-- the index on the table of that number, or where the name begins that isn't declared
+abbrev pub on_table : IndexText → List Table → Option ℕ → Result Index ℕ
+on_table i tables None = Err (length (before_table i))
+on_table i tables (Some table) = on_column i table (column_named i.column (columns_in (slice_get tables table)))
 
 -- the index among those tables, or where the name begins that isn't declared
 abbrev pub index_among : List Table → IndexText → Result Index ℕ
-index_among tables i = on_table i (table_named i.table 0 tables)
+index_among tables i = on_table i tables (table_named i.table tables)
 
 -- the schema with one table more
 abbrev pub with_table : Schema → Table → Schema

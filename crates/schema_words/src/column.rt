@@ -1,8 +1,8 @@
 // The columns of a table.
 
-ghost use Rattle.std.specs.Prelude.{◌≡◌, ◌||◌, ◌∷◌, []};
+ghost use Rattle.std.specs.Prelude.{◌≡◌, ◌||◌, ◌∷◌, [], ◌==◌, false, IfOk, MatchOption};
 ghost use Rattle.std.specs.Str.{bytes_eq};
-ghost use Rattle.text_reading.specs.Reading.{Gives};
+ghost use Rattle.text_reading.specs.Reading.{Gives, begins};
 ghost use Rattle.schema_words.specs.DeclarationTexts.{IsNamed};
 ghost use Rattle.schema_words.specs.DeclarationReading.{number_kind_at, kind_at, column_at, columns_at};
 ghost use Rattle.schema_words.specs.Words.{GivesAs, KeepsMore, AreRead, column_of};
@@ -40,7 +40,7 @@ pub fn columns<'a>(kept: Option<Columns>, wanted: &[u8], text: &'a [u8]) -> Read
     let mut rest = behind;
     let mut columns = ColumnsWord { kept, found: false }.with(wanted, &first);
     'more: for _ in 0..MORE_COLUMNS {
-        let [b',', behind @ ..] = rest else {
+        let Some(behind) = behind_comma(rest) else {
             return Ok((columns, rest));
         };
         let (next, behind) = column(behind)?;
@@ -48,6 +48,16 @@ pub fn columns<'a>(kept: Option<Columns>, wanted: &[u8], text: &'a [u8]) -> Read
         rest = behind;
     }
     Ok((columns, rest))
+}
+
+/// What is behind a comma, where there is one.
+fn behind_comma(text: &[u8]) -> Option<&[u8]>
+    ensures { MatchOption result (begins (λ c. c == 44) text.now ≡ false) (λ behind. text.now ≡ 44 ∷ behind.now) }
+{
+    match text {
+        [b',', behind @ ..] => Some(behind),
+        _ => None,
+    }
 }
 
 impl ColumnsWord {
@@ -83,7 +93,8 @@ fn keep(kept: Option<Columns>, column: &ColumnWord<'_>) -> Option<Columns>
 /// A name, a space and a kind.
 #[tactic(auto, unfolding(crate::specs::DeclarationReading::column_at))]
 fn column(text: &[u8]) -> Reading<'_, ColumnWord<'_>>
-    ensures { Gives (λ x. (column_of x.0, x.1.now)) result (column_at text.now) }
+    ensures read { Gives (λ x. (column_of x.0, x.1.now)) result (column_at text.now) }
+    ensures named { IfOk result (λ x. IsNamed x.0.name.now) }
 {
     let (name, rest) = name(text)?;
     let rest = byte(rest, b' ')?;

@@ -1,6 +1,6 @@
 // What a word adds to a schema.
 
-ghost use Rattle.std.specs.Prelude.{◌≡◌, ℕ, ◌+◌, [], ◌∷◌, ◌++◌, drop, Ok, Err, OnOk, OnErr, IfOk, IfSome, ◌≤◌, length, MatchResult, MatchOption};
+ghost use Rattle.std.specs.Prelude.{◌≡◌, ℕ, ◌+◌, [], ◌∷◌, ◌++◌, Ok, Err, OnOk, OnErr, IfOk, IfSome, ◌<◌, ◌≤◌, length, MatchResult, MatchOption};
 ghost use Rattle.schema_words.specs.DeclarationTexts.{IsNamed, IsIndex};
 ghost use Rattle.schema_words.specs.DeclaredSchema.{Declares, table_named, column_named, index_on, index_among};
 ghost use Rattle.schema_words.specs.FirstFault.{IsFaulty};
@@ -39,8 +39,8 @@ pub fn declare(alloc: Global, schema: &mut Schema, word: &[u8]) -> Result<(), Wo
 }
 
 fn add_table(tables: &mut Tables, table: TableWord<'_>) -> Result<(), WordFault>
-    requires named { IsNamed table.entry.name.now }
-    requires few { IfSome table.entry.columns.kept (λ columns. length columns ≤ 256) }
+    requires named { IsNamed table.name.now }
+    requires few { IfSome table.columns.kept (λ columns. length columns ≤ 256) }
     ensures ok { OnOk result (MatchOption table.entry.columns.kept ⊥ (λ columns. tables.new ≡ tables.old ++ table_with table.entry columns ∷ [])) }
     ensures memory { OnErr result (result ≡ Err WordFault.Memory) }
 {
@@ -76,37 +76,28 @@ fn column_of(tables: &[Table], index: &IndexWord<'_>) -> Result<(usize, usize), 
     requires { IsIndex (index_text index.now) }
     ensures { MatchResult result (λ p. index_among tables.now (index_text index.now) ≡ Ok (index_on (index_text index.now) p.0 p.1)) (λ at. index_among tables.now (index_text index.now) ≡ Err at) }
 {
-    let Some((table, columns)) = table_named(tables, index.table) else {
+    let Some(table) = table_named(tables, index.table) else {
         return Err(index.table_place());
     };
-    match column_named(columns, index.column) {
+    match column_named(tables[table].columns.as_slice(), index.column) {
         Some(column) => Ok((table, column)),
         None => Err(index.column_place()),
     }
 }
 
-/// The number and the columns of the first table of that name.
-fn table_named<'a>(tables: &'a [Table], name: &[u8]) -> Option<(usize, &'a [Column])>
-    ensures { MatchOption result (table_named name.now 0 tables.now ≡ None) (λ p. (t : Table) × (table_named name.now 0 tables.now ≡ Some (p.0, t)) × (p.1.now ≡ t.columns)) }
+/// The number of the first table of that name.
+fn table_named(tables: &[Table], name: &[u8]) -> Option<usize>
+    ensures number { result ≡ table_named name.now tables.now }
+    ensures within { IfSome result (λ number. number < length tables.now) }
 {
-    for (number, table) in tables.iter().enumerate() {
-        if table.name.as_bytes() == name {
-            return Some((number, table.columns.as_slice()));
-        }
-    }
-    None
+    tables.iter().position(|table| name == table.name.as_bytes())
 }
 
 /// The number of the first column of that name.
 fn column_named(columns: &[Column], name: &[u8]) -> Option<usize>
-    ensures { result ≡ column_named name.now 0 columns.now }
+    ensures { result ≡ column_named name.now columns.now }
 {
-    for (number, column) in columns.iter().enumerate() {
-        if column.name.as_bytes() == name {
-            return Some(number);
-        }
-    }
-    None
+    columns.iter().position(|column| name == column.name.as_bytes())
 }
 
 /// The index on the table and the column of those numbers.

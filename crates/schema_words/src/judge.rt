@@ -61,7 +61,7 @@ fn has_column(text: &[u8], index: &IndexWord<'_>) -> Option<bool>
 {
     match read_declaration(None, index.column, text) {
         Ok((Declaration::Table(table), _))
-            if table.name == index.table =>
+            if index.table == table.name =>
         {
             Some(table.columns.found)
         }

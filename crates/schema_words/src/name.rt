@@ -1,9 +1,9 @@
 // Names at the front of a text.
 
-ghost use Rattle.std.specs.Prelude.{◌≡◌, ◌≤◌, length};
+ghost use Rattle.std.specs.Prelude.{◌≡◌, ◌≤◌, length, IfOk};
 ghost use Rattle.std.specs.List.{prefix_len};
-ghost use Rattle.block_model.specs.Names.{is_more};
-ghost use Rattle.text_reading.specs.Reading.{Gives};
+ghost use Rattle.block_model.specs.Names.{is_lower, is_more};
+ghost use Rattle.text_reading.specs.Reading.{Gives, begins};
 ghost use Rattle.schema_words.specs.DeclarationTexts.{IsNamed};
 ghost use Rattle.schema_words.specs.DeclarationReading.{name_at};
 
@@ -15,11 +15,21 @@ const MAX_NAME: usize = 16;
 
 /// A lower-case letter and the letters, digits and `_` behind it, up to sixteen bytes.
 pub fn name(text: &[u8]) -> Reading<'_, &[u8]>
-    ensures { Gives (λ x. (x.0.now, x.1.now)) result (name_at text.now) }
+    ensures read { Gives (λ x. (x.0.now, x.1.now)) result (name_at text.now) }
+    ensures named { IfOk result (λ x. IsNamed x.0.now) }
+{
+    if !begins_name(text) {
+        return Err(text);
+    }
+    Ok(text.split_at(more_count(text).min(MAX_NAME)))
+}
+
+fn begins_name(text: &[u8]) -> bool
+    ensures { result ≡ begins is_lower text.now }
 {
     match text {
-        [b'a'..=b'z', ..] => Ok(text.split_at(more_count(text).min(MAX_NAME))),
-        _ => Err(text),
+        [first, ..] => first.is_ascii_lowercase(),
+        [] => false,
     }
 }
 

@@ -24,10 +24,10 @@ pub struct TableWord<'a> {
 }
 
 /// The bytes of a page behind its header.
-const PAGE_ROOM: u32 = 8160;
+const PAGE_ROOM: u64 = 8160;
 
 /// The bytes of a row without its values.
-const ROW_HEADER: u32 = 22;
+const ROW_HEADER: u64 = 22;
 
 /// A table, its columns read as `columns` reads them.
 #[tactic(auto, unfolding(crate::specs::DeclarationReading::table_at))]
@@ -58,8 +58,8 @@ fn table_head(text: &[u8]) -> Reading<'_, &[u8]>
 impl TableWord<'_> {
     /// The table with the columns that were kept, None where they weren't.
     pub fn kept(self) -> Option<Table>
-        requires named { IsNamed self.entry.name.now }
-        requires few { IfSome self.entry.columns.kept (λ columns. length columns ≤ 256) }
+        requires named { IsNamed self.name.now }
+        requires few { IfSome self.columns.kept (λ columns. length columns ≤ 256) }
         ensures { MatchOption self.entry.columns.kept (result ≡ None) (λ columns. result ≡ Some (table_with self.entry columns)) }
     {
         let TableWord {
@@ -92,13 +92,12 @@ fn most_rows(columns: &[Column]) -> u16
     requires { length columns.now ≤ 256 }
     ensures { result ≡ most_rows columns.now }
 {
-    (PAGE_ROOM / (ROW_HEADER + values_size(columns))) as u16
+    (PAGE_ROOM / (ROW_HEADER + u64::from(values_size(columns)))) as u16
 }
 
 fn values_size(columns: &[Column]) -> u32
     requires { length columns.now ≤ 256 }
-    ensures size { result ≡ sum_by value_size (map (λ c. c.kind) columns.now) }
-    ensures small { result ≤ 4352 }
+    ensures { result ≡ sum_by value_size (map (λ c. c.kind) columns.now) }
 {
     columns.iter().map(|column| value_size(column.kind)).sum()
 }

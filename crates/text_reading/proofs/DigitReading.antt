@@ -48,7 +48,7 @@ abbrev Digits : Type 0
 Digits = Result (List ℕ × List ℕ) (List ℕ)
 
 -- a digit is a text of digits
-one_digit : AreDigits (48 ∷ [])
+pub one_digit : AreDigits (48 ∷ [])
 one_digit = record { some = omega arith; digits = refl }
 
 digits_step : (c : ℕ) (cs : List ℕ) (b : Bool) → is_digit c ≡ b → (answer : Digits) × Obeys digits_at (λ ds. ds) AreDigits (c ∷ cs) answer

@@ -1,5 +1,5 @@
 -- What a reading of any bytes is to the texts that it reads, and how that is kept by readings one behind another.
-use Rattle.std.proofs.Common.{◌≡◌, ℕ, Bool, true, false, cond, List, [], ◌∷◌, ◌++◌, Result, Ok, Err, refl, sym, ap, ◌∙◌, append_assoc, ◌⊎◌, inl, inr, ◌==◌, ◌≢◌}
+use Rattle.std.proofs.Common.{◌≡◌, ℕ, eq-eqb, Bool, true, false, cond, List, [], ◌∷◌, ◌++◌, Result, Ok, Err, refl, sym, ap, ◌∙◌, append_assoc, ◌⊎◌, inl, inr, ◌==◌, ◌≢◌}
 use Rattle.std.proofs.lemmas.Bool.Decides.{eqb_tells}
 use Rattle.text_reading.specs.Reading.{Reading, ◌>>=◌, mapped, both, begins, choice, nothing, end_at, byte_at, word_at}
 
@@ -235,3 +235,23 @@ choice-first test one other bytes e = ap (λ b. cond b (one bytes) (other bytes)
 
 pub choice-second : {A : Type 0} (test : ℕ → Bool) (one other : Reading A) (bytes : List ℕ) → begins test bytes ≡ false → choice test one other bytes ≡ other bytes
 choice-second test one other bytes e = ap (λ b. cond b (one bytes) (other bytes)) e
+
+-- what a reading gives, through a weaker fact on texts
+module _ {A : Type 0} (read : Reading A) (w : A → List ℕ) (Is Are : A → Type 0) (weaker : (a : A) → Is a → Are a) where
+  weaker_step : (bytes : List ℕ) (o : Result (A × List ℕ) (List ℕ)) → Obeys read w Is bytes o → Obeys read w Are bytes o
+  weaker_step bytes (Err r) h = record { front = h.front; is = h.is; whole = h.whole; same = h.same; judged = (h.judged.0, h.judged.1, weaker h.judged.0 h.judged.2, h.judged.3) }
+  weaker_step bytes (Ok p) h = record { front = h.front; is = h.is; whole = h.whole; same = h.same; judged = (weaker p.0 h.judged.0, h.judged.1) }
+
+  pub weaker-lawful : Lawful read w Is → Lawful read w Are
+  weaker-lawful l bytes = let h = l bytes in (h.0, weaker_step bytes h.0 h.1)
+
+abbrev then_word : List ℕ → One → One
+then_word ws o = o >>= λ x. word_at ws x.1
+
+abbrev one_if : List ℕ → List ℕ → Bool → One
+one_if behind whole b = cond b (Ok (tt, behind)) (Err whole)
+
+-- a word is read where it stands
+pub word-complete : (word rest : List ℕ) → word_at word (word ++ rest) ≡ Ok (tt, rest)
+word-complete [] rest = refl
+word-complete (w ∷ ws) rest = ap (λ b. then_word ws (one_if (ws ++ rest) (w ∷ (ws ++ rest)) b)) (eq-eqb w w refl) ∙ word-complete ws rest
