@@ -3,7 +3,7 @@ use Rattle.std.proofs.Common.{◌≡◌, ℕ, Bool, true, false, ◌==◌, List,
 use Rattle.block_model.specs.declared.schema.Column.{Column}
 use Rattle.text_reading.specs.Digits.{AreDigits}
 use Rattle.text_reading.specs.Reading.{mapped, both, begins, choice, nothing, byte_at, word_at, digits_at}
-use Rattle.text_reading.proofs.Lawful.{Lawful, both-lawful, mapped-lawful, choice-lawful, nothing-lawful, same-lawful, byte-lawful, word-lawful, word-complete, both-read, mapped-read, choice-first, choice-second}
+use Rattle.text_reading.proofs.Lawful.{Lawful, both-lawful, mapped-lawful, choice-lawful, nothing-lawful, same-lawful, byte-lawful, word-lawful, word-complete, both-read, mapped-read, both-stops, both-stops_behind, mapped-stops, choice-first, choice-second}
 use Rattle.text_reading.proofs.DigitReading.{one_digit, digits-lawful, digits-complete}
 use Rattle.schema_words.specs.DeclarationTexts.{columns_bytes, setting_bytes, TableText, table_bytes, ClassText, MinMax, class_bytes, IndexText, index_bytes, DeclarationText, OfTable, OfIndex, bytes_of, IsNamed, AreColumns, IsSetting, IsTable, IsIndex, IsDeclaration}
 use Rattle.schema_words.specs.DeclarationReading.{name_at, columns_at, setting_at, ending_at, table_head_at, table_at, class_at, index_head_at, on_at, part_at, index_at, declaration_at}
@@ -154,7 +154,7 @@ index-lawful =
     (both-lawful on_at (both part_at (ending_at pages_setting)) on_bytes (λ x. behind_on_bytes x.0 x.1) IsNamed (λ x. IsPart x.0 × IsSetting x.1) ((97 ∷ [], MinMax), None) (one_letter, tt) on-lawful
     (both-lawful part_at (ending_at pages_setting) part_bytes (ending_bytes pages_setting) IsPart IsSetting None tt part-lawful (ending-lawful pages_setting)))))
 
-abbrev is_t : ℕ → Bool
+abbrev pub is_t : ℕ → Bool
 is_t c = c == 116
 
 pub declaration-lawful : Lawful declaration_at bytes_of IsDeclaration
@@ -248,3 +248,48 @@ pub declaration-complete : (d : DeclarationText) → IsDeclaration d → declara
 unfolding declaration_at
 declaration-complete (OfTable t) i = mapped-read OfTable table_at (table_bytes t) (t, []) (table-complete t i)
 declaration-complete (OfIndex x) i = mapped-read OfIndex index_at (index_bytes x) (x, []) (index-complete x i)
+
+pub table-stops_in_head : (text rest : List ℕ) → table_head_at text ≡ Err rest → table_at text ≡ Err rest
+unfolding table_at
+table-stops_in_head text rest e =
+    mapped-stops whole_table (both table_head_at (both columns_at (ending_at rows_setting))) text rest (both-stops table_head_at (both columns_at (ending_at rows_setting)) text rest e)
+
+module _ (text name : List ℕ) (behind : List ℕ) (head : table_head_at text ≡ Ok (name, behind)) where
+  -- a table whose parts are read
+  pub table-parts : (columns : List Column) (last : List ℕ) (rows : Setting) (rest : List ℕ) → columns_at behind ≡ Ok (columns, last) → ending_at rows_setting last ≡ Ok (rows, rest)
+      → table_at text ≡ Ok (record { name = name; columns = columns; rows = rows }, rest)
+  unfolding table_at
+  table-parts columns last rows rest e k =
+      mapped-read whole_table (both table_head_at (both columns_at (ending_at rows_setting))) text ((name, (columns, rows)), rest)
+      (both-read table_head_at (both columns_at (ending_at rows_setting)) text (name, behind) ((columns, rows), rest) head
+      (both-read columns_at (ending_at rows_setting) behind (columns, last) (rows, rest) e k))
+
+  pub table-stops_in_columns : (rest : List ℕ) → columns_at behind ≡ Err rest → table_at text ≡ Err rest
+  unfolding table_at
+  table-stops_in_columns rest e =
+      mapped-stops whole_table (both table_head_at (both columns_at (ending_at rows_setting))) text rest
+      (both-stops_behind table_head_at (both columns_at (ending_at rows_setting)) text (name, behind) rest head (both-stops columns_at (ending_at rows_setting) behind rest e))
+
+  pub table-stops_behind_columns : (columns : List Column) (last rest : List ℕ) → columns_at behind ≡ Ok (columns, last) → ending_at rows_setting last ≡ Err rest → table_at text ≡ Err rest
+  unfolding table_at
+  table-stops_behind_columns columns last rest e k =
+      mapped-stops whole_table (both table_head_at (both columns_at (ending_at rows_setting))) text rest
+      (both-stops_behind table_head_at (both columns_at (ending_at rows_setting)) text (name, behind) rest head (both-stops_behind columns_at (ending_at rows_setting) behind (columns, last) rest e k))
+
+-- what begins with `t` is read as a table
+pub declaration-table : (text : List ℕ) (t : TableText) (rest : List ℕ) → begins is_t text ≡ true → table_at text ≡ Ok (t, rest) → declaration_at text ≡ Ok (OfTable t, rest)
+unfolding declaration_at
+declaration-table text t rest b e = choice-first is_t (mapped OfTable table_at) (mapped OfIndex index_at) text b ∙ mapped-read OfTable table_at text (t, rest) e
+
+pub declaration-table_stops : (text rest : List ℕ) → begins is_t text ≡ true → table_at text ≡ Err rest → declaration_at text ≡ Err rest
+unfolding declaration_at
+declaration-table_stops text rest b e = choice-first is_t (mapped OfTable table_at) (mapped OfIndex index_at) text b ∙ mapped-stops OfTable table_at text rest e
+
+-- and else as an index
+pub declaration-index : (text : List ℕ) (i : IndexText) (rest : List ℕ) → begins is_t text ≡ false → index_at text ≡ Ok (i, rest) → declaration_at text ≡ Ok (OfIndex i, rest)
+unfolding declaration_at
+declaration-index text i rest b e = choice-second is_t (mapped OfTable table_at) (mapped OfIndex index_at) text b ∙ mapped-read OfIndex index_at text (i, rest) e
+
+pub declaration-index_stops : (text rest : List ℕ) → begins is_t text ≡ false → index_at text ≡ Err rest → declaration_at text ≡ Err rest
+unfolding declaration_at
+declaration-index_stops text rest b e = choice-second is_t (mapped OfTable table_at) (mapped OfIndex index_at) text b ∙ mapped-stops OfIndex index_at text rest e

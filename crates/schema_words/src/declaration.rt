@@ -1,6 +1,7 @@
 // A declaration, one word.
 
-ghost use Rattle.text_reading.specs.Reading.{whole};
+ghost use Rattle.std.specs.Prelude.{◌≡◌, ◌==◌};
+ghost use Rattle.text_reading.specs.Reading.{begins, whole};
 ghost use Rattle.schema_words.specs.DeclarationReading.{declaration_at};
 ghost use Rattle.schema_words.specs.Words.{GivesAs, IsRead};
 
@@ -25,18 +26,22 @@ pub fn read_declaration<'a>(kept: Option<Columns>, wanted: &[u8], text: &'a [u8]
     Ok((declaration, rest))
 }
 
-#[tactic(auto, unfolding(crate::specs::DeclarationReading::declaration_at))]
 fn front<'a>(kept: Option<Columns>, wanted: &[u8], text: &'a [u8]) -> Reading<'a, Declaration<'a>>
     ensures { GivesAs (IsRead kept wanted.now) result (declaration_at text.now) }
 {
+    if begins_table(text) {
+        let (table, rest) = table(kept, wanted, text)?;
+        return Ok((Declaration::Table(table), rest));
+    }
+    let (index, rest) = index(text)?;
+    Ok((Declaration::Index(index), rest))
+}
+
+fn begins_table(text: &[u8]) -> bool
+    ensures { result ≡ begins (λ c. c == 116) text.now }
+{
     match text {
-        [b't', ..] => {
-            let (table, rest) = table(kept, wanted, text)?;
-            Ok((Declaration::Table(table), rest))
-        }
-        _ => {
-            let (index, rest) = index(text)?;
-            Ok((Declaration::Index(index), rest))
-        }
+        [first, ..] => *first == b't',
+        [] => false,
     }
 }

@@ -30,7 +30,6 @@ const PAGE_ROOM: u64 = 8160;
 const ROW_HEADER: u64 = 22;
 
 /// A table, its columns read as `columns` reads them.
-#[tactic(auto, unfolding(crate::specs::DeclarationReading::table_at))]
 pub fn table<'a>(kept: Option<Columns>, wanted: &[u8], text: &'a [u8]) -> Reading<'a, TableWord<'a>>
     ensures { GivesAs (IsTableRead kept wanted.now) result (table_at text.now) }
 {

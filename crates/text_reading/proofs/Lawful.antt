@@ -255,3 +255,15 @@ one_if behind whole b = cond b (Ok (tt, behind)) (Err whole)
 pub word-complete : (word rest : List ℕ) → word_at word (word ++ rest) ≡ Ok (tt, rest)
 word-complete [] rest = refl
 word-complete (w ∷ ws) rest = ap (λ b. then_word ws (one_if (ws ++ rest) (w ∷ (ws ++ rest)) b)) (eq-eqb w w refl) ∙ word-complete ws rest
+
+-- where a reading stops, what is read behind it isn't seen
+pub both-stops : {A B : Type 0} (first : Reading A) (second : Reading B) (bytes rest : List ℕ) → first bytes ≡ Err rest → both first second bytes ≡ Err rest
+both-stops first second bytes rest e = ap (λ o. o >>= λ x. second x.1 >>= λ y. Ok ((x.0, y.0), y.1)) e
+
+pub both-stops_behind : {A B : Type 0} (first : Reading A) (second : Reading B) (bytes : List ℕ) (p : A × List ℕ) (rest : List ℕ)
+    → first bytes ≡ Ok p → second p.1 ≡ Err rest → both first second bytes ≡ Err rest
+both-stops_behind first second bytes p rest e k =
+    ap (λ o. o >>= λ x. second x.1 >>= λ y. Ok ((x.0, y.0), y.1)) e ∙ ap (λ o. o >>= λ y. Ok ((p.0, y.0), y.1)) k
+
+pub mapped-stops : {A B : Type 0} (f : A → B) (read : Reading A) (bytes rest : List ℕ) → read bytes ≡ Err rest → mapped f read bytes ≡ Err rest
+mapped-stops f read bytes rest e = ap (λ o. o >>= λ x. Ok (f x.0, x.1)) e

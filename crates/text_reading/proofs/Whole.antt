@@ -5,7 +5,7 @@ use Rattle.std.specs.Result.{is_ok}
 use Rattle.std.proofs.lemmas.Bool.{false≢true}
 use Rattle.text_reading.specs.StopsAt.{BeginsText, StopsAt}
 use Rattle.text_reading.specs.Reading.{Reading, mapped, both, end_at, whole}
-use Rattle.text_reading.proofs.Lawful.{left, Obeys, Lawful, both-lawful, mapped-lawful, end-lawful, both-read, mapped-read}
+use Rattle.text_reading.proofs.Lawful.{left, Obeys, Lawful, both-lawful, mapped-lawful, end-lawful, both-read, mapped-read, both-stops, both-stops_behind, mapped-stops}
 
 -- a text before the end, without the end
 abbrev alone_of : {A : Type 0} → A × Unit {0} → A
@@ -18,6 +18,17 @@ whole-lawful read written Is l =
 
 pub whole-read : {A : Type 0} (read : Reading A) (bytes : List ℕ) (a : A) → read bytes ≡ Ok (a, []) → whole read bytes ≡ Ok (a, [])
 whole-read read bytes a e = mapped-read alone_of (both read end_at) bytes ((a, tt), []) (both-read read end_at bytes (a, []) (tt, []) e refl)
+
+pub whole-stops : {A : Type 0} (read : Reading A) (bytes rest : List ℕ) → read bytes ≡ Err rest → whole read bytes ≡ Err rest
+whole-stops read bytes rest e = mapped-stops alone_of (both read end_at) bytes rest (both-stops read end_at bytes rest e)
+
+pub whole-stops_behind : {A : Type 0} (read : Reading A) (bytes : List ℕ) (a : A) (left rest : List ℕ) → read bytes ≡ Ok (a, left) → end_at left ≡ Err rest → whole read bytes ≡ Err rest
+whole-stops_behind read bytes a left rest e k = mapped-stops alone_of (both read end_at) bytes rest (both-stops_behind read end_at bytes (a, left) rest e k)
+
+-- a reading up to the end
+pub whole-ends : {A : Type 0} (read : Reading A) (bytes : List ℕ) (a : A) (rest : List ℕ) → read bytes ≡ Ok (a, rest) → end_at rest ≡ Ok (tt, []) → whole read bytes ≡ Ok (a, rest)
+whole-ends read bytes a [] e k = whole-read read bytes a e
+whole-ends read bytes a (c ∷ cs) e k = cc
 
 abbrev finished : {A : Type 0} → Result (A × List ℕ) (List ℕ) → Result (A × List ℕ) (List ℕ)
 finished o = mapped alone_of (both (λ bytes. o) end_at) []
