@@ -1,0 +1,119 @@
+-- What words declare, one after another.
+use Rattle.std.proofs.Common.{◌≡◌, ℕ, zero, suc, ◌+◌, ◌<◌, Bool, true, false, cond, ◌||◌, List, [], ◌∷◌, ◌++◌, length, take, get_or, Result, Ok, Err, Option, None, Some, ◌⊎◌, inl, inr, refl, sym, ap, subst, ◌∙◌, arith, append_assoc, append-nil}
+use Rattle.std.specs.List.{list_any}
+use Rattle.std.specs.Str.{bytes_eq}
+use Rattle.std.specs.Result.{is_ok}
+use Rattle.std.proofs.lemmas.Bool.{false≢true}
+use Rattle.block_model.specs.declared.schema.Column.{Column}
+use Rattle.block_model.specs.declared.schema.Table.{Table}
+use Rattle.block_model.specs.declared.schema.Index.{Index}
+use Rattle.block_model.specs.declared.schema.Schema.{Schema}
+use Rattle.text_reading.specs.StopsAt.{StopsAt}
+use Rattle.text_reading.proofs.Whole.{one-text}
+use Rattle.schema_words.specs.DeclarationTexts.{DeclarationText, OfTable, OfIndex, IndexText, bytes_of, IsDeclaration}
+use Rattle.schema_words.specs.DeclaredSchema.{table_of, table_named, column_named, index_on, on_table, on_column, index_among, with_table, with_index, declared_behind, Declares, DeclareBehind, nothing_declared, Denotes}
+use Rattle.schema_words.specs.FirstFault.{IsFaulty, IsFirstFault}
+use Rattle.schema_words.specs.DeclarationReading.{declaration_at}
+use Rattle.schema_words.specs.Words.{has_column, column_sought}
+use Rattle.schema_words.proofs.WordReading.{declaration-lawful, declaration-complete}
+
+abbrev Made : Type 0
+Made = Result Schema ℕ
+
+-- a word declares one thing
+pub declares-one : (bytes : List ℕ) (s : Schema) (a b : Made) → Declares bytes s a → Declares bytes s b → a ≡ b
+declares-one bytes s a b p q =
+    let same : p.text ≡ q.text = one-text declaration_at bytes_of IsDeclaration declaration-lawful declaration-complete p.text q.text p.of_grammar q.of_grammar (sym p.bytes_are ∙ q.bytes_are) in
+    sym p.makes ∙ ap (declared_behind s) same ∙ q.makes
+
+-- and so do words one after another
+pub words-one : (words : List (List ℕ)) (s a b : Schema) → DeclareBehind s words a → DeclareBehind s words b → a ≡ b
+words-one [] s a b h k = sym h ∙ k
+words-one (w ∷ ws) s a b h k =
+    let made : Ok h.0 ≡ Ok k.0 = declares-one w s (Ok h.0) (Ok k.0) h.1 k.1 in
+    let same : h.0 ≡ k.0 = cc in
+    words-one ws k.0 a b (subst (λ (x : Schema). DeclareBehind x ws a) same h.2) k.2
+
+-- one word more
+pub behind-push : (words : List (List ℕ)) (s m t : Schema) (w : List ℕ) → DeclareBehind s words m → Declares w m (Ok t) → DeclareBehind s (words ++ w ∷ []) t
+behind-push [] s m t w h d = (t, subst (λ (x : Schema). Declares w x (Ok t)) (sym h) d, refl)
+behind-push (x ∷ xs) s m t w h d = (h.0, h.1, behind-push xs h.0 m t w h.2 d)
+
+-- the words up to one, and it
+pub record Split (s : Schema) (words : List (List ℕ)) (n : ℕ) (t : Schema) : Type 0 where
+  pub before : Schema
+  pub after : Schema
+  pub front : DeclareBehind s (take n words) before
+  pub here : Declares (get_or words n []) before (Ok after)
+  pub rest : List (List ℕ)
+  pub back : DeclareBehind after rest t
+
+pub split : (n : ℕ) (words : List (List ℕ)) (s t : Schema) → n < length words → DeclareBehind s words t → Split s words n t
+split n [] s t k h = absurd (omega arith)
+split zero (w ∷ ws) s t k h = record { before = s; after = h.0; front = refl; here = h.1; rest = ws; back = h.2 }
+split (suc n) (w ∷ ws) s t k h =
+    let r = split n ws h.0 t (omega arith) h.2 in
+    record { before = r.before; after = r.after; front = (h.0, h.1, r.front); here = r.here; rest = r.rest; back = r.back }
+
+-- a word at fault declares nothing
+pub faulty-declares_nothing : (s : Schema) (bytes : List ℕ) (at : ℕ) → IsFaulty s bytes at → (t : Schema) → Declares bytes s (Ok t) → ⊥
+faulty-declares_nothing s bytes at (inl stops) t d = stops.refused d.text d.of_grammar d.bytes_are
+faulty-declares_nothing s bytes at (inr fault) t d =
+    let k : Err at ≡ Ok t = declares-one bytes s (Err at) (Ok t) fault d in
+    false≢true (ap is_ok k)
+
+-- words with a fault denote no schema
+pub fault-denotes_nothing : (words : List (List ℕ)) (word at : ℕ) → IsFirstFault words word at → (schema : Schema) → Denotes words schema → ⊥
+fault-denotes_nothing words word at f schema h =
+    let r = split word words nothing_declared schema f.within h in
+    let same : r.before ≡ f.before = words-one (take word words) nothing_declared r.before f.before r.front f.declared in
+    faulty-declares_nothing f.before (get_or words word []) at f.faulty r.after (subst (λ (x : Schema). Declares (get_or words word []) x (Ok r.after)) same r.here)
+
+none_step : (name : List ℕ) (n : ℕ) (x : Table) (xs ys : List Table) (b : Bool)
+    → (table_named name (n + 1) xs ≡ None → table_named name (n + 1) (xs ++ ys) ≡ table_named name (n + 1 + length xs) ys)
+    → cond b (Some (n, x)) (table_named name (n + 1) xs) ≡ None → cond b (Some (n, x)) (table_named name (n + 1) (xs ++ ys)) ≡ table_named name (n + length (x ∷ xs)) ys
+none_step name n x xs ys true behind e = cc
+none_step name n x xs ys false behind e = behind e ∙ ap (λ m. table_named name m ys) (let k : n + 1 + length xs ≡ n + length (x ∷ xs) = omega arith in k)
+
+-- a table that isn't among the first ones is sought behind them
+pub table_named-none : (name : List ℕ) (n : ℕ) (xs ys : List Table) → table_named name n xs ≡ None → table_named name n (xs ++ ys) ≡ table_named name (n + length xs) ys
+table_named-none name n [] ys e = ap (λ m. table_named name m ys) (let k : n ≡ n + 0 = omega arith in k)
+table_named-none name n (x ∷ xs) ys e = none_step name n x xs ys (bytes_eq name x.name) (table_named-none name (n + 1) xs ys) e
+
+found_step : (name : List ℕ) (n : ℕ) (cs : List Column) (b : Bool) → (has_column name cs ≡ true → (k : ℕ) × (column_named name (n + 1) cs ≡ Some k))
+    → (b || has_column name cs) ≡ true → (k : ℕ) × (cond b (Some n) (column_named name (n + 1) cs) ≡ Some k)
+found_step name n cs true behind e = (n, refl)
+found_step name n cs false behind e = behind e
+
+-- whether a column has the name tells whether it is found
+pub column_named-found : (name : List ℕ) (n : ℕ) (cs : List Column) → has_column name cs ≡ true → (k : ℕ) × (column_named name n cs ≡ Some k)
+column_named-found name n [] e = cc
+column_named-found name n (c ∷ cs) e = found_step name n cs (bytes_eq name c.name) (column_named-found name (n + 1) cs) e
+
+missing_step : (name : List ℕ) (n : ℕ) (cs : List Column) (b : Bool) → (has_column name cs ≡ false → column_named name (n + 1) cs ≡ None)
+    → (b || has_column name cs) ≡ false → cond b (Some n) (column_named name (n + 1) cs) ≡ None
+missing_step name n cs true behind e = cc
+missing_step name n cs false behind e = behind e
+
+pub column_named-none : (name : List ℕ) (n : ℕ) (cs : List Column) → has_column name cs ≡ false → column_named name n cs ≡ None
+column_named-none name n [] e = refl
+column_named-none name n (c ∷ cs) e = missing_step name n cs (bytes_eq name c.name) (column_named-none name (n + 1) cs) e
+
+-- the tables of before stand in front
+abbrev Grows : Schema → Schema → Type 0
+Grows s t = (more : List Table) × (t.tables ≡ s.tables ++ more)
+
+with_index-grows : (s t : Schema) (o : Result Index ℕ) → with_index s o ≡ Ok t → s.tables ≡ t.tables
+with_index-grows s t (Ok index) e = let k : record { tables = s.tables; indexes = s.indexes ++ index ∷ [] } ≡ t = cc in ap (λ (x : Schema). x.tables) k
+with_index-grows s t (Err at) e = absurd (false≢true (ap is_ok e))
+
+declaration-grows : (s t : Schema) (d : DeclarationText) → declared_behind s d ≡ Ok t → Grows s t
+declaration-grows s t (OfTable x) e = (table_of x ∷ [], (let k : with_table s (table_of x) ≡ t = cc in sym (ap (λ (x : Schema). x.tables) k)))
+declaration-grows s t (OfIndex i) e = ([], sym (append-nil s.tables ∙ with_index-grows s t (index_among s.tables i) e))
+
+pub words-grow : (words : List (List ℕ)) (s t : Schema) → DeclareBehind s words t → Grows s t
+words-grow [] s t h = ([], sym (append-nil s.tables ∙ ap (λ (x : Schema). x.tables) h))
+words-grow (w ∷ ws) s t h =
+    let first = declaration-grows s h.0 h.1.text h.1.makes in
+    let more = words-grow ws h.0 t h.2 in
+    (first.0 ++ more.0, more.1 ∙ ap (λ l. l ++ more.0) first.1 ∙ append_assoc s.tables first.0 more.0)

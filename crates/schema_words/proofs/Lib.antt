@@ -1,0 +1,5 @@
+pub mod NameReading
+pub mod ColumnReading
+pub mod ColumnsLoop
+pub mod WordReading
+pub mod DeclaredLemmas

@@ -1,0 +1,97 @@
+-- which schema a list of declarations denotes
+use Rattle.std.specs.Prelude.{◌≡◌, ℕ, ◌+◌, ◌^◌, ◌-◌, ◌/◌, min, false, List, [], ◌∷◌, ◌++◌, length, map, slice_get, Option, None, Some, Result, Ok, Err}
+use Rattle.std.specs.List.{position_from}
+use Rattle.std.specs.Str.{bytes_eq}
+use Rattle.block_model.specs.IndexedColumns.{columns_in}
+use Rattle.block_model.specs.RowSize.{row_size}
+use Rattle.block_model.specs.declared.schema.Class.{Class}
+use Rattle.block_model.specs.declared.schema.Class.TheVariants as classes
+use Rattle.block_model.specs.declared.schema.Column.{Column}
+use Rattle.block_model.specs.declared.schema.Table.{Table}
+use Rattle.block_model.specs.declared.schema.Index.{Index}
+use Rattle.block_model.specs.declared.schema.Schema.{Schema}
+use Rattle.text_reading.specs.Digits.{digits_from}
+use Rattle.schema_words.specs.DeclarationTexts.{TableText, ClassText, MinMax, IndexText, before_table, before_column, DeclarationText, OfTable, OfIndex, bytes_of, IsDeclaration}
+
+-- the number that is said, or the usual one; where it doesn't fit so many bits, the greatest that does, which no limit allows
+abbrev pub number_said : ℕ → ℕ → Option (List ℕ) → ℕ
+number_said bits usual None = usual
+number_said bits usual (Some digits) = min (digits_from 0 digits) (2 ^ bits - 1)
+
+-- how many rows fit the 8160 bytes of a page behind its header
+abbrev pub most_rows : List Column → ℕ
+most_rows columns = 8160 / row_size (map (λ c. c.kind) columns)
+
+-- a table: without a number of rows per page, as many as fit
+abbrev pub table_of : TableText → Table
+table_of t = record { name = t.name; rows_per_page = number_said 16 (most_rows t.columns) t.rows; columns = t.columns }
+
+-- an operator class
+abbrev pub class_of : ClassText → Class
+class_of MinMax = classes.MinMax
+
+-- the number of the first table of that name
+abbrev pub table_named : List ℕ → List Table → Option ℕ
+table_named name tables = position_from (λ t. bytes_eq name t.name) 0 tables
+
+-- the number of the first column of that name
+abbrev pub column_named : List ℕ → List Column → Option ℕ
+column_named name columns = position_from (λ c. bytes_eq name c.name) 0 columns
+
+-- an index on the table and the column of those numbers, without a number of pages per range of 128 each
+abbrev pub index_on : IndexText → ℕ → ℕ → Index
+index_on i table column = record {
+  name = i.name;
+  table = min table 255;
+  pages_per_range = number_said 32 128 i.pages;
+  auto = false;
+  parts = record { column = min column 255; class = class_of i.class } ∷ [];
+}
+
+-- the index on a column of that table, or where the name of the column begins
+abbrev pub on_column : IndexText → ℕ → Option ℕ → Result Index ℕ
+on_column i table None = Err (length (before_column i))
+on_column i table (Some column) = Ok (index_on i table column)
+
+-- the index on the table of that number, or where the name begins that isn't declared
+abbrev pub on_table : IndexText → List Table → Option ℕ → Result Index ℕ
+on_table i tables None = Err (length (before_table i))
+on_table i tables (Some table) = on_column i table (column_named i.column (columns_in (slice_get tables table)))
+
+-- the index among those tables, or where the name begins that isn't declared
+abbrev pub index_among : List Table → IndexText → Result Index ℕ
+index_among tables i = on_table i tables (table_named i.table tables)
+
+-- the schema with one table more
+abbrev pub with_table : Schema → Table → Schema
+with_table s table = record { tables = s.tables ++ table ∷ []; indexes = s.indexes }
+
+-- the schema with one index more, where there is one
+abbrev pub with_index : Schema → Result Index ℕ → Result Schema ℕ
+with_index s (Ok index) = Ok (record { tables = s.tables; indexes = s.indexes ++ index ∷ [] })
+with_index s (Err at) = Err at
+
+-- the schema with one declaration more, or where the name begins that isn't declared
+abbrev pub declared_behind : Schema → DeclarationText → Result Schema ℕ
+declared_behind s (OfTable t) = Ok (with_table s (table_of t))
+declared_behind s (OfIndex i) = with_index s (index_among s.tables i)
+
+-- the bytes are that declaration, which makes this of the schema
+pub record Declares (bytes : List ℕ) (before : Schema) (made : Result Schema ℕ) : Type 0 where
+  pub text : DeclarationText
+  pub of_grammar : IsDeclaration text
+  pub bytes_are : bytes ≡ bytes_of text
+  pub makes : declared_behind before text ≡ made
+
+-- the words are declarations which, one after another, make one schema of the other
+abbrev pub DeclareBehind : Schema → List (List ℕ) → Schema → Type 0
+DeclareBehind before [] after = before ≡ after
+DeclareBehind before (word ∷ words) after = (between : Schema) × Declares word before (Ok between) × DeclareBehind between words after
+
+-- the schema of nothing
+abbrev pub nothing_declared : Schema
+nothing_declared = record { tables = []; indexes = [] }
+
+-- the words are a list of declarations, which denotes the schema
+abbrev pub Denotes : List (List ℕ) → Schema → Type 0
+Denotes words schema = DeclareBehind nothing_declared words schema

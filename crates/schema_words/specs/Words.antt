@@ -1,0 +1,75 @@
+-- What the code's parts of a declaration are.
+use Rattle.std.specs.Prelude.{◌≡◌, ℕ, Bool, if◌then◌else◌, List, ◌++◌, Option, None, Some, Result, Ok, Err}
+use Rattle.std.specs.List.{list_any}
+use Rattle.std.specs.Str.{bytes_eq}
+use Rattle.std.specs.Borrow.{Bor}
+use Rattle.block_model.specs.declared.schema.Column.{Column}
+use Rattle.block_model.specs.declared.schema.Table.{Table}
+use Rattle.schema_words.specs.declared.table.TableWord.{TableWord}
+use Rattle.schema_words.specs.declared.index.ClassWord.{ClassWord}
+use Rattle.schema_words.specs.declared.index.ClassWord.TheVariants as code_class
+use Rattle.schema_words.specs.declared.index.IndexWord.{IndexWord}
+use Rattle.schema_words.specs.declared.column.ColumnWord.{ColumnWord}
+use Rattle.schema_words.specs.declared.column.ColumnsWord.{ColumnsWord}
+use Rattle.schema_words.specs.declared.declaration.Declaration.{Declaration}
+use Rattle.schema_words.specs.declared.declaration.Declaration.TheVariants as code
+use Rattle.schema_words.specs.DeclarationTexts.{TableText, ClassText, MinMax, IndexText, DeclarationText, OfTable, OfIndex}
+use Rattle.schema_words.specs.DeclaredSchema.{number_said, most_rows}
+
+-- what a function returned is what reading gives, by that relation
+abbrev pub GivesAs : {X Y : Type 0} → (X → Y → Type 0) → Result (X × Bor (List ℕ)) (Bor (List ℕ)) → Result (Y × List ℕ) (List ℕ) → Type 0
+GivesAs {X} {Y} Is (Ok x) read = (y : Y) × (read ≡ Ok (y, x.1.now)) × Is x.0 y
+GivesAs Is (Err rest) read = read ≡ Err rest.now
+
+-- the digits of a setting
+abbrev pub said : Option (Bor (List ℕ)) → Option (List ℕ)
+said None = None
+said (Some digits) = Some digits.now
+
+-- those columns more are kept, or none is
+abbrev pub KeepsMore : Option (List Column) → List Column → Option (List Column) → Type 0
+KeepsMore before columns None = Unit {0}
+KeepsMore None columns (Some after) = ⊥
+KeepsMore (Some before) columns (Some after) = after ≡ before ++ columns
+
+-- a column
+abbrev pub column_of : ColumnWord → Column
+column_of c = record { name = c.name.now; kind = c.kind }
+
+-- a column has the name
+abbrev pub has_column : List ℕ → List Column → Bool
+has_column name columns = list_any (λ c. bytes_eq name c.name) columns
+
+-- the columns are kept behind those, and it is known whether one has the name
+pub record AreRead (kept : Option (List Column)) (wanted : List ℕ) (read : ColumnsWord) (columns : List Column) : Type 0 where
+  pub keeps : KeepsMore kept columns read.kept
+  pub found : read.found ≡ has_column wanted columns
+
+-- the table's parts
+pub record IsTableRead (kept : Option (List Column)) (wanted : List ℕ) (word : TableWord) (text : TableText) : Type 0 where
+  pub name : word.name.now ≡ text.name
+  pub columns : AreRead kept wanted word.columns text.columns
+  pub rows : said word.rows ≡ text.rows
+
+-- the table with those columns
+abbrev pub table_with : TableWord → List Column → Table
+table_with word columns = record { name = word.name.now; rows_per_page = number_said 16 (most_rows columns) (said word.rows); columns = columns }
+
+-- a class
+abbrev pub class_text : ClassWord → ClassText
+class_text code_class.MinMax = MinMax
+
+-- the index's parts
+abbrev pub index_text : IndexWord → IndexText
+index_text i = record { name = i.name.now; table = i.table.now; column = i.column.now; class = class_text i.class; pages = said i.pages }
+
+-- the parts of a table or of an index
+abbrev pub IsRead : Option (List Column) → List ℕ → Declaration → DeclarationText → Type 0
+IsRead kept wanted (code.Table word) (OfTable text) = IsTableRead kept wanted word text
+IsRead kept wanted (code.Index word) (OfIndex text) = index_text word ≡ text
+IsRead kept wanted word text = ⊥
+
+-- whether the declaration is that table, and then whether it has that column
+abbrev pub column_sought : List ℕ → List ℕ → DeclarationText → Option Bool
+column_sought table column (OfTable t) = if bytes_eq table t.name then Some (has_column column t.columns) else None
+column_sought table column (OfIndex i) = None

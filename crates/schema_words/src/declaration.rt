@@ -1,0 +1,47 @@
+// A declaration, one word.
+
+ghost use Rattle.std.specs.Prelude.{◌≡◌, ◌==◌};
+ghost use Rattle.text_reading.specs.Reading.{begins, whole};
+ghost use Rattle.schema_words.specs.DeclarationReading.{declaration_at};
+ghost use Rattle.schema_words.specs.Words.{GivesAs, IsRead};
+
+use crate::index::{IndexWord, index};
+use crate::table::{TableWord, table};
+use block_model::schema::Columns;
+use text_reading::{Reading, end};
+
+/// A declaration as it is written.
+#[derive(Drop)]
+pub enum Declaration<'a> {
+    Table(TableWord<'a>),
+    Index(IndexWord<'a>),
+}
+
+/// All of a word, or what is left of it where no declaration goes on.
+pub fn read_declaration<'a>(kept: Option<Columns>, wanted: &[u8], text: &'a [u8]) -> Reading<'a, Declaration<'a>>
+    ensures { GivesAs (IsRead kept wanted.now) result (whole declaration_at text.now) }
+{
+    let (declaration, rest) = front(kept, wanted, text)?;
+    end(rest)?;
+    Ok((declaration, rest))
+}
+
+fn front<'a>(kept: Option<Columns>, wanted: &[u8], text: &'a [u8]) -> Reading<'a, Declaration<'a>>
+    ensures { GivesAs (IsRead kept wanted.now) result (declaration_at text.now) }
+{
+    if begins_table(text) {
+        let (table, rest) = table(kept, wanted, text)?;
+        return Ok((Declaration::Table(table), rest));
+    }
+    let (index, rest) = index(text)?;
+    Ok((Declaration::Index(index), rest))
+}
+
+fn begins_table(text: &[u8]) -> bool
+    ensures { result ≡ begins (λ c. c == 116) text.now }
+{
+    match text {
+        [first, ..] => *first == b't',
+        [] => false,
+    }
+}

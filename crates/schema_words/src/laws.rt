@@ -1,0 +1,18 @@
+// What words and schemas are to one another.
+
+ghost use Rattle.schema_words.specs.Laws.{BytesAreOneDeclaration, WordsDenoteOneSchema, FaultyWordsDenoteNothing};
+
+/// No bytes are a declaration in two ways.
+pub fn bytes_are_one_declaration()
+    ensures { BytesAreOneDeclaration }
+{}
+
+/// No words denote two schemas.
+pub fn words_denote_one_schema()
+    ensures { WordsDenoteOneSchema }
+{}
+
+/// Words of which one is at fault denote no schema.
+pub fn faulty_words_denote_nothing()
+    ensures { FaultyWordsDenoteNothing }
+{}

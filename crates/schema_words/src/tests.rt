@@ -1,0 +1,1 @@
+// Lists of declarations that are read, and faults with their places.

@@ -1,0 +1,4 @@
+pub mod Lawful
+pub mod Whole
+pub mod DigitLemmas
+pub mod DigitReading
