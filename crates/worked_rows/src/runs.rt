@@ -12,10 +12,10 @@ use std::test::Fail;
 /// How many bytes of output there is room for.
 const ROOM: usize = 4096;
 
-/// The words of a command line, a script, and what is written for it.
+/// The words of a command line with `|` between them, a script, and what is written for it.
 #[derive(Clone, Copy, Debug)]
 pub struct Row<'a> {
-    pub words: &'a [&'a [u8]],
+    pub words: &'a str,
     pub script: &'a [u8],
     pub output: &'a [u8],
     pub status: u8,
@@ -34,10 +34,10 @@ pub const NO_FAULTS: Faults<'static> = Faults {
     writes: &[],
 };
 
-pub fn words_of(alloc: Global, words: &[&[u8]]) -> Result<Words, Fail> {
+fn words_of(alloc: Global, words: &str) -> Result<Words, Fail> {
     let mut list = Words::new(alloc);
-    for word in words {
-        list.push(word)?;
+    for word in words.split('|') {
+        list.push(word.as_bytes())?;
     }
     Ok(list)
 }
@@ -50,8 +50,23 @@ pub fn holds(alloc: Global, row: &Row<'_>, piece: usize, faults: &Faults<'_>) ->
     let reads = Vec::from_slice(alloc, faults.reads)?;
     let writes = Vec::from_slice(alloc, faults.writes)?;
     let words = words_of(alloc, row.words)?;
+    ran(alloc, &words, script, reads, writes, piece, row)
+}
+
+/// Whether these words give the row's output and status.
+pub fn ran(
+    alloc: Global,
+    words: &Words,
+    script: Vec<u8>,
+    reads: Vec<u64>,
+    writes: Vec<u64>,
+    piece: usize,
+    row: &Row<'_>,
+) -> Result<bool, Fail>
+    requires { 0 < piece }
+{
     let mut source = MemorySource::new(script, piece, reads);
     let mut sink = MemorySink::new(alloc, ROOM, piece, writes)?;
-    let status = brin_main(alloc, &words, &mut source, &mut sink);
+    let status = brin_main(alloc, words, &mut source, &mut sink);
     Ok(status == row.status && sink.bytes() == row.output)
 }
