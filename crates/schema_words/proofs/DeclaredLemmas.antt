@@ -1,6 +1,8 @@
 -- What words declare, one after another.
 use Rattle.std.proofs.Common.{◌≡◌, ℕ, zero, suc, ◌+◌, ◌<◌, Bool, true, false, cond, ◌||◌, List, [], ◌∷◌, ◌++◌, length, take, get_or, Result, Ok, Err, Option, None, Some, ◌⊎◌, inl, inr, refl, sym, ap, subst, ◌∙◌, arith, append_assoc, append-nil}
-use Rattle.std.specs.List.{list_any}
+use Rattle.std.specs.Prelude.{slice_get}
+use Rattle.std.specs.List.{list_any, position_from}
+use Rattle.block_model.specs.IndexedColumns.{columns_in}
 use Rattle.std.specs.Str.{bytes_eq}
 use Rattle.std.specs.Result.{is_ok}
 use Rattle.std.proofs.lemmas.Bool.{false≢true}
@@ -10,7 +12,7 @@ use Rattle.block_model.specs.declared.schema.Index.{Index}
 use Rattle.block_model.specs.declared.schema.Schema.{Schema}
 use Rattle.text_reading.specs.StopsAt.{StopsAt}
 use Rattle.text_reading.proofs.Whole.{one-text}
-use Rattle.schema_words.specs.DeclarationTexts.{DeclarationText, OfTable, OfIndex, IndexText, bytes_of, IsDeclaration}
+use Rattle.schema_words.specs.DeclarationTexts.{TableText, DeclarationText, OfTable, OfIndex, IndexText, bytes_of, IsDeclaration}
 use Rattle.schema_words.specs.DeclaredSchema.{table_of, table_named, column_named, index_on, on_table, on_column, index_among, with_table, with_index, declared_behind, Declares, DeclareBehind, nothing_declared, Denotes}
 use Rattle.schema_words.specs.FirstFault.{IsFaulty, IsFirstFault}
 use Rattle.schema_words.specs.DeclarationReading.{declaration_at}
@@ -69,35 +71,53 @@ fault-denotes_nothing words word at f schema h =
     let same : r.before ≡ f.before = words-one (take word words) nothing_declared r.before f.before r.front f.declared in
     faulty-declares_nothing f.before (get_or words word []) at f.faulty r.after (subst (λ (x : Schema). Declares (get_or words word []) x (Ok r.after)) same r.here)
 
-none_step : (name : List ℕ) (n : ℕ) (x : Table) (xs ys : List Table) (b : Bool)
-    → (table_named name (n + 1) xs ≡ None → table_named name (n + 1) (xs ++ ys) ≡ table_named name (n + 1 + length xs) ys)
-    → cond b (Some (n, x)) (table_named name (n + 1) xs) ≡ None → cond b (Some (n, x)) (table_named name (n + 1) (xs ++ ys)) ≡ table_named name (n + length (x ∷ xs)) ys
-none_step name n x xs ys true behind e = cc
-none_step name n x xs ys false behind e = behind e ∙ ap (λ m. table_named name m ys) (let k : n + 1 + length xs ≡ n + length (x ∷ xs) = omega arith in k)
+abbrev is_table : List ℕ → Table → Bool
+is_table name t = bytes_eq name t.name
+
+abbrev is_column : List ℕ → Column → Bool
+is_column name c = bytes_eq name c.name
+
+none_step : (name : List ℕ) (n : ℕ) (xs ys : List Table) (b : Bool)
+    → (position_from (is_table name) (n + 1) xs ≡ None → position_from (is_table name) (n + 1) (xs ++ ys) ≡ position_from (is_table name) (n + 1 + length xs) ys)
+    → cond b (Some n) (position_from (is_table name) (n + 1) xs) ≡ None → cond b (Some n) (position_from (is_table name) (n + 1) (xs ++ ys)) ≡ position_from (is_table name) (n + suc (length xs)) ys
+none_step name n xs ys true behind e = cc
+none_step name n xs ys false behind e = behind e ∙ ap (λ m. position_from (is_table name) m ys) (let k : n + 1 + length xs ≡ n + suc (length xs) = omega arith in k)
 
 -- a table that isn't among the first ones is sought behind them
-pub table_named-none : (name : List ℕ) (n : ℕ) (xs ys : List Table) → table_named name n xs ≡ None → table_named name n (xs ++ ys) ≡ table_named name (n + length xs) ys
-table_named-none name n [] ys e = ap (λ m. table_named name m ys) (let k : n ≡ n + 0 = omega arith in k)
-table_named-none name n (x ∷ xs) ys e = none_step name n x xs ys (bytes_eq name x.name) (table_named-none name (n + 1) xs ys) e
+pub sought_behind : (name : List ℕ) (n : ℕ) (xs ys : List Table) → position_from (is_table name) n xs ≡ None → position_from (is_table name) n (xs ++ ys) ≡ position_from (is_table name) (n + length xs) ys
+sought_behind name n [] ys e = ap (λ m. position_from (is_table name) m ys) (let k : n ≡ n + 0 = omega arith in k)
+sought_behind name n (x ∷ xs) ys e = none_step name n xs ys (is_table name x) (sought_behind name (n + 1) xs ys) e
 
-found_step : (name : List ℕ) (n : ℕ) (cs : List Column) (b : Bool) → (has_column name cs ≡ true → (k : ℕ) × (column_named name (n + 1) cs ≡ Some k))
-    → (b || has_column name cs) ≡ true → (k : ℕ) × (cond b (Some n) (column_named name (n + 1) cs) ≡ Some k)
+found_step : (name : List ℕ) (n : ℕ) (cs : List Column) (b : Bool) → (has_column name cs ≡ true → (k : ℕ) × (position_from (is_column name) (n + 1) cs ≡ Some k))
+    → (b || has_column name cs) ≡ true → (k : ℕ) × (cond b (Some n) (position_from (is_column name) (n + 1) cs) ≡ Some k)
 found_step name n cs true behind e = (n, refl)
 found_step name n cs false behind e = behind e
 
 -- whether a column has the name tells whether it is found
-pub column_named-found : (name : List ℕ) (n : ℕ) (cs : List Column) → has_column name cs ≡ true → (k : ℕ) × (column_named name n cs ≡ Some k)
-column_named-found name n [] e = cc
-column_named-found name n (c ∷ cs) e = found_step name n cs (bytes_eq name c.name) (column_named-found name (n + 1) cs) e
+pub column-found : (name : List ℕ) (n : ℕ) (cs : List Column) → has_column name cs ≡ true → (k : ℕ) × (position_from (is_column name) n cs ≡ Some k)
+column-found name n [] e = cc
+column-found name n (c ∷ cs) e = found_step name n cs (is_column name c) (column-found name (n + 1) cs) e
 
-missing_step : (name : List ℕ) (n : ℕ) (cs : List Column) (b : Bool) → (has_column name cs ≡ false → column_named name (n + 1) cs ≡ None)
-    → (b || has_column name cs) ≡ false → cond b (Some n) (column_named name (n + 1) cs) ≡ None
+missing_step : (name : List ℕ) (n : ℕ) (cs : List Column) (b : Bool) → (has_column name cs ≡ false → position_from (is_column name) (n + 1) cs ≡ None)
+    → (b || has_column name cs) ≡ false → cond b (Some n) (position_from (is_column name) (n + 1) cs) ≡ None
 missing_step name n cs true behind e = cc
 missing_step name n cs false behind e = behind e
 
-pub column_named-none : (name : List ℕ) (n : ℕ) (cs : List Column) → has_column name cs ≡ false → column_named name n cs ≡ None
-column_named-none name n [] e = refl
-column_named-none name n (c ∷ cs) e = missing_step name n cs (bytes_eq name c.name) (column_named-none name (n + 1) cs) e
+pub column-missing : (name : List ℕ) (n : ℕ) (cs : List Column) → has_column name cs ≡ false → position_from (is_column name) n cs ≡ None
+column-missing name n [] e = refl
+column-missing name n (c ∷ cs) e = missing_step name n cs (is_column name c) (column-missing name (n + 1) cs) e
+
+slice_get-seam : (xs ys : List Table) (t : Table) → slice_get (xs ++ t ∷ ys) (length xs) ≡ Some t
+slice_get-seam [] ys t = refl
+slice_get-seam (x ∷ xs) ys t = slice_get-seam xs ys t
+
+-- the first table of a name behind tables that haven't it
+pub first-table : (i : IndexText) (xs ys : List Table) (t : Table) → table_named i.table xs ≡ None → bytes_eq i.table t.name ≡ true
+    → index_among (xs ++ t ∷ ys) i ≡ on_column i (length xs) (column_named i.column t.columns)
+first-table i xs ys t none here =
+    let at : table_named i.table (xs ++ t ∷ ys) ≡ Some (length xs) =
+    sought_behind i.table 0 xs (t ∷ ys) none ∙ ap (λ b. cond b (Some (0 + length xs)) (position_from (is_table i.table) (0 + length xs + 1) ys)) here ∙ ap Some (let k : 0 + length xs ≡ length xs = omega arith in k) in
+    ap (on_table i (xs ++ t ∷ ys)) at ∙ ap (λ o. on_column i (length xs) (column_named i.column (columns_in o))) (slice_get-seam xs ys t)
 
 -- the tables of before stand in front
 abbrev Grows : Schema → Schema → Type 0
@@ -111,9 +131,18 @@ declaration-grows : (s t : Schema) (d : DeclarationText) → declared_behind s d
 declaration-grows s t (OfTable x) e = (table_of x ∷ [], (let k : with_table s (table_of x) ≡ t = cc in sym (ap (λ (x : Schema). x.tables) k)))
 declaration-grows s t (OfIndex i) e = ([], sym (append-nil s.tables ∙ with_index-grows s t (index_among s.tables i) e))
 
+-- words one after another keep the tables in front
 pub words-grow : (words : List (List ℕ)) (s t : Schema) → DeclareBehind s words t → Grows s t
 words-grow [] s t h = ([], sym (append-nil s.tables ∙ ap (λ (x : Schema). x.tables) h))
 words-grow (w ∷ ws) s t h =
     let first = declaration-grows s h.0 h.1.text h.1.makes in
     let more = words-grow ws h.0 t h.2 in
     (first.0 ++ more.0, more.1 ∙ ap (λ l. l ++ more.0) first.1 ∙ append_assoc s.tables first.0 more.0)
+
+-- and a table declared behind tables stands behind them
+pub split-table : (s t : Schema) (words : List (List ℕ)) (n : ℕ) (r : Split s words n t) (x : TableText) → r.here.text ≡ OfTable x → (more : List Table) × (t.tables ≡ r.before.tables ++ table_of x ∷ more)
+split-table s t words n r x e =
+    let made : Ok (with_table r.before (table_of x)) ≡ Ok r.after = sym (ap (declared_behind r.before) e) ∙ r.here.makes in
+    let same : with_table r.before (table_of x) ≡ r.after = cc in
+    let more = words-grow r.rest r.after t r.back in
+    (more.0, more.1 ∙ ap (λ (u : Schema). u.tables ++ more.0) (sym same) ∙ append_assoc r.before.tables (table_of x ∷ []) more.0)

@@ -13,7 +13,7 @@ use Rattle.schema_words.specs.declared.column.ColumnWord.{ColumnWord}
 use Rattle.schema_words.specs.declared.column.ColumnsWord.{ColumnsWord}
 use Rattle.schema_words.specs.declared.declaration.Declaration.{Declaration}
 use Rattle.schema_words.specs.declared.declaration.Declaration.TheVariants as code
-use Rattle.schema_words.specs.DeclarationTexts.{TableText, ClassText, MinMax, IndexText, DeclarationText, OfTable, OfIndex}
+use Rattle.schema_words.specs.DeclarationTexts.{TableText, ClassText, MinMax, IndexText, DeclarationText, OfTable, OfIndex, bytes_of, IsDeclaration}
 use Rattle.schema_words.specs.DeclaredSchema.{number_said, most_rows}
 
 -- what a function returned is what reading gives, by that relation
@@ -68,6 +68,13 @@ abbrev pub IsRead : Option (List Column) → List ℕ → Declaration → Declar
 IsRead kept wanted (code.Table word) (OfTable text) = IsTableRead kept wanted word text
 IsRead kept wanted (code.Index word) (OfIndex text) = index_text word ≡ text
 IsRead kept wanted word text = ⊥
+
+-- the bytes are a declaration, of which the word has the parts
+pub record Reads (kept : Option (List Column)) (wanted bytes : List ℕ) (word : Declaration) : Type 0 where
+  pub text : DeclarationText
+  pub of_grammar : IsDeclaration text
+  pub bytes_are : bytes ≡ bytes_of text
+  pub parts : IsRead kept wanted word text
 
 -- whether the declaration is that table, and then whether it has that column
 abbrev pub column_sought : List ℕ → List ℕ → DeclarationText → Option Bool

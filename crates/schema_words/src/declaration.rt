@@ -1,9 +1,11 @@
 // A declaration, one word.
 
-ghost use Rattle.std.specs.Prelude.{◌≡◌, ◌==◌};
+ghost use Rattle.std.specs.Prelude.{◌≡◌, ◌==◌, MatchResult};
 ghost use Rattle.text_reading.specs.Reading.{begins, whole};
+ghost use Rattle.text_reading.specs.StopsAt.{StopsAt};
+ghost use Rattle.schema_words.specs.DeclarationTexts.{bytes_of, IsDeclaration};
 ghost use Rattle.schema_words.specs.DeclarationReading.{declaration_at};
-ghost use Rattle.schema_words.specs.Words.{GivesAs, IsRead};
+ghost use Rattle.schema_words.specs.Words.{GivesAs, IsRead, Reads};
 
 use crate::index::{IndexWord, index};
 use crate::table::{TableWord, table};
@@ -17,8 +19,17 @@ pub enum Declaration<'a> {
     Index(IndexWord<'a>),
 }
 
-/// All of a word, or what is left of it where no declaration goes on.
-pub fn read_declaration<'a>(kept: Option<Columns>, wanted: &[u8], text: &'a [u8]) -> Reading<'a, Declaration<'a>>
+/// The parts of a declaration, or the first byte where no declaration goes on.
+pub fn read_declaration<'a>(kept: Option<Columns>, wanted: &[u8], text: &'a [u8]) -> Result<Declaration<'a>, usize>
+    ensures { MatchResult result (Reads kept wanted.now text.now) (StopsAt bytes_of IsDeclaration text.now) }
+{
+    match all_of(kept, wanted, text) {
+        Ok((declaration, _)) => Ok(declaration),
+        Err(left) => Err(text.len() - left.len()),
+    }
+}
+
+fn all_of<'a>(kept: Option<Columns>, wanted: &[u8], text: &'a [u8]) -> Reading<'a, Declaration<'a>>
     ensures { GivesAs (IsRead kept wanted.now) result (whole declaration_at text.now) }
 {
     let (declaration, rest) = front(kept, wanted, text)?;

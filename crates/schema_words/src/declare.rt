@@ -27,14 +27,12 @@ pub fn declare(alloc: Global, schema: &mut Schema, word: &[u8]) -> Result<(), Wo
     ensures form { (at : ℕ) → result ≡ Err (WordFault.Form at) → IsFaulty schema.old word.now at }
 {
     match read_declaration(Some(Columns::new(alloc)), b"", word) {
-        Ok((Declaration::Table(table), _)) => add_table(&mut schema.tables, table),
-        Ok((Declaration::Index(index), _)) => {
+        Ok(Declaration::Table(table)) => add_table(&mut schema.tables, table),
+        Ok(Declaration::Index(index)) => {
             let Schema { tables, indexes } = schema;
             add_index(alloc, tables.as_slice(), indexes, &index)
         }
-        Err(left) => Err(WordFault::Form {
-            at: word.len() - left.len(),
-        }),
+        Err(at) => Err(WordFault::Form { at }),
     }
 }
 

@@ -1,6 +1,7 @@
 // Words judged without memory.
 
-ghost use Rattle.std.specs.Prelude.{◌≡◌, ℕ, ◌<◌, ◌≤◌, [], slice_index_or, length, take, Ok, Err, MatchResult};
+ghost use Rattle.std.specs.Prelude.{◌≡◌, ℕ, ◌<◌, ◌≤◌, [], slice_index_or, length, take, Ok, Err, None, Some, if◌then◌else◌, MatchResult};
+ghost use Rattle.std.specs.Str.{bytes_eq};
 ghost use Rattle.block_model.specs.declared.schema.Schema.{Schema};
 ghost use Rattle.block_model.specs.declared.schema.Index.{Index};
 ghost use Rattle.schema_words.specs.DeclarationTexts.{DeclarationText, bytes_of, IsDeclaration, IsIndex};
@@ -11,6 +12,7 @@ ghost use Rattle.schema_words.specs.Words.{index_text, column_sought};
 use crate::declaration::{Declaration, read_declaration};
 use crate::declarations::DeclFault;
 use crate::index::IndexWord;
+use crate::table::TableWord;
 use block_model::words::Words;
 
 /// The first fault of the words, or want of memory where they have none. Takes no memory.
@@ -31,11 +33,10 @@ fn judge(words: &Words, word: usize) -> Result<(), usize>
     requires { word < length words.now }
     ensures { (before : Schema) → Denotes (take word words.now) before → MatchResult result (λ u. (after : Schema) × Declares (slice_index_or words.now word []) before (Ok after)) (λ at. IsFaulty before (slice_index_or words.now word []) at) }
 {
-    let text = words.word(word);
-    match read_declaration(None, b"", text) {
-        Ok((Declaration::Table(_table), _)) => Ok(()),
-        Ok((Declaration::Index(index), _)) => judge_index(words, word, &index),
-        Err(left) => Err(text.len() - left.len()),
+    match read_declaration(None, b"", words.word(word)) {
+        Ok(Declaration::Table(_table)) => Ok(()),
+        Ok(Declaration::Index(index)) => judge_index(words, word, &index),
+        Err(at) => Err(at),
     }
 }
 
@@ -60,11 +61,19 @@ fn has_column(text: &[u8], index: &IndexWord<'_>) -> Option<bool>
     ensures { (declared : DeclarationText) → IsDeclaration declared → text.now ≡ bytes_of declared → result ≡ column_sought index.now.table.now index.now.column.now declared }
 {
     match read_declaration(None, index.column, text) {
-        Ok((Declaration::Table(table), _))
-            if index.table == table.name =>
-        {
-            Some(table.columns.found)
-        }
-        _ => None,
+        Ok(Declaration::Table(table)) => column_in(&table, index.table),
+        Ok(Declaration::Index(_index)) => None,
+        Err(_at) => None,
+    }
+}
+
+/// Whether the wanted column was found in a table, where the table has that name.
+fn column_in(table: &TableWord<'_>, name: &[u8]) -> Option<bool>
+    ensures { result ≡ (if bytes_eq name.now table.now.name.now then Some table.now.columns.found else None) }
+{
+    if name == table.name {
+        Some(table.columns.found)
+    } else {
+        None
     }
 }

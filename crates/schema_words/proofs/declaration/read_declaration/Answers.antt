@@ -1,7 +1,11 @@
-use Rattle.std.proofs.lemmas.Result.{err_from_is_err_and}
-use Rattle.text_reading.proofs.Whole.{whole-stops, whole-stops_behind, whole-ends}
-use Rattle.schema_words.specs.DeclarationReading.{declaration_at}
+use Rattle.schema_words.proofs.WordLemmas.{read-reads, stops-leaves, stops-there}
 use Rattle.schema_words.proofs.declaration.read_declaration.Goals as goal
 
-pub returns : goal.returns
-returns c = (c.in_ok-declaration.ensures.0, whole-ends declaration_at c.args.text.now c.in_ok-declaration.ensures.0 c.in_ok-declaration.rest.now c.in_ok-declaration.ensures.1 c.in_ok-end.ensures, c.in_ok-declaration.ensures.2)
+pub overflow_sub-result : goal.overflow_sub-result
+overflow_sub-result c = stops-leaves c.args.text.now c.in-Err.left.now c.in-Err.ensures
+
+pub returns-in-Ok : goal.returns-in-Ok
+returns-in-Ok c = read-reads c.args.kept c.args.wanted.now c.args.text.now c.in-Ok.declaration c.in-Ok.field-0-1.now c.in-Ok.ensures.0 c.in-Ok.ensures.1 c.in-Ok.ensures.2
+
+pub returns-in-Err : goal.returns-in-Err
+returns-in-Err c = stops-there c.args.text.now c.in-Err.left.now c.in-Err.ensures
