@@ -69,8 +69,9 @@ fn append_kept(
     append(from, end, out)
 }
 
-/// Appends the blocks from `from` on that are below `end`, or the first ones of them.
-fn append(from: u32, end: u32, out: &mut Blocks) -> Result<(), NoMemory>
+/// Appends the blocks from `from` on that are below `end`, in ascending order. Where memory is refused, some first ones of
+/// them are appended.
+pub fn append(from: u32, end: u32, out: &mut Blocks) -> Result<(), NoMemory>
     requires { from ≤ end }
     ensures ok { OnOk result (out.new ≡ out.old ++ range_with_len from (end - from)) }
     ensures err { OnErr result (AddsFront (range_with_len from (end - from)) out.old out.new) }

@@ -27,7 +27,8 @@ pub(crate) fn keeps(summary: &Summary, conds: &[Cond]) -> bool
     true
 }
 
-fn allows(summary: &Summary, cond: &Cond) -> bool
+/// Whether the condition may be met by a value that the summary includes; true of `is null` and `is not null`.
+pub fn allows(summary: &Summary, cond: &Cond) -> bool
     ensures answer { result ≡ allows summary.now cond.now }
     ensures misses_no_match { result ≡ false → (v : Value) → Includes summary.now v → meets v cond.now ≡ false }
 {

@@ -10,5 +10,9 @@ mod laws;
 #[cfg(test)]
 mod tests;
 
-pub use blocks::{all_blocks, given};
-pub use laws::a_block_left_out_holds_no_match;
+pub use blocks::{all_blocks, append, given};
+pub use judge::allows;
+pub use laws::{
+    a_block_left_out_holds_no_match, a_summary_that_keeps_no_match_includes_none,
+    conditions_are_kept_one_by_one,
+};

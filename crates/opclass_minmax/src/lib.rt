@@ -6,6 +6,7 @@
 mod bytes;
 pub mod class;
 pub mod exact;
+pub mod laws;
 pub mod summary;
 #[cfg(test)]
 mod tests;

@@ -4,6 +4,11 @@
 // and bitmap_scan, and on row_versions for rows by blocks.
 #![tactic(auto)]
 
+mod index_ranges;
+mod laws;
+mod range;
 mod summaries;
+#[cfg(test)]
+mod tests;
 
 pub use summaries::Summaries;
