@@ -144,7 +144,7 @@ some_rows (t ∷ ts) e = (one_or_more 1 _ t.rows_per_page (both_left _ _ e), som
 pub have_minmax_indexes : (words : List (List ℕ)) (schema : Schema) (sizes : Sizes) → Denotes words schema → KeepsLimits schema sizes → HasMinMaxIndexes schema
 have_minmax_indexes words schema sizes denoted limits = record {
   indexes =
-    lawful_indexes schema schema.indexes (behind_have words nothing_declared schema tt denoted)
-    (both_right (nat_le (length schema.indexes) 8) _ (limits 3)) (limits 5) (limits 6);
+      lawful_indexes schema schema.indexes (behind_have words nothing_declared schema tt denoted)
+      (both_right (nat_le (length schema.indexes) 8) _ (limits 3)) (limits 5) (limits 6);
   some_rows = some_rows schema.tables (limits 4);
 }

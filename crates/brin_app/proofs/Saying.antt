@@ -96,9 +96,9 @@ said_by_session s s' name statement reply idle within acts =
       short = acts.short;
       text_is = ap (reply_text name) acts.replied ∙ sym (ap (λ (a : LineAnswer). a.text) is);
       leads =
-        ap (λ names. record { names = names; journal = s'.journal }) acts.names
-        ∙ ap (λ journal. record { names = with_session s.names name; journal = journal }) acts.journal
-        ∙ sym (ap (λ (a : LineAnswer). place_after (place_of s) a) is);
+          ap (λ names. record { names = names; journal = s'.journal }) acts.names
+          ∙ ap (λ journal. record { names = with_session s.names name; journal = journal }) acts.journal
+          ∙ sym (ap (λ (a : LineAnswer). place_after (place_of s) a) is);
       fits = acts.fits;
     }
 

@@ -55,11 +55,7 @@ impl Sessions {
 }
 
 /// Appends the text of a line, and does what it says.
-fn answer_line(
-    sessions: &mut Sessions,
-    line: &[u8],
-    out: &mut Vec<u8>,
-) -> Result<(), AnswerFault>
+fn answer_line(sessions: &mut Sessions, line: &[u8], out: &mut Vec<u8>) -> Result<(), AnswerFault>
     ensures ok { OnOk result ((text : List ℕ) × (out.new.items ≡ out.old.items ++ text) × (AreIdle sessions.old.store → IsAnswered sessions.old.store line.now text sessions.new.store)) }
     ensures full { AreIdle sessions.old.store → IsErrOf result AnswerFault.Full → LacksRoom (explained sessions.old.store.layout.schema) sessions.old.store.layout.schema (place_of sessions.old.store) line.now }
 {

@@ -68,10 +68,12 @@ fn read_words(alloc: Global, words: &Words) -> Result<Layout, WordsFault>
     ensures usage { result ≡ Err WordsFault.Usage → AsksForNothing words.now }
 {
     match read_command(alloc, words) {
-        Ok(Command::Run {
-            sizes,
-            declarations,
-        }) => match read_declarations(alloc, &declarations) {
+        Ok(
+            Command::Run {
+                sizes,
+                declarations,
+            },
+        ) => match read_declarations(alloc, &declarations) {
             Ok(schema) => layout_of(schema, sizes),
             Err(DeclFault::Form { .. }) => Err(WordsFault::Usage),
             Err(DeclFault::Memory) => Err(WordsFault::Memory),

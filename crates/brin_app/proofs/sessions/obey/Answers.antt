@@ -12,5 +12,5 @@ returns-in-Nothing-clause-ok c = (
   [],
   sym (append-nil c.args.out.now.items),
   λ idle. subst (λ (line : Line). IsSaid c.args.store.now (Ok line) [] c.args.store.now) (sym c.in-Nothing.is)
-  (said_nothing c.args.store.now (Ok lines.Nothing) [] c.known.ensures idle refl),
+      (said_nothing c.args.store.now (Ok lines.Nothing) [] c.known.ensures idle refl),
 )

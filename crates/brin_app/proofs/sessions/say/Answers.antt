@@ -20,6 +20,6 @@ returns-clause-ok c =
       reply_text c.args.session.now c.in_ok-reply.reply,
       e,
       λ idle. said_by_session c.args.store.now c.act.new.store c.args.session.now c.args.statement c.in_ok-reply.reply idle has.0
-      (acts_at c.args.store.now c.session.new.self c.act.new.store c.args.session.now c.in-Ok.number c.args.statement c.in_ok-reply.reply has.1 has.2
-      (c.in_ok-reply.ensures.ok (idle_at c.args.store.now c.session.new.self c.args.session.now c.in-Ok.number has.2 idle))),
+          (acts_at c.args.store.now c.session.new.self c.act.new.store c.args.session.now c.in-Ok.number c.args.statement c.in_ok-reply.reply has.1 has.2
+          (c.in_ok-reply.ensures.ok (idle_at c.args.store.now c.session.new.self c.args.session.now c.in-Ok.number has.2 idle))),
     ))
