@@ -1,0 +1,66 @@
+-- the operators: how they are written, and the kinds that take them
+use Rattle.std.specs.Prelude.{ℕ, Bool, true, false, List, [], ◌∷◌, codes, Option, None, Some, if◌then◌else◌}
+use Rattle.std.specs.Str.{bytes_eq}
+use Rattle.block_model.specs.declared.value.Kind.{Kind}
+use Rattle.block_model.specs.declared.value.Kind.TheVariants as kinds
+use Rattle.block_model.specs.declared.value.Op.{Op}
+use Rattle.block_model.specs.declared.value.Op.TheVariants as ops
+
+-- how it is written
+abbrev pub op_text : Op → List ℕ
+op_text ops.Lt = codes "<"
+op_text ops.Le = codes "<="
+op_text ops.Eq = codes "="
+op_text ops.Ge = codes ">="
+op_text ops.Gt = codes ">"
+op_text ops.Overlaps = codes "&&"
+op_text ops.Contains = codes "@>"
+op_text ops.Within = codes "<@"
+op_text ops.Before = codes "<<"
+op_text ops.After = codes ">>"
+op_text ops.WithinEq = codes "<<="
+op_text ops.ContainsEq = codes ">>="
+op_text ops.NotAfter = codes "&<"
+op_text ops.NotBefore = codes "&>"
+op_text ops.Adjacent = codes "-|-"
+op_text ops.IsNull = codes "is null"
+op_text ops.NotNull = codes "is not null"
+
+-- the operators that are one word, and compare with a value
+abbrev pub comparisons : List Op
+comparisons =
+    ops.Lt ∷ ops.Le ∷ ops.Eq ∷ ops.Ge ∷ ops.Gt ∷ ops.Overlaps ∷ ops.Contains ∷ ops.Within ∷ ops.Before ∷ ops.After
+    ∷ ops.WithinEq ∷ ops.ContainsEq ∷ ops.NotAfter ∷ ops.NotBefore ∷ ops.Adjacent ∷ []
+
+-- the first of them that is written so
+abbrev pub op_among : List Op → List ℕ → Option Op
+op_among [] word = None
+op_among (op ∷ rest) word = if bytes_eq word (op_text op) then Some op else op_among rest word
+
+-- the comparison that the word is
+abbrev pub op_of : List ℕ → Option Op
+op_of word = op_among comparisons word
+
+-- the operators of each kind; whether a value is null is asked of every kind
+abbrev pub takes_operator : Kind → Op → Bool
+takes_operator kind ops.IsNull = true
+takes_operator kind ops.NotNull = true
+takes_operator kind ops.Eq = true
+takes_operator kinds.Int ops.Lt = true
+takes_operator kinds.Int ops.Le = true
+takes_operator kinds.Int ops.Ge = true
+takes_operator kinds.Int ops.Gt = true
+takes_operator kinds.Span ops.Overlaps = true
+takes_operator kinds.Span ops.Contains = true
+takes_operator kinds.Span ops.Within = true
+takes_operator kinds.Span ops.Before = true
+takes_operator kinds.Span ops.After = true
+takes_operator kinds.Span ops.NotAfter = true
+takes_operator kinds.Span ops.NotBefore = true
+takes_operator kinds.Span ops.Adjacent = true
+takes_operator kinds.Net ops.Overlaps = true
+takes_operator kinds.Net ops.Before = true
+takes_operator kinds.Net ops.After = true
+takes_operator kinds.Net ops.WithinEq = true
+takes_operator kinds.Net ops.ContainsEq = true
+takes_operator kind op = false

@@ -1,0 +1,1 @@
+// Lines that are read and printed, and refusals with their places.
