@@ -1,7 +1,7 @@
 // The operators: how they are written, and the kinds that take them.
 
 ghost use Rattle.std.specs.Prelude.{◌≡◌};
-ghost use Rattle.query_words.specs.Operators.{op_text, op_of, takes_operator};
+ghost use Rattle.query_words.specs.Operators.{op_text, op_among, op_of, takes_operator};
 
 use crate::word::is_word;
 use block_model::value::{Kind, Op};
@@ -53,9 +53,15 @@ pub fn op_text(op: Op) -> &'static [u8]
 pub fn read_op(word: &[u8]) -> Option<Op>
     ensures { result ≡ op_of word.now }
 {
-    for op in COMPARISONS {
-        if is_word(word, op_text(op)) {
-            return Some(op);
+    op_among(&COMPARISONS, word)
+}
+
+fn op_among(ops: &[Op], word: &[u8]) -> Option<Op>
+    ensures { result ≡ op_among ops.now word.now }
+{
+    for op in ops {
+        if is_word(word, op_text(*op)) {
+            return Some(*op);
         }
     }
     None

@@ -1,7 +1,7 @@
 // The verbs of statements.
 
 ghost use Rattle.std.specs.Prelude.{◌≡◌};
-ghost use Rattle.query_words.specs.Verbs.{verb_text, verb_of};
+ghost use Rattle.query_words.specs.Verbs.{verb_text, verb_among, verb_of};
 
 use crate::word::is_word;
 
@@ -46,9 +46,15 @@ pub fn verb_text(verb: Verb) -> &'static [u8]
 pub fn read_verb(word: &[u8]) -> Option<Verb>
     ensures { result ≡ verb_of word.now }
 {
-    for verb in VERBS {
-        if is_word(word, verb_text(verb)) {
-            return Some(verb);
+    verb_among(&VERBS, word)
+}
+
+fn verb_among(verbs: &[Verb], word: &[u8]) -> Option<Verb>
+    ensures { result ≡ verb_among verbs.now word.now }
+{
+    for verb in verbs {
+        if is_word(word, verb_text(*verb)) {
+            return Some(*verb);
         }
     }
     None
