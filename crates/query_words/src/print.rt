@@ -11,7 +11,7 @@ ghost use Rattle.query_words.specs.LineTexts.{line_text, spaced, table_name, col
 use crate::line::{Line, Order};
 use crate::operator::op_text;
 use crate::statement::Statement;
-use crate::text::{add, add_values};
+use crate::text::add;
 use block_model::NoMemory;
 use block_model::layout::Layout;
 use block_model::row::{Cond, Query};
@@ -154,6 +154,18 @@ fn add_test(out: &mut Vec<u8>, column: &[u8], op: Op, key: &Value) -> Result<(),
     }
 }
 
+/// Appends values, each behind a space.
+fn add_values(out: &mut Vec<u8>, values: &[Value]) -> Result<(), NoMemory>
+    ensures ok { OnOk result (out.new.items ≡ out.old.items ++ spaced (map canonical_text values.now)) }
+    ensures longer { IsLonger out.old.items out.new.items }
+{
+    for value in values {
+        add_key(out, value)?;
+    }
+    Ok(())
+}
+
+/// Appends a value behind a space.
 fn add_key(out: &mut Vec<u8>, key: &Value) -> Result<(), NoMemory>
     ensures ok { OnOk result (out.new.items ≡ out.old.items ++ codes " " ++ canonical_text key.now) }
     ensures longer { IsLonger out.old.items out.new.items }
