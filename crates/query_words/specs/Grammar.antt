@@ -1,5 +1,5 @@
 -- the grammar of lines: which words are which line, before any name is looked up
-use Rattle.std.specs.Prelude.{◌≡◌, ℕ, ◌≤◌, true, ◌==◌, Bool, false, List, [], ◌∷◌, ◌++◌, length, map, codes, All, Option, Some, Ok}
+use Rattle.std.specs.Prelude.{◌≡◌, ℕ, ◌≤◌, true, ◌==◌, Bool, false, List, [], ◌∷◌, ◌++◌, length, map, codes, Some, Ok}
 use Rattle.std.specs.List.{flat_map}
 use Rattle.block_model.specs.Names.{is_name}
 use Rattle.block_model.specs.declared.value.Kind.{Kind}
@@ -82,19 +82,27 @@ IsSaidCond (Compared column op value) = IsNameWord column × IsOperatorWord op �
 IsSaidCond (Null column) = IsNameWord column
 IsSaidCond (NotNull column) = IsNameWord column
 
+abbrev pub AreSaidConds : List (SaidCond (List ℕ)) → Type 0
+AreSaidConds [] = Unit {0}
+AreSaidConds (cond ∷ conds) = IsSaidCond cond × AreSaidConds conds
+
+abbrev pub AreValueWords : List (List ℕ) → Type 0
+AreValueWords [] = Unit {0}
+AreValueWords (word ∷ words) = IsValueWord word × AreValueWords words
+
 -- how many conditions a query has at most
 abbrev pub max_conds : ℕ
 max_conds = 16
 
 -- a table and up to sixteen conditions
 abbrev pub IsSaidQuery : List ℕ → List (SaidCond (List ℕ)) → Type 0
-IsSaidQuery table conds = IsNameWord table × All IsSaidCond conds × (length conds ≤ max_conds)
+IsSaidQuery table conds = IsNameWord table × AreSaidConds conds × (length conds ≤ max_conds)
 
 abbrev pub IsSaidStatement : SaidStatement (List ℕ) → Type 0
 IsSaidStatement Begin = Unit {0}
 IsSaidStatement Commit = Unit {0}
 IsSaidStatement Rollback = Unit {0}
-IsSaidStatement (Insert table values) = IsNameWord table × All IsValueWord values
+IsSaidStatement (Insert table values) = IsNameWord table × AreValueWords values
 IsSaidStatement (Select table conds) = IsSaidQuery table conds
 IsSaidStatement (Delete table conds) = IsSaidQuery table conds
 IsSaidStatement (Explain table conds) = IsSaidQuery table conds
