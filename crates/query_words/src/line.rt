@@ -83,6 +83,7 @@ fn read_words(
     requires syntax { stop_of line_len (words_left rest) ≡ None }
     ensures { Reads result (line_judged schema.now line_len None (said_of (words_left rest.entry))) }
 {
+    value_of_is_denoted();
     let Some((word, behind)) = next_word(rest) else {
         return Ok(Line::Nothing);
     };
