@@ -1,7 +1,19 @@
 pub mod Words
 pub mod Numbers
+pub mod Operators
+pub mod Verbs
+pub mod ValueWords
+pub mod Grammar
+pub mod Syntax
+pub mod Parsed
+pub mod LineParts
+pub mod SmallSchemas
 pub mod Statements
 pub mod Lines
+pub mod LineFits
+pub mod LineTexts
+pub mod LineLaws
+pub mod DroppedTexts
 pub mod OneColumn
 pub mod Commands
 pub mod Declarations
@@ -9,6 +21,4 @@ pub mod Texts
 pub mod StatementRequests
 pub mod RowsPut
 pub mod ScriptTexts
-pub mod Operators
-pub mod LineFits
 pub mod Appended

@@ -1,58 +1,56 @@
 -- what a line of a script says
-use Rattle.std.specs.Prelude.{◌≡◌, ℕ, ◌+◌, ◌<◌, ◌≤◌, Bool, true, false, ◌==◌, nat_lt, List, [], ◌∷◌, length, take, refl, Option, None, Some, Result, Ok, Err, IsOk, if◌then◌else◌}
+use Rattle.std.specs.Prelude.{◌≡◌, ℕ, ◌+◌, ◌<◌, ◌≤◌, Bool, true, false, nat_lt, List, length, take, refl, Option, None, Some, Result, Ok, Err, IsOk, if◌then◌else◌}
 use Rattle.std.proofs.Common.{arith, sym, ap, ◌∙◌}
 use Rattle.std.proofs.lemmas.Bool.{ltb-true, ltb-false, lt-ltb}
 use Rattle.std.proofs.lemmas.List.{take_all, length-take}
-use Rattle.std.specs.Option.{option_map}
-use Rattle.block_model.specs.Names.{is_name}
 use Rattle.block_model.specs.declared.schema.Schema.{Schema}
-use Rattle.query_words.specs.declared.statement.Statement.{Statement}
 use Rattle.query_words.specs.declared.line.Order.TheVariants as orders
 use Rattle.query_words.specs.declared.line.Line.{Line}
 use Rattle.query_words.specs.declared.line.Line.TheVariants as lines
 use Rattle.query_words.specs.declared.line.LineFault.{LineFault}
 use Rattle.query_words.specs.declared.line.LineFault.TheVariants as faults
-use Rattle.query_words.specs.Words.{words_of}
-use Rattle.query_words.specs.Statements.{statement_of}
-
--- what is no text of the grammar is refused at its first byte
-abbrev pub or_syntax : {T : Type 0} → Option T → Result T LineFault
-or_syntax None = Err (faults.Syntax 0)
-or_syntax (Some x) = Ok x
-
--- a session's name and its statement
-abbrev pub said : List ℕ → Option Statement → Option Line
-said name statement = if is_name name then option_map (λ s. lines.Say name (orders.Whole s)) statement else None
-
--- the word begins with `#`
-abbrev pub is_comment : List ℕ → Bool
-is_comment [] = false
-is_comment (c ∷ cs) = c == 35
-
--- no word and a comment say nothing; else the first word names the session
-abbrev pub line_of_words : Schema → List (List ℕ) → Option Line
-line_of_words schema [] = Some lines.Nothing
-line_of_words schema (name ∷ words) = if is_comment name then Some lines.Nothing else said name (statement_of schema words)
+use Rattle.query_words.specs.Words.{PlacedWord, words_of}
+use Rattle.query_words.specs.Grammar.{Said, Nothing, Say}
+use Rattle.query_words.specs.Syntax.{stop_of}
+use Rattle.query_words.specs.Parsed.{said_of}
+use Rattle.query_words.specs.Statements.{◌>>=◌, statement_said}
 
 -- how many bytes a line has at most
 abbrev pub max_line : ℕ
 max_line = 65535
 
+-- the line that is said where these tables are declared, or the fault of the first word that has one
+abbrev pub line_said : Schema → ℕ → Said PlacedWord → Result Line LineFault
+line_said schema length (Nothing words) = Ok lines.Nothing
+line_said schema length (Say session statement) = statement_said schema length statement >>= λ s. Ok (lines.Say session.text (orders.Whole s))
+
+-- Syntax is judged first, over the whole line. The last case is for words that stop nowhere and yet say nothing: none do.
+abbrev pub line_judged : Schema → ℕ → Option ℕ → Option (Said PlacedWord) → Result Line LineFault
+line_judged schema length (Some at) said = Err (faults.Syntax at)
+line_judged schema length None (Some said) = line_said schema length said
+line_judged schema length None None = Err (faults.Syntax length)
+
+abbrev pub line_of_words : Schema → ℕ → List PlacedWord → Result Line LineFault
+line_of_words schema length words = line_judged schema length (stop_of length words) (said_of words)
+
+-- a line past the limit is refused there, whatever it holds
+abbrev pub line_within : Bool → Schema → List ℕ → Result Line LineFault
+line_within too_long schema line = if too_long then Err (faults.Syntax max_line) else line_of_words schema (length line) (words_of line)
+
 -- the line, or why it isn't one, with the place of the fault
 unfoldable pub line_of : Schema → List ℕ → Result Line LineFault
-line_of schema line = if nat_lt max_line (length line) then Err (faults.Syntax 0) else or_syntax (line_of_words schema (words_of line))
+line_of schema line = line_within (nat_lt max_line (length line)) schema line
 
--- The answer is what is said. Want of memory may come in place of what is of the grammar.
+-- The answer is what is said. Want of memory may come in place of what is said without a fault.
 abbrev pub Reads : {T : Type 0} → Result T LineFault → Result T LineFault → Type 0
 Reads (Ok x) said = said ≡ Ok x
 Reads (Err faults.Memory) said = IsOk said
 Reads (Err fault) said = said ≡ Err fault
 
 -- a line above the limit is refused
-pub line_of-long : (schema : Schema) (line : List ℕ) → max_line < length line → line_of schema line ≡ Err (faults.Syntax 0)
+pub line_of-long : (schema : Schema) (line : List ℕ) → max_line < length line → line_of schema line ≡ Err (faults.Syntax max_line)
 unfolding line_of
-line_of-long schema line long =
-    ap (λ b. if b then Err (faults.Syntax 0) else or_syntax (line_of_words schema (words_of line))) (lt-ltb max_line (length line) long)
+line_of-long schema line long = ap (λ b. line_within b schema line) (lt-ltb max_line (length line) long)
 
 take_cases : (schema : Schema) (line : List ℕ) (b : Bool) → nat_lt max_line (length line) ≡ b → line_of schema (take (max_line + 1) line) ≡ line_of schema line
 take_cases schema line true long =

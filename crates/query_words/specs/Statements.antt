@@ -1,10 +1,10 @@
--- the statements, by the words after the session's name
-use Rattle.std.specs.Prelude.{ℕ, ◌^◌, nat_lt, List, [], ◌∷◌, slice_get, unwrap_or, Option, None, Some, if◌then◌else◌, codes}
-use Rattle.std.specs.Option.{option_and_then, option_map}
-use Rattle.std.specs.List.{position_from}
+-- what a statement means where tables are declared: names become numbers, and words become values
+use Rattle.std.specs.Prelude.{ℕ, ◌+◌, List, [], ◌∷◌, ◌++◌, Option, None, Some, Result, Ok, Err, if◌then◌else◌}
+use Rattle.std.specs.Option.{option_and_then}
 use Rattle.std.specs.Str.{bytes_eq}
+use Rattle.block_model.specs.declared.value.Kind.{Kind}
 use Rattle.block_model.specs.declared.value.Value.{Value}
-use Rattle.block_model.specs.declared.value.Value.TheVariants.{Int}
+use Rattle.block_model.specs.declared.value.Value.TheVariants as values
 use Rattle.block_model.specs.declared.value.Op.{Op}
 use Rattle.block_model.specs.declared.value.Op.TheVariants as ops
 use Rattle.block_model.specs.declared.row.Cond.{Cond}
@@ -12,76 +12,112 @@ use Rattle.block_model.specs.declared.row.Query.{Query}
 use Rattle.block_model.specs.declared.schema.Schema.{Schema}
 use Rattle.block_model.specs.declared.schema.Table.{Table}
 use Rattle.block_model.specs.declared.schema.Column.{Column}
+use Rattle.value_text.specs.ValueOf.{value_of}
 use Rattle.query_words.specs.declared.statement.Statement.{Statement}
 use Rattle.query_words.specs.declared.statement.Statement.TheVariants as statements
-use Rattle.query_words.specs.Numbers.{int_of}
+use Rattle.query_words.specs.declared.line.LineFault.{LineFault}
+use Rattle.query_words.specs.declared.line.LineFault.TheVariants as faults
+use Rattle.query_words.specs.Words.{PlacedWord}
+use Rattle.query_words.specs.Operators.{op_of, takes_operator}
+use Rattle.query_words.specs.Parsed.{conds_from}
+use Rattle.query_words.specs.Grammar.{SaidCond, Compared, Null, NotNull, SaidStatement, Begin, Commit, Rollback, Insert, Select, Delete, Explain}
 
--- a number of 8 bits
-abbrev pub small : ℕ → Option ℕ
-small n = if nat_lt n (2 ^ 8) then Some n else None
+-- what was found is handed on, and a fault ends it
+infixl 10 ◌>>=◌
+abbrev pub ◌>>=◌ : {A B : Type 0} → Result A LineFault → (A → Result B LineFault) → Result B LineFault
+(Ok x) >>= f = f x
+(Err fault) >>= f = Err fault
 
--- the number of the table of that name
-abbrev pub table_of : Schema → List ℕ → Option ℕ
-table_of schema name = option_and_then small (position_from (λ (t : Table). bytes_eq t.name name) 0 schema.tables)
+-- what is there, or the fault
+abbrev pub or_fault : {A : Type 0} → LineFault → Option A → Result A LineFault
+or_fault fault None = Err fault
+or_fault fault (Some x) = Ok x
 
--- the number of the column of that name
-abbrev pub column_of : List Column → List ℕ → Option ℕ
-column_of columns name = option_and_then small (position_from (λ (c : Column). bytes_eq c.name name) 0 columns)
+-- the number and the columns of the table of that name, where the first has number n
+abbrev pub table_from : ℕ → List Table → List ℕ → Option (ℕ × List Column)
+table_from n [] name = None
+table_from n (table ∷ tables) name = if bytes_eq table.name name then Some (n, table.columns) else table_from (n + 1) tables name
 
--- the operators of int8
-abbrev pub op_of : List ℕ → Option Op
-op_of word =
-    if bytes_eq word (codes "<") then Some ops.Lt
-    else if bytes_eq word (codes "<=") then Some ops.Le
-    else if bytes_eq word (codes "=") then Some ops.Eq
-    else if bytes_eq word (codes ">=") then Some ops.Ge
-    else if bytes_eq word (codes ">") then Some ops.Gt
-    else None
+-- the declared table, or 2 at its word
+abbrev pub table_said : Schema → PlacedWord → Result (ℕ × List Column) LineFault
+table_said schema word = or_fault (faults.NoTable word.at) (table_from 0 schema.tables word.text)
 
--- a value's text
-abbrev pub value_of : List ℕ → Option Value
-value_of word = option_map Int (int_of word)
+-- the number and the kind of the column of that name, where the first has number n
+abbrev pub column_from : ℕ → List Column → List ℕ → Option (ℕ × Kind)
+column_from n [] name = None
+column_from n (column ∷ columns) name = if bytes_eq column.name name then Some (n, column.kind) else column_from (n + 1) columns name
 
--- nothing follows
-abbrev pub alone : Statement → List (List ℕ) → Option Statement
-alone s [] = Some s
-alone s (w ∷ ws) = None
+-- the declared column, or 3 at its word
+abbrev pub column_said : List Column → PlacedWord → Result (ℕ × Kind) LineFault
+column_said columns word = or_fault (faults.NoColumn word.at) (column_from 0 columns word.text)
 
--- TABLE value
-abbrev pub insert_of : Schema → List (List ℕ) → Option Statement
-insert_of schema (table ∷ value ∷ []) =
-    option_and_then (λ t. option_map (λ v. statements.Insert t (v ∷ [])) (value_of value)) (table_of schema table)
-insert_of schema words = None
+-- the operator, where the kind takes it
+abbrev pub op_in : Kind → List ℕ → Option Op
+op_in kind word = option_and_then (λ op. if takes_operator kind op then Some op else None) (op_of word)
 
--- COLUMN OP value, on a table of these columns
-abbrev pub cond_of : List Column → List ℕ → List ℕ → List ℕ → Option Cond
-cond_of columns column op key =
-    option_and_then (λ c. option_and_then (λ o. option_map (λ k. record { column = c; op = o; key = k }) (value_of key)) (op_of op)) (column_of columns column)
+-- the operator of the kind, or 3 at its word
+abbrev pub op_said : Kind → PlacedWord → Result Op LineFault
+op_said kind word = or_fault (faults.Kind word.at) (op_in kind word.text)
 
--- the columns of the table of that number
-abbrev pub columns_at : Schema → ℕ → List Column
-columns_at schema t = unwrap_or (option_map (λ (x : Table). x.columns) (slice_get schema.tables t)) []
+-- the value of the kind, or 3 at its word
+abbrev pub value_said : Kind → PlacedWord → Result Value LineFault
+value_said kind word = or_fault (faults.Kind word.at) (value_of kind word.text)
 
--- nothing, or where COLUMN OP value
-abbrev pub conds_of : List Column → List (List ℕ) → Option (List Cond)
-conds_of columns [] = Some []
-conds_of columns (word ∷ column ∷ op ∷ key ∷ []) =
-    if bytes_eq word (codes "where") then option_map (λ c. c ∷ []) (cond_of columns column op key) else None
-conds_of columns words = None
+-- a condition on a column, with a key
+abbrev pub cond_on : ℕ → Op → Value → Cond
+cond_on column op key = record { column = column; op = op; key = key }
 
--- TABLE and the conditions
-abbrev pub query_of : Schema → List (List ℕ) → Option Query
-query_of schema [] = None
-query_of schema (table ∷ words) =
-    option_and_then (λ t. option_map (λ cs. record { table = t; conds = cs }) (conds_of (columns_at schema t) words)) (table_of schema table)
+-- whether a column is null
+abbrev pub test_said : List Column → PlacedWord → Op → Result Cond LineFault
+test_said columns column op = column_said columns column >>= λ c. Ok (cond_on c.0 op values.Null)
 
--- by the first word
-abbrev pub statement_of : Schema → List (List ℕ) → Option Statement
-statement_of schema [] = None
-statement_of schema (verb ∷ words) =
-    if bytes_eq verb (codes "begin") then alone statements.Begin words
-    else if bytes_eq verb (codes "commit") then alone statements.Commit words
-    else if bytes_eq verb (codes "insert") then insert_of schema words
-    else if bytes_eq verb (codes "select") then option_map statements.Select (query_of schema words)
-    else if bytes_eq verb (codes "explain") then option_map statements.Explain (query_of schema words)
-    else None
+-- the column first, then the operator, then the value
+abbrev pub cond_said : List Column → SaidCond PlacedWord → Result Cond LineFault
+cond_said columns (Compared column op value) =
+    column_said columns column >>= λ c. op_said c.1 op >>= λ o. value_said c.1 value >>= λ v. Ok (cond_on c.0 o v)
+cond_said columns (Null column) = test_said columns column ops.IsNull
+cond_said columns (NotNull column) = test_said columns column ops.NotNull
+
+-- the conditions behind those that are done, in the order of the line
+abbrev pub conds_said : List Column → List Cond → List (SaidCond PlacedWord) → Result (List Cond) LineFault
+conds_said columns done [] = Ok done
+conds_said columns done (cond ∷ conds) = cond_said columns cond >>= λ c. conds_said columns (done ++ c ∷ []) conds
+
+-- The values behind those that are done, one for each column, in the order of the line. Too few are refused with 3 at
+-- the line's length, and too many at the first word too many.
+abbrev pub values_said : ℕ → List Value → List Column → List PlacedWord → Result (List Value) LineFault
+values_said length done [] [] = Ok done
+values_said length done [] (word ∷ words) = Err (faults.NoColumn word.at)
+values_said length done (column ∷ columns) [] = Err (faults.NoColumn length)
+values_said length done (column ∷ columns) (word ∷ words) =
+    value_said column.kind word >>= λ v. values_said length (done ++ v ∷ []) columns words
+
+-- the table first, then the conditions
+abbrev pub query_said : Schema → PlacedWord → List (SaidCond PlacedWord) → Result Query LineFault
+query_said schema table conds =
+    table_said schema table >>= λ t. conds_said t.1 [] conds >>= λ cs. Ok (record { table = t.0; conds = cs })
+
+-- a table and conditions, where no word is missing
+abbrev pub query_judged : Schema → ℕ → List PlacedWord → Result Query LineFault
+query_judged schema length [] = Err (faults.Syntax length)
+query_judged schema length (table ∷ words) = query_said schema table (conds_from [] words)
+
+-- the table first, then the values
+abbrev pub insert_said : Schema → ℕ → PlacedWord → List PlacedWord → Result Statement LineFault
+insert_said schema length table values =
+    table_said schema table >>= λ t. values_said length [] t.1 values >>= λ vs. Ok (statements.Insert t.0 vs)
+
+-- the statement, or the fault of the first word that has one, in a line of that length
+abbrev pub statement_said : Schema → ℕ → SaidStatement PlacedWord → Result Statement LineFault
+statement_said schema length Begin = Ok statements.Begin
+statement_said schema length Commit = Ok statements.Commit
+statement_said schema length Rollback = Ok statements.Rollback
+statement_said schema length (Insert table values) = insert_said schema length table values
+statement_said schema length (Select table conds) = query_said schema table conds >>= λ q. Ok (statements.Select q)
+statement_said schema length (Delete table conds) = query_said schema table conds >>= λ q. Ok (statements.Delete q)
+statement_said schema length (Explain table conds) = query_said schema table conds >>= λ q. Ok (statements.Explain q)
+
+-- the statement of words, where none is missing
+abbrev pub statement_judged : Schema → ℕ → Option (SaidStatement PlacedWord) → Result Statement LineFault
+statement_judged schema length None = Err (faults.Syntax length)
+statement_judged schema length (Some said) = statement_said schema length said

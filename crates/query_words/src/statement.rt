@@ -1,16 +1,20 @@
-// The statements, by the words after the session's name.
+// What the words of a statement mean where tables are declared.
 
-ghost use Rattle.std.specs.Prelude.{◌≡◌, codes};
-ghost use Rattle.query_words.specs.Words.{words_of};
-ghost use Rattle.query_words.specs.Statements.{statement_of, alone, insert_of, query_of, conds_of, cond_of, columns_at, op_of, value_of, table_of, column_of};
-ghost use Rattle.query_words.specs.Lines.{Reads, or_syntax};
+ghost use Rattle.std.specs.Prelude.{◌≡◌, ◌≤◌, length, None, Some, [], MatchOption, IfSome};
+ghost use Rattle.query_words.specs.LineParts.{words_left, word_here};
+ghost use Rattle.query_words.specs.Lines.{Reads};
+ghost use Rattle.query_words.specs.Grammar.{Select};
+ghost use Rattle.query_words.specs.Parsed.{insert_of_words, query_of_words, statement_behind, statement_of_words};
+ghost use Rattle.query_words.specs.SmallSchemas.{IsSmallSchema, HasFewConds};
+ghost use Rattle.query_words.specs.Statements.{table_from, values_said, query_judged, statement_judged};
 
-use crate::line::{LineFault, SYNTAX};
-use crate::number::read_int;
-use crate::word::{is_word, next_word};
-use block_model::row::{Cond, Conds, Query};
-use block_model::schema::{Column, Schema, Table};
-use block_model::value::{Op, Value, Values};
+use crate::line::LineFault;
+use crate::query::{key_in, read_conds};
+use crate::verb::{Verb, read_verb};
+use crate::word::{Rest, is_word, next_word};
+use block_model::row::Query;
+use block_model::schema::{Column, Schema};
+use block_model::value::Values;
 use std::alloc::Global;
 
 /// A statement of a session. Tables and indexes go by their numbers.
@@ -29,167 +33,130 @@ pub enum Statement {
     Work,
 }
 
-/// Reads the words of a statement.
-pub fn read_statement(alloc: Global, line: &[u8], schema: &Schema) -> Result<Statement, LineFault>
-    ensures { Reads result (or_syntax (statement_of schema.now (words_of line.now))) }
+/// The statement that the words are, in a line of that length. Takes memory for its conditions, and answers a fault of the
+/// words before want of it.
+pub fn read_statement(
+    alloc: Global,
+    rest: Rest<'_>,
+    schema: &Schema,
+    line_len: usize,
+) -> Result<Statement, LineFault>
+    requires schema { IsSmallSchema schema.now }
+    requires conds { HasFewConds (statement_of_words (words_left rest)) }
+    ensures { Reads result (statement_judged schema.now line_len (statement_of_words (words_left rest.entry))) }
 {
-    let Some((verb, rest)) = next_word(line) else {
-        return Err(SYNTAX);
+    let Some((word, rest)) = next_word(rest) else {
+        return Err(LineFault::Syntax { at: line_len });
     };
-    if is_word(verb, b"begin") {
-        read_alone(Statement::Begin, rest)
-    } else if is_word(verb, b"commit") {
-        read_alone(Statement::Commit, rest)
-    } else if is_word(verb, b"insert") {
-        read_insert(rest, schema)
-    } else if is_word(verb, b"select") {
-        Ok(Statement::Select(read_query(alloc, rest, schema)?))
-    } else if is_word(verb, b"explain") {
-        Ok(Statement::Explain(read_query(alloc, rest, schema)?))
-    } else {
-        Err(SYNTAX)
+    match read_verb(word.text) {
+        Some(verb) => read_behind(alloc, verb, rest, schema, line_len),
+        None => Err(LineFault::Syntax { at: line_len }),
     }
 }
 
-fn read_alone(statement: Statement, line: &[u8]) -> Result<Statement, LineFault>
-    ensures { Reads result (or_syntax (alone statement (words_of line.now))) }
+fn read_behind(
+    alloc: Global,
+    verb: Verb,
+    rest: Rest<'_>,
+    schema: &Schema,
+    line_len: usize,
+) -> Result<Statement, LineFault>
+    requires schema { IsSmallSchema schema.now }
+    requires conds { HasFewConds (statement_behind verb (words_left rest)) }
+    ensures { Reads result (statement_judged schema.now line_len (statement_behind verb (words_left rest.entry))) }
 {
-    match next_word(line) {
-        None => Ok(statement),
-        Some(_) => Err(SYNTAX),
+    match verb {
+        Verb::Begin => Ok(Statement::Begin),
+        Verb::Commit => Ok(Statement::Commit),
+        Verb::Rollback => Ok(Statement::Rollback),
+        Verb::Insert => read_insert(rest, schema, line_len),
+        Verb::Select => match read_query(alloc, rest, schema, line_len) {
+            Ok(query) => Ok(Statement::Select(query)),
+            Err(fault) => Err(fault),
+        },
+        Verb::Delete => match read_query(alloc, rest, schema, line_len) {
+            Ok(query) => Ok(Statement::Delete(query)),
+            Err(fault) => Err(fault),
+        },
+        Verb::Explain => match read_query(alloc, rest, schema, line_len) {
+            Ok(query) => Ok(Statement::Explain(query)),
+            Err(fault) => Err(fault),
+        },
     }
 }
 
-fn read_insert(line: &[u8], schema: &Schema) -> Result<Statement, LineFault>
-    ensures { Reads result (or_syntax (insert_of schema.now (words_of line.now))) }
+fn read_query(
+    alloc: Global,
+    rest: Rest<'_>,
+    schema: &Schema,
+    line_len: usize,
+) -> Result<Query, LineFault>
+    requires schema { IsSmallSchema schema.now }
+    requires conds { HasFewConds (query_of_words Select (words_left rest)) }
+    ensures { Reads result (query_judged schema.now line_len (words_left rest.entry)) }
 {
-    let Some((table, rest)) = next_word(line) else {
-        return Err(SYNTAX);
+    let Some((word, rest)) = next_word(rest) else {
+        return Err(LineFault::Syntax { at: line_len });
     };
-    let Some((text, rest)) = next_word(rest) else {
-        return Err(SYNTAX);
+    let Some((table, columns)) = table_named(schema, word.text) else {
+        return Err(LineFault::NoTable { at: word.at });
     };
-    if next_word(rest).is_some() {
-        return Err(SYNTAX);
-    }
-    let Some(table) = table_number(schema, table) else {
-        return Err(SYNTAX);
-    };
-    let Some(value) = read_value(text) else {
-        return Err(SYNTAX);
-    };
-    let mut values = Values::new();
-    values.push(value);
-    Ok(Statement::Insert { table, values })
-}
-
-fn read_query(alloc: Global, line: &[u8], schema: &Schema) -> Result<Query, LineFault>
-    ensures { Reads result (or_syntax (query_of schema.now (words_of line.now))) }
-{
-    let Some((table, rest)) = next_word(line) else {
-        return Err(SYNTAX);
-    };
-    let Some(table) = table_number(schema, table) else {
-        return Err(SYNTAX);
-    };
-    match read_conds(alloc, rest, columns_at(schema, table)) {
+    match read_conds(alloc, rest, columns) {
         Ok(conds) => Ok(Query { table, conds }),
         Err(fault) => Err(fault),
     }
 }
 
-fn read_conds(alloc: Global, line: &[u8], columns: &[Column]) -> Result<Conds, LineFault>
-    ensures { Reads result (or_syntax (conds_of columns.now (words_of line.now))) }
+fn read_insert(rest: Rest<'_>, schema: &Schema, line_len: usize) -> Result<Statement, LineFault>
+    requires { IsSmallSchema schema.now }
+    ensures { result ≡ statement_judged schema.now line_len (insert_of_words (words_left rest.entry)) }
 {
-    let mut conds = Conds::new(alloc);
-    let Some((word, rest)) = next_word(line) else {
-        return Ok(conds);
+    let Some((word, rest)) = next_word(rest) else {
+        return Err(LineFault::Syntax { at: line_len });
     };
-    let Some((column, rest)) = next_word(rest) else {
-        return Err(SYNTAX);
+    let Some((table, columns)) = table_named(schema, word.text) else {
+        return Err(LineFault::NoTable { at: word.at });
     };
-    let Some((op, rest)) = next_word(rest) else {
-        return Err(SYNTAX);
-    };
-    let Some((key, rest)) = next_word(rest) else {
-        return Err(SYNTAX);
-    };
-    if next_word(rest).is_some() || !is_word(word, b"where") {
-        return Err(SYNTAX);
-    }
-    let Some(cond) = read_cond(columns, column, op, key) else {
-        return Err(SYNTAX);
-    };
-    match conds.push(cond) {
-        Ok(()) => Ok(conds),
-        Err(_) => Err(LineFault::Memory),
+    match read_values(rest, columns, line_len) {
+        Ok(values) => Ok(Statement::Insert { table, values }),
+        Err(fault) => Err(fault),
     }
 }
 
-fn read_cond(columns: &[Column], column: &[u8], op: &[u8], key: &[u8]) -> Option<Cond>
-    ensures { result ≡ cond_of columns.now column.now op.now key.now }
+/// A value for each column, and no word behind them.
+fn read_values(rest: Rest<'_>, columns: &[Column], line_len: usize) -> Result<Values, LineFault>
+    requires { length columns.now ≤ 8 }
+    ensures { result ≡ values_said line_len [] columns.now (words_left rest.entry) }
 {
-    match (column_number(columns, column), read_op(op), read_value(key)) {
-        (Some(column), Some(op), Some(key)) => Some(Cond { column, op, key }),
-        _ => None,
+    let mut values = Values::new();
+    let mut rest = rest;
+    for column in columns {
+        let Some((word, behind)) = next_word(rest) else {
+            return Err(LineFault::NoColumn { at: line_len });
+        };
+        match key_in(column.kind, &word) {
+            Ok(value) => values.push(value),
+            Err(fault) => return Err(fault),
+        }
+        rest = behind;
+    }
+    match next_word(rest) {
+        None => Ok(values),
+        Some((word, _)) => Err(LineFault::NoColumn { at: word.at }),
     }
 }
 
-fn read_op(word: &[u8]) -> Option<Op>
-    ensures { result ≡ op_of word.now }
-{
-    if is_word(word, b"<") {
-        Some(Op::Lt)
-    } else if is_word(word, b"<=") {
-        Some(Op::Le)
-    } else if is_word(word, b"=") {
-        Some(Op::Eq)
-    } else if is_word(word, b">=") {
-        Some(Op::Ge)
-    } else if is_word(word, b">") {
-        Some(Op::Gt)
-    } else {
-        None
-    }
-}
-
-fn read_value(word: &[u8]) -> Option<Value>
-    ensures { result ≡ value_of word.now }
-{
-    match read_int(word) {
-        None => None,
-        Some(n) => Some(Value::Int(n)),
-    }
-}
-
-fn table_number(schema: &Schema, name: &[u8]) -> Option<u8>
-    ensures { result ≡ table_of schema.now name.now }
+/// The number and the columns of the table of that name.
+fn table_named<'a>(schema: &'a Schema, name: &[u8]) -> Option<(u8, &'a [Column])>
+    requires { IsSmallSchema schema.now }
+    ensures table { MatchOption result (table_from 0 schema.now.tables name.now ≡ None) (λ p. table_from 0 schema.now.tables name.now ≡ Some (p.0, p.1.now)) }
+    ensures few { IfSome result (λ p. length p.1.now ≤ 8) }
 {
     let tables = schema.tables.as_slice();
     for (i, table) in tables.iter().enumerate() {
         if is_word(table.name.as_bytes(), name) {
-            return u8::try_from(i).ok();
+            return Some((i as u8, table.columns.as_slice()));
         }
     }
     None
-}
-
-fn column_number(columns: &[Column], name: &[u8]) -> Option<u8>
-    ensures { result ≡ column_of columns.now name.now }
-{
-    for (i, column) in columns.iter().enumerate() {
-        if is_word(column.name.as_bytes(), name) {
-            return u8::try_from(i).ok();
-        }
-    }
-    None
-}
-
-fn columns_at(schema: &Schema, table: u8) -> &[Column]
-    ensures { result.now ≡ columns_at schema.now table }
-{
-    match schema.tables.as_slice().get(table as usize) {
-        Some(table) => table.columns.as_slice(),
-        None => &[],
-    }
 }

@@ -1,9 +1,8 @@
-// Whole lines, declarations and replies.
+// Declarations and replies.
 
 use crate::declaration::{DeclFault, read_declarations};
-use crate::line::{Line, LineFault, MAX_LINE, Order, read_line};
+use crate::line::LineFault;
 use crate::reply::{render, render_fault};
-use crate::statement::Statement;
 use block_model::NoMemory;
 use block_model::name::Name;
 use block_model::net::Net;
@@ -16,8 +15,6 @@ use block_model::value::{Kind, Value, Values};
 use block_model::words::Words;
 use std::alloc::Global;
 use std::test::Fail;
-
-const UNREADABLE: &str = "syntax at 0";
 
 const TABLE: &str = "table t(a int8)";
 
@@ -48,102 +45,6 @@ fn pages_in(schema: &Schema) -> Option<u32> {
         .as_slice()
         .first()
         .map(|index| index.pages_per_range)
-}
-
-fn kind_of(read: &Result<Line, LineFault>) -> &'static str {
-    match read {
-        Ok(Line::Nothing) => "nothing",
-        Ok(Line::Say { order, .. }) => match order {
-            Order::Whole(Statement::Begin) => "begin",
-            Order::Whole(Statement::Commit) => "commit",
-            Order::Whole(Statement::Insert { .. }) => "insert",
-            Order::Whole(Statement::Select(_)) => "select",
-            Order::Whole(Statement::Explain(_)) => "explain",
-            _ => "another order",
-        },
-        Err(LineFault::Syntax { at: 0 }) => UNREADABLE,
-        Err(_) => "another fault",
-    }
-}
-
-fn number_in(read: &Result<Line, LineFault>) -> Option<i64> {
-    let value = match read {
-        Ok(Line::Say { order, .. }) => match order {
-            Order::Whole(Statement::Insert { values, .. }) => values.as_slice().first().copied(),
-            Order::Whole(Statement::Select(query)) => {
-                query.conds.as_slice().first().map(|cond| cond.key)
-            }
-            Order::Whole(Statement::Explain(query)) => {
-                query.conds.as_slice().first().map(|cond| cond.key)
-            }
-            _ => None,
-        },
-        _ => None,
-    };
-    match value {
-        Some(Value::Int(n)) => Some(n),
-        _ => None,
-    }
-}
-
-#[test]
-fn lines_are_read_exactly(rt: HostRuntime) -> Result<(), Fail> {
-    let alloc = rt.alloc();
-    let schema = declared(alloc, &[TABLE])?;
-    let lines = [
-        ("", "nothing", None),
-        ("   ", "nothing", None),
-        ("  # s1 begin", "nothing", None),
-        ("s1 begin", "begin", None),
-        ("  s1   commit ", "commit", None),
-        ("s1 insert t 5", "insert", Some(5)),
-        ("s1 insert t -0", "insert", Some(0)),
-        ("s1 insert t 9223372036854775807", "insert", Some(i64::MAX)),
-        ("s1 insert t 9223372036854775808", UNREADABLE, None),
-        ("s1 insert t -9223372036854775808", "insert", Some(i64::MIN)),
-        ("s1 insert t -9223372036854775809", UNREADABLE, None),
-        ("s1 select t", "select", None),
-        ("s1 select t where a <= -7", "select", Some(-7)),
-        ("s1 select t where a == 7", UNREADABLE, None),
-        ("s1 select t where b = 7", UNREADABLE, None),
-        ("s1 select u", UNREADABLE, None),
-        ("s1 explain t", "explain", None),
-        ("s1  explain t where a >= 5 ", "explain", Some(5)),
-        ("s1 explain t where b >= 5", UNREADABLE, None),
-        ("s1 explain t where a >= 5 6", UNREADABLE, None),
-        ("s1 explain u", UNREADABLE, None),
-        ("s1 explain", UNREADABLE, None),
-        ("s1 insert t null", UNREADABLE, None),
-        ("s1 insert t 5 6", UNREADABLE, None),
-        ("s1 insert t -", UNREADABLE, None),
-        ("S1 begin", UNREADABLE, None),
-        ("s1\tbegin", UNREADABLE, None),
-        ("s1 rollback", UNREADABLE, None),
-        ("s1", UNREADABLE, None),
-    ];
-    for (line, kind, number) in lines {
-        let read = read_line(alloc, line.as_bytes(), &schema);
-        assert_eq!(rt; kind_of(&read), kind, "at {line}");
-        assert_eq!(rt; number_in(&read), number, "at {line}");
-    }
-    Ok(())
-}
-
-#[test]
-fn long_lines_are_read_up_to_the_limit(rt: HostRuntime) -> Result<(), Fail> {
-    let alloc = rt.alloc();
-    let schema = declared(alloc, &[TABLE])?;
-    let mut zeros = Vec::from_slice(alloc, b"s1 insert t ")?;
-    for _ in 0..200 {
-        zeros.push(b'0')?;
-    }
-    zeros.push(b'5')?;
-    assert_eq!(rt; number_in(&read_line(alloc, &zeros, &schema)), Some(5));
-    let mut spaces = vec![in alloc; b' '; MAX_LINE]?;
-    assert_eq!(rt; kind_of(&read_line(alloc, &spaces, &schema)), "nothing");
-    spaces.push(b' ')?;
-    assert_eq!(rt; kind_of(&read_line(alloc, &spaces, &schema)), UNREADABLE);
-    Ok(())
 }
 
 #[test]

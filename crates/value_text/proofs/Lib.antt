@@ -9,3 +9,4 @@ pub mod Decimals
 pub mod ValueReading
 pub mod Canonical
 pub mod OfKind
+pub mod ValueOfLemmas

@@ -5,6 +5,7 @@ pub mod ValueTexts
 pub mod StopsAt
 pub mod CanonicalTexts
 pub mod Laws
+pub mod ValueOf
 pub mod Appended
 pub mod Parts
 pub mod Reading

@@ -1,6 +1,7 @@
 // What texts and values are to one another.
 
 ghost use Rattle.value_text.specs.Laws.{BytesAreOneText, CanonicalTextDenotes, CanonicalTextIsOwn, DenotedIsOfKind};
+ghost use Rattle.value_text.specs.ValueOf.{ValueOfIsDenoted};
 
 /// No bytes are a text of a kind in two ways, so each text denotes one value.
 pub fn bytes_are_one_text()
@@ -20,4 +21,9 @@ pub fn canonical_text_denotes()
 /// No two values of one kind are printed as the same text.
 pub fn canonical_text_is_own()
     ensures { CanonicalTextIsOwn }
+{}
+
+/// The value of bytes, read from their front, is the one that they denote.
+pub fn value_of_is_denoted()
+    ensures { ValueOfIsDenoted }
 {}

@@ -17,6 +17,7 @@ mod write;
 
 pub use laws::{
     bytes_are_one_text, canonical_text_denotes, canonical_text_is_own, denoted_is_of_kind,
+    value_of_is_denoted,
 };
 pub use read::{TextFault, read_value};
 pub use write::write_value;

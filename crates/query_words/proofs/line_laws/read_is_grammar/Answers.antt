@@ -1,0 +1,5 @@
+use Rattle.query_words.proofs.LineLawLemmas.{read-grammar}
+use Rattle.query_words.proofs.line_laws.read_is_grammar.Goals as goal
+
+pub returns : goal.returns
+returns c = read-grammar c.value_of_is_denoted.ensures

@@ -1,0 +1,53 @@
+// Requests that a full queue dropped.
+#![tactic(auto, using(crate::proofs::AppendedLemmas::longer_before))]
+
+ghost use Rattle.std.specs.Prelude.{◌≡◌, ◌++◌, OnOk, OnErr};
+ghost use Rattle.query_words.specs.Appended.{IsLonger};
+ghost use Rattle.query_words.specs.DroppedTexts.{dropped_text, dropped_line};
+
+use crate::text::{add, add_number};
+use block_model::NoMemory;
+use block_model::name::Name;
+
+/// A request to summarise that range of the index, which was dropped.
+#[derive(Clone, Copy, Debug, PartialEq, Eq)]
+pub struct Dropped {
+    pub index: Name,
+    pub range: u32,
+}
+
+/// Appends a line for each, in order. After a refusal nothing is changed.
+pub fn render_dropped(dropped: &[Dropped], out: &mut Vec<u8>) -> Result<(), NoMemory>
+    ensures ok { OnOk result (out.new.items ≡ out.old.items ++ dropped_text dropped.now) }
+    ensures err { OnErr result (out.new.items ≡ out.old.items) }
+{
+    let before = out.len();
+    match add_dropped(out, dropped) {
+        Ok(()) => Ok(()),
+        Err(NoMemory) => {
+            out.truncate(before);
+            Err(NoMemory)
+        }
+    }
+}
+
+fn add_dropped(out: &mut Vec<u8>, dropped: &[Dropped]) -> Result<(), NoMemory>
+    ensures ok { OnOk result (out.new.items ≡ out.old.items ++ dropped_text dropped.now) }
+    ensures longer { IsLonger out.old.items out.new.items }
+{
+    for one in dropped {
+        add_one(out, one)?;
+    }
+    Ok(())
+}
+
+fn add_one(out: &mut Vec<u8>, dropped: &Dropped) -> Result<(), NoMemory>
+    ensures ok { OnOk result (out.new.items ≡ out.old.items ++ dropped_line dropped.now) }
+    ensures longer { IsLonger out.old.items out.new.items }
+{
+    add(out, b"- dropped ")?;
+    add(out, dropped.index.as_bytes())?;
+    add(out, b" ")?;
+    add_number(out, u64::from(dropped.range))?;
+    add(out, b"\n")
+}

@@ -1,0 +1,288 @@
+// Lines that are read and printed, and refusals with their places.
+
+use crate::line::{Line, LineFault, MAX_LINE, Order, read_line};
+use crate::print::print_line;
+use crate::statement::Statement;
+use block_model::layout::Layout;
+use block_model::name::Name;
+use block_model::schema::{Column, Columns, Indexes, Schema, Sizes, Table, Tables};
+use block_model::value::Kind;
+use std::alloc::Global;
+use std::test::Fail;
+
+const SIZES: Sizes = Sizes {
+    heap_blocks: 8,
+    index_blocks: 4,
+    status_blocks: 1,
+    log_pages: 16,
+    frames: 16,
+};
+
+/// A column of one letter.
+type OneColumn = (&'static [u8; 1], Kind);
+
+fn name_of(bytes: &[u8]) -> Result<Name, Fail> {
+    match Name::new(bytes) {
+        Some(name) => Ok(name),
+        None => Err(Fail::from("a name")),
+    }
+}
+
+fn table_of(alloc: Global, name: &[u8], columns: &[OneColumn]) -> Result<Table, Fail> {
+    let mut declared = Columns::new(alloc);
+    for (name, kind) in columns {
+        let column = Column {
+            name: name_of(*name)?,
+            kind: *kind,
+        };
+        declared.push(column)?;
+    }
+    Ok(Table {
+        name: name_of(name)?,
+        rows_per_page: 2,
+        columns: declared,
+    })
+}
+
+/// A table `t` of these columns, and a table `u` of one column `c` of numbers.
+fn layout_of(alloc: Global, columns: &[OneColumn]) -> Result<Layout, Fail> {
+    let mut tables = Tables::new(alloc);
+    tables.push(table_of(alloc, b"t", columns)?)?;
+    tables.push(table_of(alloc, b"u", &[(b"c", Kind::Int)])?)?;
+    let indexes = Indexes::new(alloc);
+    Ok(Layout::new(Schema { tables, indexes }, SIZES)?)
+}
+
+/// The number of the refusal and its place; 0 for a line that is read.
+fn refusal(read: &Result<Line, LineFault>) -> (u8, usize) {
+    match read {
+        Ok(_) => (0, 0),
+        Err(LineFault::Syntax { at }) => (1, *at),
+        Err(LineFault::NoTable { at }) => (2, *at),
+        Err(LineFault::NoColumn { at }) | Err(LineFault::Kind { at }) => (3, *at),
+        Err(LineFault::NoIndex { at }) => (9, *at),
+        Err(LineFault::Memory) => (13, 0),
+    }
+}
+
+fn refused(alloc: Global, line: &str, layout: &Layout) -> (u8, usize) {
+    refusal(&read_line(alloc, line.as_bytes(), layout))
+}
+
+#[test]
+fn refusals_name_their_place(rt: HostRuntime) -> Result<(), Fail> {
+    let layout = layout_of(rt.alloc(), &[(b"a", Kind::Int)])?;
+    let lines = [
+        ("s1 select v", (2, 10)),
+        ("s1 select t where b = 1", (3, 18)),
+        ("s1 insert t [1,2)", (3, 12)),
+        ("s1 insert t", (3, 11)),
+        ("s1 insert t  ", (3, 13)),
+        ("s1 insert t 9223372036854775808", (1, 12)),
+        ("s1 insert t x", (1, 12)),
+        ("s1 insert t 5 6", (3, 14)),
+        ("s1 insert t [1,2) 5", (3, 12)),
+        ("s1 insert v x", (1, 12)),
+        ("s1 insert T 5", (1, 10)),
+        ("s1 select v where b = 1", (2, 10)),
+        ("s1 select v where b = x", (1, 22)),
+        ("s1 select t where a && 1", (3, 20)),
+        ("s1 select t where a == 1", (1, 20)),
+        ("s1 select t where a = 10.0.0.1", (3, 22)),
+        ("s1 select t where a = 10.0.0.256", (1, 22)),
+        ("s1 select t where a is 5", (1, 23)),
+        ("s1 select t where a not null", (1, 20)),
+        ("s1 select t where a", (1, 19)),
+        ("s1 select t where a = 1 and", (1, 27)),
+        ("s1 select t where a = 1 and and", (1, 31)),
+        ("s1 select t where a = 1 where a = 1", (1, 24)),
+        ("s1 select t and a = 1", (1, 12)),
+        ("s1 select", (1, 9)),
+        ("s1 selekt t", (1, 3)),
+        ("s1 begin t", (1, 9)),
+        ("s1", (1, 2)),
+        ("S1 begin", (1, 0)),
+        ("  s1\tbegin", (1, 2)),
+        ("m summarize i", (1, 2)),
+        ("m vacuum t", (1, 2)),
+        ("s1 start begin", (1, 3)),
+        ("s1 step", (1, 3)),
+    ];
+    for (line, expected) in lines {
+        assert_eq!(rt; refused(rt.alloc(), line, &layout), expected, "at {line}");
+    }
+    Ok(())
+}
+
+#[test]
+fn two_columns_are_read_in_their_order(rt: HostRuntime) -> Result<(), Fail> {
+    let layout = layout_of(rt.alloc(), &[(b"a", Kind::Span), (b"b", Kind::Net)])?;
+    let lines = [
+        ("s1 insert t [1,3] 10.0.0.1", (0, 0)),
+        ("s1 insert t [1,3]", (3, 17)),
+        ("s1 insert t 10.0.0.1", (3, 12)),
+        ("s1 insert t null null null", (3, 22)),
+        ("s1 select t where a < [1,2)", (3, 20)),
+        ("s1 select t where a = [1,4) and b <<= 10.0.0.0/8", (0, 0)),
+        ("s1 select t where b = null and c = 1", (3, 31)),
+        ("s1 select u where c = 1", (0, 0)),
+        ("s1 select u where a = [1,2)", (3, 18)),
+    ];
+    for (line, expected) in lines {
+        assert_eq!(rt; refused(rt.alloc(), line, &layout), expected, "at {line}");
+    }
+    Ok(())
+}
+
+fn condition(alloc: Global, column: &str, op: &str) -> Result<String, Fail> {
+    Ok(format!(in alloc; "s1 select t where {column} {op} null")?)
+}
+
+#[test]
+fn each_kind_takes_its_operators(rt: HostRuntime) -> Result<(), Fail> {
+    let columns = [(b"a", Kind::Int), (b"b", Kind::Span), (b"c", Kind::Net)];
+    let layout = layout_of(rt.alloc(), &columns)?;
+    let operators = [
+        ("<", "a"),
+        ("<=", "a"),
+        ("=", "abc"),
+        (">=", "a"),
+        (">", "a"),
+        ("&&", "bc"),
+        ("@>", "b"),
+        ("<@", "b"),
+        ("<<", "bc"),
+        (">>", "bc"),
+        ("<<=", "c"),
+        (">>=", "c"),
+        ("&<", "b"),
+        ("&>", "b"),
+        ("-|-", "b"),
+        ("is", "abc"),
+        ("is not", "abc"),
+    ];
+    for (op, columns) in operators {
+        for column in ["a", "b", "c"] {
+            let line = condition(rt.alloc(), column, op)?;
+            let expected = if columns.contains(column) { 0 } else { 3 };
+            assert_eq!(rt;
+                refused(rt.alloc(), line.as_str(), &layout).0,
+                expected,
+                "at {line}"
+            );
+        }
+    }
+    Ok(())
+}
+
+/// What is printed of the line.
+fn printed(alloc: Global, line: &[u8], layout: &Layout) -> Result<Vec<u8>, Fail> {
+    let mut out = Vec::new(alloc);
+    let line = read_line(alloc, line, layout)?;
+    print_line(&line, layout, &mut out)?;
+    Ok(out)
+}
+
+#[test]
+fn printed_lines_are_canonical(rt: HostRuntime) -> Result<(), Fail> {
+    let layout = layout_of(rt.alloc(), &[(b"a", Kind::Span), (b"b", Kind::Net)])?;
+    let lines = [
+        ("", ""),
+        ("   ", ""),
+        ("  # s1 begin", ""),
+        ("  s1   begin ", "s1 begin"),
+        ("s1 commit", "s1 commit"),
+        ("s1  rollback", "s1 rollback"),
+        ("s1 insert u -0", "s1 insert u 0"),
+        (
+            "s1 insert t [1,3] 10.0.0.1/32",
+            "s1 insert t [1,4) 10.0.0.1",
+        ),
+        ("s1 insert t empty null", "s1 insert t empty null"),
+        ("s1 select u", "s1 select u"),
+        ("s1 delete u where c >= 007", "s1 delete u where c >= 7"),
+        (
+            "s1 explain t where a is null  and b is not null and a -|- (,5)",
+            "s1 explain t where a is null and b is not null and a -|- (,5)",
+        ),
+    ];
+    for (line, text) in lines {
+        let out = printed(rt.alloc(), line.as_bytes(), &layout)?;
+        assert_eq!(rt; out.as_slice(), text.as_bytes(), "at {line}");
+        let again = printed(rt.alloc(), &out, &layout)?;
+        assert_eq!(rt; again.as_slice(), text.as_bytes(), "at {line}");
+    }
+    Ok(())
+}
+
+#[test]
+fn names_are_told_by_their_place(rt: HostRuntime) -> Result<(), Fail> {
+    let mut tables = Tables::new(rt.alloc());
+    let mut columns = Columns::new(rt.alloc());
+    for name in [b"is".as_slice(), b"null", b"and", b"where"] {
+        let name = name_of(name)?;
+        let kind = Kind::Int;
+        columns.push(Column { name, kind })?;
+    }
+    tables.push(Table {
+        name: name_of(b"where")?,
+        rows_per_page: 2,
+        columns,
+    })?;
+    let indexes = Indexes::new(rt.alloc());
+    let layout = Layout::new(Schema { tables, indexes }, SIZES)?;
+    let line =
+        "begin select where where is = null and and is not null and null is null and where < 1";
+    let out = printed(rt.alloc(), line.as_bytes(), &layout)?;
+    assert_eq!(rt; out.as_slice(), line.as_bytes());
+    Ok(())
+}
+
+#[test]
+fn sixteen_conditions_are_the_most(rt: HostRuntime) -> Result<(), Fail> {
+    let layout = layout_of(rt.alloc(), &[(b"a", Kind::Int)])?;
+    let mut line = Vec::from_slice(rt.alloc(), b"s1 select t where a = 1")?;
+    for _ in 1..16 {
+        line.extend_from_slice(b" and a = 1")?;
+    }
+    let read = read_line(rt.alloc(), &line, &layout);
+    assert!(rt;
+        matches!(
+            &read,
+            Ok(Line::Say {
+                order: Order::Whole(Statement::Select(_)),
+                ..
+            })
+        )
+    );
+    let length = line.len();
+    line.extend_from_slice(b" and a = 1")?;
+    assert_eq!(rt;
+        refusal(&read_line(rt.alloc(), &line, &layout)),
+        (1, length + 1)
+    );
+    Ok(())
+}
+
+#[test]
+fn long_lines_are_read_up_to_the_limit(rt: HostRuntime) -> Result<(), Fail> {
+    let layout = layout_of(rt.alloc(), &[(b"a", Kind::Int)])?;
+    let mut zeros = Vec::from_slice(rt.alloc(), b"s1 insert t ")?;
+    for _ in 0..200 {
+        zeros.push(b'0')?;
+    }
+    zeros.push(b'5')?;
+    let out = printed(rt.alloc(), &zeros, &layout)?;
+    assert_eq!(rt; out.as_slice(), b"s1 insert t 5".as_slice());
+    for filler in [b' ', b'#', b'x'] {
+        let mut line = vec![in rt.alloc(); filler; MAX_LINE]?;
+        let expected = if filler == b'x' { (1, 0) } else { (0, 0) };
+        assert_eq!(rt; refusal(&read_line(rt.alloc(), &line, &layout)), expected);
+        line.push(filler)?;
+        assert_eq!(rt;
+            refusal(&read_line(rt.alloc(), &line, &layout)),
+            (1, MAX_LINE)
+        );
+    }
+    Ok(())
+}

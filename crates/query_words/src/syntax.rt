@@ -1,0 +1,151 @@
+// How far the words of a line go on as one: the grammar, one word after the other.
+
+ghost use Rattle.std.specs.Prelude.{◌≡◌, ◌≤◌, length};
+ghost use Rattle.query_words.specs.Syntax.{where_so, after_verb, after_word, after_column, after_is, may_end, stop_from, stop_of};
+ghost use Rattle.block_model.specs.Names.{is_name};
+ghost use Rattle.query_words.specs.Grammar.{is_comment};
+ghost use Rattle.query_words.specs.LineParts.{words_left};
+
+use crate::operator::read_op;
+use crate::value_word::is_value_word;
+use crate::verb::{Verb, read_verb};
+use crate::word::{Rest, is_word, next_word};
+use block_model::name::Name;
+
+/// What the words of a line may go on with. A number says how many conditions may follow.
+#[derive(Clone, Copy, Debug, PartialEq, Eq)]
+pub enum Expected {
+    Session,
+    Verb,
+    End,
+    InsertTable,
+    Values,
+    QueryTable,
+    Where,
+    And(u8),
+    Column(u8),
+    Operator(u8),
+    Value(u8),
+    Null(u8),
+    NotNull(u8),
+}
+
+/// The place of the first word at which the words stop being those of a line, or the line's length where a word is
+/// missing; none for a line of the grammar.
+pub fn stop_of(rest: Rest<'_>, line_len: usize) -> Option<usize>
+    ensures { result ≡ stop_of line_len (words_left rest.entry) }
+{
+    match next_word(rest) {
+        None => None,
+        Some((word, _)) if is_comment(word.text) => None,
+        Some(_) => stop_from(rest, line_len),
+    }
+}
+
+/// Whether a line with this word first is a comment.
+pub fn is_comment(word: &[u8]) -> bool
+    ensures { result ≡ is_comment word.now }
+{
+    match word {
+        [] => false,
+        [first, ..] => *first == b'#',
+    }
+}
+
+fn stop_from(rest: Rest<'_>, line_len: usize) -> Option<usize>
+    ensures { result ≡ stop_from line_len Expected.Session (words_left rest.entry) }
+{
+    let mut expected = Expected::Session;
+    let mut rest = rest;
+    'words: while let Some((word, behind)) = next_word(rest) {
+        match after_word(expected, word.text) {
+            None => return Some(word.at),
+            Some(next) => expected = next,
+        }
+        rest = behind;
+    }
+    if may_end(expected) {
+        None
+    } else {
+        Some(line_len)
+    }
+}
+
+fn may_end(expected: Expected) -> bool
+    ensures { result ≡ may_end expected }
+{
+    matches!(
+        expected,
+        Expected::End | Expected::Values | Expected::Where | Expected::And(_)
+    )
+}
+
+/// What may stand behind the word, where it may stand.
+fn after_word(expected: Expected, word: &[u8]) -> Option<Expected>
+    ensures { result ≡ after_word expected word.now }
+{
+    match expected {
+        Expected::Session => where_so(is_name(word), Expected::Verb),
+        Expected::Verb => read_verb(word).map(after_verb),
+        Expected::End => None,
+        Expected::InsertTable => where_so(is_name(word), Expected::Values),
+        Expected::Values => where_so(is_value_word(word), Expected::Values),
+        Expected::QueryTable => where_so(is_name(word), Expected::Where),
+        Expected::Where => where_so(is_word(word, b"where"), Expected::Column(15)),
+        Expected::And(left) => after_condition(left, word),
+        Expected::Column(left) => where_so(is_name(word), Expected::Operator(left)),
+        Expected::Operator(left) => after_column(left, word),
+        Expected::Value(left) => where_so(is_value_word(word), Expected::And(left)),
+        Expected::Null(left) => after_is(left, word),
+        Expected::NotNull(left) => where_so(is_word(word, b"null"), Expected::And(left)),
+    }
+}
+
+fn where_so(test: bool, next: Expected) -> Option<Expected>
+    ensures { result ≡ where_so test next }
+{
+    test.then_some(next)
+}
+
+fn is_name(word: &[u8]) -> bool
+    ensures { result ≡ is_name word.now }
+{
+    Name::new(word).is_some()
+}
+
+fn after_verb(verb: Verb) -> Expected
+    ensures { result ≡ after_verb verb }
+{
+    match verb {
+        Verb::Begin | Verb::Commit | Verb::Rollback => Expected::End,
+        Verb::Insert => Expected::InsertTable,
+        Verb::Select | Verb::Delete | Verb::Explain => Expected::QueryTable,
+    }
+}
+
+fn after_condition(left: u8, word: &[u8]) -> Option<Expected>
+    ensures { result ≡ after_word (Expected.And left) word.now }
+{
+    if left == 0 {
+        return None;
+    }
+    where_so(is_word(word, b"and"), Expected::Column(left - 1))
+}
+
+fn after_column(left: u8, word: &[u8]) -> Option<Expected>
+    ensures { result ≡ after_column left word.now }
+{
+    if is_word(word, b"is") {
+        return Some(Expected::Null(left));
+    }
+    where_so(read_op(word).is_some(), Expected::Value(left))
+}
+
+fn after_is(left: u8, word: &[u8]) -> Option<Expected>
+    ensures { result ≡ after_is left word.now }
+{
+    if is_word(word, b"not") {
+        return Some(Expected::NotNull(left));
+    }
+    where_so(is_word(word, b"null"), Expected::And(left))
+}
