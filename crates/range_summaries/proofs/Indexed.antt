@@ -20,7 +20,7 @@ use Rattle.block_model.specs.declared.schema.Table.{Table}
 use Rattle.block_model.specs.declared.schema.Index.{Index}
 use Rattle.block_model.specs.declared.schema.Schema.{Schema}
 use Rattle.value_text.specs.CanonicalTexts.{IsValueOf}
-use Rattle.query_words.specs.LineFits.{AreValuesFor, IsRowFor}
+use Rattle.query_words.specs.LineFits.{AreValuesFor, IsInsertFor}
 use Rattle.row_versions.specs.VersionsState.{rows_at}
 use Rattle.range_summaries.specs.declared.index_ranges.IndexRanges.{IndexRanges}
 use Rattle.range_summaries.specs.declared.summaries.Summaries.{Summaries}
@@ -80,7 +80,7 @@ value_of_kind (c ∷ columns) (v ∷ values) (suc k) column h e =
 
 -- an index's ranges take the next row of its table
 pub takes_row : (schema : Schema) (tables : List (List Row)) (table place : ℕ) (values : List Value) (index : Index) (c : IndexContents) → HasMinMaxIndexes schema → IsMinMaxIndex schema index
-    → IsRowFor schema table values → length (rows_at tables table) ≡ place → c.table ≡ table → AreRangesOf schema tables index c → TakesRow c place values
+    → IsInsertFor schema table values → length (rows_at tables table) ≡ place → c.table ≡ table → AreRangesOf schema tables index c → TakesRow c place values
 takes_row schema tables table place values index c lawful of_index fits at of_table h = record {
   some_rows = some_rows_in_range schema tables index c lawful of_index h;
   has_value = there.0;
@@ -95,13 +95,13 @@ takes_row schema tables table place values index c lawful of_index fits at of_ta
     column_is = ap first_column (sym of_index.parts_are ∙ h.of_column)
 
     one_table : of_index.table ≡ fits.table
-    one_table = cc (sym of_index.is_there ∙ ap (slice_get schema.tables) same ∙ fits.is_there)
+    one_table = cc (sym of_index.is_there ∙ ap (slice_get schema.tables) same ∙ fits.table)
 
     column_there : slice_get fits.table.columns c.column ≡ Some of_index.of
     column_there = (λ i. slice_get (sym one_table i).columns (sym column_is i)) ∙ of_index.column_is_there
 
     there : (c.column < length values) × IsValueOf of_index.of.kind (value_at values c.column)
-    there = value_of_kind fits.table.columns values c.column of_index.of fits.of_kinds column_there
+    there = value_of_kind fits.into.columns values c.column of_index.of fits.values column_there
 
 -- ranges of an index on another table stay as they are
 pub other_stays : (schema : Schema) (tables : List (List Row)) (table : ℕ) (rows : List Row) (index : Index) (c : IndexContents) → c.table ≢ table → AreRangesOf schema tables index c → AreRangesOf schema (slice_set tables table rows) index c
@@ -158,7 +158,7 @@ pub each_contents : (P : IndexContents → Type 0) (rs : List IndexRanges) → A
 each_contents P rs h = λ k d below. subst P (get_or-map contents_of rs k d (contents_of d) below) (h k (contents_of d) (omega (arith, length-map rs contents_of)))
 
 -- the ranges of the table's indexes take its next row
-pub each_takes : (schema : Schema) (tables : List (List Row)) (s : Summaries) (table place : ℕ) (values : List Value) → AreSummaries schema tables s → IsRowFor schema table values → length (rows_at tables table) ≡ place
+pub each_takes : (schema : Schema) (tables : List (List Row)) (s : Summaries) (table place : ℕ) (values : List Value) → AreSummaries schema tables s → IsInsertFor schema table values → length (rows_at tables table) ≡ place
     → All (λ r. r.table ≡ table → TakesRow (contents_of r) place values) s.of_indexes.items
 each_takes schema tables s table place values h fits at =
     each_contents (λ c. c.table ≡ table → TakesRow c place values) s.of_indexes.items
@@ -185,7 +185,7 @@ each_covers schema tables s table n rpp h some many is =
         }
 
 -- summaries whose ranges took the table's next row
-pub all_took : (schema : Schema) (tables : List (List Row)) (s s' : Summaries) (table : ℕ) (row : Row) → AreSummaries schema tables s → IsRowFor schema table row.values
+pub all_took : (schema : Schema) (tables : List (List Row)) (s s' : Summaries) (table : ℕ) (row : Row) → AreSummaries schema tables s → IsInsertFor schema table row.values
     → length s.of_indexes.items ≡ length s'.of_indexes.items
     → ((k : ℕ) (d : IndexRanges) → k < length s.of_indexes.items → TookIfOf table (length (rows_at tables table)) row.values (contents_of (get_or s.of_indexes.items k d)) (contents_of (get_or s'.of_indexes.items k d)))
     → AreSummaries schema (slice_set tables table (rows_at tables table ++ row ∷ [])) s'
@@ -204,7 +204,7 @@ all_took schema tables s s' table row h fits as_many took = record {
     tables' = slice_set tables table (rows_at tables table ++ row ∷ [])
 
     there : table < length tables
-    there = omega (arith, h.as_many, place_there schema.tables table fits.table fits.is_there)
+    there = omega (arith, h.as_many, place_there schema.tables table fits.into fits.table)
 
     one : (index : Index) → IsMinMaxIndex schema index → (c d : IndexContents) → AreRangesOf schema tables index c → TookIfOf table place row.values c d → AreRangesOf schema tables' index d
     one index of c d ranges took_or_stays =

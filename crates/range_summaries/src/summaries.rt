@@ -3,7 +3,7 @@
 ghost use Rattle.std.specs.Prelude.{◌≡◌, ◌^◌, ◌<◌, ◌≤◌, ℕ, List, [], ◌∷◌, ◌++◌, length, OnOk, IfOk, All, replicate, slice_set};
 ghost use Rattle.block_model.specs.declared.row.Row.{Row};
 ghost use Rattle.block_model.specs.declared.schema.Schema.{Schema};
-ghost use Rattle.query_words.specs.LineFits.{IsQueryFor, IsRowFor};
+ghost use Rattle.query_words.specs.LineFits.{IsQueryFor, IsInsertFor};
 ghost use Rattle.row_versions.specs.CoversMatches.{CoversMatches};
 ghost use Rattle.row_versions.specs.VersionsState.{rows_at};
 ghost use Rattle.range_summaries.specs.ExplainedBlocks.{blocks_kept, indexes_of, rows_per_page_at};
@@ -56,8 +56,8 @@ impl Summaries {
     /// range may be a new one. There is room for it. Takes no memory.
     pub fn widen(&mut self, table: u8, place: usize, values: &[Value])
         requires room { HasRoom self.old table }
-        requires row { (schema : Schema) × (tables : List (List Row)) × AreSummaries schema tables self.old × IsRowFor schema table values.now × (length (rows_at tables table) ≡ place) }
-        ensures { (schema : Schema) (tables : List (List Row)) (row : Row) → AreSummaries schema tables self.old → IsRowFor schema table values.now → length (rows_at tables table) ≡ place
+        requires row { (schema : Schema) × (tables : List (List Row)) × AreSummaries schema tables self.old × IsInsertFor schema table values.now × (length (rows_at tables table) ≡ place) }
+        ensures { (schema : Schema) (tables : List (List Row)) (row : Row) → AreSummaries schema tables self.old → IsInsertFor schema table values.now → length (rows_at tables table) ≡ place
             → row.values ≡ values.now → AreSummaries schema (slice_set tables table (rows_at tables table ++ row ∷ [])) self.new }
     {
         'indexes: for ranges in self.of_indexes.iter_mut() {

@@ -16,14 +16,14 @@ pub run-run-requires-clause-covered : goal.run-run-requires-clause-covered
 run-run-requires-clause-covered c =
     let r = c.requires.rows in
     let table = c.args.query.now.table in
-    let some : 1 ≤ c.args.rows_per_page = subst (λ n. 1 ≤ n) (sym r.5) (some_rows r.0 table r.3.table r.2.lawful r.3.is_there) in
+    let some : 1 ≤ c.args.rows_per_page = subst (λ n. 1 ≤ n) (sym r.5) (some_rows r.0 table r.3.of r.2.lawful r.3.table) in
     subst (λ (p : List IndexRanges × ℕ). All (λ r. r.table ≡ table → Covers p.1 (contents_of r)) p.0)
     (λ i. (sym c.as_slice.ensures.value i, sym (c.div_ceil-extent.ensures ∙ ap (div_ceil c.args.rows) c.from.ensures) i))
     (each_covers r.0 r.1 c.args.self.now table c.args.rows c.args.rows_per_page r.2 some r.4 r.5)
 
 pub returns-in_err-append-clause-covers : goal.returns-in_err-append-clause-covers
 returns-in_err-append-clause-covers c = λ schema tables kept fits many is.
-    c.blocks_left_out_hold_no_match.ensures schema tables c.args.self.now c.args.query.now c.args.rows_per_page (subst (λ n. 1 ≤ n) (sym is) (some_rows schema c.args.query.now.table fits.table kept.lawful fits.is_there)) kept
+    c.blocks_left_out_hold_no_match.ensures schema tables c.args.self.now c.args.query.now c.args.rows_per_page (subst (λ n. 1 ≤ n) (sym is) (some_rows schema c.args.query.now.table fits.of kept.lawful fits.table)) kept
 
 pub runs-preserved-in_ok-append : goal.runs-preserved-in_ok-append
 runs-preserved-in_ok-append c =
@@ -66,4 +66,4 @@ returns-clause-blocks c = λ schema tables kept fits many is.
 
 pub returns-clause-covers : goal.returns-clause-covers
 returns-clause-covers c = λ schema tables kept fits many is.
-    c.blocks_left_out_hold_no_match.ensures schema tables c.args.self.now c.args.query.now c.args.rows_per_page (subst (λ n. 1 ≤ n) (sym is) (some_rows schema c.args.query.now.table fits.table kept.lawful fits.is_there)) kept
+    c.blocks_left_out_hold_no_match.ensures schema tables c.args.self.now c.args.query.now c.args.rows_per_page (subst (λ n. 1 ≤ n) (sym is) (some_rows schema c.args.query.now.table fits.of kept.lawful fits.table)) kept

@@ -2,7 +2,7 @@ use Rattle.std.proofs.Common.{◌≡◌, ℕ, ◌<◌, ◌≤◌, List, get_or, 
 use Rattle.std.specs.Vec.{with_items}
 use Rattle.std.proofs.lemmas.List.{with_items_is}
 use Rattle.block_model.specs.declared.value.Value.{Value}
-use Rattle.query_words.specs.LineFits.{IsRowFor}
+use Rattle.query_words.specs.LineFits.{IsInsertFor}
 use Rattle.row_versions.specs.VersionsState.{rows_at}
 use Rattle.range_summaries.specs.declared.index_ranges.IndexRanges.{IndexRanges}
 use Rattle.range_summaries.specs.IndexContents.{contents_of}
@@ -29,7 +29,7 @@ returns c = λ schema tables row kept fits at are.
     let same : old ≡ v.items = c.deref_mut-ranges-items.ensures.value in
     let as_many : length new ≡ v.len = c.indexes.auto.ranges-items ∙ ap length same ∙ sym v.ok.0 in
     let is : (with_items v new).items ≡ new = with_items_is v new as_many in
-    all_took schema tables c.args.self.now (record { of_indexes = with_items v new }) c.args.table row kept (subst (IsRowFor schema c.args.table) (sym are) fits) (sym v.ok.0 ∙ sym as_many ∙ ap length (sym is))
+    all_took schema tables c.args.self.now (record { of_indexes = with_items v new }) c.args.table row kept (subst (IsInsertFor schema c.args.table) (sym are) fits) (sym v.ok.0 ∙ sym as_many ∙ ap length (sym is))
     (λ k d below.
     let done : k < c.indexes.ranges-index = omega (arith, ap length same) in
     let took : TookIfOf c.args.table c.args.place c.args.values.now (contents_of (get_or old k d)) (contents_of (get_or new k d)) = c.indexes.invariant.done k d done in
