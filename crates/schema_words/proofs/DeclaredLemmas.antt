@@ -1,11 +1,12 @@
 -- What words declare, one after another.
-use Rattle.std.proofs.Common.{◌≡◌, ℕ, zero, suc, ◌+◌, ◌<◌, Bool, true, false, cond, ◌||◌, List, [], ◌∷◌, ◌++◌, length, take, get_or, Result, Ok, Err, Option, None, Some, ◌⊎◌, inl, inr, refl, sym, ap, subst, ◌∙◌, arith, append_assoc, append-nil}
+use Rattle.std.proofs.Common.{◌≡◌, ℕ, zero, suc, ◌+◌, ◌<◌, ◌≤◌, Bool, true, false, cond, ◌||◌, List, [], ◌∷◌, ◌++◌, length, take, get_or, Result, Ok, Err, Option, None, Some, ◌⊎◌, inl, inr, refl, sym, ap, subst, ◌∙◌, arith, append_assoc, append-nil}
 use Rattle.std.specs.Prelude.{slice_get}
 use Rattle.std.specs.List.{list_any, position_from}
 use Rattle.block_model.specs.IndexedColumns.{columns_in}
 use Rattle.std.specs.Str.{bytes_eq}
 use Rattle.std.specs.Result.{is_ok}
 use Rattle.std.proofs.lemmas.Bool.{false≢true}
+use Rattle.std.proofs.lemmas.List.{take_more, take_all}
 use Rattle.block_model.specs.declared.schema.Column.{Column}
 use Rattle.block_model.specs.declared.schema.Table.{Table}
 use Rattle.block_model.specs.declared.schema.Index.{Index}
@@ -14,7 +15,9 @@ use Rattle.text_reading.specs.StopsAt.{StopsAt}
 use Rattle.text_reading.proofs.Whole.{one-text}
 use Rattle.schema_words.specs.DeclarationTexts.{TableText, DeclarationText, OfTable, OfIndex, IndexText, bytes_of, IsDeclaration}
 use Rattle.schema_words.specs.DeclaredSchema.{table_of, table_named, column_named, index_on, on_table, on_column, index_among, with_table, with_index, declared_behind, Declares, DeclareBehind, nothing_declared, Denotes}
-use Rattle.schema_words.specs.FirstFault.{IsFaulty, IsFirstFault}
+use Rattle.schema_words.specs.FirstFault.{IsFaulty, IsFirstFault, Answers}
+use Rattle.schema_words.specs.declared.declarations.DeclFault.{DeclFault}
+use Rattle.schema_words.specs.declared.declarations.DeclFault.TheVariants as faults
 use Rattle.schema_words.specs.DeclarationReading.{declaration_at}
 use Rattle.schema_words.specs.Words.{has_column, column_sought}
 use Rattle.schema_words.proofs.WordReading.{declaration-lawful, declaration-complete}
@@ -71,7 +74,7 @@ fault-denotes_nothing words word at f schema h =
     let same : r.before ≡ f.before = words-one (take word words) nothing_declared r.before f.before r.front f.declared in
     faulty-declares_nothing f.before (get_or words word []) at f.faulty r.after (subst (λ (x : Schema). Declares (get_or words word []) x (Ok r.after)) same r.here)
 
-abbrev is_table : List ℕ → Table → Bool
+abbrev pub is_table : List ℕ → Table → Bool
 is_table name t = bytes_eq name t.name
 
 abbrev is_column : List ℕ → Column → Bool
@@ -123,7 +126,8 @@ first-table i xs ys t none here =
 abbrev Grows : Schema → Schema → Type 0
 Grows s t = (more : List Table) × (t.tables ≡ s.tables ++ more)
 
-with_index-grows : (s t : Schema) (o : Result Index ℕ) → with_index s o ≡ Ok t → s.tables ≡ t.tables
+-- an index leaves the tables
+pub with_index-grows : (s t : Schema) (o : Result Index ℕ) → with_index s o ≡ Ok t → s.tables ≡ t.tables
 with_index-grows s t (Ok index) e = let k : record { tables = s.tables; indexes = s.indexes ++ index ∷ [] } ≡ t = cc in ap (λ (x : Schema). x.tables) k
 with_index-grows s t (Err at) e = absurd (false≢true (ap is_ok e))
 
@@ -146,3 +150,22 @@ split-table s t words n r x e =
     let same : with_table r.before (table_of x) ≡ r.after = cc in
     let more = words-grow r.rest r.after t r.back in
     (more.0, more.1 ∙ ap (λ (u : Schema). u.tables ++ more.0) (sym same) ∙ append_assoc r.before.tables (table_of x ∷ []) more.0)
+
+-- one word more that is a declaration
+pub denotes-push : (words : List (List ℕ)) (n : ℕ) (m t : Schema) (bytes : List ℕ) → n < length words → bytes ≡ get_or words n [] → Denotes (take n words) m → Declares bytes m (Ok t) → Denotes (take (n + 1) words) t
+denotes-push words n m t bytes below same h d =
+    subst (λ (l : List (List ℕ)). Denotes l t) (sym (take_more words n [] below))
+    (behind-push (take n words) nothing_declared m t (get_or words n []) h (subst (λ (b : List ℕ). Declares b m (Ok t)) same d))
+
+-- all words
+pub denotes-all : (words : List (List ℕ)) (n : ℕ) (s : Schema) → length words ≤ n → Denotes (take n words) s → Denotes words s
+denotes-all words n s h d = subst (λ (l : List (List ℕ)). Denotes l s) (take_all n words h) d
+
+-- the first word that is at fault
+pub first-fault : (words : List (List ℕ)) (n at : ℕ) (s : Schema) (bytes : List ℕ) → n < length words → bytes ≡ get_or words n [] → Denotes (take n words) s → IsFaulty s bytes at → IsFirstFault words n at
+first-fault words n at s bytes below same h f = record { before = s; declared = h; within = below; faulty = subst (λ (b : List ℕ). IsFaulty s b at) same f }
+
+-- a first fault, or want of memory, is answered rightly
+pub answers-fault : (words : List (List ℕ)) (fault : DeclFault) → ((word at : ℕ) → fault ≡ faults.Form word at → IsFirstFault words word at) → (schema : Schema) → Denotes words schema → Answers schema (Err fault)
+answers-fault words (faults.Form word at) f schema h = fault-denotes_nothing words word at (f word at refl) schema h
+answers-fault words faults.Memory f schema h = tt

@@ -4,3 +4,4 @@ pub mod ColumnsLoop
 pub mod WordReading
 pub mod WordLemmas
 pub mod DeclaredLemmas
+pub mod Judging

@@ -20,7 +20,11 @@ pub enum Declaration<'a> {
 }
 
 /// The parts of a declaration, or the first byte where no declaration goes on.
-pub fn read_declaration<'a>(kept: Option<Columns>, wanted: &[u8], text: &'a [u8]) -> Result<Declaration<'a>, usize>
+pub fn read_declaration<'a>(
+    kept: Option<Columns>,
+    wanted: &[u8],
+    text: &'a [u8],
+) -> Result<Declaration<'a>, usize>
     ensures { MatchResult result (Reads kept wanted.now text.now) (StopsAt bytes_of IsDeclaration text.now) }
 {
     match all_of(kept, wanted, text) {

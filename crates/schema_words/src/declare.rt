@@ -51,7 +51,12 @@ fn add_table(tables: &mut Tables, table: TableWord<'_>) -> Result<(), WordFault>
     }
 }
 
-fn add_index(alloc: Global, tables: &[Table], indexes: &mut Indexes, index: &IndexWord<'_>) -> Result<(), WordFault>
+fn add_index(
+    alloc: Global,
+    tables: &[Table],
+    indexes: &mut Indexes,
+    index: &IndexWord<'_>,
+) -> Result<(), WordFault>
     requires { IsIndex (index_text index.now) }
     ensures ok { OnOk result ((added : Index) × (index_among tables.now (index_text index.now) ≡ Ok added) × (indexes.new ≡ indexes.old ++ added ∷ [])) }
     ensures form { (at : ℕ) → result ≡ Err (WordFault.Form at) → index_among tables.now (index_text index.now) ≡ Err at }
@@ -88,18 +93,27 @@ fn table_named(tables: &[Table], name: &[u8]) -> Option<usize>
     ensures number { result ≡ table_named name.now tables.now }
     ensures within { IfSome result (λ number. number < length tables.now) }
 {
-    tables.iter().position(|table| name == table.name.as_bytes())
+    tables
+        .iter()
+        .position(|table| name == table.name.as_bytes())
 }
 
 /// The number of the first column of that name.
 fn column_named(columns: &[Column], name: &[u8]) -> Option<usize>
     ensures { result ≡ column_named name.now columns.now }
 {
-    columns.iter().position(|column| name == column.name.as_bytes())
+    columns
+        .iter()
+        .position(|column| name == column.name.as_bytes())
 }
 
 /// The index on the table and the column of those numbers.
-fn index_on(alloc: Global, index: &IndexWord<'_>, table: usize, column: usize) -> Result<Index, NoMemory>
+fn index_on(
+    alloc: Global,
+    index: &IndexWord<'_>,
+    table: usize,
+    column: usize,
+) -> Result<Index, NoMemory>
     requires { IsIndex (index_text index.now) }
     ensures { IfOk result (λ i. i ≡ index_on (index_text index.now) table column) }
 {
