@@ -1,20 +1,18 @@
 -- One word more: clap's walk and the grammar's reading go on together.
-use Rattle.std.proofs.Common.{◌≡◌, ◌∙◌, refl, sym, ap, ap₂, subst, List, [], ◌∷◌, ◌++◌, Bool, true, false, cond, not, ◌||◌, ◌&&◌, Option, Some, None, is_some, option_map, find, bytes_eq, ℕ, map, unwrap_or, true≢false, option_and_then, ◌==◌, inl, inr, ◌⊎◌}
+use Rattle.std.proofs.Common.{◌≡◌, ◌∙◌, refl, sym, ap, List, [], ◌∷◌, ◌++◌, Bool, true, false, cond, not, ◌||◌, ◌&&◌, Option, Some, None, is_some, bytes_eq, true≢false, option_and_then, ◌==◌, inl, inr, ◌⊎◌}
 use Rattle.std.specs.List.{list_any, list_all}
 use Rattle.std.specs.Prelude.{fold}
-use Rattle.std.proofs.lemmas.Bool.{cases_Bool, false_from_ne_true, and_parts, not-true}
+use Rattle.std.proofs.lemmas.Bool.{cases_Bool}
 use Rattle.clap.specs.Lexer.{long_of, short_of, short_of_rest}
-use Rattle.clap.specs.Walk.{Held, Walk, Waiting, idle, positional, option, Row, Rule, all_of, settled, walked, walk_from, subcommand_met, plain_word, next, trailing, value, arg_by_long, arg_by_id, arg_by_index, has_row, used, pushed, reacted, long_word, takes_values, walk, nothing_held, rows_after, with_default, finished}
-use Rattle.clap.specs.Simple.{Shape}
-use Rattle.clap.specs.Faults.{defaults_fault, level_fault, settle_fault, turn_fault, use_fault, long_fault, step_fault, walk_fault, react_fault}
+use Rattle.clap.specs.Walk.{Held, Walk, Waiting, idle, positional, option, Row, Rule, settled, walked, walk_from, subcommand_met, plain_word, value, arg_by_long, has_row, reacted, takes_values, nothing_held, rows_after, with_default, finished}
+use Rattle.clap.specs.Faults.{defaults_fault, level_fault, settle_fault, turn_fault, use_fault, long_fault, walk_fault, react_fault}
 use Rattle.clap.specs.Takes.{is_given}
 use Rattle.clap.specs.Kinds.{Kinds, or_else}
-use Rattle.clap.specs.declared.builder.value_parser.Reading.{Reading as HowRead}
 use Rattle.clap.specs.declared.error.kind.ErrorKind.TheVariants.{TooManyValues}
-use Rattle.command_words.specs.CommandWords.{Text, Said, Reading, value_of, nothing_read, give, option_in, begins_with_hyphen}
+use Rattle.command_words.specs.CommandWords.{Text, Said, Reading, value_of, nothing_read, option_in, begins_with_hyphen}
 use Rattle.command_words.specs.ClapReading.{is_end, clap_word, clap_read, has_single_hyphen, has_no_single_hyphen}
-use Rattle.command_words.specs.ClapRules.{declared_id, option_rule, declared_rule, rules, leaf, Shows, shown, Agrees}
-use Rattle.command_words.proofs.RowLemmas.{same_text, text_is, none_without, values_at, has_is, given_at, long_known, long_unknown, id_known, id_declared, first_place, known_apart, known_other, has_value, set_shows, add_shows, no_defaults}
+use Rattle.command_words.specs.ClapRules.{declared_id, option_rule, rules, leaf, Shows, Agrees}
+use Rattle.command_words.proofs.RowLemmas.{text_is, long_known, long_unknown, id_known, id_declared, first_place, known_apart, has_value, set_shows, add_shows, no_defaults}
 
 -- ---- where a walk may stand
 
