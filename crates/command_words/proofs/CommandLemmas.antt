@@ -1,4 +1,4 @@
--- The whole command line: clap's answer and the grammar's.
+-- The whole command line: clap's answer and the reading's.
 use Rattle.std.proofs.Common.{◌≡◌, ◌∙◌, refl, sym, ap, ap₂, subst, List, [], ◌∷◌, ◌++◌, Bool, true, false, cond, not, ◌||◌, ◌&&◌, Option, Some, None, is_some, option_map, find, bytes_eq, map, inl, inr, append_assoc, append-nil, MatchOption, codes}
 use Rattle.std.specs.List.{list_any, list_all}
 use Rattle.std.specs.Prelude.{fold}
@@ -173,7 +173,7 @@ named_plain word words subs s e named ok =
     let goes_on : is_end word ≡ false = ap is_end (sym (entry_named word subs s e)) ∙ not-true _ (and_parts (not (list_any (λ n. bytes_eq n declared_id) s.1)) (not (is_end s.0)) (named_has word subs s e named)).1 in
     rest_plain false (is_end word) (has_single_hyphen word) (has_no_single_hyphen words) false ok (sym goes_on)
 
--- clap refuses exactly the words that the grammar refuses, and else its matches hold what they say
+-- clap refuses exactly the words that the reading refuses, and else its matches hold what they say
 pub clap_agrees : (name : Text) (subs : List Sub) (words : List Text) → list_all has_names subs ≡ true → has_no_single_hyphen words ≡ true
     → MatchOption (command_said subs words) (fault_of (raw_app name subs) words ≡ [] → ⊥)
     (λ said. (fault_of (raw_app name subs) words ≡ []) × Enters (subcommand_of (raw_app name subs) words) said)
@@ -189,9 +189,6 @@ clap_agrees name subs (word ∷ words) named ok =
         → MatchOption (option_map (λ x. (n, x)) said) (fault ≡ [] → ⊥) (λ x. (fault ≡ []) × Enters entered x)
     go n None fault rows entered e a = a
     go n (Some x) fault rows entered e a = (a.0, (rows, e, a.1))
-
-program_built : built (raw_app (codes "brin") program_subs) ≡ built_app (codes "brin") program_subs
-program_built = built_is (codes "brin") program_subs
 
 pub program_simple : is_simple_and_free (raw_app (codes "brin") program_subs) ≡ true
 program_simple = refl

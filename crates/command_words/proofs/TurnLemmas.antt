@@ -1,9 +1,9 @@
--- One word more: clap's walk and the grammar's reading go on together.
+-- One word more: clap's walk and the reading go on together.
 use Rattle.std.proofs.Common.{◌≡◌, ◌∙◌, refl, sym, ap, List, [], ◌∷◌, ◌++◌, Bool, true, false, cond, not, ◌||◌, ◌&&◌, Option, Some, None, is_some, bytes_eq, true≢false, option_and_then, ◌==◌, inl, inr, ◌⊎◌}
 use Rattle.std.specs.List.{list_any, list_all}
 use Rattle.std.specs.Prelude.{fold}
 use Rattle.std.proofs.lemmas.Bool.{cases_Bool}
-use Rattle.clap.specs.Lexer.{long_of, short_of, short_of_rest}
+use Rattle.clap.specs.Lexer.{short_of, short_of_rest}
 use Rattle.clap.specs.Walk.{Held, Walk, Waiting, idle, positional, option, Row, Rule, settled, walked, walk_from, subcommand_met, plain_word, value, arg_by_long, has_row, reacted, takes_values, nothing_held, rows_after, with_default, finished}
 use Rattle.clap.specs.Faults.{defaults_fault, level_fault, settle_fault, turn_fault, use_fault, long_fault, walk_fault, react_fault}
 use Rattle.clap.specs.Takes.{is_given}
@@ -103,10 +103,6 @@ plain_calm : (c : List Rule) (b : Bool) (word : Text) (h : Held) → plain_word 
 plain_calm c true word h = refl
 plain_calm c false word h = refl
 
--- clap reads a word as the grammar does
-long_alike : (word : Text) → long_of word ≡ option_in word
-long_alike word = refl
-
 pub no_short : (word : Text) → has_single_hyphen word ≡ false → short_of word ≡ None
 no_short [] e = refl
 no_short (x ∷ xs) e = go (x == 45) xs e
@@ -124,9 +120,6 @@ pub or_bad : (a b : Kinds) → (a ≡ [] → ⊥) → or_else a b ≡ [] → ⊥
 or_bad [] b h e = h refl
 or_bad (k ∷ ks) b h e = h e
 
-first_bad : (a b : Kinds) → a ≡ [] → (b ≡ [] → ⊥) → or_else a b ≡ [] → ⊥
-first_bad a b e h = rw e h
-
 pub and_false : (b : Bool) → (b && false) ≡ false
 and_false true = refl
 and_false false = refl
@@ -138,9 +131,6 @@ end_turn names h b said word e holds =
     (rw (no_sub (calm_waiting b) word, e) refl, rw (no_sub (calm_waiting b) word, e) refl, rw e refl, holds, sym e)
 
 -- ---- a use of an option
-
-use_free : (rows : List Row) (name v : Text) → has_row name rows ≡ false → use_fault false (option_rule name) (v ∷ []) rows ≡ []
-use_free rows name v e = rw e refl
 
 use_taken : (rows : List Row) (name v : Text) → has_row name rows ≡ true → use_fault false (option_rule name) (v ∷ []) rows ≡ [] → ⊥
 use_taken rows name v e = rw e (λ h. cc)
@@ -427,10 +417,6 @@ agrees_from names s (word ∷ words) d ok holds =
     ]
 
 -- ---- a level of the parse, from its first word
-
-each_free : (names : List Text) → list_all (λ (a : Rule). a.is_free) (rules names) ≡ true
-each_free [] = refl
-each_free (n ∷ ns) = each_free ns
 
 none_required : (names : List Text) (rows : List Row) → list_any (λ (a : Rule). a.required && not (is_given a.id rows)) (rules names) ≡ false
 none_required [] rows = refl
