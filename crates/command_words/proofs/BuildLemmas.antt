@@ -1,7 +1,7 @@
 -- Building the command, one argument at a time.
-use Rattle.std.proofs.Common.{◌≡◌, ◌∙◌, ◌<◌, ◌+◌, ◌++◌, refl, sym, ap, List, [], ◌∷◌, map, take, length, slice_index_or, ℕ, Bor, zero, suc, arith, add-one, take-suc}
+use Rattle.std.proofs.Common.{◌≡◌, ◌∙◌, ◌<◌, ◌+◌, ◌++◌, refl, sym, ap, List, [], ◌∷◌, map, take, length, slice_index_or, ℕ, Bor, zero, suc, arith, add-one}
 use Rattle.clap.specs.Walk.{Rule}
-use Rattle.clap.specs.Simple.{App, with_rule}
+use Rattle.clap.specs.Simple.{with_rule}
 use Rattle.command_words.specs.CommandWords.{Text}
 use Rattle.command_words.specs.ClapCommands.{leaf_app, raw_option}
 

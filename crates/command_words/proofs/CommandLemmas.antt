@@ -1,20 +1,20 @@
--- The whole command line: clap's answer and the grammar's.
-use Rattle.std.proofs.Common.{◌≡◌, ◌∙◌, refl, sym, ap, ap₂, subst, List, [], ◌∷◌, ◌++◌, Bool, true, false, cond, not, ◌||◌, ◌&&◌, Option, Some, None, is_some, option_map, option_and_then, find, bytes_eq, ℕ, map, true≢false, inl, inr, ◌⊎◌, append_assoc, append-nil, MatchOption, codes}
+-- The whole command line: clap's answer and the reading's.
+use Rattle.std.proofs.Common.{◌≡◌, ◌∙◌, refl, sym, ap, ap₂, subst, List, [], ◌∷◌, ◌++◌, Bool, true, false, cond, not, ◌||◌, ◌&&◌, Option, Some, None, is_some, option_map, find, bytes_eq, map, inl, inr, append_assoc, append-nil, MatchOption, codes}
 use Rattle.std.specs.List.{list_any, list_all}
 use Rattle.std.specs.Prelude.{fold}
 use Rattle.std.proofs.lemmas.Bool.{cases_Bool, and_parts, not-true}
-use Rattle.clap.specs.Walk.{Held, Walk, Waiting, idle, Row, Rule, Names, walked, walk_from, walk, nothing_held, answers_to, rows_after, stop_after}
-use Rattle.clap.specs.Simple.{App, Shape, built, built_leaf, inherited, marked_built, with_leaf_noted, filled_from, label_of, names_of, entered, subcommand_of, is_simple, is_ready_leaf}
-use Rattle.clap.specs.Faults.{fault_of, built_fault, level_fault, walk_fault, turn_fault, entered_fault, is_simple_and_free, defaults_fault}
+use Rattle.clap.specs.Walk.{Walk, idle, Row, Rule, Names, walked, walk_from, walk, nothing_held, answers_to, rows_after, stop_after}
+use Rattle.clap.specs.Simple.{App, Shape, built, built_leaf, inherited, marked_built, with_leaf_noted, filled_from, label_of, names_of, entered, subcommand_of, is_simple}
+use Rattle.clap.specs.Faults.{fault_of, built_fault, level_fault, walk_fault, turn_fault, is_simple_and_free, defaults_fault}
 use Rattle.clap.specs.Kinds.{Kinds, or_else}
 use Rattle.clap.proofs.FaultLemmas.{stopped_fault}
 use Rattle.clap.specs.declared.error.kind.ErrorKind.TheVariants.{MissingSubcommand}
 use Rattle.command_words.specs.CommandWords.{Text, Said, nothing_read, option_in}
 use Rattle.command_words.specs.ClapReading.{is_end, clap_read, has_single_hyphen, has_no_single_hyphen}
-use Rattle.command_words.specs.ClapRules.{declared_id, option_rule, declared_rule, rules, leaf, Shows, Agrees}
-use Rattle.command_words.specs.ClapCommands.{Sub, entry, command_said, raw_option, raw_declared, raw_rules, raw_leaf, top, raw_app, leaf_of, built_app, Enters, program_subs, leaf_app}
+use Rattle.command_words.specs.ClapRules.{declared_id, option_rule, rules, leaf, Agrees}
+use Rattle.command_words.specs.ClapCommands.{Sub, entry, command_said, raw_rules, raw_leaf, top, raw_app, leaf_of, built_app, Enters, program_subs}
 use Rattle.command_words.proofs.RowLemmas.{same_text}
-use Rattle.command_words.proofs.TurnLemmas.{IsPlain, first_plain, rest_plain, not_single, leaf_agrees, or_nil, or_bad, or_parts, some_or_none, no_short, and_false}
+use Rattle.command_words.proofs.TurnLemmas.{IsPlain, first_plain, rest_plain, not_single, leaf_agrees, or_nil, or_bad, some_or_none, no_short, and_false}
 
 -- ---- what building makes of the command
 
@@ -173,7 +173,7 @@ named_plain word words subs s e named ok =
     let goes_on : is_end word ≡ false = ap is_end (sym (entry_named word subs s e)) ∙ not-true _ (and_parts (not (list_any (λ n. bytes_eq n declared_id) s.1)) (not (is_end s.0)) (named_has word subs s e named)).1 in
     rest_plain false (is_end word) (has_single_hyphen word) (has_no_single_hyphen words) false ok (sym goes_on)
 
--- clap refuses exactly the words that the grammar refuses, and else its matches hold what they say
+-- clap refuses exactly the words that the reading refuses, and else its matches hold what they say
 pub clap_agrees : (name : Text) (subs : List Sub) (words : List Text) → list_all has_names subs ≡ true → has_no_single_hyphen words ≡ true
     → MatchOption (command_said subs words) (fault_of (raw_app name subs) words ≡ [] → ⊥)
     (λ said. (fault_of (raw_app name subs) words ≡ []) × Enters (subcommand_of (raw_app name subs) words) said)
@@ -189,9 +189,6 @@ clap_agrees name subs (word ∷ words) named ok =
         → MatchOption (option_map (λ x. (n, x)) said) (fault ≡ [] → ⊥) (λ x. (fault ≡ []) × Enters entered x)
     go n None fault rows entered e a = a
     go n (Some x) fault rows entered e a = (a.0, (rows, e, a.1))
-
-program_built : built (raw_app (codes "brin") program_subs) ≡ built_app (codes "brin") program_subs
-program_built = built_is (codes "brin") program_subs
 
 pub program_simple : is_simple_and_free (raw_app (codes "brin") program_subs) ≡ true
 program_simple = refl

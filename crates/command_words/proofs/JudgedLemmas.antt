@@ -1,11 +1,11 @@
 -- Judging each word where it stands is clap's reading, judged at the end.
-use Rattle.std.proofs.Common.{◌≡◌, ◌∙◌, refl, sym, ap, subst, List, [], ◌∷◌, ◌++◌, Bool, true, false, cond, not, ◌||◌, ◌&&◌, ◌==◌, Option, Some, None, is_some, option_map, option_and_then, bytes_eq, find, map, ℕ, true≢false, inl, inr, ◌⊎◌, nat_le, codes}
+use Rattle.std.proofs.Common.{◌≡◌, ◌∙◌, refl, sym, ap, subst, List, [], ◌∷◌, ◌++◌, Bool, true, false, cond, not, ◌||◌, ◌&&◌, ◌==◌, Option, Some, None, is_some, option_map, option_and_then, bytes_eq, find, map, true≢false, inl, inr, ◌⊎◌}
 use Rattle.std.specs.List.{list_any, list_all}
 use Rattle.std.proofs.lemmas.Bool.{cases_Bool, and_parts, not-true, false_from_ne_true, eqb-true}
 use Rattle.command_words.specs.declared.command.Command.{Command}
-use Rattle.command_words.specs.CommandWords.{Text, Said, Reading, value_of, give, declare, option_in, nothing_read, is_number, begins_with_hyphen, give_number, take_option, take_word, name_and_value, read_words, CommandForm, command_in, commands, form_named}
+use Rattle.command_words.specs.CommandWords.{Text, Said, Reading, value_of, option_in, nothing_read, is_number, begins_with_hyphen, take_word, name_and_value, read_words, CommandForm, command_in, commands, form_named}
 use Rattle.command_words.specs.ClapReading.{is_end, has_single_hyphen, clap_read, clap_word, numbers_given, is_number_if_given, has_no_single_hyphen}
-use Rattle.command_words.specs.ClapCommands.{entry, Sub, command_said, command_matched, judged, meaning_checked}
+use Rattle.command_words.specs.ClapCommands.{entry, command_matched, judged, meaning_checked}
 use Rattle.command_words.proofs.RowLemmas.{given_at, same_text, text_is}
 use Rattle.command_words.proofs.TurnLemmas.{IsPlain, not_single, some_or_none, and_false}
 

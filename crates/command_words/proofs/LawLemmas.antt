@@ -1,14 +1,13 @@
 -- What the words behind a command say, wherever an option stands among them.
-use Rattle.std.proofs.Common.{◌≡◌, ◌∙◌, refl, sym, ap, List, [], ◌∷◌, ◌++◌, ◌&&◌, Bool, true, false, cond, not, Option, Some, None, is_some, option_map, option_and_then, unwrap_or, find, bytes_eq, ℕ, true≢false, inl, inr, codes, IfSome, subst, append_assoc, ap₂, nat_lt, ◌<◌, slice_index, slice_index_or, zero, suc, ltb-true, arith, length}
+use Rattle.std.proofs.Common.{◌≡◌, ◌∙◌, refl, sym, ap, List, [], ◌∷◌, ◌++◌, Bool, true, false, cond, not, Option, Some, None, is_some, option_map, option_and_then, unwrap_or, bytes_eq, ℕ, true≢false, inl, inr, codes, IfSome, subst, append_assoc, ap₂, nat_lt, ◌<◌, slice_index, zero, suc, ltb-true, arith}
 use Rattle.std.proofs.lemmas.Str.{IsUtf8-from_ascii, is_utf8-from_IsUtf8}
 use Rattle.std.specs.List.{list_any, list_all, All}
 use Rattle.std.specs.Str.{is_utf8}
 use Rattle.std.proofs.lemmas.Bool.{cases_Bool, and_parts, not-true}
 use Rattle.std.proofs.lemmas.List.Folds.{list_all-append}
 use Rattle.block_model.specs.declared.schema.Sizes.{Sizes}
-use Rattle.command_words.specs.declared.command.Command.{Command}
 use Rattle.command_words.specs.declared.command.Command.TheVariants.{Run}
-use Rattle.command_words.specs.CommandWords.{Text, Said, Reading, nothing_read, value_of, is_number, number_of, begins_with_hyphen, option_in, give, give_number, take_option, take_named, take_free, take_word, read_words, size_options, sizes_of, run_with, run_of, command_in, command_of}
+use Rattle.command_words.specs.CommandWords.{Text, Said, Reading, nothing_read, value_of, is_number, number_of, begins_with_hyphen, option_in, give_number, take_option, take_named, take_free, take_word, read_words, size_options, sizes_of, run_with, run_of, command_of}
 use Rattle.command_words.specs.Laws.{option_words, has_no_end, OptionStandsOnce, OptionHasItsNumber, FurtherWordIsDeclaredLast, SizesHaveDefaults}
 use Rattle.command_words.proofs.RowLemmas.{given_at, text_is, same_text}
 use Rattle.command_words.proofs.TurnLemmas.{some_or_none}

@@ -1,5 +1,5 @@
--- clap's clauses give the grammar's answer.
-use Rattle.std.proofs.Common.{◌≡◌, ◌∙◌, refl, sym, ap, subst, List, [], Bool, true, false, Option, Some, None, inl, inr, MatchOption, codes, ◌∷◌, find, bytes_eq, option_map, option_and_then, slice_get}
+-- clap's clauses give the reading's answer.
+use Rattle.std.proofs.Common.{◌≡◌, ◌∙◌, refl, sym, ap, subst, List, [], true, false, Option, Some, None, inl, inr, MatchOption, codes, ◌∷◌, find, bytes_eq, option_map, option_and_then, slice_get}
 use Rattle.clap.specs.Words.{App, HasMatchesOf, subcommand_rows_of, subcommand_of, is_simple, kind_of, is_simple_and_free, fault_of}
 use Rattle.clap.specs.Kinds.{Kinds, HasKind}
 use Rattle.clap.specs.declared.parser.matches.ArgMatches.{ArgMatches}

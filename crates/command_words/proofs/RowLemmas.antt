@@ -1,13 +1,13 @@
 -- What clap's rows hold after one use of an argument, and which rule a name leads to.
-use Rattle.std.proofs.Common.{◌≡◌, ◌∙◌, refl, sym, ap, subst, List, [], ◌∷◌, ◌++◌, Bool, true, false, cond, not, ◌||◌, ◌&&◌, Option, Some, None, is_some, option_map, find, bytes_eq, ℕ, map, unwrap_or, true≢false}
-use Rattle.std.specs.List.{list_any, list_all}
+use Rattle.std.proofs.Common.{◌≡◌, ◌∙◌, refl, sym, ap, List, [], ◌∷◌, ◌++◌, Bool, true, false, cond, ◌||◌, Option, Some, None, is_some, option_map, find, bytes_eq, unwrap_or, true≢false}
+use Rattle.std.specs.List.{list_any}
 use Rattle.std.specs.Prelude.{fold}
 use Rattle.std.proofs.lemmas.Slice.Eq.{bytes_eq-Decides}
 use Rattle.std.proofs.lemmas.Bool.{cases_Bool, false_from_ne_true}
-use Rattle.clap.specs.Walk.{Row, Rule, all_of, at_row, has_row, with_values, without, used, arg_by_long, arg_by_id, arg_by_index, with_default}
+use Rattle.clap.specs.Walk.{Row, all_of, has_row, with_values, without, used, arg_by_long, arg_by_id, arg_by_index, with_default}
 use Rattle.clap.specs.declared.builder.value_parser.Reading.{Reading}
 use Rattle.clap.specs.declared.parser.matches.ValueSource.{ValueSource}
-use Rattle.std.proofs.Common.{inl, inr, ◌⊎◌}
+use Rattle.std.proofs.Common.{inl, inr}
 use Rattle.command_words.specs.CommandWords.{Text, Said, value_of}
 use Rattle.command_words.specs.ClapRules.{declared_id, option_rule, declared_rule, rules, Shows, shown}
 

@@ -1,8 +1,7 @@
 -- The sizes that options give.
-use Rattle.std.proofs.Common.{◌≡◌, ◌∙◌, refl, sym, ap, ap₂, ℕ, Bool, true, false, cond, Option, Some, None, option_map, unwrap_or, inl, inr, codes, true≢false}
+use Rattle.std.proofs.Common.{◌≡◌, refl, ℕ, true, Option, Some, None, option_map, unwrap_or, inl, inr, codes}
 use Rattle.std.proofs.lemmas.Bool.{cases_Bool}
-use Rattle.block_model.specs.declared.schema.Sizes.{Sizes}
-use Rattle.command_words.specs.CommandWords.{Text, Said, is_number, number_of, value_of, size_of, sizes_of, size_options}
+use Rattle.command_words.specs.CommandWords.{Text, Said, is_number, number_of, value_of, sizes_of, size_options}
 use Rattle.command_words.specs.ClapReading.{is_number_if_given, numbers_given, size_given}
 
 abbrev pub IsSize : ℕ → Option Text → ℕ → Type 0

@@ -1,5 +1,5 @@
 -- The texts of words, one at a time.
-use Rattle.std.proofs.Common.{◌≡◌, ◌∙◌, ◌<◌, ◌+◌, ◌++◌, ◌&&◌, sym, ap, ap₂, ℕ, List, [], ◌∷◌, map, take, length, get_or, true, Bor}
+use Rattle.std.proofs.Common.{◌≡◌, ◌∙◌, ◌<◌, ◌+◌, ◌++◌, ◌&&◌, sym, ap₂, ℕ, List, [], ◌∷◌, map, take, length, get_or, true, Bor}
 use Rattle.std.specs.List.{list_all}
 use Rattle.std.specs.Str.{is_utf8}
 use Rattle.std.proofs.lemmas.List.{take_more, map-append}

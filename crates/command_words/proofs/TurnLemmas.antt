@@ -1,20 +1,18 @@
--- One word more: clap's walk and the grammar's reading go on together.
-use Rattle.std.proofs.Common.{◌≡◌, ◌∙◌, refl, sym, ap, ap₂, subst, List, [], ◌∷◌, ◌++◌, Bool, true, false, cond, not, ◌||◌, ◌&&◌, Option, Some, None, is_some, option_map, find, bytes_eq, ℕ, map, unwrap_or, true≢false, option_and_then, ◌==◌, inl, inr, ◌⊎◌}
+-- One word more: clap's walk and the reading go on together.
+use Rattle.std.proofs.Common.{◌≡◌, ◌∙◌, refl, sym, ap, List, [], ◌∷◌, ◌++◌, Bool, true, false, cond, not, ◌||◌, ◌&&◌, Option, Some, None, is_some, bytes_eq, true≢false, option_and_then, ◌==◌, inl, inr, ◌⊎◌}
 use Rattle.std.specs.List.{list_any, list_all}
 use Rattle.std.specs.Prelude.{fold}
-use Rattle.std.proofs.lemmas.Bool.{cases_Bool, false_from_ne_true, and_parts, not-true}
-use Rattle.clap.specs.Lexer.{long_of, short_of, short_of_rest}
-use Rattle.clap.specs.Walk.{Held, Walk, Waiting, idle, positional, option, Row, Rule, all_of, settled, walked, walk_from, subcommand_met, plain_word, next, trailing, value, arg_by_long, arg_by_id, arg_by_index, has_row, used, pushed, reacted, long_word, takes_values, walk, nothing_held, rows_after, with_default, finished}
-use Rattle.clap.specs.Simple.{Shape}
-use Rattle.clap.specs.Faults.{defaults_fault, level_fault, settle_fault, turn_fault, use_fault, long_fault, step_fault, walk_fault, react_fault}
+use Rattle.std.proofs.lemmas.Bool.{cases_Bool}
+use Rattle.clap.specs.Lexer.{short_of, short_of_rest}
+use Rattle.clap.specs.Walk.{Held, Walk, Waiting, idle, positional, option, Row, Rule, settled, walked, walk_from, subcommand_met, plain_word, value, arg_by_long, has_row, reacted, takes_values, nothing_held, rows_after, with_default, finished}
+use Rattle.clap.specs.Faults.{defaults_fault, level_fault, settle_fault, turn_fault, use_fault, long_fault, walk_fault, react_fault}
 use Rattle.clap.specs.Takes.{is_given}
 use Rattle.clap.specs.Kinds.{Kinds, or_else}
-use Rattle.clap.specs.declared.builder.value_parser.Reading.{Reading as HowRead}
 use Rattle.clap.specs.declared.error.kind.ErrorKind.TheVariants.{TooManyValues}
-use Rattle.command_words.specs.CommandWords.{Text, Said, Reading, value_of, nothing_read, give, option_in, begins_with_hyphen}
+use Rattle.command_words.specs.CommandWords.{Text, Said, Reading, value_of, nothing_read, option_in, begins_with_hyphen}
 use Rattle.command_words.specs.ClapReading.{is_end, clap_word, clap_read, has_single_hyphen, has_no_single_hyphen}
-use Rattle.command_words.specs.ClapRules.{declared_id, option_rule, declared_rule, rules, leaf, Shows, shown, Agrees}
-use Rattle.command_words.proofs.RowLemmas.{same_text, text_is, none_without, values_at, has_is, given_at, long_known, long_unknown, id_known, id_declared, first_place, known_apart, known_other, has_value, set_shows, add_shows, no_defaults}
+use Rattle.command_words.specs.ClapRules.{declared_id, option_rule, rules, leaf, Shows, Agrees}
+use Rattle.command_words.proofs.RowLemmas.{text_is, long_known, long_unknown, id_known, id_declared, first_place, known_apart, has_value, set_shows, add_shows, no_defaults}
 
 -- ---- where a walk may stand
 
@@ -105,10 +103,6 @@ plain_calm : (c : List Rule) (b : Bool) (word : Text) (h : Held) → plain_word 
 plain_calm c true word h = refl
 plain_calm c false word h = refl
 
--- clap reads a word as the grammar does
-long_alike : (word : Text) → long_of word ≡ option_in word
-long_alike word = refl
-
 pub no_short : (word : Text) → has_single_hyphen word ≡ false → short_of word ≡ None
 no_short [] e = refl
 no_short (x ∷ xs) e = go (x == 45) xs e
@@ -126,9 +120,6 @@ pub or_bad : (a b : Kinds) → (a ≡ [] → ⊥) → or_else a b ≡ [] → ⊥
 or_bad [] b h e = h refl
 or_bad (k ∷ ks) b h e = h e
 
-first_bad : (a b : Kinds) → a ≡ [] → (b ≡ [] → ⊥) → or_else a b ≡ [] → ⊥
-first_bad a b e h = rw e h
-
 pub and_false : (b : Bool) → (b && false) ≡ false
 and_false true = refl
 and_false false = refl
@@ -140,9 +131,6 @@ end_turn names h b said word e holds =
     (rw (no_sub (calm_waiting b) word, e) refl, rw (no_sub (calm_waiting b) word, e) refl, rw e refl, holds, sym e)
 
 -- ---- a use of an option
-
-use_free : (rows : List Row) (name v : Text) → has_row name rows ≡ false → use_fault false (option_rule name) (v ∷ []) rows ≡ []
-use_free rows name v e = rw e refl
 
 use_taken : (rows : List Row) (name v : Text) → has_row name rows ≡ true → use_fault false (option_rule name) (v ∷ []) rows ≡ [] → ⊥
 use_taken rows name v e = rw e (λ h. cc)
@@ -429,10 +417,6 @@ agrees_from names s (word ∷ words) d ok holds =
     ]
 
 -- ---- a level of the parse, from its first word
-
-each_free : (names : List Text) → list_all (λ (a : Rule). a.is_free) (rules names) ≡ true
-each_free [] = refl
-each_free (n ∷ ns) = each_free ns
 
 none_required : (names : List Text) (rows : List Row) → list_any (λ (a : Rule). a.required && not (is_given a.id rows)) (rules names) ≡ false
 none_required [] rows = refl

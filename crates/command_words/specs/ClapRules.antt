@@ -1,5 +1,5 @@
 -- what clap makes of a command with options of these names and declared words, and the rows that it finds
-use Rattle.std.specs.Prelude.{◌≡◌, Bool, true, false, List, [], ◌∷◌, Option, Some, None, option_map, bytes_eq, codes, MatchOption}
+use Rattle.std.specs.Prelude.{◌≡◌, true, false, List, [], ◌∷◌, Option, Some, None, option_map, bytes_eq, codes, MatchOption}
 use Rattle.clap.specs.Walk.{Rule, Row, all_of}
 use Rattle.clap.specs.Simple.{Shape, new_rule, new_shape}
 use Rattle.clap.specs.Kinds.{Kinds}
@@ -11,6 +11,7 @@ use Rattle.command_words.specs.CommandWords.{Text, Said, value_of}
 abbrev pub declared_id : Text
 declared_id = codes "DECL"
 
+-- `--name value`, at most once
 abbrev pub option_rule : Text → Rule
 option_rule name = record (new_rule name) {
   long = Some name;
@@ -19,6 +20,7 @@ option_rule name = record (new_rule name) {
   parser = Some parsers.String;
 }
 
+-- the words that are no options
 abbrev pub declared_rule : Rule
 declared_rule = record (new_rule declared_id) {
   index = Some 1;
@@ -27,6 +29,7 @@ declared_rule = record (new_rule declared_id) {
   parser = Some parsers.String;
 }
 
+-- the options, and behind them the declared words
 abbrev pub rules : List Text → List Rule
 rules [] = declared_rule ∷ []
 rules (name ∷ names) = option_rule name ∷ rules names
@@ -42,6 +45,7 @@ leaf name names = record (new_shape name) {
   is_built = true;
 }
 
+-- no row is a row of no words
 abbrev pub shown : List Text → Option (List Text)
 shown [] = None
 shown (word ∷ words) = Some (word ∷ words)

@@ -1,4 +1,4 @@
--- what the words of a command line ask for
+-- what the words of a command line ask for: a command's word, and behind it options and declared words, mixed
 use Rattle.std.specs.Prelude.{ℕ, ◌+◌, ◌-◌, ◌*◌, ◌^◌, ◌==◌, min, Bool, true, false, List, [], ◌∷◌, ◌++◌, codes, find, bytes_eq, Option, Some, None, is_some, unwrap_or, option_map, option_and_then, if◌then◌else◌}
 use Rattle.std.specs.List.{list_any, list_all, before_first, after_first}
 use Rattle.std.specs.Str.{is_utf8}
@@ -13,6 +13,7 @@ use Rattle.command_words.specs.declared.command.Command.TheVariants.{Run}
 abbrev pub Text : Type 0
 Text = List ℕ
 
+-- the first byte is a hyphen
 abbrev pub begins_with_hyphen : Text → Bool
 begins_with_hyphen [] = false
 begins_with_hyphen (c ∷ cs) = c == 45
@@ -61,6 +62,7 @@ pub record Reading : Type 0 where
   pub waits : Option Text
   pub ended : Bool
 
+-- before the first of them
 abbrev pub nothing_read : Reading
 nothing_read = record { said = record { values = []; declared = [] }; waits = None; ended = false }
 
@@ -93,16 +95,16 @@ abbrev pub take_option : Text → Option Text → Reading → Option Reading
 take_option name None r = Some (record r { waits = Some name })
 take_option name (Some value) r = give_number name value r
 
--- an option has one of the names, in full; any other word that begins with a hyphen is refused
+-- an option has one of the names, in full; any other word that begins with a hyphen is refused, and what is left is declared
 abbrev pub take_named : List Text → Option (Text × Option Text) → Text → Reading → Option Reading
 take_named names (Some p) word r = if list_any (λ n. bytes_eq n p.0) names then take_option p.0 p.1 r else None
 take_named names None word r = if begins_with_hyphen word then None else declare word r
 
--- `--` ends the options
+-- `--` ends the options, and is no word of its own
 abbrev pub take_free : List Text → Text → Reading → Option Reading
 take_free names word r = if bytes_eq word (codes "--") then Some (record r { ended = true }) else take_named names (option_in word) word r
 
--- one word more: the value of the option that waits for one; else, behind `--`, a declared word
+-- one word more: the value of the option that waits for one; else, behind `--`, a declared word, whatever it begins with
 abbrev pub take_word : List Text → Option Text → Text → Reading → Option Reading
 take_word names (Some name) word r = give_number name word r
 take_word names None word r = if r.ended then declare word r else take_free names word r
@@ -122,6 +124,7 @@ size_options = codes "heap-blocks" ∷ codes "index-blocks" ∷ codes "status-bl
 abbrev pub size_of : Text → ℕ → Said → ℕ
 size_of name default said = unwrap_or (option_map number_of (value_of name said.values)) default
 
+-- all five, with their defaults
 abbrev pub sizes_of : Said → Sizes
 sizes_of said = record {
   heap_blocks = size_of (codes "heap-blocks") 4096 said;
@@ -136,6 +139,7 @@ abbrev pub run_with : Sizes → List Text → Option Command
 run_with sizes [] = None
 run_with sizes (word ∷ words) = Some (Run sizes (word ∷ words))
 
+-- `run` with what its words have said
 abbrev pub run_of : Said → Option Command
 run_of said = run_with (sizes_of said) said.declared
 
@@ -145,10 +149,15 @@ pub record CommandForm : Type 0 where
   pub options : List Text
   pub meaning : Said → Option Command
 
-abbrev pub commands : List CommandForm
-commands = record { word = codes "run"; options = size_options; meaning = run_of } ∷ []
+-- `run [options] DECL...`
+abbrev pub run_form : CommandForm
+run_form = record { word = codes "run"; options = size_options; meaning = run_of }
 
--- the command that begins with the word
+-- the commands that there are
+abbrev pub commands : List CommandForm
+commands = run_form ∷ []
+
+-- the command with that word, in full
 abbrev pub form_named : Text → Option CommandForm
 form_named word = find (λ form. bytes_eq form.word word) commands
 
@@ -158,6 +167,6 @@ command_in [] = None
 command_in (word ∷ words) =
     option_and_then (λ form. option_and_then form.meaning (read_words form.options nothing_read words)) (form_named word)
 
--- the command that words are, where they are one: each is UTF-8
+-- the command that words are, where they are one; a word that isn't UTF-8 is in none
 abbrev pub command_of : List Text → Option Command
 command_of words = if list_all is_utf8 words then command_in words else None

@@ -1,10 +1,10 @@
 // The command that words are.
 
-ghost use Rattle.std.specs.Prelude.{◌≡◌, IfOk, IfErr, codes, map, Some, None};
+ghost use Rattle.std.specs.Prelude.{◌≡◌, IfOk, IfErr, map, Some, None};
 ghost use Rattle.clap.specs.Words.{found_of, rows_of};
 ghost use Rattle.command_words.specs.ClapCommands.{command_matched, meaning_checked};
 ghost use Rattle.command_words.specs.ClapRules.{Shows};
-ghost use Rattle.command_words.specs.CommandWords.{Said, command_in, command_of, run_of, size_options};
+ghost use Rattle.command_words.specs.CommandWords.{Said, command_of, run_form};
 ghost use Rattle.command_words.specs.declared.command.CommandFault.TheVariants.{Usage};
 
 use crate::matching::{declared_in, matched, sizes_in};
@@ -57,8 +57,8 @@ fn read_texts<'a>(alloc: Global, words: &'a [&'a str]) -> Result<Command, Comman
 
 /// The matches of `run`, read.
 fn run_in(alloc: Global, matches: &ArgMatches<'_>) -> Result<Command, CommandFault>
-    ensures ok { IfOk result (λ command. (said : Said) → Shows (rows_of (found_of matches.now)) said → meaning_checked (record { word = codes "run"; options = size_options; meaning = run_of }) said ≡ Some command) }
-    ensures usage { IfErr result (λ fault. fault ≡ Usage → (said : Said) → Shows (rows_of (found_of matches.now)) said → meaning_checked (record { word = codes "run"; options = size_options; meaning = run_of }) said ≡ None) }
+    ensures ok { IfOk result (λ command. (said : Said) → Shows (rows_of (found_of matches.now)) said → meaning_checked run_form said ≡ Some command) }
+    ensures usage { IfErr result (λ fault. fault ≡ Usage → (said : Said) → Shows (rows_of (found_of matches.now)) said → meaning_checked run_form said ≡ None) }
 {
     let Some(sizes) = sizes_in(matches) else {
         return Err(CommandFault::Usage);

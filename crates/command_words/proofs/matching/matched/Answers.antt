@@ -1,4 +1,4 @@
-use Rattle.std.proofs.Common.{rules, ◌≡◌, ◌∙◌, None}
+use Rattle.std.proofs.Common.{◌∙◌}
 use Rattle.command_words.proofs.MatchLemmas.{agreed_ok, agreed_err}
 use Rattle.command_words.proofs.matching.matched.Goals as goal
 

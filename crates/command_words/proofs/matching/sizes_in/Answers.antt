@@ -1,4 +1,4 @@
-use Rattle.std.proofs.Common.{◌≡◌, ◌∙◌, sym, refl}
+use Rattle.std.proofs.Common.{◌∙◌, sym, refl}
 use Rattle.command_words.proofs.SizeLemmas.{size_is, sizes_are}
 use Rattle.command_words.proofs.matching.sizes_in.Goals as goal
 

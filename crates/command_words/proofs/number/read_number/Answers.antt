@@ -1,4 +1,4 @@
-use Rattle.std.proofs.Common.{arith, ◌≡◌, ◌∙◌, sym}
+use Rattle.std.proofs.Common.{arith, ◌∙◌, sym}
 use Rattle.command_words.proofs.NumberLemmas.{digit_more, digit_passed, all_passed, number_done}
 use Rattle.command_words.proofs.number.read_number.Goals as goal
 

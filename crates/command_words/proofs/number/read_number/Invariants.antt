@@ -1,4 +1,4 @@
-use Rattle.std.proofs.Common.{◌≡◌, ◌≤◌, ◌^◌, ◌-◌, min, drop, true}
+use Rattle.std.proofs.Common.{◌≡◌, ◌≤◌, ◌^◌, ◌-◌, min, drop}
 use Rattle.std.specs.List.{list_all}
 use Rattle.block_model.specs.Names.{is_digit}
 use Rattle.command_words.specs.CommandWords.{digits_from, number_of}

@@ -1,7 +1,5 @@
-use Rattle.std.proofs.Common.{rules, ◌≡◌, ◌∙◌, ap₂, map, false}
-use Rattle.clap.specs.Words.{app_of, shape_of, rule_of}
+use Rattle.std.proofs.Common.{rules, ◌∙◌, ap₂}
 use Rattle.clap.specs.Simple.{with_rule}
-use Rattle.command_words.specs.ClapCommands.{raw_option, leaf_app}
 use Rattle.command_words.proofs.BuildLemmas.{app_more}
 use Rattle.command_words.proofs.program.command_named.Goals as goal
 
