@@ -1,4 +1,4 @@
-use Rattle.std.proofs.Common.{ℕ, ◌<◌, length, sym, ap, ◌∙◌, subst}
+use Rattle.std.proofs.Common.{◌<◌, length, sym, ap, ◌∙◌, subst}
 use Rattle.row_versions.specs.VersionsState.{rows_at}
 use Rattle.range_summaries.proofs.PairTables.{query_for, rows_for}
 use Rattle.range_summaries.proofs.tests.explained.Goals as goal

@@ -1,4 +1,4 @@
-use Rattle.std.proofs.Common.{◌≡◌, ℕ, ◌<◌, ◌≤◌, All}
+use Rattle.std.proofs.Common.{◌<◌, ◌≤◌, All}
 use Rattle.range_summaries.proofs.PairTables.{HasPart}
 use Rattle.range_summaries.proofs.tests.indexes.Given as goal
 

@@ -1,4 +1,4 @@
-use Rattle.std.proofs.Common.{◌≡◌, ℕ, ◌+◌, ◌<◌, ◌≤◌, List, [], ◌∷◌, ◌++◌, length, take, replicate, refl, sym, ap, ◌∙◌, subst, arith}
+use Rattle.std.proofs.Common.{◌<◌, [], ◌∷◌, ◌++◌, length, replicate, refl, sym, ap, ◌∙◌, arith}
 use Rattle.std.specs.Prelude.{◌==◌, count_by, slice_set}
 use Rattle.std.proofs.lemmas.List.{take_all}
 use Rattle.block_model.specs.declared.row.Row.{Row}
