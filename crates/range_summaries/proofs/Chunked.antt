@@ -1,11 +1,10 @@
 -- rows by chunks
-use Rattle.std.proofs.Common.{◌≡◌, Bool, true, false, ℕ, suc, zero, ◌+◌, ◌*◌, ◌-◌, ◌/◌, ◌%◌, ◌≤◌, ◌<◌, List, [], ◌∷◌, ◌++◌, take, drop, length, refl, sym, ap, ◌∙◌, cond, arith, All, ◌⊎◌, inl, inr, subst}
-use Rattle.std.specs.List.{filter, flat_map, range_with_len}
-use Rattle.std.proofs.Math.Seq.{take-add, take-nil, drop-nil}
-use Rattle.std.proofs.Math.Nat.{zero-mul, mul_comm, mul_assoc, suc-mul, add-mul, mul-le-mul_right, div-mul-le_self, div-lt_iff_lt-mul, lt-div-mul-add}
+use Rattle.std.proofs.Common.{◌≡◌, ℕ, suc, zero, ◌+◌, ◌*◌, ◌-◌, ◌/◌, ◌%◌, ◌≤◌, ◌<◌, List, [], ◌∷◌, ◌++◌, take, drop, length, refl, sym, ap, ◌∙◌, arith, All, ◌⊎◌, inl, inr, subst}
+use Rattle.std.proofs.Math.Seq.{drop-nil}
+use Rattle.std.proofs.Math.Nat.{mul_comm, mul_assoc, add-mul, mul-le-mul_right, div-mul-le_self, div-lt_iff_lt-mul, lt-div-mul-add}
 use Rattle.std.proofs.lemmas.Nat.{div-mul-add}
-use Rattle.std.proofs.lemmas.List.{take_all, drop_all, drop-append-le, take-append-le, length-take, length-drop, length-append, drop-take, take-take}
-use Rattle.std.proofs.lemmas.List.Elements.{All-head, All-tail, All-take, All-drop}
+use Rattle.std.proofs.lemmas.List.{take_all, drop_all, drop-append-le, take-append-le, length-drop, length-append, drop-take, take-take}
+use Rattle.std.proofs.lemmas.List.Elements.{All-take, All-drop}
 use Rattle.block_model.specs.declared.row.Row.{Row}
 use Rattle.row_versions.specs.Chunks.{chunk}
 

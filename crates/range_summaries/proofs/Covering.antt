@@ -1,7 +1,7 @@
 -- no row of a block that is left out matches the query
-use Rattle.std.proofs.Common.{◌≡◌, Bool, true, false, cond, ◌&&◌, ◌||◌, ℕ, suc, zero, ◌+◌, ◌*◌, ◌/◌, ◌<◌, ◌≤◌, List, [], ◌∷◌, map, length, get_or, Option, Some, None, IfSome, refl, sym, ap, ◌∙◌, subst, arith, All, eqb, eqb-true}
+use Rattle.std.proofs.Common.{◌≡◌, Bool, true, false, cond, ◌&&◌, ◌||◌, ℕ, suc, zero, ◌*◌, ◌/◌, ◌≤◌, List, [], ◌∷◌, map, length, IfSome, refl, sym, ap, ◌∙◌, subst, arith, All, eqb-true}
 use Rattle.std.specs.Prelude.{◌==◌, slice_get, slice_index_or}
-use Rattle.std.specs.List.{AllZip, filter, list_all, list_any, range_with_len}
+use Rattle.std.specs.List.{AllZip, filter, list_all, list_any}
 use Rattle.std.proofs.Math.Bool.{and-true, and-false}
 use Rattle.std.proofs.lemmas.Bool.{true≢false}
 use Rattle.std.proofs.lemmas.Grind.{div_ceil_times}
@@ -26,7 +26,7 @@ use Rattle.row_versions.specs.Chunks.{chunk, extent_of}
 use Rattle.row_versions.specs.CoversMatches.{CoversMatches}
 use Rattle.row_versions.specs.VersionsState.{rows_at}
 use Rattle.range_summaries.specs.declared.summaries.Summaries.{Summaries}
-use Rattle.range_summaries.specs.ExplainedBlocks.{blocks_kept, conds_on, index_keeps, indexes_of, is_null, part_keeps, range_values, rows_per_page_at, value_in, values_keep}
+use Rattle.range_summaries.specs.ExplainedBlocks.{blocks_kept, conds_on, index_keeps, indexes_of, is_null, part_keeps, value_in, values_keep}
 use Rattle.range_summaries.specs.IndexContents.{AreRangesOf, IndexContents, contents_of}
 use Rattle.range_summaries.specs.MinMaxIndexes.{IsMinMaxIndex}
 use Rattle.range_summaries.specs.RangeValues.{IsNumberOrNull}

@@ -1,6 +1,6 @@
 -- the ranges of an index and the rows of its table
-use Rattle.std.proofs.Common.{◌≡◌, ◌≢◌, true, false, eqb, eqb-true, ℕ, suc, zero, ◌+◌, ◌*◌, ◌/◌, ◌<◌, ◌≤◌, List, [], ◌∷◌, ◌++◌, map, length, get_or, Option, Some, None, refl, sym, ap, ◌∙◌, subst, arith, All, inl, inr, get_or-set_same, get_or-set_other, length-set}
-use Rattle.std.specs.Prelude.{slice_get, slice_index_or, slice_set}
+use Rattle.std.proofs.Common.{◌≡◌, ◌≢◌, true, false, eqb, eqb-true, ℕ, suc, zero, ◌+◌, ◌*◌, ◌<◌, ◌≤◌, List, [], ◌∷◌, ◌++◌, map, length, get_or, Some, refl, sym, ap, ◌∙◌, subst, arith, All, inl, inr, get_or-set_same, get_or-set_other, length-set}
+use Rattle.std.specs.Prelude.{slice_get, slice_set}
 use Rattle.std.specs.List.{AllZip}
 use Rattle.std.specs.Int.{div_ceil}
 use Rattle.std.proofs.Math.Nat.{mul-le-mul_right, add-mul, mul_comm, mul_assoc}
@@ -24,7 +24,7 @@ use Rattle.query_words.specs.LineFits.{AreValuesFor, IsInsertFor}
 use Rattle.row_versions.specs.VersionsState.{rows_at}
 use Rattle.range_summaries.specs.declared.index_ranges.IndexRanges.{IndexRanges}
 use Rattle.range_summaries.specs.declared.summaries.Summaries.{Summaries}
-use Rattle.range_summaries.specs.ExplainedBlocks.{rows_per_page_at, value_in}
+use Rattle.range_summaries.specs.ExplainedBlocks.{rows_per_page_at}
 use Rattle.range_summaries.specs.IndexContents.{AreExact, AreRangesOf, IndexContents, contents_of}
 use Rattle.range_summaries.specs.Judged.{Covers}
 use Rattle.range_summaries.specs.MinMaxIndexes.{HasMinMaxIndexes, IsMinMaxIndex}

@@ -1,5 +1,5 @@
 -- what the summaries keep is what the definition keeps
-use Rattle.std.proofs.Common.{◌≡◌, Bool, true, false, cond, not, ◌&&◌, ◌||◌, ℕ, ◌+◌, ◌*◌, ◌/◌, ◌<◌, ◌≤◌, List, [], ◌∷◌, map, length, refl, sym, ap, ◌∙◌, subst, arith, All, eqb, eqb-true}
+use Rattle.std.proofs.Common.{◌≡◌, Bool, true, false, cond, not, ◌&&◌, ◌||◌, ℕ, ◌*◌, ◌/◌, List, [], ◌∷◌, map, refl, sym, ap, ◌∙◌, eqb-true}
 use Rattle.std.specs.Prelude.{◌==◌}
 use Rattle.std.specs.List.{AllZip, filter, list_all, range_with_len}
 use Rattle.std.proofs.Math.Bool.{and-true}
@@ -15,7 +15,7 @@ use Rattle.row_versions.specs.VersionsState.{rows_at}
 use Rattle.range_summaries.specs.declared.index_ranges.IndexRanges.{IndexRanges}
 use Rattle.range_summaries.specs.declared.summaries.Summaries.{Summaries}
 use Rattle.range_summaries.specs.ExplainedBlocks.{blocks_kept, conds_on, index_keeps, indexes_of, part_keeps, rows_per_page_at}
-use Rattle.range_summaries.specs.IndexContents.{AreRangesOf, IndexContents, contents_of}
+use Rattle.range_summaries.specs.IndexContents.{AreRangesOf, contents_of}
 use Rattle.range_summaries.specs.Judged.{keeps_block, passes}
 use Rattle.range_summaries.specs.RangeValues.{range_keeps}
 use Rattle.range_summaries.specs.Summarised.{AreSummaries}

@@ -1,5 +1,5 @@
 -- a row more, in the ranges of an index
-use Rattle.std.proofs.Common.{◌≡◌, Bool, true, false, cond, ◌||◌, ℕ, ◌+◌, ◌*◌, ◌/◌, ◌<◌, ◌≤◌, List, [], ◌∷◌, ◌++◌, map, length, refl, sym, ap, ◌∙◌, subst, arith, All, eqb, eqb-true}
+use Rattle.std.proofs.Common.{◌≡◌, Bool, true, false, cond, ◌||◌, ℕ, ◌+◌, ◌*◌, ◌/◌, ◌<◌, ◌≤◌, List, [], ◌∷◌, ◌++◌, map, length, refl, sym, ap, ◌∙◌, subst, arith, eqb, eqb-true}
 use Rattle.std.specs.List.{list_any}
 use Rattle.std.proofs.Math.Bool.{or-false}
 use Rattle.std.proofs.Math.Nat.{mul-le-mul_right, add-mul, lt-div-mul-add}
@@ -10,7 +10,7 @@ use Rattle.std.proofs.lemmas.List.Folds.{list_any-append}
 use Rattle.std.proofs.lemmas.List.Sums.{fold-append}
 use Rattle.block_model.specs.declared.value.Value.{Value}
 use Rattle.block_model.specs.declared.row.Row.{Row}
-use Rattle.opclass_minmax.specs.Bounds.{Bounds, NothingYet, with_value}
+use Rattle.opclass_minmax.specs.Bounds.{NothingYet, with_value}
 use Rattle.row_versions.specs.Chunks.{chunk}
 use Rattle.range_summaries.specs.declared.range.RangeSummary.{RangeSummary}
 use Rattle.range_summaries.specs.ExplainedBlocks.{is_null, range_values, value_in}

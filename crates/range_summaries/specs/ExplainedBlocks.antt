@@ -1,5 +1,5 @@
 -- which blocks an explain names: those that a scan must read ("Introduction" to BRIN indexes)
-use Rattle.std.specs.Prelude.{ℕ, ◌*◌, ◌/◌, ◌==◌, Bool, true, false, ◌||◌, List, [], map, slice_get, slice_index_or, Option, None, Some}
+use Rattle.std.specs.Prelude.{ℕ, ◌*◌, ◌/◌, ◌==◌, Bool, true, false, ◌||◌, List, map, slice_get, slice_index_or, Option, None, Some}
 use Rattle.std.specs.List.{filter, list_all, list_any, range_with_len}
 use Rattle.block_model.specs.declared.value.Value.{Value}
 use Rattle.block_model.specs.declared.value.Value.TheVariants.{Null, Int, Span, Net}

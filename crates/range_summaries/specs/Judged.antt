@@ -1,5 +1,5 @@
 -- which blocks the summaries keep
-use Rattle.std.specs.Prelude.{◌≡◌, ℕ, ◌*◌, ◌/◌, ◌≤◌, ◌==◌, Bool, not, ◌||◌, List, length}
+use Rattle.std.specs.Prelude.{ℕ, ◌*◌, ◌/◌, ◌≤◌, ◌==◌, Bool, not, ◌||◌, List, length}
 use Rattle.std.specs.List.{list_all}
 use Rattle.block_model.specs.declared.row.Cond.{Cond}
 use Rattle.range_summaries.specs.declared.index_ranges.IndexRanges.{IndexRanges}

@@ -1,5 +1,5 @@
 -- the schemas whose indexes have one minmax column each
-use Rattle.std.specs.Prelude.{◌≡◌, ℕ, ◌≤◌, List, [], ◌∷◌, slice_get, Some, All}
+use Rattle.std.specs.Prelude.{◌≡◌, ℕ, ◌≤◌, [], ◌∷◌, slice_get, Some, All}
 use Rattle.block_model.specs.declared.value.Kind.TheVariants as kinds
 use Rattle.block_model.specs.declared.schema.Class.TheVariants as classes
 use Rattle.block_model.specs.declared.schema.Column.{Column}

@@ -1,5 +1,5 @@
 -- what a range's summary keeps of its values
-use Rattle.std.specs.Prelude.{Bool, false, true, ◌||◌, List}
+use Rattle.std.specs.Prelude.{Bool, false, ◌||◌, List}
 use Rattle.std.specs.List.{list_any}
 use Rattle.block_model.specs.declared.value.Value.{Value}
 use Rattle.block_model.specs.declared.value.Value.TheVariants.{Null, Int, Span, Net}

@@ -1,5 +1,5 @@
 -- what a row that is put changes in the summaries
-use Rattle.std.specs.Prelude.{◌≡◌, ◌≢◌, ℕ, ◌*◌, ◌/◌, ◌<◌, ◌≤◌, ◌==◌, Bool, true, false, List, length, slice_index_or, if◌then◌else◌}
+use Rattle.std.specs.Prelude.{◌≡◌, ◌≢◌, ℕ, ◌*◌, ◌/◌, ◌<◌, ◌≤◌, ◌==◌, List, length, slice_index_or, if◌then◌else◌}
 use Rattle.block_model.specs.declared.value.Value.{Value}
 use Rattle.block_model.specs.declared.value.Value.TheVariants.{Null}
 use Rattle.range_summaries.specs.declared.range.RangeSummary.{RangeSummary}

@@ -1,4 +1,4 @@
-use Rattle.std.proofs.Common.{◌≡◌, ℕ, ◌<◌, All, List, map, take}
+use Rattle.std.proofs.Common.{◌≡◌, All, map, take}
 use Rattle.range_summaries.specs.IndexContents.{HasRoomForRange, contents_of}
 use Rattle.range_summaries.proofs.summaries.Summaries.make_room.Given as goal
 

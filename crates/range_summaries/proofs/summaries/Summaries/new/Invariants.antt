@@ -1,4 +1,4 @@
-use Rattle.std.proofs.Common.{List, [], map, take, length, replicate}
+use Rattle.std.proofs.Common.{[], map, take, length, replicate}
 use Rattle.std.specs.List.{AllZip}
 use Rattle.range_summaries.specs.IndexContents.{AreRangesOf, contents_of}
 use Rattle.range_summaries.proofs.summaries.Summaries.new.Given as goal

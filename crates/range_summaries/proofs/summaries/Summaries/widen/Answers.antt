@@ -1,9 +1,8 @@
-use Rattle.std.proofs.Common.{◌≡◌, ℕ, ◌<◌, ◌≤◌, List, get_or, length, sym, ap, ◌∙◌, subst, arith}
+use Rattle.std.proofs.Common.{◌≡◌, ℕ, ◌<◌, List, get_or, length, sym, ap, ◌∙◌, subst, arith}
 use Rattle.std.specs.Vec.{with_items}
 use Rattle.std.proofs.lemmas.List.{with_items_is}
 use Rattle.block_model.specs.declared.value.Value.{Value}
 use Rattle.query_words.specs.LineFits.{IsInsertFor}
-use Rattle.row_versions.specs.VersionsState.{rows_at}
 use Rattle.range_summaries.specs.declared.index_ranges.IndexRanges.{IndexRanges}
 use Rattle.range_summaries.specs.IndexContents.{contents_of}
 use Rattle.range_summaries.specs.Widened.{TakesRow, TookIfOf}
