@@ -1,0 +1,28 @@
+-- what holds of a store's parts
+use Rattle.std.specs.Prelude.{◌≡◌, ℕ, ◌≤◌, List}
+use Rattle.query_words.specs.ScriptTexts.{rows_of}
+use Rattle.row_versions.specs.VersionsState.{rows_at}
+use Rattle.range_summaries.specs.ExplainedBlocks.{rows_of_table}
+use Rattle.session_core.specs.declared.sessions.Session.{Session}
+use Rattle.session_core.specs.JournalState.{JournalState}
+use Rattle.session_core.specs.Promises.{begins, promised}
+use Rattle.session_core.specs.SessionList.{names_of, hands_of}
+use Rattle.session_core.specs.StoreState.{StoreState, IsRefinement}
+use Rattle.session_core.specs.TablesState.{TablesState}
+
+-- the store that they are
+abbrev pub store_of : TablesState → List Session → JournalState → StoreState
+store_of t sessions j = record {
+  layout = t.layout;
+  names = names_of sessions;
+  hands = hands_of sessions;
+  journal = j.entries;
+  database = t.versions.database;
+}
+
+-- the store refines its journal, each table has the rows that the journal puts into it, and what is promised to the sessions is there
+pub record IsKept (t : TablesState) (j : JournalState) (s : StoreState) : Type 0 where
+  pub refines : IsRefinement s
+  pub rows : (table : ℕ) → rows_at t.versions.tables table ≡ rows_of_table table (rows_of s.journal)
+  pub promises : promised s.database.sessions 0 s.hands ≤ j.room
+  pub begins : begins s.hands ≤ t.versions.room
