@@ -127,6 +127,7 @@ impl Tables {
         requires under_way { HasTransaction self.old.versions.database session }
         requires row { IsRowFor self.old.layout.schema table values }
         ensures ok { IfOk result (λ id. effect self.old.versions.database (request_entry session table (requests.Put values)) ≡ (self.new.versions.database, Inserted id)) }
+        ensures below { OnOk result (table < length self.old.versions.tables) }
         ensures rows { IfOk result (λ id. self.new.versions.tables ≡ slice_set self.old.versions.tables table (rows_at self.old.versions.tables table ++ row_put table id values ∷ [])) }
         ensures layout { self.new.layout ≡ self.old.layout }
         ensures room { self.new.versions.room ≡ self.old.versions.room }

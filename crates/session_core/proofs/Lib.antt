@@ -1,0 +1,6 @@
+pub mod OtherSessions
+pub mod Transactions
+pub mod LegalRequests
+pub mod Promising
+pub mod RowsByTable
+pub mod Acting
