@@ -1,6 +1,7 @@
 -- what a statement's requests do, from what the calls for them say
-use Rattle.std.proofs.Common.{◌≡◌, ℕ, ◌+◌, ◌<◌, ◌≤◌, Bool, true, false, if◌then◌else◌, List, [], ◌∷◌, ◌++◌, length, map, take, set, refl, sym, ap, ◌∙◌, subst, arith, append_assoc, length-append, Option, None, Some, IfSome}
+use Rattle.std.proofs.Common.{◌≡◌, ℕ, ◌+◌, ◌<◌, ◌≤◌, Bool, true, false, if◌then◌else◌, List, [], ◌∷◌, ◌++◌, length, map, take, set, refl, sym, ap, ◌∙◌, subst, arith, append_assoc, length-append, inl, inr, Option, None, Some, IfSome}
 use Rattle.std.specs.FinMap.{get}
+use Rattle.std.proofs.lemmas.Bool.{cases_lt, false≢true}
 use Rattle.std.proofs.lemmas.List.{append-nil, length-map, length-take-le}
 use Rattle.block_model.specs.declared.value.Value.{Value}
 use Rattle.block_model.specs.declared.row.Row.{Row}
@@ -136,6 +137,20 @@ acts_wanting t t₁ t' j j₁ j' n statement e reply is here own memory fails o 
     (subst (λ (t : TablesState). IfSome (transaction_of t n) (λ x. t'.versions.database ≡ after_failure t.versions.database n x)) tables failed)
     (entered ∙ ap (λ es. es ++ e ∷ []) entries) (omega arith) (rows ∙ ap (λ (t : TablesState). t.versions.tables) tables) (room ∙ ap (λ (t : TablesState). t.versions.room) tables))
 
+-- the same statement, where room was made before
+pub acts_from : (t t' : TablesState) (j j₁ j' : JournalState) (n : ℕ) (statement : Statement) (reply : Reply) → j₁.entries ≡ j.entries → j.room ≤ j₁.room → Acts t j₁ n statement t' j' reply → Acts t j n statement t' j' reply
+acts_from t t' j j₁ j' n statement reply same more acts = record {
+  short = acts.short;
+  entries = acts.entries ∙ ap (λ es. es ++ requests_in t n acts.short statement) same;
+  fits = λ h. acts.fits (subst (λ es. length es ≤ max_entries) (sym same) h);
+  database = acts.database;
+  rows = acts.rows;
+  replied = acts.replied;
+  layout = acts.layout;
+  promises = λ others most had. acts.promises others most (omega arith);
+  begins = acts.begins;
+}
+
 -- an insert for which there is memory
 pub acts_insert : (t t' : TablesState) (j j₁ j' : JournalState) (n table : ℕ) (values : List Value) (id : RowId) → t'.layout ≡ t.layout → length j.entries < max_entries → table < length t.versions.tables
     → effect t.versions.database (request_entry n table (requests.Put values)) ≡ (t'.versions.database, Inserted id) → t'.versions.tables ≡ set t.versions.tables table (rows_at t.versions.tables table ++ row_put table id values ∷ [])
@@ -226,6 +241,10 @@ module _ (t : TablesState) (n : ℕ) (q : Query) (x : OpenTransaction) (got : tr
         }
 
 -- ---- statements that the journal has no room for
+
+-- a test that fails
+pub past_of : (b : Bool) (n most : ℕ) → (n ≤ most → b ≡ true) → b ≡ false → most < n
+past_of b n most h e = elim (cases_lt most n) [ inl past ↦ past | inr fits ↦ absurd (false≢true (sym e ∙ h fits)) ]
 
 pub one_is_past : (t : TablesState) (j : JournalState) (n : ℕ) (statement : Statement) → IsStatementFor t.layout.schema statement → ((q : Query) → statement ≡ statements.Explain q → ⊥) → max_entries < length j.entries + 1 → IsPast t j n statement
 one_is_past t j n statements.Begin h other full = record { short = false; past = full }

@@ -4,3 +4,4 @@ pub mod LegalRequests
 pub mod Promising
 pub mod RowsByTable
 pub mod Acting
+pub mod SessionLists
