@@ -5,3 +5,5 @@ pub mod Promising
 pub mod RowsByTable
 pub mod Acting
 pub mod SessionLists
+pub mod Keeping
+pub mod Ending

@@ -1,5 +1,5 @@
 -- what is promised to one session, and to the others
-use Rattle.std.proofs.Common.{◌≡◌, ℕ, zero, suc, ◌+◌, ◌*◌, ◌<◌, ◌≤◌, Bool, true, false, if◌then◌else◌, List, [], ◌∷◌, length, get_or, set, refl, sym, ap, ◌∙◌, subst, arith, Option, None, Some}
+use Rattle.std.proofs.Common.{◌≡◌, ℕ, zero, suc, ◌+◌, ◌*◌, ◌<◌, ◌≤◌, Bool, true, false, if◌then◌else◌, List, [], ◌∷◌, ◌++◌, length, get_or, set, refl, sym, ap, ◌∙◌, subst, arith, Option, None, Some}
 use Rattle.std.specs.Ordering.{nat_cmp}
 use Rattle.std.specs.FinMap.{FinMap, get}
 use Rattle.block_model.specs.DatabaseState.{OpenTransaction}
@@ -100,6 +100,24 @@ pub begins_changed : (hands : List (Option Statement)) (n : ℕ) (hand : Option 
 begins_changed [] n hand h = absurd (omega arith)
 begins_changed (x ∷ hands) zero hand h = omega arith
 begins_changed (x ∷ hands) (suc n) hand h = omega (arith, begins_changed hands n hand (omega arith))
+
+pub begins_at : (hands : List (Option Statement)) (n : ℕ) → begins_in (get_or hands n None) ≤ begins hands
+begins_at [] n = omega arith
+begins_at (x ∷ hands) zero = omega arith
+begins_at (x ∷ hands) (suc n) = omega (arith, begins_at hands n)
+
+-- ---- a session more, with nothing in hand and no transaction
+
+pub promised_appended : (ss : Transactions) (k : ℕ) (hands : List (Option Statement)) (p : ℕ) → p ≡ k + length hands → get ss p ≡ None → promised ss k (hands ++ None ∷ []) ≡ promised ss k hands
+promised_appended ss k [] p e none = omega (arith, ap (promised_to None) (ap (get ss) (there k p e) ∙ none))
+  where
+    there : (k p : ℕ) → p ≡ k + 0 → k ≡ p
+    there k p e = omega arith
+promised_appended ss k (hand ∷ hands) p e none = ap (λ m. promised_to hand (get ss k) + m) (promised_appended ss (k + 1) hands p (omega arith) none)
+
+pub begins_appended : (hands : List (Option Statement)) → begins (hands ++ None ∷ []) ≡ begins hands
+begins_appended [] = refl
+begins_appended (hand ∷ hands) = ap (λ m. begins_in hand + m) (begins_appended hands)
 
 -- ---- when promises are kept
 
