@@ -1,3 +1,9 @@
 pub mod StoreState
 pub mod Submits
 pub mod Steps
+pub mod JournalState
+pub mod TablesState
+pub mod SessionList
+pub mod Promises
+pub mod Acts
+pub mod StoreInvariant

@@ -4,8 +4,13 @@
 // on block_model, query_words (statements), row_versions and range_summaries. The layer above uses `Store`.
 #![tactic(auto)]
 
+mod acts;
 mod faults;
+mod hand;
+mod journal;
+mod sessions;
 mod store;
+mod tables;
 
 pub use faults::{SessionFault, Step, StoreFault};
 pub use store::Store;

@@ -1,41 +1,55 @@
 // The store of sessions.
 
-ghost use Rattle.std.specs.Prelude.{◌≡◌, ◌<◌, length, slice_index_or, [], IfOk, IsSome};
-ghost use Rattle.query_words.specs.LineFits.{IsStatementFor};
-ghost use Rattle.range_summaries.specs.MinMaxIndexes.{HasMinMaxIndexes};
-ghost use Rattle.session_core.specs.StoreState.{empty_store, hand_of, IsRefinement};
-ghost use Rattle.session_core.specs.Submits.{HasSession, Submits};
-ghost use Rattle.session_core.specs.Steps.{Steps};
+ghost use Rattle.std.specs.Prelude.{◌≡◌, ◌+◌, ◌<◌, ◌≤◌, length, slice_index_or, [], None, IfOk, OnOk, OnErr, IsSome, Option};
 ghost use Rattle.std.specs.Option.{is_some};
+ghost use Rattle.block_model.specs.DatabaseState.{OpenTransaction};
+ghost use Rattle.query_words.specs.LineFits.{IsStatementFor};
+ghost use Rattle.query_words.specs.StatementRequests.{submission_refusal};
+ghost use Rattle.range_summaries.specs.MinMaxIndexes.{HasMinMaxIndexes};
+ghost use Rattle.row_versions.specs.VersionsState.{standing_of};
+ghost use Rattle.session_core.specs.StoreState.{empty_store, hand_of, IsRefinement};
+ghost use Rattle.session_core.specs.Submits.{HasSession, Submits, submit_refusal, may_want_memory};
+ghost use Rattle.session_core.specs.Steps.{Steps};
 
+use crate::acts::{MAX_PROMISED, act};
 use crate::faults::{SessionFault, Step, StoreFault};
+use crate::hand::Hand;
+use crate::journal::Journal;
+use crate::sessions::{Session, add_session, has_hand, number_of, put_hand, take_hand};
+use crate::tables::Tables;
 use block_model::NoMemory;
 use block_model::layout::Layout;
 use block_model::name::Name;
 use block_model::reply::Refusal;
 use block_model::request::Entry;
 use query_words::statement::Statement;
+use row_versions::Standing;
 use std::alloc::Global;
 use std::marker::Model;
+
+/// How many sessions there are at most.
+const MAX_SESSIONS: usize = 64;
 
 /// A store of sessions over row versions in memory.
 #[derive(Drop)]
 pub struct Store {
-    layout: Layout,
-    never: Never,
+    alloc: Global,
+    tables: Tables,
+    sessions: Vec<Session>,
+    journal: Journal,
 }
 
-#[derive(Clone, Copy, Debug, PartialEq, Eq)]
-enum Never {}
-
 impl Model for Store {
-    ghost use Rattle.session_core.specs.StoreState.{StoreState, coded_store, empty_store};
+    ghost use Rattle.session_core.specs.StoreState.{StoreState, coded_store};
+    ghost use Rattle.session_core.specs.StoreInvariant.{store_of, IsKept};
 
     ghost Value = { StoreState };
 
     ghost coded = { coded_store };
 
-    ghost view = { λ a. empty_store a.layout };
+    ghost view = { λ a. store_of a.tables a.sessions.items a.journal };
+
+    ghost invariant = { λ a. IsKept a.tables a.journal (store_of a.tables a.sessions.items a.journal) };
 }
 
 impl Store {
@@ -44,21 +58,27 @@ impl Store {
         requires { HasMinMaxIndexes layout.schema }
         ensures { IfOk result (λ store. store ≡ empty_store layout) }
     {
-        Err(NoMemory)
+        let tables = Tables::new(alloc, layout)?;
+        Ok(Store {
+            alloc,
+            tables,
+            sessions: Vec::new(alloc),
+            journal: Journal::new(alloc),
+        })
     }
 
     /// What whoever holds a store knows of it.
     pub fn known(&self)
         ensures { IsRefinement self.now }
     {
-        match self.never {}
+        let _ = &self.alloc;
     }
 
     /// The tables, indexes and sizes.
     pub fn layout(&self) -> &Layout
         ensures { result.now ≡ self.now.layout }
     {
-        match self.never {}
+        self.tables.layout()
     }
 
     /// The number of the session of that name, from 0 in the order in which they were made; it is made where it is new. `Limit`
@@ -66,7 +86,18 @@ impl Store {
     pub fn session(&mut self, name: Name) -> Result<u32, SessionFault>
         ensures { HasSession self.old name self.new result }
     {
-        match self.never {}
+        let number = number_of(self.sessions.as_slice(), &name);
+        if number >= MAX_SESSIONS {
+            return Err(SessionFault::Limit {
+                limit: MAX_SESSIONS as u64,
+            });
+        }
+        if number == self.sessions.len() {
+            let Ok(()) = add_session(&mut self.sessions, name) else {
+                return Err(SessionFault::Memory);
+            };
+        }
+        Ok(number as u32)
     }
 
     /// Takes a statement of the session, whose steps do it then. It is refused where one is in hand, or where its transaction
@@ -76,7 +107,14 @@ impl Store {
         requires statement { IsStatementFor self.old.layout.schema statement }
         ensures { Submits self.old session statement self.new result }
     {
-        match self.never {}
+        if let Some(refusal) = self.refusal(session, &statement) {
+            return Err(refusal);
+        }
+        let Ok(hand) = hand_for(self.alloc, &mut self.tables, &mut self.journal, statement) else {
+            return Err(Refusal::Memory);
+        };
+        put_hand(&mut self.sessions, session, hand);
+        Ok(())
     }
 
     /// Makes one step of the statement that the session has in hand, which does the whole of it. `Spent` comes exactly where the
@@ -85,7 +123,17 @@ impl Store {
         requires { IsSome (hand_of self.old session) }
         ensures { Steps self.old session self.new result }
     {
-        match self.never {}
+        self.tables.known();
+        let hand = take_hand(&mut self.sessions, session);
+        match act(&mut self.tables, &mut self.journal, session, hand) {
+            Ok(reply) => Ok(Step::Done(reply)),
+            Err(hand) => {
+                put_hand(&mut self.sessions, session, hand);
+                Err(StoreFault::Spent {
+                    entries: self.journal.len() as u64,
+                })
+            }
+        }
     }
 
     /// Whether the session has a statement in hand.
@@ -93,7 +141,7 @@ impl Store {
         requires { session < length self.now.names }
         ensures { result ≡ is_some (hand_of self.now session) }
     {
-        match self.never {}
+        has_hand(self.sessions.as_slice(), session)
     }
 
     /// The session's name.
@@ -101,13 +149,99 @@ impl Store {
         requires { session < length self.now.names }
         ensures { result ≡ slice_index_or self.now.names session [] }
     {
-        match self.never {}
+        self.sessions[session as usize].name
     }
 
     /// The requests of all statements so far, in their order.
     pub fn journal(&self) -> &[Entry]
         ensures { result.now ≡ self.now.journal }
     {
-        match self.never {}
+        self.journal.as_slice()
     }
+
+    /// Why a statement of the session isn't taken.
+    fn refusal(&self, session: u32, statement: &Statement) -> Option<Refusal>
+        requires { session < length self.now.names }
+        ensures { result ≡ submit_refusal self.now session statement.now }
+    {
+        if self.in_hand(session) {
+            return Some(Refusal::InHand);
+        }
+        transaction_refusal(self.tables.standing(session), statement)
+    }
+}
+
+/// Why a statement isn't taken of a session that stands so.
+fn transaction_refusal(standing: Standing, statement: &Statement) -> Option<Refusal>
+    ensures { (transaction : Option OpenTransaction) → standing ≡ standing_of transaction → result ≡ submission_refusal transaction statement.now }
+{
+    match statement {
+        Statement::Begin => match standing {
+            Standing::Idle => None,
+            Standing::UnderWay | Standing::Failed => Some(Refusal::UnderWay),
+        },
+        Statement::Commit | Statement::Rollback => match standing {
+            Standing::Idle => Some(Refusal::NoTransaction),
+            Standing::UnderWay | Standing::Failed => None,
+        },
+        Statement::Insert { .. } | Statement::Select(_) | Statement::Delete(_) => match standing {
+            Standing::Idle => Some(Refusal::NoTransaction),
+            Standing::UnderWay => None,
+            Standing::Failed => Some(Refusal::Doomed),
+        },
+        _ => None,
+    }
+}
+
+/// A statement in hand. A begin takes what it and its transaction's end need.
+fn hand_for(
+    alloc: Global,
+    tables: &mut Tables,
+    journal: &mut Journal,
+    statement: Statement,
+) -> Result<Hand, NoMemory>
+    ensures ok { IfOk result (λ hand. hand.statement ≡ statement) }
+    ensures err { OnErr result (statement ≡ Statement.Begin) }
+    ensures layout { tables.new.layout ≡ tables.old.layout }
+    ensures database { tables.new.versions.database ≡ tables.old.versions.database }
+    ensures rows { tables.new.versions.tables ≡ tables.old.versions.tables }
+    ensures entries { journal.new.entries ≡ journal.old.entries }
+    ensures begins { tables.old.versions.room ≤ tables.new.versions.room }
+    ensures room { journal.old.room ≤ journal.new.room }
+    ensures begins_more { OnOk result (statement ≡ Statement.Begin → 64 ≤ tables.new.versions.room) }
+    ensures room_more { OnOk result (statement ≡ Statement.Begin → 192 ≤ journal.new.room) }
+{
+    match statement {
+        Statement::Begin => begin_hand(alloc, tables, journal),
+        statement => Ok(Hand {
+            statement,
+            numbers: Vec::new(alloc),
+        }),
+    }
+}
+
+fn begin_hand(
+    alloc: Global,
+    tables: &mut Tables,
+    journal: &mut Journal,
+) -> Result<Hand, NoMemory>
+    ensures ok { IfOk result (λ hand. hand.statement ≡ Statement.Begin) }
+    ensures layout { tables.new.layout ≡ tables.old.layout }
+    ensures database { tables.new.versions.database ≡ tables.old.versions.database }
+    ensures rows { tables.new.versions.tables ≡ tables.old.versions.tables }
+    ensures entries { journal.new.entries ≡ journal.old.entries }
+    ensures begins { tables.old.versions.room ≤ tables.new.versions.room }
+    ensures room { journal.old.room ≤ journal.new.room }
+    ensures begins_more { OnOk result (64 ≤ tables.new.versions.room) }
+    ensures room_more { OnOk result (192 ≤ journal.new.room) }
+{
+    let Ok(numbers) = Vec::with_capacity(alloc, MAX_SESSIONS) else {
+        return Err(NoMemory);
+    };
+    tables.make_room()?;
+    journal.make_room(MAX_PROMISED)?;
+    Ok(Hand {
+        statement: Statement::Begin,
+        numbers,
+    })
 }

@@ -1,0 +1,244 @@
+-- what keeps a store's invariant
+use Rattle.std.proofs.Common.{◌≡◌, ℕ, zero, suc, ◌+◌, ◌<◌, ◌≤◌, true, ◌&&◌, ◌⊎◌, inl, inr, List, [], ◌∷◌, ◌++◌, length, get_or, set, get_or-set_same, get_or-set_other, length-append, refl, sym, ap, ◌∙◌, subst, arith, Option, None, Some}
+use Rattle.std.specs.FinMap.{get}
+use Rattle.std.proofs.lemmas.Bool.{cases_eq}
+use Rattle.std.proofs.lemmas.List.{length-set, set-set, set-get_or}
+use Rattle.block_model.specs.DiskLayout.{DiskLayout}
+use Rattle.block_model.specs.declared.row.Row.{Row}
+use Rattle.block_model.specs.declared.request.Entry.{Entry}
+use Rattle.block_model.specs.declared.reply.Refusal.{Refusal}
+use Rattle.block_model.specs.declared.reply.Refusal.TheVariants as refusals
+use Rattle.block_model.specs.declared.reply.Reply.{Reply}
+use Rattle.block_model.specs.declared.schema.Schema.{Schema}
+use Rattle.block_model.specs.DatabaseState.{DatabaseState, OpenTransaction, initial_state}
+use Rattle.block_model.specs.SerialRun.{serial_run, is_legal, serial_run-append, is_legal-append}
+use Rattle.query_words.specs.declared.statement.Statement.{Statement}
+use Rattle.query_words.specs.declared.statement.Statement.TheVariants as statements
+use Rattle.query_words.specs.LineFits.{IsStatementFor}
+use Rattle.query_words.specs.RowsPut.{rows_put, rows_put-append}
+use Rattle.query_words.specs.ScriptTexts.{database_of, rows_of, max_entries}
+use Rattle.query_words.specs.StatementRequests.{submission_refusal, refusal_at}
+use Rattle.row_versions.specs.VersionsState.{StandAtTheirIds, rows_at}
+use Rattle.range_summaries.specs.ExplainedBlocks.{rows_of_table}
+use Rattle.session_core.specs.Acts.{transaction_of, IsTaken, requests_in, Acts}
+use Rattle.session_core.specs.JournalState.{JournalState}
+use Rattle.session_core.specs.Promises.{begins_in, begins, promised_to, promised}
+use Rattle.session_core.specs.StoreInvariant.{store_with, IsKept}
+use Rattle.session_core.specs.StoreState.{StoreState, IsRefinement}
+use Rattle.session_core.specs.Submits.{refusal_behind}
+use Rattle.session_core.specs.TablesState.{TablesState}
+use Rattle.session_core.proofs.LegalRequests.{requests_are_legal}
+use Rattle.session_core.proofs.OtherSessions.{statement_elsewhere}
+use Rattle.session_core.proofs.Promising.{shared, promised_to_all, begins_of_all, begins_changed, promised_appended, begins_appended, begins_at}
+use Rattle.session_core.proofs.RowsByTable.{rows_of_table-append}
+
+none_Some : {X : Type 0} (x : X) → None ≡ Some x → ⊥
+none_Some x e = cc
+
+same_Some : {X : Type 0} (x y : X) → Some x ≡ Some y → x ≡ y
+same_Some x y e = cc
+
+-- the same parts
+pub kept_same : (t t' : TablesState) (j j' : JournalState) (names names' : List (List ℕ)) (hands hands' : List (Option Statement)) → IsKept t j (store_with t j names hands) → t' ≡ t → j' ≡ j → names' ≡ names → hands' ≡ hands → IsKept t' j' (store_with t' j' names' hands')
+kept_same t t' j j' names names' hands hands' h tables journal same_names same_hands =
+    subst (λ (p : (TablesState × JournalState) × (List (List ℕ) × List (Option Statement))). IsKept p.0.0 p.0.1 (store_with p.0.0 p.0.1 p.1.0 p.1.1))
+    (λ i. ((sym tables i, sym journal i), (sym same_names i, sym same_hands i))) h
+
+-- ---- a new session
+
+hand_appended : (hands : List (Option Statement)) (n : ℕ) → get_or (hands ++ None ∷ []) n None ≡ get_or hands n None
+hand_appended [] zero = refl
+hand_appended [] (suc n) = refl
+hand_appended (hand ∷ hands) zero = refl
+hand_appended (hand ∷ hands) (suc n) = hand_appended hands n
+
+named : (t : TablesState) (j : JournalState) (names : List (List ℕ)) (hands : List (Option Statement)) (name : List ℕ) → IsKept t j (store_with t j names hands) → length names < 64 → IsKept t j (store_with t j (names ++ name ∷ []) (hands ++ None ∷ []))
+named t j names hands name h few =
+    let each = h.refines.a_hand_each in
+    let count : length (names ++ name ∷ []) ≡ length names + 1 = length-append names (name ∷ []) in
+    let hand_count : length (hands ++ None ∷ []) ≡ length hands + 1 = length-append hands (None ∷ []) in
+    record {
+      refines = record {
+        legal = h.refines.legal;
+        shown = h.refines.shown;
+        fits = h.refines.fits;
+        few_sessions = omega arith;
+        a_hand_each = omega arith;
+        taken = λ n statement e. h.refines.taken n statement (sym (hand_appended hands n) ∙ e);
+        fitting = λ n statement e. h.refines.fitting n statement (sym (hand_appended hands n) ∙ e);
+      };
+      rows = h.rows;
+      none_further = λ n past. h.none_further n (omega arith);
+      promises = subst (λ k. k ≤ j.room) (sym (promised_appended t.versions.database.sessions 0 hands (length hands) (omega arith) (h.none_further (length hands) (omega arith)))) h.promises;
+      begins = subst (λ k. k ≤ t.versions.room) (sym (begins_appended hands)) h.begins;
+    }
+
+pub kept_named : (t : TablesState) (j : JournalState) (names names' : List (List ℕ)) (hands hands' : List (Option Statement)) (name : List ℕ) → IsKept t j (store_with t j names hands) → length names < 64 → names' ≡ names ++ name ∷ [] → hands' ≡ hands ++ None ∷ []
+    → IsKept t j (store_with t j names' hands')
+kept_named t j names names' hands hands' name h few more_names more_hands =
+    subst (λ (p : List (List ℕ) × List (Option Statement)). IsKept t j (store_with t j p.0 p.1)) (λ i. (sym more_names i, sym more_hands i)) (named t j names hands name h few)
+
+-- ---- a statement that comes into a hand
+
+some_none : {X : Type 0} (x : X) → Some x ≡ None → ⊥
+some_none x e = cc
+
+-- where nothing speaks against a statement, the hand is empty, and the transaction allows it
+pub none_refused : (hand : Option Statement) (refusal : Option Refusal) → refusal_behind hand refusal ≡ None → (hand ≡ None) × (refusal ≡ None)
+none_refused None refusal e = (refl, e)
+none_refused (Some statement) refusal e = absurd (some_none refusals.InHand e)
+
+is_begin : (statement : Statement) → (statement ≡ statements.Begin) ⊎ (begins_in (Some statement) ≡ 0)
+is_begin statements.Begin = inl refl
+is_begin statements.Commit = inr refl
+is_begin statements.Rollback = inr refl
+is_begin (statements.Insert table values) = inr refl
+is_begin (statements.Select q) = inr refl
+is_begin (statements.Delete q) = inr refl
+is_begin (statements.Explain q) = inr refl
+is_begin (statements.Summarize index block) = inr refl
+is_begin (statements.Desummarize index block) = inr refl
+is_begin (statements.Vacuum table) = inr refl
+is_begin statements.Work = inr refl
+
+no_more_promised : (statement : Statement) (o : Option OpenTransaction) → begins_in (Some statement) ≡ 0 → promised_to (Some statement) o ≡ promised_to None o
+no_more_promised statement None e = omega (arith, e)
+no_more_promised statement (Some x) e = refl
+
+module _ (t t' : TablesState) (j j' : JournalState) (names : List (List ℕ)) (hands : List (Option Statement)) (n : ℕ) (statement : Statement)
+    (h : IsKept t j (store_with t j names hands)) (below : n < length hands) (empty : get_or hands n None ≡ None)
+    (taken : refusal_at t.versions.database n statement ≡ None) (fitting : IsStatementFor t.layout.schema statement) (layout : t'.layout ≡ t.layout) (database : t'.versions.database ≡ t.versions.database)
+    (rows : t'.versions.tables ≡ t.versions.tables) (entries : j'.entries ≡ j.entries) (begins_more : t.versions.room ≤ t'.versions.room) (room : j.room ≤ j'.room)
+    (begins_enough : statement ≡ statements.Begin → 64 ≤ t'.versions.room) (room_enough : statement ≡ statements.Begin → 192 ≤ j'.room) where
+  abbrev with_it : List (Option Statement)
+  with_it = set hands n (Some statement)
+
+  of_hand : (P : ℕ → Statement → Type 0) → P n statement → ((m : ℕ) (s : Statement) → get_or hands m None ≡ Some s → P m s) → (m : ℕ) (s : Statement) → get_or with_it m None ≡ Some s → P m s
+  of_hand P own others m s e = elim (cases_eq m n) [
+    | inl same ↦ subst (λ (p : ℕ × Statement). P p.0 p.1) (λ i. (sym same i, same_Some statement s (sym (get_or-set_same hands n (Some statement) None below) ∙ ap (λ k. get_or with_it k None) (sym same) ∙ e) i)) own
+    | inr apart ↦ others m s (sym (get_or-set_other hands n m (Some statement) None apart) ∙ e)
+  ]
+
+  still_promised : promised t.versions.database.sessions 0 with_it ≤ j'.room
+  still_promised = elim (is_begin statement) [
+    | inl begin ↦ omega (arith, room_enough begin, promised_to_all t.versions.database.sessions with_it (omega (arith, length-set hands n (Some statement), h.refines.a_hand_each, h.refines.few_sessions)))
+    | inr other ↦
+        let all = shared t.versions.database.sessions 0 hands n n below (omega arith) in
+        let own = ap (λ (hand : Option Statement). promised_to hand (get t.versions.database.sessions n)) empty in
+        omega (arith, room, h.promises, all.before, own, all.after t.versions.database.sessions (Some statement) (λ m _. refl), no_more_promised statement (get t.versions.database.sessions n) other)
+  ]
+
+  still_begins : begins with_it ≤ t'.versions.room
+  still_begins = elim (is_begin statement) [
+    | inl begin ↦ omega (arith, begins_enough begin, begins_of_all with_it (omega (arith, length-set hands n (Some statement), h.refines.a_hand_each, h.refines.few_sessions)))
+    | inr other ↦ omega (arith, begins_more, h.begins, begins_changed hands n (Some statement) below, other)
+  ]
+
+  in_hand : IsKept t' j' (store_with t j names with_it)
+  in_hand = record {
+    refines = record {
+      legal = h.refines.legal;
+      shown = h.refines.shown;
+      fits = h.refines.fits;
+      few_sessions = h.refines.few_sessions;
+      a_hand_each = length-set hands n (Some statement) ∙ h.refines.a_hand_each;
+      taken = of_hand (λ m s. refusal_at t.versions.database m s ≡ None) taken h.refines.taken;
+      fitting = of_hand (λ m s. IsStatementFor t.layout.schema s) fitting h.refines.fitting;
+    };
+    rows = λ k. ap (λ (l : List (List Row)). rows_at l k) rows ∙ h.rows k;
+    none_further = λ m past. h.none_further m (omega (arith, length-set hands n (Some statement)));
+    promises = still_promised;
+    begins = still_begins;
+  }
+
+  pub kept_in_hand : (names' : List (List ℕ)) (hands' : List (Option Statement)) → names' ≡ names → hands' ≡ with_it → IsKept t' j' (store_with t' j' names' hands')
+  kept_in_hand names' hands' same_names changed =
+      let store : store_with t j names with_it ≡ store_with t' j' names' hands' = λ i. record { layout = sym layout i; names = sym same_names i; hands = sym changed i; journal = sym entries i; database = sym database i } in
+      subst (λ (s : StoreState). IsKept t' j' s) store in_hand
+
+-- ---- a statement that is done
+
+module _ (t : TablesState) (j : JournalState) (names : List (List ℕ)) (hands : List (Option Statement)) (n : ℕ) (statement : Statement)
+    (h : IsKept t j (store_with t j names hands)) (held : get_or hands n None ≡ Some statement) where
+  pub is_below : n < length hands
+  is_below = there hands n held
+    where
+      there : (hands : List (Option Statement)) (n : ℕ) → get_or hands n None ≡ Some statement → n < length hands
+      there [] n e = absurd (none_Some statement e)
+      there (hand ∷ hands) zero e = omega arith
+      there (hand ∷ hands) (suc n) e = omega (arith, there hands n e)
+
+  -- it was taken, and what it is promised is there
+  pub is_taken : IsTaken t j n statement
+  is_taken =
+      let all = shared t.versions.database.sessions 0 hands n n is_below (omega arith) in
+      let own = ap (λ (hand : Option Statement). promised_to hand (get t.versions.database.sessions n)) held in
+      record {
+        taken = h.refines.taken n statement held;
+        fitting = h.refines.fitting n statement held;
+        entries = omega (arith, h.promises, all.before, own);
+        begins = omega (arith, h.begins, begins_at hands n, ap begins_in held);
+      }
+
+  module _ (t' : TablesState) (j' : JournalState) (reply : Reply) (acts : Acts t j n statement t' j' reply) (own : StandAtTheirIds t.versions.database) where
+    made : List Entry
+    made = requests_in t n acts.short statement
+
+    elsewhere : (m : ℕ) → (m ≡ n → ⊥) → get t'.versions.database.sessions m ≡ get t.versions.database.sessions m
+    elsewhere m apart = ap (λ (s : DatabaseState). get s.sessions m) acts.database ∙ statement_elsewhere t.versions.database n m acts.short statement apart
+
+    legal_after : is_legal initial_state j'.entries ≡ true
+    legal_after =
+        ap (is_legal initial_state) acts.entries ∙ is_legal-append initial_state j.entries (requests_in t n acts.short statement)
+        ∙ (λ i. h.refines.legal i && (ap (λ (s : DatabaseState). is_legal s (requests_in t n acts.short statement)) (sym h.refines.shown) ∙ requests_are_legal t.versions.database n own acts.short statement (h.refines.taken n statement held)) i)
+
+    shown_after : t'.versions.database ≡ database_of j'.entries
+    shown_after =
+        acts.database ∙ ap (λ (s : DatabaseState). serial_run s (requests_in t n acts.short statement)) h.refines.shown
+        ∙ sym (ap (serial_run initial_state) acts.entries ∙ serial_run-append initial_state j.entries (requests_in t n acts.short statement))
+
+    rows_after : (k : ℕ) → rows_at t'.versions.tables k ≡ rows_of_table k (rows_of j'.entries)
+    rows_after k =
+        acts.rows k ∙ (λ i. h.rows k i ++ rows_of_table k (rows_put (h.refines.shown i) (requests_in t n acts.short statement)))
+        ∙ sym (rows_of_table-append k (rows_of j.entries) (rows_put (database_of j.entries) (requests_in t n acts.short statement)))
+        ∙ ap (rows_of_table k) (sym (ap rows_of acts.entries ∙ rows_put-append initial_state j.entries (requests_in t n acts.short statement)))
+
+    of_others : (P : ℕ → Statement → Type 0) → ((m : ℕ) (s : Statement) → (m ≡ n → ⊥) → get_or hands m None ≡ Some s → P m s) → (m : ℕ) (s : Statement) → get_or (set hands n None) m None ≡ Some s → P m s
+    of_others P others m s e = elim (cases_eq m n) [
+      | inl same ↦ absurd (none_Some s (sym (get_or-set_same hands n None None is_below) ∙ ap (λ k. get_or (set hands n None) k None) (sym same) ∙ e))
+      | inr apart ↦ others m s apart (sym (get_or-set_other hands n m None None apart) ∙ e)
+    ]
+
+    promises_after : promised t'.versions.database.sessions 0 (set hands n None) ≤ j'.room
+    promises_after =
+        let all = shared t.versions.database.sessions 0 hands n n is_below (omega arith) in
+        let held_promise = ap (λ (hand : Option Statement). promised_to hand (get t.versions.database.sessions n)) held in
+        let few : all.others ≤ 189 = omega (arith, all.few, h.refines.a_hand_each, h.refines.few_sessions) in
+        let had : all.others + promised_to (Some statement) (get t.versions.database.sessions n) ≤ j.room = omega (arith, h.promises, all.before, held_promise) in
+        omega (arith, all.after t'.versions.database.sessions None elsewhere, acts.promises all.others few had)
+
+    after : IsKept t' j' (store_with t' j' names (set hands n None))
+    after = record {
+      refines = record {
+        legal = legal_after;
+        shown = shown_after;
+        fits = acts.fits h.refines.fits;
+        few_sessions = h.refines.few_sessions;
+        a_hand_each = length-set hands n None ∙ h.refines.a_hand_each;
+        taken = of_others (λ m s. refusal_at t'.versions.database m s ≡ None) (λ m s apart e. ap (λ (o : Option OpenTransaction). submission_refusal o s) (elsewhere m apart) ∙ h.refines.taken m s e);
+        fitting = of_others (λ m s. IsStatementFor t'.layout.schema s) (λ m s apart e. subst (λ (d : DiskLayout). IsStatementFor d.schema s) (sym acts.layout) (h.refines.fitting m s e));
+      };
+      rows = rows_after;
+      none_further = λ m past. elsewhere m (λ same. absurd (omega (arith, length-set hands n None, is_below))) ∙ h.none_further m (omega (arith, length-set hands n None));
+      promises = promises_after;
+      begins = omega (arith, acts.begins, h.begins, begins_changed hands n None is_below, ap begins_in held);
+    }
+
+    pub kept_after : (names' : List (List ℕ)) (hands' : List (Option Statement)) → names' ≡ names → hands' ≡ set hands n None → IsKept t' j' (store_with t' j' names' hands')
+    kept_after names' hands' same_names changed =
+        subst (λ (p : List (List ℕ) × List (Option Statement)). IsKept t' j' (store_with t' j' p.0 p.1)) (λ i. (sym same_names i, sym changed i)) after
+
+  -- the statement comes back into the hand
+  pub put_back : (hands' : List (Option Statement)) (taken : List (Option Statement)) (back : Statement) → taken ≡ set hands n None → hands' ≡ set taken n (Some back) → back ≡ statement → hands' ≡ hands
+  put_back hands' taken back took gave same =
+      gave ∙ (λ i. set (took i) n (Some (same i))) ∙ set-set hands n None (Some statement) ∙ ap (set hands n) (sym held) ∙ set-get_or hands n None

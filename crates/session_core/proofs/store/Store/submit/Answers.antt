@@ -1,0 +1,23 @@
+use Rattle.std.proofs.Common.{◌≡◌, ◌<◌, None, Some, ap, sym, ◌∙◌, set, length, subst, arith, Option}
+use Rattle.query_words.specs.declared.statement.Statement.{Statement}
+use Rattle.query_words.specs.LineFits.{IsStatementFor}
+use Rattle.query_words.specs.StatementRequests.{refusal_at}
+use Rattle.session_core.specs.SessionList.{names_of, hands_of}
+use Rattle.session_core.specs.StoreInvariant.{store_of}
+use Rattle.session_core.specs.StoreState.{StoreState, hand_of}
+use Rattle.session_core.specs.Submits.{submit_refusal}
+use Rattle.session_core.proofs.Keeping.{none_refused, kept_in_hand}
+use Rattle.session_core.proofs.store.Store.submit.Goals as goal
+
+pub invariant_of-self-2 : goal.invariant_of-self-2
+invariant_of-self-2 c =
+    let before = store_of c.self.inside.tables c.self.inside.sessions.items c.self.inside.journal in
+    let none : submit_refusal before c.args.session c.args.statement ≡ None = ap (λ (s : StoreState). submit_refusal s c.args.session c.args.statement) c.self.view_is ∙ sym c.refusal.ensures ∙ c.in_default.is in
+    let free = none_refused (hand_of before c.args.session) (refusal_at before.database c.args.session c.args.statement) none in
+    let below : c.args.session < length (hands_of c.self.inside.sessions.items) = omega (arith, c.requires.session, ap (λ (s : StoreState). length s.names) c.self.view_is, c.self.invariant.refines.a_hand_each) in
+    let done = c.in-Ok.ensures in
+    kept_in_hand c.self.inside.tables c.hand_for.new.tables c.self.inside.journal c.hand_for.new.journal (names_of c.self.inside.sessions.items) (hands_of c.self.inside.sessions.items) c.args.session c.args.statement
+    c.self.invariant below free.0 free.1 (subst (λ (s : StoreState). IsStatementFor s.layout.schema c.args.statement) (sym c.self.view_is) c.requires.statement)
+    done.layout done.database done.rows done.entries done.begins done.room done.begins_more done.room_more
+    (names_of c.put_hand.new.sessions.items) (hands_of c.put_hand.new.sessions.items) c.put_hand.ensures.names
+    (c.put_hand.ensures.hands ∙ ap (λ (statement : Statement). set (hands_of c.self.inside.sessions.items) c.args.session (Some statement)) done.ok)

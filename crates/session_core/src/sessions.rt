@@ -1,0 +1,72 @@
+// Sessions, in the order in which they were made.
+
+ghost use Rattle.std.specs.Prelude.{◌≡◌, ◌<◌, ◌≤◌, [], ◌∷◌, ◌++◌, None, Some, IsSome, OnOk, OnErr, length, slice_index_or, slice_set};
+ghost use Rattle.std.specs.Option.{is_some};
+ghost use Rattle.query_words.specs.ScriptTexts.{session_number};
+ghost use Rattle.session_core.specs.SessionList.{names_of, hands_of};
+
+use crate::hand::Hand;
+use block_model::NoMemory;
+use block_model::name::Name;
+
+/// A session, and the statement that it has in hand.
+#[derive(Drop)]
+pub struct Session {
+    pub name: Name,
+    pub hand: Option<Hand>,
+}
+
+/// The number of the session of that name, or the next number where it is new.
+pub(crate) fn number_of(sessions: &[Session], name: &Name) -> usize
+    ensures is { result ≡ session_number (names_of sessions.now) name.now }
+    ensures within { result ≤ length sessions.now }
+{
+    for (i, session) in sessions.iter().enumerate() {
+        if session.name.as_bytes() == name.as_bytes() {
+            return i;
+        }
+    }
+    sessions.len()
+}
+
+/// Adds a session of that name, with nothing in hand. After a refusal nothing is changed.
+pub(crate) fn add_session(sessions: &mut Vec<Session>, name: Name) -> Result<(), NoMemory>
+    ensures names { OnOk result (names_of sessions.new.items ≡ names_of sessions.old.items ++ name ∷ []) }
+    ensures hands { OnOk result (hands_of sessions.new.items ≡ hands_of sessions.old.items ++ None ∷ []) }
+    ensures err { OnErr result (sessions.new.items ≡ sessions.old.items) }
+{
+    match sessions.push(Session { name, hand: None }) {
+        Ok(()) => Ok(()),
+        Err(_) => Err(NoMemory),
+    }
+}
+
+/// Whether the session has a statement in hand.
+pub(crate) fn has_hand(sessions: &[Session], session: u32) -> bool
+    requires { session < length sessions.now }
+    ensures { result ≡ is_some (slice_index_or (hands_of sessions.now) session None) }
+{
+    sessions[session as usize].hand.is_some()
+}
+
+/// Takes the statement out of the session's hand.
+pub(crate) fn take_hand(sessions: &mut Vec<Session>, session: u32) -> Hand
+    requires { IsSome (slice_index_or (hands_of sessions.old.items) session None) }
+    ensures hand { slice_index_or (hands_of sessions.old.items) session None ≡ Some result.statement }
+    ensures hands { hands_of sessions.new.items ≡ slice_set (hands_of sessions.old.items) session None }
+    ensures names { names_of sessions.new.items ≡ names_of sessions.old.items }
+{
+    let Some(hand) = sessions[session as usize].hand.take() else {
+        unreachable!()
+    };
+    hand
+}
+
+/// Puts a statement into the session's hand.
+pub(crate) fn put_hand(sessions: &mut Vec<Session>, session: u32, hand: Hand)
+    requires { session < length sessions.old.items }
+    ensures hands { hands_of sessions.new.items ≡ slice_set (hands_of sessions.old.items) session (Some hand.statement) }
+    ensures names { names_of sessions.new.items ≡ names_of sessions.old.items }
+{
+    sessions[session as usize].hand = Some(hand);
+}
