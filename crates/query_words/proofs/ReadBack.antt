@@ -51,10 +51,10 @@ pub record KnowsTexts : Type 0 where
   pub denoted : ValueOfIsDenoted
   pub canonical : CanonicalTextDenotes
 
-value_back : KnowsTexts → (kind : Kind) (value : Value) → IsValueOf kind value → value_of kind (canonical_text value) ≡ Some value
+pub value_back : KnowsTexts → (kind : Kind) (value : Value) → IsValueOf kind value → value_of kind (canonical_text value) ≡ Some value
 value_back knows kind value is = (knows.denoted kind (canonical_text value) value).1 (knows.canonical kind value is)
 
-value_is_word : KnowsTexts → (kind : Kind) (value : Value) → IsValueOf kind value → IsValueWord (canonical_text value)
+pub value_is_word : KnowsTexts → (kind : Kind) (value : Value) → IsValueOf kind value → IsValueWord (canonical_text value)
 value_is_word knows kind value is = (kind, (value, knows.canonical kind value is))
 
 at_place : {X : Type 0} (P : X → Type 0) (xs : List X) (n : ℕ) (x : X) → AllByRecursion P xs → slice_get xs n ≡ Some x → P x
@@ -87,7 +87,7 @@ name_bytes (c ∷ cs) h =
     let b = both_hold (is_more c) (list_all is_more cs) h in
     ap (λ t. t && list_all no_space cs) (name_byte c b.0) ∙ name_bytes cs b.1
 
-name_printed : (name : List ℕ) → is_name name ≡ true → IsPrinted name
+pub name_printed : (name : List ℕ) → is_name name ≡ true → IsPrinted name
 name_printed [] h = cc
 name_printed (c ∷ cs) h =
     let outer = both_hold (is_lower c && nat_le (length cs) 15) (list_all is_more cs) h in
@@ -145,13 +145,13 @@ column_back k (x ∷ xs) (suc n) c h e =
     ∙ column_back (k + 1) xs n c b.1 e ∙ ap (λ (m : ℕ). Some (m, c.kind)) (let z : k + 1 + n ≡ k + suc n = omega arith in z)
 
 -- what is known of a declared table
-record IsDeclared (schema : Schema) (n : ℕ) (t : Table) : Type 0 where
-  table : slice_get schema.tables n ≡ Some t
-  named : is_name t.name ≡ true
-  found : table_from 0 schema.tables t.name ≡ Some (n, t.columns)
-  few : length t.columns ≤ 8
-  distinct : are_distinct same_name t.columns ≡ true
-  columns_named : AllByRecursion (λ (c : Column). IsNameWord c.name) t.columns
+pub record IsDeclared (schema : Schema) (n : ℕ) (t : Table) : Type 0 where
+  pub table : slice_get schema.tables n ≡ Some t
+  pub named : is_name t.name ≡ true
+  pub found : table_from 0 schema.tables t.name ≡ Some (n, t.columns)
+  pub few : length t.columns ≤ 8
+  pub distinct : are_distinct same_name t.columns ≡ true
+  pub columns_named : AllByRecursion (λ (c : Column). IsNameWord c.name) t.columns
 
 AllLawful : List Table → Type 0
 AllLawful tables = AllByRecursion (λ (t : Table). columns_are_lawful t ≡ true) tables
@@ -161,7 +161,7 @@ unfolding AllLawful
 all_lawful [] h = tt
 all_lawful (t ∷ ts) h = let b = both_hold (columns_are_lawful t) (list_all columns_are_lawful ts) h in (b.0, all_lawful ts b.1)
 
-declared : (schema : Schema) (sizes : Sizes) (n : ℕ) (t : Table) → KeepsLimits schema sizes → HasNames schema → slice_get schema.tables n ≡ Some t → IsDeclared schema n t
+pub declared : (schema : Schema) (sizes : Sizes) (n : ℕ) (t : Table) → KeepsLimits schema sizes → HasNames schema → slice_get schema.tables n ≡ Some t → IsDeclared schema n t
 unfolding AllLawful
 declared schema sizes n t keeps names e =
     let size : ℕ = length schema.tables in
@@ -181,10 +181,10 @@ declared schema sizes n t keeps names e =
       columns_named = recursion_from_All (λ (c : Column). IsNameWord c.name) t.columns named.1;
     }
 
-table_name_is : (schema : Schema) (n : ℕ) (t : Table) → slice_get schema.tables n ≡ Some t → table_name schema n ≡ t.name
+pub table_name_is : (schema : Schema) (n : ℕ) (t : Table) → slice_get schema.tables n ≡ Some t → table_name schema n ≡ t.name
 table_name_is schema n t e = ap (λ (o : Option Table). unwrap_or (option_map (λ (x : Table). x.name) o) []) e
 
-columns_at_is : (schema : Schema) (n : ℕ) (t : Table) → slice_get schema.tables n ≡ Some t → columns_at schema n ≡ t.columns
+pub columns_at_is : (schema : Schema) (n : ℕ) (t : Table) → slice_get schema.tables n ≡ Some t → columns_at schema n ≡ t.columns
 columns_at_is schema n t e = ap (λ (o : Option Table). unwrap_or (option_map (λ (x : Table). x.columns) o) []) e
 
 -- an operator that is one word
@@ -216,9 +216,9 @@ op_cases ops.NotBefore = inr (inr (record { back = refl; printed = record { some
 op_cases ops.Adjacent = inr (inr (record { back = refl; printed = record { some = omega arith; no_spaces = refl; short = omega arith }; test = λ c k. refl }))
 
 -- what is known of the columns of a table
-record KnowsColumns (columns : List Column) : Type 0 where
-  distinct : are_distinct same_name columns ≡ true
-  named : AllByRecursion (λ (c : Column). IsNameWord c.name) columns
+pub record KnowsColumns (columns : List Column) : Type 0 where
+  pub distinct : are_distinct same_name columns ≡ true
+  pub named : AllByRecursion (λ (c : Column). IsNameWord c.name) columns
 
 column_there : (columns : List Column) (n : ℕ) (c : Column) → KnowsColumns columns → slice_get columns n ≡ Some c → column_from 0 columns c.name ≡ Some (n, c.kind)
 column_there columns n c knows e = column_back 0 columns n c knows.distinct e ∙ ap (λ (m : ℕ). Some (m, c.kind)) (let z : 0 + n ≡ n = omega arith in z)
@@ -248,7 +248,7 @@ record CondBack (columns : List Column) (c : Cond) : Type 0 where
   count : length (words_of_cond (cond_of columns c)) ≤ 4
   back : (said : SaidCond PlacedWord) → cond_texts said ≡ cond_of columns c → cond_said columns said ≡ Ok c
 
-small_word : (word : List ℕ) → list_all no_space word ≡ true → 0 < length word → length word ≤ 43 → IsPrinted word
+pub small_word : (word : List ℕ) → list_all no_space word ≡ true → 0 < length word → length word ≤ 43 → IsPrinted word
 small_word word a b d = record { some = b; no_spaces = a; short = d }
 
 null_back : (columns : List Column) (n : ℕ) (on : Column) (said : SaidCond PlacedWord) → column_from 0 columns on.name ≡ Some (n, on.kind) → cond_texts said ≡ Null on.name
@@ -321,11 +321,11 @@ all_append P [] ys a b = b
 all_append P (x ∷ xs) ys a b = (a.0, all_append P xs ys a.1 b)
 
 -- conditions of the words that are printed of them
-record CondsBack (columns : List Column) (conds : List Cond) : Type 0 where
-  are_said : AreSaidConds (map (cond_of columns) conds)
-  printed : AllByRecursion IsPrinted (words_of_more (map (cond_of columns) conds))
-  count : length (words_of_more (map (cond_of columns) conds)) ≤ 5 * length conds
-  back : (done : List Cond) (said : List (SaidCond PlacedWord)) → map cond_texts said ≡ map (cond_of columns) conds → conds_said columns done said ≡ Ok (done ++ conds)
+pub record CondsBack (columns : List Column) (conds : List Cond) : Type 0 where
+  pub are_said : AreSaidConds (map (cond_of columns) conds)
+  pub printed : AllByRecursion IsPrinted (words_of_more (map (cond_of columns) conds))
+  pub count : length (words_of_more (map (cond_of columns) conds)) ≤ 5 * length conds
+  pub back : (done : List Cond) (said : List (SaidCond PlacedWord)) → map cond_texts said ≡ map (cond_of columns) conds → conds_said columns done said ≡ Ok (done ++ conds)
 
 conds_end : (columns : List Column) (done : List Cond) (said : List (SaidCond PlacedWord)) → map cond_texts said ≡ [] → conds_said columns done said ≡ Ok (done ++ [])
 conds_end columns done [] e = ap (λ (cs : List Cond). Ok cs) (sym (append-nil done))
@@ -340,7 +340,7 @@ conds_step columns c cs done (s ∷ ss) one rest e =
     ap (λ (r : Result Cond LineFault). r >>= λ x. conds_said columns (done ++ x ∷ []) ss) (one.back s first)
     ∙ rest.back (done ++ c ∷ []) ss others ∙ ap (λ (l : List Cond). Ok l) (append_assoc done (c ∷ []) cs)
 
-conds_back : KnowsTexts → (columns : List Column) (conds : List Cond) → KnowsColumns columns → AllByRecursion (IsCondFor columns) conds → CondsBack columns conds
+pub conds_back : KnowsTexts → (columns : List Column) (conds : List Cond) → KnowsColumns columns → AllByRecursion (IsCondFor columns) conds → CondsBack columns conds
 conds_back knows columns [] there all = record { are_said = tt; printed = tt; count = omega arith; back = λ done said e. conds_end columns done said e }
 conds_back knows columns (c ∷ cs) there all =
     let one = cond_back knows columns c there all.0 in
