@@ -61,14 +61,14 @@ query_back knows schema sizes q keeps names fits few =
     let long : length (words_of_more (texts_in fits.of.columns q.conds)) ≤ 5 * length q.conds = c.count in
     record {
       is_said = (subst (λ (t : List ℕ). IsSaidQuery t (conds_of schema q)) (sym name) (subst (λ (cs : List (SaidCond (List ℕ))). IsSaidQuery fits.of.name cs) (sym texts)
-        (d.named, c.are_said, omega (arith, length-map q.conds (cond_of fits.of.columns)))));
+          (d.named, c.are_said, omega (arith, length-map q.conds (cond_of fits.of.columns)))));
       printed = subst (λ (t : List ℕ). AllByRecursion IsPrinted (t ∷ words_of_conds (conds_of schema q))) (sym name)
-        (name_printed fits.of.name d.named, subst (λ (cs : List (SaidCond (List ℕ))). AllByRecursion IsPrinted (words_of_conds cs)) (sym texts) (conds_printed (texts_in fits.of.columns q.conds) c.printed));
+          (name_printed fits.of.name d.named, subst (λ (cs : List (SaidCond (List ℕ))). AllByRecursion IsPrinted (words_of_conds cs)) (sym texts) (conds_printed (texts_in fits.of.columns q.conds) c.printed));
       count = subst (λ (cs : List (SaidCond (List ℕ))). length (words_of_conds cs) ≤ 80) (sym texts) (omega (arith, as_many (texts_in fits.of.columns q.conds)));
       back = λ table said t e.
-        ap (λ (w : List ℕ). or_fault (faults.NoTable table.at) (table_from 0 schema.tables w) >>= λ x. conds_said x.1 [] said >>= λ cs. Ok (record { table = x.0; conds = cs })) (t ∙ name)
-        ∙ ap (λ (o : Option (ℕ × List Column)). or_fault (faults.NoTable table.at) o >>= λ x. conds_said x.1 [] said >>= λ cs. Ok (record { table = x.0; conds = cs })) d.found
-        ∙ ap (λ (r : Result (List Cond) LineFault). r >>= λ cs. Ok (record { table = q.table; conds = cs })) (c.back [] said (e ∙ texts));
+          ap (λ (w : List ℕ). or_fault (faults.NoTable table.at) (table_from 0 schema.tables w) >>= λ x. conds_said x.1 [] said >>= λ cs. Ok (record { table = x.0; conds = cs })) (t ∙ name)
+          ∙ ap (λ (o : Option (ℕ × List Column)). or_fault (faults.NoTable table.at) o >>= λ x. conds_said x.1 [] said >>= λ cs. Ok (record { table = x.0; conds = cs })) d.found
+          ∙ ap (λ (r : Result (List Cond) LineFault). r >>= λ cs. Ok (record { table = q.table; conds = cs })) (c.back [] said (e ∙ texts));
     }
 
 -- values of the words that are printed of them
@@ -207,38 +207,65 @@ pub printed-read : KnowsTexts → PrintedIsRead
 printed-read knows schema sizes lines.Nothing keeps names fits few = nothing_back schema
 printed-read knows schema sizes (lines.Say session (orders.Whole statements.Begin)) keeps names fits few =
     line_back knows schema session statements.Begin fits.0 (record {
-      said = Begin; is = refl; is_said = tt; printed = word_printed (codes "begin") (small_word (codes "begin") refl (omega arith) (omega arith)); count = omega arith;
-      back = λ len placed e. begin_back schema len placed e })
+      said = Begin;
+      is = refl;
+      is_said = tt;
+      printed = word_printed (codes "begin") (small_word (codes "begin") refl (omega arith) (omega arith));
+      count = omega arith;
+      back = λ len placed e. begin_back schema len placed e;
+    })
 printed-read knows schema sizes (lines.Say session (orders.Whole statements.Commit)) keeps names fits few =
     line_back knows schema session statements.Commit fits.0 (record {
-      said = Commit; is = refl; is_said = tt; printed = word_printed (codes "commit") (small_word (codes "commit") refl (omega arith) (omega arith)); count = omega arith;
-      back = λ len placed e. commit_back schema len placed e })
+      said = Commit;
+      is = refl;
+      is_said = tt;
+      printed = word_printed (codes "commit") (small_word (codes "commit") refl (omega arith) (omega arith));
+      count = omega arith;
+      back = λ len placed e. commit_back schema len placed e;
+    })
 printed-read knows schema sizes (lines.Say session (orders.Whole statements.Rollback)) keeps names fits few =
     line_back knows schema session statements.Rollback fits.0 (record {
-      said = Rollback; is = refl; is_said = tt; printed = word_printed (codes "rollback") (small_word (codes "rollback") refl (omega arith) (omega arith)); count = omega arith;
-      back = λ len placed e. rollback_back schema len placed e })
+      said = Rollback;
+      is = refl;
+      is_said = tt;
+      printed = word_printed (codes "rollback") (small_word (codes "rollback") refl (omega arith) (omega arith));
+      count = omega arith;
+      back = λ len placed e. rollback_back schema len placed e;
+    })
 printed-read knows schema sizes (lines.Say session (orders.Whole (statements.Insert n row))) keeps names fits few =
     line_back knows schema session (statements.Insert n row) fits.0 (insert_back knows schema sizes n row keeps names fits.1)
 printed-read knows schema sizes (lines.Say session (orders.Whole (statements.Select q))) keeps names fits few =
     let b = query_back knows schema sizes q keeps names fits.1 few in
     let count : length (words_of_conds (conds_of schema q)) ≤ 80 = b.count in
     line_back knows schema session (statements.Select q) fits.0 (record {
-      said = Select (table_name schema q.table) (conds_of schema q); is = refl; is_said = b.is_said; count = omega arith;
+      said = Select (table_name schema q.table) (conds_of schema q);
+      is = refl;
+      is_said = b.is_said;
+      count = omega arith;
       printed = (small_word (codes "select") refl (omega arith) (omega arith), b.printed);
-      back = λ len placed e. select_back schema len q placed b e })
+      back = λ len placed e. select_back schema len q placed b e;
+    })
 printed-read knows schema sizes (lines.Say session (orders.Whole (statements.Delete q))) keeps names fits few =
     let b = query_back knows schema sizes q keeps names fits.1 few in
     let count : length (words_of_conds (conds_of schema q)) ≤ 80 = b.count in
     line_back knows schema session (statements.Delete q) fits.0 (record {
-      said = Delete (table_name schema q.table) (conds_of schema q); is = refl; is_said = b.is_said; count = omega arith;
+      said = Delete (table_name schema q.table) (conds_of schema q);
+      is = refl;
+      is_said = b.is_said;
+      count = omega arith;
       printed = (small_word (codes "delete") refl (omega arith) (omega arith), b.printed);
-      back = λ len placed e. delete_back schema len q placed b e })
+      back = λ len placed e. delete_back schema len q placed b e;
+    })
 printed-read knows schema sizes (lines.Say session (orders.Whole (statements.Explain q))) keeps names fits few =
     let b = query_back knows schema sizes q keeps names fits.1 few in
     let count : length (words_of_conds (conds_of schema q)) ≤ 80 = b.count in
     line_back knows schema session (statements.Explain q) fits.0 (record {
-      said = Explain (table_name schema q.table) (conds_of schema q); is = refl; is_said = b.is_said; count = omega arith;
+      said = Explain (table_name schema q.table) (conds_of schema q);
+      is = refl;
+      is_said = b.is_said;
+      count = omega arith;
       printed = (small_word (codes "explain") refl (omega arith) (omega arith), b.printed);
-      back = λ len placed e. explain_back schema len q placed b e })
+      back = λ len placed e. explain_back schema len q placed b e;
+    })
 printed-read knows schema sizes (lines.Say session (orders.Whole other)) keeps names fits few = absurd fits.1
 printed-read knows schema sizes (lines.Say session other) keeps names fits few = absurd fits.1

@@ -282,7 +282,7 @@ cond_cases knows columns n on op key found named taken value no_key name (inl e)
     let made : CondBack columns (cond_on n ops.IsNull values.Null) = record {
       is_said = subst IsSaidCond (sym text) named;
       printed = subst (λ (s : SaidCond (List ℕ)). AllByRecursion IsPrinted (words_of_cond s)) (sym text)
-        (word, (small_word (codes "is") refl (omega arith) (omega arith), (small_word (codes "null") refl (omega arith) (omega arith), tt)));
+          (word, (small_word (codes "is") refl (omega arith) (omega arith), (small_word (codes "null") refl (omega arith) (omega arith), tt)));
       count = subst (λ (s : SaidCond (List ℕ)). length (words_of_cond s) ≤ 4) (sym text) (omega arith);
       back = λ said t. null_back columns n on said found (t ∙ text);
     } in
@@ -295,7 +295,7 @@ cond_cases knows columns n on op key found named taken value no_key name (inr (i
     let made : CondBack columns (cond_on n ops.NotNull values.Null) = record {
       is_said = subst IsSaidCond (sym text) named;
       printed = subst (λ (s : SaidCond (List ℕ)). AllByRecursion IsPrinted (words_of_cond s)) (sym text)
-        (word, (small_word (codes "is") refl (omega arith) (omega arith), (small_word (codes "not") refl (omega arith) (omega arith), (small_word (codes "null") refl (omega arith) (omega arith), tt))));
+          (word, (small_word (codes "is") refl (omega arith) (omega arith), (small_word (codes "not") refl (omega arith) (omega arith), (small_word (codes "null") refl (omega arith) (omega arith), tt))));
       count = subst (λ (s : SaidCond (List ℕ)). length (words_of_cond s) ≤ 4) (sym text) (omega arith);
       back = λ said t. not_null_back columns n on said found (t ∙ text);
     } in
