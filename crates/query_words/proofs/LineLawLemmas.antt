@@ -92,7 +92,7 @@ silent_read schema len (word ∷ words) texts is e =
       parsed = parsed;
       said_is = ap (λ (ts : List (List ℕ)). Nothing ts) e;
       read = ap (λ b. line_judged schema len (cond b None (stop_from len expected.Session (word ∷ words))) (said_of (word ∷ words))) comment
-        ∙ ap (line_judged schema len None) parsed;
+          ∙ ap (line_judged schema len None) parsed;
     }
 
 said_read : ValueOfIsDenoted → (schema : Schema) (len : ℕ) (words : List PlacedWord) (session : List ℕ) (said : SaidStatement (List ℕ)) → IsSaid (Say session said)
@@ -181,8 +181,8 @@ stops_record law line at word words is loud s =
       within = subst (λ (ws : List PlacedWord). n ≤ length ws) (sym is) s.within;
       goes_on = subst (λ (ws : List PlacedWord). BeginsLine (take n (texts_of ws))) (sym is) (begins_line law (take n (word.text ∷ texts)) s.ending s.goes_on);
       stops = subst (λ (ws : List PlacedWord). n < length ws → BeginsLine (take (n + 1) (texts_of ws)) → ⊥) (sym is) (λ low b.
-        s.stops low b.1.0 (ap (λ (l : List (List ℕ)). accepts expected.Session (l ++ b.1.0)) front
-        ∙ line_is_accepted law word.text (take n texts ++ b.1.0) b.0 loud b.1.1 (b.1.2 ∙ ap (λ (l : List (List ℕ)). l ++ b.1.0) front)));
+          s.stops low b.1.0 (ap (λ (l : List (List ℕ)). accepts expected.Session (l ++ b.1.0)) front
+          ∙ line_is_accepted law word.text (take n texts ++ b.1.0) b.0 loud b.1.1 (b.1.2 ∙ ap (λ (l : List (List ℕ)). l ++ b.1.0) front)));
     }
 
 stop_cases : ValueOfIsDenoted → (line : List ℕ) (at : ℕ) (word : PlacedWord) (words : List PlacedWord) (b : Bool) → words_of line ≡ word ∷ words → is_comment word.text ≡ b

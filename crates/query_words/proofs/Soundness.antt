@@ -150,9 +150,9 @@ query verb words v said is q parsed is_said texts = record {
   parsed = ap (λ (o : Option Verb). parsed_behind o words) is ∙ ap (statement_behind v) q.is ∙ parsed;
   is_said = is_said;
   texts = ap (λ (ws : List PlacedWord). verb.text ∷ texts_of ws) q.is
-    ∙ ap (λ (t : List ℕ). t ∷ q.table.text ∷ texts_of q.behind) (verb_of-text verb.text v is)
-    ∙ ap (λ (ts : List (List ℕ)). verb_text v ∷ q.table.text ∷ ts) q.conds.texts
-    ∙ sym texts;
+      ∙ ap (λ (t : List ℕ). t ∷ q.table.text ∷ texts_of q.behind) (verb_of-text verb.text v is)
+      ∙ ap (λ (ts : List (List ℕ)). verb_text v ∷ q.table.text ∷ ts) q.conds.texts
+      ∙ sym texts;
 }
 
 few_texts : (conds : List (SaidCond PlacedWord)) → length conds ≤ max_conds → length (map cond_texts conds) ≤ max_conds
@@ -187,8 +187,8 @@ first_cond joint words h r = record {
   are_conds = subst (λ (cs : List (SaidCond PlacedWord)). AreSaidConds (map cond_texts cs)) (sym r.parsed) (r.is_cond, r.are_conds);
   few = subst (λ (cs : List (SaidCond PlacedWord)). length cs ≤ max_conds) (sym r.parsed) (let k : length r.more ≤ 15 = r.few in omega arith);
   texts = ap (λ (t : List ℕ). t ∷ texts_of words) (same_text joint.text (codes "where") h)
-    ∙ ap (λ (ts : List (List ℕ)). codes "where" ∷ ts) r.texts
-    ∙ ap (λ (cs : List (SaidCond PlacedWord)). words_of_conds (map cond_texts cs)) (sym r.parsed);
+      ∙ ap (λ (ts : List (List ℕ)). codes "where" ∷ ts) r.texts
+      ∙ ap (λ (cs : List (SaidCond PlacedWord)). words_of_conds (map cond_texts cs)) (sym r.parsed);
 }
 
 more_conds : (left : ℕ) (joint : PlacedWord) (words : List PlacedWord) → nat_lt 0 left ≡ true → bytes_eq joint.text (codes "and") ≡ true
@@ -197,8 +197,8 @@ more_conds left joint words some h r = record {
   are_conds = subst (λ (cs : List (SaidCond PlacedWord)). AreSaidConds (map cond_texts cs)) (sym r.parsed) (r.is_cond, r.are_conds);
   few = subst (λ (cs : List (SaidCond PlacedWord)). length cs ≤ left) (sym r.parsed) (let k : length r.more ≤ left - 1 = r.few in omega (arith, ltb-true 0 left some));
   texts = ap (λ (t : List ℕ). t ∷ texts_of words) (same_text joint.text (codes "and") h)
-    ∙ ap (λ (ts : List (List ℕ)). codes "and" ∷ ts) r.texts
-    ∙ ap (λ (cs : List (SaidCond PlacedWord)). words_of_more (map cond_texts cs)) (sym r.parsed);
+      ∙ ap (λ (ts : List (List ℕ)). codes "and" ∷ ts) r.texts
+      ∙ ap (λ (cs : List (SaidCond PlacedWord)). words_of_more (map cond_texts cs)) (sym r.parsed);
 }
 
 -- a comparison is whole with its value
@@ -220,13 +220,13 @@ null_goes left word words other h m joint column is named is_is = record {
   first = Null column;
   more = conds_from [] words;
   parsed = ap (λ (b : Bool). conds_behind (cond b (cond (bytes_eq word.text (codes "not")) None (Some (Null column))) (Some (Compared column is word))) (conds_from (joint ∷ column ∷ is ∷ word ∷ []) words) (conds_from [] words)) is_is
-    ∙ ap (λ (b : Bool). conds_behind (cond b None (Some (Null column))) (conds_from (joint ∷ column ∷ is ∷ word ∷ []) words) (conds_from [] words)) other;
+      ∙ ap (λ (b : Bool). conds_behind (cond b None (Some (Null column))) (conds_from (joint ∷ column ∷ is ∷ word ∷ []) words) (conds_from [] words)) other;
   is_cond = named;
   are_conds = m.are_conds;
   few = m.few;
   texts = ap (λ (t : List ℕ). column.text ∷ t ∷ word.text ∷ texts_of words) (same_text is.text (codes "is") is_is)
-    ∙ ap (λ (t : List ℕ). column.text ∷ codes "is" ∷ t ∷ texts_of words) (same_text word.text (codes "null") h)
-    ∙ ap (λ (ts : List (List ℕ)). column.text ∷ codes "is" ∷ codes "null" ∷ ts) m.texts;
+      ∙ ap (λ (t : List ℕ). column.text ∷ codes "is" ∷ t ∷ texts_of words) (same_text word.text (codes "null") h)
+      ∙ ap (λ (ts : List (List ℕ)). column.text ∷ codes "is" ∷ codes "null" ∷ ts) m.texts;
 }
 
 -- one that isn't goes on behind `not`
@@ -237,8 +237,8 @@ not_goes left word words h r joint column is named is_is =
       first = b.first;
       more = b.more;
       parsed = ap (λ (b : Bool). conds_behind (cond b (cond (bytes_eq word.text (codes "not")) None (Some (Null column))) (Some (Compared column is word))) (conds_from (joint ∷ column ∷ is ∷ word ∷ []) words) (conds_from [] words)) is_is
-        ∙ ap (λ (b : Bool). conds_behind (cond b None (Some (Null column))) (conds_from (joint ∷ column ∷ is ∷ word ∷ []) words) (conds_from [] words)) h
-        ∙ b.parsed;
+          ∙ ap (λ (b : Bool). conds_behind (cond b None (Some (Null column))) (conds_from (joint ∷ column ∷ is ∷ word ∷ []) words) (conds_from [] words)) h
+          ∙ b.parsed;
       is_cond = b.is_cond;
       are_conds = b.are_conds;
       few = b.few;
@@ -256,9 +256,9 @@ not_null_goes left word words h m joint column is not named is_is is_not = recor
   are_conds = m.are_conds;
   few = m.few;
   texts = ap (λ (t : List ℕ). column.text ∷ t ∷ not.text ∷ word.text ∷ texts_of words) (same_text is.text (codes "is") is_is)
-    ∙ ap (λ (t : List ℕ). column.text ∷ codes "is" ∷ t ∷ word.text ∷ texts_of words) (same_text not.text (codes "not") is_not)
-    ∙ ap (λ (t : List ℕ). column.text ∷ codes "is" ∷ codes "not" ∷ t ∷ texts_of words) (same_text word.text (codes "null") h)
-    ∙ ap (λ (ts : List (List ℕ)). column.text ∷ codes "is" ∷ codes "not" ∷ codes "null" ∷ ts) m.texts;
+      ∙ ap (λ (t : List ℕ). column.text ∷ codes "is" ∷ t ∷ word.text ∷ texts_of words) (same_text not.text (codes "not") is_not)
+      ∙ ap (λ (t : List ℕ). column.text ∷ codes "is" ∷ codes "not" ∷ t ∷ texts_of words) (same_text word.text (codes "null") h)
+      ∙ ap (λ (ts : List (List ℕ)). column.text ∷ codes "is" ∷ codes "not" ∷ codes "null" ∷ ts) m.texts;
 }
 
 -- behind `is`

@@ -94,10 +94,10 @@ behind_word len next behind word words at goes s =
       ending = s.ending;
       goes_on = same (take s.number (texts_of words) ++ s.ending) ∙ s.goes_on;
       stops = λ low more h.
-        let below : s.number < length words = omega (arith, low) in
-        let front : take (suc s.number + 1) (word.text ∷ texts_of words) ≡ word.text ∷ take (s.number + 1) (texts_of words) =
-        ap (λ (n : ℕ). take n (word.text ∷ texts_of words)) (let k : suc s.number + 1 ≡ suc (s.number + 1) = omega arith in k) in
-        s.stops below more (sym (same (take (s.number + 1) (texts_of words) ++ more)) ∙ ap (λ (l : List (List ℕ)). accepts next (l ++ more)) (sym front) ∙ h);
+          let below : s.number < length words = omega (arith, low) in
+          let front : take (suc s.number + 1) (word.text ∷ texts_of words) ≡ word.text ∷ take (s.number + 1) (texts_of words) =
+          ap (λ (n : ℕ). take n (word.text ∷ texts_of words)) (let k : suc s.number + 1 ≡ suc (s.number + 1) = omega arith in k) in
+          s.stops below more (sym (same (take (s.number + 1) (texts_of words) ++ more)) ∙ ap (λ (l : List (List ℕ)). accepts next (l ++ more)) (sym front) ∙ h);
       refused = λ h. s.refused (sym (same (texts_of words)) ∙ h);
     }
 

@@ -1,17 +1,16 @@
 -- what read and printed lines are to the grammar
-use Rattle.std.specs.Prelude.{◌≡◌, ℕ, ◌+◌, ◌<◌, ◌≤◌, List, ◌++◌, length, take, Some, Ok, Err}
-use Rattle.block_model.specs.declared.row.Query.{Query}
+use Rattle.std.specs.Prelude.{◌≡◌, ℕ, ◌+◌, ◌<◌, ◌≤◌, List, ◌++◌, length, take, All, Some, Ok, Err}
 use Rattle.block_model.specs.declared.schema.Schema.{Schema}
 use Rattle.block_model.specs.declared.schema.Sizes.{Sizes}
+use Rattle.block_model.specs.declared.schema.Table.{Table}
 use Rattle.block_model.specs.FirstBrokenRule.{KeepsLimits}
-use Rattle.query_words.specs.declared.statement.Statement.{Statement}
 use Rattle.query_words.specs.declared.statement.Statement.TheVariants as statements
 use Rattle.query_words.specs.declared.line.Line.{Line}
 use Rattle.query_words.specs.declared.line.Line.TheVariants as lines
 use Rattle.query_words.specs.declared.line.Order.TheVariants as orders
 use Rattle.query_words.specs.declared.line.LineFault.TheVariants as faults
 use Rattle.query_words.specs.Words.{PlacedWord, words_of, texts_of, place_of}
-use Rattle.query_words.specs.Grammar.{Said, IsSaid, words_of_said, said_texts, max_conds}
+use Rattle.query_words.specs.Grammar.{Said, IsNameWord, IsSaid, words_of_said, said_texts, max_conds}
 use Rattle.query_words.specs.Parsed.{said_of}
 use Rattle.query_words.specs.Lines.{line_of, line_said, max_line}
 use Rattle.query_words.specs.LineFits.{IsLineFor}
@@ -55,7 +54,15 @@ count_of_conds (lines.Say session (orders.Whole (statements.Delete query))) = le
 count_of_conds (lines.Say session (orders.Whole (statements.Explain query))) = length query.conds
 count_of_conds line = 0
 
+-- a table whose name and columns' names are of the grammar
+abbrev pub IsNamedTable : Table → Type 0
+IsNamedTable table = IsNameWord table.name × All (λ c. IsNameWord c.name) table.columns
+
+-- all of them are
+abbrev pub HasNames : Schema → Type 0
+HasNames schema = All IsNamedTable schema.tables
+
 -- what is printed of a line reads as the same line, and fits the limit of lines
 abbrev pub PrintedIsRead : Type 0
-PrintedIsRead = (schema : Schema) (sizes : Sizes) (line : Line) → KeepsLimits schema sizes → IsLineFor schema line → count_of_conds line ≤ max_conds
+PrintedIsRead = (schema : Schema) (sizes : Sizes) (line : Line) → KeepsLimits schema sizes → HasNames schema → IsLineFor schema line → count_of_conds line ≤ max_conds
     → (length (line_text schema line) ≤ max_line) × (line_of schema (line_text schema line) ≡ Ok line)

@@ -13,9 +13,6 @@ use Rattle.query_words.specs.declared.verb.Verb.TheVariants as verbs
 use Rattle.query_words.specs.declared.syntax.Expected.{Expected}
 use Rattle.query_words.specs.declared.syntax.Expected.TheVariants as expected
 
-abbrev pub is_word : List ℕ → List ℕ → Bool
-is_word word text = bytes_eq word text
-
 -- what the words go on with, where the test holds
 abbrev pub where_so : Bool → Expected → Option Expected
 where_so test next = if test then Some next else None

@@ -93,11 +93,6 @@ fn read_words(
     let Some(session) = Name::new(word.text) else {
         return Err(LineFault::Syntax { at: word.at });
     };
-    match read_statement(alloc, behind, schema, line_len) {
-        Ok(statement) => Ok(Line::Say {
-            session,
-            order: Order::Whole(statement),
-        }),
-        Err(fault) => Err(fault),
-    }
+    let order = Order::Whole(read_statement(alloc, behind, schema, line_len)?);
+    Ok(Line::Say { session, order })
 }

@@ -92,8 +92,8 @@ fn read_comparison(
     ensures { result ≡ cond_said columns.now (Compared (word_here column.now) (word_here op.now) (word_here value.now)) }
 {
     let (column, kind) = read_column(columns, column)?;
-    let op = op_in(kind, op)?;
-    let key = key_in(kind, value)?;
+    let op = read_op_of(kind, op)?;
+    let key = read_key(kind, value)?;
     Ok(Cond { column, op, key })
 }
 
@@ -106,7 +106,7 @@ fn read_test(columns: &[Column], column: &Word<'_>, op: Op) -> Result<Cond, Line
     Ok(Cond { column, op, key })
 }
 
-/// The declared column's number and kind.
+/// The number and the kind of the declared column that the word names, or a fault at the word.
 fn read_column(columns: &[Column], word: &Word<'_>) -> Result<(u8, Kind), LineFault>
     requires { length columns.now ≤ 8 }
     ensures { result ≡ column_said columns.now (word_here word.now) }
@@ -129,8 +129,8 @@ fn column_named(columns: &[Column], name: &[u8]) -> Option<(u8, Kind)>
     None
 }
 
-/// The operator, where the kind takes it.
-fn op_in(kind: Kind, word: &Word<'_>) -> Result<Op, LineFault>
+/// The operator that the word is, of that kind, or a fault at the word.
+fn read_op_of(kind: Kind, word: &Word<'_>) -> Result<Op, LineFault>
     ensures { result ≡ op_said kind (word_here word.now) }
 {
     match read_op(word.text) {
@@ -139,8 +139,8 @@ fn op_in(kind: Kind, word: &Word<'_>) -> Result<Op, LineFault>
     }
 }
 
-/// The value of the kind.
-pub fn key_in(kind: Kind, word: &Word<'_>) -> Result<Value, LineFault>
+/// The value that the word is, of that kind, or a fault at the word.
+pub fn read_key(kind: Kind, word: &Word<'_>) -> Result<Value, LineFault>
     ensures { result ≡ value_said kind (word_here word.now) }
 {
     match value_in(kind, word.text) {

@@ -1,17 +1,17 @@
 // What the words of a statement mean where tables are declared.
 
-ghost use Rattle.std.specs.Prelude.{◌≡◌, ◌≤◌, length, None, Some, [], MatchOption, IfSome};
+ghost use Rattle.std.specs.Prelude.{◌≡◌, ◌≤◌, length, None, Some, Ok, Err, [], MatchOption, MatchResult, IfSome, IfOk, IfErr};
 ghost use Rattle.query_words.specs.LineParts.{words_left, word_here};
 ghost use Rattle.query_words.specs.Lines.{Reads};
 ghost use Rattle.query_words.specs.Grammar.{Select};
 ghost use Rattle.query_words.specs.Parsed.{insert_of_words, query_of_words, statement_behind, statement_of_words};
 ghost use Rattle.query_words.specs.SmallSchemas.{IsSmallSchema, HasFewConds};
-ghost use Rattle.query_words.specs.Statements.{table_from, values_said, query_judged, statement_judged};
+ghost use Rattle.query_words.specs.Statements.{table_from, table_said, values_said, query_judged, statement_judged};
 
 use crate::line::LineFault;
-use crate::query::{key_in, read_conds};
+use crate::query::{read_conds, read_key};
 use crate::verb::{Verb, read_verb};
-use crate::word::{Rest, is_word, next_word};
+use crate::word::{Rest, Word, is_word, next_word};
 use block_model::row::Query;
 use block_model::schema::{Column, Schema};
 use block_model::value::Values;
@@ -70,18 +70,9 @@ fn read_behind(
         Verb::Commit => Ok(Statement::Commit),
         Verb::Rollback => Ok(Statement::Rollback),
         Verb::Insert => read_insert(rest, schema, line_len),
-        Verb::Select => match read_query(alloc, rest, schema, line_len) {
-            Ok(query) => Ok(Statement::Select(query)),
-            Err(fault) => Err(fault),
-        },
-        Verb::Delete => match read_query(alloc, rest, schema, line_len) {
-            Ok(query) => Ok(Statement::Delete(query)),
-            Err(fault) => Err(fault),
-        },
-        Verb::Explain => match read_query(alloc, rest, schema, line_len) {
-            Ok(query) => Ok(Statement::Explain(query)),
-            Err(fault) => Err(fault),
-        },
+        Verb::Select => Ok(Statement::Select(read_query(alloc, rest, schema, line_len)?)),
+        Verb::Delete => Ok(Statement::Delete(read_query(alloc, rest, schema, line_len)?)),
+        Verb::Explain => Ok(Statement::Explain(read_query(alloc, rest, schema, line_len)?)),
     }
 }
 
@@ -98,13 +89,9 @@ fn read_query(
     let Some((word, rest)) = next_word(rest) else {
         return Err(LineFault::Syntax { at: line_len });
     };
-    let Some((table, columns)) = table_named(schema, word.text) else {
-        return Err(LineFault::NoTable { at: word.at });
-    };
-    match read_conds(alloc, rest, columns) {
-        Ok(conds) => Ok(Query { table, conds }),
-        Err(fault) => Err(fault),
-    }
+    let (table, columns) = read_table(schema, &word)?;
+    let conds = read_conds(alloc, rest, columns)?;
+    Ok(Query { table, conds })
 }
 
 fn read_insert(rest: Rest<'_>, schema: &Schema, line_len: usize) -> Result<Statement, LineFault>
@@ -114,13 +101,9 @@ fn read_insert(rest: Rest<'_>, schema: &Schema, line_len: usize) -> Result<State
     let Some((word, rest)) = next_word(rest) else {
         return Err(LineFault::Syntax { at: line_len });
     };
-    let Some((table, columns)) = table_named(schema, word.text) else {
-        return Err(LineFault::NoTable { at: word.at });
-    };
-    match read_values(rest, columns, line_len) {
-        Ok(values) => Ok(Statement::Insert { table, values }),
-        Err(fault) => Err(fault),
-    }
+    let (table, columns) = read_table(schema, &word)?;
+    let values = read_values(rest, columns, line_len)?;
+    Ok(Statement::Insert { table, values })
 }
 
 /// A value for each column, and no word behind them.
@@ -134,15 +117,25 @@ fn read_values(rest: Rest<'_>, columns: &[Column], line_len: usize) -> Result<Va
         let Some((word, behind)) = next_word(rest) else {
             return Err(LineFault::NoColumn { at: line_len });
         };
-        match key_in(column.kind, &word) {
-            Ok(value) => values.push(value),
-            Err(fault) => return Err(fault),
-        }
+        values.push(read_key(column.kind, &word)?);
         rest = behind;
     }
     match next_word(rest) {
         None => Ok(values),
         Some((word, _)) => Err(LineFault::NoColumn { at: word.at }),
+    }
+}
+
+/// The number and the columns of the declared table that the word names, or a fault at the word.
+fn read_table<'a>(schema: &'a Schema, word: &Word<'_>) -> Result<(u8, &'a [Column]), LineFault>
+    requires { IsSmallSchema schema.now }
+    ensures table { MatchResult result (λ p. table_said schema.now (word_here word.now) ≡ Ok (p.0, p.1.now)) (λ fault. table_said schema.now (word_here word.now) ≡ Err fault) }
+    ensures fault { IfErr result (λ fault. fault ≡ LineFault.NoTable word.now.at) }
+    ensures few { IfOk result (λ p. length p.1.now ≤ 8) }
+{
+    match table_named(schema, word.text) {
+        Some(table) => Ok(table),
+        None => Err(LineFault::NoTable { at: word.at }),
     }
 }
 

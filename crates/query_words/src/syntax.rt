@@ -15,18 +15,28 @@ use block_model::name::Name;
 /// What the words of a line may go on with. A number says how many conditions may follow.
 #[derive(Clone, Copy, Debug, PartialEq, Eq)]
 pub enum Expected {
+    /// The session's name.
     Session,
     Verb,
+    /// No word.
     End,
+    /// The table of an insert.
     InsertTable,
+    /// Another value, or the end.
     Values,
+    /// The table of a query.
     QueryTable,
+    /// `where`, or the end.
     Where,
+    /// `and`, or the end.
     And(u8),
     Column(u8),
+    /// An operator, or `is`.
     Operator(u8),
     Value(u8),
+    /// `null`, or `not`.
     Null(u8),
+    /// `null` behind `not`.
     NotNull(u8),
 }
 

@@ -1,5 +1,6 @@
 // Lines that are read and printed, and refusals with their places.
 
+use crate::dropped::{Dropped, render_dropped};
 use crate::line::{Line, LineFault, MAX_LINE, Order, read_line};
 use crate::print::print_line;
 use crate::statement::Statement;
@@ -284,5 +285,18 @@ fn long_lines_are_read_up_to_the_limit(rt: HostRuntime) -> Result<(), Fail> {
             (1, MAX_LINE)
         );
     }
+    Ok(())
+}
+
+#[test]
+fn dropped_requests_have_a_line_each(rt: HostRuntime) -> Result<(), Fail> {
+    let mut out = Vec::from_slice(rt.alloc(), b"m ")?;
+    let index = name_of(b"i")?;
+    let dropped = [Dropped { index, range: 0 }, Dropped { index, range: 70 }];
+    render_dropped(&dropped, &mut out)?;
+    assert_eq!(rt;
+        out.as_slice(),
+        b"m - dropped i 0\n- dropped i 70\n".as_slice()
+    );
     Ok(())
 }
