@@ -1,5 +1,5 @@
 -- tables of two columns of numbers
-use Rattle.std.proofs.Common.{◌≡◌, true, false, ℕ, zero, suc, ◌+◌, ◌<◌, ◌≤◌, List, [], ◌∷◌, ◌++◌, All, map, take, length, replicate, get_or, get_or-set_same, get_or-set_other, length-append, Some, eqb-true, refl, sym, ap, ◌∙◌, subst, arith}
+use Rattle.std.proofs.Common.{◌≡◌, true, false, ℕ, zero, suc, ◌+◌, ◌<◌, ◌≤◌, List, [], ◌∷◌, ◌++◌, All, map, take, length, replicate, get_or, get_or-set_same, get_or-set_other, length-append, Some, eqb-true, refl, sym, ap, ◌∙◌, subst, arith, ◌⊎◌, inl, inr}
 use Rattle.std.specs.Prelude.{slice_get, slice_set, ◌==◌, count_by}
 use Rattle.std.proofs.lemmas.Bool.{eqb-false}
 use Rattle.std.proofs.lemmas.List.Sums.{count_by_more_no, count_by_more_yes}
@@ -8,6 +8,8 @@ use Rattle.row_versions.specs.VersionsState.{rows_at}
 use Rattle.block_model.specs.declared.value.Kind.{Kind}
 use Rattle.block_model.specs.declared.value.Kind.TheVariants as kinds
 use Rattle.block_model.specs.declared.value.Value.{Value}
+use Rattle.block_model.specs.declared.value.Op.{Op}
+use Rattle.block_model.specs.declared.value.Op.TheVariants as ops
 use Rattle.block_model.specs.declared.row.Cond.{Cond}
 use Rattle.block_model.specs.declared.row.Query.{Query}
 use Rattle.block_model.specs.declared.schema.Class.TheVariants as classes
@@ -16,9 +18,14 @@ use Rattle.block_model.specs.declared.schema.Index.{Index}
 use Rattle.block_model.specs.declared.schema.Schema.{Schema}
 use Rattle.block_model.specs.declared.schema.Table.{Table}
 use Rattle.value_text.specs.CanonicalTexts.{IsValueOf}
-use Rattle.query_words.specs.LineFits.{AreValuesFor, IsCondFor, IsQueryFor, IsInsertFor}
+use Rattle.query_words.specs.LineFits.{AreValuesFor, HasKeyFor, IsCondFor, IsQueryFor, IsInsertFor}
+use Rattle.query_words.specs.Operators.{takes_operator}
 use Rattle.range_summaries.specs.ExplainedBlocks.{rows_per_page_at}
 use Rattle.range_summaries.specs.MinMaxIndexes.{HasMinMaxIndexes, IsMinMaxIndex}
+
+-- it is, or is at least
+abbrev pub IsComparison : Op → Type 0
+IsComparison op = (op ≡ ops.Eq) ⊎ (op ≡ ops.Ge)
 
 abbrev pub HasPair : Table → Type 0
 HasPair t = map (λ c. c.kind) t.columns ≡ kinds.Int ∷ kinds.Int ∷ []
@@ -53,13 +60,27 @@ values_for (a ∷ b ∷ c ∷ columns) v w are hv hw = absurd cc
 pub row_for : (s : Schema) (table : ℕ) (v w : Value) → length s.tables ≡ 2 → All HasPair s.tables → table < 2 → IsValueOf kinds.Int v → IsValueOf kinds.Int w → IsInsertFor s table (v ∷ w ∷ [])
 row_for s table v w two pairs below hv hw =
     let t = there s.tables table two below in
-    record { table = t.0; is_there = t.1; of_kinds = values_for t.0.columns v w (t.2 HasPair pairs) hv hw }
+    record { into = t.0; table = t.1; values = values_for t.0.columns v w (t.2 HasPair pairs) hv hw }
+
+is_taken : (op : Op) → IsComparison op → takes_operator kinds.Int op ≡ true
+is_taken op (inl e) = ap (takes_operator kinds.Int) e
+is_taken op (inr e) = ap (takes_operator kinds.Int) e
+
+has_key : (op : Op) (key : Value) → IsComparison op → HasKeyFor op key
+has_key op key (inl e) = subst (λ (o : Op). HasKeyFor o key) (sym e) tt
+has_key op key (inr e) = subst (λ (o : Op). HasKeyFor o key) (sym e) tt
 
 -- a condition on one of the columns
-cond_for : (t : Table) (c : Cond) → HasPair t → c.column < 2 → IsValueOf kinds.Int c.key → IsCondFor t.columns c
-cond_for t c pair below number =
+cond_for : (t : Table) (c : Cond) → HasPair t → c.column < 2 → IsValueOf kinds.Int c.key → IsComparison c.op → IsCondFor t.columns c
+cond_for t c pair below number compares =
     let column = column_there t.columns c.column pair below in
-    record { column = column.0; is_there = column.1; of_kind = subst (λ (k : Kind). IsValueOf k c.key) (sym column.2) number }
+    record {
+      on = column.0;
+      column = column.1;
+      op = subst (λ (k : Kind). takes_operator k c.op ≡ true) (sym column.2) (is_taken c.op compares);
+      key = subst (λ (k : Kind). IsValueOf k c.key) (sym column.2) number;
+      no_key = has_key c.op c.key compares;
+    }
 
 abbrev pub HasPart : Index → Type 0
 HasPart i = (column : ℕ) × (column < 2) × (i.parts ≡ record { column = column; class = classes.MinMax } ∷ [])
@@ -115,10 +136,10 @@ rows_for s table two rows below =
     rw t.1 (sym (t.2 (λ u. u.rows_per_page ≡ 2) rows))
 
 -- conditions on one of the columns are a query of one of the tables
-pub query_for : (s : Schema) (q : Query) → length s.tables ≡ 2 → All HasPair s.tables → q.table < 2 → All (λ c. c.column < 2) q.conds → All (λ c. IsValueOf kinds.Int c.key) q.conds → IsQueryFor s q
-query_for s q two pairs below columns keys =
+pub query_for : (s : Schema) (q : Query) → length s.tables ≡ 2 → All HasPair s.tables → q.table < 2 → All (λ c. c.column < 2) q.conds → All (λ c. IsValueOf kinds.Int c.key) q.conds → All (λ c. IsComparison c.op) q.conds → IsQueryFor s q
+query_for s q two pairs below columns keys ops =
     let t = there s.tables q.table two below in
-    record { table = t.0; is_there = t.1; conds = λ k d within. cond_for t.0 (get_or q.conds k d) (t.2 HasPair pairs) (columns k d within) (keys k d within) }
+    record { of = t.0; table = t.1; conds = λ k d within. cond_for t.0 (get_or q.conds k d) (t.2 HasPair pairs) (columns k d within) (keys k d within) (ops k d within) }
 
 -- tables without rows
 pub none_at : (n t : ℕ) → length (rows_at (replicate n []) t) ≡ 0

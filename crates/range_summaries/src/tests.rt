@@ -1,6 +1,7 @@
-ghost use Rattle.std.specs.Prelude.{◌≡◌, ◌<◌, ◌≤◌, ◌==◌, ℕ, List, [], ◌∷◌, All, IfOk, count_by, length, map};
+ghost use Rattle.std.specs.Prelude.{◌≡◌, ◌⊎◌, ◌<◌, ◌≤◌, ◌==◌, ℕ, List, [], ◌∷◌, All, IfOk, count_by, length, map};
 ghost use Rattle.block_model.specs.declared.row.Row.{Row};
 ghost use Rattle.block_model.specs.declared.value.Kind.TheVariants as kinds;
+ghost use Rattle.block_model.specs.declared.value.Op.TheVariants as ops;
 ghost use Rattle.block_model.specs.declared.schema.Class.TheVariants as classes;
 ghost use Rattle.value_text.specs.CanonicalTexts.{IsValueOf};
 ghost use Rattle.row_versions.specs.VersionsState.{rows_at};
@@ -37,11 +38,11 @@ struct Put {
     ghost of_table: { table < 2 },
 }
 
-/// A condition on one of the two columns.
+/// A condition on one of the two columns: it is the key, or at least the key.
 #[derive(Drop)]
 struct Where {
     column: u8,
-    op: Op,
+    at_least: bool,
     key: u8,
     ghost of_column: { column < 2 },
 }
@@ -67,10 +68,20 @@ fn make_put(table: u8, a: u8, b: u8) -> Put
     }
 }
 
-fn make_where(column: u8, op: Op, key: u8) -> Where
+fn make_where(column: u8, at_least: bool, key: u8) -> Where
     requires { column < 2 }
 {
-    Where { column, op, key }
+    Where {
+        column,
+        at_least,
+        key,
+    }
+}
+
+fn op(at_least: bool) -> Op
+    ensures { (result ≡ ops.Eq) ⊎ (result ≡ ops.Ge) }
+{
+    if at_least { Op::Ge } else { Op::Eq }
 }
 
 fn table(alloc: Global) -> Result<Table, NoMemory>
@@ -186,6 +197,7 @@ fn query(alloc: Global, table: u8, conds: &[Where]) -> Result<Query, NoMemory>
     ensures table { IfOk result (λ q. q.table ≡ table) }
     ensures columns { IfOk result (λ q. All (λ c. c.column < 2) q.conds) }
     ensures keys { IfOk result (λ q. All (λ c. IsValueOf kinds.Int c.key) q.conds) }
+    ensures ops { IfOk result (λ q. All (λ c. (c.op ≡ ops.Eq) ⊎ (c.op ≡ ops.Ge)) q.conds) }
 {
     let mut query = Query {
         table,
@@ -194,7 +206,7 @@ fn query(alloc: Global, table: u8, conds: &[Where]) -> Result<Query, NoMemory>
     'conds: for cond in conds {
         let cond = Cond {
             column: cond.column,
-            op: cond.op,
+            op: op(cond.at_least),
             key: number(cond.key),
         };
         query.conds.push(cond)?;
@@ -227,16 +239,16 @@ fn explain_reads_chunk_summaries(rt: HostRuntime) {
     let alloc = rt.alloc();
     let puts = [make_put(0, 5, 0), make_put(0, 7, 0), make_put(0, 100, 0)];
     let indexed = [make_on(0, 0, 1)];
-    let six = [make_where(0, Op::Eq, 6)];
+    let six = [make_where(0, false, 6)];
     let at_six = explained(alloc, &indexed, &puts, 0, &six).expect(&rt, "memory");
     assert_eq!(rt; at_six.as_slice(), [0].as_slice());
-    let fifty = [make_where(0, Op::Eq, 50)];
+    let fifty = [make_where(0, false, 50)];
     let at_fifty = explained(alloc, &indexed, &puts, 0, &fifty).expect(&rt, "memory");
     assert!(rt; at_fifty.is_empty());
-    let seven = [make_where(0, Op::Ge, 7)];
+    let seven = [make_where(0, true, 7)];
     let from_seven = explained(alloc, &indexed, &puts, 0, &seven).expect(&rt, "memory");
     assert_eq!(rt; from_seven.as_slice(), [0, 1].as_slice());
-    let other = [make_where(1, Op::Eq, 50)];
+    let other = [make_where(1, false, 50)];
     let of_other = explained(alloc, &indexed, &puts, 0, &other).expect(&rt, "memory");
     assert_eq!(rt; of_other.as_slice(), [0, 1].as_slice());
 }
@@ -249,7 +261,7 @@ fn a_range_with_a_null_is_kept(rt: HostRuntime) {
     };
     let puts = [make_put(0, 5, 0), null, make_put(0, 5, 0)];
     let indexed = [make_on(0, 0, 1)];
-    let six = [make_where(0, Op::Eq, 6)];
+    let six = [make_where(0, false, 6)];
     let at_six = explained(rt.alloc(), &indexed, &puts, 0, &six).expect(&rt, "memory");
     assert_eq!(rt; at_six.as_slice(), [0].as_slice());
 }
@@ -268,7 +280,7 @@ fn each_index_of_the_table_is_asked(rt: HostRuntime) {
         make_put(0, 2, 3),
     ];
     let indexed = [make_on(1, 0, 1), make_on(0, 0, 2), make_on(0, 1, 1)];
-    let conds = [make_where(0, Op::Eq, 1), make_where(1, Op::Eq, 2)];
+    let conds = [make_where(0, false, 1), make_where(1, false, 2)];
     let both = explained(alloc, &indexed, &puts, 0, &conds).expect(&rt, "memory");
     assert_eq!(rt; both.as_slice(), [1].as_slice());
     let all = explained(alloc, &[], &puts, 0, &conds).expect(&rt, "memory");

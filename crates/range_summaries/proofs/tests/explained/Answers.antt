@@ -14,7 +14,7 @@ candidates-requires-clause-rows c =
       schema,
       summaries.0,
       summaries.1,
-      query_for schema query are.two are.columns below asks.columns asks.keys,
+      query_for schema query are.two are.columns below asks.columns asks.keys asks.ops,
       ap (λ n. length (rows_at summaries.0 n)) asks.table ∙ summaries.2 c.args.table ∙ sym c.count.ensures,
       rows_for schema query.table are.two are.rows below,
     )
