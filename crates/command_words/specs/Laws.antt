@@ -11,19 +11,20 @@ abbrev pub option_words : Bool → Text → Text → List Text
 option_words true name value = (codes "--" ++ name ++ codes "=" ++ value) ∷ []
 option_words false name value = (codes "--" ++ name) ∷ value ∷ []
 
--- none of the words ends the options
+-- none of the words is `--`
 abbrev pub has_no_end : List Text → Bool
 has_no_end words = list_all (λ w. not (bytes_eq w (codes "--"))) words
 
--- an option that stands twice is refused, whatever is said of it and around it
+-- an option that stands twice in front of `--` is refused, whatever is said of it and around it
 abbrev pub OptionStandsOnce : Text → Type 0
 OptionStandsOnce name = (a b : Bool) (v w : Text) (before between after : List Text) → has_no_end before ≡ true → has_no_end between ≡ true
     → command_of (codes "run" ∷ before ++ option_words a name v ++ between ++ option_words b name w ++ after) ≡ None
 
+-- each of the five
 abbrev pub OptionsStandOnce : Type 0
 OptionsStandOnce = All OptionStandsOnce size_options
 
--- an option that stands in the words gives its size the number of its digits
+-- an option that stands in front of `--` has digits, and gives its size their number
 abbrev pub OptionHasItsNumber : Text × (Sizes → ℕ) → Type 0
 OptionHasItsNumber option = (a : Bool) (digits : Text) (before after : List Text) (sizes : Sizes) (declared : List Text) → has_no_end before ≡ true
     → command_of (codes "run" ∷ before ++ option_words a option.0 digits ++ after) ≡ Some (Run sizes declared)
@@ -39,6 +40,7 @@ sizes_by_option =
     ∷ (codes "frames", λ s. s.frames)
     ∷ []
 
+-- each of the five
 abbrev pub OptionsHaveTheirNumbers : Type 0
 OptionsHaveTheirNumbers = All OptionHasItsNumber sizes_by_option
 
