@@ -18,6 +18,7 @@ pub record IndexContents : Type 0 where
   pub rows_per_range : ℕ
   pub ranges : List RangeSummary
 
+-- what the ranges are, whatever their room
 abbrev pub contents_of : IndexRanges → IndexContents
 contents_of r = record { table = r.table; column = r.column; pages_per_range = r.pages_per_range; rows_per_range = r.rows_per_range; ranges = r.ranges.items }
 
