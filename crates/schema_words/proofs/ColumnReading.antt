@@ -1,12 +1,12 @@
 -- Columns are what is read as them.
-use Rattle.std.proofs.Common.{◌≡◌, ℕ, zero, suc, ◌<◌, ◌≤◌, Bool, true, false, ◌&&◌, ◌==◌, List, [], ◌∷◌, ◌++◌, length, codes, Result, Ok, Err, refl, sym, ap, ◌∙◌, append_assoc, arith}
+use Rattle.std.proofs.Common.{◌≡◌, ℕ, zero, suc, ◌≤◌, Bool, true, false, ◌&&◌, ◌==◌, List, [], ◌∷◌, ◌++◌, length, codes, Ok, refl, ap, ◌∙◌, append_assoc, arith}
 use Rattle.std.specs.List.{list_all}
 use Rattle.block_model.specs.Names.{is_name}
 use Rattle.block_model.specs.declared.value.Kind.{Kind}
 use Rattle.block_model.specs.declared.value.Kind.TheVariants as kinds
 use Rattle.block_model.specs.declared.schema.Column.{Column}
 use Rattle.text_reading.specs.Reading.{mapped, both, begins, choice, nothing, byte_at, word_at}
-use Rattle.text_reading.proofs.Lawful.{Lawful, both-lawful, mapped-lawful, choice-lawful, nothing-lawful, same-lawful, byte-lawful, word-lawful, weaker-lawful, both-read, mapped-read, choice-first, choice-second}
+use Rattle.text_reading.proofs.Lawful.{Lawful, both-lawful, mapped-lawful, choice-lawful, nothing-lawful, same-lawful, byte-lawful, word-lawful, weaker-lawful, both-read, mapped-read, choice-second}
 use Rattle.text_reading.proofs.DigitReading.{and_parts}
 use Rattle.schema_words.specs.DeclarationTexts.{kind_word, column_bytes, more_columns_bytes, columns_bytes, IsNamed, AreColumns}
 use Rattle.schema_words.specs.DeclarationReading.{name_at, number_kind_at, kind_at, column_at, more_columns_at, columns_at}

@@ -1,8 +1,8 @@
 -- Columns that are read one after another.
-use Rattle.std.proofs.Common.{◌≡◌, ℕ, zero, suc, ◌<◌, Bool, true, false, ◌||◌, List, [], ◌∷◌, ◌++◌, Result, Ok, Err, Option, None, Some, refl, sym, ap, ◌∙◌, append_assoc, append-nil}
+use Rattle.std.proofs.Common.{◌≡◌, ℕ, zero, suc, Bool, true, false, ◌||◌, List, [], ◌∷◌, ◌++◌, Result, Ok, Err, Option, None, Some, refl, sym, ap, ◌∙◌, append_assoc, append-nil}
 use Rattle.std.specs.Str.{bytes_eq}
 use Rattle.block_model.specs.declared.schema.Column.{Column}
-use Rattle.text_reading.specs.Reading.{◌>>=◌, mapped, both, begins, choice, nothing, byte_at}
+use Rattle.text_reading.specs.Reading.{◌>>=◌, mapped, both, begins, nothing, byte_at}
 use Rattle.text_reading.proofs.Lawful.{choice-second}
 use Rattle.schema_words.specs.DeclarationReading.{column_at, more_columns_at, columns_at}
 use Rattle.schema_words.specs.declared.column.ColumnsWord.{ColumnsWord}

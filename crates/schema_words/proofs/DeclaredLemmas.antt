@@ -1,7 +1,7 @@
 -- What words declare, one after another.
-use Rattle.std.proofs.Common.{◌≡◌, ℕ, zero, suc, ◌+◌, ◌<◌, ◌≤◌, Bool, true, false, cond, ◌||◌, List, [], ◌∷◌, ◌++◌, length, take, get_or, Result, Ok, Err, Option, None, Some, ◌⊎◌, inl, inr, refl, sym, ap, subst, ◌∙◌, arith, append_assoc, append-nil}
+use Rattle.std.proofs.Common.{◌≡◌, ℕ, zero, suc, ◌+◌, ◌<◌, ◌≤◌, Bool, true, false, cond, ◌||◌, List, [], ◌∷◌, ◌++◌, length, take, get_or, Result, Ok, Err, None, Some, inl, inr, refl, sym, ap, subst, ◌∙◌, arith, append_assoc, append-nil}
 use Rattle.std.specs.Prelude.{slice_get}
-use Rattle.std.specs.List.{list_any, position_from}
+use Rattle.std.specs.List.{position_from}
 use Rattle.block_model.specs.IndexedColumns.{columns_in}
 use Rattle.std.specs.Str.{bytes_eq}
 use Rattle.std.specs.Result.{is_ok}
@@ -11,15 +11,14 @@ use Rattle.block_model.specs.declared.schema.Column.{Column}
 use Rattle.block_model.specs.declared.schema.Table.{Table}
 use Rattle.block_model.specs.declared.schema.Index.{Index}
 use Rattle.block_model.specs.declared.schema.Schema.{Schema}
-use Rattle.text_reading.specs.StopsAt.{StopsAt}
 use Rattle.text_reading.proofs.Whole.{one-text}
 use Rattle.schema_words.specs.DeclarationTexts.{TableText, DeclarationText, OfTable, OfIndex, IndexText, bytes_of, IsDeclaration}
-use Rattle.schema_words.specs.DeclaredSchema.{table_of, table_named, column_named, index_on, on_table, on_column, index_among, with_table, with_index, declared_behind, Declares, DeclareBehind, nothing_declared, Denotes}
+use Rattle.schema_words.specs.DeclaredSchema.{table_of, table_named, column_named, on_table, on_column, index_among, with_table, with_index, declared_behind, Declares, DeclareBehind, nothing_declared, Denotes}
 use Rattle.schema_words.specs.FirstFault.{IsFaulty, IsFirstFault, Answers}
 use Rattle.schema_words.specs.declared.declarations.DeclFault.{DeclFault}
 use Rattle.schema_words.specs.declared.declarations.DeclFault.TheVariants as faults
 use Rattle.schema_words.specs.DeclarationReading.{declaration_at}
-use Rattle.schema_words.specs.Words.{has_column, column_sought}
+use Rattle.schema_words.specs.Words.{has_column}
 use Rattle.schema_words.proofs.WordReading.{declaration-lawful, declaration-complete}
 
 abbrev Made : Type 0

@@ -1,10 +1,7 @@
 -- Words that are judged without memory: an index against the tables of the words before it.
-use Rattle.std.proofs.Common.{◌≡◌, ℕ, ◌+◌, ◌<◌, ◌≤◌, Bool, true, false, cond, List, [], ◌∷◌, ◌++◌, length, take, get_or, min, Result, Ok, Err, Option, None, Some, refl, sym, ap, subst, ◌∙◌, arith, length-take}
-use Rattle.std.specs.List.{position_from}
+use Rattle.std.proofs.Common.{◌≡◌, ℕ, ◌+◌, ◌<◌, ◌≤◌, Bool, true, false, cond, List, [], ◌∷◌, ◌++◌, length, take, get_or, min, Ok, Err, Option, None, Some, refl, sym, ap, subst, ◌∙◌, arith, length-take}
 use Rattle.std.specs.Str.{bytes_eq}
-use Rattle.std.specs.Result.{MatchResult}
 use Rattle.std.proofs.lemmas.List.{take_more, take-take, get_or-take}
-use Rattle.std.proofs.lemmas.Bool.{false≢true}
 use Rattle.block_model.specs.declared.schema.Column.{Column}
 use Rattle.block_model.specs.declared.schema.Table.{Table}
 use Rattle.block_model.specs.declared.schema.Index.{Index}
@@ -20,7 +17,7 @@ use Rattle.schema_words.specs.DeclarationReading.{declaration_at}
 use Rattle.schema_words.specs.Words.{index_text, has_column, Reads, column_sought}
 use Rattle.schema_words.proofs.WordReading.{declaration-lawful, declaration-complete}
 use Rattle.schema_words.proofs.WordLemmas.{table-facts, IndexFacts, index-facts, declares-index, declares-fault}
-use Rattle.schema_words.proofs.DeclaredLemmas.{behind-push, Split, split, is_table, sought_behind, column-found, column-missing, first-table, with_index-grows, split-table}
+use Rattle.schema_words.proofs.DeclaredLemmas.{Split, split, sought_behind, column-found, column-missing, first-table, with_index-grows, split-table}
 
 -- a declaration is written in one way
 same_text : (a b : DeclarationText) (bytes : List ℕ) → IsDeclaration a → IsDeclaration b → bytes ≡ bytes_of a → bytes ≡ bytes_of b → a ≡ b

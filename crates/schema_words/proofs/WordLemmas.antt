@@ -1,8 +1,6 @@
 -- What is known of the parts of a declaration.
-use Rattle.std.proofs.Common.{◌≡◌, ℕ, ◌+◌, ◌-◌, ◌≤◌, List, [], ◌∷◌, ◌++◌, length, Result, Ok, Err, Option, None, Some, refl, sym, ap, subst, ◌∙◌, arith}
+use Rattle.std.proofs.Common.{◌≡◌, ℕ, ◌-◌, ◌≤◌, List, [], ◌∷◌, ◌++◌, length, Ok, Err, Option, None, Some, refl, sym, ap, subst, ◌∙◌, arith}
 use Rattle.std.specs.Prelude.{MatchOption, IfSome}
-use Rattle.std.specs.Result.{is_ok}
-use Rattle.std.proofs.lemmas.Bool.{false≢true}
 use Rattle.block_model.specs.declared.schema.Column.{Column}
 use Rattle.block_model.specs.declared.schema.Table.{Table}
 use Rattle.block_model.specs.declared.schema.Index.{Index}
@@ -14,7 +12,7 @@ use Rattle.schema_words.specs.declared.table.TableWord.{TableWord}
 use Rattle.schema_words.specs.declared.index.IndexWord.{IndexWord}
 use Rattle.schema_words.specs.declared.declaration.Declaration.{Declaration}
 use Rattle.schema_words.specs.declared.declaration.Declaration.TheVariants as code
-use Rattle.schema_words.specs.DeclarationTexts.{TableText, table_bytes, IndexText, index_bytes, DeclarationText, OfTable, OfIndex, bytes_of, IsNamed, AreColumns, IsTable, IsIndex, IsDeclaration}
+use Rattle.schema_words.specs.DeclarationTexts.{TableText, table_bytes, index_bytes, DeclarationText, OfTable, OfIndex, bytes_of, AreColumns, IsTable, IsIndex, IsDeclaration}
 use Rattle.schema_words.specs.DeclaredSchema.{number_said, most_rows, table_of, index_among, with_index, Declares}
 use Rattle.schema_words.specs.DeclarationReading.{declaration_at}
 use Rattle.schema_words.specs.Words.{said, KeepsMore, IsTableRead, table_with, index_text, IsRead, Reads}

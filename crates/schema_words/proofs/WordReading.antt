@@ -1,5 +1,5 @@
 -- Declarations are what is read as them.
-use Rattle.std.proofs.Common.{◌≡◌, ℕ, Bool, true, false, ◌==◌, List, [], ◌∷◌, ◌++◌, codes, Option, None, Some, Result, Ok, Err, refl, sym, ap, ◌∙◌, append_assoc, append-nil}
+use Rattle.std.proofs.Common.{◌≡◌, ℕ, Bool, true, false, ◌==◌, List, [], ◌∷◌, ◌++◌, codes, Option, None, Some, Ok, Err, refl, sym, ap, ◌∙◌, append_assoc, append-nil}
 use Rattle.block_model.specs.declared.schema.Column.{Column}
 use Rattle.text_reading.specs.Digits.{AreDigits}
 use Rattle.text_reading.specs.Reading.{mapped, both, begins, choice, nothing, byte_at, word_at, digits_at}
@@ -8,7 +8,7 @@ use Rattle.text_reading.proofs.DigitReading.{one_digit, digits-lawful, digits-co
 use Rattle.schema_words.specs.DeclarationTexts.{columns_bytes, setting_bytes, TableText, table_bytes, ClassText, MinMax, class_bytes, IndexText, index_bytes, DeclarationText, OfTable, OfIndex, bytes_of, IsNamed, AreColumns, IsSetting, IsTable, IsIndex, IsDeclaration}
 use Rattle.schema_words.specs.DeclarationReading.{name_at, columns_at, setting_at, ending_at, table_head_at, table_at, class_at, index_head_at, on_at, part_at, index_at, declaration_at}
 use Rattle.schema_words.proofs.NameReading.{one_letter, name-lawful, name-complete}
-use Rattle.schema_words.proofs.ColumnReading.{is_r, is_comma, some_column, is_some, columns-lawful, columns-complete}
+use Rattle.schema_words.proofs.ColumnReading.{some_column, is_some, columns-lawful, columns-complete}
 
 abbrev is_space : ℕ → Bool
 is_space c = c == 32

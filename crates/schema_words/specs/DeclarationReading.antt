@@ -1,5 +1,5 @@
 -- How a declaration is read from its front, part by part.
-use Rattle.std.specs.Prelude.{ℕ, zero, suc, ◌==◌, Bool, if◌then◌else◌, List, [], ◌∷◌, codes, Option, None, Some, Result, Ok, Err}
+use Rattle.std.specs.Prelude.{ℕ, zero, suc, ◌==◌, if◌then◌else◌, List, [], ◌∷◌, codes, Option, None, Some, Ok, Err}
 use Rattle.block_model.specs.Names.{is_lower, is_more}
 use Rattle.block_model.specs.declared.value.Kind.{Kind}
 use Rattle.block_model.specs.declared.value.Kind.TheVariants as kinds

@@ -1,8 +1,8 @@
-use Rattle.std.proofs.Common.{◌≡◌, ◌-◌, ◌+◌, suc, arith, List, ◌∷◌, [], ◌++◌, Ok, Err, sym, ap, ◌∙◌}
+use Rattle.std.proofs.Common.{◌≡◌, ◌-◌, ◌+◌, suc, arith, ◌∷◌, [], ◌++◌, ap, ◌∙◌}
 use Rattle.std.proofs.lemmas.Result.{err_from_is_err_and}
-use Rattle.schema_words.specs.DeclarationReading.{columns_at, more_columns_at}
+use Rattle.schema_words.specs.DeclarationReading.{more_columns_at}
 use Rattle.schema_words.specs.Words.{column_of}
-use Rattle.schema_words.proofs.ColumnsLoop.{more-none, more-full, columns-first, goes_on, goes_on-next, goes_on-stops, goes_on-ends, first-read, next-read}
+use Rattle.schema_words.proofs.ColumnsLoop.{more-none, more-full, columns-first, goes_on-next, goes_on-stops, goes_on-ends, first-read, next-read}
 use Rattle.schema_words.proofs.column.columns.Goals as goal
 
 pub more-init : goal.more-init

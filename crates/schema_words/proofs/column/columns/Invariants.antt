@@ -1,4 +1,4 @@
-use Rattle.std.proofs.Common.{◌≡◌, ◌-◌, ◌≤◌, List, ◌∷◌}
+use Rattle.std.proofs.Common.{◌≡◌, ◌-◌, List}
 use Rattle.block_model.specs.declared.schema.Column.{Column}
 use Rattle.schema_words.specs.DeclarationReading.{columns_at, more_columns_at}
 use Rattle.schema_words.specs.Words.{AreRead}

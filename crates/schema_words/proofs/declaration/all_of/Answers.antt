@@ -1,5 +1,4 @@
-use Rattle.std.proofs.lemmas.Result.{err_from_is_err_and}
-use Rattle.text_reading.proofs.Whole.{whole-stops, whole-stops_behind, whole-ends}
+use Rattle.text_reading.proofs.Whole.{whole-ends}
 use Rattle.schema_words.specs.DeclarationReading.{declaration_at}
 use Rattle.schema_words.proofs.declaration.all_of.Goals as goal
 

@@ -1,4 +1,4 @@
-use Rattle.std.proofs.Common.{◌≡◌, Err, ap, ◌∙◌, arith}
+use Rattle.std.proofs.Common.{Err, ap, ◌∙◌, arith}
 use Rattle.schema_words.specs.DeclaredSchema.{nothing_declared}
 use Rattle.schema_words.proofs.DeclaredLemmas.{words-one, fault-denotes_nothing, denotes-push, denotes-all, first-fault, answers-fault}
 use Rattle.schema_words.proofs.declarations.read_declarations.Goals as goal

@@ -1,4 +1,4 @@
-use Rattle.std.proofs.Common.{◌≡◌, true, false, None, Some, Err, sym, ap, ◌∙◌, subst, arith}
+use Rattle.std.proofs.Common.{◌≡◌, Err, sym, ap, ◌∙◌, subst, arith}
 use Rattle.schema_words.specs.Words.{index_text, column_sought}
 use Rattle.schema_words.proofs.Judging.{NoTable, no_table-first, no_table-more, judged-found, judged-lacking, judged-undeclared}
 use Rattle.schema_words.proofs.judge.judge_index.Goals as goal

@@ -1,7 +1,6 @@
-use Rattle.std.proofs.Common.{◌≡◌, true, false, Ok, arith, sym, ◌∙◌}
+use Rattle.std.proofs.Common.{◌≡◌, true, arith}
 use Rattle.block_model.specs.Names.{is_lower}
 use Rattle.text_reading.specs.Reading.{begins}
-use Rattle.schema_words.specs.DeclarationReading.{name_at}
 use Rattle.schema_words.proofs.NameReading.{name_at-count, name_at-none, read-is_named}
 use Rattle.schema_words.proofs.name.name.Goals as goal
 
