@@ -1,6 +1,6 @@
 -- what words ask for, and which indexes they declare
 use Rattle.std.proofs.Common.{◌≡◌, ◌≢◌, ℕ, zero, suc, ◌<◌, ◌≤◌, Bool, true, false, List, [], ◌∷◌, ◌++◌, length, Option, None, Some, refl, sym, ap, ◌∙◌, subst, arith, ◌⊎◌, inl, inr}
-use Rattle.std.specs.Prelude.{min, ◌&&◌, nat_lt, nat_le, slice_get, All, Result, Ok, Err}
+use Rattle.std.specs.Prelude.{min, ◌&&◌, nat_lt, nat_le, slice_get, All, IfOk, IsSome, Result, Ok, Err}
 use Rattle.std.specs.List.{list_all}
 use Rattle.std.proofs.lemmas.Bool.{ltb-true, leb-true, false≢true}
 use Rattle.block_model.specs.DiskLayout.{DiskLayout}
@@ -19,7 +19,11 @@ use Rattle.block_model.specs.declared.schema.Schema.{Schema}
 use Rattle.block_model.specs.declared.schema.Sizes.{Sizes}
 use Rattle.schema_words.specs.DeclarationTexts.{IndexText, DeclarationText, OfTable, OfIndex, ClassText, MinMax}
 use Rattle.schema_words.specs.DeclaredSchema.{DeclareBehind, Declares, Denotes, declared_behind, with_index, index_among, on_table, on_column, index_on, class_of, column_named, table_named, nothing_declared}
+use Rattle.command_words.specs.declared.command.Command.{Command}
+use Rattle.command_words.specs.declared.command.Command.TheVariants.{Run}
+use Rattle.command_words.specs.CommandWords.{command_of}
 use Rattle.range_summaries.specs.MinMaxIndexes.{IsMinMaxIndex, HasMinMaxIndexes}
+use Rattle.brin_app.specs.ScriptOutput.{IsLayoutFor, AsksFor, AsksForNothing}
 
 both_left : (a b : Bool) → (a && b) ≡ true → a ≡ true
 both_left true b e = refl
@@ -31,12 +35,22 @@ both_right false b e = absurd (false≢true e)
 
 -- ---- an index that is declared has one minmax column
 
-record HasOnePart (index : Index) : Type 0 where
-  column : ℕ
-  parts_are : index.parts ≡ record { column = column; class = classes.MinMax } ∷ []
+pub record HasOnePart (index : Index) : Type 0 where
+  pub column : ℕ
+  pub parts_are : index.parts ≡ record { column = column; class = classes.MinMax } ∷ []
 
-HaveOnePart : Schema → Type 0
-HaveOnePart s = All HasOnePart s.indexes
+-- each element has the property
+abbrev pub Each : {A : Type 0} → (A → Type 0) → List A → Type 0
+Each P [] = Unit {0}
+Each P (x ∷ xs) = P x × Each P xs
+
+each_all : {A : Type 0} (P : A → Type 0) (xs : List A) → Each P xs → All P xs
+each_all P [] e k d within = absurd (omega (arith, within))
+each_all P (x ∷ xs) e zero d within = e.0
+each_all P (x ∷ xs) e (suc k) d within = each_all P xs e.1 k d (omega (arith, within))
+
+abbrev pub HaveOnePart : Schema → Type 0
+HaveOnePart s = Each HasOnePart s.indexes
 
 minmax_alone : (text : ClassText) → class_of text ≡ classes.MinMax
 minmax_alone MinMax = refl
@@ -44,7 +58,7 @@ minmax_alone MinMax = refl
 one_part : (i : IndexText) (table column : ℕ) → HasOnePart (index_on i table column)
 one_part i table column = record { column = _; parts_are = ap (λ class. record { column = min column 255; class = class } ∷ []) (minmax_alone i.class) }
 
-all_more : {A : Type 0} (P : A → Type 0) (xs : List A) (x : A) → All P xs → P x → All P (xs ++ x ∷ [])
+all_more : {A : Type 0} (P : A → Type 0) (xs : List A) (x : A) → Each P xs → P x → Each P (xs ++ x ∷ [])
 all_more P [] y h p = (p, tt)
 all_more P (x ∷ xs) y h p = (h.0, all_more P xs y h.1 p)
 
@@ -55,13 +69,13 @@ column_part i table (Some column) index e = subst HasOnePart (ok_injective (inde
     ok_injective : (a b : Index) → ◌≡◌ {A = Result Index ℕ} (Ok a) (Ok b) → a ≡ b
     ok_injective a b e = cc
 
-table_part : (i : IndexText) (o : Option (ℕ × Table)) (index : Index) → on_table i o ≡ Ok index → HasOnePart index
-table_part i None index e = absurd (cc)
-table_part i (Some t) index e = column_part i t.0 (column_named i.column 0 t.1.columns) index e
+table_part : (i : IndexText) (tables : List Table) (o : Option ℕ) (index : Index) → on_table i tables o ≡ Ok index → HasOnePart index
+table_part i tables None index e = absurd (cc)
+table_part i tables (Some t) index e = column_part i t (column_named i.column (columns_in (slice_get tables t))) index e
 
 index_more : (s after : Schema) (i : IndexText) (r : Result Index ℕ) → index_among s.tables i ≡ r → HaveOnePart s → with_index s r ≡ Ok after → HaveOnePart after
 index_more s after i (Ok index) is have e =
-    subst HaveOnePart (ok_injective _ after e) (all_more HasOnePart s.indexes index have (table_part i (table_named i.table 0 s.tables) index is))
+    subst HaveOnePart (ok_injective _ after e) (all_more HasOnePart s.indexes index have (table_part i s.tables (table_named i.table s.tables) index is))
   where
     ok_injective : (a b : Schema) → ◌≡◌ {A = Result Schema ℕ} (Ok a) (Ok b) → a ≡ b
     ok_injective a b e = cc
@@ -128,15 +142,15 @@ lawful_index schema index one on pages classes_are =
     (both_left (takes_kind classes.MinMax (kind_at columns one.column)) (has_lawful_parameters classes.MinMax) (both_left (class_is_lawful columns (record { column = one.column; class = classes.MinMax })) true lawful))
     (one_or_more 1 131072 index.pages_per_range pages)
 
-lawful_indexes : (schema : Schema) (indexes : List Index) → All HasOnePart indexes → list_all (is_on_a_table schema) indexes ≡ true → list_all (λ (i : Index). is_within 1 131072 i.pages_per_range) indexes ≡ true
-    → list_all (λ (i : Index). list_all (class_is_lawful (columns_of schema i)) i.parts) indexes ≡ true → All (IsMinMaxIndex schema) indexes
+lawful_indexes : (schema : Schema) (indexes : List Index) → Each HasOnePart indexes → list_all (is_on_a_table schema) indexes ≡ true → list_all (λ (i : Index). is_within 1 131072 i.pages_per_range) indexes ≡ true
+    → list_all (λ (i : Index). list_all (class_is_lawful (columns_of schema i)) i.parts) indexes ≡ true → Each (IsMinMaxIndex schema) indexes
 lawful_indexes schema [] one on pages classes_are = tt
 lawful_indexes schema (i ∷ is) one on pages classes_are = (
   lawful_index schema i one.0 (both_left _ _ on) (both_left _ _ pages) (both_left _ _ classes_are),
   lawful_indexes schema is one.1 (both_right _ _ on) (both_right _ _ pages) (both_right _ _ classes_are),
 )
 
-some_rows : (tables : List Table) → list_all rows_fit tables ≡ true → All (λ (t : Table). 1 ≤ t.rows_per_page) tables
+some_rows : (tables : List Table) → list_all rows_fit tables ≡ true → Each (λ (t : Table). 1 ≤ t.rows_per_page) tables
 some_rows [] e = tt
 some_rows (t ∷ ts) e = (one_or_more 1 _ t.rows_per_page (both_left _ _ e), some_rows ts (both_right _ _ e))
 
@@ -144,7 +158,72 @@ some_rows (t ∷ ts) e = (one_or_more 1 _ t.rows_per_page (both_left _ _ e), som
 pub have_minmax_indexes : (words : List (List ℕ)) (schema : Schema) (sizes : Sizes) → Denotes words schema → KeepsLimits schema sizes → HasMinMaxIndexes schema
 have_minmax_indexes words schema sizes denoted limits = record {
   indexes =
-      lawful_indexes schema schema.indexes (behind_have words nothing_declared schema tt denoted)
-      (both_right (nat_le (length schema.indexes) 8) _ (limits 3)) (limits 5) (limits 6);
-  some_rows = some_rows schema.tables (limits 4);
+      each_all (IsMinMaxIndex schema) schema.indexes
+      (lawful_indexes schema schema.indexes (behind_have words nothing_declared schema tt denoted)
+      (both_right (nat_le (length schema.indexes) 8) _ (limits 3)) (limits 5) (limits 6));
+  some_rows = each_all (λ (t : Table). 1 ≤ t.rows_per_page) schema.tables (some_rows schema.tables (limits 4));
 }
+
+-- ---- what was read of the words
+
+-- a layout that was made of a declared schema
+pub ok_made : {E : Type 0} (declared : List (List ℕ)) (schema : Schema) (sizes : Sizes) (result : Result DiskLayout E) → Denotes declared schema
+    → IfOk result (λ layout. (layout ≡ record { schema = schema; sizes = sizes }) × (first_broken_rule schema sizes ≡ None)) → IfOk result (IsLayoutFor sizes declared)
+ok_made declared schema sizes (Ok layout) denoted kept = record {
+  sizes_are = ap (λ (d : DiskLayout). d.sizes) kept.0;
+  schema = subst (λ (d : DiskLayout). Denotes declared d.schema) (sym kept.0) denoted;
+  within = ap (λ (d : DiskLayout). first_broken_rule d.schema sizes) kept.0 ∙ kept.1;
+}
+ok_made declared schema sizes (Err e) denoted kept = tt
+
+-- it is the only one, where no other schema is declared
+pub ok_alone : {E : Type 0} (declared : List (List ℕ)) (schema : Schema) (sizes : Sizes) (result : Result DiskLayout E) → ((other : Schema) → Denotes declared other → schema ≡ other)
+    → IfOk result (λ layout. (layout ≡ record { schema = schema; sizes = sizes }) × (first_broken_rule schema sizes ≡ None)) → IfOk result (λ layout. (other : Schema) → Denotes declared other → other ≡ layout.schema)
+ok_alone declared schema sizes (Ok layout) only kept = λ other denoted. sym (only other denoted) ∙ sym (ap (λ (d : DiskLayout). d.schema) kept.0)
+ok_alone declared schema sizes (Err e) only kept = tt
+
+pub ok_indexes : {E : Type 0} (declared : List (List ℕ)) (schema : Schema) (sizes : Sizes) (result : Result DiskLayout E) → Denotes declared schema
+    → IfOk result (λ layout. (layout ≡ record { schema = schema; sizes = sizes }) × (first_broken_rule schema sizes ≡ None)) → IfOk result (λ layout. KeepsLimits layout.schema layout.sizes)
+    → IfOk result (λ layout. HasMinMaxIndexes layout.schema)
+ok_indexes declared schema sizes (Ok layout) denoted kept limits =
+    subst (λ (d : DiskLayout). HasMinMaxIndexes d.schema) (sym kept.0)
+    (have_minmax_indexes declared schema sizes denoted (subst (λ (d : DiskLayout). KeepsLimits d.schema d.sizes) kept.0 limits))
+ok_indexes declared schema sizes (Err e) denoted kept limits = tt
+
+-- words that are a command ask for the layout that was made for it
+pub ok_asked : {E : Type 0} (words declared : List (List ℕ)) (sizes : Sizes) (result : Result DiskLayout E) → command_of words ≡ Some (Run sizes declared) → IfOk result (IsLayoutFor sizes declared) → IfOk result (AsksFor words)
+ok_asked words declared sizes (Ok layout) command makes = record { sizes = sizes; declared = declared; command = command; makes = makes }
+ok_asked words declared sizes (Err e) command makes = tt
+
+same_sizes : (o : Option Command) (a b : Sizes) (c d : List (List ℕ)) → o ≡ Some (Run a c) → o ≡ Some (Run b d) → b ≡ a
+same_sizes o a b c d e f = let is : Some (Run a c) ≡ Some (Run b d) = sym e ∙ f in cc
+
+same_declared : (o : Option Command) (a b : Sizes) (c d : List (List ℕ)) → o ≡ Some (Run a c) → o ≡ Some (Run b d) → d ≡ c
+same_declared o a b c d e f = let is : Some (Run a c) ≡ Some (Run b d) = sym e ∙ f in cc
+
+layout_is : (a b : DiskLayout) → a.schema ≡ b.schema → a.sizes ≡ b.sizes → a ≡ b
+layout_is a b e f = ap (λ schema. record { schema = schema; sizes = a.sizes }) e ∙ ap (λ sizes. record { schema = b.schema; sizes = sizes }) f
+
+-- and for no other one
+pub ok_only : {E : Type 0} (words declared : List (List ℕ)) (sizes : Sizes) (result : Result DiskLayout E) → command_of words ≡ Some (Run sizes declared) → IfOk result (IsLayoutFor sizes declared)
+    → IfOk result (λ layout. (schema : Schema) → Denotes declared schema → schema ≡ layout.schema) → IfOk result (λ layout. (other : DiskLayout) → AsksFor words other → other ≡ layout)
+ok_only words declared sizes (Ok layout) command makes alone = λ other asks.
+    layout_is other layout
+    (alone other.schema (subst (λ (l : List (List ℕ)). Denotes l other.schema) (same_declared (command_of words) sizes asks.sizes declared asks.declared command asks.command) asks.makes.schema))
+    (asks.makes.sizes_are ∙ same_sizes (command_of words) sizes asks.sizes declared asks.declared command asks.command ∙ sym makes.sizes_are)
+ok_only words declared sizes (Err e) command makes alone = tt
+
+-- a command for which there is no layout asks for nothing
+pub none_asked : (words declared : List (List ℕ)) (sizes : Sizes) → command_of words ≡ Some (Run sizes declared) → ((schema : Schema) → Denotes declared schema → IsSome (first_broken_rule schema sizes)) → AsksForNothing words
+none_asked words declared sizes command broken layout asks =
+    let denoted : Denotes declared layout.schema = subst (λ (l : List (List ℕ)). Denotes l layout.schema) (same_declared (command_of words) sizes asks.sizes declared asks.declared command asks.command) asks.makes.schema in
+    let within : first_broken_rule layout.schema sizes ≡ None = subst (λ (z : Sizes). first_broken_rule layout.schema z ≡ None) (same_sizes (command_of words) sizes asks.sizes declared asks.declared command asks.command) asks.makes.within in
+    lacks (first_broken_rule layout.schema sizes) within (broken layout.schema denoted)
+  where
+    lacks : (o : Option ℕ) → o ≡ None → IsSome o → ⊥
+    lacks None e h = false≢true h
+    lacks (Some n) e h = cc
+
+-- and neither do words that are no command
+pub no_command : (words : List (List ℕ)) → command_of words ≡ None → AsksForNothing words
+no_command words none layout asks = let is : None ≡ Some (Run asks.sizes asks.declared) = sym none ∙ asks.command in cc

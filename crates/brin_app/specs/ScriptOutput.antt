@@ -4,6 +4,7 @@ use Rattle.std.specs.Io.KnownBytes.{Consumes}
 use Rattle.block_model.specs.DiskLayout.{DiskLayout}
 use Rattle.block_model.specs.FirstBrokenRule.{first_broken_rule}
 use Rattle.block_model.specs.declared.schema.Schema.{Schema}
+use Rattle.block_model.specs.declared.schema.Sizes.{Sizes}
 use Rattle.query_words.specs.ScriptTexts.{ScriptPlace, script_start, IsLineText, LacksRoom}
 use Rattle.command_words.specs.declared.command.Command.TheVariants.{Run}
 use Rattle.command_words.specs.CommandWords.{command_of}
@@ -14,12 +15,18 @@ use Rattle.script_run.specs.declared.run.RunEnd.TheVariants as ends
 use Rattle.script_run.specs.Answers.{AreAnswers}
 use Rattle.script_run.specs.Runs.{AreFirst, Ran}
 
--- the words are `run` with options and declarations, which make this layout, and no limit is passed
-pub record AsksFor (words : List (List ℕ)) (layout : DiskLayout) : Type 0 where
-  pub declared : List (List ℕ)
-  pub command : command_of words ≡ Some (Run layout.sizes declared)
+-- a layout of these sizes and of what is declared, which passes no limit
+pub record IsLayoutFor (sizes : Sizes) (declared : List (List ℕ)) (layout : DiskLayout) : Type 0 where
+  pub sizes_are : layout.sizes ≡ sizes
   pub schema : Denotes declared layout.schema
-  pub within : first_broken_rule layout.schema layout.sizes ≡ None
+  pub within : first_broken_rule layout.schema sizes ≡ None
+
+-- the words are `run` with options and declarations, which make this layout
+pub record AsksFor (words : List (List ℕ)) (layout : DiskLayout) : Type 0 where
+  pub sizes : Sizes
+  pub declared : List (List ℕ)
+  pub command : command_of words ≡ Some (Run sizes declared)
+  pub makes : IsLayoutFor sizes declared layout
 
 -- they are no command, or a limit is passed
 abbrev pub AsksForNothing : List (List ℕ) → Type 0

@@ -3,9 +3,11 @@
 ghost use Rattle.std.specs.Prelude.{◌≡◌, ◌⊎◌, None, Ok, Err, IfOk, IfErr, IsSome};
 ghost use Rattle.block_model.specs.Causes.{Rose};
 ghost use Rattle.block_model.specs.DiskLayout.{DiskLayout};
-ghost use Rattle.block_model.specs.FirstBrokenRule.{first_broken_rule};
+ghost use Rattle.block_model.specs.FirstBrokenRule.{KeepsLimits, first_broken_rule};
+ghost use Rattle.block_model.specs.declared.schema.Schema.{Schema};
+ghost use Rattle.schema_words.specs.DeclaredSchema.{Denotes};
 ghost use Rattle.range_summaries.specs.MinMaxIndexes.{HasMinMaxIndexes};
-ghost use Rattle.brin_app.specs.ScriptOutput.{AsksFor, AsksForNothing, IsScriptOutput, HasSpentCauses, IsComplete, exit_status, script_limit};
+ghost use Rattle.brin_app.specs.ScriptOutput.{IsLayoutFor, AsksFor, AsksForNothing, IsScriptOutput, HasSpentCauses, IsComplete, exit_status, script_limit};
 
 use crate::sessions::Sessions;
 use block_model::layout::Layout;
@@ -61,6 +63,7 @@ enum WordsFault {
 }
 
 /// The layout of the store that the words ask for.
+#[tactic(auto, using(crate::proofs::Asked::ok_asked, crate::proofs::Asked::ok_only, crate::proofs::Asked::none_asked, crate::proofs::Asked::no_command))]
 fn read_words(alloc: Global, words: &Words) -> Result<Layout, WordsFault>
     ensures asked { IfOk result (AsksFor words.now) }
     ensures alone { IfOk result (λ layout. (other : DiskLayout) → AsksFor words.now other → other ≡ layout) }
@@ -73,23 +76,37 @@ fn read_words(alloc: Global, words: &Words) -> Result<Layout, WordsFault>
                 sizes,
                 declarations,
             },
-        ) => match read_declarations(alloc, &declarations) {
-            Ok(schema) => layout_of(schema, sizes),
-            Err(DeclFault::Form { .. }) => Err(WordsFault::Usage),
-            Err(DeclFault::Memory) => Err(WordsFault::Memory),
-        },
+        ) => layout_for(alloc, sizes, &declarations),
         Err(CommandFault::Usage) => Err(WordsFault::Usage),
         Err(CommandFault::Memory) => Err(WordsFault::Memory),
+    }
+}
+
+/// The layout of these sizes and of what the words declare.
+fn layout_for(alloc: Global, sizes: Sizes, declarations: &Words) -> Result<Layout, WordsFault>
+    ensures made { IfOk result (IsLayoutFor sizes declarations.now) }
+    ensures alone { IfOk result (λ layout. (schema : Schema) → Denotes declarations.now schema → schema ≡ layout.schema) }
+    ensures indexes { IfOk result (λ layout. HasMinMaxIndexes layout.schema) }
+    ensures usage { result ≡ Err WordsFault.Usage → (schema : Schema) → Denotes declarations.now schema → IsSome (first_broken_rule schema sizes) }
+{
+    match read_declarations(alloc, declarations) {
+        Ok(schema) => layout_of(schema, sizes),
+        Err(DeclFault::Form { .. }) => Err(WordsFault::Usage),
+        Err(DeclFault::Memory) => Err(WordsFault::Memory),
     }
 }
 
 /// The layout of these tables, indexes and sizes, where no limit is passed.
 fn layout_of(schema: Schema, sizes: Sizes) -> Result<Layout, WordsFault>
     ensures kept { IfOk result (λ layout. (layout ≡ record { schema = schema; sizes = sizes }) × (first_broken_rule schema sizes ≡ None)) }
+    ensures limits { IfOk result (λ layout. KeepsLimits layout.schema layout.sizes) }
     ensures passed { IfErr result (λ fault. (fault ≡ WordsFault.Usage) × IsSome (first_broken_rule schema sizes)) }
 {
     match Layout::new(schema, sizes) {
-        Ok(layout) => Ok(layout),
+        Ok(layout) => {
+            layout.known();
+            Ok(layout)
+        }
         Err(_) => Err(WordsFault::Usage),
     }
 }

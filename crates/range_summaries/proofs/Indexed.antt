@@ -94,10 +94,10 @@ takes_row schema tables table place values index c lawful of_index fits at of_ta
     column_is : of_index.column ≡ c.column
     column_is = ap first_column (sym of_index.parts_are ∙ h.of_column)
 
-    one_table : of_index.table ≡ fits.table
+    one_table : of_index.table ≡ fits.into
     one_table = cc (sym of_index.is_there ∙ ap (slice_get schema.tables) same ∙ fits.table)
 
-    column_there : slice_get fits.table.columns c.column ≡ Some of_index.of
+    column_there : slice_get fits.into.columns c.column ≡ Some of_index.of
     column_there = (λ i. slice_get (sym one_table i).columns (sym column_is i)) ∙ of_index.column_is_there
 
     there : (c.column < length values) × IsValueOf of_index.of.kind (value_at values c.column)
