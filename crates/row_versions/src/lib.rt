@@ -4,7 +4,13 @@
 // and the definitions of query_words. The layer above uses `Versions`.
 #![tactic(auto)]
 
+mod finding;
+mod judging;
+mod list;
+mod marking;
+mod sessions;
 mod standing;
+mod table;
 mod versions;
 
 pub use standing::Standing;
