@@ -11,6 +11,8 @@ mod marking;
 mod sessions;
 mod standing;
 mod table;
+#[cfg(test)]
+mod tests;
 mod versions;
 
 pub use standing::Standing;
