@@ -165,7 +165,7 @@ rows_after_mark ts i k v t there =
     ∙ ap stored_rows (ap (set ts i) same ∙ set-get_or ts i [])
 
 -- each row is of its table, also after the change of one table
-pub own_table-set : (ts : List (List Version)) (i : ℕ) (t : List Version) → i < length ts → ((table : ℕ) → All (λ v. v.row.table ≡ table) (versions_at ts table)) → All (λ v. v.row.table ≡ i) t
+own_table-set : (ts : List (List Version)) (i : ℕ) (t : List Version) → i < length ts → ((table : ℕ) → All (λ v. v.row.table ≡ table) (versions_at ts table)) → All (λ v. v.row.table ≡ i) t
     → (table : ℕ) → All (λ v. v.row.table ≡ table) (versions_at (set ts i t) table)
 own_table-set ts i t below own new table = elim (cases_eq table i) [
   | inl same ↦ subst (λ (j : ℕ). All (λ (v : Version). v.row.table ≡ j) (versions_at (set ts i t) j)) (sym same) (subst (All (λ (v : Version). v.row.table ≡ i)) (sym (get_or-set_same ts i t [] below)) new)

@@ -27,10 +27,6 @@ pub same_filtered : {X : Type 0} (p p' : X → Bool) (o : Option X) → ((x : X)
 same_filtered p p' None h = refl
 same_filtered p p' (Some x) h = ap (λ b. cond b (Some x) None) (h x refl)
 
-pub filtered_twice : {X : Type 0} (p m : X → Bool) (o : Option X) → option_filter m (option_filter p o) ≡ option_filter (λ x. p x && m x) o
-filtered_twice p m None = refl
-filtered_twice p m (Some x) = elim (p x) as (λ b. option_filter m (cond b (Some x) None) ≡ cond (b && m x) (Some x) None) [ true ↦ refl | false ↦ refl ]
-
 equal_of : (o : Ordering) → is_eq o ≡ true → o ≡ Equal
 equal_of Less e = absurd (false≢true e)
 equal_of Equal e = refl

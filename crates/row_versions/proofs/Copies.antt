@@ -50,7 +50,7 @@ get_visible ss vs os n = get-from_entries nat_cmp_total (copies ss vs 0 os) n �
 abbrev pub Becomes : List (Option Open) → List (Option Open) → ℕ → Option Open → Type 0
 Becomes old new session o = (other : ℕ) → transaction_of new other ≡ cond (eq_by_cmp nat_cmp other session) o (transaction_of old other)
 
-pub becomes-set : (os : List (Option Open)) (n : ℕ) (o : Option Open) → n < length os → Becomes os (set os n o) n o
+becomes-set : (os : List (Option Open)) (n : ℕ) (o : Option Open) → n < length os → Becomes os (set os n o) n o
 becomes-set os n o below m = go (eq_by_cmp nat_cmp m n) refl
   where
     go : (b : Bool) → eq_by_cmp nat_cmp m n ≡ b → get_or (set os n o) m None ≡ cond b o (get_or os m None)
@@ -142,7 +142,7 @@ pub still_64 : (os os' : List (Option Open)) (n : ℕ) (o : Option Open) → len
 still_64 os os' n o places is = ap length is ∙ length-set os n o ∙ places
 
 -- an open one stands at a place
-pub open_below : (os : List (Option Open)) (n : ℕ) (o : Open) → transaction_of os n ≡ Some o → n < length os
+open_below : (os : List (Option Open)) (n : ℕ) (o : Open) → transaction_of os n ≡ Some o → n < length os
 open_below os n o was = elim (cases_lt n (length os)) [ inl h ↦ h | inr h ↦ absurd (let none : None ≡ Some o = sym (get_or_past os n None h) ∙ was in cc) ]
 
 pub rewritten : (os os' : List (Option Open)) (n : ℕ) (o : Open) (p : Option Open) → transaction_of os n ≡ Some o → os' ≡ set os n p → Becomes os os' n p

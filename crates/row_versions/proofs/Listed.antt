@@ -217,7 +217,7 @@ at_places f p at (v ∷ vs) same =
     ]
 
 -- the ids at the places are those that stand there
-pub ids_at : (vs : List Version) (hits : List Hit) → All (λ h. (get_or vs h.place nobody).row.id ≡ h.id) hits → ids (map (λ (h : Hit). get_or vs h.place nobody) hits) ≡ map (λ (h : Hit). h.id) hits
+ids_at : (vs : List Version) (hits : List Hit) → All (λ h. (get_or vs h.place nobody).row.id ≡ h.id) hits → ids (map (λ (h : Hit). get_or vs h.place nobody) hits) ≡ map (λ (h : Hit). h.id) hits
 ids_at vs [] a = refl
 ids_at vs (h ∷ hs) a =
     λ i. All-head (λ (h : Hit). (get_or vs h.place nobody).row.id ≡ h.id) h hs a i ∷ ids_at vs hs (All-tail (λ (h : Hit). (get_or vs h.place nobody).row.id ≡ h.id) h hs a) i

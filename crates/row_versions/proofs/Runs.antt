@@ -169,7 +169,7 @@ marked_whole ts ss os n i o h v whole was there seen = record {
       (puts_mark ts i h.place v o.t there whole.stored.ids_differ);
 }
 
-pub run : (hits : List Hit) (rows : List Row) (ts : List (List Version)) (ss : List Status) (os : List (Option Open)) (n i : ℕ) (o : Open) → AreVersions ts ss os → transaction_of os n ≡ Some o
+run : (hits : List Hit) (rows : List Row) (ts : List (List Version)) (ss : List Status) (os : List (Option Open)) (n i : ℕ) (o : Open) → AreVersions ts ss os → transaction_of os n ≡ Some o
     → hit_ids hits ≡ map (λ (r : Row). r.id) rows → IsDistinct (eq_by_cmp id_cmp) (hit_ids hits) → All (Stands (is_seen ss o) (versions_at ts i)) hits
     → Runs ts ss os n i o rows hits (after_marks ss o.t (versions_at ts i) hits)
 run [] [] ts ss os n i o whole was same distinct stand = run_none ts ss os n i o whole
@@ -237,7 +237,7 @@ pub places_known : (ts : List (List Version)) (ss : List Status) (o : Open) (i :
 places_known ts ss o i hits stand = All-weaker (Stands (is_seen ss o) (versions_at ts i)) (λ (h : Hit). h.place < length (versions_at ts i)) (λ h s. slice_get_within (versions_at ts i) h.place s.0 s.1) hits stand
 
 -- their marks run
-pub hits_run : (ts : List (List Version)) (ss : List Status) (os : List (Option Open)) (n : ℕ) (q : Query) (o : Open) (hits : List Hit) → AreVersions ts ss os → transaction_of os n ≡ Some o
+hits_run : (ts : List (List Version)) (ss : List Status) (os : List (Option Open)) (n : ℕ) (q : Query) (o : Open) (hits : List Hit) → AreVersions ts ss os → transaction_of os n ≡ Some o
     → hit_ids hits ≡ map (λ (r : Row). r.id) (model.rows_found (visible_transaction ss (all_versions ts) o) q) → All (Stands (is_seen ss o) (versions_at ts q.table)) hits
     → Runs ts ss os n q.table o (model.rows_found (visible_transaction ss (all_versions ts) o) q) hits (after_marks ss o.t (versions_at ts q.table) hits)
 hits_run ts ss os n q o hits whole was same stand =

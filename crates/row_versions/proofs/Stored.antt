@@ -1,5 +1,5 @@
 -- versions found by their ids, and the tables and sets of those that pass
-use Rattle.std.proofs.Common.{◌≡◌, Bool, true, false, cond, ◌||◌, List, [], ◌∷◌, map, Option, None, Some, Ordering, refl, sym, ap, ◌∙◌, ◌⊎◌, inl, inr, subst}
+use Rattle.std.proofs.Common.{◌≡◌, Bool, true, false, cond, ◌||◌, List, [], ◌∷◌, map, Option, None, Some, refl, sym, ap, ◌∙◌, ◌⊎◌, inl, inr, subst}
 use Rattle.std.specs.List.{filter, list_any, IsDistinct}
 use Rattle.std.specs.Cmp.{eq_by_cmp_equiv}
 use Rattle.std.specs.Ordering.{eq_by_cmp}
@@ -30,11 +30,6 @@ AreDistinct versions = IsDistinct (eq_by_cmp id_cmp) (ids versions)
 
 abbrev pub row_of : Option Version → Option Row
 row_of o = option_map (λ (v : Version). v.row) o
-
--- a map's words for a look-up, and a list's
-pub find_is : {K X : Type 0} (R : K → K → Ordering) (q : K) (es : List (K × X)) → find R q es ≡ lookup (is_at (R q)) es
-find_is R q [] = refl
-find_is R q (e ∷ es) = ap (cond (eq_by_cmp R q e.0) (Some e.1)) (find_is R q es)
 
 pub keys_by_id : (vs : List Version) → keys_of (by_id vs) ≡ ids vs
 keys_by_id [] = refl
@@ -67,7 +62,7 @@ distinct-filter p vs d =
     subst (IsDistinct (eq_by_cmp id_cmp)) (ap keys_of (sym (by_id-filter p vs)) ∙ keys_by_id (filter p vs))
     (IsDistinct-keys_filter (eq_by_cmp id_cmp) (λ (e : RowId × Version). p e.1) (by_id vs) (subst (IsDistinct (eq_by_cmp id_cmp)) (sym (keys_by_id vs)) d))
 
-pub mapped_cond : {X Y : Type 0} (f : X → Y) (b : Bool) (x : X) (o : Option X) → option_map f (cond b (Some x) o) ≡ cond b (Some (f x)) (option_map f o)
+mapped_cond : {X Y : Type 0} (f : X → Y) (b : Bool) (x : X) (o : Option X) → option_map f (cond b (Some x) o) ≡ cond b (Some (f x)) (option_map f o)
 mapped_cond f true x o = refl
 mapped_cond f false x o = refl
 
