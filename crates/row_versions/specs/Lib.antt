@@ -2,3 +2,8 @@ pub mod Chunks
 pub mod CoversMatches
 pub mod VersionsState
 pub mod Hits
+pub mod VisibleState
+pub mod StoredVersions
+pub mod Places
+pub mod Marks
+pub mod SessionChanges

@@ -4,7 +4,15 @@
 // and the definitions of query_words. The layer above uses `Versions`.
 #![tactic(auto)]
 
+mod finding;
+mod judging;
+mod list;
+mod marking;
+mod sessions;
 mod standing;
+mod table;
+#[cfg(test)]
+mod tests;
 mod versions;
 
 pub use standing::Standing;

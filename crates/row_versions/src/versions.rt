@@ -12,15 +12,29 @@ ghost use Rattle.row_versions.specs.VersionsState.{HasTransaction, StandAtTheirI
 ghost use Rattle.row_versions.specs.CoversMatches.{CoversMatches};
 ghost use Rattle.row_versions.specs.Hits.{AreHits, mark_of, delete_reply};
 
+use crate::finding::{find_hits, rows_at_hits};
+use crate::list::push_within;
+use crate::marking::{count_marks, mark_hits};
+use crate::sessions::{
+    MAX_SESSIONS, Open, count_row, ended, fail_open, no_transactions, numbers_of, open_of,
+    set_open, take_open, transaction_of,
+};
 use crate::standing::Standing;
+use crate::table::{Table, Version};
 use block_model::NoMemory;
-use block_model::row::{Query, RowId, Rows};
+use block_model::place::Numbers;
+use block_model::row::{Query, Row, RowId, Rows};
 use block_model::value::Values;
+use snapshot_core::{Snapshot, Status};
 use std::alloc::Global;
 use std::marker::Model;
 
+/// How many rows a transaction puts at most, since their places are numbered by a `u32`. Want of memory is answered there:
+/// a row takes 296 bytes, so as many take over a terabyte.
+const MAX_PLACES: u32 = u32::MAX;
+
 /// A row that a delete found: its id, and its place among its table's rows.
-#[derive(Clone, Copy, Debug, PartialEq, Eq)]
+#[derive(Clone, Copy, Debug, PartialEq, Eq, PartialOrd, Ord)]
 pub struct Hit {
     pub id: RowId,
     pub place: usize,
@@ -29,22 +43,25 @@ pub struct Hit {
 /// The tables of a database, in memory, with the transactions of up to 64 sessions.
 #[derive(Drop)]
 pub struct Versions {
-    never: Never,
+    alloc: Global,
+    tables: Vec<Table>,
+    statuses: Vec<Status>,
+    sessions: Vec<Option<Open>>,
 }
 
-#[derive(Clone, Copy, Debug, PartialEq, Eq)]
-enum Never {}
-
 impl Model for Versions {
+    ghost use Rattle.std.specs.Prelude.{◌-◌, length, vec_capacity};
     ghost use Rattle.row_versions.specs.VersionsState.{VersionsState, coded_versions};
-    ghost use Rattle.block_model.specs.DatabaseState.{initial_state};
-    ghost use Rattle.std.specs.Prelude.{[]};
+    ghost use Rattle.row_versions.specs.VisibleState.{visible_versions};
+    ghost use Rattle.row_versions.specs.StoredVersions.{AreVersions};
 
     ghost Value = { VersionsState };
 
     ghost coded = { coded_versions };
 
-    ghost view = { λ a. record { database = initial_state; tables = []; room = 0 } };
+    ghost view = { λ a. visible_versions a.tables.items a.statuses.items a.sessions.items (vec_capacity a.statuses - length a.statuses.items) };
+
+    ghost invariant = { λ a. AreVersions a.tables.items a.statuses.items a.sessions.items };
 }
 
 impl Versions {
@@ -53,14 +70,24 @@ impl Versions {
         ensures database { IfOk result (λ v. v.database ≡ initial_state) }
         ensures tables { IfOk result (λ v. v.tables ≡ replicate tables []) }
     {
-        Err(NoMemory)
+        let sessions = no_transactions(alloc)?;
+        let mut statuses = Vec::new(alloc);
+        match statuses.push(Status::Unused) {
+            Ok(()) => Ok(Versions {
+                alloc,
+                tables: empty_tables(alloc, tables)?,
+                statuses,
+                sessions,
+            }),
+            Err(_) => Err(NoMemory),
+        }
     }
 
     /// What the layer above may take as known.
     pub fn known(&self)
         ensures { StandAtTheirIds self.now.database }
     {
-        match self.never {}
+        let _ = &self.sessions;
     }
 
     /// How many rows have been put into the table.
@@ -68,14 +95,23 @@ impl Versions {
         requires { table < length self.now.tables }
         ensures { result ≡ length (rows_at self.now.tables table) }
     {
-        match self.never {}
+        self.tables[table as usize].len()
     }
 
     /// How the session stands.
     pub fn standing(&self, session: u32) -> Standing
         ensures { result ≡ standing_of (map_of.get self.now.database.sessions session) }
     {
-        match self.never {}
+        match transaction_of(self.sessions.as_slice(), session) {
+            Some(open) => {
+                if open.failed {
+                    Standing::Failed
+                } else {
+                    Standing::UnderWay
+                }
+            }
+            None => Standing::Idle,
+        }
     }
 
     /// Makes room for 64 begins.
@@ -85,7 +121,10 @@ impl Versions {
         ensures ok { OnOk result (64 ≤ self.new.room) }
         ensures kept { self.old.room ≤ self.new.room }
     {
-        match self.never {}
+        match self.statuses.reserve(MAX_SESSIONS) {
+            Ok(()) => Ok(()),
+            Err(_) => Err(NoMemory),
+        }
     }
 
     /// Begins a transaction of the session, and answers its number. `active` is empty, with room for 64 numbers. Takes no
@@ -100,7 +139,20 @@ impl Versions {
         ensures tables { self.new.tables ≡ self.old.tables }
         ensures room { self.old.room ≤ self.new.room + 1 }
     {
-        match self.never {}
+        let t = self.statuses.len() as u64;
+        let numbers = numbers_of(self.sessions.as_slice(), active);
+        let open = Open {
+            t,
+            next_k: 0,
+            snapshot: Snapshot {
+                next: t,
+                active: Numbers::from_vec(numbers),
+            },
+            failed: false,
+        };
+        set_open(&mut self.sessions, session, open);
+        push_within(&mut self.statuses, Status::Begun);
+        t
     }
 
     /// Puts a row of the session's transaction into the table, and answers its id. After a refusal nothing is changed.
@@ -112,7 +164,18 @@ impl Versions {
         ensures room { OnOk result (self.new.room ≡ self.old.room) }
         ensures err { OnErr result (self.new ≡ self.old) }
     {
-        match self.never {}
+        let open = open_of(self.sessions.as_slice(), session);
+        if open.next_k == MAX_PLACES {
+            return Err(NoMemory);
+        }
+        let id = RowId {
+            t: open.t,
+            k: open.next_k,
+        };
+        let row = Row { table, id, values };
+        self.tables[table as usize].push(Version { row, deleter: 0 })?;
+        count_row(&mut self.sessions, session);
+        Ok(id)
     }
 
     /// The rows that the session's transaction sees and that meet the query, in order of their ids. Of the table's rows only
@@ -129,7 +192,17 @@ impl Versions {
         requires covered { CoversMatches (rows_at self.now.tables query.now.table) query.now rows_per_page blocks.now }
         ensures { IfOk result (λ rows. effect self.now.database (request_entry session query.now.table (requests.Look query.now)) ≡ (self.now.database, Found rows)) }
     {
-        match self.never {}
+        let versions = self.tables[query.table as usize].as_slice();
+        let hits = find_hits(
+            self.alloc,
+            versions,
+            self.statuses.as_slice(),
+            open_of(self.sessions.as_slice(), session),
+            query,
+            blocks,
+            rows_per_page,
+        )?;
+        rows_at_hits(self.alloc, versions, hits.as_slice())
     }
 
     /// The same rows by their places, for a delete.
@@ -145,7 +218,15 @@ impl Versions {
         requires covered { CoversMatches (rows_at self.now.tables query.now.table) query.now rows_per_page blocks.now }
         ensures { IfOk result (λ hits. AreHits self.now session query.now hits.items) }
     {
-        match self.never {}
+        find_hits(
+            self.alloc,
+            self.tables[query.table as usize].as_slice(),
+            self.statuses.as_slice(),
+            open_of(self.sessions.as_slice(), session),
+            query,
+            blocks,
+            rows_per_page,
+        )
     }
 
     /// How many marks a delete of these hits makes: one for each, up to and with the first that conflicts.
@@ -154,7 +235,15 @@ impl Versions {
         ensures within { result ≤ length hits.now }
         ensures marks { IfSome (map_of.get self.now.database.sessions session) (λ x. mark_entries self.now.database session query.now.table (rows_found x query.now) ≡ map (mark_of session query.now.table) (take result hits.now)) }
     {
-        match self.never {}
+        if hits.is_empty() {
+            return 0;
+        }
+        count_marks(
+            self.tables[query.table as usize].as_slice(),
+            self.statuses.as_slice(),
+            open_of(self.sessions.as_slice(), session).t,
+            hits,
+        )
     }
 
     /// Marks the hits, in order, up to the first that conflicts: the transaction fails there, and its id is answered. Takes
@@ -166,7 +255,16 @@ impl Versions {
         ensures tables { self.new.tables ≡ self.old.tables }
         ensures room { self.new.room ≡ self.old.room }
     {
-        match self.never {}
+        if hits.is_empty() {
+            return None;
+        }
+        let own = open_of(self.sessions.as_slice(), session).t;
+        let table = &mut self.tables[query.table as usize];
+        let conflict = mark_hits(table, self.statuses.as_slice(), own, hits);
+        if conflict.is_some() {
+            fail_open(&mut self.sessions, session);
+        }
+        conflict
     }
 
     /// The session's transaction fails. Takes no memory.
@@ -176,7 +274,7 @@ impl Versions {
         ensures tables { self.new.tables ≡ self.old.tables }
         ensures room { self.new.room ≡ self.old.room }
     {
-        match self.never {}
+        fail_open(&mut self.sessions, session);
     }
 
     /// Commits the session's transaction, or rolls it back where it has failed; whether it was committed. Takes no memory.
@@ -186,7 +284,9 @@ impl Versions {
         ensures tables { self.new.tables ≡ self.old.tables }
         ensures room { self.new.room ≡ self.old.room }
     {
-        match self.never {}
+        let open = take_open(&mut self.sessions, session);
+        self.statuses[open.t as usize] = ended(open.failed);
+        !open.failed
     }
 
     /// Rolls the session's transaction back. Takes no memory.
@@ -196,6 +296,20 @@ impl Versions {
         ensures tables { self.new.tables ≡ self.old.tables }
         ensures room { self.new.room ≡ self.old.room }
     {
-        match self.never {}
+        let open = take_open(&mut self.sessions, session);
+        self.statuses[open.t as usize] = Status::RolledBack;
     }
+}
+
+/// As many tables as said, without rows.
+fn empty_tables(alloc: Global, count: usize) -> Result<Vec<Table>, NoMemory>
+    ensures { IfOk result (λ tables. tables.items ≡ replicate count []) }
+{
+    let mut tables = Vec::new(alloc);
+    'making: for _ in 0..count {
+        let Ok(()) = tables.push(Table::new(alloc)) else {
+            return Err(NoMemory);
+        };
+    }
+    Ok(tables)
 }

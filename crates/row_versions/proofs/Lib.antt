@@ -1,0 +1,17 @@
+pub mod Choices
+pub mod Stored
+pub mod Copies
+pub mod Known
+pub mod Sights
+pub mod Begins
+pub mod Ends
+pub mod Puttings
+pub mod AllTables
+pub mod Fresh
+pub mod MarkSteps
+pub mod Listed
+pub mod Chunked
+pub mod Finds
+pub mod Conflicts
+pub mod Markings
+pub mod Runs
