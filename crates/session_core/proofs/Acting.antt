@@ -245,16 +245,3 @@ module _ (t : TablesState) (n : ℕ) (q : Query) (x : OpenTransaction) (got : tr
 -- a test that fails
 pub past_of : (b : Bool) (n most : ℕ) → (n ≤ most → b ≡ true) → b ≡ false → most < n
 past_of b n most h e = elim (cases_lt most n) [ inl past ↦ past | inr fits ↦ absurd (false≢true (sym e ∙ h fits)) ]
-
-pub one_is_past : (t : TablesState) (j : JournalState) (n : ℕ) (statement : Statement) → IsStatementFor t.layout.schema statement → ((q : Query) → statement ≡ statements.Explain q → ⊥) → max_entries < length j.entries + 1 → IsPast t j n statement
-one_is_past t j n statements.Begin h other full = record { short = false; past = full }
-one_is_past t j n statements.Commit h other full = record { short = false; past = full }
-one_is_past t j n statements.Rollback h other full = record { short = false; past = full }
-one_is_past t j n (statements.Insert table values) h other full = record { short = false; past = full }
-one_is_past t j n (statements.Select q) h other full = record { short = false; past = full }
-one_is_past t j n (statements.Delete q) h other full = record { short = true; past = full }
-one_is_past t j n (statements.Explain q) h other full = absurd (other q refl)
-one_is_past t j n (statements.Summarize index block) h other full = absurd h
-one_is_past t j n (statements.Desummarize index block) h other full = absurd h
-one_is_past t j n (statements.Vacuum table) h other full = absurd h
-one_is_past t j n statements.Work h other full = absurd h

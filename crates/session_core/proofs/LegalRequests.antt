@@ -96,7 +96,7 @@ in_where : (view : TableState) (all rows : List Row) → ((id : RowId) → is_so
 in_where view all [] more is = tt
 in_where view all (r ∷ rows) more is = (
   ap is_some (get-entries view r.id ∙ ap (find id_cmp r.id) is) ∙ more r.id (ap is_some (cond-true (eq_by_cmp id_cmp r.id r.id) (Some r) (find id_cmp r.id (by_id rows)) (id_ties_itself r.id))),
-  in_where view all rows (λ id h. more id (with_more r id (eq_by_cmp id_cmp id r.id) (find id_cmp id (by_id rows)) h)) is
+  in_where view all rows (λ id h. more id (with_more r id (eq_by_cmp id_cmp id r.id) (find id_cmp id (by_id rows)) h)) is,
 )
   where
     with_more : (r : Row) (id : RowId) (b : Bool) (o : Option Row) → is_some o ≡ true → is_some (cond b (Some r) o) ≡ true
@@ -137,8 +137,8 @@ still_in : (view : TableState) (id : RowId) (rows : List Row) → T (below_all i
 still_in view id [] h inside = tt
 still_in view id (r ∷ rows) h inside = (
   ap is_some (get-remove ids_total view id r.id ∙ cond-false (eq_by_cmp id_cmp r.id id) None (get view r.id)
-  ((eq_by_cmp_equiv ids_total).symm r.id id ∙ less_apart (id_cmp id r.id) (first_of (is_lt (id_cmp id r.id)) (below_all id_cmp id (by_id rows)) h))) ∙ inside.0,
-  still_in view id rows (second_of (is_lt (id_cmp id r.id)) (below_all id_cmp id (by_id rows)) h) inside.1
+      ((eq_by_cmp_equiv ids_total).symm r.id id ∙ less_apart (id_cmp id r.id) (first_of (is_lt (id_cmp id r.id)) (below_all id_cmp id (by_id rows)) h))) ∙ inside.0,
+  still_in view id rows (second_of (is_lt (id_cmp id r.id)) (below_all id_cmp id (by_id rows)) h) inside.1,
 )
 
 mark_is_legal : (x : OpenTransaction) (r : Row) → x.failed ≡ false → contains_key x.view r.id ≡ true → is_legal_at (Some x) (requests.Mark r.id) tags.Ok ≡ true
