@@ -5,13 +5,11 @@ use Rattle.std.proofs.lemmas.List.Elements.{All-nil, All-cons}
 use Rattle.block_model.specs.declared.value.Kind.TheVariants as kinds
 use Rattle.block_model.specs.declared.value.Op.TheVariants.{Eq}
 use Rattle.block_model.specs.declared.value.Value.TheVariants.{Int}
-use Rattle.block_model.specs.declared.row.Cond.{Cond}
 use Rattle.block_model.specs.declared.schema.Class.TheVariants as classes
 use Rattle.block_model.specs.declared.schema.Part.{Part}
 use Rattle.block_model.specs.declared.schema.Column.{Column}
 use Rattle.block_model.specs.declared.schema.Table.{Table}
 use Rattle.block_model.specs.declared.schema.Index.{Index}
-use Rattle.block_model.specs.declared.schema.Schema.{Schema}
 use Rattle.query_words.specs.LineFits.{AreValuesFor, IsCondFor, IsQueryFor, IsRowFor}
 use Rattle.range_summaries.specs.MinMaxIndexes.{IsMinMaxIndex, HasMinMaxIndexes}
 

@@ -1,5 +1,4 @@
-use Rattle.std.proofs.Common.{◌≡◌, ◌∷◌, [], ◌++◌, length, map, take, IfSome, Option, Some, None, ap, sym, ◌∙◌, subst}
-use Rattle.block_model.specs.declared.row.RowId.{RowId}
+use Rattle.std.proofs.Common.{◌≡◌, ◌∷◌, [], ◌++◌, length, map, take, IfSome, Option, Some, None, ap, ◌∙◌, subst}
 use Rattle.block_model.specs.declared.request.Entry.{Entry}
 use Rattle.block_model.specs.DatabaseState.{OpenTransaction}
 use Rattle.block_model.specs.RequestEffect.{rows_found}

@@ -1,4 +1,4 @@
-use Rattle.std.proofs.Common.{◌≡◌, ap, length, ◌∙◌, subst}
+use Rattle.std.proofs.Common.{ap, length, ◌∙◌, subst}
 use Rattle.session_core.specs.SessionList.{names_of, hands_of}
 use Rattle.session_core.specs.StoreState.{StoreState}
 use Rattle.session_core.specs.JournalState.{JournalState}
