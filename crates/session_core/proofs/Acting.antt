@@ -8,9 +8,7 @@ use Rattle.block_model.specs.declared.row.Row.{Row}
 use Rattle.block_model.specs.declared.row.RowId.{RowId}
 use Rattle.block_model.specs.declared.row.Query.{Query}
 use Rattle.block_model.specs.declared.request.Entry.{Entry}
-use Rattle.block_model.specs.declared.request.Request.{Request}
 use Rattle.block_model.specs.declared.request.Request.TheVariants as requests
-use Rattle.block_model.specs.declared.request.Tag.TheVariants as tags
 use Rattle.block_model.specs.declared.reply.Reply.{Reply}
 use Rattle.block_model.specs.declared.reply.Reply.TheVariants as replies
 use Rattle.block_model.specs.declared.reply.Refusal.TheVariants as refusals
@@ -19,10 +17,9 @@ use Rattle.block_model.specs.RequestEffect.{Answer, Begun, Inserted, Found, Comm
 use Rattle.block_model.specs.SerialRun.{serial_run, replies_to}
 use Rattle.query_words.specs.declared.statement.Statement.{Statement}
 use Rattle.query_words.specs.declared.statement.Statement.TheVariants as statements
-use Rattle.query_words.specs.LineFits.{IsStatementFor}
 use Rattle.query_words.specs.RowsPut.{row_of_entry, row_put, rows_put}
 use Rattle.query_words.specs.ScriptTexts.{max_entries}
-use Rattle.query_words.specs.StatementRequests.{submission_refusal, requests_of, request_entry, tagged_entry, look_entry, mark_entries, found_in, marks_reply, deleted_reply, reply_to_statement}
+use Rattle.query_words.specs.StatementRequests.{submission_refusal, request_entry, look_entry, mark_entries, found_in, marks_reply, deleted_reply, reply_to_statement}
 use Rattle.row_versions.specs.declared.versions.Hit.{Hit}
 use Rattle.row_versions.specs.VersionsState.{rows_at}
 use Rattle.row_versions.specs.Hits.{mark_of, delete_reply}
@@ -245,16 +242,3 @@ module _ (t : TablesState) (n : ℕ) (q : Query) (x : OpenTransaction) (got : tr
 -- a test that fails
 pub past_of : (b : Bool) (n most : ℕ) → (n ≤ most → b ≡ true) → b ≡ false → most < n
 past_of b n most h e = elim (cases_lt most n) [ inl past ↦ past | inr fits ↦ absurd (false≢true (sym e ∙ h fits)) ]
-
-pub one_is_past : (t : TablesState) (j : JournalState) (n : ℕ) (statement : Statement) → IsStatementFor t.layout.schema statement → ((q : Query) → statement ≡ statements.Explain q → ⊥) → max_entries < length j.entries + 1 → IsPast t j n statement
-one_is_past t j n statements.Begin h other full = record { short = false; past = full }
-one_is_past t j n statements.Commit h other full = record { short = false; past = full }
-one_is_past t j n statements.Rollback h other full = record { short = false; past = full }
-one_is_past t j n (statements.Insert table values) h other full = record { short = false; past = full }
-one_is_past t j n (statements.Select q) h other full = record { short = false; past = full }
-one_is_past t j n (statements.Delete q) h other full = record { short = true; past = full }
-one_is_past t j n (statements.Explain q) h other full = absurd (other q refl)
-one_is_past t j n (statements.Summarize index block) h other full = absurd h
-one_is_past t j n (statements.Desummarize index block) h other full = absurd h
-one_is_past t j n (statements.Vacuum table) h other full = absurd h
-one_is_past t j n statements.Work h other full = absurd h

@@ -1,5 +1,5 @@
 -- what a step shows, from what a statement's requests do
-use Rattle.std.proofs.Common.{◌≡◌, ℕ, ◌+◌, ◌<◌, Bool, true, false, if◌then◌else◌, List, ◌++◌, length, get_or, set, refl, sym, ap, ◌∙◌, subst, Option, None, Some}
+use Rattle.std.proofs.Common.{◌≡◌, ℕ, ◌+◌, ◌<◌, Bool, if◌then◌else◌, List, ◌++◌, length, get_or, set, sym, ap, ◌∙◌, subst, Option, None, Some}
 use Rattle.block_model.specs.declared.row.Row.{Row}
 use Rattle.block_model.specs.declared.request.Entry.{Entry}
 use Rattle.block_model.specs.declared.reply.Reply.{Reply}
@@ -10,14 +10,13 @@ use Rattle.block_model.specs.DatabaseState.{DatabaseState}
 use Rattle.block_model.specs.SerialRun.{replies_to}
 use Rattle.query_words.specs.declared.statement.Statement.{Statement}
 use Rattle.query_words.specs.declared.statement.Statement.TheVariants as statements
-use Rattle.query_words.specs.ScriptTexts.{database_of, rows_of, max_entries, reply_behind, requests_behind}
+use Rattle.query_words.specs.ScriptTexts.{database_of, max_entries, reply_behind, requests_behind}
 use Rattle.query_words.specs.StatementRequests.{refusal_at, requests_of, statement_requests, statement_reply, unless_refused, reply_unless_refused, reply_to_statement}
 use Rattle.range_summaries.specs.ExplainedBlocks.{explained, blocks_kept, indexes_of, rows_per_page_at}
 use Rattle.session_core.specs.Acts.{requests_in, reply_in, Acts, IsPast}
 use Rattle.session_core.specs.JournalState.{JournalState}
 use Rattle.session_core.specs.Steps.{Ends, LacksRoom}
 use Rattle.session_core.specs.StoreInvariant.{store_with, IsKept}
-use Rattle.session_core.specs.StoreState.{StoreState}
 use Rattle.session_core.specs.TablesState.{TablesState}
 
 -- a statement that is taken makes its requests, and is answered their reply

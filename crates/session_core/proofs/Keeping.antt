@@ -9,22 +9,21 @@ use Rattle.block_model.specs.declared.request.Entry.{Entry}
 use Rattle.block_model.specs.declared.reply.Refusal.{Refusal}
 use Rattle.block_model.specs.declared.reply.Refusal.TheVariants as refusals
 use Rattle.block_model.specs.declared.reply.Reply.{Reply}
-use Rattle.block_model.specs.declared.schema.Schema.{Schema}
 use Rattle.block_model.specs.DatabaseState.{DatabaseState, OpenTransaction, initial_state}
 use Rattle.block_model.specs.SerialRun.{serial_run, is_legal, serial_run-append, is_legal-append}
 use Rattle.query_words.specs.declared.statement.Statement.{Statement}
 use Rattle.query_words.specs.declared.statement.Statement.TheVariants as statements
 use Rattle.query_words.specs.LineFits.{IsStatementFor}
 use Rattle.query_words.specs.RowsPut.{rows_put, rows_put-append}
-use Rattle.query_words.specs.ScriptTexts.{database_of, rows_of, max_entries}
+use Rattle.query_words.specs.ScriptTexts.{database_of, rows_of}
 use Rattle.query_words.specs.StatementRequests.{submission_refusal, refusal_at}
 use Rattle.row_versions.specs.VersionsState.{StandAtTheirIds, rows_at}
 use Rattle.range_summaries.specs.ExplainedBlocks.{rows_of_table}
-use Rattle.session_core.specs.Acts.{transaction_of, IsTaken, requests_in, Acts}
+use Rattle.session_core.specs.Acts.{IsTaken, requests_in, Acts}
 use Rattle.session_core.specs.JournalState.{JournalState}
 use Rattle.session_core.specs.Promises.{begins_in, begins, promised_to, promised}
 use Rattle.session_core.specs.StoreInvariant.{store_with, IsKept}
-use Rattle.session_core.specs.StoreState.{StoreState, IsRefinement}
+use Rattle.session_core.specs.StoreState.{StoreState}
 use Rattle.session_core.specs.Submits.{refusal_behind}
 use Rattle.session_core.specs.TablesState.{TablesState}
 use Rattle.session_core.proofs.LegalRequests.{requests_are_legal}

@@ -3,8 +3,8 @@ use Rattle.std.proofs.Common.{◌≡◌, ℕ, Bool, true, false, not, cond, ◌&
 use Rattle.std.specs.declared.cmp.Ordering.{Ordering}
 use Rattle.std.specs.declared.cmp.Ordering.TheVariants.{Less, Equal, Greater}
 use Rattle.std.specs.List.{filter}
-use Rattle.std.specs.Ordering.{eq_by_cmp, nat_cmp, is_eq, is_lt}
-use Rattle.std.specs.FinMap.{FinMap, get, insert, remove, find, entries, values, is_sorted, entries_sorted, get-entries, get-remove, contains_key}
+use Rattle.std.specs.Ordering.{eq_by_cmp, is_eq, is_lt}
+use Rattle.std.specs.FinMap.{get, remove, find, entries, values, is_sorted, entries_sorted, get-entries, get-remove, contains_key}
 use Rattle.std.specs.FinMap.Entries.{below_all}
 use Rattle.std.proofs.lemmas.Bool.{cond-true, cond-false}
 use Rattle.std.proofs.lemmas.Cmp.{eq_by_cmp_equiv}
@@ -14,16 +14,14 @@ use Rattle.block_model.specs.declared.row.Query.{Query}
 use Rattle.block_model.specs.declared.request.Tag.{Tag}
 use Rattle.block_model.specs.declared.request.Tag.TheVariants as tags
 use Rattle.block_model.specs.declared.request.Request.TheVariants as requests
-use Rattle.block_model.specs.declared.reply.Refusal.{Refusal}
-use Rattle.block_model.specs.declared.reply.Refusal.TheVariants as refusals
 use Rattle.block_model.specs.RowMatches.{row_matches}
 use Rattle.block_model.specs.TableState.{TableState, id_cmp, ids_total, ids_exact, id_ties_itself}
 use Rattle.block_model.specs.DatabaseState.{DatabaseState, OpenTransaction}
-use Rattle.block_model.specs.RequestEffect.{Answer, effect, effect_at, effect_is, after_request, reply_to, Found, after_mark, with_transaction, is_conflict, is_legal_at, is_legal_request, is_look_tag, rows_found}
+use Rattle.block_model.specs.RequestEffect.{Answer, effect, effect_at, effect_is, Found, after_mark, with_transaction, is_conflict, is_legal_at, is_legal_request, is_look_tag, rows_found}
 use Rattle.block_model.specs.SerialRun.{is_legal}
 use Rattle.query_words.specs.declared.statement.Statement.{Statement}
 use Rattle.query_words.specs.declared.statement.Statement.TheVariants as statements
-use Rattle.query_words.specs.StatementRequests.{submission_refusal, refusal_at, requests_of, begin_entries, request_entry, tagged_entry, tag_where, look_entry, mark_entry, mark_entries, unless_conflict, found_in}
+use Rattle.query_words.specs.StatementRequests.{submission_refusal, refusal_at, requests_of, begin_entries, tagged_entry, tag_where, look_entry, mark_entry, mark_entries, unless_conflict, found_in}
 use Rattle.row_versions.specs.VersionsState.{StandAtTheirIds}
 use Rattle.session_core.proofs.OtherSessions.{mark_effect, at_put}
 use Rattle.session_core.proofs.Transactions.{idle, under_way, whole}
@@ -96,7 +94,7 @@ in_where : (view : TableState) (all rows : List Row) → ((id : RowId) → is_so
 in_where view all [] more is = tt
 in_where view all (r ∷ rows) more is = (
   ap is_some (get-entries view r.id ∙ ap (find id_cmp r.id) is) ∙ more r.id (ap is_some (cond-true (eq_by_cmp id_cmp r.id r.id) (Some r) (find id_cmp r.id (by_id rows)) (id_ties_itself r.id))),
-  in_where view all rows (λ id h. more id (with_more r id (eq_by_cmp id_cmp id r.id) (find id_cmp id (by_id rows)) h)) is
+  in_where view all rows (λ id h. more id (with_more r id (eq_by_cmp id_cmp id r.id) (find id_cmp id (by_id rows)) h)) is,
 )
   where
     with_more : (r : Row) (id : RowId) (b : Bool) (o : Option Row) → is_some o ≡ true → is_some (cond b (Some r) o) ≡ true
@@ -137,8 +135,8 @@ still_in : (view : TableState) (id : RowId) (rows : List Row) → T (below_all i
 still_in view id [] h inside = tt
 still_in view id (r ∷ rows) h inside = (
   ap is_some (get-remove ids_total view id r.id ∙ cond-false (eq_by_cmp id_cmp r.id id) None (get view r.id)
-  ((eq_by_cmp_equiv ids_total).symm r.id id ∙ less_apart (id_cmp id r.id) (first_of (is_lt (id_cmp id r.id)) (below_all id_cmp id (by_id rows)) h))) ∙ inside.0,
-  still_in view id rows (second_of (is_lt (id_cmp id r.id)) (below_all id_cmp id (by_id rows)) h) inside.1
+      ((eq_by_cmp_equiv ids_total).symm r.id id ∙ less_apart (id_cmp id r.id) (first_of (is_lt (id_cmp id r.id)) (below_all id_cmp id (by_id rows)) h))) ∙ inside.0,
+  still_in view id rows (second_of (is_lt (id_cmp id r.id)) (below_all id_cmp id (by_id rows)) h) inside.1,
 )
 
 mark_is_legal : (x : OpenTransaction) (r : Row) → x.failed ≡ false → contains_key x.view r.id ≡ true → is_legal_at (Some x) (requests.Mark r.id) tags.Ok ≡ true

@@ -7,3 +7,4 @@ pub mod Acting
 pub mod SessionLists
 pub mod Keeping
 pub mod Ending
+pub mod Trials

@@ -1,8 +1,7 @@
 -- the names and hands of sessions, where one of them changes
-use Rattle.std.proofs.Common.{◌≡◌, ℕ, List, get_or, set, map, sym, ap, ◌∙◌, Option}
+use Rattle.std.proofs.Common.{◌≡◌, ℕ, List, get_or, set, sym, ap, ◌∙◌}
 use Rattle.std.proofs.Math.ListN.{get_or-map}
 use Rattle.std.proofs.lemmas.List.{map-set, set-get_or}
-use Rattle.session_core.specs.declared.hand.Hand.{Hand}
 use Rattle.session_core.specs.declared.sessions.Session.{Session}
 use Rattle.session_core.specs.SessionList.{statement_in, names_of, hands_of}
 

@@ -1,9 +1,7 @@
 -- what a statement of a session does to tables and to the journal
 use Rattle.std.specs.Prelude.{◌≡◌, ℕ, ◌+◌, ◌<◌, ◌≤◌, Bool, List, ◌++◌, length, Option, None, Some, if◌then◌else◌}
 use Rattle.std.specs.FinMap as map
-use Rattle.block_model.specs.declared.row.Row.{Row}
 use Rattle.block_model.specs.declared.row.Query.{Query}
-use Rattle.block_model.specs.declared.schema.Schema.{Schema}
 use Rattle.block_model.specs.declared.request.Entry.{Entry}
 use Rattle.block_model.specs.declared.reply.Reply.{Reply}
 use Rattle.block_model.specs.declared.reply.Reply.TheVariants as replies
@@ -16,7 +14,7 @@ use Rattle.query_words.specs.LineFits.{IsStatementFor}
 use Rattle.query_words.specs.RowsPut.{rows_put}
 use Rattle.query_words.specs.ScriptTexts.{max_entries}
 use Rattle.query_words.specs.StatementRequests.{refusal_at, requests_of, reply_to_statement}
-use Rattle.row_versions.specs.VersionsState.{VersionsState, rows_at}
+use Rattle.row_versions.specs.VersionsState.{rows_at}
 use Rattle.range_summaries.specs.ExplainedBlocks.{blocks_kept, indexes_of, rows_per_page_at, rows_of_table}
 use Rattle.session_core.specs.JournalState.{JournalState}
 use Rattle.session_core.specs.Promises.{begins_in, promised_to, KeepsPromises}

@@ -1,5 +1,5 @@
 -- what a step of a session does
-use Rattle.std.specs.Prelude.{◌≡◌, ℕ, ◌+◌, ◌<◌, ◌≤◌, Bool, List, ◌++◌, length, slice_set, Option, None, Some, Result, Ok, Err}
+use Rattle.std.specs.Prelude.{◌≡◌, ℕ, ◌+◌, ◌<◌, ◌≤◌, Bool, ◌++◌, length, slice_set, None, Some, Result, Ok, Err}
 use Rattle.block_model.specs.declared.reply.Reply.{Reply}
 use Rattle.query_words.specs.declared.statement.Statement.{Statement}
 use Rattle.query_words.specs.ScriptTexts.{requests_behind, reply_behind, max_entries}

@@ -1,13 +1,12 @@
 -- what a store of sessions is seen as
-use Rattle.std.specs.Prelude.{◌≡◌, ℕ, ◌≤◌, ◌<◌, Bool, List, [], ◌∷◌, ◌++◌, length, slice_get, slice_set, slice_index_or, nat_lt, Option, None, Some, All, IfSome, refl, if◌then◌else◌}
+use Rattle.std.specs.Prelude.{◌≡◌, ℕ, ◌≤◌, List, [], ◌∷◌, ◌++◌, length, slice_set, slice_index_or, nat_lt, Option, None, Some, refl, if◌then◌else◌}
 use Rattle.std.specs.Coded.{Coded, code_by, coded×, coded_list, coded_option, coded_ℕ}
-use Rattle.std.specs.FinMap as map
 use Rattle.block_model.specs.DiskLayout.{DiskLayout}
 use Rattle.block_model.specs.contracts.schema.Schema as schema_contract
 use Rattle.block_model.specs.contracts.schema.Sizes as sizes_contract
 use Rattle.block_model.specs.declared.request.Entry.{Entry}
 use Rattle.block_model.specs.contracts.request.Entry as entry_contract
-use Rattle.block_model.specs.DatabaseState.{DatabaseState, OpenTransaction, initial_state, coded_database}
+use Rattle.block_model.specs.DatabaseState.{DatabaseState, initial_state, coded_database}
 use Rattle.block_model.specs.SerialRun.{IsLegal}
 use Rattle.query_words.specs.declared.statement.Statement.{Statement}
 use Rattle.query_words.specs.contracts.statement.Statement as statement_contract

@@ -1,5 +1,5 @@
 -- when a session and a statement are taken
-use Rattle.std.specs.Prelude.{◌≡◌, ℕ, List, Bool, true, false, Option, None, Some, Result, Ok, Err, MatchOption}
+use Rattle.std.specs.Prelude.{◌≡◌, ℕ, ◌<◌, List, length, Bool, true, false, Option, None, Some, Result, Ok, Err, MatchOption}
 use Rattle.block_model.specs.declared.reply.Refusal.{Refusal}
 use Rattle.block_model.specs.declared.reply.Refusal.TheVariants as refusals
 use Rattle.query_words.specs.declared.statement.Statement.{Statement}
@@ -10,10 +10,10 @@ use Rattle.session_core.specs.declared.faults.SessionFault.{SessionFault}
 use Rattle.session_core.specs.declared.faults.SessionFault.TheVariants as faults
 use Rattle.session_core.specs.StoreState.{StoreState, hand_of, with_hand, with_name}
 
--- A session of that name gets its number. A further one than there may be is refused, exactly there; else memory may be short. After
--- a refusal nothing is changed.
+-- A session of that name gets its number, and is one of the store's then. A further one than there may be is refused, exactly
+-- there; else memory may be short. After a refusal nothing is changed.
 abbrev pub HasSession : StoreState → List ℕ → StoreState → Result ℕ SessionFault → Type 0
-HasSession s name s' (Ok n) = (is_past_sessions s.names name ≡ false) × (n ≡ session_number s.names name) × (s' ≡ with_name s name)
+HasSession s name s' (Ok n) = (is_past_sessions s.names name ≡ false) × (n ≡ session_number s.names name) × (s' ≡ with_name s name) × (n < length s'.names)
 HasSession s name s' (Err (faults.Limit limit)) = (is_past_sessions s.names name ≡ true) × (limit ≡ max_sessions) × (s' ≡ s)
 HasSession s name s' (Err faults.Memory) = (is_past_sessions s.names name ≡ false) × (s' ≡ s)
 

@@ -200,12 +200,13 @@ fn delete_hits(
     requires within { marks ≤ length hits.now }
     requires marks { IfSome (transaction_of tables.old session) (λ x. mark_entries tables.old.versions.database session query.table (rows_found x query) ≡ map (mark_of session query.table) (take marks hits.now)) }
     requires fits { length journal.old.entries + 1 + marks ≤ max_entries }
-    requires room { 193 + marks ≤ journal.old.room }
+    requires room { MAX_PROMISED + 1 + marks ≤ journal.old.room }
     ensures { Acts tables.old journal.old session (Statement.Delete query) tables.new journal.new result }
 {
     let table = query.table;
     let conflict = tables.mark(session, &query, hits);
-    journal.enter(entry_of(session, table, Request::Look(query)));
+    let look = entry_of(session, table, Request::Look(query));
+    journal.enter(look);
     journal.enter_marks(session, table, &hits[..marks]);
     match conflict {
         None => Reply::Deleted {

@@ -11,6 +11,8 @@ mod journal;
 mod sessions;
 mod store;
 mod tables;
+#[cfg(test)]
+mod tests;
 
 pub use faults::{SessionFault, Step, StoreFault};
 pub use store::Store;

@@ -208,8 +208,8 @@ fn hand_for(
     ensures entries { journal.new.entries ≡ journal.old.entries }
     ensures begins { tables.old.versions.room ≤ tables.new.versions.room }
     ensures room { journal.old.room ≤ journal.new.room }
-    ensures begins_more { OnOk result (statement ≡ Statement.Begin → 64 ≤ tables.new.versions.room) }
-    ensures room_more { OnOk result (statement ≡ Statement.Begin → 192 ≤ journal.new.room) }
+    ensures begins_more { OnOk result (statement ≡ Statement.Begin → MAX_SESSIONS ≤ tables.new.versions.room) }
+    ensures room_more { OnOk result (statement ≡ Statement.Begin → MAX_PROMISED ≤ journal.new.room) }
 {
     match statement {
         Statement::Begin => begin_hand(alloc, tables, journal),
@@ -220,11 +220,7 @@ fn hand_for(
     }
 }
 
-fn begin_hand(
-    alloc: Global,
-    tables: &mut Tables,
-    journal: &mut Journal,
-) -> Result<Hand, NoMemory>
+fn begin_hand(alloc: Global, tables: &mut Tables, journal: &mut Journal) -> Result<Hand, NoMemory>
     ensures ok { IfOk result (λ hand. hand.statement ≡ Statement.Begin) }
     ensures layout { tables.new.layout ≡ tables.old.layout }
     ensures database { tables.new.versions.database ≡ tables.old.versions.database }
@@ -232,8 +228,8 @@ fn begin_hand(
     ensures entries { journal.new.entries ≡ journal.old.entries }
     ensures begins { tables.old.versions.room ≤ tables.new.versions.room }
     ensures room { journal.old.room ≤ journal.new.room }
-    ensures begins_more { OnOk result (64 ≤ tables.new.versions.room) }
-    ensures room_more { OnOk result (192 ≤ journal.new.room) }
+    ensures begins_more { OnOk result (MAX_SESSIONS ≤ tables.new.versions.room) }
+    ensures room_more { OnOk result (MAX_PROMISED ≤ journal.new.room) }
 {
     let Ok(numbers) = Vec::with_capacity(alloc, MAX_SESSIONS) else {
         return Err(NoMemory);

@@ -27,8 +27,8 @@ use row_versions::{Hit, Standing, Versions};
 use std::alloc::Global;
 use std::marker::Model;
 
-/// How many rows a table takes, since its blocks are numbered by a `u32`. Want of memory is answered there: a row takes over
-/// 200 bytes, so as many take close to a terabyte.
+/// How many rows a table takes, since its blocks are numbered by a `u32`. Want of memory is answered there: a row takes 288
+/// bytes, so as many take over a terabyte.
 const MAX_ROWS: usize = u32::MAX as usize;
 
 /// Row versions with the summaries of their ranges.
@@ -99,10 +99,7 @@ impl Tables {
         ensures ok { OnOk result (64 ≤ self.new.versions.room) }
         ensures kept { self.old.versions.room ≤ self.new.versions.room }
     {
-        match self.versions.make_room() {
-            Ok(()) => Ok(()),
-            Err(refusal) => Err(refusal),
-        }
+        self.versions.make_room()
     }
 
     /// Begins a transaction of the session, and answers its number. `active` is empty, with room for 64 numbers. Takes no
@@ -167,8 +164,7 @@ impl Tables {
     {
         let blocks = self.candidates(query)?;
         let rows_per_page = rows_per_page(self.layout.schema(), query.table);
-        self.versions
-            .look(session, query, blocks.as_slice(), u32::from(rows_per_page))
+        self.versions.look(session, query, blocks.as_slice(), u32::from(rows_per_page))
     }
 
     /// The same rows by their places, for a delete.
@@ -179,8 +175,7 @@ impl Tables {
     {
         let blocks = self.candidates(query)?;
         let rows_per_page = rows_per_page(self.layout.schema(), query.table);
-        self.versions
-            .find(session, query, blocks.as_slice(), u32::from(rows_per_page))
+        self.versions.find(session, query, blocks.as_slice(), u32::from(rows_per_page))
     }
 
     /// How many marks a delete of these hits makes: one for each, up to and with the first that conflicts.

@@ -1,9 +1,7 @@
 use Rattle.std.proofs.Common.{◌∷◌, [], ◌++◌, true, false, if◌then◌else◌, ap, ◌∙◌}
-use Rattle.block_model.specs.DatabaseState.{DatabaseState}
 use Rattle.block_model.specs.declared.request.Entry.{Entry}
-use Rattle.block_model.specs.RequestEffect.{Answer, Committed, RolledBack}
+use Rattle.block_model.specs.RequestEffect.{Committed, RolledBack}
 use Rattle.session_core.proofs.Acting.{acts_commit}
-use Rattle.session_core.proofs.LegalRequests.{requests_are_legal}
 use Rattle.session_core.proofs.acts.commit.Goals as goal
 
 pub returns-then-commit : goal.returns-then-commit

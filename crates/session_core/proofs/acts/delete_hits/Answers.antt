@@ -1,5 +1,4 @@
-use Rattle.std.proofs.Common.{◌≡◌, ◌∷◌, [], ◌++◌, length, map, take, IfSome, Option, Some, None, ap, sym, ◌∙◌, subst}
-use Rattle.block_model.specs.declared.row.RowId.{RowId}
+use Rattle.std.proofs.Common.{◌≡◌, ◌∷◌, [], ◌++◌, length, map, take, IfSome, Option, Some, None, ap, ◌∙◌, subst}
 use Rattle.block_model.specs.declared.request.Entry.{Entry}
 use Rattle.block_model.specs.DatabaseState.{OpenTransaction}
 use Rattle.block_model.specs.RequestEffect.{rows_found}
@@ -23,7 +22,7 @@ returns-in-None c =
     c.mark-conflict.new.self c.args.journal.now c.enter.new.self c.enter_marks.new.self None
     (found (λ x. c.mark-conflict.new.self.versions.database ≡ serial_run t.versions.database (mark_entries t.versions.database n q.table (rows_found x q))) c.in-None.ensures.database)
     (found (λ x. marks_reply 0 (replies_to t.versions.database (mark_entries t.versions.database n q.table (rows_found x q))) ≡ delete_reply (length c.args.hits.now) None) c.in-None.ensures.reply)
-    (c.enter.ensures.entries ∙ ap (λ (e : Entry). c.args.journal.now.entries ++ e ∷ []) c.entry_of.ensures) c.enter_marks.ensures.entries c.requires.fits c.requires.room c.enter.ensures.room c.enter_marks.ensures.room
+    (c.enter.ensures.entries ∙ ap (λ (e : Entry). c.args.journal.now.entries ++ e ∷ []) c.entry_of-look.ensures) c.enter_marks.ensures.entries c.requires.fits c.requires.room c.enter.ensures.room c.enter_marks.ensures.room
     c.mark-conflict.ensures.layout c.mark-conflict.ensures.rows c.mark-conflict.ensures.room
 
 pub returns-in-Some : goal.returns-in-Some
@@ -39,5 +38,5 @@ returns-in-Some c =
     c.mark-conflict.new.self c.args.journal.now c.enter.new.self c.enter_marks.new.self (Some c.in-Some.id)
     (found (λ x. c.mark-conflict.new.self.versions.database ≡ serial_run t.versions.database (mark_entries t.versions.database n q.table (rows_found x q))) c.in-Some.ensures.database)
     (found (λ x. marks_reply 0 (replies_to t.versions.database (mark_entries t.versions.database n q.table (rows_found x q))) ≡ delete_reply (length c.args.hits.now) (Some c.in-Some.id)) c.in-Some.ensures.reply)
-    (c.enter.ensures.entries ∙ ap (λ (e : Entry). c.args.journal.now.entries ++ e ∷ []) c.entry_of.ensures) c.enter_marks.ensures.entries c.requires.fits c.requires.room c.enter.ensures.room c.enter_marks.ensures.room
+    (c.enter.ensures.entries ∙ ap (λ (e : Entry). c.args.journal.now.entries ++ e ∷ []) c.entry_of-look.ensures) c.enter_marks.ensures.entries c.requires.fits c.requires.room c.enter.ensures.room c.enter_marks.ensures.room
     c.mark-conflict.ensures.layout c.mark-conflict.ensures.rows c.mark-conflict.ensures.room

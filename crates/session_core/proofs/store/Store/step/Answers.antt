@@ -1,4 +1,4 @@
-use Rattle.std.proofs.Common.{◌≡◌, ap, length, ◌∙◌, subst}
+use Rattle.std.proofs.Common.{ap, length, ◌∙◌, subst}
 use Rattle.session_core.specs.SessionList.{names_of, hands_of}
 use Rattle.session_core.specs.StoreState.{StoreState}
 use Rattle.session_core.specs.JournalState.{JournalState}
@@ -36,10 +36,9 @@ pub returns-in-Err : goal.returns-in-Err
 returns-in-Err c =
     let hands = put_back c.self.inside.tables c.self.inside.journal (names_of c.self.inside.sessions.items) (hands_of c.self.inside.sessions.items) c.args.session c.take_hand-hand.result.statement c.self.invariant c.take_hand-hand.ensures.hand
     (hands_of c.put_hand.new.sessions.items) (hands_of c.take_hand-hand.new.sessions.items) c.in-Err.hand.statement c.take_hand-hand.ensures.hands c.put_hand.ensures.hands c.in-Err.ensures.back in
-    let names = c.put_hand.ensures.names ∙ c.take_hand-hand.ensures.names in
-    (
+    let names = c.put_hand.ensures.names ∙ c.take_hand-hand.ensures.names in (
       subst (λ (s : StoreState). LacksRoom s c.args.session c.len.result) c.self.view_is
-      (lacks_room c.self.inside.tables c.self.inside.journal (names_of c.self.inside.sessions.items) (hands_of c.self.inside.sessions.items) c.args.session c.self.invariant c.take_hand-hand.result.statement c.take_hand-hand.ensures.hand
-      c.len.result c.in-Err.ensures.past (c.len.ensures ∙ ap (λ (j : JournalState). length j.entries) c.in-Err.ensures.journal)),
-      (λ i. store_with (c.in-Err.ensures.tables i) (c.in-Err.ensures.journal i) (names i) (hands i)) ∙ c.self.view_is
+          (lacks_room c.self.inside.tables c.self.inside.journal (names_of c.self.inside.sessions.items) (hands_of c.self.inside.sessions.items) c.args.session c.self.invariant c.take_hand-hand.result.statement c.take_hand-hand.ensures.hand
+          c.len.result c.in-Err.ensures.past (c.len.ensures ∙ ap (λ (j : JournalState). length j.entries) c.in-Err.ensures.journal)),
+      (λ i. store_with (c.in-Err.ensures.tables i) (c.in-Err.ensures.journal i) (names i) (hands i)) ∙ c.self.view_is,
     )

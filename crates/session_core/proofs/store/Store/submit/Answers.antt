@@ -1,4 +1,4 @@
-use Rattle.std.proofs.Common.{◌≡◌, ◌<◌, None, Some, ap, sym, ◌∙◌, set, length, subst, arith, Option}
+use Rattle.std.proofs.Common.{◌≡◌, ◌<◌, None, Some, ap, sym, ◌∙◌, set, length, subst, arith}
 use Rattle.query_words.specs.declared.statement.Statement.{Statement}
 use Rattle.query_words.specs.LineFits.{IsStatementFor}
 use Rattle.query_words.specs.StatementRequests.{refusal_at}
