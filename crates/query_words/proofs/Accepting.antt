@@ -1,13 +1,10 @@
 -- Words that go on as a line, by what may stand next, apart from where they stand.
-use Rattle.std.proofs.Common.{◌≡◌, ℕ, ◌-◌, nat_lt, Bool, true, false, ◌&&◌, ◌||◌, List, [], ◌∷◌, ◌++◌, map, codes, Option, None, Some, refl, sym, ap, ◌∙◌, cond}
-use Rattle.std.specs.Option.{is_some, option_map}
+use Rattle.std.proofs.Common.{◌≡◌, ℕ, Bool, true, false, ◌&&◌, List, [], ◌∷◌, Option, None, Some, refl, cond}
 use Rattle.std.specs.Str.{bytes_eq}
 use Rattle.std.proofs.lemmas.Slice.Eq.{bytes_eq-Decides}
-use Rattle.block_model.specs.Names.{is_name}
-use Rattle.query_words.specs.Words.{PlacedWord, placed, texts_of}
+use Rattle.query_words.specs.Words.{PlacedWord, texts_of}
 use Rattle.query_words.specs.Syntax.{where_so, after_word, may_end, stop_behind, stop_from}
 use Rattle.query_words.specs.declared.syntax.Expected.{Expected}
-use Rattle.query_words.specs.declared.syntax.Expected.TheVariants as expected
 
 abbrev pub accepts_behind : Option Expected → (Expected → Bool) → Bool
 accepts_behind None rest = false

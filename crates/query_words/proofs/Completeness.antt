@@ -1,20 +1,18 @@
 -- Words of the grammar are accepted.
-use Rattle.std.proofs.Common.{◌≡◌, ℕ, ◌+◌, ◌-◌, ◌<◌, ◌≤◌, nat_lt, Bool, true, false, ◌&&◌, ◌||◌, List, [], ◌∷◌, ◌++◌, length, codes, Option, None, Some, refl, sym, ap, ◌∙◌, cond, arith}
+use Rattle.std.proofs.Common.{◌≡◌, ℕ, ◌-◌, ◌≤◌, nat_lt, Bool, true, false, ◌&&◌, ◌||◌, List, [], ◌∷◌, ◌++◌, length, codes, None, Some, refl, sym, ap, ◌∙◌, cond, arith}
 use Rattle.std.specs.Option.{is_some}
 use Rattle.std.specs.Str.{bytes_eq}
 use Rattle.std.proofs.lemmas.Bool.{lt-ltb}
 use Rattle.block_model.specs.Names.{is_name}
 use Rattle.block_model.specs.declared.value.Kind.TheVariants as kinds
-use Rattle.block_model.specs.declared.value.Value.{Value}
 use Rattle.block_model.specs.declared.value.Op.{Op}
 use Rattle.value_text.specs.ValueOf.{value_of, ValueOfIsDenoted}
-use Rattle.query_words.specs.declared.syntax.Expected.{Expected}
 use Rattle.query_words.specs.declared.syntax.Expected.TheVariants as expected
 use Rattle.query_words.specs.Operators.{op_of}
 use Rattle.query_words.specs.ValueWords.{is_value_word}
 use Rattle.query_words.specs.Grammar.{SaidCond, Compared, Null, NotNull, SaidStatement, Begin, Commit, Rollback, Insert, Select, Delete, Explain, words_of_cond, words_of_more, words_of_conds, words_of_statement}
 use Rattle.query_words.specs.Grammar.{IsOperatorWord, IsValueWord, AreValueWords, IsSaidCond, AreSaidConds, IsSaidStatement, IsSaidQuery, max_conds}
-use Rattle.query_words.specs.Syntax.{where_so, after_word}
+use Rattle.query_words.specs.Syntax.{where_so}
 use Rattle.query_words.proofs.Accepting.{accepts_behind, accepts, passes, same_text}
 
 or_first : (a b : Bool) → a ≡ true → (a || b) ≡ true

@@ -1,6 +1,6 @@
 -- Lines against the grammar: what is read, what says nothing, and where the others stop.
-use Rattle.std.proofs.Common.{◌≡◌, ℕ, ◌+◌, ◌<◌, ◌≤◌, nat_le, Bool, true, false, ◌&&◌, ◌==◌, List, [], ◌∷◌, ◌++◌, length, take, map, Option, None, Some, Result, Ok, Err, refl, sym, ap, ◌∙◌, subst, cond, arith, add-one, suc}
-use Rattle.std.specs.Option.{option_map, option_and_then}
+use Rattle.std.proofs.Common.{◌≡◌, ℕ, ◌+◌, ◌<◌, ◌≤◌, nat_le, Bool, true, false, ◌&&◌, ◌==◌, List, [], ◌∷◌, ◌++◌, length, take, map, Option, None, Some, Result, Ok, Err, refl, sym, ap, ◌∙◌, subst, cond, add-one}
+use Rattle.std.specs.Option.{option_map}
 use Rattle.std.specs.List.{list_all, slice_get}
 use Rattle.std.proofs.lemmas.Bool.{le-ltb, false≢true}
 use Rattle.std.proofs.lemmas.Bool.Decides.{eqb_tells}
@@ -10,11 +10,10 @@ use Rattle.block_model.specs.declared.schema.Schema.{Schema}
 use Rattle.value_text.specs.ValueOf.{ValueOfIsDenoted}
 use Rattle.query_words.specs.declared.syntax.Expected.TheVariants as expected
 use Rattle.query_words.specs.declared.line.Line.{Line}
-use Rattle.query_words.specs.declared.line.Line.TheVariants as lines
 use Rattle.query_words.specs.declared.line.LineFault.{LineFault}
 use Rattle.query_words.specs.declared.line.LineFault.TheVariants as faults
 use Rattle.query_words.specs.Words.{PlacedWord, placed, words_of, texts_of, place_or}
-use Rattle.query_words.specs.Grammar.{SaidStatement, Said, Nothing, Say, words_of_statement, words_of_said, is_comment, IsSaidStatement, IsSilent, IsSaid, statement_texts, said_texts}
+use Rattle.query_words.specs.Grammar.{SaidStatement, Said, Nothing, Say, words_of_statement, words_of_said, is_comment, IsSilent, IsSaid, statement_texts, said_texts}
 use Rattle.query_words.specs.Syntax.{stop_from, stop_of}
 use Rattle.query_words.specs.Parsed.{statement_of_words, said_of}
 use Rattle.query_words.specs.Lines.{max_line, line_said, line_judged, line_of_words, line_within, line_of}

@@ -1,12 +1,12 @@
 -- the parts of a printed line
-use Rattle.std.proofs.Common.{◌≡◌, ◌≢◌, ℕ, List, [], ◌∷◌, ◌++◌, map, codes, refl, ap}
+use Rattle.std.proofs.Common.{◌≡◌, ℕ, List, [], ◌∷◌, refl}
 use Rattle.block_model.specs.declared.value.Value.{Value}
 use Rattle.block_model.specs.declared.value.Op.{Op}
 use Rattle.block_model.specs.declared.value.Op.TheVariants as ops
 use Rattle.value_text.specs.CanonicalTexts.{canonical_text}
 use Rattle.query_words.specs.Operators.{op_text}
 use Rattle.query_words.specs.Grammar.{words_of_cond}
-use Rattle.query_words.specs.LineTexts.{spaced, test_of}
+use Rattle.query_words.specs.LineTexts.{test_of}
 
 pub compared_words : (column : List ℕ) (op : Op) (key : Value) → (op ≡ ops.IsNull → ⊥) → (op ≡ ops.NotNull → ⊥)
     → words_of_cond (test_of column op key) ≡ column ∷ op_text op ∷ canonical_text key ∷ []

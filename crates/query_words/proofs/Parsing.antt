@@ -1,5 +1,5 @@
 -- Words of the grammar are read as what they say.
-use Rattle.std.proofs.Common.{◌≡◌, ℕ, Bool, true, false, List, [], ◌∷◌, ◌++◌, map, codes, Option, None, Some, refl, sym, ap, ◌∙◌, cond}
+use Rattle.std.proofs.Common.{◌≡◌, ℕ, Bool, false, List, [], ◌∷◌, ◌++◌, map, codes, Option, None, Some, refl, ap, ◌∙◌, cond}
 use Rattle.std.specs.Option.{option_and_then}
 use Rattle.std.specs.Str.{bytes_eq}
 use Rattle.query_words.specs.declared.verb.Verb.{Verb}
@@ -7,7 +7,7 @@ use Rattle.query_words.specs.declared.verb.Verb.TheVariants as verbs
 use Rattle.query_words.specs.Words.{PlacedWord, texts_of}
 use Rattle.query_words.specs.Verbs.{verb_text, verb_of}
 use Rattle.query_words.specs.Grammar.{SaidCond, Compared, Null, NotNull, SaidStatement, Begin, Commit, Rollback, Insert, Select, Delete, Explain, words_of_cond, words_of_more, words_of_conds, words_of_statement}
-use Rattle.query_words.specs.Grammar.{IsOperatorWord, IsSaidCond, AreSaidConds, IsSaidStatement, cond_texts, statement_texts}
+use Rattle.query_words.specs.Grammar.{IsSaidCond, AreSaidConds, IsSaidStatement, cond_texts, statement_texts}
 use Rattle.query_words.specs.Parsed.{conds_behind, conds_from, statement_behind, statement_of_words}
 use Rattle.query_words.proofs.Completeness.{is_other}
 

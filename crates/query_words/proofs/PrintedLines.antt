@@ -1,6 +1,6 @@
 -- A printed line is read as the same line, and fits the limit.
-use Rattle.std.proofs.Common.{◌≡◌, ℕ, ◌+◌, ◌*◌, ◌≤◌, true, List, [], ◌∷◌, ◌++◌, length, map, codes, Option, None, Some, Result, Ok, Err, refl, sym, ap, ◌∙◌, subst, arith, append-nil, append_assoc}
-use Rattle.std.specs.List.{slice_get, AllByRecursion}
+use Rattle.std.proofs.Common.{◌≡◌, ℕ, ◌*◌, ◌≤◌, true, List, [], ◌∷◌, ◌++◌, length, map, codes, Option, Some, Result, Ok, refl, sym, ap, ◌∙◌, subst, arith, append-nil, append_assoc}
+use Rattle.std.specs.List.{AllByRecursion}
 use Rattle.std.proofs.lemmas.List.{length-map}
 use Rattle.std.proofs.lemmas.List.Elements.{recursion_from_All}
 use Rattle.block_model.specs.Names.{is_name}
@@ -20,18 +20,18 @@ use Rattle.query_words.specs.declared.line.Line.TheVariants as lines
 use Rattle.query_words.specs.declared.line.Order.TheVariants as orders
 use Rattle.query_words.specs.declared.line.LineFault.{LineFault}
 use Rattle.query_words.specs.declared.line.LineFault.TheVariants as faults
-use Rattle.query_words.specs.Words.{PlacedWord, words_of, texts_of}
+use Rattle.query_words.specs.Words.{PlacedWord, texts_of}
 use Rattle.query_words.specs.Grammar.{SaidCond, SaidStatement, Begin, Commit, Rollback, Insert, Select, Delete, Explain, Said, Nothing, Say, words_of_more, words_of_conds, words_of_statement, words_of_said}
-use Rattle.query_words.specs.Grammar.{AreValueWords, IsSaidQuery, IsSaidStatement, IsSaid, cond_texts, statement_texts, said_texts, max_conds}
-use Rattle.query_words.specs.Statements.{◌>>=◌, or_fault, table_from, conds_said, value_said, values_said, query_said, statement_said}
+use Rattle.query_words.specs.Grammar.{AreValueWords, IsSaidQuery, IsSaidStatement, cond_texts, statement_texts, said_texts, max_conds}
+use Rattle.query_words.specs.Statements.{◌>>=◌, or_fault, table_from, conds_said, values_said, query_said, statement_said}
 use Rattle.query_words.specs.Lines.{max_line, line_said, line_of}
-use Rattle.query_words.specs.LineFits.{IsCondFor, AreValuesFor, IsQueryFor, IsInsertFor, IsLineFor}
-use Rattle.query_words.specs.LineTexts.{table_name, columns_at, cond_of, conds_of, statement_of, said_by, joined, line_text}
-use Rattle.query_words.specs.LineLaws.{HasNames, count_of_conds, PrintedIsRead}
+use Rattle.query_words.specs.LineFits.{IsCondFor, AreValuesFor, IsQueryFor, IsInsertFor}
+use Rattle.query_words.specs.LineTexts.{table_name, cond_of, conds_of, statement_of, said_by, joined, line_text}
+use Rattle.query_words.specs.LineLaws.{HasNames, PrintedIsRead}
 use Rattle.query_words.proofs.LineLawLemmas.{grammar-read}
 use Rattle.query_words.proofs.PrintedValues.{IsPrinted, value_printed}
 use Rattle.query_words.proofs.PrintedWords.{joined_words, joined_short}
-use Rattle.query_words.proofs.ReadBack.{KnowsTexts, IsDeclared, KnowsColumns, CondsBack, value_back, value_is_word, name_printed, declared, table_name_is, columns_at_is, small_word, conds_back}
+use Rattle.query_words.proofs.ReadBack.{KnowsTexts, KnowsColumns, value_back, value_is_word, name_printed, declared, table_name_is, columns_at_is, small_word, conds_back}
 
 abbrev texts_in : List Column → List Cond → List (SaidCond (List ℕ))
 texts_in columns conds = map (cond_of columns) conds

@@ -1,9 +1,9 @@
 -- Words that are printed with single spaces between them are read as those words.
-use Rattle.std.proofs.Common.{◌≡◌, ◌≢◌, ℕ, ◌+◌, ◌*◌, ◌<◌, ◌≤◌, ◌==◌, Bool, true, false, not, ◌&&◌, List, [], ◌∷◌, ◌++◌, length, codes, refl, sym, ap, ◌∙◌, inl, inr, arith, append_assoc, append-nil, length-append, add-zero}
+use Rattle.std.proofs.Common.{◌≡◌, ◌≢◌, ℕ, ◌+◌, ◌*◌, ◌≤◌, true, not, List, [], ◌∷◌, ◌++◌, length, refl, sym, ap, ◌∙◌, inl, inr, arith, append_assoc, append-nil, length-append}
 use Rattle.std.specs.List.{list_all, AllByRecursion}
 use Rattle.std.proofs.lemmas.Bool.{false≢true}
 use Rattle.std.proofs.lemmas.Bool.Decides.{eqb_tells}
-use Rattle.query_words.specs.Words.{PlacedWord, placed, ended, words_from, words_of, texts_of}
+use Rattle.query_words.specs.Words.{words_from, words_of, texts_of}
 use Rattle.query_words.specs.LineTexts.{spaced, joined}
 use Rattle.query_words.proofs.Accepting.{both_hold}
 use Rattle.query_words.proofs.PlacedWords.{space_first, byte_first, ended_is, space_behind}

@@ -1,13 +1,11 @@
 -- A line that is printed is read as the same line.
-use Rattle.std.proofs.Common.{◌≡◌, ℕ, zero, suc, ◌+◌, ◌*◌, ◌≤◌, ◌<◌, nat_le, ◌==◌, Bool, true, false, not, ◌&&◌, ◌||◌, cond, List, [], ◌∷◌, ◌++◌, length, map, codes, Option, None, Some, unwrap_or, Result, Ok, Err, refl, sym, ap, ◌∙◌, subst, inl, inr, ◌⊎◌, arith, length-append, append-nil, append_assoc}
+use Rattle.std.proofs.Common.{◌≡◌, ℕ, zero, suc, ◌+◌, ◌*◌, ◌≤◌, ◌<◌, nat_le, ◌==◌, Bool, true, false, not, ◌&&◌, ◌||◌, cond, List, [], ◌∷◌, ◌++◌, length, map, codes, Option, None, Some, unwrap_or, Result, Ok, refl, sym, ap, ◌∙◌, subst, inl, inr, ◌⊎◌, arith, length-append, append-nil, append_assoc}
 use Rattle.std.specs.Option.{option_map, option_and_then}
-use Rattle.std.specs.List.{slice_get, All, AllByRecursion, list_all, list_any}
+use Rattle.std.specs.List.{slice_get, AllByRecursion, list_all, list_any}
 use Rattle.std.specs.Str.{bytes_eq}
 use Rattle.std.proofs.lemmas.Bool.{leb-true, false≢true}
 use Rattle.std.proofs.lemmas.Bool.Decides.{eqb_tells}
-use Rattle.std.proofs.lemmas.List.{length-map}
 use Rattle.std.proofs.lemmas.List.Elements.{recursion_from_All}
-use Rattle.std.proofs.lemmas.List.Sums.{AllPass-from_list_all}
 use Rattle.block_model.specs.Names.{is_name, is_lower, is_digit, is_more}
 use Rattle.block_model.specs.declared.value.Kind.{Kind}
 use Rattle.block_model.specs.declared.value.Value.{Value}
@@ -15,7 +13,6 @@ use Rattle.block_model.specs.declared.value.Value.TheVariants as values
 use Rattle.block_model.specs.declared.value.Op.{Op}
 use Rattle.block_model.specs.declared.value.Op.TheVariants as ops
 use Rattle.block_model.specs.declared.row.Cond.{Cond}
-use Rattle.block_model.specs.declared.row.Query.{Query}
 use Rattle.block_model.specs.declared.schema.Schema.{Schema}
 use Rattle.block_model.specs.declared.schema.Sizes.{Sizes}
 use Rattle.block_model.specs.declared.schema.Table.{Table}
@@ -25,26 +22,18 @@ use Rattle.block_model.specs.Limits.{are_distinct, has_name, relation_names, col
 use Rattle.value_text.specs.CanonicalTexts.{canonical_text, IsValueOf}
 use Rattle.value_text.specs.Laws.{CanonicalTextDenotes}
 use Rattle.value_text.specs.ValueOf.{value_of, ValueOfIsDenoted}
-use Rattle.query_words.specs.declared.statement.Statement.{Statement}
-use Rattle.query_words.specs.declared.statement.Statement.TheVariants as statements
-use Rattle.query_words.specs.declared.line.Line.{Line}
-use Rattle.query_words.specs.declared.line.Line.TheVariants as lines
-use Rattle.query_words.specs.declared.line.Order.TheVariants as orders
 use Rattle.query_words.specs.declared.line.LineFault.{LineFault}
 use Rattle.query_words.specs.declared.line.LineFault.TheVariants as faults
-use Rattle.query_words.specs.Words.{PlacedWord, words_of, texts_of}
+use Rattle.query_words.specs.Words.{PlacedWord}
 use Rattle.query_words.specs.Operators.{op_text, op_of, takes_operator}
-use Rattle.query_words.specs.Grammar.{SaidCond, Compared, Null, NotNull, SaidStatement, Begin, Commit, Rollback, Insert, Select, Delete, Explain, Said, Nothing, Say, words_of_cond, words_of_more, words_of_conds, words_of_statement, words_of_said}
-use Rattle.query_words.specs.Grammar.{IsNameWord, IsValueWord, AreValueWords, IsSaidCond, AreSaidConds, IsSaidQuery, IsSaidStatement, IsSaid, cond_texts, statement_texts, said_texts, max_conds}
-use Rattle.query_words.specs.Statements.{◌>>=◌, or_fault, table_from, table_said, column_from, column_said, op_in, op_said, value_said, cond_on, test_said, cond_said, conds_said, values_said, query_said, insert_said, statement_said}
-use Rattle.query_words.specs.Lines.{max_line, line_said, line_of}
-use Rattle.query_words.specs.LineFits.{HasKeyFor, IsCondFor, AreValuesFor, IsQueryFor, IsInsertFor, IsStatementFor, IsLineFor}
-use Rattle.query_words.specs.LineTexts.{table_name, columns_at, column_name, test_of, cond_of, conds_of, statement_of, said_of_line, joined, line_text}
-use Rattle.query_words.specs.LineLaws.{IsNamedTable, HasNames, count_of_conds, PrintedIsRead}
+use Rattle.query_words.specs.Grammar.{SaidCond, Compared, Null, NotNull, words_of_cond, words_of_more}
+use Rattle.query_words.specs.Grammar.{IsNameWord, IsValueWord, IsSaidCond, AreSaidConds, cond_texts}
+use Rattle.query_words.specs.Statements.{◌>>=◌, or_fault, table_from, column_from, op_in, op_said, value_said, cond_on, test_said, cond_said, conds_said}
+use Rattle.query_words.specs.LineFits.{HasKeyFor, IsCondFor}
+use Rattle.query_words.specs.LineTexts.{table_name, columns_at, column_name, test_of, cond_of}
+use Rattle.query_words.specs.LineLaws.{IsNamedTable, HasNames}
 use Rattle.query_words.proofs.Accepting.{both_hold, text_same}
-use Rattle.query_words.proofs.LineLawLemmas.{grammar-read}
 use Rattle.query_words.proofs.PrintedValues.{no_space, past_space, IsPrinted, value_printed}
-use Rattle.query_words.proofs.PrintedWords.{joined_words, joined_short}
 
 -- what the values' layer promises
 pub record KnowsTexts : Type 0 where

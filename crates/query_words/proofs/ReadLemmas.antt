@@ -1,18 +1,15 @@
 -- What words say of declared tables is told without a fault of syntax, and never for want of memory.
 use Rattle.std.proofs.Common.{◌≡◌, ℕ, ◌++◌, List, [], ◌∷◌, Option, None, Some, Result, Ok, Err, refl, sym, subst}
-use Rattle.block_model.specs.declared.value.Kind.{Kind}
 use Rattle.block_model.specs.declared.value.Value.{Value}
 use Rattle.block_model.specs.declared.value.Value.TheVariants as values
 use Rattle.block_model.specs.declared.value.Op.{Op}
 use Rattle.block_model.specs.declared.value.Op.TheVariants as ops
 use Rattle.block_model.specs.declared.row.Cond.{Cond}
-use Rattle.block_model.specs.declared.row.Query.{Query}
 use Rattle.block_model.specs.declared.schema.Schema.{Schema}
 use Rattle.block_model.specs.declared.schema.Column.{Column}
 use Rattle.value_text.specs.ValueOf.{value_of}
 use Rattle.query_words.specs.declared.statement.Statement.{Statement}
 use Rattle.query_words.specs.declared.statement.Statement.TheVariants as statements
-use Rattle.query_words.specs.declared.line.Line.{Line}
 use Rattle.query_words.specs.declared.line.Line.TheVariants as lines
 use Rattle.query_words.specs.declared.line.Order.TheVariants as orders
 use Rattle.query_words.specs.declared.line.LineFault.{LineFault}

@@ -1,5 +1,5 @@
 -- Words that are accepted are of the grammar, and what is read of them says so.
-use Rattle.std.proofs.Common.{◌≡◌, ℕ, ◌+◌, ◌-◌, ◌<◌, ◌≤◌, nat_lt, Bool, true, false, ◌&&◌, ◌||◌, List, [], ◌∷◌, ◌++◌, length, map, codes, Option, None, Some, Result, Ok, refl, sym, ap, ◌∙◌, subst, cond, arith}
+use Rattle.std.proofs.Common.{◌≡◌, ℕ, ◌-◌, ◌≤◌, nat_lt, Bool, true, false, ◌&&◌, ◌||◌, List, [], ◌∷◌, ◌++◌, length, map, codes, Option, None, Some, refl, sym, ap, ◌∙◌, subst, cond, arith}
 use Rattle.std.proofs.lemmas.List.{length-map}
 use Rattle.std.specs.Option.{is_some, option_map, option_and_then}
 use Rattle.std.specs.Str.{bytes_eq}
@@ -20,7 +20,7 @@ use Rattle.query_words.specs.ValueWords.{is_value_word}
 use Rattle.query_words.specs.Verbs.{verb_text, all_verbs, verb_among, verb_of}
 use Rattle.query_words.specs.Grammar.{SaidCond, Compared, Null, NotNull, SaidStatement, Begin, Commit, Rollback, Insert, Select, Delete, Explain, words_of_cond, words_of_more, words_of_conds, words_of_statement}
 use Rattle.query_words.specs.Grammar.{IsNameWord, IsOperatorWord, IsValueWord, AreValueWords, IsSaidCond, AreSaidConds, IsSaidStatement, max_conds, cond_texts, statement_texts}
-use Rattle.query_words.specs.Syntax.{where_so, after_verb, after_word}
+use Rattle.query_words.specs.Syntax.{where_so, after_verb}
 use Rattle.query_words.specs.Parsed.{conds_behind, conds_from, statement_behind, statement_of_words}
 use Rattle.query_words.proofs.Accepting.{accepts_behind, accepts, passed, both_hold, same_text}
 

@@ -1,9 +1,9 @@
 -- schemas with few tables of few columns, and queries with few conditions
-use Rattle.std.specs.Prelude.{◌≤◌, List, [], ◌∷◌, length, All, Option, None, Some}
+use Rattle.std.specs.Prelude.{◌≤◌, List, length, All, Option, Some}
 use Rattle.block_model.specs.declared.schema.Schema.{Schema}
 use Rattle.block_model.specs.declared.schema.Table.{Table}
 use Rattle.query_words.specs.Words.{PlacedWord}
-use Rattle.query_words.specs.Grammar.{SaidCond, SaidStatement, Begin, Commit, Rollback, Insert, Select, Delete, Explain, max_conds}
+use Rattle.query_words.specs.Grammar.{SaidCond, SaidStatement, Select, Delete, Explain, max_conds}
 
 abbrev pub HasFewColumns : Table → Type 0
 HasFewColumns table = length table.columns ≤ 8

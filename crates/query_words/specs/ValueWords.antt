@@ -1,7 +1,6 @@
 -- the values that words are
 use Rattle.std.specs.Prelude.{ℕ, Bool, ◌||◌, List}
 use Rattle.std.specs.Option.{is_some}
-use Rattle.block_model.specs.declared.value.Kind.{Kind}
 use Rattle.block_model.specs.declared.value.Kind.TheVariants as kinds
 use Rattle.value_text.specs.ValueOf.{value_of}
 

@@ -9,6 +9,7 @@ use block_model::name::Name;
 use block_model::schema::{Column, Columns, Indexes, Schema, Sizes, Table, Tables};
 use block_model::value::Kind;
 use std::alloc::Global;
+use std::process::Abort;
 use std::test::Fail;
 
 const SIZES: Sizes = Sizes {
@@ -18,6 +19,10 @@ const SIZES: Sizes = Sizes {
     log_pages: 16,
     frames: 16,
 };
+
+const OPERATORS: [&str; 15] = [
+    "<", "<=", "=", ">=", ">", "&&", "@>", "<@", "<<", ">>", "<<=", ">>=", "&<", "&>", "-|-",
+];
 
 /// A column of one letter.
 type OneColumn = (&'static [u8; 1], Kind);
@@ -66,26 +71,41 @@ fn refusal(read: &Result<Line, LineFault>) -> (u8, usize) {
     }
 }
 
-fn refused(alloc: Global, line: &str, layout: &Layout) -> (u8, usize) {
-    refusal(&read_line(alloc, line.as_bytes(), layout))
+/// A line, and the number of its refusal with the place.
+type Case = (&'static str, (u8, usize));
+
+fn assert_refusals(rt: &impl Abort, alloc: Global, layout: &Layout, cases: &[Case]) {
+    for (line, expected) in cases {
+        let read = read_line(alloc, line.as_bytes(), layout);
+        assert_eq!(rt; refusal(&read), *expected, "at {line}");
+    }
 }
 
 #[test]
-fn refusals_name_their_place(rt: HostRuntime) -> Result<(), Fail> {
+fn refusals_of_a_table_and_its_values_name_their_place(rt: HostRuntime) -> Result<(), Fail> {
     let layout = layout_of(rt.alloc(), &[(b"a", Kind::Int)])?;
-    let lines = [
+    let cases = [
         ("s1 select v", (2, 10)),
-        ("s1 select t where b = 1", (3, 18)),
-        ("s1 insert t [1,2)", (3, 12)),
-        ("s1 insert t", (3, 11)),
-        ("s1 insert t  ", (3, 13)),
-        ("s1 insert t 9223372036854775808", (1, 12)),
-        ("s1 insert t x", (1, 12)),
-        ("s1 insert t 5 6", (3, 14)),
-        ("s1 insert t [1,2) 5", (3, 12)),
+        ("s1 select v where b = 1", (2, 10)),
         ("s1 insert v x", (1, 12)),
         ("s1 insert T 5", (1, 10)),
-        ("s1 select v where b = 1", (2, 10)),
+        ("s1 insert t", (3, 11)),
+        ("s1 insert t  ", (3, 13)),
+        ("s1 insert t [1,2)", (3, 12)),
+        ("s1 insert t [1,2) 5", (3, 12)),
+        ("s1 insert t 5 6", (3, 14)),
+        ("s1 insert t x", (1, 12)),
+        ("s1 insert t 9223372036854775808", (1, 12)),
+    ];
+    assert_refusals(&rt, rt.alloc(), &layout, &cases);
+    Ok(())
+}
+
+#[test]
+fn refusals_of_a_condition_name_their_place(rt: HostRuntime) -> Result<(), Fail> {
+    let layout = layout_of(rt.alloc(), &[(b"a", Kind::Int)])?;
+    let cases = [
+        ("s1 select t where b = 1", (3, 18)),
         ("s1 select v where b = x", (1, 22)),
         ("s1 select t where a && 1", (3, 20)),
         ("s1 select t where a == 1", (1, 20)),
@@ -97,28 +117,35 @@ fn refusals_name_their_place(rt: HostRuntime) -> Result<(), Fail> {
         ("s1 select t where a = 1 and", (1, 27)),
         ("s1 select t where a = 1 and and", (1, 31)),
         ("s1 select t where a = 1 where a = 1", (1, 24)),
-        ("s1 select t and a = 1", (1, 12)),
-        ("s1 select", (1, 9)),
-        ("s1 selekt t", (1, 3)),
-        ("s1 begin t", (1, 9)),
+    ];
+    assert_refusals(&rt, rt.alloc(), &layout, &cases);
+    Ok(())
+}
+
+#[test]
+fn lines_stop_at_the_first_impossible_word(rt: HostRuntime) -> Result<(), Fail> {
+    let layout = layout_of(rt.alloc(), &[(b"a", Kind::Int)])?;
+    let cases = [
         ("s1", (1, 2)),
         ("S1 begin", (1, 0)),
         ("  s1\tbegin", (1, 2)),
+        ("s1 selekt t", (1, 3)),
+        ("s1 begin t", (1, 9)),
+        ("s1 select", (1, 9)),
+        ("s1 select t and a = 1", (1, 12)),
         ("m summarize i", (1, 2)),
         ("m vacuum t", (1, 2)),
         ("s1 start begin", (1, 3)),
         ("s1 step", (1, 3)),
     ];
-    for (line, expected) in lines {
-        assert_eq!(rt; refused(rt.alloc(), line, &layout), expected, "at {line}");
-    }
+    assert_refusals(&rt, rt.alloc(), &layout, &cases);
     Ok(())
 }
 
 #[test]
 fn two_columns_are_read_in_their_order(rt: HostRuntime) -> Result<(), Fail> {
     let layout = layout_of(rt.alloc(), &[(b"a", Kind::Span), (b"b", Kind::Net)])?;
-    let lines = [
+    let cases = [
         ("s1 insert t [1,3] 10.0.0.1", (0, 0)),
         ("s1 insert t [1,3]", (3, 17)),
         ("s1 insert t 10.0.0.1", (3, 12)),
@@ -129,50 +156,45 @@ fn two_columns_are_read_in_their_order(rt: HostRuntime) -> Result<(), Fail> {
         ("s1 select u where c = 1", (0, 0)),
         ("s1 select u where a = [1,2)", (3, 18)),
     ];
-    for (line, expected) in lines {
-        assert_eq!(rt; refused(rt.alloc(), line, &layout), expected, "at {line}");
+    assert_refusals(&rt, rt.alloc(), &layout, &cases);
+    Ok(())
+}
+
+/// Whether a column of the kind takes each operator, with `null` as the key.
+fn assert_operators(
+    rt: &impl Abort,
+    alloc: Global,
+    kind: Kind,
+    taken: &[bool],
+) -> Result<(), Fail> {
+    let layout = layout_of(alloc, &[(b"a", kind)])?;
+    for (op, taken) in OPERATORS.iter().zip(taken) {
+        let line = format!(in alloc; "s1 select t where a {op} null")?;
+        let expected = if *taken { (0, 0) } else { (3, 20) };
+        assert_eq!(rt;
+            refusal(&read_line(alloc, line.as_bytes(), &layout)),
+            expected,
+            "at {line}"
+        );
     }
     Ok(())
 }
 
-fn condition(alloc: Global, column: &str, op: &str) -> Result<String, Fail> {
-    Ok(format!(in alloc; "s1 select t where {column} {op} null")?)
-}
-
 #[test]
 fn each_kind_takes_its_operators(rt: HostRuntime) -> Result<(), Fail> {
-    let columns = [(b"a", Kind::Int), (b"b", Kind::Span), (b"c", Kind::Net)];
-    let layout = layout_of(rt.alloc(), &columns)?;
-    let operators = [
-        ("<", "a"),
-        ("<=", "a"),
-        ("=", "abc"),
-        (">=", "a"),
-        (">", "a"),
-        ("&&", "bc"),
-        ("@>", "b"),
-        ("<@", "b"),
-        ("<<", "bc"),
-        (">>", "bc"),
-        ("<<=", "c"),
-        (">>=", "c"),
-        ("&<", "b"),
-        ("&>", "b"),
-        ("-|-", "b"),
-        ("is", "abc"),
-        ("is not", "abc"),
+    let (yes, no) = (true, false);
+    let int = [
+        yes, yes, yes, yes, yes, no, no, no, no, no, no, no, no, no, no,
     ];
-    for (op, columns) in operators {
-        for column in ["a", "b", "c"] {
-            let line = condition(rt.alloc(), column, op)?;
-            let expected = if columns.contains(column) { 0 } else { 3 };
-            assert_eq!(rt;
-                refused(rt.alloc(), line.as_str(), &layout).0,
-                expected,
-                "at {line}"
-            );
-        }
-    }
+    let span = [
+        no, no, yes, no, no, yes, yes, yes, yes, yes, no, no, yes, yes, yes,
+    ];
+    let net = [
+        no, no, yes, no, no, yes, no, no, yes, yes, yes, yes, no, no, no,
+    ];
+    assert_operators(&rt, rt.alloc(), Kind::Int, &int)?;
+    assert_operators(&rt, rt.alloc(), Kind::Span, &span)?;
+    assert_operators(&rt, rt.alloc(), Kind::Net, &net)?;
     Ok(())
 }
 
@@ -184,10 +206,25 @@ fn printed(alloc: Global, line: &[u8], layout: &Layout) -> Result<Vec<u8>, Fail>
     Ok(out)
 }
 
+fn assert_printed(
+    rt: &impl Abort,
+    alloc: Global,
+    layout: &Layout,
+    cases: &[(&str, &str)],
+) -> Result<(), Fail> {
+    for (line, text) in cases {
+        let out = printed(alloc, line.as_bytes(), layout)?;
+        assert_eq!(rt; out.as_slice(), text.as_bytes(), "at {line}");
+        let again = printed(alloc, &out, layout)?;
+        assert_eq!(rt; again.as_slice(), text.as_bytes(), "at {line}");
+    }
+    Ok(())
+}
+
 #[test]
 fn printed_lines_are_canonical(rt: HostRuntime) -> Result<(), Fail> {
     let layout = layout_of(rt.alloc(), &[(b"a", Kind::Span), (b"b", Kind::Net)])?;
-    let lines = [
+    let cases = [
         ("", ""),
         ("   ", ""),
         ("  # s1 begin", ""),
@@ -202,17 +239,10 @@ fn printed_lines_are_canonical(rt: HostRuntime) -> Result<(), Fail> {
         ("s1 insert t empty null", "s1 insert t empty null"),
         ("s1 select u", "s1 select u"),
         ("s1 delete u where c >= 007", "s1 delete u where c >= 7"),
-        (
-            "s1 explain t where a is null  and b is not null and a -|- (,5)",
-            "s1 explain t where a is null and b is not null and a -|- (,5)",
-        ),
     ];
-    for (line, text) in lines {
-        let out = printed(rt.alloc(), line.as_bytes(), &layout)?;
-        assert_eq!(rt; out.as_slice(), text.as_bytes(), "at {line}");
-        let again = printed(rt.alloc(), &out, &layout)?;
-        assert_eq!(rt; again.as_slice(), text.as_bytes(), "at {line}");
-    }
+    assert_printed(&rt, rt.alloc(), &layout, &cases)?;
+    let line = "s1 explain t where a is null and b is not null and a -|- (,5)";
+    assert_printed(&rt, rt.alloc(), &layout, &[(line, line)])?;
     Ok(())
 }
 
