@@ -6,6 +6,8 @@
 
 mod cursor;
 mod number;
+#[cfg(test)]
+mod tests;
 
 pub use cursor::{Reading, byte, end, word};
 pub use number::{digits, number_up_to};

@@ -1,7 +1,5 @@
 pub mod AppendedLemmas
 pub mod PrintedLemmas
-pub mod NumberLemmas
-pub mod Lawful
 pub mod NumberReading
 pub mod RangeReading
 pub mod NetReading

@@ -8,9 +8,11 @@ use Rattle.block_model.specs.declared.value.Kind.TheVariants as kinds
 use Rattle.value_text.specs.IntTexts.{NumberText, IsNumber, number_bytes}
 use Rattle.value_text.specs.RangeTexts.{BoundText, IsBound, side_bytes, lower_bytes, upper_bytes, bounds_bytes}
 use Rattle.value_text.specs.ValueTexts.{ValueText, NoNumber, Bounds, IsTextOf, bytes_of}
-use Rattle.value_text.specs.Reading.{Reading, mapped, both, begins, choice, nothing, byte_at, word_at, is_minus, is_sign_or_digit, number_at, side_at, bracket_at, lower_at, upper_at, bounds_at, range_at}
-use Rattle.value_text.proofs.Lawful.{Obeys, Lawful, both-lawful, mapped-lawful, choice-lawful, nothing-lawful, same-lawful, byte-lawful, word-lawful, both-read, mapped-read, choice-first, choice-second}
-use Rattle.value_text.proofs.NumberReading.{and_parts, number-lawful, number-complete}
+use Rattle.text_reading.specs.Reading.{Reading, mapped, both, begins, choice, nothing, byte_at, word_at}
+use Rattle.value_text.specs.Reading.{is_minus, is_sign_or_digit, number_at, side_at, bracket_at, lower_at, upper_at, bounds_at, range_at}
+use Rattle.text_reading.proofs.Lawful.{Obeys, Lawful, both-lawful, mapped-lawful, choice-lawful, nothing-lawful, same-lawful, byte-lawful, word-lawful, both-read, mapped-read, choice-first, choice-second}
+use Rattle.text_reading.proofs.DigitReading.{and_parts}
+use Rattle.value_text.proofs.NumberReading.{number-lawful, number-complete}
 
 abbrev IsSide : Option NumberText → Type 0
 IsSide side = IfSome side IsNumber

@@ -1,7 +1,8 @@
 -- the texts of int8 ("Numeric Types"): an optional `-` and one or more digits
-use Rattle.std.specs.Prelude.{◌≡◌, ℕ, ◌+◌, ◌-◌, ◌*◌, ◌^◌, ◌<◌, nat_lt, Bool, true, if◌then◌else◌, List, [], ◌∷◌, length, ℤ, pos, negsuc, neg_ℤ, Option, None, Some}
+use Rattle.std.specs.Prelude.{◌≡◌, ℕ, ◌^◌, ◌<◌, nat_lt, Bool, true, if◌then◌else◌, List, ◌∷◌, length, ℤ, pos, negsuc, neg_ℤ, Option, None, Some}
 use Rattle.std.specs.List.{list_all}
 use Rattle.block_model.specs.Names.{is_digit}
+use Rattle.text_reading.specs.Digits.{digits_from}
 
 -- a number as it is written
 pub record NumberText : Type 0 where
@@ -16,11 +17,6 @@ pub record IsNumber (n : NumberText) : Type 0 where
 -- the bytes that write it
 abbrev pub number_bytes : NumberText → List ℕ
 number_bytes n = if n.negative then 45 ∷ n.digits else n.digits
-
--- the number of the digits behind n's
-abbrev pub digits_from : ℕ → List ℕ → ℕ
-digits_from n [] = n
-digits_from n (c ∷ cs) = digits_from (10 * n + (c - 48)) cs
 
 -- the number that is written, however many digits it has
 abbrev pub number_of : NumberText → ℤ

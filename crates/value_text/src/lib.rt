@@ -4,7 +4,6 @@
 // stands on block_model, and on itoa for printed numbers. Reading takes no memory, and writing takes none but `out`'s.
 #![tactic(auto)]
 
-mod cursor;
 mod laws;
 mod literal;
 mod net;

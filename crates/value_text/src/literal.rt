@@ -3,14 +3,15 @@
 ghost use Rattle.std.specs.Prelude.{◌≡◌};
 ghost use Rattle.value_text.specs.ValueTexts.{IsTextOf, meaning};
 ghost use Rattle.value_text.specs.Parts.{number_text, bound_text, net_text, value_text};
-ghost use Rattle.value_text.specs.Reading.{Gives, bounds_at, range_at, kind_at, text_at, whole_at};
+ghost use Rattle.text_reading.specs.Reading.{Gives};
+ghost use Rattle.value_text.specs.Reading.{bounds_at, range_at, kind_at, text_at, whole_at};
 
-use crate::cursor::{Reading, byte, end, word};
 use crate::net::{Address, read_address};
 use crate::number::{Number, read_number};
 use crate::range::{Bound, lower, range_of, upper};
 use block_model::span::Span8;
 use block_model::value::{Kind, Value};
+use text_reading::{Reading, byte, end, word};
 
 /// A value as it is written.
 #[derive(Clone, Copy)]

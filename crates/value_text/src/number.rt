@@ -3,11 +3,13 @@
 ghost use Rattle.std.specs.Prelude.{◌≡◌, ◌+◌, ◌^◌, ◌≤◌, min, length};
 ghost use Rattle.std.specs.List.{prefix_len};
 ghost use Rattle.block_model.specs.Names.{is_digit};
-ghost use Rattle.value_text.specs.IntTexts.{digits_from, number_bytes, int8_of};
+ghost use Rattle.text_reading.specs.Digits.{digits_from};
+ghost use Rattle.value_text.specs.IntTexts.{number_bytes, int8_of};
 ghost use Rattle.value_text.specs.Parts.{number_text};
-ghost use Rattle.value_text.specs.Reading.{Gives, digits_at, number_at};
+ghost use Rattle.text_reading.specs.Reading.{Gives, digits_at};
+ghost use Rattle.value_text.specs.Reading.{number_at};
 
-use crate::cursor::Reading;
+use text_reading::{Reading, digits, number_up_to};
 
 /// A number as it is written.
 #[derive(Clone, Copy)]
@@ -38,25 +40,6 @@ pub fn read_number(text: &[u8]) -> Reading<'_, Number<'_>>
     }
 }
 
-#[tactic(auto, unfolding(crate::specs::Reading::digits_at))]
-fn digits(text: &[u8]) -> Reading<'_, &[u8]>
-    ensures { Gives (λ x. (x.0.now, x.1.now)) result (digits_at text.now) }
-{
-    let count = digit_count(text);
-    if count == 0 {
-        return Err(text);
-    }
-    Ok(text.split_at(count))
-}
-
-/// How many digits stand at the front.
-fn digit_count(text: &[u8]) -> usize
-    ensures count { result ≡ prefix_len is_digit text.now }
-    ensures within { result ≤ length text.now }
-{
-    text.iter().take_while(|c| c.is_ascii_digit()).count()
-}
-
 impl Number<'_> {
     /// How many bytes write it.
     pub fn len(&self) -> usize
@@ -70,7 +53,7 @@ impl Number<'_> {
     pub fn value(&self) -> Option<i64>
         ensures { result ≡ int8_of (number_text self.now) }
     {
-        match magnitude(self.digits) {
+        match number_up_to(self.digits, PAST) {
             n if n < 1 << 63 => {
                 let n = n as i64;
                 Some(if self.negative { -n } else { n })
@@ -79,16 +62,4 @@ impl Number<'_> {
             _ => None,
         }
     }
-}
-
-/// The number of the digits, or the first past int8 where it is greater.
-fn magnitude(digits: &[u8]) -> u64
-    ensures { result ≡ min (digits_from 0 digits.now) (2 ^ 63 + 1) }
-{
-    let mut n: u64 = 0;
-    for c in digits {
-        let digit = u64::from(c.saturating_sub(b'0'));
-        n = n.saturating_mul(10).saturating_add(digit).min(PAST);
-    }
-    n
 }

@@ -1,7 +1,0 @@
-use Rattle.std.proofs.Common.{◌≡◌, drop}
-use Rattle.value_text.specs.Reading.{word_at}
-use Rattle.value_text.proofs.cursor.word.Given as goal
-
--- what is left to read there is what was to be read
-abbrev pub invariant-loop-wanted : goal.invariant-loop-wanted
-invariant-loop-wanted l = word_at (drop l.wanted-index l.word) l.rest ≡ word_at l.word l.text
