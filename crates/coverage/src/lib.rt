@@ -7,7 +7,7 @@
 
 ghost use Rattle.std.specs.Prelude.{◌≡◌, ◌≢◌, ◌⊎◌, ◌<◌, ◌≤◌, ℕ, Bool, false, IsTrue, Option, None, Some, List};
 ghost use Rattle.block_model.specs.declared.row.Row.{Row};
-ghost use Rattle.coverage.specs.Board.{Board, Spot, Tuple, Progress, range_of, NamesPlaceholder};
+ghost use Rattle.coverage.specs.Board.{Board, Pages, Spot, Tuple, Progress, range_of, NamesPlaceholder};
 ghost use Rattle.coverage.specs.IsSettled.{IsSettled, IsAccounted};
 ghost use Rattle.coverage.specs.IsSound.{IsSound};
 ghost use Rattle.coverage.specs.GoesOn.{GoesOn, IsHeld};
@@ -16,6 +16,10 @@ ghost use Rattle.coverage.specs.Statements.{Scan, Statement, Idle, Scanning};
 ghost use Rattle.coverage.specs.IsCovered.{IndexState, board, IsCovered, IsAtRest, IsKept};
 ghost use Rattle.coverage.specs.Steps.{Excludes, Run, Stops};
 ghost use Rattle.coverage.specs.Knowing.{LocksNone, Knows, Spares};
+ghost use Rattle.coverage.specs.Verdicts.{Verdict, PutVerdict, SwapVerdict, ClearVerdict};
+ghost use Rattle.coverage.specs.Table.{TableScan, Task, Resting, Scans, TableState, index_state};
+ghost use Rattle.coverage.specs.TableSteps.{Onward, TableStep, TableRun};
+ghost use Rattle.coverage.specs.TableCovered.{IsTableCovered, IsTableKept, IsGiven, IsUnjudged};
 
 /// Each kind of change leaves the index sound.
 pub fn changes_are_sound()
@@ -28,7 +32,7 @@ pub fn changes_are_sound()
     ensures move_sets { (s : ℕ) (w v : Board) (range : ℕ) (x y : Spot) (old new : Tuple) → IsSound w → MoveSets s w v range x y old new → IsSound v }
     ensures drops { (s : ℕ) (w v : Board) (x : Spot) (old : Tuple) → IsSound w → DropsLoose s w v x old → IsSound v }
     ensures clears { (s : ℕ) (w v : Board) (range : ℕ) (x : Spot) → IsSound w → Clears s w v range x → IsSound v }
-    ensures sweeps { (s : ℕ) (w v : Board) (x : Spot) → IsSound w → Sweeps s w v x → IsSound v }
+    ensures sweeps { (s : ℕ) (w v : Board) (p : ℕ) → IsSound w → Sweeps s w v p → IsSound v }
     ensures prunes { (s : ℕ) (dropped : ℕ → ℕ → Bool) (w v : Board) → IsSound w → Prunes s dropped w v → IsSound v }
     ensures takes { (s : ℕ) (w v : Board) → IsSound w → Takes s w v → IsSound v }
     ensures ends { (s : ℕ) (w v : Board) → IsSound w → Ends s w v → IsSound v }
@@ -46,7 +50,7 @@ pub fn others_go_on()
     ensures move_sets { (s : ℕ) (d : ℕ → ℕ → Bool) (w v : Board) (range : ℕ) (x y : Spot) (old new : Tuple) → IsSound w → MoveSets s w v range x y old new → GoesOn s d w v }
     ensures drops { (s : ℕ) (d : ℕ → ℕ → Bool) (w v : Board) (x : Spot) (old : Tuple) → IsSound w → DropsLoose s w v x old → GoesOn s d w v }
     ensures clears { (s : ℕ) (d : ℕ → ℕ → Bool) (w v : Board) (range : ℕ) (x : Spot) → IsSound w → Clears s w v range x → GoesOn s d w v }
-    ensures sweeps { (s : ℕ) (d : ℕ → ℕ → Bool) (w v : Board) (x : Spot) → IsSound w → Sweeps s w v x → GoesOn s d w v }
+    ensures sweeps { (s : ℕ) (d : ℕ → ℕ → Bool) (w v : Board) (p : ℕ) → IsSound w → Sweeps s w v p → GoesOn s d w v }
     ensures prunes { (s : ℕ) (dropped : ℕ → ℕ → Bool) (w v : Board) → IsSound w → Prunes s dropped w v → GoesOn s dropped w v }
     ensures takes { (s : ℕ) (d : ℕ → ℕ → Bool) (w v : Board) → IsSound w → Takes s w v → GoesOn s d w v }
     ensures ends { (s : ℕ) (d : ℕ → ℕ → Bool) (w v : Board) → IsSound w → Ends s w v → GoesOn s d w v }
@@ -77,7 +81,7 @@ pub fn index_stays_covered()
 pub fn opened_index_is_kept()
     ensures opened { (w : IndexState) → IsCovered w → IsAtRest w → 0 < w.pages_per_range → ((b k : ℕ) (r : Row) → w.row b k ≡ Some r → b < w.blocks) → IsKept w }
     ensures stopped { (w v : IndexState) → IsKept w → Stops w v → IsKept v }
-    ensures new { (per blocks : ℕ) (counts : ℕ → Bool) → 0 < per → IsKept (record { pages_per_range = per; blocks = blocks; row = λ b k. None; entry = λ m. None; tuple = λ x. None; lock = λ p. None; right = None; orphan = λ x. false; statement = λ s. Idle; counts = counts }) }
+    ensures new { (per blocks : ℕ) (pages : Pages) (counts : ℕ → Bool) → 0 < per → IsKept (record { pages_per_range = per; blocks = blocks; row = λ b k. None; entry = λ m. None; tuple = λ x. None; pages = pages; lock = λ p. None; right = None; orphan = λ x. false; statement = λ s. Idle; counts = counts }) }
 {}
 
 /// Each matching row that a scan's session sees is found, or lies in a candidate block that isn't read yet; and a range
@@ -85,4 +89,32 @@ pub fn opened_index_is_kept()
 pub fn scans_miss_nothing()
     ensures found { (w : IndexState) (s b k : ℕ) (scan : Scan) → IsKept w → w.statement s ≡ Scanning scan → IsTrue (scan.sees b k) → (r : Row) × (w.row b k ≡ Some r) × (IsTrue (scan.matches r) → IsTrue (scan.found b k) ⊎ (IsTrue (scan.candidate b) × (scan.read ≤ b))) }
     ensures excluded { (w : IndexState) (s b k range : ℕ) (x : Spot) (t : Tuple) (r : Row) (scan : Scan) → IsKept w → w.statement s ≡ Scanning scan → IsTrue (scan.sees b k) → w.row b k ≡ Some r → scan.held ≡ Some (range, x) → w.tuple x ≡ Some t → t.range ≡ range → Excludes t scan.matches → range_of (board w) b ≡ range → IsTrue (scan.matches r) → ⊥ }
+{}
+
+/// A step that would change pages comes out in one way: it waits, finds a difference, goes on in place or elsewhere, or is
+/// full. It waits only for a page that another session locks, and finds a difference only where there is one.
+pub fn verdicts_are_exact()
+    ensures one_put { (w : Board) (s range need : ℕ) (p q : Verdict) → PutVerdict w s range need p → PutVerdict w s range need q → p ≡ q }
+    ensures one_swap { (w : Board) (s range : ℕ) (x : Spot) (old new : Tuple) (p q : Verdict) → SwapVerdict w s range x old new p → SwapVerdict w s range x old new q → p ≡ q }
+    ensures one_clear { (w : Board) (s range : ℕ) (x : Spot) (p q : Verdict) → ClearVerdict w s range x p → ClearVerdict w s range x q → p ≡ q }
+    ensures some_swap { (w : Board) (s range : ℕ) (x : Spot) (old new : Tuple) → ((p : Verdict) → SwapVerdict w s range x old new p → ⊥) → ⊥ }
+    ensures some_clear { (w : Board) (s range : ℕ) (x : Spot) → ((p : Verdict) → ClearVerdict w s range x p → ⊥) → ⊥ }
+{}
+
+/// Where a statement of a table comes by its step is one thing: its next step, or its reply.
+pub fn statements_go_on_in_one_way()
+    ensures { (w : TableState) (old p q : Task) → Onward w old p → Onward w old q → p ≡ q }
+{}
+
+/// Whatever the statements of a table with several indexes do, in any interleaving, each of its indexes stays covered.
+pub fn table_stays_covered()
+    ensures kept { (steps : List ℕ) (w v : TableState) → IsTableKept w → TableRun steps w v → IsTableKept v }
+    ensures covered { (w : TableState) → IsTableKept w → IsTableCovered w }
+    ensures opened { (w : TableState) → IsTableCovered w → ((i : ℕ) → i < w.indexes → IsAtRest (index_state i w) × (0 < (w.index i).pages_per_range)) → ((b k : ℕ) (r : Row) → w.row b k ≡ Some r → b < w.blocks) → IsTableKept w }
+{}
+
+/// Each matching row that a scan's session sees is found, or lies in a given block that isn't read yet, or in a range that
+/// isn't judged yet. A block is given where every index of the table gives it.
+pub fn table_scans_miss_nothing()
+    ensures { (w : TableState) (s b k : ℕ) (scan : TableScan) → IsTableKept w → 0 < w.indexes → w.task s ≡ Scans scan → IsTrue (scan.sees b k) → (r : Row) × (w.row b k ≡ Some r) × (IsTrue (scan.matches r) → IsTrue (scan.found b k) ⊎ (IsGiven w scan b × (scan.read ≤ b)) ⊎ IsUnjudged w scan b) }
 {}
