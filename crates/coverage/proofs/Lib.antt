@@ -10,3 +10,9 @@ pub mod InsertSteps
 pub mod MaintainSteps
 pub mod Runs
 pub mod Opening
+pub mod Views
+pub mod TableRuns
+pub mod TableSettled
+pub mod TableScans
+pub mod Verdicts
+pub mod Numbers

@@ -16,7 +16,7 @@ ghost use Rattle.coverage.specs.Statements.{Scan, Statement, Idle, Scanning};
 ghost use Rattle.coverage.specs.IsCovered.{IndexState, board, IsCovered, IsAtRest, IsKept};
 ghost use Rattle.coverage.specs.Steps.{Excludes, Run, Stops};
 ghost use Rattle.coverage.specs.Knowing.{LocksNone, Knows, Spares};
-ghost use Rattle.coverage.specs.Verdicts.{Verdict, PutVerdict, SwapVerdict, ClearVerdict};
+ghost use Rattle.coverage.specs.Verdicts.{Verdict, IsFreeSlot, PutVerdict, SwapVerdict, ClearVerdict};
 ghost use Rattle.coverage.specs.Table.{TableScan, Task, Resting, Scans, TableState, index_state};
 ghost use Rattle.coverage.specs.TableSteps.{Onward, TableStep, TableRun};
 ghost use Rattle.coverage.specs.TableCovered.{IsTableCovered, IsTableKept, IsGiven, IsUnjudged};
@@ -97,7 +97,8 @@ pub fn verdicts_are_exact()
     ensures one_put { (w : Board) (s range need : ℕ) (p q : Verdict) → PutVerdict w s range need p → PutVerdict w s range need q → p ≡ q }
     ensures one_swap { (w : Board) (s range : ℕ) (x : Spot) (old new : Tuple) (p q : Verdict) → SwapVerdict w s range x old new p → SwapVerdict w s range x old new q → p ≡ q }
     ensures one_clear { (w : Board) (s range : ℕ) (x : Spot) (p q : Verdict) → ClearVerdict w s range x p → ClearVerdict w s range x q → p ≡ q }
-    ensures some_swap { (w : Board) (s range : ℕ) (x : Spot) (old new : Tuple) → ((p : Verdict) → SwapVerdict w s range x old new p → ⊥) → ⊥ }
+    ensures some_put { (w : Board) → ((p : ℕ) → (k : ℕ) × IsFreeSlot w p k) → (s range need : ℕ) → ((p : Verdict) → PutVerdict w s range need p → ⊥) → ⊥ }
+    ensures some_swap { (w : Board) → ((p : ℕ) → (k : ℕ) × IsFreeSlot w p k) → (s range : ℕ) (x : Spot) (old new : Tuple) → ((p : Verdict) → SwapVerdict w s range x old new p → ⊥) → ⊥ }
     ensures some_clear { (w : Board) (s range : ℕ) (x : Spot) → ((p : Verdict) → ClearVerdict w s range x p → ⊥) → ⊥ }
 {}
 
