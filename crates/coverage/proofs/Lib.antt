@@ -16,3 +16,4 @@ pub mod TableSettled
 pub mod TableScans
 pub mod Verdicts
 pub mod Numbers
+pub mod Onward

@@ -266,14 +266,13 @@ module _ (s : ℕ) (w v : TableState) (kept : IsTableKept w) (i : ℕ) (below : 
       (cases_eq i at)
 
   pub begins_scan : (scan : TableScan) → ScanBegins w scan → TaskTurns s w v Resting (Scans scan) → OnlyTurns w v → IsKept (index_state i v)
-  begins_scan scan begins turns only = steps (BeginScan (scan_at i scan)
-      (
-        held_none i scan.at scan.range scan.held begins.held,
-        λ b k sees.
-            let row = begins.sees b k sees in
-            let low : b < w.blocks = (kept i below).sound.rows_below b k row.0 row.1 in
-            (row.0, row.1, row.2, (λ n hand is. row.3 n (seen_put i b k row.0 hand (w.task n) is)), λ matches. ((begins.candidate b).1 low, subst (λ m. m ≤ b) (sym begins.read) (omega arith))),
-      )
+  begins_scan scan begins turns only = steps (BeginScan (scan_at i scan) (
+    held_none i scan.at scan.range scan.held begins.held,
+    λ b k sees.
+        let row = begins.sees b k sees in
+        let low : b < w.blocks = (kept i below).sound.rows_below b k row.0 row.1 in
+        (row.0, row.1, row.2, (λ n hand is. row.3 n (seen_put i b k row.0 hand (w.task n) is)), λ matches. ((begins.candidate b).1 low, subst (λ m. m ≤ b) (sym begins.read) (omega arith))),
+  )
       (turned_at i s w v Resting (Scans scan) turns Idle (Scanning (scan_at i scan)) refl refl)
       (reads_at i s w v Resting (Scans scan) turns only.rows (only.indexes.index i) only.right (known Resting Idle turns.was refl).0)
       (record { counts = only.rows.counts }))

@@ -18,7 +18,7 @@ ghost use Rattle.coverage.specs.Steps.{Excludes, Run, Stops};
 ghost use Rattle.coverage.specs.Knowing.{LocksNone, Knows, Spares};
 ghost use Rattle.coverage.specs.Verdicts.{Verdict, IsFreeSlot, PutVerdict, SwapVerdict, ClearVerdict};
 ghost use Rattle.coverage.specs.Table.{TableScan, Task, Resting, Scans, TableState, index_state};
-ghost use Rattle.coverage.specs.TableSteps.{Onward, TableStep, TableRun};
+ghost use Rattle.coverage.specs.TableSteps.{Onward, IsMaintained, TableStep, TableRun};
 ghost use Rattle.coverage.specs.TableCovered.{IsTableCovered, IsTableKept, IsGiven, IsUnjudged};
 
 /// Each kind of change leaves the index sound.
@@ -104,7 +104,8 @@ pub fn verdicts_are_exact()
 
 /// Where a statement of a table comes by its step is one thing: its next step, or its reply.
 pub fn statements_go_on_in_one_way()
-    ensures { (w : TableState) (old p q : Task) → Onward w old p → Onward w old q → p ≡ q }
+    ensures one_way { (w : TableState) (old p q : Task) → Onward w old p → Onward w old q → p ≡ q }
+    ensures or_reply { (w : TableState) (old q : Task) → IsMaintained w old → Onward w old q → ⊥ }
 {}
 
 /// Whatever the statements of a table with several indexes do, in any interleaving, each of its indexes stays covered.
