@@ -17,3 +17,4 @@ pub mod TableScans
 pub mod Verdicts
 pub mod Numbers
 pub mod Onward
+pub mod NextSteps

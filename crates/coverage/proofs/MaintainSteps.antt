@@ -213,7 +213,7 @@ module _ (s range : ℕ) (w v : IndexState) (sound : IsSound (board w)) (right :
       turn (NotBuilding (Held x)) (IsAt ExtentUnread Empty) turned refl refl None (Some ExtentUnread) refl refl (StartsBuilding right) reads.looks reads.none
   summarise_left _ _ (ReadNoEntry none reads) turned known = read (NotBuilding Empty) (Maintaining range Vacant) turned refl refl refl reads.looks (reads.looks.right ∙ right, (reads.none, reads.looks.map.entry range ∙ none))
   summarise_left _ _ (GrowMap old new step) turned known = growth_left old new step turned known
-  summarise_left _ _ (Put x t of flag long verdict puts these) turned known = put x t turned of flag puts (these.locked x.block (inl refl)) known.1
+  summarise_left _ _ (Put x t of flag size long verdict puts these) turned known = put x t turned of flag puts (these.locked x.block (inl refl)) known.1
   summarise_left _ _ (Set x sets none) turned known = set x turned sets none known
   summarise_left _ _ (Extent extent result is reads) turned known =
       turn (IsAt ExtentUnread Empty) (IsAt (Passing extent (range * w.pages_per_range) result) Empty) turned refl refl (Some ExtentUnread) (Some (Passing extent (range * w.pages_per_range) result)) refl refl
@@ -221,18 +221,18 @@ module _ (s range : ℕ) (w v : IndexState) (sound : IsSound (board w)) (right :
   summarise_left _ _ (Pass extent next result wider below more block reads) turned known =
       turn (IsAt (Passing extent next result) Empty) (IsAt (Passing extent (next + 1) wider) Empty) turned refl refl (Some (Passing extent next result)) (Some (Passing extent (next + 1) wider)) refl refl
       (PassesBlock extent next result wider more block) reads.looks reads.none
-  summarise_left _ _ (Unite extent result old new step) turned known =
-      let p = Passing extent extent result in
+  summarise_left _ _ (Unite extent next result old new all step) turned known =
+      let p = Passing extent next result in
       let out = hand_step s w v (Maintaining range (IsAt p old)) (Maintaining range (IsAt p new)) turned sound range (MakesUnited p) (makes_united (board w) s range p (building_here p old turned.was)) old new step known refl refl refl in
       (out.0, (hand_right s range (board w) (board v) old new step ∙ right, out.1))
-  summarise_left _ _ (UniteCopies extent result x old new stands united reads) turned known =
-      let p = Passing extent extent result in
+  summarise_left _ _ (UniteCopies extent next result x old new all stands united reads) turned known =
+      let p = Passing extent next result in
       let both = looks_both s w v (Maintaining range (IsAt p (Held x))) (Maintaining range (IsAt p (Copied x old new))) turned sound refl refl refl reads.looks in (
         both,
         (
           reads.looks.right ∙ right,
           copy_knows s w v (Maintaining range (IsAt p (Held x))) (Maintaining range (IsAt p (Copied x old new))) turned sound range (MakesUnited p)
-              (makes_united (board w) s range p (building_here p (Held x) turned.was)) x old new stands.1 (refl, united) both reads.none known,
+              (makes_united (board w) s range p (building_here p (Held x) turned.was)) x old new stands.1 (all, united) both reads.none known,
         ),
       )
   summarise_left _ _ (SwapFinal p x old new verdict swap) turned known = (

@@ -33,7 +33,7 @@ begins_holding i w _ Vacuum = refl
 pub refused_loose : (w : Board) (s range : ℕ) (phase : Phase) → IsMaintainRefused w s range phase → loose_at phase ≡ None
 refused_loose w s range _ (NoMemory phase none) = none
 refused_loose w s range _ (FinalFull p x old new verdict) = refl
-refused_loose w s range _ (PlaceFull t of flag long verdict) = refl
+refused_loose w s range _ (PlaceFull long verdict) = refl
 refused_loose w s range _ (MapFull past limit) = refl
 refused_loose w s range _ (EvacuateFull x t grows next named free verdict) = refl
 

@@ -8,7 +8,7 @@ use Rattle.coverage.specs.Changes.{IsFree}
 use Rattle.coverage.specs.Verdicts.{IsLocked, IsFirstLocked, First, Later, IsLowest, HasRoom, IsUnstarted, IsTarget, OnStarted, OnNew, IsFreeSlot, IsTargetSpot, Verdict, Waits, Differs, Fits, Puts, Full, PutVerdict, NoTarget, PutWaits, PutGoes, MustMove, SwapVerdict, SwapWaits, SwapDiffers, SwapFits, SwapMoves, ClearVerdict, ClearWaits, ClearDiffers, ClearFits}
 use Rattle.coverage.proofs.Numbers.{lt_or_ge, lowest_below}
 
-free_not_locked : (w : Board) (s p : ℕ) → IsFree w s p → IsLocked w s p → ⊥
+pub free_not_locked : (w : Board) (s p : ℕ) → IsFree w s p → IsLocked w s p → ⊥
 free_not_locked w s p free locked = locked.2 (free locked.0 locked.1)
 
 locked_or_free : (w : Board) (s p : ℕ) → IsLocked w s p ⊎ IsFree w s p
@@ -40,7 +40,7 @@ first_locked_once w s _ p q (Later m p' more free one) (First m' more' two) = ab
 first_locked_once w s _ p q (Later m p' more free one) (Later m' q' more' free' two) = first_locked_once w s more p q one two
 
 -- what is free isn't the first locked page
-both_free : (w : Board) (s p m q : ℕ) → IsFree w s p → IsFree w s m → IsFirstLocked w s (p ∷ m ∷ []) q → ⊥
+pub both_free : (w : Board) (s p m q : ℕ) → IsFree w s p → IsFree w s m → IsFirstLocked w s (p ∷ m ∷ []) q → ⊥
 both_free w s p m q one two (First _ _ locked) = free_not_locked w s p one locked
 both_free w s p m q one two (Later _ _ _ _ (First _ _ locked)) = free_not_locked w s m two locked
 both_free w s p m q one two (Later _ _ _ _ (Later _ _ _ _ none)) = elim none [ ]

@@ -34,11 +34,12 @@ pub data PageKind : Type 0 where
   Emptying : PageKind
 
 -- The pages of an index: the kind of each; how long a further tuple each takes, and how long a tuple may stand at a spot in
--- place of the one there; the number of map pages, and that of all pages at most.
+-- place of the one there; how long an empty placeholder is; the number of map pages, and that of all pages at most.
 pub record Pages : Type 0 where
   pub kind : ℕ → PageKind
   pub room : ℕ → ℕ
   pub room_at : Spot → ℕ
+  pub placeholder : ℕ
   pub map_pages : ℕ
   pub limit : ℕ
 

@@ -8,6 +8,7 @@ pub mod Statements
 pub mod Knowing
 pub mod IsCovered
 pub mod Steps
+pub mod Points
 pub mod Table
 pub mod TableSteps
 pub mod TableCovered

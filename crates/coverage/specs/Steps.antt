@@ -43,6 +43,7 @@ pub record TurnsPage (w v : Board) (page : ℕ) (kind : PageKind) : Type 0 where
   pub kinds : (p : ℕ) → (p ≡ page) ⊎ (v.pages.kind p ≡ w.pages.kind p)
   pub rooms : (p : ℕ) → (p ≡ page) ⊎ (v.pages.room p ≡ w.pages.room p)
   pub spots : (x : Spot) → (x.block ≡ page) ⊎ (v.pages.room_at x ≡ w.pages.room_at x)
+  pub placeholder : v.pages.placeholder ≡ w.pages.placeholder
   pub map_pages : v.pages.map_pages ≡ w.pages.map_pages
   pub limit : v.pages.limit ≡ w.pages.limit
 
@@ -217,7 +218,8 @@ pub data SummariseStep (s range : ℕ) (w v : Board) : Phase → Statement → T
   ReadNoEntry : w.entry range ≡ None → Reads s w v → SummariseStep s range w v (NotBuilding Empty) (Maintaining range Vacant)
   GrowMap : (old new : Phase) → GrowthStep s range w v old new → SummariseStep s range w v old (Maintaining range new)
   -- where the map is long enough a placeholder is put, and named
-  Put : (x : Spot) (t : Tuple) → t.range ≡ range → t.placeholder ≡ true → (IsPastMap w range → ⊥) → PutVerdict w s range (length t.bytes) (Puts x)
+  Put : (x : Spot) (t : Tuple) → t.range ≡ range → t.placeholder ≡ true → length t.bytes ≡ w.pages.placeholder → (IsPastMap w range → ⊥)
+      → PutVerdict w s range w.pages.placeholder (Puts x)
       → PutsTuple s w v x t → LocksThese v s (x.block ∷ map_page_of range ∷ []) → SummariseStep s range w v Vacant (Maintaining range (Placing x))
   Set : (x : Spot) → SetsEntry s w v range x → LocksNone v s → SummariseStep s range w v (Placing x) (Maintaining range (IsAt ExtentUnread Empty))
   Extent : (extent : ℕ) (result : Row → Bool) → extent ≡ min w.blocks ((range + 1) * w.pages_per_range) → Reads s w v
@@ -226,10 +228,10 @@ pub data SummariseStep (s range : ℕ) (w v : Board) : Phase → Statement → T
   Pass : (extent next : ℕ) (result wider : Row → Bool) → next < extent → IsWithin result wider → ((k : ℕ) (r : Row) → w.row next k ≡ Some r → IsTrue (wider r)) → Reads s w v
       → SummariseStep s range w v (IsAt (Passing extent next result) Empty) (Maintaining range (IsAt (Passing extent (next + 1) wider) Empty))
   -- all blocks are passed: the placeholder is read, united with the result, and gives way to the final tuple
-  Unite : (extent : ℕ) (result : Row → Bool) (old new : Hand) → HandStep s range w v old new
-      → SummariseStep s range w v (IsAt (Passing extent extent result) old) (Maintaining range (IsAt (Passing extent extent result) new))
-  UniteCopies : (extent : ℕ) (result : Row → Bool) (x : Spot) (old new : Tuple) → Stands w range x old → IsUnited result old new → Reads s w v
-      → SummariseStep s range w v (IsAt (Passing extent extent result) (Held x)) (Maintaining range (IsAt (Passing extent extent result) (Copied x old new)))
+  Unite : (extent next : ℕ) (result : Row → Bool) (old new : Hand) → next ≡ extent → HandStep s range w v old new
+      → SummariseStep s range w v (IsAt (Passing extent next result) old) (Maintaining range (IsAt (Passing extent next result) new))
+  UniteCopies : (extent next : ℕ) (result : Row → Bool) (x : Spot) (old new : Tuple) → next ≡ extent → Stands w range x old → IsUnited result old new → Reads s w v
+      → SummariseStep s range w v (IsAt (Passing extent next result) (Held x)) (Maintaining range (IsAt (Passing extent next result) (Copied x old new)))
   SwapFinal : (p : Progress) (x : Spot) (old new : Tuple) → SwapVerdict w s range x old new Fits → ReplacesTuple s w v x old new
       → SummariseStep s range w v (IsAt p (Copied x old new)) Holding
   SetFinal : (p : Progress) (x y : Spot) (old new : Tuple) → SetsEntry s w v range y → SameLocks w v

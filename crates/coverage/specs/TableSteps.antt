@@ -104,7 +104,7 @@ JobStep (Desummarising only) s range w v old new = DesummariseStep s range w v o
 pub data IsMaintainRefused (w : Board) (s range : ℕ) : Phase → Type 0 where
   NoMemory : (phase : Phase) → loose_at phase ≡ None → IsMaintainRefused w s range phase
   FinalFull : (p : Progress) (x : Spot) (old new : Tuple) → SwapVerdict w s range x old new Full → IsMaintainRefused w s range (IsAt p (Copied x old new))
-  PlaceFull : (t : Tuple) → t.range ≡ range → t.placeholder ≡ true → (IsPastMap w range → ⊥) → PutVerdict w s range (length t.bytes) Full → IsMaintainRefused w s range Vacant
+  PlaceFull : (IsPastMap w range → ⊥) → PutVerdict w s range w.pages.placeholder Full → IsMaintainRefused w s range Vacant
   MapFull : IsPastMap w range → w.pages.limit ≤ next_map_page w → IsMaintainRefused w s range Vacant
   EvacuateFull : (x : Spot) (t : Tuple) → Grows w range Emptying → IsNextTuple w (next_map_page w) x t → w.entry t.range ≡ Some x
       → IsFree w s x.block → PutVerdict w s t.range (length t.bytes) Full → IsMaintainRefused w s range Vacant
@@ -112,8 +112,7 @@ pub data IsMaintainRefused (w : Board) (s range : ℕ) : Phase → Type 0 where
 -- The page for whose lock a summariser waits on its range.
 pub data IsPhaseWaiting (w : Board) (s range : ℕ) : Phase → ℕ → Type 0 where
   FinalWaits : (q : ℕ) (p : Progress) (x : Spot) (old new : Tuple) → SwapVerdict w s range x old new (Waits q) → IsPhaseWaiting w s range (IsAt p (Copied x old new)) q
-  PlaceWaits : (q : ℕ) (t : Tuple) → t.range ≡ range → t.placeholder ≡ true → (IsPastMap w range → ⊥) → PutVerdict w s range (length t.bytes) (Waits q)
-      → IsPhaseWaiting w s range Vacant q
+  PlaceWaits : (q : ℕ) → (IsPastMap w range → ⊥) → PutVerdict w s range w.pages.placeholder (Waits q) → IsPhaseWaiting w s range Vacant q
   GrowWaits : (q : ℕ) → Grows w range Unstarted → IsFirstLocked w s (next_map_page w ∷ 0 ∷ []) q → IsPhaseWaiting w s range Vacant q
   CountWaits : Grows w range Mapping → IsLocked w s 0 → IsPhaseWaiting w s range Vacant 0
   FlagWaits : Grows w range Regular → IsLocked w s (next_map_page w) → IsPhaseWaiting w s range Vacant (next_map_page w)

@@ -12,13 +12,14 @@ ghost use Rattle.coverage.specs.IsSettled.{IsSettled, IsAccounted};
 ghost use Rattle.coverage.specs.IsSound.{IsSound};
 ghost use Rattle.coverage.specs.GoesOn.{GoesOn, IsHeld};
 ghost use Rattle.coverage.specs.Changes.{PutsRow, Places, Names, Turn, IsFree, Swaps, MovePuts, MoveSets, DropsLoose, Clears, Sweeps, Prunes, Takes, Ends, TurnsLocks};
-ghost use Rattle.coverage.specs.Statements.{Scan, Statement, Idle, Scanning};
+ghost use Rattle.coverage.specs.Statements.{Hand, Held, Copied, Phase, NotBuilding, Scan, Statement, Idle, Scanning};
 ghost use Rattle.coverage.specs.IsCovered.{IndexState, board, IsCovered, IsAtRest, IsKept};
-ghost use Rattle.coverage.specs.Steps.{Excludes, Run, Stops};
+ghost use Rattle.coverage.specs.Steps.{InsertStep, SummariseStep, DesummariseStep, Excludes, Run, Stops};
+ghost use Rattle.coverage.specs.Points.{insert_point, summarise_point, desummarise_point};
 ghost use Rattle.coverage.specs.Knowing.{LocksNone, Knows, Spares};
-ghost use Rattle.coverage.specs.Verdicts.{Verdict, IsFreeSlot, PutVerdict, SwapVerdict, ClearVerdict};
+ghost use Rattle.coverage.specs.Verdicts.{Verdict, Waits, IsFreeSlot, PutVerdict, SwapVerdict, ClearVerdict};
 ghost use Rattle.coverage.specs.Table.{TableScan, Task, Resting, Scans, TableState, index_state};
-ghost use Rattle.coverage.specs.TableSteps.{Onward, IsMaintained, TableStep, TableRun};
+ghost use Rattle.coverage.specs.TableSteps.{IsPhaseWaiting, Onward, IsMaintained, TableStep, TableRun};
 ghost use Rattle.coverage.specs.TableCovered.{IsTableCovered, IsTableKept, IsGiven, IsUnjudged};
 
 /// Each kind of change leaves the index sound.
@@ -100,6 +101,16 @@ pub fn verdicts_are_exact()
     ensures some_put { (w : Board) → ((p : ℕ) → (k : ℕ) × IsFreeSlot w p k) → (s range need : ℕ) → ((p : Verdict) → PutVerdict w s range need p → ⊥) → ⊥ }
     ensures some_swap { (w : Board) → ((p : ℕ) → (k : ℕ) × IsFreeSlot w p k) → (s range : ℕ) (x : Spot) (old new : Tuple) → ((p : Verdict) → SwapVerdict w s range x old new p → ⊥) → ⊥ }
     ensures some_clear { (w : Board) (s range : ℕ) (x : Spot) → ((p : Verdict) → ClearVerdict w s range x p → ⊥) → ⊥ }
+{}
+
+/// Of all steps that a statement could take on an index at a moment there is one point alone, and none where it is blocked.
+pub fn each_step_is_the_next_one()
+    ensures insert { (s b k : ℕ) (r : Row) (w v u : Board) (hand : Hand) (e f : Statement) (one : InsertStep s b k r w v hand e) (two : InsertStep s b k r w u hand f) → insert_point one ≡ insert_point two }
+    ensures summarise { (s range : ℕ) (w v u : Board) (phase : Phase) (e f : Statement) (one : SummariseStep s range w v phase e) (two : SummariseStep s range w u phase f) → summarise_point one ≡ summarise_point two }
+    ensures desummarise { (s range : ℕ) (w v u : Board) (phase : Phase) (e f : Statement) (one : DesummariseStep s range w v phase e) (two : DesummariseStep s range w u phase f) → desummarise_point one ≡ desummarise_point two }
+    ensures insert_blocked { (s b k p : ℕ) (r : Row) (w v : Board) (x : Spot) (old new : Tuple) (e : Statement) → SwapVerdict w s (range_of w b) x old new (Waits p) → InsertStep s b k r w v (Copied x old new) e → ⊥ }
+    ensures summarise_blocked { (s range p : ℕ) (w v : Board) (phase : Phase) (e : Statement) → IsPhaseWaiting w s range phase p → SummariseStep s range w v phase e → ⊥ }
+    ensures desummarise_blocked { (s range p : ℕ) (w v : Board) (x : Spot) (e : Statement) → ClearVerdict w s range x (Waits p) → DesummariseStep s range w v (NotBuilding (Held x)) e → ⊥ }
 {}
 
 /// Where a statement of a table comes by its step is one thing: its next step, or its reply.
