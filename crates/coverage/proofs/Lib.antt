@@ -18,3 +18,4 @@ pub mod Verdicts
 pub mod Numbers
 pub mod Onward
 pub mod NextSteps
+pub mod TableOpening

@@ -1,12 +1,16 @@
 -- When a table is covered in all of its indexes, and what a scan of it still has before it.
-use Rattle.std.specs.Prelude.{◌≡◌, ◌⊎◌, ℕ, ◌≤◌, ◌<◌, IsTrue}
-use Rattle.coverage.specs.IsCovered.{IsCovered, IsKept}
-use Rattle.coverage.specs.Table.{TableScan, TableState, index_state}
+use Rattle.std.specs.Prelude.{◌≡◌, ◌⊎◌, ℕ, ◌<◌, IsTrue, false, None, Some}
+use Rattle.block_model.specs.declared.row.Row.{Row}
+use Rattle.coverage.specs.Board.{Spot, Progress, IsBuilding}
+use Rattle.coverage.specs.IsCovered.{IsCovered, IsAtRest, IsKept}
+use Rattle.coverage.specs.Steps.{Stops}
+use Rattle.coverage.specs.Table.{TableScan, Task, Resting, Index, TableState, index_state, board_at}
 use Rattle.coverage.specs.TableSteps.{range_in}
 
--- every index of the table is covered
-abbrev pub IsTableCovered : TableState → Type 0
-IsTableCovered w = (i : ℕ) → i < w.indexes → IsCovered (index_state i w)
+-- every index of the table is covered, and one statement of the table builds at a time
+pub record IsTableCovered (w : TableState) : Type 0 where
+  pub indexes : (i : ℕ) → i < w.indexes → IsCovered (index_state i w)
+  pub one_builder : (i j s n range m : ℕ) (p q : Progress) → i < w.indexes → j < w.indexes → IsBuilding (board_at i w) s range p → IsBuilding (board_at j w) n m q → s ≡ n
 
 abbrev pub IsTableKept : TableState → Type 0
 IsTableKept w = (i : ℕ) → i < w.indexes → IsKept (index_state i w)
@@ -22,3 +26,25 @@ IsGiven w scan b = IsTrue (scan.candidate b) × ((i : ℕ) → i < w.indexes →
 -- the block lies in a range of some index that isn't judged yet
 abbrev pub IsUnjudged : TableState → TableScan → ℕ → Type 0
 IsUnjudged w scan b = (i : ℕ) × (i < w.indexes) × (IsJudged scan i (range_in w i b) → ⊥)
+
+-- Nobody has a statement running, and each index rests; its ranges have blocks, and rows lie on blocks of the table.
+pub record IsTableAtRest (w : TableState) : Type 0 where
+  pub rest : (i : ℕ) → i < w.indexes → IsAtRest (index_state i w)
+  pub ranged : (i : ℕ) → i < w.indexes → 0 < (w.index i).pages_per_range
+  pub rows_below : (b k : ℕ) (r : Row) → w.row b k ≡ Some r → b < w.blocks
+
+-- a new table, without rows and tuples
+pub record IsNewTable (w : TableState) : Type 0 where
+  pub resting : (s : ℕ) → w.task s ≡ Resting
+  pub free : w.right ≡ None
+  pub row : (b k : ℕ) → w.row b k ≡ None
+  pub entry : (i range : ℕ) → (w.index i).entry range ≡ None
+  pub tuple : (i : ℕ) (x : Spot) → (w.index i).tuple x ≡ None
+  pub lock : (i p : ℕ) → (w.index i).lock p ≡ None
+  pub orphan : (i : ℕ) (x : Spot) → (w.index i).orphan x ≡ false
+  pub ranged : (i : ℕ) → 0 < (w.index i).pages_per_range
+
+-- after a stop each index of the table is as one index is
+pub record TableStops (w v : TableState) : Type 0 where
+  pub indexes : v.indexes ≡ w.indexes
+  pub stops : (i : ℕ) → i < w.indexes → Stops (index_state i w) (index_state i v)

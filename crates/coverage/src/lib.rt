@@ -18,9 +18,9 @@ ghost use Rattle.coverage.specs.Steps.{InsertStep, SummariseStep, DesummariseSte
 ghost use Rattle.coverage.specs.Points.{insert_point, summarise_point, desummarise_point};
 ghost use Rattle.coverage.specs.Knowing.{LocksNone, Knows, Spares};
 ghost use Rattle.coverage.specs.Verdicts.{Verdict, Waits, IsFreeSlot, PutVerdict, SwapVerdict, ClearVerdict};
-ghost use Rattle.coverage.specs.Table.{TableScan, Task, Resting, Scans, TableState, index_state};
-ghost use Rattle.coverage.specs.TableSteps.{IsPhaseWaiting, Onward, IsMaintained, TableStep, TableRun};
-ghost use Rattle.coverage.specs.TableCovered.{IsTableCovered, IsTableKept, IsGiven, IsUnjudged};
+ghost use Rattle.coverage.specs.Table.{TableScan, Task, Scans, TableState, board_at};
+ghost use Rattle.coverage.specs.TableSteps.{JudgeStep, ReadsPage, IsPhaseWaiting, Onward, IsMaintained, TableStep, TableRun};
+ghost use Rattle.coverage.specs.TableCovered.{IsTableCovered, IsTableKept, IsTableAtRest, IsNewTable, TableStops, IsGiven, IsUnjudged};
 
 /// Each kind of change leaves the index sound.
 pub fn changes_are_sound()
@@ -123,7 +123,15 @@ pub fn statements_go_on_in_one_way()
 pub fn table_stays_covered()
     ensures kept { (steps : List ℕ) (w v : TableState) → IsTableKept w → TableRun steps w v → IsTableKept v }
     ensures covered { (w : TableState) → IsTableKept w → IsTableCovered w }
-    ensures opened { (w : TableState) → IsTableCovered w → ((i : ℕ) → i < w.indexes → IsAtRest (index_state i w) × (0 < (w.index i).pages_per_range)) → ((b k : ℕ) (r : Row) → w.row b k ≡ Some r → b < w.blocks) → IsTableKept w }
+    ensures opened { (w : TableState) → IsTableCovered w → IsTableAtRest w → IsTableKept w }
+    ensures stopped { (w v : TableState) → IsTableKept w → TableStops w v → IsTableKept v }
+    ensures new { (w : TableState) → IsNewTable w → IsTableKept w }
+{}
+
+/// A scan judges each range in one way, by the tuple that it reads there, and reads the next given block to one end.
+pub fn scans_are_exact()
+    ensures judged { (w : TableState) (old p q : TableScan) → JudgeStep (board_at old.at w) old p → JudgeStep (board_at old.at w) old q → p ≡ q }
+    ensures read { (w : TableState) (scan : TableScan) (m n : ℕ) (f g : ℕ → ℕ → Bool) → ReadsPage w scan m f → ReadsPage w scan n g → (m ≡ n) × ((b k : ℕ) → f b k ≡ g b k) }
 {}
 
 /// Each matching row that a scan's session sees is found, or lies in a given block that isn't read yet, or in a range that
