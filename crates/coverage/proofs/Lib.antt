@@ -19,3 +19,4 @@ pub mod Numbers
 pub mod Onward
 pub mod NextSteps
 pub mod TableOpening
+pub mod TableBlocked

@@ -18,8 +18,8 @@ ghost use Rattle.coverage.specs.Steps.{InsertStep, SummariseStep, DesummariseSte
 ghost use Rattle.coverage.specs.Points.{insert_point, summarise_point, desummarise_point};
 ghost use Rattle.coverage.specs.Knowing.{LocksNone, Knows, Spares};
 ghost use Rattle.coverage.specs.Verdicts.{Verdict, Waits, IsFreeSlot, PutVerdict, SwapVerdict, ClearVerdict};
-ghost use Rattle.coverage.specs.Table.{TableScan, Task, Scans, TableState, board_at};
-ghost use Rattle.coverage.specs.TableSteps.{JudgeStep, ReadsPage, IsPhaseWaiting, Onward, IsMaintained, TableStep, TableRun};
+ghost use Rattle.coverage.specs.Table.{TableScan, Task, Resting, Scans, TableState, board_at};
+ghost use Rattle.coverage.specs.TableSteps.{OnlyTurns, JudgeStep, ReadsPage, IsPhaseWaiting, IsBlocked, Does, Onward, IsMaintained, TableStep, TableRun};
 ghost use Rattle.coverage.specs.TableCovered.{IsTableCovered, IsTableKept, IsTableAtRest, IsNewTable, TableStops, IsGiven, IsUnjudged};
 
 /// Each kind of change leaves the index sound.
@@ -103,7 +103,8 @@ pub fn verdicts_are_exact()
     ensures some_clear { (w : Board) (s range : ℕ) (x : Spot) → ((p : Verdict) → ClearVerdict w s range x p → ⊥) → ⊥ }
 {}
 
-/// Of all steps that a statement could take on an index at a moment there is one point alone, and none where it is blocked.
+/// Of all steps that a statement could take on an index at a moment there is one point alone, and none where it is blocked:
+/// then it stays where it is and nothing changes, or it is refused.
 pub fn each_step_is_the_next_one()
     ensures insert { (s b k : ℕ) (r : Row) (w v u : Board) (hand : Hand) (e f : Statement) (one : InsertStep s b k r w v hand e) (two : InsertStep s b k r w u hand f) → insert_point one ≡ insert_point two }
     ensures summarise { (s range : ℕ) (w v u : Board) (phase : Phase) (e f : Statement) (one : SummariseStep s range w v phase e) (two : SummariseStep s range w u phase f) → summarise_point one ≡ summarise_point two }
@@ -111,6 +112,7 @@ pub fn each_step_is_the_next_one()
     ensures insert_blocked { (s b k p : ℕ) (r : Row) (w v : Board) (x : Spot) (old new : Tuple) (e : Statement) → SwapVerdict w s (range_of w b) x old new (Waits p) → InsertStep s b k r w v (Copied x old new) e → ⊥ }
     ensures summarise_blocked { (s range p : ℕ) (w v : Board) (phase : Phase) (e : Statement) → IsPhaseWaiting w s range phase p → SummariseStep s range w v phase e → ⊥ }
     ensures desummarise_blocked { (s range p : ℕ) (w v : Board) (x : Spot) (e : Statement) → ClearVerdict w s range x (Waits p) → DesummariseStep s range w v (NotBuilding (Held x)) e → ⊥ }
+    ensures blocked { (s : ℕ) (w v : TableState) → IsBlocked w s (w.task s) → (w.task s ≡ Resting → ⊥) → Does s w v → ((v.task s ≡ w.task s) × OnlyTurns w v) ⊎ (v.task s ≡ Resting) }
 {}
 
 /// Where a statement of a table comes by its step is one thing: its next step, or its reply.
