@@ -10,7 +10,7 @@ use Rattle.coverage.specs.Statements.{Hand, Held, Copied, Moving, Dropping, Stat
 use Rattle.coverage.specs.Verdicts.{Puts, SwapVerdict, SwapMoves}
 use Rattle.coverage.specs.Knowing.{LocksNone, KnowsHand}
 use Rattle.coverage.specs.IsCovered.{IndexState, board}
-use Rattle.coverage.specs.Steps.{OwnLocks, Looks, PutsTuple, ReplacesTuple, SetsEntry, DropsTuple, HandStep, Maps, Gone, Again, MovePut, LocksThese, Turned}
+use Rattle.coverage.specs.Steps.{OwnLocks, Looks, PutsTuple, ReplacesTuple, SetsEntry, DropsTuple, HandStep, Maps, Gone, Again, MovePut, Turned}
 use Rattle.coverage.proofs.Sound.{swaps_sound, move_puts_sound, move_sets_sound, drops_sound, turns_locks_sound}
 use Rattle.coverage.proofs.Carried.{swaps_go_on, move_puts_go_on, move_sets_go_on}
 use Rattle.coverage.proofs.OthersGoOn.{drops_go_on, turns_locks_go_on}

@@ -20,3 +20,4 @@ pub mod Onward
 pub mod NextSteps
 pub mod TableOpening
 pub mod TableBlocked
+pub mod TableSeen

@@ -4,11 +4,11 @@ use Rattle.std.specs.Prelude.{refl, IsTrue}
 use Rattle.std.proofs.lemmas.Option.{same_Some, none-some}
 use Rattle.coverage.specs.Board.{Spot, Tuple, Progress, ExtentUnread, Passing, Board, IsBuilding}
 use Rattle.coverage.specs.IsSound.{IsSound}
-use Rattle.coverage.specs.Changes.{at_work, Turns, StartsBuilding, ReadsExtent, PassesBlock, Carries, Places, Names, Turn as TurnKind, IsUntouched, IsSwept, Clears, Sweeps}
+use Rattle.coverage.specs.Changes.{at_work, Turns, StartsBuilding, ReadsExtent, PassesBlock, Carries, Places, Names, Turn as TurnKind, IsUntouched, Clears, Sweeps}
 use Rattle.coverage.specs.Statements.{Hand, Empty, Held, Copied, Moving, Dropping, Phase, NotBuilding, Vacant, Growing, Evacuating, Placing, IsAt, Statement, Maintaining, Holding, loose_at, loose_of, building_at, building_of}
 use Rattle.coverage.specs.Knowing.{LocksNone, MakesUnited, MakesNone, MakesSame, KnowsPhase, Knows}
 use Rattle.coverage.specs.IsCovered.{IndexState, board}
-use Rattle.coverage.specs.Steps.{Looks, LocksThese, next_map_page, PutsTuple, SetsEntry, ClearsEntry, IsUnnamed, SweepsTuples, GrowthStep, Grow, CountLeftOver, Count, Flag, EvacuatePut, EvacuateSet, EvacuateDrop, EvacuateSweep, Turn, SummariseStep, LookMap, LookGone, IsFinal, Found, ReadNoEntry, GrowMap, Put, Set, Extent, Pass, Unite, UniteCopies, SwapFinal, SetFinal, DropOld, DesummariseStep, ClearMap, ClearNone, Clear, ClearAgain, DropCleared, MaintainStep, Summarises, Desummarises, Turned}
+use Rattle.coverage.specs.Steps.{Looks, next_map_page, PutsTuple, SetsEntry, ClearsEntry, IsUnnamed, SweepsTuples, GrowthStep, Grow, CountLeftOver, Count, Flag, EvacuatePut, EvacuateSet, EvacuateDrop, EvacuateSweep, Turn, SummariseStep, LookMap, LookGone, IsFinal, Found, ReadNoEntry, GrowMap, Put, Set, Extent, Pass, Unite, UniteCopies, SwapFinal, SetFinal, DropOld, DesummariseStep, ClearMap, ClearNone, Clear, ClearAgain, DropCleared, MaintainStep, Summarises, Desummarises, Turned}
 use Rattle.coverage.proofs.Sound.{places_sound, names_sound, turn_sound, clears_sound, sweeps_sound}
 use Rattle.coverage.proofs.BuildingGoesOn.{turn_go_on, places_go_on, names_go_on}
 use Rattle.coverage.proofs.OthersGoOn.{clears_go_on, sweeps_go_on}

@@ -1,14 +1,14 @@
 -- Of the steps that a statement could take on an index there is one point alone, and none where it is blocked.
-use Rattle.std.proofs.Common.{◌≡◌, ◌≢◌, ◌⊎◌, inl, inr, ⊎_elim, ℕ, ◌+◌, ◌≤◌, ◌<◌, Some, None, sym, ◌∙◌, ap, subst, arith}
-use Rattle.std.specs.Prelude.{refl, [], ◌∷◌, length}
-use Rattle.std.proofs.lemmas.Option.{same_Some, none-some}
+use Rattle.std.proofs.Common.{◌≡◌, ℕ, ◌≤◌, ◌<◌, Some, sym, ◌∙◌, ap, subst, arith}
+use Rattle.std.specs.Prelude.{refl, length}
+use Rattle.std.proofs.lemmas.Option.{same_Some}
 use Rattle.block_model.specs.declared.row.Row.{Row}
-use Rattle.coverage.specs.Board.{Spot, Tuple, Progress, Passing, PageKind, Unstarted, Mapping, Regular, Emptying, Board, range_of, map_page_of}
+use Rattle.coverage.specs.Board.{Spot, Tuple, PageKind, Unstarted, Mapping, Regular, Emptying, Board, range_of}
 use Rattle.coverage.specs.Changes.{IsFree}
-use Rattle.coverage.specs.Verdicts.{IsLocked, IsFirstLocked, Verdict, Waits, Differs, Fits, Puts, Full, PutVerdict, SwapVerdict, ClearVerdict}
-use Rattle.coverage.specs.Statements.{Hand, Held, Copied, Moving, Dropping, Phase, NotBuilding, Vacant, Growing, Evacuating, Placing, IsAt, Statement}
+use Rattle.coverage.specs.Verdicts.{Verdict, Waits, Differs, Fits, Puts, Full, PutVerdict, SwapVerdict, ClearVerdict}
+use Rattle.coverage.specs.Statements.{Hand, Held, Copied, Moving, Dropping, Phase, NotBuilding, Vacant, Placing, IsAt, Statement}
 use Rattle.coverage.specs.Steps.{IsUnnamed, next_map_page, IsPastMap, IsNextTuple, Grows, HandStep, Maps, Gone, Again, MovePut, InsertStep, InsertHand, InsertNoEntry, InsertCopies, InsertUnchanged, InsertSwap, InsertSet, InsertDrop, GrowthStep, Grow, CountLeftOver, Count, Flag, EvacuatePut, EvacuateSet, EvacuateDrop, EvacuateSweep, Turn, SummariseStep, LookMap, LookGone, IsFinal, Found, ReadNoEntry, GrowMap, Put, Set, Extent, Pass, Unite, UniteCopies, SwapFinal, SetFinal, DropOld, DesummariseStep, ClearMap, ClearNone, Clear, ClearAgain, DropCleared}
-use Rattle.coverage.specs.Points.{Point, hand_point, insert_point, growth_point, summarise_point, desummarise_point}
+use Rattle.coverage.specs.Points.{hand_point, insert_point, growth_point, summarise_point, desummarise_point}
 use Rattle.coverage.specs.TableSteps.{IsPhaseWaiting, FinalWaits, PlaceWaits, GrowWaits, CountWaits, FlagWaits, EvacuateWaits, EvacuatePutWaits, TurnWaits}
 use Rattle.coverage.proofs.Verdicts.{free_not_locked, both_free, put_once, swap_once, clear_once}
 

@@ -1,10 +1,9 @@
 -- Where a statement comes by its step is one thing.
-use Rattle.std.proofs.Common.{◌≡◌, ◌≢◌, ◌⊎◌, inl, inr, ⊎_elim, ℕ, ◌≤◌, ◌<◌, Bool, true, false, sym, ◌∙◌, ap, subst, arith, suc}
+use Rattle.std.proofs.Common.{◌≡◌, ◌⊎◌, ⊎_elim, ℕ, ◌≤◌, ◌<◌, true, false, sym, ◌∙◌, arith, suc}
 use Rattle.std.specs.Prelude.{refl, IsTrue}
 use Rattle.std.proofs.lemmas.Bool.{false≢true}
-use Rattle.block_model.specs.declared.row.Row.{Row}
-use Rattle.coverage.specs.Table.{Job, EachRange, OneRange, WholeRanges, Desummarising, TableScan, Task, Reaches, Considers, Maintains, Prunes, SweepsFrom, Sweeps, Restarts, Scans, TableState}
-use Rattle.coverage.specs.TableSteps.{first_block, IsFrom, IsNextPage, ScanHasStep, HasStep, HasRange, Onward, Stays, ToAsk, ToIndex, Inserted, ToRange, NextIndex, Pruned, ToPage, Swept, JudgesNext, Scanned, IsLastIndex, IsMaintained, RangesDone, NothingToSweep}
+use Rattle.coverage.specs.Table.{TableScan, Task, SweepsFrom, Sweeps, Scans, TableState}
+use Rattle.coverage.specs.TableSteps.{first_block, IsFrom, ScanHasStep, HasStep, Onward, Stays, ToAsk, ToIndex, Inserted, ToRange, NextIndex, Pruned, ToPage, Swept, JudgesNext, Scanned, IsMaintained, RangesDone, NothingToSweep}
 
 less_not_equal : (n m : ℕ) → n < m → n ≡ m → ⊥
 less_not_equal n m less is = omega arith

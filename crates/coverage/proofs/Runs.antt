@@ -4,15 +4,15 @@ use Rattle.std.specs.Prelude.{refl, IsTrue}
 use Rattle.std.proofs.lemmas.Option.{same_Some, none-some}
 use Rattle.std.proofs.lemmas.Bool.{cases_eq, false≢true}
 use Rattle.block_model.specs.declared.row.Row.{Row}
-use Rattle.coverage.specs.Board.{Spot, Tuple, Board, range_of}
+use Rattle.coverage.specs.Board.{Spot, Board, range_of}
 use Rattle.coverage.specs.IsSettled.{AllAwait, IsAccounted, Shows}
 use Rattle.coverage.specs.GoesOn.{IsHeld, GoesOn}
 use Rattle.coverage.specs.Changes.{SameHeap, PutsRow, Prunes, Takes, Ends}
-use Rattle.coverage.specs.Statements.{Hand, Empty, Phase, NotBuilding, Scan, Statement, Idle, Inserting, Maintaining, Holding, Scanning, IsAdded, loose_in, loose_at, loose_of, building_of}
+use Rattle.coverage.specs.Statements.{Hand, Empty, Phase, NotBuilding, Scan, Statement, Idle, Inserting, Maintaining, Holding, Scanning, loose_in, loose_of, building_of}
 use Rattle.coverage.specs.Knowing.{KnowsRow, Knows, Spares}
 use Rattle.std.specs.Prelude.{List}
 use Rattle.coverage.specs.IsCovered.{IndexState, board, IsKept}
-use Rattle.coverage.specs.Steps.{Looks, Reads, RowsDropped, IsUnnamed, SweepsTuples, HandStep, Maps, Gone, Again, MovePut, InsertStep, InsertHand, InsertNoEntry, InsertCopies, InsertUnchanged, InsertSwap, InsertSet, InsertDrop, GrowthStep, Grow, CountLeftOver, Count, Flag, EvacuatePut, EvacuateSet, EvacuateDrop, EvacuateSweep, Turn, SummariseStep, LookMap, LookGone, IsFinal, Found, ReadNoEntry, GrowMap, Put, Set, Extent, Pass, Unite, UniteCopies, SwapFinal, SetFinal, DropOld, DesummariseStep, ClearMap, ClearNone, Clear, ClearAgain, DropCleared, MaintainStep, Summarises, Desummarises, ScanStep, ScanMap, ScanNoEntry, ScanGone, ScanKeeps, ScanDrops, ScanElsewhere, ScanPage, Turned, SameCounts, RowPut, RightPasses, ScanBegins, Rests, Step, PutRow, Insert, Refused, TakeRight, BeginRange, Maintain, Prune, Sweep, GiveRight, Abandon, BeginScan, Scans, EndScan, Elsewhere, Counts, Run, Done, Next}
+use Rattle.coverage.specs.Steps.{Looks, Reads, RowsDropped, IsUnnamed, HandStep, Maps, Gone, Again, MovePut, InsertStep, InsertHand, InsertNoEntry, InsertCopies, InsertUnchanged, InsertSwap, InsertSet, InsertDrop, GrowthStep, Grow, CountLeftOver, Count, Flag, EvacuatePut, EvacuateSet, EvacuateDrop, EvacuateSweep, Turn, SummariseStep, LookMap, LookGone, IsFinal, Found, ReadNoEntry, GrowMap, Put, Set, Extent, Pass, Unite, UniteCopies, SwapFinal, SetFinal, DropOld, DesummariseStep, ClearMap, ClearNone, Clear, ClearAgain, DropCleared, MaintainStep, Summarises, Desummarises, ScanStep, ScanMap, ScanNoEntry, ScanGone, ScanKeeps, ScanDrops, ScanElsewhere, ScanPage, Turned, SameCounts, RowPut, RightPasses, ScanBegins, Rests, Step, PutRow, Insert, Refused, TakeRight, BeginRange, Maintain, Prune, Sweep, GiveRight, Abandon, BeginScan, Scans, EndScan, Elsewhere, Counts, Run, Done, Next}
 use Rattle.coverage.proofs.Sound.{puts_row_sound, prunes_sound, takes_sound, ends_sound}
 use Rattle.coverage.proofs.OthersGoOn.{puts_row_go_on, prunes_go_on, takes_go_on, ends_go_on}
 use Rattle.coverage.proofs.Stable.{knows_on}

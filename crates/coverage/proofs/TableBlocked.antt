@@ -1,11 +1,11 @@
 -- A blocked statement of a table stays where it is, and changes nothing.
-use Rattle.std.proofs.Common.{◌≡◌, ◌⊎◌, inl, inr, ⊎_elim, ℕ, sym, ◌∙◌, subst}
+use Rattle.std.proofs.Common.{◌≡◌, ◌⊎◌, inl, inr, ℕ, sym, ◌∙◌, subst}
 use Rattle.block_model.specs.declared.row.Row.{Row}
-use Rattle.coverage.specs.Board.{Spot, Tuple, Board}
-use Rattle.coverage.specs.Statements.{Hand, Held, Phase, NotBuilding, Statement}
-use Rattle.coverage.specs.Steps.{SweepsTuples, InsertStep, DesummariseStep, ClearMap, ClearNone, Clear, ClearAgain, DropCleared, IsUnnamed}
+use Rattle.coverage.specs.Board.{Spot, Board}
+use Rattle.coverage.specs.Statements.{Hand, Phase, Statement}
+use Rattle.coverage.specs.Steps.{SweepsTuples, InsertStep, DesummariseStep, IsUnnamed}
 use Rattle.coverage.specs.Table.{Job, EachRange, OneRange, WholeRanges, Desummarising, TableScan, Task, Resting, Asks, Inserts, Maintains, Prunes, Sweeps, Restarts, Scans, TableState, board_at}
-use Rattle.coverage.specs.TableSteps.{TaskTurns, OnlyTurns, JobStep, IsPhaseWaiting, FinalWaits, PlaceWaits, GrowWaits, CountWaits, FlagWaits, EvacuateWaits, EvacuatePutWaits, TurnWaits, IsBlocked, RightHeld, InsertWaits, SummariseWaits, DesummariseWaits, SweepWaits, Does, PutsRow, AsksSummary, InsertGoes, InsertCompletes, RefusesInsert, TakesLock, MaintainGoes, MaintainCompletes, RefusesMaintain, RefusesVacuum, PrunesBlock, SweepsPage, RestartsIndex, BeginsScan, Judges, ReadsBlock, RefusesScan, Blocked, Transacts}
+use Rattle.coverage.specs.TableSteps.{OnlyTurns, JobStep, IsPhaseWaiting, FinalWaits, PlaceWaits, GrowWaits, CountWaits, FlagWaits, EvacuateWaits, EvacuatePutWaits, TurnWaits, IsBlocked, InsertWaits, SummariseWaits, DesummariseWaits, SweepWaits, Does, PutsRow, AsksSummary, InsertGoes, InsertCompletes, RefusesInsert, TakesLock, MaintainGoes, MaintainCompletes, RefusesMaintain, RefusesVacuum, PrunesBlock, SweepsPage, RestartsIndex, BeginsScan, Judges, ReadsBlock, RefusesScan, Blocked, Transacts}
 use Rattle.coverage.proofs.Verdicts.{free_not_locked}
 use Rattle.coverage.proofs.NextSteps.{insert_blocked, summarise_blocked, desummarise_blocked}
 

@@ -1,21 +1,20 @@
 -- Every step of a table's statements keeps what each of its indexes rests on.
-use Rattle.std.proofs.Common.{◌≡◌, ◌≢◌, ◌⊎◌, inl, inr, ⊎_elim, ℕ, ◌+◌, ◌≤◌, ◌<◌, Option, Some, None, Bool, true, false, sym, ◌∙◌, ap, subst, arith, zero, suc}
-use Rattle.std.specs.Prelude.{refl, IsTrue, max, List}
-use Rattle.std.proofs.lemmas.Option.{same_Some, none-some}
-use Rattle.std.proofs.lemmas.Bool.{cases_eq, false≢true}
+use Rattle.std.proofs.Common.{◌≡◌, ◌≢◌, ◌⊎◌, inl, inr, ⊎_elim, ℕ, ◌+◌, ◌≤◌, ◌<◌, Option, Some, None, Bool, false, sym, ◌∙◌, ap, subst, arith, suc}
+use Rattle.std.specs.Prelude.{refl, IsTrue, max}
+use Rattle.std.proofs.lemmas.Option.{none-some}
+use Rattle.std.proofs.lemmas.Bool.{cases_eq}
 use Rattle.block_model.specs.declared.row.Row.{Row}
 use Rattle.coverage.specs.Board.{Spot, Tuple, Board, range_of}
-use Rattle.coverage.specs.Statements.{Hand, Empty, Held, Copied, Moving, Dropping, IsAdded, Phase, NotBuilding, Vacant, IsAt, Scan, Statement, Idle, Inserting, Maintaining, Holding, Scanning, loose_in, loose_at}
-use Rattle.coverage.specs.Knowing.{LocksNone, KnowsHand, Knows, Spares}
-use Rattle.coverage.specs.IsCovered.{IndexState, board, IsKept}
-use Rattle.coverage.specs.Changes.{SameHeap}
-use Rattle.coverage.specs.Steps.{OwnLocks, IsUnnamed, SweepsTuples, Excludes, InsertStep, MaintainStep, Summarises, Desummarises, ScanStep, ScanMap, ScanGone, ScanKeeps, ScanDrops, ScanElsewhere, ScanPage, Turned, RowPut, RowsDropped, RightPasses, ScanBegins as IndexScanBegins, Step, PutRow, Insert, Refused, TakeRight, BeginRange, Maintain, Prune, Sweep, GiveRight, Abandon, BeginScan, Scans as StepScans, EndScan, Elsewhere, Counts}
+use Rattle.coverage.specs.Statements.{Hand, Empty, Held, Copied, Moving, Dropping, IsAdded, Phase, Scan, Statement, Idle, Inserting, Maintaining, Holding, Scanning, loose_in, loose_at}
+use Rattle.coverage.specs.Knowing.{LocksNone, KnowsHand, Knows}
+use Rattle.coverage.specs.IsCovered.{IsKept}
+use Rattle.coverage.specs.Steps.{IsUnnamed, SweepsTuples, Excludes, InsertStep, MaintainStep, Summarises, Desummarises, ScanStep, ScanMap, ScanGone, ScanKeeps, ScanDrops, ScanElsewhere, ScanPage, RightPasses, Step, PutRow, Insert, Refused, TakeRight, Maintain, Prune, Sweep, GiveRight, Abandon, BeginScan, Scans as StepScans, EndScan, Elsewhere, Counts}
 use Rattle.coverage.specs.Table.{Index, Job, EachRange, OneRange, WholeRanges, Desummarising, TableScan, Task, Resting, Reaches, Asks, Inserts, Considers, Maintains, Prunes, SweepsFrom, Sweeps, Restarts, Scans, TableState, pick, hand_by, inserting_of, held_at, scan_at, seen_by, index_state, board_at}
-use Rattle.coverage.specs.TableSteps.{TaskTurns, SameRows, SameIndexes, OnlyTurns, StepsIn, IsFirstPlace, TakesRow, IsInsertRefused, AskRefused, MemoryShort, IndexFull, BeginsWith, Summarize, SummarizeOne, Desummarize, Vacuum, JobStep, IsMaintainRefused, NoMemory, FinalFull, PlaceFull, MapFull, EvacuateFull, HasPut, SeesPlace, IsVacuuming, DropsRows, ScanBegins, JudgeStep, JudgeMap, JudgeNoEntry, JudgeGone, JudgeKeeps, JudgeDrops, ReadsPage, Fails, Does, PutsRow, AsksSummary, InsertGoes, InsertCompletes, RefusesInsert, TakesLock, MaintainGoes, MaintainCompletes, RefusesMaintain, RefusesVacuum, PrunesBlock, SweepsPage, RestartsIndex, BeginsScan, Judges, ReadsBlock, RefusesScan, Blocked, Transacts, Onward, Stays, ToAsk, ToIndex, Inserted, ToRange, NextIndex, Pruned, ToPage, Swept, JudgesNext, Scanned, IsMaintained, RangesDone, NothingToSweep, Settles, GoesOn, GivesLock, TableStep, TableRun, TableDone, TableNext}
-use Rattle.coverage.specs.TableCovered.{IsTableKept}
+use Rattle.coverage.specs.TableSteps.{TaskTurns, SameRows, SameIndexes, OnlyTurns, StepsIn, IsFirstPlace, TakesRow, IsInsertRefused, AskRefused, MemoryShort, IndexFull, BeginsWith, Summarize, SummarizeOne, Desummarize, Vacuum, JobStep, IsMaintainRefused, NoMemory, FinalFull, PlaceFull, MapFull, EvacuateFull, HasPut, SeesPlace, IsVacuuming, DropsRows, ScanBegins, JudgeStep, JudgeMap, JudgeNoEntry, JudgeGone, JudgeKeeps, JudgeDrops, ReadsPage, Fails, IsMaintained, RangesDone, NothingToSweep}
+use Rattle.coverage.specs.TableCovered.{AreIndexesKept}
 use Rattle.coverage.proofs.Opening.{scan_excludes}
-use Rattle.coverage.proofs.Runs.{step_kept, insert_heap, maintain_heap}
-use Rattle.coverage.proofs.Views.{pick_same, pick_other, pick_both, held_none, hand_first, hand_here, hand_below, hand_other, hand_next, hand_view, seen_put, seen_spares, turned_at, rests_at, none_at, reads_at, passes_at}
+use Rattle.coverage.proofs.Runs.{step_kept}
+use Rattle.coverage.proofs.Views.{pick_same, pick_other, held_none, hand_first, hand_here, hand_below, hand_other, hand_next, hand_view, seen_put, seen_spares, turned_at, rests_at, reads_at, passes_at}
 
 -- the step of a maintenance statement in its index
 job_step : (job : Job) (s range : ℕ) (w v : Board) (old : Phase) (new : Statement) → JobStep job s range w v old new → MaintainStep s range w v old new
@@ -78,7 +77,7 @@ hand_locks_none w s range Makes (Copied x old new) none known = known.0
 hand_locks_none w s range Makes (Moving x y old new) none known = absurd (none-some _ (sym none))
 hand_locks_none w s range Makes (Dropping x) none known = absurd (none-some _ (sym none))
 
-module _ (s : ℕ) (w v : TableState) (kept : IsTableKept w) (i : ℕ) (below : i < w.indexes) where
+module _ (s : ℕ) (w v : TableState) (kept : AreIndexesKept w) (i : ℕ) (below : i < w.indexes) where
   pub known : (task : Task) (d : Statement) → w.task s ≡ task → seen_by i task ≡ d → Knows (board_at i w) s d
   known task d was view = subst (λ m. Knows (board_at i w) s m) (ap (seen_by i) was ∙ view) ((kept i below).knows s)
 
@@ -295,7 +294,7 @@ module _ (s : ℕ) (w v : TableState) (kept : IsTableKept w) (i : ℕ) (below : 
   scan_elsewhere old apart = pick_other i old.at (held_at old.range old.held) None apart
 
   -- rows of a range that the index at hand leaves out don't match
-  dropped_spares : (old : TableScan) (x : Spot) (t : Tuple) (candidate : ℕ → Bool) → w.task s ≡ Scans old → old.at < w.indexes → old.held ≡ Some x → (w.index old.at).tuple x ≡ Some t → t.range ≡ old.range → Excludes t old.matches
+  pub dropped_spares : (old : TableScan) (x : Spot) (t : Tuple) (candidate : ℕ → Bool) → w.task s ≡ Scans old → old.at < w.indexes → old.held ≡ Some x → (w.index old.at).tuple x ≡ Some t → t.range ≡ old.range → Excludes t old.matches
       → ((b : ℕ) → ((range_of (board_at old.at w) b ≡ old.range) × (candidate b ≡ false)) ⊎ ((range_of (board_at old.at w) b ≢ old.range) × (candidate b ≡ old.candidate b)))
       → (b k : ℕ) (r : Row) → w.row b k ≡ Some r → IsTrue (old.sees b k) → IsTrue (old.matches r) → IsTrue (old.candidate b) → IsTrue (candidate b)
   dropped_spares old x t candidate was inside held here of excludes others b k r there sees matches candidate_was = ⊎_elim

@@ -4,13 +4,12 @@ use Rattle.std.specs.Prelude.{refl, IsTrue}
 use Rattle.std.proofs.lemmas.Option.{same_Some, none-some}
 use Rattle.std.proofs.lemmas.Bool.{cases_eq, false≢true}
 use Rattle.block_model.specs.declared.row.Row.{Row}
-use Rattle.coverage.specs.Table.{TableScan, Scans, TableState, scan_at, seen_by, index_state}
+use Rattle.coverage.specs.Table.{TableScan, Scans, TableState}
 use Rattle.coverage.specs.Board.{Spot, Tuple, Board, range_of}
 use Rattle.coverage.specs.Steps.{IsGone}
 use Rattle.coverage.specs.TableSteps.{range_in, JudgeStep, JudgeMap, JudgeNoEntry, JudgeGone, JudgeKeeps, JudgeDrops, ReadsPage}
 use Rattle.coverage.specs.TableCovered.{IsTableKept, IsJudged, IsGiven, IsUnjudged}
 use Rattle.coverage.proofs.Numbers.{lt_or_ge, all_or_one}
-use Rattle.coverage.proofs.Opening.{scan_finds}
 
 judged_or_not : (scan : TableScan) (i range : ℕ) → IsJudged scan i range ⊎ (IsJudged scan i range → ⊥)
 judged_or_not scan i range = ⊎_elim
@@ -27,10 +26,10 @@ judged_or_not scan i range = ⊎_elim
     apart : (n m : ℕ) → n ≤ m → m < n → ⊥
     apart n m le less = omega arith
 
-pub table_scan_finds : (w : TableState) (s b k : ℕ) (scan : TableScan) → IsTableKept w → 0 < w.indexes → w.task s ≡ Scans scan → IsTrue (scan.sees b k)
+pub table_scan_finds : (w : TableState) (s b k : ℕ) (scan : TableScan) → IsTableKept w → w.task s ≡ Scans scan → IsTrue (scan.sees b k)
     → (r : Row) × (w.row b k ≡ Some r) × (IsTrue (scan.matches r) → IsTrue (scan.found b k) ⊎ (IsGiven w scan b × (scan.read ≤ b)) ⊎ IsUnjudged w scan b)
-table_scan_finds w s b k scan kept some is sees =
-    let row = scan_finds (index_state 0 w) s b k (scan_at 0 scan) (kept 0 some) (ap (seen_by 0) is) sees in (
+table_scan_finds w s b k scan kept is sees =
+    let row = kept.scans s scan is b k sees in (
       row.0,
       row.1,
       λ matches. ⊎_elim

@@ -1,19 +1,19 @@
 -- Where a table's statement comes by its step, and whole runs of them.
-use Rattle.std.proofs.Common.{◌≡◌, ◌≢◌, ◌⊎◌, inl, inr, ⊎_elim, ℕ, ◌<◌, Option, Some, None, Bool, sym, ◌∙◌, ap, subst, arith, zero, suc}
-use Rattle.std.specs.Prelude.{refl, IsTrue, List}
+use Rattle.std.proofs.Common.{◌≡◌, ◌≢◌, ◌⊎◌, inl, inr, ⊎_elim, ℕ, ◌<◌, sym, ◌∙◌, ap, subst, suc}
+use Rattle.std.specs.Prelude.{refl}
 use Rattle.std.proofs.lemmas.Bool.{cases_eq}
 use Rattle.block_model.specs.declared.row.Row.{Row}
 use Rattle.coverage.specs.Board.{Board, range_of}
 use Rattle.coverage.specs.Statements.{Hand, Empty, Phase, NotBuilding, Statement, Idle, Inserting, Maintaining, Holding, Scanning}
-use Rattle.coverage.specs.IsCovered.{IndexState, IsKept}
-use Rattle.coverage.specs.Steps.{HandStep, InsertStep, InsertHand, InsertNoEntry, InsertCopies, InsertUnchanged, InsertSwap, InsertSet, InsertDrop, GrowthStep, Grow, CountLeftOver, Count, Flag, EvacuatePut, EvacuateSet, EvacuateDrop, EvacuateSweep, Turn, SummariseStep, LookMap, LookGone, IsFinal, Found, ReadNoEntry, GrowMap, Put, Set, Extent, Pass, Unite, UniteCopies, SwapFinal, SetFinal, DropOld, DesummariseStep, ClearMap, ClearNone, Clear, ClearAgain, DropCleared, BeginRange, EndScan, Elsewhere, Counts, Step}
-use Rattle.coverage.specs.Table.{Index, Job, EachRange, OneRange, WholeRanges, Desummarising, TableScan, Task, Resting, Reaches, Asks, Inserts, Considers, Maintains, Prunes, SweepsFrom, Sweeps, Restarts, Scans, TableState, pick, hand_by, inserting_of, held_at, scan_at, seen_by, index_state, board_at}
-use Rattle.coverage.specs.TableSteps.{TaskTurns, SameRows, OnlyTurns, StepsIn, JobStep, HasRange, Fails, Does, PutsRow, AsksSummary, InsertGoes, InsertCompletes, RefusesInsert, TakesLock, MaintainGoes, MaintainCompletes, RefusesMaintain, RefusesVacuum, PrunesBlock, SweepsPage, RestartsIndex, BeginsScan, Judges, ReadsBlock, RefusesScan, Blocked, Transacts, Onward, Stays, ToAsk, ToIndex, Inserted, ToRange, NextIndex, Pruned, ToPage, Swept, JudgesNext, Scanned, Settles, GoesOn, GivesLock, TableStep, TableRun, TableDone, TableNext}
-use Rattle.coverage.specs.TableCovered.{IsTableKept}
+use Rattle.coverage.specs.IsCovered.{IsKept}
+use Rattle.coverage.specs.Steps.{InsertStep, InsertHand, InsertNoEntry, InsertCopies, InsertUnchanged, InsertSwap, InsertSet, InsertDrop, GrowthStep, Grow, CountLeftOver, Count, Flag, EvacuatePut, EvacuateSet, EvacuateDrop, EvacuateSweep, Turn, SummariseStep, LookMap, LookGone, IsFinal, Found, ReadNoEntry, GrowMap, Put, Set, Extent, Pass, Unite, UniteCopies, SwapFinal, SetFinal, DropOld, DesummariseStep, ClearMap, ClearNone, Clear, ClearAgain, DropCleared, BeginRange, EndScan, Counts}
+use Rattle.coverage.specs.Table.{Job, EachRange, OneRange, WholeRanges, Desummarising, TableScan, Task, Resting, Asks, Inserts, Considers, Maintains, SweepsFrom, Restarts, Scans, TableState, pick, inserting_of, scan_at, seen_by, index_state, board_at}
+use Rattle.coverage.specs.TableSteps.{TaskTurns, OnlyTurns, JobStep, Fails, Does, PutsRow, AsksSummary, InsertGoes, InsertCompletes, RefusesInsert, TakesLock, MaintainGoes, MaintainCompletes, RefusesMaintain, RefusesVacuum, PrunesBlock, SweepsPage, RestartsIndex, BeginsScan, Judges, ReadsBlock, RefusesScan, Blocked, Transacts, Onward, Stays, ToAsk, ToIndex, Inserted, ToRange, NextIndex, Pruned, ToPage, Swept, JudgesNext, Scanned, Settles, GoesOn, GivesLock, TableStep}
+use Rattle.coverage.specs.TableCovered.{AreIndexesKept}
 use Rattle.coverage.proofs.Runs.{step_kept}
 use Rattle.coverage.proofs.InsertSteps.{hand_right}
-use Rattle.coverage.proofs.Views.{pick_same, pick_other, held_none, hand_below, turned_at, none_at, reads_at}
-use Rattle.coverage.proofs.TableRuns.{vacuuming_holds, maintained_holds, refused_loose, known, steps, rests, only_rests, puts_row, insert_goes, insert_completes, counts_less, same_views, refuses_insert, takes_lock, maintains, refuses_maintain, gives_lock, prunes, sweeps_page, begins_scan, ends_scan, judges, reads_block}
+use Rattle.coverage.proofs.Views.{pick_same, pick_other, held_none, hand_below, turned_at, reads_at}
+use Rattle.coverage.proofs.TableRuns.{vacuuming_holds, maintained_holds, refused_loose, known, steps, only_rests, puts_row, insert_goes, insert_completes, refuses_insert, takes_lock, maintains, refuses_maintain, gives_lock, prunes, sweeps_page, begins_scan, ends_scan, judges, reads_block}
 
 insert_right : (s b k : ℕ) (r : Row) (w v : Board) (h : Hand) (e : Statement) → InsertStep s b k r w v h e → v.right ≡ w.right
 insert_right s b k r w v _ _ (InsertHand old new step) = hand_right s (range_of w b) w v old new step
@@ -65,7 +65,7 @@ job_right (OneRange extent only) s range w v old new step = summarise_right s ra
 job_right (WholeRanges extent) s range w v old new step = summarise_right s range w v old new step
 job_right (Desummarising only) s range w v old new step = desummarise_right s range w v old new step
 
-module _ (s : ℕ) (w v : TableState) (kept : IsTableKept w) (i : ℕ) (below : i < w.indexes) where
+module _ (s : ℕ) (w v : TableState) (kept : AreIndexesKept w) (i : ℕ) (below : i < w.indexes) where
   -- want of memory ends a scan, and then its transaction fails
   scan_fails : (scan : TableScan) (t : ℕ) → TaskTurns s w v (Scans scan) Resting → Fails w v t → IsKept (index_state i v)
   scan_fails scan t turns fails =
@@ -173,7 +173,7 @@ module _ (i : ℕ) (w : TableState) (below : i < w.indexes) where
           sees
   onward_view _ _ (Scanned scan all read) = inr (inr (scan, refl, refl))
 
-module _ (s : ℕ) (w v : TableState) (kept : IsTableKept w) (i : ℕ) (below : i < w.indexes) where
+module _ (s : ℕ) (w v : TableState) (kept : AreIndexesKept w) (i : ℕ) (below : i < w.indexes) where
   goes_on : (old new : Task) → Onward w old new → TaskTurns s w v old new → OnlyTurns w v → IsKept (index_state i v)
   goes_on old new onward turns only = ⊎_elim
       (λ (same : seen_by i new ≡ seen_by i old). only_rests s w v kept i below old new turns only same)
@@ -196,15 +196,10 @@ settles_layout : (s : ℕ) (w v : TableState) → Settles s w v → v.indexes �
 settles_layout s w v (GoesOn old new onward turns only) = only.rows.layout.indexes
 settles_layout s w v (GivesLock old done turns given rows indexes) = rows.layout.indexes
 
-pub table_step_kept : (s : ℕ) (w v : TableState) → IsTableKept w → TableStep s w v → IsTableKept v
-table_step_kept s w v kept step i below = settles_kept s u v between i (subst (λ n. i < n) (settles_layout s u v step.settles) below) step.settles
-  where
-    u : TableState
-    u = step.between
+-- within a step
+pub between_kept : (s : ℕ) (w v : TableState) → AreIndexesKept w → (step : TableStep s w v) → AreIndexesKept step.between
+between_kept s w v kept step j inside = does_kept s w step.between kept j (subst (λ n. j < n) (does_layout s w step.between step.does) inside) step.does
 
-    between : IsTableKept u
-    between j inside = does_kept s w u kept j (subst (λ n. j < n) (does_layout s w u step.does) inside) step.does
-
-pub table_run_kept : (steps : List ℕ) (w v : TableState) → IsTableKept w → TableRun steps w v → IsTableKept v
-table_run_kept _ _ _ kept (TableDone w) = kept
-table_run_kept _ _ _ kept (TableNext s rest w u v step more) = table_run_kept rest u v (table_step_kept s w u kept step) more
+pub indexes_kept : (s : ℕ) (w v : TableState) → AreIndexesKept w → TableStep s w v → AreIndexesKept v
+indexes_kept s w v kept step i below =
+    settles_kept s step.between v (between_kept s w v kept step) i (subst (λ n. i < n) (settles_layout s step.between v step.settles) below) step.settles

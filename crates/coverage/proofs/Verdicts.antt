@@ -3,7 +3,7 @@ use Rattle.std.proofs.Common.{◌≡◌, ◌≢◌, ◌⊎◌, inl, inr, ⊎_eli
 use Rattle.std.proofs.lemmas.Option.{same_Some, none-some}
 use Rattle.std.proofs.lemmas.Bool.{cases_eq}
 use Rattle.std.specs.Prelude.{refl, List, [], ◌∷◌, length}
-use Rattle.coverage.specs.Board.{Spot, Tuple, Unstarted, Regular, Board, map_page_of}
+use Rattle.coverage.specs.Board.{Spot, Tuple, Regular, Board, map_page_of}
 use Rattle.coverage.specs.Changes.{IsFree}
 use Rattle.coverage.specs.Verdicts.{IsLocked, IsFirstLocked, First, Later, IsLowest, HasRoom, IsUnstarted, IsTarget, OnStarted, OnNew, IsFreeSlot, IsTargetSpot, Verdict, Waits, Differs, Fits, Puts, Full, PutVerdict, NoTarget, PutWaits, PutGoes, MustMove, SwapVerdict, SwapWaits, SwapDiffers, SwapFits, SwapMoves, ClearVerdict, ClearWaits, ClearDiffers, ClearFits}
 use Rattle.coverage.proofs.Numbers.{lt_or_ge, lowest_below}

@@ -1,15 +1,13 @@
 -- How each index of a table sees its statements, and what it sees of their steps.
 use Rattle.std.proofs.Common.{◌≡◌, ◌≢◌, ◌⊎◌, inl, inr, ⊎_elim, ℕ, ◌<◌, Option, Some, None, Bool, sym, ◌∙◌, ap, subst, arith, zero, suc}
 use Rattle.std.specs.Prelude.{refl, IsTrue}
-use Rattle.std.proofs.lemmas.Option.{same_Some, none-some}
 use Rattle.block_model.specs.declared.row.Row.{Row}
-use Rattle.coverage.specs.Board.{Spot, Board, range_of}
+use Rattle.coverage.specs.Board.{Spot}
 use Rattle.coverage.specs.Changes.{SameHeap}
-use Rattle.coverage.specs.Statements.{Hand, Empty, Held, Copied, Moving, Dropping, Phase, Scan, Statement, Idle, Inserting, Maintaining, Holding, Scanning, loose_in}
-use Rattle.coverage.specs.Knowing.{LocksNone, Knows, Spares}
-use Rattle.coverage.specs.IsCovered.{IndexState, board, IsKept}
-use Rattle.coverage.specs.Steps.{Looks, Reads, RightPasses, Rests, Turned}
-use Rattle.coverage.specs.Table.{Index, Job, TableScan, Task, Resting, Reaches, Asks, Inserts, Considers, Maintains, Prunes, SweepsFrom, Sweeps, Restarts, Scans, TableState, pick, hand_by, inserting_of, held_at, scan_at, seen_by, index_state, board_at}
+use Rattle.coverage.specs.Statements.{Hand, Empty, Phase, Statement, Idle, Inserting, Maintaining, Holding, Scanning, loose_in}
+use Rattle.coverage.specs.Knowing.{LocksNone, Spares}
+use Rattle.coverage.specs.Steps.{Reads, RightPasses, Rests, Turned}
+use Rattle.coverage.specs.Table.{Index, Task, Resting, Reaches, Asks, Inserts, Considers, Maintains, Prunes, SweepsFrom, Sweeps, Restarts, Scans, TableState, pick, hand_by, inserting_of, held_at, scan_at, seen_by, index_state, board_at}
 use Rattle.coverage.specs.TableSteps.{TaskTurns, SameRows, HasPut, SeesPlace}
 
 pub pick_same : (i : ℕ) → {A : Type 0} → (a b : A) → pick i i a b ≡ a

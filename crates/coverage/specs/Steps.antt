@@ -2,10 +2,10 @@
 use Rattle.std.specs.Prelude.{◌≡◌, ◌≢◌, ◌⊎◌, ℕ, ◌+◌, ◌*◌, ◌≤◌, ◌<◌, min, Bool, true, false, IsTrue, Option, None, Some, List, [], ◌∷◌, length}
 use Rattle.block_model.specs.declared.row.Row.{Row}
 use Rattle.coverage.specs.Board.{Spot, Tuple, Progress, ExtentUnread, Passing, PageKind, Unstarted, Mapping, Regular, Emptying, Board, range_of, map_page_of}
-use Rattle.coverage.specs.Changes.{ChangesAt, SameHeap, SameMap, SameTuples, SameOrphans, IsFree, IsWithin, IsUntouched, IsSwept}
-use Rattle.coverage.specs.Verdicts.{IsLocked, IsLowest, Verdict, Differs, Fits, Puts, PutVerdict, SwapVerdict, ClearVerdict}
+use Rattle.coverage.specs.Changes.{ChangesAt, SameHeap, SameMap, SameTuples, SameOrphans, IsFree, IsWithin, IsUntouched}
+use Rattle.coverage.specs.Verdicts.{IsLocked, Differs, Fits, Puts, PutVerdict, SwapVerdict, ClearVerdict}
 use Rattle.coverage.specs.Statements.{Hand, Empty, Held, Copied, Moving, Dropping, Phase, NotBuilding, Vacant, Growing, Evacuating, Placing, IsAt, Scan, Statement, Idle, Inserting, Maintaining, Holding, Scanning, IsAdded, IsUnited, loose_at, loose_in}
-use Rattle.coverage.specs.Knowing.{LocksNone, MakesUnited, MakesSame, Spares}
+use Rattle.coverage.specs.Knowing.{LocksNone, Spares}
 use Rattle.coverage.specs.IsCovered.{IndexState, board, IsAtRest}
 
 -- the locks of other sessions stay, and none are given to them

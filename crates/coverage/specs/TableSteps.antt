@@ -1,5 +1,5 @@
 -- The steps of the statements of a table with several indexes: which comes next, and what it waits for.
-use Rattle.std.specs.Prelude.{◌≡◌, ◌≢◌, ◌⊎◌, ℕ, suc, ◌+◌, ◌*◌, ◌/◌, ◌≤◌, ◌<◌, max, Bool, true, false, IsTrue, ◌↔◌, Option, None, Some, List, [], ◌∷◌, length}
+use Rattle.std.specs.Prelude.{◌≡◌, ◌≢◌, ◌⊎◌, ℕ, suc, ◌+◌, ◌*◌, ◌/◌, ◌≤◌, ◌<◌, max, Bool, true, false, IsTrue, ◌↔◌, None, Some, List, [], ◌∷◌, length}
 use Rattle.block_model.specs.declared.row.Row.{Row}
 use Rattle.coverage.specs.Board.{Spot, Tuple, Progress, Unstarted, Mapping, Regular, Emptying, Board, range_of}
 use Rattle.coverage.specs.Changes.{IsFree}

@@ -1,5 +1,5 @@
 -- What comes of a step that would change index pages: it waits, it finds a difference, it has room in place or elsewhere, or none.
-use Rattle.std.specs.Prelude.{◌≡◌, ◌≢◌, ◌⊎◌, ℕ, ◌+◌, ◌≤◌, ◌<◌, None, Some, List, [], ◌∷◌, length}
+use Rattle.std.specs.Prelude.{◌≡◌, ◌≢◌, ◌⊎◌, ℕ, ◌≤◌, ◌<◌, None, Some, List, [], ◌∷◌, length}
 use Rattle.coverage.specs.Board.{Spot, Tuple, Unstarted, Regular, Board, map_page_of}
 use Rattle.coverage.specs.Changes.{IsFree}
 

@@ -139,5 +139,5 @@ pub fn scans_are_exact()
 /// Each matching row that a scan's session sees is found, or lies in a given block that isn't read yet, or in a range that
 /// isn't judged yet. A block is given where every index of the table gives it.
 pub fn table_scans_miss_nothing()
-    ensures { (w : TableState) (s b k : ℕ) (scan : TableScan) → IsTableKept w → 0 < w.indexes → w.task s ≡ Scans scan → IsTrue (scan.sees b k) → (r : Row) × (w.row b k ≡ Some r) × (IsTrue (scan.matches r) → IsTrue (scan.found b k) ⊎ (IsGiven w scan b × (scan.read ≤ b)) ⊎ IsUnjudged w scan b) }
+    ensures { (w : TableState) (s b k : ℕ) (scan : TableScan) → IsTableKept w → w.task s ≡ Scans scan → IsTrue (scan.sees b k) → (r : Row) × (w.row b k ≡ Some r) × (IsTrue (scan.matches r) → IsTrue (scan.found b k) ⊎ (IsGiven w scan b × (scan.read ≤ b)) ⊎ IsUnjudged w scan b) }
 {}

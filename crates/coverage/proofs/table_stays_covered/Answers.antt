@@ -1,5 +1,5 @@
 use Rattle.coverage.proofs.TableOpening.{table_covered, table_opened, table_stopped, new_table_kept}
-use Rattle.coverage.proofs.TableSettled.{table_run_kept}
+use Rattle.coverage.proofs.TableSeen.{table_run_kept}
 use Rattle.coverage.proofs.table_stays_covered.Goals as goal
 
 pub returns : goal.returns
@@ -8,5 +8,5 @@ returns c = record {
   covered = table_covered;
   opened = table_opened;
   stopped = table_stopped;
-  new = λ w new i below. new_table_kept w new i;
+  new = new_table_kept;
 }
