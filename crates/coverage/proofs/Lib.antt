@@ -10,14 +10,6 @@ pub mod InsertSteps
 pub mod MaintainSteps
 pub mod Runs
 pub mod Opening
-pub mod Views
-pub mod TableRuns
-pub mod TableSettled
-pub mod TableScans
 pub mod Verdicts
 pub mod Numbers
-pub mod Onward
 pub mod NextSteps
-pub mod TableOpening
-pub mod TableBlocked
-pub mod TableSeen

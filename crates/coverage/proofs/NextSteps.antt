@@ -9,7 +9,7 @@ use Rattle.coverage.specs.Verdicts.{Verdict, Waits, Differs, Fits, Puts, Full, P
 use Rattle.coverage.specs.Statements.{Hand, Held, Copied, Moving, Dropping, Phase, NotBuilding, Vacant, Placing, IsAt, Statement}
 use Rattle.coverage.specs.Steps.{IsUnnamed, next_map_page, IsPastMap, IsNextTuple, Grows, HandStep, Maps, Gone, Again, MovePut, InsertStep, InsertHand, InsertNoEntry, InsertCopies, InsertUnchanged, InsertSwap, InsertSet, InsertDrop, GrowthStep, Grow, CountLeftOver, Count, Flag, EvacuatePut, EvacuateSet, EvacuateDrop, EvacuateSweep, Turn, SummariseStep, LookMap, LookGone, IsFinal, Found, ReadNoEntry, GrowMap, Put, Set, Extent, Pass, Unite, UniteCopies, SwapFinal, SetFinal, DropOld, DesummariseStep, ClearMap, ClearNone, Clear, ClearAgain, DropCleared}
 use Rattle.coverage.specs.Points.{hand_point, insert_point, growth_point, summarise_point, desummarise_point}
-use Rattle.coverage.specs.TableSteps.{IsPhaseWaiting, FinalWaits, PlaceWaits, GrowWaits, CountWaits, FlagWaits, EvacuateWaits, EvacuatePutWaits, TurnWaits}
+use Rattle.coverage.specs.Waiting.{IsPhaseWaiting, FinalWaits, PlaceWaits, GrowWaits, CountWaits, FlagWaits, EvacuateWaits, EvacuatePutWaits, TurnWaits}
 use Rattle.coverage.proofs.Verdicts.{free_not_locked, both_free, put_once, swap_once, clear_once}
 
 abbrev verdict_number : Verdict → ℕ

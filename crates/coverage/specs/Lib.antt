@@ -9,6 +9,4 @@ pub mod Knowing
 pub mod IsCovered
 pub mod Steps
 pub mod Points
-pub mod Table
-pub mod TableSteps
-pub mod TableCovered
+pub mod Waiting

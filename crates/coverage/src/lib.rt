@@ -2,7 +2,8 @@
 // the definitions of a covered index (specs/) and the laws of its changes. Each kind of change keeps the board of rows,
 // tuples, range map and locks sound, and leaves to all other sessions what they know (`GoesOn`); so every list of steps
 // keeps the index covered. It stands on block_model's rows alone: on no page's bytes, no operator class and no machine.
-// A layer above shows of each of its steps which one of specs/Steps it is, and has the rest from here.
+// The crate table_coverage puts several indexes of one table together. A layer above shows of each of its steps which one of
+// specs/Steps it is, and has the rest from here.
 #![tactic(auto)]
 
 ghost use Rattle.std.specs.Prelude.{◌≡◌, ◌≢◌, ◌⊎◌, ◌<◌, ◌≤◌, ℕ, Bool, false, IsTrue, Option, None, Some, List};
@@ -18,9 +19,7 @@ ghost use Rattle.coverage.specs.Steps.{InsertStep, SummariseStep, DesummariseSte
 ghost use Rattle.coverage.specs.Points.{insert_point, summarise_point, desummarise_point};
 ghost use Rattle.coverage.specs.Knowing.{LocksNone, Knows, Spares};
 ghost use Rattle.coverage.specs.Verdicts.{Verdict, Waits, IsFreeSlot, PutVerdict, SwapVerdict, ClearVerdict};
-ghost use Rattle.coverage.specs.Table.{TableScan, Task, Resting, Scans, TableState, board_at};
-ghost use Rattle.coverage.specs.TableSteps.{OnlyTurns, JudgeStep, ReadsPage, IsPhaseWaiting, IsBlocked, Does, Onward, IsMaintained, TableStep, TableRun};
-ghost use Rattle.coverage.specs.TableCovered.{IsTableCovered, IsTableKept, IsTableAtRest, IsNewTable, TableStops, IsGiven, IsUnjudged};
+ghost use Rattle.coverage.specs.Waiting.{IsPhaseWaiting};
 
 /// Each kind of change leaves the index sound.
 pub fn changes_are_sound()
@@ -103,8 +102,7 @@ pub fn verdicts_are_exact()
     ensures some_clear { (w : Board) (s range : ℕ) (x : Spot) → ((p : Verdict) → ClearVerdict w s range x p → ⊥) → ⊥ }
 {}
 
-/// Of all steps that a statement could take on an index at a moment there is one point alone, and none where it is blocked:
-/// then it stays where it is and nothing changes, or it is refused.
+/// Of all steps that a statement could take on an index at a moment there is one point alone, and none where it is blocked.
 pub fn each_step_is_the_next_one()
     ensures insert { (s b k : ℕ) (r : Row) (w v u : Board) (hand : Hand) (e f : Statement) (one : InsertStep s b k r w v hand e) (two : InsertStep s b k r w u hand f) → insert_point one ≡ insert_point two }
     ensures summarise { (s range : ℕ) (w v u : Board) (phase : Phase) (e f : Statement) (one : SummariseStep s range w v phase e) (two : SummariseStep s range w u phase f) → summarise_point one ≡ summarise_point two }
@@ -112,32 +110,4 @@ pub fn each_step_is_the_next_one()
     ensures insert_blocked { (s b k p : ℕ) (r : Row) (w v : Board) (x : Spot) (old new : Tuple) (e : Statement) → SwapVerdict w s (range_of w b) x old new (Waits p) → InsertStep s b k r w v (Copied x old new) e → ⊥ }
     ensures summarise_blocked { (s range p : ℕ) (w v : Board) (phase : Phase) (e : Statement) → IsPhaseWaiting w s range phase p → SummariseStep s range w v phase e → ⊥ }
     ensures desummarise_blocked { (s range p : ℕ) (w v : Board) (x : Spot) (e : Statement) → ClearVerdict w s range x (Waits p) → DesummariseStep s range w v (NotBuilding (Held x)) e → ⊥ }
-    ensures blocked { (s : ℕ) (w v : TableState) → IsBlocked w s (w.task s) → (w.task s ≡ Resting → ⊥) → Does s w v → ((v.task s ≡ w.task s) × OnlyTurns w v) ⊎ (v.task s ≡ Resting) }
-{}
-
-/// Where a statement of a table comes by its step is one thing: its next step, or its reply.
-pub fn statements_go_on_in_one_way()
-    ensures one_way { (w : TableState) (old p q : Task) → Onward w old p → Onward w old q → p ≡ q }
-    ensures or_reply { (w : TableState) (old q : Task) → IsMaintained w old → Onward w old q → ⊥ }
-{}
-
-/// Whatever the statements of a table with several indexes do, in any interleaving, each of its indexes stays covered.
-pub fn table_stays_covered()
-    ensures kept { (steps : List ℕ) (w v : TableState) → IsTableKept w → TableRun steps w v → IsTableKept v }
-    ensures covered { (w : TableState) → IsTableKept w → IsTableCovered w }
-    ensures opened { (w : TableState) → IsTableCovered w → IsTableAtRest w → IsTableKept w }
-    ensures stopped { (w v : TableState) → IsTableKept w → TableStops w v → IsTableKept v }
-    ensures new { (w : TableState) → IsNewTable w → IsTableKept w }
-{}
-
-/// A scan judges each range in one way, by the tuple that it reads there, and reads the next given block to one end.
-pub fn scans_are_exact()
-    ensures judged { (w : TableState) (old p q : TableScan) → JudgeStep (board_at old.at w) old p → JudgeStep (board_at old.at w) old q → p ≡ q }
-    ensures read { (w : TableState) (scan : TableScan) (m n : ℕ) (f g : ℕ → ℕ → Bool) → ReadsPage w scan m f → ReadsPage w scan n g → (m ≡ n) × ((b k : ℕ) → f b k ≡ g b k) }
-{}
-
-/// Each matching row that a scan's session sees is found, or lies in a given block that isn't read yet, or in a range that
-/// isn't judged yet. A block is given where every index of the table gives it.
-pub fn table_scans_miss_nothing()
-    ensures { (w : TableState) (s b k : ℕ) (scan : TableScan) → IsTableKept w → w.task s ≡ Scans scan → IsTrue (scan.sees b k) → (r : Row) × (w.row b k ≡ Some r) × (IsTrue (scan.matches r) → IsTrue (scan.found b k) ⊎ (IsGiven w scan b × (scan.read ≤ b)) ⊎ IsUnjudged w scan b) }
 {}

@@ -1,5 +1,4 @@
 use Rattle.coverage.proofs.NextSteps.{insert_one_point, summarise_one_point, desummarise_one_point, insert_blocked, summarise_blocked, desummarise_blocked}
-use Rattle.coverage.proofs.TableBlocked.{blocked_waits}
 use Rattle.coverage.proofs.each_step_is_the_next_one.Goals as goal
 
 pub returns : goal.returns
@@ -10,5 +9,4 @@ returns c = record {
   insert_blocked = insert_blocked;
   summarise_blocked = λ s range p w v phase e waits step. summarise_blocked s range w v p phase e waits step;
   desummarise_blocked = desummarise_blocked;
-  blocked = λ s w v blocked busy does. blocked_waits s w v blocked busy does;
 }

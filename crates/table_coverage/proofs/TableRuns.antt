@@ -9,12 +9,12 @@ use Rattle.coverage.specs.Statements.{Hand, Empty, Held, Copied, Moving, Droppin
 use Rattle.coverage.specs.Knowing.{LocksNone, KnowsHand, Knows}
 use Rattle.coverage.specs.IsCovered.{IsKept}
 use Rattle.coverage.specs.Steps.{IsUnnamed, SweepsTuples, Excludes, InsertStep, MaintainStep, Summarises, Desummarises, ScanStep, ScanMap, ScanGone, ScanKeeps, ScanDrops, ScanElsewhere, ScanPage, RightPasses, Step, PutRow, Insert, Refused, TakeRight, Maintain, Prune, Sweep, GiveRight, Abandon, BeginScan, Scans as StepScans, EndScan, Elsewhere, Counts}
-use Rattle.coverage.specs.Table.{Index, Job, EachRange, OneRange, WholeRanges, Desummarising, TableScan, Task, Resting, Reaches, Asks, Inserts, Considers, Maintains, Prunes, SweepsFrom, Sweeps, Restarts, Scans, TableState, pick, hand_by, inserting_of, held_at, scan_at, seen_by, index_state, board_at}
-use Rattle.coverage.specs.TableSteps.{TaskTurns, SameRows, SameIndexes, OnlyTurns, StepsIn, IsFirstPlace, TakesRow, IsInsertRefused, AskRefused, MemoryShort, IndexFull, BeginsWith, Summarize, SummarizeOne, Desummarize, Vacuum, JobStep, IsMaintainRefused, NoMemory, FinalFull, PlaceFull, MapFull, EvacuateFull, HasPut, SeesPlace, IsVacuuming, DropsRows, ScanBegins, JudgeStep, JudgeMap, JudgeNoEntry, JudgeGone, JudgeKeeps, JudgeDrops, ReadsPage, Fails, IsMaintained, RangesDone, NothingToSweep}
-use Rattle.coverage.specs.TableCovered.{AreIndexesKept}
+use Rattle.table_coverage.specs.Table.{Index, Job, EachRange, OneRange, WholeRanges, Desummarising, TableScan, Task, Resting, Reaches, Asks, Inserts, Considers, Maintains, Prunes, SweepsFrom, Sweeps, Restarts, Scans, TableState, pick, hand_by, inserting_of, held_at, scan_at, seen_by, index_state, board_at}
+use Rattle.table_coverage.specs.TableSteps.{TaskTurns, SameRows, SameIndexes, OnlyTurns, StepsIn, IsFirstPlace, TakesRow, IsInsertRefused, AskRefused, MemoryShort, IndexFull, BeginsWith, Summarize, SummarizeOne, Desummarize, Vacuum, JobStep, IsMaintainRefused, NoMemory, FinalFull, PlaceFull, MapFull, EvacuateFull, HasPut, SeesPlace, IsVacuuming, DropsRows, ScanBegins, JudgeStep, JudgeMap, JudgeNoEntry, JudgeGone, JudgeKeeps, JudgeDrops, ReadsPage, Fails, IsMaintained, RangesDone, NothingToSweep}
+use Rattle.table_coverage.specs.TableCovered.{AreIndexesKept}
 use Rattle.coverage.proofs.Opening.{scan_excludes}
 use Rattle.coverage.proofs.Runs.{step_kept}
-use Rattle.coverage.proofs.Views.{pick_same, pick_other, held_none, hand_first, hand_here, hand_below, hand_other, hand_next, hand_view, seen_put, seen_spares, turned_at, rests_at, reads_at, passes_at}
+use Rattle.table_coverage.proofs.Views.{pick_same, pick_other, held_none, hand_first, hand_here, hand_below, hand_other, hand_next, hand_view, seen_put, seen_spares, turned_at, rests_at, reads_at, passes_at}
 
 -- the step of a maintenance statement in its index
 job_step : (job : Job) (s range : ℕ) (w v : Board) (old : Phase) (new : Statement) → JobStep job s range w v old new → MaintainStep s range w v old new

@@ -2,8 +2,8 @@
 use Rattle.std.proofs.Common.{◌≡◌, ◌⊎◌, ⊎_elim, ℕ, ◌≤◌, ◌<◌, true, false, sym, ◌∙◌, arith, suc}
 use Rattle.std.specs.Prelude.{refl, IsTrue}
 use Rattle.std.proofs.lemmas.Bool.{false≢true}
-use Rattle.coverage.specs.Table.{TableScan, Task, SweepsFrom, Sweeps, Scans, TableState}
-use Rattle.coverage.specs.TableSteps.{first_block, IsFrom, ScanHasStep, HasStep, Onward, Stays, ToAsk, ToIndex, Inserted, ToRange, NextIndex, Pruned, ToPage, Swept, JudgesNext, Scanned, IsMaintained, RangesDone, NothingToSweep}
+use Rattle.table_coverage.specs.Table.{TableScan, Task, SweepsFrom, Sweeps, Scans, TableState}
+use Rattle.table_coverage.specs.TableSteps.{first_block, IsFrom, ScanHasStep, HasStep, Onward, Stays, ToAsk, ToIndex, Inserted, ToRange, NextIndex, Pruned, ToPage, Swept, JudgesNext, Scanned, IsMaintained, RangesDone, NothingToSweep}
 
 less_not_equal : (n m : ℕ) → n < m → n ≡ m → ⊥
 less_not_equal n m less is = omega arith

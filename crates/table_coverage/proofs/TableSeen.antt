@@ -4,11 +4,11 @@ use Rattle.std.specs.Prelude.{refl, IsTrue, List}
 use Rattle.std.proofs.lemmas.Option.{same_Some, none-some}
 use Rattle.std.proofs.lemmas.Bool.{cases_eq}
 use Rattle.block_model.specs.declared.row.Row.{Row}
-use Rattle.coverage.specs.Table.{TableScan, Task, Resting, SweepsFrom, Scans, TableState, board_at}
-use Rattle.coverage.specs.TableSteps.{TaskTurns, OnlyTurns, BeginsWith, Summarize, SummarizeOne, Desummarize, Vacuum, SeesPlace, JudgeStep, JudgeMap, JudgeNoEntry, JudgeGone, JudgeKeeps, JudgeDrops, ReadsPage, Fails, Does, PutsRow, AsksSummary, InsertGoes, InsertCompletes, RefusesInsert, TakesLock, MaintainGoes, MaintainCompletes, RefusesMaintain, RefusesVacuum, PrunesBlock, SweepsPage, RestartsIndex, BeginsScan, Judges, ReadsBlock, RefusesScan, Blocked, Transacts, Onward, Stays, ToAsk, ToIndex, Inserted, ToRange, NextIndex, Pruned, ToPage, Swept, JudgesNext, Scanned, Settles, GoesOn, GivesLock, TableStep, TableRun, TableDone, TableNext}
-use Rattle.coverage.specs.TableCovered.{SeesRows, IsTableKept}
-use Rattle.coverage.proofs.TableRuns.{dropped_spares}
-use Rattle.coverage.proofs.TableSettled.{between_kept, indexes_kept}
+use Rattle.table_coverage.specs.Table.{TableScan, Task, Resting, SweepsFrom, Scans, TableState, board_at}
+use Rattle.table_coverage.specs.TableSteps.{TaskTurns, OnlyTurns, BeginsWith, Summarize, SummarizeOne, Desummarize, Vacuum, SeesPlace, JudgeStep, JudgeMap, JudgeNoEntry, JudgeGone, JudgeKeeps, JudgeDrops, ReadsPage, Fails, Does, PutsRow, AsksSummary, InsertGoes, InsertCompletes, RefusesInsert, TakesLock, MaintainGoes, MaintainCompletes, RefusesMaintain, RefusesVacuum, PrunesBlock, SweepsPage, RestartsIndex, BeginsScan, Judges, ReadsBlock, RefusesScan, Blocked, Transacts, Onward, Stays, ToAsk, ToIndex, Inserted, ToRange, NextIndex, Pruned, ToPage, Swept, JudgesNext, Scanned, Settles, GoesOn, GivesLock, TableStep, TableRun, TableDone, TableNext}
+use Rattle.table_coverage.specs.TableCovered.{SeesRows, IsTableKept}
+use Rattle.table_coverage.proofs.TableRuns.{dropped_spares}
+use Rattle.table_coverage.proofs.TableSettled.{between_kept, indexes_kept}
 
 -- the scan of a task
 abbrev scan_of : Task → Option TableScan

@@ -5,8 +5,8 @@ use Rattle.std.proofs.lemmas.Bool.{false≢true}
 use Rattle.coverage.specs.Board.{Progress, IsBuilding}
 use Rattle.coverage.specs.Statements.{building_of}
 use Rattle.coverage.specs.IsCovered.{IsAtRest, IsKept}
-use Rattle.coverage.specs.Table.{TableScan, Task, Resting, Scans, TableState, seen_by, index_state, board_at}
-use Rattle.coverage.specs.TableCovered.{IsTableCovered, IsTableKept, IsTableAtRest, IsNewTable, TableStops}
+use Rattle.table_coverage.specs.Table.{TableScan, Task, Resting, Scans, TableState, seen_by, index_state, board_at}
+use Rattle.table_coverage.specs.TableCovered.{IsTableCovered, IsTableKept, IsTableAtRest, IsNewTable, TableStops}
 use Rattle.coverage.proofs.Covered.{kept_covered}
 use Rattle.coverage.proofs.Opening.{rest_kept, stopped_kept}
 

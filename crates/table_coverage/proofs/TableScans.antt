@@ -4,11 +4,11 @@ use Rattle.std.specs.Prelude.{refl, IsTrue}
 use Rattle.std.proofs.lemmas.Option.{same_Some, none-some}
 use Rattle.std.proofs.lemmas.Bool.{cases_eq, false≢true}
 use Rattle.block_model.specs.declared.row.Row.{Row}
-use Rattle.coverage.specs.Table.{TableScan, Scans, TableState}
+use Rattle.table_coverage.specs.Table.{TableScan, Scans, TableState}
 use Rattle.coverage.specs.Board.{Spot, Tuple, Board, range_of}
 use Rattle.coverage.specs.Steps.{IsGone}
-use Rattle.coverage.specs.TableSteps.{range_in, JudgeStep, JudgeMap, JudgeNoEntry, JudgeGone, JudgeKeeps, JudgeDrops, ReadsPage}
-use Rattle.coverage.specs.TableCovered.{IsTableKept, IsJudged, IsGiven, IsUnjudged}
+use Rattle.table_coverage.specs.TableSteps.{range_in, JudgeStep, JudgeMap, JudgeNoEntry, JudgeGone, JudgeKeeps, JudgeDrops, ReadsPage}
+use Rattle.table_coverage.specs.TableCovered.{IsTableKept, IsJudged, IsGiven, IsUnjudged}
 use Rattle.coverage.proofs.Numbers.{lt_or_ge, all_or_one}
 
 judged_or_not : (scan : TableScan) (i range : ℕ) → IsJudged scan i range ⊎ (IsJudged scan i range → ⊥)

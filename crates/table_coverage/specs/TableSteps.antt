@@ -1,12 +1,13 @@
 -- The steps of the statements of a table with several indexes: which comes next, and what it waits for.
 use Rattle.std.specs.Prelude.{◌≡◌, ◌≢◌, ◌⊎◌, ℕ, suc, ◌+◌, ◌*◌, ◌/◌, ◌≤◌, ◌<◌, max, Bool, true, false, IsTrue, ◌↔◌, None, Some, List, [], ◌∷◌, length}
 use Rattle.block_model.specs.declared.row.Row.{Row}
-use Rattle.coverage.specs.Board.{Spot, Tuple, Progress, Unstarted, Mapping, Regular, Emptying, Board, range_of}
+use Rattle.coverage.specs.Board.{Spot, Tuple, Progress, Regular, Emptying, Board, range_of}
 use Rattle.coverage.specs.Changes.{IsFree}
-use Rattle.coverage.specs.Verdicts.{IsLocked, IsFirstLocked, Waits, Full, PutVerdict, SwapVerdict, ClearVerdict}
+use Rattle.coverage.specs.Verdicts.{IsLocked, Waits, Full, PutVerdict, SwapVerdict, ClearVerdict}
 use Rattle.coverage.specs.Statements.{Hand, Empty, Held, Copied, Phase, NotBuilding, Vacant, IsAt, Statement, Idle, Inserting, Maintaining, Holding, loose_in, loose_at}
+use Rattle.coverage.specs.Waiting.{IsPhaseWaiting}
 use Rattle.coverage.specs.Steps.{IsUnnamed, IsGone, Stands, SweepsTuples, Excludes, InsertStep, next_map_page, IsPastMap, IsNextTuple, Grows, SummariseStep, DesummariseStep, RightPasses}
-use Rattle.coverage.specs.Table.{Job, EachRange, OneRange, WholeRanges, Desummarising, TableScan, Task, Resting, Reaches, Asks, Inserts, Considers, Maintains, Prunes, SweepsFrom, Sweeps, Restarts, Scans, TableState, board_at}
+use Rattle.table_coverage.specs.Table.{Job, EachRange, OneRange, WholeRanges, Desummarising, TableScan, Task, Resting, Reaches, Asks, Inserts, Considers, Maintains, Prunes, SweepsFrom, Sweeps, Restarts, Scans, TableState, board_at}
 
 -- the session's statement turns from one into the other
 pub record TaskTurns (s : ℕ) (w v : TableState) (old new : Task) : Type 0 where
@@ -108,20 +109,6 @@ pub data IsMaintainRefused (w : Board) (s range : ℕ) : Phase → Type 0 where
   MapFull : IsPastMap w range → w.pages.limit ≤ next_map_page w → IsMaintainRefused w s range Vacant
   EvacuateFull : (x : Spot) (t : Tuple) → Grows w range Emptying → IsNextTuple w (next_map_page w) x t → w.entry t.range ≡ Some x
       → IsFree w s x.block → PutVerdict w s t.range (length t.bytes) Full → IsMaintainRefused w s range Vacant
-
--- The page for whose lock a summariser waits on its range.
-pub data IsPhaseWaiting (w : Board) (s range : ℕ) : Phase → ℕ → Type 0 where
-  FinalWaits : (q : ℕ) (p : Progress) (x : Spot) (old new : Tuple) → SwapVerdict w s range x old new (Waits q) → IsPhaseWaiting w s range (IsAt p (Copied x old new)) q
-  PlaceWaits : (q : ℕ) → (IsPastMap w range → ⊥) → PutVerdict w s range w.pages.placeholder (Waits q) → IsPhaseWaiting w s range Vacant q
-  GrowWaits : (q : ℕ) → Grows w range Unstarted → IsFirstLocked w s (next_map_page w ∷ 0 ∷ []) q → IsPhaseWaiting w s range Vacant q
-  CountWaits : Grows w range Mapping → IsLocked w s 0 → IsPhaseWaiting w s range Vacant 0
-  FlagWaits : Grows w range Regular → IsLocked w s (next_map_page w) → IsPhaseWaiting w s range Vacant (next_map_page w)
-  EvacuateWaits : (x : Spot) (t : Tuple) → Grows w range Emptying → IsNextTuple w (next_map_page w) x t → IsLocked w s (next_map_page w)
-      → IsPhaseWaiting w s range Vacant (next_map_page w)
-  EvacuatePutWaits : (q : ℕ) (x : Spot) (t : Tuple) → Grows w range Emptying → IsNextTuple w (next_map_page w) x t → w.entry t.range ≡ Some x
-      → IsFree w s x.block → PutVerdict w s t.range (length t.bytes) (Waits q) → IsPhaseWaiting w s range Vacant q
-  TurnWaits : (q : ℕ) → Grows w range Emptying → ((x : Spot) (t : Tuple) → IsNextTuple w (next_map_page w) x t → ⊥)
-      → IsFirstLocked w s (next_map_page w ∷ 0 ∷ []) q → IsPhaseWaiting w s range Vacant q
 
 -- A step is blocked: another session holds the summarise lock, or the lock of the page that is needed first.
 pub data IsBlocked (w : TableState) (s : ℕ) : Task → Type 0 where

@@ -7,13 +7,13 @@ use Rattle.coverage.specs.Board.{Board, range_of}
 use Rattle.coverage.specs.Statements.{Hand, Empty, Phase, NotBuilding, Statement, Idle, Inserting, Maintaining, Holding, Scanning}
 use Rattle.coverage.specs.IsCovered.{IsKept}
 use Rattle.coverage.specs.Steps.{InsertStep, InsertHand, InsertNoEntry, InsertCopies, InsertUnchanged, InsertSwap, InsertSet, InsertDrop, GrowthStep, Grow, CountLeftOver, Count, Flag, EvacuatePut, EvacuateSet, EvacuateDrop, EvacuateSweep, Turn, SummariseStep, LookMap, LookGone, IsFinal, Found, ReadNoEntry, GrowMap, Put, Set, Extent, Pass, Unite, UniteCopies, SwapFinal, SetFinal, DropOld, DesummariseStep, ClearMap, ClearNone, Clear, ClearAgain, DropCleared, BeginRange, EndScan, Counts}
-use Rattle.coverage.specs.Table.{Job, EachRange, OneRange, WholeRanges, Desummarising, TableScan, Task, Resting, Asks, Inserts, Considers, Maintains, SweepsFrom, Restarts, Scans, TableState, pick, inserting_of, scan_at, seen_by, index_state, board_at}
-use Rattle.coverage.specs.TableSteps.{TaskTurns, OnlyTurns, JobStep, Fails, Does, PutsRow, AsksSummary, InsertGoes, InsertCompletes, RefusesInsert, TakesLock, MaintainGoes, MaintainCompletes, RefusesMaintain, RefusesVacuum, PrunesBlock, SweepsPage, RestartsIndex, BeginsScan, Judges, ReadsBlock, RefusesScan, Blocked, Transacts, Onward, Stays, ToAsk, ToIndex, Inserted, ToRange, NextIndex, Pruned, ToPage, Swept, JudgesNext, Scanned, Settles, GoesOn, GivesLock, TableStep}
-use Rattle.coverage.specs.TableCovered.{AreIndexesKept}
+use Rattle.table_coverage.specs.Table.{Job, EachRange, OneRange, WholeRanges, Desummarising, TableScan, Task, Resting, Asks, Inserts, Considers, Maintains, SweepsFrom, Restarts, Scans, TableState, pick, inserting_of, scan_at, seen_by, index_state, board_at}
+use Rattle.table_coverage.specs.TableSteps.{TaskTurns, OnlyTurns, JobStep, Fails, Does, PutsRow, AsksSummary, InsertGoes, InsertCompletes, RefusesInsert, TakesLock, MaintainGoes, MaintainCompletes, RefusesMaintain, RefusesVacuum, PrunesBlock, SweepsPage, RestartsIndex, BeginsScan, Judges, ReadsBlock, RefusesScan, Blocked, Transacts, Onward, Stays, ToAsk, ToIndex, Inserted, ToRange, NextIndex, Pruned, ToPage, Swept, JudgesNext, Scanned, Settles, GoesOn, GivesLock, TableStep}
+use Rattle.table_coverage.specs.TableCovered.{AreIndexesKept}
 use Rattle.coverage.proofs.Runs.{step_kept}
 use Rattle.coverage.proofs.InsertSteps.{hand_right}
-use Rattle.coverage.proofs.Views.{pick_same, pick_other, held_none, hand_below, turned_at, reads_at}
-use Rattle.coverage.proofs.TableRuns.{vacuuming_holds, maintained_holds, refused_loose, known, steps, only_rests, puts_row, insert_goes, insert_completes, refuses_insert, takes_lock, maintains, refuses_maintain, gives_lock, prunes, sweeps_page, begins_scan, ends_scan, judges, reads_block}
+use Rattle.table_coverage.proofs.Views.{pick_same, pick_other, held_none, hand_below, turned_at, reads_at}
+use Rattle.table_coverage.proofs.TableRuns.{vacuuming_holds, maintained_holds, refused_loose, known, steps, only_rests, puts_row, insert_goes, insert_completes, refuses_insert, takes_lock, maintains, refuses_maintain, gives_lock, prunes, sweeps_page, begins_scan, ends_scan, judges, reads_block}
 
 insert_right : (s b k : ℕ) (r : Row) (w v : Board) (h : Hand) (e : Statement) → InsertStep s b k r w v h e → v.right ≡ w.right
 insert_right s b k r w v _ _ (InsertHand old new step) = hand_right s (range_of w b) w v old new step

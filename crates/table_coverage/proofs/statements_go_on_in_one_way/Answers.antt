@@ -1,5 +1,5 @@
-use Rattle.coverage.proofs.Onward.{onward_once, onward_or_done}
-use Rattle.coverage.proofs.statements_go_on_in_one_way.Goals as goal
+use Rattle.table_coverage.proofs.Onward.{onward_once, onward_or_done}
+use Rattle.table_coverage.proofs.statements_go_on_in_one_way.Goals as goal
 
 pub returns : goal.returns
 returns c = record {

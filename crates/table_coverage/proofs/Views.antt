@@ -7,8 +7,8 @@ use Rattle.coverage.specs.Changes.{SameHeap}
 use Rattle.coverage.specs.Statements.{Hand, Empty, Phase, Statement, Idle, Inserting, Maintaining, Holding, Scanning, loose_in}
 use Rattle.coverage.specs.Knowing.{LocksNone, Spares}
 use Rattle.coverage.specs.Steps.{Reads, RightPasses, Rests, Turned}
-use Rattle.coverage.specs.Table.{Index, Task, Resting, Reaches, Asks, Inserts, Considers, Maintains, Prunes, SweepsFrom, Sweeps, Restarts, Scans, TableState, pick, hand_by, inserting_of, held_at, scan_at, seen_by, index_state, board_at}
-use Rattle.coverage.specs.TableSteps.{TaskTurns, SameRows, HasPut, SeesPlace}
+use Rattle.table_coverage.specs.Table.{Index, Task, Resting, Reaches, Asks, Inserts, Considers, Maintains, Prunes, SweepsFrom, Sweeps, Restarts, Scans, TableState, pick, hand_by, inserting_of, held_at, scan_at, seen_by, index_state, board_at}
+use Rattle.table_coverage.specs.TableSteps.{TaskTurns, SameRows, HasPut, SeesPlace}
 
 pub pick_same : (i : ℕ) → {A : Type 0} → (a b : A) → pick i i a b ≡ a
 pick_same zero a b = refl

@@ -4,8 +4,8 @@ use Rattle.block_model.specs.declared.row.Row.{Row}
 use Rattle.coverage.specs.Board.{Spot, Progress, IsBuilding}
 use Rattle.coverage.specs.IsCovered.{IsCovered, IsAtRest, IsKept}
 use Rattle.coverage.specs.Steps.{Stops}
-use Rattle.coverage.specs.Table.{TableScan, Resting, Scans, TableState, index_state, board_at}
-use Rattle.coverage.specs.TableSteps.{range_in}
+use Rattle.table_coverage.specs.Table.{TableScan, Resting, Scans, TableState, index_state, board_at}
+use Rattle.table_coverage.specs.TableSteps.{range_in}
 
 -- every index of the table is covered, and one statement of the table builds at a time
 pub record IsTableCovered (w : TableState) : Type 0 where

@@ -1,5 +1,0 @@
-use Rattle.coverage.proofs.TableScans.{table_scan_finds}
-use Rattle.coverage.proofs.table_scans_miss_nothing.Goals as goal
-
-pub returns : goal.returns
-returns c = table_scan_finds
