@@ -4,10 +4,10 @@ use Rattle.std.specs.Prelude.{refl, IsTrue}
 use Rattle.std.proofs.lemmas.Option.{same_Some, none-some}
 use Rattle.std.proofs.lemmas.Bool.{cases_eq, false≢true}
 use Rattle.block_model.specs.declared.row.Row.{Row}
-use Rattle.table_coverage.specs.Table.{TableScan, Scans, TableState}
+use Rattle.table_coverage.specs.Table.{TableScan, Resting, Scans, TableState}
 use Rattle.coverage.specs.Board.{Spot, Tuple, Board, range_of}
 use Rattle.coverage.specs.Steps.{IsGone}
-use Rattle.table_coverage.specs.TableSteps.{range_in, JudgeStep, JudgeMap, JudgeNoEntry, JudgeGone, JudgeKeeps, JudgeDrops, ReadsPage}
+use Rattle.table_coverage.specs.TableSteps.{range_in, JudgeStep, JudgeMap, JudgeNoEntry, JudgeGone, JudgeKeeps, JudgeDrops, ReadsPage, Onward, JudgesNext, Scanned}
 use Rattle.table_coverage.specs.TableCovered.{IsTableKept, IsJudged, IsGiven, IsUnjudged}
 use Rattle.coverage.proofs.Numbers.{lt_or_ge, all_or_one}
 
@@ -127,3 +127,26 @@ reads_once w scan m n f g one two = (same, λ b k. same_test (f b k) (g b k) (λ
         let at : b ≡ n = here.0 ∙ same in
         subst (λ c. IsTrue (g c k)) (sym at) (two.page k here.1.0 (ap (λ c. w.row c k) (sym at) ∙ here.1.1) (subst (λ c. IsTrue (scan.sees c k)) at here.1.2) here.1.3))
         (one.only b k has)
+
+-- a scan that replies has read all of its candidates
+replied_reads : (w : TableState) (scan : TableScan) → Onward w (Scans scan) Resting → scan.explains ≡ false → (b : ℕ) → IsTrue (scan.candidate b) → b < scan.read
+replied_reads w _ (JudgesNext scan _ inside all empty more) reads b candidate = replied_reads w (record scan { at = suc scan.at; range = 0 }) more reads b candidate
+replied_reads w _ (Scanned scan all done) reads b candidate = ⊎_elim
+    (λ (explains : scan.explains ≡ true). absurd (false≢true (sym reads ∙ explains)))
+    (λ (read : (c : ℕ) → IsTrue (scan.candidate c) → c < scan.read). read b candidate)
+    done
+
+pub replied_finds : (w : TableState) (s b k : ℕ) (scan : TableScan) → IsTableKept w → w.task s ≡ Scans scan → Onward w (Scans scan) Resting → scan.explains ≡ false → IsTrue (scan.sees b k)
+    → (r : Row) × (w.row b k ≡ Some r) × (IsTrue (scan.matches r) → IsTrue (scan.found b k))
+replied_finds w s b k scan kept is onward reads sees =
+    let row = kept.scans s scan is b k sees in (
+      row.0,
+      row.1,
+      λ matches. ⊎_elim
+          (λ (found : IsTrue (scan.found b k)). found)
+          (λ (left : IsTrue (scan.candidate b) × (scan.read ≤ b)). absurd (apart scan.read b left.1 (replied_reads w scan onward reads b left.0)))
+          (row.2 matches),
+    )
+  where
+    apart : (n m : ℕ) → n ≤ m → m < n → ⊥
+    apart n m le less = omega arith
