@@ -11,7 +11,7 @@ use Rattle.coverage.proofs.Numbers.{lt_or_ge, lowest_below}
 pub free_not_locked : (w : Board) (s p : ℕ) → IsFree w s p → IsLocked w s p → ⊥
 free_not_locked w s p free locked = locked.2 (free locked.0 locked.1)
 
-locked_or_free : (w : Board) (s p : ℕ) → IsLocked w s p ⊎ IsFree w s p
+pub locked_or_free : (w : Board) (s p : ℕ) → IsLocked w s p ⊎ IsFree w s p
 locked_or_free w s p = by (w.lock p) refl
   where
     by : (o : Option ℕ) → w.lock p ≡ o → IsLocked w s p ⊎ IsFree w s p
