@@ -13,4 +13,4 @@ pub mod Opening
 pub mod Verdicts
 pub mod Numbers
 pub mod NextSteps
-pub mod InsertHasStep
+pub mod StepsExist

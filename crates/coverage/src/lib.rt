@@ -13,7 +13,7 @@ ghost use Rattle.coverage.specs.IsSettled.{IsSettled, IsAccounted};
 ghost use Rattle.coverage.specs.IsSound.{IsSound};
 ghost use Rattle.coverage.specs.GoesOn.{GoesOn, IsHeld};
 ghost use Rattle.coverage.specs.Changes.{PutsRow, Places, Names, Turn, IsFree, Swaps, MovePuts, MoveSets, DropsLoose, Clears, Sweeps, Prunes, Takes, Ends, TurnsLocks};
-ghost use Rattle.coverage.specs.Statements.{Hand, Held, Copied, Phase, NotBuilding, Scan, Statement, Idle, Inserting, Scanning};
+ghost use Rattle.coverage.specs.Statements.{Hand, Held, Copied, Phase, NotBuilding, Scan, Statement, Idle, Inserting, Maintaining, Scanning};
 ghost use Rattle.coverage.specs.IsCovered.{IndexState, board, IsCovered, IsAtRest, IsKept};
 ghost use Rattle.coverage.specs.Steps.{InsertStep, SummariseStep, DesummariseStep, Excludes, Run, Stops};
 ghost use Rattle.coverage.specs.Points.{insert_point, summarise_point, desummarise_point};
@@ -112,7 +112,8 @@ pub fn each_step_is_the_next_one()
     ensures desummarise_blocked { (s range p : ℕ) (w v : Board) (x : Spot) (e : Statement) → ClearVerdict w s range x (Waits p) → DesummariseStep s range w v (NotBuilding (Held x)) e → ⊥ }
 {}
 
-/// A running insert is never stuck: it has a step on the index, or waits for a page, or its index is full.
-pub fn an_insert_has_a_step()
-    ensures { (w : Board) → ((p : ℕ) → (k : ℕ) × IsFreeSlot w p k) → (s b k : ℕ) (r : Row) (hand : Hand) → Knows w s (Inserting b k r hand) → ((e : Statement) (v : Board) → InsertStep s b k r w v hand e → ⊥) → ((x : Spot) (old new : Tuple) → hand ≡ Copied x old new → (SwapVerdict w s (range_of w b) x old new Full → ⊥) × ((p : ℕ) → SwapVerdict w s (range_of w b) x old new (Waits p) → ⊥)) → ⊥ }
+/// A running insert or desummarise is never stuck: it has a step on the index, or waits for a page; or the insert's index is full.
+pub fn some_step_comes()
+    ensures insert { (w : Board) → ((p : ℕ) → (k : ℕ) × IsFreeSlot w p k) → (s b k : ℕ) (r : Row) (hand : Hand) → Knows w s (Inserting b k r hand) → ((e : Statement) (v : Board) → InsertStep s b k r w v hand e → ⊥) → ((x : Spot) (old new : Tuple) → hand ≡ Copied x old new → (SwapVerdict w s (range_of w b) x old new Full → ⊥) × ((p : ℕ) → SwapVerdict w s (range_of w b) x old new (Waits p) → ⊥)) → ⊥ }
+    ensures desummarise { (w : Board) (s range : ℕ) (hand : Hand) → Knows w s (Maintaining range (NotBuilding hand)) → ((e : Statement) (v : Board) → DesummariseStep s range w v (NotBuilding hand) e → ⊥) → ((x : Spot) (p : ℕ) → hand ≡ Held x → ClearVerdict w s range x (Waits p) → ⊥) → ⊥ }
 {}

@@ -1,4 +1,4 @@
--- A running insert has a step on the index, or waits, or is refused: the steps are there to be made.
+-- A running insert or desummarise has a step on the index, or waits, or is refused: the steps are there to be made.
 use Rattle.std.proofs.Common.{◌≡◌, ◌≢◌, ◌⊎◌, inl, inr, ⊎_elim, ℕ, Option, Some, None, true, sym, ◌∙◌, ap, subst}
 use Rattle.std.specs.Prelude.{refl, List, [], ◌∷◌, length}
 use Rattle.std.proofs.lemmas.Option.{same_Some, none-some}
@@ -6,11 +6,11 @@ use Rattle.std.proofs.lemmas.Bool.{cases_eq}
 use Rattle.block_model.specs.declared.row.Row.{Row}
 use Rattle.coverage.specs.Board.{Spot, Tuple, Regular, Board, range_of, map_page_of}
 use Rattle.coverage.specs.Changes.{IsFree}
-use Rattle.coverage.specs.Verdicts.{IsFreeSlot, Verdict, Waits, Differs, Fits, Puts, Full, PutVerdict, PutGoes, SwapVerdict, SwapFits, SwapMoves}
-use Rattle.coverage.specs.Statements.{Hand, Empty, Held, Copied, Moving, Dropping, Statement, Idle, Inserting}
+use Rattle.coverage.specs.Verdicts.{IsFreeSlot, Verdict, Waits, Differs, Fits, Puts, Full, PutVerdict, PutGoes, SwapVerdict, SwapFits, SwapMoves, ClearVerdict, ClearFits}
+use Rattle.coverage.specs.Statements.{Hand, Empty, Held, Copied, Moving, Dropping, NotBuilding, Statement, Idle, Inserting, Maintaining, Holding}
 use Rattle.coverage.specs.Knowing.{LocksNone, Knows}
-use Rattle.coverage.specs.Steps.{IsOneOf, Reads, InsertStep, InsertHand, InsertNoEntry, InsertCopies, InsertSwap, InsertSet, InsertDrop, Maps, Gone, Again, MovePut}
-use Rattle.coverage.proofs.Verdicts.{some_swap}
+use Rattle.coverage.specs.Steps.{IsOneOf, Reads, DropsTuple, InsertStep, InsertHand, InsertNoEntry, InsertCopies, InsertSwap, InsertSet, InsertDrop, Maps, Gone, Again, MovePut, DesummariseStep, ClearMap, ClearNone, Clear, ClearAgain, DropCleared}
+use Rattle.coverage.proofs.Verdicts.{some_swap, some_clear}
 
 -- a value that a decision gives
 abbrev chosen : {A P : Type 0} → (d : P ⊎ (P → ⊥)) → A → A → A
@@ -110,7 +110,7 @@ number_here f n a = chosen_yes (cases_eq n n) a (f n) refl
 number_there : {A : Type 0} → (f : ℕ → A) (n : ℕ) (a : A) (m : ℕ) → (m ≡ n) ⊎ (number_with f n a m ≡ f m)
 number_there f n a m = ⊎_elim (λ (is : m ≡ n). inl is) (λ (other : m ≢ n). inr (chosen_no (cases_eq m n) a (f m) other)) (cases_eq m n)
 
-module _ (s b k : ℕ) (r : Row) (w : Board) where
+module _ (s : ℕ) (w : Board) where
   -- nothing changes, and the session locks no page
   reads_here : LocksNone w s → Reads s w w
   reads_here none = record {
@@ -126,6 +126,27 @@ module _ (s b k : ℕ) (r : Row) (w : Board) where
     none = none;
   }
 
+  free_none : (p : ℕ) → IsOneOf [] p → IsFree w s p
+  free_none p among = absurd among
+
+  -- the tuple at a spot goes, and the locks are given
+  abbrev drops_board : Spot → Board
+  drops_board x = record w { tuple = tuple_with w.tuple x None; lock = locks_after w s [] free_none }
+
+  drops_here : (x : Spot) → DropsTuple s w (drops_board x) x
+  drops_here x = record {
+    now = tuple_here w.tuple x None;
+    others = tuple_there w.tuple x None;
+    page = record { now = refl; kinds = λ p. inr refl; rooms = λ p. inr refl; spots = λ z. inr refl; placeholder = refl; map_pages = refl; limit = refl };
+    heap = record { pages_per_range = refl; blocks = refl; row = λ c j. refl };
+    map = record { entry = λ m. refl };
+    orphans = record { orphan = λ z. refl };
+    right = refl;
+    locks = record { others = after_others w s [] free_none; taken = after_taken w s [] free_none };
+    none = λ p is. after_only w s [] free_none p is;
+  }
+
+module _ (s b k : ℕ) (r : Row) (w : Board) where
   abbrev Stuck : Hand → Type 0
   Stuck hand = (e : Statement) (v : Board) → InsertStep s b k r w v hand e → ⊥
 
@@ -133,8 +154,8 @@ module _ (s b k : ℕ) (r : Row) (w : Board) where
   empty_steps none stuck = by (w.entry (range_of w b)) refl
     where
       by : (o : Option Spot) → w.entry (range_of w b) ≡ o → ⊥
-      by None is = stuck Idle w (InsertNoEntry is (reads_here none))
-      by (Some x) is = stuck (Inserting b k r (Held x)) w (InsertHand Empty (Held x) (Maps x is (reads_here none)))
+      by None is = stuck Idle w (InsertNoEntry is (reads_here s w none))
+      by (Some x) is = stuck (Inserting b k r (Held x)) w (InsertHand Empty (Held x) (Maps x is (reads_here s w none)))
 
   held_steps : (x : Spot) → LocksNone w s → Stuck (Held x) → ⊥
   held_steps x none stuck = by (w.tuple x) refl
@@ -160,12 +181,12 @@ module _ (s b k : ℕ) (r : Row) (w : Board) where
           tail_of (z ∷ zs) = zs
 
       by : (o : Option Tuple) → w.tuple x ≡ o → ⊥
-      by None is = stuck (Inserting b k r Empty) w (InsertHand (Held x) Empty (Gone x (λ t here. absurd (none-some _ (sym is ∙ here))) (reads_here none)))
+      by None is = stuck (Inserting b k r Empty) w (InsertHand (Held x) Empty (Gone x (λ t here. absurd (none-some _ (sym is ∙ here))) (reads_here s w none)))
       by (Some t) is = ⊎_elim
           (λ (of : t.range ≡ range_of w b). stuck (Inserting b k r (Copied x t (added t))) w
-          (InsertCopies x t (added t) (is, of) (record { range = refl; placeholder = refl; wider = λ q has. refl; row = refl }) (inl (λ e. longer t.bytes (ap (λ (u : Tuple). u.bytes) e))) (reads_here none)))
+          (InsertCopies x t (added t) (is, of) (record { range = refl; placeholder = refl; wider = λ q has. refl; row = refl }) (inl (λ e. longer t.bytes (ap (λ (u : Tuple). u.bytes) e))) (reads_here s w none)))
           (λ (other : t.range ≢ range_of w b). stuck (Inserting b k r Empty) w
-          (InsertHand (Held x) Empty (Gone x (λ u here of. other (ap (λ (q : Tuple). q.range) (same_Some _ _ (sym is ∙ here)) ∙ of)) (reads_here none))))
+          (InsertHand (Held x) Empty (Gone x (λ u here of. other (ap (λ (q : Tuple). q.range) (same_Some _ _ (sym is ∙ here)) ∙ of)) (reads_here s w none))))
           (cases_eq t.range (range_of w b))
 
   -- the copied tuple is judged again
@@ -244,7 +265,7 @@ module _ (s b k : ℕ) (r : Row) (w : Board) where
 
       by : (p : Verdict) → SwapVerdict w s (range_of w b) x old new p → ⊥
       by (Waits p) verdict = free p verdict
-      by Differs verdict = stuck (Inserting b k r Empty) w (InsertHand (Copied x old new) Empty (Again x old new verdict (reads_here none)))
+      by Differs verdict = stuck (Inserting b k r Empty) w (InsertHand (Copied x old new) Empty (Again x old new verdict (reads_here s w none)))
       by Fits verdict = swaps verdict
       by (Puts y) verdict = moves y verdict
       by Full verdict = room verdict
@@ -264,21 +285,8 @@ module _ (s b k : ℕ) (r : Row) (w : Board) where
       })
       (record { lock = λ p. refl }))
 
-  -- the old tuple goes, and the locks are given
   dropping_steps : (x : Spot) → Stuck (Dropping x) → ⊥
-  dropping_steps x stuck =
-      let free_none : (p : ℕ) → IsOneOf [] p → IsFree w s p = λ p among. absurd among in
-      stuck Idle (record w { tuple = tuple_with w.tuple x None; lock = locks_after w s [] free_none }) (InsertDrop x (record {
-        now = tuple_here w.tuple x None;
-        others = tuple_there w.tuple x None;
-        page = record { now = refl; kinds = λ p. inr refl; rooms = λ p. inr refl; spots = λ z. inr refl; placeholder = refl; map_pages = refl; limit = refl };
-        heap = record { pages_per_range = refl; blocks = refl; row = λ c j. refl };
-        map = record { entry = λ m. refl };
-        orphans = record { orphan = λ z. refl };
-        right = refl;
-        locks = record { others = after_others w s [] free_none; taken = after_taken w s [] free_none };
-        none = λ p is. after_only w s [] free_none p is;
-      }))
+  dropping_steps x stuck = stuck Idle (drops_board s w x) (InsertDrop x (drops_here s w x))
 
   pub insert_has_step : ((p : ℕ) → (n : ℕ) × IsFreeSlot w p n) → (hand : Hand) → Knows w s (Inserting b k r hand) → ((e : Statement) (v : Board) → InsertStep s b k r w v hand e → ⊥)
       → ((x : Spot) (old new : Tuple) → hand ≡ Copied x old new → (SwapVerdict w s (range_of w b) x old new Full → ⊥) × ((p : ℕ) → SwapVerdict w s (range_of w b) x old new (Waits p) → ⊥)) → ⊥
@@ -287,3 +295,55 @@ module _ (s b k : ℕ) (r : Row) (w : Board) where
   insert_has_step slots (Copied x old new) known stuck others = let other = others x old new refl in copied_steps slots x old new known.2.0 stuck other.0 other.1
   insert_has_step slots (Moving x y old new) known stuck others = moving_steps x y old new stuck
   insert_has_step slots (Dropping x) known stuck others = dropping_steps x stuck
+
+module _ (s range : ℕ) (w : Board) where
+  abbrev StuckAt : Hand → Type 0
+  StuckAt hand = (e : Statement) (v : Board) → DesummariseStep s range w v (NotBuilding hand) e → ⊥
+
+  clear_empty : LocksNone w s → StuckAt Empty → ⊥
+  clear_empty none stuck = by (w.entry range) refl
+    where
+      by : (o : Option Spot) → w.entry range ≡ o → ⊥
+      by None is = stuck Holding w (ClearNone is (reads_here s w none))
+      by (Some x) is = stuck (Maintaining range (NotBuilding (Held x))) w (ClearMap x is (reads_here s w none))
+
+  clear_held : (x : Spot) → LocksNone w s → StuckAt (Held x) → ((p : ℕ) → ClearVerdict w s range x (Waits p) → ⊥) → ⊥
+  clear_held x none stuck free = some_clear w s range x by
+    where
+      clears : ClearVerdict w s range x Fits → ⊥
+      clears (ClearFits unlocked map names) =
+          let free_all : (p : ℕ) → IsOneOf (x.block ∷ map_page_of range ∷ []) p → IsFree w s p = λ p among. ⊎_elim
+          (λ (is : p ≡ x.block). subst (IsFree w s) (sym is) unlocked)
+          (λ (more : (p ≡ map_page_of range) ⊎ ⊥). ⊎_elim (λ (is : p ≡ map_page_of range). subst (IsFree w s) (sym is) map) (λ (never : ⊥). absurd never) more)
+          among in
+          stuck (Maintaining range (NotBuilding (Dropping x))) (record w { entry = number_with w.entry range None; lock = locks_after w s (x.block ∷ map_page_of range ∷ []) free_all })
+          (Clear x (ClearFits unlocked map names)
+          (record {
+            entry = record { was = names; now = number_here w.entry range None; others = number_there w.entry range None };
+            free = unlocked;
+            pages = refl;
+            heap = record { pages_per_range = refl; blocks = refl; row = λ c j. refl };
+            tuples = record { tuple = λ z. refl };
+            orphans = record { orphan = λ z. refl };
+            right = refl;
+            locks = record { others = after_others w s (x.block ∷ map_page_of range ∷ []) free_all; taken = after_taken w s (x.block ∷ map_page_of range ∷ []) free_all };
+          })
+          (record { locked = after_locked w s (x.block ∷ map_page_of range ∷ []) free_all; only = after_only w s (x.block ∷ map_page_of range ∷ []) free_all }))
+
+      by : (p : Verdict) → ClearVerdict w s range x p → ⊥
+      by (Waits p) verdict = free p verdict
+      by Differs verdict = stuck (Maintaining range (NotBuilding Empty)) w (ClearAgain x verdict (reads_here s w none))
+      by Fits verdict = clears verdict
+      by (Puts y) verdict = elim verdict [ ]
+      by Full verdict = elim verdict [ ]
+
+  clear_dropping : (x : Spot) → StuckAt (Dropping x) → ⊥
+  clear_dropping x stuck = stuck Holding (drops_board s w x) (DropCleared x (drops_here s w x))
+
+  pub desummarise_has_step : (hand : Hand) → Knows w s (Maintaining range (NotBuilding hand)) → ((e : Statement) (v : Board) → DesummariseStep s range w v (NotBuilding hand) e → ⊥)
+      → ((x : Spot) (p : ℕ) → hand ≡ Held x → ClearVerdict w s range x (Waits p) → ⊥) → ⊥
+  desummarise_has_step Empty known stuck free = clear_empty known.1 stuck
+  desummarise_has_step (Held x) known stuck free = clear_held x known.1.0 stuck (λ p verdict. free x p refl verdict)
+  desummarise_has_step (Copied x old new) known stuck free = known.1.3
+  desummarise_has_step (Moving x y old new) known stuck free = known.1.6
+  desummarise_has_step (Dropping x) known stuck free = clear_dropping x stuck
