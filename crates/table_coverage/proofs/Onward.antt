@@ -1,9 +1,9 @@
 -- Where a statement comes by its step is one thing.
-use Rattle.std.proofs.Common.{◌≡◌, ◌⊎◌, ⊎_elim, ℕ, ◌≤◌, ◌<◌, true, false, sym, ◌∙◌, arith, suc}
+use Rattle.std.proofs.Common.{◌≡◌, ◌⊎◌, inl, inr, ⊎_elim, ℕ, ◌*◌, ◌≤◌, ◌<◌, true, false, sym, ◌∙◌, subst, arith, suc}
 use Rattle.std.specs.Prelude.{refl, IsTrue}
 use Rattle.std.proofs.lemmas.Bool.{false≢true}
-use Rattle.table_coverage.specs.Table.{TableScan, Task, SweepsFrom, Sweeps, Scans, TableState}
-use Rattle.table_coverage.specs.TableSteps.{first_block, IsFrom, ScanHasStep, HasStep, Onward, Stays, ToAsk, ToIndex, Inserted, ToRange, NextIndex, Pruned, ToPage, Swept, JudgesNext, Scanned, IsMaintained, RangesDone, NothingToSweep}
+use Rattle.table_coverage.specs.Table.{Index, TableScan, Task, Resting, Reaches, Asks, Inserts, Considers, Maintains, Prunes, SweepsFrom, Sweeps, Restarts, Scans, TableState}
+use Rattle.table_coverage.specs.TableSteps.{first_block, IsFrom, ScanHasStep, HasStep, Onward, Stays, ToAsk, ToIndex, Inserted, ToRange, NextIndex, Pruned, ToPage, Swept, JudgesNext, Scanned, IsMaintained, RangesDone, NothingToSweep, OnlyTurns, Settles, GoesOn, GivesLock, TableStep}
 
 less_not_equal : (n m : ℕ) → n < m → n ≡ m → ⊥
 less_not_equal n m less is = omega arith
@@ -107,3 +107,47 @@ module _ (w : TableState) where
   onward_or_done _ _ (RangesDone _ at range done last) (NextIndex extent at' range' done' inside) = less_not_equal (suc at) w.indexes inside last
   onward_or_done _ _ (NothingToSweep extent next all none) (Stays _ has) = less_not_more next extent has all
   onward_or_done _ q (NothingToSweep extent next all none) (Pruned extent' next' new all' more) = none_swept q none more
+
+-- where a statement comes to, there is a step for it, or it rests
+lands : (w : TableState) (old new : Task) → Onward w old new → HasStep w new
+lands w _ _ (Stays task has) = has
+lands w _ _ (ToAsk b k r at inside asks) = tt
+lands w _ _ (ToIndex b k r at inside not) = tt
+lands w _ _ (Inserted b k r at all) = tt
+lands w _ _ (ToRange job at range has) = tt
+lands w _ _ (NextIndex extent at range done inside) = tt
+lands w _ _ (Pruned extent next new all more) = lands w (SweepsFrom 0 0) new more
+lands w _ _ (ToPage at from m p next) = tt
+lands w _ _ (Swept at from none some) = tt
+lands w _ _ (JudgesNext scan new inside all empty more) = lands w (Scans (record scan { at = suc scan.at; range = 0 })) new more
+lands w _ _ (Scanned scan all done) = tt
+
+scan_step_on : (w v : TableState) → OnlyTurns w v → (scan : TableScan) → ScanHasStep w scan → ScanHasStep v scan
+scan_step_on w v only scan has = ⊎_elim
+    (λ (judges : (scan.at < w.indexes) × (first_block w scan.at scan.range < scan.extent)). inl (
+      subst (λ n. scan.at < n) (sym only.rows.layout.indexes) judges.0,
+      subst (λ (x : Index). scan.range * x.pages_per_range < scan.extent) (sym (only.indexes.index scan.at)) judges.1,
+    ))
+    (λ (reads : (scan.explains ≡ false) × (scan.at ≡ w.indexes) × ((b : ℕ) × IsTrue (scan.candidate b) × (scan.read ≤ b))).
+    inr (reads.0, reads.1 ∙ sym only.rows.layout.indexes, reads.2))
+    has
+
+step_on : (w v : TableState) → OnlyTurns w v → (task : Task) → HasStep w task → HasStep v task
+step_on w v only Resting has = has
+step_on w v only (Reaches b k r at) has = has
+step_on w v only (Asks b k r at) has = has
+step_on w v only (Inserts b k r at hand) has = has
+step_on w v only (Considers job at range) has = has
+step_on w v only (Maintains job at range phase) has = has
+step_on w v only (Prunes extent next) has = has
+step_on w v only (SweepsFrom at from) has = has
+step_on w v only (Sweeps at page) has = has
+step_on w v only (Restarts at) has = has
+step_on w v only (Scans scan) has = scan_step_on w v only scan has
+
+settles_at_step : (s : ℕ) (w v : TableState) → Settles s w v → HasStep v (v.task s)
+settles_at_step s w v (GoesOn old new onward turns only) = subst (HasStep v) (sym turns.now) (step_on w v only new (lands w old new onward))
+settles_at_step s w v (GivesLock old done turns given rows indexes) = subst (HasStep v) (sym turns.now) tt
+
+pub table_step_lands : (s : ℕ) (w v : TableState) → TableStep s w v → HasStep v (v.task s)
+table_step_lands s w v step = settles_at_step s step.between v step.settles

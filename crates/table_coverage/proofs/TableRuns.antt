@@ -91,7 +91,7 @@ module _ (s : ℕ) (w v : TableState) (kept : AreIndexesKept w) (i : ℕ) (below
   pub only_rests : (old new : Task) → TaskTurns s w v old new → OnlyTurns w v → seen_by i new ≡ seen_by i old → IsKept (index_state i v)
   only_rests old new turns only same = rests old new turns only.rows (only.indexes.index i) only.right same
 
-  -- the statement of a resting session begins, and its other statements do
+  -- an insert puts its row
   pub puts_row : (b k : ℕ) (r : Row) → IsFirstPlace w b k → TaskTurns s w v Resting (Reaches b k r 0) → TakesRow w v b k r → IsKept (index_state i v)
   puts_row b k r place turns takes =
       let index = takes.indexes.index i in
@@ -304,34 +304,27 @@ module _ (s : ℕ) (w v : TableState) (kept : AreIndexesKept w) (i : ℕ) (below
       (λ (outside : (range_of (board_at old.at w) b ≢ old.range) × (candidate b ≡ old.candidate b)). outside.1 ∙ candidate_was)
       (others b)
 
+  -- the index that the scan is at sees the spot that it holds
+  spot_here : (old : TableScan) (x : Spot) → i ≡ old.at → old.held ≡ Some x → pick i old.at (held_at old.range old.held) None ≡ Some (old.range, x)
+  spot_here old x is held =
+      subst (λ m. pick m old.at (held_at old.range old.held) None ≡ held_at old.range old.held) (sym is) (pick_same old.at (held_at old.range old.held) None) ∙ ap (held_at old.range) held
+
   judges_here : (old new : TableScan) → i ≡ old.at → JudgeStep (board_at i w) old new → TaskTurns s w v (Scans old) (Scans new) → OnlyTurns w v → IsKept (index_state i v)
   judges_here old _ is (JudgeMap x empty named) turns only = scans old (record old { held = Some x }) (record (scan_at i old) { held = Some (old.range, x) }) turns only
-      (ap (λ h. record (scan_at i old) { held = h }) (here (record old { held = Some x }) is))
+      (ap (λ h. record (scan_at i old) { held = h }) (spot_here (record old { held = Some x }) x is refl))
       (ScanMap old.range x (held_none i old.at old.range old.held empty) named)
-    where
-      here : (scan : TableScan) → i ≡ scan.at → pick i scan.at (held_at scan.range scan.held) None ≡ held_at scan.range scan.held
-      here scan at = subst (λ m. pick m scan.at (held_at scan.range scan.held) None ≡ held_at scan.range scan.held) (sym at) (pick_same scan.at (held_at scan.range scan.held) None)
   judges_here old _ is (JudgeNoEntry empty none) turns only = only_rests (Scans old) (Scans (record old { range = suc old.range })) turns only
       (ap (λ h. Scanning (record (scan_at i old) { held = h })) (held_none i old.at (suc old.range) old.held empty ∙ sym (held_none i old.at old.range old.held empty)))
   judges_here old _ is (JudgeGone x held gone) turns only = scans old (record old { held = None }) (record (scan_at i old) { held = None }) turns only
       (ap (λ h. record (scan_at i old) { held = h }) (held_none i old.at old.range None refl))
-      (ScanGone old.range x (spot x held) gone)
-    where
-      spot : (x : Spot) → old.held ≡ Some x → pick i old.at (held_at old.range old.held) None ≡ Some (old.range, x)
-      spot x held = subst (λ m. pick m old.at (held_at old.range old.held) None ≡ held_at old.range old.held) (sym is) (pick_same old.at (held_at old.range old.held) None) ∙ ap (held_at old.range) held
+      (ScanGone old.range x (spot_here old x is held) gone)
   judges_here old _ is (JudgeKeeps x t held stands keeps) turns only = scans old (record old { range = suc old.range; held = None }) (record (scan_at i old) { held = None }) turns only
       (ap (λ h. record (scan_at i old) { held = h }) (held_none i old.at (suc old.range) None refl))
-      (ScanKeeps old.range x t (spot x held) stands (subst (λ m. IsTrue (old.keeps m t)) (sym is) keeps))
-    where
-      spot : (x : Spot) → old.held ≡ Some x → pick i old.at (held_at old.range old.held) None ≡ Some (old.range, x)
-      spot x held = subst (λ m. pick m old.at (held_at old.range old.held) None ≡ held_at old.range old.held) (sym is) (pick_same old.at (held_at old.range old.held) None) ∙ ap (held_at old.range) held
+      (ScanKeeps old.range x t (spot_here old x is held) stands (subst (λ m. IsTrue (old.keeps m t)) (sym is) keeps))
   judges_here old _ is (JudgeDrops x t candidate held stands keeps excludes others) turns only =
       scans old (record old { range = suc old.range; held = None; candidate = candidate }) (record (scan_at i old) { held = None; candidate = candidate }) turns only
       (ap (λ h. record (scan_at i old) { held = h; candidate = candidate }) (held_none i old.at (suc old.range) None refl))
-      (ScanDrops old.range x t candidate (spot x held) stands (subst (λ m. old.keeps m t ≡ false) (sym is) keeps) excludes others)
-    where
-      spot : (x : Spot) → old.held ≡ Some x → pick i old.at (held_at old.range old.held) None ≡ Some (old.range, x)
-      spot x held = subst (λ m. pick m old.at (held_at old.range old.held) None ≡ held_at old.range old.held) (sym is) (pick_same old.at (held_at old.range old.held) None) ∙ ap (held_at old.range) held
+      (ScanDrops old.range x t candidate (spot_here old x is held) stands (subst (λ m. old.keeps m t ≡ false) (sym is) keeps) excludes others)
 
   judges_elsewhere : (old new : TableScan) → i ≢ old.at → old.at < w.indexes → JudgeStep (board_at old.at w) old new → TaskTurns s w v (Scans old) (Scans new) → OnlyTurns w v → IsKept (index_state i v)
   judges_elsewhere old _ apart inside (JudgeMap x empty named) turns only = only_rests (Scans old) (Scans (record old { held = Some x })) turns only

@@ -8,7 +8,7 @@
 ghost use Rattle.std.specs.Prelude.{◌≡◌, ◌⊎◌, ◌≤◌, ℕ, Bool, false, IsTrue, Some, List};
 ghost use Rattle.block_model.specs.declared.row.Row.{Row};
 ghost use Rattle.table_coverage.specs.Table.{TableScan, Task, Resting, Scans, TableState, board_at};
-ghost use Rattle.table_coverage.specs.TableSteps.{OnlyTurns, JudgeStep, ReadsPage, IsBlocked, Does, Onward, IsMaintained, TableRun};
+ghost use Rattle.table_coverage.specs.TableSteps.{OnlyTurns, JudgeStep, ReadsPage, IsBlocked, Does, HasStep, Onward, IsMaintained, TableStep, TableRun};
 ghost use Rattle.table_coverage.specs.TableCovered.{IsTableCovered, IsTableKept, IsTableAtRest, IsNewTable, TableStops, IsGiven, IsUnjudged};
 
 /// A blocked statement stays where it is and nothing changes, or it is refused.
@@ -16,10 +16,11 @@ pub fn blocked_statements_wait()
     ensures { (s : ℕ) (w v : TableState) → IsBlocked w s (w.task s) → (w.task s ≡ Resting → ⊥) → Does s w v → ((v.task s ≡ w.task s) × OnlyTurns w v) ⊎ (v.task s ≡ Resting) }
 {}
 
-/// Where a statement of a table comes by its step is one thing: its next step, or its reply.
+/// Where a statement of a table comes by its step is one thing: its next step, or its reply. No step is left that does nothing.
 pub fn statements_go_on_in_one_way()
     ensures one_way { (w : TableState) (old p q : Task) → Onward w old p → Onward w old q → p ≡ q }
     ensures or_reply { (w : TableState) (old q : Task) → IsMaintained w old → Onward w old q → ⊥ }
+    ensures at_a_step { (s : ℕ) (w v : TableState) → TableStep s w v → HasStep v (v.task s) }
 {}
 
 /// Whatever the statements of a table with several indexes do, in any interleaving, each of its indexes stays covered.
