@@ -13,14 +13,14 @@ use Rattle.coverage.specs.Steps.{IsOneOf, Reads, DropsTuple, InsertStep, InsertH
 use Rattle.coverage.proofs.Verdicts.{some_swap, some_clear}
 
 -- a value that a decision gives
-abbrev chosen : {A P : Type 0} → (d : P ⊎ (P → ⊥)) → A → A → A
+abbrev pub chosen : {A P : Type 0} → (d : P ⊎ (P → ⊥)) → A → A → A
 chosen d a b = ⊎_elim (λ p. a) (λ lacks. b) d
 
-chosen_yes : {A P : Type 0} → (d : P ⊎ (P → ⊥)) → (a b : A) → P → chosen d a b ≡ a
+pub chosen_yes : {A P : Type 0} → (d : P ⊎ (P → ⊥)) → (a b : A) → P → chosen d a b ≡ a
 chosen_yes (inl p) a b is = refl
 chosen_yes (inr lacks) a b is = absurd (lacks is)
 
-chosen_no : {A P : Type 0} → (d : P ⊎ (P → ⊥)) → (a b : A) → (P → ⊥) → chosen d a b ≡ b
+pub chosen_no : {A P : Type 0} → (d : P ⊎ (P → ⊥)) → (a b : A) → (P → ⊥) → chosen d a b ≡ b
 chosen_no (inl p) a b lacks = absurd (lacks p)
 chosen_no (inr lacks') a b lacks = refl
 

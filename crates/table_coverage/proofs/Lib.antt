@@ -6,3 +6,4 @@ pub mod TableOpening
 pub mod TableBlocked
 pub mod TableSeen
 pub mod Onward
+pub mod ScanHasStep

@@ -7,6 +7,8 @@
 
 ghost use Rattle.std.specs.Prelude.{◌≡◌, ◌⊎◌, ◌≤◌, ℕ, Bool, false, IsTrue, Some, List};
 ghost use Rattle.block_model.specs.declared.row.Row.{Row};
+ghost use Rattle.coverage.specs.Board.{Tuple};
+ghost use Rattle.coverage.specs.Steps.{Excludes};
 ghost use Rattle.table_coverage.specs.Table.{TableScan, Task, Resting, Scans, TableState, board_at};
 ghost use Rattle.table_coverage.specs.TableSteps.{OnlyTurns, JudgeStep, ReadsPage, IsBlocked, Does, HasStep, Onward, IsMaintained, TableStep, TableRun};
 ghost use Rattle.table_coverage.specs.TableCovered.{IsTableCovered, IsTableKept, IsTableAtRest, IsNewTable, TableStops, IsGiven, IsUnjudged};
@@ -32,10 +34,13 @@ pub fn table_stays_covered()
     ensures new { (w : TableState) → IsNewTable w → IsTableKept w }
 {}
 
-/// A scan judges each range in one way, by the tuple that it reads there, and reads the next given block to one end.
+/// A scan judges each range in one way, by the tuple that it reads there, and reads the next given block to one end; where the
+/// tuples that don't keep its query are honest, it is never stuck.
 pub fn scans_are_exact()
     ensures judged { (w : TableState) (old p q : TableScan) → JudgeStep (board_at old.at w) old p → JudgeStep (board_at old.at w) old q → p ≡ q }
     ensures read { (w : TableState) (scan : TableScan) (m n : ℕ) (f g : ℕ → ℕ → Bool) → ReadsPage w scan m f → ReadsPage w scan n g → (m ≡ n) × ((b k : ℕ) → f b k ≡ g b k) }
+    ensures some_judged { (w : TableState) (scan : TableScan) → ((t : Tuple) → scan.keeps scan.at t ≡ false → Excludes t scan.matches) → (q : TableScan) × JudgeStep (board_at scan.at w) scan q }
+    ensures some_read { (w : TableState) (scan : TableScan) (b : ℕ) → scan.explains ≡ false → scan.at ≡ w.indexes → IsTrue (scan.candidate b) → scan.read ≤ b → (next : ℕ) × (found : ℕ → ℕ → Bool) × ReadsPage w scan next found }
 {}
 
 /// Each matching row that a scan's session sees is found, or lies in a given block that isn't read yet, or in a range that
