@@ -105,6 +105,28 @@ clear_once w s range x _ _ (ClearFits free map is) (ClearWaits q locked) = absur
 clear_once w s range x _ _ (ClearFits free map is) (ClearDiffers free' map' not) = absurd (not is)
 clear_once w s range x _ _ (ClearFits free map is) (ClearFits free' map' is') = refl
 
+-- a page that is waited for is one that another session locks
+first_is_locked : (w : Board) (s : ℕ) (pages : List ℕ) (p : ℕ) → IsFirstLocked w s pages p → IsLocked w s p
+first_is_locked w s _ p (First _ more locked) = locked
+first_is_locked w s _ p (Later q _ more free later) = first_is_locked w s more p later
+
+pub put_waits : (w : Board) (s range need p : ℕ) → PutVerdict w s range need (Waits p) → IsLocked w s p
+put_waits w s range need p (PutWaits q _ target locked) = first_is_locked w s (q ∷ map_page_of range ∷ []) p locked
+
+pub swap_waits : (w : Board) (s range : ℕ) (x : Spot) (old new : Tuple) (p : ℕ) → SwapVerdict w s range x old new (Waits p) → IsLocked w s p
+swap_waits w s range x old new _ (SwapWaits locked) = locked
+swap_waits w s range x old new p (SwapMoves _ free here must puts) = put_waits w s range (length new.bytes) p puts
+
+pub swap_differs : (w : Board) (s range : ℕ) (x : Spot) (old new : Tuple) → SwapVerdict w s range x old new Differs → w.tuple x ≢ Some old
+swap_differs w s range x old new (SwapDiffers free other) = other
+swap_differs w s range x old new (SwapMoves _ free here must puts) = elim puts [ ]
+
+pub clear_waits : (w : Board) (s range p : ℕ) (x : Spot) → ClearVerdict w s range x (Waits p) → IsLocked w s p
+clear_waits w s range p x (ClearWaits _ locked) = first_is_locked w s (x.block ∷ map_page_of range ∷ []) p locked
+
+pub clear_differs : (w : Board) (s range : ℕ) (x : Spot) → ClearVerdict w s range x Differs → w.entry range ≢ Some x
+clear_differs w s range x (ClearDiffers free map other) = other
+
 -- of two pages, the first one that another session locks, or none
 two_pages : (w : Board) (s p m : ℕ) → ((q : ℕ) × IsFirstLocked w s (p ∷ m ∷ []) q) ⊎ (IsFree w s p × IsFree w s m)
 two_pages w s p m = ⊎_elim

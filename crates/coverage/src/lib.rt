@@ -18,7 +18,7 @@ ghost use Rattle.coverage.specs.IsCovered.{IndexState, board, IsCovered, IsAtRes
 ghost use Rattle.coverage.specs.Steps.{InsertStep, SummariseStep, DesummariseStep, Excludes, Run, Stops};
 ghost use Rattle.coverage.specs.Points.{insert_point, summarise_point, desummarise_point};
 ghost use Rattle.coverage.specs.Knowing.{LocksNone, Knows, Spares};
-ghost use Rattle.coverage.specs.Verdicts.{Verdict, Waits, Full, IsFreeSlot, PutVerdict, SwapVerdict, ClearVerdict};
+ghost use Rattle.coverage.specs.Verdicts.{Verdict, Waits, Differs, Full, IsLocked, IsFreeSlot, PutVerdict, SwapVerdict, ClearVerdict};
 ghost use Rattle.coverage.specs.Waiting.{IsPhaseWaiting};
 
 /// Each kind of change leaves the index sound.
@@ -97,6 +97,11 @@ pub fn verdicts_are_exact()
     ensures one_put { (w : Board) (s range need : ℕ) (p q : Verdict) → PutVerdict w s range need p → PutVerdict w s range need q → p ≡ q }
     ensures one_swap { (w : Board) (s range : ℕ) (x : Spot) (old new : Tuple) (p q : Verdict) → SwapVerdict w s range x old new p → SwapVerdict w s range x old new q → p ≡ q }
     ensures one_clear { (w : Board) (s range : ℕ) (x : Spot) (p q : Verdict) → ClearVerdict w s range x p → ClearVerdict w s range x q → p ≡ q }
+    ensures put_waits { (w : Board) (s range need p : ℕ) → PutVerdict w s range need (Waits p) → IsLocked w s p }
+    ensures swap_waits { (w : Board) (s range p : ℕ) (x : Spot) (old new : Tuple) → SwapVerdict w s range x old new (Waits p) → IsLocked w s p }
+    ensures swap_differs { (w : Board) (s range : ℕ) (x : Spot) (old new : Tuple) → SwapVerdict w s range x old new Differs → w.tuple x ≢ Some old }
+    ensures clear_waits { (w : Board) (s range p : ℕ) (x : Spot) → ClearVerdict w s range x (Waits p) → IsLocked w s p }
+    ensures clear_differs { (w : Board) (s range : ℕ) (x : Spot) → ClearVerdict w s range x Differs → w.entry range ≢ Some x }
     ensures some_put { (w : Board) → ((p : ℕ) → (k : ℕ) × IsFreeSlot w p k) → (s range need : ℕ) → ((p : Verdict) → PutVerdict w s range need p → ⊥) → ⊥ }
     ensures some_swap { (w : Board) → ((p : ℕ) → (k : ℕ) × IsFreeSlot w p k) → (s range : ℕ) (x : Spot) (old new : Tuple) → ((p : Verdict) → SwapVerdict w s range x old new p → ⊥) → ⊥ }
     ensures some_clear { (w : Board) (s range : ℕ) (x : Spot) → ((p : Verdict) → ClearVerdict w s range x p → ⊥) → ⊥ }
