@@ -26,7 +26,7 @@ pub record Building : Type 0 where
   pub range : ℕ
   pub progress : Progress
 
--- an index page: not started, of the range map, with tuples, or with tuples and being emptied for the map
+-- an index page: not started, of the range map and its count, with tuples, or with tuples and being emptied for the map
 pub data PageKind : Type 0 where
   Unstarted : PageKind
   Mapping : PageKind
