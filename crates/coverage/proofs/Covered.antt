@@ -5,7 +5,7 @@ use Rattle.std.proofs.lemmas.Option.{same_Some}
 use Rattle.coverage.specs.Board.{Spot, Tuple, Board, range_of}
 use Rattle.coverage.specs.IsSettled.{IsAccounted}
 use Rattle.coverage.specs.GoesOn.{IsHeld}
-use Rattle.coverage.specs.Statements.{Hand, Empty, Held, Copied, Moving, Dropping, Phase, NotBuilding, Vacant, Growing, Evacuating, Placing, IsAt, Statement, Idle, Inserting, Maintaining, Scanning, IsAdded, loose_of}
+use Rattle.coverage.specs.Statements.{Hand, Empty, Held, Copied, Moving, Dropping, Phase, NotBuilding, Vacant, Growing, Evacuating, Placing, IsAt, Statement, Idle, Inserting, Maintaining, Holding, Scanning, IsAdded, loose_of}
 use Rattle.coverage.specs.Knowing.{KnowsHand, MakesUnited, MakesNone, MakesSame, KnowsPhase, Knows}
 use Rattle.coverage.specs.IsCovered.{IndexState, board, HandHolds, PhaseHolds, Holds, IsCovered, IsKept}
 use Rattle.coverage.proofs.Settled.{accounted_settled}
@@ -29,6 +29,7 @@ statement_held : (w : Board) (s : ℕ) (d : Statement) → Knows w s d → (rang
 statement_held w s Idle known range x holds = absurd holds
 statement_held w s (Inserting b k r hand) known range x holds = hand_held w s (range_of w b) (IsAdded r) hand known.2 range x holds
 statement_held w s (Maintaining m phase) known range x holds = phase_held w s m phase known.1 range x holds
+statement_held w s Holding known range x holds = absurd holds
 statement_held w s (Scanning scan) known range x holds = known.1 range x holds
 
 pub kept_covered : (w : IndexState) → IsKept w → IsCovered w

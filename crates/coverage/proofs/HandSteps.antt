@@ -1,14 +1,16 @@
 -- The steps towards a new tuple in the old one's place, for every statement that takes them.
 use Rattle.std.proofs.Common.{◌≡◌, ◌≢◌, inl, inr, ⊎_elim, ℕ, Option, Some, None, Bool, false, sym, ◌∙◌, ap, subst}
+use Rattle.std.specs.Prelude.{refl}
 use Rattle.std.proofs.lemmas.Option.{same_Some, none-some}
 use Rattle.coverage.specs.Board.{Spot, Tuple, Building, Board}
 use Rattle.coverage.specs.IsSound.{IsSound}
 use Rattle.coverage.specs.GoesOn.{GoesOn}
 use Rattle.coverage.specs.Changes.{ChangesAt, SameLoose, LocksBy, IsFree, Carries, MayEnd, Swaps, MovePuts, MoveSets, DropsLoose, TurnsLocks}
-use Rattle.coverage.specs.Statements.{Hand, Copied, Moving, Dropping, Statement, loose_in, loose_of, building_of}
-use Rattle.coverage.specs.Knowing.{KnowsHand}
+use Rattle.coverage.specs.Statements.{Hand, Held, Copied, Moving, Dropping, Statement, loose_in, loose_of, building_of}
+use Rattle.coverage.specs.Verdicts.{Puts, SwapVerdict, SwapMoves}
+use Rattle.coverage.specs.Knowing.{LocksNone, KnowsHand}
 use Rattle.coverage.specs.IsCovered.{IndexState, board}
-use Rattle.coverage.specs.Steps.{OwnLocks, Looks, PutsTuple, ReplacesTuple, SetsEntry, DropsTuple, HandStep, Maps, Gone, Copies, Again, MovePut, Turned}
+use Rattle.coverage.specs.Steps.{OwnLocks, Looks, PutsTuple, ReplacesTuple, SetsEntry, DropsTuple, HandStep, Maps, Gone, Again, MovePut, Turned}
 use Rattle.coverage.proofs.Sound.{swaps_sound, move_puts_sound, move_sets_sound, drops_sound, turns_locks_sound}
 use Rattle.coverage.proofs.Carried.{swaps_go_on, move_puts_go_on, move_sets_go_on}
 use Rattle.coverage.proofs.OthersGoOn.{drops_go_on, turns_locks_go_on}
@@ -16,6 +18,10 @@ use Rattle.coverage.proofs.Stable.{held_named}
 
 abbrev pub never : ℕ → ℕ → Bool
 never b k = false
+
+-- where a move puts the new tuple, its page is free and the old one stands there
+pub move_compares : (w : Board) (s range : ℕ) (x y : Spot) (old new : Tuple) → SwapVerdict w s range x old new (Puts y) → IsFree w s x.block × (w.tuple x ≡ Some old)
+move_compares w s range x y old new (SwapMoves _ free here must puts) = (free, here)
 
 -- the board stays sound, and all others go on
 abbrev pub Both : ℕ → Board → Board → Type 0
@@ -157,8 +163,8 @@ module _ (s : ℕ) (w v : IndexState) (d e : Statement) (turned : Turned s w v d
       set_knows After n x y old new known sets locked = (locked, set_unnamed x y old new known sets, (old, sets.tuples.tuple x ∙ known.3))
 
       pub put_both : (x y : Spot) (old new : Tuple) → w.entry range ≡ Some x → w.tuple x ≡ Some old → old.range ≡ range → Makes old new → loose_of d ≡ None → loose_of e ≡ Some y → building_of e ≡ building_of d
-          → PutsTuple s (board w) (board v) y new → Both s (board w) (board v)
-      put_both x y old new entry before of how was now work puts =
+          → PutsTuple s (board w) (board v) y new → v.lock y.block ≡ Some s → Both s (board w) (board v)
+      put_both x y old new entry before of how was now work puts target =
           let made = makes old new how in
           let kind : MovePuts s (board w) (board v) range x y old new = record {
             tuple = puts.tuple;
@@ -172,27 +178,32 @@ module _ (s : ℕ) (w v : IndexState) (d e : Statement) (turned : Turned s w v d
             map = puts.map;
             orphans = puts.orphans;
             work = record { building = building_same work; right = puts.right };
-            locks = locks_by puts.locks (loose_locked y now puts.locked);
+            locks = locks_by puts.locks (loose_locked y now target);
           } in
           (move_puts_sound s (board w) (board v) range x y old new sound kind, move_puts_go_on s never (board w) (board v) range x y old new sound kind)
 
-      pub put_knows : (x y : Spot) (old new : Tuple) → w.entry range ≡ Some x → w.tuple x ≡ Some old → old.range ≡ range → Makes old new → PutsTuple s (board w) (board v) y new → v.lock x.block ≡ Some s
+      pub put_knows : (x y : Spot) (old new : Tuple) → w.entry range ≡ Some x → w.tuple x ≡ Some old → old.range ≡ range → Makes old new → PutsTuple s (board w) (board v) y new → v.lock x.block ≡ Some s → v.lock y.block ≡ Some s
           → KnowsHand (board v) s range Makes (Moving x y old new)
-      put_knows x y old new entry before of how puts locked =
+      put_knows x y old new entry before of how puts locked target =
           let apart : x ≢ y = λ (same : x ≡ y). none-some _ (sym puts.tuple.was ∙ ap w.tuple (sym same) ∙ before) in
           let stays : v.tuple x ≡ Some old = ⊎_elim (λ (same : x ≡ y). absurd (apart same)) (λ (kept : v.tuple x ≡ w.tuple x). kept ∙ before) (puts.tuple.others x) in
-          (locked, puts.locked, puts.map.entry range ∙ entry, stays, puts.tuple.now, of, how, apart)
+          (locked, target, puts.map.entry range ∙ entry, stays, puts.tuple.now, of, how, apart)
 
-      pub hand_step : (h g : Hand) → HandStep s range Makes (board w) (board v) h g → KnowsHand (board w) s range Makes h → loose_of d ≡ loose_in h → loose_of e ≡ loose_in g → building_of e ≡ building_of d
+      pub hand_step : (h g : Hand) → HandStep s range (board w) (board v) h g → KnowsHand (board w) s range Makes h → loose_of d ≡ loose_in h → loose_of e ≡ loose_in g → building_of e ≡ building_of d
           → Both s (board w) (board v) × KnowsHand (board v) s range Makes g
       hand_step _ _ (Maps x named reads) known was now work =
           let both = looks_both was now work reads.looks in
           (both, (reads.none, λ t here of. inl (reads.looks.map.entry range ∙ named)))
       hand_step _ _ (Gone x gone reads) known was now work = (looks_both was now work reads.looks, reads.none)
-      hand_step _ _ (Copies x old new here of how reads) known was now work =
-          let both = looks_both was now work reads.looks in
-          (both, (reads.none, both.1.held range x known.1, of, how))
-      hand_step _ _ (Again x old new reads) known was now work = (looks_both was now work reads.looks, reads.none)
-      hand_step _ _ (MovePut x y old new here free puts locked) known was now work =
-          let entry = copied_named x old new known here free in
-          (put_both x y old new entry here known.2 known.3 was now work puts, put_knows x y old new entry here known.2 known.3 puts locked)
+      hand_step _ _ (Again x old new verdict reads) known was now work = (looks_both was now work reads.looks, reads.none)
+      hand_step _ _ (MovePut x y old new verdict puts these) known was now work =
+          let compared = move_compares (board w) s range x y old new verdict in
+          let entry = copied_named x old new known compared.1 compared.0 in
+          let source = these.locked x.block (inl refl) in
+          let target = these.locked y.block (inr (inl refl)) in
+          (put_both x y old new entry compared.1 known.2 known.3 was now work puts target, put_knows x y old new entry compared.1 known.2 known.3 puts source target)
+
+      -- the tuple is copied, and the new one made
+      pub copy_knows : (x : Spot) (old new : Tuple) → old.range ≡ range → Makes old new → Both s (board w) (board v) → LocksNone (board v) s → KnowsHand (board w) s range Makes (Held x)
+          → KnowsHand (board v) s range Makes (Copied x old new)
+      copy_knows x old new of how both none known = (none, both.1.held range x known.1, of, how)

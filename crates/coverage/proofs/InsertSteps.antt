@@ -9,18 +9,19 @@ use Rattle.coverage.specs.IsSettled.{IsAccounted}
 use Rattle.coverage.specs.IsSound.{IsSound}
 use Rattle.coverage.specs.GoesOn.{GoesOn}
 use Rattle.coverage.specs.Changes.{Carries}
-use Rattle.coverage.specs.Statements.{Hand, Empty, Held, Copied, Moving, Dropping, Statement, Idle, Inserting, Maintaining, Scanning, IsAdded}
+use Rattle.coverage.specs.Statements.{Hand, Empty, Held, Copied, Moving, Dropping, Statement, Idle, Inserting, Maintaining, Holding, Scanning, IsAdded}
 use Rattle.coverage.specs.Knowing.{LocksNone, KnowsHand, SettledBy, Knows}
 use Rattle.coverage.specs.IsCovered.{IndexState, board}
-use Rattle.coverage.specs.Steps.{HandStep, Maps, Gone, Copies, Again, MovePut, InsertStep, InsertHand, InsertNoEntry, InsertUnchanged, InsertSwap, InsertSet, InsertDrop, Turned}
+use Rattle.coverage.specs.Steps.{HandStep, Maps, Gone, Again, MovePut, InsertStep, InsertHand, InsertNoEntry, InsertCopies, InsertUnchanged, InsertSwap, InsertSet, InsertDrop, Turned}
 use Rattle.coverage.proofs.Stable.{held_named}
-use Rattle.coverage.proofs.HandSteps.{never, Both, may_end, looks_both, drop_both, copied_named, swap_both, set_both, set_knows, hand_step}
+use Rattle.coverage.proofs.HandSteps.{never, Both, may_end, looks_both, drop_both, copied_named, swap_both, set_both, set_knows, hand_step, copy_knows}
 
 -- an insert that is done has its row settled, if that still counts
 abbrev pub SettledOrOn : Board → (ℕ → Bool) → Statement → Statement → Type 0
 SettledOrOn v counts Idle new = Unit
 SettledOrOn v counts (Inserting b k r hand) new = IsTrue (counts r.id.t) → IsAccounted v b r ⊎ ((g : Hand) × (new ≡ Inserting b k r g))
 SettledOrOn v counts (Maintaining range phase) new = Unit
+SettledOrOn v counts Holding new = Unit
 SettledOrOn v counts (Scanning scan) new = Unit
 
 pub record Outcome (s : ℕ) (dropped : ℕ → ℕ → Bool) (w v : IndexState) (old new : Statement) : Type 0 where
@@ -29,19 +30,17 @@ pub record Outcome (s : ℕ) (dropped : ℕ → ℕ → Bool) (w v : IndexState)
   pub knows : Knows (board v) s new
   pub done : SettledOrOn (board v) v.counts old new
 
-hand_unsettled : (s range b : ℕ) (r : Row) (Makes : Tuple → Tuple → Type 0) (w v u : Board) (h g : Hand) → HandStep s range Makes w v h g → SettledBy u b r g
-hand_unsettled s range b r Makes w v u _ _ (Maps x named reads) = tt
-hand_unsettled s range b r Makes w v u _ _ (Gone x gone reads) = tt
-hand_unsettled s range b r Makes w v u _ _ (Copies x old new here of how reads) = tt
-hand_unsettled s range b r Makes w v u _ _ (Again x old new reads) = tt
-hand_unsettled s range b r Makes w v u _ _ (MovePut x y old new here free puts locked) = tt
+hand_unsettled : (s range b : ℕ) (r : Row) (w v u : Board) (h g : Hand) → HandStep s range w v h g → SettledBy u b r g
+hand_unsettled s range b r w v u _ _ (Maps x named reads) = tt
+hand_unsettled s range b r w v u _ _ (Gone x gone reads) = tt
+hand_unsettled s range b r w v u _ _ (Again x old new verdict reads) = tt
+hand_unsettled s range b r w v u _ _ (MovePut x y old new verdict puts these) = tt
 
-pub hand_right : (s range : ℕ) (Makes : Tuple → Tuple → Type 0) (w v : Board) (h g : Hand) → HandStep s range Makes w v h g → v.right ≡ w.right
-hand_right s range Makes w v _ _ (Maps x named reads) = reads.looks.right
-hand_right s range Makes w v _ _ (Gone x gone reads) = reads.looks.right
-hand_right s range Makes w v _ _ (Copies x old new here of how reads) = reads.looks.right
-hand_right s range Makes w v _ _ (Again x old new reads) = reads.looks.right
-hand_right s range Makes w v _ _ (MovePut x y old new here free puts locked) = puts.right
+pub hand_right : (s range : ℕ) (w v : Board) (h g : Hand) → HandStep s range w v h g → v.right ≡ w.right
+hand_right s range w v _ _ (Maps x named reads) = reads.looks.right
+hand_right s range w v _ _ (Gone x gone reads) = reads.looks.right
+hand_right s range w v _ _ (Again x old new verdict reads) = reads.looks.right
+hand_right s range w v _ _ (MovePut x y old new verdict puts these) = puts.right
 
 pub same_heap_range : (w v : Board) (b : ℕ) → v.pages_per_range ≡ w.pages_per_range → range_of v b ≡ range_of w b
 same_heap_range w v b same = ap (λ m. b / m) same
@@ -89,22 +88,29 @@ module _ (s b k : ℕ) (r : Row) (w v : IndexState) (sound : IsSound (board w)) 
   pub insert_outcome : (hand : Hand) (e : Statement) → InsertStep s b k r (board w) (board v) hand e → Turned s w v (Inserting b k r hand) e → Knows (board w) s (Inserting b k r hand) → Outcome s never w v (Inserting b k r hand) e
   insert_outcome _ _ (InsertHand old new step) turned known =
       let out = hand_step s w v (Inserting b k r old) (Inserting b k r new) turned sound (range_of (board w) b) (IsAdded r) makes_added old new step known.2 refl refl refl in
-      goes old (Inserting b k r new) turned known.0 known.1 known.2 new refl out.0 (hand_right s (range_of (board w) b) (IsAdded r) (board w) (board v) old new step) out.1
-      (hand_unsettled s (range_of (board w) b) b r (IsAdded r) (board w) (board v) (board v) old new step)
+      goes old (Inserting b k r new) turned known.0 known.1 known.2 new refl out.0 (hand_right s (range_of (board w) b) (board w) (board v) old new step) out.1
+      (hand_unsettled s (range_of (board w) b) b r (board w) (board v) (board v) old new step)
   insert_outcome _ _ (InsertNoEntry none reads) turned known =
       ends Empty Idle turned known.0 known.1 known.2 refl (looks_both s w v (Inserting b k r Empty) Idle turned sound refl refl refl reads.looks) reads.looks.right reads.none
       (λ x t named here. absurd (none-some _ (sym none ∙ sym (reads.looks.map.entry (range_of (board w) b)) ∙ ap v.entry (sym (same_heap_range (board w) (board v) b reads.looks.heap.pages_per_range)) ∙ named)))
-  insert_outcome _ _ (InsertUnchanged x t here of has free reads) turned known =
-      let named = held_named (board w) s (range_of (board w) b) x t sound known.2.1 here of free known.2.0 in
+  insert_outcome _ _ (InsertCopies x old new stands added changes reads) turned known =
+      let both = looks_both s w v (Inserting b k r (Held x)) (Inserting b k r (Copied x old new)) turned sound refl refl refl reads.looks in
+      goes (Held x) (Inserting b k r (Copied x old new)) turned known.0 known.1 known.2 (Copied x old new) refl both reads.looks.right
+      (copy_knows s w v (Inserting b k r (Held x)) (Inserting b k r (Copied x old new)) turned sound (range_of (board w) b) (IsAdded r) makes_added x old new stands.1 added both reads.none known.2) tt
+  insert_outcome _ _ (InsertUnchanged x t stands added free reads) turned known =
+      let here : w.tuple x ≡ Some t = stands.0 in
+      let has : IsTrue (t.includes r) = added.row in
+      let named = held_named (board w) s (range_of (board w) b) x t sound known.2.1 here stands.1 free known.2.0 in
       ends (Held x) Idle turned known.0 known.1 known.2 refl (looks_both s w v (Inserting b k r (Held x)) Idle turned sound refl refl refl reads.looks) reads.looks.right reads.none
       (includes_settles x t (at_range 0 reads.looks.heap.pages_per_range x (reads.looks.map.entry (range_of (board w) b) ∙ named)) (reads.looks.tuples.tuple x ∙ here) has)
-  insert_outcome _ _ (InsertSwap x old new swap) turned known =
+  insert_outcome _ _ (InsertSwap x old new verdict swap) turned known =
       let named = copied_named s w v (Inserting b k r (Copied x old new)) Idle turned sound (range_of (board w) b) (IsAdded r) makes_added x old new known.2 swap.tuple.was swap.free in
       ends (Copied x old new) Idle turned known.0 known.1 known.2 refl
       (swap_both s w v (Inserting b k r (Copied x old new)) Idle turned sound (range_of (board w) b) (IsAdded r) makes_added x old new known.2 refl refl (may_end s w v (Inserting b k r (Copied x old new)) Idle turned refl) swap)
       swap.right swap.none
       (includes_settles x new (at_range 0 swap.heap.pages_per_range x (swap.map.entry (range_of (board w) b) ∙ named)) swap.tuple.now known.2.3.row)
-  insert_outcome _ _ (InsertSet x y old new sets locked) turned known =
+  insert_outcome _ _ (InsertSet x y old new sets same) turned known =
+      let locked : v.lock x.block ≡ Some s = same.lock x.block ∙ known.2.0 in
       goes (Moving x y old new) (Inserting b k r (Dropping x)) turned known.0 known.1 known.2 (Dropping x) refl
       (set_both s w v (Inserting b k r (Moving x y old new)) (Inserting b k r (Dropping x)) turned sound (range_of (board w) b) (IsAdded r) makes_added x y old new known.2 refl refl
       (may_end s w v (Inserting b k r (Moving x y old new)) (Inserting b k r (Dropping x)) turned refl) sets locked)

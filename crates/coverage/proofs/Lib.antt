@@ -10,3 +10,7 @@ pub mod InsertSteps
 pub mod MaintainSteps
 pub mod Runs
 pub mod Opening
+pub mod Verdicts
+pub mod Numbers
+pub mod NextSteps
+pub mod StepsExist

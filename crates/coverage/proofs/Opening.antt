@@ -4,7 +4,7 @@ use Rattle.std.specs.Prelude.{IsTrue}
 use Rattle.std.proofs.lemmas.Option.{same_Some, none-some}
 use Rattle.std.proofs.lemmas.Bool.{false≢true}
 use Rattle.block_model.specs.declared.row.Row.{Row}
-use Rattle.coverage.specs.Board.{Spot, Tuple, Progress, range_of, IsBuilding}
+use Rattle.coverage.specs.Board.{Spot, Tuple, Progress, Pages, range_of, IsBuilding}
 use Rattle.coverage.specs.IsSettled.{IsSettled, AllAwait, IsAccounted}
 use Rattle.coverage.specs.IsSound.{IsSound}
 use Rattle.coverage.specs.Statements.{Hand, Scan, Idle, Inserting, Scanning, loose_of, building_of}
@@ -48,9 +48,9 @@ module _ (w : IndexState) (covered : IsCovered w) (rest : IsAtRest w) (ranged : 
   }
 
 -- a new table's index
-pub new_kept : (per blocks : ℕ) (counts : ℕ → Bool) → 0 < per
-    → IsKept (record { pages_per_range = per; blocks = blocks; row = λ b k. None; entry = λ m. None; tuple = λ x. None; lock = λ p. None; right = None; orphan = λ x. false; statement = λ s. Idle; counts = counts })
-new_kept per blocks counts some = record {
+pub new_kept : (per blocks : ℕ) (pages : Pages) (counts : ℕ → Bool) → 0 < per
+    → IsKept (record { pages_per_range = per; blocks = blocks; row = λ b k. None; entry = λ m. None; tuple = λ x. None; pages = pages; lock = λ p. None; right = None; orphan = λ x. false; statement = λ s. Idle; counts = counts })
+new_kept per blocks pages counts some = record {
   sound = record {
     ranged = some;
     rows_below = λ b k r is. absurd (none-some _ is);

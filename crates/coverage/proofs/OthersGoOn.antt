@@ -60,8 +60,8 @@ clears_go_on s d w v range x sound kind = record {
   no_right_given = search rules;
 }
 
-pub sweeps_go_on : (s : ℕ) (d : ℕ → ℕ → Bool) (w v : Board) (x : Spot) → IsSound w → Sweeps s w v x → GoesOn s d w v
-sweeps_go_on s d w v x sound kind = record {
+pub sweeps_go_on : (s : ℕ) (d : ℕ → ℕ → Bool) (w v : Board) (p : ℕ) → IsSound w → Sweeps s w v p → GoesOn s d w v
+sweeps_go_on s d w v p sound kind = record {
   pages_per_range = search rules;
   rows = search rules;
   settled = search rules;

@@ -4,65 +4,81 @@ use Rattle.std.specs.Prelude.{refl, IsTrue}
 use Rattle.std.proofs.lemmas.Option.{same_Some, none-some}
 use Rattle.std.proofs.lemmas.Bool.{cases_eq, false≢true}
 use Rattle.block_model.specs.declared.row.Row.{Row}
-use Rattle.coverage.specs.Board.{Spot, Tuple, Board, range_of}
+use Rattle.coverage.specs.Board.{Spot, Board, range_of}
 use Rattle.coverage.specs.IsSettled.{AllAwait, IsAccounted, Shows}
 use Rattle.coverage.specs.GoesOn.{IsHeld, GoesOn}
 use Rattle.coverage.specs.Changes.{SameHeap, PutsRow, Prunes, Takes, Ends}
-use Rattle.coverage.specs.Statements.{Hand, Empty, Phase, NotBuilding, Scan, Statement, Idle, Inserting, Maintaining, Scanning, IsAdded, loose_in, loose_at, loose_of, building_of}
-use Rattle.coverage.specs.Knowing.{MakesUnited, MakesNone, KnowsRow, Knows, Spares}
+use Rattle.coverage.specs.Statements.{Hand, Empty, Phase, NotBuilding, Scan, Statement, Idle, Inserting, Maintaining, Holding, Scanning, loose_in, loose_of, building_of}
+use Rattle.coverage.specs.Knowing.{KnowsRow, Knows, Spares}
 use Rattle.std.specs.Prelude.{List}
 use Rattle.coverage.specs.IsCovered.{IndexState, board, IsKept}
-use Rattle.coverage.specs.Steps.{Looks, Reads, RowsDropped, HandStep, Maps, Gone, Copies, Again, MovePut, InsertStep, InsertHand, InsertNoEntry, InsertUnchanged, InsertSwap, InsertSet, InsertDrop, MaintainStep, Look, ReadNoEntry, IsFinal, Found, Put, Set, Extent, Pass, Unite, SwapFinal, SetFinal, DropOld, Clear, ClearAgain, Sweep, Grow, Grown, Flag, EvacuatePut, EvacuateSet, EvacuateDrop, EvacuateSweep, ScanStep, ScanMap, ScanOn, ScanDrops, ScanElsewhere, ScanPage, Turned, SameCounts, RowPut, RightPasses, ScanBegins, Rests, Step, PutRow, Insert, Refused, TakeRight, Maintain, Prune, NextRange, GiveRight, BeginScan, Scans, EndScan, Elsewhere, Counts, Run, Done, Next}
+use Rattle.coverage.specs.Steps.{Looks, Reads, RowsDropped, IsUnnamed, HandStep, Maps, Gone, Again, MovePut, InsertStep, InsertHand, InsertNoEntry, InsertCopies, InsertUnchanged, InsertSwap, InsertSet, InsertDrop, GrowthStep, Grow, CountLeftOver, Count, Flag, EvacuatePut, EvacuateSet, EvacuateDrop, EvacuateSweep, Turn, SummariseStep, LookMap, LookGone, IsFinal, Found, ReadNoEntry, GrowMap, Put, Set, Extent, Pass, Unite, UniteCopies, SwapFinal, SetFinal, DropOld, DesummariseStep, ClearMap, ClearNone, Clear, ClearAgain, DropCleared, MaintainStep, Summarises, Desummarises, ScanStep, ScanMap, ScanNoEntry, ScanGone, ScanKeeps, ScanDrops, ScanElsewhere, ScanPage, Turned, SameCounts, RowPut, RightPasses, ScanBegins, Rests, Step, PutRow, Insert, Refused, TakeRight, BeginRange, Maintain, Prune, Sweep, GiveRight, Abandon, BeginScan, Scans, EndScan, Elsewhere, Counts, Run, Done, Next}
 use Rattle.coverage.proofs.Sound.{puts_row_sound, prunes_sound, takes_sound, ends_sound}
 use Rattle.coverage.proofs.OthersGoOn.{puts_row_go_on, prunes_go_on, takes_go_on, ends_go_on}
 use Rattle.coverage.proofs.Stable.{knows_on}
 use Rattle.coverage.proofs.HandSteps.{never, Both, loose_same, building_same, locks_by, nothing_loose, looks_both}
 use Rattle.coverage.proofs.InsertSteps.{Outcome, SettledOrOn, insert_outcome}
-use Rattle.coverage.proofs.MaintainSteps.{maintain_left}
+use Rattle.coverage.proofs.MaintainSteps.{sweep_both, maintain_left}
 
-hand_heap : (s range : ℕ) (Makes : Tuple → Tuple → Type 0) (w v : Board) (h g : Hand) → HandStep s range Makes w v h g → SameHeap w v
-hand_heap s range Makes w v _ _ (Maps x named reads) = reads.looks.heap
-hand_heap s range Makes w v _ _ (Gone x gone reads) = reads.looks.heap
-hand_heap s range Makes w v _ _ (Copies x old new here of how reads) = reads.looks.heap
-hand_heap s range Makes w v _ _ (Again x old new reads) = reads.looks.heap
-hand_heap s range Makes w v _ _ (MovePut x y old new here free puts locked) = puts.heap
+hand_heap : (s range : ℕ) (w v : Board) (h g : Hand) → HandStep s range w v h g → SameHeap w v
+hand_heap s range w v _ _ (Maps x named reads) = reads.looks.heap
+hand_heap s range w v _ _ (Gone x gone reads) = reads.looks.heap
+hand_heap s range w v _ _ (Again x old new verdict reads) = reads.looks.heap
+hand_heap s range w v _ _ (MovePut x y old new verdict puts these) = puts.heap
 
-insert_heap : (s b k : ℕ) (r : Row) (w v : Board) (h : Hand) (e : Statement) → InsertStep s b k r w v h e → SameHeap w v
-insert_heap s b k r w v _ _ (InsertHand old new step) = hand_heap s (range_of w b) (IsAdded r) w v old new step
+pub insert_heap : (s b k : ℕ) (r : Row) (w v : Board) (h : Hand) (e : Statement) → InsertStep s b k r w v h e → SameHeap w v
+insert_heap s b k r w v _ _ (InsertHand old new step) = hand_heap s (range_of w b) w v old new step
 insert_heap s b k r w v _ _ (InsertNoEntry none reads) = reads.looks.heap
-insert_heap s b k r w v _ _ (InsertUnchanged x t here of has free reads) = reads.looks.heap
-insert_heap s b k r w v _ _ (InsertSwap x old new swap) = swap.heap
-insert_heap s b k r w v _ _ (InsertSet x y old new sets locked) = sets.heap
+insert_heap s b k r w v _ _ (InsertCopies x old new stands added changes reads) = reads.looks.heap
+insert_heap s b k r w v _ _ (InsertUnchanged x t stands added free reads) = reads.looks.heap
+insert_heap s b k r w v _ _ (InsertSwap x old new verdict swap) = swap.heap
+insert_heap s b k r w v _ _ (InsertSet x y old new sets same) = sets.heap
 insert_heap s b k r w v _ _ (InsertDrop x drops) = drops.heap
 
-maintain_heap : (s range : ℕ) (w v : Board) (old new : Phase) → MaintainStep s range w v old new → SameHeap w v
-maintain_heap s range w v _ _ (Look old new step) = hand_heap s range MakesNone w v old new step
-maintain_heap s range w v _ _ (ReadNoEntry none reads) = reads.looks.heap
-maintain_heap s range w v _ _ (IsFinal x t here of final reads) = reads.looks.heap
-maintain_heap s range w v _ _ (Found x t here of flag reads) = reads.looks.heap
-maintain_heap s range w v _ _ (Put x t of flag puts) = puts.heap
-maintain_heap s range w v _ _ (Set x sets none) = sets.heap
-maintain_heap s range w v _ _ (Extent extent result is reads) = reads.looks.heap
-maintain_heap s range w v _ _ (Pass extent next result wider below more block reads) = reads.looks.heap
-maintain_heap s range w v _ _ (Unite p old new step) = hand_heap s range (MakesUnited p) w v old new step
-maintain_heap s range w v _ _ (SwapFinal p x old new swap) = swap.heap
-maintain_heap s range w v _ _ (SetFinal p x y old new sets locked) = sets.heap
-maintain_heap s range w v _ _ (DropOld x drops) = drops.heap
-maintain_heap s range w v _ _ (Clear x clears) = clears.heap
-maintain_heap s range w v _ _ (Sweep x t sweeps) = sweeps.heap
-maintain_heap s range w v _ _ (Grow looks) = looks.heap
-maintain_heap s range w v _ _ (Grown reads) = reads.looks.heap
-maintain_heap s range w v _ _ (Flag reads) = reads.looks.heap
-maintain_heap s range w v _ _ (ClearAgain x reads) = reads.looks.heap
-maintain_heap s range w v _ _ (EvacuatePut m x y t named here free puts locked) = puts.heap
-maintain_heap s range w v _ _ (EvacuateSet m x y t u sets locked) = sets.heap
-maintain_heap s range w v _ _ (EvacuateDrop m x drops) = drops.heap
-maintain_heap s range w v _ _ (EvacuateSweep x t sweeps) = sweeps.heap
+growth_heap : (s range : ℕ) (w v : Board) (old new : Phase) → GrowthStep s range w v old new → SameHeap w v
+growth_heap s range w v _ _ (Grow grows free meta turns) = turns.looks.heap
+growth_heap s range w v _ _ (CountLeftOver grows meta counts) = counts.looks.heap
+growth_heap s range w v _ _ (Count counts) = counts.looks.heap
+growth_heap s range w v _ _ (Flag grows free turns) = turns.looks.heap
+growth_heap s range w v _ _ (EvacuatePut x y t grows next named free verdict puts these) = puts.heap
+growth_heap s range w v _ _ (EvacuateSet m x y t u sets same) = sets.heap
+growth_heap s range w v _ _ (EvacuateDrop m x drops) = drops.heap
+growth_heap s range w v _ _ (EvacuateSweep x t grows next unnamed sweeps) = sweeps.heap
+growth_heap s range w v _ _ (Turn grows empty free meta turns) = turns.looks.heap
+
+summarise_heap : (s range : ℕ) (w v : Board) (old : Phase) (new : Statement) → SummariseStep s range w v old new → SameHeap w v
+summarise_heap s range w v _ _ (LookMap x named reads) = reads.looks.heap
+summarise_heap s range w v _ _ (LookGone x gone reads) = reads.looks.heap
+summarise_heap s range w v _ _ (IsFinal x t stands final reads) = reads.looks.heap
+summarise_heap s range w v _ _ (Found x t stands flag reads) = reads.looks.heap
+summarise_heap s range w v _ _ (ReadNoEntry none reads) = reads.looks.heap
+summarise_heap s range w v _ _ (GrowMap old new step) = growth_heap s range w v old new step
+summarise_heap s range w v _ _ (Put x t of flag size long verdict puts these) = puts.heap
+summarise_heap s range w v _ _ (Set x sets none) = sets.heap
+summarise_heap s range w v _ _ (Extent extent result is reads) = reads.looks.heap
+summarise_heap s range w v _ _ (Pass extent next result wider below more block reads) = reads.looks.heap
+summarise_heap s range w v _ _ (Unite extent next result old new all step) = hand_heap s range w v old new step
+summarise_heap s range w v _ _ (UniteCopies extent next result x old new all stands united reads) = reads.looks.heap
+summarise_heap s range w v _ _ (SwapFinal p x old new verdict swap) = swap.heap
+summarise_heap s range w v _ _ (SetFinal p x y old new sets same) = sets.heap
+summarise_heap s range w v _ _ (DropOld x drops) = drops.heap
+
+desummarise_heap : (s range : ℕ) (w v : Board) (old : Phase) (new : Statement) → DesummariseStep s range w v old new → SameHeap w v
+desummarise_heap s range w v _ _ (ClearMap x named reads) = reads.looks.heap
+desummarise_heap s range w v _ _ (ClearNone none reads) = reads.looks.heap
+desummarise_heap s range w v _ _ (Clear x verdict clears these) = clears.heap
+desummarise_heap s range w v _ _ (ClearAgain x verdict reads) = reads.looks.heap
+desummarise_heap s range w v _ _ (DropCleared x drops) = drops.heap
+
+pub maintain_heap : (s range : ℕ) (w v : Board) (old : Phase) (new : Statement) → MaintainStep s range w v old new → SameHeap w v
+maintain_heap s range w v old new (Summarises step) = summarise_heap s range w v old new step
+maintain_heap s range w v old new (Desummarises step) = desummarise_heap s range w v old new step
 
 spares_never : (d : Statement) → Spares never d
 spares_never Idle = tt
 spares_never (Inserting b k r hand) = λ dead. false≢true dead
 spares_never (Maintaining range phase) = tt
+spares_never Holding = tt
 spares_never (Scanning scan) = λ b k sees dead. false≢true dead
 
 module _ (s : ℕ) (dropped : ℕ → ℕ → Bool) (w v : IndexState) (old new : Statement) (kept : IsKept w) (turned : Turned s w v old new) (out : Outcome s dropped w v old new)
@@ -118,7 +134,7 @@ settled_shows w b r x named settled t here of final = ⊎_elim
 
 module _ (w : Board) (b k : ℕ) (r : Row) where
   scan_row : (old new : Scan) → ScanStep w old new → IsTrue (old.sees b k) → KnowsRow w old b k r → KnowsRow w new b k r
-  scan_row old _ (ScanMap range x named) sees known = record {
+  scan_row old _ (ScanMap range x empty named) sees known = record {
     there = known.there;
     settled = known.settled;
     shown = λ y held.
@@ -126,18 +142,20 @@ module _ (w : Board) (b k : ℕ) (r : Row) where
         settled_shows w b r y (ap w.entry (sym (ap (λ (q : ℕ × Spot). q.0) both)) ∙ named ∙ ap Some (ap (λ (q : ℕ × Spot). q.1) both)) known.settled;
     kept = known.kept;
   }
-  scan_row old _ ScanOn sees known = record { there = known.there; settled = known.settled; shown = λ y held. absurd (none-some _ held); kept = known.kept }
-  scan_row old _ (ScanDrops range x t candidate held here of excludes others) sees known = record {
+  scan_row old _ (ScanNoEntry range empty none) sees known = known
+  scan_row old _ (ScanGone range x held gone) sees known = record { there = known.there; settled = known.settled; shown = λ y none. absurd (none-some _ none); kept = known.kept }
+  scan_row old _ (ScanKeeps range x t held stands keeps) sees known = record { there = known.there; settled = known.settled; shown = λ y none. absurd (none-some _ none); kept = known.kept }
+  scan_row old _ (ScanDrops range x t candidate held stands keeps excludes others) sees known = record {
     there = known.there;
     settled = known.settled;
     shown = λ y none. absurd (none-some _ none);
     kept = λ matches. ⊎_elim
         (λ (found : IsTrue (old.found b k)). inl found)
         (λ (left : IsTrue (old.candidate b) × (old.read ≤ b)). ⊎_elim
-        (λ (is : range_of w b ≡ range).
-        absurd (excludes.none r (known.shown x (held ∙ ap (λ m. Some (m, x)) (sym is)) t here (of ∙ sym is) excludes.final) matches))
-        (λ (still : IsTrue (candidate b)). inr (still, left.1))
-        (others b left.0))
+        (λ (is : (range_of w b ≡ range) × (candidate b ≡ false)).
+        absurd (excludes.none r (known.shown x (held ∙ ap (λ m. Some (m, x)) (sym is.0)) t stands.0 (stands.1 ∙ sym is.0) excludes.final) matches))
+        (λ (still : (range_of w b ≢ range) × (candidate b ≡ old.candidate b)). inr (still.1 ∙ left.0, left.1))
+        (others b))
         (known.kept matches);
   }
   scan_row old _ (ScanElsewhere candidate others) sees known = record {
@@ -149,7 +167,7 @@ module _ (w : Board) (b k : ℕ) (r : Row) where
         (λ (left : IsTrue (old.candidate b) × (old.read ≤ b)). inr (others b k r known.there sees matches left.0, left.1))
         (known.kept matches);
   }
-  scan_row old _ (ScanPage next found first keeps page) sees known = record {
+  scan_row old _ (ScanPage next found given unread first keeps page only) sees known = record {
     there = known.there;
     settled = known.settled;
     shown = known.shown;
@@ -166,20 +184,24 @@ module _ (w : Board) (b k : ℕ) (r : Row) where
       after m n le other = omega arith
 
 scan_sees : (w : Board) (old new : Scan) → ScanStep w old new → (b k : ℕ) → IsTrue (new.sees b k) → IsTrue (old.sees b k)
-scan_sees w old _ (ScanMap range x named) b k sees = sees
-scan_sees w old _ ScanOn b k sees = sees
-scan_sees w old _ (ScanDrops range x t candidate held here of excludes others) b k sees = sees
+scan_sees w old _ (ScanMap range x empty named) b k sees = sees
+scan_sees w old _ (ScanNoEntry range empty none) b k sees = sees
+scan_sees w old _ (ScanGone range x held gone) b k sees = sees
+scan_sees w old _ (ScanKeeps range x t held stands keeps) b k sees = sees
+scan_sees w old _ (ScanDrops range x t candidate held stands keeps excludes others) b k sees = sees
 scan_sees w old _ (ScanElsewhere candidate others) b k sees = sees
-scan_sees w old _ (ScanPage next found first keeps page) b k sees = sees
+scan_sees w old _ (ScanPage next found given unread first keeps page only) b k sees = sees
 
 scan_held : (w : Board) (old new : Scan) → ScanStep w old new → ((range : ℕ) (x : Spot) → old.held ≡ Some (range, x) → IsHeld w range x) → (range : ℕ) (x : Spot) → new.held ≡ Some (range, x) → IsHeld w range x
-scan_held w old _ (ScanMap m y named) before range x held =
+scan_held w old _ (ScanMap m y empty named) before range x held =
     let both : (m, y) ≡ (range, x) = same_Some _ _ held in
     λ t here of. inl (ap w.entry (sym (ap (λ (q : ℕ × Spot). q.0) both)) ∙ named ∙ ap Some (ap (λ (q : ℕ × Spot). q.1) both))
-scan_held w old _ ScanOn before range x held = absurd (none-some _ held)
-scan_held w old _ (ScanDrops m y t candidate was here of excludes others) before range x held = absurd (none-some _ held)
+scan_held w old _ (ScanNoEntry m empty none) before range x held = before range x held
+scan_held w old _ (ScanGone m y was gone) before range x held = absurd (none-some _ held)
+scan_held w old _ (ScanKeeps m y t was stands keeps) before range x held = absurd (none-some _ held)
+scan_held w old _ (ScanDrops m y t candidate was stands keeps excludes others) before range x held = absurd (none-some _ held)
 scan_held w old _ (ScanElsewhere candidate others) before range x held = before range x held
-scan_held w old _ (ScanPage next found first keeps page) before range x held = before range x held
+scan_held w old _ (ScanPage next found given unread first keeps page only) before range x held = before range x held
 
 -- what a scan knows of a row stays true while no row is dropped
 row_on : (s : ℕ) (w v : Board) → GoesOn s never w v → (scan : Scan) (b k : ℕ) (r : Row) → KnowsRow w scan b k r → KnowsRow v scan b k r
@@ -198,6 +220,7 @@ rests_path w v rests = λ i. record {
   row = λ b k. rests.heap.row b k i;
   entry = λ m. rests.map.entry m i;
   tuple = λ x. rests.tuples.tuple x i;
+  pages = rests.pages i;
   lock = λ p. rests.lock p i;
   right = rests.right i;
   orphan = λ x. rests.orphans.orphan x i;
@@ -250,20 +273,20 @@ module _ (s : ℕ) (w v : IndexState) (kept : IsKept w) where
   looks : (old new : Statement) → Turned s w v old new → loose_of old ≡ None → loose_of new ≡ None → building_of new ≡ building_of old → Looks s (board w) (board v) → Both s (board w) (board v)
   looks old new turned was now work same = looks_both s w v old new turned kept.sound was now work same
 
-  take_right : (range : ℕ) → Turned s w v Idle (Maintaining range (NotBuilding Empty)) → RightPasses s (board w) (board v) None (Some s) → SameCounts w v → IsKept v
-  take_right range turned passes counts =
+  take_right : Turned s w v Idle Holding → RightPasses s (board w) (board v) None (Some s) → SameCounts w v → IsKept v
+  take_right turned passes counts =
       let kind : Takes s (board w) (board v) = record {
         free = passes.was;
         taken = passes.now;
-        building = building_same s w v Idle (Maintaining range (NotBuilding Empty)) turned refl;
+        building = building_same s w v Idle Holding turned refl;
         heap = passes.heap;
         map = passes.map;
         tuples = passes.tuples;
         orphans = passes.orphans;
-        loose = loose_same s w v Idle (Maintaining range (NotBuilding Empty)) turned refl;
-        locks = locks_by s w v Idle (Maintaining range (NotBuilding Empty)) turned passes.locks (nothing_loose s w v Idle (Maintaining range (NotBuilding Empty)) turned refl);
+        loose = loose_same s w v Idle Holding turned refl;
+        locks = locks_by s w v Idle Holding turned passes.locks (nothing_loose s w v Idle Holding turned refl);
       } in
-      steps Idle (Maintaining range (NotBuilding Empty)) turned
+      steps Idle Holding turned
       (record {
         sound = takes_sound s (board w) (board v) kept.sound kind;
         on = takes_go_on s never (board w) (board v) kept.sound kind;
@@ -271,8 +294,9 @@ module _ (s : ℕ) (w v : IndexState) (kept : IsKept w) where
         done = tt;
       }) passes.heap counts
 
-  give_right : (range : ℕ) (phase : Phase) → loose_at phase ≡ None → Turned s w v (Maintaining range phase) Idle → RightPasses s (board w) (board v) (Some s) None → SameCounts w v → IsKept v
-  give_right range phase none turned passes counts =
+  -- the lock is given by a reply, or by a refusal
+  give_right : (old : Statement) → loose_of old ≡ None → SettledOrOn (board v) v.counts old Idle → Turned s w v old Idle → RightPasses s (board w) (board v) (Some s) None → SameCounts w v → IsKept v
+  give_right old none done turned passes counts =
       let kind : Ends s (board w) (board v) = record {
         building = λ n. ⊎_elim (λ (is : n ≡ s). inr is) (λ (same : v.statement n ≡ w.statement n). inl (ap building_of same)) (turned.others n);
         idle = ap building_of turned.now;
@@ -281,21 +305,21 @@ module _ (s : ℕ) (w v : IndexState) (kept : IsKept w) where
         map = passes.map;
         tuples = passes.tuples;
         orphans = passes.orphans;
-        loose = loose_same s w v (Maintaining range phase) Idle turned (sym none);
-        locks = locks_by s w v (Maintaining range phase) Idle turned passes.locks (nothing_loose s w v (Maintaining range phase) Idle turned refl);
+        loose = loose_same s w v old Idle turned (sym none);
+        locks = locks_by s w v old Idle turned passes.locks (nothing_loose s w v old Idle turned refl);
       } in
-      steps (Maintaining range phase) Idle turned
+      steps old Idle turned
       (record {
         sound = ends_sound s (board w) (board v) kept.sound kind;
         on = ends_go_on s never (board w) (board v) kept.sound kind;
         knows = (passes.none, λ held. none-some _ (sym passes.now ∙ held));
-        done = tt;
+        done = done;
       }) passes.heap counts
 
-  prune : (range : ℕ) (dropped : ℕ → ℕ → Bool) → ((n : ℕ) → n ≢ s → Spares dropped (w.statement n)) → Turned s w v (Maintaining range (NotBuilding Empty)) (Maintaining range (NotBuilding Empty))
+  prune : (dropped : ℕ → ℕ → Bool) → ((n : ℕ) → n ≢ s → Spares dropped (w.statement n)) → Turned s w v Holding Holding
       → RowsDropped s dropped (board w) (board v) → SameCounts w v → IsKept v
-  prune range dropped spares turned drops counts =
-      let known = knows_it (Maintaining range (NotBuilding Empty)) turned.was in
+  prune dropped spares turned drops counts =
+      let known = knows_it Holding turned.was in
       let kind : Prunes s dropped (board w) (board v) = record {
         row = drops.row;
         pages_per_range = drops.pages_per_range;
@@ -303,12 +327,12 @@ module _ (s : ℕ) (w v : IndexState) (kept : IsKept w) where
         map = drops.map;
         tuples = drops.tuples;
         orphans = drops.orphans;
-        loose = loose_same s w v (Maintaining range (NotBuilding Empty)) (Maintaining range (NotBuilding Empty)) turned refl;
-        work = record { building = building_same s w v (Maintaining range (NotBuilding Empty)) (Maintaining range (NotBuilding Empty)) turned refl; right = drops.right };
-        locks = locks_by s w v (Maintaining range (NotBuilding Empty)) (Maintaining range (NotBuilding Empty)) turned drops.locks
-            (nothing_loose s w v (Maintaining range (NotBuilding Empty)) (Maintaining range (NotBuilding Empty)) turned refl);
+        loose = loose_same s w v Holding Holding turned refl;
+        work = record { building = building_same s w v Holding Holding turned refl; right = drops.right };
+        locks = locks_by s w v Holding Holding turned drops.locks
+            (nothing_loose s w v Holding Holding turned refl);
       } in
-      kept_after s dropped w v (Maintaining range (NotBuilding Empty)) (Maintaining range (NotBuilding Empty)) kept turned
+      kept_after s dropped w v Holding Holding kept turned
       (record {
         sound = prunes_sound s dropped (board w) (board v) kept.sound kind;
         on = prunes_go_on s dropped (board w) (board v) kept.sound kind;
@@ -387,19 +411,24 @@ module _ (s : ℕ) (w v : IndexState) (kept : IsKept w) where
       steps (Inserting b k r hand) new turned (insert_outcome s b k r w v kept.sound hand new step turned (knows_it (Inserting b k r hand) turned.was))
       (insert_heap s b k r (board w) (board v) hand new step) counts
   step_kept (Refused b k r hand none turned reads fails counts) = refused b k r hand none turned reads fails counts
-  step_kept (TakeRight range turned passes counts) = take_right range turned passes counts
+  step_kept (TakeRight turned passes counts) = take_right turned passes counts
+  step_kept (BeginRange range turned reads counts) =
+      let known = knows_it Holding turned.was in
+      let both = looks Holding (Maintaining range (NotBuilding Empty)) turned refl refl refl reads.looks in
+      steps Holding (Maintaining range (NotBuilding Empty)) turned
+      (record { sound = both.0; on = both.1; knows = (reads.looks.right ∙ known.0, reads.none); done = tt }) reads.looks.heap counts
   step_kept (Maintain range old new turned step counts) =
       let known = knows_it (Maintaining range old) turned.was in
       let left = maintain_left s range w v kept.sound known.0 old new step turned known.1 in
-      steps (Maintaining range old) (Maintaining range new) turned (record { sound = left.0.0; on = left.0.1; knows = (left.1, left.2); done = tt })
+      steps (Maintaining range old) new turned (record { sound = left.0.0; on = left.0.1; knows = left.1; done = tt })
       (maintain_heap s range (board w) (board v) old new step) counts
-  step_kept (Prune range dropped spares turned drops counts) = prune range dropped spares turned drops counts
-  step_kept (NextRange range m turned reads counts) =
-      let known = knows_it (Maintaining range (NotBuilding Empty)) turned.was in
-      let both = looks (Maintaining range (NotBuilding Empty)) (Maintaining m (NotBuilding Empty)) turned refl refl refl reads.looks in
-      steps (Maintaining range (NotBuilding Empty)) (Maintaining m (NotBuilding Empty)) turned
-      (record { sound = both.0; on = both.1; knows = (reads.looks.right ∙ known.0, reads.none); done = tt }) reads.looks.heap counts
-  step_kept (GiveRight range phase none turned passes counts) = give_right range phase none turned passes counts
+  step_kept (Prune dropped spares turned drops counts) = prune dropped spares turned drops counts
+  step_kept (Sweep page turned sweeps counts) =
+      let known = knows_it Holding turned.was in
+      let both = sweep_both s w v Holding Holding turned kept.sound page (λ x. (x.block ≡ page) × IsUnnamed (board w) x) (λ x on is. is.1) refl refl refl sweeps in
+      steps Holding Holding turned (record { sound = both.0; on = both.1; knows = (sweeps.right ∙ known.0, sweeps.none); done = tt }) sweeps.heap counts
+  step_kept (GiveRight turned passes counts) = give_right Holding refl tt turned passes counts
+  step_kept (Abandon range phase none turned passes counts) = give_right (Maintaining range phase) none tt turned passes counts
   step_kept (BeginScan scan begins turned reads counts) = begin_scan scan begins turned reads counts
   step_kept (Scans old new turned step reads counts) = scans old new turned step reads counts
   step_kept (EndScan scan turned reads counts) =

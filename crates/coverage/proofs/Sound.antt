@@ -115,8 +115,8 @@ clears_sound s w v range x sound kind = record {
   loose_is_locked = lock_kept s w v sound kind.locks (kind.loose.others);
 }
 
-pub sweeps_sound : (s : ℕ) (w v : Board) (x : Spot) → IsSound w → Sweeps s w v x → IsSound v
-sweeps_sound s w v x sound kind = record {
+pub sweeps_sound : (s : ℕ) (w v : Board) (p : ℕ) → IsSound w → Sweeps s w v p → IsSound v
+sweeps_sound s w v p sound kind = record {
   ranged = search rules;
   rows_below = search rules;
   entries_name_tuples = search rules;

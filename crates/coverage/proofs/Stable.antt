@@ -7,7 +7,7 @@ use Rattle.coverage.specs.Board.{Spot, Tuple, Board, range_of, NamesPlaceholder}
 use Rattle.coverage.specs.IsSound.{IsSound}
 use Rattle.coverage.specs.GoesOn.{IsHeld, GoesOn}
 use Rattle.coverage.specs.Changes.{IsFree}
-use Rattle.coverage.specs.Statements.{Hand, Empty, Held, Copied, Moving, Dropping, Phase, NotBuilding, Vacant, Growing, Evacuating, Placing, IsAt, Scan, Statement, Idle, Inserting, Maintaining, Scanning, IsAdded}
+use Rattle.coverage.specs.Statements.{Hand, Empty, Held, Copied, Moving, Dropping, Phase, NotBuilding, Vacant, Growing, Evacuating, Placing, IsAt, Scan, Statement, Idle, Inserting, Maintaining, Holding, Scanning, IsAdded}
 use Rattle.coverage.specs.Knowing.{LocksNone, HoldsNothing, KnowsHand, SettledBy, MakesUnited, MakesNone, MakesSame, HasPlaced, KnowsPhase, KnowsRow, Knows, Spares}
 
 -- Where nobody else locks the page and the session locks none, a tuple of the range at a spot that it holds is the one that the map names.
@@ -103,4 +103,5 @@ module _ (a : ℕ) (d : ℕ → ℕ → Bool) (w v : Board) (sound : IsSound w) 
     settled_by_on b k r hand known.0 known.3,
   )
   knows_on (Maintaining range phase) spared known = (right_on known.0, phase_on known.0 range phase known.1)
+  knows_on Holding spared known = (right_on known.0, none_on known.1)
   knows_on (Scanning scan) spared known = (nothing_on known.0, (λ range x held. on.held range x (known.1 range x held)), λ b k sees. let row = known.2 b k sees in (row.0, row_on scan b k row.0 (spared b k sees) row.1))

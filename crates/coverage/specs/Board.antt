@@ -1,6 +1,6 @@
 -- One index and its table, as the running statements meet them: rows and tuples on their pages, the range map, who locks
 -- what, and how far each summarising has come.
-use Rattle.std.specs.Prelude.{◌≡◌, ℕ, ◌/◌, Bool, true, Option, Some}
+use Rattle.std.specs.Prelude.{◌≡◌, ℕ, ◌+◌, ◌/◌, Bool, true, Option, Some, List}
 use Rattle.block_model.specs.declared.row.Row.{Row}
 
 -- where a tuple stands: an index page and a slot of it
@@ -8,8 +8,9 @@ pub record Spot : Type 0 where
   pub block : ℕ
   pub slot : ℕ
 
--- a tuple: its range, whether it is a placeholder, and which rows it includes
+-- a tuple: its bytes, its range, whether it is a placeholder, and which rows it includes
 pub record Tuple : Type 0 where
+  pub bytes : List ℕ
   pub range : ℕ
   pub placeholder : Bool
   pub includes : Row → Bool
@@ -25,6 +26,23 @@ pub record Building : Type 0 where
   pub range : ℕ
   pub progress : Progress
 
+-- an index page: not started, of the range map and its count, with tuples, or with tuples and being emptied for the map
+pub data PageKind : Type 0 where
+  Unstarted : PageKind
+  Mapping : PageKind
+  Regular : PageKind
+  Emptying : PageKind
+
+-- The pages of an index: the kind of each; how long a further tuple each takes, and how long a tuple may stand at a spot in
+-- place of the one there; how long an empty placeholder is; the number of map pages, and that of all pages at most.
+pub record Pages : Type 0 where
+  pub kind : ℕ → PageKind
+  pub room : ℕ → ℕ
+  pub room_at : Spot → ℕ
+  pub placeholder : ℕ
+  pub map_pages : ℕ
+  pub limit : ℕ
+
 pub record Board : Type 0 where
   -- heap blocks of a range, heap blocks of the table, and the rows in use by block and slot
   pub pages_per_range : ℕ
@@ -33,6 +51,7 @@ pub record Board : Type 0 where
   -- the range map by range, the tuples by spot
   pub entry : ℕ → Option Spot
   pub tuple : Spot → Option Tuple
+  pub pages : Pages
   -- who locks an index page, and who holds the table's summarise lock
   pub lock : ℕ → Option ℕ
   pub right : Option ℕ
@@ -46,6 +65,13 @@ pub record Board : Type 0 where
 -- the range in which a heap block lies
 abbrev pub range_of : Board → ℕ → ℕ
 range_of w b = b / w.pages_per_range
+
+-- the entries of a map page, and the page on which the entry of a range stands; block 0 counts the map pages
+abbrev pub entries_a_page : ℕ
+entries_a_page = 1020
+
+abbrev pub map_page_of : ℕ → ℕ
+map_page_of range = range / entries_a_page + 1
 
 -- a statement of this session is building the range's summary, and has come so far
 abbrev pub IsBuilding : Board → ℕ → ℕ → Progress → Type 0

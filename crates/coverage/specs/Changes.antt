@@ -191,14 +191,21 @@ pub record Clears (s : ℕ) (w v : Board) (range : ℕ) (x : Spot) : Type 0 wher
   pub work : SameWork w v
   pub locks : LocksBy s w v
 
--- a tuple that the map doesn't name is dropped, under its page's lock
-pub record Sweeps (s : ℕ) (w v : Board) (x : Spot) : Type 0 where
-  pub now : v.tuple x ≡ None
-  pub others : (y : Spot) → (y ≡ x) ⊎ (v.tuple y ≡ w.tuple y)
-  pub gone : v.orphan x ≡ false
-  pub kept : (y : Spot) → (y ≡ x) ⊎ (v.orphan y ≡ w.orphan y)
+-- nothing stands there any more, where the map named nothing
+pub record IsSwept (w v : Board) (page : ℕ) (x : Spot) : Type 0 where
+  pub on : x.block ≡ page
   pub unnamed : (range : ℕ) → w.entry range ≢ Some x
-  pub free : IsFree w s x.block
+  pub now : v.tuple x ≡ None
+  pub gone : v.orphan x ≡ false
+
+-- a spot has the tuple that it had
+abbrev pub IsUntouched : Board → Board → Spot → Type 0
+IsUntouched w v x = (v.tuple x ≡ w.tuple x) × (v.orphan x ≡ w.orphan x)
+
+-- tuples of one page that the map doesn't name are dropped, under the page's lock
+pub record Sweeps (s : ℕ) (w v : Board) (page : ℕ) : Type 0 where
+  pub spots : (x : Spot) → IsUntouched w v x ⊎ IsSwept w v page x
+  pub free : IsFree w s page
   pub loose : SameLoose w v
   pub heap : SameHeap w v
   pub map : SameMap w v

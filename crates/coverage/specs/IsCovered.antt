@@ -1,11 +1,11 @@
 -- When an index is covered: no scan loses a row to it, whatever is running.
 use Rattle.std.specs.Prelude.{◌≡◌, ◌⊎◌, ℕ, Bool, false, IsTrue, Option, None, Some}
 use Rattle.block_model.specs.declared.row.Row.{Row}
-use Rattle.coverage.specs.Board.{Spot, Tuple, Progress, Board, range_of, IsBuilding}
+use Rattle.coverage.specs.Board.{Spot, Tuple, Progress, Pages, Board, range_of, IsBuilding}
 use Rattle.coverage.specs.IsSettled.{IsSettled, IsAccounted}
 use Rattle.coverage.specs.IsSound.{IsOrphan, IsSound}
 use Rattle.coverage.specs.GoesOn.{IsHeld}
-use Rattle.coverage.specs.Statements.{Hand, Empty, Held, Copied, Moving, Dropping, Phase, NotBuilding, Vacant, Growing, Evacuating, Placing, IsAt, Scan, Statement, Idle, Inserting, Maintaining, Scanning, loose_of, building_of}
+use Rattle.coverage.specs.Statements.{Hand, Empty, Held, Copied, Moving, Dropping, Phase, NotBuilding, Vacant, Growing, Evacuating, Placing, IsAt, Scan, Statement, Idle, Inserting, Maintaining, Holding, Scanning, loose_of, building_of}
 use Rattle.coverage.specs.Knowing.{Knows}
 
 -- one index and its table: what is on the pages, who locks what, each session's statement, and the transactions whose rows
@@ -16,6 +16,7 @@ pub record IndexState : Type 0 where
   pub row : ℕ → ℕ → Option Row
   pub entry : ℕ → Option Spot
   pub tuple : Spot → Option Tuple
+  pub pages : Pages
   pub lock : ℕ → Option ℕ
   pub right : Option ℕ
   pub orphan : Spot → Bool
@@ -29,6 +30,7 @@ board w = record {
   row = w.row;
   entry = w.entry;
   tuple = w.tuple;
+  pages = w.pages;
   lock = w.lock;
   right = w.right;
   building = λ s. building_of (w.statement s);
@@ -57,6 +59,7 @@ abbrev pub Holds : Board → Statement → ℕ → Spot → Type 0
 Holds w Idle range x = ⊥
 Holds w (Inserting b k r hand) range x = HandHolds (range_of w b) hand range x
 Holds w (Maintaining m phase) range x = PhaseHolds m phase range x
+Holds w Holding range x = ⊥
 Holds w (Scanning scan) range x = scan.held ≡ Some (range, x)
 
 pub record IsCovered (w : IndexState) : Type 0 where

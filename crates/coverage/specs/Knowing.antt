@@ -4,7 +4,7 @@ use Rattle.block_model.specs.declared.row.Row.{Row}
 use Rattle.coverage.specs.Board.{Spot, Tuple, Progress, ExtentUnread, Passing, Board, range_of}
 use Rattle.coverage.specs.IsSettled.{IsAccounted, Shows}
 use Rattle.coverage.specs.GoesOn.{IsHeld}
-use Rattle.coverage.specs.Statements.{Hand, Empty, Held, Copied, Moving, Dropping, Phase, NotBuilding, Vacant, Growing, Evacuating, Placing, IsAt, Scan, Statement, Idle, Inserting, Maintaining, Scanning, IsAdded, IsUnited}
+use Rattle.coverage.specs.Statements.{Hand, Empty, Held, Copied, Moving, Dropping, Phase, NotBuilding, Vacant, Growing, Evacuating, Placing, IsAt, Scan, Statement, Idle, Inserting, Maintaining, Holding, Scanning, IsAdded, IsUnited}
 
 -- the session locks no page: so it is between steps, but in a put, a move or a clear
 abbrev pub LocksNone : Board → ℕ → Type 0
@@ -67,6 +67,7 @@ abbrev pub Knows : Board → ℕ → Statement → Type 0
 Knows w s Idle = HoldsNothing w s
 Knows w s (Inserting b k r hand) = (w.row b k ≡ Some r) × (w.right ≢ Some s) × KnowsHand w s (range_of w b) (IsAdded r) hand × SettledBy w b r hand
 Knows w s (Maintaining range phase) = (w.right ≡ Some s) × KnowsPhase w s range phase
+Knows w s Holding = (w.right ≡ Some s) × LocksNone w s
 Knows w s (Scanning scan) = HoldsNothing w s × ((range : ℕ) (x : Spot) → scan.held ≡ Some (range, x) → IsHeld w range x)
     × ((b k : ℕ) → IsTrue (scan.sees b k) → (r : Row) × KnowsRow w scan b k r)
 
@@ -75,4 +76,5 @@ abbrev pub Spares : (ℕ → ℕ → Bool) → Statement → Type 0
 Spares dropped Idle = Unit
 Spares dropped (Inserting b k r hand) = IsTrue (dropped b k) → ⊥
 Spares dropped (Maintaining range phase) = Unit
+Spares dropped Holding = Unit
 Spares dropped (Scanning scan) = (b k : ℕ) → IsTrue (scan.sees b k) → IsTrue (dropped b k) → ⊥

@@ -3,7 +3,10 @@ pub mod IsSettled
 pub mod IsSound
 pub mod GoesOn
 pub mod Changes
+pub mod Verdicts
 pub mod Statements
 pub mod Knowing
 pub mod IsCovered
 pub mod Steps
+pub mod Points
+pub mod Waiting

@@ -23,11 +23,12 @@ pub data Phase : Type 0 where
   Placing : Spot → Phase
   IsAt : Progress → Hand → Phase
 
--- A scan: the rows that its session sees, by block and slot; the test of its query; its candidate blocks, and up to where
--- they are read; the rows found; the range that it is at, and the spot that the map named for it.
+-- A scan: the rows that its session sees, by block and slot; the test of its query, and which tuples keep it; its candidate
+-- blocks, and up to where they are read; the rows found; the range that it is at, and the spot that the map named for it.
 pub record Scan : Type 0 where
   pub sees : ℕ → ℕ → Bool
   pub matches : Row → Bool
+  pub keeps : Tuple → Bool
   pub candidate : ℕ → Bool
   pub read : ℕ
   pub found : ℕ → ℕ → Bool
@@ -37,8 +38,9 @@ pub data Statement : Type 0 where
   Idle : Statement
   -- the row stands at block and slot, and the index isn't complete
   Inserting : ℕ → ℕ → Row → Hand → Statement
-  -- the holder of the summarise lock, at this range: summarise, desummarise, vacuum or a queued request
+  -- the holder of the summarise lock: summarise, desummarise, vacuum or a queued request; at a range of this index, or at none
   Maintaining : ℕ → Phase → Statement
+  Holding : Statement
   Scanning : Scan → Statement
 
 -- the loose tuple of a hand
@@ -61,6 +63,7 @@ abbrev pub loose_of : Statement → Option Spot
 loose_of Idle = None
 loose_of (Inserting b k r hand) = loose_in hand
 loose_of (Maintaining range phase) = loose_at phase
+loose_of Holding = None
 loose_of (Scanning scan) = None
 
 -- a summariser is building from the put of its placeholder on, or from where it found one
@@ -76,6 +79,7 @@ abbrev pub building_of : Statement → Option Building
 building_of Idle = None
 building_of (Inserting b k r hand) = None
 building_of (Maintaining range phase) = building_at range phase
+building_of Holding = None
 building_of (Scanning scan) = None
 
 -- the new tuple is the old one with the row added

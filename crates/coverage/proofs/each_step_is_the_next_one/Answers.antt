@@ -1,0 +1,12 @@
+use Rattle.coverage.proofs.NextSteps.{insert_one_point, summarise_one_point, desummarise_one_point, insert_blocked, summarise_blocked, desummarise_blocked}
+use Rattle.coverage.proofs.each_step_is_the_next_one.Goals as goal
+
+pub returns : goal.returns
+returns c = record {
+  insert = insert_one_point;
+  summarise = summarise_one_point;
+  desummarise = desummarise_one_point;
+  insert_blocked = insert_blocked;
+  summarise_blocked = λ s range p w v phase e waits step. summarise_blocked s range w v p phase e waits step;
+  desummarise_blocked = desummarise_blocked;
+}
