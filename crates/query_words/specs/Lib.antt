@@ -1,5 +1,4 @@
 pub mod Words
-pub mod Numbers
 pub mod Operators
 pub mod Verbs
 pub mod ValueWords
@@ -14,9 +13,6 @@ pub mod LineFits
 pub mod LineTexts
 pub mod LineLaws
 pub mod DroppedTexts
-pub mod OneColumn
-pub mod Commands
-pub mod Declarations
 pub mod Texts
 pub mod StatementRequests
 pub mod RowsPut

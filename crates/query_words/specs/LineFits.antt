@@ -73,6 +73,3 @@ IsOrderFor schema order = ⊥
 abbrev pub IsLineFor : Schema → Line → Type 0
 IsLineFor schema lines.Nothing = Unit {0}
 IsLineFor schema (lines.Say session order) = (is_name session ≡ true) × IsOrderFor schema order
-
-abbrev pub IsRowFor : Schema → ℕ → List Value → Type 0
-IsRowFor schema number row = IsInsertFor schema number row

@@ -60,7 +60,7 @@ ran_nothing R L start limit l k = (
     faulty = λ e. absurd (cc);
     spent = λ e. absurd (cc);
     full = λ e. absurd (cc);
-        unwritten = λ _. refl;
+    unwritten = λ _. refl;
     cut = λ e. absurd (cc);
   },
 )

@@ -10,7 +10,7 @@ use Rattle.block_model.specs.declared.schema.Part.{Part}
 use Rattle.block_model.specs.declared.schema.Column.{Column}
 use Rattle.block_model.specs.declared.schema.Table.{Table}
 use Rattle.block_model.specs.declared.schema.Index.{Index}
-use Rattle.query_words.specs.LineFits.{AreValuesFor, IsCondFor, IsQueryFor, IsRowFor}
+use Rattle.query_words.specs.LineFits.{AreValuesFor, IsCondFor, IsQueryFor, IsInsertFor}
 use Rattle.range_summaries.specs.MinMaxIndexes.{IsMinMaxIndex, HasMinMaxIndexes}
 
 module _ (a t : List ℕ) (columns : List Column) (tables : List Table) (indexes : List Index) (columns_are : columns ≡ record { name = a; kind = kinds.Int } ∷ [])
@@ -27,14 +27,14 @@ module _ (a t : List ℕ) (columns : List Column) (tables : List Table) (indexes
   column_there : slice_get columns 0 ≡ Some the_column
   column_there = ap (λ (cs : List Column). slice_get cs 0) columns_are
 
-  pub a_row : IsRowFor (record { tables = tables; indexes = indexes }) 0 (Int (pos 5) ∷ [])
-  a_row = record { table = the_table; is_there = there; of_kinds = subst (λ (cs : List Column). AreValuesFor cs (Int (pos 5) ∷ [])) (sym columns_are) (refl, tt) }
+  pub a_row : IsInsertFor (record { tables = tables; indexes = indexes }) 0 (Int (pos 5) ∷ [])
+  a_row = record { into = the_table; table = there; values = subst (λ (cs : List Column). AreValuesFor cs (Int (pos 5) ∷ [])) (sym columns_are) (refl, tt) }
 
   pub a_query : IsQueryFor (record { tables = tables; indexes = indexes }) (record { table = 0; conds = record { column = 0; op = Eq; key = Int (pos 5) } ∷ [] })
   a_query = record {
-    table = the_table;
-    is_there = there;
-    conds = All-cons (IsCondFor columns) (record { column = 0; op = Eq; key = Int (pos 5) }) [] (record { column = the_column; is_there = column_there; of_kind = refl }) (All-nil (IsCondFor columns));
+    of = the_table;
+    table = there;
+    conds = All-cons (IsCondFor columns) (record { column = 0; op = Eq; key = Int (pos 5) }) [] (record { on = the_column; column = column_there; op = refl; key = refl; no_key = tt }) (All-nil (IsCondFor columns));
   }
 
   pub an_index : (i : List ℕ) (parts : List Part) (auto : Bool) → parts ≡ record { column = 0; class = classes.MinMax } ∷ [] → indexes ≡ record { name = i; table = 0; pages_per_range = 1; auto = auto; parts = parts } ∷ []

@@ -6,7 +6,7 @@ ghost use Rattle.block_model.specs.declared.request.Request.TheVariants as reque
 ghost use Rattle.block_model.specs.DatabaseState.{initial_state};
 ghost use Rattle.block_model.specs.RequestEffect.{effect, after_failure, rows_found, Begun, Inserted, Found, Committed, RolledBack};
 ghost use Rattle.block_model.specs.SerialRun.{serial_run, replies_to};
-ghost use Rattle.query_words.specs.LineFits.{IsQueryFor, IsRowFor};
+ghost use Rattle.query_words.specs.LineFits.{IsQueryFor, IsInsertFor};
 ghost use Rattle.query_words.specs.RowsPut.{row_put};
 ghost use Rattle.query_words.specs.StatementRequests.{request_entry, mark_entries, marks_reply};
 ghost use Rattle.row_versions.specs.VersionsState.{HasTransaction, StandAtTheirIds, rows_at, standing_of};
@@ -122,7 +122,7 @@ impl Tables {
     /// a refusal nothing is changed.
     pub(crate) fn put(&mut self, session: u32, table: u8, values: Values) -> Result<RowId, NoMemory>
         requires under_way { HasTransaction self.old.versions.database session }
-        requires row { IsRowFor self.old.layout.schema table values }
+        requires row { IsInsertFor self.old.layout.schema table values }
         ensures ok { IfOk result (λ id. effect self.old.versions.database (request_entry session table (requests.Put values)) ≡ (self.new.versions.database, Inserted id)) }
         ensures below { OnOk result (table < length self.old.versions.tables) }
         ensures rows { IfOk result (λ id. self.new.versions.tables ≡ slice_set self.old.versions.tables table (rows_at self.old.versions.tables table ++ row_put table id values ∷ [])) }

@@ -2,7 +2,7 @@ ghost use Rattle.std.specs.Prelude.{◌≡◌, ◌<◌, ◌≤◌, [], ◌∷◌
 ghost use Rattle.block_model.specs.declared.value.Value.TheVariants.{Int};
 ghost use Rattle.block_model.specs.declared.value.Op.TheVariants.{Eq};
 ghost use Rattle.std.specs.Prelude.{pos};
-ghost use Rattle.query_words.specs.LineFits.{IsStatementFor, IsQueryFor, IsRowFor};
+ghost use Rattle.query_words.specs.LineFits.{IsStatementFor, IsQueryFor, IsInsertFor};
 ghost use Rattle.range_summaries.specs.MinMaxIndexes.{HasMinMaxIndexes};
 
 use crate::faults::{SessionFault, Step};
@@ -30,13 +30,13 @@ impl Model for Trial {
     ghost use Rattle.std.specs.Prelude.{ℕ, pos, [], ◌∷◌, length};
     ghost use Rattle.block_model.specs.declared.value.Value.TheVariants.{Int};
     ghost use Rattle.block_model.specs.declared.value.Op.TheVariants.{Eq};
-    ghost use Rattle.query_words.specs.LineFits.{IsQueryFor, IsRowFor};
+    ghost use Rattle.query_words.specs.LineFits.{IsQueryFor, IsInsertFor};
 
     ghost Value = { ℕ };
 
     ghost view = { λ a. length a.store.names };
 
-    ghost invariant = { λ a. IsRowFor a.store.layout.schema 0 (Int (pos 5) ∷ []) × IsQueryFor a.store.layout.schema (record { table = 0; conds = record { column = 0; op = Eq; key = Int (pos 5) } ∷ [] }) };
+    ghost invariant = { λ a. IsInsertFor a.store.layout.schema 0 (Int (pos 5) ∷ []) × IsQueryFor a.store.layout.schema (record { table = 0; conds = record { column = 0; op = Eq; key = Int (pos 5) } ∷ [] }) };
 }
 
 /// What a session says; each value is 5.
@@ -94,7 +94,7 @@ fn sizes() -> Sizes {
 /// `table t(a int8) rows_per_page 2`, `index i on t(a minmax) pages_per_range 1`
 fn schema(alloc: Global) -> Option<Schema>
     ensures indexes { IfSome result HasMinMaxIndexes }
-    ensures row { IfSome result (λ schema. IsRowFor schema 0 (Int (pos 5) ∷ [])) }
+    ensures row { IfSome result (λ schema. IsInsertFor schema 0 (Int (pos 5) ∷ [])) }
     ensures query { IfSome result (λ schema. IsQueryFor schema (record { table = 0; conds = record { column = 0; op = Eq; key = Int (pos 5) } ∷ [] })) }
 {
     let a = Column {
@@ -134,7 +134,7 @@ where
 }
 
 fn statement(alloc: Global, said: Said) -> Option<Statement>
-    ensures { (schema : Schema) → IsRowFor schema 0 (Int (pos 5) ∷ []) → IsQueryFor schema (record { table = 0; conds = record { column = 0; op = Eq; key = Int (pos 5) } ∷ [] }) → IfSome result (IsStatementFor schema) }
+    ensures { (schema : Schema) → IsInsertFor schema 0 (Int (pos 5) ∷ []) → IsQueryFor schema (record { table = 0; conds = record { column = 0; op = Eq; key = Int (pos 5) } ∷ [] }) → IfSome result (IsStatementFor schema) }
 {
     match said {
         Said::Begin => Some(Statement::Begin),

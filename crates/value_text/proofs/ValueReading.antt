@@ -16,7 +16,7 @@ use Rattle.value_text.specs.Reading.{number_at, range_at, net_at, kind_at, text_
 use Rattle.text_reading.proofs.Lawful.{Lawful, mapped-lawful, choice-lawful, same-lawful, word-lawful, mapped-read, choice-second}
 use Rattle.text_reading.specs.Digits.{AreDigits}
 use Rattle.text_reading.proofs.DigitReading.{and_parts, other_byte}
-use Rattle.text_reading.proofs.Whole.{one-text as one-whole_text, read-is_text as whole-is_text, refused-is_no_text as whole-is_no_text, refused-leaves as whole-leaves, refused-stops_at as whole-stops_at}
+use Rattle.text_reading.proofs.Whole.{whole-read, one-text as one-whole_text, read-is_text as whole-is_text, refused-is_no_text as whole-is_no_text, refused-leaves as whole-leaves, refused-stops_at as whole-stops_at}
 use Rattle.value_text.proofs.NumberReading.{number-lawful, number-complete}
 use Rattle.value_text.proofs.RangeReading.{range-lawful, empty-complete, bounds-complete}
 use Rattle.value_text.proofs.NetReading.{net-lawful, net-complete}
@@ -88,6 +88,11 @@ text-complete kinds.Span (Address n) i = absurd i
 text-complete kinds.Net (Number n) i = absurd i
 text-complete kinds.Net NoNumber i = absurd i
 text-complete kinds.Net (Bounds lower upper) i = absurd i
+
+-- a text of the kind is read as itself
+pub whole-complete : (kind : Kind) (text : ValueText) → IsTextOf kind text → whole_at kind (bytes_of text) ≡ Ok (text, [])
+unfolding whole_at
+whole-complete kind text i = whole-read (text_at kind) (bytes_of text) text (text-complete kind text i)
 
 -- what the bytes are read as is the only text that they are
 pub one-text : (kind : Kind) (a b : ValueText) → IsTextOf kind a → IsTextOf kind b → bytes_of a ≡ bytes_of b → a ≡ b
