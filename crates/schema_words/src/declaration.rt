@@ -19,7 +19,7 @@ pub enum Declaration<'a> {
     Index(IndexWord<'a>),
 }
 
-/// The parts of a declaration, or the first byte where no declaration goes on.
+/// The parts of a declaration, a table's columns read as `columns` reads them, or the first byte where no declaration goes on.
 pub fn read_declaration<'a>(
     kept: Option<Columns>,
     wanted: &[u8],
