@@ -2,8 +2,8 @@
 """Times the built program on large scripts: first_script.py PROGRAM. No part of the gate.
 
 Runs a million inserts in one transaction, alone and with a select of all, the same of two sessions in turn, a million
-comments, and inserts with a hundred selects of one row each, without and with an index; each three times. Tells the best
-time, lines a second and the peak of memory. The answers go to a file.
+comments, inserts with a hundred selects of one row each, without and with an index, and 64 sessions that each insert a row and
+select it, in turn; each three times. Tells the best time, lines a second and the peak of memory. The answers go to a file.
 """
 import os
 import subprocess
@@ -13,6 +13,7 @@ import tempfile
 LINES = 1_000_000
 WORDS = ["run", "table t(a int8)"]
 INDEX = ["index i on t(a minmax)"]
+SMALL_RANGES = ["index i on t(a minmax) pages_per_range 1"]
 
 
 def inserts(sessions):
@@ -31,6 +32,15 @@ def lookups():
     """The lines that select a hundred rows, one each."""
     yield "r begin\n"
     yield from (f"r select t where a = {n * (LINES // 100)}\n" for n in range(100))
+
+
+def interleaved():
+    """64 sessions in turn: each puts a row, and then selects it."""
+    yield from (f"s{n} begin\n" for n in range(64))
+    for n in range(LINES // 10):
+        yield f"s{n % 64} insert t {n}\n"
+        yield f"s{n % 64} select t where a = {n}\n"
+    yield from (f"s{n} commit\n" for n in range(64))
 
 
 def run(program, words, script, out):
@@ -53,6 +63,7 @@ def main():
         "inserts of two sessions in turn, then a select of all": (WORDS, lambda: [inserts(2), select()]),
         "inserts, then 100 selects of one row": (WORDS, lambda: [inserts(1), lookups()]),
         "the same with an index": (WORDS + INDEX, lambda: [inserts(1), lookups()]),
+        "64 sessions in turn, an insert and a select of its row": (WORDS + SMALL_RANGES, lambda: [interleaved()]),
         "comments": (WORDS, lambda: ["# a comment\n" for _ in range(LINES)]),
     }
     with tempfile.TemporaryDirectory() as folder:
