@@ -1,3 +1,4 @@
+pub mod Making
 pub mod OtherSessions
 pub mod Transactions
 pub mod LegalRequests
