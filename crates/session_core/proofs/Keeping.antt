@@ -1,6 +1,7 @@
 -- what keeps a store's invariant
-use Rattle.std.proofs.Common.{◌≡◌, ℕ, zero, suc, ◌+◌, ◌<◌, ◌≤◌, true, ◌&&◌, ◌⊎◌, inl, inr, List, [], ◌∷◌, ◌++◌, length, get_or, set, get_or-set_same, get_or-set_other, length-append, refl, sym, ap, ◌∙◌, subst, arith, Option, None, Some}
-use Rattle.std.specs.FinMap.{get}
+use Rattle.std.proofs.Common.{◌≡◌, ℕ, zero, suc, ◌+◌, ◌<◌, ◌≤◌, true, ◌&&◌, ◌⊎◌, inl, inr, List, [], ◌∷◌, ◌++◌, length, get_or, set, replicate, get_or-set_same, get_or-set_other, length-append, refl, sym, ap, ◌∙◌, subst, arith, Option, None, Some}
+use Rattle.std.specs.Ordering.{nat_cmp}
+use Rattle.std.specs.FinMap.{get, get-empty}
 use Rattle.std.proofs.lemmas.Bool.{cases_eq}
 use Rattle.std.proofs.lemmas.List.{length-set, set-set, set-get_or}
 use Rattle.block_model.specs.DiskLayout.{DiskLayout}
@@ -36,6 +37,30 @@ none_Some x e = cc
 
 same_Some : {X : Type 0} (x y : X) → Some x ≡ Some y → x ≡ y
 same_Some x y e = cc
+
+-- ---- a new store
+
+no_rows : (n k : ℕ) → rows_at (replicate n []) k ≡ []
+no_rows zero k = refl
+no_rows (suc n) zero = refl
+no_rows (suc n) (suc k) = no_rows n k
+
+pub kept_new : (t : TablesState) (j : JournalState) (n : ℕ) → t.versions.database ≡ initial_state → t.versions.tables ≡ replicate n [] → j.entries ≡ [] → IsKept t j (store_with t j [] [])
+kept_new t j n database rows entries = record {
+  refines = record {
+    legal = ap (is_legal initial_state) entries;
+    shown = database ∙ sym (ap database_of entries);
+    fits = omega (arith, ap length entries);
+    few_sessions = omega arith;
+    a_hand_each = refl;
+    taken = λ m statement e. absurd (none_Some statement e);
+    fitting = λ m statement e. absurd (none_Some statement e);
+  };
+  rows = λ k. ap (λ (l : List (List Row)). rows_at l k) rows ∙ no_rows n k ∙ sym (ap (λ es. rows_of_table k (rows_of es)) entries);
+  none_further = λ m past. ap (λ (s : DatabaseState). get s.sessions m) database ∙ get-empty nat_cmp m;
+  promises = omega arith;
+  begins = omega arith;
+}
 
 -- the same parts
 pub kept_same : (t t' : TablesState) (j j' : JournalState) (names names' : List (List ℕ)) (hands hands' : List (Option Statement)) → IsKept t j (store_with t j names hands) → t' ≡ t → j' ≡ j → names' ≡ names → hands' ≡ hands → IsKept t' j' (store_with t' j' names' hands')

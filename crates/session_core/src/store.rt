@@ -59,11 +59,13 @@ impl Store {
         ensures { IfOk result (λ store. store ≡ empty_store layout) }
     {
         let tables = Tables::new(alloc, layout)?;
+        let sessions = Vec::new(alloc);
+        let journal = Journal::new(alloc);
         Ok(Store {
             alloc,
             tables,
-            sessions: Vec::new(alloc),
-            journal: Journal::new(alloc),
+            sessions,
+            journal,
         })
     }
 

