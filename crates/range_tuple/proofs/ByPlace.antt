@@ -72,8 +72,9 @@ pub same_sums : {X Y : Type 0} (f : X → ℕ) (g : Y → ℕ) (xs : List X) (ys
 same_sums f g xs ys same = sum_by_map f xs ∙ ap (sum_by (λ (n : ℕ). n)) same ∙ sym (sum_by_map g ys)
 
 -- columns of the same index are kept beside the same ones
-pub kept_after : (columns spare new : List IndexedColumn) → AreKept columns spare → parts_of new ≡ parts_of columns → AreKept new spare
-kept_after columns spare new kept same = record {
+pub kept_after : (range : ℕ) (columns spare new : List IndexedColumn) → AreKept range columns spare → parts_of new ≡ parts_of columns → AreKept range new spare
+kept_after range columns spare new kept same = record {
+  range_fits = kept.range_fits;
   some = omega (arith, kept.some, length-parts new columns same);
   same_index = kept.same_index ∙ sym same;
   fits = omega (arith, kept.fits, same_room new columns same);

@@ -47,7 +47,7 @@ impl Model for RangeTuple {
 
     ghost view = { λ a. tuple_of a.range a.placeholder a.columns.items };
 
-    ghost invariant = { λ a. AreKept a.columns.items a.spare.items };
+    ghost invariant = { λ a. AreKept a.range a.columns.items a.spare.items };
 }
 
 impl RangeTuple {
@@ -79,7 +79,6 @@ impl RangeTuple {
     pub fn known(&self)
         ensures { IsTuple self.now }
     {
-        let _ = self.range;
         known(&self.columns);
     }
 

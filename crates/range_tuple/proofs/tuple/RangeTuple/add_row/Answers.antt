@@ -12,7 +12,7 @@ invariant_of-self c =
     let new = c.add_to_each.new.columns in
     let widened : new ≡ map (with_row_at c.args.values.now) v.items = c.add_to_each.ensures.widened ∙ ap (map (with_row_at c.args.values.now)) c.deref_mut.ensures.value in
     let long : length new ≡ v.len = ap length widened ∙ length-map v.items (with_row_at c.args.values.now) ∙ sym v.ok.0 in
-    subst (λ (columns : List IndexedColumn). AreKept columns c.self.inside.spare.items) (sym (with_items_is v new long)) (kept_after v.items c.self.inside.spare.items new c.self.invariant (ap parts_of widened ∙ parts-with_row c.args.values.now v.items))
+    subst (λ (columns : List IndexedColumn). AreKept c.self.inside.range columns c.self.inside.spare.items) (sym (with_items_is v new long)) (kept_after c.self.inside.range v.items c.self.inside.spare.items new c.self.invariant (ap parts_of widened ∙ parts-with_row c.args.values.now v.items))
 
 pub returns-clause-keeps_what_it_included : goal.returns-clause-keeps_what_it_included
 returns-clause-keeps_what_it_included c = λ row all.

@@ -11,6 +11,7 @@ room c = ap (λ (n : ℕ). 4 + 1 + n) (same_sums column_room (part_size (columns
 
 pub invariant_of-result : goal.invariant_of-result
 invariant_of-result c = record {
+  range_fits = c.ranges.range.fits;
   some = omega (arith, c.requires.columns, ap length c.in_ok-columns.ensures.columns, length-map c.args.index.now.parts (empty_column (columns_of c.args.schema.now c.args.index.now)));
   same_index = ap parts_of (c.in_ok-spare.ensures.columns ∙ sym c.in_ok-columns.ensures.columns);
   fits = omega (arith, c.requires.size, room c);

@@ -12,7 +12,7 @@ invariant_of-self c =
     let new = c.unite_each.new.columns in
     let widened : new ≡ united_columns v.items c.deref.result.now = c.unite_each.ensures.widened ∙ ap (λ (columns : List IndexedColumn). united_columns columns c.deref.result.now) c.deref_mut.ensures.value in
     let long : length new ≡ v.len = ap length widened ∙ length-united v.items c.deref.result.now ∙ sym v.ok.0 in
-    subst (λ (columns : List IndexedColumn). AreKept columns c.self.inside.spare.items) (sym (with_items_is v new long)) (kept_after v.items c.self.inside.spare.items new c.self.invariant (ap parts_of widened ∙ parts-united v.items c.deref.result.now))
+    subst (λ (columns : List IndexedColumn). AreKept c.self.inside.range columns c.self.inside.spare.items) (sym (with_items_is v new long)) (kept_after c.self.inside.range v.items c.self.inside.spare.items new c.self.invariant (ap parts_of widened ∙ parts-united v.items c.deref.result.now))
 
 pub returns-clause-keeps_what_it_included : goal.returns-clause-keeps_what_it_included
 returns-clause-keeps_what_it_included c = λ row all.
