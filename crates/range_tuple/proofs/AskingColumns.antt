@@ -68,12 +68,12 @@ misses_there column m conds row (Some v) may none is within =
     false_from_ne_true (list_all (column_matches row) conds)
     (λ met.
     let may_be : has_values column.state ≡ true → includes column.class column.summary v → m ≡ true = λ some inc.
-            true_from_ne_false m (λ not_m. false≢true (sym (may not_m some v inc) ∙ meets_each row column.place v is conds met))
-        in
+    true_from_ne_false m (λ not_m. false≢true (sym (may not_m some v inc) ∙ meets_each row column.place v is conds met))
+    in
     let each : AllPass (allows_cond column m) conds = λ k d below.
-            let c = get_or conds k d in
-            cond_allowed column m row v c (c.column == column.place) refl is within may_be (AllPass-from_list_all (column_matches row) conds met k d below)
-        in
+    let c = get_or conds k d in
+    cond_allowed column m row v c (c.column == column.place) refl is within may_be (AllPass-from_list_all (column_matches row) conds met k d below)
+    in
     false≢true (sym none ∙ list_all-from_AllPass (allows_cond column m) conds each))
 
 -- where a column doesn't allow conditions, a row that it includes doesn't match them

@@ -1,5 +1,5 @@
 -- columns of an index, place by place
-use Rattle.std.proofs.Common.{◌≡◌, ℕ, zero, suc, ◌+◌, ◌<◌, ◌≤◌, Bool, true, false, not, ◌&&◌, Option, None, Some, List, [], ◌∷◌, All, length, map, sum_by, get_or, set, slice_get, refl, sym, ap, ◌∙◌, arith}
+use Rattle.std.proofs.Common.{◌≡◌, ℕ, zero, suc, ◌+◌, ◌<◌, ◌≤◌, Bool, true, false, not, ◌&&◌, Option, None, Some, List, [], ◌∷◌, All, length, map, sum_by, get_or, set, slice_get, refl, sym, ap, ◌∙◌, subst, arith}
 use Rattle.std.specs.List.{list_all}
 use Rattle.std.proofs.lemmas.Bool.{false≢true, and_parts}
 use Rattle.std.proofs.lemmas.List.{get_or-map, length-map, map-set, set-get_or}
@@ -9,7 +9,7 @@ use Rattle.block_model.specs.declared.value.Value.{Value}
 use Rattle.block_model.specs.declared.value.Value.TheVariants.{Null, Int, Span, Net}
 use Rattle.range_tuple.specs.AnyClass.{greatest_size}
 use Rattle.range_tuple.specs.KeptColumns.{AreKept}
-use Rattle.range_tuple.specs.TupleIncludes.{ColumnIncludes, IncludesThere}
+use Rattle.range_tuple.specs.TupleIncludes.{ColumnIncludes, ColumnTakes, IncludesThere, TakesThere}
 use Rattle.range_tuple.specs.Tuples.{IndexedColumn, part_of, parts_of, has_nothing, with_value_there, with_row_at, united_column, united_columns, column_room, tuple_room}
 use Rattle.range_tuple.specs.declared.classes.AnyClass.{AnyClass}
 
@@ -97,3 +97,8 @@ nothing_there column (Some (Net n)) nothing within = not_both _ (and_parts _ _ n
 pub nothing_included : (columns : List IndexedColumn) (row : List Value) → 0 < length columns → list_all has_nothing columns ≡ true → All (ColumnIncludes row) columns → ⊥
 nothing_included [] row some nothing all = omega (arith, some)
 nothing_included (column ∷ columns) row some nothing all = nothing_there column (slice_get row column.place) (and_parts _ _ nothing).0 (All-head (ColumnIncludes row) column columns all)
+
+-- whether a row's values are taken, by the columns of the index
+pub takes_by_parts : (columns : List IndexedColumn) (values : List Value) → All (λ (p : ℕ × AnyClass). TakesThere p.1 (slice_get values p.0)) (parts_of columns) → All (ColumnTakes values) columns
+takes_by_parts columns values all k d below =
+    subst (λ (p : ℕ × AnyClass). TakesThere p.1 (slice_get values p.0)) (get_or-map part_of columns k d (part_of d) below) (all k (part_of d) (rw (length-map columns part_of) below))

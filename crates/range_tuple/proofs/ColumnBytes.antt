@@ -106,8 +106,7 @@ unfolding column_bytes
 column_there bytes size column header is =
     let rest : length (drop 3 bytes) ≡ length bytes - 3 = length-drop 3 bytes in
     let long : length (summary_bytes column) ≡ size = ap length is ∙ length-take-le size (drop 3 bytes) (omega (arith, rest, header.within)) in
-    let behind : drop 3 bytes ≡ summary_bytes column ++ drop (3 + size) bytes = sym (take-append-drop size (drop 3 bytes)) ∙ ap (λ (front : List ℕ). front ++ drop size (drop 3 bytes)) (sym is) ∙ ap (λ (back : List ℕ). summary_bytes column ++ back) (drop-drop size 3 bytes) in
-    (
+    let behind : drop 3 bytes ≡ summary_bytes column ++ drop (3 + size) bytes = sym (take-append-drop size (drop 3 bytes)) ∙ ap (λ (front : List ℕ). front ++ drop size (drop 3 bytes)) (sym is) ∙ ap (λ (back : List ℕ). summary_bytes column ++ back) (drop-drop size 3 bytes) in (
       header.front ∙ ap (λ (back : List ℕ). number_of column.state ∷ (bytes_high_first 2 size ++ back)) behind ∙ ap (λ (back : List ℕ). number_of column.state ∷ back) (sym (append_assoc (bytes_high_first 2 size) (summary_bytes column) (drop (3 + size) bytes))) ∙ ap (λ (n : ℕ). number_of column.state ∷ (bytes_high_first 2 n ++ summary_bytes column ++ drop (3 + size) bytes)) (sym long),
       omega (arith, length-column column, long),
     )

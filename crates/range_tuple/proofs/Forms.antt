@@ -126,7 +126,6 @@ bloom_variant class b of other = of
 pub bloom_other : (a : AnyClass) (b : AnySummary) (class : Parameters) → a ≡ forms.Bloom class → is_of a b → ((s : List Bool) → b ≡ kept.Bloom s → ⊥) → ⊥
 bloom_other a b class form of other = bloom_variant class b (subst (λ (a : AnyClass). is_of a b) form of) other
 
-
 -- what reads as each summary of the variant, reads as each of the class
 pub minmax_again : (class : MinMax) (bytes : List ℕ) (new : Bounds) (result : Result (Unit {0}) Malformed) → ((t : Bounds) → minmax.Bounds.IsSummary t → bytes ≡ minmax.Encoding.bytes_of t → IsOk result × (new ≡ t)) → (s : AnySummary) → is_of (forms.MinMax class) s → bytes ≡ bytes_of (forms.MinMax class) s → IsOk result × (kept.MinMax new ≡ s)
 unfolding is_of bytes_of

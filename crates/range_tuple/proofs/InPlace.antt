@@ -33,8 +33,8 @@ follows_more {X} goal old ys i changed now a b long within before read is same o
     let was : a ≡ get_or old i a = read ∙ read_there goal old ys i a long within before.so_far in
     let within_goal : i < length goal = omega (arith, long, within) in
     let kept : now ≡ false → take i goal ≡ take i old → take (i + 1) goal ≡ take (i + 1) old = λ stays front.
-            take_more goal i a within_goal ∙ ap (λ (zs : List X). zs ++ get_or goal i a ∷ []) front ∙ ap (λ (y : X). take i old ++ y ∷ []) (get_or_default goal i a b within_goal ∙ sym is ∙ same stays ∙ was) ∙ sym (take_more old i a within)
-        in
+    take_more goal i a within_goal ∙ ap (λ (zs : List X). zs ++ get_or goal i a ∷ []) front ∙ ap (λ (y : X). take i old ++ y ∷ []) (get_or_default goal i a b within_goal ∙ sym is ∙ same stays ∙ was) ∙ sym (take_more old i a within)
+    in
     let here : now ≡ true → get_or goal i b ≡ get_or old i b → ⊥ = λ yes e. other yes (is ∙ e ∙ get_or_default old i b a within ∙ sym was) in
     record {
       so_far = set_there goal old ys i b long within before.so_far is;
@@ -45,6 +45,7 @@ follows_more {X} goal old ys i changed now a b long within before read is same o
     either : (now changed : Bool) → (now ≡ false → take i goal ≡ take i old → take (i + 1) goal ≡ take (i + 1) old) → (changed ≡ false → take i goal ≡ take i old) → (now || changed) ≡ false → take (i + 1) goal ≡ take (i + 1) old
     either false changed kept same stays = kept refl (same stays)
     either true changed kept same stays = absurd (false≢true (sym stays))
+
     some : (now changed : Bool) → (now ≡ true → get_or goal i b ≡ get_or old i b → ⊥) → (changed ≡ true → (k : ℕ) × (d : X) × (get_or goal k d ≡ get_or old k d → ⊥)) → (now || changed) ≡ true → (k : ℕ) × (d : X) × (get_or goal k d ≡ get_or old k d → ⊥)
     some true changed here differs some_changed = (i, b, here refl)
     some false changed here differs some_changed = differs some_changed

@@ -17,10 +17,10 @@ use Rattle.opclass_bloom.specs as bloom
 
 -- the form of a class for a kind: inclusion has one for ranges and one for networks
 abbrev pub class_of : Class → Kind → AnyClass
-class_of classes.MinMax kind = forms.MinMax (record { })
+class_of classes.MinMax kind = forms.MinMax (record {})
 class_of (classes.Multi limit) kind = forms.Multi limit
-class_of classes.Inclusion kinds.Net = forms.NetHull (record { })
-class_of classes.Inclusion kind = forms.SpanHull (record { })
+class_of classes.Inclusion kinds.Net = forms.NetHull (record {})
+class_of classes.Inclusion kind = forms.SpanHull (record {})
 class_of (classes.Bloom bits hashes) kind = forms.Bloom (record { bits = bits; hashes = hashes })
 
 -- the values of the class's kind, without null

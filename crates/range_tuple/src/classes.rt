@@ -1,8 +1,13 @@
 // The five forms of operator class as one class. This module alone names them.
 
 ghost use Rattle.std.specs.Prelude.{◌≡◌, true};
+ghost use Rattle.block_model.specs.declared.schema.Class.{Class};
+ghost use Rattle.block_model.specs.declared.value.Kind.{Kind};
+ghost use Rattle.block_model.specs.declared.value.Value.{Value};
 ghost use Rattle.block_model.specs.Limits.{takes_kind, has_lawful_parameters};
 ghost use Rattle.block_model.specs.TupleSize.{summary_size};
+ghost use Rattle.range_tuple.specs.KindValues.{IsOfKind};
+ghost use Rattle.range_tuple.specs.TupleIncludes.{TakesValue};
 ghost use Rattle.range_tuple.specs.AnyClass.{class_of, takes, is_of, includes, empty, add, united, consistent, bytes_of, greatest_size};
 
 use block_model::NoMemory;
@@ -55,6 +60,11 @@ impl AnyClass {
         }
     }
 }
+
+/// Values of a kind, and null, are taken by the form of each class that takes the kind.
+pub fn values_of_a_kind_are_taken()
+    ensures { (class : Class) (kind : Kind) (v : Value) → takes_kind class kind ≡ true → IsOfKind kind v → TakesValue (class_of class kind) v }
+{}
 
 fn inclusion_of(kind: Kind) -> AnyClass
     ensures class { result ≡ class_of Class.Inclusion kind }

@@ -52,11 +52,7 @@ impl Model for TupleColumn {
 
 impl TupleColumn {
     /// A column in which nothing was added. Takes the memory of its summary.
-    pub(crate) fn new(
-        alloc: Global,
-        place: u8,
-        class: AnyClass,
-    ) -> Result<TupleColumn, NoMemory>
+    pub(crate) fn new(alloc: Global, place: u8, class: AnyClass) -> Result<TupleColumn, NoMemory>
         requires { greatest_size class < 65536 }
         ensures { IfOk result (λ column. column ≡ record { place = place; class = class; state = NullState.Nothing; summary = empty class }) }
     {
@@ -255,7 +251,7 @@ impl TupleColumn {
         self.state = state;
     }
 
-    /// Takes the summary that the bytes encode, in a state with values.
+    /// Takes the summary that the bytes encode, in a state with values. A fault's place counts from the column's front.
     fn read_values(&mut self, state: NullState, bytes: &[u8]) -> Result<(), Malformed>
         requires values { has_values state ≡ true }
         requires some { 0 < length bytes.now }
@@ -263,12 +259,12 @@ impl TupleColumn {
         ensures state { OnOk result (self.new.state ≡ state) }
         ensures found { OnOk result (bytes.now ≡ bytes_of self.new.class self.new.summary) }
         ensures again { (s : AnySummary) → is_of self.old.class s → bytes.now ≡ bytes_of self.old.class s → IsOk result × (self.new.summary ≡ s) }
-        ensures place { IfErr result (λ fault. fault.at ≤ length bytes.now) }
+        ensures place { IfErr result (λ fault. fault.at ≤ 3 + length bytes.now) }
         ensures unchanged { OnErr result (self.new ≡ self.old) }
     {
         if let Err(fault) = self.class.decode(bytes, &mut self.summary) {
             return Err(Malformed {
-                at: fault.at.min(bytes.len()),
+                at: HEADER + fault.at.min(bytes.len()),
             });
         }
         self.state = state;

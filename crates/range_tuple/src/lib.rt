@@ -9,4 +9,6 @@ pub mod classes;
 mod column;
 mod columns;
 pub mod state;
+#[cfg(test)]
+mod tests;
 pub mod tuple;

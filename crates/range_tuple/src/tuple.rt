@@ -13,7 +13,10 @@ ghost use Rattle.range_tuple.specs.TupleIncludes.{TupleIncludes, TakesRow};
 ghost use Rattle.range_tuple.specs.Tuples.{Tuple, IsTuple, empty_placeholder, with_row, united_tuple, parts_of, tuple_room};
 
 use crate::column::TupleColumn;
-use crate::columns::{add_to_each, all_allow, have_nothing, known, new_columns, read_each, room_of, unite_each, write_each};
+use crate::columns::{
+    add_to_each, all_allow, have_nothing, known, new_columns, read_each, room_of, unite_each,
+    write_each,
+};
 use block_model::NoMemory;
 use block_model::row::Cond;
 use block_model::schema::{Index, Schema};
