@@ -3,6 +3,7 @@ ghost use Rattle.std.specs.List.{list_all};
 ghost use Rattle.block_model.specs.Limits.{class_is_lawful, takes_kind, has_lawful_parameters};
 ghost use Rattle.block_model.specs.TupleSize.{summary_size, tuple_size};
 ghost use Rattle.range_tuple.specs.AnyClass.{class_of};
+ghost use Rattle.range_tuple.specs.TupleIncludes.{TakesValue};
 ghost use Rattle.range_tuple.specs.Tuples.{empty_placeholder, parts_of};
 
 use crate::tuple::RangeTuple;
@@ -101,22 +102,34 @@ fn add_number(tuple: &mut RangeTuple, n: i64) -> bool
     requires { parts_of tuple.old.columns ≡ (0, class_of Class.MinMax Kind.Int) ∷ [] }
     ensures { parts_of tuple.new.columns ≡ (0, class_of Class.MinMax Kind.Int) ∷ [] }
 {
-    tuple.add_row(&[Value::Int(n)])
+    tuple.add_row(&[number(Some(n))])
+}
+
+/// An int8, or null.
+fn number(n: Option<i64>) -> Value
+    ensures { TakesValue (class_of Class.MinMax Kind.Int) result }
+{
+    match n {
+        Some(n) => Value::Int(n),
+        None => Value::Null,
+    }
+}
+
+/// An inet, or null.
+fn address(net: Option<Net>) -> Value
+    ensures { TakesValue (class_of Class.Inclusion Kind.Net) result }
+{
+    match net {
+        Some(net) => Value::Net(net),
+        None => Value::Null,
+    }
 }
 
 /// Adds the row of an int8 or null, and of an inet or null.
 fn add_both(tuple: &mut RangeTuple, a: Option<i64>, b: Option<Net>) -> bool
     requires { parts_of tuple.old.columns ≡ (0, class_of Class.MinMax Kind.Int) ∷ (1, class_of Class.Inclusion Kind.Net) ∷ [] }
 {
-    let a = match a {
-        Some(n) => Value::Int(n),
-        None => Value::Null,
-    };
-    let b = match b {
-        Some(net) => Value::Net(net),
-        None => Value::Null,
-    };
-    tuple.add_row(&[a, b])
+    tuple.add_row(&[number(a), address(b)])
 }
 
 fn cond(column: u8, op: Op, key: Value) -> Cond {
