@@ -1,7 +1,7 @@
 -- a loop that makes a list another one, place by place
-use Rattle.std.proofs.Common.{◌≡◌, ℕ, ◌+◌, ◌-◌, ◌<◌, ◌≤◌, Bool, true, false, ◌||◌, List, [], ◌∷◌, ◌++◌, All, length, get_or, set, take, drop, refl, sym, ap, ◌∙◌, subst, inl, inr, arith}
-use Rattle.std.proofs.lemmas.Bool.{false≢true, cases_lt}
-use Rattle.std.proofs.lemmas.List.{append-nil, append_assoc, drop_all, drop_more, get_or-append_right, get_or-drop, get_or_default, get_or-take, length-take-le, set-append_right, take-append-drop, take-take, take_all, take_more}
+use Rattle.std.proofs.Common.{◌≡◌, ℕ, ◌+◌, ◌-◌, ◌<◌, ◌≤◌, Bool, true, false, ◌||◌, List, [], ◌∷◌, ◌++◌, All, length, get_or, set, take, drop, refl, sym, ap, ◌∙◌, subst, arith}
+use Rattle.std.proofs.lemmas.Bool.{false≢true}
+use Rattle.std.proofs.lemmas.List.{append-nil, append_assoc, drop_all, drop_more, get_or-append_right, get_or-drop, get_or_default, get_or-take, length-take-le, set-append_right, take-take, take_all, take_more}
 use Rattle.std.proofs.lemmas.List.Elements.{All-get_or, All-more, All-same, All-take}
 
 -- the list is so far the other one up to a place, and the old one from there on; whether a place changed is known

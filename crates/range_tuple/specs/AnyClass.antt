@@ -1,5 +1,5 @@
 -- the five forms of operator class as one class
-use Rattle.std.specs.Prelude.{ℕ, ◌+◌, ◌*◌, Bool, true, List, []}
+use Rattle.std.specs.Prelude.{ℕ, ◌+◌, ◌*◌, Bool, true, List}
 use Rattle.block_model.specs.declared.row.Cond.{Cond}
 use Rattle.block_model.specs.declared.schema.Class.{Class}
 use Rattle.block_model.specs.declared.schema.Class.TheVariants as classes

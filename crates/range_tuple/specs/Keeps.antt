@@ -1,5 +1,5 @@
 -- which conditions a tuple keeps: whether its range may hold a row that matches them
-use Rattle.std.specs.Prelude.{ℕ, Bool, true, not, ◌&&◌, ◌||◌, ◌==◌, List}
+use Rattle.std.specs.Prelude.{ℕ, Bool, not, ◌&&◌, ◌||◌, ◌==◌, List}
 use Rattle.std.specs.List.{list_all, filter}
 use Rattle.block_model.specs.declared.value.Op.{Op}
 use Rattle.block_model.specs.declared.value.Op.TheVariants.{IsNull, NotNull}

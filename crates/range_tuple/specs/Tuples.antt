@@ -1,5 +1,5 @@
 -- range tuples, and what their calls make of them ("BRIN Indexes", "Introduction")
-use Rattle.std.specs.Prelude.{◌≡◌, ℕ, ◌+◌, ◌<◌, ◌≤◌, ◌^◌, Bool, true, false, not, ◌||◌, ◌&&◌, if◌then◌else◌, All, List, [], ◌∷◌, length, map, sum_by, slice_get, Option, None, Some}
+use Rattle.std.specs.Prelude.{◌≡◌, ℕ, ◌+◌, ◌<◌, ◌^◌, Bool, true, false, not, ◌||◌, ◌&&◌, if◌then◌else◌, All, List, ◌∷◌, length, map, sum_by, slice_get, Option, None, Some}
 use Rattle.std.specs.List.{list_all}
 use Rattle.block_model.specs.declared.schema.Column.{Column as TableColumn}
 use Rattle.block_model.specs.declared.schema.Part.{Part}

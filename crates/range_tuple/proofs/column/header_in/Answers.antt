@@ -1,7 +1,5 @@
-use Rattle.std.proofs.Common.{Ok, sym, ◌∙◌, ap, subst, arith}
-use Rattle.byte_fields.specs.Fields.{field_at}
+use Rattle.std.proofs.Common.{Ok, sym, ◌∙◌, ap, arith}
 use Rattle.range_tuple.specs.NullStates.{has_values}
-use Rattle.range_tuple.specs.declared.state.NullState.{NullState}
 use Rattle.range_tuple.proofs.ColumnBytes.{agree, disagree, header_front, header_size, header_state}
 use Rattle.range_tuple.proofs.column.header_in.Goals as goal
 

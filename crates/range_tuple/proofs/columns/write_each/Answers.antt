@@ -1,4 +1,4 @@
-use Rattle.std.proofs.Common.{◌≡◌, ◌+◌, ◌++◌, length, take, drop, sym, ap, ◌∙◌, arith}
+use Rattle.std.proofs.Common.{length, take, sym, ap, arith}
 use Rattle.std.proofs.lemmas.List.{length-append}
 use Rattle.range_tuple.specs.TupleBytes.{column_bytes, columns_bytes}
 use Rattle.range_tuple.proofs.EachColumn.{more_bytes, more_room, written_more}

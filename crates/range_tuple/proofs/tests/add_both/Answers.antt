@@ -1,4 +1,4 @@
-use Rattle.std.proofs.Common.{ℕ, All, List, [], ◌∷◌, slice_get, sym, subst}
+use Rattle.std.proofs.Common.{ℕ, All, [], ◌∷◌, slice_get, sym, subst}
 use Rattle.std.proofs.lemmas.List.Elements.{All-cons, All-nil}
 use Rattle.block_model.specs.declared.schema.Class.TheVariants as classes
 use Rattle.block_model.specs.declared.value.Kind.TheVariants as kinds

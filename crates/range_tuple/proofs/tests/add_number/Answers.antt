@@ -1,4 +1,4 @@
-use Rattle.std.proofs.Common.{ℕ, All, List, [], ◌∷◌, slice_get, sym, ap, ◌∙◌, subst}
+use Rattle.std.proofs.Common.{ℕ, All, [], ◌∷◌, slice_get, sym, ap, ◌∙◌, subst}
 use Rattle.std.proofs.lemmas.List.Elements.{All-cons, All-nil}
 use Rattle.range_tuple.specs.TupleIncludes.{TakesThere}
 use Rattle.range_tuple.specs.Tuples.{Tuple, parts_of}

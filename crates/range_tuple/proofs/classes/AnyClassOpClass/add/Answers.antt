@@ -1,7 +1,7 @@
-use Rattle.std.proofs.Common.{◌≡◌, ℕ, ◌<◌, length, ap}
+use Rattle.std.proofs.Common.{◌≡◌, ◌<◌, length, ap}
 use Rattle.block_model.specs.declared.value.Value.{Value}
 use Rattle.range_tuple.proofs.Forms.{minmax_summary, minmax_value, minmax_other, multi_summary, multi_value, multi_other, span_summary, span_value, span_other, net_summary, net_value, net_other, bloom_summary, bloom_value, bloom_other}
-use Rattle.range_tuple.specs.AnyClass.{takes, is_of, includes, add, bytes_of}
+use Rattle.range_tuple.specs.AnyClass.{is_of, includes, add, bytes_of}
 use Rattle.range_tuple.specs.declared.classes.AnyClass.{AnyClass}
 use Rattle.range_tuple.specs.declared.classes.AnySummary.{AnySummary}
 use Rattle.range_tuple.specs.declared.classes.AnySummary.TheVariants as kept

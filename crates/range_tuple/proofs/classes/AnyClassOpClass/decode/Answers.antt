@@ -5,7 +5,6 @@ use Rattle.opclass_api.specs.declared.class.Malformed.{Malformed}
 use Rattle.range_tuple.specs.AnyClass.{is_of, bytes_of}
 use Rattle.range_tuple.specs.declared.classes.AnyClass.{AnyClass}
 use Rattle.range_tuple.specs.declared.classes.AnySummary.{AnySummary}
-use Rattle.range_tuple.specs.declared.classes.AnySummary.TheVariants as kept
 use Rattle.range_tuple.proofs.classes.AnyClassOpClass.decode.Goals.{in-MinMax-MinMax, in-Multi-Multi, in-SpanHull-SpanHull, in-NetHull-NetHull, in-Bloom-Bloom, in_default, in_default-2, in_default-3, in_default-4, in_default-5}
 use Rattle.range_tuple.proofs.classes.AnyClassOpClass.decode.Goals as goal
 

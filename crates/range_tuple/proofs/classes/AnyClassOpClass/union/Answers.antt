@@ -1,4 +1,4 @@
-use Rattle.std.proofs.Common.{◌≡◌, ℕ, ◌<◌, length, ap}
+use Rattle.std.proofs.Common.{◌≡◌, ◌<◌, length, ap}
 use Rattle.block_model.specs.declared.value.Value.{Value}
 use Rattle.range_tuple.proofs.Forms.{minmax_summary, minmax_other, multi_summary, multi_other, span_summary, span_other, net_summary, net_other, bloom_summary, bloom_other}
 use Rattle.range_tuple.specs.AnyClass.{is_of, includes, united, bytes_of}

@@ -1,10 +1,10 @@
-use Rattle.std.proofs.Common.{◌≡◌, ℕ, ◌+◌, ◌-◌, ◌<◌, ◌≤◌, ◌∷◌, ◌++◌, Bool, true, false, All, List, length, get_or, take, drop, refl, sym, ap, ◌∙◌, subst, arith}
+use Rattle.std.proofs.Common.{◌≡◌, ℕ, ◌-◌, ◌<◌, ◌∷◌, ◌++◌, List, length, get_or, take, drop, refl, sym, ap, ◌∙◌, arith}
 use Rattle.std.specs.List.{list_all}
 use Rattle.std.specs.Int.{bytes_high_first}
 use Rattle.std.proofs.lemmas.Bool.{false≢true}
 use Rattle.std.proofs.lemmas.List.{length-drop, take_rest, with_items_is}
 use Rattle.range_tuple.specs.TupleBytes.{columns_bytes, flags_of, tuple_bytes}
-use Rattle.range_tuple.specs.Tuples.{IndexedColumn, IsColumn, IsTuple, Tuple, has_nothing, parts_of}
+use Rattle.range_tuple.specs.Tuples.{IndexedColumn, IsTuple, Tuple, has_nothing, parts_of}
 use Rattle.range_tuple.proofs.ByPlace.{length-parts, same_room}
 use Rattle.range_tuple.proofs.WholeTuples.{HasFields, fields_front, flags-injective, flags_small, has_fields, other_flags, same_flags}
 use Rattle.range_tuple.proofs.tuple.RangeTuple.decode.Goals as goal

@@ -1,10 +1,10 @@
-use Rattle.std.proofs.Common.{◌≡◌, ℕ, ◌+◌, ◌-◌, ◌≤◌, ◌∷◌, ◌++◌, List, length, set, take, drop, sym, ap, ◌∙◌, subst, arith}
+use Rattle.std.proofs.Common.{◌≡◌, ℕ, ◌+◌, ◌-◌, ◌≤◌, ◌∷◌, ◌++◌, List, length, set, take, drop, sym, ap, ◌∙◌, arith}
 use Rattle.std.proofs.lemmas.List.{append_assoc, drop-drop, length-append, take_rest}
 use Rattle.std.specs.List.{list_all}
 use Rattle.std.specs.Int.{bytes_high_first}
 use Rattle.byte_fields.specs.Fields.{length-number}
 use Rattle.range_tuple.specs.TupleBytes.{columns_bytes, flags_of, tuple_bytes}
-use Rattle.range_tuple.specs.Tuples.{Tuple, has_nothing, tuple_of}
+use Rattle.range_tuple.specs.Tuples.{has_nothing, tuple_of}
 use Rattle.range_tuple.proofs.WholeTuples.{written_tuple}
 use Rattle.range_tuple.proofs.tuple.RangeTuple.encode.Goals as goal
 

@@ -1,5 +1,5 @@
-use Rattle.std.proofs.Common.{All, sym, ap, ◌∙◌, refl, subst}
-use Rattle.range_tuple.specs.Tuples.{IsColumn, IsTuple, Tuple}
+use Rattle.std.proofs.Common.{All, refl, subst}
+use Rattle.range_tuple.specs.Tuples.{IsColumn, IsTuple}
 use Rattle.range_tuple.proofs.tuple.RangeTuple.known.Goals as goal
 
 pub returns : goal.returns
