@@ -1,0 +1,184 @@
+// The five forms of operator class as one class. This module alone names them.
+
+ghost use Rattle.std.specs.Prelude.{◌≡◌, true};
+ghost use Rattle.block_model.specs.declared.schema.Class.{Class};
+ghost use Rattle.block_model.specs.declared.value.Kind.{Kind};
+ghost use Rattle.block_model.specs.declared.value.Value.{Value};
+ghost use Rattle.block_model.specs.Limits.{takes_kind, has_lawful_parameters};
+ghost use Rattle.block_model.specs.TupleSize.{summary_size};
+ghost use Rattle.range_tuple.specs.KindValues.{IsOfKind};
+ghost use Rattle.range_tuple.specs.TupleIncludes.{TakesValue};
+ghost use Rattle.range_tuple.specs.AnyClass.{class_of, takes, is_of, includes, empty, add, united, consistent, bytes_of, greatest_size};
+
+use block_model::NoMemory;
+use block_model::row::Cond;
+use block_model::schema::Class;
+use block_model::value::{Kind, Value};
+use opclass_api::class::{Malformed, OpClass};
+use opclass_bloom::class::Bloom;
+use opclass_inclusion::net_class::NetHull;
+use opclass_inclusion::net_summary::NetSummary;
+use opclass_inclusion::span_class::SpanHull;
+use opclass_inclusion::span_summary::SpanSummary;
+use opclass_minmax::class::MinMax;
+use opclass_multi::class::Multi;
+use std::alloc::Global;
+
+/// An operator class with its parameters.
+#[derive(Clone, Copy, Debug, PartialEq, Eq)]
+pub enum AnyClass {
+    MinMax(MinMax),
+    Multi(Multi),
+    SpanHull(SpanHull),
+    NetHull(NetHull),
+    Bloom(Bloom),
+}
+
+/// A summary of one of these classes.
+#[derive(Debug, Drop)]
+pub enum AnySummary {
+    MinMax(opclass_minmax::summary::Summary),
+    Multi(opclass_multi::summary::Summary),
+    SpanHull(SpanSummary),
+    NetHull(NetSummary),
+    Bloom(opclass_bloom::summary::Summary),
+}
+
+impl AnyClass {
+    /// The form of a class for a kind that it takes.
+    pub fn of(class: Class, kind: Kind) -> AnyClass
+        requires kind { takes_kind class kind ≡ true }
+        requires parameters { has_lawful_parameters class ≡ true }
+        ensures class { result ≡ class_of class kind }
+        ensures size { greatest_size result ≡ summary_size class kind }
+    {
+        match class {
+            Class::MinMax => AnyClass::MinMax(MinMax::new()),
+            Class::Multi { limit } => AnyClass::Multi(Multi::new(limit).unwrap()),
+            Class::Inclusion => inclusion_of(kind),
+            Class::Bloom { bits, hashes } => AnyClass::Bloom(Bloom::new(bits, hashes).unwrap()),
+        }
+    }
+}
+
+/// Values of a kind, and null, are taken by the form of each class that takes the kind.
+pub fn values_of_a_kind_are_taken()
+    ensures { (class : Class) (kind : Kind) (v : Value) → takes_kind class kind ≡ true → IsOfKind kind v → TakesValue (class_of class kind) v }
+{}
+
+fn inclusion_of(kind: Kind) -> AnyClass
+    ensures class { result ≡ class_of Class.Inclusion kind }
+    ensures size { greatest_size result ≡ summary_size Class.Inclusion kind }
+{
+    match kind {
+        Kind::Net => AnyClass::NetHull(NetHull::new()),
+        Kind::Int | Kind::Span => AnyClass::SpanHull(SpanHull::new()),
+    }
+}
+
+impl OpClass for AnyClass {
+    type Summary = AnySummary;
+
+    ghost takes = { takes };
+
+    ghost is_of = { is_of };
+
+    ghost includes = { includes };
+
+    ghost empty = { empty };
+
+    ghost add = { add };
+
+    ghost union = { united };
+
+    ghost consistent = { consistent };
+
+    ghost bytes_of = { bytes_of };
+
+    ghost greatest_size = { greatest_size };
+
+    fn empty(&self, alloc: Global) -> Result<AnySummary, NoMemory> {
+        match self {
+            AnyClass::MinMax(class) => Ok(AnySummary::MinMax(class.empty(alloc)?)),
+            AnyClass::Multi(class) => Ok(AnySummary::Multi(class.empty(alloc)?)),
+            AnyClass::SpanHull(class) => Ok(AnySummary::SpanHull(class.empty(alloc)?)),
+            AnyClass::NetHull(class) => Ok(AnySummary::NetHull(class.empty(alloc)?)),
+            AnyClass::Bloom(class) => Ok(AnySummary::Bloom(class.empty(alloc)?)),
+        }
+    }
+
+    fn add(&self, s: &mut AnySummary, v: &Value) -> bool {
+        match (self, s) {
+            (AnyClass::MinMax(class), AnySummary::MinMax(s)) => class.add(s, v),
+            (AnyClass::Multi(class), AnySummary::Multi(s)) => class.add(s, v),
+            (AnyClass::SpanHull(class), AnySummary::SpanHull(s)) => class.add(s, v),
+            (AnyClass::NetHull(class), AnySummary::NetHull(s)) => class.add(s, v),
+            (AnyClass::Bloom(class), AnySummary::Bloom(s)) => class.add(s, v),
+            _ => false,
+        }
+    }
+
+    fn union(&self, s: &mut AnySummary, other: &AnySummary) -> bool {
+        match (self, s, other) {
+            (AnyClass::MinMax(class), AnySummary::MinMax(s), AnySummary::MinMax(other)) => {
+                class.union(s, other)
+            }
+            (AnyClass::Multi(class), AnySummary::Multi(s), AnySummary::Multi(other)) => {
+                class.union(s, other)
+            }
+            (AnyClass::SpanHull(class), AnySummary::SpanHull(s), AnySummary::SpanHull(other)) => {
+                class.union(s, other)
+            }
+            (AnyClass::NetHull(class), AnySummary::NetHull(s), AnySummary::NetHull(other)) => {
+                class.union(s, other)
+            }
+            (AnyClass::Bloom(class), AnySummary::Bloom(s), AnySummary::Bloom(other)) => {
+                class.union(s, other)
+            }
+            _ => false,
+        }
+    }
+
+    fn consistent(&self, s: &AnySummary, conds: &[Cond]) -> bool {
+        match (self, s) {
+            (AnyClass::MinMax(class), AnySummary::MinMax(s)) => class.consistent(s, conds),
+            (AnyClass::Multi(class), AnySummary::Multi(s)) => class.consistent(s, conds),
+            (AnyClass::SpanHull(class), AnySummary::SpanHull(s)) => class.consistent(s, conds),
+            (AnyClass::NetHull(class), AnySummary::NetHull(s)) => class.consistent(s, conds),
+            (AnyClass::Bloom(class), AnySummary::Bloom(s)) => class.consistent(s, conds),
+            _ => true,
+        }
+    }
+
+    fn encode(&self, s: &AnySummary, out: &mut [u8]) -> usize {
+        match (self, s) {
+            (AnyClass::MinMax(class), AnySummary::MinMax(s)) => class.encode(s, out),
+            (AnyClass::Multi(class), AnySummary::Multi(s)) => class.encode(s, out),
+            (AnyClass::SpanHull(class), AnySummary::SpanHull(s)) => class.encode(s, out),
+            (AnyClass::NetHull(class), AnySummary::NetHull(s)) => class.encode(s, out),
+            (AnyClass::Bloom(class), AnySummary::Bloom(s)) => class.encode(s, out),
+            _ => 0,
+        }
+    }
+
+    fn decode(&self, bytes: &[u8], into: &mut AnySummary) -> Result<(), Malformed> {
+        match (self, into) {
+            (AnyClass::MinMax(class), AnySummary::MinMax(into)) => class.decode(bytes, into),
+            (AnyClass::Multi(class), AnySummary::Multi(into)) => class.decode(bytes, into),
+            (AnyClass::SpanHull(class), AnySummary::SpanHull(into)) => class.decode(bytes, into),
+            (AnyClass::NetHull(class), AnySummary::NetHull(into)) => class.decode(bytes, into),
+            (AnyClass::Bloom(class), AnySummary::Bloom(into)) => class.decode(bytes, into),
+            _ => Err(Malformed { at: 0 }),
+        }
+    }
+
+    fn greatest_size(&self) -> usize {
+        match self {
+            AnyClass::MinMax(class) => class.greatest_size(),
+            AnyClass::Multi(class) => class.greatest_size(),
+            AnyClass::SpanHull(class) => class.greatest_size(),
+            AnyClass::NetHull(class) => class.greatest_size(),
+            AnyClass::Bloom(class) => class.greatest_size(),
+        }
+    }
+}

@@ -1,0 +1,184 @@
+// The columns of a tuple, one after the other.
+
+ghost use Rattle.std.specs.Prelude.{◌≡◌, ◌≢◌, ◌<◌, ◌≤◌, ◌+◌, ◌++◌, true, false, All, List, length, map, drop, sum_by, IfOk, IsOk, OnOk, IfErr};
+ghost use Rattle.std.specs.List.{list_all};
+ghost use Rattle.block_model.specs.declared.value.Value.{Value};
+ghost use Rattle.block_model.specs.IndexedColumns.{columns_of, kind_at};
+ghost use Rattle.block_model.specs.Limits.{class_is_lawful};
+ghost use Rattle.block_model.specs.RowMatches.{column_matches};
+ghost use Rattle.block_model.specs.TupleSize.{part_size};
+ghost use Rattle.range_tuple.specs.AnyClass.{class_of};
+ghost use Rattle.range_tuple.specs.Keeps.{column_allows};
+ghost use Rattle.range_tuple.specs.TupleBytes.{columns_bytes};
+ghost use Rattle.range_tuple.specs.TupleIncludes.{ColumnIncludes, ColumnTakes};
+ghost use Rattle.range_tuple.specs.Tuples.{IndexedColumn, IsColumn, empty_column, has_nothing, with_row_at, united_columns, parts_of, column_room};
+
+use crate::classes::AnyClass;
+use crate::column::TupleColumn;
+use block_model::NoMemory;
+use block_model::row::Cond;
+use block_model::schema::{Column, Index, Part, Schema};
+use block_model::value::{Kind, Value};
+use opclass_api::class::Malformed;
+use std::alloc::Global;
+
+/// The columns of an index, in which nothing was added. Takes the memory of their summaries.
+pub(crate) fn new_columns(
+    alloc: Global,
+    index: &Index,
+    schema: &Schema,
+) -> Result<Vec<TupleColumn>, NoMemory>
+    requires classes { list_all (class_is_lawful (columns_of schema.now index.now)) index.now.parts ≡ true }
+    requires sizes { All (λ part. part_size (columns_of schema.now index.now) part < 65536) index.now.parts }
+    ensures columns { IfOk result (λ columns. columns.items ≡ map (empty_column (columns_of schema.now index.now)) index.now.parts) }
+    ensures rooms { IfOk result (λ columns. map column_room columns.items ≡ map (part_size (columns_of schema.now index.now)) index.now.parts) }
+{
+    let mut columns = Vec::new(alloc);
+    'parts: for part in index.parts.as_slice() {
+        let column = new_column(alloc, part, columns_of(schema, index))?;
+        if columns.push(column).is_err() {
+            return Err(NoMemory);
+        }
+    }
+    Ok(columns)
+}
+
+fn columns_of<'a>(schema: &'a Schema, index: &Index) -> &'a [Column]
+    ensures { result.now ≡ columns_of schema.now index.now }
+{
+    match schema.tables.as_slice().get(usize::from(index.table)) {
+        Some(table) => table.columns.as_slice(),
+        None => &[],
+    }
+}
+
+fn new_column(alloc: Global, part: &Part, columns: &[Column]) -> Result<TupleColumn, NoMemory>
+    requires class { class_is_lawful columns.now part.now ≡ true }
+    requires size { part_size columns.now part.now < 65536 }
+    ensures column { IfOk result (λ column. column ≡ empty_column columns.now part.now) }
+    ensures room { IfOk result (λ column. column_room column ≡ part_size columns.now part.now) }
+{
+    let class = AnyClass::of(part.class, kind_at(columns, part.column));
+    TupleColumn::new(alloc, part.column, class)
+}
+
+fn kind_at(columns: &[Column], at: u8) -> Kind
+    ensures { result ≡ kind_at columns.now at }
+{
+    match columns.get(usize::from(at)) {
+        Some(column) => column.kind,
+        None => Kind::Int,
+    }
+}
+
+/// Every column is one.
+pub(crate) fn known(columns: &[TupleColumn])
+    ensures { All IsColumn columns.now }
+{
+    'columns: for column in columns {
+        column.known();
+    }
+}
+
+/// Adds a row to each column; answers whether one changed.
+pub(crate) fn add_to_each(columns: &mut [TupleColumn], values: &[Value]) -> bool
+    requires { All (ColumnTakes values.now) columns.old }
+    ensures widened { columns.new ≡ map (with_row_at values.now) columns.old }
+    ensures includes_the_row { All (ColumnIncludes values.now) columns.new }
+    ensures keeps_what_it_included { (row : List Value) → All (ColumnIncludes row) columns.old → All (ColumnIncludes row) columns.new }
+    ensures same { result ≡ false → columns.new ≡ columns.old }
+    ensures changed { result ≡ true → columns.new ≢ columns.old }
+{
+    let mut changed = false;
+    'columns: for at in 0..columns.len() {
+        let column = &mut columns[at];
+        changed = column.add_row(values) || changed;
+    }
+    changed
+}
+
+/// Takes into each column what the same one of another tuple has; answers whether one changed.
+pub(crate) fn unite_each(columns: &mut [TupleColumn], others: &[TupleColumn]) -> bool
+    requires { parts_of others.now ≡ parts_of columns.old }
+    ensures widened { columns.new ≡ united_columns columns.old others.now }
+    ensures keeps_what_it_included { (row : List Value) → All (ColumnIncludes row) columns.old → All (ColumnIncludes row) columns.new }
+    ensures includes_the_others { (row : List Value) → All (ColumnIncludes row) others.now → All (ColumnIncludes row) columns.new }
+    ensures same { result ≡ false → columns.new ≡ columns.old }
+    ensures changed { result ≡ true → columns.new ≢ columns.old }
+{
+    let mut changed = false;
+    'columns: for at in 0..columns.len() {
+        let column = &mut columns[at];
+        changed = column.unite(&others[at]) || changed;
+    }
+    changed
+}
+
+/// Whether nothing was added in any.
+pub(crate) fn have_nothing(columns: &[TupleColumn]) -> bool
+    ensures { result ≡ list_all has_nothing columns.now }
+{
+    columns.iter().all(|column| column.has_nothing())
+}
+
+/// Whether each column allows the conditions. Where one doesn't, they include no row that matches them.
+pub(crate) fn all_allow(columns: &[TupleColumn], conds: &[Cond]) -> bool
+    requires { length conds.now ≤ 16 }
+    ensures answer { result ≡ list_all (column_allows conds.now) columns.now }
+    ensures misses_no_match { result ≡ false → (row : List Value) → All (ColumnIncludes row) columns.now → list_all (column_matches row) conds.now ≡ false }
+{
+    'columns: for column in columns {
+        if !column.allows(conds) {
+            return false;
+        }
+    }
+    true
+}
+
+/// How many bytes the columns have at most.
+pub(crate) fn room_of(columns: &[TupleColumn]) -> usize
+    requires { sum_by column_room columns.now ≤ 8156 }
+    ensures { result ≡ sum_by column_room columns.now }
+{
+    let mut room = 0;
+    'columns: for column in columns {
+        room += column.room();
+    }
+    room
+}
+
+/// Writes the bytes of the columns to the front of `out`, and answers how many they are.
+pub(crate) fn write_each(columns: &[TupleColumn], out: &mut [u8]) -> usize
+    requires { sum_by column_room columns.now ≤ length out.old }
+    ensures size { result ≡ length (columns_bytes columns.now) }
+    ensures within { result ≤ sum_by column_room columns.now }
+    ensures written { out.new ≡ columns_bytes columns.now ++ drop result out.old }
+{
+    let mut at = 0;
+    'columns: for column in columns {
+        at += column.write(&mut out[at..]);
+    }
+    at
+}
+
+/// Makes the columns those that the bytes encode. `Err` exactly where they, fewer than
+/// 65536, encode none of this index.
+pub(crate) fn read_each(columns: &mut [TupleColumn], bytes: &[u8]) -> Result<(), Malformed>
+    ensures same_index { parts_of columns.new ≡ parts_of columns.old }
+    ensures found { OnOk result (bytes.now ≡ columns_bytes columns.new) }
+    ensures again { (cs : List IndexedColumn) → length bytes.now < 65536 → All IsColumn cs → parts_of cs ≡ parts_of columns.old → bytes.now ≡ columns_bytes cs → IsOk result × (columns.new ≡ cs) }
+    ensures place { IfErr result (λ fault. fault.at ≤ length bytes.now) }
+{
+    let mut at = 0;
+    'columns: for i in 0..columns.len() {
+        let column = &mut columns[i];
+        match column.read(&bytes[at..]) {
+            Ok(size) => at += size,
+            Err(fault) => return Err(Malformed { at: at + fault.at }),
+        }
+    }
+    if at < bytes.len() {
+        return Err(Malformed { at });
+    }
+    Ok(())
+}
