@@ -1,4 +1,4 @@
-// The program: runs a script of session lines over one table. The words of the command line, standard input and standard
+// The program: runs a script of session lines over tables. The words of the command line, standard input and standard
 // output are handed to `brin_main`, which does all else; its status is the program's, and a status that isn't 0 has a text
 // on standard error.
 #![tactic(auto)]
