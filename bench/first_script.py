@@ -70,11 +70,14 @@ def main():
         script, out = os.path.join(folder, "script"), os.path.join(folder, "out")
         for name, (words, parts) in scripts.items():
             with open(script, "w") as file:
+                lines = 0
                 for part in parts():
-                    file.writelines(part)
+                    for line in part:
+                        file.write(line)
+                        lines += 1
             seconds, peak = min(run(program, words, script, out) for _ in range(3))
-            rate = f"{LINES / seconds:,.0f} lines/s" if seconds else "no time to measure"
-            print(f"{name}: {seconds:.2f} s, {rate}, peak {peak / 1000:.0f} MB ({peak * 1024 / LINES:.0f} bytes a line)")
+            rate = f"{lines / seconds:,.0f} lines/s" if seconds else "no time to measure"
+            print(f"{name}: {seconds:.2f} s, {rate}, peak {peak / 1000:.0f} MB ({peak * 1024 / lines:.0f} bytes a line)")
 
 
 if __name__ == "__main__":
