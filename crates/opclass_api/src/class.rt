@@ -108,5 +108,6 @@ pub trait OpClass {
 
     /// How many bytes a summary has at most.
     fn greatest_size(&self) -> usize
-        ensures { result ≡ greatest_size self.now };
+        ensures size { result ≡ greatest_size self.now }
+        ensures bound { (s : Self.Summary) → is_of self.now s → length (bytes_of self.now s) ≤ greatest_size self.now };
 }

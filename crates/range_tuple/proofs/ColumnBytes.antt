@@ -7,10 +7,11 @@ use borrow.Rule.Slice.PartMut.{put_mid}
 use mathlib.Core.Bool.{beq}
 use Rattle.byte_fields.specs.Fields.{field_at, number_of as spelt, number-bytes, length-number, put_at}
 use Rattle.opclass_api.specs.declared.class.Malformed.{Malformed}
-use Rattle.range_tuple.specs.AnyClass.{bytes_of}
+use Rattle.range_tuple.specs.AnyClass.{is_of, bytes_of}
 use Rattle.range_tuple.specs.NullStates.{number_of, has_values}
 use Rattle.range_tuple.specs.TupleBytes.{HasHeader, column_bytes, summary_bytes}
 use Rattle.range_tuple.specs.Tuples.{IndexedColumn, IsColumn}
+use Rattle.range_tuple.specs.declared.classes.AnySummary.{AnySummary}
 use Rattle.range_tuple.specs.declared.state.NullState.{NullState}
 use Rattle.range_tuple.specs.declared.state.NullState.TheVariants.{Nothing, Nulls, Values, Both}
 
@@ -25,6 +26,14 @@ summary_of_values column is = by_values column true is
 
 pub summary_of_none : (column : IndexedColumn) → has_values column.state ≡ false → summary_bytes column ≡ []
 summary_of_none column is = by_values column false is
+
+-- a summary in a state is no longer than one of its class may be
+summary_fits_by : (column : IndexedColumn) (b : Bool) → has_values column.state ≡ b → ((s : AnySummary) → is_of column.class s → length (bytes_of column.class s) < 65536) → IsColumn column → length (summary_bytes column) < 65536
+summary_fits_by column true is short lawful = rw (summary_of_values column is) (short column.summary lawful.of_class)
+summary_fits_by column false is short lawful = rw (summary_of_none column is) (omega arith)
+
+pub summary_fits : (column : IndexedColumn) → ((s : AnySummary) → is_of column.class s → length (bytes_of column.class s) < 65536) → IsColumn column → length (summary_bytes column) < 65536
+summary_fits column short lawful = summary_fits_by column (has_values column.state) refl short lawful
 
 pub length-column : (column : IndexedColumn) → length (column_bytes column) ≡ 3 + length (summary_bytes column)
 unfolding column_bytes
@@ -113,13 +122,12 @@ column_there bytes size column header is =
 
 -- bytes that begin with a column's have its header, and its summary behind
 pub record BeginsWith (column : IndexedColumn) (bytes : List ℕ) : Type 0 where
-  pub fits : length (summary_bytes column) < 65536
   pub header : HasHeader column.state (length (summary_bytes column)) bytes
   pub summary_there : take (length (summary_bytes column)) (drop 3 bytes) ≡ summary_bytes column
 
-pub begins_with : (column : IndexedColumn) (bytes rest : List ℕ) → length bytes < 65536 → IsColumn column → bytes ≡ column_bytes column ++ rest → BeginsWith column bytes
+pub begins_with : (column : IndexedColumn) (bytes rest : List ℕ) → IsColumn column → bytes ≡ column_bytes column ++ rest → BeginsWith column bytes
 unfolding column_bytes
-begins_with column bytes rest small lawful is =
+begins_with column bytes rest lawful is =
     let s = summary_bytes column in
     let n = length s in
     let front = bytes_high_first 2 n in
@@ -127,7 +135,6 @@ begins_with column bytes rest small lawful is =
     let shape : bytes ≡ number_of column.state ∷ (front ++ (s ++ rest)) = is ∙ ap (λ (back : List ℕ). number_of column.state ∷ back) (append_assoc front s rest) in
     let behind : drop 3 bytes ≡ s ++ rest = ap (drop 3) shape ∙ drop_at front (s ++ rest) 2 (length-number 2 n) in
     record {
-      fits = omega (arith, long, small);
       header = record {
         front = shape ∙ ap (λ (back : List ℕ). number_of column.state ∷ (front ++ back)) (sym behind);
         of_values = λ some. rw (summary_of_values column some) (lawful.has_bytes some);

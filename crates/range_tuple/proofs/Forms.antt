@@ -1,5 +1,5 @@
 -- what is known of a class and a summary whose forms are known
-use Rattle.std.proofs.Common.{◌≡◌, ℕ, ◌+◌, ◌*◌, ◌≤◌, Bool, List, Result, refl, ap, subst}
+use Rattle.std.proofs.Common.{◌≡◌, ℕ, ◌+◌, ◌*◌, ◌≤◌, Bool, List, length, Result, refl, ap, subst}
 use Rattle.std.specs.Prelude.{IsOk}
 use Rattle.opclass_api.specs.declared.class.Malformed.{Malformed}
 use Rattle.block_model.specs.declared.value.Value.{Value}
@@ -155,3 +155,44 @@ pub bloom_again : (class : Parameters) (bytes : List ℕ) (new : List Bool) (res
 unfolding is_of bytes_of
 bloom_again class bytes new result again (kept.Bloom t) of is = let found = again t of is in (found.0, ap kept.Bloom found.1)
 bloom_again class bytes new result again s of is = absurd of
+
+-- a bound of the summaries of a class bounds those of its form
+pub minmax_bound : (class : MinMax) → ((s : Bounds) → minmax.Bounds.IsSummary s → length (minmax.Encoding.bytes_of s) ≤ 16) → (s : AnySummary) → is_of (forms.MinMax class) s → length (bytes_of (forms.MinMax class) s) ≤ 16
+unfolding is_of bytes_of
+minmax_bound class bound (kept.MinMax s) of = bound s of
+minmax_bound class bound (kept.Multi s) of = absurd of
+minmax_bound class bound (kept.SpanHull s) of = absurd of
+minmax_bound class bound (kept.NetHull s) of = absurd of
+minmax_bound class bound (kept.Bloom s) of = absurd of
+
+pub multi_bound : (class : ℕ) → ((s : Kept) → multi.Kept.IsSummary class s → length (multi.Encoding.bytes_of s) ≤ 2 + 9 * class) → (s : AnySummary) → is_of (forms.Multi class) s → length (bytes_of (forms.Multi class) s) ≤ 2 + 9 * class
+unfolding is_of bytes_of
+multi_bound class bound (kept.MinMax s) of = absurd of
+multi_bound class bound (kept.Multi s) of = bound s of
+multi_bound class bound (kept.SpanHull s) of = absurd of
+multi_bound class bound (kept.NetHull s) of = absurd of
+multi_bound class bound (kept.Bloom s) of = absurd of
+
+pub span_bound : (class : SpanHull) → ((s : SpanSummary) → inclusion.SpanHulls.IsSummary s → length (inclusion.SpanEncoding.bytes_of s) ≤ 18) → (s : AnySummary) → is_of (forms.SpanHull class) s → length (bytes_of (forms.SpanHull class) s) ≤ 18
+unfolding is_of bytes_of
+span_bound class bound (kept.MinMax s) of = absurd of
+span_bound class bound (kept.Multi s) of = absurd of
+span_bound class bound (kept.SpanHull s) of = bound s of
+span_bound class bound (kept.NetHull s) of = absurd of
+span_bound class bound (kept.Bloom s) of = absurd of
+
+pub net_bound : (class : NetHull) → ((s : NetSummary) → inclusion.NetHulls.IsSummary s → length (inclusion.NetEncoding.bytes_of s) ≤ 7) → (s : AnySummary) → is_of (forms.NetHull class) s → length (bytes_of (forms.NetHull class) s) ≤ 7
+unfolding is_of bytes_of
+net_bound class bound (kept.MinMax s) of = absurd of
+net_bound class bound (kept.Multi s) of = absurd of
+net_bound class bound (kept.SpanHull s) of = absurd of
+net_bound class bound (kept.NetHull s) of = bound s of
+net_bound class bound (kept.Bloom s) of = absurd of
+
+pub bloom_bound : (class : Parameters) → ((s : List Bool) → bloom.Bits.IsSummary class s → length (bloom.Encoding.bytes_of s) ≤ bloom.Encoding.size_of class) → (s : AnySummary) → is_of (forms.Bloom class) s → length (bytes_of (forms.Bloom class) s) ≤ bloom.Encoding.size_of class
+unfolding is_of bytes_of
+bloom_bound class bound (kept.MinMax s) of = absurd of
+bloom_bound class bound (kept.Multi s) of = absurd of
+bloom_bound class bound (kept.SpanHull s) of = absurd of
+bloom_bound class bound (kept.NetHull s) of = absurd of
+bloom_bound class bound (kept.Bloom s) of = bound s of

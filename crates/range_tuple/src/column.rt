@@ -70,9 +70,9 @@ impl TupleColumn {
     /// Every column is one.
     pub(crate) fn known(&self)
         ensures column { IsColumn self.now }
-        ensures fits { greatest_size self.now.class < 65536 }
+        ensures fits { (s : AnySummary) → is_of self.now.class s → length (bytes_of self.now.class s) < 65536 }
     {
-        let _ = &self.state;
+        let _ = self.class.greatest_size();
     }
 
     /// The number of the column in the table.
@@ -223,15 +223,16 @@ impl TupleColumn {
     }
 
     /// Makes the column the one whose bytes are the first of these, and answers how many they are. `Err` exactly where
-    /// the bytes, fewer than 65536, begin with none of this place and class: the column is unchanged then.
+    /// the bytes begin with none of this place and class: the column is unchanged then.
     pub(crate) fn read(&mut self, bytes: &[u8]) -> Result<usize, Malformed>
         ensures same_part { part_of self.new ≡ part_of self.old }
         ensures found { IfOk result (λ size. bytes.now ≡ column_bytes self.new ++ drop size bytes.now) }
         ensures size { IfOk result (λ size. size ≡ length (column_bytes self.new)) }
-        ensures again { (column : IndexedColumn) (rest : List ℕ) → length bytes.now < 65536 → IsColumn column → part_of column ≡ part_of self.old → bytes.now ≡ column_bytes column ++ rest → IsOk result × (self.new ≡ column) }
+        ensures again { (column : IndexedColumn) (rest : List ℕ) → IsColumn column → part_of column ≡ part_of self.old → bytes.now ≡ column_bytes column ++ rest → IsOk result × (self.new ≡ column) }
         ensures place { IfErr result (λ fault. fault.at ≤ length bytes.now) }
         ensures unchanged { OnErr result (self.new ≡ self.old) }
     {
+        self.known();
         let (state, size) = header_in(bytes)?;
         if state.has_values() {
             self.read_values(state, &bytes[HEADER..HEADER + size])?;

@@ -161,12 +161,11 @@ pub(crate) fn write_each(columns: &[TupleColumn], out: &mut [u8]) -> usize
     at
 }
 
-/// Makes the columns those that the bytes encode. `Err` exactly where they, fewer than
-/// 65536, encode none of this index.
+/// Makes the columns those that the bytes encode. `Err` exactly where they encode none of this index.
 pub(crate) fn read_each(columns: &mut [TupleColumn], bytes: &[u8]) -> Result<(), Malformed>
     ensures same_index { parts_of columns.new ≡ parts_of columns.old }
     ensures found { OnOk result (bytes.now ≡ columns_bytes columns.new) }
-    ensures again { (cs : List IndexedColumn) → length bytes.now < 65536 → All IsColumn cs → parts_of cs ≡ parts_of columns.old → bytes.now ≡ columns_bytes cs → IsOk result × (columns.new ≡ cs) }
+    ensures again { (cs : List IndexedColumn) → All IsColumn cs → parts_of cs ≡ parts_of columns.old → bytes.now ≡ columns_bytes cs → IsOk result × (columns.new ≡ cs) }
     ensures place { IfErr result (λ fault. fault.at ≤ length bytes.now) }
 {
     let mut at = 0;

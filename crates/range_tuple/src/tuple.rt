@@ -143,13 +143,13 @@ impl RangeTuple {
         HEADER + size
     }
 
-    /// Makes the tuple the one that the bytes, fewer than 65536, encode. `Err` exactly where they encode no tuple of this
-    /// index, with the place in the bytes of a field that is out of form, or their length where some are missing: the tuple
-    /// is unchanged then. Takes no memory.
+    /// Makes the tuple the one that the bytes encode. `Err` exactly where they encode no tuple of this index, with the place
+    /// in the bytes of a field that is out of form, or their length where some are missing: the tuple is unchanged then.
+    /// Takes no memory.
     pub fn decode(&mut self, bytes: &[u8]) -> Result<(), Malformed>
         ensures same_index { parts_of self.new.columns ≡ parts_of self.old.columns }
         ensures found { OnOk result (bytes.now ≡ tuple_bytes self.new) }
-        ensures again { (t : Tuple) → length bytes.now < 65536 → IsTuple t → parts_of t.columns ≡ parts_of self.old.columns → bytes.now ≡ tuple_bytes t → IsOk result × (self.new ≡ t) }
+        ensures again { (t : Tuple) → IsTuple t → parts_of t.columns ≡ parts_of self.old.columns → bytes.now ≡ tuple_bytes t → IsOk result × (self.new ≡ t) }
         ensures place { IfErr result (λ fault. fault.at ≤ length bytes.now) }
         ensures unchanged { OnErr result (self.new ≡ self.old) }
     {

@@ -1,4 +1,4 @@
-use Rattle.std.proofs.Common.{◌≡◌, ◌<◌, ◌≤◌, ◌++◌, All, List, length, take, drop}
+use Rattle.std.proofs.Common.{◌≡◌, ◌≤◌, ◌++◌, All, List, length, take, drop}
 use Rattle.range_tuple.specs.TupleBytes.{columns_bytes}
 use Rattle.range_tuple.specs.Tuples.{IndexedColumn, IsColumn, parts_of}
 use Rattle.range_tuple.proofs.columns.read_each.Given as goal
@@ -9,5 +9,5 @@ invariant-columns l = record {
   within : l.at ≤ length l.bytes;
   place : l.at ≡ length (columns_bytes (take l.i l.columns));
   found : l.bytes ≡ columns_bytes (take l.i l.columns) ++ drop l.at l.bytes;
-  again : (cs : List IndexedColumn) → length l.bytes < 65536 → All IsColumn cs → parts_of cs ≡ parts_of l.fn.columns → l.bytes ≡ columns_bytes cs → take l.i l.columns ≡ take l.i cs;
+  again : (cs : List IndexedColumn) → All IsColumn cs → parts_of cs ≡ parts_of l.fn.columns → l.bytes ≡ columns_bytes cs → take l.i l.columns ≡ take l.i cs;
 }

@@ -6,23 +6,31 @@ use Rattle.range_tuple.specs.NullStates.{has_values}
 use Rattle.range_tuple.specs.TupleBytes.{HasHeader, column_bytes, summary_bytes}
 use Rattle.range_tuple.specs.Tuples.{IndexedColumn, IsColumn, part_of}
 use Rattle.range_tuple.specs.declared.classes.AnyClass.{AnyClass}
+use Rattle.range_tuple.specs.declared.classes.AnySummary.{AnySummary}
 use Rattle.range_tuple.specs.declared.state.NullState.{NullState}
-use Rattle.range_tuple.proofs.ColumnBytes.{begins_with, column_there, never, same_header, summary_of_none, summary_of_values}
+use Rattle.range_tuple.proofs.ColumnBytes.{begins_with, column_there, never, same_header, summary_fits, summary_of_none, summary_of_values}
 use Rattle.range_tuple.proofs.column.TupleColumn.read.Goals.{then-has_values+in_ok-read_values, else-has_values}
 use Rattle.range_tuple.proofs.column.TupleColumn.read.Goals as goal
 
 cut : (bytes : List ℕ) (size : ℕ) → take (3 + size - 3) (drop 3 bytes) ≡ take size (drop 3 bytes)
 cut bytes size = ap (λ (n : ℕ). take n (drop 3 bytes)) (omega arith)
 
+-- a column of the same class has a summary whose length can be written
+fits_of : (self column : IndexedColumn) → part_of column ≡ part_of self → IsColumn column → ((s : AnySummary) → is_of self.class s → length (bytes_of self.class s) < 65536) → length (summary_bytes column) < 65536
+fits_of self column part lawful short =
+    summary_fits column (subst (λ (a : AnyClass). (s : AnySummary) → is_of a s → length (bytes_of a s) < 65536) (sym (ap (λ (p : ℕ × AnyClass). p.1) part)) short) lawful
+
 pub returns-in_err-state-clause-again : goal.returns-in_err-state-clause-again
-returns-in_err-state-clause-again c = λ column rest small lawful part is.
-    let there = begins_with column c.args.bytes.now rest small lawful is in
-    absurd (never c.header_in.result _ _ (c.header_in.ensures.again column.state (length (summary_bytes column)) there.fits there.header) c.in_err-state.was)
+returns-in_err-state-clause-again c = λ column rest lawful part is.
+    let there = begins_with column c.args.bytes.now rest lawful is in
+    let fits = fits_of c.args.self.now column part lawful c.known.ensures.fits in
+    absurd (never c.header_in.result _ _ (c.header_in.ensures.again column.state (length (summary_bytes column)) fits there.header) c.in_err-state.was)
 
 pub returns-in_err-read_values-clause-again : goal.returns-in_err-read_values-clause-again
-returns-in_err-read_values-clause-again c = λ column rest small lawful part is.
-    let there = begins_with column c.args.bytes.now rest small lawful is in
-    let same = same_header c.in_ok-state.state column.state c.in_ok-state.size (length (summary_bytes column)) c.header_in.result c.in_ok-state.was (c.header_in.ensures.again column.state (length (summary_bytes column)) there.fits there.header) in
+returns-in_err-read_values-clause-again c = λ column rest lawful part is.
+    let there = begins_with column c.args.bytes.now rest lawful is in
+    let fits = fits_of c.args.self.now column part lawful c.known.ensures.fits in
+    let same = same_header c.in_ok-state.state column.state c.in_ok-state.size (length (summary_bytes column)) c.header_in.result c.in_ok-state.was (c.header_in.ensures.again column.state (length (summary_bytes column)) fits there.header) in
     let class : column.class ≡ c.args.self.now.class = ap (λ (p : ℕ × AnyClass). p.1) part in
     let values : has_values column.state ≡ true = ap has_values (sym same.0) ∙ sym c.has_values.ensures ∙ c.if-has_values.true in
     let of_class : is_of c.args.self.now.class column.summary = subst (λ (a : AnyClass). is_of a column.summary) class lawful.of_class in
@@ -61,10 +69,11 @@ returns-clause-size c =
     let there = read_there c in
     (column_there c.args.bytes.now c.in_ok-state.size c.if-has_values.self (subst (λ (state : NullState). HasHeader state c.in_ok-state.size c.args.bytes.now) (sym there.state_is) c.in_ok-state.ensures.found) there.summary_is).1
 
-again : (c : goal.Joined-has_values) (column : IndexedColumn) (rest : List ℕ) → length c.args.bytes.now < 65536 → IsColumn column → part_of column ≡ part_of c.args.self.now → c.args.bytes.now ≡ column_bytes column ++ rest → c.if-has_values.self ≡ column
-again c column rest small lawful part is =
-    let there = begins_with column c.args.bytes.now rest small lawful is in
-    let same = same_header c.in_ok-state.state column.state c.in_ok-state.size (length (summary_bytes column)) c.header_in.result c.in_ok-state.was (c.header_in.ensures.again column.state (length (summary_bytes column)) there.fits there.header) in
+again : (c : goal.Joined-has_values) (column : IndexedColumn) (rest : List ℕ) → IsColumn column → part_of column ≡ part_of c.args.self.now → c.args.bytes.now ≡ column_bytes column ++ rest → c.if-has_values.self ≡ column
+again c column rest lawful part is =
+    let there = begins_with column c.args.bytes.now rest lawful is in
+    let fits = fits_of c.args.self.now column part lawful c.known.ensures.fits in
+    let same = same_header c.in_ok-state.state column.state c.in_ok-state.size (length (summary_bytes column)) c.header_in.result c.in_ok-state.was (c.header_in.ensures.again column.state (length (summary_bytes column)) fits there.header) in
     let class : column.class ≡ c.args.self.now.class = ap (λ (p : ℕ × AnyClass). p.1) part in
     elim c.if-has_values.branch [
       | then-has_values+in_ok-read_values w ↦
@@ -83,4 +92,4 @@ again c column rest small lawful part is =
     ]
 
 pub returns-clause-again : goal.returns-clause-again
-returns-clause-again c = λ column rest small lawful part is. (refl, again c column rest small lawful part is)
+returns-clause-again c = λ column rest lawful part is. (refl, again c column rest lawful part is)

@@ -1,8 +1,8 @@
-use Rattle.std.proofs.Common.{◌≡◌, ℕ, ◌-◌, ◌<◌, ◌∷◌, ◌++◌, List, length, get_or, take, drop, refl, sym, ap, ◌∙◌, arith}
+use Rattle.std.proofs.Common.{◌≡◌, ℕ, ◌-◌, ◌∷◌, ◌++◌, List, length, get_or, take, drop, refl, sym, ap, ◌∙◌, arith}
 use Rattle.std.specs.List.{list_all}
 use Rattle.std.specs.Int.{bytes_high_first}
 use Rattle.std.proofs.lemmas.Bool.{false≢true}
-use Rattle.std.proofs.lemmas.List.{length-drop, take_rest, with_items_is}
+use Rattle.std.proofs.lemmas.List.{take_rest, with_items_is}
 use Rattle.range_tuple.specs.TupleBytes.{columns_bytes, flags_of, tuple_bytes}
 use Rattle.range_tuple.specs.Tuples.{IndexedColumn, IsTuple, Tuple, has_nothing, parts_of}
 use Rattle.range_tuple.proofs.ByPlace.{length-parts, same_room}
@@ -12,39 +12,37 @@ use Rattle.range_tuple.proofs.tuple.RangeTuple.decode.Goals as goal
 -- what the bytes behind the header are, where they are a tuple's
 record ColumnsBehind (t : Tuple) (bytes : List ℕ) : Type 0 where
   fields : HasFields t bytes
-  small : length (take (length bytes - 5) (drop 5 bytes)) < 65536
   there : take (length bytes - 5) (drop 5 bytes) ≡ columns_bytes t.columns
 
-columns_behind : (t : Tuple) (bytes : List ℕ) → length bytes < 65536 → IsTuple t → bytes ≡ tuple_bytes t → ColumnsBehind t bytes
-columns_behind t bytes small lawful is =
+columns_behind : (t : Tuple) (bytes : List ℕ) → IsTuple t → bytes ≡ tuple_bytes t → ColumnsBehind t bytes
+columns_behind t bytes lawful is =
     let fields = has_fields t bytes lawful.range_fits is in
     record {
       fields = fields;
-      small = omega (arith, small, ap length (take_rest bytes 5), length-drop 5 bytes);
       there = take_rest bytes 5 ∙ fields.columns_there;
     }
 
 pub returns-then-bytes-lt-HEADER-clause-again : goal.returns-then-bytes-lt-HEADER-clause-again
-returns-then-bytes-lt-HEADER-clause-again c = λ t small lawful parts is.
+returns-then-bytes-lt-HEADER-clause-again c = λ t lawful parts is.
     absurd (omega (arith, (has_fields t c.args.bytes.now lawful.range_fits is).long, c.if-bytes-lt-HEADER.true))
 
 pub returns-in_default-clause-again : goal.returns-in_default-clause-again
-returns-in_default-clause-again c = λ t small lawful parts is.
+returns-in_default-clause-again c = λ t lawful parts is.
     absurd (omega (arith, c.in_default.ensures.other, (has_fields t c.args.bytes.now lawful.range_fits is).flags_there, flags_small t.placeholder t.empty))
 
 pub returns-in-Err-clause-again : goal.returns-in-Err-clause-again
-returns-in-Err-clause-again c = λ t small lawful parts is.
-    let behind = columns_behind t c.args.bytes.now small lawful is in
+returns-in-Err-clause-again c = λ t lawful parts is.
+    let behind = columns_behind t c.args.bytes.now lawful is in
     let same : parts_of t.columns ≡ parts_of c.deref_mut.result.now = parts ∙ ap (λ (u : Tuple). parts_of u.columns) (sym c.self.view_is) ∙ sym c.self.invariant.same_index ∙ ap parts_of (sym c.deref_mut.ensures.value) in
-    absurd (false≢true (c.in-Err.ensures.again t.columns behind.small lawful.columns same behind.there).0)
+    absurd (false≢true (c.in-Err.ensures.again t.columns lawful.columns same behind.there).0)
 
 pub returns-then-have_nothing-empty-clause-again :
     goal.returns-then-have_nothing-empty-clause-again
-returns-then-have_nothing-empty-clause-again c = λ t small lawful parts is.
-    let behind = columns_behind t c.args.bytes.now small lawful is in
+returns-then-have_nothing-empty-clause-again c = λ t lawful parts is.
+    let behind = columns_behind t c.args.bytes.now lawful is in
     let same : parts_of t.columns ≡ parts_of c.deref_mut.result.now = parts ∙ ap (λ (u : Tuple). parts_of u.columns) (sym c.self.view_is) ∙ sym c.self.invariant.same_index ∙ ap parts_of (sym c.deref_mut.ensures.value) in
     let new = c.read_each.new.columns in
-    let columns : new ≡ t.columns = (c.read_each.ensures.again t.columns behind.small lawful.columns same behind.there).1 in
+    let columns : new ≡ t.columns = (c.read_each.ensures.again t.columns lawful.columns same behind.there).1 in
     let long : length new ≡ c.self.inside.spare.len = length-parts new c.deref_mut.result.now c.read_each.ensures.same_index ∙ ap length c.deref_mut.ensures.value ∙ sym c.self.inside.spare.ok.0 in
     let read : c.deref.result.now ≡ new = c.deref.ensures.value ∙ with_items_is c.self.inside.spare new long in
     let empty : c.have_nothing.result ≡ t.empty = c.have_nothing.ensures ∙ ap (list_all has_nothing) (read ∙ columns) ∙ sym lawful.empty_flag in
@@ -90,10 +88,10 @@ returns-clause-found c =
     fields_front bytes range _ c.if-bytes-lt-HEADER.false flags c.get_u32-self-inside.ensures.again ∙ ap (λ (rest : List ℕ). bytes_high_first 4 range ++ flags_of c.in-Some.placeholder (list_all has_nothing c.swap.new.x.items) ∷ rest) back
 
 pub returns-clause-again : goal.returns-clause-again
-returns-clause-again c = λ t small lawful parts is.
-    let behind = columns_behind t c.args.bytes.now small lawful is in
+returns-clause-again c = λ t lawful parts is.
+    let behind = columns_behind t c.args.bytes.now lawful is in
     let same : parts_of t.columns ≡ parts_of c.deref_mut.result.now = parts ∙ ap (λ (u : Tuple). parts_of u.columns) (sym c.self.view_is) ∙ sym c.self.invariant.same_index ∙ ap parts_of (sym c.deref_mut.ensures.value) in
-    let columns : c.swap.new.x.items ≡ t.columns = now_read c ∙ (c.read_each.ensures.again t.columns behind.small lawful.columns same behind.there).1 in
+    let columns : c.swap.new.x.items ≡ t.columns = now_read c ∙ (c.read_each.ensures.again t.columns lawful.columns same behind.there).1 in
     let flags = flags-injective c.in-Some.placeholder c.in-Some.empty t.placeholder t.empty (c.in-Some.ensures.found ∙ behind.fields.flags_there) in
     let range : c.get_u32-self-inside.result ≡ t.range = c.get_u32-self-inside.ensures.got ∙ behind.fields.range_there in
     let empty : list_all has_nothing c.swap.new.x.items ≡ t.empty = ap (list_all has_nothing) columns ∙ sym lawful.empty_flag in
