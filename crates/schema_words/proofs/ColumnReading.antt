@@ -1,25 +1,20 @@
 -- Columns are what is read as them.
-use Rattle.std.proofs.Common.{◌≡◌, ℕ, zero, suc, ◌≤◌, Bool, true, false, ◌&&◌, ◌==◌, List, [], ◌∷◌, ◌++◌, length, codes, Ok, refl, ap, ◌∙◌, append_assoc, arith}
-use Rattle.std.specs.List.{list_all}
-use Rattle.block_model.specs.Names.{is_name}
+use Rattle.std.proofs.Common.{◌≡◌, ℕ, Bool, false, ◌==◌, List, [], ◌∷◌, ◌++◌, codes, Ok, refl, ap, ◌∙◌, append_assoc, arith}
 use Rattle.block_model.specs.declared.value.Kind.{Kind}
 use Rattle.block_model.specs.declared.value.Kind.TheVariants as kinds
 use Rattle.block_model.specs.declared.schema.Column.{Column}
 use Rattle.text_reading.specs.Reading.{mapped, both, begins, choice, nothing, byte_at, word_at}
 use Rattle.text_reading.proofs.Lawful.{Lawful, both-lawful, mapped-lawful, choice-lawful, nothing-lawful, same-lawful, byte-lawful, word-lawful, weaker-lawful, both-read, mapped-read, choice-second}
-use Rattle.text_reading.proofs.DigitReading.{and_parts}
-use Rattle.schema_words.specs.DeclarationTexts.{kind_word, column_bytes, more_columns_bytes, columns_bytes, IsNamed, AreColumns}
-use Rattle.schema_words.specs.DeclarationReading.{name_at, number_kind_at, kind_at, column_at, more_columns_at, columns_at}
+use Rattle.schema_words.specs.DeclarationTexts.{kind_word, column_bytes, listed_bytes, IsNamed, IsColumn, AreListed}
+use Rattle.schema_words.specs.DeclarationReading.{name_at, number_kind_at, kind_at, column_at, columns_at}
 use Rattle.schema_words.proofs.NameReading.{one_letter, name-lawful, name-complete}
+use Rattle.schema_words.proofs.ListReading.{is_comma, listed-lawful, listed-complete}
 
-abbrev pub is_r : ℕ → Bool
+abbrev is_r : ℕ → Bool
 is_r c = c == 114
 
 abbrev is_t : ℕ → Bool
 is_t c = c == 116
-
-abbrev pub is_comma : ℕ → Bool
-is_comma c = c == 44
 
 abbrev of_ranges : Unit {0} → Kind
 of_ranges x = kinds.Span
@@ -89,13 +84,10 @@ kind-lawful =
     (λ a i. (tt, kind_bytes a.1))
     (both-lawful (word_at (codes "in")) (choice is_t number_kind_at (mapped of_networks (word_at (codes "et")))) (λ x. codes "in") behind_in (λ x. Unit {0}) IsAny kinds.Int tt (word-lawful (codes "in")) behind_in-lawful))
 
-abbrev pub IsColumn : Column → Type 0
-IsColumn c = IsNamed c.name
-
 abbrev named_column : List ℕ × (Unit {0} × Kind) → Column
 named_column x = record { name = x.0; kind = x.1.1 }
 
-pub column-lawful : Lawful column_at column_bytes IsColumn
+column-lawful : Lawful column_at column_bytes IsColumn
 unfolding column_at
 column-lawful =
     same-lawful column_at (mapped named_column (both name_at (both (byte_at 32) kind_at))) column_bytes IsColumn (λ bytes. refl)
@@ -108,46 +100,11 @@ column-lawful =
 abbrev pub some_column : Column
 some_column = record { name = 97 ∷ []; kind = kinds.Int }
 
-abbrev AreMore : ℕ → List Column → Type 0
-AreMore n cs = (list_all (λ c. is_name c.name) cs ≡ true) × (length cs ≤ n)
+pub is_some : AreListed IsColumn (some_column ∷ [])
+is_some = (one_letter, tt, omega arith)
 
-abbrev pub next_column : Unit {0} × (Column × List Column) → List Column
-next_column x = x.1.0 ∷ x.1.1
-
-abbrev pub first_column : Column × List Column → List Column
-first_column x = x.0 ∷ x.1
-
-pub is_some : AreColumns (some_column ∷ [])
-is_some = (one_letter, refl, omega arith)
-
-more-next : (n : ℕ) (a : Unit {0} × (Column × List Column)) → Unit {0} × (IsColumn a.1.0 × AreMore n a.1.1)
-    → AreMore (suc n) (next_column a) × (more_columns_bytes (next_column a) ≡ (44 ∷ []) ++ (column_bytes a.1.0 ++ more_columns_bytes a.1.1))
-more-next n a i =
-    let few : length a.1.1 ≤ n = i.1.1.1 in
-    ((ap (λ b. b && list_all (λ (c : Column). is_name c.name) a.1.1) i.1.0 ∙ i.1.1.0, omega arith), append_assoc (codes ",") (column_bytes a.1.0) (more_columns_bytes a.1.1))
-
-pub more_columns-lawful : (n : ℕ) → Lawful (more_columns_at n) more_columns_bytes (AreMore n)
-unfolding more_columns_at
-more_columns-lawful zero =
-    same-lawful (more_columns_at zero) (nothing []) more_columns_bytes (AreMore zero) (λ bytes. refl)
-    (nothing-lawful [] more_columns_bytes (AreMore zero) (refl, omega arith) refl)
-more_columns-lawful (suc n) =
-    same-lawful (more_columns_at (suc n)) (choice is_comma (mapped next_column (both (byte_at 44) (both column_at (more_columns_at n)))) (nothing [])) more_columns_bytes (AreMore (suc n)) (λ bytes. refl)
-    (choice-lawful is_comma (mapped next_column (both (byte_at 44) (both column_at (more_columns_at n)))) (nothing []) more_columns_bytes (AreMore (suc n))
-    (mapped-lawful next_column (both (byte_at 44) (both column_at (more_columns_at n))) (λ x. (44 ∷ []) ++ (column_bytes x.1.0 ++ more_columns_bytes x.1.1)) more_columns_bytes
-    (λ x. Unit {0} × (IsColumn x.1.0 × AreMore n x.1.1)) (AreMore (suc n)) (more-next n)
-    (both-lawful (byte_at 44) (both column_at (more_columns_at n)) (λ x. 44 ∷ []) (λ x. column_bytes x.0 ++ more_columns_bytes x.1) (λ x. Unit {0}) (λ x. IsColumn x.0 × AreMore n x.1)
-    (some_column, []) (one_letter, (refl, omega arith)) (byte-lawful 44)
-    (both-lawful column_at (more_columns_at n) column_bytes more_columns_bytes IsColumn (AreMore n) [] (refl, omega arith) column-lawful (more_columns-lawful n))))
-    (nothing-lawful [] more_columns_bytes (AreMore (suc n)) (refl, omega arith) refl))
-
-pub columns-lawful : Lawful columns_at columns_bytes AreColumns
-unfolding columns_at
-columns-lawful =
-    same-lawful columns_at (mapped first_column (both column_at (more_columns_at 255))) columns_bytes AreColumns (λ bytes. refl)
-    (mapped-lawful first_column (both column_at (more_columns_at 255)) (λ x. column_bytes x.0 ++ more_columns_bytes x.1) columns_bytes (λ x. IsColumn x.0 × AreMore 255 x.1) AreColumns
-    (λ a i. ((i.0, i.1.0, i.1.1), refl))
-    (both-lawful column_at (more_columns_at 255) column_bytes more_columns_bytes IsColumn (AreMore 255) [] (refl, omega arith) column-lawful (more_columns-lawful 255)))
+pub columns-lawful : Lawful columns_at (listed_bytes column_bytes) (AreListed IsColumn)
+columns-lawful = listed-lawful column_at column_bytes IsColumn some_column one_letter column-lawful
 
 number_kind-int : (rest : List ℕ) → begins is_r rest ≡ false → number_kind_at (codes "t8" ++ rest) ≡ Ok (kinds.Int, rest)
 unfolding number_kind_at
@@ -180,36 +137,10 @@ column-complete c rest i e =
     (name-complete c.name (32 ∷ (kind_word c.kind ++ rest)) i refl)
     (both-read (byte_at 32) kind_at (32 ∷ (kind_word c.kind ++ rest)) (tt, kind_word c.kind ++ rest) (c.kind, rest) refl (kind-complete c.kind rest e)))
 
--- no kind goes on where a comma or the end of the columns stands
-more_begins : (cs : List Column) (rest : List ℕ) → begins is_r rest ≡ false → begins is_r (more_columns_bytes cs ++ rest) ≡ false
-more_begins [] rest e = e
-more_begins (c ∷ cs) rest e = refl
-
-more-complete : (n : ℕ) (cs : List Column) (rest : List ℕ) → AreMore n cs → begins is_comma rest ≡ false → begins is_r rest ≡ false
-    → more_columns_at n (more_columns_bytes cs ++ rest) ≡ Ok (cs, rest)
-unfolding more_columns_at
-more-complete zero [] rest h e f = refl
-more-complete zero (c ∷ cs) rest h e f = absurd (let k : length (c ∷ cs) ≤ 0 = h.1 in omega arith)
-more-complete (suc n) [] rest h e f = choice-second is_comma (mapped next_column (both (byte_at 44) (both column_at (more_columns_at n)))) (nothing []) rest e
-more-complete (suc n) (c ∷ cs) rest h e f =
-    let p = and_parts (is_name c.name) (list_all (λ (c : Column). is_name c.name) cs) h.0 in
-    let few : length (c ∷ cs) ≤ suc n = h.1 in
-    let behind : List ℕ = column_bytes c ++ (more_columns_bytes cs ++ rest) in
-    let grouped : more_columns_bytes (c ∷ cs) ++ rest ≡ 44 ∷ behind = simp append_assoc in
-    ap (choice is_comma (mapped next_column (both (byte_at 44) (both column_at (more_columns_at n)))) (nothing [])) grouped
-    ∙ mapped-read next_column (both (byte_at 44) (both column_at (more_columns_at n))) (44 ∷ behind) ((tt, (c, cs)), rest)
-    (both-read (byte_at 44) (both column_at (more_columns_at n)) (44 ∷ behind) (tt, behind) ((c, cs), rest) refl
-    (both-read column_at (more_columns_at n) behind (c, more_columns_bytes cs ++ rest) (cs, rest)
-    (column-complete c (more_columns_bytes cs ++ rest) p.0 (more_begins cs rest f))
-    (more-complete n cs rest (p.1, omega arith) e f)))
+-- no kind goes on there
+abbrev pub EndsKind : List ℕ → Type 0
+EndsKind rest = begins is_r rest ≡ false
 
 -- columns behind which neither a comma nor more of a kind stands are read
-pub columns-complete : (cs : List Column) (rest : List ℕ) → AreColumns cs → begins is_comma rest ≡ false → begins is_r rest ≡ false → columns_at (columns_bytes cs ++ rest) ≡ Ok (cs, rest)
-unfolding columns_at
-columns-complete [] rest h e f = absurd h
-columns-complete (c ∷ cs) rest h e f =
-    ap (mapped first_column (both column_at (more_columns_at 255))) (append_assoc (column_bytes c) (more_columns_bytes cs) rest)
-    ∙ mapped-read first_column (both column_at (more_columns_at 255)) (column_bytes c ++ (more_columns_bytes cs ++ rest)) ((c, cs), rest)
-    (both-read column_at (more_columns_at 255) (column_bytes c ++ (more_columns_bytes cs ++ rest)) (c, more_columns_bytes cs ++ rest) (cs, rest)
-    (column-complete c (more_columns_bytes cs ++ rest) h.0 (more_begins cs rest f))
-    (more-complete 255 cs rest (h.1, h.2) e f))
+pub columns-complete : (cs : List Column) (rest : List ℕ) → AreListed IsColumn cs → begins is_comma rest ≡ false → EndsKind rest → columns_at (listed_bytes column_bytes cs ++ rest) ≡ Ok (cs, rest)
+columns-complete cs rest h e f = listed-complete column_at column_bytes IsColumn EndsKind (λ bytes. refl) column-complete cs rest h e f

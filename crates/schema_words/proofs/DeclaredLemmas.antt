@@ -13,7 +13,7 @@ use Rattle.block_model.specs.declared.schema.Index.{Index}
 use Rattle.block_model.specs.declared.schema.Schema.{Schema}
 use Rattle.text_reading.proofs.Whole.{one-text}
 use Rattle.schema_words.specs.DeclarationTexts.{TableText, DeclarationText, OfTable, OfIndex, IndexText, bytes_of, IsDeclaration}
-use Rattle.schema_words.specs.DeclaredSchema.{table_of, table_named, column_named, on_table, on_column, index_among, with_table, with_index, declared_behind, Declares, DeclareBehind, nothing_declared, Denotes}
+use Rattle.schema_words.specs.DeclaredSchema.{table_of, table_named, on_table, on_parts, parts_among, index_among, with_table, with_index, declared_behind, Declares, DeclareBehind, nothing_declared, Denotes}
 use Rattle.schema_words.specs.FirstFault.{IsFaulty, IsFirstFault, Answers}
 use Rattle.schema_words.specs.declared.declarations.DeclFault.{DeclFault}
 use Rattle.schema_words.specs.declared.declarations.DeclFault.TheVariants as faults
@@ -115,11 +115,11 @@ slice_get-seam (x ∷ xs) ys t = slice_get-seam xs ys t
 
 -- the first table of a name behind tables that haven't it
 pub first-table : (i : IndexText) (xs ys : List Table) (t : Table) → table_named i.table xs ≡ None → bytes_eq i.table t.name ≡ true
-    → index_among (xs ++ t ∷ ys) i ≡ on_column i (length xs) (column_named i.column t.columns)
+    → index_among (xs ++ t ∷ ys) i ≡ on_parts i (length xs) (parts_among t.columns i)
 first-table i xs ys t none here =
     let at : table_named i.table (xs ++ t ∷ ys) ≡ Some (length xs) =
     sought_behind i.table 0 xs (t ∷ ys) none ∙ ap (λ b. cond b (Some (0 + length xs)) (position_from (is_table i.table) (0 + length xs + 1) ys)) here ∙ ap Some (let k : 0 + length xs ≡ length xs = omega arith in k) in
-    ap (on_table i (xs ++ t ∷ ys)) at ∙ ap (λ o. on_column i (length xs) (column_named i.column (columns_in o))) (slice_get-seam xs ys t)
+    ap (on_table i (xs ++ t ∷ ys)) at ∙ ap (λ o. on_parts i (length xs) (parts_among (columns_in o) i)) (slice_get-seam xs ys t)
 
 -- the tables of before stand in front
 abbrev Grows : Schema → Schema → Type 0

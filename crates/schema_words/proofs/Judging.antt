@@ -1,9 +1,10 @@
 -- Words that are judged without memory: an index against the tables of the words before it.
-use Rattle.std.proofs.Common.{◌≡◌, ℕ, ◌+◌, ◌<◌, ◌≤◌, Bool, true, false, cond, List, [], ◌∷◌, ◌++◌, length, take, get_or, min, Ok, Err, Option, None, Some, refl, sym, ap, subst, ◌∙◌, arith, length-take}
+use Rattle.std.proofs.Common.{◌≡◌, ℕ, ◌+◌, ◌<◌, ◌≤◌, true, false, cond, List, [], ◌∷◌, ◌++◌, length, take, get_or, min, Result, Ok, Err, None, Some, refl, sym, ap, subst, ◌∙◌, arith, length-take}
+use Rattle.std.specs.Prelude.{MatchResult}
 use Rattle.std.specs.Str.{bytes_eq}
 use Rattle.std.proofs.lemmas.List.{take_more, take-take, get_or-take}
-use Rattle.block_model.specs.declared.schema.Column.{Column}
 use Rattle.block_model.specs.declared.schema.Table.{Table}
+use Rattle.block_model.specs.declared.schema.Part.{Part}
 use Rattle.block_model.specs.declared.schema.Index.{Index}
 use Rattle.block_model.specs.declared.schema.Schema.{Schema}
 use Rattle.text_reading.proofs.Whole.{one-text}
@@ -11,31 +12,47 @@ use Rattle.schema_words.specs.declared.table.TableWord.{TableWord}
 use Rattle.schema_words.specs.declared.index.IndexWord.{IndexWord}
 use Rattle.schema_words.specs.declared.declaration.Declaration.{Declaration}
 use Rattle.schema_words.specs.declared.declaration.Declaration.TheVariants as code
-use Rattle.schema_words.specs.DeclarationTexts.{TableText, IndexText, before_table, before_column, DeclarationText, OfTable, OfIndex, bytes_of, IsDeclaration}
-use Rattle.schema_words.specs.DeclaredSchema.{table_of, table_named, column_named, index_on, on_column, on_table, index_among, with_table, declared_behind, Declares, DeclareBehind, nothing_declared, Denotes}
+use Rattle.schema_words.specs.DeclarationTexts.{TableText, table_bytes, IndexText, before_table, DeclarationText, OfTable, OfIndex, bytes_of, IsTable, IsDeclaration}
+use Rattle.schema_words.specs.DeclaredSchema.{table_of, table_named, index_on, parts_among, on_parts, on_table, index_among, with_table, declared_behind, Declares, DeclareBehind, nothing_declared, Denotes}
 use Rattle.schema_words.specs.DeclarationReading.{declaration_at}
-use Rattle.schema_words.specs.Words.{index_text, has_column, Reads, column_sought}
+use Rattle.schema_words.specs.Words.{index_text, has_column, Reads, declares_table}
 use Rattle.schema_words.proofs.WordReading.{declaration-lawful, declaration-complete}
 use Rattle.schema_words.proofs.WordLemmas.{table-facts, IndexFacts, index-facts, declares-index, declares-fault}
-use Rattle.schema_words.proofs.DeclaredLemmas.{Split, split, sought_behind, column-found, column-missing, first-table, with_index-grows, split-table}
+use Rattle.schema_words.proofs.DeclaredLemmas.{Split, split, sought_behind, first-table, with_index-grows, split-table}
 
 -- a declaration is written in one way
 same_text : (a b : DeclarationText) (bytes : List ℕ) → IsDeclaration a → IsDeclaration b → bytes ≡ bytes_of a → bytes ≡ bytes_of b → a ≡ b
 same_text a b bytes i j e k = one-text declaration_at bytes_of IsDeclaration declaration-lawful declaration-complete a b i j (sym e ∙ k)
 
--- what is sought of a table that was read
-pub sought-table : (name wanted bytes : List ℕ) (word : Declaration) (table : TableWord) → word ≡ code.Table table → Reads None wanted bytes word
-    → (d : DeclarationText) → IsDeclaration d → bytes ≡ bytes_of d → cond (bytes_eq name table.name.now) (Some table.columns.found) None ≡ column_sought name wanted d
-sought-table name wanted bytes word table k r d i e =
-    let f = table-facts None wanted bytes table (subst (λ (x : Declaration). Reads None wanted bytes x) k r) in
-    let same : OfTable f.text ≡ d = same_text (OfTable f.text) d bytes f.of_grammar i f.bytes_are e in
-    (λ j. cond (bytes_eq name (f.parts.name j)) (Some (f.parts.columns.found j)) None) ∙ ap (column_sought name wanted) same
+abbrev table_in : TableText → DeclarationText → TableText
+table_in other (OfTable t) = t
+table_in other (OfIndex i) = other
 
-pub sought-index : (name wanted bytes : List ℕ) (word : Declaration) (index : IndexWord) → word ≡ code.Index index → Reads None wanted bytes word
-    → (d : DeclarationText) → IsDeclaration d → bytes ≡ bytes_of d → None ≡ column_sought name wanted d
-sought-index name wanted bytes word index k r d i e =
-    let f = index-facts None wanted bytes index (subst (λ (x : Declaration). Reads None wanted bytes x) k r) in
-    ap (column_sought name wanted) (same_text (OfIndex (index_text index)) d bytes f.of_grammar i f.bytes_are e)
+module _ (kept : List ℕ) (bytes : List ℕ) (word : Declaration) (r : Reads None kept bytes word) where
+  -- a table that was read is of the name that it has
+  pub named-table : (name : List ℕ) (table : TableWord) → word ≡ code.Table table → (d : DeclarationText) → IsDeclaration d → bytes ≡ bytes_of d → bytes_eq name table.name.now ≡ declares_table name d
+  named-table name table k d i e =
+      let f = table-facts None kept bytes table (subst (λ (x : Declaration). Reads None kept bytes x) k r) in
+      ap (bytes_eq name) f.parts.name ∙ ap (declares_table name) (same_text (OfTable f.text) d bytes f.of_grammar i f.bytes_are e)
+
+  -- an index is no table
+  pub named-index : (name : List ℕ) (index : IndexWord) → word ≡ code.Index index → (d : DeclarationText) → IsDeclaration d → bytes ≡ bytes_of d → false ≡ declares_table name d
+  named-index name index k d i e =
+      let f = index-facts None kept bytes index (subst (λ (x : Declaration). Reads None kept bytes x) k r) in
+      ap (declares_table name) (same_text (OfIndex (index_text index)) d bytes f.is.of_grammar i f.bytes_are e)
+
+  -- whether a table that was read has the column that was wanted
+  pub sought-table : (table : TableWord) → word ≡ code.Table table → (t : TableText) → IsTable t → bytes ≡ table_bytes t → table.columns.found ≡ has_column kept t.columns
+  sought-table table k t i e =
+      let f = table-facts None kept bytes table (subst (λ (x : Declaration). Reads None kept bytes x) k r) in
+      let same : f.text ≡ t = ap (table_in t) (same_text (OfTable f.text) (OfTable t) bytes f.of_grammar i f.bytes_are e) in
+      f.parts.columns.found ∙ ap (λ (x : TableText). has_column kept x.columns) same
+
+  pub sought-index : (index : IndexWord) → word ≡ code.Index index → (t : TableText) → IsTable t → bytes ≡ table_bytes t → ⊥
+  sought-index index k t i e =
+      let f = index-facts None kept bytes index (subst (λ (x : Declaration). Reads None kept bytes x) k r) in
+      let same : OfIndex (index_text index) ≡ OfTable t = same_text (OfIndex (index_text index)) (OfTable t) bytes f.is.of_grammar i f.bytes_are e in
+      cc
 
 -- the last of some words, and those before it
 record Last (s : Schema) (words : List (List ℕ)) (w : List ℕ) (t : Schema) : Type 0 where
@@ -54,87 +71,65 @@ LacksTable name s = table_named name s.tables ≡ None
 abbrev pub NoTable : List (List ℕ) → ℕ → List ℕ → Type 0
 NoTable words n name = (m : Schema) → Denotes (take n words) m → LacksTable name m
 
-lacks_step : (name : List ℕ) (s : Schema) (t : Table) (b : Bool) → bytes_eq name t.name ≡ b → LacksTable name s → cond b (Some true) None ≡ None → LacksTable name (with_table s t)
-lacks_step name s t true e h k = cc
-lacks_step name s t false e h k =
-    sought_behind name 0 s.tables (t ∷ []) h ∙ ap (λ b. cond b (Some (0 + length s.tables)) None) e
+lacks_step : (name : List ℕ) (s : Schema) (t : Table) → LacksTable name s → bytes_eq name t.name ≡ false → LacksTable name (with_table s t)
+lacks_step name s t h e = sought_behind name 0 s.tables (t ∷ []) h ∙ ap (λ b. cond b (Some (0 + length s.tables)) None) e
 
--- whether a column was sought in vain
-abbrev vain : Option Bool → Option Bool
-vain (Some b) = Some true
-vain None = None
-
-vain_cond : (b c : Bool) → vain (cond b (Some c) None) ≡ cond b (Some true) None
-vain_cond true c = refl
-vain_cond false c = refl
-
-lacks_more : (name wanted : List ℕ) (s t : Schema) (d : DeclarationText) → declared_behind s d ≡ Ok t → LacksTable name s → None ≡ column_sought name wanted d → LacksTable name t
-lacks_more name wanted s t (OfTable x) e h k =
-    let same : with_table s (table_of x) ≡ t = cc in
-    let none : cond (bytes_eq name x.name) (Some true) None ≡ None = sym (vain_cond (bytes_eq name x.name) (has_column wanted x.columns)) ∙ ap vain (sym k) in
-    subst (LacksTable name) same (lacks_step name s (table_of x) (bytes_eq name x.name) refl h none)
-lacks_more name wanted s t (OfIndex i) e h k = ap (table_named name) (sym (with_index-grows s t (index_among s.tables i) e)) ∙ h
+lacks_more : (name : List ℕ) (s t : Schema) (d : DeclarationText) → declared_behind s d ≡ Ok t → LacksTable name s → declares_table name d ≡ false → LacksTable name t
+lacks_more name s t (OfTable x) e h k = let same : with_table s (table_of x) ≡ t = cc in subst (LacksTable name) same (lacks_step name s (table_of x) h k)
+lacks_more name s t (OfIndex i) e h k = ap (table_named name) (sym (with_index-grows s t (index_among s.tables i) e)) ∙ h
 
 -- one word more that isn't the table
-pub no_table-more : (words : List (List ℕ)) (n : ℕ) (name wanted : List ℕ) → n < length words → NoTable words n name
-    → ((d : DeclarationText) → IsDeclaration d → get_or words n [] ≡ bytes_of d → None ≡ column_sought name wanted d) → NoTable words (n + 1) name
-no_table-more words n name wanted below none here m h =
+pub no_table-more : (words : List (List ℕ)) (n : ℕ) (name : List ℕ) → n < length words → NoTable words n name
+    → ((d : DeclarationText) → IsDeclaration d → get_or words n [] ≡ bytes_of d → declares_table name d ≡ false) → NoTable words (n + 1) name
+no_table-more words n name below none here m h =
     let l = last (take n words) nothing_declared m (get_or words n []) (subst (λ (x : List (List ℕ)). Denotes x m) (take_more words n [] below) h) in
-    lacks_more name wanted l.before m l.here.text l.here.makes (none l.before l.front) (here l.here.text l.here.of_grammar l.here.bytes_are)
+    lacks_more name l.before m l.here.text l.here.makes (none l.before l.front) (here l.here.text l.here.of_grammar l.here.bytes_are)
 
--- the word that is the table, and what it says of the column
-record Found (s : Schema) (i : IndexText) (b : Bool) : Type 0 where
+-- the word that is the index's table
+record IsFound (s : Schema) (i : IndexText) (bytes : List ℕ) : Type 0 where
   number : ℕ
-  columns : List Column
-  has : has_column i.column columns ≡ b
-  among : index_among s.tables i ≡ on_column i number (column_named i.column columns)
+  table : TableText
+  of_grammar : IsTable table
+  bytes_are : bytes ≡ table_bytes table
+  among : index_among s.tables i ≡ on_parts i number (parts_among table.columns i)
 
-found_table : (s : Schema) (words : List (List ℕ)) (n : ℕ) (i : IndexText) (b : Bool) (r : Split nothing_declared words n s) (x : TableText) → r.here.text ≡ OfTable x
-    → LacksTable i.table r.before → (t : Bool) → bytes_eq i.table x.name ≡ t → Some b ≡ cond t (Some (has_column i.column x.columns)) None → Found s i b
-found_table s words n i b r x e none false h k = cc
-found_table s words n i b r x e none true h k =
+found_step : (s : Schema) (words : List (List ℕ)) (n : ℕ) (i : IndexText) (r : Split nothing_declared words n s) (d : DeclarationText) → r.here.text ≡ d → IsDeclaration d → get_or words n [] ≡ bytes_of d
+    → LacksTable i.table r.before → declares_table i.table d ≡ true → IsFound s i (get_or words n [])
+found_step s words n i r (OfIndex x) e g b none k = cc
+found_step s words n i r (OfTable x) e g b none k =
     let more = split-table nothing_declared s words n r x e in
-    let same : b ≡ has_column i.column x.columns = cc in
     record {
       number = length r.before.tables;
-      columns = x.columns;
-      has = sym same;
-      among = ap (λ (l : List Table). index_among l i) more.1 ∙ first-table i r.before.tables more.0 (table_of x) none h;
+      table = x;
+      of_grammar = g;
+      bytes_are = b;
+      among = ap (λ (l : List Table). index_among l i) more.1 ∙ first-table i r.before.tables more.0 (table_of x) none k;
     }
 
-found_step : (s : Schema) (words : List (List ℕ)) (n : ℕ) (i : IndexText) (b : Bool) (r : Split nothing_declared words n s) (d : DeclarationText) → r.here.text ≡ d
-    → LacksTable i.table r.before → Some b ≡ column_sought i.table i.column d → Found s i b
-found_step s words n i b r (OfIndex x) e none k = cc
-found_step s words n i b r (OfTable x) e none k = found_table s words n i b r x e none (bytes_eq i.table x.name) refl k
+module _ (words : List (List ℕ)) (word n : ℕ) (i : IndexText) (below : n < word) (within : word ≤ length words) (none : NoTable words n i.table)
+    (here : (d : DeclarationText) → IsDeclaration d → get_or words n [] ≡ bytes_of d → declares_table i.table d ≡ true) (s : Schema) (h : Denotes (take word words) s) where
+  found : IsFound s i (get_or words n [])
+  found =
+      let long : length (take word words) ≡ word = length-take word words ∙ (let k : min word (length words) ≡ word = omega arith in k) in
+      let r = split n (take word words) nothing_declared s (subst (λ m. n < m) (sym long) below) h in
+      let lacks = none r.before (subst (λ (l : List (List ℕ)). Denotes l r.before) (take-take n word words (omega arith)) r.front) in
+      let same : get_or (take word words) n [] ≡ get_or words n [] = get_or-take word words n [] below in
+      let bytes : get_or words n [] ≡ bytes_of r.here.text = sym same ∙ r.here.bytes_are in
+      subst (IsFound s i) same (found_step s (take word words) n i r r.here.text refl r.here.of_grammar r.here.bytes_are lacks (here r.here.text r.here.of_grammar bytes))
 
-found : (words : List (List ℕ)) (word n : ℕ) (i : IndexText) (b : Bool) → n < word → word ≤ length words → NoTable words n i.table
-    → ((d : DeclarationText) → IsDeclaration d → get_or words n [] ≡ bytes_of d → Some b ≡ column_sought i.table i.column d)
-    → (s : Schema) → Denotes (take word words) s → Found s i b
-found words word n i b below within none here s h =
-    let long : length (take word words) ≡ word = length-take word words ∙ (let k : min word (length words) ≡ word = omega arith in k) in
-    let r = split n (take word words) nothing_declared s (subst (λ m. n < m) (sym long) below) h in
-    let lacks = none r.before (subst (λ (l : List (List ℕ)). Denotes l r.before) (take-take n word words (omega arith)) r.front) in
-    let bytes : get_or words n [] ≡ bytes_of r.here.text = sym (get_or-take word words n [] below) ∙ r.here.bytes_are in
-    found_step s (take word words) n i b r r.here.text refl lacks (here r.here.text r.here.of_grammar bytes)
+  -- the index is what its indexed columns are among the columns of that table
+  pub judged-table : {U : Type 0} (o : Result U ℕ)
+      → ((t : TableText) → IsTable t → get_or words n [] ≡ table_bytes t → MatchResult o (λ u. (parts : List Part) × (parts_among t.columns i ≡ Ok parts)) (λ at. parts_among t.columns i ≡ Err at))
+      → MatchResult o (λ u. (added : Index) × (index_among s.tables i ≡ Ok added)) (λ at. index_among s.tables i ≡ Err at)
+  judged-table (Ok u) has =
+      let f = found in
+      let k = has f.table f.of_grammar f.bytes_are in
+      (index_on i f.number k.0, f.among ∙ ap (on_parts i f.number) k.1)
+  judged-table (Err at) has =
+      let f = found in
+      f.among ∙ ap (on_parts i f.number) (has f.table f.of_grammar f.bytes_are)
 
--- an index whose table has its column
-pub judged-found : (words : List (List ℕ)) (word n : ℕ) (i : IndexText) → n < word → word ≤ length words → NoTable words n i.table
-    → ((d : DeclarationText) → IsDeclaration d → get_or words n [] ≡ bytes_of d → Some true ≡ column_sought i.table i.column d)
-    → (s : Schema) → Denotes (take word words) s → (added : Index) × (index_among s.tables i ≡ Ok added)
-judged-found words word n i below within none here s h =
-    let f = found words word n i true below within none here s h in
-    let k = column-found i.column 0 f.columns f.has in
-    (index_on i f.number k.0, f.among ∙ ap (on_column i f.number) k.1)
-
--- one whose table lacks it
-pub judged-lacking : (words : List (List ℕ)) (word n : ℕ) (i : IndexText) → n < word → word ≤ length words → NoTable words n i.table
-    → ((d : DeclarationText) → IsDeclaration d → get_or words n [] ≡ bytes_of d → Some false ≡ column_sought i.table i.column d)
-    → (s : Schema) → Denotes (take word words) s → index_among s.tables i ≡ Err (length (before_column i))
-judged-lacking words word n i below within none here s h =
-    let f = found words word n i false below within none here s h in
-    f.among ∙ ap (on_column i f.number) (column-missing i.column 0 f.columns f.has)
-
--- and one whose table isn't declared
+-- where its table isn't declared, its name is at fault
 pub judged-undeclared : (words : List (List ℕ)) (word : ℕ) (i : IndexText) → NoTable words word i.table
     → (s : Schema) → Denotes (take word words) s → index_among s.tables i ≡ Err (length (before_table i))
 judged-undeclared words word i none s h = ap (on_table i s.tables) (none s h)

@@ -1,6 +1,12 @@
+pub mod FrontReading
 pub mod NameReading
+pub mod SettingReading
+pub mod ListReading
+pub mod ListLoop
 pub mod ColumnReading
 pub mod ColumnsLoop
+pub mod PartReading
+pub mod PartsLoop
 pub mod WordReading
 pub mod WordLemmas
 pub mod DeclaredLemmas

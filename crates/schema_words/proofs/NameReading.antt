@@ -3,12 +3,13 @@ use Rattle.std.proofs.Common.{◌≡◌, ℕ, zero, suc, ◌≤◌, min, Bool, t
 use Rattle.std.specs.Prelude.{nat_le}
 use Rattle.std.specs.List.{list_all, prefix_len}
 use Rattle.std.proofs.lemmas.Bool.{le-leb, leb-true}
-use Rattle.block_model.specs.Names.{is_lower, is_more, is_digit, is_name}
+use Rattle.block_model.specs.Names.{is_lower, is_more, is_digit}
 use Rattle.text_reading.specs.Reading.{begins}
 use Rattle.text_reading.proofs.Lawful.{Obeys, Lawful}
 use Rattle.text_reading.proofs.DigitReading.{and_parts}
 use Rattle.schema_words.specs.DeclarationTexts.{IsNamed}
 use Rattle.schema_words.specs.DeclarationReading.{split_name, name_at}
+use Rattle.schema_words.proofs.FrontReading.{read-front}
 
 record Splits (n : ℕ) (bytes : List ℕ) (s : List ℕ × List ℕ) : Type 0 where
   whole : bytes ≡ s.0 ++ s.1
@@ -143,16 +144,6 @@ unfolding name_at
 name_at-none [] b = refl
 name_at-none (c ∷ cs) b = ap (λ b. cond b (as_name c cs) (Err (c ∷ cs))) b
 
-abbrev refused : List ℕ → Names
-refused rest = Err rest
-
-named_step : (bytes : List ℕ) (o : Names) → Obeys name_at (λ name. name) IsNamed bytes o → (name rest : List ℕ) → name_at bytes ≡ Ok (name, rest) → IsNamed name
-named_step bytes (Err r) h name rest e = let k : refused r ≡ Ok (name, rest) = sym h.is ∙ e in cc
-named_step bytes (Ok p) h name rest e =
-    let k : Ok p ≡ Ok (name, rest) = sym h.is ∙ e in
-    let same : p ≡ (name, rest) = cc in
-    ap (λ (x : List ℕ × List ℕ). is_name x.0) (sym same) ∙ h.judged.0
-
 -- what is read is a name
 pub read-is_named : (bytes name rest : List ℕ) → name_at bytes ≡ Ok (name, rest) → IsNamed name
-read-is_named bytes name rest e = let h = name-lawful bytes in named_step bytes h.0 h.1 name rest e
+read-is_named bytes name rest e = (read-front name_at (λ name. name) IsNamed name-lawful bytes name rest e).is

@@ -12,10 +12,10 @@ use Rattle.schema_words.specs.declared.table.TableWord.{TableWord}
 use Rattle.schema_words.specs.declared.index.IndexWord.{IndexWord}
 use Rattle.schema_words.specs.declared.declaration.Declaration.{Declaration}
 use Rattle.schema_words.specs.declared.declaration.Declaration.TheVariants as code
-use Rattle.schema_words.specs.DeclarationTexts.{TableText, table_bytes, index_bytes, DeclarationText, OfTable, OfIndex, bytes_of, AreColumns, IsTable, IsIndex, IsDeclaration}
+use Rattle.schema_words.specs.DeclarationTexts.{TableText, table_bytes, index_bytes, DeclarationText, OfTable, OfIndex, bytes_of, IsColumn, AreListed, IsTable, IsIndex, IsDeclaration}
 use Rattle.schema_words.specs.DeclaredSchema.{number_said, most_rows, table_of, index_among, with_index, Declares}
 use Rattle.schema_words.specs.DeclarationReading.{declaration_at}
-use Rattle.schema_words.specs.Words.{said, KeepsMore, IsTableRead, table_with, index_text, IsRead, Reads}
+use Rattle.schema_words.specs.Words.{said, KeepsMore, IsTableRead, table_with, index_text, IsIndexWord, IsRead, Reads}
 use Rattle.schema_words.proofs.WordReading.{declaration-lawful, declaration-complete}
 
 -- what is read is a declaration
@@ -46,22 +46,22 @@ pub table-facts : (kept : Option (List Column)) (wanted bytes : List ℕ) (word 
 table-facts kept wanted bytes word r = table_step kept wanted bytes word r.text r.of_grammar r.bytes_are r.parts
 
 -- the text of an index that was read
-pub record IndexFacts (bytes : List ℕ) (word : IndexWord) : Type 0 where
-  pub of_grammar : IsIndex (index_text word)
-  pub bytes_are : bytes ≡ index_bytes (index_text word)
+pub record IndexFacts (bytes : List ℕ) (index : IndexWord) : Type 0 where
+  pub is : IsIndexWord index
+  pub bytes_are : bytes ≡ index_bytes (index_text index)
 
 index_step : (kept : Option (List Column)) (wanted bytes : List ℕ) (word : IndexWord) (d : DeclarationText) → IsDeclaration d → bytes ≡ bytes_of d → IsRead kept wanted (code.Index word) d → IndexFacts bytes word
 index_step kept wanted bytes word (OfTable t) i e p = absurd p
-index_step kept wanted bytes word (OfIndex x) i e p = record { of_grammar = subst IsIndex (sym p) i; bytes_are = e ∙ ap index_bytes (sym p) }
+index_step kept wanted bytes word (OfIndex x) i e p = record { is = record { of_grammar = subst IsIndex (sym p.0) i; parts = p.1 }; bytes_are = e ∙ ap index_bytes (sym p.0) }
 
 pub index-facts : (kept : Option (List Column)) (wanted bytes : List ℕ) (word : IndexWord) → Reads kept wanted bytes (code.Index word) → IndexFacts bytes word
 index-facts kept wanted bytes word r = index_step kept wanted bytes word r.text r.of_grammar r.bytes_are r.parts
 
-few : (columns : List Column) → AreColumns columns → length columns ≤ 256
+few : (columns : List Column) → AreListed IsColumn columns → length columns ≤ 256
 few [] h = absurd h
 few (c ∷ cs) h = let k : length cs ≤ 255 = h.2 in omega arith
 
-few_step : (columns : List Column) (kept : Option (List Column)) → AreColumns columns → KeepsMore (Some []) columns kept → IfSome kept (λ cs. length cs ≤ 256)
+few_step : (columns : List Column) (kept : Option (List Column)) → AreListed IsColumn columns → KeepsMore (Some []) columns kept → IfSome kept (λ cs. length cs ≤ 256)
 few_step columns None h k = tt
 few_step columns (Some cs) h k = let e : cs ≡ columns = k in subst (λ (l : List Column). length l ≤ 256) (sym e) (few columns h)
 
@@ -109,7 +109,7 @@ module _ (s : Schema) (tables : List Table) (bytes : List ℕ) (word : IndexWord
       → Declares bytes s (Ok (record { tables = s.tables; indexes = new }))
   declares-index new h = record {
     text = OfIndex (index_text word);
-    of_grammar = f.of_grammar;
+    of_grammar = f.is.of_grammar;
     bytes_are = f.bytes_are;
     makes = ap (with_index s) (among ∙ h.1) ∙ ap (λ (l : List Index). Ok (record { tables = s.tables; indexes = l })) (sym h.2);
   }
@@ -118,7 +118,7 @@ module _ (s : Schema) (tables : List Table) (bytes : List ℕ) (word : IndexWord
   pub declares-fault : (at : ℕ) → index_among tables (index_text word) ≡ Err at → Declares bytes s (Err at)
   declares-fault at h = record {
     text = OfIndex (index_text word);
-    of_grammar = f.of_grammar;
+    of_grammar = f.is.of_grammar;
     bytes_are = f.bytes_are;
     makes = ap (with_index s) (among ∙ h);
   }

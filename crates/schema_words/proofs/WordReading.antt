@@ -1,51 +1,20 @@
 -- Declarations are what is read as them.
-use Rattle.std.proofs.Common.{◌≡◌, ℕ, Bool, true, false, ◌==◌, List, [], ◌∷◌, ◌++◌, codes, Option, None, Some, Ok, Err, refl, sym, ap, ◌∙◌, append_assoc, append-nil}
+use Rattle.std.proofs.Common.{◌≡◌, ℕ, Bool, true, false, ◌==◌, List, [], ◌∷◌, ◌++◌, codes, None, Ok, Err, refl, sym, ap, ◌∙◌, append_assoc, append-nil}
 use Rattle.block_model.specs.declared.schema.Column.{Column}
-use Rattle.text_reading.specs.Digits.{AreDigits}
-use Rattle.text_reading.specs.Reading.{mapped, both, begins, choice, nothing, byte_at, word_at, digits_at}
-use Rattle.text_reading.proofs.Lawful.{Lawful, both-lawful, mapped-lawful, choice-lawful, nothing-lawful, same-lawful, byte-lawful, word-lawful, word-complete, both-read, mapped-read, both-stops, both-stops_behind, mapped-stops, choice-first, choice-second}
-use Rattle.text_reading.proofs.DigitReading.{one_digit, digits-lawful, digits-complete}
-use Rattle.schema_words.specs.DeclarationTexts.{columns_bytes, setting_bytes, TableText, table_bytes, ClassText, MinMax, class_bytes, IndexText, index_bytes, DeclarationText, OfTable, OfIndex, bytes_of, IsNamed, AreColumns, IsSetting, IsTable, IsIndex, IsDeclaration}
-use Rattle.schema_words.specs.DeclarationReading.{name_at, columns_at, setting_at, ending_at, table_head_at, table_at, class_at, index_head_at, on_at, part_at, index_at, declaration_at}
+use Rattle.text_reading.specs.Reading.{mapped, both, begins, choice, byte_at, word_at}
+use Rattle.text_reading.proofs.Lawful.{Lawful, both-lawful, mapped-lawful, choice-lawful, same-lawful, byte-lawful, word-lawful, word-complete, both-read, mapped-read, both-stops, both-stops_behind, mapped-stops, choice-first, choice-second}
+use Rattle.schema_words.specs.DeclarationTexts.{column_bytes, listed_bytes, TableText, table_bytes, PartText, parts_bytes, IndexText, index_bytes, DeclarationText, OfTable, OfIndex, bytes_of, IsNamed, IsColumn, IsPart, AreListed, IsSetting, IsTable, IsIndex, IsDeclaration}
+use Rattle.schema_words.specs.DeclarationReading.{name_at, columns_at, ending_at, table_head_at, table_at, index_head_at, on_at, parts_at, index_at, declaration_at}
 use Rattle.schema_words.proofs.NameReading.{one_letter, name-lawful, name-complete}
+use Rattle.schema_words.proofs.SettingReading.{Setting, ending_bytes, ending-lawful, nothing_ends, ending-complete}
 use Rattle.schema_words.proofs.ColumnReading.{some_column, is_some, columns-lawful, columns-complete}
-
-abbrev is_space : ℕ → Bool
-is_space c = c == 32
-
-abbrev Setting : Type 0
-Setting = Option (List ℕ)
+use Rattle.schema_words.proofs.PartReading.{some_part, are_some, parts-lawful, parts-complete}
 
 abbrev rows_setting : List ℕ
 rows_setting = codes " rows_per_page "
 
 abbrev pages_setting : List ℕ
 pages_setting = codes " pages_per_range "
-
-abbrev said_digits : Unit {0} × List ℕ → Setting
-said_digits x = Some x.1
-
-setting-lawful : (setting : List ℕ) → Lawful (setting_at setting) (setting_bytes setting) IsSetting
-unfolding setting_at
-setting-lawful setting =
-    same-lawful (setting_at setting) (choice is_space (mapped said_digits (both (word_at setting) digits_at)) (nothing None)) (setting_bytes setting) IsSetting (λ bytes. refl)
-    (choice-lawful is_space (mapped said_digits (both (word_at setting) digits_at)) (nothing None) (setting_bytes setting) IsSetting
-    (mapped-lawful said_digits (both (word_at setting) digits_at) (λ x. setting ++ x.1) (setting_bytes setting) (λ x. Unit {0} × AreDigits x.1) IsSetting (λ a i. (i.1, refl))
-    (both-lawful (word_at setting) digits_at (λ x. setting) (λ ds. ds) (λ x. Unit {0}) AreDigits (48 ∷ []) one_digit (word-lawful setting) digits-lawful))
-    (nothing-lawful None (setting_bytes setting) IsSetting tt refl))
-
-abbrev setting_behind : Unit {0} × Setting → Setting
-setting_behind x = x.1
-
-abbrev ending_bytes : List ℕ → Setting → List ℕ
-ending_bytes setting said = codes ")" ++ setting_bytes setting said
-
-ending-lawful : (setting : List ℕ) → Lawful (ending_at setting) (ending_bytes setting) IsSetting
-unfolding ending_at
-ending-lawful setting =
-    same-lawful (ending_at setting) (mapped setting_behind (both (byte_at 41) (setting_at setting))) (ending_bytes setting) IsSetting (λ bytes. refl)
-    (mapped-lawful setting_behind (both (byte_at 41) (setting_at setting)) (λ x. (41 ∷ []) ++ setting_bytes setting x.1) (ending_bytes setting) (λ x. Unit {0} × IsSetting x.1) IsSetting (λ a i. (i.1, refl))
-    (both-lawful (byte_at 41) (setting_at setting) (λ x. 41 ∷ []) (setting_bytes setting) (λ x. Unit {0}) IsSetting None tt (byte-lawful 41) (setting-lawful setting)))
 
 abbrev name_between : Unit {0} × (List ℕ × Unit {0}) → List ℕ
 name_between x = x.1.0
@@ -68,30 +37,18 @@ abbrev whole_table : List ℕ × (List Column × Setting) → TableText
 whole_table x = record { name = x.0; columns = x.1.0; rows = x.1.1 }
 
 -- the bytes of a table, one part behind another
-table_grouped : (t : TableText) → table_bytes t ≡ table_head_bytes t.name ++ (columns_bytes t.columns ++ ending_bytes rows_setting t.rows)
+table_grouped : (t : TableText) → table_bytes t ≡ table_head_bytes t.name ++ (listed_bytes column_bytes t.columns ++ ending_bytes rows_setting t.rows)
 table_grouped t = simp append_assoc
 
 table-lawful : Lawful table_at table_bytes IsTable
 unfolding table_at
 table-lawful =
     same-lawful table_at (mapped whole_table (both table_head_at (both columns_at (ending_at rows_setting)))) table_bytes IsTable (λ bytes. refl)
-    (mapped-lawful whole_table (both table_head_at (both columns_at (ending_at rows_setting))) (λ x. table_head_bytes x.0 ++ (columns_bytes x.1.0 ++ ending_bytes rows_setting x.1.1)) table_bytes
-    (λ x. IsNamed x.0 × (AreColumns x.1.0 × IsSetting x.1.1)) IsTable (λ a i. (record { named = i.0; columns = i.1.0; rows = i.1.1 }, table_grouped (whole_table a)))
-    (both-lawful table_head_at (both columns_at (ending_at rows_setting)) table_head_bytes (λ x. columns_bytes x.0 ++ ending_bytes rows_setting x.1) IsNamed (λ x. AreColumns x.0 × IsSetting x.1)
+    (mapped-lawful whole_table (both table_head_at (both columns_at (ending_at rows_setting))) (λ x. table_head_bytes x.0 ++ (listed_bytes column_bytes x.1.0 ++ ending_bytes rows_setting x.1.1)) table_bytes
+    (λ x. IsNamed x.0 × (AreListed IsColumn x.1.0 × IsSetting x.1.1)) IsTable (λ a i. (record { named = i.0; columns = i.1.0; rows = i.1.1 }, table_grouped (whole_table a)))
+    (both-lawful table_head_at (both columns_at (ending_at rows_setting)) table_head_bytes (λ x. listed_bytes column_bytes x.0 ++ ending_bytes rows_setting x.1) IsNamed (λ x. AreListed IsColumn x.0 × IsSetting x.1)
     (some_column ∷ [], None) (is_some, tt) table_head-lawful
-    (both-lawful columns_at (ending_at rows_setting) columns_bytes (ending_bytes rows_setting) AreColumns IsSetting None tt columns-lawful (ending-lawful rows_setting))))
-
-abbrev minmax_class : Unit {0} → ClassText
-minmax_class x = MinMax
-
-abbrev IsClass : ClassText → Type 0
-IsClass c = Unit {0}
-
-class-lawful : Lawful class_at class_bytes IsClass
-unfolding class_at
-class-lawful =
-    same-lawful class_at (mapped minmax_class (word_at (codes "minmax"))) class_bytes IsClass (λ bytes. refl)
-    (mapped-lawful minmax_class (word_at (codes "minmax")) (λ x. codes "minmax") class_bytes (λ x. Unit {0}) IsClass (λ a i. (tt, refl)) (word-lawful (codes "minmax")))
+    (both-lawful columns_at (ending_at rows_setting) (listed_bytes column_bytes) (ending_bytes rows_setting) (AreListed IsColumn) IsSetting None tt columns-lawful (ending-lawful rows_setting))))
 
 abbrev name_behind : Unit {0} × List ℕ → List ℕ
 name_behind x = x.1
@@ -113,46 +70,26 @@ on-lawful : Lawful on_at on_bytes IsNamed
 unfolding on_at
 on-lawful = same-lawful on_at (mapped name_between (both (word_at (codes " on ")) (both name_at (byte_at 40)))) on_bytes IsNamed (λ bytes. refl) (between-lawful (codes " on "))
 
-abbrev Part : Type 0
-Part = List ℕ × ClassText
+abbrev whole_index : List ℕ × (List ℕ × (List PartText × Setting)) → IndexText
+whole_index x = record { name = x.0; table = x.1.0; parts = x.1.1.0; pages = x.1.1.1 }
 
-abbrev part_of : List ℕ × (Unit {0} × ClassText) → Part
-part_of x = (x.0, x.1.1)
-
-abbrev part_bytes : Part → List ℕ
-part_bytes p = p.0 ++ ((32 ∷ []) ++ class_bytes p.1)
-
-abbrev IsPart : Part → Type 0
-IsPart p = IsNamed p.0
-
-part-lawful : Lawful part_at part_bytes IsPart
-unfolding part_at
-part-lawful =
-    same-lawful part_at (mapped part_of (both name_at (both (byte_at 32) class_at))) part_bytes IsPart (λ bytes. refl)
-    (mapped-lawful part_of (both name_at (both (byte_at 32) class_at)) (λ x. x.0 ++ ((32 ∷ []) ++ class_bytes x.1.1)) part_bytes (λ x. IsNamed x.0 × (Unit {0} × IsClass x.1.1)) IsPart (λ a i. (i.0, refl))
-    (both-lawful name_at (both (byte_at 32) class_at) (λ name. name) (λ x. (32 ∷ []) ++ class_bytes x.1) IsNamed (λ x. Unit {0} × IsClass x.1) (tt, MinMax) (tt, tt) name-lawful
-    (both-lawful (byte_at 32) class_at (λ x. 32 ∷ []) class_bytes (λ x. Unit {0}) IsClass MinMax tt (byte-lawful 32) class-lawful)))
-
-abbrev whole_index : List ℕ × (List ℕ × (Part × Setting)) → IndexText
-whole_index x = record { name = x.0; table = x.1.0; column = x.1.1.0.0; class = x.1.1.0.1; pages = x.1.1.1 }
-
-abbrev behind_on_bytes : Part → Setting → List ℕ
-behind_on_bytes part pages = part_bytes part ++ ending_bytes pages_setting pages
+abbrev behind_on_bytes : List PartText → Setting → List ℕ
+behind_on_bytes parts pages = parts_bytes parts ++ ending_bytes pages_setting pages
 
 -- the bytes of an index, one part behind another
-index_grouped : (i : IndexText) → index_bytes i ≡ index_head_bytes i.name ++ (on_bytes i.table ++ behind_on_bytes (i.column, i.class) i.pages)
+index_grouped : (i : IndexText) → index_bytes i ≡ index_head_bytes i.name ++ (on_bytes i.table ++ behind_on_bytes i.parts i.pages)
 index_grouped i = simp append_assoc
 
 index-lawful : Lawful index_at index_bytes IsIndex
 unfolding index_at
 index-lawful =
-    same-lawful index_at (mapped whole_index (both index_head_at (both on_at (both part_at (ending_at pages_setting))))) index_bytes IsIndex (λ bytes. refl)
-    (mapped-lawful whole_index (both index_head_at (both on_at (both part_at (ending_at pages_setting)))) (λ x. index_head_bytes x.0 ++ (on_bytes x.1.0 ++ behind_on_bytes x.1.1.0 x.1.1.1)) index_bytes
-    (λ x. IsNamed x.0 × (IsNamed x.1.0 × (IsPart x.1.1.0 × IsSetting x.1.1.1))) IsIndex (λ a i. (record { named = i.0; table = i.1.0; column = i.1.1.0; pages = i.1.1.1 }, index_grouped (whole_index a)))
-    (both-lawful index_head_at (both on_at (both part_at (ending_at pages_setting))) index_head_bytes (λ x. on_bytes x.0 ++ behind_on_bytes x.1.0 x.1.1) IsNamed (λ x. IsNamed x.0 × (IsPart x.1.0 × IsSetting x.1.1))
-    (97 ∷ [], ((97 ∷ [], MinMax), None)) (one_letter, (one_letter, tt)) index_head-lawful
-    (both-lawful on_at (both part_at (ending_at pages_setting)) on_bytes (λ x. behind_on_bytes x.0 x.1) IsNamed (λ x. IsPart x.0 × IsSetting x.1) ((97 ∷ [], MinMax), None) (one_letter, tt) on-lawful
-    (both-lawful part_at (ending_at pages_setting) part_bytes (ending_bytes pages_setting) IsPart IsSetting None tt part-lawful (ending-lawful pages_setting)))))
+    same-lawful index_at (mapped whole_index (both index_head_at (both on_at (both parts_at (ending_at pages_setting))))) index_bytes IsIndex (λ bytes. refl)
+    (mapped-lawful whole_index (both index_head_at (both on_at (both parts_at (ending_at pages_setting)))) (λ x. index_head_bytes x.0 ++ (on_bytes x.1.0 ++ behind_on_bytes x.1.1.0 x.1.1.1)) index_bytes
+    (λ x. IsNamed x.0 × (IsNamed x.1.0 × (AreListed IsPart x.1.1.0 × IsSetting x.1.1.1))) IsIndex (λ a i. (record { named = i.0; table = i.1.0; parts = i.1.1.0; pages = i.1.1.1 }, index_grouped (whole_index a)))
+    (both-lawful index_head_at (both on_at (both parts_at (ending_at pages_setting))) index_head_bytes (λ x. on_bytes x.0 ++ behind_on_bytes x.1.0 x.1.1) IsNamed (λ x. IsNamed x.0 × (AreListed IsPart x.1.0 × IsSetting x.1.1))
+    (97 ∷ [], (some_part ∷ [], None)) (one_letter, (are_some, tt)) index_head-lawful
+    (both-lawful on_at (both parts_at (ending_at pages_setting)) on_bytes (λ x. behind_on_bytes x.0 x.1) IsNamed (λ x. AreListed IsPart x.0 × IsSetting x.1) (some_part ∷ [], None) (are_some, tt) on-lawful
+    (both-lawful parts_at (ending_at pages_setting) parts_bytes (ending_bytes pages_setting) (AreListed IsPart) IsSetting None tt parts-lawful (ending-lawful pages_setting)))))
 
 abbrev pub is_t : ℕ → Bool
 is_t c = c == 116
@@ -165,33 +102,9 @@ declaration-lawful =
     (mapped-lawful OfTable table_at table_bytes bytes_of IsTable IsDeclaration (λ a i. (i, refl)) table-lawful)
     (mapped-lawful OfIndex index_at index_bytes bytes_of IsIndex IsDeclaration (λ a i. (i, refl)) index-lawful))
 
-setting-complete : (setting : List ℕ) (said : Setting) → begins is_space (setting_bytes setting said) ≡ begins is_space (setting_bytes (32 ∷ []) said) → IsSetting said → setting_at setting (setting_bytes setting said) ≡ Ok (said, [])
-unfolding setting_at
-setting-complete setting None b i = refl
-setting-complete setting (Some ds) b i =
-    choice-first is_space (mapped said_digits (both (word_at setting) digits_at)) (nothing None) (setting ++ ds) b
-    ∙ mapped-read said_digits (both (word_at setting) digits_at) (setting ++ ds) ((tt, ds), [])
-    (both-read (word_at setting) digits_at (setting ++ ds) (tt, ds) (ds, []) (word-complete setting ds)
-    (ap digits_at (sym (append-nil ds)) ∙ digits-complete ds [] i refl))
-
--- a setting that begins with a space
-spaced : (c : ℕ) (cs : List ℕ) (said : Setting) → is_space c ≡ true → begins is_space (setting_bytes (c ∷ cs) said) ≡ begins is_space (setting_bytes (32 ∷ []) said)
-spaced c cs None e = refl
-spaced c cs (Some ds) e = e
-
-rows-complete : (said : Setting) → IsSetting said → ending_at rows_setting (ending_bytes rows_setting said) ≡ Ok (said, [])
-unfolding ending_at
-rows-complete said i =
-    mapped-read setting_behind (both (byte_at 41) (setting_at rows_setting)) (41 ∷ setting_bytes rows_setting said) ((tt, said), [])
-    (both-read (byte_at 41) (setting_at rows_setting) (41 ∷ setting_bytes rows_setting said) (tt, setting_bytes rows_setting said) (said, []) refl
-    (setting-complete rows_setting said (spaced 32 (codes "rows_per_page ") said refl) i))
-
-pages-complete : (said : Setting) → IsSetting said → ending_at pages_setting (ending_bytes pages_setting said) ≡ Ok (said, [])
-unfolding ending_at
-pages-complete said i =
-    mapped-read setting_behind (both (byte_at 41) (setting_at pages_setting)) (41 ∷ setting_bytes pages_setting said) ((tt, said), [])
-    (both-read (byte_at 41) (setting_at pages_setting) (41 ∷ setting_bytes pages_setting said) (tt, setting_bytes pages_setting said) (said, []) refl
-    (setting-complete pages_setting said (spaced 32 (codes "pages_per_range ") said refl) i))
+-- a setting at the end is read
+last-complete : (word : List ℕ) (said : Setting) → IsSetting said → ending_at (32 ∷ word) (ending_bytes (32 ∷ word) said) ≡ Ok (said, [])
+last-complete word said i = ap (ending_at (32 ∷ word)) (sym (append-nil (ending_bytes (32 ∷ word) said))) ∙ ending-complete word said [] i nothing_ends
 
 between-complete : (word name rest : List ℕ) → IsNamed name → mapped name_between (both (word_at word) (both name_at (byte_at 40))) (word ++ (name ++ 40 ∷ rest)) ≡ Ok (name, rest)
 between-complete word name rest i =
@@ -203,24 +116,13 @@ table-complete : (t : TableText) → IsTable t → table_at (table_bytes t) ≡ 
 unfolding table_at table_head_at
 table-complete t i =
     let ending : List ℕ = ending_bytes rows_setting t.rows in
-    let grouped : table_bytes t ≡ codes "table " ++ (t.name ++ 40 ∷ (columns_bytes t.columns ++ ending)) = simp append_assoc in
+    let grouped : table_bytes t ≡ codes "table " ++ (t.name ++ 40 ∷ (listed_bytes column_bytes t.columns ++ ending)) = simp append_assoc in
     ap (mapped whole_table (both table_head_at (both columns_at (ending_at rows_setting)))) grouped
-    ∙ mapped-read whole_table (both table_head_at (both columns_at (ending_at rows_setting))) (codes "table " ++ (t.name ++ 40 ∷ (columns_bytes t.columns ++ ending))) ((t.name, (t.columns, t.rows)), [])
-    (both-read table_head_at (both columns_at (ending_at rows_setting)) (codes "table " ++ (t.name ++ 40 ∷ (columns_bytes t.columns ++ ending))) (t.name, columns_bytes t.columns ++ ending) ((t.columns, t.rows), [])
-    (between-complete (codes "table ") t.name (columns_bytes t.columns ++ ending) i.named)
-    (both-read columns_at (ending_at rows_setting) (columns_bytes t.columns ++ ending) (t.columns, ending) (t.rows, [])
-    (columns-complete t.columns ending i.columns refl refl) (rows-complete t.rows i.rows)))
-
-class-complete : (c : ClassText) (rest : List ℕ) → class_at (class_bytes c ++ rest) ≡ Ok (c, rest)
-unfolding class_at
-class-complete MinMax rest = refl
-
-part-complete : (p : Part) (rest : List ℕ) → IsPart p → part_at (p.0 ++ 32 ∷ (class_bytes p.1 ++ rest)) ≡ Ok (p, rest)
-unfolding part_at
-part-complete p rest i =
-    mapped-read part_of (both name_at (both (byte_at 32) class_at)) (p.0 ++ 32 ∷ (class_bytes p.1 ++ rest)) ((p.0, (tt, p.1)), rest)
-    (both-read name_at (both (byte_at 32) class_at) (p.0 ++ 32 ∷ (class_bytes p.1 ++ rest)) (p.0, 32 ∷ (class_bytes p.1 ++ rest)) ((tt, p.1), rest) (name-complete p.0 (32 ∷ (class_bytes p.1 ++ rest)) i refl)
-    (both-read (byte_at 32) class_at (32 ∷ (class_bytes p.1 ++ rest)) (tt, class_bytes p.1 ++ rest) (p.1, rest) refl (class-complete p.1 rest)))
+    ∙ mapped-read whole_table (both table_head_at (both columns_at (ending_at rows_setting))) (codes "table " ++ (t.name ++ 40 ∷ (listed_bytes column_bytes t.columns ++ ending))) ((t.name, (t.columns, t.rows)), [])
+    (both-read table_head_at (both columns_at (ending_at rows_setting)) (codes "table " ++ (t.name ++ 40 ∷ (listed_bytes column_bytes t.columns ++ ending))) (t.name, listed_bytes column_bytes t.columns ++ ending) ((t.columns, t.rows), [])
+    (between-complete (codes "table ") t.name (listed_bytes column_bytes t.columns ++ ending) i.named)
+    (both-read columns_at (ending_at rows_setting) (listed_bytes column_bytes t.columns ++ ending) (t.columns, ending) (t.rows, [])
+    (columns-complete t.columns ending i.columns refl refl) (last-complete (codes "rows_per_page ") t.rows i.rows)))
 
 index_head-complete : (name rest : List ℕ) → IsNamed name → index_head_at (codes "index " ++ (name ++ 32 ∷ rest)) ≡ Ok (name, 32 ∷ rest)
 unfolding index_head_at
@@ -232,16 +134,17 @@ index-complete : (i : IndexText) → IsIndex i → index_at (index_bytes i) ≡ 
 unfolding index_at on_at
 index-complete i h =
     let ending : List ℕ = ending_bytes pages_setting i.pages in
-    let part : List ℕ = i.column ++ 32 ∷ (class_bytes i.class ++ ending) in
-    let on : List ℕ = codes " on " ++ (i.table ++ 40 ∷ part) in
+    let parts : List ℕ = parts_bytes i.parts ++ ending in
+    let on : List ℕ = codes " on " ++ (i.table ++ 40 ∷ parts) in
     let grouped : index_bytes i ≡ codes "index " ++ (i.name ++ on) = simp append_assoc in
-    ap (mapped whole_index (both index_head_at (both on_at (both part_at (ending_at pages_setting))))) grouped
-    ∙ mapped-read whole_index (both index_head_at (both on_at (both part_at (ending_at pages_setting)))) (codes "index " ++ (i.name ++ on)) ((i.name, (i.table, ((i.column, i.class), i.pages))), [])
-    (both-read index_head_at (both on_at (both part_at (ending_at pages_setting))) (codes "index " ++ (i.name ++ on)) (i.name, on) ((i.table, ((i.column, i.class), i.pages)), [])
-    (index_head-complete i.name (codes "on " ++ (i.table ++ 40 ∷ part)) h.named)
-    (both-read on_at (both part_at (ending_at pages_setting)) on (i.table, part) (((i.column, i.class), i.pages), [])
-    (between-complete (codes " on ") i.table part h.table)
-    (both-read part_at (ending_at pages_setting) part ((i.column, i.class), ending) (i.pages, []) (part-complete (i.column, i.class) ending h.column) (pages-complete i.pages h.pages))))
+    ap (mapped whole_index (both index_head_at (both on_at (both parts_at (ending_at pages_setting))))) grouped
+    ∙ mapped-read whole_index (both index_head_at (both on_at (both parts_at (ending_at pages_setting)))) (codes "index " ++ (i.name ++ on)) ((i.name, (i.table, (i.parts, i.pages))), [])
+    (both-read index_head_at (both on_at (both parts_at (ending_at pages_setting))) (codes "index " ++ (i.name ++ on)) (i.name, on) ((i.table, (i.parts, i.pages)), [])
+    (index_head-complete i.name (codes "on " ++ (i.table ++ 40 ∷ parts)) h.named)
+    (both-read on_at (both parts_at (ending_at pages_setting)) on (i.table, parts) ((i.parts, i.pages), [])
+    (between-complete (codes " on ") i.table parts h.table)
+    (both-read parts_at (ending_at pages_setting) parts (i.parts, ending) (i.pages, [])
+    (parts-complete i.parts ending h.parts refl (record { no_space = refl; no_digit = refl })) (last-complete (codes "pages_per_range ") i.pages h.pages))))
 
 -- a declaration is read
 pub declaration-complete : (d : DeclarationText) → IsDeclaration d → declaration_at (bytes_of d) ≡ Ok (d, [])

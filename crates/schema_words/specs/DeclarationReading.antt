@@ -5,7 +5,7 @@ use Rattle.block_model.specs.declared.value.Kind.{Kind}
 use Rattle.block_model.specs.declared.value.Kind.TheVariants as kinds
 use Rattle.block_model.specs.declared.schema.Column.{Column}
 use Rattle.text_reading.specs.Reading.{Reading, mapped, both, choice, nothing, byte_at, word_at, digits_at}
-use Rattle.schema_words.specs.DeclarationTexts.{TableText, ClassText, MinMax, IndexText, DeclarationText, OfTable, OfIndex}
+use Rattle.schema_words.specs.DeclarationTexts.{TableText, ClassText, MinMax, Multi, Inclusion, Bloom, PartText, IndexText, DeclarationText, OfTable, OfIndex}
 
 -- the bytes at the front that go on with a name, up to so many, and what is behind them
 abbrev pub split_name : ℕ → List ℕ → List ℕ × List ℕ
@@ -30,14 +30,18 @@ kind_at bytes = mapped (λ x. x.1) (both (word_at (codes "in")) (choice (λ c. c
 unfoldable pub column_at : Reading Column
 column_at bytes = mapped (λ x. record { name = x.0; kind = x.1.1 }) (both name_at (both (byte_at 32) kind_at)) bytes
 
--- further columns, up to so many
-unfoldable pub more_columns_at : ℕ → Reading (List Column)
-more_columns_at zero bytes = nothing [] bytes
-more_columns_at (suc n) bytes = choice (λ c. c == 44) (mapped (λ x. x.1.0 ∷ x.1.1) (both (byte_at 44) (both column_at (more_columns_at n)))) (nothing []) bytes
+-- further items, up to so many, each behind a comma
+unfoldable pub more_at : {A : Type 0} → Reading A → ℕ → Reading (List A)
+more_at item zero bytes = nothing [] bytes
+more_at item (suc n) bytes = choice (λ c. c == 44) (mapped (λ x. x.1.0 ∷ x.1.1) (both (byte_at 44) (both item (more_at item n)))) (nothing []) bytes
+
+-- items with a comma between two
+unfoldable pub listed_at : {A : Type 0} → Reading A → Reading (List A)
+listed_at item bytes = mapped (λ x. x.0 ∷ x.1) (both item (more_at item 255)) bytes
 
 -- columns
-unfoldable pub columns_at : Reading (List Column)
-columns_at bytes = mapped (λ x. x.0 ∷ x.1) (both column_at (more_columns_at 255)) bytes
+abbrev pub columns_at : Reading (List Column)
+columns_at bytes = listed_at column_at bytes
 
 -- a setting and digits, or nothing
 unfoldable pub setting_at : List ℕ → Reading (Option (List ℕ))
@@ -55,9 +59,21 @@ table_head_at bytes = mapped (λ x. x.1.0) (both (word_at (codes "table ")) (bot
 unfoldable pub table_at : Reading TableText
 table_at bytes = mapped (λ x. record { name = x.0; columns = x.1.0; rows = x.1.1 }) (both table_head_at (both columns_at (ending_at (codes " rows_per_page ")))) bytes
 
+-- `minmax` or `multi`, behind the `m` that both begin with
+unfoldable pub m_class_at : Reading ClassText
+m_class_at bytes = choice (λ c. c == 117) (mapped (λ x. Multi x.1) (both (word_at (codes "ulti")) (setting_at (codes " ")))) (mapped (λ x. MinMax) (word_at (codes "inmax"))) bytes
+
+-- `bloom` and its two numbers
+unfoldable pub bloom_at : Reading ClassText
+bloom_at bytes = mapped (λ x. Bloom x.1.0 x.1.1.1) (both (word_at (codes "bloom ")) (both digits_at (both (byte_at 32) digits_at))) bytes
+
+-- `bloom` or `inclusion`
+unfoldable pub other_class_at : Reading ClassText
+other_class_at bytes = choice (λ c. c == 98) bloom_at (mapped (λ x. Inclusion) (word_at (codes "inclusion"))) bytes
+
 -- a class
 unfoldable pub class_at : Reading ClassText
-class_at bytes = mapped (λ x. MinMax) (word_at (codes "minmax")) bytes
+class_at bytes = choice (λ c. c == 109) (mapped (λ x. x.1) (both (byte_at 109) m_class_at)) other_class_at bytes
 
 -- `index` and a name
 unfoldable pub index_head_at : Reading (List ℕ)
@@ -68,12 +84,16 @@ unfoldable pub on_at : Reading (List ℕ)
 on_at bytes = mapped (λ x. x.1.0) (both (word_at (codes " on ")) (both name_at (byte_at 40))) bytes
 
 -- a name, a space and a class
-unfoldable pub part_at : Reading (List ℕ × ClassText)
-part_at bytes = mapped (λ x. (x.0, x.1.1)) (both name_at (both (byte_at 32) class_at)) bytes
+unfoldable pub part_at : Reading PartText
+part_at bytes = mapped (λ x. record { column = x.0; class = x.1.1 }) (both name_at (both (byte_at 32) class_at)) bytes
+
+-- indexed columns
+abbrev pub parts_at : Reading (List PartText)
+parts_at bytes = listed_at part_at bytes
 
 -- an index
 unfoldable pub index_at : Reading IndexText
-index_at bytes = mapped (λ x. record { name = x.0; table = x.1.0; column = x.1.1.0.0; class = x.1.1.0.1; pages = x.1.1.1 }) (both index_head_at (both on_at (both part_at (ending_at (codes " pages_per_range "))))) bytes
+index_at bytes = mapped (λ x. record { name = x.0; table = x.1.0; parts = x.1.1.0; pages = x.1.1.1 }) (both index_head_at (both on_at (both parts_at (ending_at (codes " pages_per_range "))))) bytes
 
 -- a table or an index
 unfoldable pub declaration_at : Reading DeclarationText

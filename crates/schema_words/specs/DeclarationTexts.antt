@@ -1,11 +1,21 @@
 -- which bytes declare a table or an index
 use Rattle.std.specs.Prelude.{◌≡◌, ℕ, ◌≤◌, true, List, [], ◌∷◌, ◌++◌, length, codes, Option, None, Some, IfSome}
-use Rattle.std.specs.List.{list_all}
+use Rattle.std.specs.List.{AllByRecursion}
 use Rattle.block_model.specs.Names.{is_name}
 use Rattle.block_model.specs.declared.value.Kind.{Kind}
 use Rattle.block_model.specs.declared.value.Kind.TheVariants as kinds
 use Rattle.block_model.specs.declared.schema.Column.{Column}
 use Rattle.text_reading.specs.Digits.{AreDigits}
+
+-- further items, each behind a comma
+abbrev pub more_bytes : {A : Type 0} → (A → List ℕ) → List A → List ℕ
+more_bytes written [] = []
+more_bytes written (x ∷ xs) = codes "," ++ written x ++ more_bytes written xs
+
+-- items with a comma between two
+abbrev pub listed_bytes : {A : Type 0} → (A → List ℕ) → List A → List ℕ
+listed_bytes written [] = []
+listed_bytes written (x ∷ xs) = written x ++ more_bytes written xs
 
 -- a kind as it is written
 abbrev pub kind_word : Kind → List ℕ
@@ -16,16 +26,6 @@ kind_word kinds.Net = codes "inet"
 -- a column's name, a space and its kind
 abbrev pub column_bytes : Column → List ℕ
 column_bytes c = c.name ++ codes " " ++ kind_word c.kind
-
--- further columns, each behind a comma
-abbrev pub more_columns_bytes : List Column → List ℕ
-more_columns_bytes [] = []
-more_columns_bytes (c ∷ cs) = codes "," ++ column_bytes c ++ more_columns_bytes cs
-
--- columns with a comma between two
-abbrev pub columns_bytes : List Column → List ℕ
-columns_bytes [] = []
-columns_bytes (c ∷ cs) = column_bytes c ++ more_columns_bytes cs
 
 -- a setting with the digits of its number, or nothing
 abbrev pub setting_bytes : List ℕ → Option (List ℕ) → List ℕ
@@ -40,35 +40,53 @@ pub record TableText : Type 0 where
 
 -- the bytes that write it
 abbrev pub table_bytes : TableText → List ℕ
-table_bytes t = codes "table " ++ t.name ++ codes "(" ++ columns_bytes t.columns ++ codes ")" ++ setting_bytes (codes " rows_per_page ") t.rows
+table_bytes t = codes "table " ++ t.name ++ codes "(" ++ listed_bytes column_bytes t.columns ++ codes ")" ++ setting_bytes (codes " rows_per_page ") t.rows
 
--- an operator class as it is written
+-- an operator class as it is written, with the digits of its numbers
 pub data ClassText : Type 0 where
   MinMax : ClassText
+  Multi : Option (List ℕ) → ClassText
+  Inclusion : ClassText
+  Bloom : List ℕ → List ℕ → ClassText
 
 -- the bytes that write it
 abbrev pub class_bytes : ClassText → List ℕ
 class_bytes MinMax = codes "minmax"
+class_bytes (Multi limit) = codes "multi" ++ setting_bytes (codes " ") limit
+class_bytes Inclusion = codes "inclusion"
+class_bytes (Bloom bits hashes) = codes "bloom " ++ bits ++ codes " " ++ hashes
 
--- an index of one column as it is written, with the digits of its pages per range where they are said
+-- an indexed column as it is written, with its class
+pub record PartText : Type 0 where
+  pub column : List ℕ
+  pub class : ClassText
+
+-- the column's name, a space and the class
+abbrev pub part_bytes : PartText → List ℕ
+part_bytes p = p.column ++ codes " " ++ class_bytes p.class
+
+-- indexed columns with a comma between two
+abbrev pub parts_bytes : List PartText → List ℕ
+parts_bytes parts = listed_bytes part_bytes parts
+
+-- an index as it is written, with the digits of its pages per range where they are said
 pub record IndexText : Type 0 where
   pub name : List ℕ
   pub table : List ℕ
-  pub column : List ℕ
-  pub class : ClassText
+  pub parts : List PartText
   pub pages : Option (List ℕ)
 
 -- the bytes before the name of its table
 abbrev pub before_table : IndexText → List ℕ
 before_table i = codes "index " ++ i.name ++ codes " on "
 
--- the bytes before the name of its column
-abbrev pub before_column : IndexText → List ℕ
-before_column i = before_table i ++ i.table ++ codes "("
+-- the bytes before its indexed columns
+abbrev pub before_parts : IndexText → List ℕ
+before_parts i = before_table i ++ i.table ++ codes "("
 
 -- the bytes that write it
 abbrev pub index_bytes : IndexText → List ℕ
-index_bytes i = before_column i ++ i.column ++ codes " " ++ class_bytes i.class ++ codes ")" ++ setting_bytes (codes " pages_per_range ") i.pages
+index_bytes i = before_parts i ++ parts_bytes i.parts ++ codes ")" ++ setting_bytes (codes " pages_per_range ") i.pages
 
 -- a declaration as it is written
 pub data DeclarationText : Type 0 where
@@ -84,26 +102,42 @@ bytes_of (OfIndex i) = index_bytes i
 abbrev pub IsNamed : List ℕ → Type 0
 IsNamed name = is_name name ≡ true
 
--- one column or more, up to the 256 that a byte numbers
-abbrev pub AreColumns : List Column → Type 0
-AreColumns [] = ⊥
-AreColumns (c ∷ cs) = IsNamed c.name × (list_all (λ c. is_name c.name) cs ≡ true) × (length cs ≤ 255)
+-- one item or more, up to the 256 that a byte numbers, and each is one
+abbrev pub AreListed : {A : Type 0} → (A → Type 0) → List A → Type 0
+AreListed Is [] = ⊥
+AreListed Is (x ∷ xs) = Is x × AllByRecursion Is xs × (length xs ≤ 255)
+
+-- a column's name is one
+abbrev pub IsColumn : Column → Type 0
+IsColumn c = IsNamed c.name
 
 -- what stands for a number is one
 abbrev pub IsSetting : Option (List ℕ) → Type 0
 IsSetting said = IfSome said AreDigits
 
+-- what stands for a class's numbers are numbers
+abbrev pub IsClass : ClassText → Type 0
+IsClass MinMax = Unit {0}
+IsClass (Multi limit) = IsSetting limit
+IsClass Inclusion = Unit {0}
+IsClass (Bloom bits hashes) = AreDigits bits × AreDigits hashes
+
+-- the name and the class of an indexed column are of the grammar
+pub record IsPart (p : PartText) : Type 0 where
+  pub named : IsNamed p.column
+  pub class : IsClass p.class
+
 -- the parts of a table's text are of the grammar
 pub record IsTable (t : TableText) : Type 0 where
   pub named : IsNamed t.name
-  pub columns : AreColumns t.columns
+  pub columns : AreListed IsColumn t.columns
   pub rows : IsSetting t.rows
 
 -- the parts of an index's text are of the grammar
 pub record IsIndex (i : IndexText) : Type 0 where
   pub named : IsNamed i.name
   pub table : IsNamed i.table
-  pub column : IsNamed i.column
+  pub parts : AreListed IsPart i.parts
   pub pages : IsSetting i.pages
 
 -- the text is of the grammar

@@ -1,19 +1,21 @@
 -- What the code's parts of a declaration are.
-use Rattle.std.specs.Prelude.{◌≡◌, ℕ, Bool, if◌then◌else◌, List, ◌++◌, Option, None, Some, Result, Ok, Err}
+use Rattle.std.specs.Prelude.{◌≡◌, ℕ, Bool, false, List, [], ◌∷◌, ◌++◌, Option, None, Some, Result, Ok, Err}
 use Rattle.std.specs.List.{list_any}
 use Rattle.std.specs.Str.{bytes_eq}
 use Rattle.std.specs.Borrow.{Bor}
 use Rattle.block_model.specs.declared.schema.Column.{Column}
 use Rattle.block_model.specs.declared.schema.Table.{Table}
 use Rattle.schema_words.specs.declared.table.TableWord.{TableWord}
-use Rattle.schema_words.specs.declared.index.ClassWord.{ClassWord}
-use Rattle.schema_words.specs.declared.index.ClassWord.TheVariants as code_class
+use Rattle.schema_words.specs.declared.class.ClassWord.{ClassWord}
+use Rattle.schema_words.specs.declared.class.ClassWord.TheVariants as code_class
+use Rattle.schema_words.specs.declared.part.PartWord.{PartWord}
 use Rattle.schema_words.specs.declared.index.IndexWord.{IndexWord}
 use Rattle.schema_words.specs.declared.column.ColumnWord.{ColumnWord}
 use Rattle.schema_words.specs.declared.column.ColumnsWord.{ColumnsWord}
 use Rattle.schema_words.specs.declared.declaration.Declaration.{Declaration}
 use Rattle.schema_words.specs.declared.declaration.Declaration.TheVariants as code
-use Rattle.schema_words.specs.DeclarationTexts.{TableText, ClassText, MinMax, IndexText, DeclarationText, OfTable, OfIndex, bytes_of, IsDeclaration}
+use Rattle.schema_words.specs.DeclarationTexts.{TableText, ClassText, MinMax, Multi, Inclusion, Bloom, PartText, parts_bytes, IndexText, IsIndex, DeclarationText, OfTable, OfIndex, bytes_of, IsDeclaration}
+use Rattle.schema_words.specs.DeclarationReading.{parts_at}
 use Rattle.schema_words.specs.DeclaredSchema.{number_said, most_rows}
 
 -- what a function returned is what reading gives, by that relation
@@ -58,15 +60,47 @@ table_with word columns = record { name = word.name.now; rows_per_page = number_
 -- a class
 abbrev pub class_text : ClassWord → ClassText
 class_text code_class.MinMax = MinMax
+class_text (code_class.Multi limit) = Multi (said limit)
+class_text code_class.Inclusion = Inclusion
+class_text (code_class.Bloom bits hashes) = Bloom bits.now hashes.now
+
+-- an indexed column
+abbrev pub part_text : PartWord → PartText
+part_text p = record { column = p.column.now; class = class_text p.class }
+
+-- what was read, and nothing where nothing was
+abbrev pub parts_read : Result (List PartText × List ℕ) (List ℕ) → List PartText
+parts_read (Ok x) = x.0
+parts_read (Err rest) = []
+
+-- the indexed columns that the bytes are
+abbrev pub parts_said : List ℕ → List PartText
+parts_said bytes = parts_read (parts_at bytes)
+
+-- the bytes are indexed columns
+abbrev pub AreParts : List ℕ → Type 0
+AreParts bytes = bytes ≡ parts_bytes (parts_said bytes)
+
+-- the first of indexed columns, and the bytes of the others
+abbrev pub IsFirstOf : List PartText → Option (PartWord × Bor (List ℕ)) → Type 0
+IsFirstOf [] None = Unit {0}
+IsFirstOf [] (Some x) = ⊥
+IsFirstOf (p ∷ ps) None = ⊥
+IsFirstOf (p ∷ ps) (Some x) = (part_text x.0 ≡ p) × (x.1.now ≡ parts_bytes ps)
 
 -- the index's parts
 abbrev pub index_text : IndexWord → IndexText
-index_text i = record { name = i.name.now; table = i.table.now; column = i.column.now; class = class_text i.class; pages = said i.pages }
+index_text i = record { name = i.name.now; table = i.table.now; parts = parts_said i.parts.now; pages = said i.pages }
+
+-- the index's parts are of the grammar
+pub record IsIndexWord (i : IndexWord) : Type 0 where
+  pub of_grammar : IsIndex (index_text i)
+  pub parts : AreParts i.parts.now
 
 -- the parts of a table or of an index
 abbrev pub IsRead : Option (List Column) → List ℕ → Declaration → DeclarationText → Type 0
 IsRead kept wanted (code.Table word) (OfTable text) = IsTableRead kept wanted word text
-IsRead kept wanted (code.Index word) (OfIndex text) = index_text word ≡ text
+IsRead kept wanted (code.Index word) (OfIndex text) = (index_text word ≡ text) × AreParts word.parts.now
 IsRead kept wanted word text = ⊥
 
 -- the bytes are a declaration, of which the word has the parts
@@ -76,7 +110,7 @@ pub record Reads (kept : Option (List Column)) (wanted bytes : List ℕ) (word :
   pub bytes_are : bytes ≡ bytes_of text
   pub parts : IsRead kept wanted word text
 
--- whether the declaration is that table, and then whether it has that column
-abbrev pub column_sought : List ℕ → List ℕ → DeclarationText → Option Bool
-column_sought table column (OfTable t) = if bytes_eq table t.name then Some (has_column column t.columns) else None
-column_sought table column (OfIndex i) = None
+-- whether the declaration is a table of that name
+abbrev pub declares_table : List ℕ → DeclarationText → Bool
+declares_table name (OfTable t) = bytes_eq name t.name
+declares_table name (OfIndex i) = false

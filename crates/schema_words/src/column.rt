@@ -1,19 +1,17 @@
 // The columns of a table.
 
-ghost use Rattle.std.specs.Prelude.{◌≡◌, ◌||◌, ◌∷◌, [], ◌==◌, false, IfOk, MatchOption};
+ghost use Rattle.std.specs.Prelude.{◌≡◌, ◌||◌, ◌∷◌, [], IfOk};
 ghost use Rattle.std.specs.Str.{bytes_eq};
-ghost use Rattle.text_reading.specs.Reading.{Gives, begins};
+ghost use Rattle.text_reading.specs.Reading.{Gives};
 ghost use Rattle.schema_words.specs.DeclarationTexts.{IsNamed};
 ghost use Rattle.schema_words.specs.DeclarationReading.{number_kind_at, kind_at, column_at, columns_at};
 ghost use Rattle.schema_words.specs.Words.{GivesAs, KeepsMore, AreRead, column_of};
 
+use crate::list::{MORE_ITEMS, behind_comma};
 use crate::name::{known_name, name};
 use block_model::schema::{Column, Columns};
 use block_model::value::Kind;
 use text_reading::{Reading, byte, word};
-
-/// How many columns may stand behind the first: a byte numbers 256.
-const MORE_COLUMNS: usize = 255;
 
 /// What is known of columns that were read: their list, None where it isn't kept or memory was wanting, and whether one has
 /// the name that was wanted.
@@ -32,14 +30,14 @@ pub struct ColumnWord<'a> {
 
 /// Columns with a comma between two. They are kept behind those of `kept`, where there are any and memory suffices; it is
 /// told whether one has the wanted name.
-#[tactic(auto, unfolding(crate::specs::DeclarationReading::columns_at))]
+#[tactic(auto, unfolding(crate::specs::DeclarationReading::listed_at))]
 pub fn columns<'a>(kept: Option<Columns>, wanted: &[u8], text: &'a [u8]) -> Reading<'a, ColumnsWord>
     ensures { GivesAs (AreRead kept wanted.now) result (columns_at text.now) }
 {
     let (first, behind) = column(text)?;
     let mut rest = behind;
     let mut columns = ColumnsWord { kept, found: false }.with(wanted, &first);
-    'more: for _ in 0..MORE_COLUMNS {
+    'more: for _ in 0..MORE_ITEMS {
         let Some(behind) = behind_comma(rest) else {
             return Ok((columns, rest));
         };
@@ -48,16 +46,6 @@ pub fn columns<'a>(kept: Option<Columns>, wanted: &[u8], text: &'a [u8]) -> Read
         rest = behind;
     }
     Ok((columns, rest))
-}
-
-/// What is behind a comma, where there is one.
-fn behind_comma(text: &[u8]) -> Option<&[u8]>
-    ensures { MatchOption result (begins (λ c. c == 44) text.now ≡ false) (λ behind. text.now ≡ 44 ∷ behind.now) }
-{
-    match text {
-        [b',', behind @ ..] => Some(behind),
-        _ => None,
-    }
 }
 
 impl ColumnsWord {

@@ -1,16 +1,16 @@
 // What a word adds to a schema.
 
-ghost use Rattle.std.specs.Prelude.{◌≡◌, ℕ, ◌+◌, [], ◌∷◌, ◌++◌, Ok, Err, OnOk, OnErr, IfOk, IfSome, ◌<◌, ◌≤◌, length, MatchResult, MatchOption};
-ghost use Rattle.schema_words.specs.DeclarationTexts.{IsNamed, IsIndex};
-ghost use Rattle.schema_words.specs.DeclaredSchema.{Declares, table_named, column_named, index_on, index_among};
+ghost use Rattle.std.specs.Prelude.{◌≡◌, ℕ, [], ◌∷◌, ◌++◌, Ok, Err, OnOk, OnErr, IfOk, IfSome, ◌<◌, ◌≤◌, length, MatchOption};
+ghost use Rattle.schema_words.specs.DeclarationTexts.{IsNamed};
+ghost use Rattle.schema_words.specs.DeclaredSchema.{Declares, table_named, column_named, part_on, parts_among, index_on, index_among};
 ghost use Rattle.schema_words.specs.FirstFault.{IsFaulty};
-ghost use Rattle.schema_words.specs.Words.{index_text, table_with};
+ghost use Rattle.schema_words.specs.Words.{part_text, index_text, IsIndexWord, table_with};
 
 use crate::declaration::{Declaration, read_declaration};
 use crate::index::IndexWord;
 use crate::name::known_name;
+use crate::part::{PartWord, first_part};
 use crate::table::TableWord;
-use block_model::NoMemory;
 use block_model::schema::{Column, Columns, Index, Indexes, Part, Parts, Schema, Table, Tables};
 use std::alloc::Global;
 
@@ -57,34 +57,54 @@ fn add_index(
     indexes: &mut Indexes,
     index: &IndexWord<'_>,
 ) -> Result<(), WordFault>
-    requires { IsIndex (index_text index.now) }
+    requires { IsIndexWord index.now }
     ensures ok { OnOk result ((added : Index) × (index_among tables.now (index_text index.now) ≡ Ok added) × (indexes.new ≡ indexes.old ++ added ∷ [])) }
     ensures form { (at : ℕ) → result ≡ Err (WordFault.Form at) → index_among tables.now (index_text index.now) ≡ Err at }
 {
-    let (table, column) = match column_of(tables, index) {
-        Ok(numbers) => numbers,
-        Err(at) => return Err(WordFault::Form { at }),
+    let Some(table) = table_named(tables, index.table) else {
+        return Err(WordFault::Form {
+            at: index.table_place(),
+        });
     };
-    let Ok(index) = index_on(alloc, index, table, column) else {
-        return Err(WordFault::Memory);
+    let parts = match parts_among(alloc, tables[table].columns.as_slice(), index) {
+        Ok(parts) => parts,
+        Err(fault) => return Err(fault),
     };
-    match indexes.push(index) {
+    match indexes.push(index_on(index, table, parts)) {
         Ok(()) => Ok(()),
         Err(_) => Err(WordFault::Memory),
     }
 }
 
-/// The numbers of the index's table and column, or where the name begins that isn't declared.
-fn column_of(tables: &[Table], index: &IndexWord<'_>) -> Result<(usize, usize), usize>
-    requires { IsIndex (index_text index.now) }
-    ensures { MatchResult result (λ p. index_among tables.now (index_text index.now) ≡ Ok (index_on (index_text index.now) p.0 p.1)) (λ at. index_among tables.now (index_text index.now) ≡ Err at) }
+/// The indexed columns of the index among a table's columns.
+fn parts_among(alloc: Global, columns: &[Column], index: &IndexWord<'_>) -> Result<Parts, WordFault>
+    requires { IsIndexWord index.now }
+    ensures ok { IfOk result (λ parts. parts_among columns.now (index_text index.now) ≡ Ok parts) }
+    ensures form { (at : ℕ) → result ≡ Err (WordFault.Form at) → parts_among columns.now (index_text index.now) ≡ Err at }
 {
-    let Some(table) = table_named(tables, index.table) else {
-        return Err(index.table_place());
-    };
-    match column_named(tables[table].columns.as_slice(), index.column) {
-        Some(column) => Ok((table, column)),
-        None => Err(index.column_place()),
+    let mut parts = Parts::new(alloc);
+    let mut rest = index.parts;
+    'parts: while let Some((part, others)) = first_part(rest) {
+        let Some(column) = column_named(columns, part.column) else {
+            return Err(WordFault::Form {
+                at: index.place(rest),
+            });
+        };
+        let Ok(()) = parts.push(part_on(&part, column)) else {
+            return Err(WordFault::Memory);
+        };
+        rest = others;
+    }
+    Ok(parts)
+}
+
+/// The indexed column of that number.
+fn part_on(part: &PartWord<'_>, column: usize) -> Part
+    ensures { result ≡ part_on (part_text part.now) column }
+{
+    Part {
+        column: column.min(usize::from(u8::MAX)) as u8,
+        class: part.class.operator_class(),
     }
 }
 
@@ -107,26 +127,16 @@ fn column_named(columns: &[Column], name: &[u8]) -> Option<usize>
         .position(|column| name == column.name.as_bytes())
 }
 
-/// The index on the table and the column of those numbers.
-fn index_on(
-    alloc: Global,
-    index: &IndexWord<'_>,
-    table: usize,
-    column: usize,
-) -> Result<Index, NoMemory>
-    requires { IsIndex (index_text index.now) }
-    ensures { IfOk result (λ i. i ≡ index_on (index_text index.now) table column) }
+/// The index on the table of that number and those columns of it.
+fn index_on(index: &IndexWord<'_>, table: usize, parts: Parts) -> Index
+    requires { IsIndexWord index.now }
+    ensures { result ≡ index_on (index_text index.now) table parts }
 {
-    let mut parts = Parts::new(alloc);
-    parts.push(Part {
-        column: column.min(usize::from(u8::MAX)) as u8,
-        class: index.operator_class(),
-    })?;
-    Ok(Index {
+    Index {
         name: known_name(index.name),
         table: table.min(usize::from(u8::MAX)) as u8,
         pages_per_range: index.pages_per_range(),
         auto: false,
         parts,
-    })
+    }
 }

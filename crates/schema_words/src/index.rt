@@ -1,30 +1,23 @@
 // The declaration of an index.
 
-ghost use Rattle.std.specs.Prelude.{◌≡◌, ◌+◌, ◌≤◌, ◌^◌, length};
+ghost use Rattle.std.specs.Prelude.{◌≡◌, ◌+◌, ◌-◌, ◌≤◌, length, IfOk};
 ghost use Rattle.text_reading.specs.Reading.{Gives};
-ghost use Rattle.schema_words.specs.DeclarationTexts.{before_table, before_column, IsIndex};
-ghost use Rattle.schema_words.specs.DeclarationReading.{class_at, index_head_at, on_at, part_at, index_at};
-ghost use Rattle.schema_words.specs.DeclaredSchema.{number_said, class_of};
-ghost use Rattle.schema_words.specs.Words.{class_text, index_text, said};
+ghost use Rattle.schema_words.specs.DeclarationTexts.{before_table, before_parts};
+ghost use Rattle.schema_words.specs.DeclarationReading.{index_head_at, on_at, index_at};
+ghost use Rattle.schema_words.specs.DeclaredSchema.{number_said};
+ghost use Rattle.schema_words.specs.Words.{AreParts, index_text, IsIndexWord, said};
 
 use crate::name::name;
+use crate::part::parts;
 use crate::setting::{ending, number_u32};
-use block_model::schema::Class;
 use text_reading::{Reading, byte, word};
 
-/// An operator class as it is written.
-#[derive(Clone, Copy)]
-pub enum ClassWord {
-    MinMax,
-}
-
-/// An index as it is written, with the digits of its pages per range.
+/// An index as it is written, with the bytes of its indexed columns and the digits of its pages per range.
 #[derive(Clone, Copy)]
 pub struct IndexWord<'a> {
     pub name: &'a [u8],
     pub table: &'a [u8],
-    pub column: &'a [u8],
-    pub class: ClassWord,
+    pub parts: &'a [u8],
     pub pages: Option<&'a [u8]>,
 }
 
@@ -34,17 +27,17 @@ const USUAL_PAGES: u32 = 128;
 /// An index.
 #[tactic(auto, unfolding(crate::specs::DeclarationReading::index_at))]
 pub fn index(text: &[u8]) -> Reading<'_, IndexWord<'_>>
-    ensures { Gives (λ x. (index_text x.0, x.1.now)) result (index_at text.now) }
+    ensures read { Gives (λ x. (index_text x.0, x.1.now)) result (index_at text.now) }
+    ensures parts { IfOk result (λ x. AreParts x.0.parts.now) }
 {
     let (name, rest) = index_head(text)?;
     let (table, rest) = on(rest)?;
-    let ((column, class), rest) = part(rest)?;
+    let (parts, rest) = parts(rest)?;
     let (pages, rest) = ending(rest, b" pages_per_range ")?;
     let index = IndexWord {
         name,
         table,
-        column,
-        class,
+        parts,
         pages,
     };
     Ok((index, rest))
@@ -68,40 +61,24 @@ fn on(text: &[u8]) -> Reading<'_, &[u8]>
     Ok((name, rest))
 }
 
-#[tactic(auto, unfolding(crate::specs::DeclarationReading::part_at))]
-fn part(text: &[u8]) -> Reading<'_, (&[u8], ClassWord)>
-    ensures { Gives (λ x. ((x.0.0.now, class_text x.0.1), x.1.now)) result (part_at text.now) }
-{
-    let (name, rest) = name(text)?;
-    let rest = byte(rest, b' ')?;
-    let (class, rest) = class(rest)?;
-    Ok(((name, class), rest))
-}
-
-#[tactic(auto, unfolding(crate::specs::DeclarationReading::class_at))]
-fn class(text: &[u8]) -> Reading<'_, ClassWord>
-    ensures { Gives (λ x. (class_text x.0, x.1.now)) result (class_at text.now) }
-{
-    let rest = word(text, b"minmax")?;
-    Ok((ClassWord::MinMax, rest))
-}
-
 impl IndexWord<'_> {
     /// Where the name of its table begins.
     pub fn table_place(&self) -> usize
-        requires { IsIndex (index_text self.now) }
+        requires { IsIndexWord self.now }
         ensures place { result ≡ length (before_table (index_text self.now)) }
         ensures small { result ≤ 26 }
     {
         b"index ".len() + self.name.len() + b" on ".len()
     }
 
-    /// Where the name of its column begins.
-    pub fn column_place(&self) -> usize
-        requires { IsIndex (index_text self.now) }
-        ensures { result ≡ length (before_column (index_text self.now)) }
+    /// Where the last of its indexed columns begin, of which these are the bytes.
+    pub fn place(&self, last: &[u8]) -> usize
+        requires index { IsIndexWord self.now }
+        requires within { length last.now ≤ length self.now.parts.now }
+        ensures { result ≡ length (before_parts (index_text self.now)) + (length self.now.parts.now - length last.now) }
     {
-        self.table_place() + self.table.len() + b"(".len()
+        let before = self.table_place() + self.table.len() + b"(".len();
+        before + (self.parts.len() - last.len())
     }
 
     /// Its pages per range: what the digits say, or the usual ones.
@@ -111,15 +88,6 @@ impl IndexWord<'_> {
         match self.pages {
             Some(digits) => number_u32(digits),
             None => USUAL_PAGES,
-        }
-    }
-
-    /// Its operator class.
-    pub fn operator_class(&self) -> Class
-        ensures { result ≡ class_of (class_text self.now.class) }
-    {
-        match self.class {
-            ClassWord::MinMax => Class::MinMax,
         }
     }
 }

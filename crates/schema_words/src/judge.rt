@@ -1,18 +1,18 @@
 // Words judged without memory.
 
-ghost use Rattle.std.specs.Prelude.{◌≡◌, ℕ, ◌<◌, ◌≤◌, [], slice_index_or, length, take, Ok, Err, None, Some, if◌then◌else◌, MatchResult};
-ghost use Rattle.std.specs.Str.{bytes_eq};
+ghost use Rattle.std.specs.Prelude.{◌≡◌, ℕ, ◌<◌, ◌≤◌, List, [], slice_index_or, length, take, Ok, Err, MatchResult};
 ghost use Rattle.block_model.specs.declared.schema.Schema.{Schema};
+ghost use Rattle.block_model.specs.declared.schema.Part.{Part};
 ghost use Rattle.block_model.specs.declared.schema.Index.{Index};
-ghost use Rattle.schema_words.specs.DeclarationTexts.{DeclarationText, bytes_of, IsDeclaration, IsIndex};
-ghost use Rattle.schema_words.specs.DeclaredSchema.{Declares, Denotes, index_among};
+ghost use Rattle.schema_words.specs.DeclarationTexts.{TableText, table_bytes, IsTable, DeclarationText, bytes_of, IsDeclaration};
+ghost use Rattle.schema_words.specs.DeclaredSchema.{Declares, Denotes, parts_among, index_among};
 ghost use Rattle.schema_words.specs.FirstFault.{IsFaulty, IsFirstFault};
-ghost use Rattle.schema_words.specs.Words.{index_text, column_sought};
+ghost use Rattle.schema_words.specs.Words.{has_column, index_text, IsIndexWord, declares_table};
 
 use crate::declaration::{Declaration, read_declaration};
 use crate::declarations::DeclFault;
 use crate::index::IndexWord;
-use crate::table::TableWord;
+use crate::part::first_part;
 use block_model::words::Words;
 
 /// The first fault of the words, or want of memory where they have none. Takes no memory.
@@ -40,40 +40,56 @@ fn judge(words: &Words, word: usize) -> Result<(), usize>
     }
 }
 
-/// Whether the words in front of that one declare the index's table and column, or where the name begins that they don't.
+/// Whether the words in front of that one declare the index's table and its indexed columns, or where the first name begins
+/// that they don't.
 fn judge_index(words: &Words, word: usize, index: &IndexWord<'_>) -> Result<(), usize>
     requires within { word ≤ length words.now }
-    requires index { IsIndex (index_text index.now) }
+    requires index { IsIndexWord index.now }
     ensures { (before : Schema) → Denotes (take word words.now) before → MatchResult result (λ u. (added : Index) × (index_among before.tables (index_text index.now) ≡ Ok added)) (λ at. index_among before.tables (index_text index.now) ≡ Err at) }
 {
     for earlier in 0..word {
-        match has_column(words.word(earlier), index) {
-            Some(true) => return Ok(()),
-            Some(false) => return Err(index.column_place()),
-            None => {}
+        let text = words.word(earlier);
+        if is_table(text, index.table) {
+            return judge_parts(text, index);
         }
     }
     Err(index.table_place())
 }
 
-/// Whether a declaration is of the index's table, and then whether that has the index's column.
-fn has_column(text: &[u8], index: &IndexWord<'_>) -> Option<bool>
-    ensures { (declared : DeclarationText) → IsDeclaration declared → text.now ≡ bytes_of declared → result ≡ column_sought index.now.table.now index.now.column.now declared }
+/// Whether a declaration is of a table of that name.
+fn is_table(text: &[u8], name: &[u8]) -> bool
+    ensures { (declared : DeclarationText) → IsDeclaration declared → text.now ≡ bytes_of declared → result ≡ declares_table name.now declared }
 {
-    match read_declaration(None, index.column, text) {
-        Ok(Declaration::Table(table)) => column_in(&table, index.table),
-        Ok(Declaration::Index(_index)) => None,
-        Err(_at) => None,
+    match read_declaration(None, b"", text) {
+        Ok(Declaration::Table(table)) => name == table.name,
+        Ok(Declaration::Index(_index)) => false,
+        Err(_at) => false,
     }
 }
 
-/// Whether the wanted column was found in a table, where the table has that name.
-fn column_in(table: &TableWord<'_>, name: &[u8]) -> Option<bool>
-    ensures { result ≡ (if bytes_eq name.now table.now.name.now then Some table.now.columns.found else None) }
+/// Whether a table that is declared has the index's indexed columns, or where the first name begins that none of its columns
+/// has.
+fn judge_parts(text: &[u8], index: &IndexWord<'_>) -> Result<(), usize>
+    requires { IsIndexWord index.now }
+    ensures { (table : TableText) → IsTable table → text.now ≡ table_bytes table → MatchResult result (λ u. (parts : List Part) × (parts_among table.columns (index_text index.now) ≡ Ok parts)) (λ at. parts_among table.columns (index_text index.now) ≡ Err at) }
 {
-    if name == table.name {
-        Some(table.columns.found)
-    } else {
-        None
+    let mut rest = index.parts;
+    'parts: while let Some((part, others)) = first_part(rest) {
+        if !has_column(text, part.column) {
+            return Err(index.place(rest));
+        }
+        rest = others;
+    }
+    Ok(())
+}
+
+/// Whether a table that is declared has a column of that name.
+fn has_column(text: &[u8], name: &[u8]) -> bool
+    ensures { (table : TableText) → IsTable table → text.now ≡ table_bytes table → result ≡ has_column name.now table.columns }
+{
+    match read_declaration(None, name, text) {
+        Ok(Declaration::Table(table)) => table.columns.found,
+        Ok(Declaration::Index(_index)) => false,
+        Err(_at) => false,
     }
 }

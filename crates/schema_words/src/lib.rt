@@ -5,6 +5,7 @@
 // and `IsFirstFault`.
 #![tactic(auto)]
 
+mod class;
 mod column;
 mod declaration;
 mod declarations;
@@ -12,7 +13,9 @@ mod declare;
 mod index;
 mod judge;
 mod laws;
+mod list;
 mod name;
+mod part;
 mod setting;
 mod table;
 #[cfg(test)]

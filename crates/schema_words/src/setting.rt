@@ -1,10 +1,9 @@
 // Settings of a table or an index.
 
-ghost use Rattle.std.specs.Prelude.{◌≡◌, ◌^◌, ◌-◌, ◌≤◌, min};
-ghost use Rattle.text_reading.specs.Digits.{digits_from};
+ghost use Rattle.std.specs.Prelude.{◌≡◌};
 ghost use Rattle.text_reading.specs.Reading.{Gives};
 ghost use Rattle.schema_words.specs.DeclarationReading.{setting_at, ending_at};
-ghost use Rattle.schema_words.specs.DeclaredSchema.{number_said};
+ghost use Rattle.schema_words.specs.DeclaredSchema.{number_within};
 ghost use Rattle.schema_words.specs.Words.{said};
 
 use text_reading::{Reading, byte, digits, number_up_to, word};
@@ -18,8 +17,9 @@ pub fn ending<'a>(text: &'a [u8], setting_word: &[u8]) -> Reading<'a, Option<&'a
     setting(rest, setting_word)
 }
 
+/// A setting with its digits or none.
 #[tactic(auto, unfolding(crate::specs::DeclarationReading::setting_at))]
-fn setting<'a>(text: &'a [u8], setting_word: &[u8]) -> Reading<'a, Option<&'a [u8]>>
+pub fn setting<'a>(text: &'a [u8], setting_word: &[u8]) -> Reading<'a, Option<&'a [u8]>>
     ensures { Gives (λ x. (said x.0, x.1.now)) result (setting_at setting_word.now text.now) }
 {
     match text {
@@ -32,16 +32,23 @@ fn setting<'a>(text: &'a [u8], setting_word: &[u8]) -> Reading<'a, Option<&'a [u
     }
 }
 
+/// The number of the digits, or the greatest of 8 bits where it is greater.
+pub fn number_u8(digits: &[u8]) -> u8
+    ensures { result ≡ number_within 8 digits.now }
+{
+    number_up_to(digits, u64::from(u8::MAX)) as u8
+}
+
 /// The number of the digits, or the greatest of 16 bits where it is greater.
 pub fn number_u16(digits: &[u8]) -> u16
-    ensures { result ≡ min (digits_from 0 digits.now) (2 ^ 16 - 1) }
+    ensures { result ≡ number_within 16 digits.now }
 {
     number_up_to(digits, u64::from(u16::MAX)) as u16
 }
 
 /// The number of the digits, or the greatest of 32 bits where it is greater.
 pub fn number_u32(digits: &[u8]) -> u32
-    ensures { result ≡ min (digits_from 0 digits.now) (2 ^ 32 - 1) }
+    ensures { result ≡ number_within 32 digits.now }
 {
     number_up_to(digits, u64::from(u32::MAX)) as u32
 }

@@ -1,7 +1,7 @@
 // Lists of declarations that are read, and faults with their places.
 
 use crate::{DeclFault, read_declarations};
-use block_model::schema::{Class, Column, Schema};
+use block_model::schema::{Class, Column, Part, Schema};
 use block_model::value::Kind;
 use block_model::words::Words;
 use std::alloc::Global;
@@ -36,19 +36,26 @@ fn is_table(
         && table.columns.as_slice().iter().zip(columns).all(same)
 }
 
-fn is_index(schema: &Schema, at: usize, name: &[u8], on: (u8, u8), pages_per_range: u32) -> bool {
+fn is_index(
+    schema: &Schema,
+    at: usize,
+    name: &[u8],
+    table: u8,
+    pages_per_range: u32,
+    parts: &[Part],
+) -> bool {
     let Some(index) = schema.indexes.as_slice().get(at) else {
         return false;
     };
-    let [part] = index.parts.as_slice() else {
-        return false;
-    };
     index.name.as_bytes() == name
-        && index.table == on.0
+        && index.table == table
         && index.pages_per_range == pages_per_range
         && !index.auto
-        && part.column == on.1
-        && part.class == Class::MinMax
+        && index.parts.as_slice() == parts
+}
+
+fn part(column: u8, class: Class) -> Part {
+    Part { column, class }
 }
 
 #[test]
@@ -110,8 +117,8 @@ fn indexes_are_on_the_first_table_of_the_name(rt: HostRuntime) -> Result<(), Fai
         ],
     )?;
     assert_eq!(rt; schema.indexes.len(), 2);
-    assert!(rt; is_index(&schema, 0, b"i", (0, 1), 128));
-    assert!(rt; is_index(&schema, 1, b"j", (1, 0), 20));
+    assert!(rt; is_index(&schema, 0, b"i", 0, 128, &[part(1, Class::MinMax)]));
+    assert!(rt; is_index(&schema, 1, b"j", 1, 20, &[part(0, Class::MinMax)]));
     Ok(())
 }
 
@@ -122,12 +129,64 @@ fn numbers_past_their_field_are_its_greatest(rt: HostRuntime) -> Result<(), Fail
         &[
             "table t(a int8) rows_per_page 65536",
             "index i on t(a minmax) pages_per_range 4294967296",
-            "index j on t(a minmax) pages_per_range 00000000000000000000000000000000005",
+            "index j on t(a multi 65536,a bloom 65536 256) pages_per_range 00000000000000000000000000000000005",
         ],
     )?;
+    let greatest = Class::Multi { limit: 65535 };
+    let longest = Class::Bloom {
+        bits: 65535,
+        hashes: 255,
+    };
     assert!(rt; is_table(&schema, 0, b"t", 65535, &[(b"a", Kind::Int)]));
-    assert!(rt; is_index(&schema, 0, b"i", (0, 0), 4294967295));
-    assert!(rt; is_index(&schema, 1, b"j", (0, 0), 5));
+    assert!(rt; is_index(&schema, 0, b"i", 0, 4294967295, &[part(0, Class::MinMax)]));
+    assert!(rt;
+        is_index(
+            &schema,
+            1,
+            b"j",
+            0,
+            5,
+            &[part(0, greatest), part(0, longest)]
+        )
+    );
+    Ok(())
+}
+
+#[test]
+fn each_indexed_column_has_its_class(rt: HostRuntime) -> Result<(), Fail> {
+    let cases = [
+        (
+            "index i on t(a minmax,b inclusion) pages_per_range 1",
+            [part(0, Class::MinMax), part(1, Class::Inclusion)],
+            1,
+        ),
+        (
+            "index i on t(b multi,a multi 8)",
+            [
+                part(1, Class::Multi { limit: 32 }),
+                part(0, Class::Multi { limit: 8 }),
+            ],
+            128,
+        ),
+        (
+            "index i on t(a multi 0000000000000000000000000000000000000000000000009,a bloom 4096 03)",
+            [
+                part(0, Class::Multi { limit: 9 }),
+                part(
+                    0,
+                    Class::Bloom {
+                        bits: 4096,
+                        hashes: 3,
+                    },
+                ),
+            ],
+            128,
+        ),
+    ];
+    for (word, parts, pages_per_range) in cases {
+        let schema = declared(rt.alloc(), &["table t(a int8,b int8range)", word])?;
+        assert!(rt; is_index(&schema, 0, b"i", 0, pages_per_range, &parts));
+    }
     Ok(())
 }
 
@@ -150,8 +209,19 @@ fn faults_name_their_word_and_byte(rt: HostRuntime) {
         ("table t(a int8) rows_per_page 2x", 31),
         ("index i on u(a minmax)", 11),
         ("index i on t(b minmax)", 13),
-        ("index i on t(a multi)", 16),
-        ("index i on t(a minmax,a minmax)", 21),
+        ("index i on t(a minmax,b minmax)", 22),
+        ("index i on t(b minmax,a btree)", 25),
+        ("index i on t(a minmax,)", 22),
+        ("index i on t(a hash)", 15),
+        ("index i on t(a maxmin)", 16),
+        ("index i on t(a multi", 20),
+        ("index i on t(a multi )", 21),
+        ("index i on t(a multi 8x)", 22),
+        ("index i on t(a bloom)", 20),
+        ("index i on t(a bloom 64)", 23),
+        ("index i on t(a bloom 64 )", 24),
+        ("index i on t(a bloom 64 2 3)", 25),
+        ("index i on t(a inclusion 2)", 24),
         ("index i on t(a minmax) autosummarize", 23),
         ("index i on t(a minmax) pages_per_range", 38),
     ];

@@ -22,9 +22,9 @@ pub returns-in_err-index : goal.returns-in_err-index
 returns-in_err-index c =
     let b : begins is_t c.args.text.now ≡ false = cc in
     let p = err_from_is_err_and c.from_residual-in_err-index.result c.from_residual-in_err-index.ensures.1 in
-    rw (p.1, p.2) (declaration-index_stops c.args.text.now c.in_err-index.field-0.0.now b c.in_err-index.ensures)
+    rw (p.1, p.2) (declaration-index_stops c.args.text.now c.in_err-index.field-0.0.now b c.in_err-index.ensures.read)
 
 pub returns : goal.returns
 returns c =
     let b : begins is_t c.args.text.now ≡ false = cc in
-    (OfIndex (index_text c.in_ok-index.index), declaration-index c.args.text.now (index_text c.in_ok-index.index) c.in_ok-index.rest.now b c.in_ok-index.ensures, refl)
+    (OfIndex (index_text c.in_ok-index.index), declaration-index c.args.text.now (index_text c.in_ok-index.index) c.in_ok-index.rest.now b c.in_ok-index.ensures.read, (refl, c.in_ok-index.ensures.parts))

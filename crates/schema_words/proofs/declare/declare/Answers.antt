@@ -16,7 +16,7 @@ add_table-requires-clause-few c =
     kept-few [] c.args.word.now c.in-Ok-Table.table f
 
 pub add_index-requires : goal.add_index-requires
-add_index-requires c = (index-known (Some c.new.result) [] c.args.word.now c.in-Ok-Index.field-0 c.in-Ok-Index.index c.in-Ok-Index.field-0-is c.in-Ok-Index.ensures).of_grammar
+add_index-requires c = (index-known (Some c.new.result) [] c.args.word.now c.in-Ok-Index.field-0 c.in-Ok-Index.index c.in-Ok-Index.field-0-is c.in-Ok-Index.ensures).is
 
 pub returns-in-Ok-Table-clause-ok : goal.returns-in-Ok-Table-clause-ok
 returns-in-Ok-Table-clause-ok c =

@@ -11,7 +11,7 @@ returns-in-Ok-Table c before h =
     declares-any_table c.word.result.now (get_or c.args.words.now c.args.word []) before c.in-Ok-Table.field-0 c.word.ensures c.in-Ok-Table._table c.in-Ok-Table.field-0-is c.in-Ok-Table.ensures
 
 pub judge_index-requires-clause-index : goal.judge_index-requires-clause-index
-judge_index-requires-clause-index c = (index-known None [] c.word.result.now c.in-Ok-Index.field-0 c.in-Ok-Index.index c.in-Ok-Index.field-0-is c.in-Ok-Index.ensures).of_grammar
+judge_index-requires-clause-index c = (index-known None [] c.word.result.now c.in-Ok-Index.field-0 c.in-Ok-Index.index c.in-Ok-Index.field-0-is c.in-Ok-Index.ensures).is
 
 pub returns-in-Ok-Index : goal.returns-in-Ok-Index
 returns-in-Ok-Index c before h =
