@@ -1,42 +1,46 @@
 -- The blocks of a range, and the extent that ranges cover.
-use Rattle.std.proofs.Common.{◌≡◌, ℕ, zero, suc, ◌+◌, ◌-◌, ◌*◌, ◌/◌, ◌<◌, ◌≤◌, min, false, List, length, get_or, inl, inr, sym, subst, ap, ◌∙◌, arith}
+use Rattle.std.proofs.Common.{◌≡◌, ℕ, zero, suc, ◌+◌, ◌-◌, ◌*◌, ◌/◌, ◌<◌, ◌≤◌, min, false, List, length, get_or, Some, inl, inr, refl, sym, subst, ap, ◌∙◌, arith}
+use Rattle.std.specs.Prelude.{slice_get}
+use Rattle.std.specs.List.{list_all}
 use Rattle.std.proofs.Math.Nat.{add-mul, lt-div-mul-add, mul-le-mul_right}
 use Rattle.std.proofs.lemmas.Bool.{cases_lt}
-use Rattle.std.proofs.lemmas.List.{get_or_default}
 use Rattle.std.proofs.lemmas.Nat.{div-mul-add}
+use Rattle.std.proofs.lemmas.Option.{slice_get_read}
 use Rattle.block_model.specs.declared.row.Cond.{Cond}
 use Rattle.block_model.specs.declared.value.Value.{Value}
-use Rattle.opclass_api.specs.Conditions.{meets_all}
-use Rattle.opclass_minmax.specs.Bounds.{Bounds, NothingYet}
-use Rattle.opclass_minmax.specs.Includes.{Includes}
-use Rattle.bitmap_scan.specs.CandidateBlocks.{is_candidate, keeps, range_summary}
+use Rattle.block_model.specs.RowMatches.{column_matches}
+use Rattle.range_tuple.specs.Keeps.{keeps}
+use Rattle.range_tuple.specs.TupleIncludes.{TupleIncludes}
+use Rattle.range_tuple.specs.Tuples.{Tuple}
+use Rattle.bitmap_scan.specs.CandidateBlocks.{is_candidate, keeps_there}
 use Rattle.bitmap_scan.specs.LeftOut.{LeaveNoMatch}
 
 -- the range of a block
-range-of : (b i w : ℕ) → i * w ≤ b → b < i * w + w → b / w ≡ i
+pub range-of : (b i w : ℕ) → i * w ≤ b → b < i * w + w → b / w ≡ i
 range-of b i w low high =
     ap (λ (n : ℕ). n / w) {x = b} {y = i * w + (b - i * w)} (omega arith) ∙ div-mul-add i w (b - i * w) (omega arith)
 
--- the summary of a block's range
-pub summary-there : (summaries : List Bounds) (i w extent a e : ℕ) (s : Bounds) → i < length summaries → s ≡ get_or summaries i s → a ≡ min extent (i * w) → e ≤ extent → e ≤ a + w → (b : ℕ) → a ≤ b → b < e → range_summary summaries (b / w) ≡ s
-summary-there summaries i w extent a e s within is start high long b from below =
-    let range : b / w ≡ i = range-of b i w (omega arith) (omega arith) in
-    ap (range_summary summaries) range ∙ get_or_default summaries i NothingYet s within ∙ sym is
+-- the tuple of a block's range
+pub tuple-there : (tuples : List Tuple) (i w extent a e : ℕ) (t : Tuple) → i < length tuples → t ≡ get_or tuples i t → a ≡ min extent (i * w) → e ≤ extent → e ≤ a + w → (b : ℕ) → a ≤ b → b < e → slice_get tuples (b / w) ≡ Some t
+tuple-there tuples i w extent a e t within is start high long b from below =
+    ap (slice_get tuples) (range-of b i w (omega arith) (omega arith)) ∙ slice_get_read tuples (length tuples) i t refl within is
 
--- the blocks of a range are candidates where its summary keeps
-pub alike : (summaries : List Bounds) (conds : List Cond) (i w extent a e : ℕ) (s : Bounds) → i < length summaries → s ≡ get_or summaries i s → a ≡ min extent (i * w) → e ≤ extent → e ≤ a + w → (b : ℕ) → a ≤ b → b < e → is_candidate summaries conds w b ≡ keeps s conds
-alike summaries conds i w extent a e s within is start high long b from below =
-    ap (λ (t : Bounds). keeps t conds) (summary-there summaries i w extent a e s within is start high long b from below)
+-- the blocks of a range are candidates where its tuple keeps
+pub alike : (tuples : List Tuple) (conds : List Cond) (i w extent a e : ℕ) (t : Tuple) → i < length tuples → t ≡ get_or tuples i t → a ≡ min extent (i * w) → e ≤ extent → e ≤ a + w → (b : ℕ) → a ≤ b → b < e → is_candidate tuples conds w b ≡ keeps t conds
+alike tuples conds i w extent a e t within is start high long b from below =
+    ap (keeps_there conds) (tuple-there tuples i w extent a e t within is start high long b from below)
 
 -- one range more is judged
-pub leave-more : (summaries : List Bounds) (conds : List Cond) (i w extent a e : ℕ) (s : Bounds) → i < length summaries → s ≡ get_or summaries i s → a ≡ min extent (i * w) → e ≤ extent → e ≤ a + w → LeaveNoMatch summaries conds a w → (keeps s conds ≡ false → (v : Value) → Includes s v → meets_all conds v ≡ false) → LeaveNoMatch summaries conds e w
-leave-more summaries conds i w extent a e s within is start high long before now =
-    λ b below left v has.
+pub leave-more : (tuples : List Tuple) (conds : List Cond) (i w extent a e : ℕ) (t : Tuple) → i < length tuples → t ≡ get_or tuples i t → a ≡ min extent (i * w) → e ≤ extent → e ≤ a + w → LeaveNoMatch tuples conds a w
+    → (keeps t conds ≡ false → (row : List Value) → TupleIncludes t row → list_all (column_matches row) conds ≡ false) → LeaveNoMatch tuples conds e w
+leave-more tuples conds i w extent a e t within is start high long before now =
+    λ b below left u there row has.
     elim (cases_lt b a) [
-      | inl earlier ↦ before b earlier left v has
+      | inl earlier ↦ before b earlier left u there row has
       | inr from ↦
-          let there : range_summary summaries (b / w) ≡ s = summary-there summaries i w extent a e s within is start high long b (omega arith) below in
-          now (ap (λ (t : Bounds). keeps t conds) (sym there) ∙ left) v (subst (λ (t : Bounds). Includes t v) there has)
+          let found : slice_get tuples (b / w) ≡ Some t = tuple-there tuples i w extent a e t within is start high long b (omega arith) below in
+          let same : u ≡ t = cc (found, there) in
+          now (ap (keeps_there conds) (sym found) ∙ left) row (subst (λ (x : Tuple). TupleIncludes x row) same has)
     ]
 
 -- the first block of the next range

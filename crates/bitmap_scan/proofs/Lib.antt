@@ -1,4 +1,2 @@
 pub mod InARow
 pub mod Judging
-pub mod Keeping
-pub mod LeftOut

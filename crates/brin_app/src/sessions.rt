@@ -5,7 +5,6 @@ ghost use Rattle.query_words.specs.LineFits.{IsLineFor, IsStatementFor};
 ghost use Rattle.query_words.specs.Texts.{fault_text};
 ghost use Rattle.query_words.specs.ScriptTexts.{script_start, line_answer, said_answer, statement_answer, place_after, LacksRoom};
 ghost use Rattle.range_summaries.specs.ExplainedBlocks.{explained};
-ghost use Rattle.range_summaries.specs.MinMaxIndexes.{HasMinMaxIndexes};
 ghost use Rattle.session_core.specs.StoreState.{hand_of};
 ghost use Rattle.session_core.specs.Steps.{Ends};
 ghost use Rattle.brin_app.specs.Acting.{Acts, IsPast, IsFull, AreIdle};
@@ -44,7 +43,6 @@ impl Engine for Sessions {
 impl Sessions {
     /// No session and no row, over a store of this layout.
     pub fn new(alloc: Global, layout: Layout) -> Result<Sessions, NoMemory>
-        requires { HasMinMaxIndexes layout.schema }
         ensures place { IfOk result (λ s. place_of s.store ≡ script_start) }
         ensures layout { IfOk result (λ s. s.store.layout ≡ layout) }
         ensures idle { IfOk result (λ s. AreIdle s.store) }

@@ -3,10 +3,9 @@
 ghost use Rattle.std.specs.Prelude.{◌≡◌, ◌⊎◌, None, Ok, Err, IfOk, IfErr, IsSome};
 ghost use Rattle.block_model.specs.Causes.{Rose};
 ghost use Rattle.block_model.specs.DiskLayout.{DiskLayout};
-ghost use Rattle.block_model.specs.FirstBrokenRule.{KeepsLimits, first_broken_rule};
+ghost use Rattle.block_model.specs.FirstBrokenRule.{first_broken_rule};
 ghost use Rattle.block_model.specs.declared.schema.Schema.{Schema};
 ghost use Rattle.schema_words.specs.DeclaredSchema.{Denotes};
-ghost use Rattle.range_summaries.specs.MinMaxIndexes.{HasMinMaxIndexes};
 ghost use Rattle.brin_app.specs.ScriptOutput.{IsLayoutFor, AsksFor, AsksForNothing, IsScriptOutput, HasSpentCauses, IsComplete, exit_status, script_limit};
 
 use crate::sessions::Sessions;
@@ -67,7 +66,6 @@ enum WordsFault {
 fn read_words(alloc: Global, words: &Words) -> Result<Layout, WordsFault>
     ensures asked { IfOk result (AsksFor words.now) }
     ensures alone { IfOk result (λ layout. (other : DiskLayout) → AsksFor words.now other → other ≡ layout) }
-    ensures indexes { IfOk result (λ layout. HasMinMaxIndexes layout.schema) }
     ensures usage { result ≡ Err WordsFault.Usage → AsksForNothing words.now }
 {
     match read_command(alloc, words) {
@@ -86,7 +84,6 @@ fn read_words(alloc: Global, words: &Words) -> Result<Layout, WordsFault>
 fn layout_for(alloc: Global, sizes: Sizes, declarations: &Words) -> Result<Layout, WordsFault>
     ensures made { IfOk result (IsLayoutFor sizes declarations.now) }
     ensures alone { IfOk result (λ layout. (schema : Schema) → Denotes declarations.now schema → schema ≡ layout.schema) }
-    ensures indexes { IfOk result (λ layout. HasMinMaxIndexes layout.schema) }
     ensures usage { result ≡ Err WordsFault.Usage → (schema : Schema) → Denotes declarations.now schema → IsSome (first_broken_rule schema sizes) }
 {
     match read_declarations(alloc, declarations) {
@@ -99,21 +96,16 @@ fn layout_for(alloc: Global, sizes: Sizes, declarations: &Words) -> Result<Layou
 /// The layout of these tables, indexes and sizes, where no limit is passed.
 fn layout_of(schema: Schema, sizes: Sizes) -> Result<Layout, WordsFault>
     ensures kept { IfOk result (λ layout. (layout ≡ record { schema = schema; sizes = sizes }) × (first_broken_rule schema sizes ≡ None)) }
-    ensures limits { IfOk result (λ layout. KeepsLimits layout.schema layout.sizes) }
     ensures passed { IfErr result (λ fault. (fault ≡ WordsFault.Usage) × IsSome (first_broken_rule schema sizes)) }
 {
     match Layout::new(schema, sizes) {
-        Ok(layout) => {
-            layout.known();
-            Ok(layout)
-        }
+        Ok(layout) => Ok(layout),
         Err(_) => Err(WordsFault::Usage),
     }
 }
 
 /// Runs the script of the source over a new database.
 fn run_script<S: Source, K: Sink>(alloc: Global, layout: Layout, source: &mut S, sink: &mut K) -> u8
-    requires { HasMinMaxIndexes layout.schema }
     ensures script_output { IsScriptOutput result layout.schema (S.left source.old) (S.left source.new) (K.taken sink.old) (K.taken sink.new) }
     ensures read_fault { result ≡ 4 → Rose (S.faults source.old) (S.faults source.new) }
     ensures write_fault { result ≡ 5 → Rose (K.faults sink.old) (K.faults sink.new) }

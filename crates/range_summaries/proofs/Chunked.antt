@@ -1,17 +1,12 @@
 -- rows by chunks
 use Rattle.std.proofs.Common.{◌≡◌, ℕ, suc, zero, ◌+◌, ◌*◌, ◌-◌, ◌/◌, ◌%◌, ◌≤◌, ◌<◌, List, [], ◌∷◌, ◌++◌, take, drop, length, refl, sym, ap, ◌∙◌, arith, All, ◌⊎◌, inl, inr, subst}
-use Rattle.std.proofs.Math.Seq.{drop-nil}
+use Rattle.std.proofs.Math.Seq.{take-nil}
 use Rattle.std.proofs.Math.Nat.{mul_comm, mul_assoc, add-mul, mul-le-mul_right, div-mul-le_self, div-lt_iff_lt-mul, lt-div-mul-add}
-use Rattle.std.proofs.lemmas.Nat.{div-mul-add}
-use Rattle.std.proofs.lemmas.List.{take_all, drop_all, drop-append-le, take-append-le, length-drop, length-append, drop-take, take-take}
+use Rattle.std.proofs.lemmas.List.{take_all, drop_all, drop-append-le, drop-drop, take-append-le, length-drop, length-append, drop-take, take-take}
 use Rattle.std.proofs.lemmas.List.Elements.{All-take, All-drop}
 use Rattle.block_model.specs.declared.row.Row.{Row}
 use Rattle.row_versions.specs.Chunks.{chunk}
-
-drop-more : {X : Type 0} (n m : ℕ) (xs : List X) → drop (n + m) xs ≡ drop m (drop n xs)
-drop-more zero m xs = ap (λ k. drop k xs) (let e : 0 + m ≡ m = omega arith in e)
-drop-more (suc n) m [] = drop-nil (suc n + m) ∙ sym (drop-nil m)
-drop-more (suc n) m (x ∷ xs) = ap (λ k. drop k (x ∷ xs)) (let e : suc n + m ≡ suc (n + m) = omega arith in e) ∙ drop-more n m xs
+use Rattle.bitmap_scan.proofs.Judging.{range-of}
 
 -- ---- a row more
 
@@ -89,15 +84,18 @@ block_in_range P size pages rows block some h = subst (All P) same (All-take P s
         let inside : drop over range ≡ take rest (drop over d) = ap (λ k. drop over (take k d)) parts ∙ drop-take over rest d in
         let enough : size ≤ rest = omega (arith, fits) in
         ap (take size) inside ∙ take-take size rest (drop over d) enough
-        ∙ ap (take size) (sym (drop-more (first * (size * pages)) over rows) ∙ ap (λ k. drop k rows) at)
+        ∙ ap (take size) (drop-drop over (first * (size * pages)) rows ∙ ap (λ k. drop k rows) at)
+
+-- no row stands beyond the last one
+pub chunk-past : (size : ℕ) (rows : List Row) (n : ℕ) → length rows ≤ n * size → chunk size rows n ≡ []
+chunk-past size rows n past = ap (take size) (drop_all (n * size) rows past) ∙ take-nil size
 
 -- blocks of one range
 pub same_range : (w from b : ℕ) → 1 ≤ w → from ≤ b → b < from + (w - from % w) → b / w ≡ from / w
 same_range w from b some low high =
     let first : w * (from / w) + from % w ≡ from = omega arith in
     let rest : from % w < w = omega arith in
-    ap (λ (n : ℕ). n / w) {x = b} {y = from / w * w + (b - from / w * w)} (omega (arith, mul_comm w (from / w)))
-    ∙ div-mul-add (from / w) w (b - from / w * w) (omega (arith, mul_comm w (from / w)))
+    range-of b (from / w) w (omega (arith, mul_comm w (from / w))) (omega (arith, mul_comm w (from / w)))
 
 -- which range it is
 pub less_by : (b m w : ℕ) → 1 ≤ w → b < m * w → b / w < m

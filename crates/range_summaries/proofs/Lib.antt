@@ -1,8 +1,11 @@
 pub mod Chunked
 pub mod Covering
-pub mod InARow
 pub mod Indexed
 pub mod Judging
+pub mod Lawful
 pub mod PairTables
 pub mod Pushed
+pub mod Rooms
+pub mod Runs
+pub mod Taken
 pub mod Zipped

@@ -1,5 +1,5 @@
 -- two lists by pairs
-use Rattle.std.proofs.Common.{◌≡◌, ℕ, suc, ◌+◌, ◌<◌, List, [], ◌∷◌, ◌++◌, map, length, take, get_or, sym, ap, ◌∙◌, arith, add-one}
+use Rattle.std.proofs.Common.{◌≡◌, ℕ, zero, suc, ◌+◌, ◌<◌, List, [], ◌∷◌, ◌++◌, map, length, take, get_or, set, refl, sym, ap, ◌∙◌, arith, add-one}
 use Rattle.std.specs.List.{AllZip, All}
 use Rattle.std.proofs.Math.Seq.{take-suc}
 use Rattle.std.proofs.lemmas.List.Elements.{All-nil, All-cons}
@@ -39,3 +39,25 @@ zip-mapped f R (x ∷ xs) (y ∷ ys) same each = (each 0 x (omega arith), zip-ma
 -- one element more of a list
 pub taken : {X : Type 0} (xs : List X) (i : ℕ) (x : X) → i < length xs → x ≡ get_or xs i x → take (i + 1) xs ≡ take i xs ++ x ∷ []
 taken xs i x within is = rw add-one (take-suc xs i x within) ∙ ap (λ y. take i xs ++ y ∷ []) (sym is)
+
+-- as many
+pub zip-length : {A B : Type 0} (R : A → B → Type 0) (xs : List A) (ys : List B) → AllZip R xs ys → length xs ≡ length ys
+zip-length R [] [] h = refl
+zip-length R [] (b ∷ ys) h = absurd h
+zip-length R (a ∷ xs) [] h = absurd h
+zip-length R (a ∷ xs) (b ∷ ys) h = let rest = zip-length R xs ys h.1 in omega arith
+
+-- the pair at a place
+pub zip-get : {A B : Type 0} (R : A → B → Type 0) (xs : List A) (ys : List B) (i : ℕ) (a : A) (b : B) → AllZip R xs ys → i < length xs → R (get_or xs i a) (get_or ys i b)
+zip-get R [] ys i a b h within = absurd (omega (arith, within))
+zip-get R (x ∷ xs) [] i a b h within = absurd h
+zip-get R (x ∷ xs) (y ∷ ys) zero a b h within = h.0
+zip-get R (x ∷ xs) (y ∷ ys) (suc i) a b h within = zip-get R xs ys i a b h.1 (omega (arith, within))
+
+-- one element of the second list is changed
+pub zip-set : {A B : Type 0} (R : A → B → Type 0) (xs : List A) (ys : List B) (i : ℕ) (a : A) (b : B) → AllZip R xs ys → R (get_or xs i a) b → AllZip R xs (set ys i b)
+zip-set R [] [] i a b h here = tt
+zip-set R [] (y ∷ ys) i a b h here = absurd h
+zip-set R (x ∷ xs) [] i a b h here = absurd h
+zip-set R (x ∷ xs) (y ∷ ys) zero a b h here = (here, h.1)
+zip-set R (x ∷ xs) (y ∷ ys) (suc i) a b h here = (h.0, zip-set R xs ys i a b h.1 here)

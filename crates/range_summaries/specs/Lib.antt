@@ -1,7 +1,6 @@
 pub mod ExplainedBlocks
 pub mod IndexContents
 pub mod Judged
-pub mod MinMaxIndexes
-pub mod RangeValues
+pub mod LawfulIndexes
 pub mod Summarised
 pub mod Widened

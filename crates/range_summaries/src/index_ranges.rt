@@ -1,32 +1,33 @@
 // The ranges of an index.
 
-ghost use Rattle.std.specs.Prelude.{◌≡◌, ◌<◌, ◌≤◌, ◌++◌, ◌∷◌, [], ℕ, List, OnOk, replicate, length, vec_len, vec_capacity};
+ghost use Rattle.std.specs.Prelude.{◌≡◌, ◌^◌, ◌<◌, ◌≤◌, ◌++◌, ◌∷◌, [], List, OnOk, OnErr, IfOk, replicate, length};
 ghost use Rattle.block_model.specs.declared.row.Row.{Row};
-ghost use Rattle.range_summaries.specs.IndexContents.{AreRangesOf, HasRoomForRange, contents_of};
-ghost use Rattle.range_summaries.specs.Judged.{Covers, keeps_block};
-ghost use Rattle.range_summaries.specs.MinMaxIndexes.{HasMinMaxIndexes, IsMinMaxIndex};
-ghost use Rattle.range_summaries.specs.Widened.{IsWidened, TakesRow, TookIfOf};
-ghost use Rattle.range_summaries.specs.RangeValues.{IsNumberOrNull};
+ghost use Rattle.range_tuple.specs.TupleIncludes.{TakesRow};
+ghost use Rattle.row_versions.specs.VersionsState.{rows_at};
+ghost use Rattle.range_summaries.specs.ExplainedBlocks.{empty_tuple};
+ghost use Rattle.range_summaries.specs.IndexContents.{AreRangesOf, HasRangeOf, contents_of, range_at};
+ghost use Rattle.range_summaries.specs.Judged.{Covers, IsRunOf};
+ghost use Rattle.range_summaries.specs.LawfulIndexes.{HasLawfulIndexes, IsLawfulIndex};
+ghost use Rattle.range_summaries.specs.Widened.{IsWidened, TakesRowAt, TookIfOf};
 
-use crate::range::RangeSummary;
 use block_model::NoMemory;
 use block_model::row::Cond;
 use block_model::schema::{Index, Schema};
 use block_model::value::Value;
+use range_tuple::tuple::RangeTuple;
 use std::alloc::Global;
 
-/// The ranges of an index on the column of that table, in order from the first one, which takes as many pages and rows as
+/// The tuples of the ranges of an index of that table, in order from the first range, which takes as many pages and rows as
 /// each.
 #[derive(Debug, Drop)]
 pub(crate) struct IndexRanges {
     pub(crate) table: u8,
-    column: u8,
     pages_per_range: u32,
     rows_per_range: u64,
-    ranges: Vec<RangeSummary>,
+    ranges: Vec<RangeTuple>,
 }
 
-/// Blocks in a row that are kept, or left out: those below `end`.
+/// Blocks in a row of which an index keeps all, or leaves all out: those below `end`.
 #[derive(Clone, Copy, Debug, PartialEq, Eq)]
 pub(crate) struct Run {
     pub(crate) end: u32,
@@ -35,17 +36,13 @@ pub(crate) struct Run {
 
 /// Those of the index, for no rows. Takes no memory.
 pub(crate) fn ranges_of(alloc: Global, schema: &Schema, index: &Index) -> IndexRanges
-    requires { IsMinMaxIndex schema.now index.now }
+    requires { IsLawfulIndex schema.now index.now }
     ensures { AreRangesOf schema.now (replicate (length schema.now.tables) []) index.now (contents_of result) }
 {
     let tables = schema.tables.as_slice();
     let rows_per_page = tables[usize::from(index.table)].rows_per_page;
-    let [part, ..] = index.parts.as_slice() else {
-        unreachable!()
-    };
     IndexRanges {
         table: index.table,
-        column: part.column,
         pages_per_range: index.pages_per_range,
         rows_per_range: u64::from(rows_per_page) * u64::from(index.pages_per_range),
         ranges: Vec::new(alloc),
@@ -53,68 +50,110 @@ pub(crate) fn ranges_of(alloc: Global, schema: &Schema, index: &Index) -> IndexR
 }
 
 impl IndexRanges {
-    /// Makes room for one range more, where the index is of that table.
-    pub(crate) fn make_room(&mut self, table: u8) -> Result<(), NoMemory>
-        ensures same { contents_of self.new ≡ contents_of self.old }
-        ensures ok { OnOk result (self.new.table ≡ table → HasRoomForRange self.new) }
+    /// Where the index is of that table, takes the memory that `widen` of the table's next row needs, where the row stands at
+    /// that place: the tuple of the range that it starts.
+    pub(crate) fn make_room(
+        &mut self,
+        alloc: Global,
+        schema: &Schema,
+        index: &Index,
+        table: u8,
+        place: usize,
+    ) -> Result<(), NoMemory>
+        requires lawful { HasLawfulIndexes schema.now }
+        requires index { IsLawfulIndex schema.now index.now }
+        requires few { place < 2 ^ 32 }
+        requires row { (tables : List (List Row)) × AreRangesOf schema.now tables index.now (contents_of self.old) × (length (rows_at tables table) ≡ place) }
+        ensures kept { (tables : List (List Row)) → AreRangesOf schema.now tables index.now (contents_of self.old) → AreRangesOf schema.now tables index.now (contents_of self.new) }
+        ensures ok { OnOk result (self.new.table ≡ table → HasRangeOf place (contents_of self.new)) }
     {
-        if self.table == table && self.ranges.reserve(1).is_err() {
-            return Err(NoMemory);
+        if self.table != table {
+            return Ok(());
         }
+        let range = place as u64 / self.rows_per_range;
+        if range < self.ranges.len() as u64 {
+            return Ok(());
+        }
+        let tuple = empty_tuple(alloc, schema, index, range as u32)?;
+        push(&mut self.ranges, tuple)?;
         Ok(())
     }
 
-    /// Where the index is of that table, widens the summary of the range in which the row of that place stands by its value;
-    /// the range may be the next one. There is room for it.
+    /// Where the index is of that table, adds the values of the row of that place to the tuple of its range. Takes no memory.
     pub(crate) fn widen(&mut self, table: u8, place: usize, values: &[Value])
-        requires takes { self.old.table ≡ table → TakesRow (contents_of self.old) place values.now }
-        requires room { self.old.table ≡ table → HasRoomForRange self.old }
+        requires takes { self.old.table ≡ table → TakesRowAt place values.now (contents_of self.old) }
         ensures { TookIfOf table place values.now (contents_of self.old) (contents_of self.new) }
     {
         if self.table == table {
             let range = (place as u64 / self.rows_per_range) as usize;
-            widen_at(&mut self.ranges, range, &values[usize::from(self.column)]);
+            widen_at(&mut self.ranges, range, values);
         }
     }
 
-    /// How far from a block below the extent the blocks are of its range, and whether the range may hold a match.
-    pub(crate) fn run(&self, conds: &[Cond], from: u32, extent: u32) -> Run
+    /// How far from a block below the extent the blocks are of its range, and whether the range may hold a match of the
+    /// conditions, which are at most sixteen: as the run of the index that is known says, where the block is in it.
+    pub(crate) fn run(&self, known: Run, conds: &[Cond], from: u32, extent: u32) -> Run
         requires below { from < extent }
         requires covered { Covers extent (contents_of self.now) }
-        ensures end { (from < result.end) × (result.end ≤ extent) }
-        ensures alike { (block : ℕ) → from ≤ block → block < result.end → keeps_block conds.now block self.now ≡ result.kept }
+        requires few { length conds.now ≤ 16 }
+        requires known { IsRunOf conds.now from extent self.now known }
+        ensures further { from < result.end }
+        ensures run { IsRunOf conds.now from extent self.now result }
+    {
+        if from < known.end {
+            return known;
+        }
+        self.judged(conds, from, extent)
+    }
+
+    /// The same, by the tuple of the block's range.
+    fn judged(&self, conds: &[Cond], from: u32, extent: u32) -> Run
+        requires below { from < extent }
+        requires covered { Covers extent (contents_of self.now) }
+        requires few { length conds.now ≤ 16 }
+        ensures further { from < result.end }
+        ensures run { IsRunOf conds.now from extent self.now result }
     {
         let range = from / self.pages_per_range;
         let left = self.pages_per_range - from % self.pages_per_range;
         Run {
             end: from + left.min(extent - from),
-            kept: self.ranges[range as usize].keeps(self.column, conds),
+            kept: self.ranges[range as usize].keeps(conds),
         }
     }
 }
 
-/// Widens the summary of that range by the value, or begins it as the next one. There is room for it.
-fn widen_at(ranges: &mut Vec<RangeSummary>, range: usize, value: &Value)
-    requires number { IsNumberOrNull value.now }
-    requires next { range ≤ length ranges.old.items }
-    requires room { vec_len ranges.old < vec_capacity ranges.old }
-    ensures { IsWidened ranges.old.items range value.now ranges.new.items }
+/// The final tuple of a range to which no row was added.
+fn empty_tuple(
+    alloc: Global,
+    schema: &Schema,
+    index: &Index,
+    range: u32,
+) -> Result<RangeTuple, NoMemory>
+    requires { IsLawfulIndex schema.now index.now }
+    ensures { IfOk result (λ t. t ≡ empty_tuple schema.now index.now range) }
 {
-    if range < ranges.len() {
-        ranges[range].add(value);
-    } else {
-        let mut first = RangeSummary::new();
-        first.add(value);
-        push_within(ranges, first);
+    let mut tuple = RangeTuple::new(alloc, index, schema, range)?;
+    tuple.settle();
+    Ok(tuple)
+}
+
+/// Adds one at the end. After a refusal nothing is changed.
+fn push(ranges: &mut Vec<RangeTuple>, tuple: RangeTuple) -> Result<(), NoMemory>
+    ensures ok { OnOk result (ranges.new.items ≡ ranges.old.items ++ tuple ∷ []) }
+    ensures err { OnErr result (ranges.new.items ≡ ranges.old.items) }
+{
+    match ranges.push(tuple) {
+        Ok(()) => Ok(()),
+        Err(_) => Err(NoMemory),
     }
 }
 
-/// Adds one at the end, where there is room. Takes no memory.
-fn push_within(ranges: &mut Vec<RangeSummary>, range: RangeSummary)
-    requires { vec_len ranges.old < vec_capacity ranges.old }
-    ensures { ranges.new.items ≡ ranges.old.items ++ range ∷ [] }
+/// Adds a row's values to the tuple of that range.
+fn widen_at(ranges: &mut Vec<RangeTuple>, range: usize, values: &[Value])
+    requires there { range < length ranges.old.items }
+    requires takes { TakesRow (range_at ranges.old.items range) values.now }
+    ensures { IsWidened ranges.old.items range values.now ranges.new.items }
 {
-    let Ok(()) = ranges.push(range) else {
-        unreachable!()
-    };
+    let _ = ranges[range].add_row(values);
 }

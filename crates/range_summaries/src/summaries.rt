@@ -1,72 +1,93 @@
 // The summaries of a schema's indexes.
 
-ghost use Rattle.std.specs.Prelude.{◌≡◌, ◌^◌, ◌<◌, ◌≤◌, ℕ, List, [], ◌∷◌, ◌++◌, length, OnOk, IfOk, All, replicate, slice_set};
+ghost use Rattle.std.specs.Prelude.{◌≡◌, ◌^◌, ◌<◌, ◌≤◌, ℕ, List, [], ◌∷◌, ◌++◌, false, length, map, OnOk, IfOk, All, replicate, slice_set};
+ghost use Rattle.std.specs.List.{AllZip};
 ghost use Rattle.block_model.specs.declared.row.Row.{Row};
 ghost use Rattle.block_model.specs.declared.schema.Schema.{Schema};
 ghost use Rattle.query_words.specs.LineFits.{IsQueryFor, IsInsertFor};
 ghost use Rattle.row_versions.specs.CoversMatches.{CoversMatches};
 ghost use Rattle.row_versions.specs.VersionsState.{rows_at};
-ghost use Rattle.range_summaries.specs.ExplainedBlocks.{blocks_kept, indexes_of, rows_per_page_at};
-ghost use Rattle.range_summaries.specs.IndexContents.{contents_of};
-ghost use Rattle.range_summaries.specs.Judged.{Covers, passes};
-ghost use Rattle.range_summaries.specs.MinMaxIndexes.{HasMinMaxIndexes};
+ghost use Rattle.range_summaries.specs.ExplainedBlocks.{blocks_kept, rows_per_page_at};
+ghost use Rattle.range_summaries.specs.IndexContents.{AreRangesOf, HasRangeOf, contents_of};
+ghost use Rattle.range_summaries.specs.Judged.{AreRunsOf, Covers, HasNoMatch, passes};
+ghost use Rattle.range_summaries.specs.LawfulIndexes.{HasLawfulIndexes};
 ghost use Rattle.range_summaries.specs.Summarised.{AreSummaries, HasRoom};
 
 use crate::index_ranges::{IndexRanges, Run, ranges_of};
-use crate::laws::blocks_left_out_hold_no_match;
 use bitmap_scan::append;
 use block_model::NoMemory;
+use block_model::layout::Layout;
 use block_model::place::Blocks;
 use block_model::row::Query;
 use block_model::schema::Schema;
 use block_model::value::Value;
+use range_tuple::classes::values_of_a_kind_are_taken;
 use std::alloc::Global;
 
-/// The summaries of each index's ranges, in order from the first one.
+/// How many indexes a schema has at most.
+const MAX_INDEXES: usize = 8;
+
+/// The run in which no block is.
+const NO_BLOCKS: Run = Run { end: 0, kept: true };
+
+/// The tuples of each index's ranges, in order from the first one.
 #[derive(Drop)]
 pub struct Summaries {
+    alloc: Global,
     of_indexes: Vec<IndexRanges>,
 }
 
 impl Summaries {
-    /// Those of the schema's indexes, for tables without rows.
-    pub fn new(alloc: Global, schema: &Schema) -> Result<Summaries, NoMemory>
-        requires { HasMinMaxIndexes schema.now }
+    /// Those of the layout's indexes, for tables without rows.
+    pub fn new(alloc: Global, layout: &Layout) -> Result<Summaries, NoMemory>
+        ensures { IfOk result (λ s. AreSummaries layout.now.schema (replicate (length layout.now.schema.tables) []) s) }
+    {
+        lawful(layout);
+        let summaries = Summaries::of_schema(alloc, layout.schema())?;
+        Ok(summaries)
+    }
+
+    fn of_schema(alloc: Global, schema: &Schema) -> Result<Summaries, NoMemory>
+        requires { HasLawfulIndexes schema.now }
         ensures { IfOk result (λ s. AreSummaries schema.now (replicate (length schema.now.tables) []) s) }
     {
         let mut of_indexes = Vec::new(alloc);
         'indexes: for index in schema.indexes.as_slice() {
             push(&mut of_indexes, ranges_of(alloc, schema, index))?;
         }
-        Ok(Summaries { of_indexes })
+        Ok(Summaries { alloc, of_indexes })
     }
 
-    /// Makes room for one range more in each index of the table.
-    pub fn make_room(&mut self, table: u8) -> Result<(), NoMemory>
-        ensures kept { (schema : Schema) (tables : List (List Row)) → AreSummaries schema tables self.old → AreSummaries schema tables self.new }
-        ensures ok { OnOk result (HasRoom self.new table) }
+    /// Takes the memory that `widen` of the next row of the table needs, where the row stands at that place: in each index of
+    /// the table the tuple of a range that the row starts. After a refusal the summaries are still those of the rows.
+    pub fn make_room(&mut self, schema: &Schema, table: u8, place: usize) -> Result<(), NoMemory>
+        requires few { place < 2 ^ 32 }
+        requires row { (tables : List (List Row)) × AreSummaries schema.now tables self.old × (length (rows_at tables table) ≡ place) }
+        ensures kept { (tables : List (List Row)) → AreSummaries schema.now tables self.old → AreSummaries schema.now tables self.new }
+        ensures ok { OnOk result (HasRoom self.new table place) }
     {
-        'indexes: for ranges in self.of_indexes.iter_mut() {
-            ranges.make_room(table)?;
-        }
+        let alloc = self.alloc;
+        make_room_in_each(&mut self.of_indexes, alloc, schema, table, place)?;
         Ok(())
     }
 
-    /// Widens the summaries of the range in which the row of that place stands by its values, in each index of the table; the
-    /// range may be a new one. There is room for it. Takes no memory.
+    /// Adds the row's values to the tuple of the range in which the row of that place stands, in each index of the table. There
+    /// is room for it. Takes no memory.
     pub fn widen(&mut self, table: u8, place: usize, values: &[Value])
-        requires room { HasRoom self.old table }
+        requires room { HasRoom self.old table place }
         requires row { (schema : Schema) × (tables : List (List Row)) × AreSummaries schema tables self.old × IsInsertFor schema table values.now × (length (rows_at tables table) ≡ place) }
         ensures { (schema : Schema) (tables : List (List Row)) (row : Row) → AreSummaries schema tables self.old → IsInsertFor schema table values.now → length (rows_at tables table) ≡ place
             → row.values ≡ values.now → AreSummaries schema (slice_set tables table (rows_at tables table ++ row ∷ [])) self.new }
     {
+        values_of_a_kind_are_taken();
         'indexes: for ranges in self.of_indexes.iter_mut() {
             ranges.widen(table, place, values);
         }
     }
 
     /// Appends the blocks that a scan for the query must read, in ascending order, where the query's table has as many rows as
-    /// said, and each of its pages takes as many as said. No row of another block matches the query.
+    /// said, and each of its pages takes as many as said. No row of another block matches the query. Each range is
+    /// judged at most once in each index.
     pub fn candidates(
         &self,
         query: &Query,
@@ -78,16 +99,16 @@ impl Summaries {
         requires rows { (schema : Schema) × (tables : List (List Row)) × AreSummaries schema tables self.now × IsQueryFor schema query.now × (length (rows_at tables query.now.table) ≡ rows) × (rows_per_page ≡ rows_per_page_at schema query.now.table) }
         ensures blocks { (schema : Schema) (tables : List (List Row)) → AreSummaries schema tables self.now → IsQueryFor schema query.now → length (rows_at tables query.now.table) ≡ rows
             → rows_per_page ≡ rows_per_page_at schema query.now.table
-            → OnOk result (out.new ≡ out.old ++ blocks_kept rows_per_page (indexes_of schema query.now.table) (rows_at tables query.now.table) query.now.conds) }
+            → OnOk result (out.new ≡ out.old ++ blocks_kept schema query.now.table (rows_at tables query.now.table) query.now.conds) }
         ensures covers { (schema : Schema) (tables : List (List Row)) → AreSummaries schema tables self.now → IsQueryFor schema query.now → length (rows_at tables query.now.table) ≡ rows
             → rows_per_page ≡ rows_per_page_at schema query.now.table
-            → CoversMatches (rows_at tables query.now.table) query.now rows_per_page (blocks_kept rows_per_page (indexes_of schema query.now.table) (rows_at tables query.now.table) query.now.conds) }
+            → OnOk result (CoversMatches (rows_at tables query.now.table) query.now rows_per_page (blocks_kept schema query.now.table (rows_at tables query.now.table) query.now.conds)) }
     {
-        blocks_left_out_hold_no_match();
         let extent = (rows as u32).div_ceil(u32::from(rows_per_page));
+        let mut known = [NO_BLOCKS; MAX_INDEXES];
         let mut block = 0;
         'runs: while block < extent {
-            let run = run(self.of_indexes.as_slice(), query, block, extent);
+            let run = next_run(self.of_indexes.as_slice(), &mut known, query, block, extent);
             if run.kept {
                 append(block, run.end, out)?;
             }
@@ -97,17 +118,62 @@ impl Summaries {
     }
 }
 
-/// The blocks from one below the extent on that each index of the query's table keeps, or that one of them leaves out.
-fn run(of_indexes: &[IndexRanges], query: &Query, from: u32, extent: u32) -> Run
+/// Takes the memory that `widen` of the next row of the table needs, in each of the ranges that is of the table.
+fn make_room_in_each(
+    of_indexes: &mut [IndexRanges],
+    alloc: Global,
+    schema: &Schema,
+    table: u8,
+    place: usize,
+) -> Result<(), NoMemory>
+    requires lawful { HasLawfulIndexes schema.now }
+    requires few { place < 2 ^ 32 }
+    requires row { (tables : List (List Row)) × AllZip (AreRangesOf schema.now tables) schema.now.indexes (map contents_of of_indexes.old) × (length (rows_at tables table) ≡ place) }
+    ensures as_many { length of_indexes.new ≡ length of_indexes.old }
+    ensures kept { (tables : List (List Row)) → AllZip (AreRangesOf schema.now tables) schema.now.indexes (map contents_of of_indexes.old) → AllZip (AreRangesOf schema.now tables) schema.now.indexes (map contents_of of_indexes.new) }
+    ensures ok { OnOk result (All (λ r. r.table ≡ table → HasRangeOf place (contents_of r)) of_indexes.new) }
+{
+    let indexes = schema.indexes.as_slice();
+    'indexes: for at in 0..of_indexes.len() {
+        let ranges = &mut of_indexes[at];
+        ranges.make_room(alloc, schema, &indexes[at], table, place)?;
+    }
+    Ok(())
+}
+
+/// What the limits of a layout say of its indexes.
+fn lawful(layout: &Layout)
+    ensures { HasLawfulIndexes layout.now.schema }
+{
+    layout.known();
+}
+
+/// The blocks from one below the extent on that each index of the query's table keeps, or that one of them leaves out: no row
+/// that the tuples include there matches the query's conditions then. `known` has the run of each index that was judged last,
+/// so that no range is judged twice.
+fn next_run(
+    of_indexes: &[IndexRanges],
+    known: &mut [Run],
+    query: &Query,
+    from: u32,
+    extent: u32,
+) -> Run
     requires below { from < extent }
     requires covered { All (λ r. r.table ≡ query.now.table → Covers extent (contents_of r)) of_indexes.now }
+    requires places { length of_indexes.now ≤ length known.old }
+    requires known { AreRunsOf query.now.conds from extent of_indexes.now known.old }
+    ensures places { length known.new ≡ length known.old }
+    ensures known { AreRunsOf query.now.conds from extent of_indexes.now known.new }
     ensures end { (from < result.end) × (result.end ≤ extent) }
     ensures alike { (block : ℕ) → from ≤ block → block < result.end → passes of_indexes.now query.now.table query.now.conds block ≡ result.kept }
+    ensures left_out { result.kept ≡ false → (block : ℕ) → from ≤ block → block < result.end → HasNoMatch of_indexes.now query.now.table query.now.conds block }
 {
     let mut end = extent;
-    'indexes: for ranges in of_indexes {
+    'indexes: for at in 0..of_indexes.len() {
+        let ranges = &of_indexes[at];
         if ranges.table == query.table {
-            let run = ranges.run(query.conds.as_slice(), from, extent);
+            let run = ranges.run(known[at], query.conds.as_slice(), from, extent);
+            known[at] = run;
             if !run.kept {
                 return run;
             }

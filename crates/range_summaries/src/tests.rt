@@ -1,290 +1,268 @@
-ghost use Rattle.std.specs.Prelude.{◌≡◌, ◌⊎◌, ◌<◌, ◌≤◌, ◌==◌, ℕ, List, [], ◌∷◌, All, IfOk, count_by, length, map};
+ghost use Rattle.std.specs.Prelude.{◌≡◌, ◌+◌, ◌<◌, ◌≤◌, [], ◌∷◌, ℕ, true, All, List, IfOk, OnOk, Some, length, map, slice_get};
 ghost use Rattle.block_model.specs.declared.row.Row.{Row};
+ghost use Rattle.block_model.specs.declared.value.Kind.{Kind};
 ghost use Rattle.block_model.specs.declared.value.Kind.TheVariants as kinds;
-ghost use Rattle.block_model.specs.declared.value.Op.TheVariants as ops;
-ghost use Rattle.block_model.specs.declared.schema.Class.TheVariants as classes;
 ghost use Rattle.value_text.specs.CanonicalTexts.{IsValueOf};
+ghost use Rattle.query_words.specs.LineFits.{HasKeyFor};
+ghost use Rattle.query_words.specs.Operators.{takes_operator};
 ghost use Rattle.row_versions.specs.VersionsState.{rows_at};
-ghost use Rattle.range_summaries.specs.MinMaxIndexes.{HasMinMaxIndexes};
 ghost use Rattle.range_summaries.specs.Summarised.{AreSummaries};
 
 use crate::Summaries;
-use block_model::NoMemory;
+use block_model::layout::Layout;
 use block_model::name::Name;
+use block_model::net::Net;
 use block_model::place::Blocks;
 use block_model::row::{Cond, Conds, Query};
 use block_model::schema::{
-    Class, Column, Columns, Index, Indexes, Part, Parts, Schema, Table, Tables,
+    Class, Column, Columns, Index, Indexes, Part, Parts, Schema, Sizes, Table, Tables,
 };
 use block_model::value::{Kind, Op, Value};
 use std::alloc::Global;
+use std::process::Abort;
+use std::test::Fail;
 
-/// An index of one of the two tables, on one of its two columns.
-#[derive(Drop)]
-struct On {
-    table: u8,
-    column: u8,
-    pages_per_range: u32,
-    ghost of_table: { table < 2 },
-    ghost of_column: { column < 2 },
-    ghost some_pages: { 1 ≤ pages_per_range },
+const SIZES: Sizes = Sizes {
+    heap_blocks: 8,
+    index_blocks: 4,
+    status_blocks: 1,
+    log_pages: 16,
+    frames: 16,
+};
+
+fn name(rt: &impl Abort, bytes: &[u8]) -> Name {
+    Name::new(bytes).expect(rt, "a name")
 }
 
-/// A row of one of the two tables: numbers or nulls.
-#[derive(Drop)]
-struct Put {
-    table: u8,
-    values: [Option<u8>; 2],
-    ghost of_table: { table < 2 },
-}
-
-/// A condition on one of the two columns: it is the key, or at least the key.
-#[derive(Drop)]
-struct Where {
-    column: u8,
-    at_least: bool,
-    key: u8,
-    ghost of_column: { column < 2 },
-}
-
-fn make_on(table: u8, column: u8, pages_per_range: u32) -> On
-    requires table { table < 2 }
-    requires column { column < 2 }
-    requires pages { 1 ≤ pages_per_range }
+/// The layout of one table of an int8 `a` and an inet `b`, with one row a page, and of these indexes.
+fn layout(rt: &impl Abort, alloc: Global, indexes: Indexes) -> Result<Layout, Fail>
+    ensures kinds { IfOk result (λ l. map (λ t. map (λ c. c.kind) t.columns) l.schema.tables ≡ (kinds.Int ∷ kinds.Net ∷ []) ∷ []) }
+    ensures rows { IfOk result (λ l. map (λ t. t.rows_per_page) l.schema.tables ≡ 1 ∷ []) }
 {
-    On {
-        table,
-        column,
-        pages_per_range,
-    }
-}
-
-fn make_put(table: u8, a: u8, b: u8) -> Put
-    requires { table < 2 }
-{
-    Put {
-        table,
-        values: [Some(a), Some(b)],
-    }
-}
-
-fn make_where(column: u8, at_least: bool, key: u8) -> Where
-    requires { column < 2 }
-{
-    Where {
-        column,
-        at_least,
-        key,
-    }
-}
-
-fn op(at_least: bool) -> Op
-    ensures { (result ≡ ops.Eq) ⊎ (result ≡ ops.Ge) }
-{
-    if at_least { Op::Ge } else { Op::Eq }
-}
-
-fn table(alloc: Global) -> Result<Table, NoMemory>
-    ensures rows { IfOk result (λ t. t.rows_per_page ≡ 2) }
-    ensures columns { IfOk result (λ t. map (λ c. c.kind) t.columns ≡ kinds.Int ∷ kinds.Int ∷ []) }
-{
-    let name = Name::new(b"t").ok_or(NoMemory)?;
-    let kind = Kind::Int;
     let mut columns = Columns::new(alloc);
-    columns.push(Column { name, kind })?;
-    columns.push(Column { name, kind })?;
-    Ok(Table {
-        name,
-        rows_per_page: 2,
+    columns.push(Column {
+        name: name(rt, b"a"),
+        kind: Kind::Int,
+    })?;
+    columns.push(Column {
+        name: name(rt, b"b"),
+        kind: Kind::Net,
+    })?;
+    let mut tables = Tables::new(alloc);
+    tables.push(Table {
+        name: name(rt, b"t"),
+        rows_per_page: 1,
         columns,
-    })
+    })?;
+    let layout = Layout::new(Schema { tables, indexes }, SIZES)
+        .ok()
+        .expect(rt, "a layout");
+    Ok(layout)
 }
 
-fn index(alloc: Global, on: &On) -> Result<Index, NoMemory>
-    ensures table { IfOk result (λ i. i.table ≡ on.now.table) }
-    ensures pages { IfOk result (λ i. i.pages_per_range ≡ on.now.pages_per_range) }
-    ensures parts { IfOk result (λ i. i.parts ≡ record { column = on.now.column; class = classes.MinMax } ∷ []) }
+/// An index on the table, by these classes of its first columns.
+fn index(
+    rt: &impl Abort,
+    alloc: Global,
+    letter: &[u8],
+    classes: &[Class],
+    pages_per_range: u32,
+) -> Result<Index, Fail>
+    requires { length classes.now ≤ 2 }
 {
-    let name = Name::new(b"i").ok_or(NoMemory)?;
     let mut parts = Parts::new(alloc);
-    parts.push(Part {
-        column: on.column,
-        class: Class::MinMax,
-    })?;
+    'classes: for (column, class) in classes.iter().enumerate() {
+        parts.push(Part {
+            column: column as u8,
+            class: *class,
+        })?;
+    }
     Ok(Index {
-        name,
-        table: on.table,
-        pages_per_range: on.pages_per_range,
+        name: name(rt, letter),
+        table: 0,
+        pages_per_range,
         auto: false,
         parts,
     })
 }
 
-fn tables(alloc: Global) -> Result<Tables, NoMemory>
-    ensures two { IfOk result (λ tables. length tables ≡ 2) }
-    ensures rows { IfOk result (λ tables. All (λ t. t.rows_per_page ≡ 2) tables) }
-    ensures columns { IfOk result (λ tables. All (λ t. map (λ c. c.kind) t.columns ≡ kinds.Int ∷ kinds.Int ∷ []) tables) }
-{
-    let mut tables = Tables::new(alloc);
-    tables.push(table(alloc)?)?;
-    tables.push(table(alloc)?)?;
-    Ok(tables)
-}
-
-fn indexes(alloc: Global, indexed: &[On]) -> Result<Indexes, NoMemory>
-    ensures tables { IfOk result (All (λ i. i.table < 2)) }
-    ensures pages { IfOk result (All (λ i. 1 ≤ i.pages_per_range)) }
-    ensures parts { IfOk result (All (λ i. (column : ℕ) × (column < 2) × (i.parts ≡ record { column = column; class = classes.MinMax } ∷ []))) }
-{
-    let mut indexes = Indexes::new(alloc);
-    'indexed: for on in indexed {
-        indexes.push(index(alloc, on)?)?;
-    }
-    Ok(indexes)
-}
-
-/// Two tables of two columns of numbers, with two rows a page, and indexes on them.
-fn schema(alloc: Global, indexed: &[On]) -> Result<Schema, NoMemory>
-    ensures two { IfOk result (λ s. length s.tables ≡ 2) }
-    ensures rows { IfOk result (λ s. All (λ t. t.rows_per_page ≡ 2) s.tables) }
-    ensures columns { IfOk result (λ s. All (λ t. map (λ c. c.kind) t.columns ≡ kinds.Int ∷ kinds.Int ∷ []) s.tables) }
-    ensures lawful { IfOk result HasMinMaxIndexes }
-{
-    let tables = tables(alloc)?;
-    let indexes = indexes(alloc, indexed)?;
-    Ok(Schema { tables, indexes })
-}
-
-fn count(puts: &[Put], table: u8) -> usize
-    ensures { result ≡ count_by (λ p. p.table == table) puts.now }
-{
-    puts.iter().filter(|put| put.table == table).count()
-}
-
-fn number(n: u8) -> Value
-    ensures { IsValueOf kinds.Int result }
-{
-    Value::Int(i64::from(n))
-}
-
-fn number_or_null(n: Option<u8>) -> Value
+fn number(n: Option<u8>) -> Value
     ensures { IsValueOf kinds.Int result }
 {
     match n {
-        Some(n) => number(n),
+        Some(n) => Value::Int(i64::from(n)),
         None => Value::Null,
     }
 }
 
-fn summarised(alloc: Global, schema: &Schema, puts: &[Put]) -> Result<Summaries, NoMemory>
-    requires two { length schema.now.tables ≡ 2 }
-    requires columns { All (λ t. map (λ c. c.kind) t.columns ≡ kinds.Int ∷ kinds.Int ∷ []) schema.now.tables }
-    requires lawful { HasMinMaxIndexes schema.now }
-    ensures { IfOk result (λ s. (tables : List (List Row)) × AreSummaries schema.now tables s × ((t : ℕ) → length (rows_at tables t) ≡ count_by (λ p. p.table == t) puts.now)) }
+/// The address 10.0.0.n.
+fn address(rt: &impl Abort, n: Option<u8>) -> Value
+    ensures { IsValueOf kinds.Net result }
 {
-    let mut summaries = Summaries::new(alloc, schema)?;
-    'puts: for (i, put) in puts.iter().enumerate() {
-        summaries.make_room(put.table)?;
-        let place = count(&puts[..i], put.table);
-        let [a, b] = put.values;
-        summaries.widen(put.table, place, &[number_or_null(a), number_or_null(b)]);
+    match n {
+        Some(n) => {
+            let net = Net::v4(10 << 24 | u32::from(n), 32).expect(rt, "an address");
+            net.known();
+            Value::Net(net)
+        }
+        None => Value::Null,
+    }
+}
+
+/// A row: of its number and its address, each null where there is none.
+type Put = (Option<u8>, Option<u8>);
+
+/// Puts the table's next row.
+fn put(
+    rt: &impl Abort,
+    summaries: &mut Summaries,
+    layout: &Layout,
+    place: usize,
+    row: Put,
+) -> Result<(), Fail>
+    requires few { place < 16 }
+    requires kinds { map (λ t. map (λ c. c.kind) t.columns) layout.now.schema.tables ≡ (kinds.Int ∷ kinds.Net ∷ []) ∷ [] }
+    requires rows { (tables : List (List Row)) × AreSummaries layout.now.schema tables summaries.old × (length (rows_at tables 0) ≡ place) }
+    ensures { OnOk result ((tables : List (List Row)) × AreSummaries layout.now.schema tables summaries.new × (length (rows_at tables 0) ≡ place + 1)) }
+{
+    let values = [number(row.0), address(rt, row.1)];
+    summaries.make_room(layout.schema(), 0, place)?;
+    summaries.widen(0, place, &values);
+    Ok(())
+}
+
+/// The summaries of these rows.
+fn summarised(
+    rt: &impl Abort,
+    alloc: Global,
+    layout: &Layout,
+    puts: &[Put],
+) -> Result<Summaries, Fail>
+    requires few { length puts.now ≤ 16 }
+    requires kinds { map (λ t. map (λ c. c.kind) t.columns) layout.now.schema.tables ≡ (kinds.Int ∷ kinds.Net ∷ []) ∷ [] }
+    ensures { IfOk result (λ s. (tables : List (List Row)) × AreSummaries layout.now.schema tables s × (length (rows_at tables 0) ≡ length puts.now)) }
+{
+    let mut summaries = Summaries::new(alloc, layout)?;
+    'puts: for place in 0..puts.len() {
+        put(rt, &mut summaries, layout, place, puts[place])?;
     }
     Ok(summaries)
 }
 
-fn query(alloc: Global, table: u8, conds: &[Where]) -> Result<Query, NoMemory>
-    requires { length conds.now ≤ 16 }
-    ensures table { IfOk result (λ q. q.table ≡ table) }
-    ensures columns { IfOk result (λ q. All (λ c. c.column < 2) q.conds) }
-    ensures keys { IfOk result (λ q. All (λ c. IsValueOf kinds.Int c.key) q.conds) }
-    ensures ops { IfOk result (λ q. All (λ c. (c.op ≡ ops.Eq) ⊎ (c.op ≡ ops.Ge)) q.conds) }
-{
-    let mut query = Query {
-        table,
-        conds: Conds::new(alloc),
-    };
-    'conds: for cond in conds {
-        let cond = Cond {
-            column: cond.column,
-            op: op(cond.at_least),
-            key: number(cond.key),
-        };
-        query.conds.push(cond)?;
-    }
-    Ok(query)
+/// A condition on one of the columns.
+#[derive(Clone, Copy)]
+enum Where {
+    NumberIs(u8),
+    NumberIsNull,
+    AddressIs(u8),
+    AddressIsNull,
 }
 
-/// The blocks that a scan for the conditions must read of a table.
-fn explained(
-    alloc: Global,
-    indexed: &[On],
-    puts: &[Put],
-    table: u8,
-    conds: &[Where],
-) -> Result<Blocks, NoMemory>
-    requires table { table < 2 }
-    requires few_rows { length puts.now ≤ 16 }
-    requires few_conds { length conds.now ≤ 16 }
+fn cond(rt: &impl Abort, asked: Where) -> Cond
+    ensures { (kind : Kind) × (slice_get (kinds.Int ∷ kinds.Net ∷ []) result.column ≡ Some kind) × (takes_operator kind result.op ≡ true) × IsValueOf kind result.key × HasKeyFor result.op result.key }
 {
-    let schema = schema(alloc, indexed)?;
-    let summaries = summarised(alloc, &schema, puts)?;
-    let query = query(alloc, table, conds)?;
+    match asked {
+        Where::NumberIs(n) => Cond {
+            column: 0,
+            op: Op::Eq,
+            key: number(Some(n)),
+        },
+        Where::NumberIsNull => Cond {
+            column: 0,
+            op: Op::IsNull,
+            key: Value::Null,
+        },
+        Where::AddressIs(n) => Cond {
+            column: 1,
+            op: Op::Eq,
+            key: address(rt, Some(n)),
+        },
+        Where::AddressIsNull => Cond {
+            column: 1,
+            op: Op::IsNull,
+            key: Value::Null,
+        },
+    }
+}
+
+fn query(rt: &impl Abort, alloc: Global, asked: &[Where]) -> Result<Query, Fail>
+    requires { length asked.now ≤ 16 }
+    ensures table { IfOk result (λ q. q.table ≡ 0) }
+    ensures conds { IfOk result (λ q. All (λ c. (kind : Kind) × (slice_get (kinds.Int ∷ kinds.Net ∷ []) c.column ≡ Some kind) × (takes_operator kind c.op ≡ true) × IsValueOf kind c.key × HasKeyFor c.op c.key) q.conds) }
+{
+    let mut conds = Conds::new(alloc);
+    'conds: for one in asked {
+        conds.push(cond(rt, *one))?;
+    }
+    Ok(Query { table: 0, conds })
+}
+
+/// The blocks that a scan for the conditions must read, where these rows were put.
+fn explained(
+    rt: &impl Abort,
+    alloc: Global,
+    layout: &Layout,
+    puts: &[Put],
+    asked: &[Where],
+) -> Result<Blocks, Fail>
+    requires kinds { map (λ t. map (λ c. c.kind) t.columns) layout.now.schema.tables ≡ (kinds.Int ∷ kinds.Net ∷ []) ∷ [] }
+    requires rows { map (λ t. t.rows_per_page) layout.now.schema.tables ≡ 1 ∷ [] }
+    requires few_puts { length puts.now ≤ 16 }
+    requires few_conds { length asked.now ≤ 16 }
+{
+    let summaries = summarised(rt, alloc, layout, puts)?;
+    let query = query(rt, alloc, asked)?;
     let mut out = Blocks::new(alloc);
-    summaries.candidates(&query, count(puts, table), 2, &mut out)?;
+    summaries.candidates(&query, puts.len(), 1, &mut out)?;
     Ok(out)
 }
 
 #[test]
-fn explain_reads_chunk_summaries(rt: HostRuntime) {
+fn two_column_index_with_nulls(rt: HostRuntime) -> Result<(), Fail> {
     let alloc = rt.alloc();
-    let puts = [make_put(0, 5, 0), make_put(0, 7, 0), make_put(0, 100, 0)];
-    let indexed = [make_on(0, 0, 1)];
-    let six = [make_where(0, false, 6)];
-    let at_six = explained(alloc, &indexed, &puts, 0, &six).expect(&rt, "memory");
-    assert_eq!(rt; at_six.as_slice(), [0].as_slice());
-    let fifty = [make_where(0, false, 50)];
-    let at_fifty = explained(alloc, &indexed, &puts, 0, &fifty).expect(&rt, "memory");
-    assert!(rt; at_fifty.is_empty());
-    let seven = [make_where(0, true, 7)];
-    let from_seven = explained(alloc, &indexed, &puts, 0, &seven).expect(&rt, "memory");
-    assert_eq!(rt; from_seven.as_slice(), [0, 1].as_slice());
-    let other = [make_where(1, false, 50)];
-    let of_other = explained(alloc, &indexed, &puts, 0, &other).expect(&rt, "memory");
-    assert_eq!(rt; of_other.as_slice(), [0, 1].as_slice());
+    let mut indexes = Indexes::new(alloc);
+    indexes.push(index(&rt, alloc, b"i", &[Class::MinMax, Class::Inclusion], 1)?)?;
+    let layout = layout(&rt, alloc, indexes)?;
+    let puts = [(Some(1), None), (None, Some(1))];
+    let a_is_one = explained(&rt, alloc, &layout, &puts, &[Where::NumberIs(1)])?;
+    assert_eq!(rt; a_is_one.as_slice(), [0].as_slice());
+    let b_is_null = explained(&rt, alloc, &layout, &puts, &[Where::AddressIsNull])?;
+    assert_eq!(rt; b_is_null.as_slice(), [0].as_slice());
+    let conds = [Where::NumberIsNull, Where::AddressIs(1)];
+    let second = explained(&rt, alloc, &layout, &puts, &conds)?;
+    assert_eq!(rt; second.as_slice(), [1].as_slice());
+    let conds = [Where::NumberIs(1), Where::AddressIs(1)];
+    let neither = explained(&rt, alloc, &layout, &puts, &conds)?;
+    assert!(rt; neither.is_empty());
+    Ok(())
 }
 
 #[test]
-fn a_range_with_a_null_is_kept(rt: HostRuntime) {
-    let null = Put {
-        table: 0,
-        values: [None, Some(0)],
+fn each_index_of_the_table_is_asked(rt: HostRuntime) -> Result<(), Fail> {
+    let alloc = rt.alloc();
+    let mut indexes = Indexes::new(alloc);
+    indexes.push(index(&rt, alloc, b"i", &[Class::Multi { limit: 8 }], 2)?)?;
+    let bloom = Class::Bloom {
+        bits: 64,
+        hashes: 2,
     };
-    let puts = [make_put(0, 5, 0), null, make_put(0, 5, 0)];
-    let indexed = [make_on(0, 0, 1)];
-    let six = [make_where(0, false, 6)];
-    let at_six = explained(rt.alloc(), &indexed, &puts, 0, &six).expect(&rt, "memory");
-    assert_eq!(rt; at_six.as_slice(), [0].as_slice());
-}
-
-#[test]
-fn each_index_of_the_table_is_asked(rt: HostRuntime) {
-    let alloc = rt.alloc();
+    indexes.push(index(&rt, alloc, b"j", &[Class::MinMax, bloom], 1)?)?;
+    let layout = layout(&rt, alloc, indexes)?;
     let puts = [
-        make_put(0, 1, 1),
-        make_put(0, 1, 1),
-        make_put(0, 1, 2),
-        make_put(0, 1, 2),
-        make_put(0, 2, 2),
-        make_put(1, 9, 9),
-        make_put(0, 2, 2),
-        make_put(0, 2, 3),
+        (Some(1), Some(1)),
+        (Some(9), Some(1)),
+        (Some(1), None),
+        (Some(5), Some(1)),
+        (Some(5), Some(1)),
     ];
-    let indexed = [make_on(1, 0, 1), make_on(0, 0, 2), make_on(0, 1, 1)];
-    let conds = [make_where(0, false, 1), make_where(1, false, 2)];
-    let both = explained(alloc, &indexed, &puts, 0, &conds).expect(&rt, "memory");
-    assert_eq!(rt; both.as_slice(), [1].as_slice());
-    let all = explained(alloc, &[], &puts, 0, &conds).expect(&rt, "memory");
-    assert_eq!(rt; all.as_slice(), [0, 1, 2, 3].as_slice());
-    let second = explained(alloc, &indexed, &puts, 1, &conds).expect(&rt, "memory");
-    assert!(rt; second.is_empty());
+    let between = explained(&rt, alloc, &layout, &puts, &[Where::NumberIs(6)])?;
+    assert!(rt; between.is_empty());
+    let fives = explained(&rt, alloc, &layout, &puts, &[Where::NumberIs(5)])?;
+    assert_eq!(rt; fives.as_slice(), [3, 4].as_slice());
+    let conds = [Where::NumberIs(1), Where::AddressIsNull];
+    let third = explained(&rt, alloc, &layout, &puts, &conds)?;
+    assert_eq!(rt; third.as_slice(), [2].as_slice());
+    let all = explained(&rt, alloc, &layout, &puts, &[])?;
+    assert_eq!(rt; all.as_slice(), [0, 1, 2, 3, 4].as_slice());
+    Ok(())
 }

@@ -12,7 +12,7 @@ use Rattle.query_words.specs.declared.statement.Statement.{Statement}
 use Rattle.query_words.specs.declared.statement.Statement.TheVariants as statements
 use Rattle.query_words.specs.ScriptTexts.{database_of, max_entries, reply_behind, requests_behind}
 use Rattle.query_words.specs.StatementRequests.{refusal_at, requests_of, statement_requests, statement_reply, unless_refused, reply_unless_refused, reply_to_statement}
-use Rattle.range_summaries.specs.ExplainedBlocks.{explained, blocks_kept, indexes_of, rows_per_page_at}
+use Rattle.range_summaries.specs.ExplainedBlocks.{explained, blocks_kept}
 use Rattle.session_core.specs.Acts.{requests_in, reply_in, Acts, IsPast}
 use Rattle.session_core.specs.JournalState.{JournalState}
 use Rattle.session_core.specs.Steps.{Ends, LacksRoom}
@@ -43,7 +43,7 @@ module _ (t : TablesState) (j : JournalState) (names : List (List ℕ)) (hands :
   replies_are short (statements.Select q) taken = own_reply short (statements.Select q) taken
   replies_are short (statements.Delete q) taken = own_reply short (statements.Delete q) taken
   replies_are short (statements.Explain q) taken =
-      ap (λ (rows : List Row). if short then replies.Refused refusals.Memory else replies.Kept (blocks_kept (rows_per_page_at t.layout.schema q.table) (indexes_of t.layout.schema q.table) rows q.conds)) (h.rows q.table)
+      ap (λ (rows : List Row). if short then replies.Refused refusals.Memory else replies.Kept (blocks_kept t.layout.schema q.table rows q.conds)) (h.rows q.table)
   replies_are short (statements.Summarize index block) taken = own_reply short (statements.Summarize index block) taken
   replies_are short (statements.Desummarize index block) taken = own_reply short (statements.Desummarize index block) taken
   replies_are short (statements.Vacuum table) taken = own_reply short (statements.Vacuum table) taken

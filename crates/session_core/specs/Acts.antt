@@ -15,7 +15,7 @@ use Rattle.query_words.specs.RowsPut.{rows_put}
 use Rattle.query_words.specs.ScriptTexts.{max_entries}
 use Rattle.query_words.specs.StatementRequests.{refusal_at, requests_of, reply_to_statement}
 use Rattle.row_versions.specs.VersionsState.{rows_at}
-use Rattle.range_summaries.specs.ExplainedBlocks.{blocks_kept, indexes_of, rows_per_page_at, rows_of_table}
+use Rattle.range_summaries.specs.ExplainedBlocks.{blocks_kept, rows_of_table}
 use Rattle.session_core.specs.JournalState.{JournalState}
 use Rattle.session_core.specs.Promises.{begins_in, promised_to, KeepsPromises}
 use Rattle.session_core.specs.TablesState.{TablesState}
@@ -38,7 +38,7 @@ requests_in t n short statement = requests_of t.versions.database n short statem
 -- the blocks that a scan for the query must read
 abbrev pub blocks_for : TablesState → Query → List ℕ
 blocks_for t q =
-    blocks_kept (rows_per_page_at t.layout.schema q.table) (indexes_of t.layout.schema q.table) (rows_at t.versions.tables q.table) q.conds
+    blocks_kept t.layout.schema q.table (rows_at t.versions.tables q.table) q.conds
 
 -- the reply to it
 abbrev pub reply_in : TablesState → ℕ → Bool → Statement → Reply

@@ -5,7 +5,6 @@ ghost use Rattle.std.specs.Option.{is_some};
 ghost use Rattle.block_model.specs.DatabaseState.{OpenTransaction};
 ghost use Rattle.query_words.specs.LineFits.{IsStatementFor};
 ghost use Rattle.query_words.specs.StatementRequests.{submission_refusal};
-ghost use Rattle.range_summaries.specs.MinMaxIndexes.{HasMinMaxIndexes};
 ghost use Rattle.row_versions.specs.VersionsState.{standing_of};
 ghost use Rattle.session_core.specs.StoreState.{empty_store, hand_of, IsRefinement};
 ghost use Rattle.session_core.specs.Submits.{HasSession, Submits, submit_refusal, may_want_memory};
@@ -53,9 +52,8 @@ impl Model for Store {
 }
 
 impl Store {
-    /// A store of this layout, without sessions and rows. Each of its indexes has one minmax column.
+    /// A store of this layout, without sessions and rows.
     pub fn new(alloc: Global, layout: Layout) -> Result<Store, NoMemory>
-        requires { HasMinMaxIndexes layout.schema }
         ensures { IfOk result (λ store. store ≡ empty_store layout) }
     {
         let tables = Tables::new(alloc, layout)?;

@@ -13,7 +13,6 @@ ghost use Rattle.row_versions.specs.VersionsState.{HasTransaction, StandAtTheirI
 ghost use Rattle.row_versions.specs.Hits.{AreHits, mark_of, delete_reply};
 ghost use Rattle.row_versions.specs.CoversMatches.{CoversMatches};
 ghost use Rattle.range_summaries.specs.ExplainedBlocks.{rows_per_page_at};
-ghost use Rattle.range_summaries.specs.MinMaxIndexes.{HasMinMaxIndexes};
 ghost use Rattle.session_core.specs.Acts.{transaction_of, blocks_for};
 
 use block_model::NoMemory;
@@ -55,13 +54,12 @@ impl Model for Tables {
 impl Tables {
     /// Tables without rows.
     pub(crate) fn new(alloc: Global, layout: Layout) -> Result<Tables, NoMemory>
-        requires { HasMinMaxIndexes layout.schema }
         ensures layout { IfOk result (λ t. t.layout ≡ layout) }
         ensures database { IfOk result (λ t. t.versions.database ≡ initial_state) }
         ensures rows { IfOk result (λ t. t.versions.tables ≡ replicate (length layout.schema.tables) []) }
     {
         let versions = Versions::new(alloc, layout.schema().tables.len())?;
-        let summaries = Summaries::new(alloc, layout.schema())?;
+        let summaries = Summaries::new(alloc, &layout)?;
         Ok(Tables {
             alloc,
             layout,
@@ -134,7 +132,8 @@ impl Tables {
         if place == MAX_ROWS {
             return Err(NoMemory);
         }
-        self.summaries.make_room(table)?;
+        self.summaries
+            .make_room(self.layout.schema(), table, place)?;
         let id = self.versions.put(session, table, values)?;
         self.summaries.widen(table, place, values.as_slice());
         Ok(id)
@@ -144,7 +143,7 @@ impl Tables {
     pub(crate) fn candidates(&self, query: &Query) -> Result<Blocks, NoMemory>
         requires { IsQueryFor self.now.layout.schema query.now }
         ensures blocks { IfOk result (λ blocks. blocks ≡ blocks_for self.now query.now) }
-        ensures covers { CoversMatches (rows_at self.now.versions.tables query.now.table) query.now (rows_per_page_at self.now.layout.schema query.now.table) (blocks_for self.now query.now) }
+        ensures covers { OnOk result (CoversMatches (rows_at self.now.versions.tables query.now.table) query.now (rows_per_page_at self.now.layout.schema query.now.table) (blocks_for self.now query.now)) }
     {
         let mut blocks = Blocks::new(self.alloc);
         self.summaries.candidates(

@@ -3,7 +3,6 @@ ghost use Rattle.block_model.specs.declared.value.Value.TheVariants.{Int};
 ghost use Rattle.block_model.specs.declared.value.Op.TheVariants.{Eq};
 ghost use Rattle.std.specs.Prelude.{pos};
 ghost use Rattle.query_words.specs.LineFits.{IsStatementFor, IsQueryFor, IsInsertFor};
-ghost use Rattle.range_summaries.specs.MinMaxIndexes.{HasMinMaxIndexes};
 
 use crate::faults::{SessionFault, Step};
 use crate::store::Store;
@@ -113,7 +112,6 @@ fn sizes() -> Sizes {
 
 /// `table t(a int8) rows_per_page 2`, `index i on t(a minmax) pages_per_range 1`
 fn schema(alloc: Global) -> Option<Schema>
-    ensures indexes { IfSome result HasMinMaxIndexes }
     ensures row { IfSome result (λ schema. IsInsertFor schema 0 (Int (pos 5) ∷ [])) }
     ensures query { IfSome result (λ schema. IsQueryFor schema (record { table = 0; conds = record { column = 0; op = Eq; key = Int (pos 5) } ∷ [] })) }
 {

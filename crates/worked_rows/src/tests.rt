@@ -33,6 +33,12 @@ run|table a(a int8)|table b(a int8)|table c(a int8)|table d(a int8)|table e(a in
 run|table t(a int8)|index i0 on t(a minmax)|index i1 on t(a minmax)|index i2 on t(a minmax)|index i3 on t(a minmax)|index i4 on t(a minmax)|index i5 on t(a minmax)|index i6 on t(a minmax)|index i7 on t(a minmax)
 run|table a(b int8)|index t on a(b minmax)
 run|table t(status int8,null int8,and inet)
+run|table t(a int8)|index i on t(a multi)
+run|table t(a int8)|index i on t(a multi 8)
+run|table t(a int8)|index i on t(a multi 000256) pages_per_range 1
+run|table t(a int8range,b inet)|index i on t(b inclusion,a inclusion)
+run|table t(a int8,b inet)|index i on t(a bloom 64 1,b bloom 16384 16)
+run|table t(a int8,b int8,c int8,d int8,e int8,f int8,g int8,h int8)|index i on t(h minmax,g minmax,f minmax,e minmax,d minmax,c minmax,b minmax,a minmax)
 run|table abcdefghijklmnop(a int8)";
 
 /// Command lines that ask for nothing, or pass a limit.
@@ -112,8 +118,25 @@ run|table t(a int8)|index i on t(a minmax) pages_per_range 131073
 run|table t(a int8)|index i on t(a minmax) pages_per_range 4294967297
 run|table t(a inet)|index i on t(a minmax)
 run|table t(a int8range)|index i on t(a minmax)
-run|table t(a int8)|index i on t(a multi)
-run|table t(a inet)|index i on t(a inclusion)
+run|table t(a int8)|index i on t(a inclusion)
+run|table t(a inet)|index i on t(a multi)
+run|table t(a int8range)|index i on t(a bloom 64 1)
+run|table t(a int8)|index i on t(a multi 7)
+run|table t(a int8)|index i on t(a multi 257)
+run|table t(a int8)|index i on t(a multi 65544)
+run|table t(a int8)|index i on t(a bloom 56 1)
+run|table t(a int8)|index i on t(a bloom 65 2)
+run|table t(a int8)|index i on t(a bloom 72 0)
+run|table t(a int8)|index i on t(a bloom 64 17)
+run|table t(a int8)|index i on t(a bloom 64 257)
+run|table t(a int8)|index i on t(a bloom 16392 1)
+run|table t(a int8)|index i on t(a bloom 64)
+run|table t(a int8)|index i on t(a minmax,a minmax)
+run|table t(a int8)|index i on t(a minmax,b minmax)
+run|table t(a int8,b int8)|index i on t(a minmax, b minmax)
+run|table t(a int8,b int8)|index i on t(a minmax,)
+run|table t(a int8,b int8)|index i on t()
+run|table t(a int8,b int8,c int8,d int8)|index i on t(a bloom 16384 1,b bloom 16384 1,c bloom 16384 1,d bloom 16384 1)
 run|table t(a int8)|index i on t(a minmax) autosummarize
 run|table t(a int8) 
 run| table t(a int8)
@@ -260,9 +283,9 @@ fn int8_limits_are_kept_and_passed(rt: HostRuntime) -> Result<(), Fail> {
 fn range_operators_and_explain(rt: HostRuntime) -> Result<(), Fail> {
     check(
         &rt,
-        "run|table t(a int8range) rows_per_page 1",
-        b"s1 begin\ns1 insert t empty\ns1 insert t (,5)\ns1 insert t [7,)\ns1 insert t [1,9223372036854775807]\ns1 select t where a -|- [5,7)\ns1 select t where a <@ [0,3)\ns1 commit\n",
-        b"s1 begun 1\ns1 inserted 1.0\ns1 inserted 1.1\ns1 inserted 1.2\n- error 1 12\ns1 row 1.1 (,5)\ns1 row 1.2 [7,)\ns1 rows 2\ns1 row 1.0 empty\ns1 rows 1\ns1 committed\n",
+        "run|table t(a int8range) rows_per_page 1|index i on t(a inclusion) pages_per_range 1",
+        b"s1 begin\ns1 insert t empty\ns1 insert t (,5)\ns1 insert t [7,)\ns1 insert t [1,9223372036854775807]\ns1 select t where a -|- [5,7)\ns1 select t where a <@ [0,3)\ns1 commit\ns1 explain t where a <@ [0,3)\ns1 explain t where a -|- [5,7)\n",
+        b"s1 begun 1\ns1 inserted 1.0\ns1 inserted 1.1\ns1 inserted 1.2\n- error 1 12\ns1 row 1.1 (,5)\ns1 row 1.2 [7,)\ns1 rows 2\ns1 row 1.0 empty\ns1 rows 1\ns1 committed\ns1 blocks 0-1\ns1 blocks 1-2\n",
     )
 }
 
@@ -270,9 +293,9 @@ fn range_operators_and_explain(rt: HostRuntime) -> Result<(), Fail> {
 fn network_operators_and_explain(rt: HostRuntime) -> Result<(), Fail> {
     check(
         &rt,
-        "run|table t(a inet) rows_per_page 2",
-        b"s1 begin\ns1 insert t 10.0.0.1/24\ns1 insert t 10.0.1.0/24\ns1 select t where a << 10.0.0.0/24\ns1 select t where a <<= 10.0.0.0/24\ns1 select t where a = 10.0.0.0/24\ns1 commit\n",
-        b"s1 begun 1\ns1 inserted 1.0\ns1 inserted 1.1\ns1 rows 0\ns1 row 1.0 10.0.0.1/24\ns1 rows 1\ns1 rows 0\ns1 committed\n",
+        "run|table t(a inet) rows_per_page 2|index i on t(a inclusion) pages_per_range 1",
+        b"s1 begin\ns1 insert t 10.0.0.1/24\ns1 insert t 10.0.1.0/24\ns1 select t where a << 10.0.0.0/24\ns1 select t where a <<= 10.0.0.0/24\ns1 select t where a = 10.0.0.0/24\ns1 commit\ns1 explain t where a = 10.0.1.9\ns1 explain t where a = 10.0.2.0/24\ns1 explain t where a = 10.0.0.0/22\n",
+        b"s1 begun 1\ns1 inserted 1.0\ns1 inserted 1.1\ns1 rows 0\ns1 row 1.0 10.0.0.1/24\ns1 rows 1\ns1 rows 0\ns1 committed\ns1 blocks 0\ns1 blocks none\ns1 blocks none\n",
     )
 }
 
@@ -327,14 +350,52 @@ fn ranges_take_several_pages_and_the_last_may_be_short(rt: HostRuntime) -> Resul
 }
 
 #[test]
-fn a_null_keeps_its_range_and_each_index_of_the_table_is_asked(
-    rt: HostRuntime,
-) -> Result<(), Fail> {
+fn each_index_of_the_table_is_asked(rt: HostRuntime) -> Result<(), Fail> {
     check(
         &rt,
         "run|table t(a int8,b int8) rows_per_page 1|table u(a int8) rows_per_page 1|index i on t(a minmax) pages_per_range 1|index j on t(b minmax) pages_per_range 1|index k on u(a minmax) pages_per_range 1",
         b"s begin\ns insert t 1 10\ns insert t 2 20\ns insert t null 30\ns insert u 7\ns explain t where a = 1\ns explain t where b = 20\ns explain t where a = 1 and b = 20\ns explain t where a = 9 and b = 30\ns explain t where a is null\ns explain u where a = 8\ns select t where a is null\ns select t where a is not null and b > 10\ns select u\n",
-        b"s begun 1\ns inserted 1.0\ns inserted 1.1\ns inserted 1.2\ns inserted 1.3\ns blocks 0 2\ns blocks 1\ns blocks none\ns blocks 2\ns blocks 0-2\ns blocks none\ns row 1.2 null 30\ns rows 1\ns row 1.1 2 20\ns rows 1\ns row 1.3 7\ns rows 1\n",
+        b"s begun 1\ns inserted 1.0\ns inserted 1.1\ns inserted 1.2\ns inserted 1.3\ns blocks 0\ns blocks 1\ns blocks none\ns blocks none\ns blocks 2\ns blocks none\ns row 1.2 null 30\ns rows 1\ns row 1.1 2 20\ns rows 1\ns row 1.3 7\ns rows 1\n",
+    )
+}
+
+#[test]
+fn null_ranges_are_explained(rt: HostRuntime) -> Result<(), Fail> {
+    check(
+        &rt,
+        SMALL,
+        b"s1 begin\ns1 insert t null\ns1 insert t null\ns1 insert t 1\ns1 commit\ns1 explain t where a is null\ns1 explain t where a = 1\n",
+        b"s1 begun 1\ns1 inserted 1.0\ns1 inserted 1.1\ns1 inserted 1.2\ns1 committed\ns1 blocks 0\ns1 blocks 1\n",
+    )
+}
+
+#[test]
+fn two_column_index_with_nulls(rt: HostRuntime) -> Result<(), Fail> {
+    check(
+        &rt,
+        "run|table t(a int8,b inet) rows_per_page 1|index i on t(a minmax,b inclusion) pages_per_range 1",
+        b"s1 begin\ns1 insert t 1 null\ns1 insert t null 10.0.0.1\ns1 explain t where a = 1\ns1 explain t where b is null\ns1 explain t where a is null and b = 10.0.0.1\ns1 explain t where a = 1 and b = 10.0.0.1\ns1 select t where a is null and b = 10.0.0.1\n",
+        b"s1 begun 1\ns1 inserted 1.0\ns1 inserted 1.1\ns1 blocks 0\ns1 blocks 0\ns1 blocks 1\ns1 blocks none\ns1 row 1.1 null 10.0.0.1\ns1 rows 1\n",
+    )
+}
+
+#[test]
+fn multi_merges_the_least_gap(rt: HostRuntime) -> Result<(), Fail> {
+    check(
+        &rt,
+        "run|table t(a int8) rows_per_page 16|index i on t(a multi 8) pages_per_range 1",
+        b"s1 begin\ns1 insert t 0\ns1 insert t 10\ns1 insert t 30\ns1 insert t 500\ns1 insert t 1000\ns1 insert t 1500\ns1 insert t 2000\ns1 insert t 2020\ns1 insert t 3000\ns1 commit\ns1 explain t where a = 25\ns1 explain t where a = 2010\ns1 explain t where a = 2020\ns1 explain t where a = 31\ns1 explain t where a > 30 and a < 500\n",
+        b"s1 begun 1\ns1 inserted 1.0\ns1 inserted 1.1\ns1 inserted 1.2\ns1 inserted 1.3\ns1 inserted 1.4\ns1 inserted 1.5\ns1 inserted 1.6\ns1 inserted 1.7\ns1 inserted 1.8\ns1 committed\ns1 blocks 0\ns1 blocks none\ns1 blocks 0\ns1 blocks none\ns1 blocks none\n",
+    )
+}
+
+#[test]
+fn bloom_positions_select_blocks(rt: HostRuntime) -> Result<(), Fail> {
+    check(
+        &rt,
+        "run|table t(a int8) rows_per_page 1|index i on t(a bloom 64 2) pages_per_range 1",
+        b"s1 begin\ns1 insert t 0\ns1 insert t -7046029254386353131\ns1 commit\ns1 explain t where a = 0\ns1 explain t where a = -7046029254386353131\ns1 explain t where a < 0\n",
+        b"s1 begun 1\ns1 inserted 1.0\ns1 inserted 1.1\ns1 committed\ns1 blocks 0\ns1 blocks 1\ns1 blocks 0-1\n",
     )
 }
 

@@ -5,7 +5,7 @@ use Rattle.bitmap_scan.proofs.blocks.given.Given as goal
 
 abbrev pub invariant-judging : goal.invariant-judging
 invariant-judging l = record {
-  start : l.block ≡ min l.blocks (l.summary-index * l.pages_per_range);
-  appended : l.out ≡ l.initial.out ++ candidate_blocks l.summaries l.conds l.block l.pages_per_range;
-  left_out : LeaveNoMatch l.summaries l.conds l.block l.pages_per_range;
+  start : l.block ≡ min l.blocks (l.tuple-index * l.pages_per_range);
+  appended : l.out ≡ l.initial.out ++ candidate_blocks l.tuples l.conds l.block l.pages_per_range;
+  left_out : LeaveNoMatch l.tuples l.conds l.block l.pages_per_range;
 }

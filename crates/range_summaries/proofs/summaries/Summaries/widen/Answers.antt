@@ -5,20 +5,22 @@ use Rattle.block_model.specs.declared.value.Value.{Value}
 use Rattle.query_words.specs.LineFits.{IsInsertFor}
 use Rattle.range_summaries.specs.declared.index_ranges.IndexRanges.{IndexRanges}
 use Rattle.range_summaries.specs.IndexContents.{contents_of}
-use Rattle.range_summaries.specs.Widened.{TakesRow, TookIfOf}
+use Rattle.range_summaries.specs.Widened.{TakesRowAt, TookIfOf}
 use Rattle.range_summaries.proofs.Indexed.{all_took, each_takes}
 use Rattle.range_summaries.proofs.summaries.Summaries.widen.Goals as goal
 
-pub widen-requires-clause-takes : goal.widen-requires-clause-takes
-widen-requires-clause-takes c =
+pub widen-requires : goal.widen-requires
+widen-requires c =
     let r = c.requires.row in
     let i = c.indexes.ranges-index in
     let d = c.ranges-item.result in
     let is : get_or c.indexes.ranges-items i d ≡ get_or c.args.self.now.of_indexes.items i d =
     c.indexes.invariant.rest i d (omega arith) ∙ ap (λ (l : List IndexRanges). get_or l i d) c.deref_mut-ranges-items.ensures.value in
     let within : i < length c.args.self.now.of_indexes.items = omega (arith, ap length c.deref_mut-ranges-items.ensures.value) in
-    subst (λ (x : IndexRanges). x.table ≡ c.args.table → TakesRow (contents_of x) c.args.place c.args.values.now) (sym is)
-    (each_takes r.0 r.1 c.args.self.now c.args.table c.args.place c.args.values.now r.2 r.3 r.4 i d within)
+    record {
+      takes = subst (λ (x : IndexRanges). x.table ≡ c.args.table → TakesRowAt c.args.place c.args.values.now (contents_of x)) (sym is)
+          (each_takes c.values_of_a_kind_are_taken.ensures r.0 r.1 c.args.self.now c.args.table c.args.place c.args.values.now r.2 r.3 i d within (c.requires.room.each i d within));
+    }
 
 pub returns : goal.returns
 returns c = λ schema tables row kept fits at are.
@@ -28,7 +30,7 @@ returns c = λ schema tables row kept fits at are.
     let same : old ≡ v.items = c.deref_mut-ranges-items.ensures.value in
     let as_many : length new ≡ v.len = c.indexes.auto.ranges-items ∙ ap length same ∙ sym v.ok.0 in
     let is : (with_items v new).items ≡ new = with_items_is v new as_many in
-    all_took schema tables c.args.self.now (record { of_indexes = with_items v new }) c.args.table row kept (subst (IsInsertFor schema c.args.table) (sym are) fits) (sym v.ok.0 ∙ sym as_many ∙ ap length (sym is))
+    all_took schema tables c.args.self.now (record c.args.self.now { of_indexes = with_items v new }) c.args.table row kept (subst (IsInsertFor schema c.args.table) (sym are) fits) (sym v.ok.0 ∙ sym as_many ∙ ap length (sym is))
     (λ k d below.
     let done : k < c.indexes.ranges-index = omega (arith, ap length same) in
     let took : TookIfOf c.args.table c.args.place c.args.values.now (contents_of (get_or old k d)) (contents_of (get_or new k d)) = c.indexes.invariant.done k d done in

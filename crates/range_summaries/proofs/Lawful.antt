@@ -1,0 +1,51 @@
+-- indexes within the limits
+use Rattle.std.proofs.Common.{◌≡◌, true, ℕ, ◌≤◌, List, [], ◌∷◌, All, length}
+use Rattle.std.specs.Prelude.{nat_le, nat_lt}
+use Rattle.std.specs.List.{list_all}
+use Rattle.std.proofs.lemmas.Bool.{and_parts, leb-true, ltb-true}
+use Rattle.std.proofs.lemmas.List.Elements.{All-nil, All-cons}
+use Rattle.block_model.specs.declared.schema.Index.{Index}
+use Rattle.block_model.specs.declared.schema.Schema.{Schema}
+use Rattle.block_model.specs.declared.schema.Sizes.{Sizes}
+use Rattle.block_model.specs.declared.schema.Table.{Table}
+use Rattle.block_model.specs.FirstBrokenRule.{KeepsLimits}
+use Rattle.block_model.specs.IndexedColumns.{columns_of}
+use Rattle.block_model.specs.Limits.{class_is_lawful, columns_are_lawful, is_on_a_table, is_within, parts_are_lawful, rows_fit}
+use Rattle.block_model.specs.TupleSize.{tuple_size}
+use Rattle.range_summaries.specs.LawfulIndexes.{HasLawfulIndexes, IsLawfulIndex}
+
+within_low : (low high n : ℕ) → is_within low high n ≡ true → low ≤ n
+within_low low high n e = leb-true low n (and_parts (nat_le low n) (nat_le n high) e).0
+
+one_index : (schema : Schema) (index : Index) → parts_are_lawful index ≡ true → is_on_a_table schema index ≡ true → is_within 1 131072 index.pages_per_range ≡ true
+    → list_all (class_is_lawful (columns_of schema index)) index.parts ≡ true → nat_le (tuple_size (columns_of schema index) index.parts) 8156 ≡ true → IsLawfulIndex schema index
+one_index schema index parts on pages classes size =
+    let table = and_parts (nat_lt index.table (length schema.tables)) _ on in
+    record {
+      table = ltb-true index.table (length schema.tables) table.0;
+      some_columns = within_low 1 8 (length index.parts) (and_parts _ _ parts).0;
+      columns = table.1;
+      classes = classes;
+      size = leb-true (tuple_size (columns_of schema index) index.parts) 8156 size;
+      some_pages = within_low 1 131072 index.pages_per_range pages;
+    }
+
+each_index : (schema : Schema) (indexes : List Index) → list_all parts_are_lawful indexes ≡ true → list_all (is_on_a_table schema) indexes ≡ true → list_all (λ (i : Index). is_within 1 131072 i.pages_per_range) indexes ≡ true
+    → list_all (λ (i : Index). list_all (class_is_lawful (columns_of schema i)) i.parts) indexes ≡ true → list_all (λ (i : Index). nat_le (tuple_size (columns_of schema i) i.parts) 8156) indexes ≡ true → All (IsLawfulIndex schema) indexes
+each_index schema [] parts on pages classes sizes = All-nil (IsLawfulIndex schema)
+each_index schema (i ∷ is) parts on pages classes sizes =
+    All-cons (IsLawfulIndex schema) i is (one_index schema i (and_parts _ _ parts).0 (and_parts _ _ on).0 (and_parts _ _ pages).0 (and_parts _ _ classes).0 (and_parts _ _ sizes).0)
+    (each_index schema is (and_parts _ _ parts).1 (and_parts _ _ on).1 (and_parts _ _ pages).1 (and_parts _ _ classes).1 (and_parts _ _ sizes).1)
+
+each_table : (tables : List Table) → list_all rows_fit tables ≡ true → All (λ (t : Table). 1 ≤ t.rows_per_page) tables
+each_table [] rows = All-nil (λ (t : Table). 1 ≤ t.rows_per_page)
+each_table (t ∷ ts) rows =
+    All-cons (λ (u : Table). 1 ≤ u.rows_per_page) t ts (within_low 1 _ t.rows_per_page (and_parts _ _ rows).0) (each_table ts (and_parts _ _ rows).1)
+
+-- what the limits say of a schema's indexes
+pub lawful_indexes : (schema : Schema) (sizes : Sizes) → KeepsLimits schema sizes → HasLawfulIndexes schema
+lawful_indexes schema sizes limits = record {
+  few = leb-true (length schema.indexes) 8 (and_parts (nat_le (length schema.indexes) 8) _ (limits 3)).0;
+  indexes = each_index schema schema.indexes (and_parts (list_all columns_are_lawful schema.tables) _ (limits 2)).1 (and_parts (nat_le (length schema.indexes) 8) _ (limits 3)).1 (limits 5) (limits 6) (limits 7);
+  some_rows = each_table schema.tables (limits 4);
+}

@@ -1,0 +1,23 @@
+-- the schemas whose ranges have tuples
+use Rattle.std.specs.Prelude.{◌≡◌, ◌<◌, ◌≤◌, nat_lt, true, All, length}
+use Rattle.std.specs.List.{list_all}
+use Rattle.block_model.specs.declared.schema.Index.{Index}
+use Rattle.block_model.specs.declared.schema.Schema.{Schema}
+use Rattle.block_model.specs.IndexedColumns.{columns_of}
+use Rattle.block_model.specs.Limits.{class_is_lawful}
+use Rattle.block_model.specs.TupleSize.{tuple_size}
+
+-- an index on some columns of a table, each by a class that takes its kind, whose greatest tuple fits a page
+pub record IsLawfulIndex (schema : Schema) (index : Index) : Type 0 where
+  pub table : index.table < length schema.tables
+  pub some_columns : 0 < length index.parts
+  pub columns : list_all (λ p. nat_lt p.column (length (columns_of schema index))) index.parts ≡ true
+  pub classes : list_all (class_is_lawful (columns_of schema index)) index.parts ≡ true
+  pub size : tuple_size (columns_of schema index) index.parts ≤ 8156
+  pub some_pages : 1 ≤ index.pages_per_range
+
+-- there are at most eight, each is one, and each page has a row or more
+pub record HasLawfulIndexes (schema : Schema) : Type 0 where
+  pub few : length schema.indexes ≤ 8
+  pub indexes : All (IsLawfulIndex schema) schema.indexes
+  pub some_rows : All (λ t. 1 ≤ t.rows_per_page) schema.tables
