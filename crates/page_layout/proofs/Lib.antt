@@ -7,4 +7,5 @@ pub mod Rows
 pub mod Slots
 pub mod Pages
 pub mod OnPages
+pub mod FreeSlots
 pub mod Writes

@@ -8,10 +8,14 @@ use Rattle.block_model.specs.declared.value.Kind.{Kind}
 use Rattle.block_model.specs.RowSize.{row_size}
 use Rattle.page_layout.specs.declared.page.Form.{Form}
 use Rattle.page_layout.specs.declared.page.Form.TheVariants as forms
-use Rattle.page_layout.specs.RowBytes.{IsRowBytes, head_bytes, row_bytes}
+use Rattle.page_layout.specs.RowBytes.{StoredRow, IsRowBytes, head_bytes, row_bytes}
+use Rattle.page_layout.specs.RowReading.{row_in}
+use Rattle.page_layout.specs.RowFaults.{row_fault}
+use Rattle.page_layout.specs.PageWrites.{RowHasBytes}
 use Rattle.page_layout.specs.PageContents.{Slot, IsSlot, AreSlots, slot_bytes, slots_bytes, heap_bytes, IsHeap, IsUnstarted, IsPageOf, IsForm, HasSlot, HasSlots, IsRowOf, used_bytes, row_bytes_in, used_in, status_in, statuses}
 use Rattle.page_layout.proofs.Slots.{length-slot}
 use Rattle.page_layout.proofs.Pages.{row-room, next-row}
+use Rattle.page_layout.proofs.Rows.{row-again, row-passes, length-row}
 
 -- statuses
 
@@ -138,3 +142,15 @@ slot-room form row count ks format n e =
     let some : 0 < row = omega (arith, is.0) in
     let behind : (n + 1) * row ≤ count * row = row-room count n row below in
     (omega (arith, is.1, next-row n row), some))
+
+-- the bytes of a row of a form are read as that row
+
+pub row-sound : (form : Form) (row count : ℕ) (ks : List Kind) (format : ℕ) (bytes : List ℕ) → form ≡ forms.Heap row count ks format → IsRowOf form bytes → (length bytes ≡ row_size ks) × (row_fault ks bytes ≡ None)
+row-sound form row count ks format bytes e =
+    subst (λ (f : Form). IsRowOf f bytes → (length bytes ≡ row_size ks) × (row_fault ks bytes ≡ None)) (sym e)
+    (λ is. (ap length is.2 ∙ length-row ks is.0 is.1.columns, ap (row_fault ks) is.2 ∙ row-passes ks is.0 is.1))
+
+pub row-is : (form : Form) (row count : ℕ) (ks : List Kind) (format : ℕ) (bytes : List ℕ) (stored : StoredRow) → form ≡ forms.Heap row count ks format → RowHasBytes form bytes stored → row_in ks bytes ≡ stored
+row-is form row count ks format bytes stored e =
+    subst (λ (f : Form). RowHasBytes f bytes stored → row_in ks bytes ≡ stored) (sym e)
+    (λ has. ap (row_in ks) has.1 ∙ row-again ks stored has.0)

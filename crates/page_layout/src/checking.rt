@@ -5,16 +5,14 @@ ghost use Rattle.block_model.specs.RowSize.{row_size};
 ghost use Rattle.page_layout.specs.PageContents.{HasFewColumns, IsForm, IsPageOf};
 ghost use Rattle.page_layout.specs.PageFaults.{body_fault, kind_for, page_fault, slots_fault, started_fault, zeros_fault};
 
-use crate::page::{Form, HEADER, PAGE, Page, PageFault, bytes_known};
+use crate::page::{Form, HEADER, HEAP, PAGE, Page, PageFault, bytes_known};
 use crate::slot::slot_fault;
 use block_model::value::Kind;
 
-/// The kinds of pages.
+/// The kinds of other pages.
 const UNSTARTED: u8 = 0;
 
 const STATUS: u8 = 1;
-
-const HEAP: u8 = 2;
 
 /// Whether the page is one of the form, whose slots are of the size of a row and fit a page; a page that isn't started is
 /// one of every form. The fault is the lowest place of a field whose rule is broken.

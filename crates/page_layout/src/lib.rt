@@ -6,6 +6,7 @@
 
 mod checking;
 mod column;
+mod free;
 mod page;
 mod readers;
 mod row;
@@ -15,7 +16,8 @@ mod tests;
 mod writers;
 
 pub use checking::{check, is_page};
+pub use free::{first_free, free_slots, slot_count};
 pub use page::{Form, Page, PageFault};
 pub use readers::{kind_of, row_at, status_at};
-pub use row::{decode_row, encode_row, kinds_of, row_size};
+pub use row::{decode_row, encode_row, kinds_of, row_in, row_size};
 pub use writers::{free_slot, is_row, mark_row, put_row, set_status, start_heap};

@@ -12,6 +12,9 @@ pub(crate) const PAGE: usize = 8192;
 
 pub(crate) const HEADER: usize = 32;
 
+/// The kind of a heap page.
+pub(crate) const HEAP: u8 = 2;
+
 /// A page, seen as its 8192 bytes.
 #[derive(Debug, Drop)]
 pub struct Page {

@@ -2,11 +2,14 @@
 
 ghost use Rattle.std.specs.Prelude.{◌≡◌, ◌≤◌, ◌<◌, ◌^◌, ◌++◌, drop, length, map, None};
 ghost use Rattle.block_model.specs.RowSize.{row_size};
+ghost use Rattle.page_layout.specs.PageContents.{IsForm, IsRowOf};
+ghost use Rattle.page_layout.specs.PageWrites.{RowHasBytes};
 ghost use Rattle.page_layout.specs.RowReading.{row_in};
 ghost use Rattle.page_layout.specs.RowFaults.{row_fault};
 ghost use Rattle.page_layout.specs.RowBytes.{StoredRow, HaveKinds, IsRow, IsRowBytes, head_bytes, null_bits, row_bytes};
 
 use crate::column::{columns_size, read_columns, write_columns};
+use crate::page::Form;
 use block_model::row::RowId;
 use block_model::schema::Table;
 use block_model::value::{Kind, Kinds, Value, Values};
@@ -110,6 +113,18 @@ pub fn decode_row(table: &Table, format: u16, bytes: &[u8], values: &mut Values)
     let _ = format;
     let kinds = kinds_of(table);
     read_row(kinds.as_slice(), bytes, values)
+}
+
+/// The same by the form of the page: the bytes are those of a row of the form.
+pub fn row_in(form: Form, bytes: &[u8], values: &mut Values) -> (RowId, u64)
+    requires form { IsForm form }
+    requires row { IsRowOf form bytes.now }
+    ensures row { (row : StoredRow) → RowHasBytes form bytes.now row → (result ≡ (row.id, row.deleter)) × (values.new ≡ row.values) }
+{
+    match form {
+        Form::Status => unreachable!(),
+        Form::Heap { kinds, .. } => read_row(kinds.as_slice(), bytes, values),
+    }
 }
 
 #[tactic(auto, unfolding(crate::specs::RowReading::row_in, crate::specs::RowFaults::row_fault))]

@@ -2,7 +2,10 @@ ghost use Rattle.std.specs.Prelude.{◌≡◌, ◌∷◌, [], map, IfOk};
 ghost use Rattle.block_model.specs.declared.value.Kind.TheVariants as kinds;
 ghost use Rattle.page_layout.specs.PageContents.{HasSlot, IsForm};
 
-use super::{Form, Page, check, decode_row, encode_row, kind_of, row_at, row_size, status_at};
+use super::{
+    Form, Page, check, decode_row, encode_row, first_free, free_slots, kind_of, row_at, row_size,
+    slot_count, status_at,
+};
 use block_model::name::Name;
 use block_model::row::RowId;
 use block_model::schema::{Column, Columns, Table};
@@ -196,4 +199,39 @@ fn a_row_of_one_number_has_thirty_bytes(rt: HostRuntime) -> Result<(), Fail> {
     assert_eq!(rt; decode_row(&table, 1, &out, &mut values), (id, 0));
     assert_eq!(rt; values.as_slice(), [Value::Int(5)].as_slice());
     Ok(())
+}
+
+/// How many slots are free, and the lowest one, where the page has no fault.
+fn free_of(page: &Page, form: &Form) -> Option<(u16, Option<u16>)>
+    requires { IsForm form.now }
+{
+    match check(page, *form) {
+        Ok(()) => Some((free_slots(page, *form), first_free(page, *form))),
+        Err(_) => None,
+    }
+}
+
+#[test]
+fn free_slots_are_those_without_a_row(rt: HostRuntime) {
+    let mut bytes = [0; 8192];
+    assert_eq!(rt;
+        free_of(&Page::from_bytes(&bytes), &heap()),
+        Some((0, None))
+    );
+    bytes[0] = 2;
+    assert_eq!(rt;
+        free_of(&Page::from_bytes(&bytes), &heap()),
+        Some((2, Some(0)))
+    );
+    bytes[32..85].copy_from_slice(&ROW);
+    assert_eq!(rt;
+        free_of(&Page::from_bytes(&bytes), &heap()),
+        Some((1, Some(1)))
+    );
+    bytes[85..138].copy_from_slice(&ROW);
+    assert_eq!(rt;
+        free_of(&Page::from_bytes(&bytes), &heap()),
+        Some((0, None))
+    );
+    assert_eq!(rt; slot_count(&heap()), 2);
 }

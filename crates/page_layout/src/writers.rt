@@ -9,13 +9,10 @@ ghost use Rattle.page_layout.specs.RowBytes.{IsRowBytes, StoredRow, row_bytes};
 ghost use Rattle.page_layout.specs.RowFaults.{row_fault};
 ghost use borrow.Rule.Slice.PartMut.{put_mid};
 
-use crate::page::{Form, HEADER, PAGE, Page};
+use crate::page::{Form, HEADER, HEAP, PAGE, Page};
 use crate::row::{DELETER, IN_USE};
 use crate::slot::row_fault;
 use block_model::value::Kind;
-
-/// The kind of a heap page.
-const HEAP: u8 = 2;
 
 /// How many statuses a byte has.
 const STATUSES_A_BYTE: u16 = 4;

@@ -1,86 +1,19 @@
 -- Pages by their kind, and slots by what is read of them.
-use Rattle.std.proofs.Common.{◌≡◌, ℕ, zero, suc, ◌+◌, ◌/◌, ◌%◌, ◌<◌, inl, inr, List, [], ◌∷◌, ◌++◌, length, drop, get_or, refl, sym, ap, subst, ◌∙◌, arith}
-use Rattle.std.specs.Prelude.{None, Some, replicate, slice_get}
-use Rattle.std.proofs.lemmas.List.{get_or-replicate, get_or-drop}
+use Rattle.std.proofs.Common.{◌≡◌, ℕ, suc, ◌+◌, ◌/◌, ◌%◌, ◌<◌, inr, List, [], ◌∷◌, ◌++◌, drop, get_or, refl, sym, ap, subst, ◌∙◌, arith}
+use Rattle.std.specs.Prelude.{None, replicate}
+use Rattle.std.proofs.lemmas.List.{get_or-drop}
 use Rattle.byte_fields.specs.Fields.{AreBytes}
 use Rattle.wal_record.specs.Changes.{LoggedChange, FullPage, PageStart, RowPut, RowMark, RowsDrop, TuplePut, TupleReplace, TupleDrop, Evacuate, MapPage, MapSet, MetaSet, StatusSet}
-use Rattle.block_model.specs.declared.value.Kind.{Kind}
 use Rattle.page_layout.specs.declared.page.Form.{Form}
 use Rattle.page_layout.specs.declared.page.Form.TheVariants as forms
-use Rattle.page_layout.specs.RowBytes.{StoredRow, row_bytes}
-use Rattle.page_layout.specs.PageContents.{Slot, HasSlot, HasSlots, IsPageOf, IsUnstarted, IsStatusPage, IsRowOf, header_bytes, statuses, heap_bytes, row_bytes_in, used_bytes}
-use Rattle.page_layout.specs.PageWrites.{IsEmptyHeap, IsOfHeap, RowHasBytes}
-use Rattle.page_redo.specs.Redo.{slot_count, Fits, IsHeapPage, IsOfStatuses, Means, Redone}
+use Rattle.page_layout.specs.RowBytes.{StoredRow}
+use Rattle.page_layout.specs.PageContents.{Slot, HasSlots, IsPageOf, IsStatusPage, IsRowOf, header_bytes, statuses}
+use Rattle.page_layout.specs.PageWrites.{IsEmptyHeap, RowHasBytes}
+use Rattle.page_redo.specs.Redo.{Fits, IsOfStatuses, Means, Redone}
 
 pub has-page : (form : Form) (page : List ℕ) (slots : List Slot) → HasSlots form page slots → IsPageOf form page
 has-page forms.Status page slots has = absurd has
 has-page (forms.Heap row count ks format) page slots has = inr (slots, has)
-
-pub heap-front : (form : Form) (page : List ℕ) (slots : List Slot) → HasSlots form page slots → get_or page 0 0 ≡ 2
-unfolding heap_bytes
-heap-front forms.Status page slots has = absurd has
-heap-front (forms.Heap row count ks format) page slots has = ap (λ (l : List ℕ). get_or l 0 0) has.bytes
-
-pub status-front : (form : Form) (page : List ℕ) → IsOfStatuses form page → get_or page 0 0 ≡ 1
-status-front forms.Status page is = ap (λ (l : List ℕ). get_or l 0 0) is.1.bytes.2
-status-front (forms.Heap row count ks format) page is = absurd is
-
-pub status-page : (form : Form) (page : List ℕ) → IsOfStatuses form page → IsPageOf form page
-status-page forms.Status page is = inr is
-status-page (forms.Heap row count ks format) page is = absurd is
-
-unstarted-front : (page : List ℕ) (n : ℕ) → n ≡ 8192 → IsUnstarted page → get_or page 0 0 ≡ 0
-unstarted-front page n is_long zeros = ap (λ (l : List ℕ). get_or l 0 0) (zeros ∙ ap (λ (k : ℕ). replicate k 0) (sym is_long)) ∙ get_or-replicate n 0 0 0 (omega arith)
-
-pub heap-of : (form : Form) (page : List ℕ) (n : ℕ) → n ≡ 8192 → IsOfHeap form → IsPageOf form page → get_or page 0 0 ≡ 2 → IsHeapPage form page
-heap-of forms.Status page n is_long heap is front = absurd heap
-heap-of (forms.Heap row count ks format) page n is_long heap (inl zeros) front = absurd (let z = unstarted-front page n is_long zeros in omega (arith, z, front))
-heap-of (forms.Heap row count ks format) page n is_long heap (inr started) front = started
-
-pub statuses-of : (page : List ℕ) (n : ℕ) → n ≡ 8192 → IsPageOf forms.Status page → get_or page 0 0 ≡ 1 → IsOfStatuses forms.Status page
-statuses-of page n is_long (inl zeros) front = absurd (let z = unstarted-front page n is_long zeros in omega (arith, z, front))
-statuses-of page n is_long (inr started) front = started
-
-pub has-slot : (form : Form) (n : ℕ) → n < slot_count form → HasSlot form n
-has-slot forms.Status n below = absurd (omega arith)
-has-slot (forms.Heap row count ks format) n below = below
-
-free-there : (ks : List Kind) (slots : List Slot) (n : ℕ) → n < length slots → used_bytes ks (slice_get slots n) ≡ None → slice_get slots n ≡ Some None
-free-there ks [] n below e = absurd (omega arith)
-free-there ks (None ∷ slots) zero below e = refl
-free-there ks (Some row ∷ slots) zero below e = absurd cc
-free-there ks (slot ∷ slots) (suc n) below e = free-there ks slots n (omega arith) e
-
-pub read-none : (form : Form) (page : List ℕ) (slots : List Slot) (n : ℕ) → HasSlots form page slots → n < slot_count form → row_bytes_in form slots n ≡ None → slice_get slots n ≡ Some None
-read-none forms.Status page slots n has below e = absurd has
-read-none (forms.Heap row count ks format) page slots n has below e = free-there ks slots n (omega (arith, has.counted)) e
-
-used-there : (ks : List Kind) (slots : List Slot) (n : ℕ) (bytes : List ℕ) → used_bytes ks (slice_get slots n) ≡ Some bytes → (row : StoredRow) × (slice_get slots n ≡ Some (Some row))
-used-there ks [] n bytes e = absurd cc
-used-there ks (None ∷ slots) zero bytes e = absurd cc
-used-there ks (Some row ∷ slots) zero bytes e = (row, refl)
-used-there ks (slot ∷ slots) (suc n) bytes e = used-there ks slots n bytes e
-
-pub read-some : (form : Form) (slots : List Slot) (n : ℕ) (bytes : List ℕ) → row_bytes_in form slots n ≡ Some bytes → (row : StoredRow) × (slice_get slots n ≡ Some (Some row))
-read-some forms.Status slots n bytes e = absurd cc
-read-some (forms.Heap row count ks format) slots n bytes e = used-there ks slots n bytes e
-
-pub free-none : (form : Form) (slots : List Slot) (n : ℕ) → slice_get slots n ≡ Some None → row_bytes_in form slots n ≡ None
-free-none forms.Status slots n e = refl
-free-none (forms.Heap row count ks format) slots n e = ap (used_bytes ks) e
-
-pub used-some : (form : Form) (page : List ℕ) (slots : List Slot) (n : ℕ) (row : StoredRow) → HasSlots form page slots → slice_get slots n ≡ Some (Some row) → row_bytes_in form slots n ≡ None → ⊥
-used-some forms.Status page slots n row has there e = absurd has
-used-some (forms.Heap size count ks format) page slots n row has there e = let some : used_bytes ks (slice_get slots n) ≡ Some (row_bytes ks row) = ap (used_bytes ks) there in absurd cc
-
-there-below : (slots : List Slot) (n : ℕ) (slot : Slot) → slice_get slots n ≡ Some slot → n < length slots
-there-below [] n slot e = absurd cc
-there-below (x ∷ slots) zero slot e = omega arith
-there-below (x ∷ slots) (suc n) slot e = let below = there-below slots n slot e in omega (arith, below)
-
-pub slot-below : (form : Form) (page : List ℕ) (slots : List Slot) (n : ℕ) (slot : Slot) → HasSlots form page slots → slice_get slots n ≡ Some slot → n < slot_count form
-slot-below forms.Status page slots n slot has there = absurd has
-slot-below (forms.Heap row count ks format) page slots n slot has there = let below = there-below slots n slot there in omega (arith, below, has.counted)
 
 -- lists of changes
 
@@ -135,6 +68,27 @@ step-same form page a b (Evacuate place) sa sb fit ma mb = absurd fit
 step-same form page a b (MapPage place) sa sb fit ma mb = absurd fit
 step-same form page a b (MapSet place entry spot) sa sb fit ma mb = absurd fit
 step-same form page a b (MetaSet place maps) sa sb fit ma mb = absurd fit
+
+empty-page : (form : Form) (page : List ℕ) → IsEmptyHeap form page → IsPageOf form page
+empty-page forms.Status page is = absurd is
+empty-page (forms.Heap row count ks format) page is = inr (replicate count None, is)
+
+-- a change that fits makes a page that passes its check
+pub changed-page : (form : Form) (old new : List ℕ) (change : LoggedChange) → Fits form old change → Means form old change new → IsPageOf form new
+changed-page form old new (FullPage place bytes) fit means = subst (IsPageOf form) (sym means) fit.1
+changed-page form old new (PageStart place kind) fit means = empty-page form new means
+changed-page form old new (RowPut place slot bytes) fit means = let r = row-has form bytes fit.1 in has-page form new _ (means fit.0.0 r.0 fit.0.1 r.1)
+changed-page form old new (RowMark place slot deleter) fit means = has-page form new _ (means fit.0 fit.1 fit.2 fit.3)
+changed-page form old new (RowsDrop place bytes) fit means = has-page form new _ (means fit.0.0 fit.0.1)
+changed-page forms.Status old new (StatusSet place entry status) fit means = inr (_, means fit.0.0 fit.0.1)
+changed-page (forms.Heap row count ks format) old new (StatusSet place entry status) fit means = absurd fit.0
+changed-page form old new (TuplePut place slot bytes) fit means = absurd fit
+changed-page form old new (TupleReplace place slot bytes) fit means = absurd fit
+changed-page form old new (TupleDrop place slots) fit means = absurd fit
+changed-page form old new (Evacuate place) fit means = absurd fit
+changed-page form old new (MapPage place) fit means = absurd fit
+changed-page form old new (MapSet place entry spot) fit means = absurd fit
+changed-page form old new (MetaSet place maps) fit means = absurd fit
 
 pub redone-same : (form : Form) (page a b : List ℕ) (changes : List LoggedChange) → Redone form page changes a → Redone form page changes b → a ≡ b
 redone-same form page a b [] ra rb = ra ∙ sym rb

@@ -1,7 +1,7 @@
 -- Slots that ascend, and pages without their rows.
 use Rattle.std.proofs.Common.{◌≡◌, ℕ, ◌+◌, ◌*◌, ◌<◌, ◌≤◌, ◌&&◌, Bool, true, false, List, [], ◌∷◌, length, drop, set, get_or, refl, sym, ◌∙◌, arith}
 use Rattle.std.specs.Prelude.{None, nat_le, nat_lt}
-use Rattle.std.proofs.lemmas.Bool.{ltb-true, lt-ltb, le-leb}
+use Rattle.std.proofs.lemmas.Bool.{lt-ltb, le-leb}
 use Rattle.page_layout.specs.PageContents.{Slot}
 use Rattle.page_redo.specs.Redo.{are_ascending, dropped}
 
@@ -20,12 +20,6 @@ both true true false e = absurd cc
 both true false c e = absurd cc
 both false b c e = absurd cc
 
-pub ascend-first : (least count : ℕ) (bytes : List ℕ) → 2 ≤ length bytes → are_ascending least count bytes ≡ true → get_or bytes 0 0 * 256 + get_or bytes 1 0 < count
-unfolding are_ascending
-ascend-first least count [] long e = absurd (omega arith)
-ascend-first least count (x ∷ []) long e = absurd (omega arith)
-ascend-first least count (x ∷ y ∷ bytes) long e = ltb-true _ _ (both (nat_le least (x * 256 + y)) (nat_lt (x * 256 + y) count) (are_ascending (x * 256 + y + 1) count bytes) e).0
-
 pub ascend-rest : (least count : ℕ) (bytes : List ℕ) → 2 ≤ length bytes → are_ascending least count bytes ≡ true → are_ascending (get_or bytes 0 0 * 256 + get_or bytes 1 0 + 1) count (drop 2 bytes) ≡ true
 unfolding are_ascending
 ascend-rest least count [] long e = absurd (omega arith)
@@ -37,9 +31,3 @@ unfolding dropped
 dropped-rest slots [] long = absurd (omega arith)
 dropped-rest slots (x ∷ []) long = absurd (omega arith)
 dropped-rest slots (x ∷ y ∷ bytes) long = refl
-
-pub dropped-end : (slots : List Slot) (bytes : List ℕ) → length bytes < 2 → slots ≡ dropped slots bytes
-unfolding dropped
-dropped-end slots [] short = refl
-dropped-end slots (x ∷ []) short = refl
-dropped-end slots (x ∷ y ∷ bytes) short = absurd (omega arith)

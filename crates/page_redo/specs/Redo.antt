@@ -5,13 +5,9 @@ use Rattle.page_layout.specs.declared.page.Form.{Form}
 use Rattle.page_layout.specs.declared.page.Form.TheVariants as forms
 use Rattle.page_layout.specs.RowBytes.{StoredRow}
 use Rattle.page_layout.specs.PageContents.{Slot, HasSlots, IsPageOf, IsRowOf, IsStatusPage}
+use Rattle.page_layout.specs.FreeSlots.{slot_count}
 use Rattle.page_layout.specs.PageWrites.{IsEmptyHeap, IsOfHeap, RowHasBytes, marked}
 use Rattle.wal_record.specs.Changes.{LoggedChange, FullPage, PageStart, RowPut, RowMark, RowsDrop, StatusSet}
-
--- how many slots a page of the form has
-abbrev pub slot_count : Form → ℕ
-slot_count forms.Status = 0
-slot_count (forms.Heap row count kinds format) = count
 
 -- a page of statuses is no page that a change starts
 abbrev pub IsStart : Form → ℕ → Type 0

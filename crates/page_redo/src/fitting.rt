@@ -1,11 +1,12 @@
 // Whether a page takes a change.
 
-ghost use Rattle.std.specs.Prelude.{◌≡◌, ◌<◌, ◌≤◌, slice_index, true, false};
+ghost use Rattle.std.specs.Prelude.{◌≡◌, ◌<◌, ◌≤◌, true, false};
 ghost use Rattle.page_layout.specs.PageContents.{HasSlot, IsForm, IsPageOf, IsRowOf};
-ghost use Rattle.page_redo.specs.Redo.{Fits, IsFreeSlot, IsHeapPage, IsOfStatuses, IsStart, IsUsedSlot, are_ascending, slot_count};
+ghost use Rattle.page_layout.specs.FreeSlots.{slot_count};
+ghost use Rattle.page_redo.specs.Redo.{Fits, IsFreeSlot, IsHeapPage, IsOfStatuses, IsStart, IsUsedSlot, are_ascending};
 ghost use Rattle.wal_record.specs.Changes.{logged};
 
-use page_layout::{Form, Page, check, is_page, is_row, kind_of, row_at};
+use page_layout::{Form, Page, check, is_page, is_row, kind_of, row_at, slot_count};
 use wal_record::Change;
 
 /// How many statuses a page has, and how many there are.
@@ -27,9 +28,27 @@ pub fn fits(page: &Page, change: &Change<'_>, form: Form) -> bool
     takes(page, change, &form)
 }
 
-/// Whether the page takes the change.
+/// Whether the page takes the change: a whole page and a start whatever stands there, another one where it passes its
+/// check.
 pub(crate) fn takes(page: &Page, change: &Change<'_>, form: &Form) -> bool
     requires form { IsForm form.now }
+    ensures fits { result ≡ true → Fits form.now page.now (logged change.now) }
+    ensures misfits { result ≡ false → Fits form.now page.now (logged change.now) → ⊥ }
+{
+    match *change {
+        Change::FullPage { bytes, .. } => is_page(bytes, *form),
+        Change::PageStart { kind, .. } => is_start(kind, form),
+        _ => match check(page, *form) {
+            Ok(()) => takes_checked(page, change, form),
+            Err(_) => false,
+        },
+    }
+}
+
+/// Whether a page that passes its check takes the change.
+pub(crate) fn takes_checked(page: &Page, change: &Change<'_>, form: &Form) -> bool
+    requires form { IsForm form.now }
+    requires page { IsPageOf form.now page.now }
     ensures fits { result ≡ true → Fits form.now page.now (logged change.now) }
     ensures misfits { result ≡ false → Fits form.now page.now (logged change.now) → ⊥ }
 {
@@ -44,17 +63,6 @@ pub(crate) fn takes(page: &Page, change: &Change<'_>, form: &Form) -> bool
     }
 }
 
-fn passes(page: &Page, form: &Form) -> bool
-    requires form { IsForm form.now }
-    ensures is { result ≡ true → IsPageOf form.now page.now }
-    ensures isnt { result ≡ false → IsPageOf form.now page.now → ⊥ }
-{
-    match check(page, *form) {
-        Ok(()) => true,
-        Err(_) => false,
-    }
-}
-
 fn is_start(kind: u8, form: &Form) -> bool
     ensures is { result ≡ true → IsStart form.now kind }
     ensures isnt { result ≡ false → IsStart form.now kind → ⊥ }
@@ -65,53 +73,33 @@ fn is_start(kind: u8, form: &Form) -> bool
     }
 }
 
-/// Whether the page passes its check and is started as one of that kind.
-fn is_of_kind(page: &Page, form: &Form, kind: u8) -> bool
-    requires form { IsForm form.now }
-    ensures is { result ≡ true → IsPageOf form.now page.now × (slice_index page.now 0 ≡ kind) }
-    ensures isnt { result ≡ false → IsPageOf form.now page.now × (slice_index page.now 0 ≡ kind) → ⊥ }
-{
-    if !passes(page, form) {
-        return false;
-    }
-    kind_of(page) == kind
-}
-
 fn is_heap(page: &Page, form: &Form) -> bool
-    requires form { IsForm form.now }
+    requires { IsPageOf form.now page.now }
     ensures is { result ≡ true → IsHeapPage form.now page.now }
     ensures isnt { result ≡ false → IsHeapPage form.now page.now → ⊥ }
 {
     page.known();
     match form {
         Form::Status => false,
-        Form::Heap { .. } => is_of_kind(page, form, HEAP),
+        Form::Heap { .. } => kind_of(page) == HEAP,
     }
 }
 
 fn is_of_statuses(page: &Page, form: &Form) -> bool
-    requires form { IsForm form.now }
+    requires { IsPageOf form.now page.now }
     ensures is { result ≡ true → IsOfStatuses form.now page.now }
     ensures isnt { result ≡ false → IsOfStatuses form.now page.now → ⊥ }
 {
     page.known();
     match form {
-        Form::Status => is_of_kind(page, form, STATUS),
+        Form::Status => kind_of(page) == STATUS,
         Form::Heap { .. } => false,
-    }
-}
-
-fn slot_count(form: &Form) -> u16
-    ensures { result ≡ slot_count form.now }
-{
-    match form {
-        Form::Status => 0,
-        Form::Heap { slots, .. } => *slots,
     }
 }
 
 fn is_free(page: &Page, form: &Form, slot: u16) -> bool
     requires form { IsForm form.now }
+    requires page { IsPageOf form.now page.now }
     ensures is { result ≡ true → IsFreeSlot form.now page.now slot }
     ensures isnt { result ≡ false → IsFreeSlot form.now page.now slot → ⊥ }
 {
@@ -129,6 +117,7 @@ fn is_free(page: &Page, form: &Form, slot: u16) -> bool
 
 fn is_used(page: &Page, form: &Form, slot: u16) -> bool
     requires form { IsForm form.now }
+    requires page { IsPageOf form.now page.now }
     ensures is { result ≡ true → IsUsedSlot form.now page.now slot }
     ensures isnt { result ≡ false → IsUsedSlot form.now page.now slot → ⊥ }
 {
@@ -146,6 +135,7 @@ fn is_used(page: &Page, form: &Form, slot: u16) -> bool
 
 fn can_put(page: &Page, form: &Form, slot: u16, bytes: &[u8]) -> bool
     requires form { IsForm form.now }
+    requires page { IsPageOf form.now page.now }
     ensures is { result ≡ true → IsFreeSlot form.now page.now slot × IsRowOf form.now bytes.now }
     ensures isnt { result ≡ false → IsFreeSlot form.now page.now slot × IsRowOf form.now bytes.now → ⊥ }
 {
@@ -157,6 +147,7 @@ fn can_put(page: &Page, form: &Form, slot: u16, bytes: &[u8]) -> bool
 
 fn can_drop(page: &Page, form: &Form, slots: &[u8]) -> bool
     requires form { IsForm form.now }
+    requires page { IsPageOf form.now page.now }
     ensures is { result ≡ true → IsHeapPage form.now page.now × (are_ascending 0 (slot_count form.now) slots.now ≡ true) }
     ensures isnt { result ≡ false → IsHeapPage form.now page.now × (are_ascending 0 (slot_count form.now) slots.now ≡ true) → ⊥ }
 {
@@ -190,6 +181,7 @@ fn are_ascending(least: u32, count: u16, slots: &[u8]) -> bool
 
 fn can_set(page: &Page, form: &Form, entry: u16, status: u8) -> bool
     requires form { IsForm form.now }
+    requires page { IsPageOf form.now page.now }
     ensures is { result ≡ true → IsOfStatuses form.now page.now × (entry < 32640) × (status < 4) }
     ensures isnt { result ≡ false → IsOfStatuses form.now page.now × (entry < 32640) × (status < 4) → ⊥ }
 {

@@ -13,4 +13,4 @@ mod tests;
 
 pub use fitting::fits;
 pub use laws::redo_is_a_function;
-pub use redoing::{Misfit, redo};
+pub use redoing::{Misfit, redo, redo_checked};

@@ -1,12 +1,13 @@
 // What a change does to a page.
 
 ghost use Rattle.std.specs.Prelude.{◌≡◌, ◌≤◌, length, set, slice_index, List, true, IfErr, OnOk};
-ghost use Rattle.page_layout.specs.PageContents.{HasSlot, HasSlots, IsForm, IsRowOf, Slot};
-ghost use Rattle.page_redo.specs.Redo.{Fits, Means, are_ascending, dropped, slot_count};
+ghost use Rattle.page_layout.specs.FreeSlots.{slot_count};
+ghost use Rattle.page_layout.specs.PageContents.{HasSlot, HasSlots, IsForm, IsPageOf, IsRowOf, Slot};
+ghost use Rattle.page_redo.specs.Redo.{Fits, Means, are_ascending, dropped};
 ghost use Rattle.wal_record.specs.ChangeBytes.{bytes_of};
 ghost use Rattle.wal_record.specs.Changes.{logged};
 
-use crate::fitting::takes;
+use crate::fitting::{takes, takes_checked};
 use crate::tag::tag_of;
 use page_layout::{Form, Page, free_slot, mark_row, put_row, set_status, start_heap};
 use wal_record::Change;
@@ -27,6 +28,28 @@ pub fn redo(page: &mut Page, change: &Change<'_>, form: Form) -> Result<(), Misf
     ensures same { IfErr result (λ e. page.new ≡ page.old) }
 {
     if !takes(page, change, &form) {
+        return Err(Misfit {
+            tag: tag_of(change),
+        });
+    }
+    make(page, change, &form);
+    Ok(())
+}
+
+/// Makes the change on a page that passes its check, which isn't run again. Misfit exactly where it doesn't fit, and the
+/// page is unchanged then.
+pub fn redo_checked(page: &mut Page, change: &Change<'_>, form: Form) -> Result<(), Misfit>
+    requires form { IsForm form }
+    requires page { IsPageOf form page.old }
+    ensures fitted { OnOk result (Fits form page.old (logged change.now)) }
+    ensures done { OnOk result (Means form page.old (logged change.now) page.new) }
+    // So it may be changed again.
+    ensures passes { IsPageOf form page.new }
+    ensures misfit { IfErr result (λ e. Fits form page.old (logged change.now) → ⊥) }
+    ensures tag { IfErr result (λ e. e.tag ≡ slice_index (bytes_of (logged change.now)) 0) }
+    ensures same { IfErr result (λ e. page.new ≡ page.old) }
+{
+    if !takes_checked(page, change, &form) {
         return Err(Misfit {
             tag: tag_of(change),
         });

@@ -1,9 +1,9 @@
 ghost use Rattle.page_layout.specs.PageContents.{IsForm};
 
-use super::{Misfit, fits, redo};
+use super::{Misfit, fits, redo, redo_checked};
 use block_model::place::Place;
 use block_model::value::{Kind, Kinds};
-use page_layout::{Form, Page};
+use page_layout::{Form, Page, check};
 use wal_record::Change;
 
 const PLACE: Place = Place {
@@ -117,5 +117,36 @@ fn whole_pages_and_statuses_are_set(rt: HostRuntime) {
     );
     assert!(rt; fits(&page, &set, Form::Status));
     bytes[33] = 8;
+    assert_eq!(rt; page.as_bytes(), bytes.as_slice());
+}
+
+/// What `redo_checked` answers on a page that passes its check.
+fn redone(page: &mut Page, change: &Change<'_>, form: &Form) -> Option<Result<(), Misfit>>
+    requires { IsForm form.now }
+{
+    match check(page, *form) {
+        Ok(()) => Some(redo_checked(page, change, *form)),
+        Err(_) => None,
+    }
+}
+
+#[test]
+fn checked_pages_take_what_fits(rt: HostRuntime) {
+    let form = heap();
+    let mut bytes = [0; 8192];
+    bytes[0] = 2;
+    let mut page = Page::from_bytes(&bytes);
+    let put = Change::RowPut {
+        place: PLACE,
+        slot: 1,
+        bytes: &ROW,
+    };
+    assert_eq!(rt; redone(&mut page, &put, &form), Some(Ok(())));
+    bytes[62..92].copy_from_slice(&ROW);
+    assert_eq!(rt; page.as_bytes(), bytes.as_slice());
+    assert_eq!(rt;
+        redone(&mut page, &put, &form),
+        Some(Err(Misfit { tag: 3 }))
+    );
     assert_eq!(rt; page.as_bytes(), bytes.as_slice());
 }

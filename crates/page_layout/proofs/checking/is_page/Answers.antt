@@ -1,4 +1,4 @@
-use Rattle.std.proofs.Common.{refl, sym, ap, ◌∙◌}
+use Rattle.std.proofs.Common.{refl, sym, ◌∙◌}
 use Rattle.std.proofs.lemmas.Option.{none-some}
 use Rattle.page_layout.proofs.Pages.{page-takes, page-passes}
 use Rattle.page_layout.proofs.checking.is_page.Goals as goal

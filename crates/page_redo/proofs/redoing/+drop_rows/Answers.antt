@@ -2,7 +2,8 @@ use Rattle.std.proofs.Common.{rules, ◌≡◌, ◌+◌, ◌-◌, ◌*◌, ◌�
 use Rattle.std.specs.Prelude.{None}
 use Rattle.std.proofs.lemmas.List.{take_all, length-drop}
 use Rattle.page_layout.specs.PageContents.{HasSlots}
-use Rattle.page_redo.specs.Redo.{are_ascending, dropped, slot_count}
+use Rattle.page_layout.specs.FreeSlots.{slot_count}
+use Rattle.page_redo.specs.Redo.{are_ascending, dropped}
 use Rattle.page_redo.proofs.Slots.{ascend-rest, dropped-rest}
 use Rattle.page_redo.proofs.redoing.+drop_rows.Goals as goal
 

@@ -1,0 +1,4 @@
+pub mod Splices
+pub mod CrashImages
+pub mod Undoing
+pub mod Notes

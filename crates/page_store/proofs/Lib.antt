@@ -1,0 +1,10 @@
+pub mod Lookups
+pub mod FreeCounts
+pub mod Pages
+pub mod Blocks
+pub mod Rooms
+pub mod FreeKept
+pub mod Counts
+pub mod Soughts
+pub mod Relations
+pub mod Stores

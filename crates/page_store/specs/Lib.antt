@@ -1,0 +1,11 @@
+pub mod PageMap
+pub mod Forms
+pub mod Changed
+pub mod Keeps
+pub mod Outcome
+pub mod Started
+pub mod FirstRoom
+pub mod Blocks
+pub mod Lowest
+pub mod Relations
+pub mod Store

@@ -1,0 +1,23 @@
+// Why a call of the store, or of a machine over it, isn't done.
+
+/// Why a call of the page store isn't done. Nothing is changed then.
+#[derive(Clone, Copy, Debug, PartialEq, Eq)]
+pub enum StoreError {
+    /// The disk failed in this call.
+    Disk,
+    /// The disk failed in an earlier call, when its count of faults was this. Only opening it anew helps.
+    Reopen { faults: u64 },
+    /// The page that begins at this byte of the disk isn't as it should be.
+    Damaged { at: u64 },
+}
+
+/// Why a step of a machine over pages isn't done.
+#[derive(Clone, Copy, Debug, PartialEq, Eq)]
+pub enum MachineFault {
+    /// The relation has no room; it has that many slots or blocks.
+    Full { relation: u8, number: u64 },
+    /// The page store refused.
+    Store(StoreError),
+    /// Want of memory.
+    Memory,
+}
