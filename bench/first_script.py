@@ -34,6 +34,10 @@ def lookups():
     yield from (f"r select t where a = {n * (LINES // 100)}\n" for n in range(100))
 
 
+def comments():
+    yield from ("# a comment\n" for _ in range(LINES))
+
+
 def interleaved():
     """64 sessions in turn: each puts a row, and then selects it."""
     yield from (f"s{n} begin\n" for n in range(64))
@@ -64,7 +68,7 @@ def main():
         "inserts, then 100 selects of one row": (WORDS, lambda: [inserts(1), lookups()]),
         "the same with an index": (WORDS + INDEX, lambda: [inserts(1), lookups()]),
         "64 sessions in turn, an insert and a select of its row": (WORDS + SMALL_RANGES, lambda: [interleaved()]),
-        "comments": (WORDS, lambda: ["# a comment\n" for _ in range(LINES)]),
+        "comments": (WORDS, lambda: [comments()]),
     }
     with tempfile.TemporaryDirectory() as folder:
         script, out = os.path.join(folder, "script"), os.path.join(folder, "out")

@@ -26,7 +26,7 @@ tuple-there tuples i w extent a e t within is start high long b from below =
     ap (slice_get tuples) (range-of b i w (omega arith) (omega arith)) ∙ slice_get_read tuples (length tuples) i t refl within is
 
 -- the blocks of a range are candidates where its tuple keeps
-pub alike : (tuples : List Tuple) (conds : List Cond) (i w extent a e : ℕ) (t : Tuple) → i < length tuples → t ≡ get_or tuples i t → a ≡ min extent (i * w) → e ≤ extent → e ≤ a + w → (b : ℕ) → a ≤ b → b < e → is_candidate tuples conds w b ≡ keeps t conds
+pub alike : (tuples : List Tuple) (conds : List Cond) (i w extent a e : ℕ) (t : Tuple) → i < length tuples → t ≡ get_or tuples i t → a ≡ min extent (i * w) → e ≤ extent → e ≤ a + w → (b : ℕ) → a ≤ b → b < e → is_candidate (slice_get tuples) conds w b ≡ keeps t conds
 alike tuples conds i w extent a e t within is start high long b from below =
     ap (keeps_there conds) (tuple-there tuples i w extent a e t within is start high long b from below)
 

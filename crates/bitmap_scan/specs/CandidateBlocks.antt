@@ -10,14 +10,17 @@ abbrev pub keeps_there : List Cond → Option Tuple → Bool
 keeps_there conds None = true
 keeps_there conds (Some t) = keeps t conds
 
--- the range of the block keeps the conditions
-abbrev pub is_candidate : List Tuple → List Cond → ℕ → ℕ → Bool
-is_candidate tuples conds pages_per_range block = keeps_there conds (slice_get tuples (block / pages_per_range))
+-- by the tuples that an index has of its ranges, the block may hold a match of the conditions
+abbrev pub is_candidate : (ℕ → Option Tuple) → List Cond → ℕ → ℕ → Bool
+is_candidate tuple_of_range conds pages_per_range block = keeps_there conds (tuple_of_range (block / pages_per_range))
 
--- the blocks below the extent whose range keeps the conditions, in ascending order
+-- the blocks below the extent that pass a test, in ascending order
+abbrev pub blocks_where : (ℕ → Bool) → ℕ → List ℕ
+blocks_where test extent = filter test (range_with_len 0 extent)
+
+-- the candidates of one index: the element at place r of the tuples is of range r
 abbrev pub candidate_blocks : List Tuple → List Cond → ℕ → ℕ → List ℕ
-candidate_blocks tuples conds extent pages_per_range =
-    filter (is_candidate tuples conds pages_per_range) (range_with_len 0 extent)
+candidate_blocks tuples conds extent pages_per_range = blocks_where (is_candidate (slice_get tuples) conds pages_per_range) extent
 
 -- to the old list some first ones of more are added, and not all
 pub record AddsFront (more old new : List ℕ) : Type 0 where

@@ -11,6 +11,6 @@ use Rattle.bitmap_scan.specs.CandidateBlocks.{is_candidate}
 -- a block below the extent that isn't a candidate: no row that its range's tuple includes matches the conditions
 abbrev pub LeaveNoMatch : List Tuple → List Cond → ℕ → ℕ → Type 0
 LeaveNoMatch tuples conds extent pages_per_range =
-    (block : ℕ) → block < extent → is_candidate tuples conds pages_per_range block ≡ false
+    (block : ℕ) → block < extent → is_candidate (slice_get tuples) conds pages_per_range block ≡ false
     → (t : Tuple) → slice_get tuples (block / pages_per_range) ≡ Some t
     → (row : List Value) → TupleIncludes t row → list_all (column_matches row) conds ≡ false

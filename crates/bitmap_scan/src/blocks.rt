@@ -1,6 +1,7 @@
-// The blocks that a scan must read.
+//! The blocks that a scan must read.
 
 ghost use Rattle.std.specs.Prelude.{if◌then◌else◌, [], true, false, ◌≡◌, ◌<◌, ◌≤◌, ◌/◌, ◌-◌, ◌++◌, List, ℕ, length, OnOk, OnErr};
+ghost use Rattle.block_model.specs.declared.limits.TheConstants.{MAX_CONDITIONS};
 ghost use Rattle.std.specs.List.{list_all, range_with_len};
 ghost use Rattle.block_model.specs.declared.value.Value.{Value};
 ghost use Rattle.block_model.specs.RowMatches.{column_matches};
@@ -9,10 +10,8 @@ ghost use Rattle.range_tuple.specs.TupleIncludes.{TupleIncludes};
 ghost use Rattle.bitmap_scan.specs.CandidateBlocks.{AddsFront, candidate_blocks};
 ghost use Rattle.bitmap_scan.specs.LeftOut.{LeaveNoMatch};
 
-use block_model::NoMemory;
-use block_model::place::Blocks;
-use block_model::row::Cond;
-use range_tuple::tuple::RangeTuple;
+use block_model::{Blocks, Cond, NoMemory};
+use range_tuple::RangeTuple;
 
 /// Appends the blocks below `blocks` whose range's tuple keeps the conditions, of which there are at most sixteen, in
 /// ascending order. The element at place r of the tuples is of range r, the blocks from r * `pages_per_range`. No row that
@@ -27,13 +26,13 @@ pub fn given(
 ) -> Result<(), NoMemory>
     requires a_page { 1 ≤ pages_per_range }
     requires summarised { (block : ℕ) → block < blocks → block / pages_per_range < length tuples.now }
-    requires few { length conds.now ≤ 16 }
+    requires few { length conds.now ≤ MAX_CONDITIONS }
     ensures ok { OnOk result (out.new ≡ out.old ++ candidate_blocks tuples.now conds.now blocks pages_per_range) }
     ensures left_out { OnOk result (LeaveNoMatch tuples.now conds.now blocks pages_per_range) }
     ensures err { OnErr result (AddsFront (candidate_blocks tuples.now conds.now blocks pages_per_range) out.old out.new) }
 {
     let mut block = 0u32;
-    'judging: for tuple in tuples {
+    'candidates: for tuple in tuples {
         let end = blocks.min(block.saturating_add(pages_per_range));
         append_kept(tuple, conds, block, end, out)?;
         block = end;
@@ -60,7 +59,7 @@ fn append_kept(
     out: &mut Blocks,
 ) -> Result<(), NoMemory>
     requires in_order { from ≤ end }
-    requires few { length conds.now ≤ 16 }
+    requires few { length conds.now ≤ MAX_CONDITIONS }
     ensures ok { OnOk result (out.new ≡ out.old ++ (if keeps tuple.now conds.now then range_with_len from (end - from) else [])) }
     ensures left_out { keeps tuple.now conds.now ≡ false → (row : List Value) → TupleIncludes tuple.now row → list_all (column_matches row) conds.now ≡ false }
     ensures err { OnErr result ((keeps tuple.now conds.now ≡ true) × AddsFront (range_with_len from (end - from)) out.old out.new) }
@@ -78,7 +77,7 @@ pub fn append(from: u32, end: u32, out: &mut Blocks) -> Result<(), NoMemory>
     ensures ok { OnOk result (out.new ≡ out.old ++ range_with_len from (end - from)) }
     ensures err { OnErr result (AddsFront (range_with_len from (end - from)) out.old out.new) }
 {
-    'adding: for block in from..end {
+    'additions: for block in from..end {
         out.push(block)?;
     }
     Ok(())

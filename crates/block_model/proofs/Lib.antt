@@ -1,4 +1,1 @@
 mod BoundsNumbers
-pub mod NameLists
-pub mod FirstBroken
-pub mod DiskPlaces

@@ -8,7 +8,7 @@ abbrev pub network_of : Inside → Network
 network_of n = record { family = n.family; prefix = n.prefix; address = n.high * 2 ^ 64 + n.low }
 
 -- today's addresses have 32 bits
-pub record IsKept (n : Inside) : Type 0 where
+pub record HasNetworkForm (n : Inside) : Type 0 where
   pub family : n.family ≡ 4
   pub prefix : n.prefix ≤ 32
   pub high : n.high ≡ 0
@@ -23,5 +23,5 @@ high_word h l e b = omega arith
 low_word : (h l : ℕ) → h ≡ 0 → l < 2 ^ 32 → (h * 2 ^ 64 + l) % 2 ^ 64 ≡ l
 low_word h l e b = omega arith
 
-pub net_of_network : (n : Inside) → IsKept n → net_of (network_of n) ≡ n
+pub net_of_network : (n : Inside) → HasNetworkForm n → net_of (network_of n) ≡ n
 net_of_network n k = λ i. record { family = n.family; prefix = n.prefix; high = high_word n.high n.low k.high k.low i; low = low_word n.high n.low k.high k.low i }

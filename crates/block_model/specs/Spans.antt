@@ -16,15 +16,15 @@ range_in shapes.Bounded l h = Between (Some l) (Some h)
 abbrev pub range_of : Inside → Range
 range_of s = range_in s.shape s.lower s.upper
 
-abbrev pub IsKept : Shape → ℤ → ℤ → Type 0
-IsKept shapes.Empty l h = (l ≡ pos 0) × (h ≡ pos 0)
-IsKept shapes.All l h = (l ≡ pos 0) × (h ≡ pos 0)
-IsKept shapes.From l h = h ≡ pos 0
-IsKept shapes.Below l h = l ≡ pos 0
-IsKept shapes.Bounded l h = int_lt l h ≡ true
+abbrev pub HasRangeForm : Shape → ℤ → ℤ → Type 0
+HasRangeForm shapes.Empty l h = (l ≡ pos 0) × (h ≡ pos 0)
+HasRangeForm shapes.All l h = (l ≡ pos 0) × (h ≡ pos 0)
+HasRangeForm shapes.From l h = h ≡ pos 0
+HasRangeForm shapes.Below l h = l ≡ pos 0
+HasRangeForm shapes.Bounded l h = int_lt l h ≡ true
 
 abbrev pub IsCanonical : Inside → Type 0
-IsCanonical s = IsKept s.shape s.lower s.upper
+IsCanonical s = HasRangeForm s.shape s.lower s.upper
 
 abbrev pub span_of : Range → Inside
 span_of Empty = record { shape = shapes.Empty; lower = pos 0; upper = pos 0 }
@@ -33,7 +33,7 @@ span_of (Between (Some l) None) = record { shape = shapes.From; lower = l; upper
 span_of (Between None (Some h)) = record { shape = shapes.Below; lower = pos 0; upper = h }
 span_of (Between (Some l) (Some h)) = record { shape = shapes.Bounded; lower = l; upper = h }
 
-kept_back : (s : Shape) (l h : ℤ) → IsKept s l h → span_of (range_in s l h) ≡ record { shape = s; lower = l; upper = h }
+kept_back : (s : Shape) (l h : ℤ) → HasRangeForm s l h → span_of (range_in s l h) ≡ record { shape = s; lower = l; upper = h }
 kept_back shapes.Empty l h k = λ i. record { shape = shapes.Empty; lower = sym k.0 i; upper = sym k.1 i }
 kept_back shapes.All l h k = λ i. record { shape = shapes.All; lower = sym k.0 i; upper = sym k.1 i }
 kept_back shapes.From l h k = λ i. record { shape = shapes.From; lower = l; upper = sym k i }

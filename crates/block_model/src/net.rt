@@ -1,4 +1,4 @@
-// Addresses with a prefix.
+//! Addresses with a prefix.
 
 ghost use Rattle.std.specs.Prelude.{◌≡◌, ◌<◌, ◌≤◌, MatchOption, None};
 ghost use Rattle.block_model.specs.Networks.{Network, IsNetwork, network_v4, leading_bits};
@@ -21,11 +21,11 @@ impl Model for Net {
 
     ghost Value = { Network };
 
-    ghost use Rattle.block_model.specs.Nets.{network_of, IsKept, net_of, net_of_network};
+    ghost use Rattle.block_model.specs.Nets.{network_of, HasNetworkForm, net_of, net_of_network};
 
     ghost view = { network_of };
 
-    ghost invariant = { IsKept };
+    ghost invariant = { HasNetworkForm };
 
     ghost inverse = { net_of };
 

@@ -1,4 +1,4 @@
-// Places in relations.
+//! Places in relations.
 
 use crate::sequence::Sequence;
 

@@ -1,4 +1,4 @@
-// What a session is answered.
+//! What a session is answered.
 
 use crate::name::Name;
 use crate::place::Blocks;

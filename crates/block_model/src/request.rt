@@ -1,4 +1,4 @@
-// What sessions ask of the tables.
+//! What sessions ask of the tables.
 
 use crate::row::{Query, RowId};
 use crate::value::Values;

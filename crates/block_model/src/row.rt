@@ -1,5 +1,6 @@
-// Rows, conditions and queries.
+//! Rows, conditions and queries.
 
+ghost use Rattle.block_model.specs.declared.limits.TheConstants.{MAX_CONDITIONS};
 ghost use Rattle.std.specs.Prelude.{◌≡◌, ◌<◌, ◌≤◌, ◌==◌, [], ◌∷◌, ◌++◌, length, OnOk, OnErr};
 ghost use Rattle.block_model.specs.RowMatches.{row_matches, column_matches};
 ghost use Rattle.std.specs.List.{list_all};
@@ -56,6 +57,7 @@ pub struct Conds {
 }
 
 impl Model for Conds {
+    ghost use Rattle.block_model.specs.declared.limits.TheConstants.{MAX_CONDITIONS};
     ghost use Rattle.std.specs.Prelude.{List, length, ◌≤◌};
     ghost use Rattle.block_model.specs.declared.row.Cond.{Cond as OneCond};
 
@@ -63,7 +65,7 @@ impl Model for Conds {
 
     ghost view = { λ a. a.items };
 
-    ghost invariant = { λ a. length a.items ≤ 16 };
+    ghost invariant = { λ a. length a.items ≤ MAX_CONDITIONS };
 }
 
 impl Conds {
@@ -78,10 +80,11 @@ impl Conds {
 
     /// Adds one at the end; there is place for sixteen. After a refusal nothing is changed.
     pub fn push(&mut self, cond: Cond) -> Result<(), NoMemory>
-        requires { length self.old < 16 }
+        requires { length self.old < MAX_CONDITIONS }
         ensures ok { OnOk result (self.new ≡ self.old ++ cond ∷ []) }
         ensures err { OnErr result (self.new ≡ self.old) }
     {
+        // Passed on whole, `cond` is refused by a fault of the toolchain: it misses the module of `Value`.
         let key: Value = cond.key;
         self.items.push(Cond {
             column: cond.column,
@@ -93,7 +96,7 @@ impl Conds {
     /// How many there are, at most sixteen.
     pub fn len(&self) -> usize
         ensures count { result ≡ length self.now }
-        ensures within { result ≤ 16 }
+        ensures within { result ≤ MAX_CONDITIONS }
     {
         self.items.len()
     }
@@ -108,7 +111,7 @@ impl Conds {
     /// The conditions.
     pub fn as_slice(&self) -> &[Cond]
         ensures conds { result.now ≡ self.now }
-        ensures within { length result.now ≤ 16 }
+        ensures within { length result.now ≤ MAX_CONDITIONS }
     {
         self.items.as_slice()
     }
@@ -137,7 +140,7 @@ fn values_match(values: &[Value], conds: &[Cond]) -> bool
 fn column_matches(values: &[Value], cond: &Cond) -> bool
     ensures { result ≡ column_matches values.now cond.now }
 {
-    match values.get(cond.column as usize) {
+    match values.get(usize::from(cond.column)) {
         Some(value) => matches(value, cond.op, &cond.key),
         None => false,
     }

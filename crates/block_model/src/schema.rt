@@ -1,4 +1,4 @@
-// Tables, their columns and indexes, and the sizes of a store.
+//! Tables, their columns and indexes, and the sizes of a store.
 
 use crate::name::Name;
 use crate::sequence::Sequence;

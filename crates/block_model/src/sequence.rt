@@ -1,4 +1,4 @@
-// Lists that own their elements.
+//! Lists that own their elements.
 
 ghost use Rattle.std.specs.Prelude.{◌≡◌, ◌==◌, [], ◌∷◌, ◌++◌, length, OnOk, OnErr};
 
@@ -52,10 +52,8 @@ impl<T> Sequence<T> {
         ensures ok { OnOk result (self.new ≡ self.old ++ item ∷ []) }
         ensures err { OnErr result (self.new ≡ self.old) }
     {
-        match self.items.push(item) {
-            Ok(()) => Ok(()),
-            Err(_) => Err(NoMemory),
-        }
+        self.items.push(item)?;
+        Ok(())
     }
 
     /// How many there are.

@@ -1,10 +1,11 @@
-// Ranges of whole numbers.
+//! Ranges of whole numbers.
 
 ghost use Rattle.std.specs.Prelude.{◌≡◌, ◌≢◌, ◌↔◌, pos, ◌+ℤ◌, IsTrue, MatchOption, IfOk, ◌||◌, if◌then◌else◌, None, Some};
 ghost use Rattle.block_model.specs.Ranges.{Range, Empty, Between, lower_of, upper_of, leaves_room, touches, IsRange};
 ghost use Rattle.block_model.specs.RangeBounds.{grown_lower, grown_upper, canonical_range, within_int8, range_between, range_from_bounds, HasNumbersBetween};
 
 use std::marker::Model;
+use thiserror::Error;
 
 /// Which bounds a range has.
 #[derive(Clone, Copy, Debug, PartialEq, Eq)]
@@ -17,9 +18,11 @@ enum Shape {
 }
 
 /// Why bounds make no range: the lower one is above the upper one, or the canonical form has a bound past int8.
-#[derive(Clone, Copy, Debug, PartialEq, Eq)]
+#[derive(Clone, Copy, Debug, Error, PartialEq, Eq)]
 pub enum SpanFault {
+    #[error("the lower bound is above the upper one")]
     Order,
+    #[error("a bound of the canonical form is past int8")]
     Range,
 }
 

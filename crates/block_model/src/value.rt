@@ -1,10 +1,12 @@
-// Values, their kinds, the operators on them, and short lists of them.
+//! Values, their kinds, the operators on them, and short lists of them.
 
+ghost use Rattle.block_model.specs.declared.limits.TheConstants.{MAX_COLUMNS};
 ghost use Rattle.std.specs.Prelude.{◌≡◌, ℤ, ◌+◌, ◌<◌, ◌≤◌, ◌==◌, [], ◌∷◌, ◌++◌, length, slice_index_or, slice_get, Some};
 ghost use Rattle.block_model.specs.Matches.{matches, kind_matches, number_matches, range_matches, bounds_match, holds_bounds, network_matches, is_within};
 ghost use Rattle.block_model.specs.Ranges.{leaves_room, starts_first, ends_last, same_bound, meets_before, touches, lower_of, upper_of};
 ghost use Rattle.block_model.specs.Networks.{leading_bits};
 
+use crate::limits::MAX_COLUMNS;
 use crate::net::Net;
 use crate::span::Span8;
 use std::marker::Model;
@@ -48,17 +50,15 @@ pub enum Op {
     NotNull,
 }
 
-/// How many values a row has at most.
-pub const MAX_COLUMNS: usize = 8;
-
 /// Up to eight values, seen as their list.
 #[derive(Clone, Copy, Debug, PartialEq, Eq)]
 pub struct Values {
-    slots: [Value; 8],
+    slots: [Value; MAX_COLUMNS],
     len: usize,
 }
 
 impl Model for Values {
+    ghost use Rattle.block_model.specs.declared.limits.TheConstants.{MAX_COLUMNS};
     ghost use Rattle.std.specs.Prelude.{List, take, length};
     ghost use Rattle.std.proofs.Common.{sym};
     ghost use Rattle.block_model.specs.Padded.{padded, IsPadded, length_padded};
@@ -69,11 +69,11 @@ impl Model for Values {
 
     ghost view = { λ a. take a.len a.slots };
 
-    ghost invariant = { λ a. IsPadded 8 Null a.slots a.len };
+    ghost invariant = { λ a. IsPadded MAX_COLUMNS Null a.slots a.len };
 
-    ghost inverse = { λ values. record { slots = padded 8 Null values; len = length values } };
+    ghost inverse = { λ values. record { slots = padded MAX_COLUMNS Null values; len = length values } };
 
-    ghost inverse_ok = { λ a h i. record { slots = sym h.fills i; len = length_padded 8 Null a.slots a.len h i } };
+    ghost inverse_ok = { λ a h i. record { slots = sym h.fills i; len = length_padded MAX_COLUMNS Null a.slots a.len h i } };
 }
 
 impl Values {
@@ -82,14 +82,14 @@ impl Values {
         ensures { result ≡ [] }
     {
         Values {
-            slots: [Value::Null; 8],
+            slots: [Value::Null; MAX_COLUMNS],
             len: 0,
         }
     }
 
     /// Adds a value at the end; there is room for eight.
     pub fn push(&mut self, value: Value)
-        requires { length self.old < 8 }
+        requires { length self.old < MAX_COLUMNS }
         ensures { self.new ≡ self.old ++ value ∷ [] }
     {
         self.slots[self.len] = value;
@@ -99,7 +99,7 @@ impl Values {
     /// How many there are, at most eight.
     pub fn len(&self) -> usize
         ensures count { result ≡ length self.now }
-        ensures within { result ≤ 8 }
+        ensures within { result ≤ MAX_COLUMNS }
     {
         self.len
     }
@@ -114,20 +114,22 @@ impl Values {
     /// The values.
     pub fn as_slice(&self) -> &[Value]
         ensures values { result.now ≡ self.now }
-        ensures within { length result.now ≤ 8 }
+        ensures within { length result.now ≤ MAX_COLUMNS }
     {
         &self.slots[..self.len]
     }
 }
 
-/// Up to eight kinds, seen as their list.
+/// Up to eight kinds, seen as their list. It is written beside `Values` because the toolchain takes no array of a type
+/// parameter in a struct.
 #[derive(Clone, Copy, Debug, PartialEq, Eq)]
 pub struct Kinds {
-    slots: [Kind; 8],
+    slots: [Kind; MAX_COLUMNS],
     len: usize,
 }
 
 impl Model for Kinds {
+    ghost use Rattle.block_model.specs.declared.limits.TheConstants.{MAX_COLUMNS};
     ghost use Rattle.std.specs.Prelude.{List, take, length};
     ghost use Rattle.std.proofs.Common.{sym};
     ghost use Rattle.block_model.specs.Padded.{padded, IsPadded, length_padded};
@@ -138,11 +140,11 @@ impl Model for Kinds {
 
     ghost view = { λ a. take a.len a.slots };
 
-    ghost invariant = { λ a. IsPadded 8 Int a.slots a.len };
+    ghost invariant = { λ a. IsPadded MAX_COLUMNS Int a.slots a.len };
 
-    ghost inverse = { λ kinds. record { slots = padded 8 Int kinds; len = length kinds } };
+    ghost inverse = { λ kinds. record { slots = padded MAX_COLUMNS Int kinds; len = length kinds } };
 
-    ghost inverse_ok = { λ a h i. record { slots = sym h.fills i; len = length_padded 8 Int a.slots a.len h i } };
+    ghost inverse_ok = { λ a h i. record { slots = sym h.fills i; len = length_padded MAX_COLUMNS Int a.slots a.len h i } };
 }
 
 impl Kinds {
@@ -151,14 +153,14 @@ impl Kinds {
         ensures { result ≡ [] }
     {
         Kinds {
-            slots: [Kind::Int; 8],
+            slots: [Kind::Int; MAX_COLUMNS],
             len: 0,
         }
     }
 
     /// Adds a kind at the end; there is room for eight.
     pub fn push(&mut self, kind: Kind)
-        requires { length self.old < 8 }
+        requires { length self.old < MAX_COLUMNS }
         ensures { self.new ≡ self.old ++ kind ∷ [] }
     {
         self.slots[self.len] = kind;
@@ -168,7 +170,7 @@ impl Kinds {
     /// The kinds.
     pub fn as_slice(&self) -> &[Kind]
         ensures kinds { result.now ≡ self.now }
-        ensures within { length result.now ≤ 8 }
+        ensures within { length result.now ≤ MAX_COLUMNS }
     {
         &self.slots[..self.len]
     }

@@ -1,44 +1,49 @@
-// The program: runs a script of session lines over tables. The words of the command line, standard input and standard
-// output are handed to `brin_main`, which does all else; its status is the program's, and a status that isn't 0 has a text
-// on standard error.
+//! The program: runs a script of session lines over tables. The words of the command line, standard input and standard
+//! output are handed to `brin_main`, which does all else; its status is the program's, and a status that isn't 0 has a text
+//! on standard error.
 #![tactic(auto)]
 
 ghost use Rattle.std.specs.Prelude.{◌≡◌, ◌↔◌, None};
+ghost use Rattle.std.specs.IoError.{error_kind};
+ghost use Rattle.brin_app.specs.declared.status.TheConstants.{DONE, MEMORY, USAGE};
 
-use block_model::NoMemory;
-use block_model::words::Words;
-use brin_app::brin_main;
-use io_traits::sink::WriterSink;
-use io_traits::source::ReaderSource;
+use block_model::Words;
+use brin_app::{DONE, MEMORY, READ_FAULT, USAGE, WRITE_FAULT, brin_main};
+use io_traits::{ReaderSource, WriterSink};
+use std::io::ErrorKind;
 use std::process::ExitCode;
 use std::{env, io};
 
-/// The words couldn't be read as text, or are no command.
-const USAGE: u8 = 2;
-
-/// There is no memory for the words.
-const MEMORY: u8 = 7;
-
-/// The words behind the program's name.
-fn words(rt: &HostRuntime) -> io::Result<Result<Words, NoMemory>> {
+/// The words behind the program's name, or the status where they can't be had.
+fn words(rt: &HostRuntime) -> Result<Words, u8> {
+    let args = env::args(rt).map_err(|error| unread(&error))?;
     let mut words = Words::new(rt.alloc());
-    for word in env::args(rt)?.skip(1) {
-        if words.push(word.as_bytes()).is_err() {
-            return Ok(Err(NoMemory));
-        }
+    for word in args.skip(1) {
+        words.push(word.as_bytes()).map_err(|_| MEMORY)?;
     }
-    Ok(Ok(words))
+    Ok(words)
 }
 
-/// What is said of a status on standard error. Only 0 has no text.
+/// The status of words that can't be had: `env::args` fails for want of memory, and where a word is no text.
+fn unread(error: &io::Error) -> u8
+    ensures memory { (result ≡ MEMORY) ↔ (error_kind error.now ≡ ErrorKind.OutOfMemory) }
+    ensures usage { (result ≡ USAGE) ↔ ¬ (error_kind error.now ≡ ErrorKind.OutOfMemory) }
+{
+    match error.kind() {
+        ErrorKind::OutOfMemory => MEMORY,
+        _ => USAGE,
+    }
+}
+
+/// What is said of a status on standard error. Only `DONE` has no text.
 fn text(status: u8) -> Option<&'static str>
-    ensures { (result ≡ None) ↔ (status ≡ 0) }
+    ensures { (result ≡ None) ↔ (status ≡ DONE) }
 {
     match status {
-        0 => None,
+        DONE => None,
         USAGE => Some("brin: usage"),
-        4 => Some("brin: read fault"),
-        5 => Some("brin: write fault"),
+        READ_FAULT => Some("brin: read fault"),
+        WRITE_FAULT => Some("brin: write fault"),
         MEMORY => Some("brin: out of memory"),
         _ => Some("brin: spent"),
     }
@@ -46,13 +51,12 @@ fn text(status: u8) -> Option<&'static str>
 
 fn main(rt: HostRuntime) -> ExitCode {
     let status = match words(&rt) {
-        Ok(Ok(words)) => {
+        Ok(words) => {
             let mut source = ReaderSource::on(rt.reader());
             let mut sink = WriterSink::on(io::writer(&rt));
             brin_main(rt.alloc(), &words, &mut source, &mut sink)
         }
-        Ok(Err(NoMemory)) => MEMORY,
-        Err(_) => USAGE,
+        Err(status) => status,
     };
     if let Some(text) = text(status) {
         let _ = eprintln!(rt; "{text}");

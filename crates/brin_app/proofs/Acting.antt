@@ -1,26 +1,26 @@
 -- a statement that is submitted and stepped does what its requests do
-use Rattle.std.proofs.Common.{◌≡◌, ◌≢◌, ℕ, zero, suc, ◌+◌, ◌<◌, ◌≤◌, Bool, true, false, List, [], ◌∷◌, ◌++◌, length, Option, None, Some, refl, sym, ap, ◌∙◌, subst, arith}
-use Rattle.std.specs.Prelude.{slice_set, slice_index_or, MatchOption, IfOk, Result, Ok, Err}
+use Rattle.std.proofs.Common.{◌≡◌, ℕ, zero, suc, ◌+◌, ◌<◌, Bool, true, false, List, [], ◌∷◌, ◌++◌, length, Option, None, Some, refl, sym, ap, ◌∙◌, subst}
+use Rattle.std.specs.Prelude.{slice_set, MatchOption, IfOk, Result, Ok, Err}
 use Rattle.std.specs.FinMap as map
 use Rattle.std.proofs.lemmas.List.{append-nil, get_or-set_same, set-get_or}
 use Rattle.block_model.specs.DatabaseState.{DatabaseState, OpenTransaction}
 use Rattle.block_model.specs.SerialRun.{replies_to}
 use Rattle.block_model.specs.declared.row.Row.{Row}
 use Rattle.block_model.specs.declared.row.Query.{Query}
-use Rattle.block_model.specs.declared.request.Entry.{Entry}
 use Rattle.block_model.specs.declared.reply.Reply.{Reply}
 use Rattle.block_model.specs.declared.reply.Reply.TheVariants as replies
 use Rattle.block_model.specs.declared.reply.Refusal.{Refusal}
 use Rattle.block_model.specs.declared.reply.Refusal.TheVariants as refusals
-use Rattle.query_words.specs.declared.statement.Statement.{Statement}
-use Rattle.query_words.specs.declared.statement.Statement.TheVariants as statements
-use Rattle.query_words.specs.StatementRequests.{refusal_at, submission_refusal, requests_of, unless_refused, reply_unless_refused, statement_requests, statement_reply}
-use Rattle.query_words.specs.ScriptTexts.{Explaining, database_of, rows_of, reply_at, reply_behind, requests_behind, max_entries}
+use Rattle.statements.specs.declared.statement.Statement.{Statement}
+use Rattle.statements.specs.declared.statement.Statement.TheVariants as statements
+use Rattle.statements.specs.StatementRequests.{refusal_at, submission_refusal, requests_of, unless_refused, reply_unless_refused, statement_requests, statement_reply}
+use Rattle.statements.specs.JournalAnswers.{Explaining, database_of, rows_of, reply_at, reply_behind, requests_behind}
+use Rattle.statements.specs.declared.limits.TheConstants.{MAX_ENTRIES}
 use Rattle.range_summaries.specs.ExplainedBlocks.{explained}
 use Rattle.session_core.specs.StoreState.{StoreState, IsRefinement, hand_of, with_hand}
 use Rattle.session_core.specs.Submits.{Submits, submit_refusal, refusal_behind, may_want_memory}
-use Rattle.session_core.specs.Steps.{Ends, LacksRoom}
-use Rattle.brin_app.specs.Acting.{Acts, IsPast, IsFull}
+use Rattle.session_core.specs.Steps.{Ends}
+use Rattle.brin_app.specs.Acting.{EndsStatement, StatementPastJournal, HandPastJournal}
 
 -- nothing speaks against an explain
 explain_taken : (o : Option OpenTransaction) (q : Query) (r : Refusal) → submission_refusal o (statements.Explain q) ≡ Some r → ⊥
@@ -59,7 +59,7 @@ unfolding statement_reply
 taken_reply s n short statement h = ap (λ o. reply_unless_refused o statement (replies_to s (requests_of s n short statement))) h
 
 -- nothing is done, and this is the reply
-unchanged : (s : StoreState) (n : ℕ) (statement : Statement) (short : Bool) (reply : Reply) → IsRefinement s → requests_behind s.journal n short statement ≡ [] → reply ≡ reply_behind (explained s.layout.schema) s.journal n short statement → Acts s n statement s reply
+unchanged : (s : StoreState) (n : ℕ) (statement : Statement) (short : Bool) (reply : Reply) → IsRefinement s → requests_behind s.journal n short statement ≡ [] → reply ≡ reply_behind (explained s.layout.schema) s.journal n short statement → EndsStatement s n statement s reply
 unchanged s n statement short reply known none replied = record {
   short = short;
   replied = replied;
@@ -71,7 +71,7 @@ unchanged s n statement short reply known none replied = record {
 }
 
 -- what speaks against a statement is what its reply says
-refused_acts : (s : StoreState) (n : ℕ) (statement : Statement) (r : Refusal) → IsRefinement s → refusal_at s.database n statement ≡ Some r → Acts s n statement s (replies.Refused r)
+refused_acts : (s : StoreState) (n : ℕ) (statement : Statement) (r : Refusal) → IsRefinement s → refusal_at s.database n statement ≡ Some r → EndsStatement s n statement s (replies.Refused r)
 refused_acts s n statement r known h =
     let at : refusal_at (database_of s.journal) n statement ≡ Some r = subst (λ (d : DatabaseState). refusal_at d n statement ≡ Some r) known.shown h in
     unchanged s n statement false (replies.Refused r) known (refused_requests (database_of s.journal) n false statement r at)
@@ -104,7 +104,7 @@ short_reply explained s rows n (statements.Desummarize index block) may h = absu
 short_reply explained s rows n (statements.Vacuum table) may h = absurd (cc)
 short_reply explained s rows n statements.Work may h = absurd (cc)
 
-short_acts : (s : StoreState) (n : ℕ) (statement : Statement) → IsRefinement s → may_want_memory statement ≡ true → refusal_at s.database n statement ≡ None → Acts s n statement s (replies.Refused refusals.Memory)
+short_acts : (s : StoreState) (n : ℕ) (statement : Statement) → IsRefinement s → may_want_memory statement ≡ true → refusal_at s.database n statement ≡ None → EndsStatement s n statement s (replies.Refused refusals.Memory)
 short_acts s n statement known may h =
     let at : refusal_at (database_of s.journal) n statement ≡ None = subst (λ (d : DatabaseState). refusal_at d n statement ≡ None) known.shown h in
     unchanged s n statement true (replies.Refused refusals.Memory) known (short_requests (database_of s.journal) n statement may at)
@@ -112,17 +112,17 @@ short_acts s n statement known may h =
 
 -- why a statement wasn't taken, where nothing is in hand
 because_of : (s : StoreState) (n : ℕ) (statement : Statement) (refusal : Refusal) (o : Option Refusal) → IsRefinement s → refusal_at s.database n statement ≡ o
-    → MatchOption o ((refusal ≡ refusals.Memory) × (may_want_memory statement ≡ true)) (λ because. refusal ≡ because) → Acts s n statement s (replies.Refused refusal)
-because_of s n statement refusal None known at m = subst (λ (r : Refusal). Acts s n statement s (replies.Refused r)) (sym m.0) (short_acts s n statement known m.1 at)
-because_of s n statement refusal (Some because) known at m = subst (λ (r : Refusal). Acts s n statement s (replies.Refused r)) (sym m) (refused_acts s n statement because known at)
+    → MatchOption o ((refusal ≡ refusals.Memory) × (may_want_memory statement ≡ true)) (λ because. refusal ≡ because) → EndsStatement s n statement s (replies.Refused refusal)
+because_of s n statement refusal None known at m = subst (λ (r : Refusal). EndsStatement s n statement s (replies.Refused r)) (sym m.0) (short_acts s n statement known m.1 at)
+because_of s n statement refusal (Some because) known at m = subst (λ (r : Refusal). EndsStatement s n statement s (replies.Refused r)) (sym m) (refused_acts s n statement because known at)
 
 -- with nothing in hand the transaction alone decides
 judged : (s : StoreState) (n : ℕ) (statement : Statement) → hand_of s n ≡ None → submit_refusal s n statement ≡ refusal_at s.database n statement
 judged s n statement idle = ap (λ o. refusal_behind o (refusal_at s.database n statement)) idle
 
-pub not_taken : (T : Type 0) (s s' : StoreState) (n : ℕ) (statement : Statement) (refusal : Refusal) → IsRefinement s → hand_of s n ≡ None → Submits {T = T} s n statement s' (Err refusal) → Acts s n statement s' (replies.Refused refusal)
+pub not_taken : (T : Type 0) (s s' : StoreState) (n : ℕ) (statement : Statement) (refusal : Refusal) → IsRefinement s → hand_of s n ≡ None → Submits {T = T} s n statement s' (Err refusal) → EndsStatement s n statement s' (replies.Refused refusal)
 not_taken T s s' n statement refusal known idle sub =
-    subst (λ (t : StoreState). Acts s n statement t (replies.Refused refusal)) (sym sub.0)
+    subst (λ (t : StoreState). EndsStatement s n statement t (replies.Refused refusal)) (sym sub.0)
     (because_of s n statement refusal (submit_refusal s n statement) known (sym (judged s n statement idle)) sub.1)
 
 -- the later of two values at one place stands
@@ -140,7 +140,7 @@ put_in_hand s n statement other within e = some_injective statement other (sym (
     some_injective a b e = cc
 
 -- a statement that was taken and has ended
-pub taken_ends : (s s₁ s' : StoreState) (n : ℕ) (statement : Statement) (reply : Reply) → n < length s.hands → hand_of s n ≡ None → s₁ ≡ with_hand s n (Some statement) → Ends s₁ n s' reply → Acts s n statement s' reply
+pub taken_ends : (s s₁ s' : StoreState) (n : ℕ) (statement : Statement) (reply : Reply) → n < length s.hands → hand_of s n ≡ None → s₁ ≡ with_hand s n (Some statement) → Ends s₁ n s' reply → EndsStatement s n statement s' reply
 taken_ends s s₁ s' n statement reply within idle is ends =
     let at : Ends (with_hand s n (Some statement)) n s' reply = subst (λ (t : StoreState). Ends t n s' reply) is ends in
     let same : at.statement ≡ statement = sym (put_in_hand s n statement at.statement within at.in_hand) in
@@ -155,16 +155,16 @@ taken_ends s s₁ s' n statement reply within idle is ends =
     }
 
 -- a statement that was taken and doesn't fit
-pub taken_past : (s s₁ : StoreState) (n : ℕ) (statement : Statement) → n < length s.hands → s₁ ≡ with_hand s n (Some statement) → IsFull s₁ n → IsPast s n statement
+pub taken_past : (s s₁ : StoreState) (n : ℕ) (statement : Statement) → n < length s.hands → s₁ ≡ with_hand s n (Some statement) → HandPastJournal s₁ n → StatementPastJournal s n statement
 taken_past s s₁ n statement within is full =
-    let at : IsFull (with_hand s n (Some statement)) n = subst (λ (t : StoreState). IsFull t n) is full in
+    let at : HandPastJournal (with_hand s n (Some statement)) n = subst (λ (t : StoreState). HandPastJournal t n) is full in
     let same : at.lacks.statement ≡ statement = sym (put_in_hand s n statement at.lacks.statement within at.lacks.in_hand) in
     record {
       short = at.lacks.short;
-      past = subst (λ (st : Statement). max_entries < length s.journal + length (requests_behind s.journal n at.lacks.short st)) same at.lacks.past;
+      past = subst (λ (st : Statement). MAX_ENTRIES < length s.journal + length (requests_behind s.journal n at.lacks.short st)) same at.lacks.past;
     }
 
 pub ok_ends : {E : Type 0} (s s₁ s' : StoreState) (n : ℕ) (statement : Statement) (result : Result Reply E) → n < length s.hands → hand_of s n ≡ None → s₁ ≡ with_hand s n (Some statement) → IfOk result (λ reply. Ends s₁ n s' reply)
-    → IfOk result (λ reply. Acts s n statement s' reply)
+    → IfOk result (λ reply. EndsStatement s n statement s' reply)
 ok_ends s s₁ s' n statement (Ok reply) within idle is ends = taken_ends s s₁ s' n statement reply within idle is ends
 ok_ends s s₁ s' n statement (Err fault) within idle is ends = tt

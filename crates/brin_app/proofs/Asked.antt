@@ -1,15 +1,23 @@
 -- what words ask for
-use Rattle.std.proofs.Common.{◌≡◌, ℕ, List, None, Some, Option, sym, ap, ◌∙◌, subst}
+use Rattle.std.proofs.Common.{◌≡◌, ℕ, List, None, Some, Option, refl, sym, ap, ◌∙◌, subst}
 use Rattle.std.specs.Prelude.{IfOk, IsSome, Result, Ok, Err}
 use Rattle.std.proofs.lemmas.Bool.{false≢true}
-use Rattle.block_model.specs.DiskLayout.{DiskLayout}
-use Rattle.block_model.specs.FirstBrokenRule.{first_broken_rule}
+use Rattle.store_layout.specs.DiskLayout.{DiskLayout}
+use Rattle.store_layout.specs.FirstBrokenRule.{first_broken_rule}
 use Rattle.block_model.specs.declared.schema.Schema.{Schema}
 use Rattle.block_model.specs.declared.schema.Sizes.{Sizes}
 use Rattle.schema_words.specs.DeclaredSchema.{Denotes}
 use Rattle.command_words.specs.declared.command.Command.{Command}
 use Rattle.command_words.specs.declared.command.Command.TheVariants.{Run}
+use Rattle.command_words.specs.declared.command.CommandFault.{CommandFault}
+use Rattle.command_words.specs.declared.command.CommandFault.TheVariants as commands
 use Rattle.command_words.specs.CommandWords.{command_of}
+use Rattle.schema_words.specs.declared.declarations.DeclFault.{DeclFault}
+use Rattle.schema_words.specs.declared.declarations.DeclFault.TheVariants as declarations
+use Rattle.schema_words.specs.FirstFault.{Answers}
+use Rattle.brin_app.specs.declared.top.WordsFault.{WordsFault}
+use Rattle.brin_app.specs.declared.top.WordsFault.TheVariants.{Usage, Memory}
+use Rattle.brin_app.specs.WordsFaults.{of_command, of_declarations}
 use Rattle.brin_app.specs.ScriptOutput.{IsLayoutFor, AsksFor, AsksForNothing}
 
 -- a layout that was made of a declared schema
@@ -65,3 +73,21 @@ none_asked words declared sizes command broken layout asks =
 -- and neither do words that are no command
 pub no_command : (words : List (List ℕ)) → command_of words ≡ None → AsksForNothing words
 no_command words none layout asks = let is : None ≡ Some (Run asks.sizes asks.declared) = sym none ∙ asks.command in cc
+
+-- ---- faults that go up
+
+-- what goes up as usage is usage
+pub usage_is : (result : Result DiskLayout WordsFault) (y z : WordsFault) → result ≡ Err y → y ≡ z → result ≡ Err Usage → z ≡ Usage
+usage_is result y z is same e = sym same ∙ ap fault_in (sym is ∙ e)
+  where
+    fault_in : Result DiskLayout WordsFault → WordsFault
+    fault_in (Ok layout) = Usage
+    fault_in (Err fault) = fault
+
+pub usage_of_command : (fault : CommandFault) → of_command fault ≡ Usage → fault ≡ commands.Usage
+usage_of_command commands.Usage e = refl
+usage_of_command commands.Memory e = cc
+
+pub none_denoted : (schema : Schema) (fault : DeclFault) → of_declarations fault ≡ Usage → Answers schema (Err fault) → ⊥
+none_denoted schema (declarations.Form word at) e a = a
+none_denoted schema declarations.Memory e a = let no : Memory ≡ Usage = e in cc

@@ -1,19 +1,20 @@
 -- from a run of the sessions to the texts of the script
-use Rattle.std.proofs.Common.{◌≡◌, ◌≢◌, ℕ, ◌+◌, ◌≤◌, List, [], ◌∷◌, length, Option, None, Some, refl, sym, ap, ◌∙◌, subst, arith, length-append, ◌⊎◌, inl, inr}
+use Rattle.std.proofs.Common.{◌≡◌, ◌≢◌, ℕ, ◌+◌, ◌≤◌, List, [], ◌∷◌, length, Option, None, Some, Ok, Err, refl, sym, ap, ◌∙◌, subst, arith, length-append, ◌⊎◌, inl, inr}
 use Rattle.std.specs.Io.KnownBytes.{Consumes}
 use Rattle.std.proofs.KnownBytes.{Appends-nil, Consumes-nil}
 use Rattle.block_model.specs.declared.schema.Schema.{Schema}
-use Rattle.query_words.specs.ScriptTexts.{ScriptPlace, script_start, LacksRoom}
+use Rattle.brin_app.specs.ScriptTexts.{ScriptPlace, script_start, ScriptLacksRoom}
 use Rattle.range_summaries.specs.ExplainedBlocks.{explained}
 use Rattle.script_lines.specs.Script.{ended_lines}
-use Rattle.script_run.specs.declared.run.RunEnd.{RunEnd}
-use Rattle.script_run.specs.declared.run.RunEnd.TheVariants as ends
+use Rattle.script_run.specs.declared.engine.AnswerFault.TheVariants.{Memory, Full}
+use Rattle.script_run.specs.declared.fault.RunFault.TheVariants as faults
 use Rattle.script_run.specs.Answers.{AreAnswers}
-use Rattle.script_run.specs.Runs.{AreFirst, Ran}
+use Rattle.script_run.specs.Runs.{Ran, RunEnd}
 use Rattle.brin_app.specs.declared.sessions.Sessions.{Sessions}
 use Rattle.brin_app.specs.Acting.{AreIdle}
 use Rattle.brin_app.specs.SessionPlaces.{place_of, AnswersLine, LacksRoomFor}
-use Rattle.brin_app.specs.ScriptOutput.{script_limit, exit_status, Texts, Past, IsScriptOutput, IsSpentExactly, HasSpentCauses, JournalWasFull, FitsLimit, FitsJournal, IsComplete}
+use Rattle.brin_app.specs.declared.status.TheConstants.{SCRIPT_LIMIT}
+use Rattle.brin_app.specs.ScriptOutput.{exit_status, Texts, IsScriptOutput, HasSpentCauses, JournalWasFull, FitsLimit, IsComplete}
 
 -- what is known of sessions that have answered lines, with texts over this schema
 record Lifted (schema : Schema) (start : ScriptPlace) (b : Sessions) (lines texts : List (List ℕ)) : Type 0 where
@@ -41,7 +42,7 @@ lifted schema a b (l ∷ ls) (t ∷ ts) idle is e =
     }
 
 pub script_output : (a b : Sessions) (schema : Schema) (end : RunEnd) (status : ℕ) (l l' k k' : Option (List ℕ)) → place_of a.store ≡ script_start → AreIdle a.store → a.store.layout.schema ≡ schema → status ≡ exit_status end
-    → Ran AnswersLine LacksRoomFor a b script_limit end l l' k k' → IsScriptOutput status schema l l' k k'
+    → Ran AnswersLine LacksRoomFor a b SCRIPT_LIMIT end l l' k k' → IsScriptOutput status schema l l' k k'
 script_output a b schema end status l l' k k' start idle is said r =
     let far = lifted schema a r.4 r.2 r.3 idle is r.7.answers in (
       end,
@@ -64,7 +65,7 @@ script_output a b schema end status l l' k k' start idle is said r =
           whole = r.7.whole;
           faulty = r.7.faulty;
           spent = r.7.spent;
-          full = λ e. let at = r.7.full e in (at.0, at.1, subst (λ (s : Schema). LacksRoom (explained s) s (place_of r.4.store) at.0) far.same (at.2 far.idle), at.3);
+          full = λ e. let at = r.7.full e in (at.0, at.1, subst (λ (s : Schema). ScriptLacksRoom (explained s) s (place_of r.4.store) at.0) far.same (at.2 far.idle), at.3);
           unwritten = r.7.unwritten;
           cut = r.7.cut;
         },
@@ -74,7 +75,7 @@ script_output a b schema end status l l' k k' start idle is said r =
 -- memory ran out before the first line
 pub nothing_written : (schema : Schema) (l k : Option (List ℕ)) → IsScriptOutput 7 schema l l k k
 nothing_written schema l k = (
-  ends.Memory,
+  Err (faults.Unanswered Memory),
   script_start,
   refl,
   (
@@ -102,27 +103,27 @@ nothing_written schema l k = (
 )
 
 -- the status tells whether a limit was passed
-spent_end : (end : RunEnd) → exit_status end ≡ 8 → (end ≡ ends.Spent) ⊎ (end ≡ ends.Full)
-spent_end ends.Done e = absurd (omega arith)
-spent_end ends.ReadFault e = absurd (omega arith)
-spent_end ends.WriteFault e = absurd (omega arith)
-spent_end ends.Memory e = absurd (omega arith)
-spent_end ends.Spent e = inl refl
-spent_end ends.Full e = inr refl
+spent_end : (end : RunEnd) → exit_status end ≡ 8 → (end ≡ (Err faults.Spent)) ⊎ (end ≡ (Err (faults.Unanswered Full)))
+spent_end (Ok u) e = absurd (omega arith)
+spent_end (Err faults.Read) e = absurd (omega arith)
+spent_end (Err faults.Write) e = absurd (omega arith)
+spent_end (Err (faults.Unanswered Memory)) e = absurd (omega arith)
+spent_end (Err faults.Spent) e = inl refl
+spent_end (Err (faults.Unanswered Full)) e = inr refl
 
-not_spent : (end : RunEnd) (n : ℕ) → (end ≢ ends.Spent → n ≤ script_limit) → n ≡ script_limit + 1 → exit_status end ≡ 8
-not_spent ends.Done n within is = absurd (let h : n ≤ script_limit = within (λ e. cc) in omega arith)
-not_spent ends.ReadFault n within is = absurd (let h : n ≤ script_limit = within (λ e. cc) in omega arith)
-not_spent ends.WriteFault n within is = absurd (let h : n ≤ script_limit = within (λ e. cc) in omega arith)
-not_spent ends.Memory n within is = absurd (let h : n ≤ script_limit = within (λ e. cc) in omega arith)
-not_spent ends.Spent n within is = refl
-not_spent ends.Full n within is = refl
+not_spent : (end : RunEnd) (n : ℕ) → (end ≢ (Err faults.Spent) → n ≤ SCRIPT_LIMIT) → n ≡ SCRIPT_LIMIT + 1 → exit_status end ≡ 8
+not_spent (Ok u) n within is = absurd (let h : n ≤ SCRIPT_LIMIT = within (λ e. cc) in omega arith)
+not_spent (Err faults.Read) n within is = absurd (let h : n ≤ SCRIPT_LIMIT = within (λ e. cc) in omega arith)
+not_spent (Err faults.Write) n within is = absurd (let h : n ≤ SCRIPT_LIMIT = within (λ e. cc) in omega arith)
+not_spent (Err (faults.Unanswered Memory)) n within is = absurd (let h : n ≤ SCRIPT_LIMIT = within (λ e. cc) in omega arith)
+not_spent (Err faults.Spent) n within is = refl
+not_spent (Err (faults.Unanswered Full)) n within is = refl
 
 came_length : (old new script : List ℕ) → Consumes (Some old) (Some new) script → length old ≡ length script + length new
 came_length old new script e = ap length e ∙ length-append script new
 
 -- a run that ended for want of room in the journal filled it
-filled : (status : ℕ) (schema : Schema) (l l' k k' : Option (List ℕ)) → (o : IsScriptOutput status schema l l' k k') → o.0 ≡ ends.Full → JournalWasFull schema l l'
+filled : (status : ℕ) (schema : Schema) (l l' k k' : Option (List ℕ)) → (o : IsScriptOutput status schema l l' k k') → o.0 ≡ (Err (faults.Unanswered Full)) → JournalWasFull schema l l'
 filled status schema l l' k k' o e =
     let r = o.3 in
     let at = r.7.full e in (
@@ -131,12 +132,12 @@ filled status schema l l' k k' o e =
       record { done = r.2; texts = r.3; place = r.4; line = at.0; first = at.1; answers = r.7.answers; past = at.2 },
     )
 
-spent_causes : (status : ℕ) (schema : Schema) (old new : List ℕ) (k k' : Option (List ℕ)) (o : IsScriptOutput status schema (Some old) (Some new) k k') → (o.0 ≡ ends.Spent) ⊎ (o.0 ≡ ends.Full)
-    → (length old ≡ (script_limit + 1) + length new) ⊎ JournalWasFull schema (Some old) (Some new)
+spent_causes : (status : ℕ) (schema : Schema) (old new : List ℕ) (k k' : Option (List ℕ)) (o : IsScriptOutput status schema (Some old) (Some new) k k') → (o.0 ≡ (Err faults.Spent)) ⊎ (o.0 ≡ (Err (faults.Unanswered Full)))
+    → (length old ≡ (SCRIPT_LIMIT + 1) + length new) ⊎ JournalWasFull schema (Some old) (Some new)
 spent_causes status schema old new k k' o (inl e) =
     let r = o.3 in
     let count : length old ≡ length r.0 + length new = came_length old new r.0 r.5 in
-    let long : length r.0 ≡ script_limit + 1 = (r.7.spent e).0 in inl (omega arith)
+    let long : length r.0 ≡ SCRIPT_LIMIT + 1 = (r.7.spent e).0 in inl (omega arith)
 spent_causes status schema old new k k' o (inr e) = inr (filled status schema (Some old) (Some new) k k' o e)
 
 pub has_spent_causes : (status : ℕ) (schema : Schema) (l l' k k' : Option (List ℕ)) → IsScriptOutput status schema l l' k k' → HasSpentCauses status schema l l'
@@ -150,19 +151,19 @@ has_spent_causes status schema (Some old) (Some new) k k' o =
       only = λ e. spent_causes status schema old new k k' o (spent_end o.0 (sym o.2 ∙ e));
     }
 
-fits_less : (l l' : Option (List ℕ)) (script : List ℕ) → FitsLimit l → Consumes l l' script → length script ≤ script_limit
+fits_less : (l l' : Option (List ℕ)) (script : List ℕ) → FitsLimit l → Consumes l l' script → length script ≤ SCRIPT_LIMIT
 fits_less None l' script f c = absurd f
 fits_less (Some old) None script f c = absurd c
-fits_less (Some old) (Some new) script f c = let count : length old ≡ length script + length new = came_length old new script c in let small : length old ≤ script_limit = f in omega arith
+fits_less (Some old) (Some new) script f c = let count : length old ≡ length script + length new = came_length old new script c in let small : length old ≤ SCRIPT_LIMIT = f in omega arith
 
-ended : (end : RunEnd) (n : ℕ) (F G J : Type 0) → (end ≡ ends.Spent → n ≡ script_limit + 1) → n ≤ script_limit → (end ≡ ends.Full → J) → (exit_status end ≡ 4 → F) → (exit_status end ≡ 5 → G) → ¬ F → ¬ G → ¬ J
+ended : (end : RunEnd) (n : ℕ) (F G J : Type 0) → (end ≡ (Err faults.Spent) → n ≡ SCRIPT_LIMIT + 1) → n ≤ SCRIPT_LIMIT → (end ≡ (Err (faults.Unanswered Full)) → J) → (exit_status end ≡ 4 → F) → (exit_status end ≡ 5 → G) → ¬ F → ¬ G → ¬ J
     → (exit_status end ≡ 0) ⊎ (exit_status end ≡ 7)
-ended ends.Done n F G J long small full read write f g j = inl refl
-ended ends.ReadFault n F G J long small full read write f g j = absurd (f (read refl))
-ended ends.WriteFault n F G J long small full read write f g j = absurd (g (write refl))
-ended ends.Memory n F G J long small full read write f g j = inr refl
-ended ends.Spent n F G J long small full read write f g j = absurd (let h : n ≡ script_limit + 1 = long refl in omega arith)
-ended ends.Full n F G J long small full read write f g j = absurd (j (full refl))
+ended (Ok u) n F G J long small full read write f g j = inl refl
+ended (Err faults.Read) n F G J long small full read write f g j = absurd (f (read refl))
+ended (Err faults.Write) n F G J long small full read write f g j = absurd (g (write refl))
+ended (Err (faults.Unanswered Memory)) n F G J long small full read write f g j = inr refl
+ended (Err faults.Spent) n F G J long small full read write f g j = absurd (let h : n ≡ SCRIPT_LIMIT + 1 = long refl in omega arith)
+ended (Err (faults.Unanswered Full)) n F G J long small full read write f g j = absurd (j (full refl))
 
 pub complete : (status : ℕ) (schema : Schema) (l l' k k' : Option (List ℕ)) (F G : Type 0) → IsScriptOutput status schema l l' k k' → (status ≡ 4 → F) → (status ≡ 5 → G) → IsComplete status schema l F G
 complete status schema l l' k k' F G o read write f g fits room =
@@ -171,12 +172,12 @@ complete status schema l l' k k' F G o read write f g fits room =
     (ended o.0 (length r.0) F G (JournalWasFull schema l l') (λ e. (r.7.spent e).0) (fits_less l l' r.0 fits r.5) (filled status schema l l' k k' o) (λ e. read (o.2 ∙ e)) (λ e. write (o.2 ∙ e)) f g (room l'))
 
 no_usage : (end : RunEnd) → exit_status end ≢ 2
-no_usage ends.Done e = omega arith
-no_usage ends.ReadFault e = omega arith
-no_usage ends.WriteFault e = omega arith
-no_usage ends.Memory e = omega arith
-no_usage ends.Spent e = omega arith
-no_usage ends.Full e = omega arith
+no_usage (Ok u) e = omega arith
+no_usage (Err faults.Read) e = omega arith
+no_usage (Err faults.Write) e = omega arith
+no_usage (Err (faults.Unanswered Memory)) e = omega arith
+no_usage (Err faults.Spent) e = omega arith
+no_usage (Err (faults.Unanswered Full)) e = omega arith
 
 -- a run has another status than words that ask for nothing
 pub not_usage : (status : ℕ) (schema : Schema) (l l' k k' : Option (List ℕ)) → IsScriptOutput status schema l l' k k' → status ≢ 2

@@ -1,26 +1,26 @@
 -- what a line says, done by a store, has its text
-use Rattle.std.proofs.Common.{◌≡◌, ◌≢◌, ℕ, zero, suc, ◌+◌, ◌<◌, ◌≤◌, Bool, true, false, List, [], ◌∷◌, ◌++◌, length, Option, None, Some, refl, sym, ap, ◌∙◌, subst, arith, length-append, ◌⊎◌, inl, inr}
-use Rattle.std.specs.Prelude.{slice_index_or, nat_lt, nat_le, IfOk, OnOk, Result, Ok, Err, if◌then◌else◌}
+use Rattle.std.proofs.Common.{◌≡◌, ◌≢◌, ℕ, zero, suc, ◌+◌, ◌<◌, ◌≤◌, Bool, true, false, List, [], ◌∷◌, ◌++◌, length, Option, None, refl, sym, ap, ◌∙◌, subst, arith, length-append}
+use Rattle.std.specs.Prelude.{slice_index_or, nat_lt, OnOk, Result, Ok, Err, if◌then◌else◌}
 use Rattle.std.specs.Str.{bytes_eq}
-use Rattle.std.proofs.lemmas.List.{append-nil, get_or-append_right, get_or_append_left}
-use Rattle.std.proofs.lemmas.Bool.{ltb-true, ltb-false, lt-ltb, false≢true}
+use Rattle.std.proofs.lemmas.List.{append-nil}
+use Rattle.std.proofs.lemmas.Bool.{ltb-true}
 use Rattle.block_model.specs.declared.reply.Reply.{Reply}
 use Rattle.block_model.specs.declared.reply.Reply.TheVariants as replies
 use Rattle.block_model.specs.declared.reply.Refusal.TheVariants as refusals
-use Rattle.query_words.specs.declared.statement.Statement.{Statement}
+use Rattle.statements.specs.declared.statement.Statement.{Statement}
 use Rattle.query_words.specs.declared.line.Order.TheVariants as orders
 use Rattle.query_words.specs.declared.line.Line.{Line}
 use Rattle.query_words.specs.declared.line.Line.TheVariants as lines
 use Rattle.query_words.specs.declared.line.LineFault.{LineFault}
 use Rattle.query_words.specs.declared.line.LineFault.TheVariants as line_faults
-use Rattle.query_words.specs.Lines.{Reads, line_of}
-use Rattle.query_words.specs.Texts.{reply_text, fault_text}
-use Rattle.query_words.specs.ScriptTexts.{ScriptPlace, LineAnswer, session_from, session_number, with_session, is_past_sessions, max_sessions, max_entries, reply_behind, requests_behind, said_answer, statement_answer, session_answer, without_request, place_after, LacksRoom}
+use Rattle.query_words.specs.Lines.{ReadsAs, line_of}
+use Rattle.reply_texts.specs.Texts.{reply_text}
+use Rattle.brin_app.specs.ScriptTexts.{fault_text, LineAnswer, said_answer, statement_answer, session_answer, without_request, place_after, ScriptLacksRoom}
+use Rattle.statements.specs.SessionNumbers.{session_from, session_number, with_session, is_past_sessions}
+use Rattle.statements.specs.declared.limits.TheConstants.{MAX_SESSIONS, MAX_ENTRIES}
 use Rattle.range_summaries.specs.ExplainedBlocks.{explained}
 use Rattle.session_core.specs.StoreState.{StoreState, IsRefinement, hand_of, with_name}
-use Rattle.session_core.specs.Submits.{HasSession}
-use Rattle.session_core.specs.declared.faults.SessionFault.TheVariants as faults
-use Rattle.brin_app.specs.Acting.{Acts, IsPast, AreIdle}
+use Rattle.brin_app.specs.Acting.{EndsStatement, StatementPastJournal, AreIdle}
 use Rattle.brin_app.specs.SessionPlaces.{place_of, IsSaid, IsTooMuch, IsAnswered}
 
 -- a line without requests
@@ -78,15 +78,15 @@ idle_with_name s name idle n = at (nat_lt (session_number s.names name) (length 
 answer_within : (s : StoreState) (name : List ℕ) (short : Bool) (statement : Statement) → is_past_sessions s.names name ≡ false
     → statement_answer (explained s.layout.schema) (place_of s) name short statement ≡ session_answer (explained s.layout.schema) (place_of s) (session_number s.names name) name short statement
 answer_within s name short statement e =
-    ap (λ b. if b then without_request (place_of s) (reply_text name (replies.Refused (refusals.Limit max_sessions))) else session_answer (explained s.layout.schema) (place_of s) (session_number s.names name) name short statement) e
+    ap (λ b. if b then without_request (place_of s) (reply_text name (replies.Refused (refusals.Limit MAX_SESSIONS))) else session_answer (explained s.layout.schema) (place_of s) (session_number s.names name) name short statement) e
 
 answer_past : (s : StoreState) (name : List ℕ) (short : Bool) (statement : Statement) → is_past_sessions s.names name ≡ true
-    → statement_answer (explained s.layout.schema) (place_of s) name short statement ≡ without_request (place_of s) (reply_text name (replies.Refused (refusals.Limit max_sessions)))
+    → statement_answer (explained s.layout.schema) (place_of s) name short statement ≡ without_request (place_of s) (reply_text name (replies.Refused (refusals.Limit MAX_SESSIONS)))
 answer_past s name short statement e =
-    ap (λ b. if b then without_request (place_of s) (reply_text name (replies.Refused (refusals.Limit max_sessions))) else session_answer (explained s.layout.schema) (place_of s) (session_number s.names name) name short statement) e
+    ap (λ b. if b then without_request (place_of s) (reply_text name (replies.Refused (refusals.Limit MAX_SESSIONS))) else session_answer (explained s.layout.schema) (place_of s) (session_number s.names name) name short statement) e
 
 -- a statement that a session of that name has done
-pub said_by_session : (s s' : StoreState) (name : List ℕ) (statement : Statement) (reply : Reply) → AreIdle s → is_past_sessions s.names name ≡ false → Acts (with_name s name) (session_number s.names name) statement s' reply
+pub said_by_session : (s s' : StoreState) (name : List ℕ) (statement : Statement) (reply : Reply) → AreIdle s → is_past_sessions s.names name ≡ false → EndsStatement (with_name s name) (session_number s.names name) statement s' reply
     → IsSaid s (Ok (lines.Say name (orders.Whole statement))) (reply_text name reply) s'
 said_by_session s s' name statement reply idle within acts =
     let is = answer_within s name acts.short statement within in
@@ -103,31 +103,31 @@ said_by_session s s' name statement reply idle within acts =
     }
 
 -- a session more than there may be
-pub said_past : (s : StoreState) (name : List ℕ) (statement : Statement) (limit : ℕ) → IsRefinement s → AreIdle s → is_past_sessions s.names name ≡ true → limit ≡ max_sessions
+pub said_past : (s : StoreState) (name : List ℕ) (statement : Statement) (limit : ℕ) → IsRefinement s → AreIdle s → is_past_sessions s.names name ≡ true → limit ≡ MAX_SESSIONS
     → IsSaid s (Ok (lines.Say name (orders.Whole statement))) (reply_text name (replies.Refused (refusals.Limit limit))) s
 said_past s name statement limit known idle past at =
     subst (λ (l : ℕ). IsSaid s (Ok (lines.Say name (orders.Whole statement))) (reply_text name (replies.Refused (refusals.Limit l))) s) (sym at)
-    (said_nothing s (Ok (lines.Say name (orders.Whole statement))) (reply_text name (replies.Refused (refusals.Limit max_sessions))) known idle (answer_past s name false statement past))
+    (said_nothing s (Ok (lines.Say name (orders.Whole statement))) (reply_text name (replies.Refused (refusals.Limit MAX_SESSIONS))) known idle (answer_past s name false statement past))
 
 -- a statement that doesn't fit
-pub too_much : (s : StoreState) (name : List ℕ) (statement : Statement) → is_past_sessions s.names name ≡ false → IsPast (with_name s name) (session_number s.names name) statement
+pub too_much : (s : StoreState) (name : List ℕ) (statement : Statement) → is_past_sessions s.names name ≡ false → StatementPastJournal (with_name s name) (session_number s.names name) statement
     → IsTooMuch s (Ok (lines.Say name (orders.Whole statement)))
 too_much s name statement within is =
     let answer = answer_within s name is.short statement within in
     record {
       short = is.short;
-      past = subst (λ (a : LineAnswer). max_entries < length s.journal + length a.requests) (sym answer) is.past;
+      past = subst (λ (a : LineAnswer). MAX_ENTRIES < length s.journal + length a.requests) (sym answer) is.past;
     }
 
 -- what a session of that name has done, by its number
-pub acts_at : (s s₁ s' : StoreState) (name : List ℕ) (n : ℕ) (statement : Statement) (reply : Reply) → n ≡ session_number s.names name → s₁ ≡ with_name s name → Acts s₁ n statement s' reply
-    → Acts (with_name s name) (session_number s.names name) statement s' reply
+pub acts_at : (s s₁ s' : StoreState) (name : List ℕ) (n : ℕ) (statement : Statement) (reply : Reply) → n ≡ session_number s.names name → s₁ ≡ with_name s name → EndsStatement s₁ n statement s' reply
+    → EndsStatement (with_name s name) (session_number s.names name) statement s' reply
 acts_at s s₁ s' name n statement reply number is acts =
-    subst (λ (m : ℕ). Acts (with_name s name) m statement s' reply) number (subst (λ (t : StoreState). Acts t n statement s' reply) is acts)
+    subst (λ (m : ℕ). EndsStatement (with_name s name) m statement s' reply) number (subst (λ (t : StoreState). EndsStatement t n statement s' reply) is acts)
 
-pub past_at : (s s₁ : StoreState) (name : List ℕ) (n : ℕ) (statement : Statement) → n ≡ session_number s.names name → s₁ ≡ with_name s name → IsPast s₁ n statement → IsPast (with_name s name) (session_number s.names name) statement
+pub past_at : (s s₁ : StoreState) (name : List ℕ) (n : ℕ) (statement : Statement) → n ≡ session_number s.names name → s₁ ≡ with_name s name → StatementPastJournal s₁ n statement → StatementPastJournal (with_name s name) (session_number s.names name) statement
 past_at s s₁ name n statement number is past =
-    subst (λ (m : ℕ). IsPast (with_name s name) m statement) number (subst (λ (t : StoreState). IsPast t n statement) is past)
+    subst (λ (m : ℕ). StatementPastJournal (with_name s name) m statement) number (subst (λ (t : StoreState). StatementPastJournal t n statement) is past)
 
 pub idle_at : (s s₁ : StoreState) (name : List ℕ) (n : ℕ) → s₁ ≡ with_name s name → AreIdle s → hand_of s₁ n ≡ None
 idle_at s s₁ name n is idle = ap (λ (t : StoreState). hand_of t n) is ∙ idle_with_name s name idle n
@@ -135,11 +135,6 @@ idle_at s s₁ name n is idle = ap (λ (t : StoreState). hand_of t n) is ∙ idl
 pub there_at : (s s₁ : StoreState) (name : List ℕ) (n : ℕ) → n ≡ session_number s.names name → s₁ ≡ with_name s name → n < length s₁.names
 there_at s s₁ name n number is =
     subst (λ (m : ℕ). m < length s₁.names) (sym number) (subst (λ (t : StoreState). session_number s.names name < length t.names) (sym is) (number_there s.names name))
-
--- a text that was rendered
-pub on_rendered : {E F : Type 0} (rendered : Result (Unit {0}) E) (written : Result (Unit {0}) F) (A B : Type 0) → OnOk rendered (written ≡ Ok tt) → OnOk written A → (A → B) → OnOk rendered B
-on_rendered (Ok u) written A B is a f = f (subst (λ (r : Result (Unit {0}) _). OnOk r A) is a)
-on_rendered (Err e) written A B is a f = tt
 
 -- what is read of a line is answered
 pub answered : (s s' : StoreState) (line text : List ℕ) (said : Result Line LineFault) → line_of s.layout.schema line ≡ said → IsSaid s said text s' → IsAnswered s line text s'
@@ -151,13 +146,13 @@ answered s s' line text said is done =
       said = record { short = at.short; text_is = at.text_is; leads = at.leads; fits = at.fits };
     }
 
-pub too_much_said : (s : StoreState) (line : List ℕ) (said : Result Line LineFault) → line_of s.layout.schema line ≡ said → IsTooMuch s said → LacksRoom (explained s.layout.schema) s.layout.schema (place_of s) line
+pub too_much_said : (s : StoreState) (line : List ℕ) (said : Result Line LineFault) → line_of s.layout.schema line ≡ said → IsTooMuch s said → ScriptLacksRoom (explained s.layout.schema) s.layout.schema (place_of s) line
 too_much_said s line said is much =
     let at : IsTooMuch s (line_of s.layout.schema line) = subst (λ (r : Result Line LineFault). IsTooMuch s r) (sym is) much in
     record { short = at.short; past = at.past }
 
 -- a fault that isn't want of memory is the line's
-fault_said : (said : Result Line LineFault) (fault : LineFault) → fault ≢ line_faults.Memory → Reads {T = Line} (Err fault) said → said ≡ Err fault
+fault_said : (said : Result Line LineFault) (fault : LineFault) → fault ≢ line_faults.Memory → ReadsAs {T = Line} (Err fault) said → said ≡ Err fault
 fault_said said (line_faults.Syntax at) not r = r
 fault_said said (line_faults.NoTable at) not r = r
 fault_said said (line_faults.NoIndex at) not r = r
@@ -165,7 +160,7 @@ fault_said said (line_faults.NoColumn at) not r = r
 fault_said said (line_faults.Kind at) not r = r
 fault_said said line_faults.Memory not r = absurd (not refl)
 
-pub refused : {E : Type 0} (s : StoreState) (line before after : List ℕ) (fault : LineFault) (result : Result (Unit {0}) E) → IsRefinement s → Reads {T = Line} (Err fault) (line_of s.layout.schema line)
+pub refused : {E : Type 0} (s : StoreState) (line before after : List ℕ) (fault : LineFault) (result : Result (Unit {0}) E) → IsRefinement s → ReadsAs {T = Line} (Err fault) (line_of s.layout.schema line)
     → OnOk result (fault ≢ line_faults.Memory) → OnOk result (after ≡ before ++ fault_text fault) → OnOk result ((text : List ℕ) × (after ≡ before ++ text) × (AreIdle s → IsAnswered s line text s))
 refused s line before after fault (Ok u) known r not e = (
   fault_text fault,

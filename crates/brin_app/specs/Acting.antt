@@ -1,31 +1,32 @@
 -- what a statement of a session does to a store
 use Rattle.std.specs.Prelude.{◌≡◌, ℕ, ◌+◌, ◌<◌, ◌≤◌, Bool, ◌++◌, length, None}
 use Rattle.block_model.specs.declared.reply.Reply.{Reply}
-use Rattle.query_words.specs.declared.statement.Statement.{Statement}
-use Rattle.query_words.specs.ScriptTexts.{requests_behind, reply_behind, max_entries}
+use Rattle.statements.specs.declared.statement.Statement.{Statement}
+use Rattle.statements.specs.JournalAnswers.{requests_behind, reply_behind}
+use Rattle.statements.specs.declared.limits.TheConstants.{MAX_ENTRIES}
 use Rattle.range_summaries.specs.ExplainedBlocks.{explained}
-use Rattle.session_core.specs.Steps.{LacksRoom}
+use Rattle.session_core.specs.Steps.{JournalLacksRoom}
 use Rattle.session_core.specs.StoreState.{StoreState, hand_of}
 
 -- the statement's requests join the journal, which has room for them, and the reply is theirs; nothing else changes
-pub record Acts (s : StoreState) (n : ℕ) (statement : Statement) (s' : StoreState) (reply : Reply) : Type 0 where
+pub record EndsStatement (s : StoreState) (n : ℕ) (statement : Statement) (s' : StoreState) (reply : Reply) : Type 0 where
   pub short : Bool
   pub replied : reply ≡ reply_behind (explained s.layout.schema) s.journal n short statement
   pub journal : s'.journal ≡ s.journal ++ requests_behind s.journal n short statement
-  pub fits : length s'.journal ≤ max_entries
+  pub fits : length s'.journal ≤ MAX_ENTRIES
   pub layout : s'.layout ≡ s.layout
   pub names : s'.names ≡ s.names
   pub hands : s'.hands ≡ s.hands
 
 -- its requests don't all fit into the journal
-pub record IsPast (s : StoreState) (n : ℕ) (statement : Statement) : Type 0 where
+pub record StatementPastJournal (s : StoreState) (n : ℕ) (statement : Statement) : Type 0 where
   pub short : Bool
-  pub past : max_entries < length s.journal + length (requests_behind s.journal n short statement)
+  pub past : MAX_ENTRIES < length s.journal + length (requests_behind s.journal n short statement)
 
 -- the requests of the statement that the session has in hand don't
-pub record IsFull (s : StoreState) (n : ℕ) : Type 0 where
+pub record HandPastJournal (s : StoreState) (n : ℕ) : Type 0 where
   pub entries : ℕ
-  pub lacks : LacksRoom s n entries
+  pub lacks : JournalLacksRoom s n entries
 
 -- no session has a statement in hand
 abbrev pub AreIdle : StoreState → Type 0

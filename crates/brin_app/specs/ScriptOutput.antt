@@ -1,19 +1,20 @@
 -- what the program writes for a script, and when each status comes
-use Rattle.std.specs.Prelude.{◌≡◌, ◌⊎◌, ℕ, ◌+◌, ◌^◌, ◌≤◌, List, [], ◌∷◌, ◌++◌, length, Option, None, Some, IsSomeAnd}
+use Rattle.std.specs.Prelude.{◌≡◌, ◌⊎◌, ℕ, ◌+◌, ◌≤◌, List, [], ◌∷◌, ◌++◌, length, Option, None, Some, Ok, Err, IsSomeAnd}
 use Rattle.std.specs.Io.KnownBytes.{Consumes}
-use Rattle.block_model.specs.DiskLayout.{DiskLayout}
-use Rattle.block_model.specs.FirstBrokenRule.{first_broken_rule}
+use Rattle.store_layout.specs.DiskLayout.{DiskLayout}
+use Rattle.store_layout.specs.FirstBrokenRule.{first_broken_rule}
 use Rattle.block_model.specs.declared.schema.Schema.{Schema}
 use Rattle.block_model.specs.declared.schema.Sizes.{Sizes}
-use Rattle.query_words.specs.ScriptTexts.{ScriptPlace, script_start, IsLineText, LacksRoom}
+use Rattle.brin_app.specs.ScriptTexts.{ScriptPlace, script_start, IsLineText, ScriptLacksRoom}
 use Rattle.command_words.specs.declared.command.Command.TheVariants.{Run}
 use Rattle.command_words.specs.CommandWords.{command_of}
 use Rattle.schema_words.specs.DeclaredSchema.{Denotes}
+use Rattle.brin_app.specs.declared.status.TheConstants.{SCRIPT_LIMIT}
 use Rattle.range_summaries.specs.ExplainedBlocks.{explained}
-use Rattle.script_run.specs.declared.run.RunEnd.{RunEnd}
-use Rattle.script_run.specs.declared.run.RunEnd.TheVariants as ends
+use Rattle.script_run.specs.declared.engine.AnswerFault.TheVariants.{Memory, Full}
+use Rattle.script_run.specs.declared.fault.RunFault.TheVariants as faults
 use Rattle.script_run.specs.Answers.{AreAnswers}
-use Rattle.script_run.specs.Runs.{AreFirst, Ran}
+use Rattle.script_run.specs.Runs.{AreFirst, Ran, RunEnd}
 
 -- a layout of these sizes and of what is declared, which passes no limit
 pub record IsLayoutFor (sizes : Sizes) (declared : List (List ℕ)) (layout : DiskLayout) : Type 0 where
@@ -32,32 +33,28 @@ pub record AsksFor (words : List (List ℕ)) (layout : DiskLayout) : Type 0 wher
 abbrev pub AsksForNothing : List (List ℕ) → Type 0
 AsksForNothing words = (layout : DiskLayout) → AsksFor words layout → ⊥
 
--- how many bytes of script are taken
-abbrev pub script_limit : ℕ
-script_limit = 2 ^ 30
-
--- the status of each way in which a run ends
+-- the status of each way in which a run ends: too long a script and a full journal have one
 abbrev pub exit_status : RunEnd → ℕ
-exit_status ends.Done = 0
-exit_status ends.ReadFault = 4
-exit_status ends.WriteFault = 5
-exit_status ends.Memory = 7
-exit_status ends.Spent = 8
-exit_status ends.Full = 8
+exit_status (Ok done) = 0
+exit_status (Err faults.Read) = 4
+exit_status (Err faults.Spent) = 8
+exit_status (Err faults.Write) = 5
+exit_status (Err (faults.Unanswered Memory)) = 7
+exit_status (Err (faults.Unanswered Full)) = 8
 
 -- the texts of lines over tables and indexes of this schema
 abbrev pub Texts : Schema → ScriptPlace → List ℕ → List ℕ → ScriptPlace → Type 0
 Texts schema = IsLineText (explained schema) schema
 
 -- the lines for whose requests the journal has no room
-abbrev pub Past : Schema → ScriptPlace → List ℕ → Type 0
-Past schema = LacksRoom (explained schema) schema
+abbrev pub PastJournal : Schema → ScriptPlace → List ℕ → Type 0
+PastJournal schema = ScriptLacksRoom (explained schema) schema
 
 -- The script of the source was run over a new database of this schema: what was written are the texts of its lines, as if
 -- each session worked on its own copy of the tables, and the status says how far that went.
 abbrev pub IsScriptOutput : ℕ → Schema → Option (List ℕ) → Option (List ℕ) → Option (List ℕ) → Option (List ℕ) → Type 0
 IsScriptOutput status schema left left' taken taken' =
-    (end : RunEnd) × (after : ScriptPlace) × (status ≡ exit_status end) × Ran (Texts schema) (Past schema) script_start after script_limit end left left' taken taken'
+    (end : RunEnd) × (after : ScriptPlace) × (status ≡ exit_status end) × Ran (Texts schema) (PastJournal schema) script_start after SCRIPT_LIMIT end left left' taken taken'
 
 -- first lines of this script, with texts of theirs, lead to a journal that has no room for the requests of the next one
 pub record FillsJournal (schema : Schema) (script : List ℕ) (left : Option (List ℕ)) : Type 0 where
@@ -67,17 +64,17 @@ pub record FillsJournal (schema : Schema) (script : List ℕ) (left : Option (Li
   pub line : List ℕ
   pub first : AreFirst (done ++ line ∷ []) script left
   pub answers : AreAnswers (Texts schema) script_start done texts place
-  pub past : Past schema place line
+  pub past : PastJournal schema place line
 
 -- the script that was taken fills the journal
 abbrev pub JournalWasFull : Schema → Option (List ℕ) → Option (List ℕ) → Type 0
 JournalWasFull schema left left' = (script : List ℕ) × Consumes left left' script × FillsJournal schema script left'
 
--- Where the source tells its bytes, status 8 comes where as many as the limit were taken and then another, and else only where
+-- Where the source tells its bytes, 8 comes where as many as the limit were taken and then another, and else only where
 -- the journal was full.
 pub record IsSpentExactly (status : ℕ) (schema : Schema) (old new : List ℕ) : Type 0 where
-  pub past_limit : length old ≡ (script_limit + 1) + length new → status ≡ 8
-  pub only : status ≡ 8 → (length old ≡ (script_limit + 1) + length new) ⊎ JournalWasFull schema (Some old) (Some new)
+  pub past_limit : length old ≡ (SCRIPT_LIMIT + 1) + length new → status ≡ 8
+  pub only : status ≡ 8 → (length old ≡ (SCRIPT_LIMIT + 1) + length new) ⊎ JournalWasFull schema (Some old) (Some new)
 
 abbrev pub HasSpentCauses : ℕ → Schema → Option (List ℕ) → Option (List ℕ) → Type 0
 HasSpentCauses status schema (Some old) (Some new) = IsSpentExactly status schema old new
@@ -85,7 +82,7 @@ HasSpentCauses status schema old new = Unit {0}
 
 -- the source tells its bytes, and has no more than are taken
 abbrev pub FitsLimit : Option (List ℕ) → Type 0
-FitsLimit left = IsSomeAnd left (λ bytes. length bytes ≤ script_limit)
+FitsLimit left = IsSomeAnd left (λ bytes. length bytes ≤ SCRIPT_LIMIT)
 
 -- no part of the source's bytes fills the journal
 abbrev pub FitsJournal : Schema → Option (List ℕ) → Type 0

@@ -1,6 +1,7 @@
 -- where sessions stand in a script
 use Rattle.std.specs.Prelude.{◌≡◌, ℕ, ◌+◌, ◌<◌, ◌≤◌, Bool, List, length, Result}
-use Rattle.query_words.specs.ScriptTexts.{ScriptPlace, IsLineText, LacksRoom, said_answer, place_after, max_entries}
+use Rattle.brin_app.specs.ScriptTexts.{ScriptPlace, IsLineText, ScriptLacksRoom, said_answer, place_after}
+use Rattle.statements.specs.declared.limits.TheConstants.{MAX_ENTRIES}
 use Rattle.query_words.specs.declared.line.Line.{Line}
 use Rattle.query_words.specs.declared.line.LineFault.{LineFault}
 use Rattle.range_summaries.specs.ExplainedBlocks.{explained}
@@ -18,12 +19,12 @@ pub record IsSaid (s : StoreState) (said : Result Line LineFault) (text : List �
   pub short : Bool
   pub text_is : text ≡ (said_answer (explained s.layout.schema) (place_of s) short said).text
   pub leads : place_of s' ≡ place_after (place_of s) (said_answer (explained s.layout.schema) (place_of s) short said)
-  pub fits : length s'.journal ≤ max_entries
+  pub fits : length s'.journal ≤ MAX_ENTRIES
 
 -- the journal has no room for the requests of what a line says
 pub record IsTooMuch (s : StoreState) (said : Result Line LineFault) : Type 0 where
   pub short : Bool
-  pub past : max_entries < length s.journal + length (said_answer (explained s.layout.schema) (place_of s) short said).requests
+  pub past : MAX_ENTRIES < length s.journal + length (said_answer (explained s.layout.schema) (place_of s) short said).requests
 
 -- the line has this text, and nothing is in hand behind it
 pub record IsAnswered (s : StoreState) (line text : List ℕ) (s' : StoreState) : Type 0 where
@@ -37,4 +38,4 @@ AnswersLine a line text b = AreIdle a.store → IsAnswered a.store line text b.s
 
 -- their journal has no room for a line's requests
 abbrev pub LacksRoomFor : Sessions → List ℕ → Type 0
-LacksRoomFor a line = AreIdle a.store → LacksRoom (explained a.store.layout.schema) a.store.layout.schema (place_of a.store) line
+LacksRoomFor a line = AreIdle a.store → ScriptLacksRoom (explained a.store.layout.schema) a.store.layout.schema (place_of a.store) line

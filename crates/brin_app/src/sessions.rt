@@ -1,25 +1,23 @@
-// The sessions of a script.
+//! The sessions of a script.
 
 ghost use Rattle.std.specs.Prelude.{◌≡◌, ◌≢◌, ◌<◌, ◌++◌, None, Ok, IfOk, OnOk, IsErrOf, IsSome, ℕ, List, length};
-ghost use Rattle.query_words.specs.LineFits.{IsLineFor, IsStatementFor};
-ghost use Rattle.query_words.specs.Texts.{fault_text};
-ghost use Rattle.query_words.specs.ScriptTexts.{script_start, line_answer, said_answer, statement_answer, place_after, LacksRoom};
+ghost use Rattle.query_words.specs.LineFits.{IsLineFor};
+ghost use Rattle.statements.specs.StatementFits.{IsStatementFor};
+ghost use Rattle.brin_app.specs.ScriptTexts.{fault_text, script_start, ScriptLacksRoom};
 ghost use Rattle.range_summaries.specs.ExplainedBlocks.{explained};
 ghost use Rattle.session_core.specs.StoreState.{hand_of};
 ghost use Rattle.session_core.specs.Steps.{Ends};
-ghost use Rattle.brin_app.specs.Acting.{Acts, IsPast, IsFull, AreIdle};
+ghost use Rattle.brin_app.specs.Acting.{EndsStatement, StatementPastJournal, HandPastJournal, AreIdle};
 ghost use Rattle.brin_app.specs.SessionPlaces.{place_of, IsAnswered, IsSaid, IsTooMuch};
 
-use block_model::NoMemory;
-use block_model::layout::Layout;
-use block_model::name::Name;
-use block_model::reply::{Refusal, Reply};
-use query_words::line::{Line, LineFault, Order, read_line};
-use query_words::reply::{render, render_fault};
-use query_words::statement::Statement;
-use script_run::engine::{AnswerFault, Engine};
+use block_model::{Name, NoMemory, Refusal, Reply};
+use query_words::{Line, LineFault, Order, read_line};
+use reply_texts::{render, render_refusal};
+use script_run::{AnswerFault, Engine};
 use session_core::{SessionFault, Step, Store, StoreFault};
+use statements::Statement;
 use std::alloc::Global;
+use store_layout::Layout;
 
 /// The store that the sessions of a script work on.
 #[derive(Drop)]
@@ -55,7 +53,7 @@ impl Sessions {
 /// Appends the text of a line, and does what it says.
 fn answer_line(sessions: &mut Sessions, line: &[u8], out: &mut Vec<u8>) -> Result<(), AnswerFault>
     ensures ok { OnOk result ((text : List ℕ) × (out.new.items ≡ out.old.items ++ text) × (AreIdle sessions.old.store → IsAnswered sessions.old.store line.now text sessions.new.store)) }
-    ensures full { AreIdle sessions.old.store → IsErrOf result AnswerFault.Full → LacksRoom (explained sessions.old.store.layout.schema) sessions.old.store.layout.schema (place_of sessions.old.store) line.now }
+    ensures full { AreIdle sessions.old.store → IsErrOf result AnswerFault.Full → ScriptLacksRoom (explained sessions.old.store.layout.schema) sessions.old.store.layout.schema (place_of sessions.old.store) line.now }
 {
     match read_line(sessions.alloc, line, sessions.store.layout()) {
         Ok(line) => obey(&mut sessions.store, line, out),
@@ -72,23 +70,14 @@ fn refuse(fault: LineFault, out: &mut Vec<u8>) -> Result<(), AnswerFault>
     ensures read { OnOk result (fault ≢ LineFault.Memory) }
     ensures full { ¬ (IsErrOf result AnswerFault.Full) }
 {
-    match fault {
-        LineFault::Memory => Err(AnswerFault::Memory),
-        _ => rendered(render_fault(fault, out)),
-    }
+    let Some(refusal) = fault.refusal() else {
+        return Err(AnswerFault::Memory);
+    };
+    render_refusal(&refusal, out)?;
+    Ok(())
 }
 
-/// Want of memory for a text.
-fn rendered(text: Result<(), NoMemory>) -> Result<(), AnswerFault>
-    ensures ok { OnOk result (text ≡ Ok tt) }
-    ensures err { ¬ (IsErrOf result AnswerFault.Full) }
-{
-    match text {
-        Ok(()) => Ok(()),
-        Err(_) => Err(AnswerFault::Memory),
-    }
-}
-
+/// Does what a line says, and appends its text.
 fn obey(store: &mut Store, line: Line, out: &mut Vec<u8>) -> Result<(), AnswerFault>
     requires { IsLineFor store.old.layout.schema line }
     ensures ok { OnOk result ((text : List ℕ) × (out.new.items ≡ out.old.items ++ text) × (AreIdle store.old → IsSaid store.old (Ok line) text store.new)) }
@@ -122,20 +111,22 @@ fn say(
         Err(SessionFault::Limit { limit }) => {
             store.known();
             let reply = Reply::Refused(Refusal::Limit { limit });
-            return rendered(render(session, &reply, out));
+            render(session, &reply, out)?;
+            return Ok(());
         }
         Err(SessionFault::Memory) => return Err(AnswerFault::Memory),
     };
     let reply = act(store, number, statement)?;
-    rendered(render(session, &reply, out))
+    render(session, &reply, out)?;
+    Ok(())
 }
 
 /// Does what a statement of the session says, or says why it isn't taken.
 fn act(store: &mut Store, session: u32, statement: Statement) -> Result<Reply, AnswerFault>
     requires session { session < length store.old.names }
     requires statement { IsStatementFor store.old.layout.schema statement }
-    ensures ok { hand_of store.old session ≡ None → IfOk result (λ reply. Acts store.old session statement store.new reply) }
-    ensures full { hand_of store.old session ≡ None → IsErrOf result AnswerFault.Full → IsPast store.old session statement }
+    ensures ok { hand_of store.old session ≡ None → IfOk result (λ reply. EndsStatement store.old session statement store.new reply) }
+    ensures full { hand_of store.old session ≡ None → IsErrOf result AnswerFault.Full → StatementPastJournal store.old session statement }
 {
     store.known();
     match store.submit(session, statement) {
@@ -148,7 +139,7 @@ fn act(store: &mut Store, session: u32, statement: Statement) -> Result<Reply, A
 fn step(store: &mut Store, session: u32) -> Result<Reply, AnswerFault>
     requires { IsSome (hand_of store.old session) }
     ensures ok { IfOk result (λ reply. Ends store.old session store.new reply) }
-    ensures full { IsErrOf result AnswerFault.Full → IsFull store.old session }
+    ensures full { IsErrOf result AnswerFault.Full → HandPastJournal store.old session }
     ensures memory { ¬ (IsErrOf result AnswerFault.Memory) }
 {
     match store.step(session) {

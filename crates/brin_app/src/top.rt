@@ -1,34 +1,27 @@
-// The top call.
+//! The top call.
 
 ghost use Rattle.std.specs.Prelude.{◌≡◌, ◌⊎◌, None, Ok, Err, IfOk, IfErr, IsSome};
 ghost use Rattle.block_model.specs.Causes.{Rose};
-ghost use Rattle.block_model.specs.DiskLayout.{DiskLayout};
-ghost use Rattle.block_model.specs.FirstBrokenRule.{first_broken_rule};
+ghost use Rattle.store_layout.specs.DiskLayout.{DiskLayout};
+ghost use Rattle.store_layout.specs.FirstBrokenRule.{first_broken_rule};
 ghost use Rattle.block_model.specs.declared.schema.Schema.{Schema};
 ghost use Rattle.schema_words.specs.DeclaredSchema.{Denotes};
-ghost use Rattle.brin_app.specs.ScriptOutput.{IsLayoutFor, AsksFor, AsksForNothing, IsScriptOutput, HasSpentCauses, IsComplete, exit_status, script_limit};
+ghost use Rattle.brin_app.specs.ScriptOutput.{IsLayoutFor, AsksFor, AsksForNothing, IsScriptOutput, HasSpentCauses, IsComplete, exit_status};
 
 use crate::sessions::Sessions;
-use block_model::layout::Layout;
-use block_model::schema::{Schema, Sizes};
-use block_model::words::Words;
-use command_words::command::{Command, CommandFault, read_command};
-use io_traits::sink::Sink;
-use io_traits::source::Source;
+use crate::status::{DONE, LIMIT, MEMORY, READ_FAULT, SCRIPT_LIMIT, USAGE, WRITE_FAULT};
+use block_model::{Schema, Sizes, Words};
+use command_words::{Command, CommandFault, read_command};
+use io_traits::{Sink, Source};
 use schema_words::{DeclFault, read_declarations};
-use script_run::run::{RunEnd, run};
+use script_run::{AnswerFault, RunFault, run};
 use std::alloc::Global;
-
-/// How many bytes of script are taken.
-const SCRIPT_LIMIT: u64 = 1 << 30;
-
-/// Memory ran out.
-const MEMORY: u8 = 7;
+use store_layout::Layout;
 
 /// Does what the words of a command line say: `run` with options and the declarations of tables and indexes runs the script
 /// of the source over a new database, line after line, and writes the text of each line to the sink before the next line is
 /// judged. The status is 0 where the script was read to its end, 2 where the words are no command or a limit is passed, 4
-/// for a read fault, 5 for a write fault, 7 for want of memory, and 8 where the requests of a line don't fit into a journal
+/// for a read fault, 5 for a write fault, 7 for want of memory, and 8 where the requests of a line don't fit into the journal
 /// of 1048576 entries, or 1073741824 bytes of script were taken and another came.
 pub fn brin_main<S: Source, K: Sink>(
     alloc: Global,
@@ -49,7 +42,7 @@ pub fn brin_main<S: Source, K: Sink>(
 {
     match read_words(alloc, words) {
         Ok(layout) => run_script(alloc, layout, source, sink),
-        Err(WordsFault::Usage) => 2,
+        Err(WordsFault::Usage) => USAGE,
         Err(WordsFault::Memory) => MEMORY,
     }
 }
@@ -61,6 +54,32 @@ enum WordsFault {
     Memory,
 }
 
+impl From<CommandFault> for WordsFault {
+    ghost use Rattle.brin_app.specs.WordsFaults.{of_command};
+
+    ghost from_gives = { λ fault of. of ≡ of_command fault };
+
+    fn from(fault: CommandFault) -> WordsFault {
+        match fault {
+            CommandFault::Usage => WordsFault::Usage,
+            CommandFault::Memory => WordsFault::Memory,
+        }
+    }
+}
+
+impl From<DeclFault> for WordsFault {
+    ghost use Rattle.brin_app.specs.WordsFaults.{of_declarations};
+
+    ghost from_gives = { λ fault of. of ≡ of_declarations fault };
+
+    fn from(fault: DeclFault) -> WordsFault {
+        match fault {
+            DeclFault::Form { .. } => WordsFault::Usage,
+            DeclFault::Memory => WordsFault::Memory,
+        }
+    }
+}
+
 /// The layout of the store that the words ask for.
 #[tactic(auto, using(crate::proofs::Asked::ok_asked, crate::proofs::Asked::ok_only, crate::proofs::Asked::none_asked, crate::proofs::Asked::no_command))]
 fn read_words(alloc: Global, words: &Words) -> Result<Layout, WordsFault>
@@ -68,15 +87,11 @@ fn read_words(alloc: Global, words: &Words) -> Result<Layout, WordsFault>
     ensures alone { IfOk result (λ layout. (other : DiskLayout) → AsksFor words.now other → other ≡ layout) }
     ensures usage { result ≡ Err WordsFault.Usage → AsksForNothing words.now }
 {
-    match read_command(alloc, words) {
-        Ok(
-            Command::Run {
-                sizes,
-                declarations,
-            },
-        ) => layout_for(alloc, sizes, &declarations),
-        Err(CommandFault::Usage) => Err(WordsFault::Usage),
-        Err(CommandFault::Memory) => Err(WordsFault::Memory),
+    match read_command(alloc, words)? {
+        Command::Run {
+            sizes,
+            declarations,
+        } => layout_for(alloc, sizes, &declarations),
     }
 }
 
@@ -86,11 +101,8 @@ fn layout_for(alloc: Global, sizes: Sizes, declarations: &Words) -> Result<Layou
     ensures alone { IfOk result (λ layout. (schema : Schema) → Denotes declarations.now schema → schema ≡ layout.schema) }
     ensures usage { result ≡ Err WordsFault.Usage → (schema : Schema) → Denotes declarations.now schema → IsSome (first_broken_rule schema sizes) }
 {
-    match read_declarations(alloc, declarations) {
-        Ok(schema) => layout_of(schema, sizes),
-        Err(DeclFault::Form { .. }) => Err(WordsFault::Usage),
-        Err(DeclFault::Memory) => Err(WordsFault::Memory),
-    }
+    let schema = read_declarations(alloc, declarations)?;
+    layout_of(schema, sizes)
 }
 
 /// The layout of these tables, indexes and sizes, where no limit is passed.
@@ -116,14 +128,15 @@ fn run_script<S: Source, K: Sink>(alloc: Global, layout: Layout, source: &mut S,
     status(run(alloc, SCRIPT_LIMIT, &mut sessions, source, sink))
 }
 
-fn status(end: RunEnd) -> u8
+/// The status of each way in which a run ends.
+fn status(end: Result<(), RunFault>) -> u8
     ensures { result ≡ exit_status end }
 {
     match end {
-        RunEnd::Done => 0,
-        RunEnd::ReadFault => 4,
-        RunEnd::WriteFault => 5,
-        RunEnd::Memory => MEMORY,
-        RunEnd::Spent | RunEnd::Full => 8,
+        Ok(()) => DONE,
+        Err(RunFault::Read) => READ_FAULT,
+        Err(RunFault::Write) => WRITE_FAULT,
+        Err(RunFault::Unanswered(AnswerFault::Memory)) => MEMORY,
+        Err(RunFault::Spent | RunFault::Unanswered(AnswerFault::Full)) => LIMIT,
     }
 }

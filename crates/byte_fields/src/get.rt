@@ -1,4 +1,4 @@
-// Numbers read from bytes.
+//! Numbers read from bytes.
 
 ghost use Rattle.std.specs.Int.{w64, cast_signed, cast_unsigned};
 ghost use Rattle.std.specs.Prelude.{◌≡◌, ◌≤◌, ◌+◌, length};

@@ -1,4 +1,4 @@
-// What a put leaves as it was, whatever the number of bytes of its field.
+//! What a put leaves as it was, whatever the number of bytes of its field.
 
 ghost use Rattle.std.specs.Prelude.{◌≡◌, ◌≤◌, ◌+◌, ◌⊎◌, length};
 ghost use Rattle.byte_fields.specs.Fields.{field_at, put_at};

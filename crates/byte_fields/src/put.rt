@@ -1,4 +1,4 @@
-// Numbers put into bytes.
+//! Numbers put into bytes.
 
 ghost use Rattle.std.specs.Int.{w64, cast_signed, cast_unsigned};
 ghost use Rattle.std.specs.Prelude.{◌≡◌, ◌≤◌, ◌+◌, length};

@@ -9,12 +9,13 @@ use Rattle.clap.specs.Faults.{fault_of, built_fault, level_fault, walk_fault, tu
 use Rattle.clap.specs.Kinds.{Kinds, or_else}
 use Rattle.clap.proofs.FaultLemmas.{stopped_fault}
 use Rattle.clap.specs.declared.error.kind.ErrorKind.TheVariants.{MissingSubcommand}
-use Rattle.command_words.specs.CommandWords.{Text, Said, nothing_read, option_in}
+use Rattle.command_words.specs.CommandWords.{Text, WordsSaid, nothing_read, option_in}
 use Rattle.command_words.specs.ClapReading.{is_end, clap_read, has_single_hyphen, has_no_single_hyphen}
 use Rattle.command_words.specs.ClapRules.{declared_id, option_rule, rules, leaf, Agrees}
 use Rattle.command_words.specs.ClapCommands.{Sub, entry, command_said, raw_rules, raw_leaf, top, raw_app, leaf_of, built_app, Enters, program_subs}
 use Rattle.command_words.proofs.RowLemmas.{same_text}
-use Rattle.command_words.proofs.TurnLemmas.{IsPlain, first_plain, rest_plain, not_single, leaf_agrees, or_nil, or_bad, some_or_none, no_short, and_false}
+use Rattle.command_words.proofs.TurnLemmas.{IsPlain, first_plain, rest_plain, not_single, leaf_agrees, or_nil, or_bad, some_or_none, no_short}
+use Rattle.std.proofs.Math.Bool.{and-false}
 
 -- ---- what building makes of the command
 
@@ -76,7 +77,7 @@ named_turn : (name : Text) (subs : List Sub) (word : Text) (s : Sub) → entry w
     → (turn_fault (built_app name subs).top (names_of (built_app name subs)) (walk_from nothing_held) word ≡ [])
     × (walked [] (names_of (built_app name subs)) (walk_from nothing_held) word ≡ stopped_at s.0 [])
 unfolding walked
-named_turn name subs word s e = (rw (names_found word subs, e, and_false) refl, rw (names_found word subs, e) refl)
+named_turn name subs word s e = (rw (names_found word subs, e, and-false) refl, rw (names_found word subs, e) refl)
 
 named_walk : (name : Text) (subs : List Sub) (word : Text) (words : List Text) (s : Sub) → entry word subs ≡ Some s
     → (walk_fault (built_app name subs).top (names_of (built_app name subs)) (walk_from nothing_held) (word ∷ words) ≡ [])
@@ -185,7 +186,7 @@ clap_agrees name subs (word ∷ words) named ok =
           (subcommand_of (raw_app name subs) (word ∷ words)) (named_rows name subs word words f.0 f.1) (leaf_agrees f.0.0 f.0.1 words (named_apart word subs f.0 f.1 named) (named_plain word words subs f.0 f.1 named ok)))
     ]
   where
-    go : (n : Text) (said : Option Said) (fault : Kinds) (rows : List Row) (entered : Option (Text × List Row)) → entered ≡ Some (n, rows) → Agrees fault rows said
+    go : (n : Text) (said : Option WordsSaid) (fault : Kinds) (rows : List Row) (entered : Option (Text × List Row)) → entered ≡ Some (n, rows) → Agrees fault rows said
         → MatchOption (option_map (λ x. (n, x)) said) (fault ≡ [] → ⊥) (λ x. (fault ≡ []) × Enters entered x)
     go n None fault rows entered e a = a
     go n (Some x) fault rows entered e a = (a.0, (rows, e, a.1))

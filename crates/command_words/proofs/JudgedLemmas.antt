@@ -3,25 +3,22 @@ use Rattle.std.proofs.Common.{◌≡◌, ◌∙◌, refl, sym, ap, subst, List, 
 use Rattle.std.specs.List.{list_any, list_all}
 use Rattle.std.proofs.lemmas.Bool.{cases_Bool, and_parts, not-true, false_from_ne_true, eqb-true}
 use Rattle.command_words.specs.declared.command.Command.{Command}
-use Rattle.command_words.specs.CommandWords.{Text, Said, Reading, value_of, option_in, nothing_read, is_number, begins_with_hyphen, take_word, name_and_value, read_words, CommandForm, command_in, commands, form_named}
+use Rattle.command_words.specs.CommandWords.{Text, WordsSaid, WordsReading, value_of, option_in, nothing_read, is_number, begins_with_hyphen, take_word, name_and_value, read_words, CommandForm, command_in, commands, form_named}
 use Rattle.command_words.specs.ClapReading.{is_end, has_single_hyphen, clap_read, clap_word, numbers_given, is_number_if_given, has_no_single_hyphen}
 use Rattle.command_words.specs.ClapCommands.{entry, command_matched, judged, meaning_checked}
 use Rattle.command_words.proofs.RowLemmas.{given_at, same_text, text_is}
-use Rattle.command_words.proofs.TurnLemmas.{IsPlain, not_single, some_or_none, and_false}
+use Rattle.command_words.proofs.TurnLemmas.{IsPlain, not_single, some_or_none}
+use Rattle.std.proofs.Math.Bool.{and-true, and-false, or-false}
 
-abbrev is_checked : List Text → Said → Bool
+abbrev is_checked : List Text → WordsSaid → Bool
 is_checked names said = numbers_given names said.values
 
-abbrev pub checked : List Text → Option Said → Option Said
+abbrev pub checked : List Text → Option WordsSaid → Option WordsSaid
 checked names said = option_and_then (λ s. cond (is_checked names s) (Some s) None) said
 
 -- ---- one value or one declared word more
 
 -- a number for a name that had none keeps the test
-and_true : (b : Bool) → (b && true) ≡ b
-and_true true = refl
-and_true false = refl
-
 pub number_keeps : (names : List Text) (values : List (Text × Text)) (name v : Text) → is_some (value_of name values) ≡ false → is_number v ≡ true
     → numbers_given names (values ++ (name, v) ∷ []) ≡ numbers_given names values
 number_keeps [] values name v none e = refl
@@ -44,14 +41,14 @@ word_fails : (names : List Text) (values : List (Text × Text)) (name v : Text) 
 word_fails [] values name v none k e = absurd (true≢false (sym k))
 word_fails (n ∷ ns) values name v none k e = elim (cases_Bool (bytes_eq n name)) [
   | inl h ↦ let back : bytes_eq name n ≡ true = ap (λ (x : Text). bytes_eq x n) (sym (same_text n name h)) ∙ text_is n in rw (given_at name v n values none, back, e) refl
-  | inr h ↦ rw (word_fails ns values name v none (rw h at k) e) (and_false _)
+  | inr h ↦ rw (word_fails ns values name v none (rw h at k) e) (and-false _)
 ]
 
-checked_give : (names : List Text) (said : Said) (name v : Text) → is_some (value_of name said.values) ≡ false → list_any (λ n. bytes_eq n name) names ≡ true
+checked_give : (names : List Text) (said : WordsSaid) (name v : Text) → is_some (value_of name said.values) ≡ false → list_any (λ n. bytes_eq n name) names ≡ true
     → is_checked names (record { values = said.values ++ (name, v) ∷ []; declared = said.declared }) ≡ (is_checked names said && is_number v)
 checked_give names said name v none k = elim (cases_Bool (is_number v)) [
-  | inl e ↦ rw (e, number_keeps names said.values name v none e) (sym (and_true (is_checked names said)))
-  | inr e ↦ rw (e, word_fails names said.values name v none k e) (sym (and_false (is_checked names said)))
+  | inl e ↦ rw (e, number_keeps names said.values name v none e) (sym (and-true (is_checked names said)))
+  | inr e ↦ rw (e, word_fails names said.values name v none k e) (sym (and-false (is_checked names said)))
 ]
 
 -- ---- a word that begins with a hyphen
@@ -103,31 +100,27 @@ abbrev WaitsKnown : List Text → Option Text → Type 0
 WaitsKnown names None = Unit {0}
 WaitsKnown names (Some name) = list_any (λ n. bytes_eq n name) names ≡ true
 
-abbrev Same : List Text → Reading → Text → Reading → Bool → Type 0
+abbrev Same : List Text → WordsReading → Text → WordsReading → Bool → Type 0
 Same names r word q b = (clap_word names r word ≡ Some q) × (take_word names r.waits word r ≡ cond b (Some q) None)
     × (is_checked names q.said ≡ (is_checked names r.said && b)) × WaitsKnown names q.waits × (q.ended ≡ (r.ended || is_end word))
 
-abbrev Refuses : List Text → Reading → Text → Type 0
+abbrev Refuses : List Text → WordsReading → Text → Type 0
 Refuses names r word = (clap_word names r word ≡ None) × (take_word names r.waits word r ≡ None)
 
-abbrev Judges : List Text → Reading → Text → Type 0
-Judges names r word = ((q : Reading) × (b : Bool) × Same names r word q b) ⊎ Refuses names r word
+abbrev Judges : List Text → WordsReading → Text → Type 0
+Judges names r word = ((q : WordsReading) × (b : Bool) × Same names r word q b) ⊎ Refuses names r word
 
-none_either : {X : Type 0} (b : Bool) → cond {A = Option X} b None None ≡ None
+pub none_either : {X : Type 0} (b : Bool) → cond {A = Option X} b None None ≡ None
 none_either true = refl
 none_either false = refl
 
-abbrev gave : Said → Text → Text → Bool → Reading
+abbrev gave : WordsSaid → Text → Text → Bool → WordsReading
 gave said name v ended = record { said = record { values = said.values ++ (name, v) ∷ []; declared = said.declared }; waits = None; ended = ended }
 
-abbrev added : Said → Text → Bool → Reading
+abbrev added : WordsSaid → Text → Bool → WordsReading
 added said word ended = record { said = record { values = said.values; declared = said.declared ++ word ∷ [] }; waits = None; ended = ended }
 
-or_false : (b : Bool) → (b || false) ≡ b
-or_false true = refl
-or_false false = refl
-
-waiting_step : (names : List Text) (said : Said) (name : Text) (ended : Bool) (word : Text) → list_any (λ n. bytes_eq n name) names ≡ true
+waiting_step : (names : List Text) (said : WordsSaid) (name : Text) (ended : Bool) (word : Text) → list_any (λ n. bytes_eq n name) names ≡ true
     → Judges names (record { said = said; waits = Some name; ended = ended }) word
 waiting_step names said name ended word k = elim (cases_Bool (is_end word)) [
   | inl e ↦ inr (rw e refl, rw (no_number word (end_hyphen word e)) refl)
@@ -135,35 +128,35 @@ waiting_step names said name ended word k = elim (cases_Bool (is_end word)) [
     | inl f ↦ inr (rw (e, f.1) refl, rw (no_number word (option_hyphen word f.0 f.1)) refl)
     | inr o ↦ elim (cases_Bool (is_some (value_of name said.values))) [
       | inl has ↦ inr (rw (e, o, has) refl, rw has (none_either (is_number word)))
-      | inr none ↦ inl (gave said name word ended, is_number word, (rw (e, o, none) refl, rw none refl, checked_give names said name word none k, tt, rw e (sym (or_false ended))))
+      | inr none ↦ inl (gave said name word ended, is_number word, (rw (e, o, none) refl, rw none refl, checked_give names said name word none k, tt, rw e (sym (or-false ended))))
     ]
   ]
 ]
 
-over_step : (names : List Text) (said : Said) (word : Text) → Judges names (record { said = said; waits = None; ended = true }) word
-over_step names said word = inl (added said word true, true, (refl, refl, sym (and_true _), tt, refl))
+over_step : (names : List Text) (said : WordsSaid) (word : Text) → Judges names (record { said = said; waits = None; ended = true }) word
+over_step names said word = inl (added said word true, true, (refl, refl, sym (and-true _), tt, refl))
 
-known_step : (names : List Text) (said : Said) (word name : Text) (v : Option Text) → is_end word ≡ false → option_in word ≡ Some (name, v) → list_any (λ n. bytes_eq n name) names ≡ true
+known_step : (names : List Text) (said : WordsSaid) (word name : Text) (v : Option Text) → is_end word ≡ false → option_in word ≡ Some (name, v) → list_any (λ n. bytes_eq n name) names ≡ true
     → Judges names (record { said = said; waits = None; ended = false }) word
-known_step names said word name None e o k = inl (record { said = said; waits = Some name; ended = false }, true, (rw (e, o, k) refl, rw (e, o, k) refl, sym (and_true _), k, sym e))
+known_step names said word name None e o k = inl (record { said = said; waits = Some name; ended = false }, true, (rw (e, o, k) refl, rw (e, o, k) refl, sym (and-true _), k, sym e))
 known_step names said word name (Some v) e o k = elim (cases_Bool (is_some (value_of name said.values))) [
   | inl has ↦ inr (rw (e, o, k, has) refl, rw (e, o, k, has) (none_either (is_number v)))
   | inr none ↦ inl (gave said name v false, is_number v, (rw (e, o, k, none) refl, rw (e, o, k, none) refl, checked_give names said name v none k, tt, sym e))
 ]
 
-free_step : (names : List Text) (said : Said) (word : Text) → IsPlain false word → Judges names (record { said = said; waits = None; ended = false }) word
+free_step : (names : List Text) (said : WordsSaid) (word : Text) → IsPlain false word → Judges names (record { said = said; waits = None; ended = false }) word
 free_step names said word n = elim (cases_Bool (is_end word)) [
-  | inl e ↦ inl (record { said = said; waits = None; ended = true }, true, (rw e refl, rw e refl, sym (and_true _), tt, sym e))
+  | inl e ↦ inl (record { said = said; waits = None; ended = true }, true, (rw e refl, rw e refl, sym (and-true _), tt, sym e))
   | inr e ↦ elim (some_or_none (option_in word)) [
     | inl f ↦ elim (cases_Bool (list_any (λ n. bytes_eq n f.0.0) names)) [
       | inl k ↦ known_step names said word f.0.0 f.0.1 e f.1 k
       | inr k ↦ inr (rw (e, f.1, k) refl, rw (e, f.1, k) refl)
     ]
-    | inr o ↦ inl (added said word false, true, (rw (e, o) refl, rw (e, o, no_hyphen word e (not_single _ _ e n) o) refl, sym (and_true _), tt, sym e))
+    | inr o ↦ inl (added said word false, true, (rw (e, o) refl, rw (e, o, no_hyphen word e (not_single _ _ e n) o) refl, sym (and-true _), tt, sym e))
   ]
 ]
 
-step : (names : List Text) (r : Reading) (word : Text) → IsPlain r.ended word → WaitsKnown names r.waits → Judges names r word
+step : (names : List Text) (r : WordsReading) (word : Text) → IsPlain r.ended word → WaitsKnown names r.waits → Judges names r word
 step names r word n k = go r.waits r.ended n k
   where
     go : (waits : Option Text) (ended : Bool) → IsPlain ended word → WaitsKnown names waits → Judges names (record { said = r.said; waits = waits; ended = ended }) word
@@ -171,7 +164,7 @@ step names r word n k = go r.waits r.ended n k
     go None true n h = over_step names r.said word
     go None false n h = free_step names r.said word n
 
-single_step : (names : List Text) (r : Reading) (word : Text) → has_single_hyphen word ≡ true → r.ended ≡ false → take_word names r.waits word r ≡ None
+single_step : (names : List Text) (r : WordsReading) (word : Text) → has_single_hyphen word ≡ true → r.ended ≡ false → take_word names r.waits word r ≡ None
 single_step names r word c open_still = go r.waits r.ended open_still
   where
     free : (is_end word ≡ false) × (option_in word ≡ None)
@@ -200,7 +193,7 @@ not_plain false true single p = absurd (true≢false p)
 not_plain false false true p = (refl, refl, refl)
 not_plain false false false p = absurd (true≢false p)
 
-pub checked_reading : (names : List Text) (r : Reading) (words : List Text) → WaitsKnown names r.waits
+pub checked_reading : (names : List Text) (r : WordsReading) (words : List Text) → WaitsKnown names r.waits
     → checked names (cond (r.ended || has_no_single_hyphen words) (clap_read names r words) None) ≡ cond (is_checked names r.said) (read_words names r words) None
 unfolding clap_read read_words
 checked_reading names r [] k = go r.ended (is_some r.waits)
@@ -218,12 +211,12 @@ checked_reading names r (word ∷ words) k = elim (cases_Bool (r.ended || (is_en
     | inl s ↦
         let alike : (r.ended || (is_end word || (not (has_single_hyphen word) && has_no_single_hyphen words))) ≡ (s.0.ended || has_no_single_hyphen words) =
         plain_split r.ended (is_end word) (has_single_hyphen word) (has_no_single_hyphen words) p ∙ ap (λ (b : Bool). b || has_no_single_hyphen words) (sym s.2.4) in
-        rw (alike, s.2.0, s.2.1) (checked_reading names s.0 words s.2.3 ∙ ap (λ (b : Bool). cond b (read_words names s.0 words) None) s.2.2 ∙ both_tests (is_checked names r.said) s.1 (read_words names s.0 words) ∙ ap (λ (o : Option Said). cond (is_checked names r.said) o None) (inside s.1 s.0))
+        rw (alike, s.2.0, s.2.1) (checked_reading names s.0 words s.2.3 ∙ ap (λ (b : Bool). cond b (read_words names s.0 words) None) s.2.2 ∙ both_tests (is_checked names r.said) s.1 (read_words names s.0 words) ∙ ap (λ (o : Option WordsSaid). cond (is_checked names r.said) o None) (inside s.1 s.0))
     | inr s ↦ rw (s.0, s.1) (ap (checked names) (none_either (r.ended || has_no_single_hyphen (word ∷ words))) ∙ sym (none_either (is_checked names r.said)))
   ]
 ]
   where
-    inside : (b : Bool) (q : Reading) → cond b (read_words names q words) None ≡ option_and_then (λ x. read_words names x words) (cond b (Some q) None)
+    inside : (b : Bool) (q : WordsReading) → cond b (read_words names q words) None ≡ option_and_then (λ x. read_words names x words) (cond b (Some q) None)
     inside true q = refl
     inside false q = refl
 
@@ -270,8 +263,8 @@ entry_of_form word (g ∷ gs) = go (bytes_eq g.word word) (entry_of_form word gs
     go false h = h
 
 -- the matches of a command, judged, are its words, read
-matched_alike : (form : CommandForm) (single : Bool) (said : Option Said)
-    → cond single (option_and_then (λ (p : Text × Said). meaning_checked form p.1) (option_map (λ x. (form.word, x)) said)) None ≡ option_and_then form.meaning (checked form.options (cond single said None))
+matched_alike : (form : CommandForm) (single : Bool) (said : Option WordsSaid)
+    → cond single (option_and_then (λ (p : Text × WordsSaid). meaning_checked form p.1) (option_map (λ x. (form.word, x)) said)) None ≡ option_and_then form.meaning (checked form.options (cond single said None))
 matched_alike form false said = refl
 matched_alike form true None = refl
 matched_alike form true (Some s) = go (is_checked form.options s)
@@ -280,8 +273,8 @@ matched_alike form true (Some s) = go (is_checked form.options s)
     go true = refl
     go false = refl
 
-judged_said : (form : CommandForm) (said : Option Said) → form_named form.word ≡ Some form
-    → option_and_then (λ (p : Text × Said). judged p.0 p.1) (option_map (λ x. (form.word, x)) said) ≡ option_and_then (λ (p : Text × Said). meaning_checked form p.1) (option_map (λ x. (form.word, x)) said)
+judged_said : (form : CommandForm) (said : Option WordsSaid) → form_named form.word ≡ Some form
+    → option_and_then (λ (p : Text × WordsSaid). judged p.0 p.1) (option_map (λ x. (form.word, x)) said) ≡ option_and_then (λ (p : Text × WordsSaid). meaning_checked form p.1) (option_map (λ x. (form.word, x)) said)
 judged_said form None e = refl
 judged_said form (Some s) e = ap (option_and_then (λ f. meaning_checked f s)) e
 

@@ -7,42 +7,43 @@ use Rattle.std.proofs.lemmas.Bool.{cases_Bool, and_parts, not-true}
 use Rattle.std.proofs.lemmas.List.Folds.{list_all-append}
 use Rattle.block_model.specs.declared.schema.Sizes.{Sizes}
 use Rattle.command_words.specs.declared.command.Command.TheVariants.{Run}
-use Rattle.command_words.specs.CommandWords.{Text, Said, Reading, nothing_read, value_of, is_number, number_of, begins_with_hyphen, option_in, give_number, take_option, take_named, take_free, take_word, read_words, size_options, sizes_of, run_with, run_of, command_of}
+use Rattle.command_words.specs.CommandWords.{Text, WordsSaid, WordsReading, nothing_read, value_of, is_number, number_of, begins_with_hyphen, option_in, give_number, take_option, take_named, take_free, take_word, read_words, size_options, sizes_of, run_with, run_of, command_of}
 use Rattle.command_words.specs.Laws.{option_words, has_no_end, OptionStandsOnce, OptionHasItsNumber, FurtherWordIsDeclaredLast, SizesHaveDefaults}
 use Rattle.command_words.proofs.RowLemmas.{given_at, text_is, same_text}
 use Rattle.command_words.proofs.TurnLemmas.{some_or_none}
+use Rattle.command_words.proofs.JudgedLemmas.{none_either}
 
 -- ---- what every word keeps
 
 -- a fact that a further value and a further declared word keep
-pub record Stays (P : Said → Type 0) : Type 0 where
-  pub value : (said : Said) (name v : Text) → P said → P (record { values = said.values ++ (name, v) ∷ []; declared = said.declared })
-  pub word : (said : Said) (w : Text) → P said → P (record { values = said.values; declared = said.declared ++ w ∷ [] })
+pub record Stays (P : WordsSaid → Type 0) : Type 0 where
+  pub value : (said : WordsSaid) (name v : Text) → P said → P (record { values = said.values ++ (name, v) ∷ []; declared = said.declared })
+  pub word : (said : WordsSaid) (w : Text) → P said → P (record { values = said.values; declared = said.declared ++ w ∷ [] })
 
 -- what a word leaves: the fact, and the options as they were, unless it is `--`
-abbrev Keeps : (Said → Type 0) → Text → Reading → Option Reading → Type 0
+abbrev Keeps : (WordsSaid → Type 0) → Text → WordsReading → Option WordsReading → Type 0
 Keeps P word r o = IfSome o (λ q. P q.said × (bytes_eq word (codes "--") ≡ false → q.ended ≡ r.ended))
 
 either : {X : Type 0} (P : X → Type 0) (b : Bool) (x y : Option X) → IfSome x P → IfSome y P → IfSome (cond b x y) P
 either P true x y h k = h
 either P false x y h k = k
 
-abbrev Kept : (Said → Type 0) → Text → Reading → Reading → Type 0
+abbrev Kept : (WordsSaid → Type 0) → Text → WordsReading → WordsReading → Type 0
 Kept P word r q = P q.said × (bytes_eq word (codes "--") ≡ false → q.ended ≡ r.ended)
 
-number_keeps : (P : Said → Type 0) → Stays P → (name v word : Text) (r : Reading) → P r.said → Keeps P word r (give_number name v r)
+number_keeps : (P : WordsSaid → Type 0) → Stays P → (name v word : Text) (r : WordsReading) → P r.said → Keeps P word r (give_number name v r)
 number_keeps P stays name v word r h =
     either (Kept P word r) (is_number v) _ None (either (Kept P word r) (is_some (value_of name r.said.values)) None _ tt (stays.value r.said name v h, λ n. refl)) tt
 
-option_keeps : (P : Said → Type 0) → Stays P → (name : Text) (v : Option Text) (word : Text) (r : Reading) → P r.said → Keeps P word r (take_option name v r)
+option_keeps : (P : WordsSaid → Type 0) → Stays P → (name : Text) (v : Option Text) (word : Text) (r : WordsReading) → P r.said → Keeps P word r (take_option name v r)
 option_keeps P stays name None word r h = (h, λ n. refl)
 option_keeps P stays name (Some v) word r h = number_keeps P stays name v word r h
 
-named_keeps : (P : Said → Type 0) → Stays P → (names : List Text) (p : Option (Text × Option Text)) (word : Text) (r : Reading) → P r.said → Keeps P word r (take_named names p word r)
+named_keeps : (P : WordsSaid → Type 0) → Stays P → (names : List Text) (p : Option (Text × Option Text)) (word : Text) (r : WordsReading) → P r.said → Keeps P word r (take_named names p word r)
 named_keeps P stays names None word r h = either (Kept P word r) (begins_with_hyphen word) None _ tt (stays.word r.said word h, λ n. refl)
 named_keeps P stays names (Some p) word r h = either (Kept P word r) (list_any (λ n. bytes_eq n p.0) names) _ None (option_keeps P stays p.0 p.1 word r h) tt
 
-free_keeps : (P : Said → Type 0) → Stays P → (names : List Text) (word : Text) (r : Reading) → P r.said → Keeps P word r (take_free names word r)
+free_keeps : (P : WordsSaid → Type 0) → Stays P → (names : List Text) (word : Text) (r : WordsReading) → P r.said → Keeps P word r (take_free names word r)
 free_keeps P stays names word r h = elim (cases_Bool (bytes_eq word (codes "--"))) [
   | inl e ↦ rw e (h, λ n. absurd (true≢false n))
   | inr e ↦ let kept = named_keeps P stays names (option_in word) word r h in go (bytes_eq word (codes "--")) e kept
@@ -53,24 +54,24 @@ free_keeps P stays names word r h = elim (cases_Bool (bytes_eq word (codes "--")
     go true e h = absurd (true≢false e)
     go false e h = h
 
-word_keeps : (P : Said → Type 0) → Stays P → (names : List Text) (waits : Option Text) (word : Text) (r : Reading) → P r.said → Keeps P word r (take_word names waits word r)
+word_keeps : (P : WordsSaid → Type 0) → Stays P → (names : List Text) (waits : Option Text) (word : Text) (r : WordsReading) → P r.said → Keeps P word r (take_word names waits word r)
 word_keeps P stays names (Some name) word r h = number_keeps P stays name word word r h
 word_keeps P stays names None word r h =
     either (Kept P word r) r.ended _ _ (stays.word r.said word h, λ n. refl) (free_keeps P stays names word r h)
 
 -- ---- from any place on
 
-abbrev pub Says : List Text → (Said → Type 0) → Reading → List Text → Type 0
+abbrev pub Says : List Text → (WordsSaid → Type 0) → WordsReading → List Text → Type 0
 Says names P r words = IfSome (read_words names r words) P
 
-on : (names : List Text) (R : Reading → Type 0) (Q : Said → Type 0) (words : List Text) (o : Option Reading) → IfSome o R → ((q : Reading) → R q → Says names Q q words)
+on : (names : List Text) (R : WordsReading → Type 0) (Q : WordsSaid → Type 0) (words : List Text) (o : Option WordsReading) → IfSome o R → ((q : WordsReading) → R q → Says names Q q words)
     → IfSome (option_and_then (λ q. read_words names q words) o) Q
 on names R Q words None h k = tt
 on names R Q words (Some q) h k = k q h
 
 -- what holds from each place that may be reached holds from here
-pub reach : (names : List Text) (P Q : Said → Type 0) → Stays P → (r : Reading) (before rest : List Text) → has_no_end before ≡ true → r.ended ≡ false → P r.said
-    → ((q : Reading) → q.ended ≡ false → P q.said → Says names Q q rest) → Says names Q r (before ++ rest)
+pub reach : (names : List Text) (P Q : WordsSaid → Type 0) → Stays P → (r : WordsReading) (before rest : List Text) → has_no_end before ≡ true → r.ended ≡ false → P r.said
+    → ((q : WordsReading) → q.ended ≡ false → P q.said → Says names Q q rest) → Says names Q r (before ++ rest)
 unfolding read_words
 reach names P Q stays r [] rest free still h k = k r still h
 reach names P Q stays r (word ∷ words) rest free still h k =
@@ -79,7 +80,7 @@ reach names P Q stays r (word ∷ words) rest free still h k =
     (λ q g. reach names P Q stays q words rest parts.1 (g.1 (not-true _ parts.0) ∙ still) g.0 k)
 
 -- what stays true is true at the end
-pub ends : (names : List Text) (P : Said → Type 0) → Stays P → (r : Reading) (words : List Text) → P r.said → Says names P r words
+pub ends : (names : List Text) (P : WordsSaid → Type 0) → Stays P → (r : WordsReading) (words : List Text) → P r.said → Says names P r words
 unfolding read_words
 ends names P stays r [] h = either P (is_some r.waits) None (Some r.said) tt h
 ends names P stays r (word ∷ words) h =
@@ -96,13 +97,13 @@ pub record IsOption (names : List Text) (name : Text) : Type 0 where
   pub two_goes_on : bytes_eq (codes "--" ++ name) (codes "--") ≡ false
 
 -- the value is the first of its option, a number, and kept, and options go on
-pub record Given (name v : Text) (before : Said) (q : Reading) : Type 0 where
+pub record Given (name v : Text) (before : WordsSaid) (q : WordsReading) : Type 0 where
   pub first : is_some (value_of name before.values) ≡ false
   pub number : is_number v ≡ true
   pub value : value_of name q.said.values ≡ Some v
   pub still : q.ended ≡ false
 
-number_gives : (name v : Text) (r : Reading) → r.ended ≡ false → IfSome (give_number name v r) (Given name v r.said)
+number_gives : (name v : Text) (r : WordsReading) → r.ended ≡ false → IfSome (give_number name v r) (Given name v r.said)
 number_gives name v r still = elim (cases_Bool (is_number v)) [
   | inr h ↦ rw h tt
   | inl h ↦ elim (cases_Bool (is_some (value_of name r.said.values))) [
@@ -116,7 +117,7 @@ number_gives name v r still = elim (cases_Bool (is_number v)) [
   ]
 ]
 
-one_word : (names : List Text) (name v : Text) → IsOption names name → (r : Reading) → r.ended ≡ false
+one_word : (names : List Text) (name v : Text) → IsOption names name → (r : WordsReading) → r.ended ≡ false
     → IfSome (take_word names r.waits (codes "--" ++ name ++ codes "=" ++ v) r) (Given name v r.said)
 one_word names name v o r still = go r.waits r.ended still
   where
@@ -127,12 +128,12 @@ one_word names name v o r still = go r.waits r.ended still
     go None false e = rw (o.one_goes_on v, o.one v, o.known) (number_gives name v (record { said = r.said; waits = None; ended = false }) refl)
 
 -- the option waits, and nothing else has changed
-pub record Waits (name : Text) (said : Said) (q : Reading) : Type 0 where
+pub record Waits (name : Text) (said : WordsSaid) (q : WordsReading) : Type 0 where
   pub waits : q.waits ≡ Some name
   pub same : q.said ≡ said
   pub still : q.ended ≡ false
 
-first_word : (names : List Text) (name : Text) → IsOption names name → (r : Reading) → r.ended ≡ false → IfSome (take_word names r.waits (codes "--" ++ name) r) (Waits name r.said)
+first_word : (names : List Text) (name : Text) → IsOption names name → (r : WordsReading) → r.ended ≡ false → IfSome (take_word names r.waits (codes "--" ++ name) r) (Waits name r.said)
 first_word names name o r still = go r.waits r.ended still
   where
     go : (waits : Option Text) (ended : Bool) → ended ≡ false
@@ -141,19 +142,19 @@ first_word names name o r still = go r.waits r.ended still
     go None true e = absurd (true≢false e)
     go None false e = rw (o.two_goes_on, o.two, o.known) (record { waits = refl; same = refl; still = refl })
 
-second_word : (names : List Text) (name v : Text) (q : Reading) (said : Said) → Waits name said q → IfSome (take_word names q.waits v q) (Given name v said)
+second_word : (names : List Text) (name v : Text) (q : WordsReading) (said : WordsSaid) → Waits name said q → IfSome (take_word names q.waits v q) (Given name v said)
 second_word names name v q said h =
     subst (λ (o : Option Text). IfSome (take_word names o v q) (Given name v said)) (sym h.waits)
-    (subst (λ (s : Said). IfSome (give_number name v q) (Given name v s)) h.same (number_gives name v q h.still))
+    (subst (λ (s : WordsSaid). IfSome (give_number name v q) (Given name v s)) h.same (number_gives name v q h.still))
 
 -- what holds from each place behind the option holds from before it
-pub at_option : (names : List Text) (name v : Text) (Q : Said → Type 0) → IsOption names name → (a : Bool) (r : Reading) (rest : List Text) → r.ended ≡ false
-    → ((q : Reading) → Given name v r.said q → Says names Q q rest) → Says names Q r (option_words a name v ++ rest)
+pub at_option : (names : List Text) (name v : Text) (Q : WordsSaid → Type 0) → IsOption names name → (a : Bool) (r : WordsReading) (rest : List Text) → r.ended ≡ false
+    → ((q : WordsReading) → Given name v r.said q → Says names Q q rest) → Says names Q r (option_words a name v ++ rest)
 unfolding read_words
 at_option names name v Q o true r rest still k = on names (Given name v r.said) Q rest _ (one_word names name v o r still) k
 at_option names name v Q o false r rest still k = go (take_word names r.waits (codes "--" ++ name) r) (first_word names name o r still)
   where
-    go : (x : Option Reading) → IfSome x (Waits name r.said) → IfSome (option_and_then (λ q. read_words names q (v ∷ rest)) x) Q
+    go : (x : Option WordsReading) → IfSome x (Waits name r.said) → IfSome (option_and_then (λ q. read_words names q (v ∷ rest)) x) Q
     go None h = tt
     go (Some q) h = on names (Given name v r.said) Q rest (take_word names q.waits v q) (second_word names name v q r.said h) k
 
@@ -181,10 +182,6 @@ none_said : {X : Type 0} (o : Option X) → IfSome o (λ x. ⊥) → o ≡ None
 none_said None h = refl
 none_said (Some x) h = absurd h
 
-none_either : {X : Type 0} (b : Bool) → cond {A = Option X} b None None ≡ None
-none_either true = refl
-none_either false = refl
-
 pub stands_once : (name : Text) → IsOption size_options name → OptionStandsOnce name
 stands_once name o = λ a b v w before between after free free_between.
     let whole : Says size_options (λ s. ⊥) nothing_read (before ++ (option_words a name v ++ (between ++ (option_words b name w ++ after)))) =
@@ -201,7 +198,7 @@ stands_once name o = λ a b v w before between after free free_between.
     rw none (none_either _)
 
 abbrev RunParts : List Text → Sizes → List Text → Type 0
-RunParts words sizes declared = (said : Said) × (read_words size_options nothing_read words ≡ Some said) × (sizes ≡ sizes_of said) × (declared ≡ said.declared)
+RunParts words sizes declared = (said : WordsSaid) × (read_words size_options nothing_read words ≡ Some said) × (sizes ≡ sizes_of said) × (declared ≡ said.declared)
 
 pub run_parts : (words : List Text) (sizes : Sizes) (declared : List Text) → command_of (codes "run" ∷ words) ≡ Some (Run sizes declared) → RunParts words sizes declared
 run_parts words sizes declared e = checked (list_all is_utf8 (codes "run" ∷ words)) e
@@ -210,7 +207,7 @@ run_parts words sizes declared e = checked (list_all is_utf8 (codes "run" ∷ wo
     parts [] d s e = cc
     parts (w ∷ ws) d s e = (cc, cc)
 
-    read : (o : Option Said) → option_and_then run_of o ≡ Some (Run sizes declared) → (said : Said) × (o ≡ Some said) × (sizes ≡ sizes_of said) × (declared ≡ said.declared)
+    read : (o : Option WordsSaid) → option_and_then run_of o ≡ Some (Run sizes declared) → (said : WordsSaid) × (o ≡ Some said) × (sizes ≡ sizes_of said) × (declared ≡ said.declared)
     read None e = cc
     read (Some said) e = let p = parts said.declared declared (sizes_of said) e in (said, refl, p.0, p.1)
 
@@ -218,11 +215,11 @@ run_parts words sizes declared e = checked (list_all is_utf8 (codes "run" ∷ wo
     checked false e = cc
     checked true e = read (read_words size_options nothing_read words) e
 
-said_holds : (P : Said → Type 0) (o : Option Said) (said : Said) → o ≡ Some said → IfSome o P → P said
+said_holds : (P : WordsSaid → Type 0) (o : Option WordsSaid) (said : WordsSaid) → o ≡ Some said → IfSome o P → P said
 said_holds P None said e h = cc
 said_holds P (Some s) said e h = let same : s ≡ said = cc in subst P same h
 
-abbrev HasNumber : Text → Text → Said → Type 0
+abbrev HasNumber : Text → Text → WordsSaid → Type 0
 HasNumber name digits said = (is_number digits ≡ true) × (value_of name said.values ≡ Some digits)
 
 number_stays : (name digits : Text) → Stays (HasNumber name digits)
@@ -232,7 +229,7 @@ number_stays name digits = record {
 }
 
 pub has_number : (name : Text) (size : Sizes → ℕ) (default : ℕ) → IsOption size_options name
-    → ((said : Said) → size (sizes_of said) ≡ unwrap_or (option_map number_of (value_of name said.values)) default) → OptionHasItsNumber (name, size)
+    → ((said : WordsSaid) → size (sizes_of said) ≡ unwrap_or (option_map number_of (value_of name said.values)) default) → OptionHasItsNumber (name, size)
 has_number name size default o is = λ a digits before after sizes declared free e.
     let parts = run_parts (before ++ option_words a name digits ++ after) sizes declared e in
     let whole : Says size_options (HasNumber name digits) nothing_read (before ++ (option_words a name digits ++ after)) =
@@ -248,7 +245,7 @@ no_option : (word : Text) → begins_with_hyphen word ≡ false → (bytes_eq wo
 no_option [] h = (refl, refl)
 no_option (c ∷ cs) h = (rw h refl, rw h refl)
 
-declared_word : (names : List Text) (word : Text) (r : Reading) → begins_with_hyphen word ≡ false → r.waits ≡ None
+declared_word : (names : List Text) (word : Text) (r : WordsReading) → begins_with_hyphen word ≡ false → r.waits ≡ None
     → take_word names r.waits word r ≡ Some (record { said = record { values = r.said.values; declared = r.said.declared ++ word ∷ [] }; waits = None; ended = r.ended })
 declared_word names word r h e = rw e (go r.ended)
   where
@@ -256,18 +253,18 @@ declared_word names word r h e = rw e (go r.ended)
     go true = refl
     go false = let no = no_option word h in rw (no.0, no.1, h) refl
 
-pub read_last : (names : List Text) (r : Reading) (words : List Text) (word : Text) (said : Said) → read_words names r words ≡ Some said → begins_with_hyphen word ≡ false
+pub read_last : (names : List Text) (r : WordsReading) (words : List Text) (word : Text) (said : WordsSaid) → read_words names r words ≡ Some said → begins_with_hyphen word ≡ false
     → read_words names r (words ++ word ∷ []) ≡ Some (record { values = said.values; declared = said.declared ++ word ∷ [] })
 unfolding read_words
 read_last names r [] word said e h = elim (some_or_none r.waits) [
   | inl f ↦ let bad : None ≡ Some said = rw f.1 at e in cc
   | inr n ↦ let same : Some r.said ≡ Some said = rw n at e in let is : r.said ≡ said = cc in
-      rw (declared_word names word r h n) (ap (λ (s : Said). Some (record { values = s.values; declared = s.declared ++ word ∷ [] })) is)
+      rw (declared_word names word r h n) (ap (λ (s : WordsSaid). Some (record { values = s.values; declared = s.declared ++ word ∷ [] })) is)
 ]
 read_last names r (v ∷ vs) word said e h = go (take_word names r.waits v r) e (λ q k. read_last names q vs word said k h)
   where
-    go : (o : Option Reading) → option_and_then (λ q. read_words names q vs) o ≡ Some said
-        → ((q : Reading) → read_words names q vs ≡ Some said → read_words names q (vs ++ word ∷ []) ≡ Some (record { values = said.values; declared = said.declared ++ word ∷ [] }))
+    go : (o : Option WordsReading) → option_and_then (λ q. read_words names q vs) o ≡ Some said
+        → ((q : WordsReading) → read_words names q vs ≡ Some said → read_words names q (vs ++ word ∷ []) ≡ Some (record { values = said.values; declared = said.declared ++ word ∷ [] }))
         → option_and_then (λ q. read_words names q (vs ++ word ∷ [])) o ≡ Some (record { values = said.values; declared = said.declared ++ word ∷ [] })
     go None e k = cc
     go (Some q) e k = k q e

@@ -5,7 +5,7 @@ use Rattle.clap.specs.Kinds.{Kinds, HasKind}
 use Rattle.clap.specs.declared.parser.matches.ArgMatches.{ArgMatches}
 use Rattle.clap.specs.declared.error.Error.{Error}
 use Rattle.clap.specs.declared.error.kind.ErrorKind.TheVariants.{OutOfMemory}
-use Rattle.command_words.specs.CommandWords.{Text, Said, value_of}
+use Rattle.command_words.specs.CommandWords.{Text, WordsSaid, value_of}
 use Rattle.command_words.specs.ClapCommands.{raw_app, program_subs, command_said, Enters}
 use Rattle.command_words.specs.ClapReading.{has_no_single_hyphen}
 use Rattle.command_words.proofs.CommandLemmas.{clap_agrees, program_simple, program_is_simple, program_named}
@@ -13,22 +13,22 @@ use Rattle.clap.specs.Walk.{Row, first_of, all_of}
 use Rattle.clap.specs.Words.{rows_of, first_value, matched_of, raw_values}
 use Rattle.clap.specs.declared.parser.matches.Found.{Found}
 use Rattle.clap.proofs.WalkLemmas.{first_value-rows, raw_values-rows}
-use Rattle.command_words.specs.ClapRules.{Shows, shown, declared_id}
+use Rattle.command_words.specs.ClapRules.{RowsShow, shown, declared_id}
 
 abbrev brin : App
 brin = raw_app (codes "brin") program_subs
 
-said_at : (o : Option (Text × Said)) (fault : Kinds) (entered : Option (Text × List Row)) → MatchOption o (fault ≡ [] → ⊥) (λ s. (fault ≡ []) × Enters entered s) → fault ≡ []
-    → (said : Text × Said) × (o ≡ Some said) × Enters entered said
+said_at : (o : Option (Text × WordsSaid)) (fault : Kinds) (entered : Option (Text × List Row)) → MatchOption o (fault ≡ [] → ⊥) (λ s. (fault ≡ []) × Enters entered s) → fault ≡ []
+    → (said : Text × WordsSaid) × (o ≡ Some said) × Enters entered said
 said_at None fault entered h e = absurd (h e)
 said_at (Some s) fault entered h e = (s, refl, h.1)
 
-none_at : (o : Option (Text × Said)) (fault : Kinds) (entered : Option (Text × List Row)) → MatchOption o (fault ≡ [] → ⊥) (λ s. (fault ≡ []) × Enters entered s) → (fault ≡ [] → ⊥) → o ≡ None
+none_at : (o : Option (Text × WordsSaid)) (fault : Kinds) (entered : Option (Text × List Row)) → MatchOption o (fault ≡ [] → ⊥) (λ s. (fault ≡ []) × Enters entered s) → (fault ≡ [] → ⊥) → o ≡ None
 none_at None fault entered h e = refl
 none_at (Some s) fault entered h e = absurd (e h.0)
 
 pub agreed_ok : (a : App) (words : List Text) (m : ArgMatches) → a ≡ brin → has_no_single_hyphen words ≡ true → (is_simple_and_free a ≡ true → fault_of a words ≡ []) → HasMatchesOf a words m
-    → (said : Text × Said) × (command_said program_subs words ≡ Some said) × Enters (subcommand_rows_of m) said
+    → (said : Text × WordsSaid) × (command_said program_subs words ≡ Some said) × Enters (subcommand_rows_of m) said
 agreed_ok a words m is ok kinds matches =
     let none : fault_of brin words ≡ [] = ap (λ (x : App). fault_of x words) (sym is) ∙ kinds (ap is_simple_and_free is ∙ program_simple) in
     let rows : subcommand_rows_of m ≡ subcommand_of brin words = (matches (ap is_simple is ∙ program_is_simple)).1 ∙ ap (λ (x : App). subcommand_of x words) is in
@@ -55,10 +55,10 @@ first_is id rows = go (find (λ (r : Row). bytes_eq r.id id) rows)
     go None = refl
     go (Some r) = refl
 
-pub value_shown : (f : Found) (said : Said) (name : Text) → Shows (rows_of f) said → bytes_eq declared_id name ≡ false → first_value f name ≡ value_of name said.values
+pub value_shown : (f : Found) (said : WordsSaid) (name : Text) → RowsShow (rows_of f) said → bytes_eq declared_id name ≡ false → first_value f name ≡ value_of name said.values
 value_shown f said name s ne = first_value-rows f name ∙ first_is name (rows_of f) ∙ first_from _ _ (s.value name ne)
 
-pub declared_shown : (f : Found) (said : Said) → Shows (rows_of f) said → option_map raw_values (matched_of f declared_id) ≡ shown said.declared
+pub declared_shown : (f : Found) (said : WordsSaid) → RowsShow (rows_of f) said → option_map raw_values (matched_of f declared_id) ≡ shown said.declared
 declared_shown f said s = raw_values-rows f declared_id ∙ s.declared
 
 pub shown_some : (d xs : List Text) → Some xs ≡ shown d → xs ≡ d

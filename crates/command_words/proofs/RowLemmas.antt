@@ -8,8 +8,8 @@ use Rattle.clap.specs.Walk.{Row, all_of, has_row, with_values, without, used, ar
 use Rattle.clap.specs.declared.builder.value_parser.Reading.{Reading}
 use Rattle.clap.specs.declared.parser.matches.ValueSource.{ValueSource}
 use Rattle.std.proofs.Common.{inl, inr}
-use Rattle.command_words.specs.CommandWords.{Text, Said, value_of}
-use Rattle.command_words.specs.ClapRules.{declared_id, option_rule, declared_rule, rules, Shows, shown}
+use Rattle.command_words.specs.CommandWords.{Text, WordsSaid, value_of}
+use Rattle.command_words.specs.ClapRules.{declared_id, option_rule, declared_rule, rules, RowsShow, shown}
 
 pub same_text : (a b : Text) → bytes_eq a b ≡ true → a ≡ b
 same_text a b e = (bytes_eq-Decides a b).0 e
@@ -132,16 +132,16 @@ known_other names name d e = false_from_ne_true (bytes_eq name declared_id) (λ 
 
 -- ---- what the rows show after one use
 
-pub has_value : (rows : List Row) (said : Said) (name : Text) → bytes_eq declared_id name ≡ false → Shows rows said → has_row name rows ≡ is_some (value_of name said.values)
+pub has_value : (rows : List Row) (said : WordsSaid) (name : Text) → bytes_eq declared_id name ≡ false → RowsShow rows said → has_row name rows ≡ is_some (value_of name said.values)
 has_value rows said name ne s = has_is name rows ∙ ap (λ (o : Option (List Text)). is_some o) (s.value name ne) ∙ go (value_of name said.values)
   where
     go : (o : Option Text) → is_some (option_map (λ v. v ∷ []) o) ≡ is_some o
     go None = refl
     go (Some v) = refl
 
-pub set_shows : (names : List Text) (rows : List Row) (said : Said) (name v : Text) → list_any (λ n. bytes_eq n declared_id) names ≡ false → list_any (λ n. bytes_eq n name) names ≡ true
-    → is_some (value_of name said.values) ≡ false → Shows rows said
-    → Shows (used (option_rule name) (v ∷ []) rows) (record { values = said.values ++ (name, v) ∷ []; declared = said.declared })
+pub set_shows : (names : List Text) (rows : List Row) (said : WordsSaid) (name v : Text) → list_any (λ n. bytes_eq n declared_id) names ≡ false → list_any (λ n. bytes_eq n name) names ≡ true
+    → is_some (value_of name said.values) ≡ false → RowsShow rows said
+    → RowsShow (used (option_rule name) (v ∷ []) rows) (record { values = said.values ++ (name, v) ∷ []; declared = said.declared })
 set_shows names rows said name v d k none s =
     let apart_name : bytes_eq declared_id name ≡ false = known_apart names name d k in
     let other_name : bytes_eq name declared_id ≡ false = known_other names name d k in
@@ -157,8 +157,8 @@ set_shows names rows said name v d k none s =
     go true None e q = refl
     go false None e q = refl
 
-pub add_shows : (rows : List Row) (said : Said) (w : Text) → Shows rows said
-    → Shows (used declared_rule (w ∷ []) rows) (record { values = said.values; declared = said.declared ++ w ∷ [] })
+pub add_shows : (rows : List Row) (said : WordsSaid) (w : Text) → RowsShow rows said
+    → RowsShow (used declared_rule (w ∷ []) rows) (record { values = said.values; declared = said.declared ++ w ∷ [] })
 add_shows rows said w s = record {
   value = λ id ne. rw (values_at declared_id _ _ (w ∷ []) id rows, ne) (s.value id ne);
   declared = rw (values_at declared_id _ _ (w ∷ []) declared_id rows, s.declared) (go said.declared);

@@ -1,7 +1,7 @@
 -- The sizes that options give.
 use Rattle.std.proofs.Common.{◌≡◌, refl, ℕ, true, Option, Some, None, option_map, unwrap_or, inl, inr, codes}
 use Rattle.std.proofs.lemmas.Bool.{cases_Bool}
-use Rattle.command_words.specs.CommandWords.{Text, Said, is_number, number_of, value_of, sizes_of, size_options}
+use Rattle.command_words.specs.CommandWords.{Text, WordsSaid, is_number, number_of, value_of, sizes_of, size_options}
 use Rattle.command_words.specs.ClapReading.{is_number_if_given, numbers_given, size_given}
 
 abbrev pub IsSize : ℕ → Option Text → ℕ → Type 0
@@ -14,7 +14,7 @@ size_is default (Some text) n e = elim (cases_Bool (is_number text)) [
   | inr h ↦ let bad : Some n ≡ None = rw h at e in cc
 ]
 
-pub sizes_are : (said : Said) (heap index status log frames : ℕ)
+pub sizes_are : (said : WordsSaid) (heap index status log frames : ℕ)
     → IsSize 4096 (value_of (codes "heap-blocks") said.values) heap
     → IsSize 1024 (value_of (codes "index-blocks") said.values) index
     → IsSize 4 (value_of (codes "status-blocks") said.values) status

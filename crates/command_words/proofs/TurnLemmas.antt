@@ -1,17 +1,18 @@
 -- One word more: clap's walk and the reading go on together.
 use Rattle.std.proofs.Common.{◌≡◌, ◌∙◌, refl, sym, ap, List, [], ◌∷◌, ◌++◌, Bool, true, false, cond, not, ◌||◌, ◌&&◌, Option, Some, None, is_some, bytes_eq, true≢false, option_and_then, ◌==◌, inl, inr, ◌⊎◌}
-use Rattle.std.specs.List.{list_any, list_all}
+use Rattle.std.specs.List.{list_any}
 use Rattle.std.specs.Prelude.{fold}
 use Rattle.std.proofs.lemmas.Bool.{cases_Bool}
+use Rattle.std.proofs.Math.Bool.{and-false, or-true}
 use Rattle.clap.specs.Lexer.{short_of, short_of_rest}
 use Rattle.clap.specs.Walk.{Held, Walk, Waiting, idle, positional, option, Row, Rule, settled, walked, walk_from, subcommand_met, plain_word, value, arg_by_long, has_row, reacted, takes_values, nothing_held, rows_after, with_default, finished}
 use Rattle.clap.specs.Faults.{defaults_fault, level_fault, settle_fault, turn_fault, use_fault, long_fault, walk_fault, react_fault}
 use Rattle.clap.specs.Takes.{is_given}
 use Rattle.clap.specs.Kinds.{Kinds, or_else}
 use Rattle.clap.specs.declared.error.kind.ErrorKind.TheVariants.{TooManyValues}
-use Rattle.command_words.specs.CommandWords.{Text, Said, Reading, value_of, nothing_read, option_in, begins_with_hyphen}
+use Rattle.command_words.specs.CommandWords.{Text, WordsSaid, WordsReading, value_of, nothing_read, option_in, begins_with_hyphen}
 use Rattle.command_words.specs.ClapReading.{is_end, clap_word, clap_read, has_single_hyphen, has_no_single_hyphen}
-use Rattle.command_words.specs.ClapRules.{declared_id, option_rule, rules, leaf, Shows, Agrees}
+use Rattle.command_words.specs.ClapRules.{declared_id, option_rule, rules, leaf, RowsShow, Agrees}
 use Rattle.command_words.proofs.RowLemmas.{text_is, long_known, long_unknown, id_known, id_declared, first_place, known_apart, has_value, set_shows, add_shows, no_defaults}
 
 -- ---- where a walk may stand
@@ -24,25 +25,25 @@ calm_waiting true = positional
 calm_waiting false = idle
 
 pub data State : Type 0 where
-  calm : Held → Bool → Bool → Said → State
-  hungry : Held → Text → Said → State
+  calm : Held → Bool → Bool → WordsSaid → State
+  hungry : Held → Text → WordsSaid → State
 
 abbrev pub walk_of : State → Walk
 walk_of (calm h b ended said) = walk_at h (calm_waiting b) ended
 walk_of (hungry h name said) = walk_at h (option name) false
 
-abbrev pub reading_of : State → Reading
+abbrev pub reading_of : State → WordsReading
 reading_of (calm h b ended said) = record { said = said; waits = None; ended = ended }
 reading_of (hungry h name said) = record { said = said; waits = Some name; ended = false }
 
-pub record Calm (names : List Text) (h : Held) (said : Said) : Type 0 where
+pub record Calm (names : List Text) (h : Held) (said : WordsSaid) : Type 0 where
   pub settles : settle_fault (rules names) false h ≡ []
-  pub shows : Shows (settled (rules names) h).rows said
+  pub shows : RowsShow (settled (rules names) h).rows said
 
-pub record Hungry (names : List Text) (h : Held) (name : Text) (said : Said) : Type 0 where
+pub record Hungry (names : List Text) (h : Held) (name : Text) (said : WordsSaid) : Type 0 where
   pub known : list_any (λ n. bytes_eq n name) names ≡ true
   pub pending : h.pending ≡ Some (name, [])
-  pub shows : Shows h.rows said
+  pub shows : RowsShow h.rows said
 
 abbrev pub state_ended : State → Bool
 state_ended (calm h b ended said) = ended
@@ -120,11 +121,7 @@ pub or_bad : (a b : Kinds) → (a ≡ [] → ⊥) → or_else a b ≡ [] → ⊥
 or_bad [] b h e = h refl
 or_bad (k ∷ ks) b h e = h e
 
-pub and_false : (b : Bool) → (b && false) ≡ false
-and_false true = refl
-and_false false = refl
-
-end_turn : (names : List Text) (h : Held) (b : Bool) (said : Said) (word : Text) → is_end word ≡ true → Calm names h said
+end_turn : (names : List Text) (h : Held) (b : Bool) (said : WordsSaid) (word : Text) → is_end word ≡ true → Calm names h said
     → GoesOn names (calm h b false said) word (calm h b true said)
 unfolding walked
 end_turn names h b said word e holds =
@@ -140,13 +137,13 @@ use_empty rows name h = cc
 
 -- ---- `--name=value`
 
-unknown_turn : (names : List Text) (h : Held) (b : Bool) (said : Said) (word : Text) (p : Text × Option Text) → is_end word ≡ false → option_in word ≡ Some p
+unknown_turn : (names : List Text) (h : Held) (b : Bool) (said : WordsSaid) (word : Text) (p : Text × Option Text) → is_end word ≡ false → option_in word ≡ Some p
     → list_any (λ n. bytes_eq n p.0) names ≡ false
     → (clap_word names (reading_of (calm h b false said)) word ≡ None) × (fault_at names (walk_at h (calm_waiting b) false) word ≡ [] → ⊥)
 unknown_turn names h b said word p e o k =
     (rw (e, o, k) refl, rw (no_sub (calm_waiting b) word, e, o, long_unknown names p.0 k) (λ bad. cc))
 
-given_turn : (names : List Text) (h : Held) (b : Bool) (said : Said) (word name v : Text) → list_any (λ n. bytes_eq n declared_id) names ≡ false
+given_turn : (names : List Text) (h : Held) (b : Bool) (said : WordsSaid) (word name v : Text) → list_any (λ n. bytes_eq n declared_id) names ≡ false
     → is_end word ≡ false → option_in word ≡ Some (name, Some v) → list_any (λ n. bytes_eq n name) names ≡ true → Calm names h said
     → is_some (value_of name said.values) ≡ false
     → GoesOn names (calm h b false said) word (calm (reacted (rules names) (option_rule name) (v ∷ []) h) false false (record { values = said.values ++ (name, v) ∷ []; declared = said.declared }))
@@ -160,7 +157,7 @@ given_turn names h b said word name v d e o k holds none =
       sym e,
     )
 
-taken_turn : (names : List Text) (h : Held) (b : Bool) (said : Said) (word name v : Text) → list_any (λ n. bytes_eq n declared_id) names ≡ false
+taken_turn : (names : List Text) (h : Held) (b : Bool) (said : WordsSaid) (word name v : Text) → list_any (λ n. bytes_eq n declared_id) names ≡ false
     → is_end word ≡ false → option_in word ≡ Some (name, Some v) → list_any (λ n. bytes_eq n name) names ≡ true → Calm names h said
     → is_some (value_of name said.values) ≡ true
     → (clap_word names (reading_of (calm h b false said)) word ≡ None) × (fault_at names (walk_at h (calm_waiting b) false) word ≡ [] → ⊥)
@@ -170,7 +167,7 @@ taken_turn names h b said word name v d e o k holds has =
 
 -- ---- `--name`
 
-begin_turn : (names : List Text) (h : Held) (b : Bool) (said : Said) (word name : Text)
+begin_turn : (names : List Text) (h : Held) (b : Bool) (said : WordsSaid) (word name : Text)
     → is_end word ≡ false → option_in word ≡ Some (name, None) → list_any (λ n. bytes_eq n name) names ≡ true → Calm names h said
     → GoesOn names (calm h b false said) word (hungry (record (settled (rules names) h) { pending = Some (name, []) }) name said)
 unfolding walked
@@ -187,33 +184,33 @@ begin_turn names h b said word name e o k holds = (
 abbrev plain_held : List Text → Held → Text → Held
 plain_held names h word = record { rows = (settled (rules names) h).rows; pending = Some (declared_id, word ∷ []); skip = h.skip }
 
-abbrev with_declared : Said → Text → Said
+abbrev with_declared : WordsSaid → Text → WordsSaid
 with_declared said word = record { values = said.values; declared = said.declared ++ word ∷ [] }
 
-plain_calmly : (names : List Text) (h : Held) (said : Said) (word : Text) → list_any (λ n. bytes_eq n declared_id) names ≡ false → Calm names h said → Calm names (plain_held names h word) (with_declared said word)
+plain_calmly : (names : List Text) (h : Held) (said : WordsSaid) (word : Text) → list_any (λ n. bytes_eq n declared_id) names ≡ false → Calm names h said → Calm names (plain_held names h word) (with_declared said word)
 plain_calmly names h said word d holds = record {
   settles = rw (id_declared names d) refl;
   shows = rw (id_declared names d) (add_shows _ said word holds.shows);
 }
 
-plain_turn : (names : List Text) (h : Held) (b : Bool) (said : Said) (word : Text) → list_any (λ n. bytes_eq n declared_id) names ≡ false
+plain_turn : (names : List Text) (h : Held) (b : Bool) (said : WordsSaid) (word : Text) → list_any (λ n. bytes_eq n declared_id) names ≡ false
     → is_end word ≡ false → option_in word ≡ None → has_single_hyphen word ≡ false → Calm names h said
     → GoesOn names (calm h b false said) word (calm (plain_held names h word) true false (with_declared said word))
 unfolding walked
 plain_turn names h b said word d e o n holds = (
-  rw (no_sub (calm_waiting b) word, e, o, no_short word n, plain_calm (rules names) b word h, first_place names, and_false, holds.settles) refl,
-  rw (no_sub (calm_waiting b) word, e, o, no_short word n, plain_calm (rules names) b word h, first_place names, and_false) refl,
+  rw (no_sub (calm_waiting b) word, e, o, no_short word n, plain_calm (rules names) b word h, first_place names, and-false, holds.settles) refl,
+  rw (no_sub (calm_waiting b) word, e, o, no_short word n, plain_calm (rules names) b word h, first_place names, and-false) refl,
   rw (e, o) refl,
   plain_calmly names h said word d holds,
   sym e,
 )
 
-over_turn : (names : List Text) (h : Held) (b : Bool) (said : Said) (word : Text) → list_any (λ n. bytes_eq n declared_id) names ≡ false → Calm names h said
+over_turn : (names : List Text) (h : Held) (b : Bool) (said : WordsSaid) (word : Text) → list_any (λ n. bytes_eq n declared_id) names ≡ false → Calm names h said
     → GoesOn names (calm h b true said) word (calm (plain_held names h word) true true (with_declared said word))
 unfolding walked
 over_turn names h b said word d holds = (
-  rw (first_place names, and_false, holds.settles) refl,
-  rw (first_place names, and_false) refl,
+  rw (first_place names, and-false, holds.settles) refl,
+  rw (first_place names, and-false) refl,
   refl,
   plain_calmly names h said word d holds,
   refl,
@@ -224,7 +221,7 @@ over_turn names h b said word d holds = (
 abbrev fed_held : Held → Text → Text → Held
 fed_held h name word = record { rows = h.rows; pending = Some (name, word ∷ []); skip = h.skip }
 
-hungry_end : (names : List Text) (h : Held) (said : Said) (name word : Text) → is_end word ≡ true → Hungry names h name said
+hungry_end : (names : List Text) (h : Held) (said : WordsSaid) (name word : Text) → is_end word ≡ true → Hungry names h name said
     → (clap_word names (reading_of (hungry h name said)) word ≡ None) × Jams names (walk_of (hungry h name said)) word (is_end word) (over h (option name))
 unfolding walked
 hungry_end names h said name word e holds =
@@ -243,13 +240,13 @@ long_bad c (Some a) (Some v) h bad e = go (takes_values a) e
     go true = or_bad (settle_fault c false h) _ bad
     go false = λ x. cc
 
-hungry_option : (names : List Text) (h : Held) (said : Said) (name word : Text) (p : Text × Option Text) → is_end word ≡ false → option_in word ≡ Some p → Hungry names h name said
+hungry_option : (names : List Text) (h : Held) (said : WordsSaid) (name word : Text) (p : Text × Option Text) → is_end word ≡ false → option_in word ≡ Some p → Hungry names h name said
     → (clap_word names (reading_of (hungry h name said)) word ≡ None) × (fault_at names (walk_of (hungry h name said)) word ≡ [] → ⊥)
 hungry_option names h said name word p e o holds =
     let settles_not : settle_fault (rules names) false h ≡ [] → ⊥ = rw (holds.pending, id_known names name holds.known) (use_empty h.rows name) in
     (rw (e, o) refl, rw (e, o) (or_bad _ _ (long_bad (rules names) (arg_by_long (rules names) p.0) p.1 h settles_not)))
 
-hungry_fed : (names : List Text) (h : Held) (said : Said) (name word : Text) → list_any (λ n. bytes_eq n declared_id) names ≡ false → is_end word ≡ false → option_in word ≡ None → has_single_hyphen word ≡ false → Hungry names h name said
+hungry_fed : (names : List Text) (h : Held) (said : WordsSaid) (name word : Text) → list_any (λ n. bytes_eq n declared_id) names ≡ false → is_end word ≡ false → option_in word ≡ None → has_single_hyphen word ≡ false → Hungry names h name said
     → is_some (value_of name said.values) ≡ false
     → GoesOn names (hungry h name said) word (calm (fed_held h name word) false false (record { values = said.values ++ (name, word) ∷ []; declared = said.declared }))
 unfolding walked
@@ -265,7 +262,7 @@ hungry_fed names h said name word d e o n holds none =
       sym e,
     )
 
-hungry_twice : (names : List Text) (h : Held) (said : Said) (name word : Text) → list_any (λ n. bytes_eq n declared_id) names ≡ false → is_end word ≡ false → option_in word ≡ None → has_single_hyphen word ≡ false → Hungry names h name said
+hungry_twice : (names : List Text) (h : Held) (said : WordsSaid) (name word : Text) → list_any (λ n. bytes_eq n declared_id) names ≡ false → is_end word ≡ false → option_in word ≡ None → has_single_hyphen word ≡ false → Hungry names h name said
     → is_some (value_of name said.values) ≡ true
     → (clap_word names (reading_of (hungry h name said)) word ≡ None) × Jams names (walk_of (hungry h name said)) word (is_end word) (loose (fed_held h name word) false)
 unfolding walked
@@ -281,7 +278,7 @@ hungry_twice names h said name word d e o n holds has =
 
 -- ---- any word, of a state that holds
 
-calm_long : (names : List Text) (h : Held) (b : Bool) (said : Said) (word name : Text) (v : Option Text) → list_any (λ n. bytes_eq n declared_id) names ≡ false
+calm_long : (names : List Text) (h : Held) (b : Bool) (said : WordsSaid) (word name : Text) (v : Option Text) → list_any (λ n. bytes_eq n declared_id) names ≡ false
     → is_end word ≡ false → option_in word ≡ Some (name, v) → Calm names h said → Turns names (calm h b false said) word
 calm_long names h b said word name v d e o holds = elim (cases_Bool (list_any (λ n. bytes_eq n name) names)) [
   | inr k ↦ let t = unknown_turn names h b said word (name, v) e o k in inr (t.0, inl t.1)
@@ -331,12 +328,12 @@ turns names (hungry h name said) word d n holds = elim (cases_Bool (is_end word)
 
 jam_turn : (names : List Text) (j : Jam) (word : Text) → IsPlain (jam_ended j) word → Jammed names j → EndsBadly names (jam_walk j) word (jam_ended j || is_end word)
 unfolding walked
-jam_turn names (over h x) word n bad = inl (rw (first_place names, and_false) bad)
+jam_turn names (over h x) word n bad = inl (rw (first_place names, and-false) bad)
 jam_turn names (loose h b) word n bad = elim (cases_Bool (is_end word)) [
   | inl e ↦ inr (over h (calm_waiting b), (rw (no_sub (calm_waiting b) word, e) refl, bad, sym e))
   | inr e ↦ elim (some_or_none (option_in word)) [
     | inl f ↦ inl (rw (no_sub (calm_waiting b) word, e, f.1) (or_bad _ _ (long_bad (rules names) (arg_by_long (rules names) f.0.0) f.0.1 h bad)))
-    | inr o ↦ inl (rw (no_sub (calm_waiting b) word, e, o, no_short word (not_single _ _ e n), plain_calm (rules names) b word h, first_place names, and_false) bad)
+    | inr o ↦ inl (rw (no_sub (calm_waiting b) word, e, o, no_short word (not_single _ _ e n), plain_calm (rules names) b word h, first_place names, and-false) bad)
   ]
 ]
 
@@ -422,18 +419,14 @@ none_required : (names : List Text) (rows : List Row) → list_any (λ (a : Rule
 none_required [] rows = refl
 none_required (n ∷ ns) rows = none_required ns rows
 
-or_true : (b : Bool) → (b || true) ≡ true
-or_true true = refl
-or_true false = refl
-
 pub or_nil : (a : Kinds) → or_else a [] ≡ a
 or_nil [] = refl
 or_nil (k ∷ ks) = refl
 
 no_default_fault : (names : List Text) (rows : List Row) → defaults_fault rows (rules names) ≡ []
 unfolding defaults_fault
-no_default_fault [] rows = rw (or_true (has_row declared_id rows)) refl
-no_default_fault (n ∷ ns) rows = rw (or_true (has_row n rows)) (no_default_fault ns (with_default rows (option_rule n)))
+no_default_fault [] rows = rw (or-true (has_row declared_id rows)) refl
+no_default_fault (n ∷ ns) rows = rw (or-true (has_row n rows)) (no_default_fault ns (with_default rows (option_rule n)))
 
 nameless : (name : Text) (names : List Text) (w : Walk) (words : List Text) → walk_fault (leaf name names) [] w words ≡ walk_fault (leaf [] names) [] w words
 unfolding walk_fault

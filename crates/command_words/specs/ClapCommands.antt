@@ -4,9 +4,9 @@ use Rattle.clap.specs.Walk.{Rule, Row}
 use Rattle.clap.specs.Simple.{App, Shape, new_rule, new_shape}
 use Rattle.clap.specs.declared.builder.action.ArgAction.TheVariants.{Set, Append}
 use Rattle.command_words.specs.declared.command.Command.{Command}
-use Rattle.command_words.specs.CommandWords.{Text, Said, CommandForm, commands, form_named, nothing_read}
+use Rattle.command_words.specs.CommandWords.{Text, WordsSaid, CommandForm, commands, form_named, nothing_read}
 use Rattle.command_words.specs.ClapReading.{clap_read, has_no_single_hyphen, numbers_given}
-use Rattle.command_words.specs.ClapRules.{declared_id, leaf, Shows}
+use Rattle.command_words.specs.ClapRules.{declared_id, leaf, RowsShow}
 
 -- a command's word, and the names of its options
 abbrev pub Sub : Type 0
@@ -21,7 +21,7 @@ abbrev pub entry : Text → List Sub → Option Sub
 entry word subs = find (λ s. bytes_eq s.0 word) subs
 
 -- the command that the words name, with what they say
-abbrev pub command_said : List Sub → List Text → Option (Text × Said)
+abbrev pub command_said : List Sub → List Text → Option (Text × WordsSaid)
 command_said subs [] = None
 command_said subs (word ∷ words) =
     option_and_then (λ s. option_map (λ said. (s.0, said)) (clap_read s.1 nothing_read words)) (entry word subs)
@@ -78,17 +78,17 @@ abbrev pub built_app : Text → List Sub → App
 built_app name subs = record { top = record (top name) { is_built = true }; subs = map leaf_of subs }
 
 -- the command that was entered shows what was said
-abbrev pub Enters : Option (Text × List Row) → Text × Said → Type 0
-Enters entered said = (rows : List Row) × (entered ≡ Some (said.0, rows)) × Shows rows said.1
+abbrev pub Enters : Option (Text × List Row) → Text × WordsSaid → Type 0
+Enters entered said = (rows : List Row) × (entered ≡ Some (said.0, rows)) × RowsShow rows said.1
 
 -- ---- what is judged of it
 
 -- what the command is, where its options' values are numbers
-abbrev pub meaning_checked : CommandForm → Said → Option Command
+abbrev pub meaning_checked : CommandForm → WordsSaid → Option Command
 meaning_checked form said = if numbers_given form.options said.values then form.meaning said else None
 
 -- what the command of that word is
-abbrev pub judged : Text → Said → Option Command
+abbrev pub judged : Text → WordsSaid → Option Command
 judged name said = option_and_then (λ form. meaning_checked form said) (form_named name)
 
 -- the command that the words are, by clap's reading

@@ -5,7 +5,7 @@ use Rattle.clap.specs.Simple.{Shape, new_rule, new_shape}
 use Rattle.clap.specs.Kinds.{Kinds}
 use Rattle.clap.specs.declared.builder.action.ArgAction.TheVariants.{Set, Append}
 use Rattle.clap.specs.declared.builder.value_parser.ValueParser.TheVariants as parsers
-use Rattle.command_words.specs.CommandWords.{Text, Said, value_of}
+use Rattle.command_words.specs.CommandWords.{Text, WordsSaid, value_of}
 
 -- the id of the declared words
 abbrev pub declared_id : Text
@@ -51,10 +51,10 @@ shown [] = None
 shown (word ∷ words) = Some (word ∷ words)
 
 -- the rows hold what was said
-pub record Shows (rows : List Row) (said : Said) : Type 0 where
+pub record RowsShow (rows : List Row) (said : WordsSaid) : Type 0 where
   pub value : (id : Text) → bytes_eq declared_id id ≡ false → all_of id rows ≡ option_map (λ v. v ∷ []) (value_of id said.values)
   pub declared : all_of declared_id rows ≡ shown said.declared
 
 -- the parse fails exactly where the words aren't read, and else its rows hold what they say
-abbrev pub Agrees : Kinds → List Row → Option Said → Type 0
-Agrees fault rows said = MatchOption said (fault ≡ [] → ⊥) (λ s. (fault ≡ []) × Shows rows s)
+abbrev pub Agrees : Kinds → List Row → Option WordsSaid → Type 0
+Agrees fault rows said = MatchOption said (fault ≡ [] → ⊥) (λ s. (fault ≡ []) × RowsShow rows s)

@@ -5,6 +5,7 @@ use Rattle.std.specs.Str.{is_utf8}
 use Rattle.block_model.specs.Names.{is_digit}
 use Rattle.block_model.specs.declared.schema.Sizes.{Sizes}
 use Rattle.command_words.specs.declared.command.Command.{Command}
+use Rattle.command_words.specs.declared.defaults.TheConstants.{HEAP_BLOCKS, INDEX_BLOCKS, STATUS_BLOCKS, LOG_PAGES, FRAMES}
 use Rattle.command_words.specs.declared.command.Command.TheVariants.{Run}
 
 -- ---- one word
@@ -52,18 +53,18 @@ number_of digits = min (digits_from 0 digits) (2 ^ 32 - 1)
 -- ---- the words behind a command
 
 -- what they have said so far: the value of each option that was given, and the declared words
-pub record Said : Type 0 where
+pub record WordsSaid : Type 0 where
   pub values : List (Text × Text)
   pub declared : List Text
 
 -- how far they are read: an option may wait for its value, and `--` may have ended the options
-pub record Reading : Type 0 where
-  pub said : Said
+pub record WordsReading : Type 0 where
+  pub said : WordsSaid
   pub waits : Option Text
   pub ended : Bool
 
 -- before the first of them
-abbrev pub nothing_read : Reading
+abbrev pub nothing_read : WordsReading
 nothing_read = record { said = record { values = []; declared = [] }; waits = None; ended = false }
 
 -- the value that was given for the option
@@ -71,7 +72,7 @@ abbrev pub value_of : Text → List (Text × Text) → Option Text
 value_of name values = option_map (λ p. p.1) (find (λ p. bytes_eq p.0 name) values)
 
 -- a value for an option that has none yet
-abbrev pub give : Text → Text → Reading → Option Reading
+abbrev pub give : Text → Text → WordsReading → Option WordsReading
 give name value r = if is_some (value_of name r.said.values) then None else Some (record {
   said = record { values = r.said.values ++ (name, value) ∷ []; declared = r.said.declared };
   waits = None;
@@ -79,7 +80,7 @@ give name value r = if is_some (value_of name r.said.values) then None else Some
 })
 
 -- a declared word more
-abbrev pub declare : Text → Reading → Option Reading
+abbrev pub declare : Text → WordsReading → Option WordsReading
 declare word r = Some (record {
   said = record { values = r.said.values; declared = r.said.declared ++ word ∷ [] };
   waits = None;
@@ -87,30 +88,30 @@ declare word r = Some (record {
 })
 
 -- an option's value is a number
-abbrev pub give_number : Text → Text → Reading → Option Reading
+abbrev pub give_number : Text → Text → WordsReading → Option WordsReading
 give_number name value r = if is_number value then give name value r else None
 
 -- `--name` waits for the next word, and `--name=value` has its value
-abbrev pub take_option : Text → Option Text → Reading → Option Reading
+abbrev pub take_option : Text → Option Text → WordsReading → Option WordsReading
 take_option name None r = Some (record r { waits = Some name })
 take_option name (Some value) r = give_number name value r
 
 -- an option has one of the names, in full; any other word that begins with a hyphen is refused, and what is left is declared
-abbrev pub take_named : List Text → Option (Text × Option Text) → Text → Reading → Option Reading
+abbrev pub take_named : List Text → Option (Text × Option Text) → Text → WordsReading → Option WordsReading
 take_named names (Some p) word r = if list_any (λ n. bytes_eq n p.0) names then take_option p.0 p.1 r else None
 take_named names None word r = if begins_with_hyphen word then None else declare word r
 
 -- `--` ends the options, and is no word of its own
-abbrev pub take_free : List Text → Text → Reading → Option Reading
+abbrev pub take_free : List Text → Text → WordsReading → Option WordsReading
 take_free names word r = if bytes_eq word (codes "--") then Some (record r { ended = true }) else take_named names (option_in word) word r
 
 -- one word more: the value of the option that waits for one; else, behind `--`, a declared word, whatever it begins with
-abbrev pub take_word : List Text → Option Text → Text → Reading → Option Reading
+abbrev pub take_word : List Text → Option Text → Text → WordsReading → Option WordsReading
 take_word names (Some name) word r = give_number name word r
 take_word names None word r = if r.ended then declare word r else take_free names word r
 
 -- what the words say, with options of those names; nothing, where a word is refused or an option waits at the end
-unfoldable pub read_words : List Text → Reading → List Text → Option Said
+unfoldable pub read_words : List Text → WordsReading → List Text → Option WordsSaid
 read_words names r [] = if is_some r.waits then None else Some r.said
 read_words names r (word ∷ words) = option_and_then (λ q. read_words names q words) (take_word names r.waits word r)
 
@@ -121,17 +122,17 @@ abbrev pub size_options : List Text
 size_options = codes "heap-blocks" ∷ codes "index-blocks" ∷ codes "status-blocks" ∷ codes "log-pages" ∷ codes "frames" ∷ []
 
 -- the number that was given for the option, or its default
-abbrev pub size_of : Text → ℕ → Said → ℕ
+abbrev pub size_of : Text → ℕ → WordsSaid → ℕ
 size_of name default said = unwrap_or (option_map number_of (value_of name said.values)) default
 
 -- all five, with their defaults
-abbrev pub sizes_of : Said → Sizes
+abbrev pub sizes_of : WordsSaid → Sizes
 sizes_of said = record {
-  heap_blocks = size_of (codes "heap-blocks") 4096 said;
-  index_blocks = size_of (codes "index-blocks") 1024 said;
-  status_blocks = size_of (codes "status-blocks") 4 said;
-  log_pages = size_of (codes "log-pages") 128 said;
-  frames = size_of (codes "frames") 256 said;
+  heap_blocks = size_of (codes "heap-blocks") HEAP_BLOCKS said;
+  index_blocks = size_of (codes "index-blocks") INDEX_BLOCKS said;
+  status_blocks = size_of (codes "status-blocks") STATUS_BLOCKS said;
+  log_pages = size_of (codes "log-pages") LOG_PAGES said;
+  frames = size_of (codes "frames") FRAMES said;
 }
 
 -- `run` has a declared word
@@ -140,14 +141,14 @@ run_with sizes [] = None
 run_with sizes (word ∷ words) = Some (Run sizes (word ∷ words))
 
 -- `run` with what its words have said
-abbrev pub run_of : Said → Option Command
+abbrev pub run_of : WordsSaid → Option Command
 run_of said = run_with (sizes_of said) said.declared
 
 -- a command: its word, the names of its options, and what it is once they are read
 pub record CommandForm : Type 0 where
   pub word : Text
   pub options : List Text
-  pub meaning : Said → Option Command
+  pub meaning : WordsSaid → Option Command
 
 -- `run [options] DECL...`
 abbrev pub run_form : CommandForm

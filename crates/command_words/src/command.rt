@@ -1,18 +1,18 @@
-// The command that words are.
+//! The command that words are.
 
 ghost use Rattle.std.specs.Prelude.{◌≡◌, IfOk, IfErr, map, Some, None};
 ghost use Rattle.clap.specs.Words.{found_of, rows_of};
 ghost use Rattle.command_words.specs.ClapCommands.{command_matched, meaning_checked};
-ghost use Rattle.command_words.specs.ClapRules.{Shows};
-ghost use Rattle.command_words.specs.CommandWords.{Said, command_of, run_form};
-ghost use Rattle.command_words.specs.declared.command.CommandFault.TheVariants.{Usage};
+ghost use Rattle.command_words.specs.ClapRules.{RowsShow};
+ghost use Rattle.command_words.specs.CommandWords.{WordsSaid, command_of, run_form};
+ghost use Rattle.command_words.specs.declared.command.CommandFault.TheVariants.{Usage, Memory};
 
 use crate::matching::{declared_in, matched, sizes_in};
 use crate::text::{has_no_single_hyphen, texts_of};
-use block_model::schema::Sizes;
-use block_model::words::Words;
+use block_model::{NoMemory, Sizes, Words};
 use clap::ArgMatches;
-use std::alloc::Global;
+use std::alloc::{AllocError, AllocFailed, Global};
+use thiserror::Error;
 
 /// What the words of a command line ask for.
 #[derive(Debug, Drop)]
@@ -22,12 +22,38 @@ pub enum Command {
 }
 
 /// Why words aren't read as a command.
-#[derive(Clone, Copy, Debug, PartialEq, Eq)]
+#[derive(Clone, Copy, Debug, PartialEq, Eq, Error)]
 pub enum CommandFault {
     /// They are none.
+    #[error("the words are no command")]
     Usage,
     /// Memory ran out.
+    #[error("out of memory")]
     Memory,
+}
+
+impl From<NoMemory> for CommandFault {
+    ghost from_gives = { λ _ fault. fault ≡ Memory };
+
+    fn from(_error: NoMemory) -> CommandFault {
+        CommandFault::Memory
+    }
+}
+
+impl From<AllocError> for CommandFault {
+    ghost from_gives = { λ _ fault. fault ≡ Memory };
+
+    fn from(_error: AllocError) -> CommandFault {
+        CommandFault::Memory
+    }
+}
+
+impl<T: Drop> From<AllocFailed<T>> for CommandFault {
+    ghost from_gives = { λ _ fault. fault ≡ Memory };
+
+    fn from(_error: AllocFailed<T>) -> CommandFault {
+        CommandFault::Memory
+    }
 }
 
 /// The command that the words are. Usage comes exactly where they are none; want of memory is free.
@@ -57,15 +83,13 @@ fn read_texts<'a>(alloc: Global, words: &'a [&'a str]) -> Result<Command, Comman
 
 /// The matches of `run`, read.
 fn run_in(alloc: Global, matches: &ArgMatches<'_>) -> Result<Command, CommandFault>
-    ensures ok { IfOk result (λ command. (said : Said) → Shows (rows_of (found_of matches.now)) said → meaning_checked run_form said ≡ Some command) }
-    ensures usage { IfErr result (λ fault. fault ≡ Usage → (said : Said) → Shows (rows_of (found_of matches.now)) said → meaning_checked run_form said ≡ None) }
+    ensures ok { IfOk result (λ command. (said : WordsSaid) → RowsShow (rows_of (found_of matches.now)) said → meaning_checked run_form said ≡ Some command) }
+    ensures usage { IfErr result (λ fault. fault ≡ Usage → (said : WordsSaid) → RowsShow (rows_of (found_of matches.now)) said → meaning_checked run_form said ≡ None) }
 {
     let Some(sizes) = sizes_in(matches) else {
         return Err(CommandFault::Usage);
     };
-    let Ok(declarations) = declared_in(alloc, matches) else {
-        return Err(CommandFault::Memory);
-    };
+    let declarations = declared_in(alloc, matches)?;
     if declarations.len() == 0 {
         return Err(CommandFault::Usage);
     }

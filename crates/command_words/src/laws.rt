@@ -1,4 +1,4 @@
-// What the words of a command mean.
+//! What the words of a command mean.
 
 ghost use Rattle.command_words.specs.Laws.{FurtherWordIsDeclaredLast, OptionsHaveTheirNumbers, OptionsStandOnce, SizesHaveDefaults};
 

@@ -1,4 +1,4 @@
-// Numbers of options.
+//! Numbers of options.
 
 ghost use Rattle.std.specs.Prelude.{◌≡◌, MatchOption, true, false};
 ghost use Rattle.command_words.specs.CommandWords.{is_number, number_of};

@@ -1,4 +1,4 @@
-// The commands as clap is given them.
+//! The commands as clap is given them.
 
 ghost use Rattle.std.specs.Prelude.{◌≡◌, IfOk, map, false, codes};
 ghost use Rattle.clap.specs.Words.{app_of, rule_of, shape_of, with_subcommand};

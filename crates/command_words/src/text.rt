@@ -1,4 +1,4 @@
-// Single words.
+//! Single words.
 
 ghost use Rattle.std.specs.Prelude.{◌≡◌, IfOk, IfErr, map, true, false};
 ghost use Rattle.std.specs.List.{list_all};
@@ -7,7 +7,7 @@ ghost use Rattle.command_words.specs.ClapReading.{has_no_single_hyphen, has_sing
 ghost use Rattle.command_words.specs.declared.command.CommandFault.TheVariants.{Usage};
 
 use crate::command::CommandFault;
-use block_model::words::Words;
+use block_model::Words;
 use std::alloc::Global;
 
 /// The words as texts. Usage comes only where one of them isn't UTF-8.
@@ -21,9 +21,7 @@ pub fn texts_of(alloc: Global, words: &Words) -> Result<Vec<&str>, CommandFault>
             Ok(text) => text,
             Err(_) => return Err(CommandFault::Usage),
         };
-        let Ok(()) = texts.push(text) else {
-            return Err(CommandFault::Memory);
-        };
+        texts.push(text)?;
     }
     Ok(texts)
 }

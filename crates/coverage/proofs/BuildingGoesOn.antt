@@ -4,7 +4,7 @@ use Rattle.std.specs.Prelude.{IsTrue}
 use Rattle.std.proofs.lemmas.Option.{same_Some, none-some}
 use Rattle.std.proofs.lemmas.Bool.{cases_eq}
 use Rattle.block_model.specs.declared.row.Row.{Row}
-use Rattle.coverage.specs.Board.{Spot, Tuple, Progress, Passing, Building, Board, range_of, IsBuilding}
+use Rattle.coverage.specs.IndexView.{TuplePlace, IndexTuple, Progress, Passing, Building, IndexView, range_of_block, IsBuilding}
 use Rattle.coverage.specs.IsSettled.{IsAwaited, AllAwait, IsAccounted}
 use Rattle.coverage.specs.IsSound.{IsSound}
 use Rattle.coverage.specs.GoesOn.{GoesOn}
@@ -23,7 +23,7 @@ block_last : (b n : ℕ) → 0 < n → b < (b / n + 1) * n
 block_last b n some = omega arith
 
 -- after a block is passed, each row of the table that was awaited still is
-passed_on : (w : Board) (b k : ℕ) (r : Row) (next extent : ℕ) (result wider : Row → Bool) → IsWithin result wider
+passed_on : (w : IndexView) (b k : ℕ) (r : Row) (next extent : ℕ) (result wider : Row → Bool) → IsWithin result wider
     → ((j : ℕ) (q : Row) → w.row next j ≡ Some q → IsTrue (wider q)) → w.row b k ≡ Some r
     → IsTrue (result r) ⊎ ((next ≤ b) × (b < extent)) → IsTrue (wider r) ⊎ ((next + 1 ≤ b) × (b < extent))
 passed_on w b k r next extent result wider more block there before = ⊎_elim
@@ -34,9 +34,10 @@ passed_on w b k r next extent result wider more block there before = ⊎_elim
     (cases_eq next b))
     before
 
-module _ (w : Board) (s b k : ℕ) (r : Row) (sound : IsSound w) (there : w.row b k ≡ Some r) (all : AllAwait w b r) where
+module _ (w : IndexView) (s b k : ℕ) (r : Row) (sound : IsSound w) (there : w.row b k ≡ Some r) (all : AllAwait w b r) where
   -- where the session builds the block's range afterwards, it still awaits the row
-  turned : (old new : Option Progress) → Turns w s (range_of w b) old new → w.building s ≡ at_work (range_of w b) old → (p : Progress) → new ≡ Some p → IsAwaited p b r
+  turned : (old new : Option Progress) → Turns w s (range_of_block w b) old new → w.building s ≡ at_work (range_of_block w b) old → (p : Progress)
+      → new ≡ Some p → IsAwaited p b r
   turned _ _ (StartsBuilding h) was p is = subst (λ q. IsAwaited q b r) (same_Some _ _ is) tt
   turned _ _ (ReadsExtent extent result e) was p is = subst (λ q. IsAwaited q b r) (same_Some _ _ is)
       (inr (block_first b w.pages_per_range sound.ranged, omega (arith, e, sound.rows_below b k r there, block_last b w.pages_per_range sound.ranged)))
@@ -44,14 +45,15 @@ module _ (w : Board) (s b k : ℕ) (r : Row) (sound : IsSound w) (there : w.row 
       (passed_on w b k r next extent result wider more block there (all s (Passing extent next result) was))
 
 -- after a turn every builder of the block's range awaits the row, as before
-module _ (s : ℕ) (w v : Board) (range : ℕ) (old new : Option Progress) (sound : IsSound w) (turn : Turn s w v range old new) (b k : ℕ) (r : Row) (there : w.row b k ≡ Some r) where
-  own : (n : Option Progress) (p : Progress) → at_work range n ≡ at_work (range_of w b) (Some p) → (range ≡ range_of w b) × (n ≡ Some p)
+module _ (s : ℕ) (w v : IndexView) (range : ℕ) (old new : Option Progress) (sound : IsSound w) (turn : Turn s w v range old new) (b k : ℕ) (r : Row)
+    (there : w.row b k ≡ Some r) where
+  own : (n : Option Progress) (p : Progress) → at_work range n ≡ at_work (range_of_block w b) (Some p) → (range ≡ range_of_block w b) × (n ≡ Some p)
   own None p e = absurd (none-some _ e)
   own (Some q) p e = (at_work_range _ _ _ _ e, ap Some (at_work_progress _ _ _ _ e))
 
   pub turn_awaits : AllAwait w b r → AllAwait v b r
   turn_awaits all n p is =
-      let here : v.building n ≡ at_work (range_of w b) (Some p) = is ∙ ap (λ m. at_work (b / m) (Some p)) turn.heap.pages_per_range in
+      let here : v.building n ≡ at_work (range_of_block w b) (Some p) = is ∙ ap (λ m. at_work (b / m) (Some p)) turn.frame.heap.pages_per_range in
       ⊎_elim
       (λ (e : n ≡ s).
       let mine = own new p (sym turn.building.now ∙ ap v.building (sym e) ∙ here) in
@@ -60,45 +62,36 @@ module _ (s : ℕ) (w v : Board) (range : ℕ) (old new : Option Progress) (soun
       (λ (e : v.building n ≡ w.building n). all n p (sym e ∙ here))
       (turn.building.others n)
 
-pub turn_go_on : (s : ℕ) (d : ℕ → ℕ → Bool) (w v : Board) (range : ℕ) (old new : Option Progress) → IsSound w → Turn s w v range old new → GoesOn s d w v
-turn_go_on s d w v range old new sound kind = record {
-  pages_per_range = search rules;
-  rows = search rules;
-  settled = λ b k r there before x t named here. ⊎_elim
+  turn_settled : IsAccounted w b r → IsAccounted v b r
+  turn_settled before x t named here = ⊎_elim
       (λ (has : IsTrue (t.includes r)). inl has)
-      (λ (waits : (t.placeholder ≡ true) × AllAwait w b r). inr (waits.0, turn_awaits s w v range old new sound kind b k r there waits.1))
-      (before x t (sym (kind.map.entry (range_of w b)) ∙ ap (λ m. v.entry (b / m)) (sym kind.heap.pages_per_range) ∙ named) (sym (kind.tuples.tuple x) ∙ here));
-  shows = search rules;
-  held = search rules;
-  tuples = search rules;
-  entries = search rules;
-  locks = kind.locks.others;
-  no_lock_given = kind.locks.taken;
-  named = search rules;
-  unset = search rules;
-  placeholders = search rules;
-  right = search rules;
-  no_right_given = search rules;
-}
+      (λ (waits : (t.placeholder ≡ true) × AllAwait w b r). inr (waits.0, turn_awaits waits.1))
+      (before x t (sym (turn.frame.map.entry (range_of_block w b)) ∙ ap (λ m. v.entry (b / m)) (sym turn.frame.heap.pages_per_range) ∙ named)
+      (sym (turn.frame.tuples.tuple x) ∙ here))
+
+pub turn_go_on : (s : ℕ) (d : ℕ → ℕ → Bool) (w v : IndexView) (range : ℕ) (old new : Option Progress) → IsSound w → Turn s w v range old new → GoesOn s d w v
+turn_go_on s d w v range old new sound kind = search (rules, turn_settled s w v range old new sound kind)
 
 -- rows of a range without an entry are settled, so a placeholder may come
-module _ (s : ℕ) (d : ℕ → ℕ → Bool) (w v : Board) (x : Spot) (t : Tuple) (sound : IsSound w) (kind : Places s w v x t) where
-  place_awaits : (b : ℕ) (r : Row) (y : Spot) → w.entry (range_of w b) ≡ Some y → AllAwait w b r → AllAwait v b r
+module _ (s : ℕ) (d : ℕ → ℕ → Bool) (w v : IndexView) (x : TuplePlace) (t : IndexTuple) (sound : IsSound w) (kind : Places s w v x t) where
+  place_awaits : (b : ℕ) (r : Row) (y : TuplePlace) → w.entry (range_of_block w b) ≡ Some y → AllAwait w b r → AllAwait v b r
   place_awaits b r y named all n p is =
-      let here : v.building n ≡ at_work (range_of w b) (Some p) = is ∙ ap (λ m. at_work (b / m) (Some p)) kind.heap.pages_per_range in
+      let here : v.building n ≡ at_work (range_of_block w b) (Some p) = is ∙ ap (λ m. at_work (b / m) (Some p)) kind.frame.heap.pages_per_range in
       ⊎_elim
-      (λ (e : n ≡ s). absurd (none-some _ (sym kind.vacant ∙ ap w.entry (at_work_range _ _ _ _ (sym kind.building.now ∙ ap v.building (sym e) ∙ here)) ∙ named)))
+      (λ (e : n ≡ s).
+      absurd (none-some _ (sym kind.vacant ∙ ap w.entry (at_work_range _ _ _ _ (sym kind.building.now ∙ ap v.building (sym e) ∙ here)) ∙ named)))
       (λ (e : v.building n ≡ w.building n). all n p (sym e ∙ here))
       (kind.building.others n)
 
-  entry_back : (b : ℕ) (y : Spot) → v.entry (range_of v b) ≡ Some y → w.entry (range_of w b) ≡ Some y
-  entry_back b y named = ap (λ m. w.entry (b / m)) (sym kind.heap.pages_per_range) ∙ sym (kind.map.entry (range_of v b)) ∙ named
+  entry_back : (b : ℕ) (y : TuplePlace) → v.entry (range_of_block v b) ≡ Some y → w.entry (range_of_block w b) ≡ Some y
+  entry_back b y named = ap (λ m. w.entry (b / m)) (sym kind.frame.heap.pages_per_range) ∙ sym (kind.frame.map.entry (range_of_block v b)) ∙ named
 
   place_settled : (b k : ℕ) (r : Row) → IsAccounted w b r → IsAccounted v b r
   place_settled b k r settled y u named here =
       let named' = entry_back b y named in
       ⊎_elim
-      (λ (e : y ≡ x). let there = sound.entries_name_tuples (range_of w b) y named' in absurd (none-some _ (sym kind.tuple.was ∙ ap w.tuple (sym e) ∙ there.1)))
+      (λ (e : y ≡ x).
+      let there = sound.entries_name_tuples (range_of_block w b) y named' in absurd (none-some _ (sym kind.tuple.was ∙ ap w.tuple (sym e) ∙ there.1)))
       (λ (e : v.tuple y ≡ w.tuple y). ⊎_elim
       (λ (has : IsTrue (u.includes r)). inl has)
       (λ (waits : (u.placeholder ≡ true) × AllAwait w b r). inr (waits.0, place_awaits b r y named' waits.1))
@@ -106,58 +99,28 @@ module _ (s : ℕ) (d : ℕ → ℕ → Bool) (w v : Board) (x : Spot) (t : Tupl
       (kind.tuple.others y)
 
   pub places_go_on : GoesOn s d w v
-  places_go_on = record {
-    pages_per_range = search rules;
-    rows = search rules;
-    settled = λ b k r there settled. place_settled b k r settled;
-    shows = search rules;
-    held = search rules;
-    tuples = search rules;
-    entries = search rules;
-    locks = kind.locks.others;
-    no_lock_given = kind.locks.taken;
-    named = search rules;
-    unset = search rules;
-    placeholders = search rules;
-    right = search rules;
-    no_right_given = search rules;
-  }
+  places_go_on = search (rules, place_settled)
 
 -- whoever has put the placeholder hasn't read the extent yet, and nobody else builds
-module _ (s : ℕ) (d : ℕ → ℕ → Bool) (w v : Board) (range : ℕ) (x : Spot) (t : Tuple) (sound : IsSound w) (kind : Names s w v range x t) where
-  named_awaits : (b : ℕ) (r : Row) → range ≡ range_of w b → AllAwait v b r
+module _ (s : ℕ) (d : ℕ → ℕ → Bool) (w v : IndexView) (range : ℕ) (x : TuplePlace) (t : IndexTuple) (sound : IsSound w) (kind : Names s w v range x t) where
+  named_awaits : (b : ℕ) (r : Row) → range ≡ range_of_block w b → AllAwait v b r
   named_awaits b r of n p is =
-      let here : IsBuilding w n (range_of w b) p = sym (kind.work.building n) ∙ is ∙ ap (λ m. at_work (b / m) (Some p)) kind.heap.pages_per_range in
+      let here : IsBuilding w n (range_of_block w b) p = sym (kind.work.building n) ∙ is ∙ ap (λ m. at_work (b / m) (Some p)) kind.frame.heap.pages_per_range in
       let one : s ≡ n = same_Some _ _ (sym (sound.builder_holds s range _ kind.building) ∙ sound.builder_holds n _ p here) in
       subst (λ q. IsAwaited q b r) (at_work_progress _ _ _ _ (sym kind.building ∙ ap w.building one ∙ here)) tt
 
   name_settled : (b k : ℕ) (r : Row) → IsAccounted w b r → IsAccounted v b r
   name_settled b k r settled y u named here = ⊎_elim
-      (λ (e : range_of v b ≡ range).
-      let spot : y ≡ x = same_Some _ _ (sym named ∙ ap v.entry e ∙ kind.entry.now) in
-      let is : u ≡ t = same_Some _ _ (sym here ∙ kind.tuples.tuple y ∙ ap w.tuple spot ∙ kind.there) in
-      inr (ap (λ (q : Tuple). q.placeholder) is ∙ kind.placeholder, named_awaits b r (sym e ∙ ap (λ m. b / m) kind.heap.pages_per_range)))
-      (λ (e : v.entry (range_of v b) ≡ w.entry (range_of v b)). ⊎_elim
+      (λ (e : range_of_block v b ≡ range).
+      let place : y ≡ x = same_Some _ _ (sym named ∙ ap v.entry e ∙ kind.entry.now) in
+      let is : u ≡ t = same_Some _ _ (sym here ∙ kind.frame.tuples.tuple y ∙ ap w.tuple place ∙ kind.there) in
+      inr (ap (λ (q : IndexTuple). q.placeholder) is ∙ kind.placeholder, named_awaits b r (sym e ∙ ap (λ m. b / m) kind.frame.heap.pages_per_range)))
+      (λ (e : v.entry (range_of_block v b) ≡ w.entry (range_of_block v b)). ⊎_elim
       (λ (has : IsTrue (u.includes r)). inl has)
       (λ (waits : (u.placeholder ≡ true) × AllAwait w b r).
-      inr (waits.0, λ n p is. waits.1 n p (sym (kind.work.building n) ∙ is ∙ ap (λ m. at_work (b / m) (Some p)) kind.heap.pages_per_range)))
-      (settled y u (ap (λ m. w.entry (b / m)) (sym kind.heap.pages_per_range) ∙ sym e ∙ named) (sym (kind.tuples.tuple y) ∙ here)))
-      (kind.entry.others (range_of v b))
+      inr (waits.0, λ n p is. waits.1 n p (sym (kind.work.building n) ∙ is ∙ ap (λ m. at_work (b / m) (Some p)) kind.frame.heap.pages_per_range)))
+      (settled y u (ap (λ m. w.entry (b / m)) (sym kind.frame.heap.pages_per_range) ∙ sym e ∙ named) (sym (kind.frame.tuples.tuple y) ∙ here)))
+      (kind.entry.others (range_of_block v b))
 
   pub names_go_on : GoesOn s d w v
-  names_go_on = record {
-    pages_per_range = search rules;
-    rows = search rules;
-    settled = λ b k r there settled. name_settled b k r settled;
-    shows = search rules;
-    held = search rules;
-    tuples = search rules;
-    entries = search rules;
-    locks = kind.locks.others;
-    no_lock_given = kind.locks.taken;
-    named = search rules;
-    unset = search rules;
-    placeholders = search rules;
-    right = search rules;
-    no_right_given = search rules;
-  }
+  names_go_on = search (rules, name_settled)

@@ -5,7 +5,7 @@ pub mod OthersGoOn
 pub mod Settled
 pub mod Stable
 pub mod Covered
-pub mod HandSteps
+pub mod OnIndexSteps
 pub mod InsertSteps
 pub mod MaintainSteps
 pub mod Runs

@@ -1,50 +1,43 @@
--- Of the steps that a statement could take on an index there is one point alone, and none where it is blocked.
-use Rattle.std.proofs.Common.{◌≡◌, ℕ, ◌≤◌, ◌<◌, Some, sym, ◌∙◌, ap, subst, arith}
+-- Of the steps that a statement could take on an index there is one point alone, and none where it is blocked: each step has the
+-- facts that fix its point, and the facts hold for one point.
+use Rattle.std.proofs.Common.{◌≡◌, Bool, ℕ, ◌≤◌, ◌<◌, Some, sym, ◌∙◌, ap, subst, arith}
 use Rattle.std.specs.Prelude.{refl, length}
 use Rattle.std.proofs.lemmas.Option.{same_Some}
 use Rattle.block_model.specs.declared.row.Row.{Row}
-use Rattle.coverage.specs.Board.{Spot, Tuple, PageKind, Unstarted, Mapping, Regular, Emptying, Board, range_of}
+use Rattle.coverage.specs.IndexView.{TuplePlace, IndexTuple, Progress, ExtentUnread, Passing, PageKind, Unstarted, Mapping, Regular, Emptying, IndexView}
+use Rattle.coverage.specs.IndexView.{range_of_block}
 use Rattle.coverage.specs.Changes.{IsFree}
-use Rattle.coverage.specs.Verdicts.{Verdict, Waits, Differs, Fits, Puts, Full, PutVerdict, SwapVerdict, ClearVerdict}
-use Rattle.coverage.specs.Statements.{Hand, Held, Copied, Moving, Dropping, Phase, NotBuilding, Vacant, Placing, IsAt, Statement}
-use Rattle.coverage.specs.Steps.{IsUnnamed, next_map_page, IsPastMap, IsNextTuple, Grows, HandStep, Maps, Gone, Again, MovePut, InsertStep, InsertHand, InsertNoEntry, InsertCopies, InsertUnchanged, InsertSwap, InsertSet, InsertDrop, GrowthStep, Grow, CountLeftOver, Count, Flag, EvacuatePut, EvacuateSet, EvacuateDrop, EvacuateSweep, Turn, SummariseStep, LookMap, LookGone, IsFinal, Found, ReadNoEntry, GrowMap, Put, Set, Extent, Pass, Unite, UniteCopies, SwapFinal, SetFinal, DropOld, DesummariseStep, ClearMap, ClearNone, Clear, ClearAgain, DropCleared}
-use Rattle.coverage.specs.Points.{hand_point, insert_point, growth_point, summarise_point, desummarise_point}
+use Rattle.coverage.specs.Verdicts.{Verdict, Waits, Differs, Fits, Puts, PutVerdict, SwapVerdict, ClearVerdict}
+use Rattle.coverage.specs.Statements.{OnIndex, Empty, Held, Copied, Moving, Dropping, Phase, NotBuilding, Vacant, Growing, Evacuating, Placing, IsAt, Statement}
+use Rattle.coverage.specs.Steps.{IsUnnamed, next_map_page, IsPastMap, IsNextTuple, Grows, OnIndexStep, Maps, Gone, Again, MovePut}
+use Rattle.coverage.specs.Steps.{InsertStep, InsertOnIndex, InsertNoEntry, InsertCopies, InsertUnchanged, InsertSwap, InsertSet, InsertDrop}
+use Rattle.coverage.specs.Steps.{GrowthStep, Grow, CountLeftOver, Count, Flag, EvacuatePut, EvacuateSet, EvacuateDrop, EvacuateSweep, Turn}
+use Rattle.coverage.specs.Steps.{SummariseStep, LookMap, LookGone, IsFinal, Found, ReadNoEntry, GrowMap, Put, Set, Extent, Pass, Unite, UniteCopies, SwapFinal}
+use Rattle.coverage.specs.Steps.{SetFinal, DropOld}
+use Rattle.coverage.specs.Steps.{DesummariseStep, ClearMap, ClearNone, Clear, ClearAgain, DropCleared}
+use Rattle.coverage.specs.Points.{Point, AtMap, AtTuple, AtCopy, AtAgain, AtSwap, AtPut, AtSet, AtDrop, AtExtent, AtPass, AtClear, AtGrow, AtMeta, AtFlag}
+use Rattle.coverage.specs.Points.{AtTurn}
+use Rattle.coverage.specs.Points.{on_index_point, insert_point, growth_point, summarise_point, desummarise_point}
 use Rattle.coverage.specs.Waiting.{IsPhaseWaiting, FinalWaits, PlaceWaits, GrowWaits, CountWaits, FlagWaits, EvacuateWaits, EvacuatePutWaits, TurnWaits}
 use Rattle.coverage.proofs.Verdicts.{free_not_locked, both_free, put_once, swap_once, clear_once}
 
-abbrev verdict_number : Verdict → ℕ
-verdict_number (Waits p) = 0
-verdict_number Differs = 1
-verdict_number Fits = 2
-verdict_number (Puts y) = 3
-verdict_number Full = 4
+-- the verdict on a step that isn't blocked
+abbrev IsUnblocked : Verdict → Type 0
+IsUnblocked (Waits p) = ⊥
+IsUnblocked verdict = Unit
 
-abbrev kind_number : PageKind → ℕ
-kind_number Unstarted = 0
-kind_number Mapping = 1
-kind_number Regular = 2
-kind_number Emptying = 3
+abbrev swap_point : Verdict → Point
+swap_point Differs = AtAgain
+swap_point (Puts y) = AtPut
+swap_point verdict = AtSwap
 
-apart : (n m : ℕ) → n < m → n ≡ m → ⊥
-apart n m less is = omega arith
-
--- two verdicts on one swap, or on one clear, are of one sort
-swaps_apart : (w : Board) (s range : ℕ) (x : Spot) (old new : Tuple) (p q : Verdict) → verdict_number p < verdict_number q → SwapVerdict w s range x old new p → SwapVerdict w s range x old new q → ⊥
-swaps_apart w s range x old new p q less one two = apart (verdict_number p) (verdict_number q) less (ap verdict_number (swap_once w s range x old new p q one two))
-
-clears_apart : (w : Board) (s range : ℕ) (x : Spot) (p q : Verdict) → verdict_number p < verdict_number q → ClearVerdict w s range x p → ClearVerdict w s range x q → ⊥
-clears_apart w s range x p q less one two = apart (verdict_number p) (verdict_number q) less (ap verdict_number (clear_once w s range x p q one two))
-
-puts_apart : (w : Board) (s range need : ℕ) (p q : Verdict) → verdict_number p < verdict_number q → PutVerdict w s range need p → PutVerdict w s range need q → ⊥
-puts_apart w s range need p q less one two = apart (verdict_number p) (verdict_number q) less (ap verdict_number (put_once w s range need p q one two))
-
--- the map's next page is of one kind
-kinds_apart : (w : Board) (range m : ℕ) (k l : PageKind) → kind_number k < kind_number l → Grows w range k → Grows w m l → ⊥
-kinds_apart w range m k l less one two = apart (kind_number k) (kind_number l) less (ap kind_number (sym one.is ∙ two.is))
+abbrev clear_point : Verdict → Point
+clear_point Differs = AtAgain
+clear_point verdict = AtClear
 
 -- the next tuple of a page is one
-next_once : (w : Board) (page : ℕ) (x y : Spot) (t u : Tuple) → IsNextTuple w page x t → IsNextTuple w page y u → (x ≡ y) × (t ≡ u)
-next_once w page x y t u one two = (spot, same_Some _ _ (sym one.stands ∙ ap w.tuple spot ∙ two.stands))
+next_once : (w : IndexView) (page : ℕ) (x y : TuplePlace) (t u : IndexTuple) → IsNextTuple w page x t → IsNextTuple w page y u → (x ≡ y) × (t ≡ u)
+next_once w page x y t u one two = (place, same_Some _ _ (sym one.stands ∙ ap w.tuple place ∙ two.stands))
   where
     both : (a b : ℕ) → a ≤ b → b ≤ a → a ≡ b
     both a b le ge = omega arith
@@ -55,270 +48,274 @@ next_once w page x y t u one two = (spot, same_Some _ _ (sym one.stands ∙ ap w
     slot : x.slot ≡ y.slot
     slot = both x.slot y.slot (one.first y u two.on two.stands) (two.first x t one.on one.stands)
 
-    spot : x ≡ y
-    spot = λ i. record { block = block i; slot = slot i }
+    place : x ≡ y
+    place = λ i. record { block = block i; slot = slot i }
 
 -- the next tuple isn't named and unnamed at once
-named_or_not : (w : Board) (page : ℕ) (x y : Spot) (t u : Tuple) → IsNextTuple w page x t → IsNextTuple w page y u → w.entry t.range ≡ Some x → IsUnnamed w y → ⊥
+named_or_not : (w : IndexView) (page : ℕ) (x y : TuplePlace) (t u : IndexTuple)
+    → IsNextTuple w page x t → IsNextTuple w page y u → w.entry t.range ≡ Some x → IsUnnamed w y → ⊥
 named_or_not w page x y t u one two named unnamed =
     let same = next_once w page x y t u one two in
     let tuple : t ≡ unnamed.0 = same.1 ∙ same_Some _ _ (sym two.stands ∙ unnamed.1) in
-    unnamed.2 (ap (λ (q : Tuple). w.entry q.range) (sym tuple) ∙ named ∙ ap Some same.0)
+    unnamed.2 (ap (λ (q : IndexTuple). w.entry q.range) (sym tuple) ∙ named ∙ ap Some same.0)
 
-hand_one_point : (s range : ℕ) (w v u : Board) (hand g h : Hand) → (one : HandStep s range w v hand g) → (two : HandStep s range w u hand h) → hand_point one ≡ hand_point two
-hand_one_point s range w v u _ _ _ (Maps x named reads) (Maps x' named' reads') = refl
-hand_one_point s range w v u _ _ _ (Gone x gone reads) (Gone x' gone' reads') = refl
-hand_one_point s range w v u _ _ _ (Again x old new verdict reads) (Again x' old' new' verdict' reads') = refl
-hand_one_point s range w v u _ _ _ (Again x old new verdict reads) (MovePut x' y old' new' verdict' puts these) = absurd (swaps_apart w s range x old new Differs (Puts y) (omega arith) verdict verdict')
-hand_one_point s range w v u _ _ _ (MovePut x y old new verdict puts these) (Again x' old' new' verdict' reads) = absurd (swaps_apart w s range x old new Differs (Puts y) (omega arith) verdict' verdict)
-hand_one_point s range w v u _ _ _ (MovePut x y old new verdict puts these) (MovePut x' y' old' new' verdict' puts' these') = refl
+-- the points of an insert, by its state on the index
+data OnIndexPoint (w : IndexView) (s range : ℕ) : OnIndex → Point → Type 0 where
+  ToMap : OnIndexPoint w s range Empty AtMap
+  ToCopy : (x : TuplePlace) → OnIndexPoint w s range (Held x) AtCopy
+  ToJudge : (x : TuplePlace) (old new : IndexTuple) (verdict : Verdict) → IsUnblocked verdict → SwapVerdict w s range x old new verdict
+      → OnIndexPoint w s range (Copied x old new) (swap_point verdict)
+  ToSet : (x y : TuplePlace) (old new : IndexTuple) → OnIndexPoint w s range (Moving x y old new) AtSet
+  ToDrop : (x : TuplePlace) → OnIndexPoint w s range (Dropping x) AtDrop
 
--- the steps of a hand and a swap in place exclude each other
-hand_no_swap : (s range : ℕ) (w v : Board) (x : Spot) (old new : Tuple) (g : Hand) → HandStep s range w v (Copied x old new) g → SwapVerdict w s range x old new Fits → ⊥
-hand_no_swap s range w v x old new _ (Again _ _ _ verdict reads) fits = swaps_apart w s range x old new Differs Fits (omega arith) verdict fits
-hand_no_swap s range w v x old new _ (MovePut _ y _ _ verdict puts these) fits = swaps_apart w s range x old new Fits (Puts y) (omega arith) fits verdict
+on_index_once : (w : IndexView) (s range : ℕ) (on_index : OnIndex) (p q : Point) → OnIndexPoint w s range on_index p → OnIndexPoint w s range on_index q → p ≡ q
+on_index_once w s range _ _ _ ToMap ToMap = refl
+on_index_once w s range _ _ _ (ToCopy x) (ToCopy x') = refl
+on_index_once w s range _ _ _ (ToJudge x old new p free one) (ToJudge x' old' new' q free' two) = ap swap_point (swap_once w s range x old new p q one two)
+on_index_once w s range _ _ _ (ToSet x y old new) (ToSet x' y' old' new') = refl
+on_index_once w s range _ _ _ (ToDrop x) (ToDrop x') = refl
 
-hand_no_wait : (s range p : ℕ) (w v : Board) (x : Spot) (old new : Tuple) (g : Hand) → HandStep s range w v (Copied x old new) g → SwapVerdict w s range x old new (Waits p) → ⊥
-hand_no_wait s range p w v x old new _ (Again _ _ _ verdict reads) waits = swaps_apart w s range x old new (Waits p) Differs (omega arith) waits verdict
-hand_no_wait s range p w v x old new _ (MovePut _ y _ _ verdict puts these) waits = swaps_apart w s range x old new (Waits p) (Puts y) (omega arith) waits verdict
+on_index_blocked : (w : IndexView) (s range q : ℕ) (x : TuplePlace) (old new : IndexTuple) (p : Point)
+    → SwapVerdict w s range x old new (Waits q) → OnIndexPoint w s range (Copied x old new) p → ⊥
+on_index_blocked w s range q x old new _ waits (ToJudge _ _ _ p free one) = subst IsUnblocked (swap_once w s range x old new p (Waits q) one waits) free
 
--- there is no step of a hand in the middle of a move
-abbrev IsBeforeMove : Hand → Type 0
-IsBeforeMove (Moving x y old new) = ⊥
-IsBeforeMove (Dropping x) = ⊥
-IsBeforeMove hand = Unit
+on_index_fact : (s range : ℕ) (w v : IndexView) (old new : OnIndex) (step : OnIndexStep s range w v old new) → OnIndexPoint w s range old (on_index_point step)
+on_index_fact s range w v _ _ (Maps x named reads) = ToMap
+on_index_fact s range w v _ _ (Gone x gone reads) = ToCopy x
+on_index_fact s range w v _ _ (Again x old new verdict reads) = ToJudge x old new Differs tt verdict
+on_index_fact s range w v _ _ (MovePut x y old new verdict puts these) = ToJudge x old new (Puts y) tt verdict
 
-hand_before : (s range : ℕ) (w v : Board) (h g : Hand) → HandStep s range w v h g → IsBeforeMove h
-hand_before s range w v _ _ (Maps x named reads) = tt
-hand_before s range w v _ _ (Gone x gone reads) = tt
-hand_before s range w v _ _ (Again x old new verdict reads) = tt
-hand_before s range w v _ _ (MovePut x y old new verdict puts these) = tt
+insert_fact : (s b k : ℕ) (r : Row) (w v : IndexView) (on_index : OnIndex) (e : Statement) (step : InsertStep s b k r w v on_index e)
+    → OnIndexPoint w s (range_of_block w b) on_index (insert_point step)
+insert_fact s b k r w v _ _ (InsertOnIndex old new step) = on_index_fact s (range_of_block w b) w v old new step
+insert_fact s b k r w v _ _ (InsertNoEntry none reads) = ToMap
+insert_fact s b k r w v _ _ (InsertCopies x old new stands added changes reads) = ToCopy x
+insert_fact s b k r w v _ _ (InsertUnchanged x t stands added free reads) = ToCopy x
+insert_fact s b k r w v _ _ (InsertSwap x old new verdict swap) = ToJudge x old new Fits tt verdict
+insert_fact s b k r w v _ _ (InsertSet x y old new sets same) = ToSet x y old new
+insert_fact s b k r w v _ _ (InsertDrop x drops) = ToDrop x
 
-pub insert_one_point : (s b k : ℕ) (r : Row) (w v u : Board) (hand : Hand) (e f : Statement) → (one : InsertStep s b k r w v hand e) → (two : InsertStep s b k r w u hand f) → insert_point one ≡ insert_point two
-insert_one_point s b k r w v u _ _ _ (InsertHand old new one) (InsertHand old' new' two) = hand_one_point s (range_of w b) w v u old new new' one two
-insert_one_point s b k r w v u _ _ _ (InsertHand _ _ (Maps y named reads)) (InsertNoEntry none' reads') = refl
-insert_one_point s b k r w v u _ _ _ (InsertNoEntry none reads) (InsertHand _ _ (Maps y' named' reads')) = refl
-insert_one_point s b k r w v u _ _ _ (InsertHand _ _ (Gone y gone reads)) (InsertCopies x' old' new' stands' added' changes' reads') = refl
-insert_one_point s b k r w v u _ _ _ (InsertCopies x old new stands added changes reads) (InsertHand _ _ (Gone y' gone' reads')) = refl
-insert_one_point s b k r w v u _ _ _ (InsertHand _ _ (Gone y gone reads)) (InsertUnchanged x' t' stands' added' free' reads') = refl
-insert_one_point s b k r w v u _ _ _ (InsertUnchanged x t stands added free reads) (InsertHand _ _ (Gone y' gone' reads')) = refl
-insert_one_point s b k r w v u _ _ _ (InsertHand _ g step) (InsertSwap x old new verdict swap) = absurd (hand_no_swap s (range_of w b) w v x old new g step verdict)
-insert_one_point s b k r w v u _ _ _ (InsertSwap x old new verdict swap) (InsertHand _ g step) = absurd (hand_no_swap s (range_of w b) w u x old new g step verdict)
-insert_one_point s b k r w v u _ _ _ (InsertHand h g step) (InsertSet x y old new sets same) = absurd (hand_before s (range_of w b) w v h g step)
-insert_one_point s b k r w v u _ _ _ (InsertSet x y old new sets same) (InsertHand h g step) = absurd (hand_before s (range_of w b) w u h g step)
-insert_one_point s b k r w v u _ _ _ (InsertHand h g step) (InsertDrop x drops) = absurd (hand_before s (range_of w b) w v h g step)
-insert_one_point s b k r w v u _ _ _ (InsertDrop x drops) (InsertHand h g step) = absurd (hand_before s (range_of w b) w u h g step)
-insert_one_point s b k r w v u _ _ _ (InsertNoEntry none reads) (InsertNoEntry none' reads') = refl
-insert_one_point s b k r w v u _ _ _ (InsertCopies x old new stands added changes reads) (InsertCopies x' old' new' stands' added' changes' reads') = refl
-insert_one_point s b k r w v u _ _ _ (InsertCopies x old new stands added changes reads) (InsertUnchanged x' t' stands' added' free' reads') = refl
-insert_one_point s b k r w v u _ _ _ (InsertUnchanged x t stands added free reads) (InsertCopies x' old' new' stands' added' changes' reads') = refl
-insert_one_point s b k r w v u _ _ _ (InsertUnchanged x t stands added free reads) (InsertUnchanged x' t' stands' added' free' reads') = refl
-insert_one_point s b k r w v u _ _ _ (InsertSwap x old new verdict swap) (InsertSwap x' old' new' verdict' swap') = refl
-insert_one_point s b k r w v u _ _ _ (InsertSet x y old new sets same) (InsertSet x' y' old' new' sets' same') = refl
-insert_one_point s b k r w v u _ _ _ (InsertDrop x drops) (InsertDrop x' drops') = refl
+pub insert_one_point : (s b k : ℕ) (r : Row) (w v u : IndexView) (on_index : OnIndex) (e f : Statement)
+    → (one : InsertStep s b k r w v on_index e) → (two : InsertStep s b k r w u on_index f) → insert_point one ≡ insert_point two
+insert_one_point s b k r w v u on_index e f one two =
+    on_index_once w s (range_of_block w b) on_index _ _ (insert_fact s b k r w v on_index e one) (insert_fact s b k r w u on_index f two)
 
-pub insert_blocked : (s b k p : ℕ) (r : Row) (w v : Board) (x : Spot) (old new : Tuple) (e : Statement) → SwapVerdict w s (range_of w b) x old new (Waits p) → InsertStep s b k r w v (Copied x old new) e → ⊥
-insert_blocked s b k p r w v x old new _ waits (InsertHand _ g step) = hand_no_wait s (range_of w b) p w v x old new g step waits
-insert_blocked s b k p r w v x old new _ waits (InsertSwap _ _ _ verdict swap) = swaps_apart w s (range_of w b) x old new (Waits p) Fits (omega arith) waits verdict
+pub insert_blocked : (s b k p : ℕ) (r : Row) (w v : IndexView) (x : TuplePlace) (old new : IndexTuple) (e : Statement)
+    → SwapVerdict w s (range_of_block w b) x old new (Waits p) → InsertStep s b k r w v (Copied x old new) e → ⊥
+insert_blocked s b k p r w v x old new e waits step = on_index_blocked w s (range_of_block w b) p x old new _ waits (insert_fact s b k r w v _ e step)
 
-growth_one_point : (s range : ℕ) (w v u : Board) (phase e f : Phase) → (one : GrowthStep s range w v phase e) → (two : GrowthStep s range w u phase f) → growth_point one ≡ growth_point two
-growth_one_point s range w v u _ _ _ (Grow grows free meta turns) (Grow grows' free' meta' turns') = refl
-growth_one_point s range w v u _ _ _ (Grow grows free meta turns) (CountLeftOver grows' meta' counts') = absurd (kinds_apart w range range Unstarted Mapping (omega arith) grows grows')
-growth_one_point s range w v u _ _ _ (Grow grows free meta turns) (Flag grows' free' turns') = absurd (kinds_apart w range range Unstarted Regular (omega arith) grows grows')
-growth_one_point s range w v u _ _ _ (Grow grows free meta turns) (EvacuatePut x' y' t' grows' next' named' free' verdict' puts' these') = absurd (kinds_apart w range range Unstarted Emptying (omega arith) grows grows')
-growth_one_point s range w v u _ _ _ (Grow grows free meta turns) (EvacuateSweep x' t' grows' next' unnamed' sweeps') = absurd (kinds_apart w range range Unstarted Emptying (omega arith) grows grows')
-growth_one_point s range w v u _ _ _ (Grow grows free meta turns) (Turn grows' empty' free' meta' turns') = absurd (kinds_apart w range range Unstarted Emptying (omega arith) grows grows')
-growth_one_point s range w v u _ _ _ (CountLeftOver grows meta counts) (Grow grows' free' meta' turns') = absurd (kinds_apart w range range Unstarted Mapping (omega arith) grows' grows)
-growth_one_point s range w v u _ _ _ (CountLeftOver grows meta counts) (CountLeftOver grows' meta' counts') = refl
-growth_one_point s range w v u _ _ _ (CountLeftOver grows meta counts) (Flag grows' free' turns') = absurd (kinds_apart w range range Mapping Regular (omega arith) grows grows')
-growth_one_point s range w v u _ _ _ (CountLeftOver grows meta counts) (EvacuatePut x' y' t' grows' next' named' free' verdict' puts' these') = absurd (kinds_apart w range range Mapping Emptying (omega arith) grows grows')
-growth_one_point s range w v u _ _ _ (CountLeftOver grows meta counts) (EvacuateSweep x' t' grows' next' unnamed' sweeps') = absurd (kinds_apart w range range Mapping Emptying (omega arith) grows grows')
-growth_one_point s range w v u _ _ _ (CountLeftOver grows meta counts) (Turn grows' empty' free' meta' turns') = absurd (kinds_apart w range range Mapping Emptying (omega arith) grows grows')
-growth_one_point s range w v u _ _ _ (Flag grows free turns) (Grow grows' free' meta' turns') = absurd (kinds_apart w range range Unstarted Regular (omega arith) grows' grows)
-growth_one_point s range w v u _ _ _ (Flag grows free turns) (CountLeftOver grows' meta' counts') = absurd (kinds_apart w range range Mapping Regular (omega arith) grows' grows)
-growth_one_point s range w v u _ _ _ (Flag grows free turns) (Flag grows' free' turns') = refl
-growth_one_point s range w v u _ _ _ (Flag grows free turns) (EvacuatePut x' y' t' grows' next' named' free' verdict' puts' these') = absurd (kinds_apart w range range Regular Emptying (omega arith) grows grows')
-growth_one_point s range w v u _ _ _ (Flag grows free turns) (EvacuateSweep x' t' grows' next' unnamed' sweeps') = absurd (kinds_apart w range range Regular Emptying (omega arith) grows grows')
-growth_one_point s range w v u _ _ _ (Flag grows free turns) (Turn grows' empty' free' meta' turns') = absurd (kinds_apart w range range Regular Emptying (omega arith) grows grows')
-growth_one_point s range w v u _ _ _ (EvacuatePut x y t grows next named free verdict puts these) (Grow grows' free' meta' turns') = absurd (kinds_apart w range range Unstarted Emptying (omega arith) grows' grows)
-growth_one_point s range w v u _ _ _ (EvacuatePut x y t grows next named free verdict puts these) (CountLeftOver grows' meta' counts') = absurd (kinds_apart w range range Mapping Emptying (omega arith) grows' grows)
-growth_one_point s range w v u _ _ _ (EvacuatePut x y t grows next named free verdict puts these) (Flag grows' free' turns') = absurd (kinds_apart w range range Regular Emptying (omega arith) grows' grows)
-growth_one_point s range w v u _ _ _ (EvacuatePut x y t grows next named free verdict puts these) (EvacuatePut x' y' t' grows' next' named' free' verdict' puts' these') = refl
-growth_one_point s range w v u _ _ _ (EvacuatePut x y t grows next named free verdict puts these) (EvacuateSweep x' t' grows' next' unnamed' sweeps') = absurd (named_or_not w (next_map_page w) x x' t t' next next' named unnamed')
-growth_one_point s range w v u _ _ _ (EvacuatePut x y t grows next named free verdict puts these) (Turn grows' empty' free' meta' turns') = absurd (empty' x t next)
-growth_one_point s range w v u _ _ _ (EvacuateSweep x t grows next unnamed sweeps) (Grow grows' free' meta' turns') = absurd (kinds_apart w range range Unstarted Emptying (omega arith) grows' grows)
-growth_one_point s range w v u _ _ _ (EvacuateSweep x t grows next unnamed sweeps) (CountLeftOver grows' meta' counts') = absurd (kinds_apart w range range Mapping Emptying (omega arith) grows' grows)
-growth_one_point s range w v u _ _ _ (EvacuateSweep x t grows next unnamed sweeps) (Flag grows' free' turns') = absurd (kinds_apart w range range Regular Emptying (omega arith) grows' grows)
-growth_one_point s range w v u _ _ _ (EvacuateSweep x t grows next unnamed sweeps) (EvacuatePut x' y' t' grows' next' named' free' verdict' puts' these') = absurd (named_or_not w (next_map_page w) x' x t' t next' next named' unnamed)
-growth_one_point s range w v u _ _ _ (EvacuateSweep x t grows next unnamed sweeps) (EvacuateSweep x' t' grows' next' unnamed' sweeps') = refl
-growth_one_point s range w v u _ _ _ (EvacuateSweep x t grows next unnamed sweeps) (Turn grows' empty' free' meta' turns') = absurd (empty' x t next)
-growth_one_point s range w v u _ _ _ (Turn grows empty free meta turns) (Grow grows' free' meta' turns') = absurd (kinds_apart w range range Unstarted Emptying (omega arith) grows' grows)
-growth_one_point s range w v u _ _ _ (Turn grows empty free meta turns) (CountLeftOver grows' meta' counts') = absurd (kinds_apart w range range Mapping Emptying (omega arith) grows' grows)
-growth_one_point s range w v u _ _ _ (Turn grows empty free meta turns) (Flag grows' free' turns') = absurd (kinds_apart w range range Regular Emptying (omega arith) grows' grows)
-growth_one_point s range w v u _ _ _ (Turn grows empty free meta turns) (EvacuatePut x' y' t' grows' next' named' free' verdict' puts' these') = absurd (empty x' t' next')
-growth_one_point s range w v u _ _ _ (Turn grows empty free meta turns) (EvacuateSweep x' t' grows' next' unnamed' sweeps') = absurd (empty x' t' next')
-growth_one_point s range w v u _ _ _ (Turn grows empty free meta turns) (Turn grows' empty' free' meta' turns') = refl
-growth_one_point s range w v u _ _ _ (Count counts) (Count counts') = refl
-growth_one_point s range w v u _ _ _ (EvacuateSet m x y t q sets same) (EvacuateSet m' x' y' t' q' sets' same') = refl
-growth_one_point s range w v u _ _ _ (EvacuateDrop m x drops) (EvacuateDrop m' x' drops') = refl
+-- the points of a page that is emptied for the map
+data EmptyingPoint (w : IndexView) (s : ℕ) : Point → Type 0 where
+  NamedNext : (x y : TuplePlace) (t : IndexTuple) → IsNextTuple w (next_map_page w) x t → w.entry t.range ≡ Some x → IsFree w s x.block
+      → PutVerdict w s t.range (length t.bytes) (Puts y) → EmptyingPoint w s AtPut
+  UnnamedNext : (x : TuplePlace) (t : IndexTuple) → IsNextTuple w (next_map_page w) x t → IsUnnamed w x → IsFree w s (next_map_page w)
+      → EmptyingPoint w s AtDrop
+  NoneNext : ((x : TuplePlace) (t : IndexTuple) → IsNextTuple w (next_map_page w) x t → ⊥) → IsFree w s (next_map_page w) → IsFree w s 0
+      → EmptyingPoint w s AtTurn
 
--- where the map grows from it is too short
-growth_short : (s range : ℕ) (w v : Board) (e : Phase) → GrowthStep s range w v Vacant e → IsPastMap w range
-growth_short s range w v _ (Grow grows free meta turns) = grows.short
-growth_short s range w v _ (CountLeftOver grows meta counts) = grows.short
-growth_short s range w v _ (Flag grows free turns) = grows.short
-growth_short s range w v _ (EvacuatePut x y t grows next named free verdict puts these) = grows.short
-growth_short s range w v _ (EvacuateSweep x t grows next unnamed sweeps) = grows.short
-growth_short s range w v _ (Turn grows empty free meta turns) = grows.short
+emptying_once : (w : IndexView) (s : ℕ) (p q : Point) → EmptyingPoint w s p → EmptyingPoint w s q → p ≡ q
+emptying_once w s _ _ (NamedNext x y t next named free verdict) (NamedNext x' y' t' next' named' free' verdict') = refl
+emptying_once w s _ _ (NamedNext x y t next named free verdict) (UnnamedNext x' t' next' unnamed free') =
+    absurd (named_or_not w (next_map_page w) x x' t t' next next' named unnamed)
+emptying_once w s _ _ (NamedNext x y t next named free verdict) (NoneNext none free' meta) = absurd (none x t next)
+emptying_once w s _ _ (UnnamedNext x t next unnamed free) (NamedNext x' y t' next' named free' verdict) =
+    absurd (named_or_not w (next_map_page w) x' x t' t next' next named unnamed)
+emptying_once w s _ _ (UnnamedNext x t next unnamed free) (UnnamedNext x' t' next' unnamed' free') = refl
+emptying_once w s _ _ (UnnamedNext x t next unnamed free) (NoneNext none free' meta) = absurd (none x t next)
+emptying_once w s _ _ (NoneNext none free meta) (NamedNext x y t next named free' verdict) = absurd (none x t next)
+emptying_once w s _ _ (NoneNext none free meta) (UnnamedNext x t next unnamed free') = absurd (none x t next)
+emptying_once w s _ _ (NoneNext none free meta) (NoneNext none' free' meta') = refl
 
-abbrev IsInGrowth : Phase → Type 0
-IsInGrowth (NotBuilding hand) = ⊥
-IsInGrowth (Placing x) = ⊥
-IsInGrowth (IsAt p hand) = ⊥
-IsInGrowth phase = Unit
+-- the points of the map's growth, by the kind of its next page
+abbrev KindPoint : IndexView → ℕ → PageKind → Point → Type 0
+KindPoint w s Unstarted p = (p ≡ AtGrow) × IsFree w s (next_map_page w) × IsFree w s 0
+KindPoint w s Mapping p = (p ≡ AtMeta) × IsFree w s 0
+KindPoint w s Regular p = (p ≡ AtFlag) × IsFree w s (next_map_page w)
+KindPoint w s Emptying p = EmptyingPoint w s p
 
-growth_in : (s range : ℕ) (w v : Board) (old new : Phase) → GrowthStep s range w v old new → IsInGrowth old
-growth_in s range w v _ _ (Grow grows free meta turns) = tt
-growth_in s range w v _ _ (CountLeftOver grows meta counts) = tt
-growth_in s range w v _ _ (Count counts) = tt
-growth_in s range w v _ _ (Flag grows free turns) = tt
-growth_in s range w v _ _ (EvacuatePut x y t grows next named free verdict puts these) = tt
-growth_in s range w v _ _ (EvacuateSet m x y t u sets same) = tt
-growth_in s range w v _ _ (EvacuateDrop m x drops) = tt
-growth_in s range w v _ _ (EvacuateSweep x t grows next unnamed sweeps) = tt
-growth_in s range w v _ _ (Turn grows empty free meta turns) = tt
+kind_once : (w : IndexView) (s : ℕ) (kind : PageKind) (p q : Point) → KindPoint w s kind p → KindPoint w s kind q → p ≡ q
+kind_once w s Unstarted p q one two = one.0 ∙ sym two.0
+kind_once w s Mapping p q one two = one.0 ∙ sym two.0
+kind_once w s Regular p q one two = one.0 ∙ sym two.0
+kind_once w s Emptying p q one two = emptying_once w s p q one two
 
-pub summarise_one_point : (s range : ℕ) (w v u : Board) (phase : Phase) (e f : Statement) → (one : SummariseStep s range w v phase e) → (two : SummariseStep s range w u phase f) → summarise_point one ≡ summarise_point two
-summarise_one_point s range w v u _ _ _ (GrowMap old new one) (GrowMap old' new' two) = growth_one_point s range w v u old new new' one two
-summarise_one_point s range w v u _ _ _ (GrowMap h g step) (LookMap x named reads) = absurd (growth_in s range w v h g step)
-summarise_one_point s range w v u _ _ _ (LookMap x named reads) (GrowMap h g step) = absurd (growth_in s range w u h g step)
-summarise_one_point s range w v u _ _ _ (GrowMap h g step) (ReadNoEntry none reads) = absurd (growth_in s range w v h g step)
-summarise_one_point s range w v u _ _ _ (ReadNoEntry none reads) (GrowMap h g step) = absurd (growth_in s range w u h g step)
-summarise_one_point s range w v u _ _ _ (GrowMap h g step) (LookGone x gone reads) = absurd (growth_in s range w v h g step)
-summarise_one_point s range w v u _ _ _ (LookGone x gone reads) (GrowMap h g step) = absurd (growth_in s range w u h g step)
-summarise_one_point s range w v u _ _ _ (GrowMap h g step) (IsFinal x t stands final reads) = absurd (growth_in s range w v h g step)
-summarise_one_point s range w v u _ _ _ (IsFinal x t stands final reads) (GrowMap h g step) = absurd (growth_in s range w u h g step)
-summarise_one_point s range w v u _ _ _ (GrowMap h g step) (Found x t stands flag reads) = absurd (growth_in s range w v h g step)
-summarise_one_point s range w v u _ _ _ (Found x t stands flag reads) (GrowMap h g step) = absurd (growth_in s range w u h g step)
-summarise_one_point s range w v u _ _ _ (GrowMap h g step) (DropOld x drops) = absurd (growth_in s range w v h g step)
-summarise_one_point s range w v u _ _ _ (DropOld x drops) (GrowMap h g step) = absurd (growth_in s range w u h g step)
-summarise_one_point s range w v u _ _ _ (GrowMap _ g step) (Put x t of flag size long verdict puts these) = absurd (long (growth_short s range w v g step))
-summarise_one_point s range w v u _ _ _ (Put x t of flag size long verdict puts these) (GrowMap _ g step) = absurd (long (growth_short s range w u g step))
-summarise_one_point s range w v u _ _ _ (GrowMap h g step) (Set x sets none) = absurd (growth_in s range w v h g step)
-summarise_one_point s range w v u _ _ _ (Set x sets none) (GrowMap h g step) = absurd (growth_in s range w u h g step)
-summarise_one_point s range w v u _ _ _ (GrowMap h g step) (Extent extent result is reads) = absurd (growth_in s range w v h g step)
-summarise_one_point s range w v u _ _ _ (Extent extent result is reads) (GrowMap h g step) = absurd (growth_in s range w u h g step)
-summarise_one_point s range w v u _ _ _ (GrowMap h g step) (Pass extent next result wider below more block reads) = absurd (growth_in s range w v h g step)
-summarise_one_point s range w v u _ _ _ (Pass extent next result wider below more block reads) (GrowMap h g step) = absurd (growth_in s range w u h g step)
-summarise_one_point s range w v u _ _ _ (GrowMap h g step) (UniteCopies extent next result x old new all stands united reads) = absurd (growth_in s range w v h g step)
-summarise_one_point s range w v u _ _ _ (UniteCopies extent next result x old new all stands united reads) (GrowMap h g step) = absurd (growth_in s range w u h g step)
-summarise_one_point s range w v u _ _ _ (GrowMap h g step) (SwapFinal p x old new verdict swap) = absurd (growth_in s range w v h g step)
-summarise_one_point s range w v u _ _ _ (SwapFinal p x old new verdict swap) (GrowMap h g step) = absurd (growth_in s range w u h g step)
-summarise_one_point s range w v u _ _ _ (GrowMap h g step) (SetFinal p x y old new sets same) = absurd (growth_in s range w v h g step)
-summarise_one_point s range w v u _ _ _ (SetFinal p x y old new sets same) (GrowMap h g step) = absurd (growth_in s range w u h g step)
-summarise_one_point s range w v u _ _ _ (GrowMap h g step) (Unite extent next result old new all step') = absurd (growth_in s range w v h g step)
-summarise_one_point s range w v u _ _ _ (Unite extent next result old new all step') (GrowMap h g step) = absurd (growth_in s range w u h g step)
-summarise_one_point s range w v u _ _ _ (LookMap x named reads) (LookMap x' named' reads') = refl
-summarise_one_point s range w v u _ _ _ (LookMap x named reads) (ReadNoEntry none' reads') = refl
-summarise_one_point s range w v u _ _ _ (ReadNoEntry none reads) (LookMap x' named' reads') = refl
-summarise_one_point s range w v u _ _ _ (ReadNoEntry none reads) (ReadNoEntry none' reads') = refl
-summarise_one_point s range w v u _ _ _ (LookGone x gone reads) (LookGone x' gone' reads') = refl
-summarise_one_point s range w v u _ _ _ (LookGone x gone reads) (IsFinal x' t' stands' final' reads') = refl
-summarise_one_point s range w v u _ _ _ (LookGone x gone reads) (Found x' t' stands' flag' reads') = refl
-summarise_one_point s range w v u _ _ _ (IsFinal x t stands final reads) (LookGone x' gone' reads') = refl
-summarise_one_point s range w v u _ _ _ (IsFinal x t stands final reads) (IsFinal x' t' stands' final' reads') = refl
-summarise_one_point s range w v u _ _ _ (IsFinal x t stands final reads) (Found x' t' stands' flag' reads') = refl
-summarise_one_point s range w v u _ _ _ (Found x t stands flag reads) (LookGone x' gone' reads') = refl
-summarise_one_point s range w v u _ _ _ (Found x t stands flag reads) (IsFinal x' t' stands' final' reads') = refl
-summarise_one_point s range w v u _ _ _ (Found x t stands flag reads) (Found x' t' stands' flag' reads') = refl
-summarise_one_point s range w v u _ _ _ (DropOld x drops) (DropOld x' drops') = refl
-summarise_one_point s range w v u _ _ _ (Put x t of flag size long verdict puts these) (Put x' t' of' flag' size' long' verdict' puts' these') = refl
-summarise_one_point s range w v u _ _ _ (Set x sets none) (Set x' sets' none') = refl
-summarise_one_point s range w v u _ _ _ (Extent extent result is reads) (Extent extent' result' is' reads') = refl
-summarise_one_point s range w v u _ _ _ (Pass extent next result wider below more block reads) (Pass extent' next' result' wider' below' more' block' reads') = refl
-summarise_one_point s range w v u _ _ _ (UniteCopies extent next result x old new all stands united reads) (UniteCopies extent' next' result' x' old' new' all' stands' united' reads') = refl
-summarise_one_point s range w v u _ _ _ (SwapFinal p x old new verdict swap) (SwapFinal p' x' old' new' verdict' swap') = refl
-summarise_one_point s range w v u _ _ _ (SetFinal p x y old new sets same) (SetFinal p' x' y' old' new' sets' same') = refl
-summarise_one_point s range w v u _ _ _ (Unite extent next result old new all one) (Unite extent' next' result' old' new' all' two) = hand_one_point s range w v u old new new' one two
-summarise_one_point s range w v u _ _ _ (Pass extent next result wider below more block reads) (Unite extent' next' result' old new all step) = absurd (apart next extent below all)
-summarise_one_point s range w v u _ _ _ (Unite extent' next' result' old new all step) (Pass extent next result wider below more block reads) = absurd (apart next extent below all)
-summarise_one_point s range w v u _ _ _ (Unite extent next result _ _ all (Gone y gone reads)) (UniteCopies extent' next' result' x' old' new' all' stands' united' reads') = refl
-summarise_one_point s range w v u _ _ _ (UniteCopies extent next result x old new all stands united reads) (Unite extent' next' result' _ _ all' (Gone y' gone' reads')) = refl
-summarise_one_point s range w v u _ _ _ (Unite extent next result _ g all step) (SwapFinal p x old new verdict swap) = absurd (hand_no_swap s range w v x old new g step verdict)
-summarise_one_point s range w v u _ _ _ (SwapFinal p x old new verdict swap) (Unite extent next result _ g all step) = absurd (hand_no_swap s range w u x old new g step verdict)
-summarise_one_point s range w v u _ _ _ (Unite extent next result h g all step) (SetFinal p x y old new sets same) = absurd (hand_before s range w v h g step)
-summarise_one_point s range w v u _ _ _ (SetFinal p x y old new sets same) (Unite extent next result h g all step) = absurd (hand_before s range w u h g step)
+-- the points of a summariser that read that the map has no entry
+data VacantPoint (w : IndexView) (s range : ℕ) : Point → Type 0 where
+  MapSuffices : (x : TuplePlace) → (IsPastMap w range → ⊥) → PutVerdict w s range w.pages.placeholder (Puts x) → VacantPoint w s range AtPut
+  MapGrows : (kind : PageKind) (p : Point) → Grows w range kind → KindPoint w s kind p → VacantPoint w s range p
 
-pub desummarise_one_point : (s range : ℕ) (w v u : Board) (phase : Phase) (e f : Statement) → (one : DesummariseStep s range w v phase e) → (two : DesummariseStep s range w u phase f) → desummarise_point one ≡ desummarise_point two
-desummarise_one_point s range w v u _ _ _ (ClearMap x named reads) (ClearMap x' named' reads') = refl
-desummarise_one_point s range w v u _ _ _ (ClearMap x named reads) (ClearNone none' reads') = refl
-desummarise_one_point s range w v u _ _ _ (ClearNone none reads) (ClearMap x' named' reads') = refl
-desummarise_one_point s range w v u _ _ _ (ClearNone none reads) (ClearNone none' reads') = refl
-desummarise_one_point s range w v u _ _ _ (Clear x verdict clears these) (Clear x' verdict' clears' these') = refl
-desummarise_one_point s range w v u _ _ _ (Clear x verdict clears these) (ClearAgain x' verdict' reads') = absurd (clears_apart w s range x Differs Fits (omega arith) verdict' verdict)
-desummarise_one_point s range w v u _ _ _ (ClearAgain x verdict reads) (Clear x' verdict' clears' these') = absurd (clears_apart w s range x Differs Fits (omega arith) verdict verdict')
-desummarise_one_point s range w v u _ _ _ (ClearAgain x verdict reads) (ClearAgain x' verdict' reads') = refl
-desummarise_one_point s range w v u _ _ _ (DropCleared x drops) (DropCleared x' drops') = refl
+vacant_once : (w : IndexView) (s range : ℕ) (p q : Point) → VacantPoint w s range p → VacantPoint w s range q → p ≡ q
+vacant_once w s range _ _ (MapSuffices x long verdict) (MapSuffices x' long' verdict') = refl
+vacant_once w s range _ _ (MapSuffices x long verdict) (MapGrows kind q grows at) = absurd (long grows.short)
+vacant_once w s range _ _ (MapGrows kind p grows at) (MapSuffices x long verdict) = absurd (long grows.short)
+vacant_once w s range _ _ (MapGrows kind p grows at) (MapGrows kind' q grows' at') =
+    kind_once w s kind p q at (subst (λ l. KindPoint w s l q) (sym grows'.is ∙ grows.is) at')
 
-pub desummarise_blocked : (s range p : ℕ) (w v : Board) (x : Spot) (e : Statement) → ClearVerdict w s range x (Waits p) → DesummariseStep s range w v (NotBuilding (Held x)) e → ⊥
-desummarise_blocked s range p w v x _ waits (Clear _ verdict clears these) = clears_apart w s range x (Waits p) Fits (omega arith) waits verdict
-desummarise_blocked s range p w v x _ waits (ClearAgain _ verdict reads) = clears_apart w s range x (Waits p) Differs (omega arith) waits verdict
+-- all blocks are passed where a summariser goes on to the map
+abbrev IsUniting : OnIndex → Progress → Type 0
+IsUniting Empty ExtentUnread = ⊥
+IsUniting Empty (Passing extent next result) = next ≡ extent
+IsUniting on_index progress = Unit
 
--- a step of the map's growth isn't blocked
-growth_blocked : (s range : ℕ) (w v : Board) (p : ℕ) (e : Phase) → IsPhaseWaiting w s range Vacant p → GrowthStep s range w v Vacant e → ⊥
-growth_blocked s range w v p e (PlaceWaits q long verdict) step = long (growth_short s range w v e step)
-growth_blocked s range w v _ _ (GrowWaits q grows' locked) (Grow grows free meta turns) = both_free w s (next_map_page w) 0 q free meta locked
-growth_blocked s range w v _ _ (GrowWaits q grows' locked) (CountLeftOver grows meta counts) = kinds_apart w range range Unstarted Mapping (omega arith) grows' grows
-growth_blocked s range w v _ _ (GrowWaits q grows' locked) (Flag grows free turns) = kinds_apart w range range Unstarted Regular (omega arith) grows' grows
-growth_blocked s range w v _ _ (GrowWaits q grows' locked) (EvacuatePut x y t grows next named free verdict puts these) = kinds_apart w range range Unstarted Emptying (omega arith) grows' grows
-growth_blocked s range w v _ _ (GrowWaits q grows' locked) (EvacuateSweep x t grows next unnamed sweeps) = kinds_apart w range range Unstarted Emptying (omega arith) grows' grows
-growth_blocked s range w v _ _ (GrowWaits q grows' locked) (Turn grows empty free meta turns) = kinds_apart w range range Unstarted Emptying (omega arith) grows' grows
-growth_blocked s range w v _ _ (CountWaits grows' locked) (Grow grows free meta turns) = kinds_apart w range range Unstarted Mapping (omega arith) grows grows'
-growth_blocked s range w v _ _ (CountWaits grows' locked) (CountLeftOver grows meta counts) = free_not_locked w s 0 meta locked
-growth_blocked s range w v _ _ (CountWaits grows' locked) (Flag grows free turns) = kinds_apart w range range Mapping Regular (omega arith) grows' grows
-growth_blocked s range w v _ _ (CountWaits grows' locked) (EvacuatePut x y t grows next named free verdict puts these) = kinds_apart w range range Mapping Emptying (omega arith) grows' grows
-growth_blocked s range w v _ _ (CountWaits grows' locked) (EvacuateSweep x t grows next unnamed sweeps) = kinds_apart w range range Mapping Emptying (omega arith) grows' grows
-growth_blocked s range w v _ _ (CountWaits grows' locked) (Turn grows empty free meta turns) = kinds_apart w range range Mapping Emptying (omega arith) grows' grows
-growth_blocked s range w v _ _ (FlagWaits grows' locked) (Grow grows free meta turns) = kinds_apart w range range Unstarted Regular (omega arith) grows grows'
-growth_blocked s range w v _ _ (FlagWaits grows' locked) (CountLeftOver grows meta counts) = kinds_apart w range range Mapping Regular (omega arith) grows grows'
-growth_blocked s range w v _ _ (FlagWaits grows' locked) (Flag grows free turns) = free_not_locked w s (next_map_page w) free locked
-growth_blocked s range w v _ _ (FlagWaits grows' locked) (EvacuatePut x y t grows next named free verdict puts these) = kinds_apart w range range Regular Emptying (omega arith) grows' grows
-growth_blocked s range w v _ _ (FlagWaits grows' locked) (EvacuateSweep x t grows next unnamed sweeps) = kinds_apart w range range Regular Emptying (omega arith) grows' grows
-growth_blocked s range w v _ _ (FlagWaits grows' locked) (Turn grows empty free meta turns) = kinds_apart w range range Regular Emptying (omega arith) grows' grows
-growth_blocked s range w v _ _ (EvacuateWaits x' t' grows' next' locked) (Grow grows free meta turns) = kinds_apart w range range Unstarted Emptying (omega arith) grows grows'
-growth_blocked s range w v _ _ (EvacuateWaits x' t' grows' next' locked) (CountLeftOver grows meta counts) = kinds_apart w range range Mapping Emptying (omega arith) grows grows'
-growth_blocked s range w v _ _ (EvacuateWaits x' t' grows' next' locked) (Flag grows free turns) = kinds_apart w range range Regular Emptying (omega arith) grows grows'
-growth_blocked s range w v _ _ (EvacuateWaits x' t' grows' next' locked) (EvacuatePut x y t grows next named free verdict puts these) = free_not_locked w s (next_map_page w) (subst (IsFree w s) next.on free) locked
-growth_blocked s range w v _ _ (EvacuateWaits x' t' grows' next' locked) (EvacuateSweep x t grows next unnamed sweeps) = free_not_locked w s (next_map_page w) sweeps.free locked
-growth_blocked s range w v _ _ (EvacuateWaits x' t' grows' next' locked) (Turn grows empty free meta turns) = empty x' t' next'
-growth_blocked s range w v _ _ (EvacuatePutWaits q x' t' grows' next' named' free' verdict') (Grow grows free meta turns) = kinds_apart w range range Unstarted Emptying (omega arith) grows grows'
-growth_blocked s range w v _ _ (EvacuatePutWaits q x' t' grows' next' named' free' verdict') (CountLeftOver grows meta counts) = kinds_apart w range range Mapping Emptying (omega arith) grows grows'
-growth_blocked s range w v _ _ (EvacuatePutWaits q x' t' grows' next' named' free' verdict') (Flag grows free turns) = kinds_apart w range range Regular Emptying (omega arith) grows grows'
-growth_blocked s range w v _ _ (EvacuatePutWaits q x' t' grows' next' named' free' verdict') (EvacuatePut x y t grows next named free verdict puts these) = puts_apart w s t.range (length t.bytes) (Waits q) (Puts y) (omega arith) (subst (λ (z : Tuple). PutVerdict w s z.range (length z.bytes) (Waits q)) (sym (next_once w (next_map_page w) x x' t t' next next').1) verdict') verdict
-growth_blocked s range w v _ _ (EvacuatePutWaits q x' t' grows' next' named' free' verdict') (EvacuateSweep x t grows next unnamed sweeps) = named_or_not w (next_map_page w) x' x t' t next' next named' unnamed
-growth_blocked s range w v _ _ (EvacuatePutWaits q x' t' grows' next' named' free' verdict') (Turn grows empty free meta turns) = empty x' t' next'
-growth_blocked s range w v _ _ (TurnWaits q grows' empty' locked) (Grow grows free meta turns) = kinds_apart w range range Unstarted Emptying (omega arith) grows grows'
-growth_blocked s range w v _ _ (TurnWaits q grows' empty' locked) (CountLeftOver grows meta counts) = kinds_apart w range range Mapping Emptying (omega arith) grows grows'
-growth_blocked s range w v _ _ (TurnWaits q grows' empty' locked) (Flag grows free turns) = kinds_apart w range range Regular Emptying (omega arith) grows grows'
-growth_blocked s range w v _ _ (TurnWaits q grows' empty' locked) (EvacuatePut x y t grows next named free verdict puts these) = empty' x t next
-growth_blocked s range w v _ _ (TurnWaits q grows' empty' locked) (EvacuateSweep x t grows next unnamed sweeps) = empty' x t next
-growth_blocked s range w v _ _ (TurnWaits q grows' empty' locked) (Turn grows empty free meta turns) = both_free w s (next_map_page w) 0 q free meta locked
+-- the points of a summariser, by its phase
+data SummarisePoint (w : IndexView) (s range : ℕ) : Phase → Point → Type 0 where
+  LooksAtMap : SummarisePoint w s range (NotBuilding Empty) AtMap
+  LooksAtTuple : (x : TuplePlace) → SummarisePoint w s range (NotBuilding (Held x)) AtTuple
+  DropsOld : (x : TuplePlace) → SummarisePoint w s range (NotBuilding (Dropping x)) AtDrop
+  WantsEntry : (p : Point) → VacantPoint w s range p → SummarisePoint w s range Vacant p
+  ToCount : SummarisePoint w s range Growing AtMeta
+  MovesOther : (m : ℕ) (on_index : OnIndex) (p : Point) → OnIndexPoint w s m on_index p → SummarisePoint w s range (Evacuating m on_index) p
+  SetsPlaceholder : (x : TuplePlace) → SummarisePoint w s range (Placing x) AtSet
+  ToExtent : SummarisePoint w s range (IsAt ExtentUnread Empty) AtExtent
+  PassesNext : (extent next : ℕ) (result : Row → Bool) → next < extent → SummarisePoint w s range (IsAt (Passing extent next result) Empty) AtPass
+  MakesFinal : (progress : Progress) (on_index : OnIndex) (p : Point) → IsUniting on_index progress → OnIndexPoint w s range on_index p
+      → SummarisePoint w s range (IsAt progress on_index) p
 
-pub summarise_blocked : (s range : ℕ) (w v : Board) (p : ℕ) (phase : Phase) (e : Statement) → IsPhaseWaiting w s range phase p → SummariseStep s range w v phase e → ⊥
-summarise_blocked s range w v p _ _ (FinalWaits _ _ x old new waits) (Unite extent next result _ g all step) = hand_no_wait s range p w v x old new g step waits
-summarise_blocked s range w v p _ _ (FinalWaits _ _ x old new waits) (SwapFinal _ _ _ _ verdict swap) = swaps_apart w s range x old new (Waits p) Fits (omega arith) waits verdict
-summarise_blocked s range w v p _ _ (FinalWaits _ _ x old new waits) (GrowMap h g step) = growth_in s range w v h g step
-summarise_blocked s range w v _ _ _ (GrowWaits q grows' locked) (GrowMap _ g step) = growth_blocked s range w v _ g (GrowWaits q grows' locked) step
-summarise_blocked s range w v _ _ _ (GrowWaits q grows' locked) (Put x t of flag size long verdict puts these) = long grows'.short
-summarise_blocked s range w v _ _ _ (CountWaits grows' locked) (GrowMap _ g step) = growth_blocked s range w v _ g (CountWaits grows' locked) step
-summarise_blocked s range w v _ _ _ (CountWaits grows' locked) (Put x t of flag size long verdict puts these) = long grows'.short
-summarise_blocked s range w v _ _ _ (FlagWaits grows' locked) (GrowMap _ g step) = growth_blocked s range w v _ g (FlagWaits grows' locked) step
-summarise_blocked s range w v _ _ _ (FlagWaits grows' locked) (Put x t of flag size long verdict puts these) = long grows'.short
-summarise_blocked s range w v _ _ _ (EvacuateWaits x' t' grows' next' locked) (GrowMap _ g step) = growth_blocked s range w v _ g (EvacuateWaits x' t' grows' next' locked) step
-summarise_blocked s range w v _ _ _ (EvacuateWaits x' t' grows' next' locked) (Put x t of flag size long verdict puts these) = long grows'.short
-summarise_blocked s range w v _ _ _ (EvacuatePutWaits q x' t' grows' next' named' free' verdict') (GrowMap _ g step) = growth_blocked s range w v _ g (EvacuatePutWaits q x' t' grows' next' named' free' verdict') step
-summarise_blocked s range w v _ _ _ (EvacuatePutWaits q x' t' grows' next' named' free' verdict') (Put x t of flag size long verdict puts these) = long grows'.short
-summarise_blocked s range w v _ _ _ (TurnWaits q grows' empty' locked) (GrowMap _ g step) = growth_blocked s range w v _ g (TurnWaits q grows' empty' locked) step
-summarise_blocked s range w v _ _ _ (TurnWaits q grows' empty' locked) (Put x t of flag size long verdict puts these) = long grows'.short
-summarise_blocked s range w v _ _ _ (PlaceWaits q long' verdict') (GrowMap _ g step) = growth_blocked s range w v _ g (PlaceWaits q long' verdict') step
-summarise_blocked s range w v _ _ _ (PlaceWaits q long' verdict') (Put x t of flag size long verdict puts these) = puts_apart w s range w.pages.placeholder (Waits q) (Puts x) (omega arith) verdict' verdict
+passed : (next extent : ℕ) → next < extent → next ≡ extent → ⊥
+passed next extent below all = omega arith
+
+summarise_once : (w : IndexView) (s range : ℕ) (phase : Phase) (p q : Point) → SummarisePoint w s range phase p → SummarisePoint w s range phase q → p ≡ q
+summarise_once w s range _ _ _ LooksAtMap LooksAtMap = refl
+summarise_once w s range _ _ _ (LooksAtTuple x) (LooksAtTuple x') = refl
+summarise_once w s range _ _ _ (DropsOld x) (DropsOld x') = refl
+summarise_once w s range _ _ _ (WantsEntry p one) (WantsEntry q two) = vacant_once w s range p q one two
+summarise_once w s range _ _ _ ToCount ToCount = refl
+summarise_once w s range _ _ _ (MovesOther m on_index p one) (MovesOther m' on_index' q two) = on_index_once w s m on_index p q one two
+summarise_once w s range _ _ _ (SetsPlaceholder x) (SetsPlaceholder x') = refl
+summarise_once w s range _ _ _ ToExtent ToExtent = refl
+summarise_once w s range _ _ _ ToExtent (MakesFinal _ _ q none two) = absurd none
+summarise_once w s range _ _ _ (PassesNext extent next result below) (PassesNext extent' next' result' below') = refl
+summarise_once w s range _ _ _ (PassesNext extent next result below) (MakesFinal _ _ q all two) = absurd (passed next extent below all)
+summarise_once w s range _ _ _ (MakesFinal _ _ p none one) ToExtent = absurd none
+summarise_once w s range _ _ _ (MakesFinal _ _ p all one) (PassesNext extent next result below) = absurd (passed next extent below all)
+summarise_once w s range _ _ _ (MakesFinal progress on_index p all one) (MakesFinal progress' on_index' q all' two) =
+    on_index_once w s range on_index p q one two
+
+growth_fact : (s range : ℕ) (w v : IndexView) (old new : Phase) (step : GrowthStep s range w v old new) → SummarisePoint w s range old (growth_point step)
+growth_fact s range w v _ _ (Grow grows free meta turns) = WantsEntry AtGrow (MapGrows Unstarted AtGrow grows (refl, free, meta))
+growth_fact s range w v _ _ (CountLeftOver grows meta counts) = WantsEntry AtMeta (MapGrows Mapping AtMeta grows (refl, meta))
+growth_fact s range w v _ _ (Count counts) = ToCount
+growth_fact s range w v _ _ (Flag grows free turns) = WantsEntry AtFlag (MapGrows Regular AtFlag grows (refl, free))
+growth_fact s range w v _ _ (EvacuatePut x y t grows next named free verdict puts these) =
+    WantsEntry AtPut (MapGrows Emptying AtPut grows (NamedNext x y t next named free verdict))
+growth_fact s range w v _ _ (EvacuateSet m x y t u sets same) = MovesOther m (Moving x y t u) AtSet (ToSet x y t u)
+growth_fact s range w v _ _ (EvacuateDrop m x drops) = MovesOther m (Dropping x) AtDrop (ToDrop x)
+growth_fact s range w v _ _ (EvacuateSweep x t grows next unnamed sweeps) =
+    WantsEntry AtDrop (MapGrows Emptying AtDrop grows (UnnamedNext x t next unnamed sweeps.free))
+growth_fact s range w v _ _ (Turn grows empty free meta turns) = WantsEntry AtTurn (MapGrows Emptying AtTurn grows (NoneNext empty free meta))
+
+uniting : (on_index : OnIndex) (extent next : ℕ) (result : Row → Bool) → next ≡ extent → IsUniting on_index (Passing extent next result)
+uniting Empty extent next result all = all
+uniting (Held x) extent next result all = tt
+uniting (Copied x old new) extent next result all = tt
+uniting (Moving x y old new) extent next result all = tt
+uniting (Dropping x) extent next result all = tt
+
+summarise_fact : (s range : ℕ) (w v : IndexView) (phase : Phase) (e : Statement) (step : SummariseStep s range w v phase e)
+    → SummarisePoint w s range phase (summarise_point step)
+summarise_fact s range w v _ _ (LookMap x named reads) = LooksAtMap
+summarise_fact s range w v _ _ (LookGone x gone reads) = LooksAtTuple x
+summarise_fact s range w v _ _ (IsFinal x t stands final reads) = LooksAtTuple x
+summarise_fact s range w v _ _ (Found x t stands flag reads) = LooksAtTuple x
+summarise_fact s range w v _ _ (ReadNoEntry none reads) = LooksAtMap
+summarise_fact s range w v _ _ (GrowMap old new step) = growth_fact s range w v old new step
+summarise_fact s range w v _ _ (Put x t of flag size long verdict puts these) = WantsEntry AtPut (MapSuffices x long verdict)
+summarise_fact s range w v _ _ (Set x sets none) = SetsPlaceholder x
+summarise_fact s range w v _ _ (Extent extent result is reads) = ToExtent
+summarise_fact s range w v _ _ (Pass extent next result wider below more block reads) = PassesNext extent next result below
+summarise_fact s range w v _ _ (Unite extent next result old new all step) =
+    MakesFinal (Passing extent next result) old (on_index_point step) (uniting old extent next result all) (on_index_fact s range w v old new step)
+summarise_fact s range w v _ _ (UniteCopies extent next result x old new all stands united reads) =
+    MakesFinal (Passing extent next result) (Held x) AtCopy tt (ToCopy x)
+summarise_fact s range w v _ _ (SwapFinal p x old new verdict swap) = MakesFinal p (Copied x old new) AtSwap tt (ToJudge x old new Fits tt verdict)
+summarise_fact s range w v _ _ (SetFinal p x y old new sets same) = MakesFinal p (Moving x y old new) AtSet tt (ToSet x y old new)
+summarise_fact s range w v _ _ (DropOld x drops) = DropsOld x
+
+pub summarise_one_point : (s range : ℕ) (w v u : IndexView) (phase : Phase) (e f : Statement)
+    → (one : SummariseStep s range w v phase e) → (two : SummariseStep s range w u phase f) → summarise_point one ≡ summarise_point two
+summarise_one_point s range w v u phase e f one two =
+    summarise_once w s range phase _ _ (summarise_fact s range w v phase e one) (summarise_fact s range w u phase f two)
+
+-- a put that waits doesn't go
+no_put : (w : IndexView) (s range need q : ℕ) (y : TuplePlace) → PutVerdict w s range need (Waits q) → PutVerdict w s range need (Puts y) → ⊥
+no_put w s range need q y waits goes = subst IsUnblocked (put_once w s range need (Puts y) (Waits q) goes waits) tt
+
+module _ (w : IndexView) (s range : ℕ) where
+  -- where the map may grow onto a page of this kind, the facts are those of the kind
+  kind_at : (kind : PageKind) (p : Point) → Grows w range kind → SummarisePoint w s range Vacant p → KindPoint w s kind p
+  kind_at kind _ grows (WantsEntry p (MapSuffices x long verdict)) = absurd (long grows.short)
+  kind_at kind _ grows (WantsEntry p (MapGrows kind' _ grows' at)) = subst (λ l. KindPoint w s l p) (sym grows'.is ∙ grows.is) at
+
+  place_waits : (q : ℕ) (p : Point) → (IsPastMap w range → ⊥) → PutVerdict w s range w.pages.placeholder (Waits q) → SummarisePoint w s range Vacant p → ⊥
+  place_waits q _ long waits (WantsEntry p (MapSuffices x long' verdict)) = no_put w s range w.pages.placeholder q x waits verdict
+  place_waits q _ long waits (WantsEntry p (MapGrows kind _ grows at)) = long grows.short
+
+  put_waits : (q : ℕ) (x : TuplePlace) (t : IndexTuple) (p : Point) → IsNextTuple w (next_map_page w) x t → w.entry t.range ≡ Some x
+      → PutVerdict w s t.range (length t.bytes) (Waits q) → EmptyingPoint w s p → ⊥
+  put_waits q x t _ next named waits (NamedNext x' y t' next' named' free verdict) =
+      let same : t ≡ t' = (next_once w (next_map_page w) x x' t t' next next').1 in
+      no_put w s t'.range (length t'.bytes) q y (subst (λ (z : IndexTuple). PutVerdict w s z.range (length z.bytes) (Waits q)) same waits) verdict
+  put_waits q x t _ next named waits (UnnamedNext x' t' next' unnamed free) = named_or_not w (next_map_page w) x x' t t' next next' named unnamed
+  put_waits q x t _ next named waits (NoneNext none free meta) = none x t next
+
+  lock_waits : (x : TuplePlace) (t : IndexTuple) (p : Point) → IsNextTuple w (next_map_page w) x t → (IsFree w s (next_map_page w) → ⊥) → EmptyingPoint w s p
+      → ⊥
+  lock_waits x t _ next locked (NamedNext x' y t' next' named free verdict) = locked (subst (IsFree w s) next'.on free)
+  lock_waits x t _ next locked (UnnamedNext x' t' next' unnamed free) = locked free
+  lock_waits x t _ next locked (NoneNext none free meta) = none x t next
+
+  turn_waits : (p : Point) → ((x : TuplePlace) (t : IndexTuple) → IsNextTuple w (next_map_page w) x t → ⊥)
+      → (IsFree w s (next_map_page w) → IsFree w s 0 → ⊥) → EmptyingPoint w s p → ⊥
+  turn_waits _ none locked (NamedNext x y t next named free verdict) = none x t next
+  turn_waits _ none locked (UnnamedNext x t next unnamed free) = none x t next
+  turn_waits _ none locked (NoneNext none' free meta) = locked free meta
+
+  phase_blocked : (q : ℕ) (phase : Phase) (p : Point) → IsPhaseWaiting w s range phase q → SummarisePoint w s range phase p → ⊥
+  phase_blocked _ _ p (FinalWaits q _ x old new waits) (MakesFinal _ _ _ all at) = on_index_blocked w s range q x old new p waits at
+  phase_blocked _ _ p (PlaceWaits q long waits) at = place_waits q p long waits at
+  phase_blocked _ _ p (GrowWaits q grows locked) at =
+      let free = kind_at Unstarted p grows at in both_free w s (next_map_page w) 0 q free.1 free.2 locked
+  phase_blocked _ _ p (CountWaits grows locked) at = free_not_locked w s 0 (kind_at Mapping p grows at).1 locked
+  phase_blocked _ _ p (FlagWaits grows locked) at = free_not_locked w s (next_map_page w) (kind_at Regular p grows at).1 locked
+  phase_blocked _ _ p (EvacuateWaits x t grows next locked) at =
+      lock_waits x t p next (λ free. free_not_locked w s (next_map_page w) free locked) (kind_at Emptying p grows at)
+  phase_blocked _ _ p (EvacuatePutWaits q x t grows next named free waits) at = put_waits q x t p next named waits (kind_at Emptying p grows at)
+  phase_blocked _ _ p (TurnWaits q grows none locked) at =
+      turn_waits p none (λ free meta. both_free w s (next_map_page w) 0 q free meta locked) (kind_at Emptying p grows at)
+
+pub summarise_blocked : (s range : ℕ) (w v : IndexView) (p : ℕ) (phase : Phase) (e : Statement) → IsPhaseWaiting w s range phase p
+    → SummariseStep s range w v phase e → ⊥
+summarise_blocked s range w v p phase e waits step = phase_blocked w s range p phase _ waits (summarise_fact s range w v phase e step)
+
+-- the points of a desummarise, by its phase
+data DesummarisePoint (w : IndexView) (s range : ℕ) : Phase → Point → Type 0 where
+  ToEntry : DesummarisePoint w s range (NotBuilding Empty) AtMap
+  ToClear : (x : TuplePlace) (verdict : Verdict) → IsUnblocked verdict → ClearVerdict w s range x verdict
+      → DesummarisePoint w s range (NotBuilding (Held x)) (clear_point verdict)
+  ToDropCleared : (x : TuplePlace) → DesummarisePoint w s range (NotBuilding (Dropping x)) AtDrop
+
+desummarise_once : (w : IndexView) (s range : ℕ) (phase : Phase) (p q : Point) → DesummarisePoint w s range phase p → DesummarisePoint w s range phase q → p ≡ q
+desummarise_once w s range _ _ _ ToEntry ToEntry = refl
+desummarise_once w s range _ _ _ (ToClear x p free one) (ToClear x' q free' two) = ap clear_point (clear_once w s range x p q one two)
+desummarise_once w s range _ _ _ (ToDropCleared x) (ToDropCleared x') = refl
+
+desummarise_fact : (s range : ℕ) (w v : IndexView) (phase : Phase) (e : Statement) (step : DesummariseStep s range w v phase e)
+    → DesummarisePoint w s range phase (desummarise_point step)
+desummarise_fact s range w v _ _ (ClearMap x named reads) = ToEntry
+desummarise_fact s range w v _ _ (ClearNone none reads) = ToEntry
+desummarise_fact s range w v _ _ (Clear x verdict clears these) = ToClear x Fits tt verdict
+desummarise_fact s range w v _ _ (ClearAgain x verdict reads) = ToClear x Differs tt verdict
+desummarise_fact s range w v _ _ (DropCleared x drops) = ToDropCleared x
+
+pub desummarise_one_point : (s range : ℕ) (w v u : IndexView) (phase : Phase) (e f : Statement)
+    → (one : DesummariseStep s range w v phase e) → (two : DesummariseStep s range w u phase f) → desummarise_point one ≡ desummarise_point two
+desummarise_one_point s range w v u phase e f one two =
+    desummarise_once w s range phase _ _ (desummarise_fact s range w v phase e one) (desummarise_fact s range w u phase f two)
+
+desummarise_unblocked : (w : IndexView) (s range q : ℕ) (x : TuplePlace) (p : Point)
+    → ClearVerdict w s range x (Waits q) → DesummarisePoint w s range (NotBuilding (Held x)) p → ⊥
+desummarise_unblocked w s range q x _ waits (ToClear _ p free one) = subst IsUnblocked (clear_once w s range x p (Waits q) one waits) free
+
+pub desummarise_blocked : (s range p : ℕ) (w v : IndexView) (x : TuplePlace) (e : Statement)
+    → ClearVerdict w s range x (Waits p) → DesummariseStep s range w v (NotBuilding (Held x)) e → ⊥
+desummarise_blocked s range p w v x e waits step = desummarise_unblocked w s range p x _ waits (desummarise_fact s range w v _ e step)

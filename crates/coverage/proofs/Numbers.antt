@@ -29,7 +29,8 @@ all_or_one (suc n) Has decides = ⊎_elim
     wider i m below = omega arith
 
 -- where a number has a property that can be decided, there is a lowest one
-pub lowest_below : (Has : ℕ → Type 0) → ((i : ℕ) → Has i ⊎ (Has i → ⊥)) → (n : ℕ) → ((i : ℕ) → i < n → Has i → ⊥) ⊎ ((i : ℕ) × Has i × ((j : ℕ) → Has j → i ≤ j))
+pub lowest_below : (Has : ℕ → Type 0) → ((i : ℕ) → Has i ⊎ (Has i → ⊥)) → (n : ℕ)
+    → ((i : ℕ) → i < n → Has i → ⊥) ⊎ ((i : ℕ) × Has i × ((j : ℕ) → Has j → i ≤ j))
 lowest_below Has decides zero = inl (λ i below. absurd (none i below))
   where
     none : (i : ℕ) → i < zero → ⊥

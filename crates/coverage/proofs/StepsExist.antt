@@ -1,15 +1,18 @@
 -- A running insert or desummarise has a step on the index, or waits, or is refused: the steps are there to be made.
-use Rattle.std.proofs.Common.{◌≡◌, ◌≢◌, ◌⊎◌, inl, inr, ⊎_elim, ℕ, Option, Some, None, true, sym, ◌∙◌, ap, subst}
+use Rattle.std.proofs.Common.{◌≡◌, ◌≢◌, ◌⊎◌, inl, inr, ⊎_elim, ℕ, Option, Some, None, true, sym, ◌∙◌, ap, subst, rules}
 use Rattle.std.specs.Prelude.{refl, List, [], ◌∷◌, length}
 use Rattle.std.proofs.lemmas.Option.{same_Some, none-some}
 use Rattle.std.proofs.lemmas.Bool.{cases_eq}
 use Rattle.block_model.specs.declared.row.Row.{Row}
-use Rattle.coverage.specs.Board.{Spot, Tuple, Regular, Board, range_of, map_page_of}
+use Rattle.coverage.specs.IndexView.{TuplePlace, IndexTuple, Regular, IndexView, range_of_block, map_page_of}
 use Rattle.coverage.specs.Changes.{IsFree}
-use Rattle.coverage.specs.Verdicts.{IsFreeSlot, Verdict, Waits, Differs, Fits, Puts, Full, PutVerdict, PutGoes, SwapVerdict, SwapFits, SwapMoves, ClearVerdict, ClearFits}
-use Rattle.coverage.specs.Statements.{Hand, Empty, Held, Copied, Moving, Dropping, NotBuilding, Statement, Idle, Inserting, Maintaining, Holding}
+use Rattle.coverage.specs.Verdicts.{HasFreeSlots, Verdict, Waits, Differs, Fits, Puts, Full, PutVerdict, PutGoes, SwapVerdict, SwapFits, SwapMoves}
+use Rattle.coverage.specs.Verdicts.{ClearVerdict, ClearFits}
+use Rattle.coverage.specs.Statements.{OnIndex, Empty, Held, Copied, Moving, Dropping, NotBuilding, Idle, Inserting, Maintaining, Holding}
 use Rattle.coverage.specs.Knowing.{LocksNone, Knows}
-use Rattle.coverage.specs.Steps.{IsOneOf, Reads, DropsTuple, InsertStep, InsertHand, InsertNoEntry, InsertCopies, InsertSwap, InsertSet, InsertDrop, Maps, Gone, Again, MovePut, DesummariseStep, ClearMap, ClearNone, Clear, ClearAgain, DropCleared}
+use Rattle.coverage.specs.Steps.{IsOneOf, ReadsIndex, DropsTuple, InsertOnIndex, InsertNoEntry, InsertCopies, InsertSwap, InsertSet, InsertDrop}
+use Rattle.coverage.specs.Steps.{Maps, Gone, Again, MovePut, ClearMap, ClearNone, Clear, ClearAgain, DropCleared}
+use Rattle.coverage.specs.Waiting.{IsInsertStuck, IsSwapFree, IsDesummariseStuck, IsClearFree}
 use Rattle.coverage.proofs.Verdicts.{some_swap, some_clear}
 
 -- a value that a decision gives
@@ -24,13 +27,13 @@ pub chosen_no : {A P : Type 0} → (d : P ⊎ (P → ⊥)) → (a b : A) → (P 
 chosen_no (inl p) a b lacks = absurd (lacks p)
 chosen_no (inr lacks') a b lacks = refl
 
-spot_is : (x y : Spot) → (x ≡ y) ⊎ (x ≢ y)
-spot_is x y = ⊎_elim
+place_is : (x y : TuplePlace) → (x ≡ y) ⊎ (x ≢ y)
+place_is x y = ⊎_elim
     (λ (block : x.block ≡ y.block). ⊎_elim
     (λ (slot : x.slot ≡ y.slot). inl (λ i. record { block = block i; slot = slot i }))
-    (λ (other : x.slot ≢ y.slot). inr (λ e. other (ap (λ (z : Spot). z.slot) e)))
+    (λ (other : x.slot ≢ y.slot). inr (λ e. other (ap (λ (z : TuplePlace). z.slot) e)))
     (cases_eq x.slot y.slot))
-    (λ (other : x.block ≢ y.block). inr (λ e. other (ap (λ (z : Spot). z.block) e)))
+    (λ (other : x.block ≢ y.block). inr (λ e. other (ap (λ (z : TuplePlace). z.block) e)))
     (cases_eq x.block y.block)
 
 one_of : (these : List ℕ) (p : ℕ) → IsOneOf these p ⊎ (IsOneOf these p → ⊥)
@@ -44,7 +47,7 @@ one_of (q ∷ more) p = ⊎_elim
     (cases_eq p q)
 
 -- the session's locks become these, and those of others stay
-module _ (w : Board) (s : ℕ) (these : List ℕ) (free : (p : ℕ) → IsOneOf these p → IsFree w s p) where
+module _ (w : IndexView) (s : ℕ) (these : List ℕ) (free : (p : ℕ) → IsOneOf these p → IsFree w s p) where
   abbrev given : (p : ℕ) (o : Option ℕ) → Option ℕ
   given p None = None
   given p (Some n) = chosen (cases_eq n s) None (Some n)
@@ -91,15 +94,15 @@ module _ (w : Board) (s : ℕ) (these : List ℕ) (free : (p : ℕ) → IsOneOf 
       (λ (lacks : IsOneOf these p → ⊥). given_back p n (w.lock p) (sym (chosen_no (one_of these p) (Some s) (given p (w.lock p)) lacks) ∙ is))
       (one_of these p)
 
--- a tuple at a spot, an entry of a range, a kind of a page
-abbrev tuple_with : (Spot → Option Tuple) → Spot → Option Tuple → Spot → Option Tuple
-tuple_with f x o y = chosen (spot_is y x) o (f y)
+-- a tuple at a place, an entry of a range, a kind of a page
+abbrev tuple_with : (TuplePlace → Option IndexTuple) → TuplePlace → Option IndexTuple → TuplePlace → Option IndexTuple
+tuple_with f x o y = chosen (place_is y x) o (f y)
 
-tuple_here : (f : Spot → Option Tuple) (x : Spot) (o : Option Tuple) → tuple_with f x o x ≡ o
-tuple_here f x o = chosen_yes (spot_is x x) o (f x) refl
+tuple_here : (f : TuplePlace → Option IndexTuple) (x : TuplePlace) (o : Option IndexTuple) → tuple_with f x o x ≡ o
+tuple_here f x o = chosen_yes (place_is x x) o (f x) refl
 
-tuple_there : (f : Spot → Option Tuple) (x : Spot) (o : Option Tuple) (y : Spot) → (y ≡ x) ⊎ (tuple_with f x o y ≡ f y)
-tuple_there f x o y = ⊎_elim (λ (is : y ≡ x). inl is) (λ (other : y ≢ x). inr (chosen_no (spot_is y x) o (f y) other)) (spot_is y x)
+tuple_there : (f : TuplePlace → Option IndexTuple) (x : TuplePlace) (o : Option IndexTuple) (y : TuplePlace) → (y ≡ x) ⊎ (tuple_with f x o y ≡ f y)
+tuple_there f x o y = ⊎_elim (λ (is : y ≡ x). inl is) (λ (other : y ≢ x). inr (chosen_no (place_is y x) o (f y) other)) (place_is y x)
 
 abbrev number_with : {A : Type 0} → (ℕ → A) → ℕ → A → ℕ → A
 number_with f n a m = chosen (cases_eq m n) a (f m)
@@ -110,58 +113,34 @@ number_here f n a = chosen_yes (cases_eq n n) a (f n) refl
 number_there : {A : Type 0} → (f : ℕ → A) (n : ℕ) (a : A) (m : ℕ) → (m ≡ n) ⊎ (number_with f n a m ≡ f m)
 number_there f n a m = ⊎_elim (λ (is : m ≡ n). inl is) (λ (other : m ≢ n). inr (chosen_no (cases_eq m n) a (f m) other)) (cases_eq m n)
 
-module _ (s : ℕ) (w : Board) where
+module _ (s : ℕ) (w : IndexView) where
   -- nothing changes, and the session locks no page
-  reads_here : LocksNone w s → Reads s w w
-  reads_here none = record {
-    looks = record {
-      heap = record { pages_per_range = refl; blocks = refl; row = λ c j. refl };
-      map = record { entry = λ m. refl };
-      tuples = record { tuple = λ y. refl };
-      orphans = record { orphan = λ y. refl };
-      right = refl;
-      locks = record { others = λ p n is other. is; taken = λ p n is other. is };
-    };
-    pages = refl;
-    none = none;
-  }
+  reads_here : LocksNone w s → ReadsIndex s w w
+  reads_here none = search rules
 
   free_none : (p : ℕ) → IsOneOf [] p → IsFree w s p
   free_none p among = absurd among
 
-  -- the tuple at a spot goes, and the locks are given
-  abbrev drops_board : Spot → Board
-  drops_board x = record w { tuple = tuple_with w.tuple x None; lock = locks_after w s [] free_none }
+  -- the tuple at a place goes, and the locks are given
+  abbrev drops_view : TuplePlace → IndexView
+  drops_view x = record w { tuple = tuple_with w.tuple x None; lock = locks_after w s [] free_none }
 
-  drops_here : (x : Spot) → DropsTuple s w (drops_board x) x
-  drops_here x = record {
-    now = tuple_here w.tuple x None;
-    others = tuple_there w.tuple x None;
-    page = record { now = refl; kinds = λ p. inr refl; rooms = λ p. inr refl; spots = λ z. inr refl; placeholder = refl; map_pages = refl; limit = refl };
-    heap = record { pages_per_range = refl; blocks = refl; row = λ c j. refl };
-    map = record { entry = λ m. refl };
-    orphans = record { orphan = λ z. refl };
-    right = refl;
-    locks = record { others = after_others w s [] free_none; taken = after_taken w s [] free_none };
-    none = λ p is. after_only w s [] free_none p is;
-  }
+  drops_here : (x : TuplePlace) → DropsTuple s w (drops_view x) x
+  drops_here x = search (rules, tuple_here, tuple_there, after_others, after_taken, after_only)
 
-module _ (s b k : ℕ) (r : Row) (w : Board) where
-  abbrev Stuck : Hand → Type 0
-  Stuck hand = (e : Statement) (v : Board) → InsertStep s b k r w v hand e → ⊥
-
-  empty_steps : LocksNone w s → Stuck Empty → ⊥
-  empty_steps none stuck = by (w.entry (range_of w b)) refl
+module _ (s b k : ℕ) (r : Row) (w : IndexView) where
+  empty_steps : LocksNone w s → IsInsertStuck w s b k r Empty → ⊥
+  empty_steps none stuck = by (w.entry (range_of_block w b)) refl
     where
-      by : (o : Option Spot) → w.entry (range_of w b) ≡ o → ⊥
+      by : (o : Option TuplePlace) → w.entry (range_of_block w b) ≡ o → ⊥
       by None is = stuck Idle w (InsertNoEntry is (reads_here s w none))
-      by (Some x) is = stuck (Inserting b k r (Held x)) w (InsertHand Empty (Held x) (Maps x is (reads_here s w none)))
+      by (Some x) is = stuck (Inserting b k r (Held x)) w (InsertOnIndex Empty (Held x) (Maps x is (reads_here s w none)))
 
-  held_steps : (x : Spot) → LocksNone w s → Stuck (Held x) → ⊥
+  held_steps : (x : TuplePlace) → LocksNone w s → IsInsertStuck w s b k r (Held x) → ⊥
   held_steps x none stuck = by (w.tuple x) refl
     where
       -- the tuple with the row added, in other bytes
-      added : Tuple → Tuple
+      added : IndexTuple → IndexTuple
       added t = record t { bytes = 0 ∷ t.bytes; includes = λ q. true }
 
       longer : (xs : List ℕ) → 0 ∷ xs ≢ xs
@@ -180,134 +159,109 @@ module _ (s b k : ℕ) (r : Row) (w : Board) where
           tail_of [] = []
           tail_of (z ∷ zs) = zs
 
-      by : (o : Option Tuple) → w.tuple x ≡ o → ⊥
-      by None is = stuck (Inserting b k r Empty) w (InsertHand (Held x) Empty (Gone x (λ t here. absurd (none-some _ (sym is ∙ here))) (reads_here s w none)))
+      by : (o : Option IndexTuple) → w.tuple x ≡ o → ⊥
+      by None is =
+          stuck (Inserting b k r Empty) w (InsertOnIndex (Held x) Empty (Gone x (λ t here. absurd (none-some _ (sym is ∙ here))) (reads_here s w none)))
       by (Some t) is = ⊎_elim
-          (λ (of : t.range ≡ range_of w b). stuck (Inserting b k r (Copied x t (added t))) w
-          (InsertCopies x t (added t) (is, of) (record { range = refl; placeholder = refl; wider = λ q has. refl; row = refl }) (inl (λ e. longer t.bytes (ap (λ (u : Tuple). u.bytes) e))) (reads_here s w none)))
-          (λ (other : t.range ≢ range_of w b). stuck (Inserting b k r Empty) w
-          (InsertHand (Held x) Empty (Gone x (λ u here of. other (ap (λ (q : Tuple). q.range) (same_Some _ _ (sym is ∙ here)) ∙ of)) (reads_here s w none))))
-          (cases_eq t.range (range_of w b))
+          (λ (of : t.range ≡ range_of_block w b). stuck (Inserting b k r (Copied x t (added t))) w
+          (InsertCopies x t (added t) (is, of) (record { range = refl; placeholder = refl; wider = λ q has. refl; row = refl })
+          (inl (λ e. longer t.bytes (ap (λ (u : IndexTuple). u.bytes) e))) (reads_here s w none)))
+          (λ (other : t.range ≢ range_of_block w b). stuck (Inserting b k r Empty) w
+          (InsertOnIndex (Held x) Empty
+          (Gone x (λ u here of. other (ap (λ (q : IndexTuple). q.range) (same_Some _ _ (sym is ∙ here)) ∙ of)) (reads_here s w none))))
+          (cases_eq t.range (range_of_block w b))
 
   -- the copied tuple is judged again
-  copied_steps : ((p : ℕ) → (n : ℕ) × IsFreeSlot w p n) → (x : Spot) (old new : Tuple) → LocksNone w s → Stuck (Copied x old new)
-      → (SwapVerdict w s (range_of w b) x old new Full → ⊥) → ((p : ℕ) → SwapVerdict w s (range_of w b) x old new (Waits p) → ⊥) → ⊥
-  copied_steps slots x old new none stuck room free = some_swap w slots s (range_of w b) x old new by
+  copied_steps : HasFreeSlots w → (x : TuplePlace) (old new : IndexTuple) → LocksNone w s → IsInsertStuck w s b k r (Copied x old new)
+      → (SwapVerdict w s (range_of_block w b) x old new Full → ⊥) → ((p : ℕ) → SwapVerdict w s (range_of_block w b) x old new (Waits p) → ⊥) → ⊥
+  copied_steps slots x old new none stuck room free = some_swap w slots s (range_of_block w b) x old new by
     where
-      swaps : SwapVerdict w s (range_of w b) x old new Fits → ⊥
+      swaps : SwapVerdict w s (range_of_block w b) x old new Fits → ⊥
       swaps verdict = by_fit verdict
         where
-          by_fit : SwapVerdict w s (range_of w b) x old new Fits → ⊥
-          by_fit (SwapFits unlocked here kind fits) = stuck Idle (record w { tuple = tuple_with w.tuple x (Some new) }) (InsertSwap x old new verdict (record {
-            tuple = record { was = here; now = tuple_here w.tuple x (Some new); others = tuple_there w.tuple x (Some new) };
-            free = unlocked;
-            page = record { now = kind; kinds = λ p. inr refl; rooms = λ p. inr refl; spots = λ y. inr refl; placeholder = refl; map_pages = refl; limit = refl };
-            heap = record { pages_per_range = refl; blocks = refl; row = λ c j. refl };
-            map = record { entry = λ m. refl };
-            orphans = record { orphan = λ y. refl };
-            right = refl;
-            locks = record { others = λ p n is other. is; taken = λ p n is other. is };
-            none = none;
-          }))
+          by_fit : SwapVerdict w s (range_of_block w b) x old new Fits → ⊥
+          by_fit (SwapFits unlocked here kind fits) = stuck Idle (record w { tuple = tuple_with w.tuple x (Some new) }) (InsertSwap x old new verdict (search (rules, tuple_here, tuple_there)))
           by_fit (SwapMoves _ unlocked here must puts) = none_fits puts
             where
-              none_fits : PutVerdict w s (range_of w b) (length new.bytes) Fits → ⊥
+              none_fits : PutVerdict w s (range_of_block w b) (length new.bytes) Fits → ⊥
               none_fits puts = elim puts [ ]
 
-      moves : (y : Spot) → SwapVerdict w s (range_of w b) x old new (Puts y) → ⊥
+      moves : (y : TuplePlace) → SwapVerdict w s (range_of_block w b) x old new (Puts y) → ⊥
       moves y verdict = by_move verdict
         where
-          all_free : IsFree w s x.block → IsFree w s y.block → IsFree w s (map_page_of (range_of w b)) → (p : ℕ) → IsOneOf (x.block ∷ y.block ∷ map_page_of (range_of w b) ∷ []) p → IsFree w s p
+          all_free : IsFree w s x.block → IsFree w s y.block → IsFree w s (map_page_of (range_of_block w b)) → (p : ℕ)
+              → IsOneOf (x.block ∷ y.block ∷ map_page_of (range_of_block w b) ∷ []) p → IsFree w s p
           all_free one two three p among = ⊎_elim
               (λ (is : p ≡ x.block). subst (IsFree w s) (sym is) one)
-              (λ (more : (p ≡ y.block) ⊎ ((p ≡ map_page_of (range_of w b)) ⊎ ⊥)). ⊎_elim
+              (λ (more : (p ≡ y.block) ⊎ ((p ≡ map_page_of (range_of_block w b)) ⊎ ⊥)). ⊎_elim
               (λ (is : p ≡ y.block). subst (IsFree w s) (sym is) two)
-              (λ (last : (p ≡ map_page_of (range_of w b)) ⊎ ⊥). ⊎_elim (λ (is : p ≡ map_page_of (range_of w b)). subst (IsFree w s) (sym is) three) (λ (never : ⊥). absurd never) last)
+              (λ (last : (p ≡ map_page_of (range_of_block w b)) ⊎ ⊥).
+              ⊎_elim (λ (is : p ≡ map_page_of (range_of_block w b)). subst (IsFree w s) (sym is) three) (λ (never : ⊥). absurd never) last)
               more)
               among
 
-          by_move : SwapVerdict w s (range_of w b) x old new (Puts y) → ⊥
+          by_move : SwapVerdict w s (range_of_block w b) x old new (Puts y) → ⊥
           by_move (SwapMoves _ unlocked here must puts) = by_put puts
             where
-              by_put : PutVerdict w s (range_of w b) (length new.bytes) (Puts y) → ⊥
+              by_put : PutVerdict w s (range_of_block w b) (length new.bytes) (Puts y) → ⊥
               by_put (PutGoes _ target unlocked' map) =
                   let free_all = all_free unlocked unlocked' map in
                   stuck (Inserting b k r (Moving x y old new)) (record w {
                     tuple = tuple_with w.tuple y (Some new);
-                    lock = locks_after w s (x.block ∷ y.block ∷ map_page_of (range_of w b) ∷ []) free_all;
+                    lock = locks_after w s (x.block ∷ y.block ∷ map_page_of (range_of_block w b) ∷ []) free_all;
                     pages = record w.pages { kind = number_with w.pages.kind y.block Regular };
-                  }) (InsertHand (Copied x old new) (Moving x y old new) (MovePut x y old new verdict
+                  }) (InsertOnIndex (Copied x old new) (Moving x y old new) (MovePut x y old new verdict
                   (record {
                     tuple = record { was = target.1.0; now = tuple_here w.tuple y (Some new); others = tuple_there w.tuple y (Some new) };
                     free = unlocked';
-                    page = record {
-                      now = number_here w.pages.kind y.block Regular;
-                      kinds = number_there w.pages.kind y.block Regular;
-                      rooms = λ p. inr refl;
-                      spots = λ z. inr refl;
-                      placeholder = refl;
-                      map_pages = refl;
-                      limit = refl;
-                    };
-                    heap = record { pages_per_range = refl; blocks = refl; row = λ c j. refl };
-                    map = record { entry = λ m. refl };
-                    orphans = record { orphan = λ z. refl };
-                    right = refl;
-                    locks = record {
-                      others = after_others w s (x.block ∷ y.block ∷ map_page_of (range_of w b) ∷ []) free_all;
-                      taken = after_taken w s (x.block ∷ y.block ∷ map_page_of (range_of w b) ∷ []) free_all;
-                    };
+                    page = search (rules, number_here, number_there);
+                    frame = search (rules, after_others, after_taken);
                   })
                   (record {
-                    locked = after_locked w s (x.block ∷ y.block ∷ map_page_of (range_of w b) ∷ []) free_all;
-                    only = after_only w s (x.block ∷ y.block ∷ map_page_of (range_of w b) ∷ []) free_all;
+                    locked = after_locked w s (x.block ∷ y.block ∷ map_page_of (range_of_block w b) ∷ []) free_all;
+                    only = after_only w s (x.block ∷ y.block ∷ map_page_of (range_of_block w b) ∷ []) free_all;
                   })))
 
-      by : (p : Verdict) → SwapVerdict w s (range_of w b) x old new p → ⊥
+      by : (p : Verdict) → SwapVerdict w s (range_of_block w b) x old new p → ⊥
       by (Waits p) verdict = free p verdict
-      by Differs verdict = stuck (Inserting b k r Empty) w (InsertHand (Copied x old new) Empty (Again x old new verdict (reads_here s w none)))
+      by Differs verdict = stuck (Inserting b k r Empty) w (InsertOnIndex (Copied x old new) Empty (Again x old new verdict (reads_here s w none)))
       by Fits verdict = swaps verdict
       by (Puts y) verdict = moves y verdict
       by Full verdict = room verdict
 
   -- the map names the new tuple
-  moving_steps : (x y : Spot) (old new : Tuple) → Stuck (Moving x y old new) → ⊥
-  moving_steps x y old new stuck = stuck (Inserting b k r (Dropping x)) (record w { entry = number_with w.entry (range_of w b) (Some y) }) (InsertSet x y old new
+  moving_steps : (x y : TuplePlace) (old new : IndexTuple) → IsInsertStuck w s b k r (Moving x y old new) → ⊥
+  moving_steps x y old new stuck =
+      stuck (Inserting b k r (Dropping x)) (record w { entry = number_with w.entry (range_of_block w b) (Some y) }) (InsertSet x y old new
       (record {
-        now = number_here w.entry (range_of w b) (Some y);
-        others = number_there w.entry (range_of w b) (Some y);
+        now = number_here w.entry (range_of_block w b) (Some y);
+        others = number_there w.entry (range_of_block w b) (Some y);
         pages = refl;
-        heap = record { pages_per_range = refl; blocks = refl; row = λ c j. refl };
-        tuples = record { tuple = λ z. refl };
-        orphans = record { orphan = λ z. refl };
-        right = refl;
-        locks = record { others = λ p n is other. is; taken = λ p n is other. is };
+        frame = search rules;
       })
       (record { lock = λ p. refl }))
 
-  dropping_steps : (x : Spot) → Stuck (Dropping x) → ⊥
-  dropping_steps x stuck = stuck Idle (drops_board s w x) (InsertDrop x (drops_here s w x))
+  dropping_steps : (x : TuplePlace) → IsInsertStuck w s b k r (Dropping x) → ⊥
+  dropping_steps x stuck = stuck Idle (drops_view s w x) (InsertDrop x (drops_here s w x))
 
-  pub insert_has_step : ((p : ℕ) → (n : ℕ) × IsFreeSlot w p n) → (hand : Hand) → Knows w s (Inserting b k r hand) → ((e : Statement) (v : Board) → InsertStep s b k r w v hand e → ⊥)
-      → ((x : Spot) (old new : Tuple) → hand ≡ Copied x old new → (SwapVerdict w s (range_of w b) x old new Full → ⊥) × ((p : ℕ) → SwapVerdict w s (range_of w b) x old new (Waits p) → ⊥)) → ⊥
+  pub insert_has_step : HasFreeSlots w → (on_index : OnIndex) → Knows w s (Inserting b k r on_index) → IsInsertStuck w s b k r on_index
+      → IsSwapFree w s (range_of_block w b) on_index → ⊥
   insert_has_step slots Empty known stuck others = empty_steps known.2 stuck
   insert_has_step slots (Held x) known stuck others = held_steps x known.2.0 stuck
-  insert_has_step slots (Copied x old new) known stuck others = let other = others x old new refl in copied_steps slots x old new known.2.0 stuck other.0 other.1
+  insert_has_step slots (Copied x old new) known stuck others =
+      let other = others x old new refl in copied_steps slots x old new known.2.0 stuck other.0 other.1
   insert_has_step slots (Moving x y old new) known stuck others = moving_steps x y old new stuck
   insert_has_step slots (Dropping x) known stuck others = dropping_steps x stuck
 
-module _ (s range : ℕ) (w : Board) where
-  abbrev StuckAt : Hand → Type 0
-  StuckAt hand = (e : Statement) (v : Board) → DesummariseStep s range w v (NotBuilding hand) e → ⊥
-
-  clear_empty : LocksNone w s → StuckAt Empty → ⊥
+module _ (s range : ℕ) (w : IndexView) where
+  clear_empty : LocksNone w s → IsDesummariseStuck w s range Empty → ⊥
   clear_empty none stuck = by (w.entry range) refl
     where
-      by : (o : Option Spot) → w.entry range ≡ o → ⊥
+      by : (o : Option TuplePlace) → w.entry range ≡ o → ⊥
       by None is = stuck Holding w (ClearNone is (reads_here s w none))
       by (Some x) is = stuck (Maintaining range (NotBuilding (Held x))) w (ClearMap x is (reads_here s w none))
 
-  clear_held : (x : Spot) → LocksNone w s → StuckAt (Held x) → ((p : ℕ) → ClearVerdict w s range x (Waits p) → ⊥) → ⊥
+  clear_held : (x : TuplePlace) → LocksNone w s → IsDesummariseStuck w s range (Held x) → ((p : ℕ) → ClearVerdict w s range x (Waits p) → ⊥) → ⊥
   clear_held x none stuck free = some_clear w s range x by
     where
       clears : ClearVerdict w s range x Fits → ⊥
@@ -316,17 +270,14 @@ module _ (s range : ℕ) (w : Board) where
           (λ (is : p ≡ x.block). subst (IsFree w s) (sym is) unlocked)
           (λ (more : (p ≡ map_page_of range) ⊎ ⊥). ⊎_elim (λ (is : p ≡ map_page_of range). subst (IsFree w s) (sym is) map) (λ (never : ⊥). absurd never) more)
           among in
-          stuck (Maintaining range (NotBuilding (Dropping x))) (record w { entry = number_with w.entry range None; lock = locks_after w s (x.block ∷ map_page_of range ∷ []) free_all })
+          stuck (Maintaining range (NotBuilding (Dropping x)))
+          (record w { entry = number_with w.entry range None; lock = locks_after w s (x.block ∷ map_page_of range ∷ []) free_all })
           (Clear x (ClearFits unlocked map names)
           (record {
             entry = record { was = names; now = number_here w.entry range None; others = number_there w.entry range None };
             free = unlocked;
             pages = refl;
-            heap = record { pages_per_range = refl; blocks = refl; row = λ c j. refl };
-            tuples = record { tuple = λ z. refl };
-            orphans = record { orphan = λ z. refl };
-            right = refl;
-            locks = record { others = after_others w s (x.block ∷ map_page_of range ∷ []) free_all; taken = after_taken w s (x.block ∷ map_page_of range ∷ []) free_all };
+            frame = search (rules, after_others, after_taken);
           })
           (record { locked = after_locked w s (x.block ∷ map_page_of range ∷ []) free_all; only = after_only w s (x.block ∷ map_page_of range ∷ []) free_all }))
 
@@ -337,11 +288,11 @@ module _ (s range : ℕ) (w : Board) where
       by (Puts y) verdict = elim verdict [ ]
       by Full verdict = elim verdict [ ]
 
-  clear_dropping : (x : Spot) → StuckAt (Dropping x) → ⊥
-  clear_dropping x stuck = stuck Holding (drops_board s w x) (DropCleared x (drops_here s w x))
+  clear_dropping : (x : TuplePlace) → IsDesummariseStuck w s range (Dropping x) → ⊥
+  clear_dropping x stuck = stuck Holding (drops_view s w x) (DropCleared x (drops_here s w x))
 
-  pub desummarise_has_step : (hand : Hand) → Knows w s (Maintaining range (NotBuilding hand)) → ((e : Statement) (v : Board) → DesummariseStep s range w v (NotBuilding hand) e → ⊥)
-      → ((x : Spot) (p : ℕ) → hand ≡ Held x → ClearVerdict w s range x (Waits p) → ⊥) → ⊥
+  pub desummarise_has_step : (on_index : OnIndex) → Knows w s (Maintaining range (NotBuilding on_index)) → IsDesummariseStuck w s range on_index
+      → IsClearFree w s range on_index → ⊥
   desummarise_has_step Empty known stuck free = clear_empty known.1 stuck
   desummarise_has_step (Held x) known stuck free = clear_held x known.1.0 stuck (λ p verdict. free x p refl verdict)
   desummarise_has_step (Copied x old new) known stuck free = known.1.3

@@ -3,15 +3,17 @@ use Rattle.std.proofs.Common.{◌≡◌, ◌≢◌, ◌⊎◌, inl, inr, ⊎_eli
 use Rattle.std.proofs.lemmas.Option.{same_Some, none-some}
 use Rattle.std.proofs.lemmas.Bool.{cases_eq}
 use Rattle.std.specs.Prelude.{refl, List, [], ◌∷◌, length}
-use Rattle.coverage.specs.Board.{Spot, Tuple, Regular, Board, map_page_of}
+use Rattle.coverage.specs.IndexView.{TuplePlace, IndexTuple, Regular, IndexView, map_page_of}
 use Rattle.coverage.specs.Changes.{IsFree}
-use Rattle.coverage.specs.Verdicts.{IsLocked, IsFirstLocked, First, Later, IsLowest, HasRoom, IsUnstarted, IsTarget, OnStarted, OnNew, IsFreeSlot, IsTargetSpot, Verdict, Waits, Differs, Fits, Puts, Full, PutVerdict, NoTarget, PutWaits, PutGoes, MustMove, SwapVerdict, SwapWaits, SwapDiffers, SwapFits, SwapMoves, ClearVerdict, ClearWaits, ClearDiffers, ClearFits}
+use Rattle.coverage.specs.Verdicts.{IsLocked, IsFirstLocked, First, Later, IsLowestNumber, PageHasRoom, IsPageUnstarted, IsTarget, OnStarted, OnNew, IsFreeSlot}
+use Rattle.coverage.specs.Verdicts.{HasFreeSlots, IsTargetPlace, Verdict, Waits, Differs, Fits, Puts, Full, PutVerdict, NoTarget, PutWaits, PutGoes, MustMove}
+use Rattle.coverage.specs.Verdicts.{SwapVerdict, SwapWaits, SwapDiffers, SwapFits, SwapMoves, ClearVerdict, ClearWaits, ClearDiffers, ClearFits}
 use Rattle.coverage.proofs.Numbers.{lt_or_ge, lowest_below}
 
-pub free_not_locked : (w : Board) (s p : ℕ) → IsFree w s p → IsLocked w s p → ⊥
+pub free_not_locked : (w : IndexView) (s p : ℕ) → IsFree w s p → IsLocked w s p → ⊥
 free_not_locked w s p free locked = locked.2 (free locked.0 locked.1)
 
-pub locked_or_free : (w : Board) (s p : ℕ) → IsLocked w s p ⊎ IsFree w s p
+pub locked_or_free : (w : IndexView) (s p : ℕ) → IsLocked w s p ⊎ IsFree w s p
 locked_or_free w s p = by (w.lock p) refl
   where
     by : (o : Option ℕ) → w.lock p ≡ o → IsLocked w s p ⊎ IsFree w s p
@@ -21,37 +23,38 @@ locked_or_free w s p = by (w.lock p) refl
         (λ (other : n ≢ s). inl (n, locked, other))
         (cases_eq n s)
 
-lowest_once : (Is : ℕ → Type 0) (p q : ℕ) → IsLowest Is p → IsLowest Is q → p ≡ q
+lowest_once : (Is : ℕ → Type 0) (p q : ℕ) → IsLowestNumber Is p → IsLowestNumber Is q → p ≡ q
 lowest_once Is p q one two = both p q (one.1 q two.0) (two.1 p one.0)
   where
     both : (p q : ℕ) → p ≤ q → q ≤ p → p ≡ q
     both p q le ge = omega arith
 
-target_once : (w : Board) (need p q : ℕ) → IsTarget w need p → IsTarget w need q → p ≡ q
-target_once w need p q (OnStarted one) (OnStarted two) = lowest_once (HasRoom w need) p q one two
+target_once : (w : IndexView) (need p q : ℕ) → IsTarget w need p → IsTarget w need q → p ≡ q
+target_once w need p q (OnStarted one) (OnStarted two) = lowest_once (PageHasRoom w need) p q one two
 target_once w need p q (OnStarted one) (OnNew none two below) = absurd (none p one.0)
 target_once w need p q (OnNew none one below) (OnStarted two) = absurd (none q two.0)
-target_once w need p q (OnNew none one below) (OnNew none' two below') = lowest_once (IsUnstarted w) p q one two
+target_once w need p q (OnNew none one below) (OnNew none' two below') = lowest_once (IsPageUnstarted w) p q one two
 
-first_locked_once : (w : Board) (s : ℕ) (pages : List ℕ) (p q : ℕ) → IsFirstLocked w s pages p → IsFirstLocked w s pages q → p ≡ q
+first_locked_once : (w : IndexView) (s : ℕ) (pages : List ℕ) (p q : ℕ) → IsFirstLocked w s pages p → IsFirstLocked w s pages q → p ≡ q
 first_locked_once w s _ p q (First m more one) (First m' more' two) = refl
 first_locked_once w s _ p q (First m more one) (Later m' q' more' free two) = absurd (free_not_locked w s m free one)
 first_locked_once w s _ p q (Later m p' more free one) (First m' more' two) = absurd (free_not_locked w s m free two)
 first_locked_once w s _ p q (Later m p' more free one) (Later m' q' more' free' two) = first_locked_once w s more p q one two
 
 -- what is free isn't the first locked page
-pub both_free : (w : Board) (s p m q : ℕ) → IsFree w s p → IsFree w s m → IsFirstLocked w s (p ∷ m ∷ []) q → ⊥
+pub both_free : (w : IndexView) (s p m q : ℕ) → IsFree w s p → IsFree w s m → IsFirstLocked w s (p ∷ m ∷ []) q → ⊥
 both_free w s p m q one two (First _ _ locked) = free_not_locked w s p one locked
 both_free w s p m q one two (Later _ _ _ _ (First _ _ locked)) = free_not_locked w s m two locked
 both_free w s p m q one two (Later _ _ _ _ (Later _ _ _ _ none)) = elim none [ ]
 
-spot_once : (w : Board) (need : ℕ) (y z : Spot) → IsTargetSpot w need y → IsTargetSpot w need z → y ≡ z
-spot_once w need y z one two =
+place_once : (w : IndexView) (need : ℕ) (y z : TuplePlace) → IsTargetPlace w need y → IsTargetPlace w need z → y ≡ z
+place_once w need y z one two =
     let block : y.block ≡ z.block = target_once w need y.block z.block one.0 two.0 in
-    let slot : y.slot ≡ z.slot = lowest_once (IsFreeSlot w y.block) y.slot z.slot one.1 (subst (λ p. IsLowest (IsFreeSlot w p) z.slot) (sym block) two.1) in
+    let slot : y.slot ≡ z.slot =
+    lowest_once (IsFreeSlot w y.block) y.slot z.slot one.1 (subst (λ p. IsLowestNumber (IsFreeSlot w p) z.slot) (sym block) two.1) in
     λ i. record { block = block i; slot = slot i }
 
-pub put_once : (w : Board) (s range need : ℕ) (p q : Verdict) → PutVerdict w s range need p → PutVerdict w s range need q → p ≡ q
+pub put_once : (w : IndexView) (s range need : ℕ) (p q : Verdict) → PutVerdict w s range need p → PutVerdict w s range need q → p ≡ q
 put_once w s range need _ _ (NoTarget none) (NoTarget none') = refl
 put_once w s range need _ _ (NoTarget none) (PutWaits p q target locked) = absurd (none p target)
 put_once w s range need _ _ (NoTarget none) (PutGoes y target free map) = absurd (none y.block target.0)
@@ -60,14 +63,17 @@ put_once w s range need _ _ (PutWaits p q target locked) (PutWaits p' q' target'
     ap Waits (first_locked_once w s (p ∷ map_page_of range ∷ []) q q' locked
     (subst (λ m. IsFirstLocked w s (m ∷ map_page_of range ∷ []) q') (target_once w need p' p target' target) locked'))
 put_once w s range need _ _ (PutWaits p q target locked) (PutGoes y target' free map) =
-    absurd (both_free w s y.block (map_page_of range) q free map (subst (λ m. IsFirstLocked w s (m ∷ map_page_of range ∷ []) q) (target_once w need p y.block target target'.0) locked))
+    absurd (both_free w s y.block (map_page_of range) q free map
+    (subst (λ m. IsFirstLocked w s (m ∷ map_page_of range ∷ []) q) (target_once w need p y.block target target'.0) locked))
 put_once w s range need _ _ (PutGoes y target free map) (NoTarget none) = absurd (none y.block target.0)
 put_once w s range need _ _ (PutGoes y target free map) (PutWaits p q target' locked) =
-    absurd (both_free w s y.block (map_page_of range) q free map (subst (λ m. IsFirstLocked w s (m ∷ map_page_of range ∷ []) q) (target_once w need p y.block target' target.0) locked))
-put_once w s range need _ _ (PutGoes y target free map) (PutGoes z target' free' map') = ap Puts (spot_once w need y z target target')
+    absurd (both_free w s y.block (map_page_of range) q free map
+    (subst (λ m. IsFirstLocked w s (m ∷ map_page_of range ∷ []) q) (target_once w need p y.block target' target.0) locked))
+put_once w s range need _ _ (PutGoes y target free map) (PutGoes z target' free' map') = ap Puts (place_once w need y z target target')
 
 -- what fits in its place needn't move
-fits_or_moves : (w : Board) (x : Spot) (new : Tuple) → w.pages.kind x.block ≡ Regular → length new.bytes ≤ w.pages.room_at x → MustMove w x new → ⊥
+fits_or_moves : (w : IndexView) (x : TuplePlace) (new : IndexTuple) → w.pages.kind x.block ≡ Regular → length new.bytes ≤ w.pages.room_at x → MustMove w x new
+    → ⊥
 fits_or_moves w x new regular room must = ⊎_elim
     (λ (other : w.pages.kind x.block ≢ Regular). other regular)
     (λ (tight : w.pages.room_at x < length new.bytes). apart (length new.bytes) (w.pages.room_at x) room tight)
@@ -76,7 +82,8 @@ fits_or_moves w x new regular room must = ⊎_elim
     apart : (n m : ℕ) → n ≤ m → m < n → ⊥
     apart n m le less = omega arith
 
-pub swap_once : (w : Board) (s range : ℕ) (x : Spot) (old new : Tuple) (p q : Verdict) → SwapVerdict w s range x old new p → SwapVerdict w s range x old new q → p ≡ q
+pub swap_once : (w : IndexView) (s range : ℕ) (x : TuplePlace) (old new : IndexTuple) (p q : Verdict) → SwapVerdict w s range x old new p
+    → SwapVerdict w s range x old new q → p ≡ q
 swap_once w s range x old new _ _ (SwapWaits locked) (SwapWaits locked') = refl
 swap_once w s range x old new _ _ (SwapWaits locked) (SwapDiffers free not) = absurd (free_not_locked w s x.block free locked)
 swap_once w s range x old new _ _ (SwapWaits locked) (SwapFits free here kind room) = absurd (free_not_locked w s x.block free locked)
@@ -92,10 +99,12 @@ swap_once w s range x old new _ q (SwapFits free here kind room) (SwapMoves verd
 swap_once w s range x old new p _ (SwapMoves verdict free here must puts) (SwapWaits locked) = absurd (free_not_locked w s x.block free locked)
 swap_once w s range x old new p _ (SwapMoves verdict free here must puts) (SwapDiffers free' not) = absurd (not here)
 swap_once w s range x old new p _ (SwapMoves verdict free here must puts) (SwapFits free' here' kind room) = absurd (fits_or_moves w x new kind room must)
-swap_once w s range x old new p q (SwapMoves verdict free here must puts) (SwapMoves verdict' free' here' must' puts') = put_once w s range (length new.bytes) p q puts puts'
+swap_once w s range x old new p q (SwapMoves verdict free here must puts) (SwapMoves verdict' free' here' must' puts') =
+    put_once w s range (length new.bytes) p q puts puts'
 
-pub clear_once : (w : Board) (s range : ℕ) (x : Spot) (p q : Verdict) → ClearVerdict w s range x p → ClearVerdict w s range x q → p ≡ q
-clear_once w s range x _ _ (ClearWaits q locked) (ClearWaits q' locked') = ap Waits (first_locked_once w s (x.block ∷ map_page_of range ∷ []) q q' locked locked')
+pub clear_once : (w : IndexView) (s range : ℕ) (x : TuplePlace) (p q : Verdict) → ClearVerdict w s range x p → ClearVerdict w s range x q → p ≡ q
+clear_once w s range x _ _ (ClearWaits q locked) (ClearWaits q' locked') =
+    ap Waits (first_locked_once w s (x.block ∷ map_page_of range ∷ []) q q' locked locked')
 clear_once w s range x _ _ (ClearWaits q locked) (ClearDiffers free map not) = absurd (both_free w s x.block (map_page_of range) q free map locked)
 clear_once w s range x _ _ (ClearWaits q locked) (ClearFits free map is) = absurd (both_free w s x.block (map_page_of range) q free map locked)
 clear_once w s range x _ _ (ClearDiffers free map not) (ClearWaits q locked) = absurd (both_free w s x.block (map_page_of range) q free map locked)
@@ -106,29 +115,29 @@ clear_once w s range x _ _ (ClearFits free map is) (ClearDiffers free' map' not)
 clear_once w s range x _ _ (ClearFits free map is) (ClearFits free' map' is') = refl
 
 -- a page that is waited for is one that another session locks
-first_is_locked : (w : Board) (s : ℕ) (pages : List ℕ) (p : ℕ) → IsFirstLocked w s pages p → IsLocked w s p
+first_is_locked : (w : IndexView) (s : ℕ) (pages : List ℕ) (p : ℕ) → IsFirstLocked w s pages p → IsLocked w s p
 first_is_locked w s _ p (First _ more locked) = locked
 first_is_locked w s _ p (Later q _ more free later) = first_is_locked w s more p later
 
-pub put_waits : (w : Board) (s range need p : ℕ) → PutVerdict w s range need (Waits p) → IsLocked w s p
+pub put_waits : (w : IndexView) (s range need p : ℕ) → PutVerdict w s range need (Waits p) → IsLocked w s p
 put_waits w s range need p (PutWaits q _ target locked) = first_is_locked w s (q ∷ map_page_of range ∷ []) p locked
 
-pub swap_waits : (w : Board) (s range : ℕ) (x : Spot) (old new : Tuple) (p : ℕ) → SwapVerdict w s range x old new (Waits p) → IsLocked w s p
+pub swap_waits : (w : IndexView) (s range : ℕ) (x : TuplePlace) (old new : IndexTuple) (p : ℕ) → SwapVerdict w s range x old new (Waits p) → IsLocked w s p
 swap_waits w s range x old new _ (SwapWaits locked) = locked
 swap_waits w s range x old new p (SwapMoves _ free here must puts) = put_waits w s range (length new.bytes) p puts
 
-pub swap_differs : (w : Board) (s range : ℕ) (x : Spot) (old new : Tuple) → SwapVerdict w s range x old new Differs → w.tuple x ≢ Some old
+pub swap_differs : (w : IndexView) (s range : ℕ) (x : TuplePlace) (old new : IndexTuple) → SwapVerdict w s range x old new Differs → w.tuple x ≢ Some old
 swap_differs w s range x old new (SwapDiffers free other) = other
 swap_differs w s range x old new (SwapMoves _ free here must puts) = elim puts [ ]
 
-pub clear_waits : (w : Board) (s range p : ℕ) (x : Spot) → ClearVerdict w s range x (Waits p) → IsLocked w s p
+pub clear_waits : (w : IndexView) (s range p : ℕ) (x : TuplePlace) → ClearVerdict w s range x (Waits p) → IsLocked w s p
 clear_waits w s range p x (ClearWaits _ locked) = first_is_locked w s (x.block ∷ map_page_of range ∷ []) p locked
 
-pub clear_differs : (w : Board) (s range : ℕ) (x : Spot) → ClearVerdict w s range x Differs → w.entry range ≢ Some x
+pub clear_differs : (w : IndexView) (s range : ℕ) (x : TuplePlace) → ClearVerdict w s range x Differs → w.entry range ≢ Some x
 clear_differs w s range x (ClearDiffers free map other) = other
 
 -- of two pages, the first one that another session locks, or none
-two_pages : (w : Board) (s p m : ℕ) → ((q : ℕ) × IsFirstLocked w s (p ∷ m ∷ []) q) ⊎ (IsFree w s p × IsFree w s m)
+two_pages : (w : IndexView) (s p m : ℕ) → ((q : ℕ) × IsFirstLocked w s (p ∷ m ∷ []) q) ⊎ (IsFree w s p × IsFree w s m)
 two_pages w s p m = ⊎_elim
     (λ (locked : IsLocked w s p). inl (p, First p (m ∷ []) locked))
     (λ (free : IsFree w s p). ⊎_elim
@@ -137,15 +146,15 @@ two_pages w s p m = ⊎_elim
     (locked_or_free w s m))
     (locked_or_free w s p)
 
-slot_decides : (w : Board) (p k : ℕ) → IsFreeSlot w p k ⊎ (IsFreeSlot w p k → ⊥)
+slot_decides : (w : IndexView) (p k : ℕ) → IsFreeSlot w p k ⊎ (IsFreeSlot w p k → ⊥)
 slot_decides w p k = by (w.tuple (record { block = p; slot = k })) refl
   where
-    by : (o : Option Tuple) → w.tuple (record { block = p; slot = k }) ≡ o → IsFreeSlot w p k ⊎ (IsFreeSlot w p k → ⊥)
+    by : (o : Option IndexTuple) → w.tuple (record { block = p; slot = k }) ≡ o → IsFreeSlot w p k ⊎ (IsFreeSlot w p k → ⊥)
     by None none = inl none
     by (Some t) here = inr (λ none. none-some _ (sym none ∙ here))
 
-module _ (w : Board) (slots : (p : ℕ) → (k : ℕ) × IsFreeSlot w p k) where
-  lowest_slot : (p : ℕ) → (k : ℕ) × IsLowest (IsFreeSlot w p) k
+module _ (w : IndexView) (slots : HasFreeSlots w) where
+  lowest_slot : (p : ℕ) → (k : ℕ) × IsLowestNumber (IsFreeSlot w p) k
   lowest_slot p = ⊎_elim
       (λ (none : (i : ℕ) → i < suc (slots p).0 → IsFreeSlot w p i → ⊥). absurd (none (slots p).0 (omega arith) (slots p).1))
       (λ (one : (i : ℕ) × IsFreeSlot w p i × ((j : ℕ) → IsFreeSlot w p j → i ≤ j)). (one.0, (one.1, one.2)))
@@ -156,11 +165,11 @@ module _ (w : Board) (slots : (p : ℕ) → (k : ℕ) × IsFreeSlot w p k) where
       (λ (waits : (q : ℕ) × IsFirstLocked w s (p ∷ map_page_of range ∷ []) q). none (Waits waits.0) (PutWaits p waits.0 target waits.1))
       (λ (free : IsFree w s p × IsFree w s (map_page_of range)).
       let slot = lowest_slot p in
-      let y : Spot = record { block = p; slot = slot.0 } in
+      let y : TuplePlace = record { block = p; slot = slot.0 } in
       none (Puts y) (PutGoes y (target, slot.1) free.0 free.1))
       (two_pages w s p (map_page_of range))))
 
-  pub some_swap : (s range : ℕ) (x : Spot) (old new : Tuple) → ((p : Verdict) → SwapVerdict w s range x old new p → ⊥) → ⊥
+  pub some_swap : (s range : ℕ) (x : TuplePlace) (old new : IndexTuple) → ((p : Verdict) → SwapVerdict w s range x old new p → ⊥) → ⊥
   some_swap s range x old new none = ⊎_elim
       (λ (locked : IsLocked w s x.block). none (Waits x.block) (SwapWaits locked))
       (λ (free : IsFree w s x.block). none Differs (SwapDiffers free (λ here.
@@ -171,7 +180,7 @@ module _ (w : Board) (slots : (p : ℕ) → (k : ℕ) × IsFreeSlot w p k) where
       (lt_or_ge (w.pages.room_at x) (length new.bytes)))))
       (locked_or_free w s x.block)
 
-pub some_clear : (w : Board) (s range : ℕ) (x : Spot) → ((p : Verdict) → ClearVerdict w s range x p → ⊥) → ⊥
+pub some_clear : (w : IndexView) (s range : ℕ) (x : TuplePlace) → ((p : Verdict) → ClearVerdict w s range x p → ⊥) → ⊥
 some_clear w s range x none = ⊎_elim
     (λ (waits : (q : ℕ) × IsFirstLocked w s (x.block ∷ map_page_of range ∷ []) q). none (Waits waits.0) (ClearWaits waits.0 waits.1))
     (λ (free : IsFree w s x.block × IsFree w s (map_page_of range)). none Differs (ClearDiffers free.0 free.1 (λ is. none Fits (ClearFits free.0 free.1 is))))

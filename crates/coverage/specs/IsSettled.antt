@@ -1,7 +1,7 @@
 -- When no scan can miss a row for what the index says of its range (the access method's README, on placeholders).
 use Rattle.std.specs.Prelude.{◌≡◌, ◌⊎◌, ℕ, ◌≤◌, ◌<◌, true, false, IsTrue, None, Some}
 use Rattle.block_model.specs.declared.row.Row.{Row}
-use Rattle.coverage.specs.Board.{Spot, Tuple, Progress, ExtentUnread, Passing, Board, range_of, IsBuilding, NamesTuple}
+use Rattle.coverage.specs.IndexView.{TuplePlace, IndexTuple, Progress, ExtentUnread, Passing, IndexView, range_of_block, IsBuilding, NamesTuple}
 
 -- the extent isn't read yet, or the block lies below it and isn't passed yet
 abbrev pub IsAhead : Progress → ℕ → Type 0
@@ -14,22 +14,22 @@ IsInResult ExtentUnread r = ⊥
 IsInResult (Passing extent next result) r = IsTrue (result r)
 
 -- A row of block b is settled in one of six cases.
-pub data IsSettled (w : Board) (b : ℕ) (r : Row) : Type 0 where
+pub data IsSettled (w : IndexView) (b : ℕ) (r : Row) : Type 0 where
   -- the map has no entry for the row's range
-  NoEntry : w.entry (range_of w b) ≡ None → IsSettled w b r
+  NoEntry : w.entry (range_of_block w b) ≡ None → IsSettled w b r
   -- it names a final tuple that includes the row
-  FinalIncludes : (t : Tuple) → NamesTuple w (range_of w b) t → t.placeholder ≡ false → IsTrue (t.includes r) → IsSettled w b r
+  FinalIncludes : (t : IndexTuple) → NamesTuple w (range_of_block w b) t → t.placeholder ≡ false → IsTrue (t.includes r) → IsSettled w b r
   -- it names a placeholder that includes the row
-  PlaceholderIncludes : (t : Tuple) → NamesTuple w (range_of w b) t → t.placeholder ≡ true → IsTrue (t.includes r) → IsSettled w b r
+  PlaceholderIncludes : (t : IndexTuple) → NamesTuple w (range_of_block w b) t → t.placeholder ≡ true → IsTrue (t.includes r) → IsSettled w b r
   -- it names a placeholder, and nobody is building the range
-  NobodyBuilding : (t : Tuple) → NamesTuple w (range_of w b) t → t.placeholder ≡ true
-      → ((s : ℕ) (p : Progress) → IsBuilding w s (range_of w b) p → ⊥) → IsSettled w b r
+  NobodyBuilding : (t : IndexTuple) → NamesTuple w (range_of_block w b) t → t.placeholder ≡ true
+      → ((s : ℕ) (p : Progress) → IsBuilding w s (range_of_block w b) p → ⊥) → IsSettled w b r
   -- it names a placeholder, and the result of whoever is building the range includes the row
-  ResultIncludes : (t : Tuple) → NamesTuple w (range_of w b) t → t.placeholder ≡ true
-      → (s : ℕ) (p : Progress) → IsBuilding w s (range_of w b) p → IsInResult p r → IsSettled w b r
+  ResultIncludes : (t : IndexTuple) → NamesTuple w (range_of_block w b) t → t.placeholder ≡ true
+      → (s : ℕ) (p : Progress) → IsBuilding w s (range_of_block w b) p → IsInResult p r → IsSettled w b r
   -- it names a placeholder, and whoever is building the range has still to pass the row's block
-  AheadOfPass : (t : Tuple) → NamesTuple w (range_of w b) t → t.placeholder ≡ true
-      → (s : ℕ) (p : Progress) → IsBuilding w s (range_of w b) p → IsAhead p b → IsSettled w b r
+  AheadOfPass : (t : IndexTuple) → NamesTuple w (range_of_block w b) t → t.placeholder ≡ true
+      → (s : ℕ) (p : Progress) → IsBuilding w s (range_of_block w b) p → IsAhead p b → IsSettled w b r
 
 -- the row is in the result, or the pass will still come by it
 abbrev pub IsAwaited : Progress → ℕ → Row → Type 0
@@ -37,15 +37,15 @@ IsAwaited ExtentUnread b r = Unit
 IsAwaited (Passing extent next result) b r = IsTrue (result r) ⊎ ((next ≤ b) × (b < extent))
 
 -- whoever is building the row's range awaits it
-abbrev pub AllAwait : Board → ℕ → Row → Type 0
-AllAwait w b r = (s : ℕ) (p : Progress) → IsBuilding w s (range_of w b) p → IsAwaited p b r
+abbrev pub AllAwait : IndexView → ℕ → Row → Type 0
+AllAwait w b r = (s : ℕ) (p : Progress) → IsBuilding w s (range_of_block w b) p → IsAwaited p b r
 
 -- the six cases in one: the tuple that the map names includes the row, or is a placeholder whose builder awaits it
-abbrev pub IsAccounted : Board → ℕ → Row → Type 0
+abbrev pub IsAccounted : IndexView → ℕ → Row → Type 0
 IsAccounted w b r =
-    (x : Spot) (t : Tuple) → w.entry (range_of w b) ≡ Some x → w.tuple x ≡ Some t
+    (x : TuplePlace) (t : IndexTuple) → w.entry (range_of_block w b) ≡ Some x → w.tuple x ≡ Some t
     → IsTrue (t.includes r) ⊎ ((t.placeholder ≡ true) × AllAwait w b r)
 
--- a final tuple of the row's range at this spot includes the row
-abbrev pub Shows : Board → Spot → ℕ → Row → Type 0
-Shows w x b r = (t : Tuple) → w.tuple x ≡ Some t → t.range ≡ range_of w b → t.placeholder ≡ false → IsTrue (t.includes r)
+-- a final tuple of the row's range at this place includes the row
+abbrev pub TupleShows : IndexView → TuplePlace → ℕ → Row → Type 0
+TupleShows w x b r = (t : IndexTuple) → w.tuple x ≡ Some t → t.range ≡ range_of_block w b → t.placeholder ≡ false → IsTrue (t.includes r)

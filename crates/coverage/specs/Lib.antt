@@ -1,4 +1,4 @@
-pub mod Board
+pub mod IndexView
 pub mod IsSettled
 pub mod IsSound
 pub mod GoesOn

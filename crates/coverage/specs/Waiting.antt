@@ -1,21 +1,40 @@
--- Where a summariser waits for a page's lock.
+-- Where a statement waits for a page's lock, or has no step.
 use Rattle.std.specs.Prelude.{◌≡◌, ℕ, Some, [], ◌∷◌, length}
-use Rattle.coverage.specs.Board.{Spot, Tuple, Progress, Unstarted, Mapping, Regular, Emptying, Board}
+use Rattle.block_model.specs.declared.row.Row.{Row}
+use Rattle.coverage.specs.IndexView.{TuplePlace, IndexTuple, Progress, Unstarted, Mapping, Regular, Emptying, IndexView}
 use Rattle.coverage.specs.Changes.{IsFree}
-use Rattle.coverage.specs.Verdicts.{IsLocked, IsFirstLocked, Waits, PutVerdict, SwapVerdict}
-use Rattle.coverage.specs.Statements.{Copied, Phase, Vacant, IsAt}
-use Rattle.coverage.specs.Steps.{next_map_page, IsPastMap, IsNextTuple, Grows}
+use Rattle.coverage.specs.Verdicts.{IsLocked, IsFirstLocked, Waits, Full, PutVerdict, SwapVerdict, ClearVerdict}
+use Rattle.coverage.specs.Statements.{OnIndex, Held, Copied, Phase, NotBuilding, Vacant, IsAt, Statement}
+use Rattle.coverage.specs.Steps.{next_map_page, IsPastMap, IsNextTuple, Grows, InsertStep, DesummariseStep}
 
 -- The page for whose lock a summariser waits on its range.
-pub data IsPhaseWaiting (w : Board) (s range : ℕ) : Phase → ℕ → Type 0 where
-  FinalWaits : (q : ℕ) (p : Progress) (x : Spot) (old new : Tuple) → SwapVerdict w s range x old new (Waits q) → IsPhaseWaiting w s range (IsAt p (Copied x old new)) q
+pub data IsPhaseWaiting (w : IndexView) (s range : ℕ) : Phase → ℕ → Type 0 where
+  FinalWaits : (q : ℕ) (p : Progress) (x : TuplePlace) (old new : IndexTuple) → SwapVerdict w s range x old new (Waits q)
+      → IsPhaseWaiting w s range (IsAt p (Copied x old new)) q
   PlaceWaits : (q : ℕ) → (IsPastMap w range → ⊥) → PutVerdict w s range w.pages.placeholder (Waits q) → IsPhaseWaiting w s range Vacant q
   GrowWaits : (q : ℕ) → Grows w range Unstarted → IsFirstLocked w s (next_map_page w ∷ 0 ∷ []) q → IsPhaseWaiting w s range Vacant q
   CountWaits : Grows w range Mapping → IsLocked w s 0 → IsPhaseWaiting w s range Vacant 0
   FlagWaits : Grows w range Regular → IsLocked w s (next_map_page w) → IsPhaseWaiting w s range Vacant (next_map_page w)
-  EvacuateWaits : (x : Spot) (t : Tuple) → Grows w range Emptying → IsNextTuple w (next_map_page w) x t → IsLocked w s (next_map_page w)
+  EvacuateWaits : (x : TuplePlace) (t : IndexTuple) → Grows w range Emptying → IsNextTuple w (next_map_page w) x t → IsLocked w s (next_map_page w)
       → IsPhaseWaiting w s range Vacant (next_map_page w)
-  EvacuatePutWaits : (q : ℕ) (x : Spot) (t : Tuple) → Grows w range Emptying → IsNextTuple w (next_map_page w) x t → w.entry t.range ≡ Some x
+  EvacuatePutWaits : (q : ℕ) (x : TuplePlace) (t : IndexTuple) → Grows w range Emptying → IsNextTuple w (next_map_page w) x t → w.entry t.range ≡ Some x
       → IsFree w s x.block → PutVerdict w s t.range (length t.bytes) (Waits q) → IsPhaseWaiting w s range Vacant q
-  TurnWaits : (q : ℕ) → Grows w range Emptying → ((x : Spot) (t : Tuple) → IsNextTuple w (next_map_page w) x t → ⊥)
+  TurnWaits : (q : ℕ) → Grows w range Emptying → ((x : TuplePlace) (t : IndexTuple) → IsNextTuple w (next_map_page w) x t → ⊥)
       → IsFirstLocked w s (next_map_page w ∷ 0 ∷ []) q → IsPhaseWaiting w s range Vacant q
+
+-- an insert in this state on the index has no step
+abbrev pub IsInsertStuck : IndexView → (s b k : ℕ) → Row → OnIndex → Type 0
+IsInsertStuck w s b k r on_index = (e : Statement) (v : IndexView) → InsertStep s b k r w v on_index e → ⊥
+
+-- where its tuple is copied, it finds the index not full, and waits for no page
+abbrev pub IsSwapFree : IndexView → (s range : ℕ) → OnIndex → Type 0
+IsSwapFree w s range on_index = (x : TuplePlace) (old new : IndexTuple) → on_index ≡ Copied x old new
+    → (SwapVerdict w s range x old new Full → ⊥) × ((p : ℕ) → SwapVerdict w s range x old new (Waits p) → ⊥)
+
+-- a desummarise in this state on the index has no step
+abbrev pub IsDesummariseStuck : IndexView → (s range : ℕ) → OnIndex → Type 0
+IsDesummariseStuck w s range on_index = (e : Statement) (v : IndexView) → DesummariseStep s range w v (NotBuilding on_index) e → ⊥
+
+-- where it holds a place, it waits for no page
+abbrev pub IsClearFree : IndexView → (s range : ℕ) → OnIndex → Type 0
+IsClearFree w s range on_index = (x : TuplePlace) (p : ℕ) → on_index ≡ Held x → ClearVerdict w s range x (Waits p) → ⊥

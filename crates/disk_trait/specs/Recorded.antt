@@ -9,13 +9,13 @@ pub record Recorded : Type 0 where
   pub bytes_left : ℕ
 
 -- there is room for an event that replaces so many bytes
-pub record HasRoom (past : Recorded) (count : ℕ) : Type 0 where
+pub record RecordHasRoom (past : Recorded) (count : ℕ) : Type 0 where
   pub call : 0 < past.calls_left
   pub bytes : count ≤ past.bytes_left
 
 -- there is no room for it
-abbrev pub LacksRoom : Recorded → ℕ → Type 0
-LacksRoom past count = (past.calls_left ≡ 0) ⊎ (past.bytes_left < count)
+abbrev pub RecordLacksRoom : Recorded → ℕ → Type 0
+RecordLacksRoom past count = (past.calls_left ≡ 0) ⊎ (past.bytes_left < count)
 
 -- the record after a write at an offset that replaced these bytes
 abbrev pub with_write : Recorded → ℕ → List ℕ → Recorded

@@ -1,4 +1,4 @@
-// Bytes put over others.
+//! Bytes put over others.
 
 ghost use Rattle.std.specs.Prelude.{◌≡◌, ◌≤◌, ◌+◌, length, vec_len};
 ghost use Rattle.disk_trait.specs.Spliced.{spliced};

@@ -1,4 +1,4 @@
-// The calls of a disk in memory.
+//! The calls of a disk in memory.
 
 ghost use Rattle.std.specs.Prelude.{◌≡◌, ◌↔◌, ◌≤◌, [], ◌∷◌, ◌++◌, IsTrue, IsErr, OnOk, OnErr, Some, None};
 ghost use Rattle.disk_trait.specs.Calls.{one_more, FailsAt, FailsNext, first_stop};
@@ -43,10 +43,8 @@ impl Calls {
         ensures ok { OnOk result (self.new ≡ record self.old { fails = self.old.fails ++ call ∷ [] }) }
         ensures err { OnErr result (self.new ≡ self.old) }
     {
-        match self.fails.push(call) {
-            Ok(()) => Ok(()),
-            Err(_) => Err(NoMemory),
-        }
+        self.fails.push(call)?;
+        Ok(())
     }
 
     /// Lets the call of that number and all later ones fail.

@@ -1,4 +1,4 @@
-// What a disk promises.
+//! What a disk promises.
 
 ghost use Rattle.std.specs.Prelude.{◌≡◌, ◌+◌, ◌≤◌, ℕ, List, IsTrue, length, take, drop, OnOk};
 ghost use Rattle.block_model.specs.Causes.{HasCause};
@@ -9,8 +9,11 @@ ghost use Rattle.disk_trait.specs.Follows.{Follows};
 ghost use Rattle.disk_trait.specs.IsStable.{IsStable};
 ghost use Rattle.disk_trait.specs.GoesOn.{GoesOn};
 
+use thiserror::Error;
+
 /// A read, a write or a sync failed.
-#[derive(Clone, Copy, Debug, PartialEq, Eq)]
+#[derive(Clone, Copy, Debug, Eq, Error, PartialEq)]
+#[error("the disk failed")]
 pub struct DiskFault;
 
 /// Bytes in a fixed number, read and written by their offset. A crash may leave any bytes where a write came since the last

@@ -1,4 +1,4 @@
-// A file as a disk.
+//! A file as a disk.
 
 ghost use Rattle.std.specs.Prelude.{◌≡◌, is_ok, if◌then◌else◌};
 ghost use Rattle.std.proofs.lemmas.Bool.{false≢true};

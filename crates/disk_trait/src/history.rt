@@ -1,7 +1,7 @@
-// The record of a disk's writes and syncs.
+//! The record of a disk's writes and syncs.
 
 ghost use Rattle.std.specs.Prelude.{◌≡◌, ◌↔◌, ◌+◌, ◌<◌, ◌≤◌, [], length, vec_len, IsTrue, OnOk, OnErr};
-ghost use Rattle.disk_trait.specs.Recorded.{HasRoom, with_write, with_sync};
+ghost use Rattle.disk_trait.specs.Recorded.{RecordHasRoom, with_write, with_sync};
 ghost use Rattle.disk_trait.specs.AreWithin.{AreWithin};
 ghost use Rattle.disk_trait.specs.Undone.{undone};
 ghost use Rattle.disk_trait.specs.Noted.{events_onto, replaced_count};
@@ -65,12 +65,8 @@ impl History {
         let Some(bytes_left) = self.bytes_left.checked_add(bytes as usize) else {
             return Err(NoMemory);
         };
-        if self.calls.reserve_exact(calls_left).is_err() {
-            return Err(NoMemory);
-        }
-        if self.replaced.reserve_exact(bytes_left).is_err() {
-            return Err(NoMemory);
-        }
+        self.calls.reserve_exact(calls_left)?;
+        self.replaced.reserve_exact(bytes_left)?;
         self.calls_left = calls_left;
         self.bytes_left = bytes_left;
         Ok(())
@@ -78,14 +74,14 @@ impl History {
 
     /// Whether there is room for a call that replaces so many bytes.
     pub fn has_room(&self, count: usize) -> bool
-        ensures { IsTrue result ↔ HasRoom self.now count }
+        ensures { IsTrue result ↔ RecordHasRoom self.now count }
     {
         self.calls_left > 0 && self.bytes_left >= count
     }
 
     /// Records a write at an offset that replaced these bytes.
     pub fn note_write(&mut self, at: u64, replaced: &[u8])
-        requires { HasRoom self.old (length replaced.now) }
+        requires { RecordHasRoom self.old (length replaced.now) }
         ensures { self.new ≡ with_write self.old at replaced.now }
     {
         let count = replaced.len();
@@ -101,7 +97,7 @@ impl History {
 
     /// Records a sync that succeeded.
     pub fn note_sync(&mut self)
-        requires { HasRoom self.old 0 }
+        requires { RecordHasRoom self.old 0 }
         ensures { self.new ≡ with_sync self.old }
     {
         let Ok(()) = self.calls.push(Call::Synced) else {

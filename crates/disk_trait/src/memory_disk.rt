@@ -1,4 +1,4 @@
-// A disk in memory that fails where it is told to, and tells what a crash may leave.
+//! A disk in memory that fails where it is told to, and tells what a crash may leave.
 
 ghost use Rattle.std.specs.Prelude.{◌≡◌, ◌↔◌, ◌⊎◌, ◌+◌, ◌<◌, ◌≤◌, ◌∷◌, [], ◌++◌, ℕ, List, IsTrue, length, vec_len, take, drop, replicate, Some, IfOk, OnOk, OnErr, IsErr};
 ghost use Rattle.std.specs.Bool.{OnTrue, OnFalse};
@@ -9,7 +9,7 @@ ghost use Rattle.disk_trait.specs.Follows.{Follows};
 ghost use Rattle.disk_trait.specs.IsStable.{IsStable};
 ghost use Rattle.disk_trait.specs.GoesOn.{GoesOn};
 ghost use Rattle.disk_trait.specs.Calls.{FailsNext, after_call, first_stop};
-ghost use Rattle.disk_trait.specs.Recorded.{HasRoom, LacksRoom, with_write, with_sync};
+ghost use Rattle.disk_trait.specs.Recorded.{RecordHasRoom, RecordLacksRoom, with_write, with_sync};
 ghost use Rattle.disk_trait.specs.Memory.{made_of, written, told_by_memory};
 ghost use Rattle.disk_trait.specs.Undone.{undone};
 ghost use Rattle.disk_trait.specs.IsStriped.{IsStriped};
@@ -50,9 +50,7 @@ impl MemoryDisk {
         ensures zeros { IfOk result (λ d. d ≡ made_of (replicate size 0)) }
         ensures stable { IfOk result (λ d. IsStable (told_by_memory d)) }
     {
-        let Ok(bytes) = vec![in alloc; 0u8; size as usize] else {
-            return Err(NoMemory);
-        };
+        let bytes = vec![in alloc; 0u8; size as usize]?;
         Ok(MemoryDisk::from_image(bytes))
     }
 
@@ -102,9 +100,7 @@ impl MemoryDisk {
         ensures new { IfOk result (λ v. pick ≡ 1 → v.items ≡ self.now.contents) }
         ensures mixture { IfOk result (λ v. 1 < pick → IsStriped pick (undone self.now.contents self.now.past.events) self.now.contents v.items) }
     {
-        let Ok(mut image) = Vec::from_slice(*self.bytes.allocator(), self.bytes.as_slice()) else {
-            return Err(NoMemory);
-        };
+        let mut image = Vec::from_slice(*self.bytes.allocator(), self.bytes.as_slice())?;
         if pick == 1 {
             return Ok(image);
         }
@@ -134,9 +130,9 @@ fn stripe(mixed: &mut Vec<u8>, new: &[u8], width: usize)
 fn record_write(held: &mut Vec<u8>, past: &mut History, at: u64, bytes: &[u8]) -> bool
     requires { at + length bytes.now ≤ vec_len held.old }
     ensures written { OnTrue result (held.new.items ≡ spliced held.old.items at bytes.now) }
-    ensures room { OnTrue result (HasRoom past.old (length bytes.now)) }
+    ensures room { OnTrue result (RecordHasRoom past.old (length bytes.now)) }
     ensures recorded { OnTrue result (past.new ≡ with_write past.old at (take (length bytes.now) (drop at held.old.items))) }
-    ensures lacking { OnFalse result (LacksRoom past.old (length bytes.now)) }
+    ensures lacking { OnFalse result (RecordLacksRoom past.old (length bytes.now)) }
     ensures same { OnFalse result ((held.new.items ≡ held.old.items) × (past.new ≡ past.old)) }
 {
     if !past.has_room(bytes.len()) {
@@ -150,9 +146,9 @@ fn record_write(held: &mut Vec<u8>, past: &mut History, at: u64, bytes: &[u8]) -
 
 /// Records a sync, where there is room for it.
 fn record_sync(past: &mut History) -> bool
-    ensures room { OnTrue result (HasRoom past.old 0) }
+    ensures room { OnTrue result (RecordHasRoom past.old 0) }
     ensures recorded { OnTrue result (past.new ≡ with_sync past.old) }
-    ensures lacking { OnFalse result (LacksRoom past.old 0) }
+    ensures lacking { OnFalse result (RecordLacksRoom past.old 0) }
     ensures same { OnFalse result (past.new ≡ past.old) }
 {
     if !past.has_room(0) {
@@ -213,9 +209,9 @@ impl Disk for MemoryDisk {
         ensures cause { HasCause (told_by_memory self.old).faults (told_by_memory self.new).faults result }
 
         // It fails exactly where it is told to or has no room. With room it is made also where it fails, without room never.
-        ensures fails { IsErr result ↔ (FailsNext self.old.calls ⊎ LacksRoom self.old.past (length bytes.now)) }
-        ensures made { HasRoom self.old.past (length bytes.now) → self.new ≡ record (written self.old at bytes.now) { calls = after_call self.old.calls result } }
-        ensures refused { LacksRoom self.old.past (length bytes.now) → self.new ≡ record self.old { calls = after_call self.old.calls result } }
+        ensures fails { IsErr result ↔ (FailsNext self.old.calls ⊎ RecordLacksRoom self.old.past (length bytes.now)) }
+        ensures made { RecordHasRoom self.old.past (length bytes.now) → self.new ≡ record (written self.old at bytes.now) { calls = after_call self.old.calls result } }
+        ensures refused { RecordLacksRoom self.old.past (length bytes.now) → self.new ≡ record self.old { calls = after_call self.old.calls result } }
     {
         let fails = self.calls.fails_now();
         if !record_write(&mut self.bytes, &mut self.past, at, bytes) {
@@ -235,7 +231,7 @@ impl Disk for MemoryDisk {
         ensures cause { HasCause (told_by_memory self.old).faults (told_by_memory self.new).faults result }
 
         // It fails exactly where it is told to or has no room, and then makes nothing sure.
-        ensures fails { IsErr result ↔ (FailsNext self.old.calls ⊎ LacksRoom self.old.past 0) }
+        ensures fails { IsErr result ↔ (FailsNext self.old.calls ⊎ RecordLacksRoom self.old.past 0) }
         ensures ok { OnOk result (self.new ≡ record self.old { past = with_sync self.old.past; calls = after_call self.old.calls result }) }
         ensures err { OnErr result (self.new ≡ record self.old { calls = after_call self.old.calls result }) }
     {

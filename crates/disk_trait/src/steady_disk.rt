@@ -1,4 +1,4 @@
-// A disk in memory that never fails.
+//! A disk in memory that never fails.
 
 ghost use Rattle.std.specs.Prelude.{◌≡◌, IfOk, replicate, refl};
 ghost use Rattle.std.proofs.lemmas.Bool.{false≢true};
@@ -29,9 +29,7 @@ impl SteadyDisk {
     pub fn new(alloc: Global, size: u64) -> Result<SteadyDisk, NoMemory>
         ensures { IfOk result (λ d. d ≡ replicate size 0) }
     {
-        let Ok(bytes) = vec![in alloc; 0u8; size as usize] else {
-            return Err(NoMemory);
-        };
+        let bytes = vec![in alloc; 0u8; size as usize]?;
         Ok(SteadyDisk { bytes })
     }
 

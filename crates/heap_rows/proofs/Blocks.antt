@@ -6,34 +6,34 @@ use Rattle.std.proofs.lemmas.List.{length-set, get_or-set_same, get_or-set_other
 use Rattle.std.proofs.lemmas.Option.{slice_get-get_or}
 use Rattle.block_model.specs.declared.place.Place.{Place}
 use Rattle.block_model.specs.declared.place.Spot.{Spot}
-use Rattle.block_model.specs.DiskLayout.{DiskLayout}
+use Rattle.store_layout.specs.DiskLayout.{DiskLayout}
 use Rattle.page_layout.specs.declared.page.Form.{Form}
 use Rattle.page_layout.specs.RowBytes.{StoredRow}
 use Rattle.page_layout.specs.PageContents.{Slot, HasSlots, IsForm, IsUnstarted}
 use Rattle.page_layout.specs.FreeSlots.{slot_count, is_free, lowest_free}
-use Rattle.page_layout.proofs.FreeSlots.{started-not, same-free}
+use Rattle.page_layout.proofs.FreeSlots.{started_not, same-free}
 use Rattle.page_redo.specs.Redo.{IsFreeSlot, IsUsedSlot}
 use Rattle.page_store.specs.PageMap.{PageMap, block_at, page_at}
 use Rattle.page_store.specs.FirstRoom.{IsFirstRoom}
 use Rattle.heap_rows.specs.Heaps.{relation_of, form_at, slots_a_page}
 use Rattle.heap_rows.specs.HeapBlocks.{HasBlocks, slots_of}
-use Rattle.heap_rows.specs.IsFull.{IsFull, AreUsed}
+use Rattle.heap_rows.specs.IsTableFull.{IsTableFull, AreUsed}
 use Rattle.heap_rows.specs.LeavesOthers.{KeepsRows}
 use Rattle.heap_rows.specs.RoomOnPage.{HasSlotsOnceStarted, KeepsOrStarts}
 use Rattle.heap_rows.specs.RowPlaces.{IsInUse, place_for, slot_at, with_row, with_slot}
-use Rattle.heap_rows.proofs.Places.{none-used, used-none, free-slot, first-of-empty, place-at, place-behind}
+use Rattle.heap_rows.proofs.Places.{none_used, used_none, free_slot, first_of_empty, place_at, place_behind}
 
 -- what the layout says of the table
 pub record IsHeap (layout : DiskLayout) (table : ℕ) : Type 0 where
   pub form : IsForm (form_at layout table)
   pub some : 0 < slots_a_page layout table
 
-pub heap-of : (layout : DiskLayout) (table : ℕ) (form : Form) → form ≡ form_at layout table → IsForm form → 0 < slot_count form → IsHeap layout table
-heap-of layout table form is is_form some = record { form = subst IsForm is is_form; some = subst (λ (f : Form). 0 < slot_count f) is some }
+pub heap_of : (layout : DiskLayout) (table : ℕ) (form : Form) → form ≡ form_at layout table → IsForm form → 0 < slot_count form → IsHeap layout table
+heap_of layout table form is is_form some = record { form = subst IsForm is is_form; some = subst (λ (f : Form). 0 < slot_count f) is some }
 
 -- a fact of the form and the relation that the code found
-pub at-table : (layout : DiskLayout) (table relation : ℕ) (form : Form) (P : Form → ℕ → Type 0) → form ≡ form_at layout table → relation ≡ relation_of table → P form relation → P (form_at layout table) (relation_of table)
-at-table layout table relation form P is number holds = subst (λ (r : ℕ). P (form_at layout table) r) number (subst (λ (f : Form). P f relation) is holds)
+pub at_table : (layout : DiskLayout) (table relation : ℕ) (form : Form) (P : Form → ℕ → Type 0) → form ≡ form_at layout table → relation ≡ relation_of table → P form relation → P (form_at layout table) (relation_of table)
+at_table layout table relation form P is number holds = subst (λ (r : ℕ). P (form_at layout table) r) number (subst (λ (f : Form). P f relation) is holds)
 
 -- every page of the table but one is as before
 abbrev pub LeavesOthersOf : PageMap → PageMap → ℕ → ℕ → Type 0
@@ -43,9 +43,9 @@ LeavesOthersOf old new table block = (other : ℕ) → other ≢ block → block
 abbrev pub IsRoomOf : DiskLayout → PageMap → ℕ → Option ℕ → Type 0
 IsRoomOf layout pages table first = IsFirstRoom (Some (form_at layout table)) layout.sizes.heap_blocks (block_at pages (relation_of table)) first
 
-pub room-of : (layout : DiskLayout) (pages : PageMap) (table relation : ℕ) (form : Option Form) (limit : ℕ) (first : Option ℕ) → relation ≡ relation_of table → form ≡ Some (form_at layout table) → limit ≡ layout.sizes.heap_blocks
+pub room_of : (layout : DiskLayout) (pages : PageMap) (table relation : ℕ) (form : Option Form) (limit : ℕ) (first : Option ℕ) → relation ≡ relation_of table → form ≡ Some (form_at layout table) → limit ≡ layout.sizes.heap_blocks
     → IsFirstRoom form limit (block_at pages relation) first → IsRoomOf layout pages table first
-room-of layout pages table relation form limit first is_relation is_form is_limit room_there =
+room_of layout pages table relation form limit first is_relation is_form is_limit room_there =
     subst (λ (f : Option Form). IsFirstRoom f layout.sizes.heap_blocks (block_at pages (relation_of table)) first) is_form
     (subst (λ (n : ℕ). IsFirstRoom form n (block_at pages (relation_of table)) first) is_limit
     (subst (λ (r : ℕ). IsFirstRoom form limit (block_at pages r) first) is_relation room_there))
@@ -55,28 +55,28 @@ abbrev HasRoomAt : DiskLayout → PageMap → ℕ → ℕ → Type 0
 HasRoomAt layout pages table block = (slot : ℕ) × IsFreeSlot (form_at layout table) (block_at pages (relation_of table) block) slot
 
 -- a block with room is one of the blocks, and one of its slots is free
-room-within : {layout : DiskLayout} {table : ℕ} {pages : PageMap} {blocks : List (List Slot)} (heap : IsHeap layout table) (has : HasBlocks layout pages table blocks) (block : ℕ) → block < layout.sizes.heap_blocks
+room_within : {layout : DiskLayout} {table : ℕ} {pages : PageMap} {blocks : List (List Slot)} (heap : IsHeap layout table) (has : HasBlocks layout pages table blocks) (block : ℕ) → block < layout.sizes.heap_blocks
     → HasRoomAt layout pages table block → (block < length blocks) × (lowest_free (slots_of blocks block) ≡ None → ⊥)
-room-within {layout} {table} {pages} {blocks} heap has block below room_there =
+room_within {layout} {table} {pages} {blocks} heap has block below room_there =
     let free = room_there in
     elim (cases_lt block (length blocks)) [
-      | inl there ↦ (there, λ none. same-free (form_at layout table) (block_at pages (relation_of table) block) free.1.0 (slots_of blocks block) free.0 heap.form free.1.1 (has.started block there) free.1.2 (none-used (slots_of blocks block) none))
-      | inr past ↦ absurd (started-not (form_at layout table) (block_at pages (relation_of table) block) free.1.0 free.1.1 (has.unstarted block past below))
+      | inl there ↦ (there, λ none. same-free (form_at layout table) (block_at pages (relation_of table) block) free.1.0 (slots_of blocks block) free.0 heap.form free.1.1 (has.started block there) free.1.2 (none_used (slots_of blocks block) none))
+      | inr past ↦ absurd (started_not (form_at layout table) (block_at pages (relation_of table) block) free.1.0 free.1.1 (has.unstarted block past below))
     ]
 
 -- a block without room has no free slot
-no-room : {layout : DiskLayout} {table : ℕ} {pages : PageMap} {blocks : List (List Slot)} (heap : IsHeap layout table) (has : HasBlocks layout pages table blocks) (block : ℕ) → block < length blocks
+no_room : {layout : DiskLayout} {table : ℕ} {pages : PageMap} {blocks : List (List Slot)} (heap : IsHeap layout table) (has : HasBlocks layout pages table blocks) (block : ℕ) → block < length blocks
     → (HasRoomAt layout pages table block → ⊥) → AreUsed (slots_of blocks block)
-no-room {layout} {table} {pages} {blocks} heap has block there none = λ slot within.
+no_room {layout} {table} {pages} {blocks} heap has block there none = λ slot within.
     false_from_ne_true (is_free (get_or (slots_of blocks block) slot None)) (λ free.
-    none (slot, (slots_of blocks block, has.started block there, slice_get-get_or (slots_of blocks block) slot None within ∙ ap Some (free-slot (get_or (slots_of blocks block) slot None) free))))
+    none (slot, (slots_of blocks block, has.started block there, slice_get-get_or (slots_of blocks block) slot None within ∙ ap Some (free_slot (get_or (slots_of blocks block) slot None) free))))
 
 -- the block that isn't started comes behind the last one
-next-block : {layout : DiskLayout} {table : ℕ} {pages : PageMap} {blocks : List (List Slot)} (has : HasBlocks layout pages table blocks) (block : ℕ) → block < layout.sizes.heap_blocks → IsUnstarted (block_at pages (relation_of table) block)
+next_block : {layout : DiskLayout} {table : ℕ} {pages : PageMap} {blocks : List (List Slot)} (has : HasBlocks layout pages table blocks) (block : ℕ) → block < layout.sizes.heap_blocks → IsUnstarted (block_at pages (relation_of table) block)
     → ((other : ℕ) → other < block → IsUnstarted (block_at pages (relation_of table) other) → ⊥) → block ≡ length blocks
-next-block {layout} {table} {pages} {blocks} has block below unstarted lower =
+next_block {layout} {table} {pages} {blocks} has block below unstarted lower =
     elim (cases_lt block (length blocks)) [
-      | inl there ↦ absurd (started-not (form_at layout table) (block_at pages (relation_of table) block) (slots_of blocks block) (has.started block there) unstarted)
+      | inl there ↦ absurd (started_not (form_at layout table) (block_at pages (relation_of table) block) (slots_of blocks block) (has.started block there) unstarted)
       | inr past ↦ elim (cases_lt (length blocks) block) [
         | inl before ↦ absurd (lower (length blocks) before (has.unstarted (length blocks) (omega arith) (omega arith)))
         | inr within ↦ omega arith
@@ -94,13 +94,13 @@ pub record Behind (limit : ℕ) (blocks : List (List Slot)) (block : ℕ) : Type
   pub below : block < limit
   pub before : (k : ℕ) → k < length blocks → lowest_free (slots_of blocks k) ≡ None
 
-pub first-room : {layout : DiskLayout} {table : ℕ} {pages : PageMap} {blocks : List (List Slot)} (heap : IsHeap layout table) (has : HasBlocks layout pages table blocks) (block : ℕ) → IsRoomOf layout pages table (Some block)
+pub first_room : {layout : DiskLayout} {table : ℕ} {pages : PageMap} {blocks : List (List Slot)} (heap : IsHeap layout table) (has : HasBlocks layout pages table blocks) (block : ℕ) → IsRoomOf layout pages table (Some block)
     → InBlock blocks block ⊎ Behind layout.sizes.heap_blocks blocks block
-first-room {layout} {table} {pages} {blocks} heap has block (inl with_room) =
-    let within = room-within heap has block with_room.below with_room.room in
-    inl (record { there = within.0; before = λ k lower. used-none (slots_of blocks k) (no-room heap has k (let first = within.0 in omega arith) (with_room.lower k lower)); here = within.1 })
-first-room {layout} {table} {pages} {blocks} heap has block (inr next) =
-    inr (record { there = next-block has block next.below next.unstarted next.lower; below = next.below; before = λ k there. used-none (slots_of blocks k) (no-room heap has k there (next.no_room k)) })
+first_room {layout} {table} {pages} {blocks} heap has block (inl with_room) =
+    let within = room_within heap has block with_room.below with_room.room in
+    inl (record { there = within.0; before = λ k lower. used_none (slots_of blocks k) (no_room heap has k (let first = within.0 in omega arith) (with_room.lower k lower)); here = within.1 })
+first_room {layout} {table} {pages} {blocks} heap has block (inr next) =
+    inr (record { there = next_block has block next.below next.unstarted next.lower; below = next.below; before = λ k there. used_none (slots_of blocks k) (no_room heap has k there (next.no_room k)) })
 
 -- a change of one page
 
@@ -124,9 +124,9 @@ set-block {layout} {table} {old} {new} {blocks} has block slots there others her
       subst IsUnstarted (sym (others b other)) (has.unstarted b behind below);
 }
 
-pub push-block : {layout : DiskLayout} {table : ℕ} {old new : PageMap} {blocks : List (List Slot)} (has : HasBlocks layout old table blocks) (block : ℕ) (slots : List Slot) → block ≡ length blocks → block < layout.sizes.heap_blocks
+pub push_block : {layout : DiskLayout} {table : ℕ} {old new : PageMap} {blocks : List (List Slot)} (has : HasBlocks layout old table blocks) (block : ℕ) (slots : List Slot) → block ≡ length blocks → block < layout.sizes.heap_blocks
     → LeavesOthersOf old new table block → HasSlots (form_at layout table) (block_at new (relation_of table) block) slots → HasBlocks layout new table (blocks ++ slots ∷ [])
-push-block {layout} {table} {old} {new} {blocks} has block slots there below others here =
+push_block {layout} {table} {old} {new} {blocks} has block slots there below others here =
     let long : length (blocks ++ slots ∷ []) ≡ length blocks + 1 = length-append blocks (slots ∷ []) in
     record {
       within = omega arith;
@@ -160,18 +160,18 @@ pub put-place : {layout : DiskLayout} {table : ℕ} {pages : PageMap} {blocks : 
     → ((slots : List Slot) → HasSlotsOnceStarted (form_at layout table) (block_at pages (relation_of table) block) slots → lowest_free slots ≡ Some slot)
     → place_for layout.sizes.heap_blocks blocks ≡ Some (record { block = block; slot = slot })
 put-place {layout} {table} {pages} {blocks} heap has block slot first lowest =
-    elim (first-room heap has block first) [
+    elim (first_room heap has block first) [
       | inl in_block ↦
           let zero_on : 0 + block ≡ block = omega arith in
-          place-at layout.sizes.heap_blocks 0 block slot blocks in_block.there in_block.before (lowest (slots_of blocks block) (inl (has.started block in_block.there)))
+          place_at layout.sizes.heap_blocks 0 block slot blocks in_block.there in_block.before (lowest (slots_of blocks block) (inl (has.started block in_block.there)))
           ∙ ap (λ (b : ℕ). Some (record { block = b; slot = slot })) zero_on
       | inr behind ↦
           let unstarted = has.unstarted block (omega (arith, behind.there)) behind.below in
           let empty = lowest (replicate (slots_a_page layout table) None) (inr (unstarted, refl)) in
-          let first_slot : Some 0 ≡ Some slot = sym (first-of-empty (slots_a_page layout table) heap.some) ∙ empty in
+          let first_slot : Some 0 ≡ Some slot = sym (first_of_empty (slots_a_page layout table) heap.some) ∙ empty in
           let zero_slot : 0 ≡ slot = cc in
           let zero_on : 0 + length blocks ≡ block = omega (arith, behind.there) in
-          place-behind layout.sizes.heap_blocks 0 blocks behind.before
+          place_behind layout.sizes.heap_blocks 0 blocks behind.before
           ∙ ap (λ (b : ℕ). cond (nat_lt b layout.sizes.heap_blocks) (Some (record { block = b; slot = 0 })) None) zero_on
           ∙ ap (λ (t : Bool). cond t (Some (record { block = block; slot = 0 })) None) (lt-ltb block layout.sizes.heap_blocks behind.below)
           ∙ ap (λ (s : ℕ). Some (record { block = block; slot = s })) zero_slot
@@ -185,7 +185,7 @@ pub put-blocks : {layout : DiskLayout} {table : ℕ} {old : PageMap} {blocks : L
 put-blocks {layout} {table} {old} {blocks} new heap has block slot row first others puts =
     let count = slots_a_page layout table in
     let result : List (List Slot) → Type 0 = λ all. HasBlocks layout new table (with_slot all (record { block = block; slot = slot }) (Some row)) in
-    elim (first-room heap has block first) [
+    elim (first_room heap has block first) [
       | inl in_block ↦
           subst (λ (t : Bool). result (cond t blocks (blocks ++ replicate count None ∷ []))) (sym (lt-ltb block (length blocks) in_block.there))
           (set-block has block (set (slots_of blocks block) slot (Some row)) in_block.there others (puts (slots_of blocks block) (inl (has.started block in_block.there))))
@@ -197,49 +197,49 @@ put-blocks {layout} {table} {old} {blocks} new heap has block slot row first oth
           ap (λ (s : List Slot). set (blocks ++ empty ∷ []) block (set s slot (Some row))) there ∙ set_at blocks empty [] (set empty slot (Some row)) block (sym behind.there) in
           subst (λ (t : Bool). result (cond t blocks (blocks ++ replicate count None ∷ []))) (sym (le-ltb block (length blocks) (omega (arith, behind.there))))
           (subst (HasBlocks layout new table) (sym all)
-          (push-block has block (set empty slot (Some row)) behind.there behind.below others (puts empty (inr (unstarted, refl)))))
+          (push_block has block (set empty slot (Some row)) behind.there behind.below others (puts empty (inr (unstarted, refl)))))
     ]
 
 -- a put that fails
-pub kept-blocks : {layout : DiskLayout} {table : ℕ} {old : PageMap} {blocks : List (List Slot)} (new : PageMap) (heap : IsHeap layout table) (has : HasBlocks layout old table blocks) (block : ℕ) → IsRoomOf layout old table (Some block)
+pub kept_blocks : {layout : DiskLayout} {table : ℕ} {old : PageMap} {blocks : List (List Slot)} (new : PageMap) (heap : IsHeap layout table) (has : HasBlocks layout old table blocks) (block : ℕ) → IsRoomOf layout old table (Some block)
     → LeavesOthersOf old new table block → KeepsOrStarts (form_at layout table) (block_at old (relation_of table) block) (block_at new (relation_of table) block) → KeepsRows layout new table blocks
-kept-blocks {layout} {table} {old} {blocks} new heap has block first others (inl same) =
+kept_blocks {layout} {table} {old} {blocks} new heap has block first others (inl same) =
     inl (same-blocks has (λ b.
     elim (cases_eq b block) [
       | inl is ↦ let P : ℕ → Type 0 = λ n. block_at new (relation_of table) n ≡ block_at old (relation_of table) n in subst P (sym is) same
       | inr other ↦ others b other
     ]))
-kept-blocks {layout} {table} {old} {blocks} new heap has block first others (inr started) =
-    elim (first-room heap has block first) [
-      | inl in_block ↦ absurd (started-not (form_at layout table) (block_at old (relation_of table) block) (slots_of blocks block) (has.started block in_block.there) started.0)
-      | inr behind ↦ inr (push-block has block (replicate (slots_a_page layout table) None) behind.there behind.below others started.1)
+kept_blocks {layout} {table} {old} {blocks} new heap has block first others (inr started) =
+    elim (first_room heap has block first) [
+      | inl in_block ↦ absurd (started_not (form_at layout table) (block_at old (relation_of table) block) (slots_of blocks block) (has.started block in_block.there) started.0)
+      | inr behind ↦ inr (push_block has block (replicate (slots_a_page layout table) None) behind.there behind.below others started.1)
     ]
 
 -- a table without a place
 
-pub full-blocks : {layout : DiskLayout} {table : ℕ} {pages : PageMap} {blocks : List (List Slot)} (heap : IsHeap layout table) (has : HasBlocks layout pages table blocks) → IsRoomOf layout pages table None → IsFull layout.sizes.heap_blocks blocks
-full-blocks {layout} {table} {pages} {blocks} heap has full = record {
+pub full_blocks : {layout : DiskLayout} {table : ℕ} {pages : PageMap} {blocks : List (List Slot)} (heap : IsHeap layout table) (has : HasBlocks layout pages table blocks) → IsRoomOf layout pages table None → IsTableFull layout.sizes.heap_blocks blocks
+full_blocks {layout} {table} {pages} {blocks} heap has full = record {
   all_blocks =
       elim (cases_lt (length blocks) layout.sizes.heap_blocks) [
         | inl before ↦ absurd (full.started (length blocks) before (has.unstarted (length blocks) (omega arith) before))
         | inr all ↦ let most = has.within in omega arith
       ];
-  all_slots = λ block there. no-room heap has block there (full.no_room block);
+  all_slots = λ block there. no_room heap has block there (full.no_room block);
 }
 
-pub full-not-first : {layout : DiskLayout} {table : ℕ} {pages : PageMap} {blocks : List (List Slot)} (heap : IsHeap layout table) (has : HasBlocks layout pages table blocks) (block : ℕ) → IsRoomOf layout pages table (Some block) → IsFull layout.sizes.heap_blocks blocks → ⊥
-full-not-first {layout} {table} {pages} {blocks} heap has block first full =
-    elim (first-room heap has block first) [
-      | inl in_block ↦ in_block.here (used-none (slots_of blocks block) (full.all_slots block in_block.there))
+pub full_not_first : {layout : DiskLayout} {table : ℕ} {pages : PageMap} {blocks : List (List Slot)} (heap : IsHeap layout table) (has : HasBlocks layout pages table blocks) (block : ℕ) → IsRoomOf layout pages table (Some block) → IsTableFull layout.sizes.heap_blocks blocks → ⊥
+full_not_first {layout} {table} {pages} {blocks} heap has block first full =
+    elim (first_room heap has block first) [
+      | inl in_block ↦ in_block.here (used_none (slots_of blocks block) (full.all_slots block in_block.there))
       | inr behind ↦ absurd (omega (arith, behind.there, behind.below, full.all_blocks))
     ]
 
 -- a mark
 
 -- a row at a spot is one of a block
-pub in-use : {layout : DiskLayout} {table : ℕ} {pages : PageMap} {blocks : List (List Slot)} (has : HasBlocks layout pages table blocks) (spot : Spot) (row : StoredRow) → slot_at blocks spot ≡ Some row
+pub in_use : {layout : DiskLayout} {table : ℕ} {pages : PageMap} {blocks : List (List Slot)} (has : HasBlocks layout pages table blocks) (spot : Spot) (row : StoredRow) → slot_at blocks spot ≡ Some row
     → (spot.block < length blocks) × (slice_get (slots_of blocks spot.block) spot.slot ≡ Some (Some row))
-in-use {layout} {table} {pages} {blocks} has spot row at =
+in_use {layout} {table} {pages} {blocks} has spot row at =
     elim (cases_lt spot.slot (length (slots_of blocks spot.block))) [
       | inl within ↦ (
         elim (cases_lt spot.block (length blocks)) [
@@ -251,14 +251,14 @@ in-use {layout} {table} {pages} {blocks} has spot row at =
       | inr past ↦ absurd (let none : None ≡ Some row = sym (get_or_past (slots_of blocks spot.block) spot.slot None past) ∙ at in cc)
     ]
 
-pub is-used : {layout : DiskLayout} {table : ℕ} {pages : PageMap} (spot : Spot) → IsInUse layout pages table spot → IsUsedSlot (form_at layout table) (block_at pages (relation_of table) spot.block) spot.slot
-is-used spot use_of =
-    let there = in-use use_of.2 spot use_of.1 use_of.3 in
+pub is_used : {layout : DiskLayout} {table : ℕ} {pages : PageMap} (spot : Spot) → IsInUse layout pages table spot → IsUsedSlot (form_at layout table) (block_at pages (relation_of table) spot.block) spot.slot
+is_used spot use_of =
+    let there = in_use use_of.2 spot use_of.1 use_of.3 in
     (slots_of use_of.0 spot.block, use_of.1, use_of.2.started spot.block there.0, there.1)
 
 -- a table without started pages
-pub no-blocks : (layout : DiskLayout) (pages : PageMap) (table : ℕ) → ((place : Place) → IsUnstarted (page_at pages place)) → HasBlocks layout pages table []
-no-blocks layout pages table unstarted = record {
+pub no_blocks : (layout : DiskLayout) (pages : PageMap) (table : ℕ) → ((place : Place) → IsUnstarted (page_at pages place)) → HasBlocks layout pages table []
+no_blocks layout pages table unstarted = record {
   within = omega arith;
   started = λ block there. absurd (omega arith);
   unstarted = λ block past below. unstarted (record { relation = relation_of table; block = block });

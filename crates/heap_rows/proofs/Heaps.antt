@@ -10,35 +10,36 @@ use Rattle.block_model.specs.declared.value.Kind.{Kind}
 use Rattle.block_model.specs.declared.value.Kind.TheVariants as kinds
 use Rattle.block_model.specs.declared.schema.Column.{Column}
 use Rattle.block_model.specs.declared.schema.Table.{Table}
-use Rattle.block_model.specs.DiskLayout.{DiskLayout, relation_blocks}
-use Rattle.block_model.specs.FirstBrokenRule.{KeepsLimits}
-use Rattle.block_model.specs.Limits.{rows_fit}
+use Rattle.store_layout.specs.DiskLayout.{DiskLayout, relation_blocks}
+use Rattle.store_layout.specs.FirstBrokenRule.{KeepsLimits}
+use Rattle.store_layout.specs.Limits.{rows_fit}
 use Rattle.block_model.specs.RowSize.{row_size, value_size}
-use Rattle.page_store.specs.Forms.{HasForm, form_of, heap_form}
-use Rattle.page_store.proofs.Stores.{have-forms}
+use Rattle.page_store.specs.Forms.{HasForm, form_of}
+use Rattle.page_layout.specs.HeapForms.{heap_form}
+use Rattle.page_store.proofs.Stores.{have_forms}
 use Rattle.page_store.specs.PageMap.{block_limit}
 use Rattle.heap_rows.specs.Heaps.{relation_of, no_table, table_at, form_at}
 
 -- a table within the limits has a row on each page
-pub some-row : (layout : DiskLayout) (table : ℕ) → table < length layout.schema.tables → KeepsLimits layout.schema layout.sizes → 1 ≤ (table_at layout table).rows_per_page
-some-row layout table there limits =
+pub some_row : (layout : DiskLayout) (table : ℕ) → table < length layout.schema.tables → KeepsLimits layout.schema layout.sizes → 1 ≤ (table_at layout table).rows_per_page
+some_row layout table there limits =
     let t : Table = table_at layout table in
     let s : ℕ = row_size (map (λ (c : Column). c.kind) t.columns) in
     leb-true 1 t.rows_per_page (and_parts (nat_le 1 t.rows_per_page) (nat_le t.rows_per_page (8160 / s)) (AllPass-from_list_all rows_fit layout.schema.tables (limits 4) table no_table there)).0
 
 -- and its rows fit a page
-pub has-form : (layout : DiskLayout) (table : ℕ) → table < length layout.schema.tables → KeepsLimits layout.schema layout.sizes → HasForm (table_at layout table)
-has-form layout table there limits = have-forms layout.schema layout.sizes limits table no_table there
+pub has_form : (layout : DiskLayout) (table : ℕ) → table < length layout.schema.tables → KeepsLimits layout.schema layout.sizes → HasForm (table_at layout table)
+has_form layout table there limits = have_forms layout.schema layout.sizes limits table no_table there
 
 -- a row has at most eight ranges
-pub few-bytes : (ks : List Kind) → sum_by value_size ks ≤ 17 * length ks
-few-bytes [] = omega arith
-few-bytes (kinds.Int ∷ ks) = omega (arith, sum_by-cons value_size kinds.Int ks, few-bytes ks)
-few-bytes (kinds.Span ∷ ks) = omega (arith, sum_by-cons value_size kinds.Span ks, few-bytes ks)
-few-bytes (kinds.Net ∷ ks) = omega (arith, sum_by-cons value_size kinds.Net ks, few-bytes ks)
+pub few_bytes : (ks : List Kind) → sum_by value_size ks ≤ 17 * length ks
+few_bytes [] = omega arith
+few_bytes (kinds.Int ∷ ks) = omega (arith, sum_by-cons value_size kinds.Int ks, few_bytes ks)
+few_bytes (kinds.Span ∷ ks) = omega (arith, sum_by-cons value_size kinds.Span ks, few_bytes ks)
+few_bytes (kinds.Net ∷ ks) = omega (arith, sum_by-cons value_size kinds.Net ks, few_bytes ks)
 
-pub small-row : (columns : List Column) → length columns ≤ 8 → row_size (map (λ c. c.kind) columns) ≤ 158
-small-row columns few = omega (arith, few-bytes (map (λ (c : Column). c.kind) columns), length-map {A = Column} {B = Kind})
+pub small_row : (columns : List Column) → length columns ≤ 8 → row_size (map (λ c. c.kind) columns) ≤ 158
+small_row columns few = omega (arith, few_bytes (map (λ (c : Column). c.kind) columns), length-map {A = Column} {B = Kind})
 
 -- the relation of a table
 
@@ -47,13 +48,13 @@ same-there h i [] is n below = absurd (omega arith)
 same-there h i (t ∷ ts) is zero below = refl
 same-there h i (t ∷ ts) is (suc n) below = same-there h i ts is n (omega arith)
 
-pub limit-is : (d : DiskLayout) (table relation : ℕ) → relation ≡ table + 1 → table < length d.schema.tables → block_limit d relation ≡ d.sizes.heap_blocks
+pub limit_is : (d : DiskLayout) (table relation : ℕ) → relation ≡ table + 1 → table < length d.schema.tables → block_limit d relation ≡ d.sizes.heap_blocks
 unfolding relation_blocks
-limit-is d table relation is there =
+limit_is d table relation is there =
     let next : relation ≡ suc table = omega arith in
     ap (block_limit d) next ∙ same-there d.sizes.heap_blocks d.sizes.index_blocks d.schema.tables d.schema.indexes table there
 
-pub form-found : (d : DiskLayout) (table : ℕ) → table < length d.schema.tables → form_of d (relation_of table) ≡ Some (form_at d table)
-form-found d table there =
+pub form_found : (d : DiskLayout) (table : ℕ) → table < length d.schema.tables → form_of d (relation_of table) ≡ Some (form_at d table)
+form_found d table there =
     let next : table + 1 ≡ suc table = omega arith in
     ap (form_of d) next ∙ ap (option_map heap_form) (slice_get-get_or d.schema.tables table no_table there)

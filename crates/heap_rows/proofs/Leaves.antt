@@ -3,7 +3,7 @@ use Rattle.std.proofs.Common.{◌≡◌, ℕ, ◌+◌, List, ap, subst, ◌∙�
 use Rattle.std.specs.Prelude.{Result, Ok, Err, OnOk, OnErr, Some, set}
 use Rattle.block_model.specs.declared.place.Place.{Place}
 use Rattle.block_model.specs.declared.place.Spot.{Spot}
-use Rattle.block_model.specs.DiskLayout.{DiskLayout}
+use Rattle.store_layout.specs.DiskLayout.{DiskLayout}
 use Rattle.disk_trait.specs.Told.{Told}
 use Rattle.page_layout.specs.RowBytes.{StoredRow}
 use Rattle.page_layout.specs.PageContents.{Slot}
@@ -18,18 +18,18 @@ use Rattle.heap_rows.specs.Heaps.{relation_of, form_at}
 use Rattle.heap_rows.specs.HeapBlocks.{HasBlocks, slots_of}
 use Rattle.heap_rows.specs.LeavesOthers.{LeavesOtherPages, LeavesOthers}
 use Rattle.heap_rows.specs.RowPlaces.{slot_at, with_slot}
-use Rattle.heap_rows.proofs.Blocks.{LeavesOthersOf, in-use, same-blocks, set-block}
-use Rattle.heap_rows.proofs.Rooms.{at-form}
+use Rattle.heap_rows.proofs.Blocks.{LeavesOthersOf, in_use, same-blocks, set-block}
+use Rattle.heap_rows.proofs.Rooms.{at_form}
 
 -- the page store's change leaves every other page
-pub change-leaves : {D T E : Type 0} (told : D → Told) (layout : DiskLayout) (place : Place) (change : LoggedChange) (old new : View D) (result : Result T E)
+pub change_leaves : {D T E : Type 0} (told : D → Told) (layout : DiskLayout) (place : Place) (change : LoggedChange) (old new : View D) (result : Result T E)
     → OnOk result (Tells told old → Changed layout place change old.pages new.pages) → OnErr result (Keeps told old new) → (told new.disk).tells_contents ≡ (told old.disk).tells_contents → new.layout ≡ old.layout → LeavesOtherPages told place old new
-change-leaves told layout place change old new (Ok value) changed kept tells same = record { tells = tells; layout = same; pages = λ told_old other apart. (changed told_old).others other apart }
-change-leaves told layout place change old new (Err error) changed kept tells same = record { tells = tells; layout = same; pages = λ told_old other apart. ap (λ pages. page_at pages other) (kept.pages told_old) }
+change_leaves told layout place change old new (Ok value) changed kept tells same = record { tells = tells; layout = same; pages = λ told_old other apart. (changed told_old).others other apart }
+change_leaves told layout place change old new (Err error) changed kept tells same = record { tells = tells; layout = same; pages = λ told_old other apart. ap (λ pages. page_at pages other) (kept.pages told_old) }
 
 -- so a change of a table's page leaves every other table
-pub table-leaves : {D : Type 0} (told : D → Told) (table : ℕ) (place : Place) (old new : View D) → place.relation ≡ relation_of table → LeavesOtherPages told place old new → LeavesOthers told table old new
-table-leaves told table place old new at leaves = record {
+pub table_leaves : {D : Type 0} (told : D → Told) (table : ℕ) (place : Place) (old new : View D) → place.relation ≡ relation_of table → LeavesOtherPages told place old new → LeavesOthers told table old new
+table_leaves told table place old new at leaves = record {
   tells = leaves.tells;
   layout = leaves.layout;
   pages = λ told_old other apart. leaves.pages told_old other (λ same. apart (ap (λ (p : Place). p.relation) same ∙ at));
@@ -40,18 +40,18 @@ table-leaves told table place old new at leaves = record {
 }
 
 -- and every other block of the table
-pub block-leaves : {D : Type 0} (told : D → Told) (table : ℕ) (place : Place) (old new : View D) → LeavesOtherPages told place old new → Tells told old → LeavesOthersOf old.pages new.pages table place.block
-block-leaves told table place old new leaves told_old = λ other apart. leaves.pages told_old (record { relation = relation_of table; block = other }) (λ same. apart (ap (λ (p : Place). p.block) same))
+pub block_leaves : {D : Type 0} (told : D → Told) (table : ℕ) (place : Place) (old new : View D) → LeavesOtherPages told place old new → Tells told old → LeavesOthersOf old.pages new.pages table place.block
+block_leaves told table place old new leaves told_old = λ other apart. leaves.pages told_old (record { relation = relation_of table; block = other }) (λ same. apart (ap (λ (p : Place). p.block) same))
 
 -- a mark changes its row alone
-pub mark-blocks : {layout : DiskLayout} {table : ℕ} {old : PageMap} {blocks : List (List Slot)} (new : PageMap) (has : HasBlocks layout old table blocks) (relation deleter : ℕ) (spot : Spot) (row : StoredRow) → relation ≡ relation_of table
+pub mark_blocks : {layout : DiskLayout} {table : ℕ} {old : PageMap} {blocks : List (List Slot)} (new : PageMap) (has : HasBlocks layout old table blocks) (relation deleter : ℕ) (spot : Spot) (row : StoredRow) → relation ≡ relation_of table
     → form_of layout (relation_of table) ≡ Some (form_at layout table) → slot_at blocks spot ≡ Some row
     → Changed layout (record { relation = relation; block = spot.block }) (RowMark (record { relation = relation; block = spot.block }) spot.slot deleter) old new → HasBlocks layout new table (with_slot blocks spot (Some (marked row deleter)))
-mark-blocks {layout} {table} {old} {blocks} new has relation deleter spot row number found at changed =
+mark_blocks {layout} {table} {old} {blocks} new has relation deleter spot row number found at changed =
     let place : Place = record { relation = relation_of table; block = spot.block } in
     let change : LoggedChange = RowMark place spot.slot deleter in
-    let there = in-use has spot row at in
+    let there = in_use has spot row at in
     let done : Changed layout place change old new = subst (λ (r : ℕ). Changed layout (record { relation = r; block = spot.block }) (RowMark (record { relation = r; block = spot.block }) spot.slot deleter) old new) number changed in
-    let means = at-form (form_of layout (relation_of table)) (form_at layout table) (λ form. Means form (page_at old place) change (page_at new place)) found done.changed in
+    let means = at_form (form_of layout (relation_of table)) (form_at layout table) (λ form. Means form (page_at old place) change (page_at new place)) found done.changed in
     set-block has spot.block (set (slots_of blocks spot.block) spot.slot (Some (marked row deleter))) there.0 (λ other apart. done.others (record { relation = relation_of table; block = other }) (λ same. apart (ap (λ (p : Place). p.block) same)))
     (means (slots_of blocks spot.block) row (has.started spot.block there.0) there.1)

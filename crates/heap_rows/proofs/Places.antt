@@ -9,68 +9,68 @@ use Rattle.std.proofs.lemmas.List.Quantifiers.{position-Some}
 use Rattle.std.proofs.lemmas.Option.{slice_get-get_or, get_or_from_slice_get, slice_get_within}
 use Rattle.page_layout.specs.PageContents.{Slot}
 use Rattle.page_layout.specs.FreeSlots.{is_free, lowest_free}
-use Rattle.page_layout.proofs.FreeSlots.{lowest-found, lowest-none}
-use Rattle.heap_rows.specs.IsFull.{AreUsed}
+use Rattle.page_layout.proofs.FreeSlots.{lowest_found, lowest_none}
+use Rattle.heap_rows.specs.IsTableFull.{AreUsed}
 use Rattle.heap_rows.specs.RowPlaces.{place_from, spot_in}
 
 -- slots of one page
 
-pub free-slot : (slot : Slot) → is_free slot ≡ true → slot ≡ None
-free-slot None e = refl
-free-slot (Some row) e = absurd cc
+pub free_slot : (slot : Slot) → is_free slot ≡ true → slot ≡ None
+free_slot None e = refl
+free_slot (Some row) e = absurd cc
 
-pub lowest-there : (slots : List Slot) (n : ℕ) → lowest_free slots ≡ Some n → slice_get slots n ≡ Some None
-lowest-there slots n e =
+pub lowest_there : (slots : List Slot) (n : ℕ) → lowest_free slots ≡ Some n → slice_get slots n ≡ Some None
+lowest_there slots n e =
     let at = position-Some is_free slots n None e in
-    slice_get-get_or slots n None at.0 ∙ ap Some (free-slot (get_or slots n None) at.1)
+    slice_get-get_or slots n None at.0 ∙ ap Some (free_slot (get_or slots n None) at.1)
 
-none-before : (b : Bool) (n : ℕ) → cond b (Some n) None ≡ None → b ≡ false
-none-before true n e = absurd cc
-none-before false n e = refl
+none_before : (b : Bool) (n : ℕ) → cond b (Some n) None ≡ None → b ≡ false
+none_before true n e = absurd cc
+none_before false n e = refl
 
-pub none-used : (slots : List Slot) → lowest_free slots ≡ None → AreUsed slots
-none-used slots e = λ n below.
-    let past = ltb-false (position_or_len is_free slots) (length slots) (none-before _ _ e) in
+pub none_used : (slots : List Slot) → lowest_free slots ≡ None → AreUsed slots
+none_used slots e = λ n below.
+    let past = ltb-false (position_or_len is_free slots) (length slots) (none_before _ _ e) in
     fails_before_first is_free slots n None (omega arith)
 
-pub used-none : (slots : List Slot) → AreUsed slots → lowest_free slots ≡ None
-used-none slots used = sym (lowest-none slots (length slots) refl used)
+pub used_none : (slots : List Slot) → AreUsed slots → lowest_free slots ≡ None
+used_none slots used = sym (lowest_none slots (length slots) refl used)
 
 -- a free slot is found
-pub free-not-none : (slots : List Slot) (n : ℕ) → slice_get slots n ≡ Some None → lowest_free slots ≡ None → ⊥
-free-not-none slots n there none =
-    let used = none-used slots none n (slice_get_within slots n None there) in
+pub free_not_none : (slots : List Slot) (n : ℕ) → slice_get slots n ≡ Some None → lowest_free slots ≡ None → ⊥
+free_not_none slots n there none =
+    let used = none_used slots none n (slice_get_within slots n None there) in
     let here : is_free (get_or slots n None) ≡ true = ap is_free (get_or_from_slice_get slots n None None there) in
     cc
 
-pub first-of-empty : (count : ℕ) → 0 < count → lowest_free (replicate count None) ≡ Some 0
-first-of-empty count some =
+pub first_of_empty : (count : ℕ) → 0 < count → lowest_free (replicate count None) ≡ Some 0
+first_of_empty count some =
     let long : length (replicate count None) ≡ count = length-replicate {A = Slot} count None in
-    sym (lowest-found (replicate count None) 0 (omega arith) (λ k below. absurd (omega arith)) (ap is_free (get_or-replicate {A = Slot} count 0 None None some)))
+    sym (lowest_found (replicate count None) 0 (omega arith) (λ k below. absurd (omega arith)) (ap is_free (get_or-replicate {A = Slot} count 0 None None some)))
 
 -- places in blocks
 
-pub place-at : (limit block n slot : ℕ) (blocks : List (List Slot)) → n < length blocks → ((k : ℕ) → k < n → lowest_free (get_or blocks k []) ≡ None) → lowest_free (get_or blocks n []) ≡ Some slot
+pub place_at : (limit block n slot : ℕ) (blocks : List (List Slot)) → n < length blocks → ((k : ℕ) → k < n → lowest_free (get_or blocks k []) ≡ None) → lowest_free (get_or blocks n []) ≡ Some slot
     → place_from limit block blocks ≡ Some (record { block = block + n; slot = slot })
 unfolding place_from
-place-at limit block n slot [] there before here = absurd (omega arith)
-place-at limit block zero slot (x ∷ xs) there before here =
+place_at limit block n slot [] there before here = absurd (omega arith)
+place_at limit block zero slot (x ∷ xs) there before here =
     let same : block ≡ block + 0 = omega arith in
     ap (λ (o : Option ℕ). spot_in block o (place_from limit (block + 1) xs)) here ∙ ap (λ (b : ℕ). Some (record { block = b; slot = slot })) same
-place-at limit block (suc n) slot (x ∷ xs) there before here =
+place_at limit block (suc n) slot (x ∷ xs) there before here =
     let same : block + 1 + n ≡ block + suc n = omega arith in
     ap (λ (o : Option ℕ). spot_in block o (place_from limit (block + 1) xs)) (before 0 (omega arith))
-    ∙ place-at limit (block + 1) n slot xs (omega arith) (λ k below. before (suc k) (omega arith)) here
+    ∙ place_at limit (block + 1) n slot xs (omega arith) (λ k below. before (suc k) (omega arith)) here
     ∙ ap (λ (b : ℕ). Some (record { block = b; slot = slot })) same
 
-pub place-behind : (limit block : ℕ) (blocks : List (List Slot)) → ((k : ℕ) → k < length blocks → lowest_free (get_or blocks k []) ≡ None)
+pub place_behind : (limit block : ℕ) (blocks : List (List Slot)) → ((k : ℕ) → k < length blocks → lowest_free (get_or blocks k []) ≡ None)
     → place_from limit block blocks ≡ cond (nat_lt (block + length blocks) limit) (Some (record { block = block + length blocks; slot = 0 })) None
 unfolding place_from
-place-behind limit block [] used =
+place_behind limit block [] used =
     let same : block ≡ block + 0 = omega arith in
     ap (λ (b : ℕ). cond (nat_lt b limit) (Some (record { block = b; slot = 0 })) None) same
-place-behind limit block (x ∷ xs) used =
+place_behind limit block (x ∷ xs) used =
     let same : block + 1 + length xs ≡ block + suc (length xs) = omega arith in
     ap (λ (o : Option ℕ). spot_in block o (place_from limit (block + 1) xs)) (used 0 (omega arith))
-    ∙ place-behind limit (block + 1) xs (λ k below. used (suc k) (omega arith))
+    ∙ place_behind limit (block + 1) xs (λ k below. used (suc k) (omega arith))
     ∙ ap (λ (b : ℕ). cond (nat_lt b limit) (Some (record { block = b; slot = 0 })) None) same

@@ -4,7 +4,7 @@ use Rattle.std.specs.Prelude.{None, Some, slice_get}
 use Rattle.std.proofs.lemmas.List.{get_or_past, length-take-le, take_more}
 use Rattle.std.proofs.lemmas.Bool.{cases_lt}
 use Rattle.block_model.specs.declared.value.Kind.{Kind}
-use Rattle.block_model.specs.DiskLayout.{DiskLayout}
+use Rattle.store_layout.specs.DiskLayout.{DiskLayout}
 use Rattle.page_layout.specs.declared.page.Form.{Form}
 use Rattle.page_layout.specs.declared.page.Form.TheVariants as forms
 use Rattle.page_layout.specs.RowBytes.{StoredRow, IsRow, row_bytes}
@@ -47,22 +47,22 @@ stored-add slots n row below there =
 
 -- what is read of a slot
 
-row-there : (ks : List Kind) (slots : List Slot) (n : ℕ) (bytes : List ℕ) → AreSlots ks slots → Some bytes ≡ used_bytes ks (slice_get slots n) → (row : StoredRow) × (get_or slots n None ≡ Some row) × (IsRow ks row × (bytes ≡ row_bytes ks row))
-row-there ks [] n bytes are e = absurd cc
-row-there ks (None ∷ slots) zero bytes are e = absurd cc
-row-there ks (Some row ∷ slots) zero bytes are e = (row, refl, (are.0, cc))
-row-there ks (slot ∷ slots) (suc n) bytes are e = row-there ks slots n bytes are.1 e
+row_there : (ks : List Kind) (slots : List Slot) (n : ℕ) (bytes : List ℕ) → AreSlots ks slots → Some bytes ≡ used_bytes ks (slice_get slots n) → (row : StoredRow) × (get_or slots n None ≡ Some row) × (IsRow ks row × (bytes ≡ row_bytes ks row))
+row_there ks [] n bytes are e = absurd cc
+row_there ks (None ∷ slots) zero bytes are e = absurd cc
+row_there ks (Some row ∷ slots) zero bytes are e = (row, refl, (are.0, cc))
+row_there ks (slot ∷ slots) (suc n) bytes are e = row_there ks slots n bytes are.1 e
 
-pub read-row : (form : Form) (page : List ℕ) (slots : List Slot) (n : ℕ) (bytes : List ℕ) → HasSlots form page slots → Some bytes ≡ row_bytes_in form slots n → (row : StoredRow) × (get_or slots n None ≡ Some row) × RowHasBytes form bytes row
-read-row forms.Status page slots n bytes has e = absurd has
-read-row (forms.Heap row count ks format) page slots n bytes has e = row-there ks slots n bytes has.are e
+pub read_row : (form : Form) (page : List ℕ) (slots : List Slot) (n : ℕ) (bytes : List ℕ) → HasSlots form page slots → Some bytes ≡ row_bytes_in form slots n → (row : StoredRow) × (get_or slots n None ≡ Some row) × RowHasBytes form bytes row
+read_row forms.Status page slots n bytes has e = absurd has
+read_row (forms.Heap row count ks format) page slots n bytes has e = row_there ks slots n bytes has.are e
 
 -- the rows of a block
 
-pub rows-of-block : {layout : DiskLayout} {table : ℕ} {pages : PageMap} {blocks : List (List Slot)} (has : HasBlocks layout pages table blocks) (block : ℕ) (form : Form) (page : List ℕ) (rows : List Stored) → form ≡ form_at layout table
+pub rows_of_block : {layout : DiskLayout} {table : ℕ} {pages : PageMap} {blocks : List (List Slot)} (has : HasBlocks layout pages table blocks) (block : ℕ) (form : Form) (page : List ℕ) (rows : List Stored) → form ≡ form_at layout table
     → page ≡ block_at pages (relation_of table) block → block < layout.sizes.heap_blocks → ((slots : List Slot) → HasSlots form page slots → rows ≡ stored_rows slots) → (IsUnstarted page → rows ≡ []) → rows ≡ stored_rows (slots_of blocks block)
 unfolding stored_from
-rows-of-block {layout} {table} {pages} {blocks} has block form page rows is at below contents unstarted =
+rows_of_block {layout} {table} {pages} {blocks} has block form page rows is at below contents unstarted =
     elim (cases_lt block (length blocks)) [
       | inl there ↦ contents (slots_of blocks block) (subst (λ (f : Form). HasSlots f page (slots_of blocks block)) (sym is) (subst (λ (p : List ℕ). HasSlots (form_at layout table) p (slots_of blocks block)) (sym at) (has.started block there)))
       | inr past ↦ unstarted (subst IsUnstarted (sym at) (has.unstarted block past below)) ∙ ap (stored_from 0) (sym (get_or_past blocks block [] past))

@@ -10,35 +10,35 @@ use Rattle.page_layout.specs.PageContents.{Slot}
 use Rattle.page_layout.specs.FreeSlots.{lowest_free}
 use Rattle.heap_rows.specs.HeapBlocks.{slots_of}
 use Rattle.heap_rows.specs.RowPlaces.{ChangesSlot, place_for, place_from, slot_at, spot_in, with_row, with_slot}
-use Rattle.heap_rows.proofs.Places.{lowest-there}
+use Rattle.heap_rows.proofs.Places.{lowest_there}
 
 -- a place is the lowest free slot of a block, or the first of the next one
 PlaceIn : List (List Slot) → ℕ → ℕ → Type 0
 PlaceIn blocks n slot = ((n < length blocks) × (lowest_free (slots_of blocks n) ≡ Some slot)) ⊎ ((n ≡ length blocks) × (slot ≡ 0))
 
-place-first : (block : ℕ) (spot : Spot) (o : Option ℕ) (later : Option Spot) → spot_in block o later ≡ Some spot → ((o ≡ Some spot.slot) × (spot.block ≡ block)) ⊎ ((o ≡ None) × (later ≡ Some spot))
-place-first block spot (Some slot) later e =
+place_first : (block : ℕ) (spot : Spot) (o : Option ℕ) (later : Option Spot) → spot_in block o later ≡ Some spot → ((o ≡ Some spot.slot) × (spot.block ≡ block)) ⊎ ((o ≡ None) × (later ≡ Some spot))
+place_first block spot (Some slot) later e =
     let same : record { block = block; slot = slot } ≡ spot = cc in
     inl (ap (λ (s : Spot). Some s.slot) same, sym (ap (λ (s : Spot). s.block) same))
-place-first block spot None later e = inr (refl, e)
+place_first block spot None later e = inr (refl, e)
 
-place-is : (limit block : ℕ) (blocks : List (List Slot)) (spot : Spot) → place_from limit block blocks ≡ Some spot → (n : ℕ) × (spot.block ≡ block + n) × PlaceIn blocks n spot.slot
+place_is : (limit block : ℕ) (blocks : List (List Slot)) (spot : Spot) → place_from limit block blocks ≡ Some spot → (n : ℕ) × (spot.block ≡ block + n) × PlaceIn blocks n spot.slot
 unfolding place_from PlaceIn
-place-is limit block [] spot e =
+place_is limit block [] spot e =
     let same = (cond_some (nat_lt block limit) (record { block = block; slot = 0 }) spot e).1 in
     (0, (let own : block ≡ spot.block = ap (λ (s : Spot). s.block) same in omega arith), inr (refl, sym (ap (λ (s : Spot). s.slot) same)))
-place-is limit block (x ∷ xs) spot e =
-    elim (place-first block spot (lowest_free x) (place_from limit (block + 1) xs) e) [
+place_is limit block (x ∷ xs) spot e =
+    elim (place_first block spot (lowest_free x) (place_from limit (block + 1) xs) e) [
       | inl here ↦ (0, (let own = here.1 in omega arith), inl (omega arith, here.0))
       | inr later ↦
-          let rest = place-is limit (block + 1) xs spot later.1 in
+          let rest = place_is limit (block + 1) xs spot later.1 in
           (suc rest.0, (let own : spot.block ≡ block + 1 + rest.0 = rest.1 in omega arith), elim rest.2 [ inl in_block ↦ inl ((let low = in_block.0 in omega arith), in_block.1) | inr behind ↦ inr (ap suc behind.0, behind.1) ])
     ]
 
 -- where a row is put, by the blocks
-place-in : (limit : ℕ) (blocks : List (List Slot)) (spot : Spot) → place_for limit blocks ≡ Some spot → PlaceIn blocks spot.block spot.slot
-place-in limit blocks spot e =
-    let found = place-is limit 0 blocks spot e in
+place_in : (limit : ℕ) (blocks : List (List Slot)) (spot : Spot) → place_for limit blocks ≡ Some spot → PlaceIn blocks spot.block spot.slot
+place_in limit blocks spot e =
+    let found = place_is limit 0 blocks spot e in
     let same : found.0 ≡ spot.block = let own = found.1 in omega arith in
     subst (λ (n : ℕ). PlaceIn blocks n spot.slot) same found.2
 
@@ -60,13 +60,13 @@ set-slot blocks spot slot there within = record {
 }
 
 -- of slots that are all free, or none, each is free
-all-free : (count n : ℕ) (slots : List Slot) → (slots ≡ replicate count None) ⊎ (slots ≡ []) → get_or slots n None ≡ None
-all-free count n slots (inl is) =
+all_free : (count n : ℕ) (slots : List Slot) → (slots ≡ replicate count None) ⊎ (slots ≡ []) → get_or slots n None ≡ None
+all_free count n slots (inl is) =
     elim (cases_lt n count) [
       | inl within ↦ ap (λ (s : List Slot). get_or s n None) is ∙ get_or-replicate {A = Slot} count n None None within
       | inr past ↦ get_or_past slots n None (let long = ap length is ∙ length-replicate {A = Slot} count None in omega arith)
     ]
-all-free count n slots (inr is) = ap (λ (s : List Slot). get_or s n None) is
+all_free count n slots (inr is) = ap (λ (s : List Slot). get_or s n None) is
 
 -- an empty block at the end changes no slot
 empty-behind : (count : ℕ) (blocks : List (List Slot)) (spot : Spot) → slot_at (blocks ++ replicate count None ∷ []) spot ≡ slot_at blocks spot
@@ -74,7 +74,7 @@ empty-behind count blocks spot =
     elim (cases_lt spot.block (length blocks)) [
       | inl there ↦ ap (λ (s : List Slot). get_or s spot.slot None) (get_or_append_left blocks (replicate count None ∷ []) [] spot.block there)
       | inr past ↦
-          all-free count spot.slot (get_or (blocks ++ replicate count None ∷ []) spot.block [])
+          all_free count spot.slot (get_or (blocks ++ replicate count None ∷ []) spot.block [])
           (elim (cases_eq spot.block (length blocks)) [
             | inl next ↦ inl (get_or_push blocks (replicate count None) [] spot.block (sym next))
             | inr behind ↦ inr (get_or_past (blocks ++ replicate count None ∷ []) spot.block [] (let long = length-append blocks (replicate count None ∷ []) in omega arith))
@@ -88,9 +88,9 @@ unfolding PlaceIn
 put-slot limit count blocks spot row some place =
     let result : List (List Slot) → Type 0 = λ all. ChangesSlot blocks (with_slot all spot (Some row)) spot (Some row) in
     let empty : List Slot = replicate count None in
-    elim (place-in limit blocks spot place) [
+    elim (place_in limit blocks spot place) [
       | inl in_block ↦
-          let free = lowest-there (slots_of blocks spot.block) spot.slot in_block.1 in (
+          let free = lowest_there (slots_of blocks spot.block) spot.slot in_block.1 in (
             get_or_from_slice_get (slots_of blocks spot.block) spot.slot None None free,
             subst (λ (t : Bool). result (cond t blocks (blocks ++ empty ∷ []))) (sym (lt-ltb spot.block (length blocks) in_block.0)) (set-slot blocks spot (Some row) in_block.0 (slice_get_within (slots_of blocks spot.block) spot.slot None free)),
           )
@@ -107,8 +107,8 @@ put-slot limit count blocks spot row some place =
     ]
 
 -- a mark
-pub mark-slot : (blocks : List (List Slot)) (spot : Spot) (row : StoredRow) (slot : Slot) → slot_at blocks spot ≡ Some row → ChangesSlot blocks (with_slot blocks spot slot) spot slot
-mark-slot blocks spot row slot at =
+pub mark_slot : (blocks : List (List Slot)) (spot : Spot) (row : StoredRow) (slot : Slot) → slot_at blocks spot ≡ Some row → ChangesSlot blocks (with_slot blocks spot slot) spot slot
+mark_slot blocks spot row slot at =
     elim (cases_lt spot.slot (length (slots_of blocks spot.block))) [
       | inl within ↦
           set-slot blocks spot slot

@@ -1,6 +1,6 @@
 -- the pages of a table as lists of slots
 use Rattle.std.specs.Prelude.{ℕ, ◌<◌, ◌≤◌, List, [], length, slice_index_or}
-use Rattle.block_model.specs.DiskLayout.{DiskLayout}
+use Rattle.store_layout.specs.DiskLayout.{DiskLayout}
 use Rattle.page_layout.specs.PageContents.{Slot, HasSlots, IsUnstarted}
 use Rattle.disk_trait.specs.Told.{Told}
 use Rattle.page_store.specs.Keeps.{Tells}

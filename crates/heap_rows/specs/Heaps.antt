@@ -2,9 +2,9 @@
 use Rattle.std.specs.Prelude.{ℕ, ◌+◌, List, [], map, slice_index_or}
 use Rattle.block_model.specs.declared.value.Kind.{Kind}
 use Rattle.block_model.specs.declared.schema.Table.{Table}
-use Rattle.block_model.specs.DiskLayout.{DiskLayout}
+use Rattle.store_layout.specs.DiskLayout.{DiskLayout}
 use Rattle.page_layout.specs.declared.page.Form.{Form}
-use Rattle.page_store.specs.Forms.{heap_form}
+use Rattle.page_layout.specs.HeapForms.{heap_form}
 
 -- the statuses are relation 0, and the tables come behind them
 abbrev pub relation_of : ℕ → ℕ

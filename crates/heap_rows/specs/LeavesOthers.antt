@@ -1,7 +1,7 @@
 -- what a change of a page, and of a table, leaves
 use Rattle.std.specs.Prelude.{◌≡◌, ◌≢◌, ◌⊎◌, ℕ, List, [], ◌∷◌, ◌++◌, replicate, None}
 use Rattle.block_model.specs.declared.place.Place.{Place}
-use Rattle.block_model.specs.DiskLayout.{DiskLayout}
+use Rattle.store_layout.specs.DiskLayout.{DiskLayout}
 use Rattle.disk_trait.specs.Told.{Told}
 use Rattle.page_layout.specs.PageContents.{Slot}
 use Rattle.page_store.specs.Keeps.{Tells}

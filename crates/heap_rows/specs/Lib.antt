@@ -1,7 +1,7 @@
 pub mod Heaps
 pub mod HeapBlocks
 pub mod RowPlaces
-pub mod IsFull
+pub mod IsTableFull
 pub mod StoredRows
 pub mod RoomOnPage
 pub mod LeavesOthers

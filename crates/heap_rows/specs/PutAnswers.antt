@@ -1,7 +1,7 @@
 -- what a put answers
 use Rattle.std.specs.Prelude.{◌≡◌, ℕ, ◌*◌, ◌<◌, Result, Ok, Err}
 use Rattle.block_model.specs.declared.place.Spot.{Spot}
-use Rattle.block_model.specs.DiskLayout.{DiskLayout, page_offset}
+use Rattle.store_layout.specs.DiskLayout.{DiskLayout, page_offset}
 use Rattle.disk_trait.specs.Told.{Told}
 use Rattle.page_store.specs.declared.faults.StoreError.TheVariants as errors
 use Rattle.page_store.specs.declared.faults.MachineFault.{MachineFault}

@@ -10,8 +10,8 @@ use Rattle.heap_rows.specs.declared.putting.Room.{Room}
 use Rattle.heap_rows.specs.declared.putting.Room.TheVariants as rooms
 
 -- the page isn't started, or has a free slot
-abbrev pub TakesRow : Form → List ℕ → Type 0
-TakesRow form page = IsUnstarted page ⊎ ((slot : ℕ) × IsFreeSlot form page slot)
+abbrev pub PageTakesRow : Form → List ℕ → Type 0
+PageTakesRow form page = IsUnstarted page ⊎ ((slot : ℕ) × IsFreeSlot form page slot)
 
 -- the slots that a page has; where it isn't started, those that a start gives it, all free
 abbrev pub HasSlotsOnceStarted : Form → List ℕ → List Slot → Type 0

@@ -1,7 +1,7 @@
 -- where a row stands, and where the next one is put
 use Rattle.std.specs.Prelude.{◌≡◌, ◌≢◌, ℕ, ◌+◌, nat_lt, List, [], ◌∷◌, ◌++◌, length, replicate, set, slice_index_or, Option, None, Some, if◌then◌else◌}
 use Rattle.block_model.specs.declared.place.Spot.{Spot}
-use Rattle.block_model.specs.DiskLayout.{DiskLayout}
+use Rattle.store_layout.specs.DiskLayout.{DiskLayout}
 use Rattle.page_layout.specs.RowBytes.{StoredRow}
 use Rattle.page_layout.specs.PageContents.{Slot}
 use Rattle.page_layout.specs.FreeSlots.{lowest_free}
@@ -27,8 +27,8 @@ abbrev pub place_for : ℕ → List (List Slot) → Option Spot
 place_for limit blocks = place_from limit 0 blocks
 
 -- the blocks up to that one: where it is the next, it is started with this many slots
-abbrev pub with_block : ℕ → List (List Slot) → ℕ → List (List Slot)
-with_block count blocks block = if nat_lt block (length blocks) then blocks else blocks ++ replicate count None ∷ []
+abbrev pub with_table_block : ℕ → List (List Slot) → ℕ → List (List Slot)
+with_table_block count blocks block = if nat_lt block (length blocks) then blocks else blocks ++ replicate count None ∷ []
 
 -- the blocks with that in the slot at a spot
 abbrev pub with_slot : List (List Slot) → Spot → Slot → List (List Slot)
@@ -36,7 +36,7 @@ with_slot blocks spot slot = set blocks spot.block (set (slots_of blocks spot.bl
 
 -- the blocks with the row at a spot, whose block is started where it is the next
 abbrev pub with_row : ℕ → List (List Slot) → Spot → StoredRow → List (List Slot)
-with_row count blocks spot row = with_slot (with_block count blocks spot.block) spot (Some row)
+with_row count blocks spot row = with_slot (with_table_block count blocks spot.block) spot (Some row)
 
 -- a row of the table stands at the spot
 abbrev pub IsInUse : DiskLayout → PageMap → ℕ → Spot → Type 0

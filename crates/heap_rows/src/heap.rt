@@ -1,7 +1,7 @@
-// The relation of a table, and the form of its pages.
+//! The relation of a table, and the form of its pages.
 
 ghost use Rattle.std.specs.Prelude.{◌≡◌, ◌*◌, ◌<◌, ◌≤◌, length, take, Some};
-ghost use Rattle.block_model.specs.DiskLayout.{relation_blocks};
+ghost use Rattle.store_layout.specs.DiskLayout.{relation_blocks};
 ghost use Rattle.page_layout.specs.FreeSlots.{slot_count};
 ghost use Rattle.page_layout.specs.PageContents.{IsForm};
 ghost use Rattle.page_layout.specs.PageWrites.{IsOfHeap, RowHasBytes};
@@ -10,14 +10,9 @@ ghost use Rattle.page_store.specs.Forms.{form_of};
 ghost use Rattle.page_store.specs.PageMap.{block_limit};
 ghost use Rattle.heap_rows.specs.Heaps.{form_at, kinds_at, relation_of, slots_a_page, table_at};
 
-use block_model::layout::Layout;
-use block_model::row::RowId;
-use block_model::schema::Table;
-use block_model::value::Value;
-use page_layout::{Form, encode_row, kinds_of, row_size};
-
-/// The format of the rows.
-const FORMAT: u16 = 1;
+use block_model::{RowId, Table, Value};
+use page_layout::{FORMAT, Form, encode_row, heap_form, row_size};
+use store_layout::Layout;
 
 /// The most bytes that a row has: the head, and eight ranges.
 pub(crate) const MOST_BYTES: usize = 158;
@@ -53,13 +48,7 @@ pub(crate) fn form_of(layout: &Layout, table: u8) -> Form
     ensures some { 0 < slot_count result }
 {
     layout.known();
-    let table = declared(layout, table);
-    Form::Heap {
-        row: row_size(table, FORMAT),
-        slots: table.rows_per_page,
-        kinds: kinds_of(table),
-        format: FORMAT,
-    }
+    heap_form(declared(layout, table))
 }
 
 /// How many slots the table may have.

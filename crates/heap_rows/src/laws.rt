@@ -1,8 +1,8 @@
-// The blocks of a table at the start.
+//! The blocks of a table at the start.
 
 ghost use Rattle.std.specs.Prelude.{ℕ, []};
 ghost use Rattle.block_model.specs.declared.place.Place.{Place as AnyPlace};
-ghost use Rattle.block_model.specs.DiskLayout.{DiskLayout};
+ghost use Rattle.store_layout.specs.DiskLayout.{DiskLayout};
 ghost use Rattle.page_layout.specs.PageContents.{IsUnstarted};
 ghost use Rattle.page_store.specs.PageMap.{PageMap, page_at};
 ghost use Rattle.heap_rows.specs.HeapBlocks.{HasBlocks};

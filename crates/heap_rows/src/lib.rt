@@ -1,7 +1,7 @@
-// Rows in the slots of a table's heap pages. `put` takes the lowest free slot of the lowest block that has one, else the
-// first slot of the next block; it is full exactly where each slot of each block that the table may have is in use.
-// `mark` sets the deleter of a row, and `rows_of` reads the rows of a block without taking memory. It stands on
-// page_store. The layer above sees a table as its blocks, each a list of slots (specs/HeapBlocks.antt).
+//! Rows in the slots of a table's heap pages. `put` takes the lowest free slot of the lowest block that has one, else the
+//! first slot of the next block; it is full exactly where each slot of each block that the table may have is in use.
+//! `mark` sets the deleter of a row, and `rows_of` reads the rows of a block without taking memory. It stands on
+//! page_store. The layer above sees a table as its blocks, each a list of slots (specs/HeapBlocks.antt).
 #![tactic(auto)]
 
 mod heap;
@@ -10,8 +10,6 @@ mod marking;
 mod putting;
 mod reading;
 mod rows;
-#[cfg(test)]
-mod tests;
 
 pub use laws::unstarted_tables_have_no_blocks;
 pub use marking::mark;

@@ -1,4 +1,4 @@
-// Marking a row as deleted.
+//! Marking a row as deleted.
 
 ghost use Rattle.std.specs.Prelude.{◌≡◌, ◌<◌, length, Some, IfErr, OnOk, OnErr};
 ghost use Rattle.page_layout.specs.PageWrites.{marked};
@@ -11,8 +11,8 @@ ghost use Rattle.heap_rows.specs.LeavesOthers.{LeavesOthers};
 ghost use Rattle.heap_rows.specs.RowPlaces.{ChangesSlot, IsInUse, slot_at, with_slot};
 
 use crate::heap::relation_of;
-use block_model::place::{Place, Spot};
-use disk_trait::disk::Disk;
+use block_model::{Place, Spot};
+use disk_trait::Disk;
 use page_store::{PageStore, StoreError};
 use wal_record::Change;
 

@@ -1,7 +1,7 @@
-// Putting a row into the lowest free slot.
+//! Putting a row into the lowest free slot.
 
 ghost use Rattle.std.specs.Prelude.{◌≡◌, ◌<◌, length, replicate, set, List, None, Some, IfOk, IfErr, OnOk, OnErr};
-ghost use Rattle.block_model.specs.DiskLayout.{IsPlace};
+ghost use Rattle.store_layout.specs.DiskLayout.{IsPlace};
 ghost use Rattle.page_layout.specs.FreeSlots.{slot_count};
 ghost use Rattle.page_layout.specs.PageContents.{HasSlot, HasSlots, IsForm, IsPageOf, IsRowOf, IsUnstarted, Slot};
 ghost use Rattle.page_layout.specs.PageWrites.{IsEmptyHeap, IsOfHeap, RowHasBytes};
@@ -13,26 +13,19 @@ ghost use Rattle.page_store.specs.Outcome.{NamesPage, Outcome};
 ghost use Rattle.page_store.specs.PageMap.{page_at};
 ghost use Rattle.heap_rows.specs.Heaps.{kinds_at, slots_a_page};
 ghost use Rattle.heap_rows.specs.HeapBlocks.{HasBlocks, OfBlocks};
-ghost use Rattle.heap_rows.specs.IsFull.{IsFull};
+ghost use Rattle.heap_rows.specs.IsTableFull.{IsTableFull};
 ghost use Rattle.heap_rows.specs.LeavesOthers.{KeepsRows, LeavesOtherPages, LeavesOthers};
 ghost use Rattle.heap_rows.specs.PutAnswers.{NamesTable, PutOutcome, SaysFull};
-ghost use Rattle.heap_rows.specs.RoomOnPage.{IsRoom, KeepsOrStarts, PutsRow, TakesRow};
+ghost use Rattle.heap_rows.specs.RoomOnPage.{IsRoom, KeepsOrStarts, PutsRow, PageTakesRow};
 ghost use Rattle.heap_rows.specs.RowPlaces.{ChangesSlot, place_for, slot_at, with_row};
 
 use crate::heap::{MOST_BYTES, form_of, relation_of, slots_in_all, write_row};
-use block_model::layout::Layout;
-use block_model::place::{Place, Spot};
-use block_model::row::RowId;
-use block_model::value::Value;
-use disk_trait::disk::Disk;
-use page_layout::{Form, Page, first_free, kind_of};
+use block_model::{Place, RowId, Spot, Value};
+use disk_trait::Disk;
+use page_layout::{Form, HEAP, Page, UNSTARTED, first_free, kind_of};
 use page_store::{MachineFault, PageStore, StoreError};
+use store_layout::Layout;
 use wal_record::Change;
-
-/// The kinds of a page that isn't started, and of a heap page.
-const NOT_STARTED: u8 = 0;
-
-const HEAP: u8 = 2;
 
 /// Puts a row, which no transaction deleted, into the lowest free slot of the lowest block of the table that has one, else
 /// into the first slot of the next block, and answers where it stands. Full exactly where each slot of each block that
@@ -49,8 +42,8 @@ pub fn put<D: Disk + Drop>(
     ensures place { IfOk result (λ spot. OfBlocks D.told pages.old table (λ blocks. place_for pages.old.layout.sizes.heap_blocks blocks ≡ Some spot)) }
     ensures put { IfOk result (λ spot. OfBlocks D.told pages.old table (λ blocks. HasBlocks pages.old.layout pages.new.pages table (with_row (slots_a_page pages.old.layout table) blocks spot (record { id = id; deleter = 0; values = values.now })))) }
     ensures slots { IfOk result (λ spot. OfBlocks D.told pages.old table (λ blocks. (slot_at blocks spot ≡ None) × ChangesSlot blocks (with_row (slots_a_page pages.old.layout table) blocks spot (record { id = id; deleter = 0; values = values.now })) spot (Some (record { id = id; deleter = 0; values = values.now })))) }
-    ensures full { IfErr result (λ fault. SaysFull fault → OfBlocks D.told pages.old table (IsFull pages.old.layout.sizes.heap_blocks)) }
-    ensures room { OnOk result (OfBlocks D.told pages.old table (λ blocks. IsFull pages.old.layout.sizes.heap_blocks blocks → ⊥)) }
+    ensures full { IfErr result (λ fault. SaysFull fault → OfBlocks D.told pages.old table (IsTableFull pages.old.layout.sizes.heap_blocks)) }
+    ensures room { OnOk result (OfBlocks D.told pages.old table (λ blocks. IsTableFull pages.old.layout.sizes.heap_blocks blocks → ⊥)) }
     ensures kept { OnErr result (OfBlocks D.told pages.old table (KeepsRows pages.old.layout pages.new.pages table)) }
     ensures within { IfOk result (λ spot. (spot.block < pages.old.layout.sizes.heap_blocks) × (spot.slot < slots_a_page pages.old.layout table)) }
     ensures others { LeavesOthers D.told table pages.old pages.new }
@@ -96,7 +89,7 @@ fn put_bytes<D: Disk + Drop>(
     requires heap { IsOfHeap form.now }
     requires some { 0 < slot_count form.now }
     requires row { IsRowOf form.now bytes.now }
-    requires room { Tells D.told pages.old → TakesRow form.now (page_at pages.old.pages place) }
+    requires room { Tells D.told pages.old → PageTakesRow form.now (page_at pages.old.pages place) }
     ensures put { IfOk result (λ slot. Tells D.told pages.old → (row : StoredRow) → RowHasBytes form.now bytes.now row → PutsRow form.now (page_at pages.old.pages place) row slot (page_at pages.new.pages place)) }
     ensures within { IfOk result (HasSlot form.now) }
     ensures kept { OnErr result (Tells D.told pages.old → KeepsOrStarts form.now (page_at pages.old.pages place) (page_at pages.new.pages place)) }
@@ -109,14 +102,14 @@ fn put_bytes<D: Disk + Drop>(
         Err(error) => return Err(error),
     };
     match room {
-        Room::Free(slot) => match put_row(pages, place, form, slot, bytes) {
-            Ok(()) => Ok(slot),
-            Err(error) => Err(error),
-        },
-        Room::NotStarted => match start_with_row(pages, place, form, bytes) {
-            Ok(()) => Ok(0),
-            Err(error) => Err(error),
-        },
+        Room::Free(slot) => {
+            put_row(pages, place, form, slot, bytes)?;
+            Ok(slot)
+        }
+        Room::NotStarted => {
+            start_with_row(pages, place, form, bytes)?;
+            Ok(0)
+        }
         Room::Full => Err(StoreError::Damaged {
             at: pages.layout().page_at(place),
         }),
@@ -137,7 +130,7 @@ fn room_on(page: &Page, form: Form) -> Room
     ensures { IsRoom form page.now result }
 {
     page.known();
-    if kind_of(page) == NOT_STARTED {
+    if kind_of(page) == UNSTARTED {
         return Room::NotStarted;
     }
     match first_free(page, form) {

@@ -1,4 +1,4 @@
-// Reading the rows of a block.
+//! Reading the rows of a block.
 
 ghost use Rattle.std.specs.Prelude.{◌≡◌, ◌<◌, ◌≤◌, length, List, [], IfErr, OnOk, OnErr};
 ghost use Rattle.page_layout.specs.FreeSlots.{slot_count};
@@ -13,9 +13,8 @@ ghost use Rattle.heap_rows.specs.StoredRows.{stored_in, stored_rows};
 
 use crate::heap::{form_of, relation_of};
 use crate::rows::{PageRows, Stored};
-use block_model::place::Place;
-use block_model::value::Values;
-use disk_trait::disk::Disk;
+use block_model::{Place, Values};
+use disk_trait::Disk;
 use page_layout::{Form, Page, row_at, row_in, slot_count};
 use page_store::{PageStore, StoreError};
 

@@ -1,12 +1,9 @@
-// The rows that are read of a page.
+//! The rows that are read of a page.
 
 ghost use Rattle.std.specs.Prelude.{◌≡◌, ◌<◌, ◌++◌, ◌∷◌, [], length, IfOk};
 ghost use Rattle.heap_rows.specs.StoredRows.{RowsInRoom};
 
-use block_model::NoMemory;
-use block_model::row::RowId;
-use block_model::schema::Table;
-use block_model::value::Values;
+use block_model::{NoMemory, RowId, Table, Values};
 use std::alloc::Global;
 use std::marker::Model;
 
@@ -39,10 +36,8 @@ impl PageRows {
     pub fn new(alloc: Global, table: &Table) -> Result<PageRows, NoMemory>
         ensures { IfOk result (λ rows. rows ≡ record { rows = []; room = table.now.rows_per_page }) }
     {
-        match Vec::with_capacity(alloc, usize::from(table.rows_per_page)) {
-            Ok(items) => Ok(PageRows { items }),
-            Err(_) => Err(NoMemory),
-        }
+        let items = Vec::with_capacity(alloc, usize::from(table.rows_per_page))?;
+        Ok(PageRows { items })
     }
 
     /// The rows.

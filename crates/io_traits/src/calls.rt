@@ -1,4 +1,4 @@
-// The calls of a source or a sink in memory.
+//! The calls of a source or a sink in memory.
 
 ghost use Rattle.std.specs.Prelude.{◌≡◌, ◌↔◌, ◌≤◌, ◌+◌, Contains, IsTrue};
 ghost use Rattle.io_traits.specs.Calls.{one_more, FailsNext};

@@ -1,4 +1,4 @@
-// A sink into memory.
+//! A sink into memory.
 
 ghost use Rattle.std.specs.Prelude.{◌≡◌, ◌↔◌, ◌⊎◌, ◌<◌, ◌≤◌, ◌++◌, [], Some, length, take, IfOk, IsOk, IsErr, OnErr};
 ghost use Rattle.std.specs.Io.KnownBytes.{WriteAppends};
@@ -45,9 +45,7 @@ impl MemorySink {
         ensures ok { IfOk result (λ s. s ≡ record { taken = []; room = room; piece = piece; calls = record { fails = fails.items; made = 0; faults = 0 } }) }
         ensures none { room ≡ 0 → IsOk result }
     {
-        let Ok(bytes) = Vec::with_capacity(alloc, room) else {
-            return Err(NoMemory);
-        };
+        let bytes = Vec::with_capacity(alloc, room)?;
         Ok(MemorySink {
             bytes,
             room,

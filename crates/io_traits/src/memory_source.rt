@@ -1,4 +1,4 @@
-// A source over bytes in memory.
+//! A source over bytes in memory.
 
 ghost use Rattle.std.specs.Prelude.{◌≡◌, ◌↔◌, ◌<◌, ◌≤◌, Some, min, length, take, drop, IfOk, IsErr, OnErr};
 ghost use Rattle.std.specs.Io.{ReadsAtMost};

@@ -1,4 +1,4 @@
-// Where bytes go.
+//! Where bytes go.
 
 ghost use Rattle.std.specs.Prelude.{◌≡◌, ℕ, List, ◌<◌, ◌≤◌, length, IfOk, OnOk, OnErr};
 ghost use Rattle.std.specs.declared.option.Option.{Option};
@@ -8,9 +8,11 @@ ghost use Rattle.io_traits.specs.Calls.{CountsFault};
 ghost use Rattle.io_traits.specs.Written.{AppendsPart};
 
 use std::io::Write;
+use thiserror::Error;
 
 /// A write failed.
-#[derive(Clone, Copy, Debug, PartialEq, Eq)]
+#[derive(Clone, Copy, Debug, Eq, Error, PartialEq)]
+#[error("a write failed")]
 pub struct SinkFault;
 
 /// Takes bytes in pieces.

@@ -1,4 +1,4 @@
-// Where bytes come from.
+//! Where bytes come from.
 
 ghost use Rattle.std.specs.Prelude.{◌≡◌, ℕ, List};
 ghost use Rattle.std.specs.declared.option.Option.{Option};
@@ -8,9 +8,11 @@ ghost use Rattle.block_model.specs.Causes.{HasCause};
 ghost use Rattle.io_traits.specs.Calls.{CountsFault};
 
 use std::io::Read;
+use thiserror::Error;
 
 /// A read failed.
-#[derive(Clone, Copy, Debug, PartialEq, Eq)]
+#[derive(Clone, Copy, Debug, Eq, Error, PartialEq)]
+#[error("a read failed")]
 pub struct SourceFault;
 
 /// Gives bytes in pieces.

@@ -1,9 +1,9 @@
-// Conditions, judged by a least and a greatest number.
+//! Conditions, judged by a least and a greatest number.
 
 ghost use Rattle.std.specs.Prelude.{◌≡◌};
 ghost use Rattle.opclass_api.specs.NumberBounds.{number_holds, key_holds};
 
-use block_model::value::{Op, Value};
+use block_model::{Op, Value};
 
 /// Whether a number from the least to the greatest may meet a condition. Takes no memory.
 pub fn key_holds(least: i64, greatest: i64, op: Op, key: &Value) -> bool

@@ -1,18 +1,18 @@
-// The trait of operator classes.
+//! The trait of operator classes.
 
 ghost use Rattle.std.specs.Prelude.{◌≡◌, ◌≢◌, ◌<◌, ◌≤◌, ◌++◌, ◌⊎◌, ℕ, Bool, true, false, List, [], length, drop, OnOk, OnErr, IfOk, IsOk};
 ghost use Rattle.block_model.specs.declared.value.Value.{Value};
 ghost use Rattle.block_model.specs.declared.row.Cond.{Cond};
 ghost use Rattle.opclass_api.specs.Conditions.{AllCompare, meets_all, has_null_key};
 
-use block_model::NoMemory;
-use block_model::row::Cond;
-use block_model::value::Value;
+use block_model::{Cond, NoMemory, Value};
 use std::alloc::Global;
+use thiserror::Error;
 
 /// Bytes that encode no summary; `at` is the first byte of the first field that is out of form, or the length where
 /// bytes are missing.
-#[derive(Clone, Copy, Debug, PartialEq, Eq)]
+#[derive(Clone, Copy, Debug, Error, PartialEq, Eq)]
+#[error("no summary goes on at byte {at}")]
 pub struct Malformed {
     pub at: usize,
 }

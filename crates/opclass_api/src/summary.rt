@@ -1,13 +1,11 @@
-// Summaries of lists of values, over any class.
+//! Summaries of lists of values, over any class.
 
 ghost use Rattle.std.specs.Prelude.{◌≡◌, true, false, All, IfOk, fold};
 ghost use Rattle.block_model.specs.declared.value.Value.{Value};
 ghost use Rattle.opclass_api.specs.Conditions.{AllCompare, meets_all};
 
 use crate::class::OpClass;
-use block_model::NoMemory;
-use block_model::row::Cond;
-use block_model::value::Value;
+use block_model::{Cond, NoMemory, Value};
 use std::alloc::Global;
 
 /// Widens a summary by values of the class's kind, one after the other: it includes each, and what it included.

@@ -1,6 +1,7 @@
 -- values added one by one set exactly their positions, whatever the order
 use Rattle.std.proofs.Common.{◌≡◌, ℕ, ◌<◌, Bool, true, false, ◌||◌, List, [], ◌∷◌, ◌++◌, fold, Contains, length, refl, sym, ap, ◌∙◌, arith, ext_get_or}
 use Rattle.std.specs.List.{list_any}
+use Rattle.std.specs.Cmp.{both_ways}
 use Rattle.std.proofs.Math.Bool.{or_assoc, or-false}
 use Rattle.std.proofs.lemmas.List.{length-replicate, get_or-replicate}
 use Rattle.std.proofs.lemmas.List.Folds.{list_any-append, list_any_at, Any-from_list_any}
@@ -48,16 +49,11 @@ passed_too test values others there some =
     let found = there v (any.0, any.2, any.3) in
     list_any_at test others found.0 v found.1 (ap test found.2 ∙ any.4)
 
-same_tests : (x y : Bool) → (x ≡ true → y ≡ true) → (y ≡ true → x ≡ true) → x ≡ y
-same_tests true y there back = sym (there refl)
-same_tests false true there back = back refl
-same_tests false false there back = refl
-
 -- the exact summary of the same values
 exact_same : (p : Parameters) (values others : List Value) (s : List Bool) → HaveSameValues values others → ExactSummary p values s → ExactSummary p others s
 exact_same p values others s same exact = record {
   of_class = exact.of_class;
-  exact = λ q small. exact.exact q small ∙ same_tests (list_any (has_position p q) values) (list_any (has_position p q) others) (passed_too (has_position p q) values others same.all_there) (passed_too (has_position p q) others values same.no_more);
+  exact = λ q small. exact.exact q small ∙ both_ways (list_any (has_position p q) values) (list_any (has_position p q) others) (passed_too (has_position p q) values others same.all_there) (passed_too (has_position p q) others values same.no_more);
 }
 
 -- whatever the order

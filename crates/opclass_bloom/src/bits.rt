@@ -1,4 +1,4 @@
-// Bytes as bits, the lowest bit of each byte first.
+//! Bytes as bits, the lowest bit of each byte first.
 
 ghost use Rattle.std.specs.Prelude.{◌≡◌, ◌≢◌, ◌<◌, ◌≤◌, ◌*◌, ◌++◌, true, false, length, drop};
 ghost use Rattle.opclass_bloom.specs.Bits.{is_set, with_position, united};

@@ -1,4 +1,4 @@
-// The class under the trait.
+//! The class under the trait.
 
 ghost use Rattle.std.specs.Prelude.{◌≡◌, ◌<◌, true, ◌*◌, List, Bool, Some, length, fold, OnOk, OnErr, IsOk, IfErr, SomeIff, IsTrue, ◌↔◌};
 ghost use Rattle.block_model.specs.declared.value.Value.{Value};
@@ -12,10 +12,8 @@ ghost use Rattle.std.specs.List.{list_all};
 
 use crate::hash::{hash, position};
 use crate::summary::Summary;
-use block_model::NoMemory;
-use block_model::row::Cond;
-use block_model::value::{Op, Value};
-use opclass_api::class::{Malformed, OpClass};
+use block_model::{Cond, NoMemory, Op, Value};
+use opclass_api::{Malformed, OpClass};
 use std::alloc::Global;
 use std::marker::Model;
 
@@ -60,6 +58,7 @@ impl Bloom {
     pub fn known(&self)
         ensures { AreWithinLimits self.now }
     {
+        // The toolchain opens the invariant where a field is read.
         let _ = &self.bits;
     }
 

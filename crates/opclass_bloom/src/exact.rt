@@ -1,4 +1,4 @@
-// The exact summary of a list of values.
+//! The exact summary of a list of values.
 
 ghost use Rattle.std.specs.Prelude.{◌≡◌, ℕ, ◌<◌, ◌||◌, ◌++◌, Bool, All, List, fold, IfOk};
 ghost use Rattle.block_model.specs.declared.value.Value.{Value};
@@ -10,9 +10,8 @@ ghost use Rattle.opclass_bloom.specs.Parameters.{Parameters};
 
 use crate::class::Bloom;
 use crate::summary::Summary;
-use block_model::NoMemory;
-use block_model::value::Value;
-use opclass_api::summary::summary_of;
+use block_model::{NoMemory, Value};
+use opclass_api::summary_of;
 use std::alloc::Global;
 
 /// The summary of int8 and inet values by the calls of the class: a position is set exactly where a value has it, and no

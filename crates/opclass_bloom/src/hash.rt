@@ -1,11 +1,10 @@
-// The hash of a value, and the positions that it gives.
+//! The hash of a value, and the positions that it gives.
 
 ghost use Rattle.std.specs.Prelude.{◌≡◌, ◌<◌, Some};
 ghost use Rattle.opclass_bloom.specs.Mixing.{mix};
 ghost use Rattle.opclass_bloom.specs.Positions.{words_of, hash_of, position};
 
-use block_model::net::Net;
-use block_model::value::Value;
+use block_model::{Net, Value};
 
 /// Spreads the bits of a number of 64 bits over all of them, as the generator SplitMix64 does.
 #[tactic(auto, unfolding(crate::specs::Mixing::mix))]

@@ -1,4 +1,4 @@
-// The summary of the bloom class.
+//! The summary of the bloom class.
 
 ghost use Rattle.std.specs.Prelude.{◌≡◌, ◌≢◌, ◌≤◌, ◌<◌, ◌*◌, ◌++◌, true, false, length, replicate, drop, IfOk};
 ghost use Rattle.opclass_bloom.specs.Bits.{is_set, with_position, united};
@@ -30,10 +30,8 @@ impl Summary {
     pub(crate) fn with_bytes(alloc: Global, bytes: usize) -> Result<Summary, NoMemory>
         ensures { IfOk result (λ s. s ≡ replicate (8 * bytes) false) }
     {
-        match vec![in alloc; 0u8; bytes] {
-            Ok(bytes) => Ok(Summary { bytes }),
-            Err(_) => Err(NoMemory),
-        }
+        let bytes = vec![in alloc; 0u8; bytes]?;
+        Ok(Summary { bytes })
     }
 
     /// Whether the position is set.

@@ -1,5 +1,6 @@
 -- ranges added one by one give the smallest range that contains each, whatever the order
-use Rattle.std.proofs.Common.{◌≡◌, ℤ, Bool, true, false, ◌||◌, Option, None, Some, List, [], ◌∷◌, ◌++◌, fold, All, Contains as Has, refl, sym, ap, inl, inr, arith, append_assoc}
+use Rattle.std.proofs.Common.{◌≡◌, ℤ, Bool, true, ◌||◌, Option, None, Some, List, [], ◌∷◌, ◌++◌, fold, All, Contains as Has, refl, ap, inl, inr, arith, append_assoc}
+use Rattle.std.specs.Cmp.{both_ways}
 use Rattle.std.specs.Prelude.{◌↔◌}
 use Rattle.std.proofs.lemmas.List.{append-nil}
 use Rattle.std.proofs.lemmas.List.Elements.{All-nil, All-cons, All-weaker, All-head, All-tail, All-contains, All-append, Contains-append_left, Contains-append_right, Contains-append_cases}
@@ -117,15 +118,10 @@ one_range (Between a b) (Between c d) s t =
     let q : (starts_first c a ≡ true) × (ends_last d b ≡ true) = and_parts _ _ t in
     λ i. Between (one_lower a c p.0 q.0 i) (one_upper b d p.1 q.1 i)
 
-same_flag : (e f : Bool) → (e ≡ true → f ≡ true) → (f ≡ true → e ≡ true) → e ≡ f
-same_flag true f there back = sym (there refl)
-same_flag false true there back = back refl
-same_flag false false there back = refl
-
 -- a list has one exact summary
 pub one_exact : (values : List Value) (s t : SpanSummary) → ExactSummary values s → ExactSummary values t → t ≡ s
 one_exact values s t first second =
-    let flag = same_flag t.empty_added s.empty_added (λ e. first.flag.1 (second.flag.0 e)) (λ e. second.flag.1 (first.flag.0 e)) in
+    let flag = both_ways t.empty_added s.empty_added (λ e. first.flag.1 (second.flag.0 e)) (λ e. second.flag.1 (first.flag.0 e)) in
     let hull = one_range t.hull s.hull (first.hull.smallest t.hull second.hull.holds_each) (second.hull.smallest s.hull first.hull.holds_each) in
     λ i. record { empty_added = flag i; hull = hull i }
 

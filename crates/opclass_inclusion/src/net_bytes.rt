@@ -1,4 +1,4 @@
-// Summaries of networks as bytes.
+//! Summaries of networks as bytes.
 
 ghost use Rattle.std.specs.Prelude.{◌≡◌, ◌≤◌, ◌-◌, ◌%◌, ◌^◌, ◌==◌, ◌++◌, not, None, Some, IfOk, MatchResult, length, drop};
 ghost use Rattle.opclass_inclusion.specs.NetEncoding.{bytes_of, field_bytes, fields_of};
@@ -6,9 +6,9 @@ ghost use Rattle.opclass_inclusion.specs.NetFaults.{fault_in, field_fault, field
 ghost use Rattle.opclass_inclusion.specs.NetHulls.{IsSummary};
 
 use crate::net_summary::{NetSummary, V4_BITS, v4_address};
-use block_model::net::Net;
+use block_model::Net;
 use byte_fields::{get_u32, put_u32};
-use opclass_api::class::Malformed;
+use opclass_api::Malformed;
 
 /// How many bytes a summary has: one of flags, and the network's family, prefix and address.
 pub(crate) const SIZE: usize = 7;

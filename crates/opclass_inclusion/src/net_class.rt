@@ -1,4 +1,4 @@
-// The class of networks under the trait.
+//! The class of networks under the trait.
 
 ghost use Rattle.std.specs.Prelude.{◌≡◌, None, Some, OnOk, OnErr, IsOk, IsOkAnd, MatchResult};
 ghost use Rattle.opclass_inclusion.specs.NetConsistent.{consistent};
@@ -10,10 +10,8 @@ ghost use Rattle.opclass_inclusion.specs.declared.net_summary.NetSummary.TheVari
 
 use crate::net_bytes::{SIZE, read, write};
 use crate::net_summary::NetSummary;
-use block_model::NoMemory;
-use block_model::row::Cond;
-use block_model::value::Value;
-use opclass_api::class::{Malformed, OpClass};
+use block_model::{Cond, NoMemory, Value};
+use opclass_api::{Malformed, OpClass};
 use std::alloc::Global;
 
 /// The inclusion class of inet ("Built-in Operator Classes" of BRIN indexes). It has no parameters.

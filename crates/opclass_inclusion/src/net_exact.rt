@@ -1,4 +1,4 @@
-// The exact summary of a list of addresses.
+//! The exact summary of a list of addresses.
 
 ghost use Rattle.std.specs.Prelude.{◌≡◌, ◌++◌, All, List};
 ghost use Rattle.block_model.specs.declared.value.Value.{Value};
@@ -9,12 +9,12 @@ ghost use Rattle.opclass_inclusion.specs.NetIncludes.{Includes, IsNet};
 
 use crate::net_class::NetHull;
 use crate::net_summary::NetSummary;
-use block_model::value::Value;
-use opclass_api::summary::add_all;
+use block_model::Value;
+use opclass_api::add_all;
 
 /// The summary of addresses by the calls of the class: the smallest network that each is in, or that two are of different
 /// families; no other summary is so. The same addresses in any other order give the same. Takes no memory.
-pub fn exact_summary(values: &[Value]) -> NetSummary
+pub fn net_exact_summary(values: &[Value]) -> NetSummary
     requires { All IsNet values.now }
     ensures of_class { IsSummary result }
     ensures added_in_order { result ≡ summary_of values.now }
@@ -49,6 +49,6 @@ fn address_known(value: &Value)
 }
 
 /// The union of two lists' exact summaries is the exact summary of both lists.
-pub fn union_is_exact()
+pub fn net_union_is_exact()
     ensures { (first second : List Value) (s t : NetSummary) → IsSummary s → IsSummary t → ExactSummary first s → ExactSummary second t → ExactSummary (first ++ second) (united s t) }
 {}

@@ -1,4 +1,4 @@
-// Conditions on addresses, judged by a summary of them.
+//! Conditions on addresses, judged by a summary of them.
 
 ghost use Rattle.std.specs.Prelude.{◌≡◌, true, false};
 ghost use Rattle.block_model.specs.declared.value.Value.{Value};
@@ -8,9 +8,7 @@ ghost use Rattle.opclass_inclusion.specs.NetConsistent.{condition_holds, consist
 ghost use Rattle.opclass_inclusion.specs.NetIncludes.{Includes};
 
 use crate::net_summary::NetSummary;
-use block_model::net::Net;
-use block_model::row::Cond;
-use block_model::value::{Op, Value};
+use block_model::{Cond, Net, Op, Value};
 
 impl NetSummary {
     /// Whether each condition may be met by an address that the summary includes.

@@ -1,10 +1,10 @@
-// The summary of networks, and the smallest network that two are in.
+//! The summary of networks, and the smallest network that two are in.
 
 ghost use Rattle.std.specs.Prelude.{◌≡◌, ◌≢◌, ◌≤◌, ◌==◌, true, false, MatchOption};
 ghost use Rattle.block_model.specs.Networks.{IsNetwork, leading_bits};
 ghost use Rattle.opclass_inclusion.specs.NetHulls.{IsCommonPrefix, IsHull, IsSummary, IsWider, common_prefix, joined, network_with, of_network, united};
 
-use block_model::net::Net;
+use block_model::Net;
 
 /// How many bits an address of the fourth family has.
 pub(crate) const V4_BITS: u8 = 32;

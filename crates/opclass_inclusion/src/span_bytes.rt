@@ -1,4 +1,4 @@
-// Summaries of ranges as bytes.
+//! Summaries of ranges as bytes.
 
 ghost use Rattle.std.specs.Prelude.{◌≡◌, ◌≤◌, ◌+◌, ◌++◌, None, Some, IfOk, MatchResult, length, drop};
 ghost use Rattle.opclass_inclusion.specs.SpanEncoding.{bit, bytes_of, field_bytes, fields_of, shape_of};
@@ -6,9 +6,9 @@ ghost use Rattle.opclass_inclusion.specs.SpanFaults.{IsHullIn, fault_in, field_f
 ghost use Rattle.opclass_inclusion.specs.SpanHulls.{IsSummary};
 
 use crate::span_summary::{SpanSummary, between};
-use block_model::span::Span8;
+use block_model::Span8;
 use byte_fields::{get_i64, put_i64};
-use opclass_api::class::Malformed;
+use opclass_api::Malformed;
 
 /// How many bytes a summary has: one of flags, one of the hull's shape, and its two bounds.
 pub(crate) const SIZE: usize = 18;

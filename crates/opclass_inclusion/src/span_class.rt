@@ -1,4 +1,4 @@
-// The class of ranges under the trait.
+//! The class of ranges under the trait.
 
 ghost use Rattle.std.specs.Prelude.{◌≡◌, None, Some, OnOk, OnErr, IsOk, IsOkAnd, MatchResult};
 ghost use Rattle.opclass_inclusion.specs.SpanConsistent.{consistent};
@@ -9,10 +9,8 @@ ghost use Rattle.opclass_inclusion.specs.SpanIncludes.{Includes, IsSpan};
 
 use crate::span_bytes::{SIZE, read, write};
 use crate::span_summary::SpanSummary;
-use block_model::NoMemory;
-use block_model::row::Cond;
-use block_model::value::Value;
-use opclass_api::class::{Malformed, OpClass};
+use block_model::{Cond, NoMemory, Value};
+use opclass_api::{Malformed, OpClass};
 use std::alloc::Global;
 
 /// The inclusion class of int8range ("Built-in Operator Classes" of BRIN indexes). It has no parameters.

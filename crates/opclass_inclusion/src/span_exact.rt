@@ -1,4 +1,4 @@
-// The exact summary of a list of ranges.
+//! The exact summary of a list of ranges.
 
 ghost use Rattle.std.specs.Prelude.{◌≡◌, ◌++◌, All, List};
 ghost use Rattle.block_model.specs.declared.value.Value.{Value};
@@ -9,12 +9,12 @@ ghost use Rattle.opclass_inclusion.specs.SpanIncludes.{Includes, IsSpan};
 
 use crate::span_class::SpanHull;
 use crate::span_summary::SpanSummary;
-use block_model::value::Value;
-use opclass_api::summary::add_all;
+use block_model::Value;
+use opclass_api::add_all;
 
 /// The summary of ranges by the calls of the class: it tells whether an empty one is among them, and has the smallest range
 /// that contains each; no other summary does. The same ranges in any other order give the same. Takes no memory.
-pub fn exact_summary(values: &[Value]) -> SpanSummary
+pub fn span_exact_summary(values: &[Value]) -> SpanSummary
     requires { All IsSpan values.now }
     ensures of_class { IsSummary result }
     ensures added_in_order { result ≡ summary_of values.now }
@@ -29,6 +29,6 @@ pub fn exact_summary(values: &[Value]) -> SpanSummary
 }
 
 /// The union of two lists' exact summaries is the exact summary of both lists.
-pub fn union_is_exact()
+pub fn span_union_is_exact()
     ensures { (first second : List Value) (s t : SpanSummary) → ExactSummary first s → ExactSummary second t → ExactSummary (first ++ second) (united s t) }
 {}

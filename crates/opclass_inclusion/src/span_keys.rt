@@ -1,4 +1,4 @@
-// Conditions on ranges, judged by a summary of them.
+//! Conditions on ranges, judged by a summary of them.
 
 ghost use Rattle.std.specs.Prelude.{◌≡◌, true, false};
 ghost use Rattle.block_model.specs.declared.value.Value.{Value};
@@ -9,9 +9,7 @@ ghost use Rattle.opclass_inclusion.specs.SpanConsistent.{any_hull_holds, bounded
 ghost use Rattle.opclass_inclusion.specs.SpanIncludes.{Includes};
 
 use crate::span_summary::SpanSummary;
-use block_model::row::Cond;
-use block_model::span::Span8;
-use block_model::value::{Op, Value, matches};
+use block_model::{Cond, Op, Span8, Value, matches};
 
 impl SpanSummary {
     /// Whether each condition may be met by a range that the summary includes.

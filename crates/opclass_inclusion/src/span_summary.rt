@@ -1,11 +1,11 @@
-// The summary of ranges, and the smallest range that contains two.
+//! The summary of ranges, and the smallest range that contains two.
 
 ghost use Rattle.std.specs.Prelude.{◌≡◌, ◌≢◌, true, false, MatchOption};
 ghost use Rattle.block_model.specs.Ranges.{Empty, Between, leaves_room};
 ghost use Rattle.opclass_inclusion.specs.SpanHulls.{IsSummary, bracketed, hull_of, least_lower, greatest_upper, no_range, of_range, united};
 
 use crate::span_keys::contains;
-use block_model::span::Span8;
+use block_model::Span8;
 
 /// Whether an empty range was added, and the hull of the ranges that aren't empty: the smallest range that contains each
 /// of them; it is empty where there is none.
@@ -40,6 +40,7 @@ impl SpanSummary {
         ensures of_class { IsSummary result }
     {
         range.known();
+        // The calls bring what the proof cites of both bounds.
         let _ = (range.lower(), range.upper());
         SpanSummary {
             empty_added: range.is_empty(),

@@ -1,4 +1,4 @@
-// Summaries as bytes.
+//! Summaries as bytes.
 
 ghost use Rattle.std.specs.Prelude.{◌≡◌, ◌≤◌, ◌++◌, ℕ, length, drop, IfErr, IfOk, IsErr};
 ghost use Rattle.opclass_minmax.specs.Bounds.{Bounds, IsSummary};
@@ -6,7 +6,7 @@ ghost use Rattle.opclass_minmax.specs.Encoding.{bytes_of, fault_place};
 
 use crate::summary::{Extremes, Summary};
 use byte_fields::{get_i64, put_i64};
-use opclass_api::class::Malformed;
+use opclass_api::Malformed;
 
 /// How many bytes a summary has at most: those of two numbers.
 pub(crate) const GREATEST_SIZE: usize = 16;

@@ -1,4 +1,4 @@
-// The class under the trait.
+//! The class under the trait.
 
 ghost use Rattle.std.specs.Prelude.{◌≡◌, length, OnOk, OnErr, IsOk, IsOkAnd, IfErr};
 ghost use Rattle.block_model.specs.declared.value.Value.{Value};
@@ -9,10 +9,8 @@ ghost use Rattle.opclass_minmax.specs.Encoding.{bytes_of, fault_place};
 
 use crate::bytes::{GREATEST_SIZE, read, write};
 use crate::summary::Summary;
-use block_model::NoMemory;
-use block_model::row::Cond;
-use block_model::value::Value;
-use opclass_api::class::{Malformed, OpClass};
+use block_model::{Cond, NoMemory, Value};
+use opclass_api::{Malformed, OpClass};
 use std::alloc::Global;
 
 /// The minmax class of int8. It has no parameters.

@@ -1,4 +1,4 @@
-// The exact summary of a list of values.
+//! The exact summary of a list of values.
 
 ghost use Rattle.std.specs.Prelude.{◌≡◌, ◌++◌, All, List};
 ghost use Rattle.block_model.specs.declared.value.Value.{Value};
@@ -9,8 +9,8 @@ ghost use Rattle.opclass_minmax.specs.Includes.{IsInt, Includes};
 
 use crate::class::MinMax;
 use crate::summary::Summary;
-use block_model::value::Value;
-use opclass_api::summary::add_all;
+use block_model::Value;
+use opclass_api::add_all;
 
 /// The summary of int8 values by the calls of the class: exactly their least and greatest, and no other summary is. The
 /// same values in any other order give the same. Takes no memory.

@@ -1,4 +1,4 @@
-// What holds of every summary.
+//! What holds of every summary.
 
 ghost use Rattle.std.specs.Prelude.{◌≡◌, false, List};
 ghost use Rattle.block_model.specs.declared.row.Cond.{Cond};

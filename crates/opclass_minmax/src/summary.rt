@@ -1,12 +1,12 @@
-// The summary of the minmax class.
+//! The summary of the minmax class.
 
 ghost use Rattle.std.specs.Prelude.{◌≡◌, ◌≢◌, ◌≤ℤ◌, true, false};
 ghost use Rattle.opclass_minmax.specs.Bounds.{NothingYet, Between, IsSummary, widened};
 ghost use Rattle.opclass_minmax.specs.Consistent.{consistent, condition_holds};
 ghost use Rattle.opclass_minmax.specs.Kept.{bounds_of};
 
-use block_model::row::Cond;
-use opclass_api::bounds::key_holds;
+use block_model::Cond;
+use opclass_api::key_holds;
 use std::marker::Model;
 
 /// The least and the greatest of some values.

@@ -1,16 +1,12 @@
 -- what is held, number by number and neighbour by neighbour, says which elements hold it
-use Rattle.std.proofs.Common.{◌≡◌, ℤ, pos, ◌+ℤ◌, ◌≤ℤ◌, ◌<ℤ◌, Bool, true, false, List, [], ◌∷◌, refl, sym, ◌∙◌, arith}
+use Rattle.std.proofs.Common.{◌≡◌, ℤ, pos, ◌+ℤ◌, ◌≤ℤ◌, ◌<ℤ◌, true, false, List, [], ◌∷◌, refl, sym, ◌∙◌, arith}
+use Rattle.std.specs.Cmp.{both_ways as one_answer}
 use Rattle.std.proofs.lemmas.Bool.{both_ways, or_left, or_right}
 use Rattle.std.proofs.lemmas.Int.{ints, by_lt_z}
 use Rattle.opclass_multi.specs.declared.element.Element.{Element}
 use Rattle.opclass_multi.specs.Elements.{AreApart, covers, holds}
 use Rattle.opclass_multi.specs.Joined.{AreJoined, joined}
 use Rattle.opclass_multi.proofs.Joining.{or_split, held_after, joined_well}
-
-bool_same : (a b : Bool) → (a ≡ true → b ≡ true) → (b ≡ true → a ≡ true) → a ≡ b
-bool_same true b there back = sym (there refl)
-bool_same false true there back = back refl
-bool_same false false there back = refl
 
 number_covered : (p q l g : ℤ) (e : Element) → e.least ≡ l → e.greatest ≡ g → l ≤ℤ p → q ≤ℤ g → covers p q e ≡ true
 number_covered p q l g e least greatest low high = grind (arith, ints)
@@ -54,7 +50,7 @@ tail_more a b xs ys p q order apart end same held =
 
 tail_same : (a b : Element) (xs ys : List Element) (p q : ℤ) → p ≤ℤ q → AreApart (a ∷ xs) → AreApart (b ∷ ys) → a.greatest ≡ b.greatest → holds (a ∷ xs) p q ≡ holds (b ∷ ys) p q → holds xs p q ≡ holds ys p q
 tail_same a b xs ys p q order apart other end same =
-    bool_same (holds xs p q) (holds ys p q) (tail_more a b xs ys p q order apart end same) (tail_more b a ys xs p q order other (sym end) (sym same))
+    one_answer (holds xs p q) (holds ys p q) (tail_more a b xs ys p q order apart end same) (tail_more b a ys xs p q order other (sym end) (sym same))
 
 between_equal : (x y : ℤ) → x ≤ℤ y → y ≤ℤ x → x ≡ y
 between_equal x y low high = omega (arith, ints)

@@ -1,4 +1,4 @@
-// Elements as bytes.
+//! Elements as bytes.
 
 ghost use Rattle.std.specs.Prelude.{◌≡◌, ◌≤◌, ◌<◌, ◌+◌, ◌*◌, ◌++◌, Ok, Err, length, take, drop, OnOk, OnErr, IfErr, [], ◌∷◌, vec_len, vec_capacity, Option, ℤ};
 ghost use Rattle.opclass_multi.specs.Elements.{count_of};
@@ -7,7 +7,7 @@ ghost use Rattle.opclass_multi.specs.Reading.{number_at, is_above, point_in, int
 
 use crate::element::Element;
 use byte_fields::{get_i64, get_u16, put_i64, put_u16};
-use opclass_api::class::Malformed;
+use opclass_api::Malformed;
 
 /// The size of the number of elements, and of each number.
 const NUMBER_SIZE: usize = 2;
@@ -103,7 +103,7 @@ fn read_behind(bytes: &[u8], limit: usize, elements: &mut Vec<Element>) -> Resul
         intervals = intervals + 1 - element.weight();
         before = Some(element.greatest);
         at += element.size();
-        push_within(elements, element);
+        elements.push_reserved(element);
     }
     if at < bytes.len() {
         return Err(Malformed { at });
@@ -172,16 +172,4 @@ fn is_above(before: Option<i64>, number: i64) -> bool
         None => true,
         Some(before) => before < number,
     }
-}
-
-/// Adds an element at the end, where there is room. Takes no memory.
-fn push_within(elements: &mut Vec<Element>, element: Element)
-    requires { vec_len elements.old < vec_capacity elements.old }
-    ensures added { elements.new.items ≡ elements.old.items ++ element ∷ [] }
-    ensures size { vec_len elements.new ≡ vec_len elements.old + 1 }
-    ensures room { vec_capacity elements.old ≤ vec_capacity elements.new }
-{
-    let Ok(()) = elements.push(element) else {
-        unreachable!()
-    };
 }

@@ -1,4 +1,4 @@
-// The class under the trait.
+//! The class under the trait.
 
 ghost use Rattle.std.specs.Prelude.{◌≡◌, ◌+◌, ◌*◌, ◌↔◌, OnOk, OnErr, IsOk, IsSome, IfSome, IfErr, Err};
 ghost use Rattle.opclass_multi.specs.Kept.{IsLimit, IsSummary, nothing_yet, with_value, united, Kept};
@@ -8,10 +8,8 @@ ghost use Rattle.opclass_multi.specs.Encoding.{bytes_of};
 ghost use Rattle.opclass_multi.specs.Reading.{read_of};
 
 use crate::summary::Summary;
-use block_model::NoMemory;
-use block_model::row::Cond;
-use block_model::value::Value;
-use opclass_api::class::{Malformed, OpClass};
+use block_model::{Cond, NoMemory, Value};
+use opclass_api::{Malformed, OpClass};
 use std::alloc::Global;
 use std::marker::Model;
 

@@ -1,12 +1,12 @@
-// Conditions, judged by elements.
+//! Conditions, judged by elements.
 
 ghost use Rattle.std.specs.Prelude.{◌≡◌};
 ghost use Rattle.std.specs.List.{list_any};
 ghost use Rattle.opclass_multi.specs.Consistent.{all_hold, may_meet};
 
 use crate::element::Element;
-use block_model::row::Cond;
-use opclass_api::bounds::key_holds;
+use block_model::Cond;
+use opclass_api::key_holds;
 
 /// Whether there is no condition, or one element meets them all.
 pub(crate) fn may_meet(elements: &[Element], conds: &[Cond]) -> bool

@@ -1,4 +1,4 @@
-// Elements: points and intervals.
+//! Elements: points and intervals.
 
 ghost use Rattle.std.specs.Prelude.{◌≡◌};
 

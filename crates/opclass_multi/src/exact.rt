@@ -1,4 +1,4 @@
-// The exact summary of a list of values.
+//! The exact summary of a list of values.
 
 ghost use Rattle.std.specs.Prelude.{◌≡◌, All, IfOk};
 ghost use Rattle.opclass_multi.specs.ExactSummary.{exact_summary};
@@ -6,9 +6,8 @@ ghost use Rattle.opclass_multi.specs.Includes.{IsInt};
 
 use crate::class::Multi;
 use crate::summary::Summary;
-use block_model::NoMemory;
-use block_model::value::Value;
-use opclass_api::summary::summary_of;
+use block_model::{NoMemory, Value};
+use opclass_api::summary_of;
 use std::alloc::Global;
 
 /// The summary of int8 values by the calls of the class: the values added in their order. `Err` where there is no memory

@@ -1,4 +1,4 @@
-// Elements that join those with which they have a common number.
+//! Elements that join those with which they have a common number.
 
 ghost use Rattle.std.specs.Prelude.{◌≡◌, ◌+◌, ◌≤◌, ◌<◌, length, vec_len, vec_capacity, insert};
 ghost use Rattle.opclass_multi.specs.Joined.{with_element, joined};

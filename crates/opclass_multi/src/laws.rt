@@ -1,4 +1,4 @@
-// What the two rules of a union come to: elements are joined in one way, and reduced in one way.
+//! What the two rules of a union come to: elements are joined in one way, and reduced in one way.
 
 ghost use Rattle.std.specs.Prelude.{◌≡◌, ◌≤◌, ◌++◌, ℕ, List, All, Contains};
 ghost use Rattle.opclass_multi.specs.declared.element.Element.{Element};

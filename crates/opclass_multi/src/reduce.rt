@@ -1,4 +1,4 @@
-// Elements reduced to what a limit allows.
+//! Elements reduced to what a limit allows.
 
 ghost use Rattle.std.specs.Prelude.{◌≡◌, ◌+◌, ◌≤◌, ◌<◌, ◌^◌, length, vec_len, vec_capacity};
 ghost use Rattle.opclass_multi.specs.Elements.{count_of};

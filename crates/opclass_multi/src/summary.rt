@@ -1,4 +1,4 @@
-// The summary of the multi-minmax class.
+//! The summary of the multi-minmax class.
 
 ghost use Rattle.std.specs.Prelude.{◌≡◌, ◌≢◌, true, false, Err, OnOk, OnErr, IsOk, IfOk, IfErr, ◌++◌, ◌≤◌, ◌+◌, ◌*◌, length, drop};
 ghost use Rattle.opclass_multi.specs.Kept.{Kept, IsLimit, IsSummary, nothing_yet, with_number, united};
@@ -10,9 +10,8 @@ use crate::bytes::{read, write};
 use crate::conditions::may_meet;
 use crate::element::Element;
 use crate::widen::{unite, widen};
-use block_model::NoMemory;
-use block_model::row::Cond;
-use opclass_api::class::Malformed;
+use block_model::{Cond, NoMemory};
+use opclass_api::Malformed;
 use std::alloc::Global;
 use std::marker::Model;
 
@@ -43,16 +42,15 @@ impl Summary {
         requires { IsLimit limit }
         ensures { IfOk result (λ s. s ≡ nothing_yet limit) }
     {
-        match Vec::with_capacity(alloc, 2 * usize::from(limit) + 1) {
-            Ok(elements) => Ok(Summary { limit, elements }),
-            Err(_) => Err(NoMemory),
-        }
+        let elements = Vec::with_capacity(alloc, 2 * usize::from(limit) + 1)?;
+        Ok(Summary { limit, elements })
     }
 
     /// Every summary is of its limit.
     pub fn known(&self)
         ensures { IsSummary self.now.limit self.now }
     {
+        // The toolchain opens the invariant where a field is read.
         let _ = &self.elements;
     }
 

@@ -1,4 +1,4 @@
-// Elements that are widened within a limit: by a number, and by the elements of another summary.
+//! Elements that are widened within a limit: by a number, and by the elements of another summary.
 
 ghost use Rattle.std.specs.Prelude.{◌≡◌, ◌≢◌, ◌*◌, ◌≤◌, ◌<◌, ◌^◌, ℤ, true, false, if◌then◌else◌, length, vec_capacity};
 ghost use Rattle.std.specs.List.{list_all};

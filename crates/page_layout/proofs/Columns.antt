@@ -12,17 +12,17 @@ use Rattle.block_model.specs.Ranges.{lower_of, upper_of}
 use Rattle.block_model.specs.RowSize.{value_size}
 use Rattle.std.specs.Prelude.{Option, None, Some}
 use Rattle.page_layout.specs.RowFaults.{shifted, column_fault, columns_fault}
-use Rattle.page_layout.proofs.Faults.{first-none, shifted-none}
+use Rattle.page_layout.proofs.Faults.{first_none, shifted-none}
 use Rattle.page_layout.specs.RowBytes.{HaveKinds, has_kind, column_bytes, columns_bytes, bound_bytes}
 
-pub size-small : (kind : Kind) → value_size kind ≤ 17
-size-small kinds.Int = omega arith
-size-small kinds.Span = omega arith
-size-small kinds.Net = omega arith
+pub size_small : (kind : Kind) → value_size kind ≤ 17
+size_small kinds.Int = omega arith
+size_small kinds.Span = omega arith
+size_small kinds.Net = omega arith
 
-pub sizes-small : (ks : List Kind) → sum_by value_size ks ≤ 17 * length ks
-sizes-small [] = omega arith
-sizes-small (k ∷ ks) = omega (arith, sum_by-cons value_size k ks, size-small k, sizes-small ks)
+pub sizes_small : (ks : List Kind) → sum_by value_size ks ≤ 17 * length ks
+sizes_small [] = omega arith
+sizes_small (k ∷ ks) = omega (arith, sum_by-cons value_size k ks, size_small k, sizes_small ks)
 
 length-bound : (b : Option ℤ) → length (bound_bytes b) ≡ 8
 length-bound None = refl
@@ -49,37 +49,37 @@ length-columns (k ∷ ks) [] h = absurd h
 length-columns (k ∷ ks) (v ∷ vs) h = omega (arith, sum_by-cons value_size k ks, length-append (column_bytes k v) (columns_bytes ks vs), length-column k v h.0, length-columns ks vs h.1)
 
 -- a number in a column of its kind
-pub int-column : (kind : Kind) (value : Value) (n : ℤ) (old new : List ℕ) → value ≡ Int n → has_kind kind value ≡ true → new ≡ bytes_high_first 8 (cast_unsigned w64 n) ++ drop 8 old → new ≡ column_bytes kind value ++ drop (value_size kind) old
-int-column kinds.Int value n old new is h e = rw is e
-int-column kinds.Span value n old new is h e = let no : has_kind kinds.Span (Int n) ≡ true = ap (has_kind kinds.Span) (sym is) ∙ h in absurd cc
-int-column kinds.Net value n old new is h e = let no : has_kind kinds.Net (Int n) ≡ true = ap (has_kind kinds.Net) (sym is) ∙ h in absurd cc
+pub int_column : (kind : Kind) (value : Value) (n : ℤ) (old new : List ℕ) → value ≡ Int n → has_kind kind value ≡ true → new ≡ bytes_high_first 8 (cast_unsigned w64 n) ++ drop 8 old → new ≡ column_bytes kind value ++ drop (value_size kind) old
+int_column kinds.Int value n old new is h e = rw is e
+int_column kinds.Span value n old new is h e = let no : has_kind kinds.Span (Int n) ≡ true = ap (has_kind kinds.Span) (sym is) ∙ h in absurd cc
+int_column kinds.Net value n old new is h e = let no : has_kind kinds.Net (Int n) ≡ true = ap (has_kind kinds.Net) (sym is) ∙ h in absurd cc
 
-pub columns-none : (ks : List Kind) (vs : List Value) → HaveKinds ks vs → length vs < 1 → columns_bytes ks vs ≡ []
+pub columns_none : (ks : List Kind) (vs : List Value) → HaveKinds ks vs → length vs < 1 → columns_bytes ks vs ≡ []
 unfolding columns_bytes
-columns-none [] vs h short = refl
-columns-none (k ∷ ks) [] h short = refl
-columns-none (k ∷ ks) (v ∷ vs) h short = absurd (omega arith)
+columns_none [] vs h short = refl
+columns_none (k ∷ ks) [] h short = refl
+columns_none (k ∷ ks) (v ∷ vs) h short = absurd (omega arith)
 
-pub no-columns : (ks : List Kind) (vs : List Value) → HaveKinds ks vs → length vs < 1 → sum_by value_size ks ≡ 0
-no-columns [] vs h short = refl
-no-columns (k ∷ ks) [] h short = absurd h
-no-columns (k ∷ ks) (v ∷ vs) h short = absurd (omega arith)
+pub no_columns : (ks : List Kind) (vs : List Value) → HaveKinds ks vs → length vs < 1 → sum_by value_size ks ≡ 0
+no_columns [] vs h short = refl
+no_columns (k ∷ ks) [] h short = absurd h
+no_columns (k ∷ ks) (v ∷ vs) h short = absurd (omega arith)
 
-pub no-bytes : (l : List ℕ) → length l ≡ 0 → l ≡ []
-no-bytes [] e = refl
-no-bytes (x ∷ l) e = absurd (omega arith)
+pub no_bytes : (l : List ℕ) → length l ≡ 0 → l ≡ []
+no_bytes [] e = refl
+no_bytes (x ∷ l) e = absurd (omega arith)
 
 -- the columns behind the first one
 
-pub rest-sizes : (ks : List Kind) → 0 < length ks → sum_by value_size ks ≡ value_size (get_or ks 0 kinds.Int) + sum_by value_size (take (length ks - 1) (drop 1 ks))
-rest-sizes [] some = absurd (omega arith)
-rest-sizes (k ∷ ks) some = sum_by-cons value_size k ks ∙ ap (λ (l : List Kind). value_size k + sum_by value_size l) (sym (take_all (length (k ∷ ks) - 1) ks (omega arith)))
+pub rest_sizes : (ks : List Kind) → 0 < length ks → sum_by value_size ks ≡ value_size (get_or ks 0 kinds.Int) + sum_by value_size (take (length ks - 1) (drop 1 ks))
+rest_sizes [] some = absurd (omega arith)
+rest_sizes (k ∷ ks) some = sum_by-cons value_size k ks ∙ ap (λ (l : List Kind). value_size k + sum_by value_size l) (sym (take_all (length (k ∷ ks) - 1) ks (omega arith)))
 
-pub rest-faults : (ks : List Kind) (bits : ℕ) (bytes : List ℕ) (size : ℕ) → 0 < length ks → size ≡ value_size (get_or ks 0 kinds.Int) → columns_fault ks bits bytes ≡ None → columns_fault (take (length ks - 1) (drop 1 ks)) (bits / 2) (take (length bytes - size) (drop size bytes)) ≡ None
+pub rest_faults : (ks : List Kind) (bits : ℕ) (bytes : List ℕ) (size : ℕ) → 0 < length ks → size ≡ value_size (get_or ks 0 kinds.Int) → columns_fault ks bits bytes ≡ None → columns_fault (take (length ks - 1) (drop 1 ks)) (bits / 2) (take (length bytes - size) (drop size bytes)) ≡ None
 unfolding columns_fault
-rest-faults [] bits bytes size some is f = absurd (omega arith)
-rest-faults (k ∷ ks) bits bytes size some is f =
-    let behind = first-none (column_fault (eqb (bits % 2) 1) k bytes) (shifted (value_size k) (columns_fault ks (bits / 2) (drop (value_size k) bytes))) f in
+rest_faults [] bits bytes size some is f = absurd (omega arith)
+rest_faults (k ∷ ks) bits bytes size some is f =
+    let behind = first_none (column_fault (eqb (bits % 2) 1) k bytes) (shifted (value_size k) (columns_fault ks (bits / 2) (drop (value_size k) bytes))) f in
     let whole : take (length bytes - size) (drop size bytes) ≡ drop (value_size k) bytes = take_all (length bytes - size) (drop size bytes) (omega (arith, length-drop size bytes)) ∙ ap (λ (n : ℕ). drop n bytes) is in
     (λ i. columns_fault (take_all (length (k ∷ ks) - 1) ks (omega arith) i) (bits / 2) (whole i)) ∙ shifted-none (value_size k) _ behind.1
 

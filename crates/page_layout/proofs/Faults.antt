@@ -7,9 +7,9 @@ pub holds-unless : (b : Bool) (at : ℕ) → fault_unless b at ≡ None → b �
 holds-unless true at e = refl
 holds-unless false at e = absurd cc
 
-pub first-none : (a b : Option ℕ) → first_of a b ≡ None → (a ≡ None) × (b ≡ None)
-first-none None b e = (refl, e)
-first-none (Some at) b e = absurd cc
+pub first_none : (a b : Option ℕ) → first_of a b ≡ None → (a ≡ None) × (b ≡ None)
+first_none None b e = (refl, e)
+first_none (Some at) b e = absurd cc
 
 pub shifted-none : (n : ℕ) (o : Option ℕ) → shifted n o ≡ None → o ≡ None
 shifted-none n None e = refl

@@ -10,22 +10,22 @@ use Rattle.byte_fields.specs.Fields.{AreBytes, number_of, bytes-number, number-b
 use Rattle.page_layout.specs.RowBytes.{bound_bytes}
 use Rattle.page_layout.proofs.Written.{put-next}
 
-pub unsigned-small : (z : ℤ) → FitsSigned w64 z → cast_unsigned w64 z < 256 ^ 8
-unsigned-small (pos n) fits = omega (arith, fits.sfits)
-unsigned-small (negsuc n) fits = omega arith
+pub unsigned_small : (z : ℤ) → FitsSigned w64 z → cast_unsigned w64 z < 256 ^ 8
+unsigned_small (pos n) fits = omega (arith, fits.sfits)
+unsigned_small (negsuc n) fits = omega arith
 
 -- the bytes of a signed number spell it
-pub signed-back : (z : ℤ) → FitsSigned w64 z → cast_signed w64 (number_of (bytes_high_first 8 (cast_unsigned w64 z))) ≡ z
-signed-back z fits = ap (cast_signed w64) (number-bytes 8 (cast_unsigned w64 z) (unsigned-small z fits)) ∙ to_z-of_z w64 z fits
+pub signed_back : (z : ℤ) → FitsSigned w64 z → cast_signed w64 (number_of (bytes_high_first 8 (cast_unsigned w64 z))) ≡ z
+signed_back z fits = ap (cast_signed w64) (number-bytes 8 (cast_unsigned w64 z) (unsigned_small z fits)) ∙ to_z-of_z w64 z fits
 
 -- a signed number that was put to the front
 pub written-signed : (z : ℤ) (out new : List ℕ) → FitsSigned w64 z → new ≡ put_at out 0 8 (cast_unsigned w64 (cast_signed w64 (cast_unsigned w64 z))) → new ≡ bytes_high_first 8 (cast_unsigned w64 z) ++ drop 8 out
 written-signed z out new fits put = put-next out out new [] 0 8 (cast_unsigned w64 z) refl refl (put ∙ ap (λ (y : ℤ). put_at out 0 8 (cast_unsigned w64 y)) (to_z-of_z w64 z fits))
 
 -- an absent bound has the bytes of zero
-pub bound-number : (b : Option ℤ) → bytes_high_first 8 (cast_unsigned w64 (unwrap_or b (pos 0))) ≡ bound_bytes b
-bound-number None = refl
-bound-number (Some b) = refl
+pub bound_number : (b : Option ℤ) → bytes_high_first 8 (cast_unsigned w64 (unwrap_or b (pos 0))) ≡ bound_bytes b
+bound_number None = refl
+bound_number (Some b) = refl
 
 -- bytes behind others
 pub AreBytes-drop : (n : ℕ) (bytes : List ℕ) → AreBytes bytes → AreBytes (drop n bytes)
@@ -51,8 +51,8 @@ field-small n bytes long small =
     let tight : AreBytes (take n bytes) = AreBytes-take n bytes small in
     subst (λ (k : ℕ). number_of (take n bytes) < 256 ^ k) len (number-fits (take n bytes) tight)
 
-pub signed-bytes : (bytes : List ℕ) → 8 ≤ length bytes → AreBytes bytes → bytes_high_first 8 (cast_unsigned w64 (cast_signed w64 (number_of (take 8 bytes)))) ≡ take 8 bytes
-signed-bytes bytes long small =
+pub signed_bytes : (bytes : List ℕ) → 8 ≤ length bytes → AreBytes bytes → bytes_high_first 8 (cast_unsigned w64 (cast_signed w64 (number_of (take 8 bytes)))) ≡ take 8 bytes
+signed_bytes bytes long small =
     let low : number_of (take 8 bytes) < 256 ^ 8 = field-small 8 bytes long small in
     ap (bytes_high_first 8) (of_z-to_z w64 (number_of (take 8 bytes)) (omega arith)) ∙ field-bytes 8 bytes long small
 

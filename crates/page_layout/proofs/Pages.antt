@@ -13,8 +13,8 @@ use Rattle.page_layout.specs.RowFaults.{first_of, shifted, slot_fault}
 use Rattle.page_layout.specs.PageContents.{slots_bytes, header_bytes, heap_bytes, IsStarted, IsPageOf, IsForm, HasFewColumns, statuses}
 use Rattle.page_layout.specs.PageFaults.{zeros_fault, slots_fault, kind_for, started_fault, page_fault}
 use Rattle.page_layout.proofs.Numbers.{AreBytes-drop}
-use Rattle.page_layout.proofs.Faults.{first-none, shifted-none}
-use Rattle.page_layout.proofs.Slots.{zeros-take, zeros-pass, slots-take, slots-pass}
+use Rattle.page_layout.proofs.Faults.{first_none, shifted-none}
+use Rattle.page_layout.proofs.Slots.{zeros_take, zeros_pass, slots-take, slots-pass}
 
 -- the slots are walked one by one
 
@@ -22,11 +22,11 @@ pub slots-start : (ks : List Kind) (n row : ℕ) (body : List ℕ) → shifted (
 slots-start ks n row body =
     let none : 0 * row ≡ 0 = omega arith in
     let all : n - 0 ≡ n = omega arith in
-    (λ i. shifted (none i) (slots_fault ks (all i) (drop (none i) body))) ∙ at-zero (slots_fault ks n body)
+    (λ i. shifted (none i) (slots_fault ks (all i) (drop (none i) body))) ∙ at_zero (slots_fault ks n body)
   where
-    at-zero : (o : Option ℕ) → shifted 0 o ≡ o
-    at-zero None = refl
-    at-zero (Some at) = ap Some (let e : 0 + at ≡ at = omega arith in e)
+    at_zero : (o : Option ℕ) → shifted 0 o ≡ o
+    at_zero None = refl
+    at_zero (Some at) = ap Some (let e : 0 + at ≡ at = omega arith in e)
 
 shifted-twice : (a b : ℕ) (o : Option ℕ) → shifted a (shifted b o) ≡ shifted (a + b) o
 shifted-twice a b None = refl
@@ -61,28 +61,28 @@ pub slots-end : (ks : List Kind) (m at : ℕ) (body rest : List ℕ) (all : Opti
 unfolding slots_fault
 slots-end ks m at body rest all none is so_far = ap (λ (l : List ℕ). shifted at (zeros_fault l)) is ∙ ap (λ (k : ℕ). shifted at (slots_fault ks k (drop at body))) (sym none) ∙ so_far
 
-pub row-room : (slots slot row : ℕ) → slot < slots → (slot + 1) * row ≤ slots * row
-row-room slots slot row below = mul-le-mul_right {m = slot + 1} {n = slots} row (omega arith)
+pub row_room : (slots slot row : ℕ) → slot < slots → (slot + 1) * row ≤ slots * row
+row_room slots slot row below = mul-le-mul_right {m = slot + 1} {n = slots} row (omega arith)
 
-pub next-row : (slot row : ℕ) → (slot + 1) * row ≡ slot * row + row
-next-row slot row = ap (λ (n : ℕ). n * row) (let e : slot + 1 ≡ suc slot = omega arith in e) ∙ suc-mul slot row
+pub next_row : (slot row : ℕ) → (slot + 1) * row ≡ slot * row + row
+next_row slot row = ap (λ (n : ℕ). n * row) (let e : slot + 1 ≡ suc slot = omega arith in e) ∙ suc-mul slot row
 
 -- the header's zeros, and the body
-parts-of : (x : ℕ) (c : List ℕ) → length (x ∷ c) ≡ 8192 → zeros_fault (take 31 c) ≡ None → x ∷ c ≡ header_bytes x ++ drop 31 c
-parts-of x c len f =
-    let zeros : take 31 c ≡ replicate 31 0 = zeros-take (take 31 c) f ∙ ap (λ (n : ℕ). replicate n 0) (length-take-le 31 c (omega arith)) in
+parts_of : (x : ℕ) (c : List ℕ) → length (x ∷ c) ≡ 8192 → zeros_fault (take 31 c) ≡ None → x ∷ c ≡ header_bytes x ++ drop 31 c
+parts_of x c len f =
+    let zeros : take 31 c ≡ replicate 31 0 = zeros_take (take 31 c) f ∙ ap (λ (n : ℕ). replicate n 0) (length-take-le 31 c (omega arith)) in
     ap (λ (l : List ℕ). x ∷ l) (sym (take-append-drop 31 c) ∙ ap (λ (l : List ℕ). l ++ drop 31 c) zeros)
 
-started-takes : (form : Form) (x : ℕ) (c : List ℕ) → IsForm form → HasFewColumns form → length (x ∷ c) ≡ 8192 → AreBytes (x ∷ c) → x ≡ kind_for form → started_fault form (x ∷ c) ≡ None → IsStarted form (x ∷ c)
+started_takes : (form : Form) (x : ℕ) (c : List ℕ) → IsForm form → HasFewColumns form → length (x ∷ c) ≡ 8192 → AreBytes (x ∷ c) → x ≡ kind_for form → started_fault form (x ∷ c) ≡ None → IsStarted form (x ∷ c)
 unfolding started_fault heap_bytes
-started-takes forms.Status x c is few len small kind f =
-    let parts = first-none (shifted 1 (zeros_fault (take 31 c))) None f in
-    let whole = parts-of x c len (shifted-none 1 _ parts.0) in
+started_takes forms.Status x c is few len small kind f =
+    let parts = first_none (shifted 1 (zeros_fault (take 31 c))) None f in
+    let whole = parts_of x c len (shifted-none 1 _ parts.0) in
     (statuses (drop 31 c), record { bytes = (drop 31 c, omega (arith, length-drop 31 c), whole ∙ ap (λ (k : ℕ). header_bytes k ++ drop 31 c) kind, refl) })
-started-takes (forms.Heap row count ks format) x c is few len small kind f =
+started_takes (forms.Heap row count ks format) x c is few len small kind f =
     let body = drop 31 c in
-    let parts = first-none (shifted 1 (zeros_fault (take 31 c))) (shifted 32 (slots_fault ks count body)) f in
-    let whole = parts-of x c len (shifted-none 1 _ parts.0) in
+    let parts = first_none (shifted 1 (zeros_fault (take 31 c))) (shifted 32 (slots_fault ks count body)) f in
+    let whole = parts_of x c len (shifted-none 1 _ parts.0) in
     let long : length body ≡ 8160 = omega (arith, length-drop 31 c) in
     let room : count * row_size ks ≤ length body = omega (arith, is.1, ap (λ (r : ℕ). count * r) is.0) in
     let t = slots-take ks count body few room (AreBytes-drop 31 c (λ i. small (suc i))) (shifted-none 32 _ parts.1) in
@@ -95,41 +95,41 @@ started-takes (forms.Heap row count ks format) x c is few len small kind f =
       },
     )
 
-by-kind : (form : Form) (x : ℕ) (c : List ℕ) (unstarted started : Bool) → eqb x 0 ≡ unstarted → eqb x (kind_for form) ≡ started → IsForm form → HasFewColumns form → length (x ∷ c) ≡ 8192 → AreBytes (x ∷ c)
+by_kind : (form : Form) (x : ℕ) (c : List ℕ) (unstarted started : Bool) → eqb x 0 ≡ unstarted → eqb x (kind_for form) ≡ started → IsForm form → HasFewColumns form → length (x ∷ c) ≡ 8192 → AreBytes (x ∷ c)
     → cond unstarted (zeros_fault (x ∷ c)) (cond started (started_fault form (x ∷ c)) (Some 0)) ≡ None → IsPageOf form (x ∷ c)
-by-kind form x c true started eu es is few len small f = inl (zeros-take (x ∷ c) f ∙ ap (λ (n : ℕ). replicate n 0) len)
-by-kind form x c false true eu es is few len small f = inr (started-takes form x c is few len small (eqb-true _ _ es) f)
-by-kind form x c false false eu es is few len small f = absurd cc
+by_kind form x c true started eu es is few len small f = inl (zeros_take (x ∷ c) f ∙ ap (λ (n : ℕ). replicate n 0) len)
+by_kind form x c false true eu es is few len small f = inr (started_takes form x c is few len small (eqb-true _ _ es) f)
+by_kind form x c false false eu es is few len small f = absurd cc
 
 -- what has no fault is a page of its form
-pub page-takes : (form : Form) (page : List ℕ) → IsForm form → HasFewColumns form → length page ≡ 8192 → AreBytes page → page_fault form page ≡ None → IsPageOf form page
+pub page_takes : (form : Form) (page : List ℕ) → IsForm form → HasFewColumns form → length page ≡ 8192 → AreBytes page → page_fault form page ≡ None → IsPageOf form page
 unfolding page_fault
-page-takes form [] is few len small f = absurd (omega arith)
-page-takes form (x ∷ c) is few len small f = by-kind form x c (eqb x 0) (eqb x (kind_for form)) refl refl is few len small f
+page_takes form [] is few len small f = absurd (omega arith)
+page_takes form (x ∷ c) is few len small f = by_kind form x c (eqb x 0) (eqb x (kind_for form)) refl refl is few len small f
 
-zeros-page : (form : Form) (n : ℕ) → page_fault form (replicate (suc n) 0) ≡ None
+zeros_page : (form : Form) (n : ℕ) → page_fault form (replicate (suc n) 0) ≡ None
 unfolding page_fault
-zeros-page form n = zeros-pass (suc n)
+zeros_page form n = zeros_pass (suc n)
 
-unstarted-passes : (form : Form) (n : ℕ) → 0 < n → page_fault form (replicate n 0) ≡ None
-unstarted-passes form zero some = absurd (omega arith)
-unstarted-passes form (suc n) some = zeros-page form n
+unstarted_passes : (form : Form) (n : ℕ) → 0 < n → page_fault form (replicate n 0) ≡ None
+unstarted_passes form zero some = absurd (omega arith)
+unstarted_passes form (suc n) some = zeros_page form n
 
-started-passes : (form : Form) (page : List ℕ) → IsForm form → HasFewColumns form → IsStarted form page → page_fault form page ≡ None
+started_passes : (form : Form) (page : List ℕ) → IsForm form → HasFewColumns form → IsStarted form page → page_fault form page ≡ None
 unfolding page_fault started_fault heap_bytes
-started-passes forms.Status page is few started =
+started_passes forms.Status page is few started =
     let body = started.1.bytes.0 in
-    ap (page_fault forms.Status) started.1.bytes.2 ∙ ap (λ (o : Option ℕ). first_of (shifted 1 o) None) (zeros-pass 31)
-started-passes (forms.Heap row count ks format) page is few started =
+    ap (page_fault forms.Status) started.1.bytes.2 ∙ ap (λ (o : Option ℕ). first_of (shifted 1 o) None) (zeros_pass 31)
+started_passes (forms.Heap row count ks format) page is few started =
     let slots = started.0 in
     let zeros = 8160 - length (slots_bytes ks slots) in
     let body = slots_bytes ks slots ++ replicate zeros 0 in
     ap (page_fault (forms.Heap row count ks format)) started.1.bytes
-    ∙ ap (λ (o : Option ℕ). first_of (shifted 1 o) (shifted 32 (slots_fault ks count body))) (zeros-pass 31)
+    ∙ ap (λ (o : Option ℕ). first_of (shifted 1 o) (shifted 32 (slots_fault ks count body))) (zeros_pass 31)
     ∙ ap (λ (n : ℕ). shifted 32 (slots_fault ks n body)) (sym started.1.counted)
     ∙ ap (shifted 32) (slots-pass ks slots zeros few started.1.are)
 
 -- a page of its form has no fault
-pub page-passes : (form : Form) (page : List ℕ) (n : ℕ) → n ≡ 8192 → IsForm form → HasFewColumns form → IsPageOf form page → page_fault form page ≡ None
-page-passes form page n is_long is few (inl zeros) = ap (page_fault form) (zeros ∙ ap (λ (k : ℕ). replicate k 0) (sym is_long)) ∙ unstarted-passes form n (omega arith)
-page-passes form page n is_long is few (inr started) = started-passes form page is few started
+pub page_passes : (form : Form) (page : List ℕ) (n : ℕ) → n ≡ 8192 → IsForm form → HasFewColumns form → IsPageOf form page → page_fault form page ≡ None
+page_passes form page n is_long is few (inl zeros) = ap (page_fault form) (zeros ∙ ap (λ (k : ℕ). replicate k 0) (sym is_long)) ∙ unstarted_passes form n (omega arith)
+page_passes form page n is_long is few (inr started) = started_passes form page is few started

@@ -15,27 +15,27 @@ use Rattle.block_model.specs.Ranges.{Range, Empty, Between, IsRange, lower_of, u
 use Rattle.block_model.specs.RowSize.{value_size}
 use Rattle.byte_fields.specs.Fields.{AreBytes, number_of, number-bytes}
 use Rattle.page_layout.specs.RowBytes.{has_kind, IsValue, IsBound, column_bytes, range_flags, bound_bytes, is_null}
-use Rattle.page_layout.specs.RowReading.{signed_at, range_of, value_in, column_in}
+use Rattle.page_layout.specs.RowReading.{signed_at, stored_range, value_in, column_in}
 use Rattle.page_layout.specs.RowFaults.{first_of, fault_unless, absent_fault, range_fault, value_fault, null_fault, column_fault}
-use Rattle.page_layout.proofs.Faults.{first-none, holds-unless}
-use Rattle.page_layout.proofs.Numbers.{signed-back, signed-bytes, field-bytes, field-small, zero-bytes, AreBytes-drop}
+use Rattle.page_layout.proofs.Faults.{first_none, holds-unless}
+use Rattle.page_layout.proofs.Numbers.{signed_back, signed_bytes, field-bytes, field-small, zero-bytes, AreBytes-drop}
 
 -- a value is read from its column
-pub column-again : (kind : Kind) (value : Value) (rest : List ℕ) → has_kind kind value ≡ true → IsValue value → column_in (is_null value) kind (column_bytes kind value ++ rest) ≡ value
-column-again kind Null rest h fits = refl
-column-again kinds.Int (Int n) rest h fits = ap Int (signed-back n fits)
-column-again kinds.Int (Span r) rest h fits = absurd cc
-column-again kinds.Int (Net n) rest h fits = absurd cc
-column-again kinds.Span (Int n) rest h fits = absurd cc
-column-again kinds.Span (Span Empty) rest h fits = refl
-column-again kinds.Span (Span (Between None None)) rest h fits = refl
-column-again kinds.Span (Span (Between None (Some u))) rest h fits = ap (λ (z : ℤ). Span (Between None (Some z))) (signed-back u fits.1.1)
-column-again kinds.Span (Span (Between (Some l) None)) rest h fits = ap (λ (z : ℤ). Span (Between (Some z) None)) (signed-back l fits.1.0)
-column-again kinds.Span (Span (Between (Some l) (Some u))) rest h fits = λ i. Span (Between (Some (signed-back l fits.1.0 i)) (Some (signed-back u fits.1.1 i)))
-column-again kinds.Span (Net n) rest h fits = absurd cc
-column-again kinds.Net (Int n) rest h fits = absurd cc
-column-again kinds.Net (Span r) rest h fits = absurd cc
-column-again kinds.Net (Net n) rest h fits = λ i. Net (record { family = sym fits.family i; prefix = n.prefix; address = number-bytes 4 n.address fits.address i })
+pub column_again : (kind : Kind) (value : Value) (rest : List ℕ) → has_kind kind value ≡ true → IsValue value → column_in (is_null value) kind (column_bytes kind value ++ rest) ≡ value
+column_again kind Null rest h fits = refl
+column_again kinds.Int (Int n) rest h fits = ap Int (signed_back n fits)
+column_again kinds.Int (Span r) rest h fits = absurd cc
+column_again kinds.Int (Net n) rest h fits = absurd cc
+column_again kinds.Span (Int n) rest h fits = absurd cc
+column_again kinds.Span (Span Empty) rest h fits = refl
+column_again kinds.Span (Span (Between None None)) rest h fits = refl
+column_again kinds.Span (Span (Between None (Some u))) rest h fits = ap (λ (z : ℤ). Span (Between None (Some z))) (signed_back u fits.1.1)
+column_again kinds.Span (Span (Between (Some l) None)) rest h fits = ap (λ (z : ℤ). Span (Between (Some z) None)) (signed_back l fits.1.0)
+column_again kinds.Span (Span (Between (Some l) (Some u))) rest h fits = λ i. Span (Between (Some (signed_back l fits.1.0 i)) (Some (signed_back u fits.1.1 i)))
+column_again kinds.Span (Net n) rest h fits = absurd cc
+column_again kinds.Net (Int n) rest h fits = absurd cc
+column_again kinds.Net (Span r) rest h fits = absurd cc
+column_again kinds.Net (Net n) rest h fits = λ i. Net (record { family = sym fits.family i; prefix = n.prefix; address = number-bytes 4 n.address fits.address i })
 
 zero-signed : int_eq (cast_signed w64 (number_of (bytes_high_first 8 0))) (pos 0) ≡ true
 zero-signed = ap (λ (n : ℕ). int_eq (cast_signed w64 n) (pos 0)) (number-bytes 8 0 (omega arith))
@@ -44,24 +44,24 @@ pub zero-number : (n : ℕ) → 0 < 256 ^ n → eqb (number_of (bytes_high_first
 zero-number n some = ap (λ (x : ℕ). eqb x 0) (number-bytes n 0 some)
 
 -- a value's column has no fault
-pub column-passes : (kind : Kind) (value : Value) (rest : List ℕ) → has_kind kind value ≡ true → IsValue value → column_fault (is_null value) kind (column_bytes kind value ++ rest) ≡ None
-column-passes kinds.Int Null rest h fits = ap (λ (b : Bool). fault_unless b 0) (zero-number 8 (omega arith))
-column-passes kinds.Span Null rest h fits = ap (λ (b : Bool). first_of (fault_unless b 1) (fault_unless b 9)) zero-signed
-column-passes kinds.Net Null rest h fits = ap (λ (b : Bool). fault_unless b 2) (zero-number 4 (omega arith))
-column-passes kinds.Int (Int n) rest h fits = refl
-column-passes kinds.Int (Span r) rest h fits = absurd cc
-column-passes kinds.Int (Net n) rest h fits = absurd cc
-column-passes kinds.Span (Int n) rest h fits = absurd cc
-column-passes kinds.Span (Span Empty) rest h fits = ap (λ (b : Bool). first_of (fault_unless b 1) (fault_unless b 9)) zero-signed
-column-passes kinds.Span (Span (Between None None)) rest h fits = ap (λ (b : Bool). first_of (fault_unless b 1) (fault_unless b 9)) zero-signed
-column-passes kinds.Span (Span (Between None (Some u))) rest h fits = ap (λ (b : Bool). fault_unless b 1) zero-signed
-column-passes kinds.Span (Span (Between (Some l) None)) rest h fits = ap (λ (b : Bool). fault_unless b 9) zero-signed
-column-passes kinds.Span (Span (Between (Some l) (Some u))) rest h fits =
-    ap (λ (b : Bool). fault_unless b 9) ((λ i. int_lt (signed-back l fits.1.0 i) (signed-back u fits.1.1 i)) ∙ fits.0)
-column-passes kinds.Span (Net n) rest h fits = absurd cc
-column-passes kinds.Net (Int n) rest h fits = absurd cc
-column-passes kinds.Net (Span r) rest h fits = absurd cc
-column-passes kinds.Net (Net n) rest h fits = ap (λ (b : Bool). fault_unless b 1) (Rattle.std.proofs.lemmas.Bool.lt-ltb n.prefix 33 (let p = fits.prefix in omega arith))
+pub column_passes : (kind : Kind) (value : Value) (rest : List ℕ) → has_kind kind value ≡ true → IsValue value → column_fault (is_null value) kind (column_bytes kind value ++ rest) ≡ None
+column_passes kinds.Int Null rest h fits = ap (λ (b : Bool). fault_unless b 0) (zero-number 8 (omega arith))
+column_passes kinds.Span Null rest h fits = ap (λ (b : Bool). first_of (fault_unless b 1) (fault_unless b 9)) zero-signed
+column_passes kinds.Net Null rest h fits = ap (λ (b : Bool). fault_unless b 2) (zero-number 4 (omega arith))
+column_passes kinds.Int (Int n) rest h fits = refl
+column_passes kinds.Int (Span r) rest h fits = absurd cc
+column_passes kinds.Int (Net n) rest h fits = absurd cc
+column_passes kinds.Span (Int n) rest h fits = absurd cc
+column_passes kinds.Span (Span Empty) rest h fits = ap (λ (b : Bool). first_of (fault_unless b 1) (fault_unless b 9)) zero-signed
+column_passes kinds.Span (Span (Between None None)) rest h fits = ap (λ (b : Bool). first_of (fault_unless b 1) (fault_unless b 9)) zero-signed
+column_passes kinds.Span (Span (Between None (Some u))) rest h fits = ap (λ (b : Bool). fault_unless b 1) zero-signed
+column_passes kinds.Span (Span (Between (Some l) None)) rest h fits = ap (λ (b : Bool). fault_unless b 9) zero-signed
+column_passes kinds.Span (Span (Between (Some l) (Some u))) rest h fits =
+    ap (λ (b : Bool). fault_unless b 9) ((λ i. int_lt (signed_back l fits.1.0 i) (signed_back u fits.1.1 i)) ∙ fits.0)
+column_passes kinds.Span (Net n) rest h fits = absurd cc
+column_passes kinds.Net (Int n) rest h fits = absurd cc
+column_passes kinds.Net (Span r) rest h fits = absurd cc
+column_passes kinds.Net (Net n) rest h fits = ap (λ (b : Bool). fault_unless b 1) (Rattle.std.proofs.lemmas.Bool.lt-ltb n.prefix 33 (let p = fits.prefix in omega arith))
 
 -- what a range's fields say that have no fault
 record RangeTaken (flags : ℕ) (l h : ℤ) (r : Range) : Type 0 where
@@ -72,48 +72,48 @@ record RangeTaken (flags : ℕ) (l h : ℤ) (r : Range) : Type 0 where
   lower_fits : FitsSigned w64 l → IsBound (lower_of r)
   upper_fits : FitsSigned w64 h → IsBound (upper_of r)
 
-is-zero : (z : ℤ) → int_eq z (pos 0) ≡ true → z ≡ pos 0
-is-zero z e = grind (arith, ints)
+is_zero : (z : ℤ) → int_eq z (pos 0) ≡ true → z ≡ pos 0
+is_zero z e = grind (arith, ints)
 
 zero-bound : (z : ℤ) → int_eq z (pos 0) ≡ true → bound_bytes None ≡ bytes_high_first 8 (cast_unsigned w64 z)
-zero-bound z e = ap (λ (y : ℤ). bytes_high_first 8 (cast_unsigned w64 y)) (sym (is-zero z e))
+zero-bound z e = ap (λ (y : ℤ). bytes_high_first 8 (cast_unsigned w64 y)) (sym (is_zero z e))
 
 both-absent : (l h : ℤ) → absent_fault l h ≡ None → (int_eq l (pos 0) ≡ true) × (int_eq h (pos 0) ≡ true)
 both-absent l h f =
-    let parts = first-none (fault_unless (int_eq l (pos 0)) 1) (fault_unless (int_eq h (pos 0)) 9) f in
+    let parts = first_none (fault_unless (int_eq l (pos 0)) 1) (fault_unless (int_eq h (pos 0)) 9) f in
     (holds-unless (int_eq l (pos 0)) 1 parts.0, holds-unless (int_eq h (pos 0)) 9 parts.1)
 
-range-by : (flags : ℕ) (l h : ℤ) (b0 b2 b4 b1 b6 : Bool) → eqb flags 0 ≡ b0 → eqb flags 2 ≡ b2 → eqb flags 4 ≡ b4 → eqb flags 1 ≡ b1 → eqb flags 6 ≡ b6
+range_by : (flags : ℕ) (l h : ℤ) (b0 b2 b4 b1 b6 : Bool) → eqb flags 0 ≡ b0 → eqb flags 2 ≡ b2 → eqb flags 4 ≡ b4 → eqb flags 1 ≡ b1 → eqb flags 6 ≡ b6
     → cond b0 (fault_unless (int_lt l h) 9) (cond b2 (fault_unless (int_eq l (pos 0)) 1) (cond b4 (fault_unless (int_eq h (pos 0)) 9) (cond b1 (absent_fault l h) (cond b6 (absent_fault l h) (Some 0))))) ≡ None
     → RangeTaken flags l h (cond b0 (Between (Some l) (Some h)) (cond b2 (Between None (Some h)) (cond b4 (Between (Some l) None) (cond b6 (Between None None) Empty))))
-range-by flags l h true b2 b4 b1 b6 e0 e2 e4 e1 e6 f =
+range_by flags l h true b2 b4 b1 b6 e0 e2 e4 e1 e6 f =
     record { flagged = sym (eqb-true flags 0 e0); canonical = holds-unless (int_lt l h) 9 f; lower = refl; upper = refl; lower_fits = λ g. g; upper_fits = λ g. g }
-range-by flags l h false true b4 b1 b6 e0 e2 e4 e1 e6 f =
+range_by flags l h false true b4 b1 b6 e0 e2 e4 e1 e6 f =
     record { flagged = sym (eqb-true flags 2 e2); canonical = refl; lower = zero-bound l (holds-unless (int_eq l (pos 0)) 1 f); upper = refl; lower_fits = λ g. tt; upper_fits = λ g. g }
-range-by flags l h false false true b1 b6 e0 e2 e4 e1 e6 f =
+range_by flags l h false false true b1 b6 e0 e2 e4 e1 e6 f =
     record { flagged = sym (eqb-true flags 4 e4); canonical = refl; lower = refl; upper = zero-bound h (holds-unless (int_eq h (pos 0)) 9 f); lower_fits = λ g. g; upper_fits = λ g. tt }
-range-by flags l h false false false true true e0 e2 e4 e1 e6 f =
+range_by flags l h false false false true true e0 e2 e4 e1 e6 f =
     let one : flags ≡ 1 = eqb-true flags 1 e1 in let six : flags ≡ 6 = eqb-true flags 6 e6 in absurd (omega arith)
-range-by flags l h false false false true false e0 e2 e4 e1 e6 f =
+range_by flags l h false false false true false e0 e2 e4 e1 e6 f =
     let zero = both-absent l h f in
     record { flagged = sym (eqb-true flags 1 e1); canonical = tt; lower = zero-bound l zero.0; upper = zero-bound h zero.1; lower_fits = λ g. tt; upper_fits = λ g. tt }
-range-by flags l h false false false false true e0 e2 e4 e1 e6 f =
+range_by flags l h false false false false true e0 e2 e4 e1 e6 f =
     let zero = both-absent l h f in
     record { flagged = sym (eqb-true flags 6 e6); canonical = refl; lower = zero-bound l zero.0; upper = zero-bound h zero.1; lower_fits = λ g. tt; upper_fits = λ g. tt }
-range-by flags l h false false false false false e0 e2 e4 e1 e6 f = absurd cc
+range_by flags l h false false false false false e0 e2 e4 e1 e6 f = absurd cc
 
-range-takes : (flags : ℕ) (l h : ℤ) → range_fault flags l h ≡ None → RangeTaken flags l h (range_of flags l h)
-range-takes flags l h f = range-by flags l h (eqb flags 0) (eqb flags 2) (eqb flags 4) (eqb flags 1) (eqb flags 6) refl refl refl refl refl f
+range_takes : (flags : ℕ) (l h : ℤ) → range_fault flags l h ≡ None → RangeTaken flags l h (stored_range flags l h)
+range_takes flags l h f = range_by flags l h (eqb flags 0) (eqb flags 2) (eqb flags 4) (eqb flags 1) (eqb flags 6) refl refl refl refl refl f
 
-two-fields : (b : List ℕ) → (take 8 b ++ take 8 (drop 8 b)) ++ drop 16 b ≡ b
-two-fields b =
+two_fields : (b : List ℕ) → (take 8 b ++ take 8 (drop 8 b)) ++ drop 16 b ≡ b
+two_fields b =
     append_assoc (take 8 b) (take 8 (drop 8 b)) (drop 16 b)
     ∙ ap (λ (t : List ℕ). take 8 b ++ (take 8 (drop 8 b) ++ t)) (sym (drop-drop 8 8 b))
     ∙ ap (λ (t : List ℕ). take 8 b ++ t) (take-append-drop 8 (drop 8 b))
     ∙ take-append-drop 8 b
 
-fits-signed : (n : ℕ) → n < 256 ^ 8 → FitsSigned w64 (cast_signed w64 n)
-fits-signed n low = sfits_to_z (record { fits = omega arith })
+fits_signed : (n : ℕ) → n < 256 ^ 8 → FitsSigned w64 (cast_signed w64 n)
+fits_signed n low = sfits_to_z (record { fits = omega arith })
 
 -- what stands in a column that has no fault
 pub record ColumnTaken (null : Bool) (kind : Kind) (bytes : List ℕ) (value : Value) : Type 0 where
@@ -122,56 +122,56 @@ pub record ColumnTaken (null : Bool) (kind : Kind) (bytes : List ℕ) (value : V
   pub nulled : is_null value ≡ null
   pub written : column_bytes kind value ++ drop (value_size kind) bytes ≡ bytes
 
-null-takes : (kind : Kind) (bytes : List ℕ) → value_size kind ≤ length bytes → AreBytes bytes → null_fault kind bytes ≡ None → ColumnTaken true kind bytes Null
-null-takes kinds.Int bytes long small f = record {
+null_takes : (kind : Kind) (bytes : List ℕ) → value_size kind ≤ length bytes → AreBytes bytes → null_fault kind bytes ≡ None → ColumnTaken true kind bytes Null
+null_takes kinds.Int bytes long small f = record {
   has = refl;
   is = tt;
   nulled = refl;
   written = ap (λ (t : List ℕ). t ++ drop 8 bytes) (sym (zero-bytes 8 bytes long small (holds-unless (eqb (number_of (take 8 bytes)) 0) 0 f))) ∙ take-append-drop 8 bytes;
 }
-null-takes kinds.Span [] long small f = absurd (omega arith)
-null-takes kinds.Span (x ∷ b) long small f =
+null_takes kinds.Span [] long small f = absurd (omega arith)
+null_takes kinds.Span (x ∷ b) long small f =
     let more : 16 ≤ length b = omega arith in
     let tight : AreBytes b = λ i. small (suc i) in
-    let one = first-none (fault_unless (eqb x 0) 0) (absent_fault (signed_at (x ∷ b) 1) (signed_at (x ∷ b) 9)) f in
+    let one = first_none (fault_unless (eqb x 0) 0) (absent_fault (signed_at (x ∷ b) 1) (signed_at (x ∷ b) 9)) f in
     let zero : x ≡ 0 = eqb-true x 0 (holds-unless (eqb x 0) 0 one.0) in
     let both = both-absent (signed_at (x ∷ b) 1) (signed_at (x ∷ b) 9) one.1 in
-    let low : bound_bytes None ≡ take 8 b = zero-bound (signed_at (x ∷ b) 1) both.0 ∙ signed-bytes b (omega arith) tight in
-    let high : bound_bytes None ≡ take 8 (drop 8 b) = zero-bound (signed_at (x ∷ b) 9) both.1 ∙ signed-bytes (drop 8 b) (omega (arith, length-drop 8 b)) (AreBytes-drop 8 b tight) in
-    record { has = refl; is = tt; nulled = refl; written = (λ i. sym zero i ∷ ((low i ++ high i) ++ drop 16 b)) ∙ ap (λ (t : List ℕ). x ∷ t) (two-fields b) }
-null-takes kinds.Net [] long small f = absurd (omega arith)
-null-takes kinds.Net (x ∷ []) long small f = absurd (omega arith)
-null-takes kinds.Net (x ∷ y ∷ b) long small f =
+    let low : bound_bytes None ≡ take 8 b = zero-bound (signed_at (x ∷ b) 1) both.0 ∙ signed_bytes b (omega arith) tight in
+    let high : bound_bytes None ≡ take 8 (drop 8 b) = zero-bound (signed_at (x ∷ b) 9) both.1 ∙ signed_bytes (drop 8 b) (omega (arith, length-drop 8 b)) (AreBytes-drop 8 b tight) in
+    record { has = refl; is = tt; nulled = refl; written = (λ i. sym zero i ∷ ((low i ++ high i) ++ drop 16 b)) ∙ ap (λ (t : List ℕ). x ∷ t) (two_fields b) }
+null_takes kinds.Net [] long small f = absurd (omega arith)
+null_takes kinds.Net (x ∷ []) long small f = absurd (omega arith)
+null_takes kinds.Net (x ∷ y ∷ b) long small f =
     let tight : AreBytes b = λ i. small (suc (suc i)) in
-    let one = first-none (fault_unless (eqb x 0) 0) (first_of (fault_unless (eqb y 0) 1) (fault_unless (eqb (number_of (take 4 b)) 0) 2)) f in
-    let two = first-none (fault_unless (eqb y 0) 1) (fault_unless (eqb (number_of (take 4 b)) 0) 2) one.1 in
+    let one = first_none (fault_unless (eqb x 0) 0) (first_of (fault_unless (eqb y 0) 1) (fault_unless (eqb (number_of (take 4 b)) 0) 2)) f in
+    let two = first_none (fault_unless (eqb y 0) 1) (fault_unless (eqb (number_of (take 4 b)) 0) 2) one.1 in
     let first : x ≡ 0 = eqb-true x 0 (holds-unless (eqb x 0) 0 one.0) in
     let second : y ≡ 0 = eqb-true y 0 (holds-unless (eqb y 0) 1 two.0) in
     let zeros = zero-bytes 4 b (omega arith) tight (holds-unless (eqb (number_of (take 4 b)) 0) 2 two.1) in
     record { has = refl; is = tt; nulled = refl; written = (λ i. sym first i ∷ sym second i ∷ (sym zeros i ++ drop 4 b)) ∙ ap (λ (t : List ℕ). x ∷ y ∷ t) (take-append-drop 4 b) }
 
-value-takes : (kind : Kind) (bytes : List ℕ) → value_size kind ≤ length bytes → AreBytes bytes → value_fault kind bytes ≡ None → ColumnTaken false kind bytes (value_in kind bytes)
-value-takes kinds.Int bytes long small f =
-    record { has = refl; is = fits-signed (number_of (take 8 bytes)) (field-small 8 bytes long small); nulled = refl; written = ap (λ (t : List ℕ). t ++ drop 8 bytes) (signed-bytes bytes long small) ∙ take-append-drop 8 bytes }
-value-takes kinds.Span [] long small f = absurd (omega arith)
-value-takes kinds.Span (x ∷ b) long small f =
+value_takes : (kind : Kind) (bytes : List ℕ) → value_size kind ≤ length bytes → AreBytes bytes → value_fault kind bytes ≡ None → ColumnTaken false kind bytes (value_in kind bytes)
+value_takes kinds.Int bytes long small f =
+    record { has = refl; is = fits_signed (number_of (take 8 bytes)) (field-small 8 bytes long small); nulled = refl; written = ap (λ (t : List ℕ). t ++ drop 8 bytes) (signed_bytes bytes long small) ∙ take-append-drop 8 bytes }
+value_takes kinds.Span [] long small f = absurd (omega arith)
+value_takes kinds.Span (x ∷ b) long small f =
     let more : 16 ≤ length b = omega arith in
     let tight : AreBytes b = λ i. small (suc i) in
-    let t = range-takes x (signed_at (x ∷ b) 1) (signed_at (x ∷ b) 9) f in
+    let t = range_takes x (signed_at (x ∷ b) 1) (signed_at (x ∷ b) 9) f in
     let len : 8 ≤ length (drop 8 b) = omega (arith, length-drop 8 b) in
-    let low = t.lower ∙ signed-bytes b (omega arith) tight in
-    let high = t.upper ∙ signed-bytes (drop 8 b) len (AreBytes-drop 8 b tight) in
+    let low = t.lower ∙ signed_bytes b (omega arith) tight in
+    let high = t.upper ∙ signed_bytes (drop 8 b) len (AreBytes-drop 8 b tight) in
     record {
       has = refl;
-      is = (t.canonical, (t.lower_fits (fits-signed (number_of (take 8 b)) (field-small 8 b (omega arith) tight)), t.upper_fits (fits-signed (number_of (take 8 (drop 8 b))) (field-small 8 (drop 8 b) len (AreBytes-drop 8 b tight)))));
+      is = (t.canonical, (t.lower_fits (fits_signed (number_of (take 8 b)) (field-small 8 b (omega arith) tight)), t.upper_fits (fits_signed (number_of (take 8 (drop 8 b))) (field-small 8 (drop 8 b) len (AreBytes-drop 8 b tight)))));
       nulled = refl;
-      written = (λ i. t.flagged i ∷ ((low i ++ high i) ++ drop 16 b)) ∙ ap (λ (t : List ℕ). x ∷ t) (two-fields b);
+      written = (λ i. t.flagged i ∷ ((low i ++ high i) ++ drop 16 b)) ∙ ap (λ (t : List ℕ). x ∷ t) (two_fields b);
     }
-value-takes kinds.Net [] long small f = absurd (omega arith)
-value-takes kinds.Net (x ∷ []) long small f = absurd (omega arith)
-value-takes kinds.Net (x ∷ y ∷ b) long small f =
+value_takes kinds.Net [] long small f = absurd (omega arith)
+value_takes kinds.Net (x ∷ []) long small f = absurd (omega arith)
+value_takes kinds.Net (x ∷ y ∷ b) long small f =
     let tight : AreBytes b = λ i. small (suc (suc i)) in
-    let one = first-none (fault_unless (eqb x 4) 0) (fault_unless (nat_lt y 33) 1) f in
+    let one = first_none (fault_unless (eqb x 4) 0) (fault_unless (nat_lt y 33) 1) f in
     let first : x ≡ 4 = eqb-true x 4 (holds-unless (eqb x 4) 0 one.0) in
     let second : y < 33 = ltb-true y 33 (holds-unless (nat_lt y 33) 1 one.1) in
     let low = field-small 4 b (omega arith) tight in
@@ -183,6 +183,6 @@ value-takes kinds.Net (x ∷ y ∷ b) long small f =
     }
 
 -- what has no fault is a column's value
-pub column-takes : (null : Bool) (kind : Kind) (bytes : List ℕ) → value_size kind ≤ length bytes → AreBytes bytes → column_fault null kind bytes ≡ None → ColumnTaken null kind bytes (column_in null kind bytes)
-column-takes true kind bytes long small f = null-takes kind bytes long small f
-column-takes false kind bytes long small f = value-takes kind bytes long small f
+pub column_takes : (null : Bool) (kind : Kind) (bytes : List ℕ) → value_size kind ≤ length bytes → AreBytes bytes → column_fault null kind bytes ≡ None → ColumnTaken null kind bytes (column_in null kind bytes)
+column_takes true kind bytes long small f = null_takes kind bytes long small f
+column_takes false kind bytes long small f = value_takes kind bytes long small f

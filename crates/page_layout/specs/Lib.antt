@@ -5,3 +5,4 @@ pub mod PageContents
 pub mod FreeSlots
 pub mod PageFaults
 pub mod PageWrites
+pub mod HeapForms

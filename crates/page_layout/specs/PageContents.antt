@@ -1,5 +1,6 @@
 -- pages as lists
 use Rattle.std.specs.Prelude.{◌≡◌, ℕ, ◌-◌, ◌*◌, ◌/◌, ◌%◌, ◌<◌, ◌≤◌, ◌⊎◌, List, [], ◌∷◌, ◌++◌, length, Option, None, Some, replicate, slice_get, slice_index, ◌==◌, if◌then◌else◌}
+use Rattle.block_model.specs.declared.limits.TheConstants.{PAGE_ROOM, PAGE_SIZE}
 use Rattle.block_model.specs.declared.value.Kind.{Kind}
 use Rattle.block_model.specs.RowSize.{row_size}
 use Rattle.page_layout.specs.declared.page.Form.{Form}
@@ -34,7 +35,7 @@ header_bytes kind = kind ∷ replicate 31 0
 
 -- the slots, and zeros up to the end of a page
 unfoldable pub heap_bytes : List Kind → List Slot → List ℕ
-heap_bytes kinds slots = header_bytes 2 ++ (slots_bytes kinds slots ++ replicate (8160 - length (slots_bytes kinds slots)) 0)
+heap_bytes kinds slots = header_bytes 2 ++ (slots_bytes kinds slots ++ replicate (PAGE_ROOM - length (slots_bytes kinds slots)) 0)
 
 -- a heap page with this many slots, and what is in each
 pub record IsHeap (columns : List Kind) (count : ℕ) (slots : List Slot) (page : List ℕ) : Type 0 where
@@ -57,11 +58,11 @@ statuses (byte ∷ bytes) = byte % 4 ∷ byte / 4 % 4 ∷ byte / 16 % 4 ∷ byte
 
 -- a page of statuses, of which every 8160 bytes are some
 pub record IsStatusPage (page : List ℕ) (entries : List ℕ) : Type 0 where
-  pub bytes : (body : List ℕ) × (length body ≡ 8160) × (page ≡ header_bytes 1 ++ body) × (entries ≡ statuses body)
+  pub bytes : (body : List ℕ) × (length body ≡ PAGE_ROOM) × (page ≡ header_bytes 1 ++ body) × (entries ≡ statuses body)
 
 -- a page that isn't started is zeros
 abbrev pub IsUnstarted : List ℕ → Type 0
-IsUnstarted page = page ≡ replicate 8192 0
+IsUnstarted page = page ≡ replicate PAGE_SIZE 0
 
 -- a page of its form that is started
 abbrev pub IsStarted : Form → List ℕ → Type 0
@@ -74,7 +75,7 @@ IsPageOf form page = IsUnstarted page ⊎ IsStarted form page
 -- the slots are of the size of a row and fit a page
 abbrev pub IsForm : Form → Type 0
 IsForm forms.Status = Unit {0}
-IsForm (forms.Heap row count kinds format) = (row ≡ row_size kinds) × (count * row ≤ 8160) × (format ≡ 1)
+IsForm (forms.Heap row count kinds format) = (row ≡ row_size kinds) × (count * row ≤ PAGE_ROOM) × (format ≡ 1)
 
 -- a table has at most eight columns
 abbrev pub HasFewColumns : Form → Type 0

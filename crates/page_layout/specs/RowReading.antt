@@ -20,8 +20,8 @@ abbrev pub signed_at : List ℕ → ℕ → ℤ
 signed_at bytes at = cast_signed w64 (number_at bytes at 8)
 
 -- the range of these flags and bounds
-abbrev pub range_of : ℕ → ℤ → ℤ → Range
-range_of flags l h =
+abbrev pub stored_range : ℕ → ℤ → ℤ → Range
+stored_range flags l h =
     if flags == 0 then Between (Some l) (Some h)
     else (if flags == 2 then Between None (Some h)
     else (if flags == 4 then Between (Some l) None
@@ -31,7 +31,7 @@ range_of flags l h =
 -- the value in its column
 abbrev pub value_in : Kind → List ℕ → Value
 value_in kinds.Int bytes = Int (signed_at bytes 0)
-value_in kinds.Span bytes = Span (range_of (slice_index bytes 0) (signed_at bytes 1) (signed_at bytes 9))
+value_in kinds.Span bytes = Span (stored_range (slice_index bytes 0) (signed_at bytes 1) (signed_at bytes 9))
 value_in kinds.Net bytes = Net (network_v4 (number_at bytes 2 4) (slice_index bytes 1))
 
 abbrev pub column_in : Bool → Kind → List ℕ → Value

@@ -1,25 +1,22 @@
-// Whether bytes are a page of a form.
+//! Whether bytes are a page of a form.
 
 ghost use Rattle.std.specs.Prelude.{◌≡◌, ◌*◌, ◌≤◌, ◌<◌, length, true, false, IfErr, IfSome, OnOk, OnErr, MatchResult, None, Some};
+ghost use Rattle.block_model.specs.declared.limits.TheConstants.{PAGE_ROOM, PAGE_SIZE};
 ghost use Rattle.block_model.specs.RowSize.{row_size};
 ghost use Rattle.page_layout.specs.PageContents.{HasFewColumns, IsForm, IsPageOf};
 ghost use Rattle.page_layout.specs.PageFaults.{body_fault, kind_for, page_fault, slots_fault, started_fault, zeros_fault};
 
-use crate::page::{Form, HEADER, HEAP, PAGE, Page, PageFault, bytes_known};
+use crate::format::{HEAP, STATUS, UNSTARTED};
+use crate::page::{Form, HEADER, Page, PageFault, bytes_known};
 use crate::slot::slot_fault;
-use block_model::value::Kind;
-
-/// The kinds of other pages.
-const UNSTARTED: u8 = 0;
-
-const STATUS: u8 = 1;
+use block_model::{Kind, PAGE_SIZE};
 
 /// Whether the page is one of the form, whose slots are of the size of a row and fit a page; a page that isn't started is
 /// one of every form. The fault is the lowest place of a field whose rule is broken.
 pub fn check(page: &Page, form: Form) -> Result<(), PageFault>
     requires { IsForm form }
     ensures place { MatchResult result (λ _. page_fault form page.now ≡ None) (λ fault. page_fault form page.now ≡ Some fault.at) }
-    ensures within { IfErr result (λ fault. fault.at < 8192) }
+    ensures within { IfErr result (λ fault. fault.at < PAGE_SIZE) }
     ensures passed { OnOk result (IsPageOf form page.now) }
     ensures refused { OnErr result (IsPageOf form page.now → ⊥) }
 {
@@ -34,10 +31,10 @@ pub fn check(page: &Page, form: Form) -> Result<(), PageFault>
 /// Whether the bytes are a page of the form, whose slots are of the size of a row and fit a page. Copies none of them.
 pub fn is_page(bytes: &[u8], form: Form) -> bool
     requires { IsForm form }
-    ensures page { result ≡ true → (length bytes.now ≡ 8192) × IsPageOf form bytes.now }
-    ensures other { result ≡ false → (length bytes.now ≡ 8192) × IsPageOf form bytes.now → ⊥ }
+    ensures page { result ≡ true → (length bytes.now ≡ PAGE_SIZE) × IsPageOf form bytes.now }
+    ensures other { result ≡ false → (length bytes.now ≡ PAGE_SIZE) × IsPageOf form bytes.now → ⊥ }
 {
-    if bytes.len() != PAGE {
+    if bytes.len() != PAGE_SIZE {
         return false;
     }
     bytes_known(bytes);
@@ -52,9 +49,9 @@ pub fn is_page(bytes: &[u8], form: Form) -> bool
 fn page_fault(page: &[u8], form: &Form) -> Option<usize>
     requires form { IsForm form.now }
     requires few { HasFewColumns form.now }
-    requires whole { length page.now ≡ 8192 }
+    requires whole { length page.now ≡ PAGE_SIZE }
     ensures fault { result ≡ page_fault form.now page.now }
-    ensures within { IfSome result (λ at. at < 8192) }
+    ensures within { IfSome result (λ at. at < PAGE_SIZE) }
 {
     let kind = page[0];
     if kind == UNSTARTED {
@@ -79,9 +76,9 @@ fn kind_for(form: &Form) -> u8
 #[tactic(auto, unfolding(crate::specs::PageFaults::started_fault))]
 fn started_fault(page: &[u8], form: &Form) -> Option<usize>
     requires form { IsForm form.now }
-    requires whole { length page.now ≡ 8192 }
+    requires whole { length page.now ≡ PAGE_SIZE }
     ensures fault { result ≡ started_fault form.now page.now }
-    ensures within { IfSome result (λ at. at < 8192) }
+    ensures within { IfSome result (λ at. at < PAGE_SIZE) }
 {
     if let Some(at) = zeros_fault(&page[1..HEADER]) {
         return Some(1 + at);
@@ -92,9 +89,9 @@ fn started_fault(page: &[u8], form: &Form) -> Option<usize>
 
 fn body_fault(body: &[u8], form: &Form) -> Option<usize>
     requires form { IsForm form.now }
-    requires whole { length body.now ≡ 8160 }
+    requires whole { length body.now ≡ PAGE_ROOM }
     ensures fault { result ≡ body_fault form.now body.now }
-    ensures within { IfSome result (λ at. at < 8160) }
+    ensures within { IfSome result (λ at. at < PAGE_ROOM) }
 {
     match form {
         Form::Status => None,

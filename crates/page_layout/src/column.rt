@@ -1,15 +1,13 @@
-// Columns as bytes.
+//! Columns as bytes.
 
 ghost use Rattle.std.specs.Prelude.{◌≡◌, ◌≤◌, ◌+◌, ◌++◌, ◌∷◌, [], drop, length, sum_by, None, true};
 ghost use Rattle.block_model.specs.RowSize.{value_size};
 ghost use Rattle.block_model.specs.Ranges.{lower_of, upper_of, IsRange};
 ghost use Rattle.page_layout.specs.RowBytes.{HaveKinds, IsValue, IsBound, AreValues, bound_bytes, column_bytes, columns_bytes, has_kind, network_bytes, range_bytes, range_flags};
-ghost use Rattle.page_layout.specs.RowReading.{column_in, columns_in, value_in, range_of};
+ghost use Rattle.page_layout.specs.RowReading.{column_in, columns_in, value_in, stored_range};
 ghost use Rattle.page_layout.specs.RowFaults.{columns_fault, column_fault, value_fault, range_fault};
 
-use block_model::net::Net;
-use block_model::span::Span8;
-use block_model::value::{Kind, Value, Values};
+use block_model::{Kind, Net, Span8, Value, Values};
 use byte_fields::{get_i64, get_u32, put_i64, put_u32};
 
 /// The family of addresses of 32 bits.
@@ -188,7 +186,7 @@ fn read_value(kind: Kind, bytes: &[u8]) -> Value
 
 fn read_range(flags: u8, lower: i64, upper: i64) -> Span8
     requires { range_fault flags lower upper ≡ None }
-    ensures { result ≡ range_of flags lower upper }
+    ensures { result ≡ stored_range flags lower upper }
 {
     let lower = Some((lower, true));
     let upper = Some((upper, false));

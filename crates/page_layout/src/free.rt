@@ -1,10 +1,11 @@
-// The free slots of a page that passed its check.
+//! The free slots of a page that passed its check.
 
 ghost use Rattle.std.specs.Prelude.{◌≡◌, List, None, IfSome};
 ghost use Rattle.page_layout.specs.FreeSlots.{free_count, lowest_free, slot_count};
 ghost use Rattle.page_layout.specs.PageContents.{HasSlot, HasSlots, IsForm, IsPageOf, IsUnstarted, Slot};
 
-use crate::page::{Form, HEAP, Page};
+use crate::format::HEAP;
+use crate::page::{Form, Page};
 use crate::readers::{kind_of, row_at};
 
 /// How many slots a page of the form has: one of statuses has none.

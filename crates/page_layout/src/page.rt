@@ -1,24 +1,21 @@
-// Pages and their forms.
+//! Pages and their forms.
 
 ghost use Rattle.std.specs.Prelude.{◌≡◌, ◌+◌, ◌≤◌, length, replicate};
+ghost use Rattle.block_model.specs.declared.limits.TheConstants.{PAGE_SIZE};
 ghost use Rattle.byte_fields.specs.Fields.{AreBytes};
 ghost use borrow.Rule.Slice.PartMut.{put_mid};
 
-use block_model::value::Kinds;
+use block_model::{Kinds, PAGE_SIZE};
 use std::marker::Model;
+use thiserror::Error;
 
-/// How many bytes a page has, and its header.
-pub(crate) const PAGE: usize = 8192;
-
+/// How many bytes the header of a page has.
 pub(crate) const HEADER: usize = 32;
 
-/// The kind of a heap page.
-pub(crate) const HEAP: u8 = 2;
-
-/// A page, seen as its 8192 bytes.
+/// A page, seen as its bytes.
 #[derive(Debug, Drop)]
 pub struct Page {
-    bytes: [u8; 8192],
+    bytes: [u8; PAGE_SIZE],
 }
 
 impl Model for Page {
@@ -32,13 +29,15 @@ impl Model for Page {
 impl Page {
     /// A page that isn't started.
     pub fn zeroed() -> Page
-        ensures { result ≡ replicate 8192 0 }
+        ensures { result ≡ replicate PAGE_SIZE 0 }
     {
-        Page { bytes: [0; PAGE] }
+        Page {
+            bytes: [0; PAGE_SIZE],
+        }
     }
 
     /// The page of these bytes, whatever they are.
-    pub fn from_bytes(bytes: &[u8; 8192]) -> Page
+    pub fn from_bytes(bytes: &[u8; PAGE_SIZE]) -> Page
         ensures { result ≡ bytes.now }
     {
         Page { bytes: *bytes }
@@ -47,14 +46,14 @@ impl Page {
     /// Its bytes.
     pub fn as_bytes(&self) -> &[u8]
         ensures bytes { result.now ≡ self.now }
-        ensures whole { length result.now ≡ 8192 }
+        ensures whole { length result.now ≡ PAGE_SIZE }
     {
         &self.bytes
     }
 
     /// The page becomes these bytes.
     pub fn replace(&mut self, bytes: &[u8])
-        requires whole { length bytes.now ≡ 8192 }
+        requires whole { length bytes.now ≡ PAGE_SIZE }
         ensures { self.new ≡ bytes.now }
     {
         self.bytes.copy_from_slice(bytes);
@@ -62,7 +61,7 @@ impl Page {
 
     /// The bytes stand from that place on.
     pub(crate) fn write(&mut self, at: usize, bytes: &[u8])
-        requires within { at + length bytes.now ≤ 8192 }
+        requires within { at + length bytes.now ≤ PAGE_SIZE }
         ensures written { self.new ≡ put_mid at (length bytes.now) self.old bytes.now }
     {
         self.bytes[at..at + bytes.len()].copy_from_slice(bytes);
@@ -70,15 +69,15 @@ impl Page {
 
     /// Zeros stand in that many bytes from that place on.
     pub(crate) fn clear(&mut self, at: usize, size: usize)
-        requires within { at + size ≤ 8192 }
+        requires within { at + size ≤ PAGE_SIZE }
         ensures cleared { self.new ≡ put_mid at size self.old (replicate size 0) }
     {
         self.bytes[at..at + size].fill(0);
     }
 
-    /// Every page has 8192 bytes. Does nothing.
+    /// Does nothing; tells its caller how many bytes every page has.
     pub fn known(&self)
-        ensures whole { length self.now ≡ 8192 }
+        ensures whole { length self.now ≡ PAGE_SIZE }
         ensures small { AreBytes self.now }
     {
         bytes_known(self.as_bytes());
@@ -106,7 +105,8 @@ pub enum Form {
 }
 
 /// The lowest place of a field whose rule is broken.
-#[derive(Clone, Copy, Debug, PartialEq, Eq)]
+#[derive(Clone, Copy, Debug, Eq, Error, PartialEq)]
+#[error("the page is damaged at byte {at}")]
 pub struct PageFault {
     pub at: u16,
 }

@@ -1,14 +1,12 @@
-// What stands on a page that passed its check.
+//! What stands on a page that passed its check.
 
 ghost use Rattle.std.specs.Prelude.{◌≡◌, ◌+◌, ◌*◌, ◌<◌, ◌≤◌, drop, take, length, slice_index, IfSome, List, None};
 ghost use Rattle.std.specs.Option.{option_map};
 ghost use Rattle.page_layout.specs.PageContents.{HasSlot, HasSlots, IsForm, IsPageOf, IsRowOf, IsUnstarted, Slot, row_bytes_in, status_in, statuses, used_in};
 
+use crate::format::STATUSES_A_BYTE;
 use crate::page::{Form, HEADER, Page};
 use crate::row::FREE;
-
-/// How many statuses a byte has.
-const STATUSES_A_BYTE: u16 = 4;
 
 /// The kind of the page.
 pub fn kind_of(page: &Page) -> u8

@@ -1,7 +1,9 @@
-// Rows as bytes.
+//! Rows as bytes.
 
 ghost use Rattle.std.specs.Prelude.{◌≡◌, ◌≤◌, ◌<◌, ◌^◌, ◌++◌, drop, length, map, None};
+ghost use Rattle.block_model.specs.declared.limits.TheConstants.{MAX_COLUMNS};
 ghost use Rattle.block_model.specs.RowSize.{row_size};
+ghost use Rattle.page_layout.specs.HeapForms.{heap_form};
 ghost use Rattle.page_layout.specs.PageContents.{IsForm, IsRowOf};
 ghost use Rattle.page_layout.specs.PageWrites.{RowHasBytes};
 ghost use Rattle.page_layout.specs.RowReading.{row_in};
@@ -9,10 +11,9 @@ ghost use Rattle.page_layout.specs.RowFaults.{row_fault};
 ghost use Rattle.page_layout.specs.RowBytes.{StoredRow, HaveKinds, IsRow, IsRowBytes, head_bytes, null_bits, row_bytes};
 
 use crate::column::{columns_size, read_columns, write_columns};
+use crate::format::FORMAT;
 use crate::page::Form;
-use block_model::row::RowId;
-use block_model::schema::Table;
-use block_model::value::{Kind, Kinds, Value, Values};
+use block_model::{Kind, Kinds, RowId, Table, Value, Values};
 use byte_fields::{get_u32, get_u64, put_u32, put_u64};
 
 /// The first byte of a slot in use, and of a free one.
@@ -33,7 +34,7 @@ pub(crate) const COLUMNS: usize = 22;
 
 /// The kinds of a table's columns, of which a table has at most eight.
 pub fn kinds_of(table: &Table) -> Kinds
-    requires { length table.now.columns ≤ 8 }
+    requires { length table.now.columns ≤ MAX_COLUMNS }
     ensures { result ≡ map (λ c. c.kind) table.now.columns }
 {
     let mut kinds = Kinds::new();
@@ -45,13 +46,26 @@ pub fn kinds_of(table: &Table) -> Kinds
 
 /// The bytes of a row of the table, which has at most eight columns.
 pub fn row_size(table: &Table, format: u16) -> u16
-    requires columns { length table.now.columns ≤ 8 }
+    requires columns { length table.now.columns ≤ MAX_COLUMNS }
     requires format { format ≡ 1 }
     ensures { result ≡ row_size (map (λ c. c.kind) table.now.columns) }
 {
     let _ = format;
     let kinds = kinds_of(table);
     22 + columns_size(kinds.as_slice())
+}
+
+/// The form of the pages of the table's heap. The table has at most eight columns.
+pub fn heap_form(table: &Table) -> Form
+    requires { length table.now.columns ≤ MAX_COLUMNS }
+    ensures { result ≡ heap_form table.now }
+{
+    Form::Heap {
+        row: row_size(table, FORMAT),
+        slots: table.rows_per_page,
+        kinds: kinds_of(table),
+        format: FORMAT,
+    }
 }
 
 /// Writes a row into the bytes of a slot. The values are of the kinds of the table's columns.
@@ -63,7 +77,7 @@ pub fn encode_row(
     values: &[Value],
     out: &mut [u8],
 )
-    requires columns { length table.now.columns ≤ 8 }
+    requires columns { length table.now.columns ≤ MAX_COLUMNS }
     requires format { format ≡ 1 }
     requires kinds { HaveKinds (map (λ c. c.kind) table.now.columns) values.now }
     requires room { length out.old ≡ row_size (map (λ c. c.kind) table.now.columns) }
@@ -105,7 +119,7 @@ fn null_bits(values: &[Value]) -> u8
 
 /// The id and the deleter of the row with these bytes, which are those of a row of the table. `values` becomes its values.
 pub fn decode_row(table: &Table, format: u16, bytes: &[u8], values: &mut Values) -> (RowId, u64)
-    requires columns { length table.now.columns ≤ 8 }
+    requires columns { length table.now.columns ≤ MAX_COLUMNS }
     requires format { format ≡ 1 }
     requires row { IsRowBytes (map (λ c. c.kind) table.now.columns) bytes.now }
     ensures row { (row : StoredRow) → IsRow (map (λ c. c.kind) table.now.columns) row → bytes.now ≡ row_bytes (map (λ c. c.kind) table.now.columns) row → (result ≡ (row.id, row.deleter)) × (values.new ≡ row.values) }

@@ -1,4 +1,4 @@
-// The first field of a slot whose rule is broken.
+//! The first field of a slot whose rule is broken.
 
 ghost use Rattle.std.specs.Prelude.{◌≡◌, ◌≤◌, ◌<◌, length, sum_by, IfSome};
 ghost use Rattle.block_model.specs.RowSize.{row_size, value_size};
@@ -9,7 +9,7 @@ use crate::column::{
     value_size,
 };
 use crate::row::{COLUMNS, DELETER, FREE, ID_K, ID_T, IN_USE, NULL_BITS};
-use block_model::value::Kind;
+use block_model::Kind;
 use byte_fields::{get_i64, get_u32, get_u64};
 
 /// The first field of a slot whose rule is broken.

@@ -1,4 +1,4 @@
-// What is written to a page that passed its check.
+//! What is written to a page that passed its check.
 
 ghost use Rattle.std.specs.Prelude.{◌≡◌, ◌+◌, ◌*◌, ◌<◌, ◌≤◌, ◌^◌, drop, length, replicate, set, slice_get, List, ℕ, None, Some, true, false};
 ghost use Rattle.std.specs.Int.{bytes_high_first};
@@ -9,13 +9,11 @@ ghost use Rattle.page_layout.specs.RowBytes.{IsRowBytes, StoredRow, row_bytes};
 ghost use Rattle.page_layout.specs.RowFaults.{row_fault};
 ghost use borrow.Rule.Slice.PartMut.{put_mid};
 
-use crate::page::{Form, HEADER, HEAP, PAGE, Page};
+use crate::format::{HEAP, STATUSES_A_BYTE};
+use crate::page::{Form, HEADER, Page};
 use crate::row::{DELETER, IN_USE};
 use crate::slot::row_fault;
-use block_model::value::Kind;
-
-/// How many statuses a byte has.
-const STATUSES_A_BYTE: u16 = 4;
+use block_model::{Kind, PAGE_SIZE};
 
 /// Whether the bytes are those of a row.
 pub fn is_row(form: Form, bytes: &[u8]) -> bool
@@ -52,7 +50,7 @@ pub fn start_heap(page: &mut Page, form: Form)
 {
     let _ = form;
     page.known();
-    page.clear(0, PAGE);
+    page.clear(0, PAGE_SIZE);
     page.write(0, &[HEAP]);
 }
 

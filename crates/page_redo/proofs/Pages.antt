@@ -11,9 +11,9 @@ use Rattle.page_layout.specs.PageContents.{Slot, HasSlots, IsPageOf, IsStatusPag
 use Rattle.page_layout.specs.PageWrites.{IsEmptyHeap, RowHasBytes}
 use Rattle.page_redo.specs.Redo.{Fits, IsOfStatuses, Means, Redone}
 
-pub has-page : (form : Form) (page : List ℕ) (slots : List Slot) → HasSlots form page slots → IsPageOf form page
-has-page forms.Status page slots has = absurd has
-has-page (forms.Heap row count ks format) page slots has = inr (slots, has)
+pub has_page : (form : Form) (page : List ℕ) (slots : List Slot) → HasSlots form page slots → IsPageOf form page
+has_page forms.Status page slots has = absurd has
+has_page (forms.Heap row count ks format) page slots has = inr (slots, has)
 
 -- lists of changes
 
@@ -31,67 +31,67 @@ statuses-same (x ∷ xs) (y ∷ ys) small below e =
     let one = byte-same x y (small 0) (below 0) (at 0) (at 1) (at 2) (at 3) in
     λ i. one i ∷ rest i
 
-status-same : (a b entries : List ℕ) → AreBytes a → AreBytes b → IsStatusPage a entries → IsStatusPage b entries → a ≡ b
-status-same a b entries small below ia ib =
+status_same : (a b entries : List ℕ) → AreBytes a → AreBytes b → IsStatusPage a entries → IsStatusPage b entries → a ≡ b
+status_same a b entries small below ia ib =
     let body-small : (p : List ℕ) (is : IsStatusPage p entries) → AreBytes p → AreBytes is.bytes.0 =
     λ p is tight i. subst (λ (n : ℕ). n < 256) (sym (get_or-drop 32 p i 0) ∙ ap (λ (l : List ℕ). get_or (drop 32 l) i 0) is.bytes.2) (tight (32 + i)) in
     let same = statuses-same ia.bytes.0 ib.bytes.0 (body-small a ia small) (body-small b ib below) (sym ia.bytes.3 ∙ ib.bytes.3) in
     ia.bytes.2 ∙ ap (λ (l : List ℕ). header_bytes 1 ++ l) same ∙ sym ib.bytes.2
 
-entries-of : (form : Form) (page : List ℕ) → IsOfStatuses form page → (entries : List ℕ) × IsStatusPage page entries
-entries-of forms.Status page is = is
-entries-of (forms.Heap row count ks format) page is = absurd is
+entries_of : (form : Form) (page : List ℕ) → IsOfStatuses form page → (entries : List ℕ) × IsStatusPage page entries
+entries_of forms.Status page is = is
+entries_of (forms.Heap row count ks format) page is = absurd is
 
-heap-same : (form : Form) (a b : List ℕ) (slots : List Slot) → HasSlots form a slots → HasSlots form b slots → a ≡ b
-heap-same forms.Status a b slots ha hb = absurd ha
-heap-same (forms.Heap row count ks format) a b slots ha hb = ha.bytes ∙ sym hb.bytes
+heap_same : (form : Form) (a b : List ℕ) (slots : List Slot) → HasSlots form a slots → HasSlots form b slots → a ≡ b
+heap_same forms.Status a b slots ha hb = absurd ha
+heap_same (forms.Heap row count ks format) a b slots ha hb = ha.bytes ∙ sym hb.bytes
 
 empty-same : (form : Form) (a b : List ℕ) → IsEmptyHeap form a → IsEmptyHeap form b → a ≡ b
 empty-same forms.Status a b ha hb = absurd ha
 empty-same (forms.Heap row count ks format) a b ha hb = ha.bytes ∙ sym hb.bytes
 
-row-has : (form : Form) (bytes : List ℕ) → IsRowOf form bytes → (row : StoredRow) × RowHasBytes form bytes row
-row-has forms.Status bytes is = absurd is
-row-has (forms.Heap size count ks format) bytes is = (is.0, (is.1, is.2))
+row_has : (form : Form) (bytes : List ℕ) → IsRowOf form bytes → (row : StoredRow) × RowHasBytes form bytes row
+row_has forms.Status bytes is = absurd is
+row_has (forms.Heap size count ks format) bytes is = (is.0, (is.1, is.2))
 
-step-same : (form : Form) (page a b : List ℕ) (change : LoggedChange) → AreBytes a → AreBytes b → Fits form page change → Means form page change a → Means form page change b → a ≡ b
-step-same form page a b (FullPage place bytes) sa sb fit ma mb = ma ∙ sym mb
-step-same form page a b (PageStart place kind) sa sb fit ma mb = empty-same form a b ma mb
-step-same form page a b (RowPut place slot bytes) sa sb fit ma mb = let r = row-has form bytes fit.1 in heap-same form a b _ (ma fit.0.0 r.0 fit.0.1 r.1) (mb fit.0.0 r.0 fit.0.1 r.1)
-step-same form page a b (RowMark place slot deleter) sa sb fit ma mb = heap-same form a b _ (ma fit.0 fit.1 fit.2 fit.3) (mb fit.0 fit.1 fit.2 fit.3)
-step-same form page a b (RowsDrop place bytes) sa sb fit ma mb = heap-same form a b _ (ma fit.0.0 fit.0.1) (mb fit.0.0 fit.0.1)
-step-same form page a b (StatusSet place entry status) sa sb fit ma mb = let e = entries-of form page fit.0 in status-same a b _ sa sb (ma e.0 e.1) (mb e.0 e.1)
-step-same form page a b (TuplePut place slot bytes) sa sb fit ma mb = absurd fit
-step-same form page a b (TupleReplace place slot bytes) sa sb fit ma mb = absurd fit
-step-same form page a b (TupleDrop place slots) sa sb fit ma mb = absurd fit
-step-same form page a b (Evacuate place) sa sb fit ma mb = absurd fit
-step-same form page a b (MapPage place) sa sb fit ma mb = absurd fit
-step-same form page a b (MapSet place entry spot) sa sb fit ma mb = absurd fit
-step-same form page a b (MetaSet place maps) sa sb fit ma mb = absurd fit
+step_same : (form : Form) (page a b : List ℕ) (change : LoggedChange) → AreBytes a → AreBytes b → Fits form page change → Means form page change a → Means form page change b → a ≡ b
+step_same form page a b (FullPage place bytes) sa sb fit ma mb = ma ∙ sym mb
+step_same form page a b (PageStart place kind) sa sb fit ma mb = empty-same form a b ma mb
+step_same form page a b (RowPut place slot bytes) sa sb fit ma mb = let r = row_has form bytes fit.1 in heap_same form a b _ (ma fit.0.0 r.0 fit.0.1 r.1) (mb fit.0.0 r.0 fit.0.1 r.1)
+step_same form page a b (RowMark place slot deleter) sa sb fit ma mb = heap_same form a b _ (ma fit.0 fit.1 fit.2 fit.3) (mb fit.0 fit.1 fit.2 fit.3)
+step_same form page a b (RowsDrop place bytes) sa sb fit ma mb = heap_same form a b _ (ma fit.0.0 fit.0.1) (mb fit.0.0 fit.0.1)
+step_same form page a b (StatusSet place entry status) sa sb fit ma mb = let e = entries_of form page fit.0 in status_same a b _ sa sb (ma e.0 e.1) (mb e.0 e.1)
+step_same form page a b (TuplePut place slot bytes) sa sb fit ma mb = absurd fit
+step_same form page a b (TupleReplace place slot bytes) sa sb fit ma mb = absurd fit
+step_same form page a b (TupleDrop place slots) sa sb fit ma mb = absurd fit
+step_same form page a b (Evacuate place) sa sb fit ma mb = absurd fit
+step_same form page a b (MapPage place) sa sb fit ma mb = absurd fit
+step_same form page a b (MapSet place entry spot) sa sb fit ma mb = absurd fit
+step_same form page a b (MetaSet place maps) sa sb fit ma mb = absurd fit
 
 empty-page : (form : Form) (page : List ℕ) → IsEmptyHeap form page → IsPageOf form page
 empty-page forms.Status page is = absurd is
 empty-page (forms.Heap row count ks format) page is = inr (replicate count None, is)
 
 -- a change that fits makes a page that passes its check
-pub changed-page : (form : Form) (old new : List ℕ) (change : LoggedChange) → Fits form old change → Means form old change new → IsPageOf form new
-changed-page form old new (FullPage place bytes) fit means = subst (IsPageOf form) (sym means) fit.1
-changed-page form old new (PageStart place kind) fit means = empty-page form new means
-changed-page form old new (RowPut place slot bytes) fit means = let r = row-has form bytes fit.1 in has-page form new _ (means fit.0.0 r.0 fit.0.1 r.1)
-changed-page form old new (RowMark place slot deleter) fit means = has-page form new _ (means fit.0 fit.1 fit.2 fit.3)
-changed-page form old new (RowsDrop place bytes) fit means = has-page form new _ (means fit.0.0 fit.0.1)
-changed-page forms.Status old new (StatusSet place entry status) fit means = inr (_, means fit.0.0 fit.0.1)
-changed-page (forms.Heap row count ks format) old new (StatusSet place entry status) fit means = absurd fit.0
-changed-page form old new (TuplePut place slot bytes) fit means = absurd fit
-changed-page form old new (TupleReplace place slot bytes) fit means = absurd fit
-changed-page form old new (TupleDrop place slots) fit means = absurd fit
-changed-page form old new (Evacuate place) fit means = absurd fit
-changed-page form old new (MapPage place) fit means = absurd fit
-changed-page form old new (MapSet place entry spot) fit means = absurd fit
-changed-page form old new (MetaSet place maps) fit means = absurd fit
+pub changed_page : (form : Form) (old new : List ℕ) (change : LoggedChange) → Fits form old change → Means form old change new → IsPageOf form new
+changed_page form old new (FullPage place bytes) fit means = subst (IsPageOf form) (sym means) fit.1
+changed_page form old new (PageStart place kind) fit means = empty-page form new means
+changed_page form old new (RowPut place slot bytes) fit means = let r = row_has form bytes fit.1 in has_page form new _ (means fit.0.0 r.0 fit.0.1 r.1)
+changed_page form old new (RowMark place slot deleter) fit means = has_page form new _ (means fit.0 fit.1 fit.2 fit.3)
+changed_page form old new (RowsDrop place bytes) fit means = has_page form new _ (means fit.0.0 fit.0.1)
+changed_page forms.Status old new (StatusSet place entry status) fit means = inr (_, means fit.0.0 fit.0.1)
+changed_page (forms.Heap row count ks format) old new (StatusSet place entry status) fit means = absurd fit.0
+changed_page form old new (TuplePut place slot bytes) fit means = absurd fit
+changed_page form old new (TupleReplace place slot bytes) fit means = absurd fit
+changed_page form old new (TupleDrop place slots) fit means = absurd fit
+changed_page form old new (Evacuate place) fit means = absurd fit
+changed_page form old new (MapPage place) fit means = absurd fit
+changed_page form old new (MapSet place entry spot) fit means = absurd fit
+changed_page form old new (MetaSet place maps) fit means = absurd fit
 
-pub redone-same : (form : Form) (page a b : List ℕ) (changes : List LoggedChange) → Redone form page changes a → Redone form page changes b → a ≡ b
-redone-same form page a b [] ra rb = ra ∙ sym rb
-redone-same form page a b (change ∷ changes) ra rb =
-    let one : ra.0 ≡ rb.0 = step-same form page ra.0 rb.0 change ra.1 rb.1 ra.2 ra.3 rb.3 in
-    redone-same form rb.0 a b changes (subst (λ (p : List ℕ). Redone form p changes a) one ra.4) rb.4
+pub redone_same : (form : Form) (page a b : List ℕ) (changes : List LoggedChange) → Redone form page changes a → Redone form page changes b → a ≡ b
+redone_same form page a b [] ra rb = ra ∙ sym rb
+redone_same form page a b (change ∷ changes) ra rb =
+    let one : ra.0 ≡ rb.0 = step_same form page ra.0 rb.0 change ra.1 rb.1 ra.2 ra.3 rb.3 in
+    redone_same form rb.0 a b changes (subst (λ (p : List ℕ). Redone form p changes a) one ra.4) rb.4

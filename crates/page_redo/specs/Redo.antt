@@ -1,5 +1,6 @@
 -- which pages a change of the log fits, and what it does to them
 use Rattle.std.specs.Prelude.{◌≡◌, ℕ, ◌+◌, ◌*◌, ◌<◌, ◌&&◌, Bool, true, false, List, [], ◌∷◌, None, Some, length, nat_le, nat_lt, set, slice_get}
+use Rattle.block_model.specs.declared.limits.TheConstants.{PAGE_SIZE}
 use Rattle.byte_fields.specs.Fields.{AreBytes}
 use Rattle.page_layout.specs.declared.page.Form.{Form}
 use Rattle.page_layout.specs.declared.page.Form.TheVariants as forms
@@ -45,7 +46,7 @@ dropped slots (high ∷ low ∷ rest) = dropped (set slots (high * 256 + low) No
 -- Whole pages and starts fit whatever bytes stand there. Other changes fit a page that passes its check and has the kind
 -- that they need: a free slot for a row, a used one for a deleter, slots of the page, entries and statuses in range.
 abbrev pub Fits : Form → List ℕ → LoggedChange → Type 0
-Fits form page (FullPage place bytes) = (length bytes ≡ 8192) × IsPageOf form bytes
+Fits form page (FullPage place bytes) = (length bytes ≡ PAGE_SIZE) × IsPageOf form bytes
 Fits form page (PageStart place kind) = IsStart form kind
 Fits form page (RowPut place slot bytes) = IsFreeSlot form page slot × IsRowOf form bytes
 Fits form page (RowMark place slot deleter) = IsUsedSlot form page slot

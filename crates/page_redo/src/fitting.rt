@@ -1,23 +1,19 @@
-// Whether a page takes a change.
+//! Whether a page takes a change.
 
 ghost use Rattle.std.specs.Prelude.{◌≡◌, ◌<◌, ◌≤◌, true, false};
+ghost use Rattle.page_layout.specs.declared.format.TheConstants.{STATUS_ENTRIES};
 ghost use Rattle.page_layout.specs.PageContents.{HasSlot, IsForm, IsPageOf, IsRowOf};
 ghost use Rattle.page_layout.specs.FreeSlots.{slot_count};
 ghost use Rattle.page_redo.specs.Redo.{Fits, IsFreeSlot, IsHeapPage, IsOfStatuses, IsStart, IsUsedSlot, are_ascending};
 ghost use Rattle.wal_record.specs.Changes.{logged};
 
-use page_layout::{Form, Page, check, is_page, is_row, kind_of, row_at, slot_count};
+use page_layout::{
+    Form, HEAP, Page, STATUS, STATUS_ENTRIES, check, is_page, is_row, kind_of, row_at, slot_count,
+};
 use wal_record::Change;
 
-/// How many statuses a page has, and how many there are.
-const ENTRIES: u16 = 32640;
-
+/// How many statuses there are.
 const STATUSES: u8 = 4;
-
-/// The kinds of started pages.
-const STATUS: u8 = 1;
-
-const HEAP: u8 = 2;
 
 /// Whether the page takes the change.
 pub fn fits(page: &Page, change: &Change<'_>, form: Form) -> bool
@@ -182,10 +178,10 @@ fn are_ascending(least: u32, count: u16, slots: &[u8]) -> bool
 fn can_set(page: &Page, form: &Form, entry: u16, status: u8) -> bool
     requires form { IsForm form.now }
     requires page { IsPageOf form.now page.now }
-    ensures is { result ≡ true → IsOfStatuses form.now page.now × (entry < 32640) × (status < 4) }
-    ensures isnt { result ≡ false → IsOfStatuses form.now page.now × (entry < 32640) × (status < 4) → ⊥ }
+    ensures is { result ≡ true → IsOfStatuses form.now page.now × (entry < STATUS_ENTRIES) × (status < 4) }
+    ensures isnt { result ≡ false → IsOfStatuses form.now page.now × (entry < STATUS_ENTRIES) × (status < 4) → ⊥ }
 {
-    if entry >= ENTRIES {
+    if entry >= STATUS_ENTRIES {
         return false;
     }
     if status >= STATUSES {

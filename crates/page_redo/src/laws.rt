@@ -1,4 +1,4 @@
-// What changes do one after the other.
+//! What changes do one after the other.
 
 ghost use Rattle.std.specs.Prelude.{◌≡◌, List, ℕ};
 ghost use Rattle.page_layout.specs.declared.page.Form.{Form as PageForm};

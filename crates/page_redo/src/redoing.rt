@@ -1,4 +1,4 @@
-// What a change does to a page.
+//! What a change does to a page.
 
 ghost use Rattle.std.specs.Prelude.{◌≡◌, ◌≤◌, length, set, slice_index, List, true, IfErr, OnOk};
 ghost use Rattle.page_layout.specs.FreeSlots.{slot_count};

@@ -1,4 +1,4 @@
-// The tags of changes.
+//! The tags of changes.
 
 ghost use Rattle.std.specs.Prelude.{◌≡◌, slice_index};
 ghost use Rattle.wal_record.specs.ChangeBytes.{bytes_of};

@@ -84,8 +84,8 @@ unfolding block_in
 block_in-read blocks n block there is = is ∙ get_or_default blocks n block unstarted_block there
 
 -- one unstarted block more
-pub filled-more : (blocks : List Block) (n : ℕ) → length blocks ≤ n → (blocks ++ replicate (n - length blocks) unstarted_block) ++ unstarted_block ∷ [] ≡ blocks ++ replicate (n + 1 - length blocks) unstarted_block
-filled-more blocks n more =
+pub filled_more : (blocks : List Block) (n : ℕ) → length blocks ≤ n → (blocks ++ replicate (n - length blocks) unstarted_block) ++ unstarted_block ∷ [] ≡ blocks ++ replicate (n + 1 - length blocks) unstarted_block
+filled_more blocks n more =
     let m = n - length blocks in
     let one : m + 1 ≡ n + 1 - length blocks = omega (arith, more) in
     append_assoc blocks (replicate m unstarted_block) (unstarted_block ∷ []) ∙ ap (λ (l : List Block). blocks ++ l) (replicate_more m unstarted_block) ∙ ap (λ (k : ℕ). blocks ++ replicate k unstarted_block) one

@@ -1,5 +1,6 @@
 -- the blocks of a relation in memory
 use Rattle.std.specs.Prelude.{◌≡◌, ℕ, ◌+◌, ◌-◌, List, ◌++◌, length, replicate, slice_index_or, slice_set}
+use Rattle.block_model.specs.declared.limits.TheConstants.{PAGE_SIZE}
 use Rattle.page_layout.specs.declared.page.Form.{Form}
 use Rattle.page_layout.specs.declared.page.Form.TheVariants as forms
 use Rattle.page_layout.specs.FreeSlots.{free_count}
@@ -10,7 +11,7 @@ use Rattle.page_store.specs.declared.block.Block.{Block}
 
 -- a block that isn't started
 unfoldable pub unstarted_block : Block
-unstarted_block = record { page = replicate 8192 0; free = 0 }
+unstarted_block = record { page = replicate PAGE_SIZE 0; free = 0 }
 
 -- the block of that number; one that isn't there isn't started
 unfoldable pub block_in : List Block → ℕ → Block

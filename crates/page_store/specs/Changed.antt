@@ -1,7 +1,7 @@
 -- what a change makes of the pages
 use Rattle.std.specs.Prelude.{◌≡◌, ◌≢◌}
 use Rattle.block_model.specs.declared.place.Place.{Place}
-use Rattle.block_model.specs.DiskLayout.{DiskLayout}
+use Rattle.store_layout.specs.DiskLayout.{DiskLayout}
 use Rattle.page_store.specs.Forms.{MeansIn}
 use Rattle.page_store.specs.PageMap.{PageMap, page_at}
 use Rattle.wal_record.specs.Changes.{LoggedChange}

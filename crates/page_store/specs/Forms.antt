@@ -2,17 +2,13 @@
 use Rattle.std.specs.Prelude.{ℕ, ◌≤◌, zero, suc, List, length, map, slice_get, Option, Some, MatchOption, IsSomeAnd}
 use Rattle.std.specs.Option.{option_map}
 use Rattle.block_model.specs.declared.schema.Table.{Table}
-use Rattle.block_model.specs.DiskLayout.{DiskLayout}
-use Rattle.block_model.specs.RowSize.{row_size}
+use Rattle.store_layout.specs.DiskLayout.{DiskLayout}
+use Rattle.page_layout.specs.HeapForms.{heap_form}
 use Rattle.page_layout.specs.declared.page.Form.{Form}
 use Rattle.page_layout.specs.declared.page.Form.TheVariants as forms
 use Rattle.page_layout.specs.PageContents.{IsForm, IsUnstarted, IsPageOf}
 use Rattle.page_redo.specs.Redo.{Fits, Means}
 use Rattle.wal_record.specs.Changes.{LoggedChange}
-
--- the heap of a table, in format 1
-abbrev pub heap_form : Table → Form
-heap_form table = forms.Heap (row_size (map (λ c. c.kind) table.columns)) table.rows_per_page (map (λ c. c.kind) table.columns) 1
 
 -- at most eight columns, and the rows of a page fit it
 pub record HasForm (table : Table) : Type 0 where

@@ -2,7 +2,7 @@
 use Rattle.std.specs.Prelude.{◌≡◌, ◌≤◌, Some, None, Result, Ok, Err}
 use Rattle.block_model.specs.Causes.{Rose}
 use Rattle.block_model.specs.declared.place.Place.{Place}
-use Rattle.block_model.specs.DiskLayout.{DiskLayout, page_offset}
+use Rattle.store_layout.specs.DiskLayout.{DiskLayout, page_offset}
 use Rattle.disk_trait.specs.Told.{Told}
 use Rattle.page_store.specs.declared.faults.StoreError.{StoreError}
 use Rattle.page_store.specs.declared.faults.StoreError.TheVariants as errors

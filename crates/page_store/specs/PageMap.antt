@@ -1,7 +1,8 @@
 -- the pages of a store as a map of places
 use Rattle.std.specs.Prelude.{ℕ, List, [], Option, replicate, slice_index, slice_index_or}
+use Rattle.block_model.specs.declared.limits.TheConstants.{PAGE_SIZE}
 use Rattle.block_model.specs.declared.place.Place.{Place}
-use Rattle.block_model.specs.DiskLayout.{DiskLayout, relation_blocks}
+use Rattle.store_layout.specs.DiskLayout.{DiskLayout, relation_blocks}
 
 -- of each relation, the pages of its first blocks
 abbrev pub PageMap : Type 0
@@ -9,7 +10,7 @@ PageMap = List (List (List ℕ))
 
 -- the page of a block of one relation; one that isn't there isn't started
 unfoldable pub page_in : List (List ℕ) → ℕ → List ℕ
-page_in pages block = slice_index_or pages block (replicate 8192 0)
+page_in pages block = slice_index_or pages block (replicate PAGE_SIZE 0)
 
 -- the page of a block of that relation
 abbrev pub block_at : PageMap → ℕ → ℕ → List ℕ

@@ -1,9 +1,10 @@
 -- what holds of every store
 use Rattle.std.specs.Prelude.{◌≡◌, ℕ, ◌<◌, List, ◌∷◌, length, map, replicate, slice_index_or}
-use Rattle.block_model.specs.DiskLayout.{DiskLayout}
+use Rattle.block_model.specs.declared.limits.TheConstants.{PAGE_SIZE}
+use Rattle.store_layout.specs.DiskLayout.{DiskLayout}
 use Rattle.page_layout.specs.declared.page.Form.{Form}
 use Rattle.page_layout.specs.declared.page.Form.TheVariants as forms
-use Rattle.page_store.specs.Forms.{heap_form}
+use Rattle.page_layout.specs.HeapForms.{heap_form}
 use Rattle.page_store.specs.PageMap.{PageMap, block_limit}
 use Rattle.page_store.specs.Relations.{RelationState, empty_relation}
 
@@ -23,4 +24,4 @@ map_of relations = map (λ r. r.pages) relations
 pub record IsStore (layout : DiskLayout) (relations : List RelationState) (unstarted : List ℕ) : Type 0 where
   pub forms : map (λ r. r.form) relations ≡ forms_of layout
   pub limits : (n : ℕ) (relation : RelationState) → n < length relations → (slice_index_or relations n relation).limit ≡ block_limit layout n
-  pub zeros : unstarted ≡ replicate 8192 0
+  pub zeros : unstarted ≡ replicate PAGE_SIZE 0

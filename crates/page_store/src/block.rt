@@ -1,4 +1,4 @@
-// A block in memory.
+//! A block in memory.
 
 ghost use Rattle.std.specs.Prelude.{◌≡◌, ◌-◌, ◌<◌, ◌≤◌, [], ◌∷◌, ◌++◌, length, replicate, OnOk, OnErr, vec_len, vec_capacity};
 ghost use Rattle.std.specs.List.{All};
@@ -74,7 +74,7 @@ pub(crate) fn change_at(
     let mut block = unstarted_block();
     change_block(&mut block, change, form)?;
     fill(blocks, at);
-    push_within(blocks, block);
+    blocks.push_reserved(block);
     Ok(())
 }
 
@@ -86,19 +86,6 @@ fn fill(blocks: &mut Vec<Block>, count: usize)
     ensures room { vec_capacity blocks.old ≤ vec_capacity blocks.new }
 {
     'filling: for _ in blocks.len()..count {
-        push_within(blocks, unstarted_block());
+        blocks.push_reserved(unstarted_block());
     }
-}
-
-/// Adds one at the end, where there is room. Takes no memory.
-pub(crate) fn push_within<T>(list: &mut Vec<T>, item: T)
-where
-    T: Drop,
-    requires { vec_len list.old < vec_capacity list.old }
-    ensures items { list.new.items ≡ list.old.items ++ item ∷ [] }
-    ensures room { vec_capacity list.old ≤ vec_capacity list.new }
-{
-    let Ok(()) = list.push(item) else {
-        unreachable!()
-    };
 }

@@ -1,14 +1,11 @@
-// The lowest block that has room, or that isn't started.
+//! The lowest block that has room, or that isn't started.
 
 ghost use Rattle.std.specs.Prelude.{◌≡◌, ◌≢◌, ◌<◌, ◌≤◌, ℕ, length, true, false};
 ghost use Rattle.page_store.specs.Blocks.{block_in};
 ghost use Rattle.page_store.specs.Lowest.{IsLowest, is_sought};
 
 use crate::block::Block;
-use page_layout::kind_of;
-
-/// The kind of a page that isn't started.
-const UNSTARTED: u8 = 0;
+use page_layout::{UNSTARTED, kind_of};
 
 /// What a block is looked for by.
 #[derive(Clone, Copy)]

@@ -1,6 +1,7 @@
-// The pages of one relation.
+//! The pages of one relation.
 
 ghost use Rattle.std.specs.Prelude.{◌≡◌, ◌+◌, ◌<◌, ◌≤◌, ℕ, Some, IfOk, IfSome, MatchOption, OnOk, OnErr, count_by, replicate, if◌then◌else◌};
+ghost use Rattle.block_model.specs.declared.limits.TheConstants.{PAGE_SIZE};
 ghost use Rattle.page_layout.specs.PageContents.{IsForm, IsPageOf};
 ghost use Rattle.page_redo.specs.Redo.{Fits};
 ghost use Rattle.wal_record.specs.Changes.{logged};
@@ -19,15 +20,19 @@ use std::alloc::Global;
 use std::marker::Model;
 use wal_record::Change;
 
-/// The blocks of a relation up to the last one that was changed, how many of them are started, the lowest one that has room, and
-/// the lowest one that isn't started: the limit where there is none.
+/// The pages of a relation, all in memory.
 #[derive(Drop)]
 pub(crate) struct Relation {
     form: Form,
+    /// How many blocks it may have.
     limit: u32,
+    /// The blocks up to the last one that was changed.
     blocks: Vec<Block>,
+    /// How many of them are started.
     started: u32,
+    /// The lowest block that has a free slot, or the limit where there is none.
     room: usize,
+    /// The lowest block that isn't started, or the limit.
     unstarted: usize,
 }
 
@@ -48,9 +53,7 @@ impl Relation {
         requires { IsForm form }
         ensures { IfOk result (λ relation. relation ≡ empty_relation form limit) }
     {
-        let Ok(blocks) = Vec::with_capacity(alloc, limit as usize) else {
-            return Err(NoMemory);
-        };
+        let blocks = Vec::with_capacity(alloc, limit as usize)?;
         Ok(Relation {
             form,
             limit,
@@ -63,7 +66,7 @@ impl Relation {
 
     /// The page of the block, or nothing where it isn't started and was never changed.
     pub fn page(&self, block: u32) -> Option<&Page>
-        ensures page { MatchOption result (page_in self.now.pages block ≡ replicate 8192 0) (λ page. page_in self.now.pages block ≡ page.now) }
+        ensures page { MatchOption result (page_in self.now.pages block ≡ replicate PAGE_SIZE 0) (λ page. page_in self.now.pages block ≡ page.now) }
         ensures form { IfSome result (λ page. IsPageOf self.now.form page.now) }
     {
         match self.blocks.get(block as usize) {

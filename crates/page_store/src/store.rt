@@ -1,7 +1,8 @@
-// The store of pages.
+//! The store of pages.
 
 ghost use Rattle.std.specs.Prelude.{◌≡◌, ◌<◌, ◌≤◌, ℕ, None, true, false, length, replicate, slice_get, slice_set, IfOk, IfSome, IfErr, IsSomeAnd, MatchOption, OnOk, OnErr};
-ghost use Rattle.block_model.specs.DiskLayout.{IsPlace, relation_blocks};
+ghost use Rattle.block_model.specs.declared.limits.TheConstants.{PAGE_SIZE};
+ghost use Rattle.store_layout.specs.DiskLayout.{IsPlace, relation_blocks};
 ghost use Rattle.block_model.specs.declared.place.Place.{Place as AnyPlace};
 ghost use Rattle.page_layout.specs.PageContents.{IsPageOf, IsUnstarted};
 ghost use Rattle.wal_record.specs.Changes.{logged, place_of};
@@ -19,13 +20,12 @@ ghost use Rattle.page_store.specs.FirstRoom.{IsFirstRoom};
 use crate::faults::StoreError;
 use crate::forms::empty_relations;
 use crate::relation::Relation;
-use block_model::NoMemory;
-use block_model::layout::Layout;
-use block_model::place::Place;
-use disk_trait::disk::Disk;
+use block_model::{NoMemory, Place};
+use disk_trait::Disk;
 use page_layout::Page;
 use std::alloc::Global;
 use std::marker::Model;
+use store_layout::Layout;
 use wal_record::Change;
 
 /// The pages of a layout over a disk.
@@ -166,7 +166,7 @@ impl<D: Disk + Drop> PageStore<D> {
 
 /// The page at the place.
 fn page_of<'a>(relations: &'a [Relation], unstarted: &'a Page, place: Place) -> &'a Page
-    requires unstarted { unstarted.now ≡ replicate 8192 0 }
+    requires unstarted { unstarted.now ≡ replicate PAGE_SIZE 0 }
     ensures page { page_at (map_of relations.now) place ≡ result.now }
     ensures form { MatchOption (slice_get relations.now place.relation) (IsUnstarted result.now) (λ relation. IsPageOf relation.form result.now) }
 {

@@ -1,5 +1,5 @@
 -- Words that go on as a line, by what may stand next, apart from where they stand.
-use Rattle.std.proofs.Common.{◌≡◌, ℕ, Bool, true, false, ◌&&◌, List, [], ◌∷◌, Option, None, Some, refl, cond}
+use Rattle.std.proofs.Common.{◌≡◌, ℕ, Bool, true, false, List, [], ◌∷◌, Option, None, Some, refl, cond}
 use Rattle.std.specs.Str.{bytes_eq}
 use Rattle.std.proofs.lemmas.Slice.Eq.{bytes_eq-Decides}
 use Rattle.query_words.specs.Words.{PlacedWord, texts_of}
@@ -55,11 +55,6 @@ passed false next rest h = cc
 pub passes : (b : Bool) (next : Expected) (rest : Expected → Bool) → b ≡ true → accepts_behind (where_so b next) rest ≡ rest next
 passes true next rest h = refl
 passes false next rest h = cc
-
--- both of two tests
-pub both_hold : (a b : Bool) → (a && b) ≡ true → (a ≡ true) × (b ≡ true)
-both_hold true b h = (refl, h)
-both_hold false b h = cc
 
 -- words that are tested as one are that one
 pub same_text : (a b : List ℕ) → bytes_eq a b ≡ true → a ≡ b

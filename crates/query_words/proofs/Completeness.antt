@@ -2,7 +2,7 @@
 use Rattle.std.proofs.Common.{◌≡◌, ℕ, ◌-◌, ◌≤◌, nat_lt, Bool, true, false, ◌&&◌, ◌||◌, List, [], ◌∷◌, ◌++◌, length, codes, None, Some, refl, sym, ap, ◌∙◌, cond, arith}
 use Rattle.std.specs.Option.{is_some}
 use Rattle.std.specs.Str.{bytes_eq}
-use Rattle.std.proofs.lemmas.Bool.{lt-ltb}
+use Rattle.std.proofs.lemmas.Bool.{lt-ltb, or_left, or_right}
 use Rattle.block_model.specs.Names.{is_name}
 use Rattle.block_model.specs.declared.value.Kind.TheVariants as kinds
 use Rattle.block_model.specs.declared.value.Op.{Op}
@@ -11,26 +11,20 @@ use Rattle.query_words.specs.declared.syntax.Expected.TheVariants as expected
 use Rattle.query_words.specs.Operators.{op_of}
 use Rattle.query_words.specs.ValueWords.{is_value_word}
 use Rattle.query_words.specs.Grammar.{SaidCond, Compared, Null, NotNull, SaidStatement, Begin, Commit, Rollback, Insert, Select, Delete, Explain, words_of_cond, words_of_more, words_of_conds, words_of_statement}
-use Rattle.query_words.specs.Grammar.{IsOperatorWord, IsValueWord, AreValueWords, IsSaidCond, AreSaidConds, IsSaidStatement, IsSaidQuery, max_conds}
+use Rattle.block_model.specs.declared.limits.TheConstants.{MAX_CONDITIONS}
+use Rattle.query_words.specs.Grammar.{IsOperatorWord, IsValueWord, AreValueWords, IsSaidCond, AreSaidConds, IsSaidStatement, IsSaidQuery}
 use Rattle.query_words.specs.Syntax.{where_so}
 use Rattle.query_words.proofs.Accepting.{accepts_behind, accepts, passes, same_text}
-
-or_first : (a b : Bool) → a ≡ true → (a || b) ≡ true
-or_first a b h = ap (λ x. x || b) h
-
-or_second : (a b : Bool) → b ≡ true → (a || b) ≡ true
-or_second true b h = refl
-or_second false b h = h
 
 pub is_value : ValueOfIsDenoted → (word : List ℕ) → IsValueWord word → is_value_word word ≡ true
 is_value law word (kinds.Int, (v, d)) =
     let e : is_some (value_of kinds.Int word) ≡ true = ap is_some ((law kinds.Int word v).1 d) in
-    or_first (is_some (value_of kinds.Int word) || is_some (value_of kinds.Span word)) (is_some (value_of kinds.Net word)) (or_first (is_some (value_of kinds.Int word)) (is_some (value_of kinds.Span word)) e)
+    or_left (is_some (value_of kinds.Int word) || is_some (value_of kinds.Span word)) (is_some (value_of kinds.Net word)) (or_left (is_some (value_of kinds.Int word)) (is_some (value_of kinds.Span word)) e)
 is_value law word (kinds.Span, (v, d)) =
     let e : is_some (value_of kinds.Span word) ≡ true = ap is_some ((law kinds.Span word v).1 d) in
-    or_first (is_some (value_of kinds.Int word) || is_some (value_of kinds.Span word)) (is_some (value_of kinds.Net word)) (or_second (is_some (value_of kinds.Int word)) (is_some (value_of kinds.Span word)) e)
+    or_left (is_some (value_of kinds.Int word) || is_some (value_of kinds.Span word)) (is_some (value_of kinds.Net word)) (or_right (is_some (value_of kinds.Int word)) (is_some (value_of kinds.Span word)) e)
 is_value law word (kinds.Net, (v, d)) =
-    or_second (is_some (value_of kinds.Int word) || is_some (value_of kinds.Span word)) (is_some (value_of kinds.Net word)) (ap is_some ((law kinds.Net word v).1 d))
+    or_right (is_some (value_of kinds.Int word) || is_some (value_of kinds.Span word)) (is_some (value_of kinds.Net word)) (ap is_some ((law kinds.Net word v).1 d))
 
 is_cases : (b : Bool) (op : List ℕ) (o : Op) → bytes_eq op (codes "is") ≡ b → op_of op ≡ Some o → bytes_eq op (codes "is") ≡ false
 is_cases true op o e h = let k : None ≡ Some o = sym (ap op_of (same_text op (codes "is") e)) ∙ h in cc
@@ -61,7 +55,7 @@ more_accepted law left (said ∷ conds) are few =
     ∙ cond_accepts law (left - 1) said (words_of_more conds) are.0
     ∙ more_accepted law (left - 1) conds are.1 (omega arith)
 
-conds_accepted : ValueOfIsDenoted → (conds : List (SaidCond (List ℕ))) → AreSaidConds conds → length conds ≤ max_conds
+conds_accepted : ValueOfIsDenoted → (conds : List (SaidCond (List ℕ))) → AreSaidConds conds → length conds ≤ MAX_CONDITIONS
     → accepts expected.Where (words_of_conds conds) ≡ true
 conds_accepted law [] are few = refl
 conds_accepted law (said ∷ conds) are few =

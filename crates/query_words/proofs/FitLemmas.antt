@@ -14,24 +14,26 @@ use Rattle.block_model.specs.declared.row.Query.{Query}
 use Rattle.block_model.specs.declared.schema.Schema.{Schema}
 use Rattle.block_model.specs.declared.schema.Table.{Table}
 use Rattle.block_model.specs.declared.schema.Column.{Column}
-use Rattle.value_text.specs.CanonicalTexts.{IsValueOf}
+use Rattle.block_model.specs.ValuesOfKind.{IsValueOf}
 use Rattle.value_text.specs.Laws.{DenotedIsOfKind}
 use Rattle.value_text.specs.ValueOf.{value_of, ValueOfIsDenoted}
-use Rattle.query_words.specs.declared.statement.Statement.{Statement}
-use Rattle.query_words.specs.declared.statement.Statement.TheVariants as statements
+use Rattle.statements.specs.declared.statement.Statement.{Statement}
+use Rattle.statements.specs.declared.statement.Statement.TheVariants as statements
 use Rattle.query_words.specs.declared.line.Line.{Line}
 use Rattle.query_words.specs.declared.line.Line.TheVariants as lines
 use Rattle.query_words.specs.declared.line.Order.TheVariants as orders
 use Rattle.query_words.specs.declared.line.LineFault.{LineFault}
 use Rattle.query_words.specs.declared.line.LineFault.TheVariants as faults
 use Rattle.query_words.specs.Words.{PlacedWord, words_of}
-use Rattle.query_words.specs.Operators.{op_text, comparisons, op_among, op_of, takes_operator}
-use Rattle.query_words.specs.Grammar.{SaidCond, Compared, Null, NotNull, SaidStatement, Begin, Commit, Rollback, Insert, Select, Delete, Explain, Said, Nothing, Say, IsSaid, said_texts}
+use Rattle.query_words.specs.Operators.{op_text, comparisons, op_among, op_of}
+use Rattle.statements.specs.OperatorKinds.{takes_operator}
+use Rattle.query_words.specs.Grammar.{SaidCond, Compared, Null, NotNull, SaidStatement, Begin, Commit, Rollback, Insert, Select, Delete, Explain, SaidLine, Nothing, Say, IsSaid, said_texts}
 use Rattle.query_words.specs.Syntax.{stop_of}
 use Rattle.query_words.specs.Parsed.{said_of}
 use Rattle.query_words.specs.Statements.{◌>>=◌, or_fault, table_from, table_said, column_from, column_said, op_in, op_said, value_said, cond_on, test_said, cond_said, conds_said, values_said, query_said, insert_said, statement_said}
-use Rattle.query_words.specs.Lines.{Reads, line_said, line_judged, line_within, line_of}
-use Rattle.query_words.specs.LineFits.{HasKeyFor, IsCondFor, AreValuesFor, IsQueryFor, IsInsertFor, IsStatementFor, IsLineFor}
+use Rattle.query_words.specs.Lines.{ReadsAs, line_said, line_judged, line_within, line_of}
+use Rattle.statements.specs.StatementFits.{HasKeyFor, IsCondFor, AreValuesFor, IsQueryFor, IsInsertFor, IsStatementFor}
+use Rattle.query_words.specs.LineFits.{IsLineFor}
 use Rattle.query_words.proofs.LineLawLemmas.{unstopped}
 
 -- the value of a kind is one of it
@@ -144,16 +146,13 @@ cond_made columns c op key found taken value no_key =
       no_key = no_key;
     }
 
-null_fits : (kind : Kind) → IsValueOf kind values.Null
-null_fits kind = tt
-
 test_fits : (columns : List Column) (column : PlacedWord) (op : Op) (c : Cond) → ((kind : Kind) → takes_operator kind op ≡ true) → HasKeyFor op values.Null
     → test_said columns column op ≡ Ok c → IsCondFor columns c
 test_fits columns column op c taken no_key h =
     let a = came (column_said columns column) (λ x. Ok (cond_on x.0 op values.Null)) c h in
     let found = column_found 0 columns column.text a.from (found_there (faults.NoColumn column.at) (column_from 0 columns column.text) a.from a.first) in
     let same : cond_on a.from.0 op values.Null ≡ c = let e = a.then in cc in
-    subst (IsCondFor columns) same (cond_made columns a.from op values.Null found (taken a.from.1) (null_fits a.from.1) no_key)
+    subst (IsCondFor columns) same (cond_made columns a.from op values.Null found (taken a.from.1) tt no_key)
 
 cond_fits : KnowsValues → (columns : List Column) (said : SaidCond PlacedWord) (c : Cond) → cond_said columns said ≡ Ok c → IsCondFor columns c
 cond_fits knows columns (Compared column op value) c h =
@@ -249,7 +248,7 @@ statement_fits knows schema len (Select table conds) s h = select_fits knows sch
 statement_fits knows schema len (Delete table conds) s h = select_fits knows schema table conds (λ q. statements.Delete q) s (λ q f. f) h
 statement_fits knows schema len (Explain table conds) s h = select_fits knows schema table conds (λ q. statements.Explain q) s (λ q f. f) h
 
-line_fits : KnowsValues → (schema : Schema) (len : ℕ) (said : Said PlacedWord) (line : Line) → IsSaid (said_texts said) → line_said schema len said ≡ Ok line → IsLineFor schema line
+line_fits : KnowsValues → (schema : Schema) (len : ℕ) (said : SaidLine PlacedWord) (line : Line) → IsSaid (said_texts said) → line_said schema len said ≡ Ok line → IsLineFor schema line
 line_fits knows schema len (Nothing words) line is h = let same : lines.Nothing ≡ line = cc in subst (IsLineFor schema) same tt
 line_fits knows schema len (Say session said) line is h =
     let a = came (statement_said schema len said) (λ s. Ok (lines.Say session.text (orders.Whole s))) line h in
@@ -268,16 +267,16 @@ within_fits knows schema bytes line true h = cc
 within_fits knows schema bytes line false h = judged_fits knows schema bytes line (stop_of (length bytes) (words_of bytes)) refl h
 
 -- a line that is read fits the schema
-pub line_of-fits : KnowsValues → (schema : Schema) (bytes : List ℕ) (line : Line) → line_of schema bytes ≡ Ok line → IsLineFor schema line
+pub line_of_fits : KnowsValues → (schema : Schema) (bytes : List ℕ) (line : Line) → line_of schema bytes ≡ Ok line → IsLineFor schema line
 unfolding line_of
-line_of-fits knows schema bytes line h = within_fits knows schema bytes line _ h
+line_of_fits knows schema bytes line h = within_fits knows schema bytes line _ h
 
-pub answer_fits : KnowsValues → (schema : Schema) (bytes : List ℕ) (answer : Result Line LineFault) → Reads answer (line_of schema bytes) → IfOk answer (IsLineFor schema)
-answer_fits knows schema bytes (Ok line) h = line_of-fits knows schema bytes line h
+pub answer_fits : KnowsValues → (schema : Schema) (bytes : List ℕ) (answer : Result Line LineFault) → ReadsAs answer (line_of schema bytes) → IfOk answer (IsLineFor schema)
+answer_fits knows schema bytes (Ok line) h = line_of_fits knows schema bytes line h
 answer_fits knows schema bytes (Err fault) h = tt
 
 pub words_fit : KnowsValues → (schema : Schema) (len : ℕ) (words : List PlacedWord) (answer : Result Line LineFault) → stop_of len words ≡ None
-    → Reads answer (line_judged schema len None (said_of words)) → IfOk answer (IsLineFor schema)
+    → ReadsAs answer (line_judged schema len None (said_of words)) → IfOk answer (IsLineFor schema)
 words_fit knows schema len words (Ok line) stop h =
     let u = unstopped knows.denoted len words stop in
     line_fits knows schema len u.said line u.is_said (sym (ap (line_judged schema len None) u.parsed) ∙ h)

@@ -2,7 +2,7 @@
 use Rattle.std.proofs.Common.{◌≡◌, ℕ, ◌+◌, ◌<◌, ◌≤◌, nat_le, Bool, true, false, ◌&&◌, ◌==◌, List, [], ◌∷◌, ◌++◌, length, take, map, Option, None, Some, Result, Ok, Err, refl, sym, ap, ◌∙◌, subst, cond, add-one}
 use Rattle.std.specs.Option.{option_map}
 use Rattle.std.specs.List.{list_all, slice_get}
-use Rattle.std.proofs.lemmas.Bool.{le-ltb, false≢true}
+use Rattle.std.proofs.lemmas.Bool.{le-ltb, false≢true, and_parts}
 use Rattle.std.proofs.lemmas.Bool.Decides.{eqb_tells}
 use Rattle.std.proofs.Common.{inl, inr}
 use Rattle.block_model.specs.Names.{is_name, is_lower, is_more}
@@ -13,12 +13,13 @@ use Rattle.query_words.specs.declared.line.Line.{Line}
 use Rattle.query_words.specs.declared.line.LineFault.{LineFault}
 use Rattle.query_words.specs.declared.line.LineFault.TheVariants as faults
 use Rattle.query_words.specs.Words.{PlacedWord, placed, words_of, texts_of, place_or}
-use Rattle.query_words.specs.Grammar.{SaidStatement, Said, Nothing, Say, words_of_statement, words_of_said, is_comment, IsSilent, IsSaid, statement_texts, said_texts}
+use Rattle.query_words.specs.Grammar.{SaidStatement, SaidLine, Nothing, Say, words_of_statement, words_of_said, is_comment, IsSilent, IsSaid, statement_texts, said_texts}
 use Rattle.query_words.specs.Syntax.{stop_from, stop_of}
 use Rattle.query_words.specs.Parsed.{statement_of_words, said_of}
-use Rattle.query_words.specs.Lines.{max_line, line_said, line_judged, line_of_words, line_within, line_of}
-use Rattle.query_words.specs.LineLaws.{Spells, BeginsLine, StopsAt, GrammarIsRead, ReadIsGrammar, FaultIsStop}
-use Rattle.query_words.proofs.Accepting.{accepts, passed, both_hold, stops_nowhere, accepted_stops_nowhere}
+use Rattle.query_words.specs.declared.limits.TheConstants.{MAX_LINE}
+use Rattle.query_words.specs.Lines.{line_said, line_judged, line_of_words, line_within, line_of}
+use Rattle.query_words.specs.LineLaws.{Spells, BeginsLine, LineStopsAt, GrammarIsRead, ReadIsGrammar, FaultIsStop}
+use Rattle.query_words.proofs.Accepting.{accepts, passed, stops_nowhere, accepted_stops_nowhere}
 use Rattle.query_words.proofs.Soundness.{IsStatement, sound}
 use Rattle.query_words.proofs.Completeness.{line_accepted}
 use Rattle.query_words.proofs.Parsing.{begins, statement_read}
@@ -26,9 +27,9 @@ use Rattle.query_words.proofs.Stopping.{Stops, stops_at}
 use Rattle.query_words.proofs.ReadLemmas.{IsResolved, line_resolved}
 
 -- a line within the limit is what its words say
-pub within_limit : (schema : Schema) (line : List ℕ) → length line ≤ max_line → line_of schema line ≡ line_of_words schema (length line) (words_of line)
+pub within_limit : (schema : Schema) (line : List ℕ) → length line ≤ MAX_LINE → line_of schema line ≡ line_of_words schema (length line) (words_of line)
 unfolding line_of
-within_limit schema line h = ap (λ b. line_within b schema line) (le-ltb max_line (length line) h)
+within_limit schema line h = ap (λ b. line_within b schema line) (le-ltb MAX_LINE (length line) h)
 
 hash_is_no_letter : (c : ℕ) → is_lower c ≡ true → (c == 35) ≡ false
 hash_is_no_letter c h = elim (eqb_tells c 35) as (λ _. (c == 35) ≡ false) [ inl here ↦ (let e : is_lower 35 ≡ true = sym (ap is_lower here.1) ∙ h in cc) | inr there ↦ there.0 ]
@@ -37,11 +38,11 @@ hash_is_no_letter c h = elim (eqb_tells c 35) as (λ _. (c == 35) ≡ false) [ i
 pub name_says : (name : List ℕ) → is_name name ≡ true → is_comment name ≡ false
 name_says [] h = cc
 name_says (c ∷ cs) h =
-    hash_is_no_letter c (both_hold (is_lower c) (nat_le (length cs) 15) (both_hold (is_lower c && nat_le (length cs) 15) (list_all is_more cs) h).0).0
+    hash_is_no_letter c (and_parts (is_lower c) (nat_le (length cs) 15) (and_parts (is_lower c && nat_le (length cs) 15) (list_all is_more cs) h).0).0
 
 -- words that stop nowhere, and what they say
 pub record IsUnstopped (words : List PlacedWord) : Type 0 where
-  pub said : Said PlacedWord
+  pub said : SaidLine PlacedWord
   pub parsed : said_of words ≡ Some said
   pub is_said : IsSaid (said_texts said)
   pub texts : texts_of words ≡ words_of_said (said_texts said)
@@ -75,8 +76,8 @@ unstopped law len [] h = record { said = Nothing []; parsed = refl; is_said = tt
 unstopped law len (word ∷ words) h = by_comment law len word words (is_comment word.text) refl h
 
 -- what is said of words that a line of the grammar has
-record IsOfGrammar (schema : Schema) (len : ℕ) (words : List PlacedWord) (said : Said (List ℕ)) : Type 0 where
-  placed_said : Said PlacedWord
+record IsOfGrammar (schema : Schema) (len : ℕ) (words : List PlacedWord) (said : SaidLine (List ℕ)) : Type 0 where
+  placed_said : SaidLine PlacedWord
   parsed : said_of words ≡ Some placed_said
   said_is : said_texts placed_said ≡ said
   read : line_of_words schema len words ≡ line_said schema len placed_said
@@ -114,45 +115,45 @@ said_read law schema len words session said is e =
       read = ap (line_of_words schema len) b.is ∙ ap (λ o. line_judged schema len o (said_of whole)) going_on ∙ ap (line_judged schema len None) parsed;
     }
 
-of_grammar : ValueOfIsDenoted → (schema : Schema) (len : ℕ) (words : List PlacedWord) (said : Said (List ℕ)) → IsSaid said → texts_of words ≡ words_of_said said → IsOfGrammar schema len words said
+of_grammar : ValueOfIsDenoted → (schema : Schema) (len : ℕ) (words : List PlacedWord) (said : SaidLine (List ℕ)) → IsSaid said → texts_of words ≡ words_of_said said → IsOfGrammar schema len words said
 of_grammar law schema len words (Nothing texts) is e = silent_read schema len words texts is e
 of_grammar law schema len words (Say session said) is e = said_read law schema len words session said is e
 
-pub grammar-read : ValueOfIsDenoted → GrammarIsRead
-grammar-read law schema line said short spells =
+pub grammar_read : ValueOfIsDenoted → GrammarIsRead
+grammar_read law schema line said short spells =
     let g = of_grammar law schema (length line) (words_of line) said spells.0 spells.1 in
     (g.placed_said, g.parsed, g.said_is, within_limit schema line short ∙ g.read)
 
 read_cases : ValueOfIsDenoted → (schema : Schema) (line : List ℕ) (read : Line) (o : Option ℕ) → stop_of (length line) (words_of line) ≡ o
-    → line_judged schema (length line) o (said_of (words_of line)) ≡ Ok read → (said : Said (List ℕ)) × Spells line said
+    → line_judged schema (length line) o (said_of (words_of line)) ≡ Ok read → (said : SaidLine (List ℕ)) × Spells line said
 read_cases law schema line read (Some at) stop h = cc
 read_cases law schema line read None stop h =
     let u = unstopped law (length line) (words_of line) stop in (said_texts u.said, (u.is_said, u.texts))
 
-limit_cases : ValueOfIsDenoted → (schema : Schema) (line : List ℕ) (read : Line) (b : Bool) → line_within b schema line ≡ Ok read → (said : Said (List ℕ)) × Spells line said
+limit_cases : ValueOfIsDenoted → (schema : Schema) (line : List ℕ) (read : Line) (b : Bool) → line_within b schema line ≡ Ok read → (said : SaidLine (List ℕ)) × Spells line said
 limit_cases law schema line read true h = cc
 limit_cases law schema line read false h = read_cases law schema line read (stop_of (length line) (words_of line)) refl h
 
-pub read-grammar : ValueOfIsDenoted → ReadIsGrammar
+pub read_grammar : ValueOfIsDenoted → ReadIsGrammar
 unfolding line_of
-read-grammar law schema line read h = limit_cases law schema line read _ h
+read_grammar law schema line read h = limit_cases law schema line read _ h
 
 -- words at no place
 nowhere : List (List ℕ) → List PlacedWord
 nowhere texts = map (λ t. placed t 0) texts
 
-texts_of-nowhere : (texts : List (List ℕ)) → texts_of (nowhere texts) ≡ texts
+texts_of_nowhere : (texts : List (List ℕ)) → texts_of (nowhere texts) ≡ texts
 unfolding nowhere
-texts_of-nowhere [] = refl
-texts_of-nowhere (t ∷ ts) = ap (λ (l : List (List ℕ)). t ∷ l) (texts_of-nowhere ts)
+texts_of_nowhere [] = refl
+texts_of_nowhere (t ∷ ts) = ap (λ (l : List (List ℕ)). t ∷ l) (texts_of_nowhere ts)
 
 -- what is accepted is a line
-accepted_line : ValueOfIsDenoted → (texts : List (List ℕ)) → accepts expected.Session texts ≡ true → (said : Said (List ℕ)) × IsSaid said × (words_of_said said ≡ texts)
+accepted_line : ValueOfIsDenoted → (texts : List (List ℕ)) → accepts expected.Session texts ≡ true → (said : SaidLine (List ℕ)) × IsSaid said × (words_of_said said ≡ texts)
 accepted_line law [] h = cc
 accepted_line law (t ∷ ts) h =
     let p = passed (is_name t) expected.Verb (λ next. accepts next ts) h in
-    let s : IsStatement (nowhere ts) = sound law expected.Verb (nowhere ts) (ap (accepts expected.Verb) (texts_of-nowhere ts) ∙ p.1) in
-    (Say t (statement_texts s.statement), (p.0, s.is_said), ap (λ (l : List (List ℕ)). t ∷ l) (sym s.texts ∙ texts_of-nowhere ts))
+    let s : IsStatement (nowhere ts) = sound law expected.Verb (nowhere ts) (ap (accepts expected.Verb) (texts_of_nowhere ts) ∙ p.1) in
+    (Say t (statement_texts s.statement), (p.0, s.is_said), ap (λ (l : List (List ℕ)). t ∷ l) (sym s.texts ∙ texts_of_nowhere ts))
 
 begins_line : ValueOfIsDenoted → (front ending : List (List ℕ)) → accepts expected.Session (front ++ ending) ≡ true → BeginsLine front
 begins_line law front ending h = let l = accepted_line law (front ++ ending) h in (l.0, (ending, l.1, l.2))
@@ -161,14 +162,14 @@ no_comment : (b : Bool) → b ≡ true → b ≡ false → ⊥
 no_comment b h k = false≢true (sym k ∙ h)
 
 -- a line whose first word is no comment says something
-line_is_accepted : ValueOfIsDenoted → (text : List ℕ) (texts : List (List ℕ)) (said : Said (List ℕ)) → is_comment text ≡ false → IsSaid said → words_of_said said ≡ text ∷ texts
+line_is_accepted : ValueOfIsDenoted → (text : List ℕ) (texts : List (List ℕ)) (said : SaidLine (List ℕ)) → is_comment text ≡ false → IsSaid said → words_of_said said ≡ text ∷ texts
     → accepts expected.Session (text ∷ texts) ≡ true
 line_is_accepted law text texts (Nothing words) loud is e =
     let comment : is_comment text ≡ true = subst IsSilent e is in absurd (no_comment (is_comment text) comment loud)
 line_is_accepted law text texts (Say session said) loud is e = sym (ap (accepts expected.Session) e) ∙ line_accepted law session said is.0 is.1
 
 stops_record : ValueOfIsDenoted → (line : List ℕ) (at : ℕ) (word : PlacedWord) (words : List PlacedWord) → words_of line ≡ word ∷ words → is_comment word.text ≡ false
-    → Stops (length line) expected.Session (word ∷ words) at → StopsAt line at
+    → Stops (length line) expected.Session (word ∷ words) at → LineStopsAt line at
 stops_record law line at word words is loud s =
     let n : ℕ = s.number in
     let texts : List (List ℕ) = texts_of words in
@@ -185,26 +186,26 @@ stops_record law line at word words is loud s =
     }
 
 stop_cases : ValueOfIsDenoted → (line : List ℕ) (at : ℕ) (word : PlacedWord) (words : List PlacedWord) (b : Bool) → words_of line ≡ word ∷ words → is_comment word.text ≡ b
-    → cond b None (stop_from (length line) expected.Session (word ∷ words)) ≡ Some at → StopsAt line at
+    → cond b None (stop_from (length line) expected.Session (word ∷ words)) ≡ Some at → LineStopsAt line at
 stop_cases law line at word words true is comment h = cc
 stop_cases law line at word words false is loud h =
     stops_record law line at word words is loud (stops_at law (length line) expected.Session (word ∷ words) at h)
 
-stop_words : ValueOfIsDenoted → (line : List ℕ) (at : ℕ) (words : List PlacedWord) → words_of line ≡ words → stop_of (length line) words ≡ Some at → StopsAt line at
+stop_words : ValueOfIsDenoted → (line : List ℕ) (at : ℕ) (words : List PlacedWord) → words_of line ≡ words → stop_of (length line) words ≡ Some at → LineStopsAt line at
 stop_words law line at [] is h = cc
 stop_words law line at (word ∷ words) is h = stop_cases law line at word words (is_comment word.text) is refl h
 
-no_fault : (schema : Schema) (len at : ℕ) (said : Said PlacedWord) → line_said schema len said ≡ Err (faults.Syntax at) → ⊥
+no_fault : (schema : Schema) (len at : ℕ) (said : SaidLine PlacedWord) → line_said schema len said ≡ Err (faults.Syntax at) → ⊥
 no_fault schema len at said h = subst (λ (r : Result Line LineFault). IsResolved r) h (line_resolved schema len said)
 
 fault_cases : ValueOfIsDenoted → (schema : Schema) (line : List ℕ) (at : ℕ) (o : Option ℕ) → stop_of (length line) (words_of line) ≡ o
-    → line_judged schema (length line) o (said_of (words_of line)) ≡ Err (faults.Syntax at) → StopsAt line at
+    → line_judged schema (length line) o (said_of (words_of line)) ≡ Err (faults.Syntax at) → LineStopsAt line at
 fault_cases law schema line at (Some place) stop h =
     let same : place ≡ at = cc in stop_words law line at (words_of line) refl (stop ∙ ap Some same)
 fault_cases law schema line at None stop h =
     let u = unstopped law (length line) (words_of line) stop in
     absurd (no_fault schema (length line) at u.said (sym (ap (line_judged schema (length line) None) u.parsed) ∙ h))
 
-pub fault-stop : ValueOfIsDenoted → FaultIsStop
-fault-stop law schema line at short h =
+pub fault_stop : ValueOfIsDenoted → FaultIsStop
+fault_stop law schema line at short h =
     fault_cases law schema line at (stop_of (length line) (words_of line)) refl (sym (within_limit schema line short) ∙ h)

@@ -10,25 +10,27 @@ use Rattle.block_model.specs.declared.row.Query.{Query}
 use Rattle.block_model.specs.declared.schema.Schema.{Schema}
 use Rattle.block_model.specs.declared.schema.Sizes.{Sizes}
 use Rattle.block_model.specs.declared.schema.Column.{Column}
-use Rattle.block_model.specs.FirstBrokenRule.{KeepsLimits}
+use Rattle.store_layout.specs.FirstBrokenRule.{KeepsLimits}
 use Rattle.value_text.specs.CanonicalTexts.{canonical_text}
 use Rattle.value_text.specs.ValueOf.{value_of}
-use Rattle.query_words.specs.declared.statement.Statement.{Statement}
-use Rattle.query_words.specs.declared.statement.Statement.TheVariants as statements
+use Rattle.statements.specs.declared.statement.Statement.{Statement}
+use Rattle.statements.specs.declared.statement.Statement.TheVariants as statements
 use Rattle.query_words.specs.declared.line.Line.{Line}
 use Rattle.query_words.specs.declared.line.Line.TheVariants as lines
 use Rattle.query_words.specs.declared.line.Order.TheVariants as orders
 use Rattle.query_words.specs.declared.line.LineFault.{LineFault}
 use Rattle.query_words.specs.declared.line.LineFault.TheVariants as faults
 use Rattle.query_words.specs.Words.{PlacedWord, texts_of}
-use Rattle.query_words.specs.Grammar.{SaidCond, SaidStatement, Begin, Commit, Rollback, Insert, Select, Delete, Explain, Said, Nothing, Say, words_of_more, words_of_conds, words_of_statement, words_of_said}
-use Rattle.query_words.specs.Grammar.{AreValueWords, IsSaidQuery, IsSaidStatement, cond_texts, statement_texts, said_texts, max_conds}
+use Rattle.query_words.specs.Grammar.{SaidCond, SaidStatement, Begin, Commit, Rollback, Insert, Select, Delete, Explain, SaidLine, Nothing, Say, words_of_more, words_of_conds, words_of_statement, words_of_said}
+use Rattle.block_model.specs.declared.limits.TheConstants.{MAX_CONDITIONS}
+use Rattle.query_words.specs.Grammar.{AreValueWords, IsSaidQuery, IsSaidStatement, cond_texts, statement_texts, said_texts}
 use Rattle.query_words.specs.Statements.{◌>>=◌, or_fault, table_from, conds_said, values_said, query_said, statement_said}
-use Rattle.query_words.specs.Lines.{max_line, line_said, line_of}
-use Rattle.query_words.specs.LineFits.{IsCondFor, AreValuesFor, IsQueryFor, IsInsertFor}
+use Rattle.query_words.specs.declared.limits.TheConstants.{MAX_LINE}
+use Rattle.query_words.specs.Lines.{line_said, line_of}
+use Rattle.statements.specs.StatementFits.{IsCondFor, AreValuesFor, IsQueryFor, IsInsertFor}
 use Rattle.query_words.specs.LineTexts.{table_name, cond_of, conds_of, statement_of, said_by, joined, line_text}
 use Rattle.query_words.specs.LineLaws.{HasNames, PrintedIsRead}
-use Rattle.query_words.proofs.LineLawLemmas.{grammar-read}
+use Rattle.query_words.proofs.LineLawLemmas.{grammar_read}
 use Rattle.query_words.proofs.PrintedValues.{IsPrinted, value_printed}
 use Rattle.query_words.proofs.PrintedWords.{joined_words, joined_short}
 use Rattle.query_words.proofs.ReadBack.{KnowsTexts, KnowsColumns, value_back, value_is_word, name_printed, declared, table_name_is, columns_at_is, small_word, conds_back}
@@ -51,7 +53,7 @@ record QueryBack (schema : Schema) (q : Query) : Type 0 where
   count : length (words_of_conds (conds_of schema q)) ≤ 80
   back : (table : PlacedWord) (said : List (SaidCond PlacedWord)) → table.text ≡ table_name schema q.table → map cond_texts said ≡ conds_of schema q → query_said schema table said ≡ Ok q
 
-query_back : KnowsTexts → (schema : Schema) (sizes : Sizes) (q : Query) → KeepsLimits schema sizes → HasNames schema → IsQueryFor schema q → length q.conds ≤ max_conds → QueryBack schema q
+query_back : KnowsTexts → (schema : Schema) (sizes : Sizes) (q : Query) → KeepsLimits schema sizes → HasNames schema → IsQueryFor schema q → length q.conds ≤ MAX_CONDITIONS → QueryBack schema q
 query_back knows schema sizes q keeps names fits few =
     let d = declared schema sizes q.table fits.of keeps names fits.table in
     let there : KnowsColumns fits.of.columns = record { distinct = d.distinct; named = d.columns_named } in
@@ -173,7 +175,7 @@ insert_back knows schema sizes n row keeps names fits =
       back = λ len placed e. insert_said_back schema len n fits.into.columns row (table_name schema n) placed (ap (table_from 0 schema.tables) name ∙ d.found) b e;
     }
 
-said_back : (schema : Schema) (len : ℕ) (session : List ℕ) (s : Statement) (b : StatementBack schema s) (placed : Said PlacedWord) → said_texts placed ≡ Say session b.said
+said_back : (schema : Schema) (len : ℕ) (session : List ℕ) (s : Statement) (b : StatementBack schema s) (placed : SaidLine PlacedWord) → said_texts placed ≡ Say session b.said
     → line_said schema len placed ≡ Ok (lines.Say session (orders.Whole s))
 said_back schema len session s b (Nothing words) e = cc
 said_back schema len session s b (Say w said) e =
@@ -183,7 +185,7 @@ said_back schema len session s b (Say w said) e =
 
 -- the text is short and is read as the line
 abbrev IsReadBack : Schema → Line → List ℕ → Type 0
-IsReadBack schema line text = (length text ≤ max_line) × (line_of schema text ≡ Ok line)
+IsReadBack schema line text = (length text ≤ MAX_LINE) × (line_of schema text ≡ Ok line)
 
 line_back : KnowsTexts → (schema : Schema) (session : List ℕ) (s : Statement) → is_name session ≡ true → StatementBack schema s
     → IsReadBack schema (lines.Say session (orders.Whole s)) (line_text schema (lines.Say session (orders.Whole s)))
@@ -191,8 +193,8 @@ line_back knows schema session s named b =
     let words : List (List ℕ) = session ∷ words_of_statement b.said in
     let printed : AllByRecursion IsPrinted words = (name_printed session named, b.printed) in
     let count : length (words_of_statement b.said) ≤ 90 = b.count in
-    let short : length (joined words) ≤ max_line = omega (arith, joined_short words printed) in
-    let g = grammar-read knows.denoted schema (joined words) (Say session b.said) short ((named, b.is_said), joined_words words printed) in
+    let short : length (joined words) ≤ MAX_LINE = omega (arith, joined_short words printed) in
+    let g = grammar_read knows.denoted schema (joined words) (Say session b.said) short ((named, b.is_said), joined_words words printed) in
     let read : line_of schema (joined words) ≡ Ok (lines.Say session (orders.Whole s)) = g.3 ∙ said_back schema (length (joined words)) session s b g.0 g.2 in
     subst (λ (o : Option (SaidStatement (List ℕ))). IsReadBack schema (lines.Say session (orders.Whole s)) (joined (words_of_said (said_by session o)))) (sym b.is) (short, read)
 
@@ -203,9 +205,9 @@ nothing_back schema = (omega arith, refl)
 word_printed : (word : List ℕ) → IsPrinted word → AllByRecursion IsPrinted (word ∷ [])
 word_printed word h = (h, tt)
 
-pub printed-read : KnowsTexts → PrintedIsRead
-printed-read knows schema sizes lines.Nothing keeps names fits few = nothing_back schema
-printed-read knows schema sizes (lines.Say session (orders.Whole statements.Begin)) keeps names fits few =
+pub printed_read : KnowsTexts → PrintedIsRead
+printed_read knows schema sizes lines.Nothing keeps names fits few = nothing_back schema
+printed_read knows schema sizes (lines.Say session (orders.Whole statements.Begin)) keeps names fits few =
     line_back knows schema session statements.Begin fits.0 (record {
       said = Begin;
       is = refl;
@@ -214,7 +216,7 @@ printed-read knows schema sizes (lines.Say session (orders.Whole statements.Begi
       count = omega arith;
       back = λ len placed e. begin_back schema len placed e;
     })
-printed-read knows schema sizes (lines.Say session (orders.Whole statements.Commit)) keeps names fits few =
+printed_read knows schema sizes (lines.Say session (orders.Whole statements.Commit)) keeps names fits few =
     line_back knows schema session statements.Commit fits.0 (record {
       said = Commit;
       is = refl;
@@ -223,7 +225,7 @@ printed-read knows schema sizes (lines.Say session (orders.Whole statements.Comm
       count = omega arith;
       back = λ len placed e. commit_back schema len placed e;
     })
-printed-read knows schema sizes (lines.Say session (orders.Whole statements.Rollback)) keeps names fits few =
+printed_read knows schema sizes (lines.Say session (orders.Whole statements.Rollback)) keeps names fits few =
     line_back knows schema session statements.Rollback fits.0 (record {
       said = Rollback;
       is = refl;
@@ -232,9 +234,9 @@ printed-read knows schema sizes (lines.Say session (orders.Whole statements.Roll
       count = omega arith;
       back = λ len placed e. rollback_back schema len placed e;
     })
-printed-read knows schema sizes (lines.Say session (orders.Whole (statements.Insert n row))) keeps names fits few =
+printed_read knows schema sizes (lines.Say session (orders.Whole (statements.Insert n row))) keeps names fits few =
     line_back knows schema session (statements.Insert n row) fits.0 (insert_back knows schema sizes n row keeps names fits.1)
-printed-read knows schema sizes (lines.Say session (orders.Whole (statements.Select q))) keeps names fits few =
+printed_read knows schema sizes (lines.Say session (orders.Whole (statements.Select q))) keeps names fits few =
     let b = query_back knows schema sizes q keeps names fits.1 few in
     let count : length (words_of_conds (conds_of schema q)) ≤ 80 = b.count in
     line_back knows schema session (statements.Select q) fits.0 (record {
@@ -245,7 +247,7 @@ printed-read knows schema sizes (lines.Say session (orders.Whole (statements.Sel
       printed = (small_word (codes "select") refl (omega arith) (omega arith), b.printed);
       back = λ len placed e. select_back schema len q placed b e;
     })
-printed-read knows schema sizes (lines.Say session (orders.Whole (statements.Delete q))) keeps names fits few =
+printed_read knows schema sizes (lines.Say session (orders.Whole (statements.Delete q))) keeps names fits few =
     let b = query_back knows schema sizes q keeps names fits.1 few in
     let count : length (words_of_conds (conds_of schema q)) ≤ 80 = b.count in
     line_back knows schema session (statements.Delete q) fits.0 (record {
@@ -256,7 +258,7 @@ printed-read knows schema sizes (lines.Say session (orders.Whole (statements.Del
       printed = (small_word (codes "delete") refl (omega arith) (omega arith), b.printed);
       back = λ len placed e. delete_back schema len q placed b e;
     })
-printed-read knows schema sizes (lines.Say session (orders.Whole (statements.Explain q))) keeps names fits few =
+printed_read knows schema sizes (lines.Say session (orders.Whole (statements.Explain q))) keeps names fits few =
     let b = query_back knows schema sizes q keeps names fits.1 few in
     let count : length (words_of_conds (conds_of schema q)) ≤ 80 = b.count in
     line_back knows schema session (statements.Explain q) fits.0 (record {
@@ -267,5 +269,5 @@ printed-read knows schema sizes (lines.Say session (orders.Whole (statements.Exp
       printed = (small_word (codes "explain") refl (omega arith) (omega arith), b.printed);
       back = λ len placed e. explain_back schema len q placed b e;
     })
-printed-read knows schema sizes (lines.Say session (orders.Whole other)) keeps names fits few = absurd fits.1
-printed-read knows schema sizes (lines.Say session other) keeps names fits few = absurd fits.1
+printed_read knows schema sizes (lines.Say session (orders.Whole other)) keeps names fits few = absurd fits.1
+printed_read knows schema sizes (lines.Say session other) keeps names fits few = absurd fits.1

@@ -13,8 +13,9 @@ use Rattle.block_model.specs.declared.value.Kind.{Kind}
 use Rattle.block_model.specs.declared.value.Kind.TheVariants as kinds
 use Rattle.block_model.specs.declared.value.Value.{Value}
 use Rattle.block_model.specs.declared.value.Value.TheVariants as values
-use Rattle.value_text.specs.IntTexts.{is_int8}
-use Rattle.value_text.specs.CanonicalTexts.{lower_text, upper_text, range_text, prefix_text, byte_of, address_text, network_text, canonical_text, HasBounds, IsValueOf}
+use Rattle.block_model.specs.ValuesOfKind.{is_int8}
+use Rattle.value_text.specs.CanonicalTexts.{lower_text, upper_text, range_text, prefix_text, byte_of, address_text, network_text, canonical_text}
+use Rattle.block_model.specs.ValuesOfKind.{HasBounds, IsValueOf}
 
 abbrev pub no_space : ℕ → Bool
 no_space c = not (c == 32)

@@ -1,11 +1,10 @@
 -- Words that are printed with single spaces between them are read as those words.
 use Rattle.std.proofs.Common.{◌≡◌, ◌≢◌, ℕ, ◌+◌, ◌*◌, ◌≤◌, true, not, List, [], ◌∷◌, ◌++◌, length, refl, sym, ap, ◌∙◌, inl, inr, arith, append_assoc, append-nil, length-append}
 use Rattle.std.specs.List.{list_all, AllByRecursion}
-use Rattle.std.proofs.lemmas.Bool.{false≢true}
+use Rattle.std.proofs.lemmas.Bool.{false≢true, and_parts}
 use Rattle.std.proofs.lemmas.Bool.Decides.{eqb_tells}
 use Rattle.query_words.specs.Words.{words_from, words_of, texts_of}
 use Rattle.query_words.specs.LineTexts.{spaced, joined}
-use Rattle.query_words.proofs.Accepting.{both_hold}
 use Rattle.query_words.proofs.PlacedWords.{space_first, byte_first, ended_is, space_behind}
 use Rattle.query_words.proofs.PrintedValues.{no_space, IsPrinted}
 
@@ -16,7 +15,7 @@ no_space_is c h = elim (eqb_tells c 32) as (λ _. c ≢ 32) [ inl here ↦ (λ e
 word_joins : (at : ℕ) (word bytes rest : List ℕ) → list_all no_space bytes ≡ true → words_from at word (bytes ++ rest) ≡ words_from at (word ++ bytes) rest
 word_joins at word [] rest h = ap (λ (w : List ℕ). words_from at w rest) (sym (append-nil word))
 word_joins at word (c ∷ cs) rest h =
-    let b = both_hold (no_space c) (list_all no_space cs) h in
+    let b = and_parts (no_space c) (list_all no_space cs) h in
     byte_first at word c (cs ++ rest) (no_space_is c b.0)
     ∙ word_joins at (word ++ c ∷ []) cs rest b.1
     ∙ ap (λ (w : List ℕ). words_from at w rest) (append_assoc word (c ∷ []) cs)

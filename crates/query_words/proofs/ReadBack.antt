@@ -3,7 +3,7 @@ use Rattle.std.proofs.Common.{◌≡◌, ℕ, zero, suc, ◌+◌, ◌*◌, ◌�
 use Rattle.std.specs.Option.{option_map, option_and_then}
 use Rattle.std.specs.List.{slice_get, AllByRecursion, list_all, list_any}
 use Rattle.std.specs.Str.{bytes_eq}
-use Rattle.std.proofs.lemmas.Bool.{leb-true, false≢true}
+use Rattle.std.proofs.lemmas.Bool.{leb-true, false≢true, and_parts}
 use Rattle.std.proofs.lemmas.Bool.Decides.{eqb_tells}
 use Rattle.std.proofs.lemmas.List.Elements.{recursion_from_All}
 use Rattle.block_model.specs.Names.{is_name, is_lower, is_digit, is_more}
@@ -17,22 +17,24 @@ use Rattle.block_model.specs.declared.schema.Schema.{Schema}
 use Rattle.block_model.specs.declared.schema.Sizes.{Sizes}
 use Rattle.block_model.specs.declared.schema.Table.{Table}
 use Rattle.block_model.specs.declared.schema.Column.{Column}
-use Rattle.block_model.specs.FirstBrokenRule.{KeepsLimits}
-use Rattle.block_model.specs.Limits.{are_distinct, has_name, relation_names, columns_are_lawful, parts_are_lawful}
-use Rattle.value_text.specs.CanonicalTexts.{canonical_text, IsValueOf}
+use Rattle.store_layout.specs.FirstBrokenRule.{KeepsLimits}
+use Rattle.store_layout.specs.Limits.{are_distinct, has_name, relation_names, columns_are_lawful, parts_are_lawful}
+use Rattle.value_text.specs.CanonicalTexts.{canonical_text}
+use Rattle.block_model.specs.ValuesOfKind.{IsValueOf}
 use Rattle.value_text.specs.Laws.{CanonicalTextDenotes}
 use Rattle.value_text.specs.ValueOf.{value_of, ValueOfIsDenoted}
 use Rattle.query_words.specs.declared.line.LineFault.{LineFault}
 use Rattle.query_words.specs.declared.line.LineFault.TheVariants as faults
 use Rattle.query_words.specs.Words.{PlacedWord}
-use Rattle.query_words.specs.Operators.{op_text, op_of, takes_operator}
+use Rattle.query_words.specs.Operators.{op_text, op_of}
+use Rattle.statements.specs.OperatorKinds.{takes_operator}
 use Rattle.query_words.specs.Grammar.{SaidCond, Compared, Null, NotNull, words_of_cond, words_of_more}
 use Rattle.query_words.specs.Grammar.{IsNameWord, IsValueWord, IsSaidCond, AreSaidConds, cond_texts}
 use Rattle.query_words.specs.Statements.{◌>>=◌, or_fault, table_from, column_from, op_in, op_said, value_said, cond_on, test_said, cond_said, conds_said}
-use Rattle.query_words.specs.LineFits.{HasKeyFor, IsCondFor}
+use Rattle.statements.specs.StatementFits.{HasKeyFor, IsCondFor}
 use Rattle.query_words.specs.LineTexts.{table_name, columns_at, column_name, test_of, cond_of}
 use Rattle.query_words.specs.LineLaws.{IsNamedTable, HasNames}
-use Rattle.query_words.proofs.Accepting.{both_hold, text_same}
+use Rattle.query_words.proofs.Accepting.{text_same}
 use Rattle.query_words.proofs.PrintedValues.{no_space, past_space, IsPrinted, value_printed}
 
 -- what the values' layer promises
@@ -53,10 +55,10 @@ at_place P (y ∷ ys) (suc n) x all h = at_place P ys n x all.1 h
 
 -- a name is a short word without spaces
 lower_cases : (c : ℕ) → is_lower c ≡ true → 33 ≤ c
-lower_cases c h = let b = both_hold (nat_le 97 c) (nat_le c 122) h in omega (arith, leb-true 97 c b.0)
+lower_cases c h = let b = and_parts (nat_le 97 c) (nat_le c 122) h in omega (arith, leb-true 97 c b.0)
 
 digit_cases : (c : ℕ) → is_digit c ≡ true → 33 ≤ c
-digit_cases c h = let b = both_hold (nat_le 48 c) (nat_le c 57) h in omega (arith, leb-true 48 c b.0)
+digit_cases c h = let b = and_parts (nat_le 48 c) (nat_le c 57) h in omega (arith, leb-true 48 c b.0)
 
 more_cases : (a b d : Bool) {P : Type 0} → (a ≡ true → P) → (b ≡ true → P) → (d ≡ true → P) → (a || b || d) ≡ true → P
 more_cases true b d x y z h = x refl
@@ -73,14 +75,14 @@ name_byte c h =
 name_bytes : (cs : List ℕ) → list_all is_more cs ≡ true → list_all no_space cs ≡ true
 name_bytes [] h = refl
 name_bytes (c ∷ cs) h =
-    let b = both_hold (is_more c) (list_all is_more cs) h in
+    let b = and_parts (is_more c) (list_all is_more cs) h in
     ap (λ t. t && list_all no_space cs) (name_byte c b.0) ∙ name_bytes cs b.1
 
 pub name_printed : (name : List ℕ) → is_name name ≡ true → IsPrinted name
 name_printed [] h = cc
 name_printed (c ∷ cs) h =
-    let outer = both_hold (is_lower c && nat_le (length cs) 15) (list_all is_more cs) h in
-    let inner = both_hold (is_lower c) (nat_le (length cs) 15) outer.0 in
+    let outer = and_parts (is_lower c && nat_le (length cs) 15) (list_all is_more cs) h in
+    let inner = and_parts (is_lower c) (nat_le (length cs) 15) outer.0 in
     record {
       some = omega arith;
       no_spaces = ap (λ t. t && list_all no_space cs) (past_space c (lower_cases c inner.0)) ∙ name_bytes cs outer.1;
@@ -109,7 +111,7 @@ table_back k (x ∷ xs) others zero t h e =
     ∙ ap (λ (y : Table). Some (k, y.columns)) same ∙ ap (λ (m : ℕ). Some (m, t.columns)) (let z : k ≡ k + 0 = omega arith in z)
 table_back k (x ∷ xs) others (suc n) t h e =
     let rest : List (List ℕ) = map (λ (y : Table). y.name) xs ++ others in
-    let b = both_hold (not (list_any (bytes_eq x.name) rest)) (are_distinct bytes_eq rest) h in
+    let b = and_parts (not (list_any (bytes_eq x.name) rest)) (are_distinct bytes_eq rest) h in
     ap (λ c. cond c (Some (k, x.columns)) (table_from (k + 1) xs t.name)) (other_name (bytes_eq x.name) xs others n t b.0 e)
     ∙ table_back (k + 1) xs others n t b.1 e ∙ ap (λ (m : ℕ). Some (m, t.columns)) (let z : k + 1 + n ≡ k + suc n = omega arith in z)
 
@@ -129,7 +131,7 @@ column_back k (x ∷ xs) zero c h e =
     ap (λ b. cond b (Some (k, x.kind)) (column_from (k + 1) xs c.name)) (text_same x.name c.name (ap (λ (y : Column). y.name) same))
     ∙ ap (λ (y : Column). Some (k, y.kind)) same ∙ ap (λ (m : ℕ). Some (m, c.kind)) (let z : k ≡ k + 0 = omega arith in z)
 column_back k (x ∷ xs) (suc n) c h e =
-    let b = both_hold (not (list_any (same_name x) xs)) (are_distinct same_name xs) h in
+    let b = and_parts (not (list_any (same_name x) xs)) (are_distinct same_name xs) h in
     ap (λ t. cond t (Some (k, x.kind)) (column_from (k + 1) xs c.name)) (other_column (same_name x) xs n c b.0 e)
     ∙ column_back (k + 1) xs n c b.1 e ∙ ap (λ (m : ℕ). Some (m, c.kind)) (let z : k + 1 + n ≡ k + suc n = omega arith in z)
 
@@ -148,18 +150,18 @@ AllLawful tables = AllByRecursion (λ (t : Table). columns_are_lawful t ≡ true
 all_lawful : (tables : List Table) → list_all columns_are_lawful tables ≡ true → AllLawful tables
 unfolding AllLawful
 all_lawful [] h = tt
-all_lawful (t ∷ ts) h = let b = both_hold (columns_are_lawful t) (list_all columns_are_lawful ts) h in (b.0, all_lawful ts b.1)
+all_lawful (t ∷ ts) h = let b = and_parts (columns_are_lawful t) (list_all columns_are_lawful ts) h in (b.0, all_lawful ts b.1)
 
 pub declared : (schema : Schema) (sizes : Sizes) (n : ℕ) (t : Table) → KeepsLimits schema sizes → HasNames schema → slice_get schema.tables n ≡ Some t → IsDeclared schema n t
 unfolding AllLawful
 declared schema sizes n t keeps names e =
     let size : ℕ = length schema.tables in
-    let rule1 = both_hold ((nat_le 1 size && nat_le size 8) && are_distinct bytes_eq (relation_names schema)) (not (has_name (codes "status") (relation_names schema))) (keeps 1) in
-    let distinct = both_hold (nat_le 1 size && nat_le size 8) (are_distinct bytes_eq (relation_names schema)) rule1.0 in
-    let rule2 = both_hold (list_all columns_are_lawful schema.tables) (list_all parts_are_lawful schema.indexes) (keeps 2) in
+    let rule1 = and_parts ((nat_le 1 size && nat_le size 8) && are_distinct bytes_eq (relation_names schema)) (not (has_name (codes "status") (relation_names schema))) (keeps 1) in
+    let distinct = and_parts (nat_le 1 size && nat_le size 8) (are_distinct bytes_eq (relation_names schema)) rule1.0 in
+    let rule2 = and_parts (list_all columns_are_lawful schema.tables) (list_all parts_are_lawful schema.indexes) (keeps 2) in
     let lawful : columns_are_lawful t ≡ true = at_place (λ (x : Table). columns_are_lawful x ≡ true) schema.tables n t (all_lawful schema.tables rule2.0) e in
-    let parts = both_hold (nat_le 1 (length t.columns) && nat_le (length t.columns) 8) (are_distinct same_name t.columns) lawful in
-    let few = both_hold (nat_le 1 (length t.columns)) (nat_le (length t.columns) 8) parts.0 in
+    let parts = and_parts (nat_le 1 (length t.columns) && nat_le (length t.columns) 8) (are_distinct same_name t.columns) lawful in
+    let few = and_parts (nat_le 1 (length t.columns)) (nat_le (length t.columns) 8) parts.0 in
     let named : IsNamedTable t = at_place IsNamedTable schema.tables n t (recursion_from_All IsNamedTable schema.tables names) e in
     record {
       table = e;

@@ -8,15 +8,15 @@ use Rattle.block_model.specs.declared.row.Cond.{Cond}
 use Rattle.block_model.specs.declared.schema.Schema.{Schema}
 use Rattle.block_model.specs.declared.schema.Column.{Column}
 use Rattle.value_text.specs.ValueOf.{value_of}
-use Rattle.query_words.specs.declared.statement.Statement.{Statement}
-use Rattle.query_words.specs.declared.statement.Statement.TheVariants as statements
+use Rattle.statements.specs.declared.statement.Statement.{Statement}
+use Rattle.statements.specs.declared.statement.Statement.TheVariants as statements
 use Rattle.query_words.specs.declared.line.Line.TheVariants as lines
 use Rattle.query_words.specs.declared.line.Order.TheVariants as orders
 use Rattle.query_words.specs.declared.line.LineFault.{LineFault}
 use Rattle.query_words.specs.declared.line.LineFault.TheVariants as faults
 use Rattle.query_words.specs.Words.{PlacedWord}
-use Rattle.query_words.specs.Grammar.{SaidCond, Compared, Null, NotNull, SaidStatement, Begin, Commit, Rollback, Insert, Select, Delete, Explain, Said, Nothing, Say}
-use Rattle.query_words.specs.Lines.{Reads, line_said}
+use Rattle.query_words.specs.Grammar.{SaidCond, Compared, Null, NotNull, SaidStatement, Begin, Commit, Rollback, Insert, Select, Delete, Explain, SaidLine, Nothing, Say}
+use Rattle.query_words.specs.Lines.{ReadsAs, line_said}
 use Rattle.query_words.specs.Parsed.{insert_of_words}
 use Rattle.query_words.specs.Statements.{◌>>=◌, or_fault, table_from, table_said, column_from, column_said, op_in, op_said, value_said, cond_on, test_said, cond_said, conds_said, values_said, query_said, insert_said, statement_said, statement_judged}
 
@@ -93,12 +93,12 @@ statement_resolved schema len (Delete table conds) = then_resolved (query_said s
 statement_resolved schema len (Explain table conds) = then_resolved (query_said schema table conds) (λ q. Ok (statements.Explain q)) (query_resolved schema table conds) (λ q. tt)
 
 -- no line that is said has a fault of syntax
-pub line_resolved : (schema : Schema) (len : ℕ) (said : Said PlacedWord) → IsResolved (line_said schema len said)
+pub line_resolved : (schema : Schema) (len : ℕ) (said : SaidLine PlacedWord) → IsResolved (line_said schema len said)
 line_resolved schema len (Nothing words) = tt
 line_resolved schema len (Say session said) =
     then_resolved (statement_said schema len said) (λ s. Ok (lines.Say session.text (orders.Whole s))) (statement_resolved schema len said) (λ s. tt)
 
-reads_itself : {T : Type 0} (said : Result T LineFault) → IsResolved said → Reads said said
+reads_itself : {T : Type 0} (said : Result T LineFault) → IsResolved said → ReadsAs said said
 reads_itself (Ok x) h = refl
 reads_itself (Err (faults.Syntax at)) h = refl
 reads_itself (Err (faults.NoTable at)) h = refl
@@ -107,11 +107,11 @@ reads_itself (Err (faults.NoColumn at)) h = refl
 reads_itself (Err (faults.Kind at)) h = refl
 reads_itself (Err faults.Memory) h = absurd h
 
-insert_read : (schema : Schema) (len : ℕ) (words : List PlacedWord) → Reads (statement_judged schema len (insert_of_words words)) (statement_judged schema len (insert_of_words words))
+insert_read : (schema : Schema) (len : ℕ) (words : List PlacedWord) → ReadsAs (statement_judged schema len (insert_of_words words)) (statement_judged schema len (insert_of_words words))
 insert_read schema len [] = refl
 insert_read schema len (table ∷ words) = reads_itself (insert_said schema len table words) (insert_resolved schema len table words)
 
 pub insert_reads : (schema : Schema) (len : ℕ) (words : List PlacedWord) (answer : Result Statement LineFault)
-    → answer ≡ statement_judged schema len (insert_of_words words) → Reads answer (statement_judged schema len (insert_of_words words))
+    → answer ≡ statement_judged schema len (insert_of_words words) → ReadsAs answer (statement_judged schema len (insert_of_words words))
 insert_reads schema len words answer e =
-    subst (λ (r : Result Statement LineFault). Reads r (statement_judged schema len (insert_of_words words))) (sym e) (insert_read schema len words)
+    subst (λ (r : Result Statement LineFault). ReadsAs r (statement_judged schema len (insert_of_words words))) (sym e) (insert_read schema len words)

@@ -3,7 +3,7 @@ use Rattle.std.proofs.Common.{◌≡◌, ℕ, ◌-◌, ◌≤◌, nat_lt, Bool, 
 use Rattle.std.proofs.lemmas.List.{length-map}
 use Rattle.std.specs.Option.{is_some, option_map, option_and_then}
 use Rattle.std.specs.Str.{bytes_eq}
-use Rattle.std.proofs.lemmas.Bool.{ltb-true}
+use Rattle.std.proofs.lemmas.Bool.{ltb-true, and_parts}
 use Rattle.block_model.specs.Names.{is_name}
 use Rattle.block_model.specs.declared.value.Kind.{Kind}
 use Rattle.block_model.specs.declared.value.Kind.TheVariants as kinds
@@ -19,10 +19,11 @@ use Rattle.query_words.specs.Operators.{op_of}
 use Rattle.query_words.specs.ValueWords.{is_value_word}
 use Rattle.query_words.specs.Verbs.{verb_text, all_verbs, verb_among, verb_of}
 use Rattle.query_words.specs.Grammar.{SaidCond, Compared, Null, NotNull, SaidStatement, Begin, Commit, Rollback, Insert, Select, Delete, Explain, words_of_cond, words_of_more, words_of_conds, words_of_statement}
-use Rattle.query_words.specs.Grammar.{IsNameWord, IsOperatorWord, IsValueWord, AreValueWords, IsSaidCond, AreSaidConds, IsSaidStatement, max_conds, cond_texts, statement_texts}
+use Rattle.block_model.specs.declared.limits.TheConstants.{MAX_CONDITIONS}
+use Rattle.query_words.specs.Grammar.{IsNameWord, IsOperatorWord, IsValueWord, AreValueWords, IsSaidCond, AreSaidConds, IsSaidStatement, cond_texts, statement_texts}
 use Rattle.query_words.specs.Syntax.{where_so, after_verb}
 use Rattle.query_words.specs.Parsed.{conds_behind, conds_from, statement_behind, statement_of_words}
-use Rattle.query_words.proofs.Accepting.{accepts_behind, accepts, passed, both_hold, same_text}
+use Rattle.query_words.proofs.Accepting.{accepts_behind, accepts, passed, same_text}
 
 -- a condition that has begun with the words so far, of which `front` is its part, and further ones behind it
 pub record IsCondBehind (so_far : List PlacedWord) (front : List (List ℕ)) (left : ℕ) (words : List PlacedWord) : Type 0 where
@@ -43,7 +44,7 @@ pub record AreMore (left : ℕ) (words : List PlacedWord) : Type 0 where
 -- all conditions of a query
 pub record AreConds (words : List PlacedWord) : Type 0 where
   pub are_conds : AreSaidConds (map cond_texts (conds_from [] words))
-  pub few : length (conds_from [] words) ≤ max_conds
+  pub few : length (conds_from [] words) ≤ MAX_CONDITIONS
   pub texts : texts_of words ≡ words_of_conds (map cond_texts (conds_from [] words))
 
 pub record IsQueryBehind (words : List PlacedWord) : Type 0 where
@@ -117,12 +118,12 @@ verb_step : (b : Bool) (word : List ℕ) (v w : Verb) (next : Option Verb) → b
 verb_step true word v w next e ih h = let same : v ≡ w = cc in same_text word (verb_text v) e ∙ ap verb_text same
 verb_step false word v w next e ih h = ih h
 
-verb_among-text : (among : List Verb) (word : List ℕ) (v : Verb) → verb_among among word ≡ Some v → word ≡ verb_text v
-verb_among-text [] word v h = cc
-verb_among-text (u ∷ us) word v h = verb_step (bytes_eq word (verb_text u)) word u v (verb_among us word) refl (verb_among-text us word v) h
+verb_among_text : (among : List Verb) (word : List ℕ) (v : Verb) → verb_among among word ≡ Some v → word ≡ verb_text v
+verb_among_text [] word v h = cc
+verb_among_text (u ∷ us) word v h = verb_step (bytes_eq word (verb_text u)) word u v (verb_among us word) refl (verb_among_text us word v) h
 
-pub verb_of-text : (word : List ℕ) (v : Verb) → verb_of word ≡ Some v → word ≡ verb_text v
-verb_of-text word v h = verb_among-text all_verbs word v h
+pub verb_of_text : (word : List ℕ) (v : Verb) → verb_of word ≡ Some v → word ≡ verb_text v
+verb_of_text word v h = verb_among_text all_verbs word v h
 
 abbrev Goes : List PlacedWord → Type 0
 Goes words = (next : Expected) → accepts next (texts_of words) ≡ true → Tail next words
@@ -138,7 +139,7 @@ alone verb words v said is none parsed is_said texts = record {
   statement = said;
   parsed = ap (λ (o : Option Verb). parsed_behind o words) is ∙ parsed;
   is_said = is_said;
-  texts = ap (λ (ws : List PlacedWord). verb.text ∷ texts_of ws) none ∙ ap (λ (t : List ℕ). t ∷ []) (verb_of-text verb.text v is) ∙ sym texts;
+  texts = ap (λ (ws : List PlacedWord). verb.text ∷ texts_of ws) none ∙ ap (λ (t : List ℕ). t ∷ []) (verb_of_text verb.text v is) ∙ sym texts;
 }
 
 query : (verb : PlacedWord) (words : List PlacedWord) (v : Verb) (said : SaidStatement PlacedWord) → verb_of verb.text ≡ Some v → (q : IsQueryBehind words)
@@ -150,12 +151,12 @@ query verb words v said is q parsed is_said texts = record {
   parsed = ap (λ (o : Option Verb). parsed_behind o words) is ∙ ap (statement_behind v) q.is ∙ parsed;
   is_said = is_said;
   texts = ap (λ (ws : List PlacedWord). verb.text ∷ texts_of ws) q.is
-      ∙ ap (λ (t : List ℕ). t ∷ q.table.text ∷ texts_of q.behind) (verb_of-text verb.text v is)
+      ∙ ap (λ (t : List ℕ). t ∷ q.table.text ∷ texts_of q.behind) (verb_of_text verb.text v is)
       ∙ ap (λ (ts : List (List ℕ)). verb_text v ∷ q.table.text ∷ ts) q.conds.texts
       ∙ sym texts;
 }
 
-few_texts : (conds : List (SaidCond PlacedWord)) → length conds ≤ max_conds → length (map cond_texts conds) ≤ max_conds
+few_texts : (conds : List (SaidCond PlacedWord)) → length conds ≤ MAX_CONDITIONS → length (map cond_texts conds) ≤ MAX_CONDITIONS
 few_texts conds h = omega (arith, length-map conds cond_texts)
 
 statement_goes : (verb : PlacedWord) (words : List PlacedWord) (o : Option Verb) → Goes words → verb_of verb.text ≡ o
@@ -169,7 +170,7 @@ statement_goes verb words (Some verbs.Insert) ih is h =
       statement = Insert i.table i.row;
       parsed = ap (λ (o : Option Verb). parsed_behind o words) is ∙ ap (statement_behind verbs.Insert) i.is;
       is_said = (i.named, i.are_values);
-      texts = ap (λ (ws : List PlacedWord). verb.text ∷ texts_of ws) i.is ∙ ap (λ (t : List ℕ). t ∷ i.table.text ∷ texts_of i.row) (verb_of-text verb.text verbs.Insert is);
+      texts = ap (λ (ws : List PlacedWord). verb.text ∷ texts_of ws) i.is ∙ ap (λ (t : List ℕ). t ∷ i.table.text ∷ texts_of i.row) (verb_of_text verb.text verbs.Insert is);
     }
 statement_goes verb words (Some verbs.Select) ih is h =
     let q : IsQueryBehind words = ih expected.QueryTable h in
@@ -185,7 +186,7 @@ statement_goes verb words (Some verbs.Explain) ih is h =
 first_cond : (joint : PlacedWord) (words : List PlacedWord) → bytes_eq joint.text (codes "where") ≡ true → IsCondBehind (joint ∷ []) [] 15 words → AreConds (joint ∷ words)
 first_cond joint words h r = record {
   are_conds = subst (λ (cs : List (SaidCond PlacedWord)). AreSaidConds (map cond_texts cs)) (sym r.parsed) (r.is_cond, r.are_conds);
-  few = subst (λ (cs : List (SaidCond PlacedWord)). length cs ≤ max_conds) (sym r.parsed) (let k : length r.more ≤ 15 = r.few in omega arith);
+  few = subst (λ (cs : List (SaidCond PlacedWord)). length cs ≤ MAX_CONDITIONS) (sym r.parsed) (let k : length r.more ≤ 15 = r.few in omega arith);
   texts = ap (λ (t : List ℕ). t ∷ texts_of words) (same_text joint.text (codes "where") h)
       ∙ ap (λ (ts : List (List ℕ)). codes "where" ∷ ts) r.texts
       ∙ ap (λ (cs : List (SaidCond PlacedWord)). words_of_conds (map cond_texts cs)) (sym r.parsed);
@@ -304,7 +305,7 @@ goes law expected.Where word words ih h =
     first_cond word words p.0 (tail word)
 goes law (expected.And left) word words ih h =
     let p = passed (nat_lt 0 left && bytes_eq word.text (codes "and")) (expected.Column (left - 1)) (λ next. accepts next (texts_of words)) h in
-    let b = both_hold (nat_lt 0 left) (bytes_eq word.text (codes "and")) p.0 in
+    let b = and_parts (nat_lt 0 left) (bytes_eq word.text (codes "and")) p.0 in
     let tail : Tail (expected.Column (left - 1)) words = ih (expected.Column (left - 1)) p.1 in
     more_conds left word words b.0 b.1 (tail word)
 goes law (expected.Column left) word words ih h =

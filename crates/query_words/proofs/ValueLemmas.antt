@@ -19,7 +19,7 @@ none_by : (o : Option Value) → ((value : Value) → o ≡ Some value → ⊥) 
 none_by None h = refl
 none_by (Some value) h = absurd (h value refl)
 
-pub value-refused : ValueOfIsDenoted → (kind : Kind) (word : List ℕ) (fault : TextFault)
+pub value_refused : ValueOfIsDenoted → (kind : Kind) (word : List ℕ) (fault : TextFault)
     → ((written : ValueText) → IsTextOf kind written → word ≡ bytes_of written → Answers (meaning written) (Err fault)) → None ≡ value_of kind word
-value-refused law kind word fault only =
+value_refused law kind word fault only =
     none_by (value_of kind word) (λ value is. refused_by kind word value fault ((law kind word value).0 is) only)

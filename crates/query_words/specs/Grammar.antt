@@ -2,6 +2,7 @@
 use Rattle.std.specs.Prelude.{◌≡◌, ℕ, ◌≤◌, true, ◌==◌, Bool, false, List, [], ◌∷◌, ◌++◌, length, map, codes, Some, Ok}
 use Rattle.std.specs.List.{flat_map}
 use Rattle.block_model.specs.Names.{is_name}
+use Rattle.block_model.specs.declared.limits.TheConstants.{MAX_CONDITIONS}
 use Rattle.block_model.specs.declared.value.Kind.{Kind}
 use Rattle.block_model.specs.declared.value.Value.{Value}
 use Rattle.block_model.specs.declared.value.Op.{Op}
@@ -26,9 +27,9 @@ pub data SaidStatement (W : Type 0) : Type 0 where
   Explain : W → List (SaidCond W) → SaidStatement W
 
 -- a line: one that says nothing, whatever its words, or a session's name and its statement
-pub data Said (W : Type 0) : Type 0 where
-  Nothing : List W → Said W
-  Say : W → SaidStatement W → Said W
+pub data SaidLine (W : Type 0) : Type 0 where
+  Nothing : List W → SaidLine W
+  Say : W → SaidStatement W → SaidLine W
 
 -- COLUMN OP value, COLUMN is null, or COLUMN is not null
 abbrev pub words_of_cond : SaidCond (List ℕ) → List (List ℕ)
@@ -56,7 +57,7 @@ words_of_statement (Delete table conds) = codes "delete" ∷ table ∷ words_of_
 words_of_statement (Explain table conds) = codes "explain" ∷ table ∷ words_of_conds conds
 
 -- the session's name and its statement
-abbrev pub words_of_said : Said (List ℕ) → List (List ℕ)
+abbrev pub words_of_said : SaidLine (List ℕ) → List (List ℕ)
 words_of_said (Nothing words) = words
 words_of_said (Say session statement) = session ∷ words_of_statement statement
 
@@ -90,13 +91,9 @@ abbrev pub AreValueWords : List (List ℕ) → Type 0
 AreValueWords [] = Unit {0}
 AreValueWords (word ∷ words) = IsValueWord word × AreValueWords words
 
--- how many conditions a query has at most
-abbrev pub max_conds : ℕ
-max_conds = 16
-
--- a table and up to sixteen conditions
+-- a table and its conditions
 abbrev pub IsSaidQuery : List ℕ → List (SaidCond (List ℕ)) → Type 0
-IsSaidQuery table conds = IsNameWord table × AreSaidConds conds × (length conds ≤ max_conds)
+IsSaidQuery table conds = IsNameWord table × AreSaidConds conds × (length conds ≤ MAX_CONDITIONS)
 
 abbrev pub IsSaidStatement : SaidStatement (List ℕ) → Type 0
 IsSaidStatement Begin = Unit {0}
@@ -113,7 +110,7 @@ IsSilent [] = Unit {0}
 IsSilent (word ∷ words) = is_comment word ≡ true
 
 -- it is a line of the grammar
-abbrev pub IsSaid : Said (List ℕ) → Type 0
+abbrev pub IsSaid : SaidLine (List ℕ) → Type 0
 IsSaid (Nothing words) = IsSilent words
 IsSaid (Say session statement) = IsNameWord session × IsSaidStatement statement
 
@@ -132,6 +129,6 @@ statement_texts (Select table conds) = Select table.text (map cond_texts conds)
 statement_texts (Delete table conds) = Delete table.text (map cond_texts conds)
 statement_texts (Explain table conds) = Explain table.text (map cond_texts conds)
 
-abbrev pub said_texts : Said PlacedWord → Said (List ℕ)
+abbrev pub said_texts : SaidLine PlacedWord → SaidLine (List ℕ)
 said_texts (Nothing words) = Nothing (map (λ w. w.text) words)
 said_texts (Say session statement) = Say session.text (statement_texts statement)

@@ -12,9 +12,4 @@ pub mod Lines
 pub mod LineFits
 pub mod LineTexts
 pub mod LineLaws
-pub mod DroppedTexts
-pub mod Texts
-pub mod StatementRequests
-pub mod RowsPut
-pub mod ScriptTexts
-pub mod Appended
+pub mod LineRefusals

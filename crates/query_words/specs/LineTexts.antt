@@ -11,14 +11,14 @@ use Rattle.block_model.specs.declared.schema.Schema.{Schema}
 use Rattle.block_model.specs.declared.schema.Table.{Table}
 use Rattle.block_model.specs.declared.schema.Column.{Column}
 use Rattle.value_text.specs.CanonicalTexts.{canonical_text}
-use Rattle.query_words.specs.declared.statement.Statement.{Statement}
-use Rattle.query_words.specs.declared.statement.Statement.TheVariants as statements
+use Rattle.statements.specs.declared.statement.Statement.{Statement}
+use Rattle.statements.specs.declared.statement.Statement.TheVariants as statements
 use Rattle.query_words.specs.declared.line.Line.{Line}
 use Rattle.query_words.specs.declared.line.Line.TheVariants as lines
 use Rattle.query_words.specs.declared.line.Order.{Order}
 use Rattle.query_words.specs.declared.line.Order.TheVariants as orders
 use Rattle.query_words.specs.Operators.{op_text}
-use Rattle.query_words.specs.Grammar.{SaidCond, Compared, Null, NotNull, SaidStatement, Begin, Commit, Rollback, Insert, Select, Delete, Explain, Said, Nothing, Say, words_of_statement, words_of_said}
+use Rattle.query_words.specs.Grammar.{SaidCond, Compared, Null, NotNull, SaidStatement, Begin, Commit, Rollback, Insert, Select, Delete, Explain, SaidLine, Nothing, Say, words_of_statement, words_of_said}
 
 -- the name of the table of that number
 abbrev pub table_name : Schema → ℕ → List ℕ
@@ -56,7 +56,7 @@ statement_of schema (statements.Explain query) = Some (Explain (table_name schem
 statement_of schema statement = None
 
 -- a session's statement; nothing for one that isn't of the grammar
-abbrev pub said_by : List ℕ → Option (SaidStatement (List ℕ)) → Said (List ℕ)
+abbrev pub said_by : List ℕ → Option (SaidStatement (List ℕ)) → SaidLine (List ℕ)
 said_by session None = Nothing []
 said_by session (Some statement) = Say session statement
 
@@ -66,7 +66,7 @@ order_of schema (orders.Whole statement) = statement_of schema statement
 order_of schema order = None
 
 -- a line in words, of the one grammar
-abbrev pub said_of_line : Schema → Line → Said (List ℕ)
+abbrev pub said_of_line : Schema → Line → SaidLine (List ℕ)
 said_of_line schema lines.Nothing = Nothing []
 said_of_line schema (lines.Say session order) = said_by session (order_of schema order)
 

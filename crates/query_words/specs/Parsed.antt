@@ -3,7 +3,7 @@ use Rattle.std.specs.Prelude.{List, [], ◌∷◌, ◌++◌, codes, Option, None
 use Rattle.std.specs.Option.{option_map, option_and_then}
 use Rattle.std.specs.Str.{bytes_eq}
 use Rattle.query_words.specs.Words.{PlacedWord}
-use Rattle.query_words.specs.Grammar.{SaidCond, Compared, Null, NotNull, SaidStatement, Begin, Commit, Rollback, Insert, Select, Delete, Explain, Said, Nothing, Say, is_comment}
+use Rattle.query_words.specs.Grammar.{SaidCond, Compared, Null, NotNull, SaidStatement, Begin, Commit, Rollback, Insert, Select, Delete, Explain, SaidLine, Nothing, Say, is_comment}
 use Rattle.query_words.specs.Verbs.{verb_of}
 use Rattle.query_words.specs.declared.verb.Verb.{Verb}
 use Rattle.query_words.specs.declared.verb.Verb.TheVariants as verbs
@@ -56,7 +56,7 @@ statement_of_words [] = None
 statement_of_words (verb ∷ words) = option_and_then (λ v. statement_behind v words) (verb_of verb.text)
 
 -- the line, with its words for what isn't looked up yet
-abbrev pub said_of : List PlacedWord → Option (Said PlacedWord)
+abbrev pub said_of : List PlacedWord → Option (SaidLine PlacedWord)
 said_of [] = Some (Nothing [])
 said_of (word ∷ words) =
     if is_comment word.text then Some (Nothing (word ∷ words)) else option_map (λ s. Say word s) (statement_of_words words)

@@ -3,18 +3,19 @@ use Rattle.std.specs.Prelude.{◌≤◌, List, length, All, Option, Some}
 use Rattle.block_model.specs.declared.schema.Schema.{Schema}
 use Rattle.block_model.specs.declared.schema.Table.{Table}
 use Rattle.query_words.specs.Words.{PlacedWord}
-use Rattle.query_words.specs.Grammar.{SaidCond, SaidStatement, Select, Delete, Explain, max_conds}
+use Rattle.block_model.specs.declared.limits.TheConstants.{MAX_COLUMNS, MAX_CONDITIONS}
+use Rattle.query_words.specs.Grammar.{SaidCond, SaidStatement, Select, Delete, Explain}
 
 abbrev pub HasFewColumns : Table → Type 0
-HasFewColumns table = length table.columns ≤ 8
+HasFewColumns table = length table.columns ≤ MAX_COLUMNS
 
 pub record IsSmallSchema (schema : Schema) : Type 0 where
   pub tables : length schema.tables ≤ 8
   pub columns : All HasFewColumns schema.tables
 
--- there are at most sixteen
+-- there are no more than a query may have
 abbrev pub AreFew : List (SaidCond PlacedWord) → Type 0
-AreFew conds = length conds ≤ max_conds
+AreFew conds = length conds ≤ MAX_CONDITIONS
 
 abbrev pub HasFewConds : Option (SaidStatement PlacedWord) → Type 0
 HasFewConds (Some (Select table conds)) = AreFew conds

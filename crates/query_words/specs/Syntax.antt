@@ -3,6 +3,7 @@ use Rattle.std.specs.Prelude.{ℕ, ◌-◌, nat_lt, Bool, true, false, ◌&&◌,
 use Rattle.std.specs.Option.{is_some, option_map}
 use Rattle.std.specs.Str.{bytes_eq}
 use Rattle.block_model.specs.Names.{is_name}
+use Rattle.block_model.specs.declared.limits.TheConstants.{MAX_CONDITIONS}
 use Rattle.query_words.specs.Words.{PlacedWord}
 use Rattle.query_words.specs.Operators.{op_of}
 use Rattle.query_words.specs.ValueWords.{is_value_word}
@@ -44,7 +45,7 @@ after_word expected.End word = None
 after_word expected.InsertTable word = where_so (is_name word) expected.Values
 after_word expected.Values word = where_so (is_value_word word) expected.Values
 after_word expected.QueryTable word = where_so (is_name word) expected.Where
-after_word expected.Where word = where_so (bytes_eq word (codes "where")) (expected.Column 15)
+after_word expected.Where word = where_so (bytes_eq word (codes "where")) (expected.Column (MAX_CONDITIONS - 1))
 after_word (expected.And left) word = where_so (nat_lt 0 left && bytes_eq word (codes "and")) (expected.Column (left - 1))
 after_word (expected.Column left) word = where_so (is_name word) (expected.Operator left)
 after_word (expected.Operator left) word = after_column left word

@@ -1,26 +1,24 @@
-// The words of the program: what a line of a script says, both ways, and the text of each reply, exactly as the grammars in
-// specs/ say. A line's fault names the word at fault by its place. It stands on block_model, on value_text for values, on
-// schema_words, whose reader of declarations it hands on, and on itoa for numbers. The layer above uses `read_line`,
-// `print_line`, `read_declarations`, `render` and `render_dropped`, and speaks of them as `line_of`, `line_text`, `Denotes`,
-// `reply_text` and `dropped_text`.
+//! The words of a script's lines, both ways: what a line says where tables are declared, or the fault of the first word that
+//! has one, with that word's place; and the text of a line, which reads as the same line. The grammar is specs/Grammar.antt,
+//! apart from reader and printer. It stands on block_model, store_layout and statements for what lines speak of, on value_text
+//! for values, and on schema_words, whose reader of declarations it hands on. The layer above speaks of lines as `line_of` and
+//! `line_text`, and of faults as `refusal_of`.
 #![tactic(auto)]
 
-pub mod dropped;
-pub mod laws;
-pub mod line;
+mod limits;
+mod line;
 mod line_laws;
 mod operator;
-pub mod print;
+mod print;
 mod query;
-pub mod reply;
-pub mod statement;
+mod statement;
 mod syntax;
-#[cfg(test)]
-mod tests;
-mod text;
 mod value_word;
 mod verb;
 mod word;
 
+pub use limits::MAX_LINE;
+pub use line::{Line, LineFault, Order, read_line};
 pub use line_laws::{fault_is_stop, grammar_is_read, printed_lines_read_back, read_is_grammar};
+pub use print::print_line;
 pub use schema_words::{DeclFault, read_declarations};

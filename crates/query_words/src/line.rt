@@ -1,23 +1,22 @@
-// What a line of a script says.
+//! What a line of a script says.
 
 ghost use Rattle.std.specs.Prelude.{◌≡◌, ◌≤◌, length, None, IfOk};
 ghost use Rattle.query_words.specs.LineFits.{IsLineFor};
 ghost use Rattle.query_words.specs.LineParts.{words_left};
-ghost use Rattle.query_words.specs.Lines.{Reads, line_of, line_judged};
+ghost use Rattle.query_words.specs.Lines.{ReadsAs, line_of, line_judged};
 ghost use Rattle.query_words.specs.Parsed.{said_of};
 ghost use Rattle.query_words.specs.SmallSchemas.{IsSmallSchema};
 ghost use Rattle.query_words.specs.Syntax.{stop_of};
 
-#[cfg(test)]
-mod tests;
-
-use crate::statement::{Statement, read_statement};
+use crate::limits::MAX_LINE;
+use crate::statement::read_statement;
 use crate::syntax::{is_comment, stop_of};
 use crate::word::{Rest, next_word};
-use block_model::layout::Layout;
-use block_model::name::Name;
-use block_model::schema::Schema;
+use block_model::{Name, Refusal, Schema};
+use statements::Statement;
 use std::alloc::Global;
+use store_layout::Layout;
+use thiserror::Error;
 use value_text::{denoted_is_of_kind, value_of_is_denoted};
 
 /// What a session is to do: a statement as a whole, its submission alone, one step, or all steps that are left.
@@ -39,24 +38,44 @@ pub enum Line {
 /// Why a line isn't read, with the byte of the line at which the word at fault begins, or the line's length where a word is
 /// missing: it isn't of the grammar; the table isn't declared; the index isn't; the column isn't, or there are too many or
 /// too few values; the operator or the value isn't of the column's kind. Or there is no memory for its conditions.
-#[derive(Clone, Copy, Debug, PartialEq, Eq)]
+#[derive(Clone, Copy, Debug, PartialEq, Eq, Error)]
 pub enum LineFault {
+    #[error("no line goes on with the word at byte {at}")]
     Syntax { at: usize },
+    #[error("no table is declared as the word at byte {at} says")]
     NoTable { at: usize },
+    #[error("no index is declared as the word at byte {at} says")]
     NoIndex { at: usize },
+    #[error("the word at byte {at} names no column, or a value is missing or too many there")]
     NoColumn { at: usize },
+    #[error("the operator or value at byte {at} isn't of the column's kind")]
     Kind { at: usize },
+    #[error("out of memory for the conditions of the line")]
     Memory,
 }
 
-/// How many bytes a line has at most.
-pub const MAX_LINE: usize = 65535;
+impl LineFault {
+    ghost use Rattle.query_words.specs.LineRefusals.{refusal_of};
 
-/// Reads a line: what it says, or the first fault. Syntax is judged over the whole line, then the table, then columns,
+    /// The refusal of the line, with the place; none for want of memory.
+    pub fn refusal(self) -> Option<Refusal>
+        ensures { result ≡ refusal_of self }
+    {
+        match self {
+            LineFault::Syntax { at } => Some(Refusal::Syntax { at }),
+            LineFault::NoTable { at } => Some(Refusal::NoTable { at }),
+            LineFault::NoIndex { at } => Some(Refusal::NoIndex { at }),
+            LineFault::NoColumn { at } | LineFault::Kind { at } => Some(Refusal::NoColumn { at }),
+            LineFault::Memory => None,
+        }
+    }
+}
+
+/// ReadsAs a line: what it says, or the first fault. Syntax is judged over the whole line, then the table, then columns,
 /// operators and values in the order of the line. Takes memory for conditions alone.
 #[tactic(auto, unfolding(crate::specs::Lines::line_of))]
 pub fn read_line(alloc: Global, line: &[u8], layout: &Layout) -> Result<Line, LineFault>
-    ensures reads { Reads result (line_of layout.now.schema line.now) }
+    ensures reads { ReadsAs result (line_of layout.now.schema line.now) }
     ensures fits { IfOk result (IsLineFor layout.now.schema) }
 {
     value_of_is_denoted();
@@ -81,7 +100,7 @@ fn read_words(
 ) -> Result<Line, LineFault>
     requires schema { IsSmallSchema schema.now }
     requires syntax { stop_of line_len (words_left rest) ≡ None }
-    ensures { Reads result (line_judged schema.now line_len None (said_of (words_left rest.entry))) }
+    ensures { ReadsAs result (line_judged schema.now line_len None (said_of (words_left rest.entry))) }
 {
     value_of_is_denoted();
     let Some((word, behind)) = next_word(rest) else {

@@ -1,4 +1,4 @@
-// What read and printed lines are to the grammar.
+//! What read and printed lines are to the grammar.
 
 ghost use Rattle.query_words.specs.LineLaws.{GrammarIsRead, ReadIsGrammar, FaultIsStop, PrintedIsRead};
 

@@ -1,10 +1,11 @@
-// The operators: how they are written, and the kinds that take them.
+//! The operators: how they are written, and the kinds that take them.
 
 ghost use Rattle.std.specs.Prelude.{◌≡◌};
-ghost use Rattle.query_words.specs.Operators.{op_text, op_among, op_of, takes_operator};
+ghost use Rattle.query_words.specs.Operators.{op_text, op_among, op_of};
+ghost use Rattle.statements.specs.OperatorKinds.{takes_operator};
 
 use crate::word::is_word;
-use block_model::value::{Kind, Op};
+use block_model::{Kind, Op};
 
 const COMPARISONS: [Op; 15] = [
     Op::Lt,
@@ -59,7 +60,7 @@ pub fn read_op(word: &[u8]) -> Option<Op>
 fn op_among(ops: &[Op], word: &[u8]) -> Option<Op>
     ensures { result ≡ op_among ops.now word.now }
 {
-    for op in ops {
+    'ops: for op in ops {
         if is_word(word, op_text(*op)) {
             return Some(*op);
         }

@@ -1,23 +1,22 @@
-// Lines printed as texts.
-#![tactic(auto, using(crate::proofs::AppendedLemmas::longer_before))]
+//! Lines printed as texts.
+#![tactic(auto, using(value_text::specs::Appended::longer_before))]
 
 ghost use Rattle.std.specs.Prelude.{◌≡◌, ◌∷◌, ◌++◌, map, codes, OnOk, OnErr};
 ghost use Rattle.value_text.specs.CanonicalTexts.{canonical_text};
-ghost use Rattle.query_words.specs.Appended.{IsLonger};
+ghost use Rattle.value_text.specs.Appended.{IsLonger};
 ghost use Rattle.query_words.specs.Grammar.{words_of_cond, words_of_conds, words_of_more};
-ghost use Rattle.query_words.specs.LineFits.{IsLineFor, IsOrderFor, IsStatementFor};
+ghost use Rattle.query_words.specs.LineFits.{IsLineFor, IsOrderFor};
+ghost use Rattle.statements.specs.StatementFits.{IsStatementFor};
+ghost use Rattle.query_words.specs.Verbs.{verb_text};
 ghost use Rattle.query_words.specs.LineTexts.{line_text, spaced, table_name, columns_at, column_name, cond_of, conds_of, statement_of, words_behind, order_of, test_of};
 
 use crate::line::{Line, Order};
 use crate::operator::op_text;
-use crate::statement::Statement;
-use crate::text::add;
-use block_model::NoMemory;
-use block_model::layout::Layout;
-use block_model::row::{Cond, Query};
-use block_model::schema::{Column, Schema};
-use block_model::value::{Op, Value};
-use value_text::write_value;
+use crate::verb::{Verb, verb_text};
+use block_model::{Column, Cond, NoMemory, Op, Query, Schema, Value};
+use statements::Statement;
+use store_layout::Layout;
+use value_text::{append, write_value, write_values};
 
 /// Appends the text of a line, without a line feed; nothing for a line that says nothing. The line's numbers are those of
 /// the layout, and its values and operators of their columns' kinds. What is printed reads as the same line. After a refusal
@@ -28,13 +27,11 @@ pub fn print_line(line: &Line, layout: &Layout, out: &mut Vec<u8>) -> Result<(),
     ensures err { OnErr result (out.new.items ≡ out.old.items) }
 {
     let before = out.len();
-    match add_line(out, line, layout.schema()) {
-        Ok(()) => Ok(()),
-        Err(NoMemory) => {
-            out.truncate(before);
-            Err(NoMemory)
-        }
+    if let Err(refusal) = add_line(out, line, layout.schema()) {
+        out.truncate(before);
+        return Err(refusal);
     }
+    Ok(())
 }
 
 fn add_line(out: &mut Vec<u8>, line: &Line, schema: &Schema) -> Result<(), NoMemory>
@@ -60,9 +57,10 @@ fn add_order(
 {
     match order {
         Order::Whole(statement) => {
-            add(out, session)?;
+            append(out, session)?;
             add_statement(out, statement, schema)
         }
+        // The grammar has no such orders yet.
         Order::Start(_) | Order::Step | Order::Finish => unreachable!(),
     }
 }
@@ -73,13 +71,14 @@ fn add_statement(out: &mut Vec<u8>, statement: &Statement, schema: &Schema) -> R
     ensures longer { IsLonger out.old.items out.new.items }
 {
     match statement {
-        Statement::Begin => add_word(out, b"begin"),
-        Statement::Commit => add_word(out, b"commit"),
-        Statement::Rollback => add_word(out, b"rollback"),
+        Statement::Begin => add_word(out, verb_text(Verb::Begin)),
+        Statement::Commit => add_word(out, verb_text(Verb::Commit)),
+        Statement::Rollback => add_word(out, verb_text(Verb::Rollback)),
         Statement::Insert { table, values } => add_insert(out, *table, values.as_slice(), schema),
-        Statement::Select(query) => add_query(out, b"select", query, schema),
-        Statement::Delete(query) => add_query(out, b"delete", query, schema),
-        Statement::Explain(query) => add_query(out, b"explain", query, schema),
+        Statement::Select(query) => add_query(out, Verb::Select, query, schema),
+        Statement::Delete(query) => add_query(out, Verb::Delete, query, schema),
+        Statement::Explain(query) => add_query(out, Verb::Explain, query, schema),
+        // The grammar has no maintenance yet.
         Statement::Summarize { .. }
         | Statement::Desummarize { .. }
         | Statement::Vacuum { .. }
@@ -96,16 +95,16 @@ fn add_insert(
     ensures ok { OnOk result (out.new.items ≡ out.old.items ++ spaced (codes "insert" ∷ table_name schema.now table ∷ map canonical_text values.now)) }
     ensures longer { IsLonger out.old.items out.new.items }
 {
-    add_word(out, b"insert")?;
+    add_word(out, verb_text(Verb::Insert))?;
     add_word(out, table_name(schema, table))?;
-    add_values(out, values)
+    write_values(values, out)
 }
 
-fn add_query(out: &mut Vec<u8>, verb: &[u8], query: &Query, schema: &Schema) -> Result<(), NoMemory>
-    ensures ok { OnOk result (out.new.items ≡ out.old.items ++ spaced (verb.now ∷ table_name schema.now query.now.table ∷ words_of_conds (conds_of schema.now query.now))) }
+fn add_query(out: &mut Vec<u8>, verb: Verb, query: &Query, schema: &Schema) -> Result<(), NoMemory>
+    ensures ok { OnOk result (out.new.items ≡ out.old.items ++ spaced (verb_text verb ∷ table_name schema.now query.now.table ∷ words_of_conds (conds_of schema.now query.now))) }
     ensures longer { IsLonger out.old.items out.new.items }
 {
-    add_word(out, verb)?;
+    add_word(out, verb_text(verb))?;
     add_word(out, table_name(schema, query.table))?;
     add_conds(out, columns_at(schema, query.table), query.conds.as_slice())
 }
@@ -128,7 +127,7 @@ fn add_more(out: &mut Vec<u8>, columns: &[Column], conds: &[Cond]) -> Result<(),
     ensures ok { OnOk result (out.new.items ≡ out.old.items ++ spaced (words_of_more (map (cond_of columns.now) conds.now))) }
     ensures longer { IsLonger out.old.items out.new.items }
 {
-    for cond in conds {
+    'conds: for cond in conds {
         add_word(out, b"and")?;
         add_cond(out, columns, cond)?;
     }
@@ -154,38 +153,20 @@ fn add_test(out: &mut Vec<u8>, column: &[u8], op: Op, key: &Value) -> Result<(),
     }
 }
 
-/// Appends values, each behind a space.
-fn add_values(out: &mut Vec<u8>, values: &[Value]) -> Result<(), NoMemory>
-    ensures ok { OnOk result (out.new.items ≡ out.old.items ++ spaced (map canonical_text values.now)) }
-    ensures longer { IsLonger out.old.items out.new.items }
-{
-    for value in values {
-        add_key(out, value)?;
-    }
-    Ok(())
-}
-
 /// Appends a value behind a space.
 fn add_key(out: &mut Vec<u8>, key: &Value) -> Result<(), NoMemory>
     ensures ok { OnOk result (out.new.items ≡ out.old.items ++ codes " " ++ canonical_text key.now) }
     ensures longer { IsLonger out.old.items out.new.items }
 {
-    add(out, b" ")?;
-    add_value(out, key)
-}
-
-fn add_value(out: &mut Vec<u8>, value: &Value) -> Result<(), NoMemory>
-    ensures ok { OnOk result (out.new.items ≡ out.old.items ++ canonical_text value.now) }
-    ensures longer { IsLonger out.old.items out.new.items }
-{
-    write_value(value, out)
+    append(out, b" ")?;
+    write_value(key, out)
 }
 
 /// The name of the table of that number.
 fn table_name(schema: &Schema, table: u8) -> &[u8]
     ensures { result.now ≡ table_name schema.now table }
 {
-    match schema.tables.as_slice().get(table as usize) {
+    match schema.tables.as_slice().get(usize::from(table)) {
         Some(table) => table.name.as_bytes(),
         None => b"",
     }
@@ -195,7 +176,7 @@ fn table_name(schema: &Schema, table: u8) -> &[u8]
 fn columns_at(schema: &Schema, table: u8) -> &[Column]
     ensures { result.now ≡ columns_at schema.now table }
 {
-    match schema.tables.as_slice().get(table as usize) {
+    match schema.tables.as_slice().get(usize::from(table)) {
         Some(table) => table.columns.as_slice(),
         None => &[],
     }
@@ -205,7 +186,7 @@ fn columns_at(schema: &Schema, table: u8) -> &[Column]
 fn column_name(columns: &[Column], column: u8) -> &[u8]
     ensures { result.now ≡ column_name columns.now column }
 {
-    match columns.get(column as usize) {
+    match columns.get(usize::from(column)) {
         Some(column) => column.name.as_bytes(),
         None => b"",
     }
@@ -216,6 +197,6 @@ fn add_word(out: &mut Vec<u8>, word: &[u8]) -> Result<(), NoMemory>
     ensures ok { OnOk result (out.new.items ≡ out.old.items ++ codes " " ++ word.now) }
     ensures longer { IsLonger out.old.items out.new.items }
 {
-    add(out, b" ")?;
-    add(out, word)
+    append(out, b" ")?;
+    append(out, word)
 }

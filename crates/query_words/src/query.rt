@@ -1,8 +1,9 @@
-// What the words of a query mean where its table's columns are declared.
+//! What the words of a query mean where its table's columns are declared.
 
 ghost use Rattle.std.specs.Prelude.{◌≡◌, ◌<◌, ◌≤◌, [], ◌∷◌, length, None, Some, MatchOption, IfSome};
+ghost use Rattle.block_model.specs.declared.limits.TheConstants.{MAX_COLUMNS, MAX_CONDITIONS};
 ghost use Rattle.query_words.specs.LineParts.{words_left, word_here, cond_here};
-ghost use Rattle.query_words.specs.Lines.{Reads};
+ghost use Rattle.query_words.specs.Lines.{ReadsAs};
 ghost use Rattle.query_words.specs.Parsed.{conds_from};
 ghost use Rattle.query_words.specs.Grammar.{Compared};
 ghost use Rattle.query_words.specs.Statements.{column_from, column_said, op_said, value_said, test_said, cond_said, conds_said};
@@ -11,10 +12,7 @@ use crate::line::LineFault;
 use crate::operator::{read_op, takes_operator};
 use crate::value_word::value_in;
 use crate::word::{Rest, Word, is_word, next_word};
-use block_model::NoMemory;
-use block_model::row::{Cond, Conds};
-use block_model::schema::Column;
-use block_model::value::{Kind, Op, Value};
+use block_model::{Column, Cond, Conds, Kind, NoMemory, Op, Value};
 use std::alloc::Global;
 
 /// A condition as it is written.
@@ -28,14 +26,15 @@ pub enum CondWords<'a> {
 /// The conditions that the words are, on a table of these columns. Takes memory for them, and answers a fault of the words
 /// before want of it.
 pub fn read_conds(alloc: Global, rest: Rest<'_>, columns: &[Column]) -> Result<Conds, LineFault>
-    requires columns { length columns.now ≤ 8 }
-    requires conds { length (conds_from [] (words_left rest)) ≤ 16 }
-    ensures { Reads result (conds_said columns.now [] (conds_from [] (words_left rest.entry))) }
+    requires columns { length columns.now ≤ MAX_COLUMNS }
+    requires conds { length (conds_from [] (words_left rest)) ≤ MAX_CONDITIONS }
+    ensures { ReadsAs result (conds_said columns.now [] (conds_from [] (words_left rest.entry))) }
 {
     let mut conds = Conds::new(alloc);
     let mut has_memory = true;
     let mut rest = rest;
     'conds: while let Some((words, behind)) = next_cond(rest) {
+        // The toolchain can't carry the conditions through a `?` here.
         let cond = match read_cond(columns, &words) {
             Ok(cond) => cond,
             Err(fault) => return Err(fault),
@@ -72,7 +71,7 @@ fn next_cond(rest: Rest<'_>) -> Option<(CondWords<'_>, Rest<'_>)>
 }
 
 fn read_cond(columns: &[Column], words: &CondWords<'_>) -> Result<Cond, LineFault>
-    requires { length columns.now ≤ 8 }
+    requires { length columns.now ≤ MAX_COLUMNS }
     ensures { result ≡ cond_said columns.now (cond_here words.now) }
 {
     match words {
@@ -88,7 +87,7 @@ fn read_comparison(
     op: &Word<'_>,
     value: &Word<'_>,
 ) -> Result<Cond, LineFault>
-    requires { length columns.now ≤ 8 }
+    requires { length columns.now ≤ MAX_COLUMNS }
     ensures { result ≡ cond_said columns.now (Compared (word_here column.now) (word_here op.now) (word_here value.now)) }
 {
     let (column, kind) = read_column(columns, column)?;
@@ -98,7 +97,7 @@ fn read_comparison(
 }
 
 fn read_test(columns: &[Column], column: &Word<'_>, op: Op) -> Result<Cond, LineFault>
-    requires { length columns.now ≤ 8 }
+    requires { length columns.now ≤ MAX_COLUMNS }
     ensures { result ≡ test_said columns.now (word_here column.now) op }
 {
     let (column, _) = read_column(columns, column)?;
@@ -108,7 +107,7 @@ fn read_test(columns: &[Column], column: &Word<'_>, op: Op) -> Result<Cond, Line
 
 /// The number and the kind of the declared column that the word names, or a fault at the word.
 fn read_column(columns: &[Column], word: &Word<'_>) -> Result<(u8, Kind), LineFault>
-    requires { length columns.now ≤ 8 }
+    requires { length columns.now ≤ MAX_COLUMNS }
     ensures { result ≡ column_said columns.now (word_here word.now) }
 {
     match column_named(columns, word.text) {
@@ -118,10 +117,10 @@ fn read_column(columns: &[Column], word: &Word<'_>) -> Result<(u8, Kind), LineFa
 }
 
 fn column_named(columns: &[Column], name: &[u8]) -> Option<(u8, Kind)>
-    requires { length columns.now ≤ 8 }
+    requires { length columns.now ≤ MAX_COLUMNS }
     ensures { result ≡ column_from 0 columns.now name.now }
 {
-    for (i, column) in columns.iter().enumerate() {
+    'columns: for (i, column) in columns.iter().enumerate() {
         if is_word(column.name.as_bytes(), name) {
             return Some((i as u8, column.kind));
         }

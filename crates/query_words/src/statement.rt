@@ -1,8 +1,9 @@
-// What the words of a statement mean where tables are declared.
+//! What the words of a statement mean where tables are declared.
 
 ghost use Rattle.std.specs.Prelude.{◌≡◌, ◌≤◌, length, None, Some, Ok, Err, [], MatchOption, MatchResult, IfSome, IfOk, IfErr};
+ghost use Rattle.block_model.specs.declared.limits.TheConstants.{MAX_COLUMNS};
 ghost use Rattle.query_words.specs.LineParts.{words_left, word_here};
-ghost use Rattle.query_words.specs.Lines.{Reads};
+ghost use Rattle.query_words.specs.Lines.{ReadsAs};
 ghost use Rattle.query_words.specs.Grammar.{Select};
 ghost use Rattle.query_words.specs.Parsed.{insert_of_words, query_of_words, statement_behind, statement_of_words};
 ghost use Rattle.query_words.specs.SmallSchemas.{IsSmallSchema, HasFewConds};
@@ -12,30 +13,13 @@ use crate::line::LineFault;
 use crate::query::{read_conds, read_key};
 use crate::verb::{Verb, read_verb};
 use crate::word::{Rest, Word, is_word, next_word};
-use block_model::row::Query;
-use block_model::schema::{Column, Schema};
-use block_model::value::Values;
+use block_model::{Column, Query, Schema, Values};
+use statements::Statement;
 use std::alloc::Global;
-
-/// A statement of a session. Tables and indexes go by their numbers.
-#[derive(Debug, Drop)]
-pub enum Statement {
-    Begin,
-    Commit,
-    Rollback,
-    Insert { table: u8, values: Values },
-    Select(Query),
-    Delete(Query),
-    Explain(Query),
-    Summarize { index: u8, block: Option<u32> },
-    Desummarize { index: u8, block: u32 },
-    Vacuum { table: u8 },
-    Work,
-}
 
 /// The statement that the words are, in a line of that length. Takes memory for its conditions, and answers a fault of the
 /// words before want of it.
-pub fn read_statement(
+pub(crate) fn read_statement(
     alloc: Global,
     rest: Rest<'_>,
     schema: &Schema,
@@ -43,7 +27,7 @@ pub fn read_statement(
 ) -> Result<Statement, LineFault>
     requires schema { IsSmallSchema schema.now }
     requires conds { HasFewConds (statement_of_words (words_left rest)) }
-    ensures { Reads result (statement_judged schema.now line_len (statement_of_words (words_left rest.entry))) }
+    ensures { ReadsAs result (statement_judged schema.now line_len (statement_of_words (words_left rest.entry))) }
 {
     let Some((word, rest)) = next_word(rest) else {
         return Err(LineFault::Syntax { at: line_len });
@@ -63,7 +47,7 @@ fn read_behind(
 ) -> Result<Statement, LineFault>
     requires schema { IsSmallSchema schema.now }
     requires conds { HasFewConds (statement_behind verb (words_left rest)) }
-    ensures { Reads result (statement_judged schema.now line_len (statement_behind verb (words_left rest.entry))) }
+    ensures { ReadsAs result (statement_judged schema.now line_len (statement_behind verb (words_left rest.entry))) }
 {
     match verb {
         Verb::Begin => Ok(Statement::Begin),
@@ -84,7 +68,7 @@ fn read_query(
 ) -> Result<Query, LineFault>
     requires schema { IsSmallSchema schema.now }
     requires conds { HasFewConds (query_of_words Select (words_left rest)) }
-    ensures { Reads result (query_judged schema.now line_len (words_left rest.entry)) }
+    ensures { ReadsAs result (query_judged schema.now line_len (words_left rest.entry)) }
 {
     let Some((word, rest)) = next_word(rest) else {
         return Err(LineFault::Syntax { at: line_len });
@@ -108,12 +92,12 @@ fn read_insert(rest: Rest<'_>, schema: &Schema, line_len: usize) -> Result<State
 
 /// A value for each column, and no word behind them.
 fn read_values(rest: Rest<'_>, columns: &[Column], line_len: usize) -> Result<Values, LineFault>
-    requires { length columns.now ≤ 8 }
+    requires { length columns.now ≤ MAX_COLUMNS }
     ensures { result ≡ values_said line_len [] columns.now (words_left rest.entry) }
 {
     let mut values = Values::new();
     let mut rest = rest;
-    for column in columns {
+    'columns: for column in columns {
         let Some((word, behind)) = next_word(rest) else {
             return Err(LineFault::NoColumn { at: line_len });
         };
@@ -131,7 +115,7 @@ fn read_table<'a>(schema: &'a Schema, word: &Word<'_>) -> Result<(u8, &'a [Colum
     requires { IsSmallSchema schema.now }
     ensures table { MatchResult result (λ p. table_said schema.now (word_here word.now) ≡ Ok (p.0, p.1.now)) (λ fault. table_said schema.now (word_here word.now) ≡ Err fault) }
     ensures fault { IfErr result (λ fault. fault ≡ LineFault.NoTable word.now.at) }
-    ensures few { IfOk result (λ p. length p.1.now ≤ 8) }
+    ensures few { IfOk result (λ p. length p.1.now ≤ MAX_COLUMNS) }
 {
     match table_named(schema, word.text) {
         Some(table) => Ok(table),
@@ -143,10 +127,10 @@ fn read_table<'a>(schema: &'a Schema, word: &Word<'_>) -> Result<(u8, &'a [Colum
 fn table_named<'a>(schema: &'a Schema, name: &[u8]) -> Option<(u8, &'a [Column])>
     requires { IsSmallSchema schema.now }
     ensures table { MatchOption result (table_from 0 schema.now.tables name.now ≡ None) (λ p. table_from 0 schema.now.tables name.now ≡ Some (p.0, p.1.now)) }
-    ensures few { IfSome result (λ p. length p.1.now ≤ 8) }
+    ensures few { IfSome result (λ p. length p.1.now ≤ MAX_COLUMNS) }
 {
     let tables = schema.tables.as_slice();
-    for (i, table) in tables.iter().enumerate() {
+    'tables: for (i, table) in tables.iter().enumerate() {
         if is_word(table.name.as_bytes(), name) {
             return Some((i as u8, table.columns.as_slice()));
         }

@@ -1,4 +1,4 @@
-// How far the words of a line go on as one: the grammar, one word after the other.
+//! How far the words of a line go on as one: the grammar, one word after the other.
 
 ghost use Rattle.std.specs.Prelude.{◌≡◌, ◌≤◌, length};
 ghost use Rattle.query_words.specs.Syntax.{where_so, after_verb, after_word, after_column, after_is, may_end, stop_from, stop_of};
@@ -6,11 +6,12 @@ ghost use Rattle.block_model.specs.Names.{is_name};
 ghost use Rattle.query_words.specs.Grammar.{is_comment};
 ghost use Rattle.query_words.specs.LineParts.{words_left};
 
+use crate::limits::MORE_CONDITIONS;
 use crate::operator::read_op;
 use crate::value_word::is_value_word;
 use crate::verb::{Verb, read_verb};
 use crate::word::{Rest, is_word, next_word};
-use block_model::name::Name;
+use block_model::Name;
 
 /// What the words of a line may go on with. A number says how many conditions may follow.
 #[derive(Clone, Copy, Debug, PartialEq, Eq)]
@@ -101,7 +102,7 @@ fn after_word(expected: Expected, word: &[u8]) -> Option<Expected>
         Expected::InsertTable => where_so(is_name(word), Expected::Values),
         Expected::Values => where_so(is_value_word(word), Expected::Values),
         Expected::QueryTable => where_so(is_name(word), Expected::Where),
-        Expected::Where => where_so(is_word(word, b"where"), Expected::Column(15)),
+        Expected::Where => where_so(is_word(word, b"where"), Expected::Column(MORE_CONDITIONS)),
         Expected::And(left) => after_condition(left, word),
         Expected::Column(left) => where_so(is_name(word), Expected::Operator(left)),
         Expected::Operator(left) => after_column(left, word),

@@ -1,10 +1,10 @@
-// The values that words are.
+//! The values that words are.
 
 ghost use Rattle.std.specs.Prelude.{◌≡◌};
 ghost use Rattle.value_text.specs.ValueOf.{value_of};
 ghost use Rattle.query_words.specs.ValueWords.{is_value_word};
 
-use block_model::value::{Kind, Value};
+use block_model::{Kind, Value};
 use value_text::{read_value, value_of_is_denoted};
 
 /// The value of the kind that the word is.

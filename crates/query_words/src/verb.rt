@@ -1,4 +1,4 @@
-// The verbs of statements.
+//! The verbs of statements.
 
 ghost use Rattle.std.specs.Prelude.{◌≡◌};
 ghost use Rattle.query_words.specs.Verbs.{verb_text, verb_among, verb_of};
@@ -52,7 +52,7 @@ pub fn read_verb(word: &[u8]) -> Option<Verb>
 fn verb_among(verbs: &[Verb], word: &[u8]) -> Option<Verb>
     ensures { result ≡ verb_among verbs.now word.now }
 {
-    for verb in verbs {
+    'verbs: for verb in verbs {
         if is_word(word, verb_text(*verb)) {
             return Some(*verb);
         }

@@ -1,7 +1,8 @@
-// The words of a line.
+//! The words of a line.
 
 ghost use Rattle.std.specs.Prelude.{◌≡◌, ◌≢◌, ◌+◌, ◌<◌, ◌≤◌, ℕ, [], ◌∷◌, length, take, drop, slice_index, MatchOption, IfSome, None, Some};
 ghost use Rattle.std.specs.Str.{bytes_eq};
+ghost use Rattle.query_words.specs.declared.limits.TheConstants.{MAX_LINE};
 
 /// A word, and the byte of the line at which it begins.
 #[derive(Clone, Copy)]
@@ -15,7 +16,7 @@ pub struct Word<'a> {
 pub struct Rest<'a> {
     pub bytes: &'a [u8],
     pub at: usize,
-    ghost within: { at + length bytes.now ≤ 65535 },
+    ghost within: { at + length bytes.now ≤ MAX_LINE },
 }
 
 mod next;

@@ -16,9 +16,9 @@ use Rattle.block_model.specs.declared.schema.Table.{Table}
 use Rattle.block_model.specs.declared.schema.Index.{Index}
 use Rattle.block_model.specs.declared.schema.Schema.{Schema}
 use Rattle.block_model.specs.IndexedColumns.{columns_in, columns_of}
-use Rattle.query_words.specs.LineFits.{AreValuesFor, IsInsertFor}
+use Rattle.statements.specs.StatementFits.{AreValuesFor, IsInsertFor}
 use Rattle.row_versions.specs.VersionsState.{rows_at}
-use Rattle.range_tuple.specs.TupleIncludes.{TakesRow}
+use Rattle.range_tuple.specs.TupleIncludes.{TupleTakesRow}
 use Rattle.range_tuple.specs.Tuples.{Tuple}
 use Rattle.range_summaries.specs.declared.index_ranges.IndexRanges.{IndexRanges}
 use Rattle.range_summaries.specs.declared.summaries.Summaries.{Summaries}
@@ -53,7 +53,7 @@ pub takes_row : AreTaken → (schema : Schema) (tables : List (List Row)) (table
 takes_row taken schema tables table place values index c lawful of_index fits of_table h room = record {
   some_rows = subst (λ n. 1 ≤ n) (sym h.size) (some_rows_in_range schema index lawful of_index);
   there = room;
-  takes = subst (λ (t : Tuple). TakesRow t values) (sym (h.tuples.exact (place / c.rows_per_range) room)) (range_takes taken schema index (rows_at tables index.table) (place / c.rows_per_range) values of_index for_index);
+  takes = subst (λ (t : Tuple). TupleTakesRow t values) (sym (h.tuples.exact (place / c.rows_per_range) room)) (range_takes taken schema index (rows_at tables index.table) (place / c.rows_per_range) values of_index for_index);
 }
   where
     for_index : AreValuesFor (columns_of schema index) values

@@ -8,9 +8,10 @@ use Rattle.block_model.specs.declared.schema.Index.{Index}
 use Rattle.block_model.specs.declared.schema.Schema.{Schema}
 use Rattle.block_model.specs.declared.schema.Sizes.{Sizes}
 use Rattle.block_model.specs.declared.schema.Table.{Table}
-use Rattle.block_model.specs.FirstBrokenRule.{KeepsLimits}
+use Rattle.store_layout.specs.FirstBrokenRule.{KeepsLimits}
 use Rattle.block_model.specs.IndexedColumns.{columns_of}
-use Rattle.block_model.specs.Limits.{class_is_lawful, columns_are_lawful, is_on_a_table, is_within, parts_are_lawful, rows_fit}
+use Rattle.block_model.specs.ClassLimits.{class_is_lawful, is_within}
+use Rattle.store_layout.specs.Limits.{columns_are_lawful, is_on_a_table, parts_are_lawful, rows_fit}
 use Rattle.block_model.specs.TupleSize.{tuple_size}
 use Rattle.range_summaries.specs.LawfulIndexes.{HasLawfulIndexes, IsLawfulIndex}
 

@@ -3,7 +3,6 @@ pub mod Covering
 pub mod Indexed
 pub mod Judging
 pub mod Lawful
-pub mod PairTables
 pub mod Pushed
 pub mod Rooms
 pub mod Runs

@@ -15,12 +15,12 @@ use Rattle.block_model.specs.declared.value.Kind.TheVariants as kinds
 use Rattle.block_model.specs.declared.value.Value.{Value}
 use Rattle.block_model.specs.declared.value.Value.TheVariants.{Null, Int, Span, Net}
 use Rattle.block_model.specs.IndexedColumns.{columns_of, kind_at}
-use Rattle.block_model.specs.Limits.{class_is_lawful, takes_kind}
-use Rattle.value_text.specs.CanonicalTexts.{IsValueOf}
-use Rattle.query_words.specs.LineFits.{AreValuesFor}
+use Rattle.block_model.specs.ClassLimits.{class_is_lawful, takes_kind}
+use Rattle.block_model.specs.ValuesOfKind.{IsValueOf}
+use Rattle.statements.specs.StatementFits.{AreValuesFor}
 use Rattle.range_tuple.specs.AnyClass.{class_of}
 use Rattle.range_tuple.specs.KindValues.{IsOfKind}
-use Rattle.range_tuple.specs.TupleIncludes.{TakesRow, TakesThere, TakesValue}
+use Rattle.range_tuple.specs.TupleIncludes.{TupleTakesRow, TakesThere, TakesValue}
 use Rattle.range_tuple.specs.Tuples.{Tuple, empty_column, part_of, parts_of, with_row}
 use Rattle.range_tuple.specs.declared.classes.AnyClass.{AnyClass}
 use Rattle.range_tuple.proofs.ByPlace.{parts-with_row, takes_by_parts}
@@ -69,7 +69,7 @@ parts-with_rows [] t = refl
 parts-with_rows (row ∷ rows) t = parts-with_rows rows (with_row row.values t) ∙ parts-with_row row.values t.columns
 
 -- the tuple of a range takes a row of the table
-pub range_takes : AreTaken → (schema : Schema) (index : Index) (rows : List Row) (range : ℕ) (values : List Value) → IsLawfulIndex schema index → AreValuesFor (columns_of schema index) values → TakesRow (range_tuple schema index rows range) values
+pub range_takes : AreTaken → (schema : Schema) (index : Index) (rows : List Row) (range : ℕ) (values : List Value) → IsLawfulIndex schema index → AreValuesFor (columns_of schema index) values → TupleTakesRow (range_tuple schema index rows range) values
 range_takes taken schema index rows range values of_index fits =
     takes_by_parts (range_tuple schema index rows range).columns values
     (subst (All (λ (p : ℕ × AnyClass). TakesThere p.1 (slice_get values p.0))) (sym (parts-with_rows (chunk (rows_per_range schema index) rows range) (empty_tuple schema index range)))

@@ -1,6 +1,6 @@
 -- which blocks an explain names: those that a scan must read ("Introduction" to BRIN indexes)
 use Rattle.std.specs.Prelude.{ℕ, ◌*◌, ◌/◌, ◌==◌, Bool, false, List, fold, map, slice_get, Option, None, Some}
-use Rattle.std.specs.List.{filter, list_all, range_with_len}
+use Rattle.std.specs.List.{filter, list_all}
 use Rattle.block_model.specs.declared.row.Cond.{Cond}
 use Rattle.block_model.specs.declared.row.Row.{Row}
 use Rattle.block_model.specs.declared.row.Query.{Query}
@@ -8,7 +8,7 @@ use Rattle.block_model.specs.declared.schema.Table.{Table}
 use Rattle.block_model.specs.declared.schema.Index.{Index}
 use Rattle.block_model.specs.declared.schema.Schema.{Schema}
 use Rattle.block_model.specs.IndexedColumns.{columns_of}
-use Rattle.range_tuple.specs.Keeps.{keeps}
+use Rattle.bitmap_scan.specs.CandidateBlocks.{blocks_where, is_candidate}
 use Rattle.range_tuple.specs.Tuples.{Tuple, empty_column, tuple_of, with_row}
 use Rattle.row_versions.specs.Chunks.{chunk, extent_of}
 
@@ -44,14 +44,14 @@ with_rows rows t = fold (λ widened row. with_row row.values widened) t rows
 abbrev pub range_tuple : Schema → Index → List Row → ℕ → Tuple
 range_tuple schema index rows range = with_rows (chunk (rows_per_range schema index) rows range) (empty_tuple schema index range)
 
--- by an index the range of the block may hold a match of the conditions
+-- by an index the block may hold a match of the conditions
 abbrev pub index_keeps : Schema → List Row → List Cond → ℕ → Index → Bool
-index_keeps schema rows conds block index = keeps (range_tuple schema index rows (block / index.pages_per_range)) conds
+index_keeps schema rows conds block index = is_candidate (λ range. Some (range_tuple schema index rows range)) conds index.pages_per_range block
 
--- the blocks of a table that its rows fill and whose range each index keeps, in ascending order
+-- the blocks of a table that its rows fill and that are candidates of each index, in ascending order
 abbrev pub blocks_kept : Schema → ℕ → List Row → List Cond → List ℕ
 blocks_kept schema table rows conds =
-    filter (λ block. list_all (index_keeps schema rows conds block) (indexes_of schema table)) (range_with_len 0 (extent_of (rows_per_page_at schema table) rows))
+    blocks_where (λ block. list_all (index_keeps schema rows conds block) (indexes_of schema table)) (extent_of (rows_per_page_at schema table) rows)
 
 -- the blocks that an explain of the query names, where rows were put in this order
 abbrev pub explained : Schema → List Row → Query → List ℕ

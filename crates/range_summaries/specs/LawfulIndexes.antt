@@ -4,8 +4,9 @@ use Rattle.std.specs.List.{list_all}
 use Rattle.block_model.specs.declared.schema.Index.{Index}
 use Rattle.block_model.specs.declared.schema.Schema.{Schema}
 use Rattle.block_model.specs.IndexedColumns.{columns_of}
-use Rattle.block_model.specs.Limits.{class_is_lawful}
+use Rattle.block_model.specs.ClassLimits.{class_is_lawful}
 use Rattle.block_model.specs.TupleSize.{tuple_size}
+use Rattle.range_summaries.specs.declared.limits.TheConstants.{MAX_INDEXES}
 
 -- an index on some columns of a table, each by a class that takes its kind, whose greatest tuple fits a page
 pub record IsLawfulIndex (schema : Schema) (index : Index) : Type 0 where
@@ -16,8 +17,8 @@ pub record IsLawfulIndex (schema : Schema) (index : Index) : Type 0 where
   pub size : tuple_size (columns_of schema index) index.parts ≤ 8156
   pub some_pages : 1 ≤ index.pages_per_range
 
--- there are at most eight, each is one, and each page has a row or more
+-- there aren't too many, each is one, and each page has a row or more
 pub record HasLawfulIndexes (schema : Schema) : Type 0 where
-  pub few : length schema.indexes ≤ 8
+  pub few : length schema.indexes ≤ MAX_INDEXES
   pub indexes : All (IsLawfulIndex schema) schema.indexes
   pub some_rows : All (λ t. 1 ≤ t.rows_per_page) schema.tables

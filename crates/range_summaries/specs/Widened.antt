@@ -1,7 +1,7 @@
 -- what a row that is put changes in the summaries
 use Rattle.std.specs.Prelude.{◌≡◌, ◌≢◌, ℕ, ◌/◌, ◌<◌, ◌≤◌, List, length, slice_set}
 use Rattle.block_model.specs.declared.value.Value.{Value}
-use Rattle.range_tuple.specs.TupleIncludes.{TakesRow, TupleIncludes}
+use Rattle.range_tuple.specs.TupleIncludes.{TupleTakesRow, TupleIncludes}
 use Rattle.range_tuple.specs.Tuples.{Tuple, with_row}
 use Rattle.range_summaries.specs.IndexContents.{HasRangeOf, IndexContents, range_at}
 
@@ -9,7 +9,7 @@ use Rattle.range_summaries.specs.IndexContents.{HasRangeOf, IndexContents, range
 pub record TakesRowAt (place : ℕ) (values : List Value) (c : IndexContents) : Type 0 where
   pub some_rows : 1 ≤ c.rows_per_range
   pub there : HasRangeOf place c
-  pub takes : TakesRow (range_at c.ranges (place / c.rows_per_range)) values
+  pub takes : TupleTakesRow (range_at c.ranges (place / c.rows_per_range)) values
 
 -- the range has a tuple, which takes the row in and keeps what it included; the others stay
 pub record IsWidened (old : List Tuple) (range : ℕ) (values : List Value) (new : List Tuple) : Type 0 where

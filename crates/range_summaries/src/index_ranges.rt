@@ -1,8 +1,9 @@
-// The ranges of an index.
+//! The ranges of an index.
 
 ghost use Rattle.std.specs.Prelude.{◌≡◌, ◌^◌, ◌<◌, ◌≤◌, ◌++◌, ◌∷◌, [], List, OnOk, OnErr, IfOk, replicate, length};
 ghost use Rattle.block_model.specs.declared.row.Row.{Row};
-ghost use Rattle.range_tuple.specs.TupleIncludes.{TakesRow};
+ghost use Rattle.block_model.specs.declared.limits.TheConstants.{MAX_CONDITIONS};
+ghost use Rattle.range_tuple.specs.TupleIncludes.{TupleTakesRow};
 ghost use Rattle.row_versions.specs.VersionsState.{rows_at};
 ghost use Rattle.range_summaries.specs.ExplainedBlocks.{empty_tuple};
 ghost use Rattle.range_summaries.specs.IndexContents.{AreRangesOf, HasRangeOf, contents_of, range_at};
@@ -10,15 +11,11 @@ ghost use Rattle.range_summaries.specs.Judged.{Covers, IsRunOf};
 ghost use Rattle.range_summaries.specs.LawfulIndexes.{HasLawfulIndexes, IsLawfulIndex};
 ghost use Rattle.range_summaries.specs.Widened.{IsWidened, TakesRowAt, TookIfOf};
 
-use block_model::NoMemory;
-use block_model::row::Cond;
-use block_model::schema::{Index, Schema};
-use block_model::value::Value;
-use range_tuple::tuple::RangeTuple;
+use block_model::{Cond, Index, NoMemory, Schema, Value};
+use range_tuple::RangeTuple;
 use std::alloc::Global;
 
-/// The tuples of the ranges of an index of that table, in order from the first range, which takes as many pages and rows as
-/// each.
+/// An index of a table: how large its ranges are, and their tuples in order from the first range.
 #[derive(Debug, Drop)]
 pub(crate) struct IndexRanges {
     pub(crate) table: u8,
@@ -34,7 +31,7 @@ pub(crate) struct Run {
     pub(crate) kept: bool,
 }
 
-/// Those of the index, for no rows. Takes no memory.
+/// The ranges of the index over a table without rows. Takes no memory.
 pub(crate) fn ranges_of(alloc: Global, schema: &Schema, index: &Index) -> IndexRanges
     requires { IsLawfulIndex schema.now index.now }
     ensures { AreRangesOf schema.now (replicate (length schema.now.tables) []) index.now (contents_of result) }
@@ -50,8 +47,8 @@ pub(crate) fn ranges_of(alloc: Global, schema: &Schema, index: &Index) -> IndexR
 }
 
 impl IndexRanges {
-    /// Where the index is of that table, takes the memory that `widen` of the table's next row needs, where the row stands at
-    /// that place: the tuple of the range that it starts.
+    /// Takes the memory that `widen` needs for the table's next row, which stands at that place: the tuple of a range that the
+    /// row starts. An index of another table takes none.
     pub(crate) fn make_room(
         &mut self,
         alloc: Global,
@@ -75,11 +72,11 @@ impl IndexRanges {
             return Ok(());
         }
         let tuple = empty_tuple(alloc, schema, index, range as u32)?;
-        push(&mut self.ranges, tuple)?;
+        self.ranges.push(tuple)?;
         Ok(())
     }
 
-    /// Where the index is of that table, adds the values of the row of that place to the tuple of its range. Takes no memory.
+    /// Adds the values of the row of that place to the tuple of its range, if the index is of that table. Takes no memory.
     pub(crate) fn widen(&mut self, table: u8, place: usize, values: &[Value])
         requires takes { self.old.table ≡ table → TakesRowAt place values.now (contents_of self.old) }
         ensures { TookIfOf table place values.now (contents_of self.old) (contents_of self.new) }
@@ -90,12 +87,12 @@ impl IndexRanges {
         }
     }
 
-    /// How far from a block below the extent the blocks are of its range, and whether the range may hold a match of the
-    /// conditions, which are at most sixteen: as the run of the index that is known says, where the block is in it.
+    /// The run from a block on: where it ends, and whether its blocks may hold a match of the conditions. It is the known
+    /// run if the block is in that one.
     pub(crate) fn run(&self, known: Run, conds: &[Cond], from: u32, extent: u32) -> Run
         requires below { from < extent }
         requires covered { Covers extent (contents_of self.now) }
-        requires few { length conds.now ≤ 16 }
+        requires few { length conds.now ≤ MAX_CONDITIONS }
         requires known { IsRunOf conds.now from extent self.now known }
         ensures further { from < result.end }
         ensures run { IsRunOf conds.now from extent self.now result }
@@ -106,11 +103,11 @@ impl IndexRanges {
         self.judged(conds, from, extent)
     }
 
-    /// The same, by the tuple of the block's range.
+    /// The run from a block on, by the tuple of the block's range.
     fn judged(&self, conds: &[Cond], from: u32, extent: u32) -> Run
         requires below { from < extent }
         requires covered { Covers extent (contents_of self.now) }
-        requires few { length conds.now ≤ 16 }
+        requires few { length conds.now ≤ MAX_CONDITIONS }
         ensures further { from < result.end }
         ensures run { IsRunOf conds.now from extent self.now result }
     {
@@ -138,22 +135,12 @@ fn empty_tuple(
     Ok(tuple)
 }
 
-/// Adds one at the end. After a refusal nothing is changed.
-fn push(ranges: &mut Vec<RangeTuple>, tuple: RangeTuple) -> Result<(), NoMemory>
-    ensures ok { OnOk result (ranges.new.items ≡ ranges.old.items ++ tuple ∷ []) }
-    ensures err { OnErr result (ranges.new.items ≡ ranges.old.items) }
-{
-    match ranges.push(tuple) {
-        Ok(()) => Ok(()),
-        Err(_) => Err(NoMemory),
-    }
-}
-
 /// Adds a row's values to the tuple of that range.
 fn widen_at(ranges: &mut Vec<RangeTuple>, range: usize, values: &[Value])
     requires there { range < length ranges.old.items }
-    requires takes { TakesRow (range_at ranges.old.items range) values.now }
+    requires takes { TupleTakesRow (range_at ranges.old.items range) values.now }
     ensures { IsWidened ranges.old.items range values.now ranges.new.items }
 {
+    // Whether the tuple widened is told, and no matter here.
     let _ = ranges[range].add_row(values);
 }

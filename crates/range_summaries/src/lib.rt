@@ -1,12 +1,12 @@
-// The summaries of the ranges of each index: one range tuple a range, which has the range's rows and is final. The row that
-// starts a range makes its tuple, and each row that is put is added to that of its range, so a range is summarised from its
-// first row on. The tuples tell which blocks a scan must read, and no row of another block matches the query. It stands on
-// block_model, range_tuple and bitmap_scan, and on row_versions for rows by blocks. The layer above uses `Summaries`.
+//! The summaries of the ranges of each index: one range tuple a range, which has the range's rows and is final. The row that
+//! starts a range makes its tuple, and each row that is put is added to that of its range, so a range is summarised from its
+//! first row on. The tuples tell which blocks a scan must read, and no row of another block matches the query. It stands on
+//! block_model, range_tuple and bitmap_scan, and on row_versions for rows by blocks. The layer above uses `Summaries`.
 #![tactic(auto)]
 
 mod index_ranges;
+mod limits;
 mod summaries;
-#[cfg(test)]
-mod tests;
 
+pub use limits::MAX_INDEXES;
 pub use summaries::Summaries;

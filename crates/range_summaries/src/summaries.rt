@@ -1,31 +1,25 @@
-// The summaries of a schema's indexes.
+//! The summaries of a schema's indexes.
 
 ghost use Rattle.std.specs.Prelude.{◌≡◌, ◌^◌, ◌<◌, ◌≤◌, ℕ, List, [], ◌∷◌, ◌++◌, false, length, map, OnOk, IfOk, All, replicate, slice_set};
 ghost use Rattle.std.specs.List.{AllZip};
 ghost use Rattle.block_model.specs.declared.row.Row.{Row};
 ghost use Rattle.block_model.specs.declared.schema.Schema.{Schema};
-ghost use Rattle.query_words.specs.LineFits.{IsQueryFor, IsInsertFor};
+ghost use Rattle.statements.specs.StatementFits.{IsInsertFor};
 ghost use Rattle.row_versions.specs.CoversMatches.{CoversMatches};
 ghost use Rattle.row_versions.specs.VersionsState.{rows_at};
-ghost use Rattle.range_summaries.specs.ExplainedBlocks.{blocks_kept, rows_per_page_at};
+ghost use Rattle.range_summaries.specs.ExplainedBlocks.{blocks_kept};
 ghost use Rattle.range_summaries.specs.IndexContents.{AreRangesOf, HasRangeOf, contents_of};
 ghost use Rattle.range_summaries.specs.Judged.{AreRunsOf, Covers, HasNoMatch, passes};
 ghost use Rattle.range_summaries.specs.LawfulIndexes.{HasLawfulIndexes};
-ghost use Rattle.range_summaries.specs.Summarised.{AreSummaries, HasRoom};
+ghost use Rattle.range_summaries.specs.Summarised.{AreFor, AreSummaries, HasRangesFor};
 
 use crate::index_ranges::{IndexRanges, Run, ranges_of};
+use crate::limits::MAX_INDEXES;
 use bitmap_scan::append;
-use block_model::NoMemory;
-use block_model::layout::Layout;
-use block_model::place::Blocks;
-use block_model::row::Query;
-use block_model::schema::Schema;
-use block_model::value::Value;
-use range_tuple::classes::values_of_a_kind_are_taken;
+use block_model::{Blocks, NoMemory, Query, Schema, Value};
+use range_tuple::values_of_a_kind_are_taken;
 use std::alloc::Global;
-
-/// How many indexes a schema has at most.
-const MAX_INDEXES: usize = 8;
+use store_layout::Layout;
 
 /// The run in which no block is.
 const NO_BLOCKS: Run = Run { end: 0, kept: true };
@@ -34,6 +28,7 @@ const NO_BLOCKS: Run = Run { end: 0, kept: true };
 #[derive(Drop)]
 pub struct Summaries {
     alloc: Global,
+    /// The ranges of each index, in the order of the schema.
     of_indexes: Vec<IndexRanges>,
 }
 
@@ -53,18 +48,18 @@ impl Summaries {
     {
         let mut of_indexes = Vec::new(alloc);
         'indexes: for index in schema.indexes.as_slice() {
-            push(&mut of_indexes, ranges_of(alloc, schema, index))?;
+            of_indexes.push(ranges_of(alloc, schema, index))?;
         }
         Ok(Summaries { alloc, of_indexes })
     }
 
-    /// Takes the memory that `widen` of the next row of the table needs, where the row stands at that place: in each index of
-    /// the table the tuple of a range that the row starts. After a refusal the summaries are still those of the rows.
+    /// Takes the memory that `widen` needs for the next row of the table, which stands at that place: in each index of the
+    /// table the tuple of a range that the row starts. After a refusal the summaries are still those of the rows.
     pub fn make_room(&mut self, schema: &Schema, table: u8, place: usize) -> Result<(), NoMemory>
         requires few { place < 2 ^ 32 }
         requires row { (tables : List (List Row)) × AreSummaries schema.now tables self.old × (length (rows_at tables table) ≡ place) }
         ensures kept { (tables : List (List Row)) → AreSummaries schema.now tables self.old → AreSummaries schema.now tables self.new }
-        ensures ok { OnOk result (HasRoom self.new table place) }
+        ensures ok { OnOk result (HasRangesFor self.new table place) }
     {
         let alloc = self.alloc;
         make_room_in_each(&mut self.of_indexes, alloc, schema, table, place)?;
@@ -74,7 +69,7 @@ impl Summaries {
     /// Adds the row's values to the tuple of the range in which the row of that place stands, in each index of the table. There
     /// is room for it. Takes no memory.
     pub fn widen(&mut self, table: u8, place: usize, values: &[Value])
-        requires room { HasRoom self.old table place }
+        requires room { HasRangesFor self.old table place }
         requires row { (schema : Schema) × (tables : List (List Row)) × AreSummaries schema tables self.old × IsInsertFor schema table values.now × (length (rows_at tables table) ≡ place) }
         ensures { (schema : Schema) (tables : List (List Row)) (row : Row) → AreSummaries schema tables self.old → IsInsertFor schema table values.now → length (rows_at tables table) ≡ place
             → row.values ≡ values.now → AreSummaries schema (slice_set tables table (rows_at tables table ++ row ∷ [])) self.new }
@@ -96,12 +91,10 @@ impl Summaries {
         out: &mut Blocks,
     ) -> Result<(), NoMemory>
         requires few { rows < 2 ^ 32 }
-        requires rows { (schema : Schema) × (tables : List (List Row)) × AreSummaries schema tables self.now × IsQueryFor schema query.now × (length (rows_at tables query.now.table) ≡ rows) × (rows_per_page ≡ rows_per_page_at schema query.now.table) }
-        ensures blocks { (schema : Schema) (tables : List (List Row)) → AreSummaries schema tables self.now → IsQueryFor schema query.now → length (rows_at tables query.now.table) ≡ rows
-            → rows_per_page ≡ rows_per_page_at schema query.now.table
+        requires rows { (schema : Schema) × (tables : List (List Row)) × AreFor schema tables self.now query.now rows rows_per_page }
+        ensures blocks { (schema : Schema) (tables : List (List Row)) → AreFor schema tables self.now query.now rows rows_per_page
             → OnOk result (out.new ≡ out.old ++ blocks_kept schema query.now.table (rows_at tables query.now.table) query.now.conds) }
-        ensures covers { (schema : Schema) (tables : List (List Row)) → AreSummaries schema tables self.now → IsQueryFor schema query.now → length (rows_at tables query.now.table) ≡ rows
-            → rows_per_page ≡ rows_per_page_at schema query.now.table
+        ensures covers { (schema : Schema) (tables : List (List Row)) → AreFor schema tables self.now query.now rows rows_per_page
             → OnOk result (CoversMatches (rows_at tables query.now.table) query.now rows_per_page (blocks_kept schema query.now.table (rows_at tables query.now.table) query.now.conds)) }
     {
         let extent = (rows as u32).div_ceil(u32::from(rows_per_page));
@@ -141,7 +134,7 @@ fn make_room_in_each(
     Ok(())
 }
 
-/// What the limits of a layout say of its indexes.
+/// Does nothing; tells its caller what the limits of a layout say of its indexes.
 fn lawful(layout: &Layout)
     ensures { HasLawfulIndexes layout.now.schema }
 {
@@ -181,14 +174,4 @@ fn next_run(
         }
     }
     Run { end, kept: true }
-}
-
-/// Adds one at the end.
-fn push(of_indexes: &mut Vec<IndexRanges>, ranges: IndexRanges) -> Result<(), NoMemory>
-    ensures { OnOk result (of_indexes.new.items ≡ of_indexes.old.items ++ ranges ∷ []) }
-{
-    match of_indexes.push(ranges) {
-        Ok(()) => Ok(()),
-        Err(_) => Err(NoMemory),
-    }
 }

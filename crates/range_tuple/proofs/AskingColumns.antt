@@ -1,7 +1,7 @@
 -- a column that is asked misses no row that it includes
 use Rattle.std.proofs.Common.{◌≡◌, ℕ, Bool, true, false, not, cond, ◌&&◌, ◌||◌, ◌==◌, Option, None, Some, List, [], ◌∷◌, slice_get, get_or, refl, sym, ap, ◌∙◌, eqb-true}
 use Rattle.std.specs.List.{list_all, AllPass}
-use Rattle.std.proofs.lemmas.Bool.{false≢true, and_parts, and_from, false_from_ne_true}
+use Rattle.std.proofs.lemmas.Bool.{false≢true, and_parts, and_from, false_from_ne_true, true_from_ne_false}
 use Rattle.std.proofs.lemmas.List.Sums.{AllPass-from_list_all, list_all-from_AllPass}
 use Rattle.block_model.specs.declared.row.Cond.{Cond}
 use Rattle.block_model.specs.declared.value.Op.{Op}
@@ -57,10 +57,6 @@ cond_allowed : (column : IndexedColumn) (m : Bool) (row : List Value) (v : Value
 cond_allowed column m row v c false same there within may met = refl
 cond_allowed column m row v c true same there within may met =
     op_allowed column m v c.op c.key within may (sym (ap (λ (o : Option Value). value_there_matches o c) (ap (slice_get row) (eqb-true c.column column.place same) ∙ there)) ∙ met)
-
-true_from_ne_false : (b : Bool) → (b ≡ false → ⊥) → b ≡ true
-true_from_ne_false true other = refl
-true_from_ne_false false other = absurd (other refl)
 
 misses_there : (column : IndexedColumn) (m : Bool) (conds : List Cond) (row : List Value) (o : Option Value) → (m ≡ false → has_values column.state ≡ true → (v : Value) → includes column.class column.summary v → meets_all (comparisons column.place conds) v ≡ false) → list_all (allows_cond column m) conds ≡ false → slice_get row column.place ≡ o → IncludesThere column o → list_all (column_matches row) conds ≡ false
 misses_there column m conds row None may none is within = absurd within

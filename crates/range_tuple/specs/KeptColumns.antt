@@ -7,7 +7,7 @@ use Rattle.range_tuple.specs.declared.classes.AnySummary.{AnySummary}
 use Rattle.range_tuple.specs.declared.state.NullState.{NullState}
 
 -- beside the column: the bytes of the summary of no value, by which it is read again, and the room that a length has
-pub record IsKept (class : AnyClass) (state : NullState) (summary : AnySummary) (blank : List ℕ) : Type 0 where
+pub record IsColumnKept (class : AnyClass) (state : NullState) (summary : AnySummary) (blank : List ℕ) : Type 0 where
   pub in_state : IsSummaryIn class state summary
   pub empty_of_class : is_of class (empty class)
   pub blank_bytes : blank ≡ bytes_of class (empty class)

@@ -38,5 +38,5 @@ abbrev pub ColumnTakes : List Value → IndexedColumn → Type 0
 ColumnTakes values column = TakesThere column.class (slice_get values column.place)
 
 -- the row has a value for each column, null or of its class's kind
-abbrev pub TakesRow : Tuple → List Value → Type 0
-TakesRow t values = All (ColumnTakes values) t.columns
+abbrev pub TupleTakesRow : Tuple → List Value → Type 0
+TupleTakesRow t values = All (ColumnTakes values) t.columns

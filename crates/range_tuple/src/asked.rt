@@ -1,24 +1,22 @@
-// The conditions asked of one column.
+//! The conditions asked of one column.
 
 ghost use Rattle.std.specs.Prelude.{◌≡◌, ◌<◌, ◌≤◌, ◌==◌, ◌&&◌, [], ◌∷◌, ◌++◌, length};
+ghost use Rattle.block_model.specs.declared.limits.TheConstants.{MAX_CONDITIONS};
 ghost use Rattle.opclass_api.specs.Conditions.{compares};
 ghost use Rattle.range_tuple.specs.Keeps.{comparisons};
 
-use block_model::row::Cond;
-use block_model::value::{Op, Value};
+use block_model::{Cond, MAX_CONDITIONS, Op, Value};
 use std::marker::Model;
-
-/// How many conditions a query has at most.
-pub(crate) const MAX_CONDS: usize = 16;
 
 /// Up to sixteen conditions, seen as their list.
 #[derive(Drop)]
 pub(crate) struct Asked {
-    slots: [Cond; MAX_CONDS],
+    slots: [Cond; MAX_CONDITIONS],
     len: usize,
 }
 
 impl Model for Asked {
+    ghost use Rattle.block_model.specs.declared.limits.TheConstants.{MAX_CONDITIONS};
     ghost use Rattle.std.specs.Prelude.{List, take, ◌≤◌};
     ghost use Rattle.block_model.specs.declared.row.Cond.{Cond as OneCond};
 
@@ -26,7 +24,7 @@ impl Model for Asked {
 
     ghost view = { λ a. take a.len a.slots };
 
-    ghost invariant = { λ a. a.len ≤ 16 };
+    ghost invariant = { λ a. a.len ≤ MAX_CONDITIONS };
 }
 
 impl Asked {
@@ -39,13 +37,13 @@ impl Asked {
             key: Value::Null,
         };
         Asked {
-            slots: [none; MAX_CONDS],
+            slots: [none; MAX_CONDITIONS],
             len: 0,
         }
     }
 
     fn push(&mut self, cond: Cond)
-        requires { length self.old < 16 }
+        requires { length self.old < MAX_CONDITIONS }
         ensures { self.new ≡ self.old ++ cond ∷ [] }
     {
         self.slots[self.len] = cond;
@@ -54,7 +52,7 @@ impl Asked {
 
     /// The conditions on a column that compare with a key. Takes no memory.
     pub(crate) fn of(place: u8, conds: &[Cond]) -> Asked
-        requires { length conds.now ≤ 16 }
+        requires { length conds.now ≤ MAX_CONDITIONS }
         ensures { result ≡ comparisons place conds.now }
     {
         let mut asked = Asked::new();

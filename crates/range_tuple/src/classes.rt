@@ -1,27 +1,21 @@
-// The five forms of operator class as one class. This module alone names them.
+//! The five forms of operator class as one class. This module alone names them.
 
 ghost use Rattle.std.specs.Prelude.{◌≡◌, true};
 ghost use Rattle.block_model.specs.declared.schema.Class.{Class};
 ghost use Rattle.block_model.specs.declared.value.Kind.{Kind};
 ghost use Rattle.block_model.specs.declared.value.Value.{Value};
-ghost use Rattle.block_model.specs.Limits.{takes_kind, has_lawful_parameters};
+ghost use Rattle.block_model.specs.ClassLimits.{takes_kind, has_lawful_parameters};
 ghost use Rattle.block_model.specs.TupleSize.{summary_size};
 ghost use Rattle.range_tuple.specs.KindValues.{IsOfKind};
 ghost use Rattle.range_tuple.specs.TupleIncludes.{TakesValue};
 ghost use Rattle.range_tuple.specs.AnyClass.{class_of, takes, is_of, includes, empty, add, united, consistent, bytes_of, greatest_size};
 
-use block_model::NoMemory;
-use block_model::row::Cond;
-use block_model::schema::Class;
-use block_model::value::{Kind, Value};
-use opclass_api::class::{Malformed, OpClass};
-use opclass_bloom::class::Bloom;
-use opclass_inclusion::net_class::NetHull;
-use opclass_inclusion::net_summary::NetSummary;
-use opclass_inclusion::span_class::SpanHull;
-use opclass_inclusion::span_summary::SpanSummary;
-use opclass_minmax::class::MinMax;
-use opclass_multi::class::Multi;
+use block_model::{Class, Cond, Kind, NoMemory, Value};
+use opclass_api::{Malformed, OpClass};
+use opclass_bloom::Bloom;
+use opclass_inclusion::{NetHull, NetSummary, SpanHull, SpanSummary};
+use opclass_minmax::MinMax;
+use opclass_multi::Multi;
 use std::alloc::Global;
 
 /// An operator class with its parameters.
@@ -37,11 +31,11 @@ pub enum AnyClass {
 /// A summary of one of these classes.
 #[derive(Debug, Drop)]
 pub enum AnySummary {
-    MinMax(opclass_minmax::summary::Summary),
-    Multi(opclass_multi::summary::Summary),
+    MinMax(opclass_minmax::Summary),
+    Multi(opclass_multi::Summary),
     SpanHull(SpanSummary),
     NetHull(NetSummary),
-    Bloom(opclass_bloom::summary::Summary),
+    Bloom(opclass_bloom::Summary),
 }
 
 impl AnyClass {

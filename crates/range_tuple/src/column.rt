@@ -1,6 +1,7 @@
-// An indexed column of a tuple.
+//! An indexed column of a tuple.
 
 ghost use Rattle.std.specs.Prelude.{◌≡◌, ◌≢◌, ◌<◌, ◌≤◌, ◌+◌, ◌++◌, true, false, List, [], length, drop, IfOk, IsOk, Ok, ℕ, IfErr, OnErr, OnOk};
+ghost use Rattle.block_model.specs.declared.limits.TheConstants.{MAX_CONDITIONS};
 ghost use Rattle.std.specs.List.{list_all};
 ghost use Rattle.block_model.specs.declared.value.Value.{Value};
 ghost use Rattle.block_model.specs.RowMatches.{column_matches};
@@ -16,11 +17,9 @@ ghost use Rattle.range_tuple.specs.Tuples.{IndexedColumn, IsColumn, part_of, wit
 use crate::asked::Asked;
 use crate::classes::{AnyClass, AnySummary};
 use crate::state::NullState;
-use block_model::NoMemory;
-use block_model::row::Cond;
-use block_model::value::{Op, Value};
+use block_model::{Cond, NoMemory, Op, Value};
 use byte_fields::{get_u16, put_u16};
-use opclass_api::class::{Malformed, OpClass};
+use opclass_api::{Malformed, OpClass};
 use std::alloc::Global;
 use std::marker::Model;
 
@@ -43,11 +42,11 @@ impl Model for TupleColumn {
 
     ghost Value = { IndexedColumn };
 
-    ghost use Rattle.range_tuple.specs.KeptColumns.{IsKept};
+    ghost use Rattle.range_tuple.specs.KeptColumns.{IsColumnKept};
 
     ghost view = { λ a. record { place = a.place; class = a.class; state = a.state; summary = a.summary } };
 
-    ghost invariant = { λ a. IsKept a.class a.state a.summary a.blank.items };
+    ghost invariant = { λ a. IsColumnKept a.class a.state a.summary a.blank.items };
 }
 
 impl TupleColumn {
@@ -67,7 +66,7 @@ impl TupleColumn {
         })
     }
 
-    /// Every column is one.
+    /// Does nothing; tells its caller that every column is one. The call of the class brings what the class knows of sizes.
     pub(crate) fn known(&self)
         ensures column { IsColumn self.now }
         ensures fits { (s : AnySummary) → is_of self.now.class s → length (bytes_of self.now.class s) < 65536 }
@@ -164,7 +163,7 @@ impl TupleColumn {
 
     /// Whether the column allows each condition on it. One that doesn't includes no row that matches them.
     pub(crate) fn allows(&self, conds: &[Cond]) -> bool
-        requires { length conds.now ≤ 16 }
+        requires { length conds.now ≤ MAX_CONDITIONS }
         ensures answer { result ≡ column_allows conds.now self.now }
         ensures misses_no_match { result ≡ false → (row : List Value) → ColumnIncludes row self.now → list_all (column_matches row) conds.now ≡ false }
     {
@@ -278,9 +277,7 @@ fn encoded(alloc: Global, class: &AnyClass, summary: &AnySummary) -> Result<Vec<
     requires { is_of class.now summary.now }
     ensures { IfOk result (λ bytes. bytes.items ≡ bytes_of class.now summary.now) }
 {
-    let Ok(mut bytes) = vec![in alloc; 0u8; class.greatest_size()] else {
-        return Err(NoMemory);
-    };
+    let mut bytes = vec![in alloc; 0u8; class.greatest_size()]?;
     let size = class.encode(summary, &mut bytes);
     bytes.truncate(size);
     Ok(bytes)

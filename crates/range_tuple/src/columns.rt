@@ -1,10 +1,11 @@
-// The columns of a tuple, one after the other.
+//! The columns of a tuple, one after the other.
 
 ghost use Rattle.std.specs.Prelude.{◌≡◌, ◌≢◌, ◌<◌, ◌≤◌, ◌+◌, ◌++◌, true, false, All, List, length, map, drop, sum_by, IfOk, IsOk, OnOk, IfErr};
+ghost use Rattle.block_model.specs.declared.limits.TheConstants.{MAX_CONDITIONS};
 ghost use Rattle.std.specs.List.{list_all};
 ghost use Rattle.block_model.specs.declared.value.Value.{Value};
 ghost use Rattle.block_model.specs.IndexedColumns.{columns_of, kind_at};
-ghost use Rattle.block_model.specs.Limits.{class_is_lawful};
+ghost use Rattle.block_model.specs.ClassLimits.{class_is_lawful};
 ghost use Rattle.block_model.specs.RowMatches.{column_matches};
 ghost use Rattle.block_model.specs.TupleSize.{part_size};
 ghost use Rattle.range_tuple.specs.AnyClass.{class_of};
@@ -15,11 +16,8 @@ ghost use Rattle.range_tuple.specs.Tuples.{IndexedColumn, IsColumn, empty_column
 
 use crate::classes::AnyClass;
 use crate::column::TupleColumn;
-use block_model::NoMemory;
-use block_model::row::Cond;
-use block_model::schema::{Column, Index, Part, Schema};
-use block_model::value::{Kind, Value};
-use opclass_api::class::Malformed;
+use block_model::{Column, Cond, Index, Kind, NoMemory, Part, Schema, Value, columns_of, kind_at};
+use opclass_api::Malformed;
 use std::alloc::Global;
 
 /// The columns of an index, in which nothing was added. Takes the memory of their summaries.
@@ -36,20 +34,9 @@ pub(crate) fn new_columns(
     let mut columns = Vec::new(alloc);
     'parts: for part in index.parts.as_slice() {
         let column = new_column(alloc, part, columns_of(schema, index))?;
-        if columns.push(column).is_err() {
-            return Err(NoMemory);
-        }
+        columns.push(column)?;
     }
     Ok(columns)
-}
-
-fn columns_of<'a>(schema: &'a Schema, index: &Index) -> &'a [Column]
-    ensures { result.now ≡ columns_of schema.now index.now }
-{
-    match schema.tables.as_slice().get(usize::from(index.table)) {
-        Some(table) => table.columns.as_slice(),
-        None => &[],
-    }
 }
 
 fn new_column(alloc: Global, part: &Part, columns: &[Column]) -> Result<TupleColumn, NoMemory>
@@ -60,15 +47,6 @@ fn new_column(alloc: Global, part: &Part, columns: &[Column]) -> Result<TupleCol
 {
     let class = AnyClass::of(part.class, kind_at(columns, part.column));
     TupleColumn::new(alloc, part.column, class)
-}
-
-fn kind_at(columns: &[Column], at: u8) -> Kind
-    ensures { result ≡ kind_at columns.now at }
-{
-    match columns.get(usize::from(at)) {
-        Some(column) => column.kind,
-        None => Kind::Int,
-    }
 }
 
 /// Every column is one.
@@ -123,7 +101,7 @@ pub(crate) fn have_nothing(columns: &[TupleColumn]) -> bool
 
 /// Whether each column allows the conditions. Where one doesn't, they include no row that matches them.
 pub(crate) fn all_allow(columns: &[TupleColumn], conds: &[Cond]) -> bool
-    requires { length conds.now ≤ 16 }
+    requires { length conds.now ≤ MAX_CONDITIONS }
     ensures answer { result ≡ list_all (column_allows conds.now) columns.now }
     ensures misses_no_match { result ≡ false → (row : List Value) → All (ColumnIncludes row) columns.now → list_all (column_matches row) conds.now ≡ false }
 {

@@ -1,4 +1,4 @@
-// Which of nulls and values rows had in a column.
+//! Which of nulls and values rows had in a column.
 
 ghost use Rattle.std.specs.Prelude.{◌≡◌, ◌<◌, Some, IfSome, IfNone};
 ghost use Rattle.range_tuple.specs.NullStates.{number_of, state_of, has_nulls, has_values};

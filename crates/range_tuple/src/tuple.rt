@@ -1,15 +1,16 @@
-// Range tuples.
+//! Range tuples.
 
 ghost use Rattle.std.specs.Prelude.{◌≡◌, ◌≢◌, ◌<◌, ◌≤◌, ◌++◌, true, false, List, length, drop, IfOk, IfSome, IfNone, IsOk, OnOk, OnErr, IfErr};
+ghost use Rattle.block_model.specs.declared.limits.TheConstants.{MAX_CONDITIONS};
 ghost use Rattle.std.specs.List.{list_all};
 ghost use Rattle.block_model.specs.declared.value.Value.{Value};
 ghost use Rattle.block_model.specs.IndexedColumns.{columns_of};
-ghost use Rattle.block_model.specs.Limits.{class_is_lawful};
+ghost use Rattle.block_model.specs.ClassLimits.{class_is_lawful};
 ghost use Rattle.block_model.specs.RowMatches.{column_matches};
 ghost use Rattle.block_model.specs.TupleSize.{tuple_size};
 ghost use Rattle.range_tuple.specs.Keeps.{keeps};
 ghost use Rattle.range_tuple.specs.TupleBytes.{tuple_bytes, flags_of};
-ghost use Rattle.range_tuple.specs.TupleIncludes.{TupleIncludes, TakesRow};
+ghost use Rattle.range_tuple.specs.TupleIncludes.{TupleIncludes, TupleTakesRow};
 ghost use Rattle.range_tuple.specs.Tuples.{Tuple, IsTuple, empty_placeholder, with_row, united_tuple, parts_of, tuple_room};
 
 use crate::column::TupleColumn;
@@ -17,12 +18,9 @@ use crate::columns::{
     add_to_each, all_allow, have_nothing, known, new_columns, read_each, room_of, unite_each,
     write_each,
 };
-use block_model::NoMemory;
-use block_model::row::Cond;
-use block_model::schema::{Index, Schema};
-use block_model::value::Value;
+use block_model::{Cond, Index, NoMemory, Schema, Value};
 use byte_fields::{get_u32, put_u32};
-use opclass_api::class::Malformed;
+use opclass_api::Malformed;
 use std::alloc::Global;
 use std::marker::Model;
 use std::mem;
@@ -87,7 +85,7 @@ impl RangeTuple {
 
     /// Adds a row; answers whether the tuple changed.
     pub fn add_row(&mut self, values: &[Value]) -> bool
-        requires { TakesRow self.old values.now }
+        requires { TupleTakesRow self.old values.now }
         ensures widened { self.new ≡ with_row values.now self.old }
         ensures includes_the_row { TupleIncludes self.new values.now }
         ensures keeps_what_it_included { (row : List Value) → TupleIncludes self.old row → TupleIncludes self.new row }
@@ -120,7 +118,7 @@ impl RangeTuple {
     /// Whether the range may hold a row that matches the conditions, which are at most sixteen. A tuple that doesn't keep
     /// them is final, and includes no row that matches them all. Takes no memory.
     pub fn keeps(&self, conds: &[Cond]) -> bool
-        requires { length conds.now ≤ 16 }
+        requires { length conds.now ≤ MAX_CONDITIONS }
         ensures answer { result ≡ keeps self.now conds.now }
         ensures misses_no_match { result ≡ false → (row : List Value) → TupleIncludes self.now row → list_all (column_matches row) conds.now ≡ false }
     {

@@ -7,6 +7,7 @@ use Rattle.std.specs.FinMap.{get, insert, remove, find, get-from_entries, get-in
 use Rattle.std.proofs.lemmas.Bool.{false≢true, cases_lt}
 use Rattle.std.proofs.lemmas.List.{get_or-set_same, get_or-set_other, get_or_past, length-set}
 use Rattle.block_model.specs.DatabaseState.{DatabaseState, OpenTransaction}
+use Rattle.statements.specs.declared.limits.TheConstants.{MAX_SESSIONS}
 use Rattle.snapshot_core.specs.declared.statuses.Status.{Status}
 use Rattle.row_versions.specs.declared.table.Version.{Version}
 use Rattle.row_versions.specs.declared.sessions.Open.{Open}
@@ -138,8 +139,8 @@ standing_is vs ss os n o s view was = ap standing_of (sym (ap (λ (s : DatabaseS
 pub becomes : (os os' : List (Option Open)) (n : ℕ) (o : Option Open) → n < length os → os' ≡ set os n o → Becomes os os' n o
 becomes os os' n o below is = subst (λ (l : List (Option Open)). Becomes os l n o) (sym is) (becomes-set os n o below)
 
-pub still_64 : (os os' : List (Option Open)) (n : ℕ) (o : Option Open) → length os ≡ 64 → os' ≡ set os n o → length os' ≡ 64
-still_64 os os' n o places is = ap length is ∙ length-set os n o ∙ places
+pub still_all : (os os' : List (Option Open)) (n : ℕ) (o : Option Open) → length os ≡ MAX_SESSIONS → os' ≡ set os n o → length os' ≡ MAX_SESSIONS
+still_all os os' n o places is = ap length is ∙ length-set os n o ∙ places
 
 -- an open one stands at a place
 open_below : (os : List (Option Open)) (n : ℕ) (o : Open) → transaction_of os n ≡ Some o → n < length os
@@ -150,10 +151,10 @@ rewritten os os' n o p was is = becomes os os' n p (open_below os n o was) is
 
 -- what the failure of a session's transaction says of it
 pub failed_by : (os os' : List (Option Open)) (n : ℕ) → IsSome (transaction_of os n) → IfSome (transaction_of os n) (λ o. os' ≡ set os n (Some (failed_open o)))
-    → (o : Open) × (transaction_of os n ≡ Some o) × Becomes os os' n (Some (failed_open o)) × (length os ≡ 64 → length os' ≡ 64)
+    → (o : Open) × (transaction_of os n ≡ Some o) × Becomes os os' n (Some (failed_open o)) × (length os ≡ MAX_SESSIONS → length os' ≡ MAX_SESSIONS)
 failed_by os os' n there is =
     elim (transaction_of os n) as (λ p. transaction_of os n ≡ p → IsSome p → IfSome p (λ o. os' ≡ set os n (Some (failed_open o)))
-    → (o : Open) × (transaction_of os n ≡ Some o) × Becomes os os' n (Some (failed_open o)) × (length os ≡ 64 → length os' ≡ 64)) [
+    → (o : Open) × (transaction_of os n ≡ Some o) × Becomes os os' n (Some (failed_open o)) × (length os ≡ MAX_SESSIONS → length os' ≡ MAX_SESSIONS)) [
       | None ↦ λ e there is. absurd (false≢true there)
-      | Some o ↦ λ e there is. (o, e, rewritten os os' n o (Some (failed_open o)) e is, λ places. still_64 os os' n (Some (failed_open o)) places is)
+      | Some o ↦ λ e there is. (o, e, rewritten os os' n o (Some (failed_open o)) e is, λ places. still_all os os' n (Some (failed_open o)) places is)
     ] refl there is

@@ -15,7 +15,7 @@ use Rattle.block_model.specs.RowMatches.{row_matches, column_matches}
 use Rattle.block_model.specs.DatabaseState.{DatabaseState}
 use Rattle.block_model.specs.RequestEffect as model
 use Rattle.snapshot_core.specs.declared.statuses.Status.{Status}
-use Rattle.query_words.specs.StatementRequests.{request_entry}
+use Rattle.statements.specs.StatementRequests.{request_entry}
 use Rattle.row_versions.specs.declared.table.Version.{Version}
 use Rattle.row_versions.specs.declared.sessions.Open.{Open}
 use Rattle.row_versions.specs.declared.versions.Hit.{Hit}

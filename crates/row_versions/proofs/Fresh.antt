@@ -10,6 +10,7 @@ use Rattle.std.proofs.lemmas.List.{length-replicate}
 use Rattle.std.proofs.lemmas.List.Elements.{All-nil}
 use Rattle.block_model.specs.declared.row.Row.{Row}
 use Rattle.block_model.specs.DatabaseState.{initial_state}
+use Rattle.statements.specs.declared.limits.TheConstants.{MAX_SESSIONS}
 use Rattle.snapshot_core.specs.declared.statuses.Status.{Status}
 use Rattle.snapshot_core.specs.declared.statuses.Status.TheVariants.{Unused, Begun}
 use Rattle.row_versions.specs.declared.table.Version.{Version}
@@ -48,8 +49,8 @@ no_rows = refl
 empty_parts : (n : ℕ) → visible_state [] (Unused ∷ []) (replicate n None) ≡ initial_state
 empty_parts n = λ i. record { next = 1; table = no_rows i; sessions = no_sessions n i }
 
-pub empty_state : (ts : List (List Version)) (ss : List Status) (os : List (Option Open)) (n : ℕ) → ts ≡ replicate n [] → ss ≡ Unused ∷ [] → os ≡ replicate 64 None → visible_state (all_versions ts) ss os ≡ initial_state
-empty_state ts ss os n a b c = (λ i. visible_state (all_versions (a i)) (b i) (c i)) ∙ ap (λ (vs : List Version). visible_state vs (Unused ∷ []) (replicate 64 None)) (nothing_in n) ∙ empty_parts 64
+pub empty_state : (ts : List (List Version)) (ss : List Status) (os : List (Option Open)) (n : ℕ) → ts ≡ replicate n [] → ss ≡ Unused ∷ [] → os ≡ replicate MAX_SESSIONS None → visible_state (all_versions ts) ss os ≡ initial_state
+empty_state ts ss os n a b c = (λ i. visible_state (all_versions (a i)) (b i) (c i)) ∙ ap (λ (vs : List Version). visible_state vs (Unused ∷ []) (replicate MAX_SESSIONS None)) (nothing_in n) ∙ empty_parts MAX_SESSIONS
 
 none_begun : (t : ℕ) → status_of (Unused ∷ []) t ≢ Begun
 none_begun zero e = false≢true (ap holds e)
@@ -67,14 +68,14 @@ stored_parts n = record {
   begun = λ t nobody_has. none_begun t;
 }
 
-empty_versions : (n : ℕ) → AreVersions (replicate n []) (Unused ∷ []) (replicate 64 None)
+empty_versions : (n : ℕ) → AreVersions (replicate n []) (Unused ∷ []) (replicate MAX_SESSIONS None)
 empty_versions n = record {
-  places = length-replicate {A = Option Open} 64 None;
+  places = length-replicate {A = Option Open} MAX_SESSIONS None;
   own_table = λ table. subst (All (λ (v : Version). v.row.table ≡ table)) (sym (nothing_at n table)) (All-nil (λ (v : Version). v.row.table ≡ table));
-  stored = subst (λ (vs : List Version). IsStored vs (Unused ∷ []) (replicate 64 None)) (sym (nothing_in n)) (stored_parts 64);
+  stored = subst (λ (vs : List Version). IsStored vs (Unused ∷ []) (replicate MAX_SESSIONS None)) (sym (nothing_in n)) (stored_parts MAX_SESSIONS);
 }
 
-pub new_versions : (ts : List (List Version)) (ss : List Status) (os : List (Option Open)) (n : ℕ) → ts ≡ replicate n [] → ss ≡ Unused ∷ [] → os ≡ replicate 64 None → AreVersions ts ss os
+pub new_versions : (ts : List (List Version)) (ss : List Status) (os : List (Option Open)) (n : ℕ) → ts ≡ replicate n [] → ss ≡ Unused ∷ [] → os ≡ replicate MAX_SESSIONS None → AreVersions ts ss os
 new_versions ts ss os n a b c =
     subst (λ (ts : List (List Version)). AreVersions ts ss os) (sym a)
     (subst (λ (ss : List Status). AreVersions (replicate n []) ss os) (sym b)

@@ -10,7 +10,7 @@ use Rattle.block_model.specs.DatabaseState.{DatabaseState, OpenTransaction}
 use Rattle.block_model.specs.RequestEffect as model
 use Rattle.snapshot_core.specs.declared.statuses.Status.{Status}
 use Rattle.snapshot_core.specs.Visibility.{is_committed}
-use Rattle.query_words.specs.StatementRequests.{request_entry}
+use Rattle.statements.specs.StatementRequests.{request_entry}
 use Rattle.row_versions.specs.declared.table.Version.{Version}
 use Rattle.row_versions.specs.declared.sessions.Open.{Open}
 use Rattle.row_versions.specs.VisibleState.{status_of, is_of_commit, is_seen, is_marked, ids_of, visible_transaction, visible_state}

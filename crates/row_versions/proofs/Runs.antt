@@ -21,7 +21,7 @@ use Rattle.block_model.specs.DatabaseState.{DatabaseState, OpenTransaction}
 use Rattle.block_model.specs.RequestEffect as model
 use Rattle.block_model.specs.SerialRun.{serial_run, replies_to}
 use Rattle.snapshot_core.specs.declared.statuses.Status.{Status}
-use Rattle.query_words.specs.StatementRequests.{request_entry, mark_entry, mark_entries, marks_reply, unless_conflict}
+use Rattle.statements.specs.StatementRequests.{request_entry, mark_entry, mark_entries, marks_reply, unless_conflict}
 use Rattle.row_versions.specs.declared.table.Version.{Version}
 use Rattle.row_versions.specs.declared.sessions.Open.{Open}
 use Rattle.row_versions.specs.declared.versions.Hit.{Hit}

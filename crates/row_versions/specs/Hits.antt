@@ -11,7 +11,7 @@ use Rattle.block_model.specs.declared.reply.Reply.TheVariants as replies
 use Rattle.block_model.specs.declared.reply.Refusal.TheVariants as refusals
 use Rattle.block_model.specs.DatabaseState.{OpenTransaction}
 use Rattle.block_model.specs.RequestEffect.{rows_found}
-use Rattle.query_words.specs.StatementRequests.{request_entry}
+use Rattle.statements.specs.StatementRequests.{request_entry}
 use Rattle.row_versions.specs.declared.versions.Hit.{Hit}
 use Rattle.row_versions.specs.VersionsState.{VersionsState, rows_at}
 

@@ -6,6 +6,7 @@ use Rattle.std.specs.BTreeMap.{is_at}
 use Rattle.std.specs.Map.{lookup}
 use Rattle.block_model.specs.declared.row.RowId.{RowId}
 use Rattle.block_model.specs.TableState.{id_cmp}
+use Rattle.statements.specs.declared.limits.TheConstants.{MAX_SESSIONS}
 use Rattle.snapshot_core.specs.declared.statuses.Status.{Status}
 use Rattle.snapshot_core.specs.declared.statuses.Status.TheVariants.{Unused, Begun}
 use Rattle.snapshot_core.specs.Visibility.{is_committed, had_ended}
@@ -53,8 +54,8 @@ pub record IsStored (versions : List Version) (statuses : List Status) (sessions
   pub apart : (m n : ℕ) (o p : Open) → transaction_of sessions m ≡ Some o → transaction_of sessions n ≡ Some p → m ≢ n → AreApart o p
   pub begun : (t : ℕ) → ((session : ℕ) (o : Open) → transaction_of sessions session ≡ Some o → o.t ≢ t) → status_of statuses t ≢ Begun
 
--- there are 64 places for sessions, and each row is of its table
+-- there is a place for each session, and each row is of its table
 pub record AreVersions (tables : List (List Version)) (statuses : List Status) (sessions : List (Option Open)) : Type 0 where
-  pub places : length sessions ≡ 64
+  pub places : length sessions ≡ MAX_SESSIONS
   pub own_table : (table : ℕ) → All (λ v. v.row.table ≡ table) (versions_at tables table)
   pub stored : IsStored (all_versions tables) statuses sessions

@@ -1,4 +1,4 @@
-// Which rows of a table a query finds.
+//! Which rows of a table a query finds.
 
 ghost use Rattle.std.specs.Prelude.{◌≡◌, ◌+◌, ◌^◌, ◌<◌, IfOk, OnOk, [], ◌∷◌, ◌++◌, length, take, drop, map, All, IsPermutation, IsSorted, slice_index_or};
 ghost use Rattle.std.specs.List.{flat_map};
@@ -11,8 +11,7 @@ use crate::judging::{is_seen, sees_at};
 use crate::sessions::Open;
 use crate::table::Version;
 use crate::versions::Hit;
-use block_model::NoMemory;
-use block_model::row::{Query, Rows, row_matches};
+use block_model::{NoMemory, Query, Rows, row_matches};
 use snapshot_core::Status;
 use std::alloc::Global;
 
@@ -55,7 +54,7 @@ fn find_in_blocks(
     ensures { IfOk result (λ hits. hits.items ≡ flat_map (places_in_block (answers statuses.now «open».now query.now) rows_per_page versions.now) blocks.now) }
 {
     let mut hits = Vec::new(alloc);
-    'finding: for block in blocks {
+    'pages: for block in blocks {
         let from = *block as usize * rows_per_page as usize;
         let page = versions_from(versions, from, rows_per_page as usize);
         find_among(&mut hits, page, from, statuses, open, query)?;
@@ -87,32 +86,20 @@ fn find_among(
     let mut judged = open.t;
     let mut sees_judged = sees_at(statuses, open, judged, 0);
     let mut place = from;
-    'reading: for version in versions {
+    'versions: for version in versions {
         if version.row.id.t != judged {
             judged = version.row.id.t;
             sees_judged = sees_at(statuses, open, judged, 0);
         }
         if is_seen(version, sees_judged, statuses, open) && row_matches(&version.row, query) {
-            push_hit(
-                hits,
-                Hit {
-                    id: version.row.id,
-                    place,
-                },
-            )?;
+            hits.push(Hit {
+                id: version.row.id,
+                place,
+            })?;
         }
         place += 1;
     }
     Ok(())
-}
-
-fn push_hit(hits: &mut Vec<Hit>, hit: Hit) -> Result<(), NoMemory>
-    ensures { OnOk result (hits.new.items ≡ hits.old.items ++ hit ∷ []) }
-{
-    match hits.push(hit) {
-        Ok(()) => Ok(()),
-        Err(_) => Err(NoMemory),
-    }
 }
 
 /// Brings them in order of their ids. Takes no memory, and time in proportion to their number where they are in order.
@@ -129,7 +116,7 @@ pub fn rows_at_hits(alloc: Global, versions: &[Version], hits: &[Hit]) -> Result
     ensures { IfOk result (λ found. (d : Version) → found ≡ map (λ hit. (slice_index_or versions.now hit.place d).row) hits.now) }
 {
     let mut found = Rows::new(alloc);
-    for hit in hits {
+    'hits: for hit in hits {
         found.push(versions[hit.place].row.copied())?;
     }
     Ok(found)

@@ -1,4 +1,4 @@
-// What a transaction sees of row versions, and may delete.
+//! What a transaction sees of row versions, and may delete.
 
 ghost use Rattle.std.specs.Prelude.{◌≡◌};
 ghost use Rattle.row_versions.specs.VisibleState.{status_of, sees_at, is_seen};

@@ -1,18 +1,15 @@
-// Row versions: for each table the rows in the order in which they were put, each with the transaction that deleted it; the
-// status of each transaction; and the sessions' open transactions with their snapshots. They are seen as the database whose
-// transactions each work on a copy of the tables, and each call is one request of it. It stands on block_model, snapshot_core
-// and the definitions of query_words. The layer above uses `Versions`.
+//! Row versions: for each table the rows in the order in which they were put, each with the transaction that deleted it; the
+//! status of each transaction; and the sessions' open transactions with their snapshots. They are seen as the database whose
+//! transactions each work on a copy of the tables, and each call is one request of it. It stands on block_model, statements and
+//! snapshot_core. The layer above uses `Versions`.
 #![tactic(auto)]
 
 mod finding;
 mod judging;
-mod list;
 mod marking;
 mod sessions;
 mod standing;
 mod table;
-#[cfg(test)]
-mod tests;
 mod versions;
 
 pub use standing::Standing;

@@ -1,17 +1,15 @@
-// The open transactions of the sessions, each at the place of its session.
+//! The open transactions of the sessions, each at the place of its session.
 
 ghost use Rattle.std.specs.Prelude.{◌≡◌, ◌+◌, ◌^◌, ◌<◌, ◌≤◌, [], length, slice_set, None, Some, IsSome, IsSomeAnd, IfSome, IfOk, replicate, vec_capacity};
 ghost use Rattle.std.specs.Option.{option_copied};
+ghost use Rattle.statements.specs.declared.limits.TheConstants.{MAX_SESSIONS};
 ghost use Rattle.row_versions.specs.StoredVersions.{transaction_of};
 ghost use Rattle.row_versions.specs.SessionChanges.{numbers_of, with_next_k, failed_open, ended};
 
-use crate::list::push_within;
 use block_model::NoMemory;
 use snapshot_core::{Snapshot, Status};
+use statements::MAX_SESSIONS;
 use std::alloc::Global;
-
-/// How many sessions there are.
-pub const MAX_SESSIONS: usize = 64;
 
 /// A session's transaction that is under way: its number, the place of its next row, what it sees of others, and whether
 /// it has failed.
@@ -25,13 +23,11 @@ pub struct Open {
 
 /// No transactions.
 pub fn no_transactions(alloc: Global) -> Result<Vec<Option<Open>>, NoMemory>
-    ensures { IfOk result (λ sessions. sessions.items ≡ replicate 64 None) }
+    ensures { IfOk result (λ sessions. sessions.items ≡ replicate MAX_SESSIONS None) }
 {
-    let Ok(mut sessions) = Vec::with_capacity(alloc, MAX_SESSIONS) else {
-        return Err(NoMemory);
-    };
-    'making: for _ in 0..MAX_SESSIONS {
-        push_within(&mut sessions, None);
+    let mut sessions = Vec::with_capacity(alloc, MAX_SESSIONS)?;
+    'sessions: for _ in 0..MAX_SESSIONS {
+        sessions.push_reserved(None);
     }
     Ok(sessions)
 }
@@ -65,9 +61,9 @@ pub fn numbers_of(sessions: &[Option<Open>], empty: Vec<u64>) -> Vec<u64>
     ensures { result.items ≡ numbers_of sessions.now }
 {
     let mut numbers = empty;
-    'numbering: for session in sessions {
+    'sessions: for session in sessions {
         if let Some(open) = session {
-            push_within(&mut numbers, open.t);
+            numbers.push_reserved(open.t);
         }
     }
     numbers

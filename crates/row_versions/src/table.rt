@@ -1,10 +1,9 @@
-// The row versions of a table.
+//! The row versions of a table.
 
 ghost use Rattle.std.specs.Prelude.{◌≡◌, ◌<◌, [], ◌∷◌, ◌++◌, length, slice_get, slice_set, IfSome, OnOk, OnErr};
 ghost use Rattle.row_versions.specs.Marks.{with_deleter};
 
-use block_model::NoMemory;
-use block_model::row::Row;
+use block_model::{NoMemory, Row};
 use std::alloc::Global;
 use std::marker::Model;
 
@@ -60,10 +59,8 @@ impl Table {
         ensures ok { OnOk result (self.new ≡ self.old ++ version ∷ []) }
         ensures err { OnErr result (self.new ≡ self.old) }
     {
-        match self.versions.push(version) {
-            Ok(()) => Ok(()),
-            Err(_) => Err(NoMemory),
-        }
+        self.versions.push(version)?;
+        Ok(())
     }
 
     /// The row at that place is deleted by the transaction of that number.

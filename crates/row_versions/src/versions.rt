@@ -1,4 +1,4 @@
-// Row versions, statuses and open transactions.
+//! Row versions, statuses and open transactions.
 
 ghost use Rattle.std.specs.Prelude.{◌≡◌, ◌+◌, ◌<◌, ◌≤◌, None, [], ◌∷◌, ◌++◌, length, take, map, OnOk, OnErr, IfOk, IfSome, MatchOption, if◌then◌else◌, slice_set, replicate, vec_capacity};
 ghost use Rattle.std.specs.FinMap as map_of;
@@ -6,31 +6,28 @@ ghost use Rattle.block_model.specs.declared.request.Request.TheVariants as reque
 ghost use Rattle.block_model.specs.DatabaseState.{initial_state};
 ghost use Rattle.block_model.specs.RequestEffect.{effect, after_failure, rows_found, Begun, Inserted, Found, Committed, RolledBack};
 ghost use Rattle.block_model.specs.SerialRun.{serial_run, replies_to};
-ghost use Rattle.query_words.specs.RowsPut.{row_put};
-ghost use Rattle.query_words.specs.StatementRequests.{request_entry, mark_entries, marks_reply};
+ghost use Rattle.statements.specs.declared.limits.TheConstants.{MAX_SESSIONS};
+ghost use Rattle.statements.specs.RowsPut.{row_put};
+ghost use Rattle.statements.specs.StatementRequests.{request_entry, mark_entries, marks_reply};
 ghost use Rattle.row_versions.specs.VersionsState.{HasTransaction, StandAtTheirIds, rows_at, standing_of};
 ghost use Rattle.row_versions.specs.CoversMatches.{CoversMatches};
 ghost use Rattle.row_versions.specs.Hits.{AreHits, mark_of, delete_reply};
 
 use crate::finding::{find_hits, rows_at_hits};
-use crate::list::push_within;
 use crate::marking::{count_marks, mark_hits};
 use crate::sessions::{
-    MAX_SESSIONS, Open, count_row, ended, fail_open, no_transactions, numbers_of, open_of,
-    set_open, take_open, transaction_of,
+    Open, count_row, ended, fail_open, no_transactions, numbers_of, open_of, set_open, take_open,
+    transaction_of,
 };
 use crate::standing::Standing;
 use crate::table::{Table, Version};
-use block_model::NoMemory;
-use block_model::place::Numbers;
-use block_model::row::{Query, Row, RowId, Rows};
-use block_model::value::Values;
+use block_model::{NoMemory, Numbers, Query, Row, RowId, Rows, Values};
 use snapshot_core::{Snapshot, Status};
+use statements::MAX_SESSIONS;
 use std::alloc::Global;
 use std::marker::Model;
 
-/// How many rows a transaction puts at most, since their places are numbered by a `u32`. Want of memory is answered there:
-/// a row takes 296 bytes, so as many take over a terabyte.
+/// How many rows a transaction puts at most, since their places are numbered by a `u32`. Want of memory is answered there.
 const MAX_PLACES: u32 = u32::MAX;
 
 /// A row that a delete found: its id, and its place among its table's rows.
@@ -40,12 +37,14 @@ pub struct Hit {
     pub place: usize,
 }
 
-/// The tables of a database, in memory, with the transactions of up to 64 sessions.
+/// The tables of a database, in memory, with the open transaction of each session.
 #[derive(Drop)]
 pub struct Versions {
     alloc: Global,
     tables: Vec<Table>,
+    /// How each transaction stands, by its number. Number 0 is of none.
     statuses: Vec<Status>,
+    /// Each session's open transaction.
     sessions: Vec<Option<Open>>,
 }
 
@@ -72,21 +71,20 @@ impl Versions {
     {
         let sessions = no_transactions(alloc)?;
         let mut statuses = Vec::new(alloc);
-        match statuses.push(Status::Unused) {
-            Ok(()) => Ok(Versions {
-                alloc,
-                tables: empty_tables(alloc, tables)?,
-                statuses,
-                sessions,
-            }),
-            Err(_) => Err(NoMemory),
-        }
+        statuses.push(Status::Unused)?;
+        Ok(Versions {
+            alloc,
+            tables: empty_tables(alloc, tables)?,
+            statuses,
+            sessions,
+        })
     }
 
-    /// What the layer above may take as known.
+    /// Does nothing; tells its caller that the rows of each session's copy stand at their ids.
     pub fn known(&self)
         ensures { StandAtTheirIds self.now.database }
     {
+        // The toolchain opens the invariant where a field is read.
         let _ = &self.sessions;
     }
 
@@ -95,7 +93,7 @@ impl Versions {
         requires { table < length self.now.tables }
         ensures { result ≡ length (rows_at self.now.tables table) }
     {
-        self.tables[table as usize].len()
+        self.tables[usize::from(table)].len()
     }
 
     /// How the session stands.
@@ -114,27 +112,25 @@ impl Versions {
         }
     }
 
-    /// Makes room for 64 begins.
+    /// Makes room for a begin of each session.
     pub fn make_room(&mut self) -> Result<(), NoMemory>
         ensures database { self.new.database ≡ self.old.database }
         ensures tables { self.new.tables ≡ self.old.tables }
-        ensures ok { OnOk result (64 ≤ self.new.room) }
+        ensures ok { OnOk result (MAX_SESSIONS ≤ self.new.room) }
         ensures kept { self.old.room ≤ self.new.room }
     {
-        match self.statuses.reserve(MAX_SESSIONS) {
-            Ok(()) => Ok(()),
-            Err(_) => Err(NoMemory),
-        }
+        self.statuses.reserve(MAX_SESSIONS)?;
+        Ok(())
     }
 
-    /// Begins a transaction of the session, and answers its number. `active` is empty, with room for 64 numbers. Takes no
-    /// memory.
+    /// Begins a transaction of the session, and answers its number. `active` is empty, with room for a number of
+    /// each session. Takes no memory.
     pub fn begin(&mut self, session: u32, active: Vec<u64>) -> u64
-        requires session { session < 64 }
+        requires session { session < MAX_SESSIONS }
         requires idle { map_of.get self.old.database.sessions session ≡ None }
         requires room { 0 < self.old.room }
         requires empty { active.items ≡ [] }
-        requires numbers { 64 ≤ vec_capacity active }
+        requires numbers { MAX_SESSIONS ≤ vec_capacity active }
         ensures database { effect self.old.database (request_entry session 0 requests.Begin) ≡ (self.new.database, Begun result) }
         ensures tables { self.new.tables ≡ self.old.tables }
         ensures room { self.old.room ≤ self.new.room + 1 }
@@ -151,7 +147,7 @@ impl Versions {
             failed: false,
         };
         set_open(&mut self.sessions, session, open);
-        push_within(&mut self.statuses, Status::Begun);
+        self.statuses.push_reserved(Status::Begun);
         t
     }
 
@@ -179,7 +175,8 @@ impl Versions {
     }
 
     /// The rows that the session's transaction sees and that meet the query, in order of their ids. Of the table's rows only
-    /// those of the given blocks are read, where each block has as many rows as said.
+    /// those of the given blocks are read, where each block has as many rows as said. Takes memory for the rows, and for
+    /// their ids and places.
     pub fn look(
         &self,
         session: u32,
@@ -306,10 +303,8 @@ fn empty_tables(alloc: Global, count: usize) -> Result<Vec<Table>, NoMemory>
     ensures { IfOk result (λ tables. tables.items ≡ replicate count []) }
 {
     let mut tables = Vec::new(alloc);
-    'making: for _ in 0..count {
-        let Ok(()) = tables.push(Table::new(alloc)) else {
-            return Err(NoMemory);
-        };
+    'tables: for _ in 0..count {
+        tables.push(Table::new(alloc))?;
     }
     Ok(tables)
 }

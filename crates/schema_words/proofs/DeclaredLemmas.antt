@@ -11,7 +11,7 @@ use Rattle.block_model.specs.declared.schema.Column.{Column}
 use Rattle.block_model.specs.declared.schema.Table.{Table}
 use Rattle.block_model.specs.declared.schema.Index.{Index}
 use Rattle.block_model.specs.declared.schema.Schema.{Schema}
-use Rattle.text_reading.proofs.Whole.{one-text}
+use Rattle.text_reading.proofs.Whole.{one_text}
 use Rattle.schema_words.specs.DeclarationTexts.{TableText, DeclarationText, OfTable, OfIndex, IndexText, bytes_of, IsDeclaration}
 use Rattle.schema_words.specs.DeclaredSchema.{table_of, table_named, on_table, on_parts, parts_among, index_among, with_table, with_index, declared_behind, Declares, DeclareBehind, nothing_declared, Denotes}
 use Rattle.schema_words.specs.FirstFault.{IsFaulty, IsFirstFault, Answers}
@@ -19,29 +19,29 @@ use Rattle.schema_words.specs.declared.declarations.DeclFault.{DeclFault}
 use Rattle.schema_words.specs.declared.declarations.DeclFault.TheVariants as faults
 use Rattle.schema_words.specs.DeclarationReading.{declaration_at}
 use Rattle.schema_words.specs.Words.{has_column}
-use Rattle.schema_words.proofs.WordReading.{declaration-lawful, declaration-complete}
+use Rattle.schema_words.proofs.WordReading.{declaration_lawful, declaration_complete}
 
 abbrev Made : Type 0
 Made = Result Schema ℕ
 
 -- a word declares one thing
-pub declares-one : (bytes : List ℕ) (s : Schema) (a b : Made) → Declares bytes s a → Declares bytes s b → a ≡ b
-declares-one bytes s a b p q =
-    let same : p.text ≡ q.text = one-text declaration_at bytes_of IsDeclaration declaration-lawful declaration-complete p.text q.text p.of_grammar q.of_grammar (sym p.bytes_are ∙ q.bytes_are) in
+pub declares_one : (bytes : List ℕ) (s : Schema) (a b : Made) → Declares bytes s a → Declares bytes s b → a ≡ b
+declares_one bytes s a b p q =
+    let same : p.text ≡ q.text = one_text declaration_at bytes_of IsDeclaration declaration_lawful declaration_complete p.text q.text p.of_grammar q.of_grammar (sym p.bytes_are ∙ q.bytes_are) in
     sym p.makes ∙ ap (declared_behind s) same ∙ q.makes
 
 -- and so do words one after another
-pub words-one : (words : List (List ℕ)) (s a b : Schema) → DeclareBehind s words a → DeclareBehind s words b → a ≡ b
-words-one [] s a b h k = sym h ∙ k
-words-one (w ∷ ws) s a b h k =
-    let made : Ok h.0 ≡ Ok k.0 = declares-one w s (Ok h.0) (Ok k.0) h.1 k.1 in
+pub words_one : (words : List (List ℕ)) (s a b : Schema) → DeclareBehind s words a → DeclareBehind s words b → a ≡ b
+words_one [] s a b h k = sym h ∙ k
+words_one (w ∷ ws) s a b h k =
+    let made : Ok h.0 ≡ Ok k.0 = declares_one w s (Ok h.0) (Ok k.0) h.1 k.1 in
     let same : h.0 ≡ k.0 = cc in
-    words-one ws k.0 a b (subst (λ (x : Schema). DeclareBehind x ws a) same h.2) k.2
+    words_one ws k.0 a b (subst (λ (x : Schema). DeclareBehind x ws a) same h.2) k.2
 
 -- one word more
-pub behind-push : (words : List (List ℕ)) (s m t : Schema) (w : List ℕ) → DeclareBehind s words m → Declares w m (Ok t) → DeclareBehind s (words ++ w ∷ []) t
-behind-push [] s m t w h d = (t, subst (λ (x : Schema). Declares w x (Ok t)) (sym h) d, refl)
-behind-push (x ∷ xs) s m t w h d = (h.0, h.1, behind-push xs h.0 m t w h.2 d)
+pub behind_push : (words : List (List ℕ)) (s m t : Schema) (w : List ℕ) → DeclareBehind s words m → Declares w m (Ok t) → DeclareBehind s (words ++ w ∷ []) t
+behind_push [] s m t w h d = (t, subst (λ (x : Schema). Declares w x (Ok t)) (sym h) d, refl)
+behind_push (x ∷ xs) s m t w h d = (h.0, h.1, behind_push xs h.0 m t w h.2 d)
 
 -- the words up to one, and it
 pub record Split (s : Schema) (words : List (List ℕ)) (n : ℕ) (t : Schema) : Type 0 where
@@ -60,18 +60,18 @@ split (suc n) (w ∷ ws) s t k h =
     record { before = r.before; after = r.after; front = (h.0, h.1, r.front); here = r.here; rest = r.rest; back = r.back }
 
 -- a word at fault declares nothing
-pub faulty-declares_nothing : (s : Schema) (bytes : List ℕ) (at : ℕ) → IsFaulty s bytes at → (t : Schema) → Declares bytes s (Ok t) → ⊥
-faulty-declares_nothing s bytes at (inl stops) t d = stops.refused d.text d.of_grammar d.bytes_are
-faulty-declares_nothing s bytes at (inr fault) t d =
-    let k : Err at ≡ Ok t = declares-one bytes s (Err at) (Ok t) fault d in
+pub faulty_declares_nothing : (s : Schema) (bytes : List ℕ) (at : ℕ) → IsFaulty s bytes at → (t : Schema) → Declares bytes s (Ok t) → ⊥
+faulty_declares_nothing s bytes at (inl stops) t d = stops.refused d.text d.of_grammar d.bytes_are
+faulty_declares_nothing s bytes at (inr fault) t d =
+    let k : Err at ≡ Ok t = declares_one bytes s (Err at) (Ok t) fault d in
     false≢true (ap is_ok k)
 
 -- words with a fault denote no schema
-pub fault-denotes_nothing : (words : List (List ℕ)) (word at : ℕ) → IsFirstFault words word at → (schema : Schema) → Denotes words schema → ⊥
-fault-denotes_nothing words word at f schema h =
+pub fault_denotes_nothing : (words : List (List ℕ)) (word at : ℕ) → IsFirstFault words word at → (schema : Schema) → Denotes words schema → ⊥
+fault_denotes_nothing words word at f schema h =
     let r = split word words nothing_declared schema f.within h in
-    let same : r.before ≡ f.before = words-one (take word words) nothing_declared r.before f.before r.front f.declared in
-    faulty-declares_nothing f.before (get_or words word []) at f.faulty r.after (subst (λ (x : Schema). Declares (get_or words word []) x (Ok r.after)) same r.here)
+    let same : r.before ≡ f.before = words_one (take word words) nothing_declared r.before f.before r.front f.declared in
+    faulty_declares_nothing f.before (get_or words word []) at f.faulty r.after (subst (λ (x : Schema). Declares (get_or words word []) x (Ok r.after)) same r.here)
 
 abbrev pub is_table : List ℕ → Table → Bool
 is_table name t = bytes_eq name t.name
@@ -105,66 +105,66 @@ missing_step : (name : List ℕ) (n : ℕ) (cs : List Column) (b : Bool) → (ha
 missing_step name n cs true behind e = cc
 missing_step name n cs false behind e = behind e
 
-pub column-missing : (name : List ℕ) (n : ℕ) (cs : List Column) → has_column name cs ≡ false → position_from (is_column name) n cs ≡ None
-column-missing name n [] e = refl
-column-missing name n (c ∷ cs) e = missing_step name n cs (is_column name c) (column-missing name (n + 1) cs) e
+pub column_missing : (name : List ℕ) (n : ℕ) (cs : List Column) → has_column name cs ≡ false → position_from (is_column name) n cs ≡ None
+column_missing name n [] e = refl
+column_missing name n (c ∷ cs) e = missing_step name n cs (is_column name c) (column_missing name (n + 1) cs) e
 
-slice_get-seam : (xs ys : List Table) (t : Table) → slice_get (xs ++ t ∷ ys) (length xs) ≡ Some t
-slice_get-seam [] ys t = refl
-slice_get-seam (x ∷ xs) ys t = slice_get-seam xs ys t
+slice_get_seam : (xs ys : List Table) (t : Table) → slice_get (xs ++ t ∷ ys) (length xs) ≡ Some t
+slice_get_seam [] ys t = refl
+slice_get_seam (x ∷ xs) ys t = slice_get_seam xs ys t
 
 -- the first table of a name behind tables that haven't it
-pub first-table : (i : IndexText) (xs ys : List Table) (t : Table) → table_named i.table xs ≡ None → bytes_eq i.table t.name ≡ true
+pub first_table : (i : IndexText) (xs ys : List Table) (t : Table) → table_named i.table xs ≡ None → bytes_eq i.table t.name ≡ true
     → index_among (xs ++ t ∷ ys) i ≡ on_parts i (length xs) (parts_among t.columns i)
-first-table i xs ys t none here =
+first_table i xs ys t none here =
     let at : table_named i.table (xs ++ t ∷ ys) ≡ Some (length xs) =
     sought_behind i.table 0 xs (t ∷ ys) none ∙ ap (λ b. cond b (Some (0 + length xs)) (position_from (is_table i.table) (0 + length xs + 1) ys)) here ∙ ap Some (let k : 0 + length xs ≡ length xs = omega arith in k) in
-    ap (on_table i (xs ++ t ∷ ys)) at ∙ ap (λ o. on_parts i (length xs) (parts_among (columns_in o) i)) (slice_get-seam xs ys t)
+    ap (on_table i (xs ++ t ∷ ys)) at ∙ ap (λ o. on_parts i (length xs) (parts_among (columns_in o) i)) (slice_get_seam xs ys t)
 
 -- the tables of before stand in front
 abbrev Grows : Schema → Schema → Type 0
 Grows s t = (more : List Table) × (t.tables ≡ s.tables ++ more)
 
 -- an index leaves the tables
-pub with_index-grows : (s t : Schema) (o : Result Index ℕ) → with_index s o ≡ Ok t → s.tables ≡ t.tables
-with_index-grows s t (Ok index) e = let k : record { tables = s.tables; indexes = s.indexes ++ index ∷ [] } ≡ t = cc in ap (λ (x : Schema). x.tables) k
-with_index-grows s t (Err at) e = absurd (false≢true (ap is_ok e))
+pub with_index_grows : (s t : Schema) (o : Result Index ℕ) → with_index s o ≡ Ok t → s.tables ≡ t.tables
+with_index_grows s t (Ok index) e = let k : record { tables = s.tables; indexes = s.indexes ++ index ∷ [] } ≡ t = cc in ap (λ (x : Schema). x.tables) k
+with_index_grows s t (Err at) e = absurd (false≢true (ap is_ok e))
 
-declaration-grows : (s t : Schema) (d : DeclarationText) → declared_behind s d ≡ Ok t → Grows s t
-declaration-grows s t (OfTable x) e = (table_of x ∷ [], (let k : with_table s (table_of x) ≡ t = cc in sym (ap (λ (x : Schema). x.tables) k)))
-declaration-grows s t (OfIndex i) e = ([], sym (append-nil s.tables ∙ with_index-grows s t (index_among s.tables i) e))
+declaration_grows : (s t : Schema) (d : DeclarationText) → declared_behind s d ≡ Ok t → Grows s t
+declaration_grows s t (OfTable x) e = (table_of x ∷ [], (let k : with_table s (table_of x) ≡ t = cc in sym (ap (λ (x : Schema). x.tables) k)))
+declaration_grows s t (OfIndex i) e = ([], sym (append-nil s.tables ∙ with_index_grows s t (index_among s.tables i) e))
 
 -- words one after another keep the tables in front
-pub words-grow : (words : List (List ℕ)) (s t : Schema) → DeclareBehind s words t → Grows s t
-words-grow [] s t h = ([], sym (append-nil s.tables ∙ ap (λ (x : Schema). x.tables) h))
-words-grow (w ∷ ws) s t h =
-    let first = declaration-grows s h.0 h.1.text h.1.makes in
-    let more = words-grow ws h.0 t h.2 in
+pub words_grow : (words : List (List ℕ)) (s t : Schema) → DeclareBehind s words t → Grows s t
+words_grow [] s t h = ([], sym (append-nil s.tables ∙ ap (λ (x : Schema). x.tables) h))
+words_grow (w ∷ ws) s t h =
+    let first = declaration_grows s h.0 h.1.text h.1.makes in
+    let more = words_grow ws h.0 t h.2 in
     (first.0 ++ more.0, more.1 ∙ ap (λ l. l ++ more.0) first.1 ∙ append_assoc s.tables first.0 more.0)
 
 -- and a table declared behind tables stands behind them
-pub split-table : (s t : Schema) (words : List (List ℕ)) (n : ℕ) (r : Split s words n t) (x : TableText) → r.here.text ≡ OfTable x → (more : List Table) × (t.tables ≡ r.before.tables ++ table_of x ∷ more)
-split-table s t words n r x e =
+pub split_table : (s t : Schema) (words : List (List ℕ)) (n : ℕ) (r : Split s words n t) (x : TableText) → r.here.text ≡ OfTable x → (more : List Table) × (t.tables ≡ r.before.tables ++ table_of x ∷ more)
+split_table s t words n r x e =
     let made : Ok (with_table r.before (table_of x)) ≡ Ok r.after = sym (ap (declared_behind r.before) e) ∙ r.here.makes in
     let same : with_table r.before (table_of x) ≡ r.after = cc in
-    let more = words-grow r.rest r.after t r.back in
+    let more = words_grow r.rest r.after t r.back in
     (more.0, more.1 ∙ ap (λ (u : Schema). u.tables ++ more.0) (sym same) ∙ append_assoc r.before.tables (table_of x ∷ []) more.0)
 
 -- one word more that is a declaration
-pub denotes-push : (words : List (List ℕ)) (n : ℕ) (m t : Schema) (bytes : List ℕ) → n < length words → bytes ≡ get_or words n [] → Denotes (take n words) m → Declares bytes m (Ok t) → Denotes (take (n + 1) words) t
-denotes-push words n m t bytes below same h d =
+pub denotes_push : (words : List (List ℕ)) (n : ℕ) (m t : Schema) (bytes : List ℕ) → n < length words → bytes ≡ get_or words n [] → Denotes (take n words) m → Declares bytes m (Ok t) → Denotes (take (n + 1) words) t
+denotes_push words n m t bytes below same h d =
     subst (λ (l : List (List ℕ)). Denotes l t) (sym (take_more words n [] below))
-    (behind-push (take n words) nothing_declared m t (get_or words n []) h (subst (λ (b : List ℕ). Declares b m (Ok t)) same d))
+    (behind_push (take n words) nothing_declared m t (get_or words n []) h (subst (λ (b : List ℕ). Declares b m (Ok t)) same d))
 
 -- all words
-pub denotes-all : (words : List (List ℕ)) (n : ℕ) (s : Schema) → length words ≤ n → Denotes (take n words) s → Denotes words s
-denotes-all words n s h d = subst (λ (l : List (List ℕ)). Denotes l s) (take_all n words h) d
+pub denotes_all : (words : List (List ℕ)) (n : ℕ) (s : Schema) → length words ≤ n → Denotes (take n words) s → Denotes words s
+denotes_all words n s h d = subst (λ (l : List (List ℕ)). Denotes l s) (take_all n words h) d
 
 -- the first word that is at fault
 pub first-fault : (words : List (List ℕ)) (n at : ℕ) (s : Schema) (bytes : List ℕ) → n < length words → bytes ≡ get_or words n [] → Denotes (take n words) s → IsFaulty s bytes at → IsFirstFault words n at
 first-fault words n at s bytes below same h f = record { before = s; declared = h; within = below; faulty = subst (λ (b : List ℕ). IsFaulty s b at) same f }
 
 -- a first fault, or want of memory, is answered rightly
-pub answers-fault : (words : List (List ℕ)) (fault : DeclFault) → ((word at : ℕ) → fault ≡ faults.Form word at → IsFirstFault words word at) → (schema : Schema) → Denotes words schema → Answers schema (Err fault)
-answers-fault words (faults.Form word at) f schema h = fault-denotes_nothing words word at (f word at refl) schema h
-answers-fault words faults.Memory f schema h = tt
+pub answers_fault : (words : List (List ℕ)) (fault : DeclFault) → ((word at : ℕ) → fault ≡ faults.Form word at → IsFirstFault words word at) → (schema : Schema) → Denotes words schema → Answers schema (Err fault)
+answers_fault words (faults.Form word at) f schema h = fault_denotes_nothing words word at (f word at refl) schema h
+answers_fault words faults.Memory f schema h = tt

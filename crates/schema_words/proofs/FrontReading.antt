@@ -23,5 +23,5 @@ module _ {A : Type 0} (read : Reading A) (written : A → List ℕ) (Is : A → 
       let found : IsFront written Is bytes p.0 p.1 = record { is = h.judged.0; whole = h.whole ∙ ap (λ l. l ++ p.1) h.judged.1 } in
       subst (λ (x : A × List ℕ). IsFront written Is bytes x.0 x.1) same found
 
-  pub read-front : Lawful read written Is → (bytes : List ℕ) (a : A) (rest : List ℕ) → read bytes ≡ Ok (a, rest) → IsFront written Is bytes a rest
-  read-front l bytes a rest e = let h = l bytes in front_step bytes a rest h.0 h.1 e
+  pub read_front : Lawful read written Is → (bytes : List ℕ) (a : A) (rest : List ℕ) → read bytes ≡ Ok (a, rest) → IsFront written Is bytes a rest
+  read_front l bytes a rest e = let h = l bytes in front_step bytes a rest h.0 h.1 e

@@ -7,7 +7,7 @@ use Rattle.block_model.specs.declared.schema.Table.{Table}
 use Rattle.block_model.specs.declared.schema.Part.{Part}
 use Rattle.block_model.specs.declared.schema.Index.{Index}
 use Rattle.block_model.specs.declared.schema.Schema.{Schema}
-use Rattle.text_reading.proofs.Whole.{one-text}
+use Rattle.text_reading.proofs.Whole.{one_text}
 use Rattle.schema_words.specs.declared.table.TableWord.{TableWord}
 use Rattle.schema_words.specs.declared.index.IndexWord.{IndexWord}
 use Rattle.schema_words.specs.declared.declaration.Declaration.{Declaration}
@@ -15,42 +15,42 @@ use Rattle.schema_words.specs.declared.declaration.Declaration.TheVariants as co
 use Rattle.schema_words.specs.DeclarationTexts.{TableText, table_bytes, IndexText, before_table, DeclarationText, OfTable, OfIndex, bytes_of, IsTable, IsDeclaration}
 use Rattle.schema_words.specs.DeclaredSchema.{table_of, table_named, index_on, parts_among, on_parts, on_table, index_among, with_table, declared_behind, Declares, DeclareBehind, nothing_declared, Denotes}
 use Rattle.schema_words.specs.DeclarationReading.{declaration_at}
-use Rattle.schema_words.specs.Words.{index_text, has_column, Reads, declares_table}
-use Rattle.schema_words.proofs.WordReading.{declaration-lawful, declaration-complete}
-use Rattle.schema_words.proofs.WordLemmas.{table-facts, IndexFacts, index-facts, declares-index, declares-fault}
-use Rattle.schema_words.proofs.DeclaredLemmas.{Split, split, sought_behind, first-table, with_index-grows, split-table}
+use Rattle.schema_words.specs.Words.{index_text, has_column, ReadsDeclaration, declares_table}
+use Rattle.schema_words.proofs.WordReading.{declaration_lawful, declaration_complete}
+use Rattle.schema_words.proofs.WordLemmas.{table_facts, IndexFacts, index_facts, declares_index, declares_fault}
+use Rattle.schema_words.proofs.DeclaredLemmas.{Split, split, sought_behind, first_table, with_index_grows, split_table}
 
 -- a declaration is written in one way
 same_text : (a b : DeclarationText) (bytes : List ℕ) → IsDeclaration a → IsDeclaration b → bytes ≡ bytes_of a → bytes ≡ bytes_of b → a ≡ b
-same_text a b bytes i j e k = one-text declaration_at bytes_of IsDeclaration declaration-lawful declaration-complete a b i j (sym e ∙ k)
+same_text a b bytes i j e k = one_text declaration_at bytes_of IsDeclaration declaration_lawful declaration_complete a b i j (sym e ∙ k)
 
 abbrev table_in : TableText → DeclarationText → TableText
 table_in other (OfTable t) = t
 table_in other (OfIndex i) = other
 
-module _ (kept : List ℕ) (bytes : List ℕ) (word : Declaration) (r : Reads None kept bytes word) where
+module _ (kept : List ℕ) (bytes : List ℕ) (word : Declaration) (r : ReadsDeclaration None kept bytes word) where
   -- a table that was read is of the name that it has
-  pub named-table : (name : List ℕ) (table : TableWord) → word ≡ code.Table table → (d : DeclarationText) → IsDeclaration d → bytes ≡ bytes_of d → bytes_eq name table.name.now ≡ declares_table name d
-  named-table name table k d i e =
-      let f = table-facts None kept bytes table (subst (λ (x : Declaration). Reads None kept bytes x) k r) in
+  pub named_table : (name : List ℕ) (table : TableWord) → word ≡ code.Table table → (d : DeclarationText) → IsDeclaration d → bytes ≡ bytes_of d → bytes_eq name table.name.now ≡ declares_table name d
+  named_table name table k d i e =
+      let f = table_facts None kept bytes table (subst (λ (x : Declaration). ReadsDeclaration None kept bytes x) k r) in
       ap (bytes_eq name) f.parts.name ∙ ap (declares_table name) (same_text (OfTable f.text) d bytes f.of_grammar i f.bytes_are e)
 
   -- an index is no table
-  pub named-index : (name : List ℕ) (index : IndexWord) → word ≡ code.Index index → (d : DeclarationText) → IsDeclaration d → bytes ≡ bytes_of d → false ≡ declares_table name d
-  named-index name index k d i e =
-      let f = index-facts None kept bytes index (subst (λ (x : Declaration). Reads None kept bytes x) k r) in
+  pub named_index : (name : List ℕ) (index : IndexWord) → word ≡ code.Index index → (d : DeclarationText) → IsDeclaration d → bytes ≡ bytes_of d → false ≡ declares_table name d
+  named_index name index k d i e =
+      let f = index_facts None kept bytes index (subst (λ (x : Declaration). ReadsDeclaration None kept bytes x) k r) in
       ap (declares_table name) (same_text (OfIndex (index_text index)) d bytes f.is.of_grammar i f.bytes_are e)
 
   -- whether a table that was read has the column that was wanted
-  pub sought-table : (table : TableWord) → word ≡ code.Table table → (t : TableText) → IsTable t → bytes ≡ table_bytes t → table.columns.found ≡ has_column kept t.columns
-  sought-table table k t i e =
-      let f = table-facts None kept bytes table (subst (λ (x : Declaration). Reads None kept bytes x) k r) in
+  pub sought_table : (table : TableWord) → word ≡ code.Table table → (t : TableText) → IsTable t → bytes ≡ table_bytes t → table.columns.found ≡ has_column kept t.columns
+  sought_table table k t i e =
+      let f = table_facts None kept bytes table (subst (λ (x : Declaration). ReadsDeclaration None kept bytes x) k r) in
       let same : f.text ≡ t = ap (table_in t) (same_text (OfTable f.text) (OfTable t) bytes f.of_grammar i f.bytes_are e) in
       f.parts.columns.found ∙ ap (λ (x : TableText). has_column kept x.columns) same
 
-  pub sought-index : (index : IndexWord) → word ≡ code.Index index → (t : TableText) → IsTable t → bytes ≡ table_bytes t → ⊥
-  sought-index index k t i e =
-      let f = index-facts None kept bytes index (subst (λ (x : Declaration). Reads None kept bytes x) k r) in
+  pub sought_index : (index : IndexWord) → word ≡ code.Index index → (t : TableText) → IsTable t → bytes ≡ table_bytes t → ⊥
+  sought_index index k t i e =
+      let f = index_facts None kept bytes index (subst (λ (x : Declaration). ReadsDeclaration None kept bytes x) k r) in
       let same : OfIndex (index_text index) ≡ OfTable t = same_text (OfIndex (index_text index)) (OfTable t) bytes f.is.of_grammar i f.bytes_are e in
       cc
 
@@ -76,12 +76,12 @@ lacks_step name s t h e = sought_behind name 0 s.tables (t ∷ []) h ∙ ap (λ 
 
 lacks_more : (name : List ℕ) (s t : Schema) (d : DeclarationText) → declared_behind s d ≡ Ok t → LacksTable name s → declares_table name d ≡ false → LacksTable name t
 lacks_more name s t (OfTable x) e h k = let same : with_table s (table_of x) ≡ t = cc in subst (LacksTable name) same (lacks_step name s (table_of x) h k)
-lacks_more name s t (OfIndex i) e h k = ap (table_named name) (sym (with_index-grows s t (index_among s.tables i) e)) ∙ h
+lacks_more name s t (OfIndex i) e h k = ap (table_named name) (sym (with_index_grows s t (index_among s.tables i) e)) ∙ h
 
 -- one word more that isn't the table
-pub no_table-more : (words : List (List ℕ)) (n : ℕ) (name : List ℕ) → n < length words → NoTable words n name
+pub no_table_more : (words : List (List ℕ)) (n : ℕ) (name : List ℕ) → n < length words → NoTable words n name
     → ((d : DeclarationText) → IsDeclaration d → get_or words n [] ≡ bytes_of d → declares_table name d ≡ false) → NoTable words (n + 1) name
-no_table-more words n name below none here m h =
+no_table_more words n name below none here m h =
     let l = last (take n words) nothing_declared m (get_or words n []) (subst (λ (x : List (List ℕ)). Denotes x m) (take_more words n [] below) h) in
     lacks_more name l.before m l.here.text l.here.makes (none l.before l.front) (here l.here.text l.here.of_grammar l.here.bytes_are)
 
@@ -97,13 +97,13 @@ found_step : (s : Schema) (words : List (List ℕ)) (n : ℕ) (i : IndexText) (r
     → LacksTable i.table r.before → declares_table i.table d ≡ true → IsFound s i (get_or words n [])
 found_step s words n i r (OfIndex x) e g b none k = cc
 found_step s words n i r (OfTable x) e g b none k =
-    let more = split-table nothing_declared s words n r x e in
+    let more = split_table nothing_declared s words n r x e in
     record {
       number = length r.before.tables;
       table = x;
       of_grammar = g;
       bytes_are = b;
-      among = ap (λ (l : List Table). index_among l i) more.1 ∙ first-table i r.before.tables more.0 (table_of x) none k;
+      among = ap (λ (l : List Table). index_among l i) more.1 ∙ first_table i r.before.tables more.0 (table_of x) none k;
     }
 
 module _ (words : List (List ℕ)) (word n : ℕ) (i : IndexText) (below : n < word) (within : word ≤ length words) (none : NoTable words n i.table)
@@ -118,44 +118,44 @@ module _ (words : List (List ℕ)) (word n : ℕ) (i : IndexText) (below : n < w
       subst (IsFound s i) same (found_step s (take word words) n i r r.here.text refl r.here.of_grammar r.here.bytes_are lacks (here r.here.text r.here.of_grammar bytes))
 
   -- the index is what its indexed columns are among the columns of that table
-  pub judged-table : {U : Type 0} (o : Result U ℕ)
+  pub judged_table : {U : Type 0} (o : Result U ℕ)
       → ((t : TableText) → IsTable t → get_or words n [] ≡ table_bytes t → MatchResult o (λ u. (parts : List Part) × (parts_among t.columns i ≡ Ok parts)) (λ at. parts_among t.columns i ≡ Err at))
       → MatchResult o (λ u. (added : Index) × (index_among s.tables i ≡ Ok added)) (λ at. index_among s.tables i ≡ Err at)
-  judged-table (Ok u) has =
+  judged_table (Ok u) has =
       let f = found in
       let k = has f.table f.of_grammar f.bytes_are in
       (index_on i f.number k.0, f.among ∙ ap (on_parts i f.number) k.1)
-  judged-table (Err at) has =
+  judged_table (Err at) has =
       let f = found in
       f.among ∙ ap (on_parts i f.number) (has f.table f.of_grammar f.bytes_are)
 
 -- where its table isn't declared, its name is at fault
-pub judged-undeclared : (words : List (List ℕ)) (word : ℕ) (i : IndexText) → NoTable words word i.table
+pub judged_undeclared : (words : List (List ℕ)) (word : ℕ) (i : IndexText) → NoTable words word i.table
     → (s : Schema) → Denotes (take word words) s → index_among s.tables i ≡ Err (length (before_table i))
-judged-undeclared words word i none s h = ap (on_table i s.tables) (none s h)
+judged_undeclared words word i none s h = ap (on_table i s.tables) (none s h)
 
 -- no table stands before all words
-pub no_table-first : (words : List (List ℕ)) (name : List ℕ) → NoTable words 0 name
-no_table-first words name m h = ap (λ (s : Schema). table_named name s.tables) (sym h)
+pub no_table_first : (words : List (List ℕ)) (name : List ℕ) → NoTable words 0 name
+no_table_first words name m h = ap (λ (s : Schema). table_named name s.tables) (sym h)
 
 module _ (bytes word : List ℕ) (s : Schema) (read : Declaration) (same : bytes ≡ word) where
   -- a table is declared behind anything
-  pub declares-any_table : (table : TableWord) → read ≡ code.Table table → Reads None [] bytes read → (after : Schema) × Declares word s (Ok after)
-  declares-any_table table k r =
-      let f = table-facts None [] bytes table (subst (λ (x : Declaration). Reads None [] bytes x) k r) in
+  pub declares_any_table : (table : TableWord) → read ≡ code.Table table → ReadsDeclaration None [] bytes read → (after : Schema) × Declares word s (Ok after)
+  declares_any_table table k r =
+      let f = table_facts None [] bytes table (subst (λ (x : Declaration). ReadsDeclaration None [] bytes x) k r) in
       (with_table s (table_of f.text), record { text = OfTable f.text; of_grammar = f.of_grammar; bytes_are = sym same ∙ f.bytes_are; makes = refl })
 
-  module _ (index : IndexWord) (k : read ≡ code.Index index) (r : Reads None [] bytes read) where
+  module _ (index : IndexWord) (k : read ≡ code.Index index) (r : ReadsDeclaration None [] bytes read) where
     facts : IndexFacts word index
-    facts = subst (λ (b : List ℕ). IndexFacts b index) same (index-facts None [] bytes index (subst (λ (x : Declaration). Reads None [] bytes x) k r))
+    facts = subst (λ (b : List ℕ). IndexFacts b index) same (index_facts None [] bytes index (subst (λ (x : Declaration). ReadsDeclaration None [] bytes x) k r))
 
     -- an index on a table and a column that are declared
-    pub declares-judged : (added : Index) × (index_among s.tables (index_text index) ≡ Ok added) → (after : Schema) × Declares word s (Ok after)
-    declares-judged h = (
+    pub declares_judged : (added : Index) × (index_among s.tables (index_text index) ≡ Ok added) → (after : Schema) × Declares word s (Ok after)
+    declares_judged h = (
       record { tables = s.tables; indexes = s.indexes ++ h.0 ∷ [] },
-      declares-index s s.tables word index facts refl (s.indexes ++ h.0 ∷ []) (h.0, h.1, refl),
+      declares_index s s.tables word index facts refl (s.indexes ++ h.0 ∷ []) (h.0, h.1, refl),
     )
 
     -- and one that names what isn't
-    pub declares-misnamed : (at : ℕ) → index_among s.tables (index_text index) ≡ Err at → Declares word s (Err at)
-    declares-misnamed at h = declares-fault s s.tables word index facts refl at h
+    pub declares_misnamed : (at : ℕ) → index_among s.tables (index_text index) ≡ Err at → Declares word s (Err at)
+    declares_misnamed at h = declares_fault s s.tables word index facts refl at h

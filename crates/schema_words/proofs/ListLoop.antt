@@ -1,7 +1,7 @@
 -- Items that are read one after another.
 use Rattle.std.proofs.Common.{◌≡◌, ℕ, zero, suc, false, List, [], ◌∷◌, ◌++◌, Result, Ok, Err, refl, sym, ap, ◌∙◌, append_assoc, append-nil}
 use Rattle.text_reading.specs.Reading.{Reading, ◌>>=◌, mapped, both, begins, nothing, byte_at}
-use Rattle.text_reading.proofs.Lawful.{choice-second}
+use Rattle.text_reading.proofs.Lawful.{choice_second}
 use Rattle.schema_words.specs.DeclarationReading.{more_at, listed_at}
 use Rattle.schema_words.proofs.ListReading.{is_comma, next_item, first_item}
 
@@ -27,49 +27,49 @@ first_step : {A : Type 0} (x : A) (o : ListRead A) → with_more (λ bytes. o) (
 first_step x (Ok y) = refl
 first_step x (Err r) = refl
 
-goes_on-twice : {A : Type 0} (xs ys : List A) (o : ListRead A) → goes_on xs (goes_on ys o) ≡ goes_on (xs ++ ys) o
-goes_on-twice xs ys (Err r) = refl
-goes_on-twice xs ys (Ok x) = ap (λ l. Ok (l, x.1)) (sym (append_assoc xs ys x.0))
+goes_on_twice : {A : Type 0} (xs ys : List A) (o : ListRead A) → goes_on xs (goes_on ys o) ≡ goes_on (xs ++ ys) o
+goes_on_twice xs ys (Err r) = refl
+goes_on_twice xs ys (Ok x) = ap (λ l. Ok (l, x.1)) (sym (append_assoc xs ys x.0))
 
 module _ {A : Type 0} (item : Reading A) where
-  more-next : (n : ℕ) (bytes : List ℕ) (x : A) (rest : List ℕ) → item bytes ≡ Ok (x, rest) → more_at item (suc n) (44 ∷ bytes) ≡ goes_on (x ∷ []) (more_at item n rest)
+  more_next : (n : ℕ) (bytes : List ℕ) (x : A) (rest : List ℕ) → item bytes ≡ Ok (x, rest) → more_at item (suc n) (44 ∷ bytes) ≡ goes_on (x ∷ []) (more_at item n rest)
   unfolding more_at
-  more-next n bytes x rest e = ap (with_next (more_at item n)) e ∙ next_step x (more_at item n rest)
+  more_next n bytes x rest e = ap (with_next (more_at item n)) e ∙ next_step x (more_at item n rest)
 
-  more-stops : (n : ℕ) (bytes rest : List ℕ) → item bytes ≡ Err rest → more_at item (suc n) (44 ∷ bytes) ≡ Err rest
+  more_stops : (n : ℕ) (bytes rest : List ℕ) → item bytes ≡ Err rest → more_at item (suc n) (44 ∷ bytes) ≡ Err rest
   unfolding more_at
-  more-stops n bytes rest e = ap (with_next (more_at item n)) e
+  more_stops n bytes rest e = ap (with_next (more_at item n)) e
 
   -- no item stands where no comma does, nor where no more may stand
-  pub more-none : (n : ℕ) (bytes : List ℕ) → begins is_comma bytes ≡ false → more_at item n bytes ≡ Ok ([], bytes)
+  pub more_none : (n : ℕ) (bytes : List ℕ) → begins is_comma bytes ≡ false → more_at item n bytes ≡ Ok ([], bytes)
   unfolding more_at
-  more-none zero bytes e = refl
-  more-none (suc n) bytes e = choice-second is_comma (mapped next_item (both (byte_at 44) (both item (more_at item n)))) (nothing []) bytes e
+  more_none zero bytes e = refl
+  more_none (suc n) bytes e = choice_second is_comma (mapped next_item (both (byte_at 44) (both item (more_at item n)))) (nothing []) bytes e
 
-  pub more-full : (bytes : List ℕ) → more_at item 0 bytes ≡ Ok ([], bytes)
+  pub more_full : (bytes : List ℕ) → more_at item 0 bytes ≡ Ok ([], bytes)
   unfolding more_at
-  more-full bytes = refl
+  more_full bytes = refl
 
   -- the first item, and what is read behind it
-  pub listed-first : (text : List ℕ) (x : A) (rest : List ℕ) → item text ≡ Ok (x, rest) → listed_at item text ≡ goes_on (x ∷ []) (more_at item 255 rest)
+  pub listed_first : (text : List ℕ) (x : A) (rest : List ℕ) → item text ≡ Ok (x, rest) → listed_at item text ≡ goes_on (x ∷ []) (more_at item 255 rest)
   unfolding listed_at
-  listed-first text x rest e = ap (with_more (more_at item 255)) e ∙ first_step x (more_at item 255 rest)
+  listed_first text x rest e = ap (with_more (more_at item 255)) e ∙ first_step x (more_at item 255 rest)
 
-  pub listed-stops : (text rest : List ℕ) → item text ≡ Err rest → listed_at item text ≡ Err rest
+  pub listed_stops : (text rest : List ℕ) → item text ≡ Err rest → listed_at item text ≡ Err rest
   unfolding listed_at
-  listed-stops text rest e = ap (with_more (more_at item 255)) e
+  listed_stops text rest e = ap (with_more (more_at item 255)) e
 
   -- one item more
-  pub goes_on-next : (text prev : List ℕ) (xs : List A) (m n : ℕ) (bytes : List ℕ) (x : A) (rest : List ℕ)
+  pub goes_on_next : (text prev : List ℕ) (xs : List A) (m n : ℕ) (bytes : List ℕ) (x : A) (rest : List ℕ)
       → listed_at item text ≡ goes_on xs (more_at item m prev) → prev ≡ 44 ∷ bytes → m ≡ suc n → item bytes ≡ Ok (x, rest) → listed_at item text ≡ goes_on (xs ++ x ∷ []) (more_at item n rest)
-  goes_on-next text prev xs m n bytes x rest e f k r =
-      e ∙ (λ i. goes_on xs (more_at item (k i) (f i))) ∙ ap (goes_on xs) (more-next n bytes x rest r) ∙ goes_on-twice xs (x ∷ []) (more_at item n rest)
+  goes_on_next text prev xs m n bytes x rest e f k r =
+      e ∙ (λ i. goes_on xs (more_at item (k i) (f i))) ∙ ap (goes_on xs) (more_next n bytes x rest r) ∙ goes_on_twice xs (x ∷ []) (more_at item n rest)
 
-  pub goes_on-stops : (text prev : List ℕ) (xs : List A) (m n : ℕ) (bytes rest : List ℕ)
+  pub goes_on_stops : (text prev : List ℕ) (xs : List A) (m n : ℕ) (bytes rest : List ℕ)
       → listed_at item text ≡ goes_on xs (more_at item m prev) → prev ≡ 44 ∷ bytes → m ≡ suc n → item bytes ≡ Err rest → listed_at item text ≡ Err rest
-  goes_on-stops text prev xs m n bytes rest e f k r =
-      e ∙ (λ i. goes_on xs (more_at item (k i) (f i))) ∙ ap (goes_on xs) (more-stops n bytes rest r)
+  goes_on_stops text prev xs m n bytes rest e f k r =
+      e ∙ (λ i. goes_on xs (more_at item (k i) (f i))) ∙ ap (goes_on xs) (more_stops n bytes rest r)
 
   -- the end of the items
-  pub goes_on-ends : (text : List ℕ) (xs : List A) (n : ℕ) (rest : List ℕ) → listed_at item text ≡ goes_on xs (more_at item n rest) → more_at item n rest ≡ Ok ([], rest) → listed_at item text ≡ Ok (xs, rest)
-  goes_on-ends text xs n rest e k = e ∙ ap (goes_on xs) k ∙ ap (λ l. Ok (l, rest)) (append-nil xs)
+  pub goes_on_ends : (text : List ℕ) (xs : List A) (n : ℕ) (rest : List ℕ) → listed_at item text ≡ goes_on xs (more_at item n rest) → more_at item n rest ≡ Ok ([], rest) → listed_at item text ≡ Ok (xs, rest)
+  goes_on_ends text xs n rest e k = e ∙ ap (goes_on xs) k ∙ ap (λ l. Ok (l, rest)) (append-nil xs)

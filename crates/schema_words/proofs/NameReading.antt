@@ -2,23 +2,19 @@
 use Rattle.std.proofs.Common.{◌≡◌, ℕ, zero, suc, ◌≤◌, min, Bool, true, false, cond, ◌&&◌, ◌||◌, ◌==◌, ◌+◌, List, [], ◌∷◌, ◌++◌, length, take, drop, Result, Ok, Err, refl, sym, ap, ◌∙◌, arith}
 use Rattle.std.specs.Prelude.{nat_le}
 use Rattle.std.specs.List.{list_all, prefix_len}
-use Rattle.std.proofs.lemmas.Bool.{le-leb, leb-true}
+use Rattle.std.proofs.lemmas.Bool.{le-leb, leb-true, and_parts}
 use Rattle.block_model.specs.Names.{is_lower, is_more, is_digit}
-use Rattle.text_reading.specs.Reading.{begins}
+use Rattle.text_reading.specs.Reading.{begins, with_first}
 use Rattle.text_reading.proofs.Lawful.{Obeys, Lawful}
-use Rattle.text_reading.proofs.DigitReading.{and_parts}
 use Rattle.schema_words.specs.DeclarationTexts.{IsNamed}
 use Rattle.schema_words.specs.DeclarationReading.{split_name, name_at}
-use Rattle.schema_words.proofs.FrontReading.{read-front}
+use Rattle.schema_words.proofs.FrontReading.{read_front}
 
 record Splits (n : ℕ) (bytes : List ℕ) (s : List ℕ × List ℕ) : Type 0 where
   whole : bytes ≡ s.0 ++ s.1
   more : list_all is_more s.0 ≡ true
   few : length s.0 ≤ n
   same : (x : ℕ) (rest after : List ℕ) → s.1 ≡ x ∷ rest → split_name n (s.0 ++ x ∷ after) ≡ (s.0, x ∷ after)
-
-abbrev with_first : ℕ → List ℕ × List ℕ → List ℕ × List ℕ
-with_first c s = (c ∷ s.0, s.1)
 
 abbrev none_before : List ℕ → List ℕ × List ℕ
 none_before bytes = ([], bytes)
@@ -81,29 +77,29 @@ name_step c cs false e = (
   },
 )
 
-pub name-lawful : Lawful name_at (λ name. name) IsNamed
+pub name_lawful : Lawful name_at (λ name. name) IsNamed
 unfolding name_at
-name-lawful [] = (Err [], record { front = []; is = refl; whole = refl; same = λ x rest after k. cc; judged = (97 ∷ [], 97 ∷ [], one_letter, refl) })
-name-lawful (c ∷ cs) = name_step c cs (is_lower c) refl
+name_lawful [] = (Err [], record { front = []; is = refl; whole = refl; same = λ x rest after k. cc; judged = (97 ∷ [], 97 ∷ [], one_letter, refl) })
+name_lawful (c ∷ cs) = name_step c cs (is_lower c) refl
 
-split-complete : (n : ℕ) (ds rest : List ℕ) → length ds ≤ n → list_all is_more ds ≡ true → begins is_more rest ≡ false → split_name n (ds ++ rest) ≡ (ds, rest)
-split-complete zero [] rest few all e = refl
-split-complete zero (d ∷ ds) rest few all e = absurd (omega arith)
-split-complete (suc n) [] [] few all e = refl
-split-complete (suc n) [] (c ∷ cs) few all e = ap (λ b. cond b (with_first c (split_name n cs)) (none_before (c ∷ cs))) e
-split-complete (suc n) (d ∷ ds) rest few all e =
+split_complete : (n : ℕ) (ds rest : List ℕ) → length ds ≤ n → list_all is_more ds ≡ true → begins is_more rest ≡ false → split_name n (ds ++ rest) ≡ (ds, rest)
+split_complete zero [] rest few all e = refl
+split_complete zero (d ∷ ds) rest few all e = absurd (omega arith)
+split_complete (suc n) [] [] few all e = refl
+split_complete (suc n) [] (c ∷ cs) few all e = ap (λ b. cond b (with_first c (split_name n cs)) (none_before (c ∷ cs))) e
+split_complete (suc n) (d ∷ ds) rest few all e =
     let p = and_parts (is_more d) (list_all is_more ds) all in
-    ap (λ b. cond b (with_first d (split_name n (ds ++ rest))) (none_before (d ∷ (ds ++ rest)))) p.0 ∙ ap (with_first d) (split-complete n ds rest (omega arith) p.1 e)
+    ap (λ b. cond b (with_first d (split_name n (ds ++ rest))) (none_before (d ∷ (ds ++ rest)))) p.0 ∙ ap (with_first d) (split_complete n ds rest (omega arith) p.1 e)
 
 -- a name behind which none of its bytes stands is read
-pub name-complete : (name rest : List ℕ) → IsNamed name → begins is_more rest ≡ false → name_at (name ++ rest) ≡ Ok (name, rest)
+pub name_complete : (name rest : List ℕ) → IsNamed name → begins is_more rest ≡ false → name_at (name ++ rest) ≡ Ok (name, rest)
 unfolding name_at
-name-complete [] rest h e = cc
-name-complete (c ∷ more) rest h e =
+name_complete [] rest h e = cc
+name_complete (c ∷ more) rest h e =
     let p = and_parts (is_lower c && nat_le (length more) 15) (list_all is_more more) h in
     let q = and_parts (is_lower c) (nat_le (length more) 15) p.0 in
     ap (λ b. cond b (as_name c (more ++ rest)) (Err (c ∷ (more ++ rest)))) q.0
-    ∙ ap (λ s. Ok (with_first c s)) (split-complete 15 more rest (leb-true (length more) 15 q.1) p.1 e)
+    ∙ ap (λ s. Ok (with_first c s)) (split_complete 15 more rest (leb-true (length more) 15 q.1) p.1 e)
 
 abbrev cut : ℕ → List ℕ → List ℕ × List ℕ
 cut n bytes = (take n bytes, drop n bytes)
@@ -118,32 +114,32 @@ count_step n c cs false e =
     ap (λ m. cut m (c ∷ cs)) k
 
 -- the bytes that go on with a name are as many as their count, up to the limit
-split_name-count : (n : ℕ) (bytes : List ℕ) → split_name n bytes ≡ cut (min n (prefix_len is_more bytes)) bytes
-split_name-count zero bytes = let k : 0 ≡ min 0 (prefix_len is_more bytes) = omega arith in ap (λ m. cut m bytes) k
-split_name-count (suc n) [] = let k : 0 ≡ min (suc n) 0 = omega arith in ap (λ m. cut m []) k
-split_name-count (suc n) (c ∷ cs) = count_step n c cs (is_more c) (split_name-count n cs)
+split_name_count : (n : ℕ) (bytes : List ℕ) → split_name n bytes ≡ cut (min n (prefix_len is_more bytes)) bytes
+split_name_count zero bytes = let k : 0 ≡ min 0 (prefix_len is_more bytes) = omega arith in ap (λ m. cut m bytes) k
+split_name_count (suc n) [] = let k : 0 ≡ min (suc n) 0 = omega arith in ap (λ m. cut m []) k
+split_name_count (suc n) (c ∷ cs) = count_step n c cs (is_more c) (split_name_count n cs)
 
 more_if_lower : (c : ℕ) → is_lower c ≡ true → is_more c ≡ true
 more_if_lower c e = ap (λ b. b || is_digit c || (c == 95)) e
 
 -- where a letter stands, the name is split off
-pub name_at-count : (bytes front back : List ℕ) (n : ℕ) → begins is_lower bytes ≡ true → n ≡ min (prefix_len is_more bytes) 16 → front ≡ take n bytes → back ≡ drop n bytes → name_at bytes ≡ Ok (front, back)
+pub name_at_count : (bytes front back : List ℕ) (n : ℕ) → begins is_lower bytes ≡ true → n ≡ min (prefix_len is_more bytes) 16 → front ≡ take n bytes → back ≡ drop n bytes → name_at bytes ≡ Ok (front, back)
 unfolding name_at
-name_at-count [] front back n b e f g = cc
-name_at-count (c ∷ cs) front back n b e f g =
+name_at_count [] front back n b e f g = cc
+name_at_count (c ∷ cs) front back n b e f g =
     let count : prefix_len is_more (c ∷ cs) ≡ 1 + prefix_len is_more cs = ap (λ b. cond b (1 + prefix_len is_more cs) 0) (more_if_lower c b) in
     let same : suc (min 15 (prefix_len is_more cs)) ≡ n = omega arith in
     ap (λ b. cond b (as_name c cs) (Err (c ∷ cs))) b
-    ∙ ap (λ s. Ok (with_first c s)) (split_name-count 15 cs)
+    ∙ ap (λ s. Ok (with_first c s)) (split_name_count 15 cs)
     ∙ ap (λ m. Ok (cut m (c ∷ cs))) same
     ∙ (λ i. Ok (sym f i, sym g i))
 
 -- elsewhere there is none
-pub name_at-none : (bytes : List ℕ) → begins is_lower bytes ≡ false → name_at bytes ≡ Err bytes
+pub name_at_none : (bytes : List ℕ) → begins is_lower bytes ≡ false → name_at bytes ≡ Err bytes
 unfolding name_at
-name_at-none [] b = refl
-name_at-none (c ∷ cs) b = ap (λ b. cond b (as_name c cs) (Err (c ∷ cs))) b
+name_at_none [] b = refl
+name_at_none (c ∷ cs) b = ap (λ b. cond b (as_name c cs) (Err (c ∷ cs))) b
 
 -- what is read is a name
-pub read-is_named : (bytes name rest : List ℕ) → name_at bytes ≡ Ok (name, rest) → IsNamed name
-read-is_named bytes name rest e = (read-front name_at (λ name. name) IsNamed name-lawful bytes name rest e).is
+pub read_is_named : (bytes name rest : List ℕ) → name_at bytes ≡ Ok (name, rest) → IsNamed name
+read_is_named bytes name rest e = (read_front name_at (λ name. name) IsNamed name_lawful bytes name rest e).is

@@ -7,7 +7,7 @@ use Rattle.block_model.specs.declared.schema.Index.{Index}
 use Rattle.block_model.specs.declared.schema.Schema.{Schema}
 use Rattle.text_reading.specs.StopsAt.{StopsAt}
 use Rattle.text_reading.specs.Reading.{whole}
-use Rattle.text_reading.proofs.Whole.{read-is_text, refused-leaves, refused-stops_at}
+use Rattle.text_reading.proofs.Whole.{read_is_text, refused_leaves, refused_stops_at}
 use Rattle.schema_words.specs.declared.table.TableWord.{TableWord}
 use Rattle.schema_words.specs.declared.index.IndexWord.{IndexWord}
 use Rattle.schema_words.specs.declared.declaration.Declaration.{Declaration}
@@ -15,21 +15,21 @@ use Rattle.schema_words.specs.declared.declaration.Declaration.TheVariants as co
 use Rattle.schema_words.specs.DeclarationTexts.{TableText, table_bytes, index_bytes, DeclarationText, OfTable, OfIndex, bytes_of, IsColumn, AreListed, IsTable, IsIndex, IsDeclaration}
 use Rattle.schema_words.specs.DeclaredSchema.{number_said, most_rows, table_of, index_among, with_index, Declares}
 use Rattle.schema_words.specs.DeclarationReading.{declaration_at}
-use Rattle.schema_words.specs.Words.{said, KeepsMore, IsTableRead, table_with, index_text, IsIndexWord, IsRead, Reads}
-use Rattle.schema_words.proofs.WordReading.{declaration-lawful, declaration-complete}
+use Rattle.schema_words.specs.Words.{said, KeepsMore, IsTableRead, table_with, index_text, IsIndexWord, IsRead, ReadsDeclaration}
+use Rattle.schema_words.proofs.WordReading.{declaration_lawful, declaration_complete}
 
 -- what is read is a declaration
-pub read-reads : (kept : Option (List Column)) (wanted bytes : List ℕ) (word : Declaration) (rest : List ℕ) (d : DeclarationText) → whole declaration_at bytes ≡ Ok (d, rest) → IsRead kept wanted word d → Reads kept wanted bytes word
-read-reads kept wanted bytes word rest d e parts =
-    let t = read-is_text declaration_at bytes_of IsDeclaration declaration-lawful declaration-complete bytes d rest e in
+pub read_reads : (kept : Option (List Column)) (wanted bytes : List ℕ) (word : Declaration) (rest : List ℕ) (d : DeclarationText) → whole declaration_at bytes ≡ Ok (d, rest) → IsRead kept wanted word d → ReadsDeclaration kept wanted bytes word
+read_reads kept wanted bytes word rest d e parts =
+    let t = read_is_text declaration_at bytes_of IsDeclaration declaration_lawful declaration_complete bytes d rest e in
     record { text = d; of_grammar = t.0; bytes_are = t.1; parts = parts }
 
-pub stops-leaves : (bytes rest : List ℕ) → whole declaration_at bytes ≡ Err rest → length rest ≤ length bytes
-stops-leaves bytes rest e = refused-leaves declaration_at bytes_of IsDeclaration declaration-lawful declaration-complete bytes rest e
+pub stops_leaves : (bytes rest : List ℕ) → whole declaration_at bytes ≡ Err rest → length rest ≤ length bytes
+stops_leaves bytes rest e = refused_leaves declaration_at bytes_of IsDeclaration declaration_lawful declaration_complete bytes rest e
 
 -- and else no declaration goes on
-pub stops-there : (bytes rest : List ℕ) → whole declaration_at bytes ≡ Err rest → StopsAt bytes_of IsDeclaration bytes (length bytes - length rest)
-stops-there bytes rest e = refused-stops_at declaration_at bytes_of IsDeclaration declaration-lawful declaration-complete bytes rest e (length bytes - length rest) refl
+pub stops_there : (bytes rest : List ℕ) → whole declaration_at bytes ≡ Err rest → StopsAt bytes_of IsDeclaration bytes (length bytes - length rest)
+stops_there bytes rest e = refused_stops_at declaration_at bytes_of IsDeclaration declaration_lawful declaration_complete bytes rest e (length bytes - length rest) refl
 
 -- the text of a table that was read
 pub record TableFacts (kept : Option (List Column)) (wanted bytes : List ℕ) (word : TableWord) : Type 0 where
@@ -42,8 +42,8 @@ table_step : (kept : Option (List Column)) (wanted bytes : List ℕ) (word : Tab
 table_step kept wanted bytes word (OfTable t) i e p = record { text = t; of_grammar = i; bytes_are = e; parts = p }
 table_step kept wanted bytes word (OfIndex x) i e p = absurd p
 
-pub table-facts : (kept : Option (List Column)) (wanted bytes : List ℕ) (word : TableWord) → Reads kept wanted bytes (code.Table word) → TableFacts kept wanted bytes word
-table-facts kept wanted bytes word r = table_step kept wanted bytes word r.text r.of_grammar r.bytes_are r.parts
+pub table_facts : (kept : Option (List Column)) (wanted bytes : List ℕ) (word : TableWord) → ReadsDeclaration kept wanted bytes (code.Table word) → TableFacts kept wanted bytes word
+table_facts kept wanted bytes word r = table_step kept wanted bytes word r.text r.of_grammar r.bytes_are r.parts
 
 -- the text of an index that was read
 pub record IndexFacts (bytes : List ℕ) (index : IndexWord) : Type 0 where
@@ -54,8 +54,8 @@ index_step : (kept : Option (List Column)) (wanted bytes : List ℕ) (word : Ind
 index_step kept wanted bytes word (OfTable t) i e p = absurd p
 index_step kept wanted bytes word (OfIndex x) i e p = record { is = record { of_grammar = subst IsIndex (sym p.0) i; parts = p.1 }; bytes_are = e ∙ ap index_bytes (sym p.0) }
 
-pub index-facts : (kept : Option (List Column)) (wanted bytes : List ℕ) (word : IndexWord) → Reads kept wanted bytes (code.Index word) → IndexFacts bytes word
-index-facts kept wanted bytes word r = index_step kept wanted bytes word r.text r.of_grammar r.bytes_are r.parts
+pub index_facts : (kept : Option (List Column)) (wanted bytes : List ℕ) (word : IndexWord) → ReadsDeclaration kept wanted bytes (code.Index word) → IndexFacts bytes word
+index_facts kept wanted bytes word r = index_step kept wanted bytes word r.text r.of_grammar r.bytes_are r.parts
 
 few : (columns : List Column) → AreListed IsColumn columns → length columns ≤ 256
 few [] h = absurd h
@@ -66,8 +66,8 @@ few_step columns None h k = tt
 few_step columns (Some cs) h k = let e : cs ≡ columns = k in subst (λ (l : List Column). length l ≤ 256) (sym e) (few columns h)
 
 -- the columns that are kept are few
-pub kept-few : (wanted bytes : List ℕ) (word : TableWord) → TableFacts (Some []) wanted bytes word → IfSome word.columns.kept (λ cs. length cs ≤ 256)
-kept-few wanted bytes word f = few_step f.text.columns word.columns.kept f.of_grammar.columns f.parts.columns.keeps
+pub kept_few : (wanted bytes : List ℕ) (word : TableWord) → TableFacts (Some []) wanted bytes word → IfSome word.columns.kept (λ cs. length cs ≤ 256)
+kept_few wanted bytes word f = few_step f.text.columns word.columns.kept f.of_grammar.columns f.parts.columns.keeps
 
 table_same : (word : TableWord) (t : TableText) (kept : Option (List Column)) → word.name.now ≡ t.name → said word.rows ≡ t.rows → KeepsMore (Some []) t.columns kept
     → (old new : List Table) → MatchOption kept ⊥ (λ cs. new ≡ old ++ table_with word cs ∷ []) → new ≡ old ++ table_of t ∷ []
@@ -77,18 +77,18 @@ table_same word t (Some cs) n r k old new h =
     h ∙ (λ i. old ++ (record { name = n i; rows_per_page = number_said 16 (most_rows (e i)) (r i); columns = e i }) ∷ [])
 
 -- the table that is added is the one that is written
-pub table-added : (wanted bytes : List ℕ) (word : TableWord) (f : TableFacts (Some []) wanted bytes word)
+pub table_added : (wanted bytes : List ℕ) (word : TableWord) (f : TableFacts (Some []) wanted bytes word)
     → (old new : List Table) → MatchOption word.columns.kept ⊥ (λ cs. new ≡ old ++ table_with word cs ∷ []) → new ≡ old ++ table_of f.text ∷ []
-table-added wanted bytes word f old new h = table_same word f.text word.columns.kept f.parts.name f.parts.rows f.parts.columns.keeps old new h
+table_added wanted bytes word f old new h = table_same word f.text word.columns.kept f.parts.name f.parts.rows f.parts.columns.keeps old new h
 
 -- a table that was read with its columns kept
-pub table-known : (kept : List Column) (wanted bytes : List ℕ) (word : Declaration) (table : TableWord) → kept ≡ [] → word ≡ code.Table table → Reads (Some kept) wanted bytes word → TableFacts (Some []) wanted bytes table
-table-known kept wanted bytes word table e k r =
-    table-facts (Some []) wanted bytes table (subst (λ (x : Declaration). Reads (Some []) wanted bytes x) k (subst (λ (l : List Column). Reads (Some l) wanted bytes word) e r))
+pub table_known : (kept : List Column) (wanted bytes : List ℕ) (word : Declaration) (table : TableWord) → kept ≡ [] → word ≡ code.Table table → ReadsDeclaration (Some kept) wanted bytes word → TableFacts (Some []) wanted bytes table
+table_known kept wanted bytes word table e k r =
+    table_facts (Some []) wanted bytes table (subst (λ (x : Declaration). ReadsDeclaration (Some []) wanted bytes x) k (subst (λ (l : List Column). ReadsDeclaration (Some l) wanted bytes word) e r))
 
 -- an index that was read
-pub index-known : (kept : Option (List Column)) (wanted bytes : List ℕ) (word : Declaration) (index : IndexWord) → word ≡ code.Index index → Reads kept wanted bytes word → IndexFacts bytes index
-index-known kept wanted bytes word index k r = index-facts kept wanted bytes index (subst (λ (x : Declaration). Reads kept wanted bytes x) k r)
+pub index_known : (kept : Option (List Column)) (wanted bytes : List ℕ) (word : Declaration) (index : IndexWord) → word ≡ code.Index index → ReadsDeclaration kept wanted bytes word → IndexFacts bytes index
+index_known kept wanted bytes word index k r = index_facts kept wanted bytes index (subst (λ (x : Declaration). ReadsDeclaration kept wanted bytes x) k r)
 
 -- a table that is added is declared
 pub declares-table : (s : Schema) (bytes : List ℕ) (word : TableWord) → TableFacts (Some []) [] bytes word
@@ -97,7 +97,7 @@ declares-table s bytes word f new h = record {
   text = OfTable f.text;
   of_grammar = f.of_grammar;
   bytes_are = f.bytes_are;
-  makes = ap (λ (l : List Table). Ok (record { tables = l; indexes = s.indexes })) (sym (table-added [] bytes word f s.tables new h));
+  makes = ap (λ (l : List Table). Ok (record { tables = l; indexes = s.indexes })) (sym (table_added [] bytes word f s.tables new h));
 }
 
 module _ (s : Schema) (tables : List Table) (bytes : List ℕ) (word : IndexWord) (f : IndexFacts bytes word) (same : tables ≡ s.tables) where
@@ -105,9 +105,9 @@ module _ (s : Schema) (tables : List Table) (bytes : List ℕ) (word : IndexWord
   among = ap (λ (l : List Table). index_among l (index_text word)) (sym same)
 
   -- so is an index
-  pub declares-index : (new : List Index) → (added : Index) × (index_among tables (index_text word) ≡ Ok added) × (new ≡ s.indexes ++ added ∷ [])
+  pub declares_index : (new : List Index) → (added : Index) × (index_among tables (index_text word) ≡ Ok added) × (new ≡ s.indexes ++ added ∷ [])
       → Declares bytes s (Ok (record { tables = s.tables; indexes = new }))
-  declares-index new h = record {
+  declares_index new h = record {
     text = OfIndex (index_text word);
     of_grammar = f.is.of_grammar;
     bytes_are = f.bytes_are;
@@ -115,8 +115,8 @@ module _ (s : Schema) (tables : List Table) (bytes : List ℕ) (word : IndexWord
   }
 
   -- and one that names what isn't declared is at fault
-  pub declares-fault : (at : ℕ) → index_among tables (index_text word) ≡ Err at → Declares bytes s (Err at)
-  declares-fault at h = record {
+  pub declares_fault : (at : ℕ) → index_among tables (index_text word) ≡ Err at → Declares bytes s (Err at)
+  declares_fault at h = record {
     text = OfIndex (index_text word);
     of_grammar = f.is.of_grammar;
     bytes_are = f.bytes_are;

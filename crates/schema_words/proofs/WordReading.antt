@@ -2,13 +2,13 @@
 use Rattle.std.proofs.Common.{◌≡◌, ℕ, Bool, true, false, ◌==◌, List, [], ◌∷◌, ◌++◌, codes, None, Ok, Err, refl, sym, ap, ◌∙◌, append_assoc, append-nil}
 use Rattle.block_model.specs.declared.schema.Column.{Column}
 use Rattle.text_reading.specs.Reading.{mapped, both, begins, choice, byte_at, word_at}
-use Rattle.text_reading.proofs.Lawful.{Lawful, both-lawful, mapped-lawful, choice-lawful, same-lawful, byte-lawful, word-lawful, word-complete, both-read, mapped-read, both-stops, both-stops_behind, mapped-stops, choice-first, choice-second}
+use Rattle.text_reading.proofs.Lawful.{Lawful, both_lawful, mapped_lawful, choice_lawful, same_lawful, byte_lawful, word_lawful, word_complete, both_read, mapped_read, both_stops, both_stops_behind, mapped_stops, choice_first, choice_second}
 use Rattle.schema_words.specs.DeclarationTexts.{column_bytes, listed_bytes, TableText, table_bytes, PartText, parts_bytes, IndexText, index_bytes, DeclarationText, OfTable, OfIndex, bytes_of, IsNamed, IsColumn, IsPart, AreListed, IsSetting, IsTable, IsIndex, IsDeclaration}
 use Rattle.schema_words.specs.DeclarationReading.{name_at, columns_at, ending_at, table_head_at, table_at, index_head_at, on_at, parts_at, index_at, declaration_at}
-use Rattle.schema_words.proofs.NameReading.{one_letter, name-lawful, name-complete}
-use Rattle.schema_words.proofs.SettingReading.{Setting, ending_bytes, ending-lawful, nothing_ends, ending-complete}
-use Rattle.schema_words.proofs.ColumnReading.{some_column, is_some, columns-lawful, columns-complete}
-use Rattle.schema_words.proofs.PartReading.{some_part, are_some, parts-lawful, parts-complete}
+use Rattle.schema_words.proofs.NameReading.{one_letter, name_lawful, name_complete}
+use Rattle.schema_words.proofs.SettingReading.{Setting, ending_bytes, ending_lawful, nothing_ends, ending_complete}
+use Rattle.schema_words.proofs.ColumnReading.{some_column, is_some, columns_lawful, columns_complete}
+use Rattle.schema_words.proofs.PartReading.{some_part, are_some, parts_lawful, parts_complete}
 
 abbrev rows_setting : List ℕ
 rows_setting = codes " rows_per_page "
@@ -20,18 +20,18 @@ abbrev name_between : Unit {0} × (List ℕ × Unit {0}) → List ℕ
 name_between x = x.1.0
 
 -- a name between a word and a bracket
-between-lawful : (word : List ℕ) → Lawful (mapped name_between (both (word_at word) (both name_at (byte_at 40)))) (λ name. word ++ (name ++ 40 ∷ [])) IsNamed
-between-lawful word =
-    mapped-lawful name_between (both (word_at word) (both name_at (byte_at 40))) (λ x. word ++ (x.1.0 ++ 40 ∷ [])) (λ name. word ++ (name ++ 40 ∷ [])) (λ x. Unit {0} × (IsNamed x.1.0 × Unit {0})) IsNamed (λ a i. (i.1.0, refl))
-    (both-lawful (word_at word) (both name_at (byte_at 40)) (λ x. word) (λ x. x.0 ++ 40 ∷ []) (λ x. Unit {0}) (λ x. IsNamed x.0 × Unit {0}) (97 ∷ [], tt) (one_letter, tt) (word-lawful word)
-    (both-lawful name_at (byte_at 40) (λ name. name) (λ x. 40 ∷ []) IsNamed (λ x. Unit {0}) tt tt name-lawful (byte-lawful 40)))
+between_lawful : (word : List ℕ) → Lawful (mapped name_between (both (word_at word) (both name_at (byte_at 40)))) (λ name. word ++ (name ++ 40 ∷ [])) IsNamed
+between_lawful word =
+    mapped_lawful name_between (both (word_at word) (both name_at (byte_at 40))) (λ x. word ++ (x.1.0 ++ 40 ∷ [])) (λ name. word ++ (name ++ 40 ∷ [])) (λ x. Unit {0} × (IsNamed x.1.0 × Unit {0})) IsNamed (λ a i. (i.1.0, refl))
+    (both_lawful (word_at word) (both name_at (byte_at 40)) (λ x. word) (λ x. x.0 ++ 40 ∷ []) (λ x. Unit {0}) (λ x. IsNamed x.0 × Unit {0}) (97 ∷ [], tt) (one_letter, tt) (word_lawful word)
+    (both_lawful name_at (byte_at 40) (λ name. name) (λ x. 40 ∷ []) IsNamed (λ x. Unit {0}) tt tt name_lawful (byte_lawful 40)))
 
 abbrev table_head_bytes : List ℕ → List ℕ
 table_head_bytes name = codes "table " ++ (name ++ 40 ∷ [])
 
-table_head-lawful : Lawful table_head_at table_head_bytes IsNamed
+table_head_lawful : Lawful table_head_at table_head_bytes IsNamed
 unfolding table_head_at
-table_head-lawful = same-lawful table_head_at (mapped name_between (both (word_at (codes "table ")) (both name_at (byte_at 40)))) table_head_bytes IsNamed (λ bytes. refl) (between-lawful (codes "table "))
+table_head_lawful = same_lawful table_head_at (mapped name_between (both (word_at (codes "table ")) (both name_at (byte_at 40)))) table_head_bytes IsNamed (λ bytes. refl) (between_lawful (codes "table "))
 
 abbrev whole_table : List ℕ × (List Column × Setting) → TableText
 whole_table x = record { name = x.0; columns = x.1.0; rows = x.1.1 }
@@ -40,15 +40,15 @@ whole_table x = record { name = x.0; columns = x.1.0; rows = x.1.1 }
 table_grouped : (t : TableText) → table_bytes t ≡ table_head_bytes t.name ++ (listed_bytes column_bytes t.columns ++ ending_bytes rows_setting t.rows)
 table_grouped t = simp append_assoc
 
-table-lawful : Lawful table_at table_bytes IsTable
+table_lawful : Lawful table_at table_bytes IsTable
 unfolding table_at
-table-lawful =
-    same-lawful table_at (mapped whole_table (both table_head_at (both columns_at (ending_at rows_setting)))) table_bytes IsTable (λ bytes. refl)
-    (mapped-lawful whole_table (both table_head_at (both columns_at (ending_at rows_setting))) (λ x. table_head_bytes x.0 ++ (listed_bytes column_bytes x.1.0 ++ ending_bytes rows_setting x.1.1)) table_bytes
+table_lawful =
+    same_lawful table_at (mapped whole_table (both table_head_at (both columns_at (ending_at rows_setting)))) table_bytes IsTable (λ bytes. refl)
+    (mapped_lawful whole_table (both table_head_at (both columns_at (ending_at rows_setting))) (λ x. table_head_bytes x.0 ++ (listed_bytes column_bytes x.1.0 ++ ending_bytes rows_setting x.1.1)) table_bytes
     (λ x. IsNamed x.0 × (AreListed IsColumn x.1.0 × IsSetting x.1.1)) IsTable (λ a i. (record { named = i.0; columns = i.1.0; rows = i.1.1 }, table_grouped (whole_table a)))
-    (both-lawful table_head_at (both columns_at (ending_at rows_setting)) table_head_bytes (λ x. listed_bytes column_bytes x.0 ++ ending_bytes rows_setting x.1) IsNamed (λ x. AreListed IsColumn x.0 × IsSetting x.1)
-    (some_column ∷ [], None) (is_some, tt) table_head-lawful
-    (both-lawful columns_at (ending_at rows_setting) (listed_bytes column_bytes) (ending_bytes rows_setting) (AreListed IsColumn) IsSetting None tt columns-lawful (ending-lawful rows_setting))))
+    (both_lawful table_head_at (both columns_at (ending_at rows_setting)) table_head_bytes (λ x. listed_bytes column_bytes x.0 ++ ending_bytes rows_setting x.1) IsNamed (λ x. AreListed IsColumn x.0 × IsSetting x.1)
+    (some_column ∷ [], None) (is_some, tt) table_head_lawful
+    (both_lawful columns_at (ending_at rows_setting) (listed_bytes column_bytes) (ending_bytes rows_setting) (AreListed IsColumn) IsSetting None tt columns_lawful (ending_lawful rows_setting))))
 
 abbrev name_behind : Unit {0} × List ℕ → List ℕ
 name_behind x = x.1
@@ -56,19 +56,19 @@ name_behind x = x.1
 abbrev index_head_bytes : List ℕ → List ℕ
 index_head_bytes name = codes "index " ++ name
 
-index_head-lawful : Lawful index_head_at index_head_bytes IsNamed
+index_head_lawful : Lawful index_head_at index_head_bytes IsNamed
 unfolding index_head_at
-index_head-lawful =
-    same-lawful index_head_at (mapped name_behind (both (word_at (codes "index ")) name_at)) index_head_bytes IsNamed (λ bytes. refl)
-    (mapped-lawful name_behind (both (word_at (codes "index ")) name_at) (λ x. codes "index " ++ x.1) index_head_bytes (λ x. Unit {0} × IsNamed x.1) IsNamed (λ a i. (i.1, refl))
-    (both-lawful (word_at (codes "index ")) name_at (λ x. codes "index ") (λ name. name) (λ x. Unit {0}) IsNamed (97 ∷ []) one_letter (word-lawful (codes "index ")) name-lawful))
+index_head_lawful =
+    same_lawful index_head_at (mapped name_behind (both (word_at (codes "index ")) name_at)) index_head_bytes IsNamed (λ bytes. refl)
+    (mapped_lawful name_behind (both (word_at (codes "index ")) name_at) (λ x. codes "index " ++ x.1) index_head_bytes (λ x. Unit {0} × IsNamed x.1) IsNamed (λ a i. (i.1, refl))
+    (both_lawful (word_at (codes "index ")) name_at (λ x. codes "index ") (λ name. name) (λ x. Unit {0}) IsNamed (97 ∷ []) one_letter (word_lawful (codes "index ")) name_lawful))
 
 abbrev on_bytes : List ℕ → List ℕ
 on_bytes name = codes " on " ++ (name ++ 40 ∷ [])
 
-on-lawful : Lawful on_at on_bytes IsNamed
+on_lawful : Lawful on_at on_bytes IsNamed
 unfolding on_at
-on-lawful = same-lawful on_at (mapped name_between (both (word_at (codes " on ")) (both name_at (byte_at 40)))) on_bytes IsNamed (λ bytes. refl) (between-lawful (codes " on "))
+on_lawful = same_lawful on_at (mapped name_between (both (word_at (codes " on ")) (both name_at (byte_at 40)))) on_bytes IsNamed (λ bytes. refl) (between_lawful (codes " on "))
 
 abbrev whole_index : List ℕ × (List ℕ × (List PartText × Setting)) → IndexText
 whole_index x = record { name = x.0; table = x.1.0; parts = x.1.1.0; pages = x.1.1.1 }
@@ -77,122 +77,132 @@ abbrev behind_on_bytes : List PartText → Setting → List ℕ
 behind_on_bytes parts pages = parts_bytes parts ++ ending_bytes pages_setting pages
 
 -- the bytes of an index, one part behind another
-index_grouped : (i : IndexText) → index_bytes i ≡ index_head_bytes i.name ++ (on_bytes i.table ++ behind_on_bytes i.parts i.pages)
+abbrev grouped_bytes : IndexText → List ℕ
+grouped_bytes i = index_head_bytes i.name ++ (on_bytes i.table ++ behind_on_bytes i.parts i.pages)
+
+index_grouped : (i : IndexText) → index_bytes i ≡ grouped_bytes i
 index_grouped i = simp append_assoc
 
-index-lawful : Lawful index_at index_bytes IsIndex
+-- the parts of an index, one behind another
+abbrev ArePartsOf : IndexText → Type 0
+ArePartsOf i = IsNamed i.name × (IsNamed i.table × (AreListed IsPart i.parts × IsSetting i.pages))
+
+index_of : (i : IndexText) → ArePartsOf i → IsIndex i
+index_of i (named, (table, (parts, pages))) = record { named = named; table = table; parts = parts; pages = pages }
+
+index_lawful : Lawful index_at index_bytes IsIndex
 unfolding index_at
-index-lawful =
-    same-lawful index_at (mapped whole_index (both index_head_at (both on_at (both parts_at (ending_at pages_setting))))) index_bytes IsIndex (λ bytes. refl)
-    (mapped-lawful whole_index (both index_head_at (both on_at (both parts_at (ending_at pages_setting)))) (λ x. index_head_bytes x.0 ++ (on_bytes x.1.0 ++ behind_on_bytes x.1.1.0 x.1.1.1)) index_bytes
-    (λ x. IsNamed x.0 × (IsNamed x.1.0 × (AreListed IsPart x.1.1.0 × IsSetting x.1.1.1))) IsIndex (λ a i. (record { named = i.0; table = i.1.0; parts = i.1.1.0; pages = i.1.1.1 }, index_grouped (whole_index a)))
-    (both-lawful index_head_at (both on_at (both parts_at (ending_at pages_setting))) index_head_bytes (λ x. on_bytes x.0 ++ behind_on_bytes x.1.0 x.1.1) IsNamed (λ x. IsNamed x.0 × (AreListed IsPart x.1.0 × IsSetting x.1.1))
-    (97 ∷ [], (some_part ∷ [], None)) (one_letter, (are_some, tt)) index_head-lawful
-    (both-lawful on_at (both parts_at (ending_at pages_setting)) on_bytes (λ x. behind_on_bytes x.0 x.1) IsNamed (λ x. AreListed IsPart x.0 × IsSetting x.1) (some_part ∷ [], None) (are_some, tt) on-lawful
-    (both-lawful parts_at (ending_at pages_setting) parts_bytes (ending_bytes pages_setting) (AreListed IsPart) IsSetting None tt parts-lawful (ending-lawful pages_setting)))))
+index_lawful =
+    same_lawful index_at (mapped whole_index (both index_head_at (both on_at (both parts_at (ending_at pages_setting))))) index_bytes IsIndex (λ bytes. refl)
+    (mapped_lawful whole_index (both index_head_at (both on_at (both parts_at (ending_at pages_setting)))) (λ x. grouped_bytes (whole_index x)) index_bytes
+    (λ x. ArePartsOf (whole_index x)) IsIndex (λ a i. (index_of (whole_index a) i, index_grouped (whole_index a)))
+    (both_lawful index_head_at (both on_at (both parts_at (ending_at pages_setting))) index_head_bytes (λ x. on_bytes x.0 ++ behind_on_bytes x.1.0 x.1.1) IsNamed (λ x. IsNamed x.0 × (AreListed IsPart x.1.0 × IsSetting x.1.1))
+    (97 ∷ [], (some_part ∷ [], None)) (one_letter, (are_some, tt)) index_head_lawful
+    (both_lawful on_at (both parts_at (ending_at pages_setting)) on_bytes (λ x. behind_on_bytes x.0 x.1) IsNamed (λ x. AreListed IsPart x.0 × IsSetting x.1) (some_part ∷ [], None) (are_some, tt) on_lawful
+    (both_lawful parts_at (ending_at pages_setting) parts_bytes (ending_bytes pages_setting) (AreListed IsPart) IsSetting None tt parts_lawful (ending_lawful pages_setting)))))
 
 abbrev pub is_t : ℕ → Bool
 is_t c = c == 116
 
-pub declaration-lawful : Lawful declaration_at bytes_of IsDeclaration
+pub declaration_lawful : Lawful declaration_at bytes_of IsDeclaration
 unfolding declaration_at
-declaration-lawful =
-    same-lawful declaration_at (choice is_t (mapped OfTable table_at) (mapped OfIndex index_at)) bytes_of IsDeclaration (λ bytes. refl)
-    (choice-lawful is_t (mapped OfTable table_at) (mapped OfIndex index_at) bytes_of IsDeclaration
-    (mapped-lawful OfTable table_at table_bytes bytes_of IsTable IsDeclaration (λ a i. (i, refl)) table-lawful)
-    (mapped-lawful OfIndex index_at index_bytes bytes_of IsIndex IsDeclaration (λ a i. (i, refl)) index-lawful))
+declaration_lawful =
+    same_lawful declaration_at (choice is_t (mapped OfTable table_at) (mapped OfIndex index_at)) bytes_of IsDeclaration (λ bytes. refl)
+    (choice_lawful is_t (mapped OfTable table_at) (mapped OfIndex index_at) bytes_of IsDeclaration
+    (mapped_lawful OfTable table_at table_bytes bytes_of IsTable IsDeclaration (λ a i. (i, refl)) table_lawful)
+    (mapped_lawful OfIndex index_at index_bytes bytes_of IsIndex IsDeclaration (λ a i. (i, refl)) index_lawful))
 
 -- a setting at the end is read
-last-complete : (word : List ℕ) (said : Setting) → IsSetting said → ending_at (32 ∷ word) (ending_bytes (32 ∷ word) said) ≡ Ok (said, [])
-last-complete word said i = ap (ending_at (32 ∷ word)) (sym (append-nil (ending_bytes (32 ∷ word) said))) ∙ ending-complete word said [] i nothing_ends
+last_complete : (word : List ℕ) (said : Setting) → IsSetting said → ending_at (32 ∷ word) (ending_bytes (32 ∷ word) said) ≡ Ok (said, [])
+last_complete word said i = ap (ending_at (32 ∷ word)) (sym (append-nil (ending_bytes (32 ∷ word) said))) ∙ ending_complete word said [] i nothing_ends
 
-between-complete : (word name rest : List ℕ) → IsNamed name → mapped name_between (both (word_at word) (both name_at (byte_at 40))) (word ++ (name ++ 40 ∷ rest)) ≡ Ok (name, rest)
-between-complete word name rest i =
-    mapped-read name_between (both (word_at word) (both name_at (byte_at 40))) (word ++ (name ++ 40 ∷ rest)) ((tt, (name, tt)), rest)
-    (both-read (word_at word) (both name_at (byte_at 40)) (word ++ (name ++ 40 ∷ rest)) (tt, name ++ 40 ∷ rest) ((name, tt), rest) (word-complete word (name ++ 40 ∷ rest))
-    (both-read name_at (byte_at 40) (name ++ 40 ∷ rest) (name, 40 ∷ rest) (tt, rest) (name-complete name (40 ∷ rest) i refl) refl))
+between_complete : (word name rest : List ℕ) → IsNamed name → mapped name_between (both (word_at word) (both name_at (byte_at 40))) (word ++ (name ++ 40 ∷ rest)) ≡ Ok (name, rest)
+between_complete word name rest i =
+    mapped_read name_between (both (word_at word) (both name_at (byte_at 40))) (word ++ (name ++ 40 ∷ rest)) ((tt, (name, tt)), rest)
+    (both_read (word_at word) (both name_at (byte_at 40)) (word ++ (name ++ 40 ∷ rest)) (tt, name ++ 40 ∷ rest) ((name, tt), rest) (word_complete word (name ++ 40 ∷ rest))
+    (both_read name_at (byte_at 40) (name ++ 40 ∷ rest) (name, 40 ∷ rest) (tt, rest) (name_complete name (40 ∷ rest) i refl) refl))
 
-table-complete : (t : TableText) → IsTable t → table_at (table_bytes t) ≡ Ok (t, [])
+table_complete : (t : TableText) → IsTable t → table_at (table_bytes t) ≡ Ok (t, [])
 unfolding table_at table_head_at
-table-complete t i =
+table_complete t i =
     let ending : List ℕ = ending_bytes rows_setting t.rows in
     let grouped : table_bytes t ≡ codes "table " ++ (t.name ++ 40 ∷ (listed_bytes column_bytes t.columns ++ ending)) = simp append_assoc in
     ap (mapped whole_table (both table_head_at (both columns_at (ending_at rows_setting)))) grouped
-    ∙ mapped-read whole_table (both table_head_at (both columns_at (ending_at rows_setting))) (codes "table " ++ (t.name ++ 40 ∷ (listed_bytes column_bytes t.columns ++ ending))) ((t.name, (t.columns, t.rows)), [])
-    (both-read table_head_at (both columns_at (ending_at rows_setting)) (codes "table " ++ (t.name ++ 40 ∷ (listed_bytes column_bytes t.columns ++ ending))) (t.name, listed_bytes column_bytes t.columns ++ ending) ((t.columns, t.rows), [])
-    (between-complete (codes "table ") t.name (listed_bytes column_bytes t.columns ++ ending) i.named)
-    (both-read columns_at (ending_at rows_setting) (listed_bytes column_bytes t.columns ++ ending) (t.columns, ending) (t.rows, [])
-    (columns-complete t.columns ending i.columns refl refl) (last-complete (codes "rows_per_page ") t.rows i.rows)))
+    ∙ mapped_read whole_table (both table_head_at (both columns_at (ending_at rows_setting))) (codes "table " ++ (t.name ++ 40 ∷ (listed_bytes column_bytes t.columns ++ ending))) ((t.name, (t.columns, t.rows)), [])
+    (both_read table_head_at (both columns_at (ending_at rows_setting)) (codes "table " ++ (t.name ++ 40 ∷ (listed_bytes column_bytes t.columns ++ ending))) (t.name, listed_bytes column_bytes t.columns ++ ending) ((t.columns, t.rows), [])
+    (between_complete (codes "table ") t.name (listed_bytes column_bytes t.columns ++ ending) i.named)
+    (both_read columns_at (ending_at rows_setting) (listed_bytes column_bytes t.columns ++ ending) (t.columns, ending) (t.rows, [])
+    (columns_complete t.columns ending i.columns refl refl) (last_complete (codes "rows_per_page ") t.rows i.rows)))
 
-index_head-complete : (name rest : List ℕ) → IsNamed name → index_head_at (codes "index " ++ (name ++ 32 ∷ rest)) ≡ Ok (name, 32 ∷ rest)
+index_head_complete : (name rest : List ℕ) → IsNamed name → index_head_at (codes "index " ++ (name ++ 32 ∷ rest)) ≡ Ok (name, 32 ∷ rest)
 unfolding index_head_at
-index_head-complete name rest i =
-    mapped-read name_behind (both (word_at (codes "index ")) name_at) (codes "index " ++ (name ++ 32 ∷ rest)) ((tt, name), 32 ∷ rest)
-    (both-read (word_at (codes "index ")) name_at (codes "index " ++ (name ++ 32 ∷ rest)) (tt, name ++ 32 ∷ rest) (name, 32 ∷ rest) (word-complete (codes "index ") (name ++ 32 ∷ rest)) (name-complete name (32 ∷ rest) i refl))
+index_head_complete name rest i =
+    mapped_read name_behind (both (word_at (codes "index ")) name_at) (codes "index " ++ (name ++ 32 ∷ rest)) ((tt, name), 32 ∷ rest)
+    (both_read (word_at (codes "index ")) name_at (codes "index " ++ (name ++ 32 ∷ rest)) (tt, name ++ 32 ∷ rest) (name, 32 ∷ rest) (word_complete (codes "index ") (name ++ 32 ∷ rest)) (name_complete name (32 ∷ rest) i refl))
 
-index-complete : (i : IndexText) → IsIndex i → index_at (index_bytes i) ≡ Ok (i, [])
+index_complete : (i : IndexText) → IsIndex i → index_at (index_bytes i) ≡ Ok (i, [])
 unfolding index_at on_at
-index-complete i h =
+index_complete i h =
     let ending : List ℕ = ending_bytes pages_setting i.pages in
     let parts : List ℕ = parts_bytes i.parts ++ ending in
     let on : List ℕ = codes " on " ++ (i.table ++ 40 ∷ parts) in
     let grouped : index_bytes i ≡ codes "index " ++ (i.name ++ on) = simp append_assoc in
     ap (mapped whole_index (both index_head_at (both on_at (both parts_at (ending_at pages_setting))))) grouped
-    ∙ mapped-read whole_index (both index_head_at (both on_at (both parts_at (ending_at pages_setting)))) (codes "index " ++ (i.name ++ on)) ((i.name, (i.table, (i.parts, i.pages))), [])
-    (both-read index_head_at (both on_at (both parts_at (ending_at pages_setting))) (codes "index " ++ (i.name ++ on)) (i.name, on) ((i.table, (i.parts, i.pages)), [])
-    (index_head-complete i.name (codes "on " ++ (i.table ++ 40 ∷ parts)) h.named)
-    (both-read on_at (both parts_at (ending_at pages_setting)) on (i.table, parts) ((i.parts, i.pages), [])
-    (between-complete (codes " on ") i.table parts h.table)
-    (both-read parts_at (ending_at pages_setting) parts (i.parts, ending) (i.pages, [])
-    (parts-complete i.parts ending h.parts refl (record { no_space = refl; no_digit = refl })) (last-complete (codes "pages_per_range ") i.pages h.pages))))
+    ∙ mapped_read whole_index (both index_head_at (both on_at (both parts_at (ending_at pages_setting)))) (codes "index " ++ (i.name ++ on)) ((i.name, (i.table, (i.parts, i.pages))), [])
+    (both_read index_head_at (both on_at (both parts_at (ending_at pages_setting))) (codes "index " ++ (i.name ++ on)) (i.name, on) ((i.table, (i.parts, i.pages)), [])
+    (index_head_complete i.name (codes "on " ++ (i.table ++ 40 ∷ parts)) h.named)
+    (both_read on_at (both parts_at (ending_at pages_setting)) on (i.table, parts) ((i.parts, i.pages), [])
+    (between_complete (codes " on ") i.table parts h.table)
+    (both_read parts_at (ending_at pages_setting) parts (i.parts, ending) (i.pages, [])
+    (parts_complete i.parts ending h.parts refl (record { no_space = refl; no_digit = refl })) (last_complete (codes "pages_per_range ") i.pages h.pages))))
 
 -- a declaration is read
-pub declaration-complete : (d : DeclarationText) → IsDeclaration d → declaration_at (bytes_of d) ≡ Ok (d, [])
+pub declaration_complete : (d : DeclarationText) → IsDeclaration d → declaration_at (bytes_of d) ≡ Ok (d, [])
 unfolding declaration_at
-declaration-complete (OfTable t) i = mapped-read OfTable table_at (table_bytes t) (t, []) (table-complete t i)
-declaration-complete (OfIndex x) i = mapped-read OfIndex index_at (index_bytes x) (x, []) (index-complete x i)
+declaration_complete (OfTable t) i = mapped_read OfTable table_at (table_bytes t) (t, []) (table_complete t i)
+declaration_complete (OfIndex x) i = mapped_read OfIndex index_at (index_bytes x) (x, []) (index_complete x i)
 
-pub table-stops_in_head : (text rest : List ℕ) → table_head_at text ≡ Err rest → table_at text ≡ Err rest
+pub table_stops_in_head : (text rest : List ℕ) → table_head_at text ≡ Err rest → table_at text ≡ Err rest
 unfolding table_at
-table-stops_in_head text rest e =
-    mapped-stops whole_table (both table_head_at (both columns_at (ending_at rows_setting))) text rest (both-stops table_head_at (both columns_at (ending_at rows_setting)) text rest e)
+table_stops_in_head text rest e =
+    mapped_stops whole_table (both table_head_at (both columns_at (ending_at rows_setting))) text rest (both_stops table_head_at (both columns_at (ending_at rows_setting)) text rest e)
 
 module _ (text name : List ℕ) (behind : List ℕ) (head : table_head_at text ≡ Ok (name, behind)) where
   -- a table whose parts are read
-  pub table-parts : (columns : List Column) (last : List ℕ) (rows : Setting) (rest : List ℕ) → columns_at behind ≡ Ok (columns, last) → ending_at rows_setting last ≡ Ok (rows, rest)
+  pub table_parts : (columns : List Column) (last : List ℕ) (rows : Setting) (rest : List ℕ) → columns_at behind ≡ Ok (columns, last) → ending_at rows_setting last ≡ Ok (rows, rest)
       → table_at text ≡ Ok (record { name = name; columns = columns; rows = rows }, rest)
   unfolding table_at
-  table-parts columns last rows rest e k =
-      mapped-read whole_table (both table_head_at (both columns_at (ending_at rows_setting))) text ((name, (columns, rows)), rest)
-      (both-read table_head_at (both columns_at (ending_at rows_setting)) text (name, behind) ((columns, rows), rest) head
-      (both-read columns_at (ending_at rows_setting) behind (columns, last) (rows, rest) e k))
+  table_parts columns last rows rest e k =
+      mapped_read whole_table (both table_head_at (both columns_at (ending_at rows_setting))) text ((name, (columns, rows)), rest)
+      (both_read table_head_at (both columns_at (ending_at rows_setting)) text (name, behind) ((columns, rows), rest) head
+      (both_read columns_at (ending_at rows_setting) behind (columns, last) (rows, rest) e k))
 
-  pub table-stops_in_columns : (rest : List ℕ) → columns_at behind ≡ Err rest → table_at text ≡ Err rest
+  pub table_stops_in_columns : (rest : List ℕ) → columns_at behind ≡ Err rest → table_at text ≡ Err rest
   unfolding table_at
-  table-stops_in_columns rest e =
-      mapped-stops whole_table (both table_head_at (both columns_at (ending_at rows_setting))) text rest
-      (both-stops_behind table_head_at (both columns_at (ending_at rows_setting)) text (name, behind) rest head (both-stops columns_at (ending_at rows_setting) behind rest e))
+  table_stops_in_columns rest e =
+      mapped_stops whole_table (both table_head_at (both columns_at (ending_at rows_setting))) text rest
+      (both_stops_behind table_head_at (both columns_at (ending_at rows_setting)) text (name, behind) rest head (both_stops columns_at (ending_at rows_setting) behind rest e))
 
-  pub table-stops_behind_columns : (columns : List Column) (last rest : List ℕ) → columns_at behind ≡ Ok (columns, last) → ending_at rows_setting last ≡ Err rest → table_at text ≡ Err rest
+  pub table_stops_behind_columns : (columns : List Column) (last rest : List ℕ) → columns_at behind ≡ Ok (columns, last) → ending_at rows_setting last ≡ Err rest → table_at text ≡ Err rest
   unfolding table_at
-  table-stops_behind_columns columns last rest e k =
-      mapped-stops whole_table (both table_head_at (both columns_at (ending_at rows_setting))) text rest
-      (both-stops_behind table_head_at (both columns_at (ending_at rows_setting)) text (name, behind) rest head (both-stops_behind columns_at (ending_at rows_setting) behind (columns, last) rest e k))
+  table_stops_behind_columns columns last rest e k =
+      mapped_stops whole_table (both table_head_at (both columns_at (ending_at rows_setting))) text rest
+      (both_stops_behind table_head_at (both columns_at (ending_at rows_setting)) text (name, behind) rest head (both_stops_behind columns_at (ending_at rows_setting) behind (columns, last) rest e k))
 
 -- what begins with `t` is read as a table
-pub declaration-table : (text : List ℕ) (t : TableText) (rest : List ℕ) → begins is_t text ≡ true → table_at text ≡ Ok (t, rest) → declaration_at text ≡ Ok (OfTable t, rest)
+pub declaration_table : (text : List ℕ) (t : TableText) (rest : List ℕ) → begins is_t text ≡ true → table_at text ≡ Ok (t, rest) → declaration_at text ≡ Ok (OfTable t, rest)
 unfolding declaration_at
-declaration-table text t rest b e = choice-first is_t (mapped OfTable table_at) (mapped OfIndex index_at) text b ∙ mapped-read OfTable table_at text (t, rest) e
+declaration_table text t rest b e = choice_first is_t (mapped OfTable table_at) (mapped OfIndex index_at) text b ∙ mapped_read OfTable table_at text (t, rest) e
 
-pub declaration-table_stops : (text rest : List ℕ) → begins is_t text ≡ true → table_at text ≡ Err rest → declaration_at text ≡ Err rest
+pub declaration_table_stops : (text rest : List ℕ) → begins is_t text ≡ true → table_at text ≡ Err rest → declaration_at text ≡ Err rest
 unfolding declaration_at
-declaration-table_stops text rest b e = choice-first is_t (mapped OfTable table_at) (mapped OfIndex index_at) text b ∙ mapped-stops OfTable table_at text rest e
+declaration_table_stops text rest b e = choice_first is_t (mapped OfTable table_at) (mapped OfIndex index_at) text b ∙ mapped_stops OfTable table_at text rest e
 
 -- and else as an index
-pub declaration-index : (text : List ℕ) (i : IndexText) (rest : List ℕ) → begins is_t text ≡ false → index_at text ≡ Ok (i, rest) → declaration_at text ≡ Ok (OfIndex i, rest)
+pub declaration_index : (text : List ℕ) (i : IndexText) (rest : List ℕ) → begins is_t text ≡ false → index_at text ≡ Ok (i, rest) → declaration_at text ≡ Ok (OfIndex i, rest)
 unfolding declaration_at
-declaration-index text i rest b e = choice-second is_t (mapped OfTable table_at) (mapped OfIndex index_at) text b ∙ mapped-read OfIndex index_at text (i, rest) e
+declaration_index text i rest b e = choice_second is_t (mapped OfTable table_at) (mapped OfIndex index_at) text b ∙ mapped_read OfIndex index_at text (i, rest) e
 
-pub declaration-index_stops : (text rest : List ℕ) → begins is_t text ≡ false → index_at text ≡ Err rest → declaration_at text ≡ Err rest
+pub declaration_index_stops : (text rest : List ℕ) → begins is_t text ≡ false → index_at text ≡ Err rest → declaration_at text ≡ Err rest
 unfolding declaration_at
-declaration-index_stops text rest b e = choice-second is_t (mapped OfTable table_at) (mapped OfIndex index_at) text b ∙ mapped-stops OfIndex index_at text rest e
+declaration_index_stops text rest b e = choice_second is_t (mapped OfTable table_at) (mapped OfIndex index_at) text b ∙ mapped_stops OfIndex index_at text rest e

@@ -4,6 +4,7 @@ use Rattle.std.specs.List.{position_from}
 use Rattle.std.specs.Str.{bytes_eq}
 use Rattle.block_model.specs.IndexedColumns.{columns_in}
 use Rattle.block_model.specs.RowSize.{row_size}
+use Rattle.block_model.specs.declared.limits.TheConstants.{PAGE_ROOM}
 use Rattle.block_model.specs.declared.schema.Class.{Class}
 use Rattle.block_model.specs.declared.schema.Class.TheVariants as classes
 use Rattle.block_model.specs.declared.schema.Column.{Column}
@@ -15,7 +16,7 @@ use Rattle.text_reading.specs.Digits.{digits_from}
 use Rattle.schema_words.specs.DeclarationTexts.{TableText, ClassText, MinMax, Multi, Inclusion, Bloom, PartText, part_bytes, IndexText, before_table, before_parts, DeclarationText, OfTable, OfIndex, bytes_of, IsDeclaration}
 
 -- the number of the digits, or where it doesn't fit so many bits the greatest that does, which no limit allows: limits are
--- judged of the schema (FirstBrokenRule of block_model), and not of the digits
+-- judged of the schema (FirstBrokenRule of store_layout), and not of the digits
 abbrev pub number_within : ℕ → List ℕ → ℕ
 number_within bits digits = min (digits_from 0 digits) (2 ^ bits - 1)
 
@@ -24,9 +25,9 @@ abbrev pub number_said : ℕ → ℕ → Option (List ℕ) → ℕ
 number_said bits usual None = usual
 number_said bits usual (Some digits) = number_within bits digits
 
--- how many rows fit the 8160 bytes of a page behind its header
+-- how many rows fit a page behind its header
 abbrev pub most_rows : List Column → ℕ
-most_rows columns = 8160 / row_size (map (λ c. c.kind) columns)
+most_rows columns = PAGE_ROOM / row_size (map (λ c. c.kind) columns)
 
 -- a table: without a number of rows per page, as many as fit
 abbrev pub table_of : TableText → Table

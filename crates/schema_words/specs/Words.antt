@@ -104,7 +104,7 @@ IsRead kept wanted (code.Index word) (OfIndex text) = (index_text word ≡ text)
 IsRead kept wanted word text = ⊥
 
 -- the bytes are a declaration, of which the word has the parts
-pub record Reads (kept : Option (List Column)) (wanted bytes : List ℕ) (word : Declaration) : Type 0 where
+pub record ReadsDeclaration (kept : Option (List Column)) (wanted bytes : List ℕ) (word : Declaration) : Type 0 where
   pub text : DeclarationText
   pub of_grammar : IsDeclaration text
   pub bytes_are : bytes ≡ bytes_of text

@@ -1,4 +1,4 @@
-// The operator class of an indexed column.
+//! The operator class of an indexed column.
 
 ghost use Rattle.std.specs.Prelude.{◌≡◌};
 ghost use Rattle.text_reading.specs.Reading.{Gives};
@@ -7,7 +7,7 @@ ghost use Rattle.schema_words.specs.DeclaredSchema.{number_said, class_of};
 ghost use Rattle.schema_words.specs.Words.{class_text, said};
 
 use crate::setting::{number_u8, number_u16, setting};
-use block_model::schema::Class;
+use block_model::Class;
 use text_reading::{Reading, byte, digits, word};
 
 /// An operator class as it is written, with the digits of its numbers.

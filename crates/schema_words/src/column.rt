@@ -1,4 +1,4 @@
-// The columns of a table.
+//! The columns of a table.
 
 ghost use Rattle.std.specs.Prelude.{◌≡◌, ◌||◌, ◌∷◌, [], IfOk};
 ghost use Rattle.std.specs.Str.{bytes_eq};
@@ -9,8 +9,7 @@ ghost use Rattle.schema_words.specs.Words.{GivesAs, KeepsMore, AreRead, column_o
 
 use crate::list::{MORE_ITEMS, behind_comma};
 use crate::name::{known_name, name};
-use block_model::schema::{Column, Columns};
-use block_model::value::Kind;
+use block_model::{Column, Columns, Kind};
 use text_reading::{Reading, byte, word};
 
 /// What is known of columns that were read: their list, None where it isn't kept or memory was wanting, and whether one has

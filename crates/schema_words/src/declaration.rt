@@ -1,15 +1,15 @@
-// A declaration, one word.
+//! A declaration, one word.
 
 ghost use Rattle.std.specs.Prelude.{◌≡◌, ◌==◌, MatchResult};
 ghost use Rattle.text_reading.specs.Reading.{begins, whole};
 ghost use Rattle.text_reading.specs.StopsAt.{StopsAt};
 ghost use Rattle.schema_words.specs.DeclarationTexts.{bytes_of, IsDeclaration};
 ghost use Rattle.schema_words.specs.DeclarationReading.{declaration_at};
-ghost use Rattle.schema_words.specs.Words.{GivesAs, IsRead, Reads};
+ghost use Rattle.schema_words.specs.Words.{GivesAs, IsRead, ReadsDeclaration};
 
 use crate::index::{IndexWord, index};
 use crate::table::{TableWord, table};
-use block_model::schema::Columns;
+use block_model::Columns;
 use text_reading::{Reading, end};
 
 /// A declaration as it is written.
@@ -25,7 +25,7 @@ pub fn read_declaration<'a>(
     wanted: &[u8],
     text: &'a [u8],
 ) -> Result<Declaration<'a>, usize>
-    ensures { MatchResult result (Reads kept wanted.now text.now) (StopsAt bytes_of IsDeclaration text.now) }
+    ensures { MatchResult result (ReadsDeclaration kept wanted.now text.now) (StopsAt bytes_of IsDeclaration text.now) }
 {
     match all_of(kept, wanted, text) {
         Ok((declaration, _)) => Ok(declaration),

@@ -1,4 +1,4 @@
-// The declarations of a command line.
+//! The declarations of a command line.
 
 ghost use Rattle.std.specs.Prelude.{◌≡◌, ℕ, Err, IfOk};
 ghost use Rattle.schema_words.specs.DeclaredSchema.{Denotes};
@@ -6,22 +6,24 @@ ghost use Rattle.schema_words.specs.FirstFault.{IsFirstFault, Answers};
 
 use crate::declare::{WordFault, declare};
 use crate::judge::first_fault;
-use block_model::schema::{Indexes, Schema, Tables};
-use block_model::words::Words;
+use block_model::{Indexes, Schema, Tables, Words};
 use std::alloc::Global;
+use thiserror::Error;
 
 /// Why words are no schema.
-#[derive(Clone, Copy, Debug, PartialEq, Eq)]
+#[derive(Clone, Copy, Debug, PartialEq, Eq, Error)]
 pub enum DeclFault {
     /// They are no list of declarations: `word` is the number, from 0, of the first word that is none behind those before
     /// it, and `at` the byte in it where no declaration goes on (its length where one could go on and it ends), or the first
     /// byte of the name of a table that isn't declared before it, or of a column that the table lacks.
+    #[error("word {word} is no declaration behind those before it: byte {at} is at fault")]
     Form { word: usize, at: usize },
     /// They are, and memory was wanting.
+    #[error("out of memory for the schema")]
     Memory,
 }
 
-/// Reads words, each a declaration, as the schema that they denote. Takes memory for the schema.
+/// ReadsDeclaration words, each a declaration, as the schema that they denote. Takes memory for the schema.
 pub fn read_declarations(alloc: Global, words: &Words) -> Result<Schema, DeclFault>
     // A list of declarations is read as the schema that it denotes, unless memory is wanting, and nothing else is.
     ensures read { IfOk result (λ schema. Denotes words.now schema) }
@@ -35,7 +37,7 @@ pub fn read_declarations(alloc: Global, words: &Words) -> Result<Schema, DeclFau
         tables: Tables::new(alloc),
         indexes: Indexes::new(alloc),
     };
-    for word in 0..words.len() {
+    'words: for word in 0..words.len() {
         match declare(alloc, &mut schema, words.word(word)) {
             Ok(()) => {}
             Err(WordFault::Form { at }) => return Err(DeclFault::Form { word, at }),

@@ -1,4 +1,4 @@
-// What a word adds to a schema.
+//! What a word adds to a schema.
 
 ghost use Rattle.std.specs.Prelude.{◌≡◌, ℕ, [], ◌∷◌, ◌++◌, Ok, Err, OnOk, OnErr, IfOk, IfSome, ◌<◌, ◌≤◌, length, MatchOption};
 ghost use Rattle.schema_words.specs.DeclarationTexts.{IsNamed};
@@ -11,7 +11,7 @@ use crate::index::IndexWord;
 use crate::name::known_name;
 use crate::part::{PartWord, first_part};
 use crate::table::TableWord;
-use block_model::schema::{Column, Columns, Index, Indexes, Part, Parts, Schema, Table, Tables};
+use block_model::{Column, Columns, Index, Indexes, Part, Parts, Schema, Table, Tables};
 use std::alloc::Global;
 
 /// Why a word declares nothing: the byte at which it is at fault, or want of memory.
@@ -66,10 +66,7 @@ fn add_index(
             at: index.table_place(),
         });
     };
-    let parts = match parts_among(alloc, tables[table].columns.as_slice(), index) {
-        Ok(parts) => parts,
-        Err(fault) => return Err(fault),
-    };
+    let parts = parts_among(alloc, tables[table].columns.as_slice(), index)?;
     match indexes.push(index_on(index, table, parts)) {
         Ok(()) => Ok(()),
         Err(_) => Err(WordFault::Memory),

@@ -1,4 +1,4 @@
-// The declaration of an index.
+//! The declaration of an index.
 
 ghost use Rattle.std.specs.Prelude.{◌≡◌, ◌+◌, ◌-◌, ◌≤◌, length, IfOk};
 ghost use Rattle.text_reading.specs.Reading.{Gives};

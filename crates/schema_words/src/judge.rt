@@ -1,4 +1,4 @@
-// Words judged without memory.
+//! Words judged without memory.
 
 ghost use Rattle.std.specs.Prelude.{◌≡◌, ℕ, ◌<◌, ◌≤◌, List, [], slice_index_or, length, take, Ok, Err, MatchResult};
 ghost use Rattle.block_model.specs.declared.schema.Schema.{Schema};
@@ -13,14 +13,14 @@ use crate::declaration::{Declaration, read_declaration};
 use crate::declarations::DeclFault;
 use crate::index::IndexWord;
 use crate::part::first_part;
-use block_model::words::Words;
+use block_model::Words;
 
 /// The first fault of the words, or want of memory where they have none. Takes no memory.
 pub fn first_fault(words: &Words) -> DeclFault
     ensures form { (word at : ℕ) → result ≡ DeclFault.Form word at → IsFirstFault words.now word at }
     ensures memory { result ≡ DeclFault.Memory → (schema : Schema) × Denotes words.now schema }
 {
-    for word in 0..words.len() {
+    'words: for word in 0..words.len() {
         if let Err(at) = judge(words, word) {
             return DeclFault::Form { word, at };
         }
@@ -47,7 +47,7 @@ fn judge_index(words: &Words, word: usize, index: &IndexWord<'_>) -> Result<(), 
     requires index { IsIndexWord index.now }
     ensures { (before : Schema) → Denotes (take word words.now) before → MatchResult result (λ u. (added : Index) × (index_among before.tables (index_text index.now) ≡ Ok added)) (λ at. index_among before.tables (index_text index.now) ≡ Err at) }
 {
-    for earlier in 0..word {
+    'words: for earlier in 0..word {
         let text = words.word(earlier);
         if is_table(text, index.table) {
             return judge_parts(text, index);

@@ -1,4 +1,4 @@
-// What words and schemas are to one another.
+//! What words and schemas are to one another.
 
 ghost use Rattle.schema_words.specs.Laws.{BytesAreOneDeclaration, WordsDenoteOneSchema, FaultyWordsDenoteNothing};
 

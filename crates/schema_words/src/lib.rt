@@ -1,8 +1,8 @@
-// The declarations of a command line, one word each: `read_declarations` answers Ok exactly on the lists of declarations, with
-// the schema that they denote (specs/DeclaredSchema.antt), and else names the first word at fault and the byte in it. Limits
-// of a schema, as how many tables it has or which names are taken, aren't judged here: `Layout::new` of block_model judges
-// them. It stands on block_model and text_reading. The layer above uses `read_declarations` and speaks of it as `Denotes`
-// and `IsFirstFault`.
+//! The declarations of a command line, one word each: `read_declarations` answers Ok exactly on the lists of declarations, with
+//! the schema that they denote (specs/DeclaredSchema.antt), and else names the first word at fault and the byte in it. Limits
+//! of a schema, as how many tables it has or which names are taken, aren't judged here: `Layout::new` of store_layout judges
+//! them. It stands on block_model and text_reading. The layer above uses `read_declarations` and speaks of it as `Denotes`
+//! and `IsFirstFault`.
 #![tactic(auto)]
 
 mod class;
@@ -18,8 +18,6 @@ mod name;
 mod part;
 mod setting;
 mod table;
-#[cfg(test)]
-mod tests;
 
 pub use declarations::{DeclFault, read_declarations};
 pub use laws::{bytes_are_one_declaration, faulty_words_denote_nothing, words_denote_one_schema};

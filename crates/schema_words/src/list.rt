@@ -1,4 +1,4 @@
-// Lists with a comma between two items.
+//! Lists with a comma between two items.
 
 ghost use Rattle.std.specs.Prelude.{◌≡◌, ◌∷◌, ◌==◌, false, MatchOption};
 ghost use Rattle.text_reading.specs.Reading.{begins};

@@ -1,4 +1,4 @@
-// Names at the front of a text.
+//! Names at the front of a text.
 
 ghost use Rattle.std.specs.Prelude.{◌≡◌, ◌≤◌, length, IfOk};
 ghost use Rattle.std.specs.List.{prefix_len};
@@ -7,11 +7,8 @@ ghost use Rattle.text_reading.specs.Reading.{Gives, begins};
 ghost use Rattle.schema_words.specs.DeclarationTexts.{IsNamed};
 ghost use Rattle.schema_words.specs.DeclarationReading.{name_at};
 
-use block_model::name::Name;
+use block_model::{MAX_NAME, Name};
 use text_reading::Reading;
-
-/// How many bytes a name has at most.
-const MAX_NAME: usize = 16;
 
 /// A lower-case letter and the letters, digits and `_` behind it, up to sixteen bytes.
 pub fn name(text: &[u8]) -> Reading<'_, &[u8]>

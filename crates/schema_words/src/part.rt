@@ -1,4 +1,4 @@
-// The indexed columns of an index.
+//! The indexed columns of an index.
 
 ghost use Rattle.std.specs.Prelude.{◌≡◌, ◌<◌, ◌≤◌, List, length, Ok, Err, IfOk, IfSome, MatchResult};
 ghost use Rattle.std.specs.List.{AllByRecursion};

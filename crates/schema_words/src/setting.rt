@@ -1,4 +1,4 @@
-// Settings of a table or an index.
+//! Settings of a table or an index.
 
 ghost use Rattle.std.specs.Prelude.{◌≡◌};
 ghost use Rattle.text_reading.specs.Reading.{Gives};

@@ -1,4 +1,4 @@
-// The declaration of a table.
+//! The declaration of a table.
 
 ghost use Rattle.std.specs.Prelude.{◌≡◌, ◌≤◌, length, map, sum_by, None, Some, IfSome, MatchOption};
 ghost use Rattle.text_reading.specs.Reading.{Gives};
@@ -11,8 +11,7 @@ ghost use Rattle.schema_words.specs.Words.{GivesAs, IsTableRead, table_with, sai
 use crate::column::{ColumnsWord, columns};
 use crate::name::{known_name, name};
 use crate::setting::{ending, number_u16};
-use block_model::schema::{Column, Columns, Table};
-use block_model::value::Kind;
+use block_model::{Column, Columns, Kind, PAGE_ROOM, Table};
 use text_reading::{Reading, byte, word};
 
 /// A table as it is written, with the digits of its rows per page.
@@ -22,9 +21,6 @@ pub struct TableWord<'a> {
     pub columns: ColumnsWord,
     pub rows: Option<&'a [u8]>,
 }
-
-/// The bytes of a page behind its header.
-const PAGE_ROOM: u64 = 8160;
 
 /// The bytes of a row without its values.
 const ROW_HEADER: u64 = 22;
@@ -87,11 +83,12 @@ fn rows_per_page(rows: Option<&[u8]>, columns: &[Column]) -> u16
     }
 }
 
+/// As many rows as fit. `row_size` of block_model wants the columns of a lawful table, and these may be more.
 fn most_rows(columns: &[Column]) -> u16
     requires { length columns.now ≤ 256 }
     ensures { result ≡ most_rows columns.now }
 {
-    (PAGE_ROOM / (ROW_HEADER + u64::from(values_size(columns)))) as u16
+    (PAGE_ROOM as u64 / (ROW_HEADER + u64::from(values_size(columns)))) as u16
 }
 
 fn values_size(columns: &[Column]) -> u32

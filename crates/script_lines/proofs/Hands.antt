@@ -1,19 +1,19 @@
 -- lines that are handed out of a buffer
-use Rattle.std.proofs.Common.{◌≡◌, ◌≢◌, ℕ, ◌+◌, ◌-◌, ◌≤◌, ◌<◌, List, [], ◌∷◌, Option, None, Some, Ok, MatchOption, inl, inr, length, take, drop, min, refl, sym, ap, ◌∙◌, subst, arith, length-take, length-drop}
+use Rattle.std.proofs.Common.{◌≡◌, ◌≢◌, ℕ, ◌+◌, ◌-◌, ◌≤◌, ◌<◌, List, [], ◌∷◌, Option, None, Some, Ok, inl, inr, length, take, drop, min, refl, sym, ap, ◌∙◌, subst, arith, length-take, length-drop}
 use Rattle.std.proofs.lemmas.List.{append-nil, take-take, drop-take, drop-drop}
 use Rattle.std.specs.Io.KnownBytes.{Consumes}
 use Rattle.script_lines.specs.declared.cursor.Cursor.{Cursor}
 use Rattle.script_lines.specs.declared.cursor.Span.{Span}
 use Rattle.script_lines.specs.declared.end.Stage.TheVariants.{Open, Ended}
 use Rattle.script_lines.specs.Script.{clip, last_line}
-use Rattle.script_lines.specs.Reading.{Reading, ReadsOn, Answers, lines_at}
-use Rattle.script_lines.specs.Buffered.{reading, reading_with, held, spanned, HasNoFeed, FeedAt, IsCursor, IsFilling}
+use Rattle.script_lines.specs.Reading.{LineReading, ReadsOn, Answers, lines_at}
+use Rattle.script_lines.specs.Buffered.{reading, reading_with, held, spanned, HandsLast, HasNoFeed, FeedAt, IsCursor, IsFilling}
 use Rattle.script_lines.proofs.Splitting.{clip_nil, clip_take}
 use Rattle.script_lines.proofs.Steps.{then, hands_first, hands_last, keeps_front, no_feed_clip}
 use Rattle.script_lines.proofs.Pieces.{at_front}
 
 -- after the bytes have come
-pub then_hands : (a b c : Reading) (came : List ℕ) (lines : List (List ℕ)) → ReadsOn a b came [] → ReadsOn b c [] lines → ReadsOn a c came lines
+pub then_hands : (a b c : LineReading) (came : List ℕ) (lines : List (List ℕ)) → ReadsOn a b came [] → ReadsOn b c [] lines → ReadsOn a c came lines
 then_hands a b c came lines p q = subst (λ bytes. ReadsOn a c bytes lines) (append-nil came) (then a b c came [] [] lines p q)
 
 pub length_held : (buffer : List ℕ) (c : Cursor) → length (held buffer c) ≤ c.end - c.start
@@ -82,13 +82,11 @@ module _ (buffer new : List ℕ) (c : Cursor) (count : ℕ) (h : IsCursor buffer
 
 -- ---- what a call answers
 
-module _ (a : Reading) (new : List ℕ) (d : Cursor) (left left' : Option (List ℕ)) (came : List ℕ) (bytes : Consumes left left' came) (reads : ReadsOn a (reading new d) came []) where
+module _ (a : LineReading) (new : List ℕ) (d : Cursor) (left left' : Option (List ℕ)) (came : List ℕ) (bytes : Consumes left left' came) (reads : ReadsOn a (reading new d) came []) where
   pub answers_line : (at : ℕ) (span : Span) (e : Cursor) → FeedAt (held new d) at → d.stage ≡ a.stage → span ≡ record { from = d.start; to = d.start + min at 65536 } → e ≡ record d { start = d.start + at + 1 }
       → Answers (spanned new) a (reading new e) left left' (Ok (Some span))
   answers_line at span e feed same span_is rest_is = rw (span_is, rest_is) (came, bytes, then_hands a (reading new d) (reading new (record d { start = d.start + at + 1 })) came _ reads (hands_line new d at feed), inl same)
 
-  pub answers_last : (r : Option Span) (e : Cursor) → IsCursor new d → HasNoFeed (held new d) → d.stage ≡ Ended
-      → MatchOption r ((d.start ≡ d.end) × (e ≡ d)) (λ span. (d.start < d.end) × (span ≡ record { from = d.start; to = d.start + min (d.end - d.start) 65536 }) × (e ≡ record d { start = d.end }))
-      → Answers (spanned new) a (reading new e) left left' (Ok r)
+  pub answers_last : (r : Option Span) (e : Cursor) → IsCursor new d → HasNoFeed (held new d) → d.stage ≡ Ended → HandsLast d e r → Answers (spanned new) a (reading new e) left left' (Ok r)
   answers_last None e h none ended m = rw m.1 (came, bytes, reads, none_left new d h ended m.0, ended)
   answers_last (Some span) e h none ended m = rw (m.1, m.2) (came, bytes, then_hands a (reading new d) (reading new (record d { start = d.end })) came _ reads (hands_rest new d h ended none m.0), inr ended)

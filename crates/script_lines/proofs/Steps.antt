@@ -8,12 +8,12 @@ use Rattle.script_lines.specs.declared.end.LinesEnd.TheVariants as ends
 use Rattle.script_lines.specs.declared.end.Stage.{Stage}
 use Rattle.script_lines.specs.declared.end.Stage.TheVariants.{Open, Ended, Spent}
 use Rattle.script_lines.specs.Script.{clip, ended_append, rest_append, ended_from, rest_from, ended_lines, rest_line, last_line}
-use Rattle.script_lines.specs.Reading.{Reading, fresh, HasRead, ReadsOn, Stops, lines_at, line_at, beyond}
+use Rattle.script_lines.specs.Reading.{LineReading, fresh, HasRead, ReadsOn, Stops, lines_at, line_at, beyond}
 use Rattle.script_lines.specs.Buffered.{reading_with, HasNoFeed}
 use Rattle.script_lines.proofs.Splitting.{length-ended, clip_is, clip_nil, clip_clip, ended_alike, rest_alike, ended_none, rest_none, ended_first, rest_first}
 
 -- nothing changes
-pub stays : (a : Reading) → ReadsOn a a [] []
+pub stays : (a : LineReading) → ReadsOn a a [] []
 stays a = record {
   limit = refl;
   reads = λ script out h. subst (λ s. HasRead a s (out ++ [])) (sym (append-nil script)) (subst (λ o. HasRead a script o) (sym (append-nil out)) h);
@@ -25,7 +25,7 @@ pub nothing_read : (limit : ℕ) → reading_with limit 0 Open [] ≡ fresh limi
 nothing_read limit = λ i. record { limit = limit; taken = 0; ready = []; line = clip_nil i; stage = Open }
 
 -- two steps
-pub then : (a b c : Reading) (xs ys : List ℕ) (ls ms : List (List ℕ)) → ReadsOn a b xs ls → ReadsOn b c ys ms → ReadsOn a c (xs ++ ys) (ls ++ ms)
+pub then : (a b c : LineReading) (xs ys : List ℕ) (ls ms : List (List ℕ)) → ReadsOn a b xs ls → ReadsOn b c ys ms → ReadsOn a c (xs ++ ys) (ls ++ ms)
 then a b c xs ys ls ms p q = record {
   limit = q.limit ∙ p.limit;
   reads = λ script out h. subst (λ s. HasRead c s (out ++ (ls ++ ms))) (append_assoc script xs ys) (subst (λ o. HasRead c ((script ++ xs) ++ ys) o) (append_assoc out ls ms) (q.reads (script ++ xs) (out ++ ls) (p.reads script out h)));
@@ -158,7 +158,7 @@ none_ready Ended xs n h = absurd (n refl)
 none_ready Spent xs n h = ended_none [] xs h
 
 -- an end after bytes of which none ended a line
-pub stops_after : (a b c : Reading) (left between left' : Option (List ℕ)) (bytes : List ℕ) → Consumes left between bytes → ReadsOn a b bytes [] → a.stage ≡ b.stage
+pub stops_after : (a b c : LineReading) (left between left' : Option (List ℕ)) (bytes : List ℕ) → Consumes left between bytes → ReadsOn a b bytes [] → a.stage ≡ b.stage
     → (end : LinesEnd) → Stops b c between left' end → Stops a c left left' end
 stops_after a b c left between left' bytes came reads same ends.Read h = (bytes ++ h.0, Consumes-trans left between left' bytes h.0 came h.1, then a b c bytes h.0 [] [] reads h.2, h.3, same ∙ h.4, h.5)
 stops_after a b c left between left' bytes came reads same (ends.Spent taken) h = (

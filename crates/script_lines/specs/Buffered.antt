@@ -1,14 +1,15 @@
 -- what a reader's buffer and its places show
-use Rattle.std.specs.Prelude.{◌≡◌, ◌≢◌, ℕ, ◌+◌, ◌-◌, ◌≤◌, ◌<◌, List, [], ◌∷◌, ◌++◌, length, take, drop, Bool, true, false, Option, Some, None, Result, Ok, Err}
+use Rattle.std.specs.Prelude.{◌≡◌, ◌≢◌, ℕ, ◌+◌, ◌-◌, ◌≤◌, ◌<◌, List, [], ◌∷◌, ◌++◌, length, take, drop, min, Bool, true, false, Option, Some, None, Result, Ok, Err}
 use Rattle.std.specs.Io.KnownBytes.{Consumes, IsAtEnd}
 use Rattle.script_lines.specs.declared.cursor.Cursor.{Cursor}
 use Rattle.script_lines.specs.declared.cursor.Span.{Span}
+use Rattle.script_lines.specs.declared.cursor.TheConstants.{KEPT, SIZE}
 use Rattle.script_lines.specs.declared.cursor.Came.{Came}
 use Rattle.script_lines.specs.declared.cursor.Came.TheVariants as came
 use Rattle.script_lines.specs.declared.end.LinesEnd.{LinesEnd}
 use Rattle.script_lines.specs.declared.end.Stage.{Stage}
 use Rattle.script_lines.specs.declared.end.Stage.TheVariants as stages
-use Rattle.script_lines.specs.Reading.{Reading, ReadsOn, Stops, lines_at, line_at}
+use Rattle.script_lines.specs.Reading.{LineReading, ReadsOn, Stops, lines_at, line_at}
 
 -- the bytes that weren't handed out
 abbrev pub held : List ℕ → Cursor → List ℕ
@@ -19,17 +20,17 @@ abbrev pub spanned : List ℕ → Span → List ℕ
 spanned buffer s = take (s.to - s.from) (drop s.from buffer)
 
 -- what contracts see of a reader with these bytes
-abbrev pub reading_with : ℕ → ℕ → Stage → List ℕ → Reading
+abbrev pub reading_with : ℕ → ℕ → Stage → List ℕ → LineReading
 reading_with limit taken stage bytes = record { limit = limit; taken = taken; ready = lines_at stage bytes; line = line_at stage bytes; stage = stage }
 
-abbrev pub reading : List ℕ → Cursor → Reading
+abbrev pub reading : List ℕ → Cursor → LineReading
 reading buffer c = reading_with c.limit c.taken c.stage (held buffer c)
 
 -- places within the buffer, and a count within the limit, which is reached where a byte past it was seen
 pub record IsCursor (buffer : List ℕ) (c : Cursor) : Type 0 where
-  pub size : length buffer ≡ 131072
+  pub size : length buffer ≡ SIZE
   pub ordered : c.start ≤ c.end
-  pub inside : c.end ≤ 131072
+  pub inside : c.end ≤ SIZE
   pub within : c.taken ≤ c.limit
   pub spent : c.stage ≡ stages.Spent → c.taken ≡ c.limit
 
@@ -49,7 +50,7 @@ pub record IsFilling (buffer : List ℕ) (c : Cursor) : Type 0 where
   pub cursor : IsCursor buffer c
   pub front : c.start ≡ 0
   pub going : c.stage ≡ stages.Open
-  pub short : c.end ≤ 65536
+  pub short : c.end ≤ KEPT
   pub unended : HasNoFeed (held buffer c)
 
 -- a piece came, and a line feed in it, or the end
@@ -62,6 +63,16 @@ Found buffer c left came.End = IsCursor buffer c × (c.start ≡ 0) × (c.stage 
 abbrev pub Fills : List ℕ → List ℕ → Cursor → Cursor → Option (List ℕ) → Option (List ℕ) → Result Came LinesEnd → Type 0
 Fills old new c d left left' (Ok found) = (bytes : List ℕ) × Consumes left left' bytes × ReadsOn (reading old c) (reading new d) bytes [] × Found new d left' found
 Fills old new c d left left' (Err end) = Stops (reading old c) (reading new d) left left' end × IsCursor new d × (d.stage ≢ stages.Ended)
+
+-- the bytes of a line as it is handed out
+abbrev pub IsLineSpan : Span → Type 0
+IsLineSpan span = (span.from ≤ span.to) × (span.to ≤ SIZE) × (span.to ≤ span.from + KEPT)
+
+-- what is left at the end is the last line, clipped; where nothing is left there is none
+abbrev pub HandsLast : Cursor → Cursor → Option Span → Type 0
+HandsLast c d None = (c.start ≡ c.end) × (d ≡ c)
+HandsLast c d (Some span) =
+    (c.start < c.end) × (span ≡ record { from = c.start; to = c.start + min (c.end - c.start) KEPT }) × (d ≡ record c { start = c.end })
 
 -- one more byte came, or the end
 abbrev pub AsksPast : Bool → Option (List ℕ) → Option (List ℕ) → Type 0

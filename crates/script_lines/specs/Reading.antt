@@ -10,7 +10,7 @@ use Rattle.script_lines.specs.Script.{ended_lines, rest_line, script_lines}
 
 -- A reader of lines: how many bytes it may take and has taken, the whole lines that it hasn't handed out, the front of
 -- the line under way, and how far its source is known.
-pub record Reading : Type 0 where
+pub record LineReading : Type 0 where
   pub limit : ℕ
   pub taken : ℕ
   pub ready : List (List ℕ)
@@ -30,11 +30,11 @@ line_at stages.Ended script = []
 line_at stages.Spent script = rest_line script
 
 -- a reader that has taken nothing
-abbrev pub fresh : ℕ → Reading
+abbrev pub fresh : ℕ → LineReading
 fresh limit = record { limit = limit; taken = 0; ready = []; line = []; stage = stages.Open }
 
 -- the reader has taken this script, and has handed out these lines of it
-pub record HasRead (a : Reading) (script : List ℕ) (out : List (List ℕ)) : Type 0 where
+pub record HasRead (a : LineReading) (script : List ℕ) (out : List (List ℕ)) : Type 0 where
   pub taken : a.taken ≡ length script
   pub lines : lines_at a.stage script ≡ out ++ a.ready
   pub line : a.line ≡ line_at a.stage script
@@ -46,11 +46,11 @@ may_end stages.Ended = 0
 may_end stages.Spent = 0
 
 -- how many lines a reader hands out at most: the ready ones, one for each byte that it may take, and a last one
-abbrev pub still : Reading → ℕ
+abbrev pub still : LineReading → ℕ
 still a = length a.ready + (a.limit - a.taken) + may_end a.stage
 
 -- whatever the reader has taken and handed out before, it took these bytes and handed out these lines
-pub record ReadsOn (a b : Reading) (came : List ℕ) (lines : List (List ℕ)) : Type 0 where
+pub record ReadsOn (a b : LineReading) (came : List ℕ) (lines : List (List ℕ)) : Type 0 where
   pub limit : b.limit ≡ a.limit
   pub reads : (script : List ℕ) (out : List (List ℕ)) → HasRead a script out → HasRead b (script ++ came) (out ++ lines)
   pub fewer : still b + length lines ≤ still a
@@ -62,23 +62,23 @@ beyond stages.Ended = 0
 beyond stages.Spent = 0
 
 -- At a read fault, and where there is a byte past the limit, each whole line that came was handed out.
-abbrev pub Stops : Reading → Reading → Option (List ℕ) → Option (List ℕ) → LinesEnd → Type 0
+abbrev pub Stops : LineReading → LineReading → Option (List ℕ) → Option (List ℕ) → LinesEnd → Type 0
 Stops a b left left' ends.Read = (came : List ℕ) × Consumes left left' came × ReadsOn a b came [] × (b.ready ≡ []) × (a.stage ≡ stages.Open) × (b.stage ≡ stages.Open)
 Stops a b left left' (ends.Spent taken) = (came : List ℕ) × (past : List ℕ) × Consumes left left' (came ++ past) × (length past ≡ beyond a.stage) × ReadsOn a b came []
     × (b.ready ≡ []) × (b.stage ≡ stages.Spent) × (b.taken ≡ b.limit) × (taken ≡ b.limit)
 
 -- What a call does by its answer: a line is the next one; where it answers none the end was seen and all were handed out.
-abbrev pub Answers : {T : Type 0} → (T → List ℕ) → Reading → Reading → Option (List ℕ) → Option (List ℕ) → Result (Option T) LinesEnd → Type 0
+abbrev pub Answers : {T : Type 0} → (T → List ℕ) → LineReading → LineReading → Option (List ℕ) → Option (List ℕ) → Result (Option T) LinesEnd → Type 0
 Answers bytes a b left left' (Ok (Some line)) = (came : List ℕ) × Consumes left left' came × ReadsOn a b came (bytes line ∷ []) × ((b.stage ≡ a.stage) ⊎ (b.stage ≡ stages.Ended))
 Answers bytes a b left left' (Ok None) = (came : List ℕ) × Consumes left left' came × ReadsOn a b came [] × (b.ready ≡ []) × (b.stage ≡ stages.Ended)
 Answers bytes a b left left' (Err end) = Stops a b left left' end
 
 -- an end that the reader has seen is the source's
-abbrev pub SeesEnd : Reading → Option (List ℕ) → Type 0
+abbrev pub SeesEnd : LineReading → Option (List ℕ) → Type 0
 SeesEnd a left = a.stage ≡ stages.Ended → IsAtEnd left
 
 -- what a call of `next` makes of the reader, where the source had and has these bytes left
-pub record Next (a b : Reading) (left left' : Option (List ℕ)) (result : Result (Option (Bor (List ℕ))) LinesEnd) : Type 0 where
+pub record Next (a b : LineReading) (left left' : Option (List ℕ)) (result : Result (Option (Bor (List ℕ))) LinesEnd) : Type 0 where
   pub within : b.taken ≤ b.limit
   pub answers : Answers (λ line. line.now) a b left left' result
   pub end : SeesEnd a left → SeesEnd b left'

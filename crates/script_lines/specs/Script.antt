@@ -1,10 +1,11 @@
 -- the lines of a script
 use Rattle.std.specs.Prelude.{◌≡◌, refl, true, false, ℕ, ◌==◌, List, [], ◌∷◌, ◌++◌, take, if◌then◌else◌}
 use Rattle.std.proofs.Common.{ap, eqb, cond}
+use Rattle.script_lines.specs.declared.cursor.TheConstants.{KEPT}
 
--- a line as it is handed out: its first 65536 bytes
+-- a line as it is handed out: its first bytes, as many as are kept
 unfoldable pub clip : List ℕ → List ℕ
-clip line = take 65536 line
+clip line = take KEPT line
 
 -- the lines that a line feed ends, the first of which goes on from the line so far
 abbrev pub ended_from : List ℕ → List ℕ → List (List ℕ)

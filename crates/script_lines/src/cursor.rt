@@ -1,25 +1,31 @@
-// Where the lines stand in a reader's buffer.
+//! Where the lines stand in a reader's buffer.
 
 ghost use Rattle.std.specs.Prelude.{◌≡◌, ◌≢◌, ◌≤◌, ◌<◌, ◌+◌, ◌-◌, [], length, take, drop, min, slice_range, IfOk, IfSome, MatchOption, MatchResult, IsErrOf, IsOk, OnErr};
 ghost use Rattle.std.specs.Io.KnownBytes.{Consumes, IsAtEnd, Keeps};
 ghost use Rattle.block_model.specs.Causes.{HasCause, Rose};
+ghost use Rattle.script_lines.specs.declared.cursor.TheConstants.{KEPT};
 ghost use Rattle.script_lines.specs.Script.{clip};
 ghost use Rattle.script_lines.specs.Reading.{Answers, SeesEnd};
-ghost use Rattle.script_lines.specs.Buffered.{reading, spanned, held, IsCursor, IsFilling, HasNoFeed, FeedAt, Fills, AsksPast, came_of};
+ghost use Rattle.script_lines.specs.Buffered.{reading, spanned, held, IsCursor, IsFilling, HandsLast, HasNoFeed, FeedAt, Fills, IsLineSpan, AsksPast, came_of};
 
 use crate::end::{LinesEnd, Stage};
-use io_traits::source::{Source, SourceFault};
+use io_traits::{Source, SourceFault};
 use memchr::memchr;
 
 /// How many bytes of a line are kept.
-const KEPT: usize = 65536;
+pub const KEPT: usize = 65536;
+
+/// How many bytes are buffered: the line under way up to `KEPT`, and a piece of at least as many.
+pub const SIZE: usize = 131072;
 
 /// The bytes that weren't handed out, from `start` up to `end`, and how far the source was read.
 #[derive(Clone, Copy)]
 pub struct Cursor {
     pub start: usize,
     pub end: usize,
+    /// How many bytes were taken from the source.
     pub taken: u64,
+    /// How many may be.
     pub limit: u64,
     pub stage: Stage,
 }
@@ -50,7 +56,7 @@ pub fn advance<S: Source>(
 ) -> Result<Option<Span>, LinesEnd>
     requires { IsCursor buffer.old cursor.old }
     ensures cursor { IsCursor buffer.new cursor.new }
-    ensures span { IfOk result (λ line. IfSome line (λ span. (span.from ≤ span.to) × (span.to ≤ 131072) × (span.to ≤ span.from + 65536))) }
+    ensures span { IfOk result (λ line. IfSome line IsLineSpan) }
     ensures answers { Answers (spanned buffer.new) (reading buffer.old cursor.old) (reading buffer.new cursor.new) (S.left source.old) (S.left source.new) result }
     ensures end { SeesEnd (reading buffer.old cursor.old) (S.left source.old) → SeesEnd (reading buffer.new cursor.new) (S.left source.new) }
     ensures waiting { (reading buffer.old cursor.old).ready ≢ [] → source.new ≡ source.old }
@@ -82,7 +88,7 @@ fn refill<S: Source>(
     requires going { cursor.old.stage ≡ Stage.Open }
     requires unended { HasNoFeed (held buffer.old cursor.old) }
     ensures cursor { IsCursor buffer.new cursor.new }
-    ensures span { IfOk result (λ line. IfSome line (λ span. (span.from ≤ span.to) × (span.to ≤ 131072) × (span.to ≤ span.from + 65536))) }
+    ensures span { IfOk result (λ line. IfSome line IsLineSpan) }
     ensures answers { Answers (spanned buffer.new) (reading buffer.old cursor.old) (reading buffer.new cursor.new) (S.left source.old) (S.left source.new) result }
     ensures end { SeesEnd (reading buffer.new cursor.new) (S.left source.new) }
     ensures later { S.faults source.old ≤ S.faults source.new }
@@ -90,10 +96,9 @@ fn refill<S: Source>(
 {
     cursor.end = keep_front(buffer, cursor.start, cursor.end);
     cursor.start = 0;
-    match fill(buffer, cursor, source) {
-        Ok(Some(at)) => Ok(Some(hand_out(cursor, at))),
-        Ok(None) => Ok(last_line(cursor)),
-        Err(end) => Err(end),
+    match fill(buffer, cursor, source)? {
+        Some(at) => Ok(Some(hand_out(cursor, at))),
+        None => Ok(last_line(cursor)),
     }
 }
 
@@ -109,26 +114,20 @@ fn fill<S: Source>(
     ensures cause { IsErrOf result LinesEnd.Read → Rose (S.faults source.old) (S.faults source.new) }
 {
     'pieces: while cursor.taken < cursor.limit {
-        match take_piece(buffer, cursor, source) {
-            Ok(Came::Part) => (),
-            Ok(Came::Line(at)) => return Ok(Some(at)),
-            Ok(Came::End) => return Ok(None),
-            Err(end) => return Err(end),
+        match take_piece(buffer, cursor, source)? {
+            Came::Part => (),
+            Came::Line(at) => return Ok(Some(at)),
+            Came::End => return Ok(None),
         }
     }
-    match ask_past(source) {
-        Ok(false) => {
-            cursor.stage = Stage::Ended;
-            Ok(None)
-        }
-        Ok(true) => {
-            cursor.stage = Stage::Spent;
-            Err(LinesEnd::Spent {
-                taken: cursor.limit,
-            })
-        }
-        Err(SourceFault) => Err(LinesEnd::Read),
+    if ask_past(source)? {
+        cursor.stage = Stage::Spent;
+        return Err(LinesEnd::Spent {
+            taken: cursor.limit,
+        });
     }
+    cursor.stage = Stage::Ended;
+    Ok(None)
 }
 
 /// Reads a piece.
@@ -147,9 +146,7 @@ fn take_piece<S: Source>(
 {
     let end = cursor.end;
     let left = cursor.limit - cursor.taken;
-    let Ok(count) = read_behind(buffer, end, left, source) else {
-        return Err(LinesEnd::Read);
-    };
+    let count = read_behind(buffer, end, left, source)?;
     if count == 0 {
         cursor.stage = Stage::Ended;
         return Ok(Came::End);
@@ -205,7 +202,7 @@ fn ask_past<S: Source>(source: &mut S) -> Result<bool, SourceFault>
 fn keep_front(buffer: &mut [u8], start: usize, end: usize) -> usize
     requires ordered { start ≤ end }
     requires inside { end ≤ length buffer.old }
-    ensures count { result ≡ min (end - start) 65536 }
+    ensures count { result ≡ min (end - start) KEPT }
     ensures front { take result buffer.new ≡ clip (take (end - start) (drop start buffer.old)) }
 {
     let count = (end - start).min(KEPT);
@@ -227,7 +224,7 @@ fn line_feed(buffer: &[u8], from: usize, to: usize) -> Option<usize>
 /// The line that ends at a line feed, counted from its start.
 fn hand_out(cursor: &mut Cursor, at: usize) -> Span
     requires { cursor.old.start + at < cursor.old.end }
-    ensures span { result ≡ record { from = cursor.old.start; to = cursor.old.start + min at 65536 } }
+    ensures span { result ≡ record { from = cursor.old.start; to = cursor.old.start + min at KEPT } }
     ensures rest { cursor.new ≡ record cursor.old { start = cursor.old.start + at + 1 } }
 {
     let from = cursor.start;
@@ -241,7 +238,7 @@ fn hand_out(cursor: &mut Cursor, at: usize) -> Span
 /// The last line, which lacks its line feed, where there is one.
 fn last_line(cursor: &mut Cursor) -> Option<Span>
     requires { cursor.old.start ≤ cursor.old.end }
-    ensures { MatchOption result ((cursor.old.start ≡ cursor.old.end) × (cursor.new ≡ cursor.old)) (λ span. (cursor.old.start < cursor.old.end) × (span ≡ record { from = cursor.old.start; to = cursor.old.start + min (cursor.old.end - cursor.old.start) 65536 }) × (cursor.new ≡ record cursor.old { start = cursor.old.end })) }
+    ensures { HandsLast cursor.old cursor.new result }
 {
     let from = cursor.start;
     let end = cursor.end;

@@ -1,32 +1,30 @@
-// A reader of lines.
+//! A reader of lines.
 
 ghost use Rattle.std.specs.Prelude.{◌≡◌, ◌≢◌, ◌≤◌, [], IfOk, IfSome, IsErrOf, IsOk, length};
 ghost use Rattle.std.specs.Borrow.{sem};
 ghost use Rattle.std.specs.Io.BufRead.{Rests};
 ghost use Rattle.block_model.specs.Causes.{Rose};
 
-use crate::cursor::{Cursor, advance};
+use crate::cursor::{Cursor, SIZE, advance};
 use crate::end::{LinesEnd, Stage};
 use block_model::NoMemory;
-use io_traits::source::Source;
+use io_traits::Source;
 use std::alloc::Global;
 use std::marker::Model;
-
-/// How many bytes are buffered: the line under way up to 65536, and a piece of at least as many.
-const SIZE: usize = 131072;
 
 /// Reads a script line by line. A line ends at a line feed, and the last one may lack it; of a line of more than 65535
 /// bytes the first 65536 are handed out.
 #[derive(Drop)]
 pub struct Lines {
     buffer: Vec<u8>,
+    /// Where the lines stand in the buffer.
     cursor: Cursor,
 }
 
 impl Model for Lines {
-    ghost use Rattle.script_lines.specs.Reading.{Reading};
+    ghost use Rattle.script_lines.specs.Reading.{LineReading};
 
-    ghost Value = { Reading };
+    ghost Value = { LineReading };
 
     ghost use Rattle.script_lines.specs.Buffered.{reading, IsCursor};
 
@@ -38,25 +36,22 @@ impl Model for Lines {
 impl Lines {
     ghost use Rattle.script_lines.specs.Reading.{fresh, HasRead, Next};
     ghost use Rattle.script_lines.specs.contracts.reader.Lines.{the_row};
+    ghost use Rattle.script_lines.specs.declared.cursor.TheConstants.{KEPT};
 
     /// A reader that takes up to `limit` bytes. Takes the one buffer, of fixed size, that the reader ever needs.
     pub fn new(alloc: Global, limit: u64) -> Result<Lines, NoMemory>
         ensures limit { IfOk result (λ lines. lines ≡ fresh limit) }
         ensures nothing { IfOk result (λ lines. HasRead lines [] []) }
     {
-        match vec![in alloc; 0u8; SIZE] {
-            Ok(buffer) => Ok(Lines {
-                buffer,
-                cursor: Cursor {
-                    start: 0,
-                    end: 0,
-                    taken: 0,
-                    limit,
-                    stage: Stage::Open,
-                },
-            }),
-            Err(_) => Err(NoMemory),
-        }
+        let buffer = vec![in alloc; 0u8; SIZE]?;
+        let cursor = Cursor {
+            start: 0,
+            end: 0,
+            taken: 0,
+            limit,
+            stage: Stage::Open,
+        };
+        Ok(Lines { buffer, cursor })
     }
 
     /// The next line, or none where the end was seen and all lines were handed out. `Read` comes only where a read has
@@ -65,7 +60,7 @@ impl Lines {
     pub fn next<S: Source>(&mut self, source: &mut S) -> Result<Option<&[u8]>, LinesEnd>
         // The lines of the script come one after the other, and an end only where each line before it was handed out.
         ensures* next { sem 𝓛 (Rests the_row self.entry (λ lines. Next self.old lines (S.left source.old) (S.left source.new) result)) }
-        ensures short { IfOk result (λ line. IfSome line (λ bytes. length bytes.now ≤ 65536)) }
+        ensures short { IfOk result (λ line. IfSome line (λ bytes. length bytes.now ≤ KEPT)) }
 
         // Nothing is read while a whole line is ready, nor once the end or a byte past the limit was seen.
         ensures waiting { self.old.ready ≢ [] → source.new ≡ source.old }
@@ -74,10 +69,9 @@ impl Lines {
         ensures later { S.faults source.old ≤ S.faults source.new }
         ensures cause { IsErrOf result LinesEnd.Read → Rose (S.faults source.old) (S.faults source.new) }
     {
-        match advance(&mut self.buffer, &mut self.cursor, source) {
-            Ok(Some(span)) => Ok(Some(&self.buffer[span.from..span.to])),
-            Ok(None) => Ok(None),
-            Err(end) => Err(end),
+        match advance(&mut self.buffer, &mut self.cursor, source)? {
+            Some(span) => Ok(Some(&self.buffer[span.from..span.to])),
+            None => Ok(None),
         }
     }
 }

@@ -7,11 +7,11 @@ use Rattle.std.specs.Borrow.{Bor}
 use Rattle.std.specs.List.{concat}
 use Rattle.std.specs.Io.KnownBytes.{Appends, Consumes}
 use Rattle.script_lines.specs.declared.end.Stage.TheVariants as stages
-use Rattle.script_lines.specs.Reading.{Reading, HasRead, Next, SeesEnd, fresh}
+use Rattle.script_lines.specs.Reading.{LineReading, HasRead, Next, SeesEnd, fresh}
 use Rattle.script_run.specs.Answers.{AreAnswers}
 
 -- the lines of this script that were handed out are answered, and their texts written
-pub record SoFar {S : Type 0} (R : S → List ℕ → List ℕ → S → Type 0) (start now : S) (limit : ℕ) (reader : Reading) (left left' taken taken' : Option (List ℕ))
+pub record SoFar {S : Type 0} (R : S → List ℕ → List ℕ → S → Type 0) (start now : S) (limit : ℕ) (reader : LineReading) (left left' taken taken' : Option (List ℕ))
     (script : List ℕ) (done texts : List (List ℕ)) : Type 0 where
   pub read : HasRead reader script done
   pub same_limit : reader.limit ≡ limit
@@ -35,21 +35,21 @@ pub concat_more : (texts : List (List ℕ)) (text : List ℕ) → concat (texts 
 concat_more texts text = concat-append texts (text ∷ []) ∙ ap (λ t. concat texts ++ t) (append-nil text)
 
 -- nothing is read at first
-pub started : {S : Type 0} (R : S → List ℕ → List ℕ → S → Type 0) (start : S) (limit : ℕ) (a : Reading) (l k : Option (List ℕ)) → a ≡ fresh limit → HasRead a [] []
+pub started : {S : Type 0} (R : S → List ℕ → List ℕ → S → Type 0) (start : S) (limit : ℕ) (a : LineReading) (l k : Option (List ℕ)) → a ≡ fresh limit → HasRead a [] []
     → SoFar R start start limit a l l k k [] [] []
 started R start limit a l k is read = record {
   read = read;
-  same_limit = ap (λ (r : Reading). r.limit) is;
-  within = subst (λ (r : Reading). r.taken ≤ r.limit) (sym is) (let low : 0 ≤ limit = omega arith in low);
-  unspent = λ e. let wrong : stages.Open ≡ stages.Spent = sym (ap (λ (r : Reading). r.stage) is) ∙ e in cc;
-  end = λ e. let wrong : stages.Open ≡ stages.Ended = sym (ap (λ (r : Reading). r.stage) is) ∙ e in absurd (cc);
+  same_limit = ap (λ (r : LineReading). r.limit) is;
+  within = subst (λ (r : LineReading). r.taken ≤ r.limit) (sym is) (let low : 0 ≤ limit = omega arith in low);
+  unspent = λ e. let wrong : stages.Open ≡ stages.Spent = sym (ap (λ (r : LineReading). r.stage) is) ∙ e in cc;
+  end = λ e. let wrong : stages.Open ≡ stages.Ended = sym (ap (λ (r : LineReading). r.stage) is) ∙ e in absurd (cc);
   came = Consumes-nil l;
   answers = refl;
   written = Appends-nil k;
 }
 
 -- one more line was read, answered, and its text written
-pub served : {S : Type 0} {R : S → List ℕ → List ℕ → S → Type 0} {start now next : S} {limit : ℕ} {a b : Reading} {l l' l'' k k' k'' : Option (List ℕ)} {script : List ℕ} {done texts : List (List ℕ)} {line : Bor (List ℕ)}
+pub served : {S : Type 0} {R : S → List ℕ → List ℕ → S → Type 0} {start now next : S} {limit : ℕ} {a b : LineReading} {l l' l'' k k' k'' : Option (List ℕ)} {script : List ℕ} {done texts : List (List ℕ)} {line : Bor (List ℕ)}
     → SoFar R start now limit a l l' k k' script done texts → Next a b l' l'' (Ok (Some line)) → (text : List ℕ) × R now line.now text next × Appends k' k'' text
     → (script' : List ℕ) × (done' : List (List ℕ)) × (texts' : List (List ℕ)) × SoFar R start next limit b l l'' k k'' script' done' texts'
 served {R} {start} {now} {next} {limit} {a} {b} {l} {l'} {l''} {k} {k'} {k''} {script} {done} {texts} {line} far call told =
@@ -69,6 +69,6 @@ served {R} {start} {now} {next} {limit} {a} {b} {l} {l'} {l''} {k} {k'} {k''} {s
       },
     )
   where
-    still_open : (a b : Reading) → a.stage ≢ stages.Spent → (b.stage ≡ a.stage) ⊎ (b.stage ≡ stages.Ended) → b.stage ≢ stages.Spent
+    still_open : (a b : LineReading) → a.stage ≢ stages.Spent → (b.stage ≡ a.stage) ⊎ (b.stage ≡ stages.Ended) → b.stage ≢ stages.Spent
     still_open a b h (inl e) s = h (sym e ∙ s)
     still_open a b h (inr e) s = let wrong : stages.Ended ≡ stages.Spent = sym e ∙ s in cc

@@ -1,10 +1,11 @@
 -- what a run has answered and written
-use Rattle.std.specs.Prelude.{◌≡◌, ◌≢◌, ℕ, ◌+◌, ◌-◌, ◌≤◌, List, [], ◌∷◌, ◌++◌, ◌⊎◌, length, take, Option}
+use Rattle.std.specs.Prelude.{◌≡◌, ◌≢◌, ℕ, ◌+◌, ◌-◌, ◌≤◌, List, [], ◌∷◌, ◌++◌, ◌⊎◌, length, take, Option, Result, Ok, Err}
 use Rattle.std.specs.List.{concat}
 use Rattle.std.specs.Io.KnownBytes.{Appends, Consumes, IsAtEnd}
 use Rattle.script_lines.specs.Script.{ended_lines, script_lines}
-use Rattle.script_run.specs.declared.run.RunEnd.{RunEnd}
-use Rattle.script_run.specs.declared.run.RunEnd.TheVariants as ends
+use Rattle.script_run.specs.declared.engine.AnswerFault.TheVariants.{Memory, Full}
+use Rattle.script_run.specs.declared.fault.RunFault.{RunFault}
+use Rattle.script_run.specs.declared.fault.RunFault.TheVariants as faults
 use Rattle.script_run.specs.Answers.{AreAnswers}
 
 -- the first list is a front, a prefix, of the second
@@ -14,6 +15,10 @@ IsFront {A} front all = (rest : List A) × (front ++ rest ≡ all)
 -- done are the first of the lines that ended in what was taken; the end of the source ends the last one
 abbrev pub AreFirst : List (List ℕ) → List ℕ → Option (List ℕ) → Type 0
 AreFirst done script left = IsFront done (ended_lines script) ⊎ (IsAtEnd left × IsFront done (script_lines script))
+
+-- how a run ends: Ok where all lines were answered
+abbrev pub RunEnd : Type 0
+RunEnd = Result (Unit {0}) RunFault
 
 -- all but the last one
 abbrev pub before_last : List (List ℕ) → List (List ℕ)
@@ -27,20 +32,20 @@ pub record Wrote {S : Type 0} (R : S → List ℕ → List ℕ → S → Type 0)
   pub answers : AreAnswers R start done texts final
   pub front : IsFront out (concat texts)
   -- only where a line wasn't answered is the engine anywhere else
-  pub state : end ≢ ends.Memory → end ≢ ends.Full → after ≡ final
-  pub within : end ≢ ends.Spent → length script ≤ limit
+  pub state : end ≢ Err (faults.Unanswered Memory) → end ≢ Err (faults.Unanswered Full) → after ≡ final
+  pub within : end ≢ Err faults.Spent → length script ≤ limit
   -- all lines are done, and the source is at its end
-  pub whole : end ≡ ends.Done → (done ≡ script_lines script) × (out ≡ concat texts) × IsAtEnd left
+  pub whole : end ≡ Ok tt → (done ≡ script_lines script) × (out ≡ concat texts) × IsAtEnd left
   -- the lines that had ended are done
-  pub faulty : end ≡ ends.ReadFault → (done ≡ ended_lines script) × (out ≡ concat texts)
+  pub faulty : end ≡ Err faults.Read → (done ≡ ended_lines script) × (out ≡ concat texts)
   -- the lines that ended within the limit are done, and one byte past it was taken
-  pub spent : end ≡ ends.Spent → (length script ≡ limit + 1) × (done ≡ ended_lines (take limit script)) × (out ≡ concat texts)
+  pub spent : end ≡ Err faults.Spent → (length script ≡ limit + 1) × (done ≡ ended_lines (take limit script)) × (out ≡ concat texts)
   -- there is no room for what the next line would have the engine keep
-  pub full : end ≡ ends.Full → (line : List ℕ) × AreFirst (done ++ line ∷ []) script left × L final line × (out ≡ concat texts)
+  pub full : end ≡ Err (faults.Unanswered Full) → (line : List ℕ) × AreFirst (done ++ line ∷ []) script left × L final line × (out ≡ concat texts)
   -- no text of the line for which memory ran out is written
-  pub unwritten : end ≡ ends.Memory → out ≡ concat texts
+  pub unwritten : end ≡ Err (faults.Unanswered Memory) → out ≡ concat texts
   -- the last text is the one that couldn't be written
-  pub cut : end ≡ ends.WriteFault → IsFront (concat (before_last texts)) out
+  pub cut : end ≡ Err faults.Write → IsFront (concat (before_last texts)) out
 
 -- a run took a script from the source, and wrote to the sink
 abbrev pub Ran : {S : Type 0} → (S → List ℕ → List ℕ → S → Type 0) → (S → List ℕ → Type 0) → S → S → ℕ → RunEnd → Option (List ℕ) → Option (List ℕ) → Option (List ℕ) → Option (List ℕ) → Type 0

@@ -1,12 +1,40 @@
-// What answers the lines of a script.
+//! What answers the lines of a script.
 
 ghost use Rattle.std.specs.Prelude.{◌≡◌, ◌++◌, ℕ, List, OnOk, IsErrOf};
 
-/// Why a line isn't answered: memory ran out, or there is no room for what the line would have the engine keep.
-#[derive(Clone, Copy, Debug, PartialEq, Eq)]
+use block_model::NoMemory;
+use std::alloc::AllocError;
+use thiserror::Error;
+
+/// Why a line isn't answered.
+#[derive(Clone, Copy, Debug, PartialEq, Eq, Error)]
 pub enum AnswerFault {
+    /// Memory ran out.
+    #[error("out of memory")]
     Memory,
+    /// There is no room for what the line would have the engine keep.
+    #[error("no room for what a line would keep")]
     Full,
+}
+
+impl From<NoMemory> for AnswerFault {
+    ghost use Rattle.script_run.specs.declared.engine.AnswerFault.TheVariants.{Memory};
+
+    ghost from_gives = { λ _ fault. fault ≡ Memory };
+
+    fn from(_error: NoMemory) -> AnswerFault {
+        AnswerFault::Memory
+    }
+}
+
+impl From<AllocError> for AnswerFault {
+    ghost use Rattle.script_run.specs.declared.engine.AnswerFault.TheVariants.{Memory};
+
+    ghost from_gives = { λ _ fault. fault ≡ Memory };
+
+    fn from(_error: AllocError) -> AnswerFault {
+        AnswerFault::Memory
+    }
 }
 
 /// Answers the lines of a script, one after the other.

@@ -17,8 +17,8 @@ use Rattle.serial_model.specs.Commits.{Commits, EndsAlone, merged_of, merged_by,
 use Rattle.serial_model.specs.CommitChangesOwn.{CommitChangesOwn, row_after}
 use Rattle.serial_model.specs.FailedCommitChangesNothing.{FailedCommitChangesNothing}
 use Rattle.serial_model.specs.TableIsCommits.{TableIsCommits}
-use Rattle.serial_model.proofs.Effects.{effect_by, commit_merges, failed_commit_ends, others_stay, outside_leads, mark_effect}
-use Rattle.serial_model.proofs.MapFacts.{get_removed_here}
+use Rattle.block_model.specs.RequestLaws.{effect_by, commit_merges, failed_commit_ends, others_stay, outside_leads, mark_effect}
+use Rattle.block_model.specs.NumberMaps.{get_removed_here}
 use Rattle.std.proofs.lemmas.Cmp.{nat_cmp_total}
 use Rattle.serial_model.proofs.KeyedLists.{alike}
 

@@ -1,7 +1,5 @@
 pub mod KeyedLists
 pub mod RunSteps
-pub mod MapFacts
-pub mod Effects
 pub mod CommitLaws
 pub mod OwnRuns
 pub mod Removals

@@ -14,8 +14,8 @@ use Rattle.block_model.specs.DatabaseState.{DatabaseState, OpenTransaction}
 use Rattle.block_model.specs.RequestEffect.{Answer, effect, effect_within, after_request, reply_to, is_conflict, failed_transaction, after_put, after_mark}
 use Rattle.block_model.specs.SerialRun.{serial_run}
 use Rattle.serial_model.specs.OwnRequestsAlone.{OwnRequestsAlone, IsOwnRun, NeverEnds, is_end, own_entries, own_after, own_step, own_reply, own_replies, replies_of}
-use Rattle.serial_model.proofs.MapFacts.{get_put_here, same_Some}
-use Rattle.serial_model.proofs.Effects.{effect_by, others_stay, mark_effect}
+use Rattle.block_model.specs.NumberMaps.{get_put_here, same_Some}
+use Rattle.block_model.specs.RequestLaws.{effect_by, others_stay, mark_effect}
 
 -- After a request that isn't an end the transaction x is under way, and has failed, or is what the request made of it alone.
 record OwnStep (n : ℕ) (x : OpenTransaction) (table : ℕ) (request : Request) (p : DatabaseState × Answer) : Type 0 where

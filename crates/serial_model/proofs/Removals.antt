@@ -19,8 +19,8 @@ use Rattle.block_model.specs.SerialRun.{serial_run}
 use Rattle.serial_model.specs.Commits.{merged_of, committed_in}
 use Rattle.serial_model.specs.NoRowRemovedTwice.{IsOpening, InitialIsOpening, MarksApart, MarksStand, NoRowRemovedTwice}
 use Rattle.serial_model.proofs.KeyedLists.{tied}
-use Rattle.serial_model.proofs.MapFacts.{found_after_put, found_after_removal, same_Some, none_Some}
-use Rattle.serial_model.proofs.Effects.{within_leads, outside_leads, after_merge, commit_merges}
+use Rattle.block_model.specs.NumberMaps.{found_after_put, found_after_removal, same_Some, none_Some}
+use Rattle.block_model.specs.RequestLaws.{within_leads, outside_leads, after_merge, commit_merges}
 use Rattle.serial_model.proofs.CommitLaws.{get_merged, commit_effect}
 
 -- What holds of every state that a run reaches from an opening: transactions have numbers of their own below the next,

@@ -16,8 +16,8 @@ use Rattle.block_model.specs.RequestEffect.{Answer, effect_at, effect_is, effect
 use Rattle.block_model.specs.SerialRun.{serial_run}
 use Rattle.serial_model.specs.RowsStandAtTheirIds.{AtIds, AtTheirIds, RowsStandAtTheirIds}
 use Rattle.serial_model.proofs.KeyedLists.{tied}
-use Rattle.serial_model.proofs.MapFacts.{found_after_put, found_after_removal, same_Some, none_Some}
-use Rattle.serial_model.proofs.Effects.{outside_leads, mark_effect}
+use Rattle.block_model.specs.NumberMaps.{found_after_put, found_after_removal, same_Some, none_Some}
+use Rattle.block_model.specs.RequestLaws.{outside_leads, mark_effect}
 use Rattle.serial_model.proofs.CommitLaws.{get_merged}
 
 at_ids_put : (table : TableState) (id : RowId) (row : Row) → row.id ≡ id → AtIds table → AtIds (insert table id row)

@@ -1,4 +1,4 @@
-// What the definitions give for every state and every journal.
+//! What the definitions give for every state and every journal.
 
 ghost use Rattle.serial_model.specs.CommitChangesOwn.{CommitChangesOwn};
 ghost use Rattle.serial_model.specs.FailedCommitChangesNothing.{FailedCommitChangesNothing};

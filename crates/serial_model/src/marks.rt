@@ -1,4 +1,4 @@
-// Marks of rows.
+//! Marks of rows.
 
 ghost use Rattle.std.specs.Prelude.{◌≡◌, IfOk, OnOk, OnErr};
 ghost use Rattle.std.specs.List.{list_any};
@@ -6,9 +6,7 @@ ghost use Rattle.std.specs.Ordering.{eq_by_cmp};
 ghost use Rattle.std.specs.FinSet as set;
 ghost use Rattle.block_model.specs.TableState.{id_cmp};
 
-use block_model::NoMemory;
-use block_model::row::RowId;
-use block_model::sequence::Sequence;
+use block_model::{NoMemory, RowId, Sequence};
 use std::alloc::Global;
 use std::marker::Model;
 
@@ -44,12 +42,10 @@ impl Marks {
     pub fn copied(&self, alloc: Global) -> Result<Marks, NoMemory>
         ensures { IfOk result (λ copy. copy ≡ self.now) }
     {
-        match Vec::from_slice(alloc, self.ids.as_slice()) {
-            Ok(ids) => Ok(Marks {
-                ids: Sequence::from_vec(ids),
-            }),
-            Err(_) => Err(NoMemory),
-        }
+        let ids = Vec::from_slice(alloc, self.ids.as_slice())?;
+        Ok(Marks {
+            ids: Sequence::from_vec(ids),
+        })
     }
 
     /// Whether the row is marked.

@@ -1,4 +1,4 @@
-// The database, and runs over journals.
+//! The database, and runs over journals.
 
 ghost use Rattle.std.specs.Prelude.{◌≡◌, ◌<◌, ◌-◌, ◌^◌, IsTrue, ℕ, IfOk, OnOk, OnErr};
 ghost use Rattle.block_model.specs.DatabaseState.{DatabaseState, initial_state};
@@ -10,11 +10,7 @@ ghost use Rattle.serial_model.specs.Runs.{HasRun, HasBegunRun};
 use crate::sessions::Sessions;
 use crate::table_copy::TableCopy;
 use crate::transaction::Transaction;
-use block_model::NoMemory;
-use block_model::request::{Entry, Request, Tag};
-use block_model::row::{Query, RowId, Rows};
-use block_model::sequence::Sequence;
-use block_model::value::Values;
+use block_model::{Entry, NoMemory, Query, Request, RowId, Rows, Sequence, Tag, Values};
 use std::alloc::Global;
 use std::marker::Model;
 
@@ -125,7 +121,7 @@ impl SerialModel {
         ensures err { OnErr result (HasBegunRun self.old self.new journal.now) }
     {
         let mut answers = Sequence::new(self.alloc);
-        for entry in journal {
+        'entries: for entry in journal {
             if !self.is_legal(entry) {
                 let end = End::Illegal;
                 return Ok(Run { answers, end });

@@ -1,4 +1,4 @@
-// The sessions' transactions.
+//! The sessions' transactions.
 
 ghost use Rattle.std.specs.Prelude.{◌≡◌, ◌≢◌, ◌==◌, ◌&&◌, ◌++◌, ◌∷◌, ◌≤◌, ◌<◌, not, map, take, drop, length, slice_index_or, filter, OnOk, OnErr};
 ghost use Rattle.std.specs.Option.{option_copied};
@@ -10,8 +10,7 @@ ghost use Rattle.std.specs.FinSet as set;
 ghost use Rattle.block_model.specs.DatabaseState.{OpenTransaction};
 
 use crate::transaction::Transaction;
-use block_model::NoMemory;
-use block_model::row::RowId;
+use block_model::{NoMemory, RowId};
 use std::alloc::Global;
 use std::marker::Model;
 
@@ -95,7 +94,7 @@ impl Sessions {
 fn find_transaction(sessions: &[Session], number: u32) -> Option<&Transaction>
     ensures { option_copied result ≡ find nat_cmp number (map (λ s. (s.number, s.transaction)) sessions.now) }
 {
-    for session in sessions {
+    'sessions: for session in sessions {
         if number == session.number {
             return Some(&session.transaction);
         }
@@ -125,10 +124,8 @@ fn put_session(sessions: &mut Vec<Session>, session: Session) -> Result<(), NoMe
         sessions[at] = session;
         return Ok(());
     }
-    match sessions.insert(at, session) {
-        Ok(()) => Ok(()),
-        Err(_) => Err(NoMemory),
-    }
+    sessions.insert(at, session)?;
+    Ok(())
 }
 
 /// Where the first session stands that isn't before the number.
@@ -139,7 +136,7 @@ fn place_in(sessions: &[Session], number: u32) -> usize
         ++ put nat_cmp number x (map (λ s. (s.number, s.transaction)) (drop result sessions.now)) }
     ensures here { result < length sessions.now → (d : Session) → number ≤ (slice_index_or sessions.now result d).number }
 {
-    for (i, session) in sessions.iter().enumerate() {
+    'sessions: for (i, session) in sessions.iter().enumerate() {
         if number <= session.number {
             return i;
         }

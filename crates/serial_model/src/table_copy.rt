@@ -1,4 +1,4 @@
-// Copies of the tables.
+//! Copies of the tables.
 
 ghost use Rattle.std.specs.Prelude.{◌≡◌, ◌≢◌, ◌++◌, ◌≤◌, ◌<◌, ◌∷◌, not, map, take, drop, length, filter, slice_index_or, IfOk, OnOk, OnErr};
 ghost use Rattle.std.specs.FinMap as tables;
@@ -11,8 +11,7 @@ ghost use Rattle.block_model.specs.TableState.{id_cmp, rows_in};
 ghost use Rattle.block_model.specs.RowMatches.{row_matches};
 
 use crate::marks::{Marks, same_id};
-use block_model::NoMemory;
-use block_model::row::{Query, Row, RowId, Rows, row_matches};
+use block_model::{NoMemory, Query, Row, RowId, Rows, row_matches};
 use std::alloc::Global;
 use std::marker::Model;
 
@@ -105,7 +104,7 @@ fn copied_rows(alloc: Global, rows: &[Row]) -> Result<Vec<Row>, NoMemory>
     ensures { IfOk result (λ copy. copy.items ≡ rows.now) }
 {
     let mut copy = Rows::new(alloc);
-    for row in rows {
+    'rows: for row in rows {
         copy.push(row.copied())?;
     }
     Ok(copy.into_vec())
@@ -121,7 +120,7 @@ fn matching_rows(alloc: Global, rows: &[Row], query: &Query) -> Result<Rows, NoM
     ensures { IfOk result (λ found. found ≡ filter (row_matches query.now) rows.now) }
 {
     let mut found = Rows::new(alloc);
-    for row in rows {
+    'rows: for row in rows {
         if row_matches(row, query) {
             found.push(row.copied())?;
         }
@@ -150,10 +149,8 @@ fn put_row(rows: &mut Vec<Row>, row: Row) -> Result<(), NoMemory>
         rows[at] = row;
         return Ok(());
     }
-    match rows.insert(at, row) {
-        Ok(()) => Ok(()),
-        Err(_) => Err(NoMemory),
-    }
+    rows.insert(at, row)?;
+    Ok(())
 }
 
 /// Where the first row stands that isn't before the id.
@@ -163,7 +160,7 @@ fn place_in(rows: &[Row], id: RowId) -> usize
         ≡ map (λ r. (r.id, r)) (take result rows.now) ++ put id_cmp id r (map (λ r. (r.id, r)) (drop result rows.now)) }
     ensures here { (d : Row) → result < length rows.now → id_cmp id (slice_index_or rows.now result d).id ≢ Greater }
 {
-    for (i, row) in rows.iter().enumerate() {
+    'rows: for (i, row) in rows.iter().enumerate() {
         if id <= row.id {
             return i;
         }

@@ -1,4 +1,4 @@
-// Transactions that are under way.
+//! Transactions that are under way.
 
 ghost use Rattle.std.specs.Prelude.{◌≡◌, IsTrue, IfOk, OnOk, OnErr, false};
 ghost use Rattle.std.specs.FinMap as tables;
@@ -8,9 +8,7 @@ ghost use Rattle.block_model.specs.RequestEffect.{after_put, next_row, failed_tr
 
 use crate::marks::Marks;
 use crate::table_copy::TableCopy;
-use block_model::NoMemory;
-use block_model::row::{Query, Row, RowId, Rows};
-use block_model::value::Values;
+use block_model::{NoMemory, Query, Row, RowId, Rows, Values};
 use std::alloc::Global;
 use std::marker::Model;
 
@@ -153,7 +151,7 @@ impl Transaction {
         let mut rows = table.copied(alloc)?;
         rows.remove_marked(&self.marks);
         let view = self.view.rows();
-        for at in (0..view.len()).rev() {
+        'rows: for at in (0..view.len()).rev() {
             let row = &view[at];
             if self.is_own(row.id) {
                 rows.put(row.copied())?;

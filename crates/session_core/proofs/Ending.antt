@@ -8,16 +8,17 @@ use Rattle.block_model.specs.declared.reply.Refusal.{Refusal}
 use Rattle.block_model.specs.declared.reply.Refusal.TheVariants as refusals
 use Rattle.block_model.specs.DatabaseState.{DatabaseState}
 use Rattle.block_model.specs.SerialRun.{replies_to}
-use Rattle.query_words.specs.declared.statement.Statement.{Statement}
-use Rattle.query_words.specs.declared.statement.Statement.TheVariants as statements
-use Rattle.query_words.specs.ScriptTexts.{database_of, max_entries, reply_behind, requests_behind}
-use Rattle.query_words.specs.StatementRequests.{refusal_at, requests_of, statement_requests, statement_reply, unless_refused, reply_unless_refused, reply_to_statement}
+use Rattle.statements.specs.declared.statement.Statement.{Statement}
+use Rattle.statements.specs.declared.statement.Statement.TheVariants as statements
+use Rattle.statements.specs.JournalAnswers.{database_of, reply_behind, requests_behind}
+use Rattle.statements.specs.declared.limits.TheConstants.{MAX_ENTRIES}
+use Rattle.statements.specs.StatementRequests.{refusal_at, requests_of, statement_requests, statement_reply, unless_refused, reply_unless_refused, reply_to_statement}
 use Rattle.range_summaries.specs.ExplainedBlocks.{explained, blocks_kept}
-use Rattle.session_core.specs.Acts.{requests_in, reply_in, Acts, IsPast}
+use Rattle.session_core.specs.declared.tables.Tables.{Tables}
+use Rattle.session_core.specs.Acts.{requests_in, reply_in, DoesStatement, IsPastJournal}
 use Rattle.session_core.specs.JournalState.{JournalState}
-use Rattle.session_core.specs.Steps.{Ends, LacksRoom}
-use Rattle.session_core.specs.StoreInvariant.{store_with, IsKept}
-use Rattle.session_core.specs.TablesState.{TablesState}
+use Rattle.session_core.specs.Steps.{Ends, JournalLacksRoom}
+use Rattle.session_core.specs.StoreInvariant.{store_with, IsStoreKept}
 
 -- a statement that is taken makes its requests, and is answered their reply
 taken_requests : (s : DatabaseState) (n : ℕ) (short : Bool) (statement : Statement) → refusal_at s n statement ≡ None → statement_requests s n short statement ≡ requests_of s n short statement
@@ -28,7 +29,7 @@ taken_reply : (s : DatabaseState) (n : ℕ) (short : Bool) (statement : Statemen
 unfolding statement_reply
 taken_reply s n short statement taken = ap (λ (o : Option Refusal). reply_unless_refused o statement (replies_to s (requests_of s n short statement))) taken
 
-module _ (t : TablesState) (j : JournalState) (names : List (List ℕ)) (hands : List (Option Statement)) (n : ℕ) (h : IsKept t j (store_with t j names hands)) where
+module _ (t : Tables) (j : JournalState) (names : List (List ℕ)) (hands : List (Option Statement)) (n : ℕ) (h : IsStoreKept t j (store_with t j names hands)) where
   requests_are : (short : Bool) (statement : Statement) → refusal_at t.versions.database n statement ≡ None → requests_in t n short statement ≡ requests_behind j.entries n short statement
   requests_are short statement taken = sym (taken_requests t.versions.database n short statement taken) ∙ ap (λ (s : DatabaseState). statement_requests s n short statement) h.refines.shown
 
@@ -50,7 +51,7 @@ module _ (t : TablesState) (j : JournalState) (names : List (List ℕ)) (hands :
   replies_are short statements.Work taken = own_reply short statements.Work taken
 
   module _ (statement : Statement) (held : get_or hands n None ≡ Some statement) where
-    pub ends : (t' : TablesState) (j' : JournalState) (reply : Reply) (names' : List (List ℕ)) (hands' : List (Option Statement)) → Acts t j n statement t' j' reply → names' ≡ names → hands' ≡ set hands n None
+    pub ends : (t' : Tables) (j' : JournalState) (reply : Reply) (names' : List (List ℕ)) (hands' : List (Option Statement)) → DoesStatement t j n statement t' j' reply → names' ≡ names → hands' ≡ set hands n None
         → Ends (store_with t j names hands) n (store_with t' j' names' hands') reply
     ends t' j' reply names' hands' acts same_names changed =
         let taken = h.refines.taken n statement held in
@@ -66,11 +67,11 @@ module _ (t : TablesState) (j : JournalState) (names : List (List ℕ)) (hands :
           layout = acts.layout;
         }
 
-    pub lacks_room : (entries : ℕ) → IsPast t j n statement → entries ≡ length j.entries → LacksRoom (store_with t j names hands) n entries
+    pub lacks_room : (entries : ℕ) → IsPastJournal t j n statement → entries ≡ length j.entries → JournalLacksRoom (store_with t j names hands) n entries
     lacks_room entries past count = record {
       statement = statement;
       short = past.short;
       in_hand = held;
-      past = subst (λ (es : List Entry). max_entries < length j.entries + length es) (requests_are past.short statement (h.refines.taken n statement held)) past.past;
+      past = subst (λ (es : List Entry). MAX_ENTRIES < length j.entries + length es) (requests_are past.short statement (h.refines.taken n statement held)) past.past;
       so_many = count;
     }

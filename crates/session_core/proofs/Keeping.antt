@@ -4,39 +4,38 @@ use Rattle.std.specs.Ordering.{nat_cmp}
 use Rattle.std.specs.FinMap.{get, get-empty}
 use Rattle.std.proofs.lemmas.Bool.{cases_eq}
 use Rattle.std.proofs.lemmas.List.{length-set, set-set, set-get_or}
-use Rattle.block_model.specs.DiskLayout.{DiskLayout}
+use Rattle.store_layout.specs.DiskLayout.{DiskLayout}
 use Rattle.block_model.specs.declared.row.Row.{Row}
 use Rattle.block_model.specs.declared.request.Entry.{Entry}
 use Rattle.block_model.specs.declared.reply.Refusal.{Refusal}
 use Rattle.block_model.specs.declared.reply.Refusal.TheVariants as refusals
 use Rattle.block_model.specs.declared.reply.Reply.{Reply}
+use Rattle.block_model.specs.NumberMaps.{none_Some, same_Some}
 use Rattle.block_model.specs.DatabaseState.{DatabaseState, OpenTransaction, initial_state}
 use Rattle.block_model.specs.SerialRun.{serial_run, is_legal, serial_run-append, is_legal-append}
-use Rattle.query_words.specs.declared.statement.Statement.{Statement}
-use Rattle.query_words.specs.declared.statement.Statement.TheVariants as statements
-use Rattle.query_words.specs.LineFits.{IsStatementFor}
-use Rattle.query_words.specs.RowsPut.{rows_put, rows_put-append}
-use Rattle.query_words.specs.ScriptTexts.{database_of, rows_of}
-use Rattle.query_words.specs.StatementRequests.{submission_refusal, refusal_at}
-use Rattle.row_versions.specs.VersionsState.{StandAtTheirIds, rows_at}
+use Rattle.statements.specs.declared.statement.Statement.{Statement}
+use Rattle.statements.specs.declared.statement.Statement.TheVariants as statements
+use Rattle.statements.specs.declared.limits.TheConstants.{MAX_SESSIONS}
+use Rattle.statements.specs.StatementFits.{IsStatementFor}
+use Rattle.statements.specs.RowsPut.{rows_put, rows_put-append}
+use Rattle.statements.specs.JournalAnswers.{database_of, rows_of}
+use Rattle.statements.specs.StatementRequests.{submission_refusal, refusal_at}
+use Rattle.row_versions.specs.VersionsState.{VersionsState, StandAtTheirIds, rows_at}
 use Rattle.range_summaries.specs.ExplainedBlocks.{rows_of_table}
-use Rattle.session_core.specs.Acts.{IsTaken, requests_in, Acts}
+use Rattle.session_core.specs.declared.limits.TheConstants.{ENTRIES_A_SESSION, MAX_PROMISED}
+use Rattle.session_core.specs.declared.tables.Tables.{Tables}
+use Rattle.session_core.specs.Acts.{IsTaken, requests_in, DoesStatement}
 use Rattle.session_core.specs.JournalState.{JournalState}
 use Rattle.session_core.specs.Promises.{begins_in, begins, promised_to, promised}
-use Rattle.session_core.specs.StoreInvariant.{store_with, IsKept}
+use Rattle.session_core.specs.StoreInvariant.{store_with, IsStoreKept}
 use Rattle.session_core.specs.StoreState.{StoreState}
 use Rattle.session_core.specs.Submits.{refusal_behind}
-use Rattle.session_core.specs.TablesState.{TablesState}
+use Rattle.session_core.specs.TablesKept.{AreTables, MakesRoom}
+use Rattle.session_core.proofs.Acting.{still_tables}
 use Rattle.session_core.proofs.LegalRequests.{requests_are_legal}
 use Rattle.session_core.proofs.OtherSessions.{statement_elsewhere}
 use Rattle.session_core.proofs.Promising.{shared, promised_to_all, begins_of_all, begins_changed, promised_appended, begins_appended, begins_at}
 use Rattle.session_core.proofs.RowsByTable.{rows_of_table-append}
-
-none_Some : {X : Type 0} (x : X) → None ≡ Some x → ⊥
-none_Some x e = cc
-
-same_Some : {X : Type 0} (x y : X) → Some x ≡ Some y → x ≡ y
-same_Some x y e = cc
 
 -- ---- a new store
 
@@ -45,8 +44,8 @@ no_rows zero k = refl
 no_rows (suc n) zero = refl
 no_rows (suc n) (suc k) = no_rows n k
 
-pub kept_new : (t : TablesState) (j : JournalState) (n : ℕ) → t.versions.database ≡ initial_state → t.versions.tables ≡ replicate n [] → j.entries ≡ [] → IsKept t j (store_with t j [] [])
-kept_new t j n database rows entries = record {
+pub kept_new : (t : Tables) (j : JournalState) (n : ℕ) → AreTables t → t.versions.database ≡ initial_state → t.versions.tables ≡ replicate n [] → j.entries ≡ [] → IsStoreKept t j (store_with t j [] [])
+kept_new t j n sound database rows entries = record {
   refines = record {
     legal = ap (is_legal initial_state) entries;
     shown = database ∙ sym (ap database_of entries);
@@ -57,15 +56,16 @@ kept_new t j n database rows entries = record {
     fitting = λ m statement e. absurd (none_Some statement e);
   };
   rows = λ k. ap (λ (l : List (List Row)). rows_at l k) rows ∙ no_rows n k ∙ sym (ap (λ es. rows_of_table k (rows_of es)) entries);
+  sound = sound;
   none_further = λ m past. ap (λ (s : DatabaseState). get s.sessions m) database ∙ get-empty nat_cmp m;
   promises = omega arith;
   begins = omega arith;
 }
 
 -- the same parts
-pub kept_same : (t t' : TablesState) (j j' : JournalState) (names names' : List (List ℕ)) (hands hands' : List (Option Statement)) → IsKept t j (store_with t j names hands) → t' ≡ t → j' ≡ j → names' ≡ names → hands' ≡ hands → IsKept t' j' (store_with t' j' names' hands')
+pub kept_same : (t t' : Tables) (j j' : JournalState) (names names' : List (List ℕ)) (hands hands' : List (Option Statement)) → IsStoreKept t j (store_with t j names hands) → t' ≡ t → j' ≡ j → names' ≡ names → hands' ≡ hands → IsStoreKept t' j' (store_with t' j' names' hands')
 kept_same t t' j j' names names' hands hands' h tables journal same_names same_hands =
-    subst (λ (p : (TablesState × JournalState) × (List (List ℕ) × List (Option Statement))). IsKept p.0.0 p.0.1 (store_with p.0.0 p.0.1 p.1.0 p.1.1))
+    subst (λ (p : (Tables × JournalState) × (List (List ℕ) × List (Option Statement))). IsStoreKept p.0.0 p.0.1 (store_with p.0.0 p.0.1 p.1.0 p.1.1))
     (λ i. ((sym tables i, sym journal i), (sym same_names i, sym same_hands i))) h
 
 -- ---- a new session
@@ -76,7 +76,7 @@ hand_appended [] (suc n) = refl
 hand_appended (hand ∷ hands) zero = refl
 hand_appended (hand ∷ hands) (suc n) = hand_appended hands n
 
-named : (t : TablesState) (j : JournalState) (names : List (List ℕ)) (hands : List (Option Statement)) (name : List ℕ) → IsKept t j (store_with t j names hands) → length names < 64 → IsKept t j (store_with t j (names ++ name ∷ []) (hands ++ None ∷ []))
+named : (t : Tables) (j : JournalState) (names : List (List ℕ)) (hands : List (Option Statement)) (name : List ℕ) → IsStoreKept t j (store_with t j names hands) → length names < MAX_SESSIONS → IsStoreKept t j (store_with t j (names ++ name ∷ []) (hands ++ None ∷ []))
 named t j names hands name h few =
     let each = h.refines.a_hand_each in
     let count : length (names ++ name ∷ []) ≡ length names + 1 = length-append names (name ∷ []) in
@@ -92,15 +92,16 @@ named t j names hands name h few =
         fitting = λ n statement e. h.refines.fitting n statement (sym (hand_appended hands n) ∙ e);
       };
       rows = h.rows;
+      sound = h.sound;
       none_further = λ n past. h.none_further n (omega arith);
       promises = subst (λ k. k ≤ j.room) (sym (promised_appended t.versions.database.sessions 0 hands (length hands) (omega arith) (h.none_further (length hands) (omega arith)))) h.promises;
       begins = subst (λ k. k ≤ t.versions.room) (sym (begins_appended hands)) h.begins;
     }
 
-pub kept_named : (t : TablesState) (j : JournalState) (names names' : List (List ℕ)) (hands hands' : List (Option Statement)) (name : List ℕ) → IsKept t j (store_with t j names hands) → length names < 64 → names' ≡ names ++ name ∷ [] → hands' ≡ hands ++ None ∷ []
-    → IsKept t j (store_with t j names' hands')
+pub kept_named : (t : Tables) (j : JournalState) (names names' : List (List ℕ)) (hands hands' : List (Option Statement)) (name : List ℕ) → IsStoreKept t j (store_with t j names hands) → length names < MAX_SESSIONS → names' ≡ names ++ name ∷ [] → hands' ≡ hands ++ None ∷ []
+    → IsStoreKept t j (store_with t j names' hands')
 kept_named t j names names' hands hands' name h few more_names more_hands =
-    subst (λ (p : List (List ℕ) × List (Option Statement)). IsKept t j (store_with t j p.0 p.1)) (λ i. (sym more_names i, sym more_hands i)) (named t j names hands name h few)
+    subst (λ (p : List (List ℕ) × List (Option Statement)). IsStoreKept t j (store_with t j p.0 p.1)) (λ i. (sym more_names i, sym more_hands i)) (named t j names hands name h few)
 
 -- ---- a statement that comes into a hand
 
@@ -129,11 +130,10 @@ no_more_promised : (statement : Statement) (o : Option OpenTransaction) → begi
 no_more_promised statement None e = omega (arith, e)
 no_more_promised statement (Some x) e = refl
 
-module _ (t t' : TablesState) (j j' : JournalState) (names : List (List ℕ)) (hands : List (Option Statement)) (n : ℕ) (statement : Statement)
-    (h : IsKept t j (store_with t j names hands)) (below : n < length hands) (empty : get_or hands n None ≡ None)
-    (taken : refusal_at t.versions.database n statement ≡ None) (fitting : IsStatementFor t.layout.schema statement) (layout : t'.layout ≡ t.layout) (database : t'.versions.database ≡ t.versions.database)
-    (rows : t'.versions.tables ≡ t.versions.tables) (entries : j'.entries ≡ j.entries) (begins_more : t.versions.room ≤ t'.versions.room) (room : j.room ≤ j'.room)
-    (begins_enough : statement ≡ statements.Begin → 64 ≤ t'.versions.room) (room_enough : statement ≡ statements.Begin → 192 ≤ j'.room) where
+module _ (t : Tables) (v : VersionsState) (j j' : JournalState) (names : List (List ℕ)) (hands : List (Option Statement)) (n : ℕ) (statement : Statement)
+    (h : IsStoreKept t j (store_with t j names hands)) (below : n < length hands) (empty : get_or hands n None ≡ None)
+    (taken : refusal_at t.versions.database n statement ≡ None) (fitting : IsStatementFor t.layout.schema statement) (made : MakesRoom t.versions j v j')
+    (begins_enough : statement ≡ statements.Begin → MAX_SESSIONS ≤ v.room) (room_enough : statement ≡ statements.Begin → MAX_PROMISED ≤ j'.room) where
   abbrev with_it : List (Option Statement)
   with_it = set hands n (Some statement)
 
@@ -149,16 +149,20 @@ module _ (t t' : TablesState) (j j' : JournalState) (names : List (List ℕ)) (h
     | inr other ↦
         let all = shared t.versions.database.sessions 0 hands n n below (omega arith) in
         let own = ap (λ (hand : Option Statement). promised_to hand (get t.versions.database.sessions n)) empty in
-        omega (arith, room, h.promises, all.before, own, all.after t.versions.database.sessions (Some statement) (λ m _. refl), no_more_promised statement (get t.versions.database.sessions n) other)
+        omega (arith, made.room, h.promises, all.before, own, all.after t.versions.database.sessions (Some statement) (λ m _. refl), no_more_promised statement (get t.versions.database.sessions n) other)
   ]
 
-  still_begins : begins with_it ≤ t'.versions.room
+  still_begins : begins with_it ≤ v.room
   still_begins = elim (is_begin statement) [
     | inl begin ↦ omega (arith, begins_enough begin, begins_of_all with_it (omega (arith, length-set hands n (Some statement), h.refines.a_hand_each, h.refines.few_sessions)))
-    | inr other ↦ omega (arith, begins_more, h.begins, begins_changed hands n (Some statement) below, other)
+    | inr other ↦ omega (arith, made.begins, h.begins, begins_changed hands n (Some statement) below, other)
   ]
 
-  in_hand : IsKept t' j' (store_with t j names with_it)
+  -- the tables with the room
+  abbrev roomy : Tables
+  roomy = record t { versions = v }
+
+  in_hand : IsStoreKept roomy j' (store_with t j names with_it)
   in_hand = record {
     refines = record {
       legal = h.refines.legal;
@@ -169,21 +173,22 @@ module _ (t t' : TablesState) (j j' : JournalState) (names : List (List ℕ)) (h
       taken = of_hand (λ m s. refusal_at t.versions.database m s ≡ None) taken h.refines.taken;
       fitting = of_hand (λ m s. IsStatementFor t.layout.schema s) fitting h.refines.fitting;
     };
-    rows = λ k. ap (λ (l : List (List Row)). rows_at l k) rows ∙ h.rows k;
+    rows = λ k. ap (λ (l : List (List Row)). rows_at l k) made.tables ∙ h.rows k;
+    sound = still_tables t v h.sound made.tables;
     none_further = λ m past. h.none_further m (omega (arith, length-set hands n (Some statement)));
     promises = still_promised;
     begins = still_begins;
   }
 
-  pub kept_in_hand : (names' : List (List ℕ)) (hands' : List (Option Statement)) → names' ≡ names → hands' ≡ with_it → IsKept t' j' (store_with t' j' names' hands')
+  pub kept_in_hand : (names' : List (List ℕ)) (hands' : List (Option Statement)) → names' ≡ names → hands' ≡ with_it → IsStoreKept roomy j' (store_with roomy j' names' hands')
   kept_in_hand names' hands' same_names changed =
-      let store : store_with t j names with_it ≡ store_with t' j' names' hands' = λ i. record { layout = sym layout i; names = sym same_names i; hands = sym changed i; journal = sym entries i; database = sym database i } in
-      subst (λ (s : StoreState). IsKept t' j' s) store in_hand
+      let store : store_with t j names with_it ≡ store_with roomy j' names' hands' = λ i. record { layout = t.layout; names = sym same_names i; hands = sym changed i; journal = sym made.entries i; database = sym made.database i } in
+      subst (λ (s : StoreState). IsStoreKept roomy j' s) store in_hand
 
 -- ---- a statement that is done
 
-module _ (t : TablesState) (j : JournalState) (names : List (List ℕ)) (hands : List (Option Statement)) (n : ℕ) (statement : Statement)
-    (h : IsKept t j (store_with t j names hands)) (held : get_or hands n None ≡ Some statement) where
+module _ (t : Tables) (j : JournalState) (names : List (List ℕ)) (hands : List (Option Statement)) (n : ℕ) (statement : Statement)
+    (h : IsStoreKept t j (store_with t j names hands)) (held : get_or hands n None ≡ Some statement) where
   pub is_below : n < length hands
   is_below = there hands n held
     where
@@ -200,11 +205,12 @@ module _ (t : TablesState) (j : JournalState) (names : List (List ℕ)) (hands :
       record {
         taken = h.refines.taken n statement held;
         fitting = h.refines.fitting n statement held;
+        sound = h.sound;
         entries = omega (arith, h.promises, all.before, own);
         begins = omega (arith, h.begins, begins_at hands n, ap begins_in held);
       }
 
-  module _ (t' : TablesState) (j' : JournalState) (reply : Reply) (acts : Acts t j n statement t' j' reply) (own : StandAtTheirIds t.versions.database) where
+  module _ (t' : Tables) (j' : JournalState) (reply : Reply) (acts : DoesStatement t j n statement t' j' reply) (own : StandAtTheirIds t.versions.database) where
     made : List Entry
     made = requests_in t n acts.short statement
 
@@ -237,11 +243,11 @@ module _ (t : TablesState) (j : JournalState) (names : List (List ℕ)) (hands :
     promises_after =
         let all = shared t.versions.database.sessions 0 hands n n is_below (omega arith) in
         let held_promise = ap (λ (hand : Option Statement). promised_to hand (get t.versions.database.sessions n)) held in
-        let few : all.others ≤ 189 = omega (arith, all.few, h.refines.a_hand_each, h.refines.few_sessions) in
+        let few : all.others + ENTRIES_A_SESSION ≤ MAX_PROMISED = omega (arith, all.few, h.refines.a_hand_each, h.refines.few_sessions) in
         let had : all.others + promised_to (Some statement) (get t.versions.database.sessions n) ≤ j.room = omega (arith, h.promises, all.before, held_promise) in
         omega (arith, all.after t'.versions.database.sessions None elsewhere, acts.promises all.others few had)
 
-    after : IsKept t' j' (store_with t' j' names (set hands n None))
+    after : IsStoreKept t' j' (store_with t' j' names (set hands n None))
     after = record {
       refines = record {
         legal = legal_after;
@@ -253,14 +259,15 @@ module _ (t : TablesState) (j : JournalState) (names : List (List ℕ)) (hands :
         fitting = of_others (λ m s. IsStatementFor t'.layout.schema s) (λ m s apart e. subst (λ (d : DiskLayout). IsStatementFor d.schema s) (sym acts.layout) (h.refines.fitting m s e));
       };
       rows = rows_after;
+      sound = acts.sound;
       none_further = λ m past. elsewhere m (λ same. absurd (omega (arith, length-set hands n None, is_below))) ∙ h.none_further m (omega (arith, length-set hands n None));
       promises = promises_after;
       begins = omega (arith, acts.begins, h.begins, begins_changed hands n None is_below, ap begins_in held);
     }
 
-    pub kept_after : (names' : List (List ℕ)) (hands' : List (Option Statement)) → names' ≡ names → hands' ≡ set hands n None → IsKept t' j' (store_with t' j' names' hands')
+    pub kept_after : (names' : List (List ℕ)) (hands' : List (Option Statement)) → names' ≡ names → hands' ≡ set hands n None → IsStoreKept t' j' (store_with t' j' names' hands')
     kept_after names' hands' same_names changed =
-        subst (λ (p : List (List ℕ) × List (Option Statement)). IsKept t' j' (store_with t' j' p.0 p.1)) (λ i. (sym same_names i, sym changed i)) after
+        subst (λ (p : List (List ℕ) × List (Option Statement)). IsStoreKept t' j' (store_with t' j' p.0 p.1)) (λ i. (sym same_names i, sym changed i)) after
 
   -- the statement comes back into the hand
   pub put_back : (hands' : List (Option Statement)) (taken : List (Option Statement)) (back : Statement) → taken ≡ set hands n None → hands' ≡ set taken n (Some back) → back ≡ statement → hands' ≡ hands

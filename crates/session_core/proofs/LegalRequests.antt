@@ -7,7 +7,7 @@ use Rattle.std.specs.Ordering.{eq_by_cmp, is_eq, is_lt}
 use Rattle.std.specs.FinMap.{get, remove, find, entries, values, is_sorted, entries_sorted, get-entries, get-remove, contains_key}
 use Rattle.std.specs.FinMap.Entries.{below_all}
 use Rattle.std.proofs.lemmas.Bool.{cond-true, cond-false}
-use Rattle.std.proofs.lemmas.Cmp.{eq_by_cmp_equiv}
+use Rattle.std.proofs.lemmas.Cmp.{nat_cmp_total, eq_by_cmp_equiv}
 use Rattle.block_model.specs.declared.row.RowId.{RowId}
 use Rattle.block_model.specs.declared.row.Row.{Row}
 use Rattle.block_model.specs.declared.row.Query.{Query}
@@ -18,12 +18,13 @@ use Rattle.block_model.specs.RowMatches.{row_matches}
 use Rattle.block_model.specs.TableState.{TableState, id_cmp, ids_total, ids_exact, id_ties_itself}
 use Rattle.block_model.specs.DatabaseState.{DatabaseState, OpenTransaction}
 use Rattle.block_model.specs.RequestEffect.{Answer, effect, effect_at, effect_is, Found, after_mark, with_transaction, is_conflict, is_legal_at, is_legal_request, is_look_tag, rows_found}
+use Rattle.block_model.specs.NumberMaps.{none_Some, get_put_here}
+use Rattle.block_model.specs.RequestLaws.{mark_effect}
 use Rattle.block_model.specs.SerialRun.{is_legal}
-use Rattle.query_words.specs.declared.statement.Statement.{Statement}
-use Rattle.query_words.specs.declared.statement.Statement.TheVariants as statements
-use Rattle.query_words.specs.StatementRequests.{submission_refusal, refusal_at, requests_of, begin_entries, tagged_entry, tag_where, look_entry, mark_entry, mark_entries, unless_conflict, found_in}
+use Rattle.statements.specs.declared.statement.Statement.{Statement}
+use Rattle.statements.specs.declared.statement.Statement.TheVariants as statements
+use Rattle.statements.specs.StatementRequests.{submission_refusal, refusal_at, requests_of, begin_entries, tagged_entry, tag_where, look_entry, mark_entry, mark_entries, unless_conflict, found_in}
 use Rattle.row_versions.specs.VersionsState.{StandAtTheirIds}
-use Rattle.session_core.proofs.OtherSessions.{mark_effect, at_put}
 use Rattle.session_core.proofs.Transactions.{idle, under_way, whole}
 
 first_of : (a b : Bool) → T (a && b) → T a
@@ -54,9 +55,6 @@ not_below id [] h = refl
 not_below id (e ∷ es) h =
     cond-false (eq_by_cmp id_cmp id e.0) (Some e.1) (find id_cmp id es) (less_apart (id_cmp id e.0) (first_of (is_lt (id_cmp id e.0)) (below_all id_cmp id es) h))
     ∙ not_below id es (second_of (is_lt (id_cmp id e.0)) (below_all id_cmp id es) h)
-
-none_Some : {X : Type 0} (x : X) → None ≡ Some x → ⊥
-none_Some x e = cc
 
 -- what is found behind an entry is found with it
 found_with : (e : RowId × Row) (es : List (RowId × Row)) (id : RowId) (r : Row) → T (below_all id_cmp e.0 es) → find id_cmp id es ≡ Some r → find id_cmp id (e ∷ es) ≡ Some r
@@ -152,7 +150,7 @@ marks_are_legal n table (r ∷ rows) s x got whole h =
     let below = first_of (below_all id_cmp r.id (by_id rows)) (is_sorted id_cmp (by_id rows)) h.sorted in
     let went : effect s e ≡ mark_effect s n x r.id (is_conflict s n x r.id) = effect_is s e ∙ ap (λ (o : Option OpenTransaction). effect_at o s e) got in
     let marked : is_legal (with_transaction s n (after_mark x r.id)) (mark_entries (with_transaction s n (after_mark x r.id)) n table rows) ≡ true =
-    marks_are_legal n table rows (with_transaction s n (after_mark x r.id)) (after_mark x r.id) (at_put s.sessions n (after_mark x r.id)) whole
+    marks_are_legal n table rows (with_transaction s n (after_mark x r.id)) (after_mark x r.id) (get_put_here nat_cmp_total s.sessions n (after_mark x r.id)) whole
     (record { sorted = second_of (below_all id_cmp r.id (by_id rows)) (is_sorted id_cmp (by_id rows)) h.sorted; inside = still_in x.view r.id rows below h.inside.1 }) in
     let rest : (b : Bool) → is_legal (mark_effect s n x r.id b).0 (unless_conflict (mark_effect s n x r.id b).1 (mark_entries (mark_effect s n x r.id b).0 n table rows)) ≡ true =
     λ (b : Bool). elim b as (λ b. is_legal (mark_effect s n x r.id b).0 (unless_conflict (mark_effect s n x r.id b).1 (mark_entries (mark_effect s n x r.id b).0 n table rows)) ≡ true) [ true ↦ refl | false ↦ marked ] in

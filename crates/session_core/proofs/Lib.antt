@@ -7,4 +7,3 @@ pub mod Acting
 pub mod SessionLists
 pub mod Keeping
 pub mod Ending
-pub mod Trials

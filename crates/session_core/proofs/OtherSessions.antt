@@ -1,77 +1,16 @@
 -- the requests of a session leave the other sessions' transactions alone
-use Rattle.std.proofs.Common.{◌≡◌, ℕ, Bool, true, false, if◌then◌else◌, List, [], ◌∷◌, refl, ap, ◌∙◌, sym, ne_eqb, Option, None, Some}
-use Rattle.std.specs.Ordering.{eq_by_cmp, nat_cmp}
-use Rattle.std.specs.Cmp.{unsigned_tied}
-use Rattle.std.specs.FinMap.{get, insert, remove, get-insert, get-remove}
-use Rattle.std.proofs.lemmas.Bool.{cond-true, cond-false}
-use Rattle.std.proofs.lemmas.Cmp.{nat_cmp_total, eq_by_cmp_equiv}
+use Rattle.std.proofs.Common.{◌≡◌, ℕ, Bool, true, false, List, [], ◌∷◌, refl, ap, ◌∙◌, sym, Option}
+use Rattle.std.specs.FinMap.{get}
 use Rattle.block_model.specs.declared.row.Row.{Row}
-use Rattle.block_model.specs.declared.row.RowId.{RowId}
 use Rattle.block_model.specs.declared.row.Query.{Query}
 use Rattle.block_model.specs.declared.request.Entry.{Entry}
-use Rattle.block_model.specs.declared.request.Request.{Request}
-use Rattle.block_model.specs.declared.request.Request.TheVariants.{Begin, Put, Look, Mark, Commit, Rollback}
-use Rattle.block_model.specs.declared.request.Tag.{Tag}
-use Rattle.block_model.specs.declared.request.Tag.TheVariants as tags
 use Rattle.block_model.specs.DatabaseState.{DatabaseState, OpenTransaction}
-use Rattle.block_model.specs.RequestEffect.{Answer, Begun, Inserted, Found, Marked, Conflict, Committed, RolledBack, Full, NoMemory, Illegal, effect, effect_at, effect_is, effect_within, effect_outside, after_request, reply_to, with_transaction, after_failure, after_mark, is_conflict}
+use Rattle.block_model.specs.RequestEffect.{Answer, Begun, Inserted, Found, Marked, Conflict, Committed, RolledBack, Full, NoMemory, Illegal, effect, effect_at, effect_is, after_request, reply_to}
+use Rattle.block_model.specs.RequestLaws.{others_stay}
 use Rattle.block_model.specs.SerialRun.{serial_run}
-use Rattle.query_words.specs.declared.statement.Statement.{Statement}
-use Rattle.query_words.specs.declared.statement.Statement.TheVariants as statements
-use Rattle.query_words.specs.StatementRequests.{requests_of, begin_entries, mark_entries, mark_entry, unless_conflict, look_entry, found_in}
-
--- ---- what stands at a number after a change of a map
-
-pub at_put : {X : Type 0} (m : Rattle.std.specs.FinMap.FinMap nat_cmp X) (n : ℕ) (x : X) → get (insert m n x) n ≡ Some x
-at_put m n x = get-insert nat_cmp_total m n x n ∙ cond-true (eq_by_cmp nat_cmp n n) (Some x) (get m n) ((eq_by_cmp_equiv nat_cmp_total).refl n)
-
-pub at_removed : {X : Type 0} (m : Rattle.std.specs.FinMap.FinMap nat_cmp X) (n : ℕ) → get (remove m n) n ≡ None
-at_removed m n = get-remove nat_cmp_total m n n ∙ cond-true (eq_by_cmp nat_cmp n n) None (get m n) ((eq_by_cmp_equiv nat_cmp_total).refl n)
-
-apart_tied : (m n : ℕ) → (m ≡ n → ⊥) → eq_by_cmp nat_cmp m n ≡ false
-apart_tied m n h = unsigned_tied m n ∙ ne_eqb m n h
-
--- a mark, by whether it conflicts
-abbrev pub mark_effect : DatabaseState → ℕ → OpenTransaction → RowId → Bool → DatabaseState × Answer
-mark_effect s n x id conflicts = if conflicts then (after_failure s n x, Conflict id) else (with_transaction s n (after_mark x id), Marked)
-
-module _ (s : DatabaseState) (n m : ℕ) (apart : m ≡ n → ⊥) where
-  put_elsewhere : (x : OpenTransaction) → get (insert s.sessions n x) m ≡ get s.sessions m
-  put_elsewhere x = get-insert nat_cmp_total s.sessions n x m ∙ cond-false (eq_by_cmp nat_cmp m n) (Some x) (get s.sessions m) (apart_tied m n apart)
-
-  removed_elsewhere : get (remove s.sessions n) m ≡ get s.sessions m
-  removed_elsewhere = get-remove nat_cmp_total s.sessions n m ∙ cond-false (eq_by_cmp nat_cmp m n) None (get s.sessions m) (apart_tied m n apart)
-
-  mark_elsewhere : (x : OpenTransaction) (id : RowId) (b : Bool) → get (mark_effect s n x id b).0.sessions m ≡ get s.sessions m
-  mark_elsewhere x id true = put_elsewhere _
-  mark_elsewhere x id false = put_elsewhere _
-
-  within_elsewhere : (x : OpenTransaction) (table : ℕ) (request : Request) (tag : Tag) → get (effect_within s n x table request tag).0.sessions m ≡ get s.sessions m
-  within_elsewhere x table (Put values) tags.Ok = put_elsewhere _
-  within_elsewhere x table (Put values) tags.Full = put_elsewhere _
-  within_elsewhere x table (Put values) tags.NoMemory = put_elsewhere _
-  within_elsewhere x table (Look q) tags.NoMemory = put_elsewhere _
-  within_elsewhere x table (Look q) tags.Ok = refl
-  within_elsewhere x table (Look q) tags.Full = refl
-  within_elsewhere x table (Mark id) tag = mark_elsewhere x id (is_conflict s n x id)
-  within_elsewhere x table Commit tag = removed_elsewhere
-  within_elsewhere x table Rollback tag = removed_elsewhere
-  within_elsewhere x table Begin tag = refl
-
-  outside_elsewhere : (request : Request) → get (effect_outside s n request).0.sessions m ≡ get s.sessions m
-  outside_elsewhere Begin = put_elsewhere _
-  outside_elsewhere (Put values) = refl
-  outside_elsewhere (Look q) = refl
-  outside_elsewhere (Mark id) = refl
-  outside_elsewhere Commit = refl
-  outside_elsewhere Rollback = refl
-
-effect_elsewhere : (s : DatabaseState) (e : Entry) (m : ℕ) (o : Option OpenTransaction) → (m ≡ e.session → ⊥) → get (effect_at o s e).0.sessions m ≡ get s.sessions m
-effect_elsewhere s e m None apart = outside_elsewhere s e.session m apart e.request
-effect_elsewhere s e m (Some x) apart = within_elsewhere s e.session m apart x e.table e.request e.tag
-
-request_elsewhere : (s : DatabaseState) (e : Entry) (m : ℕ) → (m ≡ e.session → ⊥) → get (after_request s e).sessions m ≡ get s.sessions m
-request_elsewhere s e m apart = ap (λ (p : DatabaseState × Answer). get p.0.sessions m) (effect_is s e) ∙ effect_elsewhere s e m (get s.sessions e.session) apart
+use Rattle.statements.specs.declared.statement.Statement.{Statement}
+use Rattle.statements.specs.declared.statement.Statement.TheVariants as statements
+use Rattle.statements.specs.StatementRequests.{requests_of, begin_entries, mark_entries, mark_entry, unless_conflict, look_entry, found_in}
 
 -- ---- all requests of a statement are its session's
 
@@ -81,7 +20,7 @@ AreOf n (e ∷ es) = (e.session ≡ n) × AreOf n es
 
 run_elsewhere : (s : DatabaseState) (es : List Entry) (n m : ℕ) → (m ≡ n → ⊥) → AreOf n es → get (serial_run s es).sessions m ≡ get s.sessions m
 run_elsewhere s [] n m apart h = refl
-run_elsewhere s (e ∷ es) n m apart h = run_elsewhere (after_request s e) es n m apart h.1 ∙ request_elsewhere s e m (λ here. apart (here ∙ h.0))
+run_elsewhere s (e ∷ es) n m apart h = run_elsewhere (after_request s e) es n m apart h.1 ∙ others_stay s e m (λ here. apart (here ∙ h.0))
 
 of_unless_conflict : (n : ℕ) (answer : Answer) (es : List Entry) → AreOf n es → AreOf n (unless_conflict answer es)
 of_unless_conflict n (Conflict id) es h = tt

@@ -3,8 +3,10 @@ use Rattle.std.proofs.Common.{◌≡◌, ℕ, zero, suc, ◌+◌, ◌*◌, ◌<�
 use Rattle.std.specs.Ordering.{nat_cmp}
 use Rattle.std.specs.FinMap.{FinMap, get}
 use Rattle.block_model.specs.DatabaseState.{OpenTransaction}
-use Rattle.query_words.specs.declared.statement.Statement.{Statement}
-use Rattle.query_words.specs.declared.statement.Statement.TheVariants as statements
+use Rattle.statements.specs.declared.statement.Statement.{Statement}
+use Rattle.statements.specs.declared.statement.Statement.TheVariants as statements
+use Rattle.statements.specs.declared.limits.TheConstants.{MAX_SESSIONS}
+use Rattle.session_core.specs.declared.limits.TheConstants.{ENTRIES_A_SESSION, MAX_PROMISED}
 use Rattle.session_core.specs.Promises.{begins_in, begins, promised_to, promised, KeepsPromises}
 
 abbrev Transactions : Type 0
@@ -28,7 +30,7 @@ few_promised : (b : Bool) → (if b then 1 else 2) ≤ 2
 few_promised true = omega arith
 few_promised false = omega arith
 
-pub at_most_three : (hand : Option Statement) (o : Option OpenTransaction) → promised_to hand o ≤ 3
+pub at_most_three : (hand : Option Statement) (o : Option OpenTransaction) → promised_to hand o ≤ ENTRIES_A_SESSION
 at_most_three hand None = omega (arith, few_begins hand)
 at_most_three hand (Some x) = omega (arith, few_promised x.failed)
 
@@ -44,18 +46,18 @@ some_promised x hand = some_of x.failed
     some_of true = omega arith
     some_of false = omega arith
 
-promised_bound : (ss : Transactions) (k : ℕ) (hands : List (Option Statement)) → promised ss k hands ≤ 3 * length hands
+promised_bound : (ss : Transactions) (k : ℕ) (hands : List (Option Statement)) → promised ss k hands ≤ ENTRIES_A_SESSION * length hands
 promised_bound ss k [] = omega arith
 promised_bound ss k (hand ∷ hands) = omega (arith, at_most_three hand (get ss k), promised_bound ss (k + 1) hands)
 
-pub promised_to_all : (ss : Transactions) (hands : List (Option Statement)) → length hands ≤ 64 → promised ss 0 hands ≤ 192
+pub promised_to_all : (ss : Transactions) (hands : List (Option Statement)) → length hands ≤ MAX_SESSIONS → promised ss 0 hands ≤ MAX_PROMISED
 promised_to_all ss hands h = omega (arith, promised_bound ss 0 hands)
 
 begins_bound : (hands : List (Option Statement)) → begins hands ≤ length hands
 begins_bound [] = omega arith
 begins_bound (hand ∷ hands) = omega (arith, few_begins hand, begins_bound hands)
 
-pub begins_of_all : (hands : List (Option Statement)) → length hands ≤ 64 → begins hands ≤ 64
+pub begins_of_all : (hands : List (Option Statement)) → length hands ≤ MAX_SESSIONS → begins hands ≤ MAX_SESSIONS
 begins_of_all hands h = omega (arith, begins_bound hands)
 
 promised_alike : (ss ss' : Transactions) (k : ℕ) (hands : List (Option Statement)) → ((m : ℕ) → k ≤ m → get ss' m ≡ get ss m) → promised ss' k hands ≡ promised ss k hands
@@ -65,7 +67,7 @@ promised_alike ss ss' k (hand ∷ hands) same = λ i. promised_to hand (same k (
 -- the promises to session n, of those from number k on, and to the others
 pub record IsShared (ss : Transactions) (k : ℕ) (hands : List (Option Statement)) (n p : ℕ) : Type 0 where
   pub others : ℕ
-  pub few : others + 3 ≤ 3 * length hands
+  pub few : others + ENTRIES_A_SESSION ≤ ENTRIES_A_SESSION * length hands
   pub before : promised ss k hands ≡ others + promised_to (get_or hands n None) (get ss p)
   pub after : (ss' : Transactions) (hand : Option Statement) → ((m : ℕ) → (m ≡ p → ⊥) → get ss' m ≡ get ss m) → promised ss' k (set hands n hand) ≡ others + promised_to hand (get ss' p)
 
@@ -126,7 +128,7 @@ pub promises_spent : (before room after room' : ℕ) → after + 1 ≤ before �
 promises_spent before room after room' less spent = λ others few had. omega arith
 
 -- there is room for all that is promised at most
-pub promises_ample : (before room after room' : ℕ) → after ≤ 3 → 192 ≤ room' → KeepsPromises before room after room'
+pub promises_ample : (before room after room' : ℕ) → after ≤ ENTRIES_A_SESSION → MAX_PROMISED ≤ room' → KeepsPromises before room after room'
 promises_ample before room after room' few ample = λ others most had. omega arith
 
 pub promises_alike : (before room after room' : ℕ) → after ≤ before → room ≤ room' → KeepsPromises before room after room'

@@ -7,8 +7,8 @@ use Rattle.block_model.specs.declared.row.Row.{Row}
 use Rattle.block_model.specs.declared.request.Entry.{Entry}
 use Rattle.block_model.specs.DatabaseState.{DatabaseState}
 use Rattle.block_model.specs.RequestEffect.{Answer, Begun, Inserted, Found, Marked, Conflict, Committed, RolledBack, Full, NoMemory, Illegal, effect, after_request, reply_to}
-use Rattle.query_words.specs.RowsPut.{row_of_entry, rows_put}
-use Rattle.query_words.specs.StatementRequests.{mark_entry, mark_entries, unless_conflict}
+use Rattle.statements.specs.RowsPut.{row_of_entry, rows_put}
+use Rattle.statements.specs.StatementRequests.{mark_entry, mark_entries, unless_conflict}
 use Rattle.row_versions.specs.VersionsState.{rows_at}
 use Rattle.range_summaries.specs.ExplainedBlocks.{rows_of_table}
 

@@ -3,8 +3,8 @@ use Rattle.std.proofs.Common.{◌≡◌, Bool, true, false, if◌then◌else◌,
 use Rattle.block_model.specs.declared.reply.Refusal.{Refusal}
 use Rattle.block_model.specs.declared.reply.Refusal.TheVariants as refusals
 use Rattle.block_model.specs.DatabaseState.{OpenTransaction}
-use Rattle.query_words.specs.declared.statement.Statement.TheVariants as statements
-use Rattle.query_words.specs.StatementRequests.{submission_refusal}
+use Rattle.statements.specs.declared.statement.Statement.TheVariants as statements
+use Rattle.statements.specs.StatementRequests.{submission_refusal}
 
 some_none : {X : Type 0} (x : X) → Some x ≡ None → ⊥
 some_none x e = cc

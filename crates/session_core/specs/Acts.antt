@@ -1,5 +1,5 @@
 -- what a statement of a session does to tables and to the journal
-use Rattle.std.specs.Prelude.{◌≡◌, ℕ, ◌+◌, ◌<◌, ◌≤◌, Bool, List, ◌++◌, length, Option, None, Some, if◌then◌else◌}
+use Rattle.std.specs.Prelude.{◌≡◌, ℕ, ◌+◌, ◌<◌, ◌≤◌, Bool, List, [], ◌∷◌, ◌++◌, length, Option, None, Some, IfSome, if◌then◌else◌}
 use Rattle.std.specs.FinMap as map
 use Rattle.block_model.specs.declared.row.Query.{Query}
 use Rattle.block_model.specs.declared.request.Entry.{Entry}
@@ -7,58 +7,70 @@ use Rattle.block_model.specs.declared.reply.Reply.{Reply}
 use Rattle.block_model.specs.declared.reply.Reply.TheVariants as replies
 use Rattle.block_model.specs.declared.reply.Refusal.TheVariants as refusals
 use Rattle.block_model.specs.DatabaseState.{OpenTransaction}
+use Rattle.block_model.specs.RequestEffect.{after_failure}
 use Rattle.block_model.specs.SerialRun.{serial_run, replies_to}
-use Rattle.query_words.specs.declared.statement.Statement.{Statement}
-use Rattle.query_words.specs.declared.statement.Statement.TheVariants as statements
-use Rattle.query_words.specs.LineFits.{IsStatementFor}
-use Rattle.query_words.specs.RowsPut.{rows_put}
-use Rattle.query_words.specs.ScriptTexts.{max_entries}
-use Rattle.query_words.specs.StatementRequests.{refusal_at, requests_of, reply_to_statement}
-use Rattle.row_versions.specs.VersionsState.{rows_at}
+use Rattle.statements.specs.declared.statement.Statement.{Statement}
+use Rattle.statements.specs.declared.statement.Statement.TheVariants as statements
+use Rattle.statements.specs.StatementFits.{IsStatementFor}
+use Rattle.statements.specs.RowsPut.{rows_put}
+use Rattle.statements.specs.declared.limits.TheConstants.{MAX_ENTRIES}
+use Rattle.statements.specs.StatementRequests.{refusal_at, requests_of, reply_to_statement}
+use Rattle.row_versions.specs.VersionsState.{VersionsState, rows_at}
 use Rattle.range_summaries.specs.ExplainedBlocks.{blocks_kept, rows_of_table}
+use Rattle.session_core.specs.declared.tables.Tables.{Tables}
 use Rattle.session_core.specs.JournalState.{JournalState}
 use Rattle.session_core.specs.Promises.{begins_in, promised_to, KeepsPromises}
-use Rattle.session_core.specs.TablesState.{TablesState}
+use Rattle.session_core.specs.TablesKept.{AreTables}
 
 -- the session's transaction that is under way
-abbrev pub transaction_of : TablesState → ℕ → Option OpenTransaction
+abbrev pub transaction_of : Tables → ℕ → Option OpenTransaction
 transaction_of t n = map.get t.versions.database.sessions n
 
--- the statement was taken, and what is promised for it is there
-pub record IsTaken (t : TablesState) (j : JournalState) (n : ℕ) (statement : Statement) : Type 0 where
+-- the statement was taken, the summaries are those of the tables' rows, and what is promised for the statement is there
+pub record IsTaken (t : Tables) (j : JournalState) (n : ℕ) (statement : Statement) : Type 0 where
   pub taken : refusal_at t.versions.database n statement ≡ None
   pub fitting : IsStatementFor t.layout.schema statement
+  pub sound : AreTables t
   pub entries : promised_to (Some statement) (transaction_of t n) ≤ j.room
   pub begins : begins_in (Some statement) ≤ t.versions.room
 
 -- its requests, where memory is short or isn't
-abbrev pub requests_in : TablesState → ℕ → Bool → Statement → List Entry
+abbrev pub requests_in : Tables → ℕ → Bool → Statement → List Entry
 requests_in t n short statement = requests_of t.versions.database n short statement
 
 -- the blocks that a scan for the query must read
-abbrev pub blocks_for : TablesState → Query → List ℕ
+abbrev pub blocks_for : Tables → Query → List ℕ
 blocks_for t q =
     blocks_kept t.layout.schema q.table (rows_at t.versions.tables q.table) q.conds
 
 -- the reply to it
-abbrev pub reply_in : TablesState → ℕ → Bool → Statement → Reply
+abbrev pub reply_in : Tables → ℕ → Bool → Statement → Reply
 reply_in t n short (statements.Explain q) = if short then replies.Refused refusals.Memory else replies.Kept (blocks_for t q)
 reply_in t n short statement = reply_to_statement statement (replies_to t.versions.database (requests_in t n short statement))
 
 -- its requests lead from the first tables and journal to the second ones, the reply is theirs, and what is promised to all is there
-pub record Acts (t : TablesState) (j : JournalState) (n : ℕ) (statement : Statement) (t' : TablesState) (j' : JournalState) (reply : Reply) : Type 0 where
+pub record DoesStatement (t : Tables) (j : JournalState) (n : ℕ) (statement : Statement) (t' : Tables) (j' : JournalState) (reply : Reply) : Type 0 where
   pub short : Bool
   pub entries : j'.entries ≡ j.entries ++ requests_in t n short statement
-  pub fits : length j.entries ≤ max_entries → length j'.entries ≤ max_entries
+  pub fits : length j.entries ≤ MAX_ENTRIES → length j'.entries ≤ MAX_ENTRIES
   pub database : t'.versions.database ≡ serial_run t.versions.database (requests_in t n short statement)
   pub rows : (table : ℕ) → rows_at t'.versions.tables table
       ≡ rows_at t.versions.tables table ++ rows_of_table table (rows_put t.versions.database (requests_in t n short statement))
   pub replied : reply ≡ reply_in t n short statement
   pub layout : t'.layout ≡ t.layout
+  pub sound : AreTables t'
   pub promises : KeepsPromises (promised_to (Some statement) (transaction_of t n)) j.room (promised_to None (transaction_of t' n)) j'.room
   pub begins : t.versions.room ≤ t'.versions.room + begins_in (Some statement)
 
 -- its requests don't all fit into the journal
-pub record IsPast (t : TablesState) (j : JournalState) (n : ℕ) (statement : Statement) : Type 0 where
+pub record IsPastJournal (t : Tables) (j : JournalState) (n : ℕ) (statement : Statement) : Type 0 where
   pub short : Bool
-  pub past : max_entries < length j.entries + length (requests_in t n short statement)
+  pub past : MAX_ENTRIES < length j.entries + length (requests_in t n short statement)
+
+-- memory is short for a request: it is entered so, and its session's transaction fails
+pub record FailsForMemory (v : VersionsState) (j : JournalState) (e : Entry) (v' : VersionsState) (j' : JournalState) : Type 0 where
+  pub entries : j'.entries ≡ j.entries ++ e ∷ []
+  pub spent : j.room ≤ j'.room + 1
+  pub failed : IfSome (map.get v.database.sessions e.session) (λ x. v'.database ≡ after_failure v.database e.session x)
+  pub rows : v'.tables ≡ v.tables
+  pub room : v'.room ≡ v.room

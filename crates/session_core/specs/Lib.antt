@@ -2,7 +2,7 @@ pub mod StoreState
 pub mod Submits
 pub mod Steps
 pub mod JournalState
-pub mod TablesState
+pub mod TablesKept
 pub mod SessionList
 pub mod Promises
 pub mod Acts

@@ -3,8 +3,9 @@ use Rattle.std.specs.Prelude.{ℕ, ◌+◌, ◌*◌, ◌≤◌, List, [], ◌∷
 use Rattle.std.specs.Ordering.{nat_cmp}
 use Rattle.std.specs.FinMap as map
 use Rattle.block_model.specs.DatabaseState.{OpenTransaction}
-use Rattle.query_words.specs.declared.statement.Statement.{Statement}
-use Rattle.query_words.specs.declared.statement.Statement.TheVariants as statements
+use Rattle.statements.specs.declared.statement.Statement.{Statement}
+use Rattle.statements.specs.declared.statement.Statement.TheVariants as statements
+use Rattle.session_core.specs.declared.limits.TheConstants.{ENTRIES_A_SESSION, MAX_PROMISED}
 
 -- how many begins a session has in hand
 abbrev pub begins_in : Option Statement → ℕ
@@ -20,13 +21,13 @@ begins (hand ∷ hands) = begins_in hand + begins hands
 -- may fail, and one for its begin.
 abbrev pub promised_to : Option Statement → Option OpenTransaction → ℕ
 promised_to hand (Some x) = if x.failed then 1 else 2
-promised_to hand None = 3 * begins_in hand
+promised_to hand None = ENTRIES_A_SESSION * begins_in hand
 
 -- how many the sessions from number n on are promised, by what each has in hand
 abbrev pub promised : map.FinMap nat_cmp OpenTransaction → ℕ → List (Option Statement) → ℕ
 promised transactions n [] = 0
 promised transactions n (hand ∷ hands) = promised_to hand (map.get transactions n) + promised transactions (n + 1) hands
 
--- Where a session's promise changes, the room of the journal still has what is promised to all: to the others at most 189 entries.
+-- Where a session's promise changes, the room of the journal still has what is promised to all: to the others at most what is promised to all but one.
 abbrev pub KeepsPromises : ℕ → ℕ → ℕ → ℕ → Type 0
-KeepsPromises before room after room' = (others : ℕ) → others ≤ 189 → others + before ≤ room → others + after ≤ room'
+KeepsPromises before room after room' = (others : ℕ) → others + ENTRIES_A_SESSION ≤ MAX_PROMISED → others + before ≤ room → others + after ≤ room'

@@ -1,6 +1,6 @@
 -- sessions by their numbers
 use Rattle.std.specs.Prelude.{ℕ, List, map, Option, None, Some}
-use Rattle.query_words.specs.declared.statement.Statement.{Statement}
+use Rattle.statements.specs.declared.statement.Statement.{Statement}
 use Rattle.session_core.specs.declared.hand.Hand.{Hand}
 use Rattle.session_core.specs.declared.sessions.Session.{Session}
 

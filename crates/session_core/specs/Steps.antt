@@ -1,8 +1,9 @@
 -- what a step of a session does
 use Rattle.std.specs.Prelude.{◌≡◌, ℕ, ◌+◌, ◌<◌, ◌≤◌, Bool, ◌++◌, length, slice_set, None, Some, Result, Ok, Err}
 use Rattle.block_model.specs.declared.reply.Reply.{Reply}
-use Rattle.query_words.specs.declared.statement.Statement.{Statement}
-use Rattle.query_words.specs.ScriptTexts.{requests_behind, reply_behind, max_entries}
+use Rattle.statements.specs.declared.statement.Statement.{Statement}
+use Rattle.statements.specs.JournalAnswers.{requests_behind, reply_behind}
+use Rattle.statements.specs.declared.limits.TheConstants.{MAX_ENTRIES}
 use Rattle.range_summaries.specs.ExplainedBlocks.{explained}
 use Rattle.session_core.specs.declared.faults.Step.{Step}
 use Rattle.session_core.specs.declared.faults.Step.TheVariants as steps
@@ -18,20 +19,20 @@ pub record Ends (s : StoreState) (n : ℕ) (s' : StoreState) (reply : Reply) : T
   pub in_hand : hand_of s n ≡ Some statement
   pub replied : reply ≡ reply_behind (explained s.layout.schema) s.journal n short statement
   pub journal : s'.journal ≡ s.journal ++ requests_behind s.journal n short statement
-  pub fits : length s'.journal ≤ max_entries
+  pub fits : length s'.journal ≤ MAX_ENTRIES
   pub hands : s'.hands ≡ slice_set s.hands n None
   pub names : s'.names ≡ s.names
   pub layout : s'.layout ≡ s.layout
 
 -- the requests of the statement in hand don't all fit into the journal, which has that many entries
-pub record LacksRoom (s : StoreState) (n : ℕ) (entries : ℕ) : Type 0 where
+pub record JournalLacksRoom (s : StoreState) (n : ℕ) (entries : ℕ) : Type 0 where
   pub statement : Statement
   pub short : Bool
   pub in_hand : hand_of s n ≡ Some statement
-  pub past : max_entries < length s.journal + length (requests_behind s.journal n short statement)
+  pub past : MAX_ENTRIES < length s.journal + length (requests_behind s.journal n short statement)
   pub so_many : entries ≡ length s.journal
 
 -- each statement takes one step; where its requests don't fit nothing is changed
 abbrev pub Steps : StoreState → ℕ → StoreState → Result Step StoreFault → Type 0
 Steps s n s' (Ok (steps.Done reply)) = Ends s n s' reply
-Steps s n s' (Err (stops.Spent entries)) = LacksRoom s n entries × (s' ≡ s)
+Steps s n s' (Err (stops.Spent entries)) = JournalLacksRoom s n entries × (s' ≡ s)

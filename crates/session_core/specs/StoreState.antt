@@ -1,18 +1,20 @@
 -- what a store of sessions is seen as
 use Rattle.std.specs.Prelude.{◌≡◌, ℕ, ◌≤◌, List, [], ◌∷◌, ◌++◌, length, slice_set, slice_index_or, nat_lt, Option, None, Some, refl, if◌then◌else◌}
 use Rattle.std.specs.Coded.{Coded, code_by, coded×, coded_list, coded_option, coded_ℕ}
-use Rattle.block_model.specs.DiskLayout.{DiskLayout}
+use Rattle.store_layout.specs.DiskLayout.{DiskLayout}
 use Rattle.block_model.specs.contracts.schema.Schema as schema_contract
 use Rattle.block_model.specs.contracts.schema.Sizes as sizes_contract
 use Rattle.block_model.specs.declared.request.Entry.{Entry}
 use Rattle.block_model.specs.contracts.request.Entry as entry_contract
 use Rattle.block_model.specs.DatabaseState.{DatabaseState, initial_state, coded_database}
 use Rattle.block_model.specs.SerialRun.{IsLegal}
-use Rattle.query_words.specs.declared.statement.Statement.{Statement}
-use Rattle.query_words.specs.contracts.statement.Statement as statement_contract
-use Rattle.query_words.specs.LineFits.{IsStatementFor}
-use Rattle.query_words.specs.StatementRequests.{refusal_at}
-use Rattle.query_words.specs.ScriptTexts.{session_number, with_session, database_of, max_entries, max_sessions}
+use Rattle.statements.specs.declared.statement.Statement.{Statement}
+use Rattle.statements.specs.contracts.statement.Statement as statement_contract
+use Rattle.statements.specs.StatementFits.{IsStatementFor}
+use Rattle.statements.specs.StatementRequests.{refusal_at}
+use Rattle.statements.specs.SessionNumbers.{session_number, with_session}
+use Rattle.statements.specs.JournalAnswers.{database_of}
+use Rattle.statements.specs.declared.limits.TheConstants.{MAX_ENTRIES, MAX_SESSIONS}
 
 -- the tables, indexes and sizes; the sessions' names by their numbers, and the statement that each has in hand; the journal of all
 -- requests since the store was made; and the database that the stored row versions show
@@ -47,8 +49,8 @@ with_name s name = record s {
 pub record IsRefinement (s : StoreState) : Type 0 where
   pub legal : IsLegal initial_state s.journal
   pub shown : s.database ≡ database_of s.journal
-  pub fits : length s.journal ≤ max_entries
-  pub few_sessions : length s.names ≤ max_sessions
+  pub fits : length s.journal ≤ MAX_ENTRIES
+  pub few_sessions : length s.names ≤ MAX_SESSIONS
   pub a_hand_each : length s.hands ≡ length s.names
   pub taken : (n : ℕ) (statement : Statement) → hand_of s n ≡ Some statement → refusal_at s.database n statement ≡ None
   pub fitting : (n : ℕ) (statement : Statement) → hand_of s n ≡ Some statement → IsStatementFor s.layout.schema statement

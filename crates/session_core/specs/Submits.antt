@@ -2,10 +2,11 @@
 use Rattle.std.specs.Prelude.{◌≡◌, ℕ, ◌<◌, List, length, Bool, true, false, Option, None, Some, Result, Ok, Err, MatchOption}
 use Rattle.block_model.specs.declared.reply.Refusal.{Refusal}
 use Rattle.block_model.specs.declared.reply.Refusal.TheVariants as refusals
-use Rattle.query_words.specs.declared.statement.Statement.{Statement}
-use Rattle.query_words.specs.declared.statement.Statement.TheVariants as statements
-use Rattle.query_words.specs.StatementRequests.{refusal_at}
-use Rattle.query_words.specs.ScriptTexts.{session_number, is_past_sessions, max_sessions}
+use Rattle.statements.specs.declared.statement.Statement.{Statement}
+use Rattle.statements.specs.declared.statement.Statement.TheVariants as statements
+use Rattle.statements.specs.StatementRequests.{refusal_at}
+use Rattle.statements.specs.SessionNumbers.{session_number, is_past_sessions}
+use Rattle.statements.specs.declared.limits.TheConstants.{MAX_SESSIONS}
 use Rattle.session_core.specs.declared.faults.SessionFault.{SessionFault}
 use Rattle.session_core.specs.declared.faults.SessionFault.TheVariants as faults
 use Rattle.session_core.specs.StoreState.{StoreState, hand_of, with_hand, with_name}
@@ -14,7 +15,7 @@ use Rattle.session_core.specs.StoreState.{StoreState, hand_of, with_hand, with_n
 -- there; else memory may be short. After a refusal nothing is changed.
 abbrev pub HasSession : StoreState → List ℕ → StoreState → Result ℕ SessionFault → Type 0
 HasSession s name s' (Ok n) = (is_past_sessions s.names name ≡ false) × (n ≡ session_number s.names name) × (s' ≡ with_name s name) × (n < length s'.names)
-HasSession s name s' (Err (faults.Limit limit)) = (is_past_sessions s.names name ≡ true) × (limit ≡ max_sessions) × (s' ≡ s)
+HasSession s name s' (Err (faults.Limit limit)) = (is_past_sessions s.names name ≡ true) × (limit ≡ MAX_SESSIONS) × (s' ≡ s)
 HasSession s name s' (Err faults.Memory) = (is_past_sessions s.names name ≡ false) × (s' ≡ s)
 
 -- a session with a statement in hand takes no other one

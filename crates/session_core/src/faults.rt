@@ -1,11 +1,14 @@
-// What a session and a step are answered.
+//! What a session and a step are answered.
 
-use block_model::reply::Reply;
+use block_model::Reply;
+use thiserror::Error;
 
-/// Why there is no session of a name: `Limit` exactly where it would be one more than 64, `Memory` for want of memory.
-#[derive(Clone, Copy, Debug, PartialEq, Eq)]
+/// Why there is no session of a name: `Limit` exactly where it would be one more than the limit, `Memory` for want of memory.
+#[derive(Clone, Copy, Debug, PartialEq, Eq, Error)]
 pub enum SessionFault {
+    #[error("there are {limit} sessions already")]
     Limit { limit: u64 },
+    #[error("out of memory")]
     Memory,
 }
 
@@ -15,8 +18,9 @@ pub enum Step {
     Done(Reply),
 }
 
-/// Why a step did nothing: the requests that it would enter don't all fit into the journal of 1048576 entries, which has so many.
-#[derive(Clone, Copy, Debug, PartialEq, Eq)]
+/// Why a step did nothing: the requests that it would enter don't all fit into the journal, which has so many entries.
+#[derive(Clone, Copy, Debug, PartialEq, Eq, Error)]
 pub enum StoreFault {
+    #[error("the requests don't fit into the journal, which has {entries}")]
     Spent { entries: u64 },
 }

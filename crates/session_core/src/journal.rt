@@ -1,17 +1,15 @@
-// The journal of all requests.
+//! The journal of all requests.
 
 ghost use Rattle.std.specs.Prelude.{◌≡◌, ◌+◌, ◌<◌, ◌≤◌, ◌↔◌, IsTrue, [], ◌∷◌, ◌++◌, length, map, OnOk};
-ghost use Rattle.query_words.specs.ScriptTexts.{max_entries};
+ghost use Rattle.statements.specs.StatementRequests.{tagged_entry};
+ghost use Rattle.statements.specs.declared.limits.TheConstants.{MAX_ENTRIES};
 ghost use Rattle.row_versions.specs.Hits.{mark_of};
 
-use block_model::NoMemory;
-use block_model::request::{Entry, Request, Tag};
+use block_model::{Entry, NoMemory, Request, Tag};
 use row_versions::Hit;
+use statements::MAX_ENTRIES;
 use std::alloc::Global;
 use std::marker::Model;
-
-/// How many requests it has at most.
-const MAX_ENTRIES: usize = 1 << 20;
 
 /// The requests so far, in their order, with room for some more.
 #[derive(Drop)]
@@ -56,7 +54,7 @@ impl Journal {
 
     /// Whether so many more may be entered.
     pub(crate) fn fits(&self, requests: usize) -> bool
-        ensures { IsTrue result ↔ (length self.now.entries + requests ≤ max_entries) }
+        ensures { IsTrue result ↔ (length self.now.entries + requests ≤ MAX_ENTRIES) }
     {
         self.entries.len().saturating_add(requests) <= MAX_ENTRIES
     }
@@ -67,21 +65,22 @@ impl Journal {
         ensures kept { self.old.room ≤ self.new.room }
         ensures ok { OnOk result (requests ≤ self.new.room) }
     {
-        match self.entries.reserve(requests) {
-            Ok(()) => Ok(()),
-            Err(_) => Err(NoMemory),
-        }
+        self.entries.reserve(requests)?;
+        Ok(())
     }
 
-    /// Enters a request, for which there is room. Takes no memory.
-    pub(crate) fn enter(&mut self, entry: Entry)
+    /// Enters a request of the session, for which there is room. Takes no memory.
+    pub(crate) fn enter(&mut self, session: u32, table: u8, request: Request, tag: Tag)
         requires { 0 < self.old.room }
-        ensures entries { self.new.entries ≡ self.old.entries ++ entry ∷ [] }
+        ensures entries { self.new.entries ≡ self.old.entries ++ tagged_entry session table request tag ∷ [] }
         ensures room { self.old.room ≤ self.new.room + 1 }
     {
-        let Ok(()) = self.entries.push(entry) else {
-            unreachable!()
-        };
+        self.entries.push_reserved(Entry {
+            session,
+            table,
+            request,
+            tag,
+        });
     }
 
     /// Enters the session's mark of each hit, for which there is room. Takes no memory.
@@ -90,13 +89,8 @@ impl Journal {
         ensures entries { self.new.entries ≡ self.old.entries ++ map (mark_of session table) hits.now }
         ensures room { self.old.room ≤ self.new.room + length hits.now }
     {
-        for hit in hits {
-            self.enter(Entry {
-                session,
-                table,
-                request: Request::Mark(hit.id),
-                tag: Tag::Ok,
-            });
+        'hits: for hit in hits {
+            self.enter(session, table, Request::Mark(hit.id), Tag::Ok);
         }
     }
 }

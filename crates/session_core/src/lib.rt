@@ -1,18 +1,18 @@
-// The store of sessions: it takes the statements of up to 64 sessions, does each in one step, and keeps the journal of their
-// requests. Contracts see it by its journal: the journal is legal, the database that the stored row versions show is the one that
-// the journal makes, one request after the other, and each reply is the definition's for the requests of the statement. It stands
-// on block_model, query_words (statements), row_versions and range_summaries. The layer above uses `Store`.
+//! The store of sessions: it takes the statements of its sessions, does each in one step, and keeps the journal of their
+//! requests. Contracts see it by its journal: the journal is legal, the database that the stored row versions show is the one that
+//! the journal makes, one request after the other, and each reply is the definition's for the requests of the statement. It stands
+//! on block_model, store_layout, statements, row_versions and range_summaries. The layer above uses `Store`.
 #![tactic(auto)]
 
 mod acts;
 mod faults;
 mod hand;
 mod journal;
+mod limits;
 mod sessions;
 mod store;
 mod tables;
-#[cfg(test)]
-mod tests;
 
 pub use faults::{SessionFault, Step, StoreFault};
+pub use limits::{ENTRIES_A_SESSION, MAX_PROMISED};
 pub use store::Store;

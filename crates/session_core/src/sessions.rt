@@ -1,13 +1,12 @@
-// Sessions, in the order in which they were made.
+//! Sessions, in the order in which they were made.
 
 ghost use Rattle.std.specs.Prelude.{◌≡◌, ◌<◌, ◌≤◌, [], ◌∷◌, ◌++◌, None, Some, IsSome, OnOk, OnErr, length, slice_index_or, slice_set};
 ghost use Rattle.std.specs.Option.{is_some};
-ghost use Rattle.query_words.specs.ScriptTexts.{session_number};
+ghost use Rattle.statements.specs.SessionNumbers.{session_number};
 ghost use Rattle.session_core.specs.SessionList.{names_of, hands_of};
 
 use crate::hand::Hand;
-use block_model::NoMemory;
-use block_model::name::Name;
+use block_model::{Name, NoMemory};
 
 /// A session, and the statement that it has in hand.
 #[derive(Drop)]
@@ -21,7 +20,7 @@ pub(crate) fn number_of(sessions: &[Session], name: &Name) -> usize
     ensures is { result ≡ session_number (names_of sessions.now) name.now }
     ensures within { result ≤ length sessions.now }
 {
-    for (i, session) in sessions.iter().enumerate() {
+    'sessions: for (i, session) in sessions.iter().enumerate() {
         if session.name.as_bytes() == name.as_bytes() {
             return i;
         }
@@ -35,10 +34,8 @@ pub(crate) fn add_session(sessions: &mut Vec<Session>, name: Name) -> Result<(),
     ensures hands { OnOk result (hands_of sessions.new.items ≡ hands_of sessions.old.items ++ None ∷ []) }
     ensures err { OnErr result (sessions.new.items ≡ sessions.old.items) }
 {
-    match sessions.push(Session { name, hand: None }) {
-        Ok(()) => Ok(()),
-        Err(_) => Err(NoMemory),
-    }
+    sessions.push(Session { name, hand: None })?;
+    Ok(())
 }
 
 /// Whether the session has a statement in hand.

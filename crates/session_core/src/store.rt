@@ -1,46 +1,45 @@
-// The store of sessions.
+//! The store of sessions.
 
 ghost use Rattle.std.specs.Prelude.{◌≡◌, ◌+◌, ◌<◌, ◌≤◌, length, slice_index_or, [], None, IfOk, OnOk, OnErr, IsSome, Option};
 ghost use Rattle.std.specs.Option.{is_some};
 ghost use Rattle.block_model.specs.DatabaseState.{OpenTransaction};
-ghost use Rattle.query_words.specs.LineFits.{IsStatementFor};
-ghost use Rattle.query_words.specs.StatementRequests.{submission_refusal};
+ghost use Rattle.statements.specs.declared.limits.TheConstants.{MAX_SESSIONS};
+ghost use Rattle.statements.specs.StatementFits.{IsStatementFor};
+ghost use Rattle.statements.specs.StatementRequests.{submission_refusal};
 ghost use Rattle.row_versions.specs.VersionsState.{standing_of};
+ghost use Rattle.session_core.specs.declared.limits.TheConstants.{MAX_PROMISED};
+ghost use Rattle.session_core.specs.TablesKept.{MakesRoom};
 ghost use Rattle.session_core.specs.StoreState.{empty_store, hand_of, IsRefinement};
 ghost use Rattle.session_core.specs.Submits.{HasSession, Submits, submit_refusal, may_want_memory};
 ghost use Rattle.session_core.specs.Steps.{Steps};
 
-use crate::acts::{MAX_PROMISED, act};
+use crate::acts::act;
 use crate::faults::{SessionFault, Step, StoreFault};
 use crate::hand::Hand;
 use crate::journal::Journal;
+use crate::limits::MAX_PROMISED;
 use crate::sessions::{Session, add_session, has_hand, number_of, put_hand, take_hand};
 use crate::tables::Tables;
-use block_model::NoMemory;
-use block_model::layout::Layout;
-use block_model::name::Name;
-use block_model::reply::Refusal;
-use block_model::request::Entry;
-use query_words::statement::Statement;
-use row_versions::Standing;
+use block_model::{Entry, Name, NoMemory, Refusal};
+use row_versions::{Standing, Versions};
+use statements::{MAX_SESSIONS, Statement};
 use std::alloc::Global;
 use std::marker::Model;
-
-/// How many sessions there are at most.
-const MAX_SESSIONS: usize = 64;
+use store_layout::Layout;
 
 /// A store of sessions over row versions in memory.
 #[derive(Drop)]
 pub struct Store {
     alloc: Global,
     tables: Tables,
+    /// The sessions by their numbers.
     sessions: Vec<Session>,
     journal: Journal,
 }
 
 impl Model for Store {
     ghost use Rattle.session_core.specs.StoreState.{StoreState, coded_store};
-    ghost use Rattle.session_core.specs.StoreInvariant.{store_of, IsKept};
+    ghost use Rattle.session_core.specs.StoreInvariant.{store_of, IsStoreKept};
 
     ghost Value = { StoreState };
 
@@ -48,7 +47,7 @@ impl Model for Store {
 
     ghost view = { λ a. store_of a.tables a.sessions.items a.journal };
 
-    ghost invariant = { λ a. IsKept a.tables a.journal (store_of a.tables a.sessions.items a.journal) };
+    ghost invariant = { λ a. IsStoreKept a.tables a.journal (store_of a.tables a.sessions.items a.journal) };
 }
 
 impl Store {
@@ -67,10 +66,11 @@ impl Store {
         })
     }
 
-    /// What whoever holds a store knows of it.
+    /// Does nothing; tells its caller what holds of every store.
     pub fn known(&self)
         ensures { IsRefinement self.now }
     {
+        // The toolchain opens the invariant where a field is read.
         let _ = &self.alloc;
     }
 
@@ -78,11 +78,11 @@ impl Store {
     pub fn layout(&self) -> &Layout
         ensures { result.now ≡ self.now.layout }
     {
-        self.tables.layout()
+        &self.tables.layout
     }
 
     /// The number of the session of that name, from 0 in the order in which they were made; it is made where it is new. `Limit`
-    /// comes exactly where it would be one more than 64. After a refusal nothing is changed.
+    /// comes exactly where it would be one more than there may be. After a refusal nothing is changed.
     pub fn session(&mut self, name: Name) -> Result<u32, SessionFault>
         ensures { HasSession self.old name self.new result }
     {
@@ -110,7 +110,12 @@ impl Store {
         if let Some(refusal) = self.refusal(session, &statement) {
             return Err(refusal);
         }
-        let Ok(hand) = hand_for(self.alloc, &mut self.tables, &mut self.journal, statement) else {
+        let Ok(hand) = hand_for(
+            self.alloc,
+            &mut self.tables.versions,
+            &mut self.journal,
+            statement,
+        ) else {
             return Err(Refusal::Memory);
         };
         put_hand(&mut self.sessions, session, hand);
@@ -123,7 +128,7 @@ impl Store {
         requires { IsSome (hand_of self.old session) }
         ensures { Steps self.old session self.new result }
     {
-        self.tables.known();
+        self.tables.versions.known();
         let hand = take_hand(&mut self.sessions, session);
         match act(&mut self.tables, &mut self.journal, session, hand) {
             Ok(reply) => Ok(Step::Done(reply)),
@@ -144,7 +149,7 @@ impl Store {
         has_hand(self.sessions.as_slice(), session)
     }
 
-    /// The session's name.
+    /// The session's name. Only tests ask for it.
     pub fn name_of(&self, session: u32) -> Name
         requires { session < length self.now.names }
         ensures { result ≡ slice_index_or self.now.names session [] }
@@ -152,7 +157,7 @@ impl Store {
         self.sessions[session as usize].name
     }
 
-    /// The requests of all statements so far, in their order.
+    /// The requests of all statements so far, in their order. Only tests ask for them.
     pub fn journal(&self) -> &[Entry]
         ensures { result.now ≡ self.now.journal }
     {
@@ -167,7 +172,7 @@ impl Store {
         if self.in_hand(session) {
             return Some(Refusal::InHand);
         }
-        transaction_refusal(self.tables.standing(session), statement)
+        transaction_refusal(self.tables.versions.standing(session), statement)
     }
 }
 
@@ -196,23 +201,18 @@ fn transaction_refusal(standing: Standing, statement: &Statement) -> Option<Refu
 /// A statement in hand. A begin takes what it and its transaction's end need.
 fn hand_for(
     alloc: Global,
-    tables: &mut Tables,
+    versions: &mut Versions,
     journal: &mut Journal,
     statement: Statement,
 ) -> Result<Hand, NoMemory>
     ensures ok { IfOk result (λ hand. hand.statement ≡ statement) }
     ensures err { OnErr result (statement ≡ Statement.Begin) }
-    ensures layout { tables.new.layout ≡ tables.old.layout }
-    ensures database { tables.new.versions.database ≡ tables.old.versions.database }
-    ensures rows { tables.new.versions.tables ≡ tables.old.versions.tables }
-    ensures entries { journal.new.entries ≡ journal.old.entries }
-    ensures begins { tables.old.versions.room ≤ tables.new.versions.room }
-    ensures room { journal.old.room ≤ journal.new.room }
-    ensures begins_more { OnOk result (statement ≡ Statement.Begin → MAX_SESSIONS ≤ tables.new.versions.room) }
+    ensures kept { MakesRoom versions.old journal.old versions.new journal.new }
+    ensures begins_more { OnOk result (statement ≡ Statement.Begin → MAX_SESSIONS ≤ versions.new.room) }
     ensures room_more { OnOk result (statement ≡ Statement.Begin → MAX_PROMISED ≤ journal.new.room) }
 {
     match statement {
-        Statement::Begin => begin_hand(alloc, tables, journal),
+        Statement::Begin => begin_hand(alloc, versions, journal),
         statement => Ok(Hand {
             statement,
             numbers: Vec::new(alloc),
@@ -220,21 +220,18 @@ fn hand_for(
     }
 }
 
-fn begin_hand(alloc: Global, tables: &mut Tables, journal: &mut Journal) -> Result<Hand, NoMemory>
+fn begin_hand(
+    alloc: Global,
+    versions: &mut Versions,
+    journal: &mut Journal,
+) -> Result<Hand, NoMemory>
     ensures ok { IfOk result (λ hand. hand.statement ≡ Statement.Begin) }
-    ensures layout { tables.new.layout ≡ tables.old.layout }
-    ensures database { tables.new.versions.database ≡ tables.old.versions.database }
-    ensures rows { tables.new.versions.tables ≡ tables.old.versions.tables }
-    ensures entries { journal.new.entries ≡ journal.old.entries }
-    ensures begins { tables.old.versions.room ≤ tables.new.versions.room }
-    ensures room { journal.old.room ≤ journal.new.room }
-    ensures begins_more { OnOk result (MAX_SESSIONS ≤ tables.new.versions.room) }
+    ensures kept { MakesRoom versions.old journal.old versions.new journal.new }
+    ensures begins_more { OnOk result (MAX_SESSIONS ≤ versions.new.room) }
     ensures room_more { OnOk result (MAX_PROMISED ≤ journal.new.room) }
 {
-    let Ok(numbers) = Vec::with_capacity(alloc, MAX_SESSIONS) else {
-        return Err(NoMemory);
-    };
-    tables.make_room()?;
+    let numbers = Vec::with_capacity(alloc, MAX_SESSIONS)?;
+    versions.make_room()?;
     journal.make_room(MAX_PROMISED)?;
     Ok(Hand {
         statement: Statement::Begin,

@@ -1,4 +1,4 @@
-// What `sees` means, as laws on its definition.
+//! What `sees` means, as laws on its definition.
 
 ghost use Rattle.std.specs.Prelude.{◌≡◌, ◌≢◌, ◌≤◌, ◌==◌, ◌⊎◌, true, false, Contains};
 ghost use Rattle.snapshot_core.specs.Visibility.{sees, has_done, in_snapshot, IsUnfinished};

@@ -1,6 +1,6 @@
-// What a transaction sees of the row versions: the snapshot that it takes when it begins, the status of each transaction,
-// and the rule that decides from both whether a version is seen. It stands on block_model. The layer above rests on
-// `sees` alone, whose definition is in specs/Visibility.antt; the laws beside it say what it means. Nothing takes memory.
+//! What a transaction sees of the row versions: the snapshot that it takes when it begins, the status of each transaction,
+//! and the rule that decides from both whether a version is seen. It stands on block_model. The layer above rests on
+//! `sees` alone, whose definition is in specs/Visibility.antt; the laws beside it say what it means. Nothing takes memory.
 #![tactic(auto)]
 
 mod laws;

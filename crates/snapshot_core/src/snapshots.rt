@@ -1,6 +1,6 @@
-// Snapshots.
+//! Snapshots.
 
-use block_model::place::Numbers;
+use block_model::Numbers;
 
 /// What a transaction knew of the others when it took the snapshot: the number that the next transaction was to have,
 /// and the numbers of those that were under way.

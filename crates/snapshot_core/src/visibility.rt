@@ -1,4 +1,4 @@
-// The rule that decides what is seen.
+//! The rule that decides what is seen.
 
 ghost use Rattle.std.specs.Prelude.{◌≡◌};
 ghost use Rattle.snapshot_core.specs.Visibility.{sees, has_done, in_snapshot};
@@ -25,41 +25,4 @@ fn in_snapshot(s: &Snapshot, t: u64, status: Status) -> bool
     ensures { result ≡ in_snapshot s.now t status }
 {
     status == Status::Committed && t < s.next && !s.active.as_slice().contains(&t)
-}
-
-#[cfg(test)]
-mod tests {
-    use super::*;
-    use block_model::place::Numbers;
-
-    #[test]
-    fn a_snapshot_sees_own_rows_and_what_was_committed(rt: HostRuntime) {
-        let mut active = Numbers::new(rt.alloc());
-        assert_eq!(rt; active.push(3), Ok(()));
-        let s = Snapshot { next: 5, active };
-        let (unused, begun, committed, rolled_back) = (
-            Status::Unused,
-            Status::Begun,
-            Status::Committed,
-            Status::RolledBack,
-        );
-        for (t, put, deleter, gone, want) in [
-            (2, committed, 0, unused, true),
-            (2, rolled_back, 0, unused, false),
-            (3, committed, 0, unused, false),
-            (5, committed, 0, unused, false),
-            (4, begun, 0, unused, true),
-            (2, committed, 4, begun, false),
-            (2, committed, 1, committed, false),
-            (2, committed, 1, rolled_back, true),
-            (2, committed, 3, committed, true),
-            (2, committed, 6, committed, true),
-        ] {
-            assert_eq!(rt;
-                sees(&s, 4, t, deleter, put, gone),
-                want,
-                "at {t} deleted by {deleter}"
-            );
-        }
-    }
 }

@@ -2,8 +2,11 @@
 use Rattle.std.proofs.Common.{◌≡◌, ◌⊎◌, inl, inr, ⊎_elim, ℕ, ◌*◌, ◌≤◌, ◌<◌, true, false, sym, ◌∙◌, subst, arith, suc}
 use Rattle.std.specs.Prelude.{refl, IsTrue}
 use Rattle.std.proofs.lemmas.Bool.{false≢true}
-use Rattle.table_coverage.specs.Table.{Index, TableScan, Task, Resting, Reaches, Asks, Inserts, Considers, Maintains, Prunes, SweepsFrom, Sweeps, Restarts, Scans, TableState}
-use Rattle.table_coverage.specs.TableSteps.{first_block, IsFrom, ScanHasStep, HasStep, Onward, Stays, ToAsk, ToIndex, Inserted, ToRange, NextIndex, Pruned, ToPage, Swept, JudgesNext, Scanned, IsMaintained, RangesDone, NothingToSweep, OnlyTurns, Settles, GoesOn, GivesLock, TableStep}
+use Rattle.table_coverage.specs.Table.{Index, TableScan, Task, Resting, Reaches, Asks, Inserts, Considers, Maintains, Prunes, SweepsFrom, Sweeps, Restarts}
+use Rattle.table_coverage.specs.Table.{Scans, TableState}
+use Rattle.table_coverage.specs.TableSteps.{first_block, IsFrom, ScanHasStep, HasStep, Onward, Stays, ToAsk, ToIndex, Inserted, ToRange, NextIndex, Pruned}
+use Rattle.table_coverage.specs.TableSteps.{ToPage, Swept, JudgesNext, Scanned, IsMaintained, RangesDone, NothingToSweep, OnlyTurns, Settles, GoesOn, GivesLock}
+use Rattle.table_coverage.specs.TableSteps.{TableStep}
 
 less_not_equal : (n m : ℕ) → n < m → n ≡ m → ⊥
 less_not_equal n m less is = omega arith
@@ -33,11 +36,14 @@ from_once m p n q one two = ⊎_elim
 -- a scan with a step left neither goes to the next index nor is done
 scan_stays : (w : TableState) (scan : TableScan) → ScanHasStep w scan → scan.at < w.indexes → scan.extent ≤ first_block w scan.at scan.range → ⊥
 scan_stays w scan has inside all = ⊎_elim
-    (λ (judges : (scan.at < w.indexes) × (first_block w scan.at scan.range < scan.extent)). less_not_more (first_block w scan.at scan.range) scan.extent judges.1 all)
-    (λ (reads : (scan.explains ≡ false) × (scan.at ≡ w.indexes) × ((b : ℕ) × IsTrue (scan.candidate b) × (scan.read ≤ b))). less_not_equal scan.at w.indexes inside reads.1)
+    (λ (judges : (scan.at < w.indexes) × (first_block w scan.at scan.range < scan.extent)).
+    less_not_more (first_block w scan.at scan.range) scan.extent judges.1 all)
+    (λ (reads : (scan.explains ≡ false) × (scan.at ≡ w.indexes) × ((b : ℕ) × IsTrue (scan.candidate b) × (scan.read ≤ b))).
+    less_not_equal scan.at w.indexes inside reads.1)
     has
 
-scan_reads : (w : TableState) (scan : TableScan) → ScanHasStep w scan → scan.at ≡ w.indexes → (scan.explains ≡ true) ⊎ ((b : ℕ) → IsTrue (scan.candidate b) → b < scan.read) → ⊥
+scan_reads : (w : TableState) (scan : TableScan) → ScanHasStep w scan → scan.at ≡ w.indexes
+    → (scan.explains ≡ true) ⊎ ((b : ℕ) → IsTrue (scan.candidate b) → b < scan.read) → ⊥
 scan_reads w scan has all done = ⊎_elim
     (λ (judges : (scan.at < w.indexes) × (first_block w scan.at scan.range < scan.extent)). less_not_equal scan.at w.indexes judges.0 all)
     (λ (reads : (scan.explains ≡ false) × (scan.at ≡ w.indexes) × ((b : ℕ) × IsTrue (scan.candidate b) × (scan.read ≤ b))). ⊎_elim
@@ -84,7 +90,8 @@ module _ (w : TableState) where
   onward_once _ _ _ (ToPage at from m p next) (Swept at' from' none some) = absurd (none m p next.has next.after)
   onward_once _ _ _ (Swept at from none some) (ToPage at' from' m p next) = absurd (none m p next.has next.after)
   onward_once _ _ _ (Swept at from none some) (Swept at' from' none' some') = refl
-  onward_once _ p q (JudgesNext scan new inside all empty more) (JudgesNext scan' new' inside' all' empty' more') = onward_once (Scans (record scan { at = suc scan.at; range = 0 })) p q more more'
+  onward_once _ p q (JudgesNext scan new inside all empty more) (JudgesNext scan' new' inside' all' empty' more') =
+      onward_once (Scans (record scan { at = suc scan.at; range = 0 })) p q more more'
   onward_once _ _ _ (JudgesNext scan new inside all empty more) (Scanned scan' all' done) = absurd (less_not_equal scan.at w.indexes inside all')
   onward_once _ _ _ (Scanned scan all done) (JudgesNext scan' new inside all' empty more) = absurd (less_not_equal scan.at w.indexes inside all)
   onward_once _ _ _ (Scanned scan all done) (Scanned scan' all' done') = refl
@@ -136,7 +143,7 @@ step_on : (w v : TableState) → OnlyTurns w v → (task : Task) → HasStep w t
 step_on w v only Resting has = has
 step_on w v only (Reaches b k r at) has = has
 step_on w v only (Asks b k r at) has = has
-step_on w v only (Inserts b k r at hand) has = has
+step_on w v only (Inserts b k r at on_index) has = has
 step_on w v only (Considers job at range) has = has
 step_on w v only (Maintains job at range phase) has = has
 step_on w v only (Prunes extent next) has = has

@@ -4,7 +4,7 @@ use Rattle.std.specs.Prelude.{refl, IsTrue}
 use Rattle.std.proofs.lemmas.Option.{same_Some, none-some}
 use Rattle.std.proofs.lemmas.Bool.{cases_eq, false≢true}
 use Rattle.block_model.specs.declared.row.Row.{Row}
-use Rattle.coverage.specs.Board.{Spot, Tuple, Board, range_of}
+use Rattle.coverage.specs.IndexView.{TuplePlace, IndexTuple, IndexView, range_of_block}
 use Rattle.coverage.specs.Steps.{Excludes}
 use Rattle.coverage.proofs.Numbers.{lt_or_ge, lowest_below}
 use Rattle.coverage.proofs.StepsExist.{chosen, chosen_yes, chosen_no}
@@ -12,32 +12,35 @@ use Rattle.table_coverage.specs.Table.{TableScan, TableState}
 use Rattle.table_coverage.specs.TableSteps.{JudgeStep, JudgeMap, JudgeNoEntry, JudgeGone, JudgeKeeps, JudgeDrops, ReadsPage}
 
 -- the range that the scan is at is judged by what stands there
-module _ (w : Board) (scan : TableScan) (honest : (t : Tuple) → scan.keeps scan.at t ≡ false → Excludes t scan.matches) where
-  by_entry : scan.held ≡ None → (o : Option Spot) → w.entry scan.range ≡ o → (q : TableScan) × JudgeStep w scan q
+module _ (w : IndexView) (scan : TableScan) (honest : (t : IndexTuple) → scan.keeps scan.at t ≡ false → Excludes t scan.matches) where
+  by_entry : scan.held ≡ None → (o : Option TuplePlace) → w.entry scan.range ≡ o → (q : TableScan) × JudgeStep w scan q
   by_entry empty None is = (record scan { range = suc scan.range }, JudgeNoEntry empty is)
   by_entry empty (Some x) is = (record scan { held = Some x }, JudgeMap x empty is)
 
   abbrev left_out : ℕ → Bool
-  left_out b = chosen (cases_eq (range_of w b) scan.range) false (scan.candidate b)
+  left_out b = chosen (cases_eq (range_of_block w b) scan.range) false (scan.candidate b)
 
-  leaves_out : (b : ℕ) → ((range_of w b ≡ scan.range) × (left_out b ≡ false)) ⊎ ((range_of w b ≢ scan.range) × (left_out b ≡ scan.candidate b))
+  leaves_out : (b : ℕ) → ((range_of_block w b ≡ scan.range) × (left_out b ≡ false)) ⊎ ((range_of_block w b ≢ scan.range) × (left_out b ≡ scan.candidate b))
   leaves_out b = ⊎_elim
-      (λ (is : range_of w b ≡ scan.range). inl (is, chosen_yes (cases_eq (range_of w b) scan.range) false (scan.candidate b) is))
-      (λ (other : range_of w b ≢ scan.range). inr (other, chosen_no (cases_eq (range_of w b) scan.range) false (scan.candidate b) other))
-      (cases_eq (range_of w b) scan.range)
+      (λ (is : range_of_block w b ≡ scan.range). inl (is, chosen_yes (cases_eq (range_of_block w b) scan.range) false (scan.candidate b) is))
+      (λ (other : range_of_block w b ≢ scan.range). inr (other, chosen_no (cases_eq (range_of_block w b) scan.range) false (scan.candidate b) other))
+      (cases_eq (range_of_block w b) scan.range)
 
-  by_keeps : (x : Spot) (t : Tuple) → scan.held ≡ Some x → w.tuple x ≡ Some t → t.range ≡ scan.range → (keeps : Bool) → scan.keeps scan.at t ≡ keeps → (q : TableScan) × JudgeStep w scan q
+  by_keeps : (x : TuplePlace) (t : IndexTuple) → scan.held ≡ Some x → w.tuple x ≡ Some t → t.range ≡ scan.range → (keeps : Bool) → scan.keeps scan.at t ≡ keeps
+      → (q : TableScan) × JudgeStep w scan q
   by_keeps x t held here of true is = (record scan { range = suc scan.range; held = None }, JudgeKeeps x t held (here, of) is)
-  by_keeps x t held here of false is = (record scan { range = suc scan.range; held = None; candidate = left_out }, JudgeDrops x t left_out held (here, of) is (honest t is) leaves_out)
+  by_keeps x t held here of false is =
+      (record scan { range = suc scan.range; held = None; candidate = left_out }, JudgeDrops x t left_out held (here, of) is (honest t is) leaves_out)
 
-  by_tuple : (x : Spot) → scan.held ≡ Some x → (o : Option Tuple) → w.tuple x ≡ o → (q : TableScan) × JudgeStep w scan q
+  by_tuple : (x : TuplePlace) → scan.held ≡ Some x → (o : Option IndexTuple) → w.tuple x ≡ o → (q : TableScan) × JudgeStep w scan q
   by_tuple x held None is = (record scan { held = None }, JudgeGone x held (λ t here. absurd (none-some _ (sym is ∙ here))))
   by_tuple x held (Some t) is = ⊎_elim
       (λ (of : t.range ≡ scan.range). by_keeps x t held is of (scan.keeps scan.at t) refl)
-      (λ (other : t.range ≢ scan.range). (record scan { held = None }, JudgeGone x held (λ u here of. other (ap (λ (z : Tuple). z.range) (same_Some _ _ (sym is ∙ here)) ∙ of))))
+      (λ (other : t.range ≢ scan.range).
+      (record scan { held = None }, JudgeGone x held (λ u here of. other (ap (λ (z : IndexTuple). z.range) (same_Some _ _ (sym is ∙ here)) ∙ of))))
       (cases_eq t.range scan.range)
 
-  by_held : (o : Option Spot) → scan.held ≡ o → (q : TableScan) × JudgeStep w scan q
+  by_held : (o : Option TuplePlace) → scan.held ≡ o → (q : TableScan) × JudgeStep w scan q
   by_held None empty = by_entry empty (w.entry scan.range) refl
   by_held (Some x) held = by_tuple x held (w.tuple x) refl
 
@@ -48,9 +51,9 @@ or_left : (a b : Bool) → IsTrue a → IsTrue (a || b)
 or_left true b is = refl
 or_left false b is = absurd (false≢true is)
 
-or_right : (a b : Bool) → IsTrue b → IsTrue (a || b)
-or_right true b is = refl
-or_right false b is = is
+or_summarise_lock : (a b : Bool) → IsTrue b → IsTrue (a || b)
+or_summarise_lock true b is = refl
+or_summarise_lock false b is = is
 
 or_either : (a b : Bool) → IsTrue (a || b) → IsTrue a ⊎ IsTrue b
 or_either true b is = inl refl
@@ -110,11 +113,13 @@ module _ (w : TableState) (scan : TableScan) (reads : scan.explains ≡ false) (
       unread = left.1;
       first = λ b candidate more. first b (candidate, more);
       keeps = λ b k before. ⊎_elim
-          (λ (is : b ≡ next). subst IsTrue (sym (chosen_yes (cases_eq b next) (found_there k) (scan.found b k) is)) (or_left (scan.found next k) _ (subst (λ c. IsTrue (scan.found c k)) is before)))
+          (λ (is : b ≡ next).
+          subst IsTrue (sym (chosen_yes (cases_eq b next) (found_there k) (scan.found b k) is))
+          (or_left (scan.found next k) _ (subst (λ c. IsTrue (scan.found c k)) is before)))
           (λ (other : b ≢ next). subst IsTrue (sym (chosen_no (cases_eq b next) (found_there k) (scan.found b k) other)) before)
           (cases_eq b next);
       page = λ k r there sees matches. subst IsTrue (sym (chosen_yes (cases_eq next next) (found_there k) (scan.found next k) refl))
-          (or_right (scan.found next k) _ (hit_is scan (scan.sees next k) (w.row next k) r there sees matches));
+          (or_summarise_lock (scan.found next k) _ (hit_is scan (scan.sees next k) (w.row next k) r there sees matches));
       only = λ b k has. ⊎_elim
           (λ (is : b ≡ next). ⊎_elim
           (λ (before : IsTrue (scan.found next k)). inl (subst (λ c. IsTrue (scan.found c k)) (sym is) before))

@@ -1,21 +1,27 @@
 -- A blocked statement of a table stays where it is, and changes nothing.
 use Rattle.std.proofs.Common.{◌≡◌, ◌⊎◌, inl, inr, ℕ, sym, ◌∙◌, subst}
 use Rattle.block_model.specs.declared.row.Row.{Row}
-use Rattle.coverage.specs.Board.{Spot, Board}
-use Rattle.coverage.specs.Statements.{Hand, Phase, Statement}
+use Rattle.coverage.specs.IndexView.{TuplePlace, IndexView}
+use Rattle.coverage.specs.Statements.{OnIndex, Phase, Statement}
 use Rattle.coverage.specs.Steps.{SweepsTuples, InsertStep, DesummariseStep, IsUnnamed}
-use Rattle.table_coverage.specs.Table.{Job, EachRange, OneRange, WholeRanges, Desummarising, TableScan, Task, Resting, Asks, Inserts, Maintains, Prunes, Sweeps, Restarts, Scans, TableState, board_at}
-use Rattle.table_coverage.specs.TableSteps.{OnlyTurns, JobStep, IsBlocked, InsertWaits, SummariseWaits, DesummariseWaits, SweepWaits, Does, PutsRow, AsksSummary, InsertGoes, InsertCompletes, RefusesInsert, TakesLock, MaintainGoes, MaintainCompletes, RefusesMaintain, RefusesVacuum, PrunesBlock, SweepsPage, RestartsIndex, BeginsScan, Judges, ReadsBlock, RefusesScan, Blocked, Transacts}
+use Rattle.table_coverage.specs.Table.{Job, EachRange, OneRange, WholeRanges, Desummarising, TableScan, Task, Resting, Asks, Inserts, Maintains, Prunes, Sweeps}
+use Rattle.table_coverage.specs.Table.{Restarts, Scans, TableState, index_view_at}
+use Rattle.table_coverage.specs.TableSteps.{OnlyTurns, JobStep, IsBlocked, InsertWaits, SummariseWaits, DesummariseWaits, SweepWaits, Does, PutsRow}
+use Rattle.table_coverage.specs.TableSteps.{AsksSummary, InsertGoes, InsertCompletes, RefusesInsert, TakesLock, MaintainGoes, MaintainCompletes}
+use Rattle.table_coverage.specs.TableSteps.{RefusesMaintain, RefusesVacuum, PrunesBlock, SweepsPage, RestartsIndex, BeginsScan, Judges, ReadsBlock, RefusesScan}
+use Rattle.table_coverage.specs.TableSteps.{Blocked, Transacts}
 use Rattle.coverage.specs.Waiting.{IsPhaseWaiting, FinalWaits, PlaceWaits, GrowWaits, CountWaits, FlagWaits, EvacuateWaits, EvacuatePutWaits, TurnWaits}
 use Rattle.coverage.proofs.Verdicts.{free_not_locked}
 use Rattle.coverage.proofs.NextSteps.{insert_blocked, summarise_blocked, desummarise_blocked}
 
 module _ (s : ℕ) (w : TableState) where
-  insert_case : (b k : ℕ) (r : Row) (at : ℕ) (old : Hand) (v : Board) (e : Statement) → IsBlocked w s (Inserts b k r at old) → InsertStep s b k r (board_at at w) v old e → ⊥
-  insert_case b k r at _ v e (InsertWaits q _ _ _ _ x t u verdict) step = insert_blocked s b k q r (board_at at w) v x t u e verdict step
+  insert_case : (b k : ℕ) (r : Row) (at : ℕ) (old : OnIndex) (v : IndexView) (e : Statement) → IsBlocked w s (Inserts b k r at old)
+      → InsertStep s b k r (index_view_at at w) v old e → ⊥
+  insert_case b k r at _ v e (InsertWaits q _ _ _ _ x t u verdict) step = insert_blocked s b k q r (index_view_at at w) v x t u e verdict step
 
   -- a desummarise never stands where a summariser waits
-  clear_apart : (range : ℕ) (u v : Board) (q : ℕ) (phase : Phase) (e : Statement) → IsPhaseWaiting u s range phase q → DesummariseStep s range u v phase e → ⊥
+  clear_apart : (range : ℕ) (u v : IndexView) (q : ℕ) (phase : Phase) (e : Statement) → IsPhaseWaiting u s range phase q → DesummariseStep s range u v phase e
+      → ⊥
   clear_apart range u v q _ e (FinalWaits _ p x old new verdict) step = elim step [ ]
   clear_apart range u v q _ e (PlaceWaits _ long verdict) step = elim step [ ]
   clear_apart range u v q _ e (GrowWaits _ grows locked) step = elim step [ ]
@@ -25,15 +31,20 @@ module _ (s : ℕ) (w : TableState) where
   clear_apart range u v q _ e (EvacuatePutWaits _ x t grows next named free verdict) step = elim step [ ]
   clear_apart range u v q _ e (TurnWaits _ grows none locked) step = elim step [ ]
 
-  maintain_case : (job : Job) (at range : ℕ) (old : Phase) (v : Board) (e : Statement) → IsBlocked w s (Maintains job at range old) → JobStep job s range (board_at at w) v old e → ⊥
-  maintain_case (EachRange extent) at range old v e (SummariseWaits q _ _ _ _ waits) step = summarise_blocked s range (board_at at w) v q old e waits step
-  maintain_case (OneRange extent only) at range old v e (SummariseWaits q _ _ _ _ waits) step = summarise_blocked s range (board_at at w) v q old e waits step
-  maintain_case (WholeRanges extent) at range old v e (SummariseWaits q _ _ _ _ waits) step = summarise_blocked s range (board_at at w) v q old e waits step
-  maintain_case (Desummarising only) at range old v e (SummariseWaits q _ _ _ _ waits) step = clear_apart range (board_at at w) v q old e waits step
-  maintain_case (Desummarising only) at range _ v e (DesummariseWaits q _ _ _ x verdict) step = desummarise_blocked s range q (board_at at w) v x e verdict step
+  maintain_case : (job : Job) (at range : ℕ) (old : Phase) (v : IndexView) (e : Statement) → IsBlocked w s (Maintains job at range old)
+      → JobStep job s range (index_view_at at w) v old e → ⊥
+  maintain_case (EachRange extent) at range old v e (SummariseWaits q _ _ _ _ waits) step = summarise_blocked s range (index_view_at at w) v q old e waits step
+  maintain_case (OneRange extent only) at range old v e (SummariseWaits q _ _ _ _ waits) step =
+      summarise_blocked s range (index_view_at at w) v q old e waits step
+  maintain_case (WholeRanges extent) at range old v e (SummariseWaits q _ _ _ _ waits) step =
+      summarise_blocked s range (index_view_at at w) v q old e waits step
+  maintain_case (Desummarising only) at range old v e (SummariseWaits q _ _ _ _ waits) step = clear_apart range (index_view_at at w) v q old e waits step
+  maintain_case (Desummarising only) at range _ v e (DesummariseWaits q _ _ _ x verdict) step =
+      desummarise_blocked s range q (index_view_at at w) v x e verdict step
 
-  sweep_case : (at page : ℕ) (v : Board) (Sweeping : Spot → Type 0) → IsBlocked w s (Sweeps at page) → SweepsTuples s (board_at at w) v page Sweeping → ⊥
-  sweep_case at page v Sweeping (SweepWaits _ _ locked) sweeps = free_not_locked (board_at at w) s page sweeps.free locked
+  sweep_case : (at page : ℕ) (v : IndexView) (Sweeping : TuplePlace → Type 0) → IsBlocked w s (Sweeps at page)
+      → SweepsTuples s (index_view_at at w) v page Sweeping → ⊥
+  sweep_case at page v Sweeping (SweepWaits _ _ locked) sweeps = free_not_locked (index_view_at at w) s page sweeps.free locked
 
   never_asks : (b k : ℕ) (r : Row) (at : ℕ) → IsBlocked w s (Asks b k r at) → ⊥
   never_asks b k r at blocked = elim blocked [ ]
@@ -47,7 +58,8 @@ module _ (s : ℕ) (w : TableState) where
   never_scans : (scan : TableScan) → IsBlocked w s (Scans scan) → ⊥
   never_scans scan blocked = elim blocked [ ]
 
-  pub blocked_waits : (v : TableState) → IsBlocked w s (w.task s) → (w.task s ≡ Resting → ⊥) → Does s w v → ((v.task s ≡ w.task s) × OnlyTurns w v) ⊎ (v.task s ≡ Resting)
+  pub blocked_waits : (v : TableState) → IsBlocked w s (w.task s) → (w.task s ≡ Resting → ⊥) → Does s w v
+      → ((v.task s ≡ w.task s) × OnlyTurns w v) ⊎ (v.task s ≡ Resting)
   blocked_waits v blocked busy does = by_case does
     where
       at : (task : Task) → w.task s ≡ task → IsBlocked w s task
@@ -56,16 +68,20 @@ module _ (s : ℕ) (w : TableState) where
       by_case : Does s w v → ((v.task s ≡ w.task s) × OnlyTurns w v) ⊎ (v.task s ≡ Resting)
       by_case (PutsRow b k r place turns takes) = absurd (busy turns.was)
       by_case (AsksSummary b k r m turns only) = absurd (never_asks b k r m (at (Asks b k r m) turns.was))
-      by_case (InsertGoes b k r m old new turns stepped step) = absurd (insert_case b k r m old (board_at m v) _ (at (Inserts b k r m old) turns.was) step)
-      by_case (InsertCompletes b k r m old turns stepped step) = absurd (insert_case b k r m old (board_at m v) _ (at (Inserts b k r m old) turns.was) step)
+      by_case (InsertGoes b k r m old new turns stepped step) = absurd (insert_case b k r m old (index_view_at m v) _ (at (Inserts b k r m old) turns.was) step)
+      by_case (InsertCompletes b k r m old turns stepped step) =
+          absurd (insert_case b k r m old (index_view_at m v) _ (at (Inserts b k r m old) turns.was) step)
       by_case (RefusesInsert b k r old refused turns fails) = inr turns.now
       by_case (TakesLock first begins turns free held rows indexes) = absurd (busy turns.was)
-      by_case (MaintainGoes job m range old new turns stepped step) = absurd (maintain_case job m range old (board_at m v) _ (at (Maintains job m range old) turns.was) step)
-      by_case (MaintainCompletes job m range old turns stepped step) = absurd (maintain_case job m range old (board_at m v) _ (at (Maintains job m range old) turns.was) step)
+      by_case (MaintainGoes job m range old new turns stepped step) =
+          absurd (maintain_case job m range old (index_view_at m v) _ (at (Maintains job m range old) turns.was) step)
+      by_case (MaintainCompletes job m range old turns stepped step) =
+          absurd (maintain_case job m range old (index_view_at m v) _ (at (Maintains job m range old) turns.was) step)
       by_case (RefusesMaintain job m range phase refused turns stepped passes) = inr turns.now
       by_case (RefusesVacuum old vacuuming turns given rows indexes) = inr turns.now
       by_case (PrunesBlock extent next dropped inside spared turns drops) = absurd (never_prunes extent next (at (Prunes extent next) turns.was))
-      by_case (SweepsPage m page turns stepped sweeps) = absurd (sweep_case m page (board_at m v) (λ x. (x.block ≡ page) × IsUnnamed (board_at m w) x) (at (Sweeps m page) turns.was) sweeps)
+      by_case (SweepsPage m page turns stepped sweeps) =
+          absurd (sweep_case m page (index_view_at m v) (λ x. (x.block ≡ page) × IsUnnamed (index_view_at m w) x) (at (Sweeps m page) turns.was) sweeps)
       by_case (RestartsIndex m turns only) = absurd (never_restarts m (at (Restarts m) turns.was))
       by_case (BeginsScan scan begins turns only) = absurd (busy turns.was)
       by_case (Judges old new inside low step turns only) = absurd (never_scans old (at (Scans old) turns.was))

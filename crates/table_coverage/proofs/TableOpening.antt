@@ -1,11 +1,11 @@
 -- What a table's indexes rest on: at an opening, after a stop, and in a new table.
-use Rattle.std.proofs.Common.{◌≡◌, ℕ, ◌<◌, sym, ◌∙◌, ap, subst}
+use Rattle.std.proofs.Common.{◌≡◌, ℕ, ◌<◌, sym, ◌∙◌, ap, subst, rules}
 use Rattle.std.proofs.lemmas.Option.{same_Some, none-some}
 use Rattle.std.proofs.lemmas.Bool.{false≢true}
-use Rattle.coverage.specs.Board.{Progress, IsBuilding}
+use Rattle.coverage.specs.IndexView.{Progress, IsBuilding}
 use Rattle.coverage.specs.Statements.{building_of}
-use Rattle.coverage.specs.IsCovered.{IsAtRest, IsKept}
-use Rattle.table_coverage.specs.Table.{TableScan, Task, Resting, Scans, TableState, seen_by, index_state, board_at}
+use Rattle.coverage.specs.IsCovered.{IsAtRest, IsIndexKept}
+use Rattle.table_coverage.specs.Table.{TableScan, Task, Resting, Scans, TableState, seen_by, index_state, index_view_at}
 use Rattle.table_coverage.specs.TableCovered.{IsTableCovered, IsTableKept, IsTableAtRest, IsNewTable, TableStops}
 use Rattle.coverage.proofs.Covered.{kept_covered}
 use Rattle.coverage.proofs.Opening.{rest_kept, stopped_kept}
@@ -21,7 +21,9 @@ resting_scan scan e = subst IsResting e tt
 pub table_covered : (w : TableState) → IsTableKept w → IsTableCovered w
 table_covered w kept = record {
   indexes = λ i below. kept_covered (index_state i w) (kept.indexes i below);
-  one_builder = λ i j s n range m p q below below' is other. same_Some _ _ (sym ((kept.indexes i below).sound.builder_holds s range p is) ∙ (kept.indexes j below').sound.builder_holds n m q other);
+  one_builder =
+      λ i j s n range m p q below below' is other.
+      same_Some _ _ (sym ((kept.indexes i below).sound.builder_holds s range p is) ∙ (kept.indexes j below').sound.builder_holds n m q other);
 }
 
 pub table_opened : (w : TableState) → IsTableCovered w → IsTableAtRest w → IsTableKept w
@@ -33,7 +35,9 @@ table_opened w covered rest = record {
 
 pub table_stopped : (w v : TableState) → IsTableKept w → TableStops w v → IsTableKept v
 table_stopped w v kept stops = record {
-  indexes = λ i below. let inside = subst (λ n. i < n) stops.indexes below in stopped_kept (index_state i w) (index_state i v) (kept.indexes i inside) (stops.stops i inside);
+  indexes =
+      λ i below.
+      let inside = subst (λ n. i < n) stops.indexes below in stopped_kept (index_state i w) (index_state i v) (kept.indexes i inside) (stops.stops i inside);
   rows_below = λ b k r there. subst (λ n. b < n) (sym stops.blocks) (kept.rows_below b k r (sym (stops.row b k) ∙ there));
   scans = λ s scan is. absurd (resting_scan scan (sym (stops.resting s) ∙ is));
 }
@@ -44,22 +48,15 @@ module _ (w : TableState) (new : IsNewTable w) (i : ℕ) where
     idle = λ s. ap (seen_by i) (new.resting s);
     unlocked = new.lock i;
     free = new.free;
-    orphans = λ x is. absurd (false≢true (sym (new.orphan i x) ∙ is));
+    unnamed_tuples = λ x is. absurd (false≢true (sym (new.unnamed i x) ∙ is));
   }
 
-  nobody_builds : (s range : ℕ) (p : Progress) → IsBuilding (board_at i w) s range p → ⊥
+  nobody_builds : (s range : ℕ) (p : Progress) → IsBuilding (index_view_at i w) s range p → ⊥
   nobody_builds s range p is = none-some _ (sym (ap (λ t. building_of (seen_by i t)) (new.resting s)) ∙ is)
 
-  new_index_kept : IsKept (index_state i w)
+  new_index_kept : IsIndexKept (index_state i w)
   new_index_kept = rest_kept (index_state i w)
-      (record {
-        rows_settled = λ b k r is. absurd (none-some _ (sym (new.row b k) ∙ is));
-        entries_name_tuples = λ range x is. absurd (none-some _ (sym (new.entry i range) ∙ is));
-        tuples_are_named = λ x t is. absurd (none-some _ (sym (new.tuple i x) ∙ is));
-        one_builder_a_table = λ s n range m p q is other. absurd (nobody_builds s range p is);
-        held_places_were_named = λ s range x holds. λ t here. absurd (none-some _ (sym (new.tuple i x) ∙ here));
-        held_tuples_include = λ s scan is range x held t here. absurd (none-some _ (sym (new.tuple i x) ∙ here));
-      })
+      (search (rules, nobody_builds))
       new_rest (new.ranged i) (λ b k r is. absurd (none-some _ (sym (new.row b k) ∙ is)))
 
 pub new_table_kept : (w : TableState) → IsNewTable w → IsTableKept w

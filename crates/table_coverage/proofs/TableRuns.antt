@@ -4,20 +4,30 @@ use Rattle.std.specs.Prelude.{refl, IsTrue, max}
 use Rattle.std.proofs.lemmas.Option.{none-some}
 use Rattle.std.proofs.lemmas.Bool.{cases_eq}
 use Rattle.block_model.specs.declared.row.Row.{Row}
-use Rattle.coverage.specs.Board.{Spot, Tuple, Board, range_of}
-use Rattle.coverage.specs.Statements.{Hand, Empty, Held, Copied, Moving, Dropping, IsAdded, Phase, Scan, Statement, Idle, Inserting, Maintaining, Holding, Scanning, loose_in, loose_at}
-use Rattle.coverage.specs.Knowing.{LocksNone, KnowsHand, Knows}
-use Rattle.coverage.specs.IsCovered.{IsKept}
-use Rattle.coverage.specs.Steps.{IsUnnamed, SweepsTuples, Excludes, InsertStep, MaintainStep, Summarises, Desummarises, ScanStep, ScanMap, ScanGone, ScanKeeps, ScanDrops, ScanElsewhere, ScanPage, RightPasses, Step, PutRow, Insert, Refused, TakeRight, Maintain, Prune, Sweep, GiveRight, Abandon, BeginScan, Scans as StepScans, EndScan, Elsewhere, Counts}
-use Rattle.table_coverage.specs.Table.{Index, Job, EachRange, OneRange, WholeRanges, Desummarising, TableScan, Task, Resting, Reaches, Asks, Inserts, Considers, Maintains, Prunes, SweepsFrom, Sweeps, Restarts, Scans, TableState, pick, hand_by, inserting_of, held_at, scan_at, seen_by, index_state, board_at}
-use Rattle.table_coverage.specs.TableSteps.{TaskTurns, SameRows, SameIndexes, OnlyTurns, StepsIn, IsFirstPlace, TakesRow, IsInsertRefused, AskRefused, MemoryShort, IndexFull, BeginsWith, Summarize, SummarizeOne, Desummarize, Vacuum, JobStep, IsMaintainRefused, NoMemory, FinalFull, PlaceFull, MapFull, EvacuateFull, HasPut, SeesPlace, IsVacuuming, DropsRows, ScanBegins, JudgeStep, JudgeMap, JudgeNoEntry, JudgeGone, JudgeKeeps, JudgeDrops, ReadsPage, Fails, IsMaintained, RangesDone, NothingToSweep}
+use Rattle.coverage.specs.IndexView.{TuplePlace, IndexTuple, IndexView, range_of_block}
+use Rattle.coverage.specs.Statements.{OnIndex, Empty, Held, Copied, Moving, Dropping, IsAdded, Phase, Scan, Statement, Idle, Inserting, Maintaining, Holding}
+use Rattle.coverage.specs.Statements.{Scanning, loose_in, loose_at}
+use Rattle.coverage.specs.Knowing.{LocksNone, KnowsOnIndex, Knows}
+use Rattle.coverage.specs.IsCovered.{IsIndexKept}
+use Rattle.coverage.specs.Steps.{IsUnnamed, SweepsTuples, Excludes, InsertStep, MaintainStep, Summarises, Desummarises, ScanStep, ScanMap, ScanGone, ScanKeeps}
+use Rattle.coverage.specs.Steps.{ScanDrops, ScanElsewhere, ScanPage, SummariseLockPasses, Step, PutRow, Insert, Refused, TakeSummariseLock, Maintain, Prune}
+use Rattle.coverage.specs.Steps.{Sweep, GiveSummariseLock, Abandon, BeginScan, Scans as StepScans, EndScan, Elsewhere, Counts}
+use Rattle.table_coverage.specs.Table.{Index, Job, EachRange, OneRange, WholeRanges, Desummarising, TableScan, Task, Resting, Reaches, Asks, Inserts, Considers}
+use Rattle.table_coverage.specs.Table.{Maintains, Prunes, SweepsFrom, Sweeps, Restarts, Scans, TableState, pick, on_index_by, inserting_of, held_at, scan_at}
+use Rattle.table_coverage.specs.Table.{seen_by, index_state, index_view_at}
+use Rattle.table_coverage.specs.TableSteps.{TaskTurns, SameRows, SameIndexes, OnlyTurns, StepsIn, IsFirstPlace, TableTakesRow, IsInsertRefused, AskRefused}
+use Rattle.table_coverage.specs.TableSteps.{MemoryShort, IndexFull, BeginsWith, Summarize, SummarizeOne, Desummarize, Vacuum, JobStep, IsMaintainRefused}
+use Rattle.table_coverage.specs.TableSteps.{NoMemory, FinalFull, PlaceFull, MapFull, EvacuateFull, HasPut, SeesPlace, IsVacuuming, DropsRows, ScanBegins}
+use Rattle.table_coverage.specs.TableSteps.{JudgeStep, JudgeMap, JudgeNoEntry, JudgeGone, JudgeKeeps, JudgeDrops, ReadsPage, Fails, IsMaintained, RangesDone}
+use Rattle.table_coverage.specs.TableSteps.{NothingToSweep}
 use Rattle.table_coverage.specs.TableCovered.{AreIndexesKept}
 use Rattle.coverage.proofs.Opening.{scan_excludes}
 use Rattle.coverage.proofs.Runs.{step_kept}
-use Rattle.table_coverage.proofs.Views.{pick_same, pick_other, held_none, hand_first, hand_here, hand_below, hand_other, hand_next, hand_view, seen_put, seen_spares, turned_at, rests_at, reads_at, passes_at}
+use Rattle.table_coverage.proofs.Views.{pick_same, pick_other, held_none, on_index_first, on_index_here, on_index_below, on_index_other, on_index_next}
+use Rattle.table_coverage.proofs.Views.{on_index_view, seen_put, seen_spares, none_at, rows_frame, reads_by, turned_at, rests_at, reads_at, passes_at}
 
 -- the step of a maintenance statement in its index
-job_step : (job : Job) (s range : ℕ) (w v : Board) (old : Phase) (new : Statement) → JobStep job s range w v old new → MaintainStep s range w v old new
+job_step : (job : Job) (s range : ℕ) (w v : IndexView) (old : Phase) (new : Statement) → JobStep job s range w v old new → MaintainStep s range w v old new
 job_step (EachRange extent) s range w v old new step = Summarises step
 job_step (OneRange extent only) s range w v old new step = Summarises step
 job_step (WholeRanges extent) s range w v old new step = Summarises step
@@ -29,7 +39,7 @@ begins_holding i w _ (SummarizeOne at only below) = refl
 begins_holding i w _ (Desummarize at only below) = refl
 begins_holding i w _ Vacuum = refl
 
-pub refused_loose : (w : Board) (s range : ℕ) (phase : Phase) → IsMaintainRefused w s range phase → loose_at phase ≡ None
+pub refused_loose : (w : IndexView) (s range : ℕ) (phase : Phase) → IsMaintainRefused w s range phase → loose_at phase ≡ None
 refused_loose w s range _ (NoMemory phase none) = none
 refused_loose w s range _ (FinalFull p x old new verdict) = refl
 refused_loose w s range _ (PlaceFull long verdict) = refl
@@ -40,7 +50,7 @@ pub vacuuming_holds : (i : ℕ) (task : Task) → IsVacuuming task → seen_by i
 vacuuming_holds i Resting is = absurd is
 vacuuming_holds i (Reaches b k r at) is = absurd is
 vacuuming_holds i (Asks b k r at) is = absurd is
-vacuuming_holds i (Inserts b k r at hand) is = absurd is
+vacuuming_holds i (Inserts b k r at on_index) is = absurd is
 vacuuming_holds i (Considers job at range) is = absurd is
 vacuuming_holds i (Maintains job at range phase) is = absurd is
 vacuuming_holds i (Prunes extent next) is = refl
@@ -54,62 +64,63 @@ maintained_holds i w _ (RangesDone job at range done last) = refl
 maintained_holds i w _ (NothingToSweep extent next all none) = refl
 
 refused_view : (i : ℕ) (w : TableState) (s b k : ℕ) (r : Row) (old : Task) → IsInsertRefused w s b k r old
-    → (seen_by i old ≡ Idle) ⊎ ((hand : Hand) × (seen_by i old ≡ Inserting b k r hand) × (loose_in hand ≡ None))
-refused_view i w s b k r old refused = by_hand old refused
+    → (seen_by i old ≡ Idle) ⊎ ((on_index : OnIndex) × (seen_by i old ≡ Inserting b k r on_index) × (loose_in on_index ≡ None))
+refused_view i w s b k r old refused = by_on_index old refused
   where
-    from_hand : (o : Option Hand) → (o ≡ None) ⊎ ((g : Hand) × (o ≡ Some g) × (loose_in g ≡ None))
-        → (inserting_of b k r o ≡ Idle) ⊎ ((hand : Hand) × (inserting_of b k r o ≡ Inserting b k r hand) × (loose_in hand ≡ None))
-    from_hand o view = ⊎_elim
+    from_on_index : (o : Option OnIndex) → (o ≡ None) ⊎ ((g : OnIndex) × (o ≡ Some g) × (loose_in g ≡ None))
+        → (inserting_of b k r o ≡ Idle) ⊎ ((on_index : OnIndex) × (inserting_of b k r o ≡ Inserting b k r on_index) × (loose_in on_index ≡ None))
+    from_on_index o view = ⊎_elim
         (λ (none : o ≡ None). inl (ap (inserting_of b k r) none))
-        (λ (some : (g : Hand) × (o ≡ Some g) × (loose_in g ≡ None)). inr (some.0, ap (inserting_of b k r) some.1, some.2))
+        (λ (some : (g : OnIndex) × (o ≡ Some g) × (loose_in g ≡ None)). inr (some.0, ap (inserting_of b k r) some.1, some.2))
         view
 
-    by_hand : (old : Task) → IsInsertRefused w s b k r old → (seen_by i old ≡ Idle) ⊎ ((hand : Hand) × (seen_by i old ≡ Inserting b k r hand) × (loose_in hand ≡ None))
-    by_hand _ (AskRefused at) = from_hand (hand_by i at Empty) (hand_view i at Empty refl)
-    by_hand _ (MemoryShort at hand none) = from_hand (hand_by i at hand) (hand_view i at hand none)
-    by_hand _ (IndexFull at x t u verdict) = from_hand (hand_by i at (Copied x t u)) (hand_view i at (Copied x t u) refl)
+    by_on_index : (old : Task) → IsInsertRefused w s b k r old
+        → (seen_by i old ≡ Idle) ⊎ ((on_index : OnIndex) × (seen_by i old ≡ Inserting b k r on_index) × (loose_in on_index ≡ None))
+    by_on_index _ (AskRefused at) = from_on_index (on_index_by i at Empty) (on_index_view i at Empty refl)
+    by_on_index _ (MemoryShort at on_index none) = from_on_index (on_index_by i at on_index) (on_index_view i at on_index none)
+    by_on_index _ (IndexFull at x t u verdict) = from_on_index (on_index_by i at (Copied x t u)) (on_index_view i at (Copied x t u) refl)
 
 -- with nothing loose in hand a session locks no page
-hand_locks_none : (w : Board) (s range : ℕ) (Makes : Tuple → Tuple → Type 0) (hand : Hand) → loose_in hand ≡ None → KnowsHand w s range Makes hand → LocksNone w s
-hand_locks_none w s range Makes Empty none known = known
-hand_locks_none w s range Makes (Held x) none known = known.0
-hand_locks_none w s range Makes (Copied x old new) none known = known.0
-hand_locks_none w s range Makes (Moving x y old new) none known = absurd (none-some _ (sym none))
-hand_locks_none w s range Makes (Dropping x) none known = absurd (none-some _ (sym none))
+on_index_locks_none : (w : IndexView) (s range : ℕ) (Makes : IndexTuple → IndexTuple → Type 0) (on_index : OnIndex) → loose_in on_index ≡ None
+    → KnowsOnIndex w s range Makes on_index → LocksNone w s
+on_index_locks_none w s range Makes Empty none known = known
+on_index_locks_none w s range Makes (Held x) none known = known.0
+on_index_locks_none w s range Makes (Copied x old new) none known = known.0
+on_index_locks_none w s range Makes (Moving x y old new) none known = absurd (none-some _ (sym none))
+on_index_locks_none w s range Makes (Dropping x) none known = absurd (none-some _ (sym none))
 
 module _ (s : ℕ) (w v : TableState) (kept : AreIndexesKept w) (i : ℕ) (below : i < w.indexes) where
-  pub known : (task : Task) (d : Statement) → w.task s ≡ task → seen_by i task ≡ d → Knows (board_at i w) s d
-  known task d was view = subst (λ m. Knows (board_at i w) s m) (ap (seen_by i) was ∙ view) ((kept i below).knows s)
+  pub known : (task : Task) (d : Statement) → w.task s ≡ task → seen_by i task ≡ d → Knows (index_view_at i w) s d
+  known task d was view = subst (λ m. Knows (index_view_at i w) s m) (ap (seen_by i) was ∙ view) ((kept i below).knows s)
 
-  pub steps : Step s (index_state i w) (index_state i v) → IsKept (index_state i v)
+  pub steps : Step s (index_state i w) (index_state i v) → IsIndexKept (index_state i v)
   steps step = step_kept s (index_state i w) (index_state i v) (kept i below) step
 
   -- the index sees nothing of the step
-  pub rests : (old new : Task) → TaskTurns s w v old new → SameRows w v → v.index i ≡ w.index i → v.right ≡ w.right → seen_by i new ≡ seen_by i old → IsKept (index_state i v)
-  rests old new turns rows index right same = steps (Elsewhere (rests_at i s w v old new turns rows index right same))
+  pub rests : (old new : Task) → TaskTurns s w v old new → SameRows w v → v.index i ≡ w.index i → v.summarise_lock ≡ w.summarise_lock
+      → seen_by i new ≡ seen_by i old → IsIndexKept (index_state i v)
+  rests old new turns rows index summarise_lock same = steps (Elsewhere (rests_at i s w v old new turns rows index summarise_lock same))
 
-  pub only_rests : (old new : Task) → TaskTurns s w v old new → OnlyTurns w v → seen_by i new ≡ seen_by i old → IsKept (index_state i v)
-  only_rests old new turns only same = rests old new turns only.rows (only.indexes.index i) only.right same
+  pub only_rests : (old new : Task) → TaskTurns s w v old new → OnlyTurns w v → seen_by i new ≡ seen_by i old → IsIndexKept (index_state i v)
+  only_rests old new turns only same = rests old new turns only.rows (only.indexes.index i) only.summarise_lock same
 
   -- an insert puts its row
-  pub puts_row : (b k : ℕ) (r : Row) → IsFirstPlace w b k → TaskTurns s w v Resting (Reaches b k r 0) → TakesRow w v b k r → IsKept (index_state i v)
+  pub puts_row : (b k : ℕ) (r : Row) → IsFirstPlace w b k → TaskTurns s w v Resting (Reaches b k r 0) → TableTakesRow w v b k r → IsIndexKept (index_state i v)
   puts_row b k r place turns takes =
       let index = takes.indexes.index i in
-      steps (PutRow b k r (turned_at i s w v Resting (Reaches b k r 0) turns Idle (Inserting b k r Empty) refl (ap (inserting_of b k r) (hand_first i)))
+      steps (PutRow b k r (turned_at i s w v Resting (Reaches b k r 0) turns Idle (Inserting b k r Empty) refl (ap (inserting_of b k r) (on_index_first i)))
       (record {
-        was = place.vacant.1;
-        now = takes.now;
-        others = takes.others;
-        pages_per_range = ap (λ (x : Index). x.pages_per_range) index;
-        grown = subst (λ n. w.blocks ≤ n) (sym takes.blocks) (grown w.blocks b);
-        below = subst (λ n. b < n) (sym takes.blocks) (inside w.blocks b);
-        map = record { entry = λ m. ap (λ (x : Index). x.entry m) index };
-        tuples = record { tuple = λ y. ap (λ (x : Index). x.tuple y) index };
-        orphans = record { orphan = λ y. ap (λ (x : Index). x.orphan y) index };
+        row = record {
+          was = place.vacant.1;
+          now = takes.now;
+          others = takes.others;
+          pages_per_range = ap (λ (x : Index). x.pages_per_range) index;
+          grown = subst (λ n. w.blocks ≤ n) (sym takes.blocks) (grown w.blocks b);
+          below = subst (λ n. b < n) (sym takes.blocks) (inside w.blocks b);
+        };
+        frame = rows_frame i s w v index takes.summarise_lock;
         pages = ap (λ (x : Index). x.pages) index;
-        right = takes.right;
-        locks = record { others = λ p n is other. ap (λ (x : Index). x.lock p) index ∙ is; taken = λ p n is other. sym (ap (λ (x : Index). x.lock p) index) ∙ is };
-        none = λ p is. (known Resting Idle turns.was refl).0 p (sym (ap (λ (x : Index). x.lock p) index) ∙ is);
+        none = none_at i s w v index (known Resting Idle turns.was refl).0;
       })
       (record { counts = takes.counts }))
     where
@@ -119,36 +130,39 @@ module _ (s : ℕ) (w v : TableState) (kept : AreIndexesKept w) (i : ℕ) (below
       inside : (n b : ℕ) → b < max n (b + 1)
       inside n b = omega arith
 
-  pub insert_goes : (b k : ℕ) (r : Row) (at : ℕ) (old new : Hand) → TaskTurns s w v (Inserts b k r at old) (Inserts b k r at new) → StepsIn at w v
-      → InsertStep s b k r (board_at at w) (board_at at v) old (Inserting b k r new) → v.right ≡ w.right → IsKept (index_state i v)
-  insert_goes b k r at old new turns stepped step right = ⊎_elim
+  pub insert_goes : (b k : ℕ) (r : Row) (at : ℕ) (old new : OnIndex) → TaskTurns s w v (Inserts b k r at old) (Inserts b k r at new) → StepsIn at w v
+      → InsertStep s b k r (index_view_at at w) (index_view_at at v) old (Inserting b k r new) → v.summarise_lock ≡ w.summarise_lock
+      → IsIndexKept (index_state i v)
+  insert_goes b k r at old new turns stepped step summarise_lock = ⊎_elim
       (λ (is : i ≡ at). steps (subst (λ m. Step s (index_state m w) (index_state m v)) (sym is)
       (Insert b k r old (Inserting b k r new)
-      (turned_at at s w v (Inserts b k r at old) (Inserts b k r at new) turns (Inserting b k r old) (Inserting b k r new) (ap (inserting_of b k r) (hand_here at old)) (ap (inserting_of b k r) (hand_here at new)))
+      (turned_at at s w v (Inserts b k r at old) (Inserts b k r at new) turns (Inserting b k r old) (Inserting b k r new)
+      (ap (inserting_of b k r) (on_index_here at old)) (ap (inserting_of b k r) (on_index_here at new)))
       step (record { counts = stepped.rows.counts }))))
       (λ (apart : i ≢ at). ⊎_elim
       (λ (is : i ≡ at). absurd (apart is))
       (λ (index : v.index i ≡ w.index i).
-      rests (Inserts b k r at old) (Inserts b k r at new) turns stepped.rows index right (ap (inserting_of b k r) (hand_other i at old new apart)))
+      rests (Inserts b k r at old) (Inserts b k r at new) turns stepped.rows index summarise_lock (ap (inserting_of b k r) (on_index_other i at old new apart)))
       (stepped.others i))
       (cases_eq i at)
 
-  pub insert_completes : (b k : ℕ) (r : Row) (at : ℕ) (old : Hand) → TaskTurns s w v (Inserts b k r at old) (Reaches b k r (suc at)) → StepsIn at w v
-      → InsertStep s b k r (board_at at w) (board_at at v) old Idle → v.right ≡ w.right → IsKept (index_state i v)
-  insert_completes b k r at old turns stepped step right = ⊎_elim
+  pub insert_completes : (b k : ℕ) (r : Row) (at : ℕ) (old : OnIndex) → TaskTurns s w v (Inserts b k r at old) (Reaches b k r (suc at)) → StepsIn at w v
+      → InsertStep s b k r (index_view_at at w) (index_view_at at v) old Idle → v.summarise_lock ≡ w.summarise_lock → IsIndexKept (index_state i v)
+  insert_completes b k r at old turns stepped step summarise_lock = ⊎_elim
       (λ (is : i ≡ at). steps (subst (λ m. Step s (index_state m w) (index_state m v)) (sym is)
       (Insert b k r old Idle
-      (turned_at at s w v (Inserts b k r at old) (Reaches b k r (suc at)) turns (Inserting b k r old) Idle (ap (inserting_of b k r) (hand_here at old)) (ap (inserting_of b k r) (hand_below at (suc at) Empty (omega arith))))
+      (turned_at at s w v (Inserts b k r at old) (Reaches b k r (suc at)) turns (Inserting b k r old) Idle (ap (inserting_of b k r) (on_index_here at old))
+      (ap (inserting_of b k r) (on_index_below at (suc at) Empty (omega arith))))
       step (record { counts = stepped.rows.counts }))))
       (λ (apart : i ≢ at). ⊎_elim
       (λ (is : i ≡ at). absurd (apart is))
       (λ (index : v.index i ≡ w.index i).
-      rests (Inserts b k r at old) (Reaches b k r (suc at)) turns stepped.rows index right (ap (inserting_of b k r) (hand_next i at old apart)))
+      rests (Inserts b k r at old) (Reaches b k r (suc at)) turns stepped.rows index summarise_lock (ap (inserting_of b k r) (on_index_next i at old apart)))
       (stepped.others i))
       (cases_eq i at)
 
   -- less comes to count, and the index sees nothing else
-  pub counts_less : (t : ℕ) → Fails w v t → ((n : ℕ) → seen_by i (v.task n) ≡ seen_by i (w.task n)) → IsKept (index_state i v)
+  pub counts_less : (t : ℕ) → Fails w v t → ((n : ℕ) → seen_by i (v.task n) ≡ seen_by i (w.task n)) → IsIndexKept (index_state i v)
   counts_less t fails views = steps (Counts v.counts (λ n counted. inl (fails.fewer n counted)) (λ j. record {
     pages_per_range = ap (λ (x : Index). x.pages_per_range) index j;
     blocks = fails.blocks j;
@@ -157,8 +171,8 @@ module _ (s : ℕ) (w v : TableState) (kept : AreIndexesKept w) (i : ℕ) (below
     tuple = λ y. ap (λ (x : Index). x.tuple y) index j;
     pages = ap (λ (x : Index). x.pages) index j;
     lock = λ p. ap (λ (x : Index). x.lock p) index j;
-    right = fails.right j;
-    orphan = λ y. ap (λ (x : Index). x.orphan y) index j;
+    summarise_lock = fails.summarise_lock j;
+    unnamed = λ y. ap (λ (x : Index). x.unnamed y) index j;
     statement = λ n. views n j;
     counts = v.counts;
   }))
@@ -168,184 +182,213 @@ module _ (s : ℕ) (w v : TableState) (kept : AreIndexesKept w) (i : ℕ) (below
 
   pub same_views : (old new : Task) → TaskTurns s w v old new → seen_by i new ≡ seen_by i old → (n : ℕ) → seen_by i (v.task n) ≡ seen_by i (w.task n)
   same_views old new turns same n = ⊎_elim
-      (λ (is : n ≡ s). ap (λ m. seen_by i (v.task m)) is ∙ ap (seen_by i) turns.now ∙ same ∙ sym (ap (seen_by i) turns.was) ∙ ap (λ m. seen_by i (w.task m)) (sym is))
+      (λ (is : n ≡ s).
+      ap (λ m. seen_by i (v.task m)) is ∙ ap (seen_by i) turns.now ∙ same ∙ sym (ap (seen_by i) turns.was) ∙ ap (λ m. seen_by i (w.task m)) (sym is))
       (λ (e : v.task n ≡ w.task n). ap (seen_by i) e)
       (turns.others n)
 
-  pub refuses_insert : (b k : ℕ) (r : Row) (old : Task) → IsInsertRefused w s b k r old → TaskTurns s w v old Resting → Fails w v r.id.t → IsKept (index_state i v)
+  pub refuses_insert : (b k : ℕ) (r : Row) (old : Task) → IsInsertRefused w s b k r old → TaskTurns s w v old Resting → Fails w v r.id.t
+      → IsIndexKept (index_state i v)
   refuses_insert b k r old refused turns fails = ⊎_elim
       (λ (idle : seen_by i old ≡ Idle). counts_less r.id.t fails (same_views old Resting turns (sym idle)))
-      (λ (at : (hand : Hand) × (seen_by i old ≡ Inserting b k r hand) × (loose_in hand ≡ None)).
+      (λ (at : (on_index : OnIndex) × (seen_by i old ≡ Inserting b k r on_index) × (loose_in on_index ≡ None)).
       let index : v.index i ≡ w.index i = fails.indexes.index i in
-      let none : LocksNone (board_at i w) s = hand_locks_none (board_at i w) s (range_of (board_at i w) b) (IsAdded r) at.0 at.2 (known old (Inserting b k r at.0) turns.was at.1).2 in
+      let none : LocksNone (index_view_at i w) s =
+      on_index_locks_none (index_view_at i w) s (range_of_block (index_view_at i w) b) (IsAdded r) at.0 at.2
+      (known old (Inserting b k r at.0) turns.was at.1).2 in
       steps (Refused b k r at.0 at.2 (turned_at i s w v old Resting turns (Inserting b k r at.0) Idle at.1 refl)
-      (record {
-        looks = record {
-          heap = record { pages_per_range = ap (λ (x : Index). x.pages_per_range) index; blocks = fails.blocks; row = fails.row };
-          map = record { entry = λ m. ap (λ (x : Index). x.entry m) index };
-          tuples = record { tuple = λ y. ap (λ (x : Index). x.tuple y) index };
-          orphans = record { orphan = λ y. ap (λ (x : Index). x.orphan y) index };
-          right = fails.right;
-          locks = record { others = λ p n is other. ap (λ (x : Index). x.lock p) index ∙ is; taken = λ p n is other. sym (ap (λ (x : Index). x.lock p) index) ∙ is };
-        };
-        pages = ap (λ (x : Index). x.pages) index;
-        none = λ p is. none p (sym (ap (λ (x : Index). x.lock p) index) ∙ is);
-      })
+      (reads_by i s w v index (record { pages_per_range = ap (λ (x : Index). x.pages_per_range) index; blocks = fails.blocks; row = fails.row })
+      fails.summarise_lock none)
       fails.failed fails.fewer))
       (refused_view i w s b k r old refused)
 
-  pub takes_lock : (first : Task) → BeginsWith w first → TaskTurns s w v Resting first → w.right ≡ None → v.right ≡ Some s → SameRows w v → SameIndexes w v → IsKept (index_state i v)
-  takes_lock first begins turns free held rows indexes = steps (TakeRight (turned_at i s w v Resting first turns Idle Holding refl (begins_holding i w first begins))
-      (passes_at i s w v Resting first turns rows (indexes.index i) None (Some s) free held (known Resting Idle turns.was refl).0) (record { counts = rows.counts }))
+  pub takes_lock : (first : Task) → BeginsWith w first → TaskTurns s w v Resting first → w.summarise_lock ≡ None → v.summarise_lock ≡ Some s → SameRows w v
+      → SameIndexes w v → IsIndexKept (index_state i v)
+  takes_lock first begins turns free held rows indexes =
+      steps (TakeSummariseLock (turned_at i s w v Resting first turns Idle Holding refl (begins_holding i w first begins))
+      (passes_at i s w v Resting first turns rows (indexes.index i) None (Some s) free held (known Resting Idle turns.was refl).0)
+      (record { counts = rows.counts }))
 
   pub maintains : (job : Job) (at range : ℕ) (old : Phase) (new : Task) (e : Statement) → TaskTurns s w v (Maintains job at range old) new → StepsIn at w v
-      → JobStep job s range (board_at at w) (board_at at v) old e → seen_by at new ≡ e → ((j : ℕ) → j ≢ at → seen_by j new ≡ Holding) → v.right ≡ w.right → IsKept (index_state i v)
-  maintains job at range old new e turns stepped step here elsewhere right = ⊎_elim
+      → JobStep job s range (index_view_at at w) (index_view_at at v) old e → seen_by at new ≡ e → ((j : ℕ) → j ≢ at → seen_by j new ≡ Holding)
+      → v.summarise_lock ≡ w.summarise_lock → IsIndexKept (index_state i v)
+  maintains job at range old new e turns stepped step here elsewhere summarise_lock = ⊎_elim
       (λ (is : i ≡ at). steps (subst (λ m. Step s (index_state m w) (index_state m v)) (sym is)
-      (Maintain range old e (turned_at at s w v (Maintains job at range old) new turns (Maintaining range old) e (pick_same at (Maintaining range old) Holding) here)
-      (job_step job s range (board_at at w) (board_at at v) old e step) (record { counts = stepped.rows.counts }))))
+      (Maintain range old e
+      (turned_at at s w v (Maintains job at range old) new turns (Maintaining range old) e (pick_same at (Maintaining range old) Holding) here)
+      (job_step job s range (index_view_at at w) (index_view_at at v) old e step) (record { counts = stepped.rows.counts }))))
       (λ (apart : i ≢ at). ⊎_elim
       (λ (is : i ≡ at). absurd (apart is))
       (λ (index : v.index i ≡ w.index i).
-      rests (Maintains job at range old) new turns stepped.rows index right (elsewhere i apart ∙ sym (pick_other i at (Maintaining range old) Holding apart)))
+      rests (Maintains job at range old) new turns stepped.rows index summarise_lock
+      (elsewhere i apart ∙ sym (pick_other i at (Maintaining range old) Holding apart)))
       (stepped.others i))
       (cases_eq i at)
 
-  pub refuses_maintain : (job : Job) (at range : ℕ) (phase : Phase) → loose_at phase ≡ None → TaskTurns s w v (Maintains job at range phase) Resting → StepsIn at w v
-      → RightPasses s (board_at at w) (board_at at v) (Some s) None → IsKept (index_state i v)
+  pub refuses_maintain : (job : Job) (at range : ℕ) (phase : Phase) → loose_at phase ≡ None → TaskTurns s w v (Maintains job at range phase) Resting
+      → StepsIn at w v
+      → SummariseLockPasses s (index_view_at at w) (index_view_at at v) (Some s) None → IsIndexKept (index_state i v)
   refuses_maintain job at range phase none turns stepped passes = ⊎_elim
       (λ (is : i ≡ at). steps (subst (λ m. Step s (index_state m w) (index_state m v)) (sym is)
-      (Abandon range phase none (turned_at at s w v (Maintains job at range phase) Resting turns (Maintaining range phase) Idle (pick_same at (Maintaining range phase) Holding) refl)
+      (Abandon range phase none
+      (turned_at at s w v (Maintains job at range phase) Resting turns (Maintaining range phase) Idle (pick_same at (Maintaining range phase) Holding) refl)
       passes (record { counts = stepped.rows.counts }))))
       (λ (apart : i ≢ at). ⊎_elim
       (λ (is : i ≡ at). absurd (apart is))
       (λ (index : v.index i ≡ w.index i).
       let view = pick_other i at (Maintaining range phase) Holding apart in
-      steps (GiveRight (turned_at i s w v (Maintains job at range phase) Resting turns Holding Idle view refl)
-      (passes_at i s w v (Maintains job at range phase) Resting turns stepped.rows index (Some s) None passes.was passes.now (known (Maintains job at range phase) Holding turns.was view).1)
+      steps (GiveSummariseLock (turned_at i s w v (Maintains job at range phase) Resting turns Holding Idle view refl)
+      (passes_at i s w v (Maintains job at range phase) Resting turns stepped.rows index (Some s) None passes.was passes.now
+      (known (Maintains job at range phase) Holding turns.was view).1)
       (record { counts = stepped.rows.counts })))
       (stepped.others i))
       (cases_eq i at)
 
-  pub gives_lock : (old : Task) → seen_by i old ≡ Holding → TaskTurns s w v old Resting → v.right ≡ None → SameRows w v → SameIndexes w v → IsKept (index_state i v)
+  pub gives_lock : (old : Task) → seen_by i old ≡ Holding → TaskTurns s w v old Resting → v.summarise_lock ≡ None → SameRows w v → SameIndexes w v
+      → IsIndexKept (index_state i v)
   gives_lock old holds turns given rows indexes =
       let holding = known old Holding turns.was holds in
-      steps (GiveRight (turned_at i s w v old Resting turns Holding Idle holds refl)
+      steps (GiveSummariseLock (turned_at i s w v old Resting turns Holding Idle holds refl)
       (passes_at i s w v old Resting turns rows (indexes.index i) (Some s) None holding.0 given holding.1) (record { counts = rows.counts }))
 
-  pub prunes : (extent next : ℕ) (dropped : ℕ → ℕ → Bool) → ((n b k : ℕ) → n ≢ s → IsTrue (dropped b k) → (HasPut b k (w.task n) ⊎ SeesPlace b k (w.task n)) → ⊥)
-      → TaskTurns s w v (Prunes extent next) (Prunes extent (suc next)) → DropsRows w v next dropped → IsKept (index_state i v)
+  pub prunes : (extent next : ℕ) (dropped : ℕ → ℕ → Bool)
+      → ((n b k : ℕ) → n ≢ s → IsTrue (dropped b k) → (HasPut b k (w.task n) ⊎ SeesPlace b k (w.task n)) → ⊥)
+      → TaskTurns s w v (Prunes extent next) (Prunes extent (suc next)) → DropsRows w v next dropped → IsIndexKept (index_state i v)
   prunes extent next dropped spared turns drops =
       let index : v.index i ≡ w.index i = drops.indexes.index i in
       steps (Prune dropped (λ n other. seen_spares dropped i (w.task n) (λ b k dead. spared n b k other dead))
       (turned_at i s w v (Prunes extent next) (Prunes extent (suc next)) turns Holding Holding refl refl)
       (record {
-        row = λ b k. ⊎_elim (λ (same : v.row b k ≡ w.row b k). inl same) (λ (dead : IsTrue (dropped b k)). inr (dead, drops.gone b k dead)) (drops.rows b k);
-        pages_per_range = ap (λ (x : Index). x.pages_per_range) index;
-        blocks = drops.blocks;
-        map = record { entry = λ m. ap (λ (x : Index). x.entry m) index };
-        tuples = record { tuple = λ y. ap (λ (x : Index). x.tuple y) index };
-        orphans = record { orphan = λ y. ap (λ (x : Index). x.orphan y) index };
+        rows = record {
+          row = λ b k. ⊎_elim (λ (same : v.row b k ≡ w.row b k). inl same) (λ (dead : IsTrue (dropped b k)). inr (dead, drops.gone b k dead)) (drops.rows b k);
+          pages_per_range = ap (λ (x : Index). x.pages_per_range) index;
+          blocks = drops.blocks;
+        };
+        frame = rows_frame i s w v index drops.summarise_lock;
         pages = ap (λ (x : Index). x.pages) index;
-        right = drops.right;
-        locks = record { others = λ p n is other. ap (λ (x : Index). x.lock p) index ∙ is; taken = λ p n is other. sym (ap (λ (x : Index). x.lock p) index) ∙ is };
-        none = λ p is. (known (Prunes extent next) Holding turns.was refl).1 p (sym (ap (λ (x : Index). x.lock p) index) ∙ is);
+        none = none_at i s w v index (known (Prunes extent next) Holding turns.was refl).1;
       })
       (record { counts = drops.counts }))
 
   pub sweeps_page : (at page : ℕ) → TaskTurns s w v (Sweeps at page) (SweepsFrom at (suc page)) → StepsIn at w v
-      → SweepsTuples s (board_at at w) (board_at at v) page (λ x. (x.block ≡ page) × IsUnnamed (board_at at w) x) → IsKept (index_state i v)
+      → SweepsTuples s (index_view_at at w) (index_view_at at v) page (λ x. (x.block ≡ page) × IsUnnamed (index_view_at at w) x) → IsIndexKept (index_state i v)
   sweeps_page at page turns stepped sweeps = ⊎_elim
       (λ (is : i ≡ at). steps (subst (λ m. Step s (index_state m w) (index_state m v)) (sym is)
-      (Sweep page (turned_at at s w v (Sweeps at page) (SweepsFrom at (suc page)) turns Holding Holding refl refl) sweeps (record { counts = stepped.rows.counts }))))
+      (Sweep page (turned_at at s w v (Sweeps at page) (SweepsFrom at (suc page)) turns Holding Holding refl refl) sweeps
+      (record { counts = stepped.rows.counts }))))
       (λ (apart : i ≢ at). ⊎_elim
       (λ (is : i ≡ at). absurd (apart is))
-      (λ (index : v.index i ≡ w.index i). rests (Sweeps at page) (SweepsFrom at (suc page)) turns stepped.rows index sweeps.right refl)
+      (λ (index : v.index i ≡ w.index i). rests (Sweeps at page) (SweepsFrom at (suc page)) turns stepped.rows index sweeps.frame.summarise_lock refl)
       (stepped.others i))
       (cases_eq i at)
 
-  pub begins_scan : (scan : TableScan) → ScanBegins w scan → TaskTurns s w v Resting (Scans scan) → OnlyTurns w v → IsKept (index_state i v)
+  pub begins_scan : (scan : TableScan) → ScanBegins w scan → TaskTurns s w v Resting (Scans scan) → OnlyTurns w v → IsIndexKept (index_state i v)
   begins_scan scan begins turns only = steps (BeginScan (scan_at i scan) (
     held_none i scan.at scan.range scan.held begins.held,
     λ b k sees.
         let row = begins.sees b k sees in
-        let low : b < w.blocks = (kept i below).sound.rows_below b k row.0 row.1 in
-        (row.0, row.1, row.2, (λ n hand is. row.3 n (seen_put i b k row.0 hand (w.task n) is)), λ matches. ((begins.candidate b).1 low, subst (λ m. m ≤ b) (sym begins.read) (omega arith))),
+        let low : b < w.blocks = (kept i below).sound.rows_below b k row.0 row.1 in (
+          row.0,
+          row.1,
+          row.2,
+          (λ n on_index is. row.3 n (seen_put i b k row.0 on_index (w.task n) is)),
+          λ matches.
+              ((begins.candidate b).1 low, subst (λ m. m ≤ b) (sym begins.read) (omega arith)),
+        ),
   )
       (turned_at i s w v Resting (Scans scan) turns Idle (Scanning (scan_at i scan)) refl refl)
-      (reads_at i s w v Resting (Scans scan) turns only.rows (only.indexes.index i) only.right (known Resting Idle turns.was refl).0)
+      (reads_at i s w v Resting (Scans scan) turns only.rows (only.indexes.index i) only.summarise_lock (known Resting Idle turns.was refl).0)
       (record { counts = only.rows.counts }))
 
   -- a scan's step that this index sees as this one
-  scans : (old new : TableScan) (e : Scan) → TaskTurns s w v (Scans old) (Scans new) → OnlyTurns w v → scan_at i new ≡ e → ScanStep (board_at i w) (scan_at i old) e → IsKept (index_state i v)
+  scans : (old new : TableScan) (e : Scan) → TaskTurns s w v (Scans old) (Scans new) → OnlyTurns w v → scan_at i new ≡ e
+      → ScanStep (index_view_at i w) (scan_at i old) e → IsIndexKept (index_state i v)
   scans old new e turns only view step =
       steps (StepScans (scan_at i old) e (turned_at i s w v (Scans old) (Scans new) turns (Scanning (scan_at i old)) (Scanning e) refl (ap Scanning view)) step
-      (reads_at i s w v (Scans old) (Scans new) turns only.rows (only.indexes.index i) only.right (known (Scans old) (Scanning (scan_at i old)) turns.was refl).0.0)
+      (reads_at i s w v (Scans old) (Scans new) turns only.rows (only.indexes.index i) only.summarise_lock
+      (known (Scans old) (Scanning (scan_at i old)) turns.was refl).0.0)
       (record { counts = only.rows.counts }))
 
-  pub ends_scan : (scan : TableScan) → TaskTurns s w v (Scans scan) Resting → OnlyTurns w v → IsKept (index_state i v)
+  pub ends_scan : (scan : TableScan) → TaskTurns s w v (Scans scan) Resting → OnlyTurns w v → IsIndexKept (index_state i v)
   ends_scan scan turns only =
       steps (EndScan (scan_at i scan) (turned_at i s w v (Scans scan) Resting turns (Scanning (scan_at i scan)) Idle refl refl)
-      (reads_at i s w v (Scans scan) Resting turns only.rows (only.indexes.index i) only.right (known (Scans scan) (Scanning (scan_at i scan)) turns.was refl).0.0)
+      (reads_at i s w v (Scans scan) Resting turns only.rows (only.indexes.index i) only.summarise_lock
+      (known (Scans scan) (Scanning (scan_at i scan)) turns.was refl).0.0)
       (record { counts = only.rows.counts }))
 
-  -- an index that the scan isn't at sees no held spot, before and after
+  -- an index that the scan isn't at sees no held place, before and after
   scan_elsewhere : (old : TableScan) → i ≢ old.at → pick i old.at (held_at old.range old.held) None ≡ None
   scan_elsewhere old apart = pick_other i old.at (held_at old.range old.held) None apart
 
   -- rows of a range that the index at hand leaves out don't match
-  pub dropped_spares : (old : TableScan) (x : Spot) (t : Tuple) (candidate : ℕ → Bool) → w.task s ≡ Scans old → old.at < w.indexes → old.held ≡ Some x → (w.index old.at).tuple x ≡ Some t → t.range ≡ old.range → Excludes t old.matches
-      → ((b : ℕ) → ((range_of (board_at old.at w) b ≡ old.range) × (candidate b ≡ false)) ⊎ ((range_of (board_at old.at w) b ≢ old.range) × (candidate b ≡ old.candidate b)))
+  pub dropped_spares : (old : TableScan) (x : TuplePlace) (t : IndexTuple) (candidate : ℕ → Bool) → w.task s ≡ Scans old → old.at < w.indexes
+      → old.held ≡ Some x → (w.index old.at).tuple x ≡ Some t → t.range ≡ old.range → Excludes t old.matches
+      → ((b : ℕ) → ((range_of_block (index_view_at old.at w) b ≡ old.range) × (candidate b ≡ false)) ⊎
+      ((range_of_block (index_view_at old.at w) b ≢ old.range) × (candidate b ≡ old.candidate b)))
       → (b k : ℕ) (r : Row) → w.row b k ≡ Some r → IsTrue (old.sees b k) → IsTrue (old.matches r) → IsTrue (old.candidate b) → IsTrue (candidate b)
   dropped_spares old x t candidate was inside held here of excludes others b k r there sees matches candidate_was = ⊎_elim
-      (λ (in_range : (range_of (board_at old.at w) b ≡ old.range) × (candidate b ≡ false)).
-      absurd (scan_excludes (index_state old.at w) s b k old.range x t r (scan_at old.at old) (kept old.at inside) (ap (seen_by old.at) was) sees there
-      (pick_same old.at (held_at old.range old.held) None ∙ ap (held_at old.range) held) here of excludes in_range.0 matches))
-      (λ (outside : (range_of (board_at old.at w) b ≢ old.range) × (candidate b ≡ old.candidate b)). outside.1 ∙ candidate_was)
+      (λ (in_range : (range_of_block (index_view_at old.at w) b ≡ old.range) × (candidate b ≡ false)).
+      let held' = pick_same old.at (held_at old.range old.held) None ∙ ap (held_at old.range) held ∙ ap (λ m. Some (m, x)) (sym in_range.0) in
+      absurd (scan_excludes (index_state old.at w) s b k r (scan_at old.at old) (kept old.at inside) (ap (seen_by old.at) was) sees there
+      (x, t, held', here, of ∙ sym in_range.0, excludes) matches))
+      (λ (outside : (range_of_block (index_view_at old.at w) b ≢ old.range) × (candidate b ≡ old.candidate b)). outside.1 ∙ candidate_was)
       (others b)
 
-  -- the index that the scan is at sees the spot that it holds
-  spot_here : (old : TableScan) (x : Spot) → i ≡ old.at → old.held ≡ Some x → pick i old.at (held_at old.range old.held) None ≡ Some (old.range, x)
-  spot_here old x is held =
-      subst (λ m. pick m old.at (held_at old.range old.held) None ≡ held_at old.range old.held) (sym is) (pick_same old.at (held_at old.range old.held) None) ∙ ap (held_at old.range) held
+  -- the index that the scan is at sees the place that it holds
+  place_here : (old : TableScan) (x : TuplePlace) → i ≡ old.at → old.held ≡ Some x → pick i old.at (held_at old.range old.held) None ≡ Some (old.range, x)
+  place_here old x is held =
+      subst (λ m. pick m old.at (held_at old.range old.held) None ≡ held_at old.range old.held) (sym is)
+      (pick_same old.at (held_at old.range old.held) None) ∙ ap (held_at old.range) held
 
-  judges_here : (old new : TableScan) → i ≡ old.at → JudgeStep (board_at i w) old new → TaskTurns s w v (Scans old) (Scans new) → OnlyTurns w v → IsKept (index_state i v)
-  judges_here old _ is (JudgeMap x empty named) turns only = scans old (record old { held = Some x }) (record (scan_at i old) { held = Some (old.range, x) }) turns only
-      (ap (λ h. record (scan_at i old) { held = h }) (spot_here (record old { held = Some x }) x is refl))
+  judges_here : (old new : TableScan) → i ≡ old.at → JudgeStep (index_view_at i w) old new → TaskTurns s w v (Scans old) (Scans new) → OnlyTurns w v
+      → IsIndexKept (index_state i v)
+  judges_here old _ is (JudgeMap x empty named) turns only =
+      scans old (record old { held = Some x }) (record (scan_at i old) { held = Some (old.range, x) }) turns only
+      (ap (λ h. record (scan_at i old) { held = h }) (place_here (record old { held = Some x }) x is refl))
       (ScanMap old.range x (held_none i old.at old.range old.held empty) named)
   judges_here old _ is (JudgeNoEntry empty none) turns only = only_rests (Scans old) (Scans (record old { range = suc old.range })) turns only
-      (ap (λ h. Scanning (record (scan_at i old) { held = h })) (held_none i old.at (suc old.range) old.held empty ∙ sym (held_none i old.at old.range old.held empty)))
+      (ap (λ h. Scanning (record (scan_at i old) { held = h }))
+      (held_none i old.at (suc old.range) old.held empty ∙ sym (held_none i old.at old.range old.held empty)))
   judges_here old _ is (JudgeGone x held gone) turns only = scans old (record old { held = None }) (record (scan_at i old) { held = None }) turns only
       (ap (λ h. record (scan_at i old) { held = h }) (held_none i old.at old.range None refl))
-      (ScanGone old.range x (spot_here old x is held) gone)
-  judges_here old _ is (JudgeKeeps x t held stands keeps) turns only = scans old (record old { range = suc old.range; held = None }) (record (scan_at i old) { held = None }) turns only
+      (ScanGone old.range x (place_here old x is held) gone)
+  judges_here old _ is (JudgeKeeps x t held stands keeps) turns only =
+      scans old (record old { range = suc old.range; held = None }) (record (scan_at i old) { held = None }) turns only
       (ap (λ h. record (scan_at i old) { held = h }) (held_none i old.at (suc old.range) None refl))
-      (ScanKeeps old.range x t (spot_here old x is held) stands (subst (λ m. IsTrue (old.keeps m t)) (sym is) keeps))
+      (ScanKeeps old.range x t (place_here old x is held) stands (subst (λ m. IsTrue (old.keeps m t)) (sym is) keeps))
   judges_here old _ is (JudgeDrops x t candidate held stands keeps excludes others) turns only =
-      scans old (record old { range = suc old.range; held = None; candidate = candidate }) (record (scan_at i old) { held = None; candidate = candidate }) turns only
+      scans old (record old { range = suc old.range; held = None; candidate = candidate })
+      (record (scan_at i old) { held = None; candidate = candidate }) turns only
       (ap (λ h. record (scan_at i old) { held = h; candidate = candidate }) (held_none i old.at (suc old.range) None refl))
-      (ScanDrops old.range x t candidate (spot_here old x is held) stands (subst (λ m. old.keeps m t ≡ false) (sym is) keeps) excludes others)
+      (ScanDrops old.range x t candidate (place_here old x is held) stands (subst (λ m. old.keeps m t ≡ false) (sym is) keeps) excludes others)
 
-  judges_elsewhere : (old new : TableScan) → i ≢ old.at → old.at < w.indexes → JudgeStep (board_at old.at w) old new → TaskTurns s w v (Scans old) (Scans new) → OnlyTurns w v → IsKept (index_state i v)
+  judges_elsewhere : (old new : TableScan) → i ≢ old.at → old.at < w.indexes → JudgeStep (index_view_at old.at w) old new
+      → TaskTurns s w v (Scans old) (Scans new) → OnlyTurns w v → IsIndexKept (index_state i v)
   judges_elsewhere old _ apart inside (JudgeMap x empty named) turns only = only_rests (Scans old) (Scans (record old { held = Some x })) turns only
       (ap (λ h. Scanning (record (scan_at i old) { held = h })) (scan_elsewhere (record old { held = Some x }) apart ∙ sym (scan_elsewhere old apart)))
   judges_elsewhere old _ apart inside (JudgeNoEntry empty none) turns only = only_rests (Scans old) (Scans (record old { range = suc old.range })) turns only
       (ap (λ h. Scanning (record (scan_at i old) { held = h })) (scan_elsewhere (record old { range = suc old.range }) apart ∙ sym (scan_elsewhere old apart)))
   judges_elsewhere old _ apart inside (JudgeGone x held gone) turns only = only_rests (Scans old) (Scans (record old { held = None })) turns only
       (ap (λ h. Scanning (record (scan_at i old) { held = h })) (scan_elsewhere (record old { held = None }) apart ∙ sym (scan_elsewhere old apart)))
-  judges_elsewhere old _ apart inside (JudgeKeeps x t held stands keeps) turns only = only_rests (Scans old) (Scans (record old { range = suc old.range; held = None })) turns only
-      (ap (λ h. Scanning (record (scan_at i old) { held = h })) (scan_elsewhere (record old { range = suc old.range; held = None }) apart ∙ sym (scan_elsewhere old apart)))
+  judges_elsewhere old _ apart inside (JudgeKeeps x t held stands keeps) turns only =
+      only_rests (Scans old) (Scans (record old { range = suc old.range; held = None })) turns only
+      (ap (λ h. Scanning (record (scan_at i old) { held = h }))
+      (scan_elsewhere (record old { range = suc old.range; held = None }) apart ∙ sym (scan_elsewhere old apart)))
   judges_elsewhere old _ apart inside (JudgeDrops x t candidate held stands keeps excludes others) turns only =
       scans old (record old { range = suc old.range; held = None; candidate = candidate }) (record (scan_at i old) { candidate = candidate }) turns only
-      (ap (λ h. record (scan_at i old) { held = h; candidate = candidate }) (scan_elsewhere (record old { range = suc old.range; held = None; candidate = candidate }) apart ∙ sym (scan_elsewhere old apart)))
+      (ap (λ h. record (scan_at i old) { held = h; candidate = candidate })
+      (scan_elsewhere (record old { range = suc old.range; held = None; candidate = candidate }) apart ∙ sym (scan_elsewhere old apart)))
       (ScanElsewhere candidate (dropped_spares old x t candidate turns.was inside held stands.0 stands.1 excludes others))
 
-  pub judges : (old new : TableScan) → old.at < w.indexes → JudgeStep (board_at old.at w) old new → TaskTurns s w v (Scans old) (Scans new) → OnlyTurns w v → IsKept (index_state i v)
+  pub judges : (old new : TableScan) → old.at < w.indexes → JudgeStep (index_view_at old.at w) old new → TaskTurns s w v (Scans old) (Scans new) → OnlyTurns w v
+      → IsIndexKept (index_state i v)
   judges old new inside step turns only = ⊎_elim
-      (λ (is : i ≡ old.at). judges_here old new is (subst (λ m. JudgeStep (board_at m w) old new) (sym is) step) turns only)
+      (λ (is : i ≡ old.at). judges_here old new is (subst (λ m. JudgeStep (index_view_at m w) old new) (sym is) step) turns only)
       (λ (apart : i ≢ old.at). judges_elsewhere old new apart inside step turns only)
       (cases_eq i old.at)
 
-  pub reads_block : (scan : TableScan) (next : ℕ) (found : ℕ → ℕ → Bool) → ReadsPage w scan next found → TaskTurns s w v (Scans scan) (Scans (record scan { read = next + 1; found = found })) → OnlyTurns w v → IsKept (index_state i v)
-  reads_block scan next found reads turns only = scans scan (record scan { read = next + 1; found = found }) (record (scan_at i scan) { read = next + 1; found = found }) turns only refl
+  pub reads_block : (scan : TableScan) (next : ℕ) (found : ℕ → ℕ → Bool) → ReadsPage w scan next found
+      → TaskTurns s w v (Scans scan) (Scans (record scan { read = next + 1; found = found })) → OnlyTurns w v → IsIndexKept (index_state i v)
+  reads_block scan next found reads turns only =
+      scans scan (record scan { read = next + 1; found = found }) (record (scan_at i scan) { read = next + 1; found = found }) turns only refl
       (ScanPage next found reads.given reads.unread reads.first reads.keeps reads.page reads.only)

@@ -5,9 +5,10 @@ use Rattle.std.proofs.lemmas.Option.{same_Some, none-some}
 use Rattle.std.proofs.lemmas.Bool.{cases_eq, false≢true}
 use Rattle.block_model.specs.declared.row.Row.{Row}
 use Rattle.table_coverage.specs.Table.{TableScan, Resting, Scans, TableState}
-use Rattle.coverage.specs.Board.{Spot, Tuple, Board, range_of}
+use Rattle.coverage.specs.IndexView.{TuplePlace, IndexTuple, IndexView, range_of_block}
 use Rattle.coverage.specs.Steps.{IsGone}
-use Rattle.table_coverage.specs.TableSteps.{range_in, JudgeStep, JudgeMap, JudgeNoEntry, JudgeGone, JudgeKeeps, JudgeDrops, ReadsPage, Onward, JudgesNext, Scanned}
+use Rattle.table_coverage.specs.TableSteps.{range_in, JudgeStep, JudgeMap, JudgeNoEntry, JudgeGone, JudgeKeeps, JudgeDrops, ReadsPage, Onward, JudgesNext}
+use Rattle.table_coverage.specs.TableSteps.{Scanned}
 use Rattle.table_coverage.specs.TableCovered.{IsTableKept, IsJudged, IsGiven, IsUnjudged}
 use Rattle.coverage.proofs.Numbers.{lt_or_ge, all_or_one}
 
@@ -17,9 +18,12 @@ judged_or_not scan i range = ⊎_elim
     (λ (from : scan.at ≤ i). ⊎_elim
     (λ (is : i ≡ scan.at). ⊎_elim
     (λ (low : range < scan.range). inl (inr (is, low)))
-    (λ (high : scan.range ≤ range). inr (λ judged. ⊎_elim (λ (before : i < scan.at). apart scan.at i from before) (λ (at : (i ≡ scan.at) × (range < scan.range)). apart scan.range range high at.1) judged))
+    (λ (high : scan.range ≤ range).
+    inr (λ judged. ⊎_elim (λ (before : i < scan.at). apart scan.at i from before)
+    (λ (at : (i ≡ scan.at) × (range < scan.range)). apart scan.range range high at.1) judged))
     (lt_or_ge range scan.range))
-    (λ (other : i ≢ scan.at). inr (λ judged. ⊎_elim (λ (before : i < scan.at). apart scan.at i from before) (λ (at : (i ≡ scan.at) × (range < scan.range)). other at.0) judged))
+    (λ (other : i ≢ scan.at).
+    inr (λ judged. ⊎_elim (λ (before : i < scan.at). apart scan.at i from before) (λ (at : (i ≡ scan.at) × (range < scan.range)). other at.0) judged))
     (cases_eq i scan.at))
     (lt_or_ge i scan.at)
   where
@@ -48,43 +52,47 @@ same_test true false one two = sym (one refl)
 same_test false true one two = two refl
 same_test false false one two = refl
 
-spot_of : (w : Board) (range : ℕ) (x y : Spot) → w.entry range ≡ Some x → w.entry range ≡ Some y → x ≡ y
-spot_of w range x y one two = same_Some _ _ (sym one ∙ two)
+place_of : (w : IndexView) (range : ℕ) (x y : TuplePlace) → w.entry range ≡ Some x → w.entry range ≡ Some y → x ≡ y
+place_of w range x y one two = same_Some _ _ (sym one ∙ two)
 
-same_held : (held : Option Spot) (x y : Spot) → held ≡ Some x → held ≡ Some y → x ≡ y
+same_held : (held : Option TuplePlace) (x y : TuplePlace) → held ≡ Some x → held ≡ Some y → x ≡ y
 same_held held x y one two = same_Some _ _ (sym one ∙ two)
 
--- the tuple at a held spot is one
-same_there : (w : Board) (scan : TableScan) (x y : Spot) (t u : Tuple) → scan.held ≡ Some x → scan.held ≡ Some y → w.tuple x ≡ Some t → w.tuple y ≡ Some u → t ≡ u
+-- the tuple at a held place is one
+same_there : (w : IndexView) (scan : TableScan) (x y : TuplePlace) (t u : IndexTuple) → scan.held ≡ Some x → scan.held ≡ Some y → w.tuple x ≡ Some t
+    → w.tuple y ≡ Some u → t ≡ u
 same_there w scan x y t u one two here there = same_Some _ _ (sym here ∙ ap w.tuple (same_held scan.held x y one two) ∙ there)
 
 -- what a range leaves out of the candidates is one thing
-same_candidates : (w : Board) (old : TableScan) (f g : ℕ → Bool)
-    → ((b : ℕ) → ((range_of w b ≡ old.range) × (f b ≡ false)) ⊎ ((range_of w b ≢ old.range) × (f b ≡ old.candidate b)))
-    → ((b : ℕ) → ((range_of w b ≡ old.range) × (g b ≡ false)) ⊎ ((range_of w b ≢ old.range) × (g b ≡ old.candidate b))) → (b : ℕ) → f b ≡ g b
+same_candidates : (w : IndexView) (old : TableScan) (f g : ℕ → Bool)
+    → ((b : ℕ) → ((range_of_block w b ≡ old.range) × (f b ≡ false)) ⊎ ((range_of_block w b ≢ old.range) × (f b ≡ old.candidate b)))
+    → ((b : ℕ) → ((range_of_block w b ≡ old.range) × (g b ≡ false)) ⊎ ((range_of_block w b ≢ old.range) × (g b ≡ old.candidate b))) → (b : ℕ) → f b ≡ g b
 same_candidates w old f g one two b = ⊎_elim
-    (λ (out : (range_of w b ≡ old.range) × (f b ≡ false)). ⊎_elim
-    (λ (out' : (range_of w b ≡ old.range) × (g b ≡ false)). out.1 ∙ sym out'.1)
-    (λ (in' : (range_of w b ≢ old.range) × (g b ≡ old.candidate b)). absurd (in'.0 out.0))
+    (λ (out : (range_of_block w b ≡ old.range) × (f b ≡ false)). ⊎_elim
+    (λ (out' : (range_of_block w b ≡ old.range) × (g b ≡ false)). out.1 ∙ sym out'.1)
+    (λ (in' : (range_of_block w b ≢ old.range) × (g b ≡ old.candidate b)). absurd (in'.0 out.0))
     (two b))
-    (λ (in1 : (range_of w b ≢ old.range) × (f b ≡ old.candidate b)). ⊎_elim
-    (λ (out' : (range_of w b ≡ old.range) × (g b ≡ false)). absurd (in1.0 out'.0))
-    (λ (in' : (range_of w b ≢ old.range) × (g b ≡ old.candidate b)). in1.1 ∙ sym in'.1)
+    (λ (in1 : (range_of_block w b ≢ old.range) × (f b ≡ old.candidate b)). ⊎_elim
+    (λ (out' : (range_of_block w b ≡ old.range) × (g b ≡ false)). absurd (in1.0 out'.0))
+    (λ (in' : (range_of_block w b ≢ old.range) × (g b ≡ old.candidate b)). in1.1 ∙ sym in'.1)
     (two b))
     (one b)
 
-module _ (w : Board) (old : TableScan) where
-  empty_held : {A : Type 0} → (x : Spot) → old.held ≡ None → old.held ≡ Some x → A
+module _ (w : IndexView) (old : TableScan) where
+  empty_held : {A : Type 0} → (x : TuplePlace) → old.held ≡ None → old.held ≡ Some x → A
   empty_held x empty held = absurd (none-some _ (sym empty ∙ held))
 
-  keeps_or_not : {A : Type 0} → (x y : Spot) (t u : Tuple) → old.held ≡ Some x → old.held ≡ Some y → w.tuple x ≡ Some t → w.tuple y ≡ Some u → IsTrue (old.keeps old.at t) → old.keeps old.at u ≡ false → A
-  keeps_or_not x y t u one two here there keeps drops = absurd (false≢true (sym drops ∙ ap (old.keeps old.at) (sym (same_there w old x y t u one two here there)) ∙ keeps))
+  keeps_or_not : {A : Type 0} → (x y : TuplePlace) (t u : IndexTuple) → old.held ≡ Some x → old.held ≡ Some y → w.tuple x ≡ Some t → w.tuple y ≡ Some u
+      → IsTrue (old.keeps old.at t) → old.keeps old.at u ≡ false → A
+  keeps_or_not x y t u one two here there keeps drops =
+      absurd (false≢true (sym drops ∙ ap (old.keeps old.at) (sym (same_there w old x y t u one two here there)) ∙ keeps))
 
-  gone_or_there : {A : Type 0} → (x y : Spot) (t : Tuple) → old.held ≡ Some x → old.held ≡ Some y → IsGone w old.range x → w.tuple y ≡ Some t → t.range ≡ old.range → A
+  gone_or_there : {A : Type 0} → (x y : TuplePlace) (t : IndexTuple) → old.held ≡ Some x → old.held ≡ Some y → IsGone w old.range x → w.tuple y ≡ Some t
+      → t.range ≡ old.range → A
   gone_or_there x y t one two gone there of = absurd (gone t (ap w.tuple (same_held old.held x y one two) ∙ there) of)
 
   pub judge_once : (p q : TableScan) → JudgeStep w old p → JudgeStep w old q → p ≡ q
-  judge_once _ _ (JudgeMap x empty named) (JudgeMap y empty' named') = λ i. record old { held = Some (spot_of w old.range x y named named' i) }
+  judge_once _ _ (JudgeMap x empty named) (JudgeMap y empty' named') = λ i. record old { held = Some (place_of w old.range x y named named' i) }
   judge_once _ _ (JudgeMap x empty named) (JudgeNoEntry empty' none) = absurd (none-some _ (sym none ∙ named))
   judge_once _ _ (JudgeMap x empty named) (JudgeGone y held gone) = empty_held y empty held
   judge_once _ _ (JudgeMap x empty named) (JudgeKeeps y t held stands keeps) = empty_held y empty held
@@ -103,16 +111,20 @@ module _ (w : Board) (old : TableScan) where
   judge_once _ _ (JudgeKeeps x t held stands keeps) (JudgeNoEntry empty none) = empty_held x empty held
   judge_once _ _ (JudgeKeeps x t held stands keeps) (JudgeGone y held' gone) = gone_or_there y x t held' held gone stands.0 stands.1
   judge_once _ _ (JudgeKeeps x t held stands keeps) (JudgeKeeps y u held' stands' keeps') = refl
-  judge_once _ _ (JudgeKeeps x t held stands keeps) (JudgeDrops y u candidate held' stands' drops excludes others) = keeps_or_not x y t u held held' stands.0 stands'.0 keeps drops
+  judge_once _ _ (JudgeKeeps x t held stands keeps) (JudgeDrops y u candidate held' stands' drops excludes others) =
+      keeps_or_not x y t u held held' stands.0 stands'.0 keeps drops
   judge_once _ _ (JudgeDrops x t candidate held stands drops excludes others) (JudgeMap y empty named) = empty_held x empty held
   judge_once _ _ (JudgeDrops x t candidate held stands drops excludes others) (JudgeNoEntry empty none) = empty_held x empty held
   judge_once _ _ (JudgeDrops x t candidate held stands drops excludes others) (JudgeGone y held' gone) = gone_or_there y x t held' held gone stands.0 stands.1
-  judge_once _ _ (JudgeDrops x t candidate held stands drops excludes others) (JudgeKeeps y u held' stands' keeps) = keeps_or_not y x u t held' held stands'.0 stands.0 keeps drops
+  judge_once _ _ (JudgeDrops x t candidate held stands drops excludes others) (JudgeKeeps y u held' stands' keeps) =
+      keeps_or_not y x u t held' held stands'.0 stands.0 keeps drops
   judge_once _ _ (JudgeDrops x t candidate held stands drops excludes others) (JudgeDrops y u candidate' held' stands' drops' excludes' others') =
       λ i. record old { range = suc old.range; held = None; candidate = λ b. same_candidates w old candidate candidate' others others' b i }
 
-pub reads_once : (w : TableState) (scan : TableScan) (m n : ℕ) (f g : ℕ → ℕ → Bool) → ReadsPage w scan m f → ReadsPage w scan n g → (m ≡ n) × ((b k : ℕ) → f b k ≡ g b k)
-reads_once w scan m n f g one two = (same, λ b k. same_test (f b k) (g b k) (λ has. finds f g m n one two same b k has) (λ has. finds g f n m two one (sym same) b k has))
+pub reads_once : (w : TableState) (scan : TableScan) (m n : ℕ) (f g : ℕ → ℕ → Bool) → ReadsPage w scan m f → ReadsPage w scan n g
+    → (m ≡ n) × ((b k : ℕ) → f b k ≡ g b k)
+reads_once w scan m n f g one two =
+    (same, λ b k. same_test (f b k) (g b k) (λ has. finds f g m n one two same b k has) (λ has. finds g f n m two one (sym same) b k has))
   where
     both : (a b : ℕ) → a ≤ b → b ≤ a → a ≡ b
     both a b le ge = omega arith
@@ -125,18 +137,22 @@ reads_once w scan m n f g one two = (same, λ b k. same_test (f b k) (g b k) (λ
         (λ (before : IsTrue (scan.found b k)). two.keeps b k before)
         (λ (here : (b ≡ m) × ((r : Row) × (w.row b k ≡ Some r) × IsTrue (scan.sees b k) × IsTrue (scan.matches r))).
         let at : b ≡ n = here.0 ∙ same in
-        subst (λ c. IsTrue (g c k)) (sym at) (two.page k here.1.0 (ap (λ c. w.row c k) (sym at) ∙ here.1.1) (subst (λ c. IsTrue (scan.sees c k)) at here.1.2) here.1.3))
+        subst (λ c. IsTrue (g c k)) (sym at)
+        (two.page k here.1.0 (ap (λ c. w.row c k) (sym at) ∙ here.1.1) (subst (λ c. IsTrue (scan.sees c k)) at here.1.2) here.1.3))
         (one.only b k has)
 
 -- a scan that replies has read all of its candidates
-replied_reads : (w : TableState) (scan : TableScan) → Onward w (Scans scan) Resting → scan.explains ≡ false → (b : ℕ) → IsTrue (scan.candidate b) → b < scan.read
-replied_reads w _ (JudgesNext scan _ inside all empty more) reads b candidate = replied_reads w (record scan { at = suc scan.at; range = 0 }) more reads b candidate
+replied_reads : (w : TableState) (scan : TableScan) → Onward w (Scans scan) Resting → scan.explains ≡ false → (b : ℕ) → IsTrue (scan.candidate b)
+    → b < scan.read
+replied_reads w _ (JudgesNext scan _ inside all empty more) reads b candidate =
+    replied_reads w (record scan { at = suc scan.at; range = 0 }) more reads b candidate
 replied_reads w _ (Scanned scan all done) reads b candidate = ⊎_elim
     (λ (explains : scan.explains ≡ true). absurd (false≢true (sym reads ∙ explains)))
     (λ (read : (c : ℕ) → IsTrue (scan.candidate c) → c < scan.read). read b candidate)
     done
 
-pub replied_finds : (w : TableState) (s b k : ℕ) (scan : TableScan) → IsTableKept w → w.task s ≡ Scans scan → Onward w (Scans scan) Resting → scan.explains ≡ false → IsTrue (scan.sees b k)
+pub replied_finds : (w : TableState) (s b k : ℕ) (scan : TableScan) → IsTableKept w → w.task s ≡ Scans scan → Onward w (Scans scan) Resting
+    → scan.explains ≡ false → IsTrue (scan.sees b k)
     → (r : Row) × (w.row b k ≡ Some r) × (IsTrue (scan.matches r) → IsTrue (scan.found b k))
 replied_finds w s b k scan kept is onward reads sees =
     let row = kept.scans s scan is b k sees in (

@@ -1,11 +1,16 @@
 -- The rows that scans of a table see stay within their reach, with any number of indexes; and whole runs of the table's steps.
-use Rattle.std.proofs.Common.{◌≡◌, ◌≢◌, ◌⊎◌, inl, inr, ⊎_elim, ℕ, ◌+◌, ◌≤◌, ◌<◌, max, Option, Some, None, Bool, sym, ◌∙◌, ap, subst, arith, suc}
+use Rattle.std.proofs.Common.{◌≡◌, ◌≢◌, ◌⊎◌, inl, inr, ⊎_elim, ℕ, ◌+◌, ◌≤◌, ◌<◌, max, Option, Some, None, Bool, sym, ◌∙◌, ap, subst, arith, suc, rules}
 use Rattle.std.specs.Prelude.{refl, IsTrue, List}
 use Rattle.std.proofs.lemmas.Option.{same_Some, none-some}
 use Rattle.std.proofs.lemmas.Bool.{cases_eq}
 use Rattle.block_model.specs.declared.row.Row.{Row}
-use Rattle.table_coverage.specs.Table.{TableScan, Task, Resting, SweepsFrom, Scans, TableState, board_at}
-use Rattle.table_coverage.specs.TableSteps.{TaskTurns, OnlyTurns, BeginsWith, Summarize, SummarizeOne, Desummarize, Vacuum, SeesPlace, JudgeStep, JudgeMap, JudgeNoEntry, JudgeGone, JudgeKeeps, JudgeDrops, ReadsPage, Fails, Does, PutsRow, AsksSummary, InsertGoes, InsertCompletes, RefusesInsert, TakesLock, MaintainGoes, MaintainCompletes, RefusesMaintain, RefusesVacuum, PrunesBlock, SweepsPage, RestartsIndex, BeginsScan, Judges, ReadsBlock, RefusesScan, Blocked, Transacts, Onward, Stays, ToAsk, ToIndex, Inserted, ToRange, NextIndex, Pruned, ToPage, Swept, JudgesNext, Scanned, Settles, GoesOn, GivesLock, TableStep, TableRun, TableDone, TableNext}
+use Rattle.table_coverage.specs.Table.{TableScan, Task, Resting, SweepsFrom, Scans, TableState, index_view_at}
+use Rattle.table_coverage.specs.TableSteps.{TaskTurns, OnlyTurns, BeginsWith, Summarize, SummarizeOne, Desummarize, Vacuum, SeesPlace, JudgeStep, JudgeMap}
+use Rattle.table_coverage.specs.TableSteps.{JudgeNoEntry, JudgeGone, JudgeKeeps, JudgeDrops, ReadsPage, Fails, Does, PutsRow, AsksSummary, InsertGoes}
+use Rattle.table_coverage.specs.TableSteps.{InsertCompletes, RefusesInsert, TakesLock, MaintainGoes, MaintainCompletes, RefusesMaintain, RefusesVacuum}
+use Rattle.table_coverage.specs.TableSteps.{PrunesBlock, SweepsPage, RestartsIndex, BeginsScan, Judges, ReadsBlock, RefusesScan, Blocked, Transacts, Onward}
+use Rattle.table_coverage.specs.TableSteps.{Stays, ToAsk, ToIndex, Inserted, ToRange, NextIndex, Pruned, ToPage, Swept, JudgesNext, Scanned, Settles, GoesOn}
+use Rattle.table_coverage.specs.TableSteps.{GivesLock, TableStep, TableRun, TableDone, TableNext}
 use Rattle.table_coverage.specs.TableCovered.{SeesRows, IsTableKept}
 use Rattle.table_coverage.proofs.TableRuns.{dropped_spares}
 use Rattle.table_coverage.proofs.TableSettled.{between_kept, indexes_kept}
@@ -42,10 +47,7 @@ same_leaves s w v old new turns rows blocks = record {
 does_leaves : (s : ℕ) (w v : TableState) → Does s w v → Leaves s w v
 does_leaves s w v (PutsRow b k r place turns takes) = record {
   others = turns.others;
-  rows = λ n c j q other there sees. ⊎_elim
-      (λ (at : (c ≡ b) × (j ≡ k)). absurd (none-some _ (sym place.vacant.1 ∙ ap (λ m. w.row m k) (sym at.0) ∙ ap (λ m. w.row c m) (sym at.1) ∙ there)))
-      (λ (same : v.row c j ≡ w.row c j). same ∙ there)
-      (takes.others c j);
+  rows = search rules;
   blocks = subst (λ m. w.blocks ≤ m) (sym takes.blocks) (grown w.blocks b);
   from = λ c j q there. ⊎_elim
       (λ (at : (c ≡ b) × (j ≡ k)). inr (subst (λ m. c < m) (sym takes.blocks) (subst (λ m. m < max w.blocks (b + 1)) (sym at.0) (inside w.blocks b))))
@@ -69,15 +71,9 @@ does_leaves s w v (RefusesMaintain job at range phase refused turns stepped pass
 does_leaves s w v (RefusesVacuum old vacuuming turns given rows indexes) = same_leaves s w v _ _ turns rows.row rows.blocks
 does_leaves s w v (PrunesBlock extent next dropped inside spared turns drops) = record {
   others = turns.others;
-  rows = λ n b k r other there sees. ⊎_elim
-      (λ (same : v.row b k ≡ w.row b k). same ∙ there)
-      (λ (dead : IsTrue (dropped b k)). absurd (spared n b k other dead (inr sees)))
-      (drops.rows b k);
+  rows = search rules;
   blocks = subst (λ m. w.blocks ≤ m) (sym drops.blocks) (self w.blocks);
-  from = λ b k r there. ⊎_elim
-      (λ (same : v.row b k ≡ w.row b k). inl (sym same ∙ there))
-      (λ (dead : IsTrue (dropped b k)). absurd (none-some _ (sym (drops.gone b k dead) ∙ there)))
-      (drops.rows b k);
+  from = search rules;
 }
   where
     self : (n : ℕ) → n ≤ n
@@ -93,7 +89,8 @@ does_leaves s w v (RefusesScan scan t turns how) = ⊎_elim
     how
 does_leaves s w v (Blocked task blocked turns only) = same_leaves s w v _ _ turns only.rows.row only.rows.blocks
 does_leaves s w v (Transacts counts resting few same) =
-    same_leaves s w v Resting Resting (record { was = resting; now = ap (λ (u : TableState). u.task s) same ∙ resting; others = λ n. inr (ap (λ (u : TableState). u.task n) same) })
+    same_leaves s w v Resting Resting
+    (record { was = resting; now = ap (λ (u : TableState). u.task s) same ∙ resting; others = λ n. inr (ap (λ (u : TableState). u.task n) same) })
     (λ b k. ap (λ (u : TableState). u.row b k) same) (ap (λ (u : TableState). u.blocks) same)
 
 -- what a scan sees, where rows are the same
@@ -102,7 +99,7 @@ rows_same w v rows scan seen b k sees = let row = seen b k sees in (row.0, rows 
 
 module _ (s : ℕ) (w v : TableState) (kept : IsTableKept w) where
   -- a judgement leaves out only what doesn't match
-  judged_seen : (old new : TableScan) → w.task s ≡ Scans old → old.at < w.indexes → JudgeStep (board_at old.at w) old new → SeesRows w new
+  judged_seen : (old new : TableScan) → w.task s ≡ Scans old → old.at < w.indexes → JudgeStep (index_view_at old.at w) old new → SeesRows w new
   judged_seen old _ was inside (JudgeMap x empty named) = kept.scans s old was
   judged_seen old _ was inside (JudgeNoEntry empty none) = kept.scans s old was
   judged_seen old _ was inside (JudgeGone x held gone) = kept.scans s old was
@@ -114,11 +111,16 @@ module _ (s : ℕ) (w v : TableState) (kept : IsTableKept w) where
         λ matches. ⊎_elim
             (λ (found : IsTrue (old.found b k)). inl found)
             (λ (left : IsTrue (old.candidate b) × (old.read ≤ b)).
-            inr (dropped_spares s w v kept.indexes old.at inside old x t candidate was inside held stands.0 stands.1 excludes others b k row.0 row.1 sees matches left.0, left.1))
+            inr (
+              dropped_spares s w v kept.indexes old.at inside old x t candidate was inside held stands.0 stands.1 excludes others
+                  b k row.0 row.1 sees matches left.0,
+              left.1,
+            ))
             (row.2 matches),
       )
 
-  read_seen : (scan : TableScan) (next : ℕ) (found : ℕ → ℕ → Bool) → w.task s ≡ Scans scan → ReadsPage w scan next found → SeesRows w (record scan { read = next + 1; found = found })
+  read_seen : (scan : TableScan) (next : ℕ) (found : ℕ → ℕ → Bool) → w.task s ≡ Scans scan → ReadsPage w scan next found
+      → SeesRows w (record scan { read = next + 1; found = found })
   read_seen scan next found was reads b k sees =
       let row = kept.scans s scan was b k sees in (
         row.0,
@@ -126,7 +128,9 @@ module _ (s : ℕ) (w v : TableState) (kept : IsTableKept w) where
         λ matches. ⊎_elim
             (λ (before : IsTrue (scan.found b k)). inl (reads.keeps b k before))
             (λ (left : IsTrue (scan.candidate b) × (scan.read ≤ b)). ⊎_elim
-            (λ (is : next ≡ b). inl (subst (λ n. IsTrue (found n k)) is (reads.page k row.0 (ap (λ n. w.row n k) is ∙ row.1) (subst (λ n. IsTrue (scan.sees n k)) (sym is) sees) matches)))
+            (λ (is : next ≡ b).
+            inl (subst (λ n. IsTrue (found n k)) is
+            (reads.page k row.0 (ap (λ n. w.row n k) is ∙ row.1) (subst (λ n. IsTrue (scan.sees n k)) (sym is) sees) matches)))
             (λ (other : next ≢ b). inr (left.0, after next b (reads.first b left.0 left.1) other))
             (cases_eq next b))
             (row.2 matches),
@@ -157,20 +161,26 @@ module _ (s : ℕ) (w v : TableState) (kept : IsTableKept w) where
   does_own (SweepsPage at page turns stepped sweeps) = own _ turns.now refl
   does_own (RestartsIndex at turns only) = own _ turns.now refl
   does_own (BeginsScan scan begins turns only) = own_is scan turns.now (λ b k sees.
-      let row = begins.sees b k sees in
-      (row.0, only.rows.row b k ∙ row.1, λ matches. inr ((begins.candidate b).1 (kept.rows_below b k row.0 row.1), subst (λ m. m ≤ b) (sym begins.read) (least b))))
+      let row = begins.sees b k sees in (
+        row.0,
+        only.rows.row b k ∙ row.1,
+        λ matches. inr
+            ((begins.candidate b).1 (kept.rows_below b k row.0 row.1), subst (λ m. m ≤ b) (sym begins.read) (least b)),
+      ))
     where
       least : (n : ℕ) → 0 ≤ n
       least n = omega arith
   does_own (Judges old new inside low step turns only) = own_is new turns.now (rows_same w v only.rows.row new (judged_seen old new turns.was inside step))
   does_own (ReadsBlock scan next found reads turns only) =
-      own_is (record scan { read = next + 1; found = found }) turns.now (rows_same w v only.rows.row (record scan { read = next + 1; found = found }) (read_seen scan next found turns.was reads))
+      own_is (record scan { read = next + 1; found = found }) turns.now
+      (rows_same w v only.rows.row (record scan { read = next + 1; found = found }) (read_seen scan next found turns.was reads))
   does_own (RefusesScan scan t turns how) = own _ turns.now refl
   does_own (Blocked task blocked turns only) = λ scan is. rows_same w v only.rows.row scan (kept.scans s scan (turns.was ∙ sym turns.now ∙ is))
   does_own (Transacts counts resting few same) = own Resting (ap (λ (u : TableState). u.task s) same ∙ resting) refl
 
   -- with what a step leaves to others
-  all_seen : Leaves s w v → ((scan : TableScan) → v.task s ≡ Scans scan → SeesRows v scan) → (n : ℕ) (scan : TableScan) → v.task n ≡ Scans scan → SeesRows v scan
+  all_seen : Leaves s w v → ((scan : TableScan) → v.task s ≡ Scans scan → SeesRows v scan) → (n : ℕ) (scan : TableScan) → v.task n ≡ Scans scan
+      → SeesRows v scan
   all_seen leaves mine n scan is = ⊎_elim
       (λ (at : n ≡ s). mine scan (ap v.task (sym at) ∙ is))
       (λ (other : n ≢ s). ⊎_elim
@@ -192,7 +202,8 @@ module _ (s : ℕ) (w v : TableState) (kept : IsTableKept w) where
       within b n m low more = omega arith
 
 -- where a scan goes on it keeps what it sees
-onward_seen : (w : TableState) (old new : Task) → Onward w old new → ((q : TableScan) → old ≡ Scans q → SeesRows w q) → (q : TableScan) → new ≡ Scans q → SeesRows w q
+onward_seen : (w : TableState) (old new : Task) → Onward w old new → ((q : TableScan) → old ≡ Scans q → SeesRows w q) → (q : TableScan) → new ≡ Scans q
+    → SeesRows w q
 onward_seen w _ _ (Stays task has) before q is = before q is
 onward_seen w _ _ (ToAsk b k r at inside asks) before q is = absurd (none-some _ (ap scan_of is))
 onward_seen w _ _ (ToIndex b k r at inside not) before q is = absurd (none-some _ (ap scan_of is))
@@ -203,7 +214,8 @@ onward_seen w _ _ (Pruned extent next new all more) before q is = onward_seen w 
 onward_seen w _ _ (ToPage at from m p next) before q is = absurd (none-some _ (ap scan_of is))
 onward_seen w _ _ (Swept at from none some) before q is = absurd (none-some _ (ap scan_of is))
 onward_seen w _ _ (JudgesNext scan new inside all empty more) before q is =
-    onward_seen w (Scans (record scan { at = suc scan.at; range = 0 })) new more (λ p e. subst (SeesRows w) (same_Some _ _ (ap scan_of e)) (before scan refl)) q is
+    onward_seen w (Scans (record scan { at = suc scan.at; range = 0 })) new more
+    (λ p e. subst (SeesRows w) (same_Some _ _ (ap scan_of e)) (before scan refl)) q is
 onward_seen w _ _ (Scanned scan all done) before q is = absurd (none-some _ (ap scan_of is))
 
 settles_leaves : (s : ℕ) (w v : TableState) → Settles s w v → Leaves s w v

@@ -2,72 +2,33 @@
 use Rattle.std.proofs.Common.{◌≡◌, ◌≢◌, ◌⊎◌, inl, inr, ⊎_elim, ℕ, ◌<◌, sym, ◌∙◌, ap, subst, suc}
 use Rattle.std.specs.Prelude.{refl}
 use Rattle.std.proofs.lemmas.Bool.{cases_eq}
-use Rattle.block_model.specs.declared.row.Row.{Row}
-use Rattle.coverage.specs.Board.{Board, range_of}
-use Rattle.coverage.specs.Statements.{Hand, Empty, Phase, NotBuilding, Statement, Idle, Inserting, Maintaining, Holding, Scanning}
-use Rattle.coverage.specs.IsCovered.{IsKept}
-use Rattle.coverage.specs.Steps.{InsertStep, InsertHand, InsertNoEntry, InsertCopies, InsertUnchanged, InsertSwap, InsertSet, InsertDrop, GrowthStep, Grow, CountLeftOver, Count, Flag, EvacuatePut, EvacuateSet, EvacuateDrop, EvacuateSweep, Turn, SummariseStep, LookMap, LookGone, IsFinal, Found, ReadNoEntry, GrowMap, Put, Set, Extent, Pass, Unite, UniteCopies, SwapFinal, SetFinal, DropOld, DesummariseStep, ClearMap, ClearNone, Clear, ClearAgain, DropCleared, BeginRange, EndScan, Counts}
-use Rattle.table_coverage.specs.Table.{Job, EachRange, OneRange, WholeRanges, Desummarising, TableScan, Task, Resting, Asks, Inserts, Considers, Maintains, SweepsFrom, Restarts, Scans, TableState, pick, inserting_of, scan_at, seen_by, index_state, board_at}
-use Rattle.table_coverage.specs.TableSteps.{TaskTurns, OnlyTurns, JobStep, Fails, Does, PutsRow, AsksSummary, InsertGoes, InsertCompletes, RefusesInsert, TakesLock, MaintainGoes, MaintainCompletes, RefusesMaintain, RefusesVacuum, PrunesBlock, SweepsPage, RestartsIndex, BeginsScan, Judges, ReadsBlock, RefusesScan, Blocked, Transacts, Onward, Stays, ToAsk, ToIndex, Inserted, ToRange, NextIndex, Pruned, ToPage, Swept, JudgesNext, Scanned, Settles, GoesOn, GivesLock, TableStep}
+use Rattle.coverage.specs.IndexView.{IndexView}
+use Rattle.coverage.specs.Statements.{Empty, Phase, NotBuilding, Statement, Idle, Inserting, Maintaining, Holding, Scanning}
+use Rattle.coverage.specs.IsCovered.{IsIndexKept}
+use Rattle.coverage.specs.Steps.{BeginRange, EndScan, Counts}
+use Rattle.table_coverage.specs.Table.{Job, EachRange, OneRange, WholeRanges, Desummarising, TableScan, Task, Resting, Asks, Inserts, Considers, Maintains}
+use Rattle.table_coverage.specs.Table.{SweepsFrom, Restarts, Scans, TableState, pick, inserting_of, scan_at, seen_by, index_state, index_view_at}
+use Rattle.table_coverage.specs.TableSteps.{TaskTurns, OnlyTurns, JobStep, Fails, Does, PutsRow, AsksSummary, InsertGoes, InsertCompletes, RefusesInsert}
+use Rattle.table_coverage.specs.TableSteps.{TakesLock, MaintainGoes, MaintainCompletes, RefusesMaintain, RefusesVacuum, PrunesBlock, SweepsPage, RestartsIndex}
+use Rattle.table_coverage.specs.TableSteps.{BeginsScan, Judges, ReadsBlock, RefusesScan, Blocked, Transacts, Onward, Stays, ToAsk, ToIndex, Inserted, ToRange}
+use Rattle.table_coverage.specs.TableSteps.{NextIndex, Pruned, ToPage, Swept, JudgesNext, Scanned, Settles, GoesOn, GivesLock, TableStep}
 use Rattle.table_coverage.specs.TableCovered.{AreIndexesKept}
-use Rattle.coverage.proofs.Runs.{step_kept}
-use Rattle.coverage.proofs.InsertSteps.{hand_right}
-use Rattle.table_coverage.proofs.Views.{pick_same, pick_other, held_none, hand_below, turned_at, reads_at}
-use Rattle.table_coverage.proofs.TableRuns.{vacuuming_holds, maintained_holds, refused_loose, known, steps, only_rests, puts_row, insert_goes, insert_completes, refuses_insert, takes_lock, maintains, refuses_maintain, gives_lock, prunes, sweeps_page, begins_scan, ends_scan, judges, reads_block}
+use Rattle.coverage.proofs.Runs.{step_kept, insert_keeps, summarise_keeps, desummarise_keeps}
+use Rattle.table_coverage.proofs.Views.{pick_same, pick_other, held_none, on_index_below, turned_at, reads_at}
+use Rattle.table_coverage.proofs.TableRuns.{vacuuming_holds, maintained_holds, refused_loose, known, steps, only_rests, puts_row, insert_goes, insert_completes}
+use Rattle.table_coverage.proofs.TableRuns.{refuses_insert, takes_lock, maintains, refuses_maintain, gives_lock, prunes, sweeps_page, begins_scan, ends_scan}
+use Rattle.table_coverage.proofs.TableRuns.{judges, reads_block}
 
-insert_right : (s b k : ℕ) (r : Row) (w v : Board) (h : Hand) (e : Statement) → InsertStep s b k r w v h e → v.right ≡ w.right
-insert_right s b k r w v _ _ (InsertHand old new step) = hand_right s (range_of w b) w v old new step
-insert_right s b k r w v _ _ (InsertNoEntry none reads) = reads.looks.right
-insert_right s b k r w v _ _ (InsertCopies x old new stands added changes reads) = reads.looks.right
-insert_right s b k r w v _ _ (InsertUnchanged x t stands added free reads) = reads.looks.right
-insert_right s b k r w v _ _ (InsertSwap x old new verdict swap) = swap.right
-insert_right s b k r w v _ _ (InsertSet x y old new sets same) = sets.right
-insert_right s b k r w v _ _ (InsertDrop x drops) = drops.right
-
-growth_right : (s range : ℕ) (w v : Board) (old new : Phase) → GrowthStep s range w v old new → v.right ≡ w.right
-growth_right s range w v _ _ (Grow grows free meta turns) = turns.looks.right
-growth_right s range w v _ _ (CountLeftOver grows meta counts) = counts.looks.right
-growth_right s range w v _ _ (Count counts) = counts.looks.right
-growth_right s range w v _ _ (Flag grows free turns) = turns.looks.right
-growth_right s range w v _ _ (EvacuatePut x y t grows next named free verdict puts these) = puts.right
-growth_right s range w v _ _ (EvacuateSet m x y t u sets same) = sets.right
-growth_right s range w v _ _ (EvacuateDrop m x drops) = drops.right
-growth_right s range w v _ _ (EvacuateSweep x t grows next unnamed sweeps) = sweeps.right
-growth_right s range w v _ _ (Turn grows empty free meta turns) = turns.looks.right
-
-summarise_right : (s range : ℕ) (w v : Board) (old : Phase) (new : Statement) → SummariseStep s range w v old new → v.right ≡ w.right
-summarise_right s range w v _ _ (LookMap x named reads) = reads.looks.right
-summarise_right s range w v _ _ (LookGone x gone reads) = reads.looks.right
-summarise_right s range w v _ _ (IsFinal x t stands final reads) = reads.looks.right
-summarise_right s range w v _ _ (Found x t stands flag reads) = reads.looks.right
-summarise_right s range w v _ _ (ReadNoEntry none reads) = reads.looks.right
-summarise_right s range w v _ _ (GrowMap old new step) = growth_right s range w v old new step
-summarise_right s range w v _ _ (Put x t of flag size long verdict puts these) = puts.right
-summarise_right s range w v _ _ (Set x sets none) = sets.right
-summarise_right s range w v _ _ (Extent extent result is reads) = reads.looks.right
-summarise_right s range w v _ _ (Pass extent next result wider below more block reads) = reads.looks.right
-summarise_right s range w v _ _ (Unite extent next result old new all step) = hand_right s range w v old new step
-summarise_right s range w v _ _ (UniteCopies extent next result x old new all stands united reads) = reads.looks.right
-summarise_right s range w v _ _ (SwapFinal p x old new verdict swap) = swap.right
-summarise_right s range w v _ _ (SetFinal p x y old new sets same) = sets.right
-summarise_right s range w v _ _ (DropOld x drops) = drops.right
-
-desummarise_right : (s range : ℕ) (w v : Board) (old : Phase) (new : Statement) → DesummariseStep s range w v old new → v.right ≡ w.right
-desummarise_right s range w v _ _ (ClearMap x named reads) = reads.looks.right
-desummarise_right s range w v _ _ (ClearNone none reads) = reads.looks.right
-desummarise_right s range w v _ _ (Clear x verdict clears these) = clears.right
-desummarise_right s range w v _ _ (ClearAgain x verdict reads) = reads.looks.right
-desummarise_right s range w v _ _ (DropCleared x drops) = drops.right
-
-job_right : (job : Job) (s range : ℕ) (w v : Board) (old : Phase) (new : Statement) → JobStep job s range w v old new → v.right ≡ w.right
-job_right (EachRange extent) s range w v old new step = summarise_right s range w v old new step
-job_right (OneRange extent only) s range w v old new step = summarise_right s range w v old new step
-job_right (WholeRanges extent) s range w v old new step = summarise_right s range w v old new step
-job_right (Desummarising only) s range w v old new step = desummarise_right s range w v old new step
+job_lock_kept : (job : Job) (s range : ℕ) (w v : IndexView) (old : Phase) (new : Statement) → JobStep job s range w v old new
+    → v.summarise_lock ≡ w.summarise_lock
+job_lock_kept (EachRange extent) s range w v old new step = (summarise_keeps s range w v old new step).1
+job_lock_kept (OneRange extent only) s range w v old new step = (summarise_keeps s range w v old new step).1
+job_lock_kept (WholeRanges extent) s range w v old new step = (summarise_keeps s range w v old new step).1
+job_lock_kept (Desummarising only) s range w v old new step = (desummarise_keeps s range w v old new step).1
 
 module _ (s : ℕ) (w v : TableState) (kept : AreIndexesKept w) (i : ℕ) (below : i < w.indexes) where
   -- want of memory ends a scan, and then its transaction fails
-  scan_fails : (scan : TableScan) (t : ℕ) → TaskTurns s w v (Scans scan) Resting → Fails w v t → IsKept (index_state i v)
+  scan_fails : (scan : TableScan) (t : ℕ) → TaskTurns s w v (Scans scan) Resting → Fails w v t → IsIndexKept (index_state i v)
   scan_fails scan t turns fails =
       let still : TableState = record v { counts = w.counts } in
       let turned : TaskTurns s w still (Scans scan) Resting = record { was = turns.was; now = turns.now; others = turns.others } in
@@ -79,27 +40,34 @@ module _ (s : ℕ) (w v : TableState) (kept : AreIndexesKept w) (i : ℕ) (below
           counts = λ n. refl;
         };
         indexes = record { index = fails.indexes.index };
-        right = fails.right;
+        summarise_lock = fails.summarise_lock;
       } in
-      step_kept s (index_state i still) (index_state i v) (ends_scan s w still kept i below scan turned only) (Counts v.counts (λ n counted. inl (fails.fewer n counted)) refl)
+      step_kept s (index_state i still) (index_state i v) (ends_scan s w still kept i below scan turned only)
+      (Counts v.counts (λ n counted. inl (fails.fewer n counted)) refl)
 
-  pub does_kept : Does s w v → IsKept (index_state i v)
+  pub does_kept : Does s w v → IsIndexKept (index_state i v)
   does_kept (PutsRow b k r place turns takes) = puts_row s w v kept i below b k r place turns takes
   does_kept (AsksSummary b k r at turns only) = only_rests s w v kept i below (Asks b k r at) (Inserts b k r at Empty) turns only refl
   does_kept (InsertGoes b k r at old new turns stepped step) =
-      insert_goes s w v kept i below b k r at old new turns stepped step (insert_right s b k r (board_at at w) (board_at at v) old (Inserting b k r new) step)
+      insert_goes s w v kept i below b k r at old new turns stepped step
+      (insert_keeps s b k r (index_view_at at w) (index_view_at at v) old (Inserting b k r new) step).1
   does_kept (InsertCompletes b k r at old turns stepped step) =
-      insert_completes s w v kept i below b k r at old turns stepped step (insert_right s b k r (board_at at w) (board_at at v) old Idle step)
+      insert_completes s w v kept i below b k r at old turns stepped step (insert_keeps s b k r (index_view_at at w) (index_view_at at v) old Idle step).1
   does_kept (RefusesInsert b k r old refused turns fails) = refuses_insert s w v kept i below b k r old refused turns fails
   does_kept (TakesLock first begins turns free held rows indexes) = takes_lock s w v kept i below first begins turns free held rows indexes
   does_kept (MaintainGoes job at range old new turns stepped step) =
-      maintains s w v kept i below job at range old (Maintains job at range new) (Maintaining range new) turns stepped step (pick_same at (Maintaining range new) Holding)
-      (λ j apart. pick_other j at (Maintaining range new) Holding apart) (job_right job s range (board_at at w) (board_at at v) old (Maintaining range new) step)
+      maintains s w v kept i below job at range old (Maintains job at range new) (Maintaining range new) turns stepped step
+      (pick_same at (Maintaining range new) Holding)
+      (λ j apart.
+      pick_other j at (Maintaining range new) Holding apart) (job_lock_kept job s range (index_view_at at w) (index_view_at at v) old
+      (Maintaining range new) step)
   does_kept (MaintainCompletes job at range old turns stepped step) =
-      maintains s w v kept i below job at range old (Considers job at (suc range)) Holding turns stepped step refl (λ j apart. refl) (job_right job s range (board_at at w) (board_at at v) old Holding step)
+      maintains s w v kept i below job at range old (Considers job at (suc range)) Holding turns stepped step refl (λ j apart. refl)
+      (job_lock_kept job s range (index_view_at at w) (index_view_at at v) old Holding step)
   does_kept (RefusesMaintain job at range phase refused turns stepped passes) =
-      refuses_maintain s w v kept i below job at range phase (refused_loose (board_at at w) s range phase refused) turns stepped passes
-  does_kept (RefusesVacuum old vacuuming turns given rows indexes) = gives_lock s w v kept i below old (vacuuming_holds i old vacuuming) turns given rows indexes
+      refuses_maintain s w v kept i below job at range phase (refused_loose (index_view_at at w) s range phase refused) turns stepped passes
+  does_kept (RefusesVacuum old vacuuming turns given rows indexes) =
+      gives_lock s w v kept i below old (vacuuming_holds i old vacuuming) turns given rows indexes
   does_kept (PrunesBlock extent next dropped inside spared turns drops) = prunes s w v kept i below extent next dropped spared turns drops
   does_kept (SweepsPage at page turns stepped sweeps) = sweeps_page s w v kept i below at page turns stepped sweeps
   does_kept (RestartsIndex at turns only) = only_rests s w v kept i below (Restarts at) (Considers (WholeRanges w.blocks) at 0) turns only refl
@@ -131,7 +99,8 @@ does_layout s w v (RestartsIndex at turns only) = only.rows.layout.indexes
 does_layout s w v (BeginsScan scan begins turns only) = only.rows.layout.indexes
 does_layout s w v (Judges old new inside low step turns only) = only.rows.layout.indexes
 does_layout s w v (ReadsBlock scan next found reads turns only) = only.rows.layout.indexes
-does_layout s w v (RefusesScan scan t turns how) = ⊎_elim (λ (fails : Fails w v t). fails.layout.indexes) (λ (only : OnlyTurns w v). only.rows.layout.indexes) how
+does_layout s w v (RefusesScan scan t turns how) =
+    ⊎_elim (λ (fails : Fails w v t). fails.layout.indexes) (λ (only : OnlyTurns w v). only.rows.layout.indexes) how
 does_layout s w v (Blocked task blocked turns only) = only.rows.layout.indexes
 does_layout s w v (Transacts counts resting few same) = ap (λ (u : TableState). u.indexes) same
 
@@ -146,9 +115,15 @@ module _ (i : ℕ) (w : TableState) (below : i < w.indexes) where
   onward_view _ _ (Stays task has) = inl refl
   onward_view _ _ (ToAsk b k r at inside asks) = inl refl
   onward_view _ _ (ToIndex b k r at inside asks) = inl refl
-  onward_view _ _ (Inserted b k r at all) = inl (sym (ap (inserting_of b k r) (hand_below i at Empty (subst (λ n. i < n) (sym all) below))))
+  onward_view _ _ (Inserted b k r at all) = inl (sym (ap (inserting_of b k r) (on_index_below i at Empty (subst (λ n. i < n) (sym all) below))))
   onward_view _ _ (ToRange job at range has) = ⊎_elim
-      (λ (is : i ≡ at). inr (inl (range, refl, subst (λ m. pick m at (Maintaining range (NotBuilding Empty)) Holding ≡ Maintaining range (NotBuilding Empty)) (sym is) (pick_same at (Maintaining range (NotBuilding Empty)) Holding))))
+      (λ (is : i ≡ at).
+      inr (inl (
+        range,
+        refl,
+        subst (λ m. pick m at (Maintaining range (NotBuilding Empty)) Holding ≡ Maintaining range (NotBuilding Empty)) (sym is)
+            (pick_same at (Maintaining range (NotBuilding Empty)) Holding),
+      )))
       (λ (apart : i ≢ at). inl (pick_other i at (Maintaining range (NotBuilding Empty)) Holding apart))
       (cases_eq i at)
   onward_view _ _ (NextIndex extent at range done inside) = inl refl
@@ -158,14 +133,18 @@ module _ (i : ℕ) (w : TableState) (below : i < w.indexes) where
   onward_view _ _ (JudgesNext scan new inside all empty more) = moved (onward_view (Scans (record scan { at = suc scan.at; range = 0 })) new more)
     where
       view : seen_by i (Scans (record scan { at = suc scan.at; range = 0 })) ≡ seen_by i (Scans scan)
-      view = ap (λ h. Scanning (record (scan_at i scan) { held = h })) (held_none i (suc scan.at) 0 scan.held empty ∙ sym (held_none i scan.at scan.range scan.held empty))
+      view =
+          ap (λ h. Scanning (record (scan_at i scan) { held = h }))
+          (held_none i (suc scan.at) 0 scan.held empty ∙ sym (held_none i scan.at scan.range scan.held empty))
 
       moved : SeesOnward i (Scans (record scan { at = suc scan.at; range = 0 })) new → SeesOnward i (Scans scan) new
       moved sees = ⊎_elim
           (λ (same : seen_by i new ≡ seen_by i (Scans (record scan { at = suc scan.at; range = 0 }))). inl (same ∙ view))
-          (λ (other : ((range : ℕ) × (seen_by i (Scans (record scan { at = suc scan.at; range = 0 })) ≡ Holding) × (seen_by i new ≡ Maintaining range (NotBuilding Empty)))
+          (λ (other :
+          ((range : ℕ) × (seen_by i (Scans (record scan { at = suc scan.at; range = 0 })) ≡ Holding) × (seen_by i new ≡ Maintaining range (NotBuilding Empty)))
           ⊎ ((q : TableScan) × (seen_by i (Scans (record scan { at = suc scan.at; range = 0 })) ≡ Scanning (scan_at i q)) × (seen_by i new ≡ Idle))). ⊎_elim
-          (λ (begins : (range : ℕ) × (seen_by i (Scans (record scan { at = suc scan.at; range = 0 })) ≡ Holding) × (seen_by i new ≡ Maintaining range (NotBuilding Empty))).
+          (λ (begins : (range : ℕ) × (seen_by i (Scans (record scan { at = suc scan.at; range = 0 })) ≡ Holding) ×
+          (seen_by i new ≡ Maintaining range (NotBuilding Empty))).
           inr (inl (begins.0, sym view ∙ begins.1, begins.2)))
           (λ (ends : (q : TableScan) × (seen_by i (Scans (record scan { at = suc scan.at; range = 0 })) ≡ Scanning (scan_at i q)) × (seen_by i new ≡ Idle)).
           inr (inr (ends.0, sym view ∙ ends.1, ends.2)))
@@ -174,21 +153,23 @@ module _ (i : ℕ) (w : TableState) (below : i < w.indexes) where
   onward_view _ _ (Scanned scan all read) = inr (inr (scan, refl, refl))
 
 module _ (s : ℕ) (w v : TableState) (kept : AreIndexesKept w) (i : ℕ) (below : i < w.indexes) where
-  goes_on : (old new : Task) → Onward w old new → TaskTurns s w v old new → OnlyTurns w v → IsKept (index_state i v)
+  goes_on : (old new : Task) → Onward w old new → TaskTurns s w v old new → OnlyTurns w v → IsIndexKept (index_state i v)
   goes_on old new onward turns only = ⊎_elim
       (λ (same : seen_by i new ≡ seen_by i old). only_rests s w v kept i below old new turns only same)
       (λ (other : ((range : ℕ) × (seen_by i old ≡ Holding) × (seen_by i new ≡ Maintaining range (NotBuilding Empty)))
       ⊎ ((scan : TableScan) × (seen_by i old ≡ Scanning (scan_at i scan)) × (seen_by i new ≡ Idle))). ⊎_elim
       (λ (begins : (range : ℕ) × (seen_by i old ≡ Holding) × (seen_by i new ≡ Maintaining range (NotBuilding Empty))).
       steps s w v kept i below (BeginRange begins.0 (turned_at i s w v old new turns Holding (Maintaining begins.0 (NotBuilding Empty)) begins.1 begins.2)
-      (reads_at i s w v old new turns only.rows (only.indexes.index i) only.right (known s w v kept i below old Holding turns.was begins.1).1) (record { counts = only.rows.counts })))
+      (reads_at i s w v old new turns only.rows (only.indexes.index i) only.summarise_lock (known s w v kept i below old Holding turns.was begins.1).1)
+      (record { counts = only.rows.counts })))
       (λ (ends : (scan : TableScan) × (seen_by i old ≡ Scanning (scan_at i scan)) × (seen_by i new ≡ Idle)).
       steps s w v kept i below (EndScan (scan_at i ends.0) (turned_at i s w v old new turns (Scanning (scan_at i ends.0)) Idle ends.1 ends.2)
-      (reads_at i s w v old new turns only.rows (only.indexes.index i) only.right (known s w v kept i below old (Scanning (scan_at i ends.0)) turns.was ends.1).0.0) (record { counts = only.rows.counts })))
+      (reads_at i s w v old new turns only.rows (only.indexes.index i) only.summarise_lock
+      (known s w v kept i below old (Scanning (scan_at i ends.0)) turns.was ends.1).0.0) (record { counts = only.rows.counts })))
       other)
       (onward_view i w below old new onward)
 
-  settles_kept : Settles s w v → IsKept (index_state i v)
+  settles_kept : Settles s w v → IsIndexKept (index_state i v)
   settles_kept (GoesOn old new onward turns only) = goes_on old new onward turns only
   settles_kept (GivesLock old done turns given rows indexes) = gives_lock s w v kept i below old (maintained_holds i w old done) turns given rows indexes
 

@@ -1,19 +1,19 @@
 -- A table with several indexes: what its statements are at, and how each index sees it.
 use Rattle.std.specs.Prelude.{ℕ, zero, suc, Bool, Option, None, Some}
 use Rattle.block_model.specs.declared.row.Row.{Row}
-use Rattle.coverage.specs.Board.{Spot, Tuple, Pages, Board}
-use Rattle.coverage.specs.Statements.{Hand, Empty, Phase, Scan, Statement, Idle, Inserting, Maintaining, Holding, Scanning}
-use Rattle.coverage.specs.IsCovered.{IndexState, board}
+use Rattle.coverage.specs.IndexView.{TuplePlace, IndexTuple, Pages, IndexView}
+use Rattle.coverage.specs.Statements.{OnIndex, Empty, Phase, Scan, Statement, Idle, Inserting, Maintaining, Holding, Scanning}
+use Rattle.coverage.specs.IsCovered.{IndexState, index_view}
 
 -- one index of the table: its pages, range map and tuples, and who locks what
 pub record Index : Type 0 where
   pub pages_per_range : ℕ
   pub autosummarize : Bool
-  pub entry : ℕ → Option Spot
-  pub tuple : Spot → Option Tuple
+  pub entry : ℕ → Option TuplePlace
+  pub tuple : TuplePlace → Option IndexTuple
   pub pages : Pages
   pub lock : ℕ → Option ℕ
-  pub orphan : Spot → Bool
+  pub unnamed : TuplePlace → Bool
 
 -- The ranges that a maintenance statement goes over: those whose first block lies below an extent; one of these alone; those
 -- all of whose blocks lie below it; or the one to be desummarised.
@@ -24,17 +24,17 @@ pub data Job : Type 0 where
   Desummarising : (only : ℕ) → Job
 
 -- A scan of the table: the rows that its session sees; the test of its query, and which tuples of each index keep it; the
--- extent that it read; the index and range that it judges next, and the spot that the map named there; its candidate blocks,
+-- extent that it read; the index and range that it judges next, and the place that the map named there; its candidate blocks,
 -- and up to where they are read; the rows found. An explain reads none.
 pub record TableScan : Type 0 where
   pub sees : ℕ → ℕ → Bool
   pub matches : Row → Bool
-  pub keeps : ℕ → Tuple → Bool
+  pub keeps : ℕ → IndexTuple → Bool
   pub explains : Bool
   pub extent : ℕ
   pub at : ℕ
   pub range : ℕ
-  pub held : Option Spot
+  pub held : Option TuplePlace
   pub candidate : ℕ → Bool
   pub read : ℕ
   pub found : ℕ → ℕ → Bool
@@ -45,7 +45,7 @@ pub data Task : Type 0 where
   -- an insert, whose row stands at block and slot, before an index: those below it are complete; it has to ask for a summary; it is at work there
   Reaches : (b k : ℕ) → Row → (at : ℕ) → Task
   Asks : (b k : ℕ) → Row → (at : ℕ) → Task
-  Inserts : (b k : ℕ) → Row → (at : ℕ) → Hand → Task
+  Inserts : (b k : ℕ) → Row → (at : ℕ) → OnIndex → Task
   -- maintenance of an index, before a range, and at it
   Considers : Job → (at range : ℕ) → Task
   Maintains : Job → (at range : ℕ) → Phase → Task
@@ -64,7 +64,7 @@ pub record TableState : Type 0 where
   pub heap_limit : ℕ
   pub blocks : ℕ
   pub row : ℕ → ℕ → Option Row
-  pub right : Option ℕ
+  pub summarise_lock : Option ℕ
   pub task : ℕ → Task
   pub counts : ℕ → Bool
 
@@ -75,18 +75,18 @@ pick zero (suc m) a b = b
 pick (suc n) zero a b = b
 pick (suc n) (suc m) a b = pick n m a b
 
--- what an insert at an index has in hand in index i: nothing more to do below it, nothing yet above it
-abbrev pub hand_by : ℕ → ℕ → Hand → Option Hand
-hand_by zero zero hand = Some hand
-hand_by zero (suc at) hand = None
-hand_by (suc i) zero hand = Some Empty
-hand_by (suc i) (suc at) hand = hand_by i at hand
+-- what an insert that is at one index has on index i: nothing more to do on those before it, nothing yet on those after it
+abbrev pub on_index_by : ℕ → ℕ → OnIndex → Option OnIndex
+on_index_by zero zero on_index = Some on_index
+on_index_by zero (suc at) on_index = None
+on_index_by (suc i) zero on_index = Some Empty
+on_index_by (suc i) (suc at) on_index = on_index_by i at on_index
 
-abbrev pub inserting_of : ℕ → ℕ → Row → Option Hand → Statement
+abbrev pub inserting_of : ℕ → ℕ → Row → Option OnIndex → Statement
 inserting_of b k r None = Idle
-inserting_of b k r (Some hand) = Inserting b k r hand
+inserting_of b k r (Some on_index) = Inserting b k r on_index
 
-abbrev pub held_at : ℕ → Option Spot → Option (ℕ × Spot)
+abbrev pub held_at : ℕ → Option TuplePlace → Option (ℕ × TuplePlace)
 held_at range None = None
 held_at range (Some x) = Some (range, x)
 
@@ -104,9 +104,9 @@ scan_at i scan = record {
 -- how index i sees a statement of the table
 abbrev pub seen_by : ℕ → Task → Statement
 seen_by i Resting = Idle
-seen_by i (Reaches b k r at) = inserting_of b k r (hand_by i at Empty)
-seen_by i (Asks b k r at) = inserting_of b k r (hand_by i at Empty)
-seen_by i (Inserts b k r at hand) = inserting_of b k r (hand_by i at hand)
+seen_by i (Reaches b k r at) = inserting_of b k r (on_index_by i at Empty)
+seen_by i (Asks b k r at) = inserting_of b k r (on_index_by i at Empty)
+seen_by i (Inserts b k r at on_index) = inserting_of b k r (on_index_by i at on_index)
 seen_by i (Considers job at range) = Holding
 seen_by i (Maintains job at range phase) = pick i at (Maintaining range phase) Holding
 seen_by i (Prunes extent next) = Holding
@@ -125,11 +125,11 @@ index_state i w = record {
   tuple = (w.index i).tuple;
   pages = (w.index i).pages;
   lock = (w.index i).lock;
-  right = w.right;
-  orphan = (w.index i).orphan;
+  summarise_lock = w.summarise_lock;
+  unnamed = (w.index i).unnamed;
   statement = λ s. seen_by i (w.task s);
   counts = w.counts;
 }
 
-abbrev pub board_at : ℕ → TableState → Board
-board_at i w = board (index_state i w)
+abbrev pub index_view_at : ℕ → TableState → IndexView
+index_view_at i w = index_view (index_state i w)

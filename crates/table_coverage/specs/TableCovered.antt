@@ -1,16 +1,17 @@
 -- When a table is covered in all of its indexes, and what a scan of it still has before it.
 use Rattle.std.specs.Prelude.{◌≡◌, ◌⊎◌, ℕ, ◌≤◌, ◌<◌, IsTrue, false, None, Some}
 use Rattle.block_model.specs.declared.row.Row.{Row}
-use Rattle.coverage.specs.Board.{Spot, Progress, IsBuilding}
-use Rattle.coverage.specs.IsCovered.{IsCovered, IsAtRest, IsKept}
+use Rattle.coverage.specs.IndexView.{TuplePlace, Progress, IsBuilding}
+use Rattle.coverage.specs.IsCovered.{IsCovered, IsAtRest, IsIndexKept}
 use Rattle.coverage.specs.Steps.{Stops}
-use Rattle.table_coverage.specs.Table.{TableScan, Resting, Scans, TableState, index_state, board_at}
+use Rattle.table_coverage.specs.Table.{TableScan, Resting, Scans, TableState, index_state, index_view_at}
 use Rattle.table_coverage.specs.TableSteps.{range_in}
 
 -- every index of the table is covered, and one statement of the table builds at a time
 pub record IsTableCovered (w : TableState) : Type 0 where
   pub indexes : (i : ℕ) → i < w.indexes → IsCovered (index_state i w)
-  pub one_builder : (i j s n range m : ℕ) (p q : Progress) → i < w.indexes → j < w.indexes → IsBuilding (board_at i w) s range p → IsBuilding (board_at j w) n m q → s ≡ n
+  pub one_builder : (i j s n range m : ℕ) (p q : Progress) → i < w.indexes → j < w.indexes → IsBuilding (index_view_at i w) s range p
+      → IsBuilding (index_view_at j w) n m q → s ≡ n
 
 -- a row that a scan's session sees stands there; where it matches, it is found, or its block is a candidate and not read yet
 abbrev pub SeesRows : TableState → TableScan → Type 0
@@ -18,7 +19,7 @@ SeesRows w scan = (b k : ℕ) → IsTrue (scan.sees b k)
     → (r : Row) × (w.row b k ≡ Some r) × (IsTrue (scan.matches r) → IsTrue (scan.found b k) ⊎ (IsTrue (scan.candidate b) × (scan.read ≤ b)))
 
 abbrev pub AreIndexesKept : TableState → Type 0
-AreIndexesKept w = (i : ℕ) → i < w.indexes → IsKept (index_state i w)
+AreIndexesKept w = (i : ℕ) → i < w.indexes → IsIndexKept (index_state i w)
 
 -- what every step of the table's statements keeps
 pub record IsTableKept (w : TableState) : Type 0 where
@@ -48,12 +49,12 @@ pub record IsTableAtRest (w : TableState) : Type 0 where
 -- a new table, without rows and tuples
 pub record IsNewTable (w : TableState) : Type 0 where
   pub resting : (s : ℕ) → w.task s ≡ Resting
-  pub free : w.right ≡ None
+  pub free : w.summarise_lock ≡ None
   pub row : (b k : ℕ) → w.row b k ≡ None
   pub entry : (i range : ℕ) → (w.index i).entry range ≡ None
-  pub tuple : (i : ℕ) (x : Spot) → (w.index i).tuple x ≡ None
+  pub tuple : (i : ℕ) (x : TuplePlace) → (w.index i).tuple x ≡ None
   pub lock : (i p : ℕ) → (w.index i).lock p ≡ None
-  pub orphan : (i : ℕ) (x : Spot) → (w.index i).orphan x ≡ false
+  pub unnamed : (i : ℕ) (x : TuplePlace) → (w.index i).unnamed x ≡ false
   pub ranged : (i : ℕ) → 0 < (w.index i).pages_per_range
 
 -- after a stop nobody is at work, and each index of the table is as one index is

@@ -1,13 +1,16 @@
 -- The steps of the statements of a table with several indexes: which comes next, and what it waits for.
 use Rattle.std.specs.Prelude.{◌≡◌, ◌≢◌, ◌⊎◌, ℕ, suc, ◌+◌, ◌*◌, ◌/◌, ◌≤◌, ◌<◌, max, Bool, true, false, IsTrue, ◌↔◌, None, Some, List, [], ◌∷◌, length}
 use Rattle.block_model.specs.declared.row.Row.{Row}
-use Rattle.coverage.specs.Board.{Spot, Tuple, Progress, Regular, Emptying, Board, range_of}
+use Rattle.coverage.specs.IndexView.{TuplePlace, IndexTuple, Progress, Regular, Emptying, IndexView, range_of_block}
 use Rattle.coverage.specs.Changes.{IsFree}
 use Rattle.coverage.specs.Verdicts.{IsLocked, Waits, Full, PutVerdict, SwapVerdict, ClearVerdict}
-use Rattle.coverage.specs.Statements.{Hand, Empty, Held, Copied, Phase, NotBuilding, Vacant, IsAt, Statement, Idle, Inserting, Maintaining, Holding, loose_in, loose_at}
+use Rattle.coverage.specs.Statements.{OnIndex, Empty, Held, Copied, Phase, NotBuilding, Vacant, IsAt, Statement, Idle, Inserting, Maintaining, Holding}
+use Rattle.coverage.specs.Statements.{loose_in, loose_at}
 use Rattle.coverage.specs.Waiting.{IsPhaseWaiting}
-use Rattle.coverage.specs.Steps.{IsUnnamed, IsGone, Stands, SweepsTuples, Excludes, InsertStep, next_map_page, IsPastMap, IsNextTuple, Grows, SummariseStep, DesummariseStep, RightPasses}
-use Rattle.table_coverage.specs.Table.{Job, EachRange, OneRange, WholeRanges, Desummarising, TableScan, Task, Resting, Reaches, Asks, Inserts, Considers, Maintains, Prunes, SweepsFrom, Sweeps, Restarts, Scans, TableState, board_at}
+use Rattle.coverage.specs.Steps.{IsUnnamed, IsGone, Stands, SweepsTuples, Excludes, InsertStep, next_map_page, IsPastMap, IsNextTuple, Grows, SummariseStep}
+use Rattle.coverage.specs.Steps.{DesummariseStep, SummariseLockPasses}
+use Rattle.table_coverage.specs.Table.{Job, EachRange, OneRange, WholeRanges, Desummarising, TableScan, Task, Resting, Reaches, Asks, Inserts, Considers}
+use Rattle.table_coverage.specs.Table.{Maintains, Prunes, SweepsFrom, Sweeps, Restarts, Scans, TableState, index_view_at}
 
 -- the session's statement turns from one into the other
 pub record TaskTurns (s : ℕ) (w v : TableState) (old new : Task) : Type 0 where
@@ -34,7 +37,7 @@ pub record SameIndexes (w v : TableState) : Type 0 where
 pub record OnlyTurns (w v : TableState) : Type 0 where
   pub rows : SameRows w v
   pub indexes : SameIndexes w v
-  pub right : v.right ≡ w.right
+  pub summarise_lock : v.summarise_lock ≡ w.summarise_lock
 
 -- one index of the table changes alone
 pub record StepsIn (at : ℕ) (w v : TableState) : Type 0 where
@@ -60,14 +63,14 @@ pub record IsFirstPlace (w : TableState) (b k : ℕ) : Type 0 where
   pub below : b < w.heap_limit
   pub first : (c j : ℕ) → IsVacantPlace w c j → (b < c) ⊎ ((b ≡ c) × (k ≤ j))
 
-pub record TakesRow (w v : TableState) (b k : ℕ) (r : Row) : Type 0 where
+pub record TableTakesRow (w v : TableState) (b k : ℕ) (r : Row) : Type 0 where
   pub layout : SameLayout w v
   pub now : v.row b k ≡ Some r
   pub others : (c j : ℕ) → ((c ≡ b) × (j ≡ k)) ⊎ (v.row c j ≡ w.row c j)
   pub blocks : v.blocks ≡ max w.blocks (b + 1)
   pub counts : (t : ℕ) → v.counts t ≡ w.counts t
   pub indexes : SameIndexes w v
-  pub right : v.right ≡ w.right
+  pub summarise_lock : v.summarise_lock ≡ w.summarise_lock
 
 -- an insert asks at the first slot of the first block of each range but the first one
 abbrev pub AsksFor : TableState → ℕ → ℕ → ℕ → Type 0
@@ -76,8 +79,8 @@ AsksFor w b k at = IsTrue (w.index at).autosummarize × (k ≡ 0) × (first_bloc
 -- An insert is refused: memory is short while nothing of it is loose; or its index is full.
 pub data IsInsertRefused (w : TableState) (s b k : ℕ) (r : Row) : Task → Type 0 where
   AskRefused : (at : ℕ) → IsInsertRefused w s b k r (Asks b k r at)
-  MemoryShort : (at : ℕ) (hand : Hand) → loose_in hand ≡ None → IsInsertRefused w s b k r (Inserts b k r at hand)
-  IndexFull : (at : ℕ) (x : Spot) (old new : Tuple) → SwapVerdict (board_at at w) s (range_in w at b) x old new Full
+  MemoryShort : (at : ℕ) (on_index : OnIndex) → loose_in on_index ≡ None → IsInsertRefused w s b k r (Inserts b k r at on_index)
+  IndexFull : (at : ℕ) (x : TuplePlace) (old new : IndexTuple) → SwapVerdict (index_view_at at w) s (range_in w at b) x old new Full
       → IsInsertRefused w s b k r (Inserts b k r at (Copied x old new))
 
 -- the statement goes over this range
@@ -95,37 +98,39 @@ pub data BeginsWith (w : TableState) : Task → Type 0 where
   Vacuum : BeginsWith w (Prunes w.blocks 0)
 
 -- a step of the statement's own kind
-abbrev pub JobStep : Job → ℕ → ℕ → Board → Board → Phase → Statement → Type 0
+abbrev pub JobStep : Job → ℕ → ℕ → IndexView → IndexView → Phase → Statement → Type 0
 JobStep (EachRange extent) s range w v old new = SummariseStep s range w v old new
 JobStep (OneRange extent only) s range w v old new = SummariseStep s range w v old new
 JobStep (WholeRanges extent) s range w v old new = SummariseStep s range w v old new
 JobStep (Desummarising only) s range w v old new = DesummariseStep s range w v old new
 
 -- A maintenance statement is refused: memory is short while nothing of it is loose; or no page is left for a tuple or for the map.
-pub data IsMaintainRefused (w : Board) (s range : ℕ) : Phase → Type 0 where
+pub data IsMaintainRefused (w : IndexView) (s range : ℕ) : Phase → Type 0 where
   NoMemory : (phase : Phase) → loose_at phase ≡ None → IsMaintainRefused w s range phase
-  FinalFull : (p : Progress) (x : Spot) (old new : Tuple) → SwapVerdict w s range x old new Full → IsMaintainRefused w s range (IsAt p (Copied x old new))
+  FinalFull : (p : Progress) (x : TuplePlace) (old new : IndexTuple) → SwapVerdict w s range x old new Full
+      → IsMaintainRefused w s range (IsAt p (Copied x old new))
   PlaceFull : (IsPastMap w range → ⊥) → PutVerdict w s range w.pages.placeholder Full → IsMaintainRefused w s range Vacant
   MapFull : IsPastMap w range → w.pages.limit ≤ next_map_page w → IsMaintainRefused w s range Vacant
-  EvacuateFull : (x : Spot) (t : Tuple) → Grows w range Emptying → IsNextTuple w (next_map_page w) x t → w.entry t.range ≡ Some x
+  EvacuateFull : (x : TuplePlace) (t : IndexTuple) → Grows w range Emptying → IsNextTuple w (next_map_page w) x t → w.entry t.range ≡ Some x
       → IsFree w s x.block → PutVerdict w s t.range (length t.bytes) Full → IsMaintainRefused w s range Vacant
 
 -- A step is blocked: another session holds the summarise lock, or the lock of the page that is needed first.
 pub data IsBlocked (w : TableState) (s : ℕ) : Task → Type 0 where
-  RightHeld : (n : ℕ) → w.right ≡ Some n → n ≢ s → IsBlocked w s Resting
-  InsertWaits : (q b k : ℕ) (r : Row) (at : ℕ) (x : Spot) (old new : Tuple) → SwapVerdict (board_at at w) s (range_in w at b) x old new (Waits q)
+  SummariseLockHeld : (n : ℕ) → w.summarise_lock ≡ Some n → n ≢ s → IsBlocked w s Resting
+  InsertWaits : (q b k : ℕ) (r : Row) (at : ℕ) (x : TuplePlace) (old new : IndexTuple)
+      → SwapVerdict (index_view_at at w) s (range_in w at b) x old new (Waits q)
       → IsBlocked w s (Inserts b k r at (Copied x old new))
-  SummariseWaits : (q : ℕ) (job : Job) (at range : ℕ) (phase : Phase) → IsPhaseWaiting (board_at at w) s range phase q
+  SummariseWaits : (q : ℕ) (job : Job) (at range : ℕ) (phase : Phase) → IsPhaseWaiting (index_view_at at w) s range phase q
       → IsBlocked w s (Maintains job at range phase)
-  DesummariseWaits : (q only at range : ℕ) (x : Spot) → ClearVerdict (board_at at w) s range x (Waits q)
+  DesummariseWaits : (q only at range : ℕ) (x : TuplePlace) → ClearVerdict (index_view_at at w) s range x (Waits q)
       → IsBlocked w s (Maintains (Desummarising only) at range (NotBuilding (Held x)))
-  SweepWaits : (at page : ℕ) → IsLocked (board_at at w) s page → IsBlocked w s (Sweeps at page)
+  SweepWaits : (at page : ℕ) → IsLocked (index_view_at at w) s page → IsBlocked w s (Sweeps at page)
 
 -- a running insert has put the row of this place
 abbrev pub HasPut : ℕ → ℕ → Task → Type 0
 HasPut b k (Reaches c j r at) = (c ≡ b) × (j ≡ k)
 HasPut b k (Asks c j r at) = (c ≡ b) × (j ≡ k)
-HasPut b k (Inserts c j r at hand) = (c ≡ b) × (j ≡ k)
+HasPut b k (Inserts c j r at on_index) = (c ≡ b) × (j ≡ k)
 HasPut b k task = ⊥
 
 abbrev pub SeesPlace : ℕ → ℕ → Task → Type 0
@@ -148,7 +153,7 @@ pub record DropsRows (w v : TableState) (block : ℕ) (dropped : ℕ → ℕ →
   pub blocks : v.blocks ≡ w.blocks
   pub counts : (t : ℕ) → v.counts t ≡ w.counts t
   pub indexes : SameIndexes w v
-  pub right : v.right ≡ w.right
+  pub summarise_lock : v.summarise_lock ≡ w.summarise_lock
 
 -- What a new scan sees counts, and its insert is done; all blocks of the table are candidates, and nothing is judged, read or
 -- found. An explain looks at no rows.
@@ -165,14 +170,15 @@ pub record ScanBegins (w : TableState) (scan : TableScan) : Type 0 where
   pub explain : scan.explains ≡ true → (b k : ℕ) → scan.sees b k ≡ false
 
 -- One step of a scan in its range of the index that it judges, as a scan's step there.
-pub data JudgeStep (w : Board) (old : TableScan) : TableScan → Type 0 where
-  JudgeMap : (x : Spot) → old.held ≡ None → w.entry old.range ≡ Some x → JudgeStep w old (record old { held = Some x })
+pub data JudgeStep (w : IndexView) (old : TableScan) : TableScan → Type 0 where
+  JudgeMap : (x : TuplePlace) → old.held ≡ None → w.entry old.range ≡ Some x → JudgeStep w old (record old { held = Some x })
   JudgeNoEntry : old.held ≡ None → w.entry old.range ≡ None → JudgeStep w old (record old { range = suc old.range })
-  JudgeGone : (x : Spot) → old.held ≡ Some x → IsGone w old.range x → JudgeStep w old (record old { held = None })
-  JudgeKeeps : (x : Spot) (t : Tuple) → old.held ≡ Some x → Stands w old.range x t → IsTrue (old.keeps old.at t)
+  JudgeGone : (x : TuplePlace) → old.held ≡ Some x → IsGone w old.range x → JudgeStep w old (record old { held = None })
+  JudgeKeeps : (x : TuplePlace) (t : IndexTuple) → old.held ≡ Some x → Stands w old.range x t → IsTrue (old.keeps old.at t)
       → JudgeStep w old (record old { range = suc old.range; held = None })
-  JudgeDrops : (x : Spot) (t : Tuple) (candidate : ℕ → Bool) → old.held ≡ Some x → Stands w old.range x t → old.keeps old.at t ≡ false → Excludes t old.matches
-      → ((b : ℕ) → ((range_of w b ≡ old.range) × (candidate b ≡ false)) ⊎ ((range_of w b ≢ old.range) × (candidate b ≡ old.candidate b)))
+  JudgeDrops : (x : TuplePlace) (t : IndexTuple) (candidate : ℕ → Bool) → old.held ≡ Some x → Stands w old.range x t → old.keeps old.at t ≡ false
+      → Excludes t old.matches
+      → ((b : ℕ) → ((range_of_block w b ≡ old.range) × (candidate b ≡ false)) ⊎ ((range_of_block w b ≢ old.range) × (candidate b ≡ old.candidate b)))
       → JudgeStep w old (record old { range = suc old.range; held = None; candidate = candidate })
 
 -- the next given block is read, and exactly its visible matches are found
@@ -193,36 +199,38 @@ pub record Fails (w v : TableState) (t : ℕ) : Type 0 where
   pub blocks : v.blocks ≡ w.blocks
   pub row : (b k : ℕ) → v.row b k ≡ w.row b k
   pub indexes : SameIndexes w v
-  pub right : v.right ≡ w.right
+  pub summarise_lock : v.summarise_lock ≡ w.summarise_lock
   pub failed : v.counts t ≡ false
   pub fewer : (n : ℕ) → IsTrue (v.counts n) → IsTrue (w.counts n)
 
 -- What a step of session s does, with the page that it reads or changes.
 pub data Does (s : ℕ) (w v : TableState) : Type 0 where
-  PutsRow : (b k : ℕ) (r : Row) → IsFirstPlace w b k → TaskTurns s w v Resting (Reaches b k r 0) → TakesRow w v b k r → Does s w v
+  PutsRow : (b k : ℕ) (r : Row) → IsFirstPlace w b k → TaskTurns s w v Resting (Reaches b k r 0) → TableTakesRow w v b k r → Does s w v
   AsksSummary : (b k : ℕ) (r : Row) (at : ℕ) → TaskTurns s w v (Asks b k r at) (Inserts b k r at Empty) → OnlyTurns w v → Does s w v
-  InsertGoes : (b k : ℕ) (r : Row) (at : ℕ) (old new : Hand) → TaskTurns s w v (Inserts b k r at old) (Inserts b k r at new) → StepsIn at w v
-      → InsertStep s b k r (board_at at w) (board_at at v) old (Inserting b k r new) → Does s w v
-  InsertCompletes : (b k : ℕ) (r : Row) (at : ℕ) (old : Hand) → TaskTurns s w v (Inserts b k r at old) (Reaches b k r (suc at)) → StepsIn at w v
-      → InsertStep s b k r (board_at at w) (board_at at v) old Idle → Does s w v
+  InsertGoes : (b k : ℕ) (r : Row) (at : ℕ) (old new : OnIndex) → TaskTurns s w v (Inserts b k r at old) (Inserts b k r at new) → StepsIn at w v
+      → InsertStep s b k r (index_view_at at w) (index_view_at at v) old (Inserting b k r new) → Does s w v
+  InsertCompletes : (b k : ℕ) (r : Row) (at : ℕ) (old : OnIndex) → TaskTurns s w v (Inserts b k r at old) (Reaches b k r (suc at)) → StepsIn at w v
+      → InsertStep s b k r (index_view_at at w) (index_view_at at v) old Idle → Does s w v
   RefusesInsert : (b k : ℕ) (r : Row) (old : Task) → IsInsertRefused w s b k r old → TaskTurns s w v old Resting → Fails w v r.id.t → Does s w v
-  TakesLock : (first : Task) → BeginsWith w first → TaskTurns s w v Resting first → w.right ≡ None → v.right ≡ Some s → SameRows w v → SameIndexes w v → Does s w v
+  TakesLock : (first : Task) → BeginsWith w first → TaskTurns s w v Resting first → w.summarise_lock ≡ None → v.summarise_lock ≡ Some s → SameRows w v
+      → SameIndexes w v → Does s w v
   MaintainGoes : (job : Job) (at range : ℕ) (old new : Phase) → TaskTurns s w v (Maintains job at range old) (Maintains job at range new) → StepsIn at w v
-      → JobStep job s range (board_at at w) (board_at at v) old (Maintaining range new) → Does s w v
+      → JobStep job s range (index_view_at at w) (index_view_at at v) old (Maintaining range new) → Does s w v
   MaintainCompletes : (job : Job) (at range : ℕ) (old : Phase) → TaskTurns s w v (Maintains job at range old) (Considers job at (suc range)) → StepsIn at w v
-      → JobStep job s range (board_at at w) (board_at at v) old Holding → Does s w v
-  RefusesMaintain : (job : Job) (at range : ℕ) (phase : Phase) → IsMaintainRefused (board_at at w) s range phase
-      → TaskTurns s w v (Maintains job at range phase) Resting → StepsIn at w v → RightPasses s (board_at at w) (board_at at v) (Some s) None → Does s w v
-  RefusesVacuum : (old : Task) → IsVacuuming old → TaskTurns s w v old Resting → v.right ≡ None → SameRows w v → SameIndexes w v → Does s w v
+      → JobStep job s range (index_view_at at w) (index_view_at at v) old Holding → Does s w v
+  RefusesMaintain : (job : Job) (at range : ℕ) (phase : Phase) → IsMaintainRefused (index_view_at at w) s range phase
+      → TaskTurns s w v (Maintains job at range phase) Resting → StepsIn at w v → SummariseLockPasses s (index_view_at at w) (index_view_at at v) (Some s) None
+      → Does s w v
+  RefusesVacuum : (old : Task) → IsVacuuming old → TaskTurns s w v old Resting → v.summarise_lock ≡ None → SameRows w v → SameIndexes w v → Does s w v
   -- vacuum drops rows of a block that no scan sees and no running insert has put
   PrunesBlock : (extent next : ℕ) (dropped : ℕ → ℕ → Bool) → next < extent
       → ((n b k : ℕ) → n ≢ s → IsTrue (dropped b k) → (HasPut b k (w.task n) ⊎ SeesPlace b k (w.task n)) → ⊥)
       → TaskTurns s w v (Prunes extent next) (Prunes extent (suc next)) → DropsRows w v next dropped → Does s w v
   SweepsPage : (at page : ℕ) → TaskTurns s w v (Sweeps at page) (SweepsFrom at (suc page)) → StepsIn at w v
-      → SweepsTuples s (board_at at w) (board_at at v) page (λ x. (x.block ≡ page) × IsUnnamed (board_at at w) x) → Does s w v
+      → SweepsTuples s (index_view_at at w) (index_view_at at v) page (λ x. (x.block ≡ page) × IsUnnamed (index_view_at at w) x) → Does s w v
   RestartsIndex : (at : ℕ) → TaskTurns s w v (Restarts at) (Considers (WholeRanges w.blocks) at 0) → OnlyTurns w v → Does s w v
   BeginsScan : (scan : TableScan) → ScanBegins w scan → TaskTurns s w v Resting (Scans scan) → OnlyTurns w v → Does s w v
-  Judges : (old new : TableScan) → old.at < w.indexes → first_block w old.at old.range < old.extent → JudgeStep (board_at old.at w) old new
+  Judges : (old new : TableScan) → old.at < w.indexes → first_block w old.at old.range < old.extent → JudgeStep (index_view_at old.at w) old new
       → TaskTurns s w v (Scans old) (Scans new) → OnlyTurns w v → Does s w v
   ReadsBlock : (scan : TableScan) (next : ℕ) (found : ℕ → ℕ → Bool) → ReadsPage w scan next found
       → TaskTurns s w v (Scans scan) (Scans (record scan { read = next + 1; found = found })) → OnlyTurns w v → Does s w v
@@ -266,13 +274,15 @@ pub data Onward (w : TableState) : Task → Task → Type 0 where
   ToIndex : (b k : ℕ) (r : Row) (at : ℕ) → at < w.indexes → (AsksFor w b k at → ⊥) → Onward w (Reaches b k r at) (Inserts b k r at Empty)
   Inserted : (b k : ℕ) (r : Row) (at : ℕ) → at ≡ w.indexes → Onward w (Reaches b k r at) Resting
   ToRange : (job : Job) (at range : ℕ) → HasRange w job at range → Onward w (Considers job at range) (Maintains job at range (NotBuilding Empty))
-  NextIndex : (extent at range : ℕ) → (HasRange w (WholeRanges extent) at range → ⊥) → suc at < w.indexes → Onward w (Considers (WholeRanges extent) at range) (Restarts (suc at))
+  NextIndex : (extent at range : ℕ) → (HasRange w (WholeRanges extent) at range → ⊥) → suc at < w.indexes
+      → Onward w (Considers (WholeRanges extent) at range) (Restarts (suc at))
   Pruned : (extent next : ℕ) (new : Task) → extent ≤ next → Onward w (SweepsFrom 0 0) new → Onward w (Prunes extent next) new
   ToPage : (at from m p : ℕ) → IsNextPage w at from m p → Onward w (SweepsFrom at from) (Sweeps m p)
   Swept : (at from : ℕ) → ((m p : ℕ) → HasTuples w m p → IsFrom at from m p → ⊥) → 0 < w.indexes → Onward w (SweepsFrom at from) (Restarts 0)
   JudgesNext : (scan : TableScan) (new : Task) → scan.at < w.indexes → scan.extent ≤ first_block w scan.at scan.range → scan.held ≡ None
       → Onward w (Scans (record scan { at = suc scan.at; range = 0 })) new → Onward w (Scans scan) new
-  Scanned : (scan : TableScan) → scan.at ≡ w.indexes → (scan.explains ≡ true) ⊎ ((b : ℕ) → IsTrue (scan.candidate b) → b < scan.read) → Onward w (Scans scan) Resting
+  Scanned : (scan : TableScan) → scan.at ≡ w.indexes → (scan.explains ≡ true) ⊎ ((b : ℕ) → IsTrue (scan.candidate b) → b < scan.read)
+      → Onward w (Scans scan) Resting
 
 abbrev pub IsLastIndex : TableState → Job → ℕ → Type 0
 IsLastIndex w (WholeRanges extent) at = suc at ≡ w.indexes
@@ -286,7 +296,7 @@ pub data IsMaintained (w : TableState) : Task → Type 0 where
 -- The statement goes on, or replies; with its reply a maintenance statement gives the summarise lock.
 pub data Settles (s : ℕ) (w v : TableState) : Type 0 where
   GoesOn : (old new : Task) → Onward w old new → TaskTurns s w v old new → OnlyTurns w v → Settles s w v
-  GivesLock : (old : Task) → IsMaintained w old → TaskTurns s w v old Resting → v.right ≡ None → SameRows w v → SameIndexes w v → Settles s w v
+  GivesLock : (old : Task) → IsMaintained w old → TaskTurns s w v old Resting → v.summarise_lock ≡ None → SameRows w v → SameIndexes w v → Settles s w v
 
 -- One step of session s: what it does, and where its statement comes by it.
 pub record TableStep (s : ℕ) (w v : TableState) : Type 0 where

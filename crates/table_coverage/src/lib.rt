@@ -1,21 +1,22 @@
-// A table with several indexes loses no row to a summary of any of them, whatever the order in which statements of any
-// sessions take their steps: what each statement is at and which step is its next one (specs/), and the laws of runs of such
-// steps. Each step is, as each index sees it, a step of crate coverage or none, so what an index rests on is kept in all.
-// It stands on coverage and block_model's rows: on no page's bytes, no operator class and no machine. The engine above shows
-// of each of its steps which one of specs/TableSteps it is, and has coverage and the completeness of scans from here.
+//! A table with several indexes loses no row to a summary of any of them, whatever the order in which statements of any
+//! sessions take their steps: what each statement is at and which step is its next one (specs/), and the laws of runs of such
+//! steps. Each step is, as each index sees it, a step of crate coverage or none, so what an index rests on is kept in all.
+//! It stands on coverage and block_model's rows: on no page's bytes, no operator class and no machine. The engine above shows
+//! of each of its steps which one of specs/TableSteps it is, and has coverage and the completeness of scans from here.
 #![tactic(auto)]
 
 ghost use Rattle.std.specs.Prelude.{◌≡◌, ◌⊎◌, ◌≤◌, ℕ, Bool, false, IsTrue, Some, List};
 ghost use Rattle.block_model.specs.declared.row.Row.{Row};
-ghost use Rattle.coverage.specs.Board.{Tuple};
+ghost use Rattle.coverage.specs.IndexView.{IndexTuple};
 ghost use Rattle.coverage.specs.Steps.{Excludes};
-ghost use Rattle.table_coverage.specs.Table.{TableScan, Task, Resting, Scans, TableState, board_at};
+ghost use Rattle.table_coverage.specs.Table.{TableScan, Task, Resting, Scans, TableState, index_view_at};
 ghost use Rattle.table_coverage.specs.TableSteps.{OnlyTurns, JudgeStep, ReadsPage, IsBlocked, Does, HasStep, Onward, IsMaintained, TableStep, TableRun};
 ghost use Rattle.table_coverage.specs.TableCovered.{IsTableCovered, IsTableKept, IsTableAtRest, IsNewTable, TableStops, IsGiven, IsUnjudged};
 
 /// A blocked statement stays where it is and nothing changes, or it is refused.
 pub fn blocked_statements_wait()
-    ensures { (s : ℕ) (w v : TableState) → IsBlocked w s (w.task s) → (w.task s ≡ Resting → ⊥) → Does s w v → ((v.task s ≡ w.task s) × OnlyTurns w v) ⊎ (v.task s ≡ Resting) }
+    ensures { (s : ℕ) (w v : TableState) → IsBlocked w s (w.task s) → (w.task s ≡ Resting → ⊥) → Does s w v
+        → ((v.task s ≡ w.task s) × OnlyTurns w v) ⊎ (v.task s ≡ Resting) }
 {}
 
 /// Where a statement of a table comes by its step is one thing: its next step, or its reply. No step is left that does nothing.
@@ -37,15 +38,20 @@ pub fn table_stays_covered()
 /// A scan judges each range in one way, by the tuple that it reads there, and reads the next given block to one end; where the
 /// tuples that don't keep its query are honest, it is never stuck.
 pub fn scans_are_exact()
-    ensures judged { (w : TableState) (old p q : TableScan) → JudgeStep (board_at old.at w) old p → JudgeStep (board_at old.at w) old q → p ≡ q }
-    ensures read { (w : TableState) (scan : TableScan) (m n : ℕ) (f g : ℕ → ℕ → Bool) → ReadsPage w scan m f → ReadsPage w scan n g → (m ≡ n) × ((b k : ℕ) → f b k ≡ g b k) }
-    ensures some_judged { (w : TableState) (scan : TableScan) → ((t : Tuple) → scan.keeps scan.at t ≡ false → Excludes t scan.matches) → (q : TableScan) × JudgeStep (board_at scan.at w) scan q }
-    ensures some_read { (w : TableState) (scan : TableScan) (b : ℕ) → scan.explains ≡ false → scan.at ≡ w.indexes → IsTrue (scan.candidate b) → scan.read ≤ b → (next : ℕ) × (found : ℕ → ℕ → Bool) × ReadsPage w scan next found }
+    ensures judged { (w : TableState) (old p q : TableScan) → JudgeStep (index_view_at old.at w) old p → JudgeStep (index_view_at old.at w) old q → p ≡ q }
+    ensures read { (w : TableState) (scan : TableScan) (m n : ℕ) (f g : ℕ → ℕ → Bool) → ReadsPage w scan m f → ReadsPage w scan n g
+        → (m ≡ n) × ((b k : ℕ) → f b k ≡ g b k) }
+    ensures some_judged { (w : TableState) (scan : TableScan) → ((t : IndexTuple) → scan.keeps scan.at t ≡ false → Excludes t scan.matches)
+        → (q : TableScan) × JudgeStep (index_view_at scan.at w) scan q }
+    ensures some_read { (w : TableState) (scan : TableScan) (b : ℕ) → scan.explains ≡ false → scan.at ≡ w.indexes → IsTrue (scan.candidate b) → scan.read ≤ b
+        → (next : ℕ) × (found : ℕ → ℕ → Bool) × ReadsPage w scan next found }
 {}
 
 /// Each matching row that a scan's session sees is found, or lies in a given block that isn't read yet, or in a range that
 /// isn't judged yet; and when the scan replies, it is found. A block is given where every index of the table gives it.
 pub fn table_scans_miss_nothing()
-    ensures found { (w : TableState) (s b k : ℕ) (scan : TableScan) → IsTableKept w → w.task s ≡ Scans scan → IsTrue (scan.sees b k) → (r : Row) × (w.row b k ≡ Some r) × (IsTrue (scan.matches r) → IsTrue (scan.found b k) ⊎ (IsGiven w scan b × (scan.read ≤ b)) ⊎ IsUnjudged w scan b) }
-    ensures replied { (w : TableState) (s b k : ℕ) (scan : TableScan) → IsTableKept w → w.task s ≡ Scans scan → Onward w (Scans scan) Resting → scan.explains ≡ false → IsTrue (scan.sees b k) → (r : Row) × (w.row b k ≡ Some r) × (IsTrue (scan.matches r) → IsTrue (scan.found b k)) }
+    ensures found { (w : TableState) (s b k : ℕ) (scan : TableScan) → IsTableKept w → w.task s ≡ Scans scan → IsTrue (scan.sees b k)
+        → (r : Row) × (w.row b k ≡ Some r) × (IsTrue (scan.matches r) → IsTrue (scan.found b k) ⊎ (IsGiven w scan b × (scan.read ≤ b)) ⊎ IsUnjudged w scan b) }
+    ensures replied { (w : TableState) (s b k : ℕ) (scan : TableScan) → IsTableKept w → w.task s ≡ Scans scan → Onward w (Scans scan) Resting
+        → scan.explains ≡ false → IsTrue (scan.sees b k) → (r : Row) × (w.row b k ≡ Some r) × (IsTrue (scan.matches r) → IsTrue (scan.found b k)) }
 {}

@@ -5,31 +5,28 @@ use Rattle.std.proofs.Math.Seq.{drop-cons}
 use Rattle.std.proofs.lemmas.Bool.Decides.{leb_tells}
 use Rattle.block_model.specs.Names.{is_digit}
 use Rattle.text_reading.specs.Digits.{digits_from}
-use Rattle.text_reading.specs.Reading.{split_digits, digits_at}
+use Rattle.text_reading.specs.Reading.{with_first, split_digits, digits_at}
 
 -- digits behind a number make it no less
-digits_from-least : (n : ℕ) (ds : List ℕ) → n ≤ digits_from n ds
-digits_from-least n [] = omega arith
-digits_from-least n (c ∷ cs) = omega (arith, digits_from-least (10 * n + (c - 48)) cs)
+digits_from_least : (n : ℕ) (ds : List ℕ) → n ≤ digits_from n ds
+digits_from_least n [] = omega arith
+digits_from_least n (c ∷ cs) = omega (arith, digits_from_least (10 * n + (c - 48)) cs)
 
 -- what is past the limit stays past it
-digits_from-capped : (limit n : ℕ) (ds : List ℕ) → min (digits_from (min n limit) ds) limit ≡ min (digits_from n ds) limit
-digits_from-capped limit n ds = elim (leb_tells n limit) as (λ x. min (digits_from (min n limit) ds) limit ≡ min (digits_from n ds) limit) [
+digits_from_capped : (limit n : ℕ) (ds : List ℕ) → min (digits_from (min n limit) ds) limit ≡ min (digits_from n ds) limit
+digits_from_capped limit n ds = elim (leb_tells n limit) as (λ x. min (digits_from (min n limit) ds) limit ≡ min (digits_from n ds) limit) [
   | inl t ↦ ap (λ m. min (digits_from m ds) limit) (let k : min n limit ≡ n = omega arith in k)
-  | inr t ↦ (let k : min n limit ≡ limit = omega arith in ap (λ m. min (digits_from m ds) limit) k ∙ omega (arith, digits_from-least limit ds, digits_from-least n ds))
+  | inr t ↦ (let k : min n limit ≡ limit = omega arith in ap (λ m. min (digits_from m ds) limit) k ∙ omega (arith, digits_from_least limit ds, digits_from_least n ds))
 ]
 
 -- one digit more of a number up to the limit
-pub capped-next : (limit n next i : ℕ) (ds : List ℕ) → i < length ds → next ≡ min (10 * n + (get_or ds i 0 - 48)) limit
+pub capped_next : (limit n next i : ℕ) (ds : List ℕ) → i < length ds → next ≡ min (10 * n + (get_or ds i 0 - 48)) limit
     → min (digits_from next (drop (i + 1) ds)) limit ≡ min (digits_from n (drop i ds)) limit
-capped-next limit n next i ds h e =
+capped_next limit n next i ds h e =
     let split : drop i ds ≡ get_or ds i 0 ∷ drop (i + 1) ds = drop-cons ds i 0 h ∙ ap (λ k. get_or ds i 0 ∷ drop k ds) (sym (add-one i)) in
     ap (λ m. min (digits_from m (drop (i + 1) ds)) limit) e
-    ∙ digits_from-capped limit (10 * n + (get_or ds i 0 - 48)) (drop (i + 1) ds)
+    ∙ digits_from_capped limit (10 * n + (get_or ds i 0 - 48)) (drop (i + 1) ds)
     ∙ sym (ap (λ l. min (digits_from n l) limit) split)
-
-abbrev with_first : ℕ → List ℕ × List ℕ → List ℕ × List ℕ
-with_first c s = (c ∷ s.0, s.1)
 
 abbrev cut : ℕ → List ℕ → List ℕ × List ℕ
 cut n bytes = (take n bytes, drop n bytes)
@@ -40,9 +37,9 @@ count_step c cs true e = ap (with_first c) e ∙ ap (λ n. cut n (c ∷ cs)) (sy
 count_step c cs false e = refl
 
 -- the digits at the front are as many as their count
-split_digits-count : (bytes : List ℕ) → split_digits bytes ≡ cut (prefix_len is_digit bytes) bytes
-split_digits-count [] = refl
-split_digits-count (c ∷ cs) = count_step c cs (is_digit c) (split_digits-count cs)
+split_digits_count : (bytes : List ℕ) → split_digits bytes ≡ cut (prefix_len is_digit bytes) bytes
+split_digits_count [] = refl
+split_digits_count (c ∷ cs) = count_step c cs (is_digit c) (split_digits_count cs)
 
 first_step : (c : ℕ) (cs : List ℕ) (b : Bool) → is_digit c ≡ b → 0 < cond b (1 + prefix_len is_digit cs) 0 → digits_at (c ∷ cs) ≡ Ok (split_digits (c ∷ cs))
 unfolding digits_at
@@ -54,6 +51,6 @@ some_digits [] some = absurd (omega arith)
 some_digits (c ∷ cs) some = first_step c cs (is_digit c) refl some
 
 -- where there are digits, they are split off
-pub digits_at-count : (bytes front back : List ℕ) (n : ℕ) → n ≡ prefix_len is_digit bytes → 0 < n → front ≡ take n bytes → back ≡ drop n bytes → digits_at bytes ≡ Ok (front, back)
-digits_at-count bytes front back n e some f b =
-    some_digits bytes (omega arith) ∙ ap Ok (split_digits-count bytes ∙ ap (λ n. cut n bytes) (sym e)) ∙ (λ i. Ok (sym f i, sym b i))
+pub digits_at_count : (bytes front back : List ℕ) (n : ℕ) → n ≡ prefix_len is_digit bytes → 0 < n → front ≡ take n bytes → back ≡ drop n bytes → digits_at bytes ≡ Ok (front, back)
+digits_at_count bytes front back n e some f b =
+    some_digits bytes (omega arith) ∙ ap Ok (split_digits_count bytes ∙ ap (λ n. cut n bytes) (sym e)) ∙ (λ i. Ok (sym f i, sym b i))

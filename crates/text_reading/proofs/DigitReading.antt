@@ -2,15 +2,11 @@
 use Rattle.std.proofs.Common.{◌≡◌, ℕ, Bool, true, false, cond, ◌&&◌, ◌==◌, List, [], ◌∷◌, ◌++◌, Result, Ok, Err, refl, sym, ap, ◌∙◌, inl, inr, arith}
 use Rattle.std.specs.List.{list_all}
 use Rattle.std.proofs.lemmas.Bool.Decides.{eqb_tells}
+use Rattle.std.proofs.lemmas.Bool.{and_parts}
 use Rattle.block_model.specs.Names.{is_digit}
 use Rattle.text_reading.specs.Digits.{AreDigits}
-use Rattle.text_reading.specs.Reading.{begins, split_digits, digits_at}
+use Rattle.text_reading.specs.Reading.{begins, with_first, split_digits, digits_at}
 use Rattle.text_reading.proofs.Lawful.{Obeys, Lawful}
-
--- both sides of a conjunction
-pub and_parts : (a b : Bool) → (a && b) ≡ true → (a ≡ true) × (b ≡ true)
-and_parts true b h = (refl, h)
-and_parts false b h = cc
 
 -- what passes a test isn't a byte that fails it
 pub other_byte : (test : ℕ → Bool) (b c : ℕ) → test b ≡ false → test c ≡ true → (c == b) ≡ false
@@ -20,9 +16,6 @@ record Splits (bytes : List ℕ) (s : List ℕ × List ℕ) : Type 0 where
   whole : bytes ≡ s.0 ++ s.1
   digits : list_all is_digit s.0 ≡ true
   same : (x : ℕ) (rest more : List ℕ) → s.1 ≡ x ∷ rest → split_digits (s.0 ++ x ∷ more) ≡ (s.0, x ∷ more)
-
-abbrev with_first : ℕ → List ℕ × List ℕ → List ℕ × List ℕ
-with_first c s = (c ∷ s.0, s.1)
 
 abbrev none_before : List ℕ → List ℕ × List ℕ
 none_before bytes = ([], bytes)
@@ -76,22 +69,22 @@ digits_step c cs false e = (
   },
 )
 
-pub digits-lawful : Lawful digits_at (λ ds. ds) AreDigits
+pub digits_lawful : Lawful digits_at (λ ds. ds) AreDigits
 unfolding digits_at
-digits-lawful [] = (Err [], record { front = []; is = refl; whole = refl; same = λ x rest more k. cc; judged = (48 ∷ [], 48 ∷ [], one_digit, refl) })
-digits-lawful (c ∷ cs) = digits_step c cs (is_digit c) refl
+digits_lawful [] = (Err [], record { front = []; is = refl; whole = refl; same = λ x rest more k. cc; judged = (48 ∷ [], 48 ∷ [], one_digit, refl) })
+digits_lawful (c ∷ cs) = digits_step c cs (is_digit c) refl
 
-split-complete : (ds rest : List ℕ) → list_all is_digit ds ≡ true → begins is_digit rest ≡ false → split_digits (ds ++ rest) ≡ (ds, rest)
-split-complete [] [] h e = refl
-split-complete [] (c ∷ cs) h e = ap (λ b. cond b (with_first c (split_digits cs)) (none_before (c ∷ cs))) e
-split-complete (d ∷ ds) rest h e =
+split_complete : (ds rest : List ℕ) → list_all is_digit ds ≡ true → begins is_digit rest ≡ false → split_digits (ds ++ rest) ≡ (ds, rest)
+split_complete [] [] h e = refl
+split_complete [] (c ∷ cs) h e = ap (λ b. cond b (with_first c (split_digits cs)) (none_before (c ∷ cs))) e
+split_complete (d ∷ ds) rest h e =
     let p = and_parts (is_digit d) (list_all is_digit ds) h in
-    ap (λ b. cond b (with_first d (split_digits (ds ++ rest))) (none_before (d ∷ (ds ++ rest)))) p.0 ∙ ap (with_first d) (split-complete ds rest p.1 e)
+    ap (λ b. cond b (with_first d (split_digits (ds ++ rest))) (none_before (d ∷ (ds ++ rest)))) p.0 ∙ ap (with_first d) (split_complete ds rest p.1 e)
 
 -- digits behind which none stands are read
-pub digits-complete : (ds rest : List ℕ) → AreDigits ds → begins is_digit rest ≡ false → digits_at (ds ++ rest) ≡ Ok (ds, rest)
+pub digits_complete : (ds rest : List ℕ) → AreDigits ds → begins is_digit rest ≡ false → digits_at (ds ++ rest) ≡ Ok (ds, rest)
 unfolding digits_at
-digits-complete [] rest h e = absurd (omega (arith, h.some))
-digits-complete (d ∷ ds) rest h e =
+digits_complete [] rest h e = absurd (omega (arith, h.some))
+digits_complete (d ∷ ds) rest h e =
     let p = and_parts (is_digit d) (list_all is_digit ds) h.digits in
-    ap (λ b. cond b (Ok (split_digits (d ∷ (ds ++ rest)))) (Err (d ∷ (ds ++ rest)))) p.0 ∙ ap Ok (split-complete (d ∷ ds) rest h.digits e)
+    ap (λ b. cond b (Ok (split_digits (d ∷ (ds ++ rest)))) (Err (d ∷ (ds ++ rest)))) p.0 ∙ ap Ok (split_complete (d ∷ ds) rest h.digits e)

@@ -81,8 +81,8 @@ module _ {A B : Type 0} (first : Reading A) (second : Reading B) (w : A → List
   both_first some is behind bytes (Ok p) h = let k = behind p.1 in both_second bytes p h k.0 k.1
 
   -- one lawful reading behind another is lawful, where there is something that the second could read
-  pub both-lawful : (some : B) → Are some → Lawful first w Is → Lawful second v Are → Lawful (both first second) (λ x. w x.0 ++ v x.1) (λ x. Is x.0 × Are x.1)
-  both-lawful some is l k bytes = let h = l bytes in both_first some is k bytes h.0 h.1
+  pub both_lawful : (some : B) → Are some → Lawful first w Is → Lawful second v Are → Lawful (both first second) (λ x. w x.0 ++ v x.1) (λ x. Is x.0 × Are x.1)
+  both_lawful some is l k bytes = let h = l bytes in both_first some is k bytes h.0 h.1
 
 module _ {A B : Type 0} (f : A → B) (read : Reading A) (w : A → List ℕ) (v : B → List ℕ) (Is : A → Type 0) (Are : B → Type 0) (through : (a : A) → Is a → Are (f a) × (v (f a) ≡ w a)) where
   mapped_step : (bytes : List ℕ) (o : Result (A × List ℕ) (List ℕ)) → Obeys read w Is bytes o → (answer : Result (B × List ℕ) (List ℕ)) × Obeys (mapped f read) v Are bytes answer
@@ -107,8 +107,8 @@ module _ {A B : Type 0} (f : A → B) (read : Reading A) (w : A → List ℕ) (v
     },
   )
 
-  pub mapped-lawful : Lawful read w Is → Lawful (mapped f read) v Are
-  mapped-lawful l bytes = let h = l bytes in mapped_step bytes h.0 h.1
+  pub mapped_lawful : Lawful read w Is → Lawful (mapped f read) v Are
+  mapped_lawful l bytes = let h = l bytes in mapped_step bytes h.0 h.1
 
 -- bytes that agree in their first byte begin alike
 begins_same : (test : ℕ → Bool) (front : List ℕ) (x : ℕ) (rest more bytes : List ℕ) → bytes ≡ front ++ x ∷ rest → begins test (front ++ x ∷ more) ≡ begins test bytes
@@ -143,15 +143,15 @@ module _ {A : Type 0} (test : ℕ → Bool) (one other : Reading A) (w : A → L
   choice_step l k bytes false e = let h = k bytes in (h.0, choice_other bytes h.0 e h.1)
 
   -- so is a choice between two lawful readings
-  pub choice-lawful : Lawful one w Is → Lawful other w Is → Lawful (choice test one other) w Is
-  choice-lawful l k bytes = choice_step l k bytes (begins test bytes) refl
+  pub choice_lawful : Lawful one w Is → Lawful other w Is → Lawful (choice test one other) w Is
+  choice_lawful l k bytes = choice_step l k bytes (begins test bytes) refl
 
-pub nothing-lawful : {A : Type 0} (a : A) (w : A → List ℕ) (Is : A → Type 0) → Is a → w a ≡ [] → Lawful (nothing a) w Is
-nothing-lawful a w Is is e bytes = (Ok (a, bytes), record { front = []; is = refl; whole = refl; same = λ x rest more k. refl; judged = (is, sym e) })
+pub nothing_lawful : {A : Type 0} (a : A) (w : A → List ℕ) (Is : A → Type 0) → Is a → w a ≡ [] → Lawful (nothing a) w Is
+nothing_lawful a w Is is e bytes = (Ok (a, bytes), record { front = []; is = refl; whole = refl; same = λ x rest more k. refl; judged = (is, sym e) })
 
 -- a reading is as lawful as one that answers the same
-pub same-lawful : {A : Type 0} (read other : Reading A) (w : A → List ℕ) (Is : A → Type 0) → ((bytes : List ℕ) → read bytes ≡ other bytes) → Lawful other w Is → Lawful read w Is
-same-lawful read other w Is same l bytes =
+pub same_lawful : {A : Type 0} (read other : Reading A) (w : A → List ℕ) (Is : A → Type 0) → ((bytes : List ℕ) → read bytes ≡ other bytes) → Lawful other w Is → Lawful read w Is
+same_lawful read other w Is same l bytes =
     let h = l bytes in (
       h.0,
       record {
@@ -163,9 +163,9 @@ same-lawful read other w Is same l bytes =
       },
     )
 
-pub end-lawful : Lawful end_at (λ x. []) (λ x. Unit {0})
-end-lawful [] = (Ok (tt, []), record { front = []; is = refl; whole = refl; same = λ x rest more e. cc; judged = (tt, refl) })
-end-lawful (c ∷ cs) = (Err (c ∷ cs), record { front = []; is = refl; whole = refl; same = λ x rest more e. refl; judged = (tt, [], tt, refl) })
+pub end_lawful : Lawful end_at (λ x. []) (λ x. Unit {0})
+end_lawful [] = (Ok (tt, []), record { front = []; is = refl; whole = refl; same = λ x rest more e. cc; judged = (tt, refl) })
+end_lawful (c ∷ cs) = (Err (c ∷ cs), record { front = []; is = refl; whole = refl; same = λ x rest more e. refl; judged = (tt, [], tt, refl) })
 
 byte_step : (b c : ℕ) (cs : List ℕ) → ((c == b) ≡ true) × (c ≡ b) ⊎ ((c == b) ≡ false) × (c ≢ b) → (answer : Result (Unit {0} × List ℕ) (List ℕ)) × Obeys (byte_at b) (λ x. b ∷ []) (λ x. Unit {0}) (c ∷ cs) answer
 byte_step b c cs (inl t) = (
@@ -189,9 +189,9 @@ byte_step b c cs (inr t) = (
   },
 )
 
-pub byte-lawful : (b : ℕ) → Lawful (byte_at b) (λ x. b ∷ []) (λ x. Unit {0})
-byte-lawful b [] = (Err [], record { front = []; is = refl; whole = refl; same = λ x rest more e. cc; judged = (tt, b ∷ [], tt, refl) })
-byte-lawful b (c ∷ cs) = byte_step b c cs (eqb_tells c b)
+pub byte_lawful : (b : ℕ) → Lawful (byte_at b) (λ x. b ∷ []) (λ x. Unit {0})
+byte_lawful b [] = (Err [], record { front = []; is = refl; whole = refl; same = λ x rest more e. cc; judged = (tt, b ∷ [], tt, refl) })
+byte_lawful b (c ∷ cs) = byte_step b c cs (eqb_tells c b)
 
 abbrev One : Type 0
 One = Result (Unit {0} × List ℕ) (List ℕ)
@@ -213,28 +213,28 @@ word_step : (ws : List ℕ) (o : One) → (o >>= λ x. word_at ws x.1) ≡ joine
 word_step ws (Ok x) = word_end x.0 (word_at ws x.1)
 word_step ws (Err r) = refl
 
-pub word-lawful : (word : List ℕ) → Lawful (word_at word) (λ x. word) (λ x. Unit {0})
-word-lawful [] = nothing-lawful tt (λ x. []) (λ x. Unit {0}) tt refl
-word-lawful (w ∷ ws) =
-    same-lawful (word_at (w ∷ ws)) (mapped (λ x. tt) (both (byte_at w) (word_at ws))) (λ x. w ∷ ws) (λ x. Unit {0})
+pub word_lawful : (word : List ℕ) → Lawful (word_at word) (λ x. word) (λ x. Unit {0})
+word_lawful [] = nothing_lawful tt (λ x. []) (λ x. Unit {0}) tt refl
+word_lawful (w ∷ ws) =
+    same_lawful (word_at (w ∷ ws)) (mapped (λ x. tt) (both (byte_at w) (word_at ws))) (λ x. w ∷ ws) (λ x. Unit {0})
     (λ bytes. word_step ws (byte_at w bytes))
-    (mapped-lawful (λ x. tt) (both (byte_at w) (word_at ws)) (λ x. w ∷ ws) (λ x. w ∷ ws) (λ x. Unit {0} × Unit {0}) (λ x. Unit {0}) (λ a i. (tt, refl))
-    (both-lawful (byte_at w) (word_at ws) (λ x. w ∷ []) (λ x. ws) (λ x. Unit {0}) (λ x. Unit {0}) tt tt (byte-lawful w) (word-lawful ws)))
+    (mapped_lawful (λ x. tt) (both (byte_at w) (word_at ws)) (λ x. w ∷ ws) (λ x. w ∷ ws) (λ x. Unit {0} × Unit {0}) (λ x. Unit {0}) (λ a i. (tt, refl))
+    (both_lawful (byte_at w) (word_at ws) (λ x. w ∷ []) (λ x. ws) (λ x. Unit {0}) (λ x. Unit {0}) tt tt (byte_lawful w) (word_lawful ws)))
 
 -- what readings one behind another give, where each gives something
-pub both-read : {A B : Type 0} (first : Reading A) (second : Reading B) (bytes : List ℕ) (p : A × List ℕ) (q : B × List ℕ)
+pub both_read : {A B : Type 0} (first : Reading A) (second : Reading B) (bytes : List ℕ) (p : A × List ℕ) (q : B × List ℕ)
     → first bytes ≡ Ok p → second p.1 ≡ Ok q → both first second bytes ≡ Ok ((p.0, q.0), q.1)
-both-read first second bytes p q e k =
+both_read first second bytes p q e k =
     ap (λ o. o >>= λ x. second x.1 >>= λ y. Ok ((x.0, y.0), y.1)) e ∙ ap (λ o. o >>= λ y. Ok ((p.0, y.0), y.1)) k
 
-pub mapped-read : {A B : Type 0} (f : A → B) (read : Reading A) (bytes : List ℕ) (p : A × List ℕ) → read bytes ≡ Ok p → mapped f read bytes ≡ Ok (f p.0, p.1)
-mapped-read f read bytes p e = ap (λ o. o >>= λ x. Ok (f x.0, x.1)) e
+pub mapped_read : {A B : Type 0} (f : A → B) (read : Reading A) (bytes : List ℕ) (p : A × List ℕ) → read bytes ≡ Ok p → mapped f read bytes ≡ Ok (f p.0, p.1)
+mapped_read f read bytes p e = ap (λ o. o >>= λ x. Ok (f x.0, x.1)) e
 
-pub choice-first : {A : Type 0} (test : ℕ → Bool) (one other : Reading A) (bytes : List ℕ) → begins test bytes ≡ true → choice test one other bytes ≡ one bytes
-choice-first test one other bytes e = ap (λ b. cond b (one bytes) (other bytes)) e
+pub choice_first : {A : Type 0} (test : ℕ → Bool) (one other : Reading A) (bytes : List ℕ) → begins test bytes ≡ true → choice test one other bytes ≡ one bytes
+choice_first test one other bytes e = ap (λ b. cond b (one bytes) (other bytes)) e
 
-pub choice-second : {A : Type 0} (test : ℕ → Bool) (one other : Reading A) (bytes : List ℕ) → begins test bytes ≡ false → choice test one other bytes ≡ other bytes
-choice-second test one other bytes e = ap (λ b. cond b (one bytes) (other bytes)) e
+pub choice_second : {A : Type 0} (test : ℕ → Bool) (one other : Reading A) (bytes : List ℕ) → begins test bytes ≡ false → choice test one other bytes ≡ other bytes
+choice_second test one other bytes e = ap (λ b. cond b (one bytes) (other bytes)) e
 
 -- what a reading gives, through a weaker fact on texts
 module _ {A : Type 0} (read : Reading A) (w : A → List ℕ) (Is Are : A → Type 0) (weaker : (a : A) → Is a → Are a) where
@@ -242,8 +242,8 @@ module _ {A : Type 0} (read : Reading A) (w : A → List ℕ) (Is Are : A → Ty
   weaker_step bytes (Err r) h = record { front = h.front; is = h.is; whole = h.whole; same = h.same; judged = (h.judged.0, h.judged.1, weaker h.judged.0 h.judged.2, h.judged.3) }
   weaker_step bytes (Ok p) h = record { front = h.front; is = h.is; whole = h.whole; same = h.same; judged = (weaker p.0 h.judged.0, h.judged.1) }
 
-  pub weaker-lawful : Lawful read w Is → Lawful read w Are
-  weaker-lawful l bytes = let h = l bytes in (h.0, weaker_step bytes h.0 h.1)
+  pub weaker_lawful : Lawful read w Is → Lawful read w Are
+  weaker_lawful l bytes = let h = l bytes in (h.0, weaker_step bytes h.0 h.1)
 
 abbrev then_word : List ℕ → One → One
 then_word ws o = o >>= λ x. word_at ws x.1
@@ -252,18 +252,18 @@ abbrev one_if : List ℕ → List ℕ → Bool → One
 one_if behind whole b = cond b (Ok (tt, behind)) (Err whole)
 
 -- a word is read where it stands
-pub word-complete : (word rest : List ℕ) → word_at word (word ++ rest) ≡ Ok (tt, rest)
-word-complete [] rest = refl
-word-complete (w ∷ ws) rest = ap (λ b. then_word ws (one_if (ws ++ rest) (w ∷ (ws ++ rest)) b)) (eq-eqb w w refl) ∙ word-complete ws rest
+pub word_complete : (word rest : List ℕ) → word_at word (word ++ rest) ≡ Ok (tt, rest)
+word_complete [] rest = refl
+word_complete (w ∷ ws) rest = ap (λ b. then_word ws (one_if (ws ++ rest) (w ∷ (ws ++ rest)) b)) (eq-eqb w w refl) ∙ word_complete ws rest
 
 -- where a reading stops, what is read behind it isn't seen
-pub both-stops : {A B : Type 0} (first : Reading A) (second : Reading B) (bytes rest : List ℕ) → first bytes ≡ Err rest → both first second bytes ≡ Err rest
-both-stops first second bytes rest e = ap (λ o. o >>= λ x. second x.1 >>= λ y. Ok ((x.0, y.0), y.1)) e
+pub both_stops : {A B : Type 0} (first : Reading A) (second : Reading B) (bytes rest : List ℕ) → first bytes ≡ Err rest → both first second bytes ≡ Err rest
+both_stops first second bytes rest e = ap (λ o. o >>= λ x. second x.1 >>= λ y. Ok ((x.0, y.0), y.1)) e
 
-pub both-stops_behind : {A B : Type 0} (first : Reading A) (second : Reading B) (bytes : List ℕ) (p : A × List ℕ) (rest : List ℕ)
+pub both_stops_behind : {A B : Type 0} (first : Reading A) (second : Reading B) (bytes : List ℕ) (p : A × List ℕ) (rest : List ℕ)
     → first bytes ≡ Ok p → second p.1 ≡ Err rest → both first second bytes ≡ Err rest
-both-stops_behind first second bytes p rest e k =
+both_stops_behind first second bytes p rest e k =
     ap (λ o. o >>= λ x. second x.1 >>= λ y. Ok ((x.0, y.0), y.1)) e ∙ ap (λ o. o >>= λ y. Ok ((p.0, y.0), y.1)) k
 
-pub mapped-stops : {A B : Type 0} (f : A → B) (read : Reading A) (bytes rest : List ℕ) → read bytes ≡ Err rest → mapped f read bytes ≡ Err rest
-mapped-stops f read bytes rest e = ap (λ o. o >>= λ x. Ok (f x.0, x.1)) e
+pub mapped_stops : {A B : Type 0} (f : A → B) (read : Reading A) (bytes rest : List ℕ) → read bytes ≡ Err rest → mapped f read bytes ≡ Err rest
+mapped_stops f read bytes rest e = ap (λ o. o >>= λ x. Ok (f x.0, x.1)) e

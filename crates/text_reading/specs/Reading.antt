@@ -54,10 +54,14 @@ abbrev pub word_at : List ℕ → Reading (Unit {0})
 word_at [] bytes = Ok (tt, bytes)
 word_at (w ∷ ws) bytes = byte_at w bytes >>= λ x. word_at ws x.1
 
+-- one byte more in front of what was split off
+abbrev pub with_first : ℕ → List ℕ × List ℕ → List ℕ × List ℕ
+with_first c split = (c ∷ split.0, split.1)
+
 -- the digits at the front, and what is behind them
 abbrev pub split_digits : List ℕ → List ℕ × List ℕ
 split_digits [] = ([], [])
-split_digits (c ∷ cs) = if is_digit c then (c ∷ (split_digits cs).0, (split_digits cs).1) else ([], c ∷ cs)
+split_digits (c ∷ cs) = if is_digit c then with_first c (split_digits cs) else ([], c ∷ cs)
 
 -- one or more digits, as many as there are
 unfoldable pub digits_at : Reading (List ℕ)

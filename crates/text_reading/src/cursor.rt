@@ -1,4 +1,4 @@
-// The front of a text.
+//! The front of a text.
 
 ghost use Rattle.std.specs.Prelude.{◌≡◌, []};
 ghost use Rattle.text_reading.specs.Reading.{Gives, end_at, byte_at, word_at};
@@ -28,7 +28,7 @@ pub fn word<'a>(text: &'a [u8], word: &[u8]) -> Result<&'a [u8], &'a [u8]>
     ensures { Gives (λ rest. (tt, rest.now)) result (word_at word.now text.now) }
 {
     let mut rest = text;
-    for wanted in word {
+    'bytes: for wanted in word {
         rest = byte(rest, *wanted)?;
     }
     Ok(rest)

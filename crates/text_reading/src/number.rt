@@ -1,4 +1,4 @@
-// Digits, and the number that they are.
+//! Digits, and the number that they are.
 
 ghost use Rattle.std.specs.Prelude.{◌≡◌, ◌+◌, ◌^◌, ◌≤◌, ◌<◌, min, length};
 ghost use Rattle.std.specs.List.{prefix_len};
@@ -33,7 +33,7 @@ pub fn number_up_to(digits: &[u8], limit: u64) -> u64
     ensures { result ≡ min (digits_from 0 digits.now) limit }
 {
     let mut n: u64 = 0;
-    for c in digits {
+    'digits: for c in digits {
         let digit = u64::from(c.saturating_sub(b'0'));
         n = n.saturating_mul(10).saturating_add(digit).min(limit);
     }

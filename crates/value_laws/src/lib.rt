@@ -1,7 +1,7 @@
-// What `matches` says of values, whichever they are: `=` is equality, operators agree with their converses, the operators on
-// ranges speak of the sets of their numbers, and `<<=` orders networks. Each law is a function that does nothing: its
-// contract is the law, and whoever calls it may use it. It stands on block_model, whose definitions of matches, ranges and
-// networks the laws are about, and no crate stands on it.
+//! What `matches` says of values, whichever they are: `=` is equality, operators agree with their converses, the operators on
+//! ranges speak of the sets of their numbers, and `<<=` orders networks. Each law is a function that does nothing: its
+//! contract is the law, and whoever calls it may use it. It stands on block_model, whose definitions of matches, ranges and
+//! networks the laws are about, and no crate stands on it.
 #![tactic(auto)]
 
 ghost use Rattle.value_laws.specs.EqualityIsIdentity.{EqualityIsIdentity};

@@ -10,8 +10,8 @@ use Rattle.text_reading.specs.Digits.{AreDigits}
 own : IsNumeralModel (λ ds. list_all is_digit ds ≡ true) (digits_from 0)
 own = numerals_by_fold _ (search rules) digits_from (search rules)
 
-pub decimal-digits : (n : ℕ) → n < 2 ^ 64 → AreDigits (decimal n)
-decimal-digits n h = record { some = decimal_nonempty n h; digits = digits_decimal own n h }
+pub decimal_digits : (n : ℕ) → n < 2 ^ 64 → AreDigits (decimal n)
+decimal_digits n h = record { some = decimal_nonempty n h; digits = digits_decimal own n h }
 
-pub digits_from-decimal : (n : ℕ) → n < 2 ^ 64 → digits_from 0 (decimal n) ≡ n
-digits_from-decimal n h = digits_value-decimal own n h
+pub digits_from_decimal : (n : ℕ) → n < 2 ^ 64 → digits_from 0 (decimal n) ≡ n
+digits_from_decimal n h = digits_value-decimal own n h

@@ -1,4 +1,3 @@
-pub mod AppendedLemmas
 pub mod PrintedLemmas
 pub mod NumberReading
 pub mod RangeReading

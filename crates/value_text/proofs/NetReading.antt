@@ -1,15 +1,14 @@
 -- The texts of inet are what is read as them.
 use Rattle.std.proofs.Common.{◌≡◌, ◌≢◌, ℕ, ◌+◌, ◌-◌, ◌*◌, ◌/◌, ◌%◌, ◌^◌, ◌<◌, ◌≤◌, nat_le, Bool, true, false, cond, ◌&&◌, ◌==◌, List, [], ◌∷◌, ◌++◌, codes, decimal, Result, Ok, Err, Option, Some, None, refl, sym, ap, ◌∙◌, append_assoc, append-nil, ◌⊎◌, inl, inr, arith}
 use Rattle.std.specs.Prelude.{IfSome}
-use Rattle.std.proofs.lemmas.Bool.{leb-true, le-leb}
+use Rattle.std.proofs.lemmas.Bool.{leb-true, le-leb, and_parts}
 use Rattle.std.proofs.lemmas.Bool.Decides.{eqb_tells}
 use Rattle.std.proofs.lemmas.Fmt.{decimal_digit, decimal_step, decimal_by_steps}
 use Rattle.block_model.specs.Names.{is_digit}
 use Rattle.value_text.specs.NetTexts.{NetText, IsNet, prefix_bytes, net_bytes}
 use Rattle.text_reading.specs.Reading.{mapped, both, begins, choice, nothing, byte_at}
 use Rattle.value_text.specs.Reading.{grown, decimal_at, pointed_at, prefix_at, ending_at, front_at, whole_net, net_at}
-use Rattle.text_reading.proofs.Lawful.{Obeys, Lawful, both-lawful, mapped-lawful, choice-lawful, nothing-lawful, same-lawful, byte-lawful, both-read, mapped-read}
-use Rattle.text_reading.proofs.DigitReading.{and_parts}
+use Rattle.text_reading.proofs.Lawful.{Obeys, Lawful, both_lawful, mapped_lawful, choice_lawful, nothing_lawful, same_lawful, byte_lawful, both_read, mapped_read}
 
 digit_range : (c : ℕ) → is_digit c ≡ true → (48 ≤ c) × (c ≤ 57)
 digit_range c h = let p = and_parts (nat_le 48 c) (nat_le c 57) h in (leb-true 48 c p.0, leb-true c 57 p.1)
@@ -24,8 +23,8 @@ abbrev goes_on : ℕ → ℕ → ℕ → Bool
 goes_on limit n c = is_digit c && nat_le (next n c) limit
 
 -- one digit more
-decimal-next : (n c : ℕ) → 0 < n → is_digit c ≡ true → next n c < 2 ^ 64 → decimal (next n c) ≡ decimal n ++ c ∷ []
-decimal-next n c some digit small =
+decimal_next : (n c : ℕ) → 0 < n → is_digit c ≡ true → next n c < 2 ^ 64 → decimal (next n c) ≡ decimal n ++ c ∷ []
+decimal_next n c some digit small =
     let r = digit_range c digit in
     let high : next n c / 10 ≡ n = omega arith in
     let low : 48 + next n c % 10 ≡ c = omega arith in
@@ -52,7 +51,7 @@ grows_step limit n c cs true e some within small h =
     record {
       more = c ∷ g.more;
       whole = ap (λ l. c ∷ l) g.whole;
-      number = g.number ∙ ap (λ l. l ++ g.more) (decimal-next n c some p.0 (omega arith)) ∙ append_assoc (decimal n) (c ∷ []) g.more;
+      number = g.number ∙ ap (λ l. l ++ g.more) (decimal_next n c some p.0 (omega arith)) ∙ append_assoc (decimal n) (c ∷ []) g.more;
       within = g.within;
       same = λ x rest later k. ap (λ b. cond b (grown limit (next n c) (g.more ++ x ∷ later)) (ends n (c ∷ (g.more ++ x ∷ later)))) e ∙ g.same x rest later k;
     }
@@ -121,14 +120,14 @@ module _ (limit : ℕ) (low : 9 ≤ limit) (small : limit < 2 ^ 64) where
   )
   zero_step c cs (inr t) = first_step c cs (is_digit c) refl t.0 t.1
 
-  pub decimal-lawful : Lawful (decimal_at limit) decimal (λ n. n ≤ limit)
+  pub decimal_lawful : Lawful (decimal_at limit) decimal (λ n. n ≤ limit)
   unfolding decimal_at
-  decimal-lawful [] = (Err [], record { front = []; is = refl; whole = refl; same = λ x rest later k. cc; judged = (0, decimal 0, omega arith, refl) })
-  decimal-lawful (c ∷ cs) = zero_step c cs (eqb_tells c 48)
+  decimal_lawful [] = (Err [], record { front = []; is = refl; whole = refl; same = λ x rest later k. cc; judged = (0, decimal 0, omega arith, refl) })
+  decimal_lawful (c ∷ cs) = zero_step c cs (eqb_tells c 48)
 
-  grown-end : (n : ℕ) (rest : List ℕ) → begins is_digit rest ≡ false → grown limit n rest ≡ (n, rest)
-  grown-end n [] e = refl
-  grown-end n (c ∷ cs) e = ap (λ b. cond (b && nat_le (next n c) limit) (grown limit (next n c) cs) (ends n (c ∷ cs))) e
+  grown_end : (n : ℕ) (rest : List ℕ) → begins is_digit rest ≡ false → grown limit n rest ≡ (n, rest)
+  grown_end n [] e = refl
+  grown_end n (c ∷ cs) e = ap (λ b. cond (b && nat_le (next n c) limit) (grown limit (next n c) cs) (ends n (c ∷ cs))) e
 
   abbrev GrowsTo : ℕ → List ℕ → Type 0
   GrowsTo n ds = 0 < n → n ≤ limit → (rest : List ℕ) → decimal_at limit (ds ++ rest) ≡ Ok (grown limit n rest)
@@ -150,19 +149,19 @@ module _ (limit : ℕ) (low : 9 ≤ limit) (small : limit < 2 ^ 64) where
       ∙ ap (λ b. Ok (cond b (grown limit (next (n / 10) d) rest) (ends (n / 10) (d ∷ rest)))) on
       ∙ ap (λ m. Ok (grown limit m rest)) back
 
-  positive-complete : (n : ℕ) (rest : List ℕ) → 0 < n → n ≤ limit → begins is_digit rest ≡ false → decimal_at limit (decimal n ++ rest) ≡ Ok (n, rest)
-  positive-complete n rest some within e =
-      decimal_by_steps GrowsTo one_digit more_digits n (omega arith) some within rest ∙ ap Ok (grown-end n rest e)
+  positive_complete : (n : ℕ) (rest : List ℕ) → 0 < n → n ≤ limit → begins is_digit rest ≡ false → decimal_at limit (decimal n ++ rest) ≡ Ok (n, rest)
+  positive_complete n rest some within e =
+      decimal_by_steps GrowsTo one_digit more_digits n (omega arith) some within rest ∙ ap Ok (grown_end n rest e)
 
-  zero-complete : (rest : List ℕ) → decimal_at limit (decimal 0 ++ rest) ≡ Ok (0, rest)
+  zero_complete : (rest : List ℕ) → decimal_at limit (decimal 0 ++ rest) ≡ Ok (0, rest)
   unfolding decimal_at
-  zero-complete rest = ap (λ l. decimal_at limit (l ++ rest)) (decimal_digit 0 (omega arith))
+  zero_complete rest = ap (λ l. decimal_at limit (l ++ rest)) (decimal_digit 0 (omega arith))
 
   -- a number within the limit, behind which no digit stands, is read
-  pub decimal-complete : (n : ℕ) (rest : List ℕ) → n ≤ limit → begins is_digit rest ≡ false → decimal_at limit (decimal n ++ rest) ≡ Ok (n, rest)
-  decimal-complete n rest within e = elim (eqb_tells n 0) as (λ x. decimal_at limit (decimal n ++ rest) ≡ Ok (n, rest)) [
-    | inl t ↦ ap (λ m. decimal_at limit (decimal m ++ rest)) t.1 ∙ zero-complete rest ∙ ap (λ m. Ok (m, rest)) (sym t.1)
-    | inr t ↦ positive-complete n rest (omega arith) within e
+  pub decimal_complete : (n : ℕ) (rest : List ℕ) → n ≤ limit → begins is_digit rest ≡ false → decimal_at limit (decimal n ++ rest) ≡ Ok (n, rest)
+  decimal_complete n rest within e = elim (eqb_tells n 0) as (λ x. decimal_at limit (decimal n ++ rest) ≡ Ok (n, rest)) [
+    | inl t ↦ ap (λ m. decimal_at limit (decimal m ++ rest)) t.1 ∙ zero_complete rest ∙ ap (λ m. Ok (m, rest)) (sym t.1)
+    | inr t ↦ positive_complete n rest (omega arith) within e
   ]
 
 nine : 9 ≤ 255
@@ -189,12 +188,12 @@ pointed_bytes n = decimal n ++ codes "."
 abbrev number_of_pointed : ℕ × Unit {0} → ℕ
 number_of_pointed x = x.0
 
-pointed-lawful : Lawful pointed_at pointed_bytes IsByte
+pointed_lawful : Lawful pointed_at pointed_bytes IsByte
 unfolding pointed_at
-pointed-lawful =
-    same-lawful pointed_at (mapped number_of_pointed (both (decimal_at 255) (byte_at 46))) pointed_bytes IsByte (λ bytes. refl)
-    (mapped-lawful number_of_pointed (both (decimal_at 255) (byte_at 46)) (λ x. decimal x.0 ++ 46 ∷ []) pointed_bytes (λ x. IsByte x.0 × Unit {0}) IsByte (λ a i. (i.0, refl))
-    (both-lawful (decimal_at 255) (byte_at 46) decimal (λ x. 46 ∷ []) IsByte (λ x. Unit {0}) tt tt (decimal-lawful 255 nine byte_small) (byte-lawful 46)))
+pointed_lawful =
+    same_lawful pointed_at (mapped number_of_pointed (both (decimal_at 255) (byte_at 46))) pointed_bytes IsByte (λ bytes. refl)
+    (mapped_lawful number_of_pointed (both (decimal_at 255) (byte_at 46)) (λ x. decimal x.0 ++ 46 ∷ []) pointed_bytes (λ x. IsByte x.0 × Unit {0}) IsByte (λ a i. (i.0, refl))
+    (both_lawful (decimal_at 255) (byte_at 46) decimal (λ x. 46 ∷ []) IsByte (λ x. Unit {0}) tt tt (decimal_lawful 255 nine byte_small) (byte_lawful 46)))
 
 abbrev is_slash : ℕ → Bool
 is_slash c = c == 47
@@ -202,14 +201,14 @@ is_slash c = c == 47
 abbrev prefix_of : Unit {0} × ℕ → Option ℕ
 prefix_of x = Some x.1
 
-prefix-lawful : Lawful prefix_at prefix_bytes IsPrefix
+prefix_lawful : Lawful prefix_at prefix_bytes IsPrefix
 unfolding prefix_at
-prefix-lawful =
-    same-lawful prefix_at (choice is_slash (mapped prefix_of (both (byte_at 47) (decimal_at 32))) (nothing None)) prefix_bytes IsPrefix (λ bytes. refl)
-    (choice-lawful is_slash (mapped prefix_of (both (byte_at 47) (decimal_at 32))) (nothing None) prefix_bytes IsPrefix
-    (mapped-lawful prefix_of (both (byte_at 47) (decimal_at 32)) (λ x. (47 ∷ []) ++ decimal x.1) prefix_bytes (λ x. Unit {0} × (x.1 ≤ 32)) IsPrefix (λ a i. (i.1, refl))
-    (both-lawful (byte_at 47) (decimal_at 32) (λ x. 47 ∷ []) decimal (λ x. Unit {0}) (λ n. n ≤ 32) 9 nine_bits (byte-lawful 47) (decimal-lawful 32 nine_bits bits_small)))
-    (nothing-lawful None prefix_bytes IsPrefix tt refl))
+prefix_lawful =
+    same_lawful prefix_at (choice is_slash (mapped prefix_of (both (byte_at 47) (decimal_at 32))) (nothing None)) prefix_bytes IsPrefix (λ bytes. refl)
+    (choice_lawful is_slash (mapped prefix_of (both (byte_at 47) (decimal_at 32))) (nothing None) prefix_bytes IsPrefix
+    (mapped_lawful prefix_of (both (byte_at 47) (decimal_at 32)) (λ x. (47 ∷ []) ++ decimal x.1) prefix_bytes (λ x. Unit {0} × (x.1 ≤ 32)) IsPrefix (λ a i. (i.1, refl))
+    (both_lawful (byte_at 47) (decimal_at 32) (λ x. 47 ∷ []) decimal (λ x. Unit {0}) (λ n. n ≤ 32) 9 nine_bits (byte_lawful 47) (decimal_lawful 32 nine_bits bits_small)))
+    (nothing_lawful None prefix_bytes IsPrefix tt refl))
 
 abbrev ending_bytes : ℕ × Option ℕ → List ℕ
 ending_bytes x = decimal x.0 ++ prefix_bytes x.1
@@ -217,11 +216,11 @@ ending_bytes x = decimal x.0 ++ prefix_bytes x.1
 abbrev IsEnding : ℕ × Option ℕ → Type 0
 IsEnding x = IsByte x.0 × IsPrefix x.1
 
-ending-lawful : Lawful ending_at ending_bytes IsEnding
+ending_lawful : Lawful ending_at ending_bytes IsEnding
 unfolding ending_at
-ending-lawful =
-    same-lawful ending_at (both (decimal_at 255) prefix_at) ending_bytes IsEnding (λ bytes. refl)
-    (both-lawful (decimal_at 255) prefix_at decimal prefix_bytes IsByte IsPrefix None tt (decimal-lawful 255 nine byte_small) prefix-lawful)
+ending_lawful =
+    same_lawful ending_at (both (decimal_at 255) prefix_at) ending_bytes IsEnding (λ bytes. refl)
+    (both_lawful (decimal_at 255) prefix_at decimal prefix_bytes IsByte IsPrefix None tt (decimal_lawful 255 nine byte_small) prefix_lawful)
 
 abbrev front_bytes : ℕ × (ℕ × ℕ) → List ℕ
 front_bytes x = pointed_bytes x.0 ++ (pointed_bytes x.1.0 ++ pointed_bytes x.1.1)
@@ -229,12 +228,12 @@ front_bytes x = pointed_bytes x.0 ++ (pointed_bytes x.1.0 ++ pointed_bytes x.1.1
 abbrev AreBytes : ℕ × (ℕ × ℕ) → Type 0
 AreBytes x = IsByte x.0 × (IsByte x.1.0 × IsByte x.1.1)
 
-front-lawful : Lawful front_at front_bytes AreBytes
+front_lawful : Lawful front_at front_bytes AreBytes
 unfolding front_at
-front-lawful =
-    same-lawful front_at (both pointed_at (both pointed_at pointed_at)) front_bytes AreBytes (λ bytes. refl)
-    (both-lawful pointed_at (both pointed_at pointed_at) pointed_bytes (λ x. pointed_bytes x.0 ++ pointed_bytes x.1) IsByte (λ x. IsByte x.0 × IsByte x.1) (9, 9) (nine, nine) pointed-lawful
-    (both-lawful pointed_at pointed_at pointed_bytes pointed_bytes IsByte IsByte 9 nine pointed-lawful pointed-lawful))
+front_lawful =
+    same_lawful front_at (both pointed_at (both pointed_at pointed_at)) front_bytes AreBytes (λ bytes. refl)
+    (both_lawful pointed_at (both pointed_at pointed_at) pointed_bytes (λ x. pointed_bytes x.0 ++ pointed_bytes x.1) IsByte (λ x. IsByte x.0 × IsByte x.1) (9, 9) (nine, nine) pointed_lawful
+    (both_lawful pointed_at pointed_at pointed_bytes pointed_bytes IsByte IsByte 9 nine pointed_lawful pointed_lawful))
 
 -- the bytes of an address, one part behind another
 net_grouped : (n : NetText) → net_bytes n ≡ front_bytes (n.first, (n.second, n.third)) ++ ending_bytes (n.fourth, n.prefix)
@@ -243,19 +242,19 @@ net_grouped n = simp append_assoc
 whole_is : (x : (ℕ × (ℕ × ℕ)) × (ℕ × Option ℕ)) → AreBytes x.0 × IsEnding x.1 → IsNet (whole_net x) × (net_bytes (whole_net x) ≡ front_bytes x.0 ++ ending_bytes x.1)
 whole_is x i = (record { first = i.0.0; second = i.0.1.0; third = i.0.1.1; fourth = i.1.0; prefix = i.1.1 }, net_grouped (whole_net x))
 
-pub net-lawful : Lawful net_at net_bytes IsNet
+pub net_lawful : Lawful net_at net_bytes IsNet
 unfolding net_at
-net-lawful =
-    same-lawful net_at (mapped whole_net (both front_at ending_at)) net_bytes IsNet (λ bytes. refl)
-    (mapped-lawful whole_net (both front_at ending_at) (λ x. front_bytes x.0 ++ ending_bytes x.1) net_bytes (λ x. AreBytes x.0 × IsEnding x.1) IsNet whole_is
-    (both-lawful front_at ending_at front_bytes ending_bytes AreBytes IsEnding (9, None) (nine, tt) front-lawful ending-lawful))
+net_lawful =
+    same_lawful net_at (mapped whole_net (both front_at ending_at)) net_bytes IsNet (λ bytes. refl)
+    (mapped_lawful whole_net (both front_at ending_at) (λ x. front_bytes x.0 ++ ending_bytes x.1) net_bytes (λ x. AreBytes x.0 × IsEnding x.1) IsNet whole_is
+    (both_lawful front_at ending_at front_bytes ending_bytes AreBytes IsEnding (9, None) (nine, tt) front_lawful ending_lawful))
 
 pointed_read : (n : ℕ) (rest : List ℕ) → IsByte n → pointed_at (pointed_bytes n ++ rest) ≡ Ok (n, rest)
 unfolding pointed_at
 pointed_read n rest i =
     ap pointed_at (append_assoc (decimal n) (codes ".") rest)
-    ∙ mapped-read number_of_pointed (both (decimal_at 255) (byte_at 46)) (decimal n ++ 46 ∷ rest) ((n, tt), rest)
-    (both-read (decimal_at 255) (byte_at 46) (decimal n ++ 46 ∷ rest) (n, 46 ∷ rest) (tt, rest) (decimal-complete 255 nine byte_small n (46 ∷ rest) i refl) refl)
+    ∙ mapped_read number_of_pointed (both (decimal_at 255) (byte_at 46)) (decimal n ++ 46 ∷ rest) ((n, tt), rest)
+    (both_read (decimal_at 255) (byte_at 46) (decimal n ++ 46 ∷ rest) (n, 46 ∷ rest) (tt, rest) (decimal_complete 255 nine byte_small n (46 ∷ rest) i refl) refl)
 
 prefix_no_digit : (p : Option ℕ) → begins is_digit (prefix_bytes p) ≡ false
 prefix_no_digit None = refl
@@ -265,15 +264,15 @@ prefix_read : (p : Option ℕ) → IsPrefix p → prefix_at (prefix_bytes p) ≡
 unfolding prefix_at
 prefix_read None i = refl
 prefix_read (Some bits) i =
-    mapped-read prefix_of (both (byte_at 47) (decimal_at 32)) (47 ∷ decimal bits) ((tt, bits), [])
-    (both-read (byte_at 47) (decimal_at 32) (47 ∷ decimal bits) (tt, decimal bits) (bits, []) refl
-    (ap (decimal_at 32) (sym (append-nil (decimal bits))) ∙ decimal-complete 32 nine_bits bits_small bits [] i refl))
+    mapped_read prefix_of (both (byte_at 47) (decimal_at 32)) (47 ∷ decimal bits) ((tt, bits), [])
+    (both_read (byte_at 47) (decimal_at 32) (47 ∷ decimal bits) (tt, decimal bits) (bits, []) refl
+    (ap (decimal_at 32) (sym (append-nil (decimal bits))) ∙ decimal_complete 32 nine_bits bits_small bits [] i refl))
 
 ending_read : (x : ℕ × Option ℕ) → IsEnding x → ending_at (ending_bytes x) ≡ Ok (x, [])
 unfolding ending_at
 ending_read x i =
-    both-read (decimal_at 255) prefix_at (ending_bytes x) (x.0, prefix_bytes x.1) (x.1, [])
-    (decimal-complete 255 nine byte_small x.0 (prefix_bytes x.1) i.0 (prefix_no_digit x.1)) (prefix_read x.1 i.1)
+    both_read (decimal_at 255) prefix_at (ending_bytes x) (x.0, prefix_bytes x.1) (x.1, [])
+    (decimal_complete 255 nine byte_small x.0 (prefix_bytes x.1) i.0 (prefix_no_digit x.1)) (prefix_read x.1 i.1)
 
 front_read : (x : ℕ × (ℕ × ℕ)) (rest : List ℕ) → AreBytes x → front_at (front_bytes x ++ rest) ≡ Ok (x, rest)
 unfolding front_at
@@ -282,16 +281,16 @@ front_read x rest i =
     let grouped : front_bytes x ++ rest ≡ pointed_bytes x.0 ++ second =
     append_assoc (pointed_bytes x.0) (pointed_bytes x.1.0 ++ pointed_bytes x.1.1) rest ∙ ap (λ l. pointed_bytes x.0 ++ l) (append_assoc (pointed_bytes x.1.0) (pointed_bytes x.1.1) rest) in
     ap (both pointed_at (both pointed_at pointed_at)) grouped
-    ∙ both-read pointed_at (both pointed_at pointed_at) (pointed_bytes x.0 ++ second) (x.0, second) (x.1, rest) (pointed_read x.0 second i.0)
-    (both-read pointed_at pointed_at second (x.1.0, pointed_bytes x.1.1 ++ rest) (x.1.1, rest) (pointed_read x.1.0 (pointed_bytes x.1.1 ++ rest) i.1.0) (pointed_read x.1.1 rest i.1.1))
+    ∙ both_read pointed_at (both pointed_at pointed_at) (pointed_bytes x.0 ++ second) (x.0, second) (x.1, rest) (pointed_read x.0 second i.0)
+    (both_read pointed_at pointed_at second (x.1.0, pointed_bytes x.1.1 ++ rest) (x.1.1, rest) (pointed_read x.1.0 (pointed_bytes x.1.1 ++ rest) i.1.0) (pointed_read x.1.1 rest i.1.1))
 
 -- a text of an address is read
-pub net-complete : (n : NetText) → IsNet n → net_at (net_bytes n) ≡ Ok (n, [])
+pub net_complete : (n : NetText) → IsNet n → net_at (net_bytes n) ≡ Ok (n, [])
 unfolding net_at
-net-complete n i =
+net_complete n i =
     let front : ℕ × (ℕ × ℕ) = (n.first, (n.second, n.third)) in
     let ending : ℕ × Option ℕ = (n.fourth, n.prefix) in
     ap (mapped whole_net (both front_at ending_at)) (net_grouped n)
-    ∙ mapped-read whole_net (both front_at ending_at) (front_bytes front ++ ending_bytes ending) ((front, ending), [])
-    (both-read front_at ending_at (front_bytes front ++ ending_bytes ending) (front, ending_bytes ending) (ending, [])
+    ∙ mapped_read whole_net (both front_at ending_at) (front_bytes front ++ ending_bytes ending) ((front, ending), [])
+    (both_read front_at ending_at (front_bytes front ++ ending_bytes ending) (front, ending_bytes ending) (ending, [])
     (front_read front (ending_bytes ending) (i.first, (i.second, i.third))) (ending_read ending (i.fourth, i.prefix)))

@@ -14,11 +14,12 @@ use Rattle.block_model.specs.declared.value.Kind.{Kind}
 use Rattle.block_model.specs.declared.value.Kind.TheVariants as kinds
 use Rattle.block_model.specs.declared.value.Value.{Value}
 use Rattle.block_model.specs.declared.value.Value.TheVariants as values
-use Rattle.value_text.specs.IntTexts.{NumberText, number_of, is_int8, int8_of}
-use Rattle.value_text.specs.RangeTexts.{BoundText, side_of, bound_with, bound_of, placed, range_with, range_of}
+use Rattle.value_text.specs.IntTexts.{NumberText, number_of, int8_of}
+use Rattle.block_model.specs.ValuesOfKind.{is_int8}
+use Rattle.value_text.specs.RangeTexts.{BoundText, side_of, bound_with, bound_of, placed, range_with, written_range}
 use Rattle.value_text.specs.NetTexts.{NetText, IsNet, network_of}
 use Rattle.value_text.specs.ValueTexts.{ValueText, Null, Number, NoNumber, Bounds, Address, IsTextOf, int_value, range_value, meaning, Denotes}
-use Rattle.value_text.specs.CanonicalTexts.{HasBounds, IsValueOf}
+use Rattle.block_model.specs.ValuesOfKind.{HasBounds, IsValueOf}
 
 abbrev Is8 : ℤ → Type 0
 Is8 z = is_int8 z ≡ true
@@ -153,7 +154,7 @@ int_step : (n : NumberText) (value : Value) (o : Option ℤ) → int8_of n ≡ o
 int_step n value None e h = absurd (false≢true (ap is_ok h))
 int_step n value (Some z) e h = let k : values.Int z ≡ value = cc in subst (IsValueOf kinds.Int) k (number_is n z e)
 
-span_step : (lower upper : BoundText) (value : Value) (o : Result Range ℕ) → range_of lower upper ≡ o → range_value o ≡ Ok value → IsValueOf kinds.Span value
+span_step : (lower upper : BoundText) (value : Value) (o : Result Range ℕ) → written_range lower upper ≡ o → range_value o ≡ Ok value → IsValueOf kinds.Span value
 span_step lower upper value (Err at) e h = absurd (false≢true (ap is_ok h))
 span_step lower upper value (Ok r) e h = let k : values.Span r ≡ value = cc in subst (IsValueOf kinds.Span) k (range_step lower upper (bound_of lower) (bound_of upper) refl refl r e)
 
@@ -164,16 +165,11 @@ prefix_is (Some bits) h = h
 network_is : (n : NetText) → IsNet n → IsNetwork (network_of n)
 network_is n h = record { family = refl; prefix = prefix_is n.prefix h.prefix; address = (let a : n.first ≤ 255 = h.first in let b : n.second ≤ 255 = h.second in let c : n.third ≤ 255 = h.third in let d : n.fourth ≤ 255 = h.fourth in omega arith) }
 
-null_of : (kind : Kind) → IsValueOf kind values.Null
-null_of kinds.Int = tt
-null_of kinds.Span = tt
-null_of kinds.Net = tt
-
 meaning_is : (kind : Kind) (text : ValueText) (value : Value) → IsTextOf kind text → meaning text ≡ Ok value → IsValueOf kind value
-meaning_is kind Null value i h = let k : values.Null ≡ value = cc in subst (IsValueOf kind) k (null_of kind)
+meaning_is kind Null value i h = let k : values.Null ≡ value = cc in subst (IsValueOf kind) k tt
 meaning_is kinds.Int (Number n) value i h = int_step n value (int8_of n) refl h
 meaning_is kinds.Span NoNumber value i h = let k : values.Span Empty ≡ value = cc in subst (IsValueOf kinds.Span) k (tt, tt)
-meaning_is kinds.Span (Bounds lower upper) value i h = span_step lower upper value (range_of lower upper) refl h
+meaning_is kinds.Span (Bounds lower upper) value i h = span_step lower upper value (written_range lower upper) refl h
 meaning_is kinds.Net (Address n) value i h = let k : values.Net (network_of n) ≡ value = cc in subst (IsValueOf kinds.Net) k (network_is n i)
 meaning_is kinds.Int NoNumber value i h = absurd i
 meaning_is kinds.Int (Bounds lower upper) value i h = absurd i

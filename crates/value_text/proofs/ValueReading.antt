@@ -1,6 +1,7 @@
 -- The texts of each kind are what is read as them, and other bytes are refused where no text goes on.
 use Rattle.std.proofs.Common.{◌≡◌, ℕ, ◌-◌, ◌≤◌, Bool, true, false, ◌==◌, List, [], ◌∷◌, ◌++◌, length, codes, decimal, Result, Ok, Err, Option, refl, sym, ap, ◌∙◌, append_assoc, append-nil, arith}
 use Rattle.std.specs.List.{list_all}
+use Rattle.std.proofs.lemmas.Bool.{and_parts}
 use Rattle.block_model.specs.Names.{is_digit}
 use Rattle.block_model.specs.declared.value.Kind.{Kind}
 use Rattle.block_model.specs.declared.value.Kind.TheVariants as kinds
@@ -10,31 +11,31 @@ use Rattle.value_text.specs.NetTexts.{NetText, IsNet, prefix_bytes, net_bytes}
 use Rattle.value_text.specs.ValueTexts.{ValueText, Null, Number, NoNumber, Bounds, Address, IsTextOf, bytes_of, Answers}
 use Rattle.block_model.specs.declared.value.Value.{Value}
 use Rattle.value_text.specs.declared.read.TextFault.TheVariants as faults
-use Rattle.value_text.specs.StopsAt.{StopsAt}
+use Rattle.value_text.specs.ValueStopsAt.{ValueStopsAt}
 use Rattle.text_reading.specs.Reading.{mapped, begins, word_at}
-use Rattle.value_text.specs.Reading.{number_at, range_at, net_at, kind_at, text_at, whole_at}
-use Rattle.text_reading.proofs.Lawful.{Lawful, mapped-lawful, choice-lawful, same-lawful, word-lawful, mapped-read, choice-second}
+use Rattle.value_text.specs.Reading.{signed_at, range_at, net_at, kind_at, text_at, whole_at}
+use Rattle.text_reading.proofs.Lawful.{Lawful, mapped_lawful, choice_lawful, same_lawful, word_lawful, mapped_read, choice_second}
 use Rattle.text_reading.specs.Digits.{AreDigits}
-use Rattle.text_reading.proofs.DigitReading.{and_parts, other_byte}
-use Rattle.text_reading.proofs.Whole.{whole-read, one-text as one-whole_text, read-is_text as whole-is_text, refused-is_no_text as whole-is_no_text, refused-leaves as whole-leaves, refused-stops_at as whole-stops_at}
-use Rattle.value_text.proofs.NumberReading.{number-lawful, number-complete}
-use Rattle.value_text.proofs.RangeReading.{range-lawful, empty-complete, bounds-complete}
-use Rattle.value_text.proofs.NetReading.{net-lawful, net-complete}
-use Rattle.value_text.proofs.Decimals.{decimal-digits}
+use Rattle.text_reading.proofs.DigitReading.{other_byte}
+use Rattle.text_reading.proofs.Whole.{whole_read, one_text as one-whole_text, read_is_text as whole-is_text, refused_is_no_text as whole-is_no_text, refused_leaves as whole-leaves, refused_stops_at as whole-stops_at}
+use Rattle.value_text.proofs.NumberReading.{number_lawful, number_complete}
+use Rattle.value_text.proofs.RangeReading.{range_lawful, empty_complete, bounds-complete}
+use Rattle.value_text.proofs.NetReading.{net_lawful, net_complete}
+use Rattle.value_text.proofs.Decimals.{decimal_digits}
 
 pub null_is : (kind : Kind) → IsTextOf kind Null
 null_is kinds.Int = tt
 null_is kinds.Span = tt
 null_is kinds.Net = tt
 
-kind-lawful : (kind : Kind) → Lawful (kind_at kind) bytes_of (IsTextOf kind)
-kind-lawful kinds.Int =
-    same-lawful (kind_at kinds.Int) (mapped Number number_at) bytes_of (IsTextOf kinds.Int) (λ bytes. refl)
-    (mapped-lawful Number number_at number_bytes bytes_of IsNumber (IsTextOf kinds.Int) (λ a i. (i, refl)) number-lawful)
-kind-lawful kinds.Span = same-lawful (kind_at kinds.Span) range_at bytes_of (IsTextOf kinds.Span) (λ bytes. refl) range-lawful
-kind-lawful kinds.Net =
-    same-lawful (kind_at kinds.Net) (mapped Address net_at) bytes_of (IsTextOf kinds.Net) (λ bytes. refl)
-    (mapped-lawful Address net_at net_bytes bytes_of IsNet (IsTextOf kinds.Net) (λ a i. (i, refl)) net-lawful)
+kind_lawful : (kind : Kind) → Lawful (kind_at kind) bytes_of (IsTextOf kind)
+kind_lawful kinds.Int =
+    same_lawful (kind_at kinds.Int) (mapped Number signed_at) bytes_of (IsTextOf kinds.Int) (λ bytes. refl)
+    (mapped_lawful Number signed_at number_bytes bytes_of IsNumber (IsTextOf kinds.Int) (λ a i. (i, refl)) number_lawful)
+kind_lawful kinds.Span = same_lawful (kind_at kinds.Span) range_at bytes_of (IsTextOf kinds.Span) (λ bytes. refl) range_lawful
+kind_lawful kinds.Net =
+    same_lawful (kind_at kinds.Net) (mapped Address net_at) bytes_of (IsTextOf kinds.Net) (λ bytes. refl)
+    (mapped_lawful Address net_at net_bytes bytes_of IsNet (IsTextOf kinds.Net) (λ a i. (i, refl)) net_lawful)
 
 abbrev is_n : ℕ → Bool
 is_n c = c == 110
@@ -42,11 +43,11 @@ is_n c = c == 110
 abbrev null_of : Unit {0} → ValueText
 null_of x = Null
 
-text-lawful : (kind : Kind) → Lawful (text_at kind) bytes_of (IsTextOf kind)
-text-lawful kind =
-    choice-lawful is_n (mapped null_of (word_at (codes "null"))) (kind_at kind) bytes_of (IsTextOf kind)
-    (mapped-lawful null_of (word_at (codes "null")) (λ x. codes "null") bytes_of (λ x. Unit {0}) (IsTextOf kind) (λ a i. (null_is kind, refl)) (word-lawful (codes "null")))
-    (kind-lawful kind)
+text_lawful : (kind : Kind) → Lawful (text_at kind) bytes_of (IsTextOf kind)
+text_lawful kind =
+    choice_lawful is_n (mapped null_of (word_at (codes "null"))) (kind_at kind) bytes_of (IsTextOf kind)
+    (mapped_lawful null_of (word_at (codes "null")) (λ x. codes "null") bytes_of (λ x. Unit {0}) (IsTextOf kind) (λ a i. (null_is kind, refl)) (word_lawful (codes "null")))
+    (kind_lawful kind)
 
 -- a text of digits doesn't begin as `null` does
 digits_begin : (ds rest : List ℕ) → AreDigits ds → begins is_n (ds ++ rest) ≡ false
@@ -64,72 +65,72 @@ bounds_begin false side rest = refl
 net_begins : (n : NetText) → IsNet n → begins is_n (net_bytes n) ≡ false
 net_begins n i =
     let grouped : net_bytes n ≡ decimal n.first ++ (codes "." ++ decimal n.second ++ codes "." ++ decimal n.third ++ codes "." ++ decimal n.fourth ++ prefix_bytes n.prefix) = simp append_assoc in
-    ap (begins is_n) grouped ∙ digits_begin (decimal n.first) _ (decimal-digits n.first (let h : n.first ≤ 255 = i.first in omega arith))
+    ap (begins is_n) grouped ∙ digits_begin (decimal n.first) _ (decimal_digits n.first (let h : n.first ≤ 255 = i.first in omega arith))
 
 of_kind : (kind : Kind) (text : ValueText) → begins is_n (bytes_of text) ≡ false → kind_at kind (bytes_of text) ≡ Ok (text, []) → text_at kind (bytes_of text) ≡ Ok (text, [])
-of_kind kind text b e = choice-second is_n (mapped null_of (word_at (codes "null"))) (kind_at kind) (bytes_of text) b ∙ e
+of_kind kind text b e = choice_second is_n (mapped null_of (word_at (codes "null"))) (kind_at kind) (bytes_of text) b ∙ e
 
-text-complete : (kind : Kind) (text : ValueText) → IsTextOf kind text → text_at kind (bytes_of text) ≡ Ok (text, [])
-text-complete kind Null i = refl
-text-complete kinds.Int (Number n) i =
+text_complete : (kind : Kind) (text : ValueText) → IsTextOf kind text → text_at kind (bytes_of text) ≡ Ok (text, [])
+text_complete kind Null i = refl
+text_complete kinds.Int (Number n) i =
     of_kind kinds.Int (Number n) (number_begins n.negative n.digits (record { some = i.some; digits = i.digits }))
-    (mapped-read Number number_at (number_bytes n) (n, []) (ap number_at (sym (append-nil (number_bytes n))) ∙ number-complete n [] i refl))
-text-complete kinds.Span NoNumber i = of_kind kinds.Span NoNumber refl (empty-complete [])
-text-complete kinds.Span (Bounds lower upper) i =
+    (mapped_read Number signed_at (number_bytes n) (n, []) (ap signed_at (sym (append-nil (number_bytes n))) ∙ number_complete n [] i refl))
+text_complete kinds.Span NoNumber i = of_kind kinds.Span NoNumber refl (empty_complete [])
+text_complete kinds.Span (Bounds lower upper) i =
     of_kind kinds.Span (Bounds lower upper) (bounds_begin lower.inclusive lower.number (upper_bytes upper))
     (ap range_at (sym (append-nil (bounds_bytes lower upper))) ∙ bounds-complete lower upper [] i.0 i.1)
-text-complete kinds.Net (Address n) i =
-    of_kind kinds.Net (Address n) (net_begins n i) (mapped-read Address net_at (net_bytes n) (n, []) (net-complete n i))
-text-complete kinds.Int NoNumber i = absurd i
-text-complete kinds.Int (Bounds lower upper) i = absurd i
-text-complete kinds.Int (Address n) i = absurd i
-text-complete kinds.Span (Number n) i = absurd i
-text-complete kinds.Span (Address n) i = absurd i
-text-complete kinds.Net (Number n) i = absurd i
-text-complete kinds.Net NoNumber i = absurd i
-text-complete kinds.Net (Bounds lower upper) i = absurd i
+text_complete kinds.Net (Address n) i =
+    of_kind kinds.Net (Address n) (net_begins n i) (mapped_read Address net_at (net_bytes n) (n, []) (net_complete n i))
+text_complete kinds.Int NoNumber i = absurd i
+text_complete kinds.Int (Bounds lower upper) i = absurd i
+text_complete kinds.Int (Address n) i = absurd i
+text_complete kinds.Span (Number n) i = absurd i
+text_complete kinds.Span (Address n) i = absurd i
+text_complete kinds.Net (Number n) i = absurd i
+text_complete kinds.Net NoNumber i = absurd i
+text_complete kinds.Net (Bounds lower upper) i = absurd i
 
 -- a text of the kind is read as itself
-pub whole-complete : (kind : Kind) (text : ValueText) → IsTextOf kind text → whole_at kind (bytes_of text) ≡ Ok (text, [])
+pub whole_complete : (kind : Kind) (text : ValueText) → IsTextOf kind text → whole_at kind (bytes_of text) ≡ Ok (text, [])
 unfolding whole_at
-whole-complete kind text i = whole-read (text_at kind) (bytes_of text) text (text-complete kind text i)
+whole_complete kind text i = whole_read (text_at kind) (bytes_of text) text (text_complete kind text i)
 
 -- what the bytes are read as is the only text that they are
-pub one-text : (kind : Kind) (a b : ValueText) → IsTextOf kind a → IsTextOf kind b → bytes_of a ≡ bytes_of b → a ≡ b
-one-text kind = one-whole_text (text_at kind) bytes_of (IsTextOf kind) (text-lawful kind) (text-complete kind)
+pub one_text : (kind : Kind) (a b : ValueText) → IsTextOf kind a → IsTextOf kind b → bytes_of a ≡ bytes_of b → a ≡ b
+one_text kind = one-whole_text (text_at kind) bytes_of (IsTextOf kind) (text_lawful kind) (text_complete kind)
 
 -- what is read is a text of the kind, and all of the bytes
-pub read-is_text : (kind : Kind) (bytes : List ℕ) (text : ValueText) (rest : List ℕ) → whole_at kind bytes ≡ Ok (text, rest) → IsTextOf kind text × (bytes ≡ bytes_of text)
+pub read_is_text : (kind : Kind) (bytes : List ℕ) (text : ValueText) (rest : List ℕ) → whole_at kind bytes ≡ Ok (text, rest) → IsTextOf kind text × (bytes ≡ bytes_of text)
 unfolding whole_at
-read-is_text kind = whole-is_text (text_at kind) bytes_of (IsTextOf kind) (text-lawful kind) (text-complete kind)
+read_is_text kind = whole-is_text (text_at kind) bytes_of (IsTextOf kind) (text_lawful kind) (text_complete kind)
 
 -- bytes that aren't read are no text of the kind
-pub refused-is_no_text : (kind : Kind) (bytes rest : List ℕ) → whole_at kind bytes ≡ Err rest → (text : ValueText) → IsTextOf kind text → bytes ≡ bytes_of text → ⊥
+pub refused_is_no_text : (kind : Kind) (bytes rest : List ℕ) → whole_at kind bytes ≡ Err rest → (text : ValueText) → IsTextOf kind text → bytes ≡ bytes_of text → ⊥
 unfolding whole_at
-refused-is_no_text kind = whole-is_no_text (text_at kind) bytes_of (IsTextOf kind) (text-lawful kind) (text-complete kind)
+refused_is_no_text kind = whole-is_no_text (text_at kind) bytes_of (IsTextOf kind) (text_lawful kind) (text_complete kind)
 
 -- what is left where no text goes on is no more than there is
-pub refused-leaves : (kind : Kind) (bytes rest : List ℕ) → whole_at kind bytes ≡ Err rest → length rest ≤ length bytes
+pub refused_leaves : (kind : Kind) (bytes rest : List ℕ) → whole_at kind bytes ≡ Err rest → length rest ≤ length bytes
 unfolding whole_at
-refused-leaves kind = whole-leaves (text_at kind) bytes_of (IsTextOf kind) (text-lawful kind) (text-complete kind)
+refused_leaves kind = whole-leaves (text_at kind) bytes_of (IsTextOf kind) (text_lawful kind) (text_complete kind)
 
 -- and are refused where no text of the kind goes on
-pub refused-stops_at : (kind : Kind) (bytes rest : List ℕ) → whole_at kind bytes ≡ Err rest → (at : ℕ) → at ≡ length bytes - length rest → StopsAt kind bytes at
+pub refused_stops_at : (kind : Kind) (bytes rest : List ℕ) → whole_at kind bytes ≡ Err rest → (at : ℕ) → at ≡ length bytes - length rest → ValueStopsAt kind bytes at
 unfolding whole_at
-refused-stops_at kind = whole-stops_at (text_at kind) bytes_of (IsTextOf kind) (text-lawful kind) (text-complete kind)
+refused_stops_at kind = whole-stops_at (text_at kind) bytes_of (IsTextOf kind) (text_lawful kind) (text_complete kind)
 
 -- the bytes are written in no other way
-pub read-is_only : (kind : Kind) (bytes : List ℕ) (text : ValueText) (rest : List ℕ) → whole_at kind bytes ≡ Ok (text, rest)
+pub read_is_only : (kind : Kind) (bytes : List ℕ) (text : ValueText) (rest : List ℕ) → whole_at kind bytes ≡ Ok (text, rest)
     → (written : ValueText) → IsTextOf kind written → bytes ≡ bytes_of written → text ≡ written
-read-is_only kind bytes text rest e written i same =
-    let t = read-is_text kind bytes text rest e in
-    one-text kind text written t.0 i (sym t.1 ∙ same)
+read_is_only kind bytes text rest e written i same =
+    let t = read_is_text kind bytes text rest e in
+    one_text kind text written t.0 i (sym t.1 ∙ same)
 
 -- what is answered for a text that was read
-pub answers-value : (m : Result Value ℕ) (value : Value) → m ≡ Ok value → Answers m (Ok value)
-answers-value (Ok v) value e = (let k : v ≡ value = cc in ap Ok (sym k))
-answers-value (Err at) value e = cc
+pub answers_value : (m : Result Value ℕ) (value : Value) → m ≡ Ok value → Answers m (Ok value)
+answers_value (Ok v) value e = (let k : v ≡ value = cc in ap Ok (sym k))
+answers_value (Err at) value e = cc
 
-pub answers-range : (m : Result Value ℕ) (at : ℕ) → m ≡ Err at → Answers m (Err (faults.Range at))
-answers-range (Ok v) at e = cc
-answers-range (Err place) at e = (let k : place ≡ at = cc in ap (λ n. Err (faults.Range n)) (sym k))
+pub answers_range : (m : Result Value ℕ) (at : ℕ) → m ≡ Err at → Answers m (Err (faults.Range at))
+answers_range (Ok v) at e = cc
+answers_range (Err place) at e = (let k : place ≡ at = cc in ap (λ n. Err (faults.Range n)) (sym k))

@@ -1,13 +1,11 @@
 -- the one text that a value is printed as
-use Rattle.std.specs.Prelude.{◌≡◌, ℕ, ◌/◌, ◌%◌, ◌^◌, ◌==◌, true, if◌then◌else◌, List, [], ◌++◌, codes, decimal, ℤ, Option, None, Some, IfSome}
+use Rattle.std.specs.Prelude.{ℕ, ◌/◌, ◌%◌, ◌^◌, ◌==◌, if◌then◌else◌, List, [], ◌++◌, codes, decimal, ℤ, Option, None, Some}
+use Rattle.std.specs.List.{flat_map}
 use Rattle.std.specs.Fmt.{signed_decimal}
-use Rattle.block_model.specs.Ranges.{Range, Empty, Between, IsRange}
-use Rattle.block_model.specs.Networks.{Network, IsNetwork}
-use Rattle.block_model.specs.declared.value.Kind.{Kind}
-use Rattle.block_model.specs.declared.value.Kind.TheVariants as kinds
+use Rattle.block_model.specs.Ranges.{Range, Empty, Between}
+use Rattle.block_model.specs.Networks.{Network}
 use Rattle.block_model.specs.declared.value.Value.{Value}
 use Rattle.block_model.specs.declared.value.Value.TheVariants as values
-use Rattle.value_text.specs.IntTexts.{is_int8}
 
 -- the lower side of a range, with a round bracket where it is infinite
 abbrev pub lower_text : Option ℤ → List ℕ
@@ -48,15 +46,6 @@ canonical_text (values.Int n) = signed_decimal n
 canonical_text (values.Span range) = range_text range
 canonical_text (values.Net network) = network_text network
 
--- the bounds are numbers of int8
-abbrev pub HasBounds : Range → Type 0
-HasBounds Empty = Unit {0}
-HasBounds (Between lower upper) = IfSome lower (λ n. is_int8 n ≡ true) × IfSome upper (λ n. is_int8 n ≡ true)
-
--- the value is one of the kind
-abbrev pub IsValueOf : Kind → Value → Type 0
-IsValueOf kind values.Null = Unit {0}
-IsValueOf kinds.Int (values.Int n) = is_int8 n ≡ true
-IsValueOf kinds.Span (values.Span range) = IsRange range × HasBounds range
-IsValueOf kinds.Net (values.Net network) = IsNetwork network
-IsValueOf kind value = ⊥
+-- values, each behind a space
+abbrev pub values_text : List Value → List ℕ
+values_text values = flat_map (λ value. codes " " ++ canonical_text value) values

@@ -1,7 +1,8 @@
 -- the texts of int8 ("Numeric Types"): an optional `-` and one or more digits
-use Rattle.std.specs.Prelude.{◌≡◌, ℕ, ◌^◌, ◌<◌, nat_lt, Bool, true, if◌then◌else◌, List, ◌∷◌, length, ℤ, pos, negsuc, neg_ℤ, Option, None, Some}
+use Rattle.std.specs.Prelude.{◌≡◌, ℕ, ◌<◌, Bool, true, if◌then◌else◌, List, ◌∷◌, length, ℤ, pos, neg_ℤ, Option, None, Some}
 use Rattle.std.specs.List.{list_all}
 use Rattle.block_model.specs.Names.{is_digit}
+use Rattle.block_model.specs.ValuesOfKind.{is_int8}
 use Rattle.text_reading.specs.Digits.{digits_from}
 
 -- a number as it is written
@@ -21,11 +22,6 @@ number_bytes n = if n.negative then 45 ∷ n.digits else n.digits
 -- the number that is written, however many digits it has
 abbrev pub number_of : NumberText → ℤ
 number_of n = if n.negative then neg_ℤ (pos (digits_from 0 n.digits)) else pos (digits_from 0 n.digits)
-
--- from -9223372036854775808 to 9223372036854775807
-abbrev pub is_int8 : ℤ → Bool
-is_int8 (pos n) = nat_lt n (2 ^ 63)
-is_int8 (negsuc n) = nat_lt n (2 ^ 63)
 
 -- the number, where it is one of int8
 abbrev pub int8_of : NumberText → Option ℤ

@@ -3,7 +3,8 @@ use Rattle.std.specs.Prelude.{◌≡◌, ℕ, List, Ok}
 use Rattle.block_model.specs.declared.value.Kind.{Kind}
 use Rattle.block_model.specs.declared.value.Value.{Value}
 use Rattle.value_text.specs.ValueTexts.{ValueText, IsTextOf, bytes_of, Denotes}
-use Rattle.value_text.specs.CanonicalTexts.{canonical_text, IsValueOf}
+use Rattle.value_text.specs.CanonicalTexts.{canonical_text}
+use Rattle.block_model.specs.ValuesOfKind.{IsValueOf}
 
 -- no bytes are written in two ways
 abbrev pub BytesAreOneText : Type 0

@@ -2,7 +2,7 @@ pub mod IntTexts
 pub mod RangeTexts
 pub mod NetTexts
 pub mod ValueTexts
-pub mod StopsAt
+pub mod ValueStopsAt
 pub mod CanonicalTexts
 pub mod Laws
 pub mod ValueOf

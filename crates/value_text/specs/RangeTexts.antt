@@ -77,5 +77,5 @@ range_with lower (Some l) None = Err (upper_place lower)
 range_with lower (Some l) (Some h) = placed lower l (range_from_bounds l h)
 
 -- the range that is written, or where the number begins that doesn't fit
-abbrev pub range_of : BoundText → BoundText → Result Range ℕ
-range_of lower upper = range_with lower (bound_of lower) (bound_of upper)
+abbrev pub written_range : BoundText → BoundText → Result Range ℕ
+written_range lower upper = range_with lower (bound_of lower) (bound_of upper)

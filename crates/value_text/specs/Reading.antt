@@ -14,8 +14,8 @@ abbrev pub is_minus : ℕ → Bool
 is_minus c = c == 45
 
 -- an optional `-` and digits
-unfoldable pub number_at : Reading NumberText
-number_at bytes = choice is_minus (mapped (λ x. record { negative = true; digits = x.1 }) (both (byte_at 45) digits_at)) (mapped (λ ds. record { negative = false; digits = ds }) digits_at) bytes
+unfoldable pub signed_at : Reading NumberText
+signed_at bytes = choice is_minus (mapped (λ x. record { negative = true; digits = x.1 }) (both (byte_at 45) digits_at)) (mapped (λ ds. record { negative = false; digits = ds }) digits_at) bytes
 
 -- a byte that begins a number
 abbrev pub is_sign_or_digit : ℕ → Bool
@@ -23,7 +23,7 @@ is_sign_or_digit c = is_minus c || is_digit c
 
 -- a number, or nothing
 unfoldable pub side_at : Reading (Option NumberText)
-side_at bytes = choice is_sign_or_digit (mapped Some number_at) (nothing None) bytes
+side_at bytes = choice is_sign_or_digit (mapped Some signed_at) (nothing None) bytes
 
 -- one bracket, or the other
 abbrev pub bracket_at : ℕ → ℕ → Reading Bool
@@ -82,7 +82,7 @@ net_at bytes = mapped whole_net (both front_at ending_at) bytes
 
 -- a text of the kind that isn't null
 abbrev pub kind_at : Kind → Reading ValueText
-kind_at kinds.Int bytes = mapped Number number_at bytes
+kind_at kinds.Int bytes = mapped Number signed_at bytes
 kind_at kinds.Span bytes = range_at bytes
 kind_at kinds.Net bytes = mapped Address net_at bytes
 

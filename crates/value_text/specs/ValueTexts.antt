@@ -8,7 +8,7 @@ use Rattle.block_model.specs.declared.value.Value.TheVariants as values
 use Rattle.value_text.specs.declared.read.TextFault.{TextFault}
 use Rattle.value_text.specs.declared.read.TextFault.TheVariants as faults
 use Rattle.value_text.specs.IntTexts.{NumberText, IsNumber, number_bytes, int8_of}
-use Rattle.value_text.specs.RangeTexts.{BoundText, IsBound, bounds_bytes, range_of}
+use Rattle.value_text.specs.RangeTexts.{BoundText, IsBound, bounds_bytes, written_range}
 use Rattle.value_text.specs.NetTexts.{NetText, IsNet, net_bytes, network_of}
 
 -- a value as it is written
@@ -51,7 +51,7 @@ abbrev pub meaning : ValueText → Result Value ℕ
 meaning Null = Ok values.Null
 meaning (Number n) = int_value (int8_of n)
 meaning NoNumber = Ok (values.Span Empty)
-meaning (Bounds lower upper) = range_value (range_of lower upper)
+meaning (Bounds lower upper) = range_value (written_range lower upper)
 meaning (Address n) = Ok (values.Net (network_of n))
 
 -- the bytes are a text of the kind, which denotes that

@@ -1,4 +1,4 @@
-// What texts and values are to one another.
+//! What texts and values are to one another.
 
 ghost use Rattle.value_text.specs.Laws.{BytesAreOneText, CanonicalTextDenotes, CanonicalTextIsOwn, DenotedIsOfKind};
 ghost use Rattle.value_text.specs.ValueOf.{ValueOfIsDenoted};

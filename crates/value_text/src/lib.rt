@@ -1,8 +1,8 @@
-// Values as texts, both ways: `read_value` answers Ok exactly on the texts of a kind whose value is representable, with the
-// value that the text denotes, and else where the text goes wrong or which number doesn't fit; `write_value` appends the one
-// canonical text, which reads as the same value. The texts are specs/ValueTexts.antt, apart from reader and printer. It
-// stands on block_model, on text_reading for what is read, and on itoa for printed numbers. Reading takes no memory, and
-// writing takes none but `out`'s.
+//! Values as texts, both ways: `read_value` answers Ok exactly on the texts of a kind whose value is representable, with the
+//! value that the text denotes, and else where the text goes wrong or which number doesn't fit; `write_value` appends the one
+//! canonical text, which reads as the same value; `append` and `write_values` serve the printers above. The texts are specs/ValueTexts.antt, apart from reader and printer. It
+//! stands on block_model, on text_reading for what is read, and on itoa for printed numbers. Reading takes no memory, and
+//! writing takes none but `out`'s.
 #![tactic(auto)]
 
 mod laws;
@@ -11,8 +11,6 @@ mod net;
 mod number;
 mod range;
 mod read;
-#[cfg(test)]
-mod tests;
 mod write;
 
 pub use laws::{
@@ -20,4 +18,4 @@ pub use laws::{
     value_of_is_denoted,
 };
 pub use read::{TextFault, read_value};
-pub use write::write_value;
+pub use write::{append, write_value, write_values};

@@ -1,4 +1,4 @@
-// The texts of every kind.
+//! The texts of every kind.
 
 ghost use Rattle.std.specs.Prelude.{◌≡◌};
 ghost use Rattle.value_text.specs.ValueTexts.{IsTextOf, meaning};
@@ -9,8 +9,7 @@ ghost use Rattle.value_text.specs.Reading.{bounds_at, range_at, kind_at, text_at
 use crate::net::{Address, read_address};
 use crate::number::{Number, read_number};
 use crate::range::{Bound, lower, range_of, upper};
-use block_model::span::Span8;
-use block_model::value::{Kind, Value};
+use block_model::{Kind, Span8, Value};
 use text_reading::{Reading, byte, end, word};
 
 /// A value as it is written.
@@ -98,10 +97,7 @@ impl Literal<'_> {
                 None => Err(0),
             },
             Literal::Empty => Ok(Value::Span(Span8::empty())),
-            Literal::Bounds(lower, upper) => match range_of(lower, upper) {
-                Ok(span) => Ok(Value::Span(span)),
-                Err(at) => Err(at),
-            },
+            Literal::Bounds(lower, upper) => Ok(Value::Span(range_of(lower, upper)?)),
             Literal::Net(address) => Ok(Value::Net(address.network())),
         }
     }

@@ -1,4 +1,4 @@
-// The texts of inet.
+//! The texts of inet.
 
 ghost use Rattle.std.specs.Prelude.{◌≡◌, ◌≤◌, ◌+◌, ◌*◌};
 ghost use Rattle.value_text.specs.NetTexts.{IsNet, network_of};
@@ -6,7 +6,7 @@ ghost use Rattle.value_text.specs.Parts.{net_text};
 ghost use Rattle.text_reading.specs.Reading.{Gives};
 ghost use Rattle.value_text.specs.Reading.{grown, decimal_at, pointed_at, prefix_at, ending_at, front_at, net_at};
 
-use block_model::net::Net;
+use block_model::Net;
 use text_reading::{Reading, byte};
 
 /// An address as it is written.
@@ -95,7 +95,7 @@ fn grown(first: u8, text: &[u8], limit: u8) -> (u8, &[u8])
 {
     let mut n = first;
     let mut rest = text;
-    while let [c @ b'0'..=b'9', more @ ..] = rest {
+    'digits: while let [c @ b'0'..=b'9', more @ ..] = rest {
         let next = 10 * u16::from(n) + u16::from(*c - b'0');
         if next > u16::from(limit) {
             break;

@@ -1,4 +1,4 @@
-// The texts of int8.
+//! The texts of int8.
 
 ghost use Rattle.std.specs.Prelude.{◌≡◌, ◌+◌, ◌^◌, ◌≤◌, min, length};
 ghost use Rattle.std.specs.List.{prefix_len};
@@ -7,7 +7,7 @@ ghost use Rattle.text_reading.specs.Digits.{digits_from};
 ghost use Rattle.value_text.specs.IntTexts.{number_bytes, int8_of};
 ghost use Rattle.value_text.specs.Parts.{number_text};
 ghost use Rattle.text_reading.specs.Reading.{Gives, digits_at};
-ghost use Rattle.value_text.specs.Reading.{number_at};
+ghost use Rattle.value_text.specs.Reading.{signed_at};
 
 use text_reading::{Reading, digits, number_up_to};
 
@@ -22,9 +22,9 @@ pub struct Number<'a> {
 const PAST: u64 = (1 << 63) + 1;
 
 /// An optional `-` and one or more digits.
-#[tactic(auto, unfolding(crate::specs::Reading::number_at))]
+#[tactic(auto, unfolding(crate::specs::Reading::signed_at))]
 pub fn read_number(text: &[u8]) -> Reading<'_, Number<'_>>
-    ensures { Gives (λ x. (number_text x.0, x.1.now)) result (number_at text.now) }
+    ensures { Gives (λ x. (number_text x.0, x.1.now)) result (signed_at text.now) }
 {
     match text {
         [b'-', rest @ ..] => {

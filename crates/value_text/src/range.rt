@@ -1,13 +1,13 @@
-// The texts of int8range.
+//! The texts of int8range.
 
 ghost use Rattle.std.specs.Prelude.{◌≡◌, ◌+◌, length, Some, None};
-ghost use Rattle.value_text.specs.RangeTexts.{bound_of, range_of, upper_place, growth_place, lower_place};
+ghost use Rattle.value_text.specs.RangeTexts.{bound_of, written_range, upper_place, growth_place, lower_place};
 ghost use Rattle.value_text.specs.Parts.{side_text, bound_text};
 ghost use Rattle.text_reading.specs.Reading.{Gives};
 ghost use Rattle.value_text.specs.Reading.{bracket_at, side_at, lower_at, upper_at};
 
 use crate::number::{Number, read_number};
-use block_model::span::{Span8, SpanFault};
+use block_model::{Span8, SpanFault};
 use text_reading::Reading;
 
 /// A bound as it is written: its number, or none where that side is infinite, and whether its bracket is a square one.
@@ -66,7 +66,7 @@ fn side(text: &[u8]) -> Reading<'_, Option<Number<'_>>>
 
 /// The range of the bounds, or where the first number begins that doesn't fit, 0 where they are out of order.
 pub fn range_of(lower: &Bound<'_>, upper: &Bound<'_>) -> Result<Span8, usize>
-    ensures { result ≡ range_of (bound_text lower.now) (bound_text upper.now) }
+    ensures { result ≡ written_range (bound_text lower.now) (bound_text upper.now) }
 {
     let Some(l) = bound_of(lower) else {
         return Err(LOWER_PLACE);

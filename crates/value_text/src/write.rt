@@ -1,30 +1,38 @@
-// Values printed as texts.
-#![tactic(auto, using(crate::proofs::AppendedLemmas::longer_before))]
+//! Values printed as texts.
+#![tactic(auto, using(crate::specs::Appended::longer_before))]
 
 ghost use Rattle.std.specs.Prelude.{◌≡◌, ◌<◌, ◌++◌, OnOk, OnErr, decimal};
 ghost use Rattle.std.specs.Fmt.{signed_decimal};
 ghost use Rattle.value_text.specs.Appended.{IsLonger};
-ghost use Rattle.value_text.specs.CanonicalTexts.{canonical_text, range_text, lower_text, upper_text, network_text, address_text, byte_of, prefix_text};
+ghost use Rattle.value_text.specs.CanonicalTexts.{canonical_text, values_text, range_text, lower_text, upper_text, network_text, address_text, byte_of, prefix_text};
 
-use block_model::NoMemory;
-use block_model::net::Net;
-use block_model::span::Span8;
-use block_model::value::Value;
+use block_model::{Net, NoMemory, Span8, Value};
 use itoa::Buffer;
 
 /// Appends the one canonical text of a value, which reads as the same value. After a refusal nothing is changed.
 pub fn write_value(value: &Value, out: &mut Vec<u8>) -> Result<(), NoMemory>
     ensures ok { OnOk result (out.new.items ≡ out.old.items ++ canonical_text value.now) }
     ensures err { OnErr result (out.new.items ≡ out.old.items) }
+    ensures longer { IsLonger out.old.items out.new.items }
 {
     let before = out.len();
-    match add_value(out, value) {
-        Ok(()) => Ok(()),
-        Err(NoMemory) => {
-            out.truncate(before);
-            Err(NoMemory)
-        }
+    if let Err(refusal) = add_value(out, value) {
+        out.truncate(before);
+        return Err(refusal);
     }
+    Ok(())
+}
+
+/// Appends values, each behind a space.
+pub fn write_values(values: &[Value], out: &mut Vec<u8>) -> Result<(), NoMemory>
+    ensures ok { OnOk result (out.new.items ≡ out.old.items ++ values_text values.now) }
+    ensures longer { IsLonger out.old.items out.new.items }
+{
+    'values: for value in values {
+        append(out, b" ")?;
+        write_value(value, out)?;
+    }
+    Ok(())
 }
 
 fn add_value(out: &mut Vec<u8>, value: &Value) -> Result<(), NoMemory>
@@ -32,23 +40,23 @@ fn add_value(out: &mut Vec<u8>, value: &Value) -> Result<(), NoMemory>
     ensures longer { IsLonger out.old.items out.new.items }
 {
     match value {
-        Value::Null => add(out, b"null"),
+        Value::Null => append(out, b"null"),
         Value::Int(n) => add_int(out, *n),
         Value::Span(span) => add_span(out, span),
         Value::Net(net) => add_net(out, net),
     }
 }
 
-#[tactic(auto, using(crate::proofs::AppendedLemmas::longer_before, crate::proofs::PrintedLemmas::printed_by_sides))]
+#[tactic(auto, using(crate::specs::Appended::longer_before, crate::proofs::PrintedLemmas::printed_by_sides))]
 fn add_span(out: &mut Vec<u8>, span: &Span8) -> Result<(), NoMemory>
     ensures ok { OnOk result (out.new.items ≡ out.old.items ++ range_text span.now) }
     ensures longer { IsLonger out.old.items out.new.items }
 {
     if span.is_empty() {
-        return add(out, b"empty");
+        return append(out, b"empty");
     }
     add_lower(out, span.lower())?;
-    add(out, b",")?;
+    append(out, b",")?;
     add_upper(out, span.upper())?;
     Ok(())
 }
@@ -58,9 +66,9 @@ fn add_lower(out: &mut Vec<u8>, lower: Option<i64>) -> Result<(), NoMemory>
     ensures longer { IsLonger out.old.items out.new.items }
 {
     match lower {
-        None => add(out, b"("),
+        None => append(out, b"("),
         Some(n) => {
-            add(out, b"[")?;
+            append(out, b"[")?;
             add_int(out, n)
         }
     }
@@ -71,10 +79,10 @@ fn add_upper(out: &mut Vec<u8>, upper: Option<i64>) -> Result<(), NoMemory>
     ensures longer { IsLonger out.old.items out.new.items }
 {
     match upper {
-        None => add(out, b")"),
+        None => append(out, b")"),
         Some(n) => {
             add_int(out, n)?;
-            add(out, b")")
+            append(out, b")")
         }
     }
 }
@@ -93,11 +101,11 @@ fn add_address(out: &mut Vec<u8>, address: u128) -> Result<(), NoMemory>
     ensures longer { IsLonger out.old.items out.new.items }
 {
     add_number(out, byte_of(address, 24))?;
-    add(out, b".")?;
+    append(out, b".")?;
     add_number(out, byte_of(address, 16))?;
-    add(out, b".")?;
+    append(out, b".")?;
     add_number(out, byte_of(address, 8))?;
-    add(out, b".")?;
+    append(out, b".")?;
     add_number(out, byte_of(address, 0))?;
     Ok(())
 }
@@ -116,7 +124,7 @@ fn add_prefix(out: &mut Vec<u8>, bits: u8) -> Result<(), NoMemory>
     if bits == 32 {
         return Ok(());
     }
-    add(out, b"/")?;
+    append(out, b"/")?;
     add_number(out, bits)
 }
 
@@ -125,7 +133,7 @@ fn add_int(out: &mut Vec<u8>, n: i64) -> Result<(), NoMemory>
     ensures longer { IsLonger out.old.items out.new.items }
 {
     let mut buffer = Buffer::new();
-    add(out, buffer.format(n).as_bytes())
+    append(out, buffer.format(n).as_bytes())
 }
 
 fn add_number(out: &mut Vec<u8>, n: u8) -> Result<(), NoMemory>
@@ -133,15 +141,14 @@ fn add_number(out: &mut Vec<u8>, n: u8) -> Result<(), NoMemory>
     ensures longer { IsLonger out.old.items out.new.items }
 {
     let mut buffer = Buffer::new();
-    add(out, buffer.format(n).as_bytes())
+    append(out, buffer.format(n).as_bytes())
 }
 
-fn add(out: &mut Vec<u8>, bytes: &[u8]) -> Result<(), NoMemory>
+/// Appends bytes.
+pub fn append(out: &mut Vec<u8>, bytes: &[u8]) -> Result<(), NoMemory>
     ensures ok { OnOk result (out.new.items ≡ out.old.items ++ bytes.now) }
     ensures longer { IsLonger out.old.items out.new.items }
 {
-    match out.extend_from_slice(bytes) {
-        Ok(()) => Ok(()),
-        Err(_) => Err(NoMemory),
-    }
+    out.extend_from_slice(bytes)?;
+    Ok(())
 }

@@ -1,5 +1,6 @@
 -- the changes of pages that the log tells
 use Rattle.std.specs.Prelude.{◌≡◌, ℕ, ◌<◌, ◌≤◌, ◌^◌, ◌%◌, List, length}
+use Rattle.block_model.specs.declared.limits.TheConstants.{PAGE_SIZE}
 use Rattle.block_model.specs.declared.place.Place.{Place}
 use Rattle.block_model.specs.declared.place.Spot.{Spot}
 use Rattle.wal_record.specs.declared.change.Change.{Change}
@@ -43,7 +44,7 @@ AreSlots slots = (length slots % 2 ≡ 0) × (length slots ≤ 131070)
 
 -- what a change carries has a size that its bytes can tell
 abbrev pub HasSizes : LoggedChange → Type 0
-HasSizes (FullPage place bytes) = length bytes ≡ 8192
+HasSizes (FullPage place bytes) = length bytes ≡ PAGE_SIZE
 HasSizes (RowPut place slot bytes) = length bytes ≤ 65535
 HasSizes (RowsDrop place slots) = AreSlots slots
 HasSizes (TuplePut place slot bytes) = length bytes ≤ 65535

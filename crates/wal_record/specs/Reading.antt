@@ -1,5 +1,6 @@
 -- Reading from the front of bytes: a value and the bytes after it, or nothing.
 use Rattle.std.specs.Prelude.{◌≡◌, ℕ, ◌*◌, List, [], ◌∷◌, length, take, drop, Option, Some, None, nat_lt, ◌==◌, if◌then◌else◌}
+use Rattle.block_model.specs.declared.limits.TheConstants.{PAGE_SIZE}
 use Rattle.block_model.specs.declared.place.Place.{Place}
 use Rattle.block_model.specs.declared.place.Spot.{Spot}
 use Rattle.byte_fields.specs.Fields.{number_of}
@@ -90,7 +91,7 @@ row_change_at tag place bytes =
 -- a change of a whole page, or one of those above
 unfoldable pub page_change_at : ℕ → Place → List ℕ → Option (LoggedChange × List ℕ)
 page_change_at tag place bytes =
-    if tag == 1 then mapped (FullPage place) (part_at 8192) bytes
+    if tag == 1 then mapped (FullPage place) (part_at PAGE_SIZE) bytes
     else (if tag == 2 then mapped (PageStart place) one_byte bytes
     else row_change_at tag place bytes)
 

@@ -1,6 +1,7 @@
-// Changes of pages.
+//! Changes of pages.
 
-use block_model::place::{Place, Spot};
+use block_model::{Place, Spot};
+use thiserror::Error;
 
 /// How many bytes a page has.
 pub(crate) const PAGE: usize = 8192;
@@ -81,7 +82,8 @@ pub enum Change<'a> {
 
 /// No change begins the bytes. `at` is the first byte at which no change can go on: 0 at a tag that none has, and the
 /// length where bytes are missing.
-#[derive(Clone, Copy, Debug, PartialEq, Eq)]
+#[derive(Clone, Copy, Debug, Eq, Error, PartialEq)]
+#[error("no change goes on at byte {at}")]
 pub struct Malformed {
     pub at: usize,
 }

@@ -1,4 +1,4 @@
-// What the bytes of changes are to one another.
+//! What the bytes of changes are to one another.
 
 ghost use Rattle.std.specs.Prelude.{◌≡◌, ◌++◌, List, ℕ};
 ghost use Rattle.wal_record.specs.Changes.{LoggedChange, IsChange};

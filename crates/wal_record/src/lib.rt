@@ -1,15 +1,13 @@
-// The thirteen changes of the write-ahead log as bytes, both ways: `encode` writes exactly the bytes of a change, and
-// `decode` answers the one change whose bytes are the first of the given ones, or where no change can go on. No change's
-// bytes begin another's, so what was encoded is decoded again, whatever follows. It stands on block_model and
-// byte_fields. The table of the bytes is specs/ChangeBytes.antt.
+//! The thirteen changes of the write-ahead log as bytes, both ways: `encode` writes exactly the bytes of a change, and
+//! `decode` answers the one change whose bytes are the first of the given ones, or where no change can go on. No change's
+//! bytes begin another's, so what was encoded is decoded again, whatever follows. It stands on block_model and
+//! byte_fields. The table of the bytes is specs/ChangeBytes.antt.
 #![tactic(auto)]
 
 mod change;
 mod laws;
 mod reading;
 mod tag;
-#[cfg(test)]
-mod tests;
 mod writing;
 
 pub use change::{Change, Malformed};

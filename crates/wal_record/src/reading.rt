@@ -1,4 +1,4 @@
-// Changes read from bytes.
+//! Changes read from bytes.
 
 ghost use Rattle.std.specs.Prelude.{◌≡◌, ◌*◌, ◌+◌, ◌<◌, List, length, take, IfOk, IfErr};
 ghost use Rattle.wal_record.specs.Changes.{LoggedChange, IsChange, logged};
@@ -7,7 +7,7 @@ ghost use Rattle.wal_record.specs.Reading.{Gives, one_byte, number_at, part_at, 
 
 use crate::change::{Change, Malformed, PAGE};
 use crate::tag;
-use block_model::place::{Place, Spot};
+use block_model::{Place, Spot};
 use byte_fields::{get_u16, get_u32, get_u64};
 
 /// The change that begins the bytes, and how many bytes it takes. It borrows from the bytes.

@@ -1,4 +1,4 @@
-// The tags of changes: the first byte of each.
+//! The tags of changes: the first byte of each.
 
 pub(crate) const FULL_PAGE: u8 = 1;
 

@@ -1,13 +1,14 @@
-// Changes written as bytes.
+//! Changes written as bytes.
 
 ghost use Rattle.std.specs.Prelude.{◌≡◌, ◌≤◌, ◌<◌, ◌^◌, ◌+◌, ◌++◌, ◌∷◌, [], length, drop};
+ghost use Rattle.block_model.specs.declared.limits.TheConstants.{PAGE_SIZE};
 ghost use Rattle.std.specs.Int.{bytes_high_first};
 ghost use Rattle.wal_record.specs.Changes.{AreSlots, HasSizes, IsChange, logged};
 ghost use Rattle.wal_record.specs.ChangeBytes.{IsWritten, bytes_of, counted_slots, put_bytes, spot_bytes, tagged};
 
 use crate::change::{Change, PAGE};
 use crate::tag;
-use block_model::place::{Place, Spot};
+use block_model::{Place, Spot};
 use byte_fields::{put_u16, put_u32, put_u64};
 
 /// How many bytes the tag and the place have.
@@ -95,7 +96,7 @@ fn write_head(out: &mut [u8], tag: u8, place: Place)
 }
 
 fn write_page(out: &mut [u8], place: Place, bytes: &[u8])
-    requires page { length bytes.now ≡ 8192 }
+    requires page { length bytes.now ≡ PAGE_SIZE }
     requires room { 8198 ≤ length out.old }
     ensures written { IsWritten out.old out.new (tagged 1 place bytes.now) }
     ensures block { place.block < 2 ^ 32 }

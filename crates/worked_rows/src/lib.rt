@@ -1,6 +1,6 @@
-// Worked scripts, each run through `brin_main` in memory: what is written and the status are those of the row, whether
-// bytes come and go one by one or in large pieces. It stands on brin_app, block_model and io_traits, and nothing stands on
-// it.
+//! Worked scripts, each run through `brin_main` in memory: what is written and the status are those of the row, whether
+//! bytes come and go one by one or in large pieces. It stands on brin_app, block_model and io_traits, and nothing stands on
+//! it.
 #![tactic(auto)]
 
 #[cfg(test)]

@@ -1,11 +1,10 @@
-// A run of the program in memory.
+//! A run of the program in memory.
 
 ghost use Rattle.std.specs.Prelude.{◌<◌};
 
-use block_model::words::Words;
+use block_model::Words;
 use brin_app::brin_main;
-use io_traits::memory_sink::MemorySink;
-use io_traits::memory_source::MemorySource;
+use io_traits::{MemorySink, MemorySource};
 use std::alloc::Global;
 use std::test::Fail;
 

@@ -1,5 +1,5 @@
 use crate::runs::{Faults, NO_FAULTS, Row, holds, ran};
-use block_model::words::Words;
+use block_model::Words;
 use std::process::Abort;
 use std::test::Fail;
 

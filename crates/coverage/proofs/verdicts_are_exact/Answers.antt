@@ -1,4 +1,5 @@
-use Rattle.coverage.proofs.Verdicts.{put_once, swap_once, clear_once, put_waits, swap_waits, swap_differs, clear_waits, clear_differs, some_put, some_swap, some_clear}
+use Rattle.coverage.proofs.Verdicts.{put_once, swap_once, clear_once, put_waits, swap_waits, swap_differs, clear_waits, clear_differs, some_put, some_swap}
+use Rattle.coverage.proofs.Verdicts.{some_clear}
 use Rattle.coverage.proofs.verdicts_are_exact.Goals as goal
 
 pub returns : goal.returns

@@ -1,4 +1,4 @@
-// The first word of what is left of a line.
+//! The first word of what is left of a line.
 
 ghost use Rattle.std.specs.Prelude.{◌≡◌, ◌≢◌, ◌+◌, ◌<◌, ◌≤◌, ℕ, [], ◌∷◌, length, take, drop, slice_index, MatchOption, IfSome};
 ghost use Rattle.query_words.specs.Words.{placed, words_from};
@@ -34,7 +34,7 @@ fn spaces_before(bytes: &[u8]) -> usize
     ensures same { (at : ℕ) → words_from (at + result) [] (drop result bytes.now) ≡ words_from at [] bytes.now }
     ensures word { result < length bytes.now → slice_index bytes.now result ≢ 32 }
 {
-    for (i, b) in bytes.iter().enumerate() {
+    'bytes: for (i, b) in bytes.iter().enumerate() {
         if *b != b' ' {
             return i;
         }
@@ -50,7 +50,7 @@ fn word_len(bytes: &[u8]) -> usize
     ensures some { 0 < result }
     ensures first { (at : ℕ) → words_from at [] bytes.now ≡ placed (take result bytes.now) at ∷ words_from (at + result) [] (drop result bytes.now) }
 {
-    for (i, b) in bytes.iter().enumerate() {
+    'bytes: for (i, b) in bytes.iter().enumerate() {
         if *b == b' ' {
             return i;
         }

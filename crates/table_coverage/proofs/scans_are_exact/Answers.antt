@@ -1,7 +1,12 @@
-use Rattle.table_coverage.specs.Table.{board_at}
+use Rattle.table_coverage.specs.Table.{index_view_at}
 use Rattle.table_coverage.proofs.TableScans.{judge_once, reads_once}
 use Rattle.table_coverage.proofs.ScanHasStep.{judge_some, read_some}
 use Rattle.table_coverage.proofs.scans_are_exact.Goals as goal
 
 pub returns : goal.returns
-returns c = record { judged = λ w old p q one two. judge_once (board_at old.at w) old p q one two; read = reads_once; some_judged = λ w scan honest. judge_some (board_at scan.at w) scan honest; some_read = λ w scan b reads judged candidate more. read_some w scan reads judged b candidate more }
+returns c = record {
+  judged = λ w old p q one two. judge_once (index_view_at old.at w) old p q one two;
+  read = reads_once;
+  some_judged = λ w scan honest. judge_some (index_view_at scan.at w) scan honest;
+  some_read = λ w scan b reads judged candidate more. read_some w scan reads judged b candidate more;
+}

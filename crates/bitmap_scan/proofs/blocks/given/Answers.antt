@@ -1,4 +1,5 @@
 use Rattle.std.proofs.Common.{◌≡◌, ◌-◌, ◌++◌, ℕ, cond, min, List, [], length, sym, ap, subst, ◌∙◌, append_assoc, arith, rules}
+use Rattle.std.specs.Prelude.{slice_get}
 use Rattle.std.specs.List.{filter, range_with_len}
 use Rattle.range_tuple.specs.Keeps.{keeps}
 use Rattle.bitmap_scan.specs.CandidateBlocks.{AddsFront, candidate_blocks, is_candidate}
@@ -11,51 +12,51 @@ pub returns-in_err-append_kept-clause-err : goal.returns-in_err-append_kept-clau
 returns-in_err-append_kept-clause-err c =
     let xs = c.args.tuples.now in
     let w = c.args.pages_per_range in
-    let a = c.judging.block in
+    let a = c.candidates.block in
     let e = c.min-end.result in
     let s = c.tuple-item.result in
-    let p = is_candidate xs c.args.conds.now w in
+    let p = is_candidate (slice_get xs) c.args.conds.now w in
     let adds = c.in_err-append_kept.ensures.err in
     let all : filter p (range_with_len 0 c.args.blocks) ≡ (filter p (range_with_len 0 a) ++ range_with_len a (e - a)) ++ filter p (range_with_len e (c.args.blocks - e)) =
     filter-around p a e c.args.blocks (omega arith) (omega arith)
-    (λ b from below. alike xs c.args.conds.now c.judging.tuple-index w c.args.blocks a e s c.judging-test.true c.tuple-item.is c.judging.invariant.start (omega arith) (omega arith) b from below ∙ adds.0) in
+    (λ b from below. alike xs c.args.conds.now c.candidates.tuple-index w c.args.blocks a e s c.candidates-test.true c.tuple-item.is c.candidates.invariant.start (omega arith) (omega arith) b from below ∙ adds.0) in
     let front : AddsFront (candidate_blocks xs c.args.conds.now c.args.blocks w) c.args.out.now c.append_kept.new.out =
     subst (λ (l : List ℕ). AddsFront l c.args.out.now c.append_kept.new.out) (sym all)
-    (front-inside c.args.out.now c.judging.out c.append_kept.new.out (filter p (range_with_len 0 a)) (range_with_len a (e - a)) (filter p (range_with_len e (c.args.blocks - e))) c.judging.invariant.appended adds.1) in
+    (front-inside c.args.out.now c.candidates.out c.append_kept.new.out (filter p (range_with_len 0 a)) (range_with_len a (e - a)) (filter p (range_with_len e (c.args.blocks - e))) c.candidates.invariant.appended adds.1) in
     search rules
 
-pub judging-preserved : goal.judging-preserved
-judging-preserved c =
+pub candidates-preserved : goal.candidates-preserved
+candidates-preserved c =
     let xs = c.args.tuples.now in
     let w = c.args.pages_per_range in
-    let a = c.judging.block in
+    let a = c.candidates.block in
     let e = c.min-end.result in
     let s = c.tuple-item.result in
-    let p = is_candidate xs c.args.conds.now w in
+    let p = is_candidate (slice_get xs) c.args.conds.now w in
     let more = cond (keeps s c.args.conds.now) (range_with_len a (e - a)) [] in
     let kept : filter p (range_with_len 0 e) ≡ filter p (range_with_len 0 a) ++ more =
     filter-to p (keeps s c.args.conds.now) a e (omega arith)
-    (alike xs c.args.conds.now c.judging.tuple-index w c.args.blocks a e s c.judging-test.true c.tuple-item.is c.judging.invariant.start (omega arith) (omega arith)) in
+    (alike xs c.args.conds.now c.candidates.tuple-index w c.args.blocks a e s c.candidates-test.true c.tuple-item.is c.candidates.invariant.start (omega arith) (omega arith)) in
     record {
-      start = next-start c.judging.tuple-index w c.args.blocks a e 4294967295 (omega arith) c.judging.invariant.start (c.min-end.ensures ∙ ap (min c.args.blocks) c.saturating_add.ensures);
+      start = next-start c.candidates.tuple-index w c.args.blocks a e 4294967295 (omega arith) c.candidates.invariant.start (c.min-end.ensures ∙ ap (min c.args.blocks) c.saturating_add.ensures);
       appended =
           c.in_ok-append_kept.ensures.ok
-          ∙ ap (λ (l : List ℕ). l ++ more) c.judging.invariant.appended
+          ∙ ap (λ (l : List ℕ). l ++ more) c.candidates.invariant.appended
           ∙ append_assoc c.args.out.now (filter p (range_with_len 0 a)) more
           ∙ ap (λ (l : List ℕ). c.args.out.now ++ l) (sym kept);
-      left_out = leave-more xs c.args.conds.now c.judging.tuple-index w c.args.blocks a e s c.judging-test.true c.tuple-item.is c.judging.invariant.start (omega arith) (omega arith) c.judging.invariant.left_out c.in_ok-append_kept.ensures.left_out;
+      left_out = leave-more xs c.args.conds.now c.candidates.tuple-index w c.args.blocks a e s c.candidates-test.true c.tuple-item.is c.candidates.invariant.start (omega arith) (omega arith) c.candidates.invariant.left_out c.in_ok-append_kept.ensures.left_out;
     }
 
 pub returns-clause-ok : goal.returns-clause-ok
 returns-clause-ok c =
     let xs = c.args.tuples.now in
     let w = c.args.pages_per_range in
-    let all = all-judged c.args.blocks w (length xs) c.judging.tuple-index c.judging.block c.requires.a_page c.requires.summarised (omega arith) c.judging.invariant.start in
-    c.judging.invariant.appended ∙ ap (λ (n : ℕ). c.args.out.now ++ candidate_blocks xs c.args.conds.now n w) all
+    let all = all-judged c.args.blocks w (length xs) c.candidates.tuple-index c.candidates.block c.requires.a_page c.requires.summarised (omega arith) c.candidates.invariant.start in
+    c.candidates.invariant.appended ∙ ap (λ (n : ℕ). c.args.out.now ++ candidate_blocks xs c.args.conds.now n w) all
 
 pub returns-clause-left_out : goal.returns-clause-left_out
 returns-clause-left_out c =
     let xs = c.args.tuples.now in
     let w = c.args.pages_per_range in
-    let all = all-judged c.args.blocks w (length xs) c.judging.tuple-index c.judging.block c.requires.a_page c.requires.summarised (omega arith) c.judging.invariant.start in
-    subst (λ (n : ℕ). LeaveNoMatch xs c.args.conds.now n w) all c.judging.invariant.left_out
+    let all = all-judged c.args.blocks w (length xs) c.candidates.tuple-index c.candidates.block c.requires.a_page c.requires.summarised (omega arith) c.candidates.invariant.start in
+    subst (λ (n : ℕ). LeaveNoMatch xs c.args.conds.now n w) all c.candidates.invariant.left_out

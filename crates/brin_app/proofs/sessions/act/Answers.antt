@@ -1,4 +1,4 @@
-use Rattle.std.proofs.Common.{sym, subst, ◌<◌, length, arith}
+use Rattle.std.proofs.Common.{subst, ◌<◌, length, arith}
 use Rattle.session_core.specs.Submits.{Submits}
 use Rattle.brin_app.proofs.Acting.{not_taken, ok_ends, taken_past}
 use Rattle.brin_app.proofs.sessions.act.Goals as goal

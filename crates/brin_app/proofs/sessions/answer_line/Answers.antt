@@ -1,12 +1,12 @@
-use Rattle.std.proofs.Common.{sym, subst, ap, ◌∙◌}
-use Rattle.block_model.specs.DiskLayout.{DiskLayout}
-use Rattle.query_words.specs.Lines.{Reads, line_of}
+use Rattle.std.proofs.Common.{subst}
+use Rattle.store_layout.specs.DiskLayout.{DiskLayout}
+use Rattle.query_words.specs.Lines.{ReadsAs, line_of}
 use Rattle.query_words.specs.declared.line.Line.{Line}
-use Rattle.std.specs.Prelude.{Err, Ok}
-use Rattle.brin_app.proofs.Saying.{refused, done_line, too_much_said}
+use Rattle.std.specs.Prelude.{Err}
+use Rattle.brin_app.proofs.Saying.{refused}
 use Rattle.brin_app.proofs.sessions.answer_line.Goals as goal
 
 pub returns-in-Err-clause-ok : goal.returns-in-Err-clause-ok
 returns-in-Err-clause-ok c =
     refused c.args.sessions.now.store c.args.line.now c.args.out.now.items c.refuse.new.out.items c.in-Err.fault c.refuse.result c.known.ensures
-    (subst (λ (d : DiskLayout). Reads {T = Line} (Err c.in-Err.fault) (line_of d.schema c.args.line.now)) c.layout.ensures c.in-Err.ensures.reads) c.refuse.ensures.read c.refuse.ensures.ok
+    (subst (λ (d : DiskLayout). ReadsAs {T = Line} (Err c.in-Err.fault) (line_of d.schema c.args.line.now)) c.layout.ensures c.in-Err.ensures.reads) c.refuse.ensures.read c.refuse.ensures.ok

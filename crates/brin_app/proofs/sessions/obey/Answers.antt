@@ -1,4 +1,4 @@
-use Rattle.std.proofs.Common.{[], sym, ap, subst}
+use Rattle.std.proofs.Common.{[], sym, subst}
 use Rattle.std.specs.Prelude.{Ok, refl}
 use Rattle.std.proofs.lemmas.List.{append-nil}
 use Rattle.query_words.specs.declared.line.Line.{Line}

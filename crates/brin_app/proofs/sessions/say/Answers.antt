@@ -1,10 +1,7 @@
-use Rattle.std.proofs.Common.{sym, subst, ◌∙◌}
-use Rattle.query_words.specs.Texts.{reply_text}
-use Rattle.block_model.specs.declared.reply.Reply.TheVariants as replies
-use Rattle.block_model.specs.declared.reply.Refusal.TheVariants as refusals
+use Rattle.std.proofs.Common.{subst}
+use Rattle.reply_texts.specs.Texts.{reply_text}
 use Rattle.session_core.specs.Submits.{HasSession}
-use Rattle.brin_app.specs.SessionPlaces.{IsSaid}
-use Rattle.brin_app.proofs.Saying.{said_by_session, said_past, too_much, acts_at, past_at, idle_at, there_at, on_rendered}
+use Rattle.brin_app.proofs.Saying.{said_by_session, acts_at, idle_at, there_at}
 use Rattle.brin_app.proofs.sessions.say.Goals as goal
 
 pub act-requires-clause-session : goal.act-requires-clause-session
@@ -14,12 +11,10 @@ act-requires-clause-session c =
 
 pub returns-clause-ok : goal.returns-clause-ok
 returns-clause-ok c =
-    let has = subst (HasSession c.args.store.now c.args.session.now c.session.new.self) c.in-Ok.is c.session.ensures in
-    on_rendered c.rendered-2.result c.render-2.result _ _ c.rendered-2.ensures.ok c.render-2.ensures.ok
-    (λ e. (
+    let has = subst (HasSession c.args.store.now c.args.session.now c.session.new.self) c.in-Ok.is c.session.ensures in (
       reply_text c.args.session.now c.in_ok-reply.reply,
-      e,
+      c.in_ok-render.ensures.ok,
       λ idle. said_by_session c.args.store.now c.act.new.store c.args.session.now c.args.statement c.in_ok-reply.reply idle has.0
           (acts_at c.args.store.now c.session.new.self c.act.new.store c.args.session.now c.in-Ok.number c.args.statement c.in_ok-reply.reply has.1 has.2
           (c.in_ok-reply.ensures.ok (idle_at c.args.store.now c.session.new.self c.args.session.now c.in-Ok.number has.2 idle))),
-    ))
+    )

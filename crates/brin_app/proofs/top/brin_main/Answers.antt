@@ -1,6 +1,6 @@
 use Rattle.std.proofs.Common.{Err, sym, ap, subst}
 use Rattle.block_model.specs.Causes.{Rose}
-use Rattle.block_model.specs.DiskLayout.{DiskLayout}
+use Rattle.store_layout.specs.DiskLayout.{DiskLayout}
 use Rattle.brin_app.specs.ScriptOutput.{IsScriptOutput, HasSpentCauses, IsComplete}
 use Rattle.brin_app.proofs.Outputs.{has_spent_causes, complete, nothing_written}
 use Rattle.brin_app.proofs.top.brin_main.Goals as goal

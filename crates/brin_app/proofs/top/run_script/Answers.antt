@@ -1,4 +1,4 @@
-use Rattle.std.proofs.Common.{ap, ◌∙◌}
+use Rattle.std.proofs.Common.{ap}
 use Rattle.brin_app.proofs.Outputs.{script_output, nothing_written}
 use Rattle.brin_app.proofs.top.run_script.Goals as goal
 

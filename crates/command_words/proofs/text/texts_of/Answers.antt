@@ -14,7 +14,7 @@ returns-in-Err-clause-usage c = λ u.
 
 pub words-preserved : goal.words-preserved
 words-preserved c = record {
-  texts = ap (map (λ (w : Bor Text). w.now)) c.in-Ok-push.ensures.items
+  texts = ap (map (λ (w : Bor Text). w.now)) c.in_ok-push.ensures.items
       ∙ text_more c.words.texts.items c.args.words.now c.words.at c.in-Ok.text (omega arith) (c.in-Ok.ensures.cases.0 ∙ c.word.ensures) c.words.invariant.texts;
   utf8 = utf8_more c.args.words.now c.words.at (omega arith) c.words.invariant.utf8
       (ap is_utf8 (sym c.word.ensures) ∙ is_utf8-from_IsUtf8 c.word.result.now c.in-Ok.ensures.cases.1);

@@ -1,5 +1,5 @@
-use Rattle.heap_rows.proofs.Blocks.{no-blocks}
+use Rattle.heap_rows.proofs.Blocks.{no_blocks}
 use Rattle.heap_rows.proofs.laws.unstarted_tables_have_no_blocks.Goals as goal
 
 pub returns : goal.returns
-returns c = no-blocks
+returns c = no_blocks

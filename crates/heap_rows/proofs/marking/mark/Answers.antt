@@ -8,11 +8,11 @@ use Rattle.page_store.specs.Forms.{form_of}
 use Rattle.page_store.specs.PageMap.{block_at}
 use Rattle.wal_record.specs.Changes.{RowMark}
 use Rattle.heap_rows.specs.Heaps.{relation_of, form_at}
-use Rattle.heap_rows.proofs.Heaps.{form-found}
-use Rattle.heap_rows.proofs.Blocks.{is-used}
-use Rattle.heap_rows.proofs.Leaves.{change-leaves, mark-blocks, table-leaves}
-use Rattle.heap_rows.proofs.Rooms.{of-form}
-use Rattle.heap_rows.proofs.Spots.{mark-slot}
+use Rattle.heap_rows.proofs.Heaps.{form_found}
+use Rattle.heap_rows.proofs.Blocks.{is_used}
+use Rattle.heap_rows.proofs.Leaves.{change_leaves, mark_blocks, table_leaves}
+use Rattle.heap_rows.proofs.Rooms.{of_form}
+use Rattle.heap_rows.proofs.Spots.{mark_slot}
 use Rattle.heap_rows.proofs.marking.mark.Goals as goal
 
 pub change-requires-clause-fits : goal.change-requires-clause-fits
@@ -20,22 +20,22 @@ change-requires-clause-fits g c = λ tells.
     let store = c.args.pages.now in
     let table = c.args.table in
     let spot = c.args.spot in
-    let used = is-used {layout = store.layout} {table = table} {pages = store.pages} spot (c.requires.used tells) in
+    let used = is_used {layout = store.layout} {table = table} {pages = store.pages} spot (c.requires.used tells) in
     subst (λ (r : ℕ). IsSomeAnd (form_of store.layout r) (λ form. IsUsedSlot form (block_at store.pages r spot.block) spot.slot)) (sym c.relation_of-relation.ensures.number)
-    (of-form (form_of store.layout (relation_of table)) (form_at store.layout table) (λ form. IsUsedSlot form (block_at store.pages (relation_of table) spot.block) spot.slot) (form-found store.layout table c.requires.table) used)
+    (of_form (form_of store.layout (relation_of table)) (form_at store.layout table) (λ form. IsUsedSlot form (block_at store.pages (relation_of table) spot.block) spot.slot) (form_found store.layout table c.requires.table) used)
 
 pub returns-clause-marked : goal.returns-clause-marked
 returns-clause-marked g c =
     let store = c.args.pages.now in
     on_ok_weaker c.change.result (λ changed tells blocks has row at.
-    mark-blocks c.change.new.self.pages has c.relation_of-relation.result c.args.deleter c.args.spot row c.relation_of-relation.ensures.number (form-found store.layout c.args.table c.requires.table) at (changed tells)) c.change.ensures.changed
+    mark_blocks c.change.new.self.pages has c.relation_of-relation.result c.args.deleter c.args.spot row c.relation_of-relation.ensures.number (form_found store.layout c.args.table c.requires.table) at (changed tells)) c.change.ensures.changed
 
 pub returns-clause-slots : goal.returns-clause-slots
 returns-clause-slots g c =
-    on_ok_weaker c.change.result (λ changed tells blocks has row at. mark-slot blocks c.args.spot row (Some (marked row c.args.deleter)) at) c.change.ensures.changed
+    on_ok_weaker c.change.result (λ changed tells blocks has row at. mark_slot blocks c.args.spot row (Some (marked row c.args.deleter)) at) c.change.ensures.changed
 
 pub returns-clause-others : goal.returns-clause-others
 returns-clause-others g c =
     let place : Place = record { relation = c.relation_of-relation.result; block = c.args.spot.block } in
-    table-leaves g.D.Disk.told c.args.table place c.args.pages.now c.change.new.self c.relation_of-relation.ensures.number
-    (change-leaves g.D.Disk.told c.args.pages.now.layout place (RowMark place c.args.spot.slot c.args.deleter) c.args.pages.now c.change.new.self c.change.result c.change.ensures.changed c.change.ensures.kept c.change.ensures.tells c.change.ensures.layout)
+    table_leaves g.D.Disk.told c.args.table place c.args.pages.now c.change.new.self c.relation_of-relation.ensures.number
+    (change_leaves g.D.Disk.told c.args.pages.now.layout place (RowMark place c.args.spot.slot c.args.deleter) c.args.pages.now c.change.new.self c.change.result c.change.ensures.changed c.change.ensures.kept c.change.ensures.tells c.change.ensures.layout)

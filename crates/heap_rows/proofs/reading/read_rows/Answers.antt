@@ -1,9 +1,9 @@
 use Rattle.std.proofs.Common.{◌≡◌, ◌<◌, ◌∙◌, List, [], ◌∷◌, ◌++◌, length, ap, sym, arith, length-append}
 use Rattle.page_layout.specs.PageContents.{Slot, HasSlots}
-use Rattle.page_layout.proofs.FreeSlots.{free-read, length-has}
+use Rattle.page_layout.proofs.FreeSlots.{free_read, length-has}
 use Rattle.heap_rows.specs.StoredRows.{RowsInRoom, stored_from}
-use Rattle.heap_rows.proofs.Places.{free-slot}
-use Rattle.heap_rows.proofs.SlotRows.{read-row, stored-add, stored-skip}
+use Rattle.heap_rows.proofs.Places.{free_slot}
+use Rattle.heap_rows.proofs.SlotRows.{read_row, stored-add, stored-skip}
 use Rattle.heap_rows.proofs.reading.read_rows.Goals as goal
 use Rattle.heap_rows.proofs.reading.read_rows.Goals.{in-Some, in_default}
 
@@ -32,7 +32,7 @@ loop-slot-preserved c =
             few = omega (arith, so_far.few, ap length all, length-append c.loop-slot.out.rows (w.stored.result ∷ []));
             room = ap (λ (r : RowsInRoom). r.room) (w.out-is ∙ w.push.ensures) ∙ so_far.room;
             contents = λ slots has.
-                let row = read-row form page slots n _ has (w.in-Some.ensures.contents slots has) in
+                let row = read_row form page slots n _ has (w.in-Some.ensures.contents slots has) in
                 all ∙ (λ i. so_far.contents slots has i ++ w.stored.ensures row.0 row.2 i ∷ []) ∙ sym (stored-add slots n row.0 (below slots has) row.1);
             unstarted = λ zeros. let none = w.in-Some.ensures.unstarted zeros in absurd cc;
           }
@@ -40,7 +40,7 @@ loop-slot-preserved c =
         few = omega (arith, so_far.few, ap (λ (r : RowsInRoom). length r.rows) w.out-is);
         room = ap (λ (r : RowsInRoom). r.room) w.out-is ∙ so_far.room;
         contents = λ slots has.
-            let free = free-slot _ (free-read form page slots n has (w.in_default.ensures.contents slots has)) in
+            let free = free_slot _ (free_read form page slots n has (w.in_default.ensures.contents slots has)) in
             ap (λ (r : RowsInRoom). r.rows) w.out-is ∙ so_far.contents slots has ∙ sym (stored-skip slots n (below slots has) free);
         unstarted = λ zeros. ap (λ (r : RowsInRoom). r.rows) w.out-is ∙ so_far.unstarted zeros;
       }

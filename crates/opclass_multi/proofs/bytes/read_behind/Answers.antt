@@ -35,17 +35,17 @@ elements-preserved c =
     let within : size_of e ≤ length (drop at bytes) = taken_within intervals c.elements.before (drop at bytes) e one in
     let fits : FitsSigned w64 e.greatest = search rules in
     let room : old ≤ length items = omega (arith, c.elements.elements.ok) in
-    let list : drop old items ++ e ∷ [] ≡ drop old c.push_within.new.elements.items =
-    sym (ap (drop old) c.push_within.ensures.added ∙ drop-append-le old items (e ∷ []) room) in
+    let list : drop old items ++ e ∷ [] ≡ drop old c.push_reserved.new.self.items =
+    sym (ap (drop old) c.push_reserved.ensures.items ∙ drop-append-le old items (e ∷ []) room) in
     let left : suc intervals - weight e ≡ intervals + 1 - c.weight.result = omega (arith, c.weight.ensures) in
     let next : at + size_of e ≡ at + c.size-at.result = omega (arith, c.size-at.ensures) in
     let greatest = sym (to_z-of_z w64 e.greatest fits) in
     record {
       within = omega (arith, c.size-at.ensures, length-drop at bytes);
       few = omega (arith, c.weight.ensures, (weight_bounds e).0);
-      size = omega (arith, c.push_within.ensures.size);
-      room = omega (arith, c.push_within.ensures.room);
-      stays = ap (take old) c.push_within.ensures.added ∙ take-append-le old items (e ∷ []) room ∙ c.elements.invariant.stays;
+      size = omega (arith, c.push_reserved.ensures.len);
+      room = omega (arith, c.push_reserved.ensures.capacity);
+      stays = ap (take old) c.push_reserved.ensures.items ∙ take-append-le old items (e ∷ []) room ∙ c.elements.invariant.stays;
       so_far =
           on_more (read_of c.args.limit bytes) at (number - (c.elements.counter + 1)) (number - c.elements.counter) intervals (drop old items) c.elements.before bytes e (omega arith) c.elements.invariant.so_far got
           ∙ (λ i. behind (next i) (list i) (elements_in (number - (c.elements.counter + 1)) (left i) (Some (greatest i)) (drop (next i) bytes)));

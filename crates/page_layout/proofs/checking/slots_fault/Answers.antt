@@ -2,7 +2,7 @@ use Rattle.std.proofs.Common.{◌≡◌, ℕ, ◌+◌, ◌-◌, ◌*◌, suc, le
 use Rattle.std.proofs.lemmas.List.{take_all, length-drop}
 use Rattle.page_layout.specs.RowFaults.{shifted}
 use Rattle.page_layout.specs.PageFaults.{slots_fault}
-use Rattle.page_layout.proofs.Pages.{slots-stop, slots-next, slots-end, next-row}
+use Rattle.page_layout.proofs.Pages.{slots-stop, slots-next, slots-end, next_row}
 use Rattle.page_layout.proofs.checking.slots_fault.Goals as goal
 
 pub returns-in-Some-clause-fault : goal.returns-in-Some-clause-fault
@@ -27,7 +27,7 @@ loop-slot-preserved c =
     let wide : at + row - at ≡ row = omega arith in
     let more : left ≡ suc (c.args.slots - (c.loop-slot.slot + 1)) = omega arith in
     let so_far = ap (λ (s : ℕ). shifted (s * row) (slots_fault ks left (drop (s * row) body))) c.from.ensures ∙ c.loop-slot.invariant in
-    let on : (c.loop-slot.slot + 1) * row ≡ at + row = next-row c.loop-slot.slot row ∙ ap (λ (s : ℕ). s * row + row) (sym c.from.ensures) in
+    let on : (c.loop-slot.slot + 1) * row ≡ at + row = next_row c.loop-slot.slot row ∙ ap (λ (s : ℕ). s * row + row) (sym c.from.ensures) in
     slots-next ks left (c.args.slots - (c.loop-slot.slot + 1)) row at (at + row - at) ((c.loop-slot.slot + 1) * row) body (slots_fault ks c.args.slots body) c.requires.row wide more on so_far (sym c.in_default.is ∙ c.slot_fault.ensures.fault)
 
 pub returns-in_err-fault-clause-fault : goal.returns-in_err-fault-clause-fault

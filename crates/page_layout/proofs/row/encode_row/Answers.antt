@@ -4,7 +4,7 @@ use Rattle.block_model.specs.declared.value.Kind.{Kind}
 use Rattle.block_model.specs.declared.schema.Column.{Column}
 use Rattle.page_layout.specs.RowBytes.{head_bytes, columns_bytes, row_bytes}
 use Rattle.page_layout.proofs.Columns.{length-have}
-use Rattle.page_layout.proofs.Written.{all-next}
+use Rattle.page_layout.proofs.Written.{all_next}
 use Rattle.page_layout.proofs.row.encode_row.Goals as goal
 
 pub null_bits-requires : goal.null_bits-requires
@@ -17,6 +17,6 @@ returns-clause-written c =
     let out = c.write_head.new.out in
     let front = head_bytes c.args.id c.args.deleter c.null_bits.result in
     let long : length old ≤ 22 + (length out - 22) = omega (arith, c.write_head.auto.out) in
-    all-next old out front c.write_columns.new.out 22 (length out - 22) c.write_head.ensures.written refl long
+    all_next old out front c.write_columns.new.out 22 (length out - 22) c.write_head.ensures.written refl long
     ∙ ap (λ (l : List ℕ). front ++ l) c.write_columns.ensures.written
     ∙ (λ i. head_bytes c.args.id c.args.deleter (c.null_bits.ensures.bits i) ++ columns_bytes ((c.as_slice.ensures.kinds ∙ c.kinds_of-kinds.ensures) i) c.args.values.now)

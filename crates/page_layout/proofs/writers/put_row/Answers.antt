@@ -1,9 +1,9 @@
-use Rattle.page_layout.proofs.Writes.{put-by, row-room-of}
+use Rattle.page_layout.proofs.Writes.{put-by, row_room_of}
 use Rattle.page_layout.proofs.writers.put_row.Goals as goal
 
 pub write-requires : goal.write-requires
 write-requires c =
-    let room = row-room-of c.args.form c.in-Heap.row c.in-Heap.slots c.in-Heap.kinds c.in-Heap.format c.args.slot c.args.bytes.now c.in-Heap.is c.requires.form c.requires.slot c.requires.row in
+    let room = row_room_of c.args.form c.in-Heap.row c.in-Heap.slots c.in-Heap.kinds c.in-Heap.format c.args.slot c.args.bytes.now c.in-Heap.is c.requires.form c.requires.slot c.requires.row in
     record { within = rw (c.from.ensures, c.from-in-Heap.ensures) room }
 
 pub returns-in-Heap : goal.returns-in-Heap

@@ -5,7 +5,7 @@ use Rattle.page_store.specs.declared.block.Block.{Block}
 use Rattle.page_store.specs.Blocks.{BlockChanged, IsBlock}
 use Rattle.page_store.proofs.Blocks.{block_in-past, block_in-read, with_block-behind, with_block-there}
 use Rattle.page_store.proofs.Lookups.{on_err}
-use Rattle.page_store.proofs.Rooms.{unstarted-is}
+use Rattle.page_store.proofs.Rooms.{unstarted_is}
 use Rattle.page_store.proofs.block.change_at.Goals as goal
 
 pub returns-in_err-change_block-clause-misfit : goal.returns-in_err-change_block-clause-misfit
@@ -24,7 +24,7 @@ returns-then-at-len-clause-changed c =
     )
 
 pub change_block-requires-2-clause-block : goal.change_block-requires-2-clause-block
-change_block-requires-2-clause-block c = subst (IsBlock c.args.form.now) (sym c.unstarted_block-block.ensures) (unstarted-is c.args.form.now)
+change_block-requires-2-clause-block c = subst (IsBlock c.args.form.now) (sym c.unstarted_block-block.ensures) (unstarted_is c.args.form.now)
 
 pub returns-in_err-change_block-2-clause-misfit : goal.returns-in_err-change_block-2-clause-misfit
 returns-in_err-change_block-2-clause-misfit c =
@@ -38,7 +38,7 @@ returns-clause-changed c =
     let none = c.unstarted_block-block.ensures ∙ sym (block_in-past c.args.blocks.now.items c.args.at behind) in (
       c.change_block-2.new.block,
       subst (λ (b : Block). BlockChanged c.args.form.now (logged c.args.change.now) b c.change_block-2.new.block) none c.in_ok-change_block-2.ensures.changed,
-      c.push_within.ensures.items
+      c.push_reserved.ensures.items
           ∙ ap (λ (l : List Block). l ++ c.change_block-2.new.block ∷ []) c.fill.ensures.items
           ∙ with_block-behind c.args.blocks.now.items c.args.at c.change_block-2.new.block behind,
     )

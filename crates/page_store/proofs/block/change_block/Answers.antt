@@ -2,7 +2,7 @@ use Rattle.std.proofs.Common.{◌-◌, ap, subst, sym}
 use Rattle.page_redo.specs.Redo.{Fits, Means}
 use Rattle.wal_record.specs.Changes.{LoggedChange, logged}
 use Rattle.page_store.specs.Blocks.{BlockChanged}
-use Rattle.page_store.proofs.FreeKept.{mark-kept, put-kept, put-some}
+use Rattle.page_store.proofs.FreeKept.{mark_kept, put-kept, put-some}
 use Rattle.page_store.proofs.block.change_block.Goals as goal
 
 pub overflow_sub-block : goal.overflow_sub-block
@@ -31,4 +31,4 @@ returns-in-RowMark-clause-changed c =
     let fits = subst (Fits form old.page) is c.in_ok-redo_checked.ensures.fitted in
     let means = subst (λ (change : LoggedChange). Means form old.page change page) is c.in_ok-redo_checked.ensures.done in
     subst (λ (change : LoggedChange). BlockChanged form change old (record { page = page; free = old.free })) (sym is)
-    (mark-kept form c.in-RowMark.place c.in-RowMark.slot c.in-RowMark.deleter old page c.requires.form c.requires.block fits means c.in_ok-redo_checked.ensures.passes)
+    (mark_kept form c.in-RowMark.place c.in-RowMark.slot c.in-RowMark.deleter old page c.requires.form c.requires.block fits means c.in_ok-redo_checked.ensures.passes)

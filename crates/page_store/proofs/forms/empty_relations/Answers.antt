@@ -3,7 +3,7 @@ use Rattle.std.proofs.lemmas.List.{take_all}
 use Rattle.block_model.specs.declared.schema.Schema.{Schema}
 use Rattle.block_model.specs.declared.schema.Table.{Table}
 use Rattle.page_layout.specs.declared.page.Form.TheVariants as forms
-use Rattle.page_store.specs.Forms.{heap_form}
+use Rattle.page_layout.specs.HeapForms.{heap_form}
 use Rattle.page_store.specs.Relations.{RelationState, empty_relation}
 use Rattle.page_store.specs.Store.{empty_relations}
 use Rattle.page_store.proofs.forms.empty_relations.Goals as goal

@@ -1,7 +1,7 @@
 use Rattle.std.proofs.Common.{◌≡◌, ◌≤◌, ◌+◌, ◌∷◌, length, map, take, vec_len}
 use Rattle.std.specs.Prelude.{vec_capacity}
 use Rattle.page_layout.specs.declared.page.Form.TheVariants as forms
-use Rattle.page_store.specs.Forms.{heap_form}
+use Rattle.page_layout.specs.HeapForms.{heap_form}
 use Rattle.page_store.specs.Relations.{empty_relation}
 use Rattle.page_store.proofs.forms.empty_relations.Given as goal
 

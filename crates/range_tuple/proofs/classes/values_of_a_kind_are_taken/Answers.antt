@@ -1,6 +1,6 @@
 use Rattle.std.proofs.Common.{◌≡◌, true}
 use Rattle.std.proofs.lemmas.Bool.{false≢true}
-use Rattle.block_model.specs.Limits.{takes_kind}
+use Rattle.block_model.specs.ClassLimits.{takes_kind}
 use Rattle.block_model.specs.declared.schema.Class.{Class}
 use Rattle.block_model.specs.declared.schema.Class.TheVariants as classes
 use Rattle.block_model.specs.declared.value.Kind.{Kind}

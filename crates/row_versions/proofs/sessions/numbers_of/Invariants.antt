@@ -3,8 +3,8 @@ use Rattle.std.specs.Vec.{vec_capacity}
 use Rattle.row_versions.specs.SessionChanges.{numbers_of}
 use Rattle.row_versions.proofs.sessions.numbers_of.Given as goal
 
-abbrev pub invariant-numbering : goal.invariant-numbering
-invariant-numbering l = record {
+abbrev pub invariant-sessions : goal.invariant-sessions
+invariant-sessions l = record {
   so_far : l.numbers.items ++ numbers_of (drop l.session-index l.sessions) ≡ numbers_of l.sessions;
   room : length l.numbers.items + (length l.sessions - l.session-index) ≤ vec_capacity l.numbers;
 }

@@ -1,5 +1,5 @@
 use Rattle.std.proofs.Common.{◌≡◌, replicate, []}
 use Rattle.row_versions.proofs.versions.empty_tables.Given as goal
 
-abbrev pub invariant-making : goal.invariant-making
-invariant-making l = l.tables.items ≡ replicate l.counter []
+abbrev pub invariant-tables : goal.invariant-tables
+invariant-tables l = l.tables.items ≡ replicate l.counter []

@@ -2,7 +2,7 @@ use Rattle.std.proofs.Common.{◌≡◌, ℕ, List, ◌∷◌, [], ◌++◌, Som
 use Rattle.block_model.specs.declared.schema.Part.{Part}
 use Rattle.schema_words.specs.DeclaredSchema.{part_on, column_named}
 use Rattle.schema_words.specs.Words.{part_text, index_text}
-use Rattle.schema_words.proofs.PartsLoop.{others_of, AreFound, left-next, found-next}
+use Rattle.schema_words.proofs.PartsLoop.{others_of, AreFound, left_next, found_next}
 use Rattle.schema_words.proofs.declare.parts_among.Goals as goal
 
 pub parts-preserved : goal.parts-preserved
@@ -14,7 +14,7 @@ parts-preserved c =
     let named : column_named c.in-Some.part.column.now c.args.columns.now ≡ Some c.in-Some-column_named.column = sym c.column_named.ensures ∙ c.in-Some-column_named.is in
     let pushed : c.parts.parts ++ part_on (part_text c.in-Some.part) c.in-Some-column_named.column ∷ [] ≡ c.push.new.self = ap (λ (p : Part). c.parts.parts ++ p ∷ []) (sym c.part_on.ensures) ∙ sym c.in-Ok.ensures.ok in (
       others_of h.0,
-      left-next all c.parts.rest.now h.0 (c.in-Some.part, c.in-Some.others) h.1 first c.in-Some.ensures.shorter,
+      left_next all c.parts.rest.now h.0 (c.in-Some.part, c.in-Some.others) h.1 first c.in-Some.ensures.shorter,
       subst (AreFound c.args.columns.now i all c.in-Some.others.now (others_of h.0)) pushed
-          (found-next c.args.columns.now i all c.parts.rest.now h.0 c.parts.parts (c.in-Some.part, c.in-Some.others) c.in-Some-column_named.column h.1 h.2 first named),
+          (found_next c.args.columns.now i all c.parts.rest.now h.0 c.parts.parts (c.in-Some.part, c.in-Some.others) c.in-Some-column_named.column h.1 h.2 first named),
     )

@@ -4,5 +4,5 @@ use Rattle.schema_words.specs.DeclaredSchema.{Denotes}
 use Rattle.schema_words.proofs.judge.first_fault.Given as goal
 
 -- the words so far are declarations
-abbrev pub invariant-loop-word : goal.invariant-loop-word
-invariant-loop-word l = (s : Schema) × Denotes (take l.word l.words) s
+abbrev pub invariant-words : goal.invariant-words
+invariant-words l = (s : Schema) × Denotes (take l.word l.words) s

@@ -1,5 +1,5 @@
-use Rattle.schema_words.proofs.DeclaredLemmas.{fault-denotes_nothing}
+use Rattle.schema_words.proofs.DeclaredLemmas.{fault_denotes_nothing}
 use Rattle.schema_words.proofs.laws.faulty_words_denote_nothing.Goals as goal
 
 pub returns : goal.returns
-returns c = fault-denotes_nothing
+returns c = fault_denotes_nothing

@@ -1,6 +1,6 @@
 use Rattle.schema_words.specs.DeclaredSchema.{nothing_declared}
-use Rattle.schema_words.proofs.DeclaredLemmas.{words-one}
+use Rattle.schema_words.proofs.DeclaredLemmas.{words_one}
 use Rattle.schema_words.proofs.laws.words_denote_one_schema.Goals as goal
 
 pub returns : goal.returns
-returns c words a b h k = words-one words nothing_declared a b h k
+returns c words a b h k = words_one words nothing_declared a b h k

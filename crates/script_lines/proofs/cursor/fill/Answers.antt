@@ -1,4 +1,5 @@
 use Rattle.std.proofs.Common.{arith, ◌≡◌, ◌∙◌, sym, refl, [], Ok, Err, ◌++◌}
+use Rattle.std.proofs.lemmas.Result.{err_from_is_err_and}
 use Rattle.std.proofs.KnownBytes.{Consumes-trans, Consumes-kept, Consumes-nil}
 use Rattle.script_lines.specs.declared.cursor.Came.TheVariants as came
 use Rattle.script_lines.specs.declared.end.LinesEnd.TheVariants as ends
@@ -10,7 +11,7 @@ use Rattle.script_lines.proofs.cursor.fill.Goals as goal
 pub pieces-preserved : goal.pieces-preserved
 pieces-preserved g c =
     let before = c.pieces.invariant in
-    let told = rw c.in-Ok-Part.field-0-is at c.in-Ok-Part.ensures.fills in
+    let told = rw c.in-Part.is at c.in_ok-take_piece.ensures.fills in
     record {
       filling = told.3;
       reads = (
@@ -21,45 +22,49 @@ pieces-preserved g c =
       later = omega (arith, before.later, c.take_piece.ensures.later);
     }
 
-pub returns-in-Ok-Line-clause-fills : goal.returns-in-Ok-Line-clause-fills
-returns-in-Ok-Line-clause-fills g c =
+pub returns-in-Line-clause-fills : goal.returns-in-Line-clause-fills
+returns-in-Line-clause-fills g c =
     let before = c.pieces.invariant in
     fills_after c.args.buffer.now c.pieces.buffer c.take_piece.new.buffer c.args.cursor.now c.pieces.cursor c.take_piece.new.cursor (g.S.Source.left c.args.source.now) (g.S.Source.left c.pieces.source) (g.S.Source.left c.take_piece.new.source)
-    before.reads.0 before.reads.1 before.reads.2 (c.requires.going ∙ sym before.filling.going) (Ok (came.Line c.in-Ok-Line.at)) (rw c.in-Ok-Line.field-0-is at c.in-Ok-Line.ensures.fills)
+    before.reads.0 before.reads.1 before.reads.2 (c.requires.going ∙ sym before.filling.going) (Ok (came.Line c.in-Line.at)) (rw c.in-Line.is at c.in_ok-take_piece.ensures.fills)
 
-pub returns-in-Ok-End-clause-fills : goal.returns-in-Ok-End-clause-fills
-returns-in-Ok-End-clause-fills g c =
+pub returns-in-End-clause-fills : goal.returns-in-End-clause-fills
+returns-in-End-clause-fills g c =
     let before = c.pieces.invariant in
     fills_after c.args.buffer.now c.pieces.buffer c.take_piece.new.buffer c.args.cursor.now c.pieces.cursor c.take_piece.new.cursor (g.S.Source.left c.args.source.now) (g.S.Source.left c.pieces.source) (g.S.Source.left c.take_piece.new.source)
-    before.reads.0 before.reads.1 before.reads.2 (c.requires.going ∙ sym before.filling.going) (Ok came.End) (rw c.in-Ok-End.field-0-is at c.in-Ok-End.ensures.fills)
+    before.reads.0 before.reads.1 before.reads.2 (c.requires.going ∙ sym before.filling.going) (Ok came.End) (rw c.in-End.is at c.in_ok-take_piece.ensures.fills)
 
-pub returns-in-Err-clause-fills : goal.returns-in-Err-clause-fills
-returns-in-Err-clause-fills g c =
+pub returns-in_err-take_piece-clause-fills : goal.returns-in_err-take_piece-clause-fills
+returns-in_err-take_piece-clause-fills g c =
     let before = c.pieces.invariant in
-    fills_after c.args.buffer.now c.pieces.buffer c.take_piece.new.buffer c.args.cursor.now c.pieces.cursor c.take_piece.new.cursor (g.S.Source.left c.args.source.now) (g.S.Source.left c.pieces.source) (g.S.Source.left c.take_piece.new.source)
-    before.reads.0 before.reads.1 before.reads.2 (c.requires.going ∙ sym before.filling.going) (Err c.in-Err.end) c.in-Err.ensures.fills
+    let p = err_from_is_err_and c.from_residual.result c.from_residual.ensures.1 in
+    rw (p.1, p.2)
+    (fills_after c.args.buffer.now c.pieces.buffer c.take_piece.new.buffer c.args.cursor.now c.pieces.cursor c.take_piece.new.cursor (g.S.Source.left c.args.source.now) (g.S.Source.left c.pieces.source) (g.S.Source.left c.take_piece.new.source)
+    before.reads.0 before.reads.1 before.reads.2 (c.requires.going ∙ sym before.filling.going) (Err c.in_err-take_piece.field-0.0) c.in_err-take_piece.ensures.fills)
 
-pub returns-in-Ok-true-clause-fills : goal.returns-in-Ok-true-clause-fills
-returns-in-Ok-true-clause-fills g c =
+pub returns-then-branch-clause-fills : goal.returns-then-branch-clause-fills
+returns-then-branch-clause-fills g c =
     let before = c.pieces.invariant in
-    let told = rw c.in-Ok-true.field-0-test at c.in-Ok-true.ensures.answers in
+    let told = rw c.if-branch.true at c.in_ok-ask_past.ensures.answers in
     let full : c.pieces.cursor.taken ≡ c.pieces.cursor.limit = omega (arith, before.filling.cursor.within) in
     fills_after c.args.buffer.now c.pieces.buffer c.pieces.buffer c.args.cursor.now c.pieces.cursor _ (g.S.Source.left c.args.source.now) (g.S.Source.left c.pieces.source) (g.S.Source.left c.ask_past.new.source)
     before.reads.0 before.reads.1 before.reads.2 (c.requires.going ∙ sym before.filling.going) (Err (ends.Spent c.pieces.cursor.limit))
     (past_limit c.pieces.buffer c.pieces.cursor (g.S.Source.left c.pieces.source) (g.S.Source.left c.ask_past.new.source) told.0 before.filling full told.1)
 
-pub returns-in-Ok-false-clause-fills : goal.returns-in-Ok-false-clause-fills
-returns-in-Ok-false-clause-fills g c =
+pub returns-clause-fills : goal.returns-clause-fills
+returns-clause-fills g c =
     let before = c.pieces.invariant in
-    let told = rw c.in-Ok-false.field-0-test at c.in-Ok-false.ensures.answers in
+    let told = rw c.if-branch.false at c.in_ok-ask_past.ensures.answers in
     fills_after c.args.buffer.now c.pieces.buffer c.pieces.buffer c.args.cursor.now c.pieces.cursor _ (g.S.Source.left c.args.source.now) (g.S.Source.left c.pieces.source) (g.S.Source.left c.ask_past.new.source)
     before.reads.0 before.reads.1 before.reads.2 (c.requires.going ∙ sym before.filling.going) (Ok came.End)
     (piece_end c.pieces.buffer c.pieces.buffer c.pieces.cursor (g.S.Source.left c.pieces.source) (g.S.Source.left c.ask_past.new.source) before.filling before.filling.cursor.size refl told.0 told.1)
 
-pub returns-in-Err-ask_past-clause-fills : goal.returns-in-Err-ask_past-clause-fills
-returns-in-Err-ask_past-clause-fills g c =
+pub returns-in_err-ask_past-clause-fills : goal.returns-in_err-ask_past-clause-fills
+returns-in_err-ask_past-clause-fills g c =
     let before = c.pieces.invariant in
-    let same = Consumes-kept (g.S.Source.left c.pieces.source) (g.S.Source.left c.pieces.source) (g.S.Source.left c.ask_past.new.source) [] (Consumes-nil (g.S.Source.left c.pieces.source)) c.in-Err-ask_past.ensures.answers in
-    fills_after c.args.buffer.now c.pieces.buffer c.pieces.buffer c.args.cursor.now c.pieces.cursor c.pieces.cursor (g.S.Source.left c.args.source.now) (g.S.Source.left c.pieces.source) (g.S.Source.left c.ask_past.new.source)
+    let same = Consumes-kept (g.S.Source.left c.pieces.source) (g.S.Source.left c.pieces.source) (g.S.Source.left c.ask_past.new.source) [] (Consumes-nil (g.S.Source.left c.pieces.source)) c.in_err-ask_past.ensures.answers in
+    let p = err_from_is_err_and c.from_residual-in_err-ask_past.result c.from_residual-in_err-ask_past.ensures.1 in
+    rw (p.1, p.2)
+    (fills_after c.args.buffer.now c.pieces.buffer c.pieces.buffer c.args.cursor.now c.pieces.cursor c.pieces.cursor (g.S.Source.left c.args.source.now) (g.S.Source.left c.pieces.source) (g.S.Source.left c.ask_past.new.source)
     before.reads.0 before.reads.1 before.reads.2 (c.requires.going ∙ sym before.filling.going) (Err ends.Read)
-    (piece_fault c.pieces.buffer c.pieces.buffer c.pieces.cursor (g.S.Source.left c.pieces.source) (g.S.Source.left c.ask_past.new.source) before.filling before.filling.cursor.size refl same)
+    (piece_fault c.pieces.buffer c.pieces.buffer c.pieces.cursor (g.S.Source.left c.pieces.source) (g.S.Source.left c.ask_past.new.source) before.filling before.filling.cursor.size refl same))

@@ -1,5 +1,6 @@
 use Rattle.std.proofs.Common.{◌∙◌, sym, subst, []}
-use Rattle.script_lines.specs.Reading.{Reading, ReadsOn, Stops}
+use Rattle.std.proofs.lemmas.Result.{err_from_is_err_and}
+use Rattle.script_lines.specs.Reading.{LineReading, ReadsOn, Stops}
 use Rattle.script_lines.specs.Buffered.{reading}
 use Rattle.script_lines.proofs.Hands.{brought, brought_filling, answers_line, answers_last}
 use Rattle.script_lines.proofs.cursor.refill.Goals as goal
@@ -7,23 +8,25 @@ use Rattle.script_lines.proofs.cursor.refill.Goals as goal
 pub fill-requires : goal.fill-requires
 fill-requires g c = brought_filling c.args.buffer.now c.keep_front-cursor.new.buffer c.args.cursor.now c.keep_front-cursor.result c.requires.cursor c.requires.going c.requires.unended c.keep_front-cursor.ensures.count c.keep_front-cursor.ensures.front c.keep_front-cursor.auto.buffer
 
-pub returns-in-Ok-Some-clause-answers : goal.returns-in-Ok-Some-clause-answers
-returns-in-Ok-Some-clause-answers g c =
+pub returns-in-Some-clause-answers : goal.returns-in-Some-clause-answers
+returns-in-Some-clause-answers g c =
     let same = brought c.args.buffer.now c.keep_front-cursor.new.buffer c.args.cursor.now c.keep_front-cursor.result c.requires.cursor c.requires.going c.requires.unended c.keep_front-cursor.ensures.count c.keep_front-cursor.ensures.front c.keep_front-cursor.auto.buffer in
-    let told = rw c.in-Ok-Some.field-0-is at c.in-Ok-Some.ensures.fills in
+    let told = rw c.in-Some.is at c.in_ok-at.ensures.fills in
     answers_line (reading c.args.buffer.now c.args.cursor.now) c.fill.new.buffer c.fill.new.cursor (g.S.Source.left c.args.source.now) (g.S.Source.left c.fill.new.source) told.0 told.1
-    (subst (λ (a : Reading). ReadsOn a (reading c.fill.new.buffer c.fill.new.cursor) told.0 []) same told.2)
-    c.in-Ok-Some.at c.hand_out.result c.hand_out.new.cursor told.3.3 (told.3.2 ∙ sym c.requires.going) c.hand_out.ensures.span c.hand_out.ensures.rest
+    (subst (λ (a : LineReading). ReadsOn a (reading c.fill.new.buffer c.fill.new.cursor) told.0 []) same told.2)
+    c.in-Some.at c.hand_out.result c.hand_out.new.cursor told.3.3 (told.3.2 ∙ sym c.requires.going) c.hand_out.ensures.span c.hand_out.ensures.rest
 
-pub returns-in-Ok-None-clause-answers : goal.returns-in-Ok-None-clause-answers
-returns-in-Ok-None-clause-answers g c =
+pub returns-in-None-clause-answers : goal.returns-in-None-clause-answers
+returns-in-None-clause-answers g c =
     let same = brought c.args.buffer.now c.keep_front-cursor.new.buffer c.args.cursor.now c.keep_front-cursor.result c.requires.cursor c.requires.going c.requires.unended c.keep_front-cursor.ensures.count c.keep_front-cursor.ensures.front c.keep_front-cursor.auto.buffer in
-    let told = rw c.in-Ok-None.field-0-is at c.in-Ok-None.ensures.fills in
+    let told = rw c.in-None.is at c.in_ok-at.ensures.fills in
     answers_last (reading c.args.buffer.now c.args.cursor.now) c.fill.new.buffer c.fill.new.cursor (g.S.Source.left c.args.source.now) (g.S.Source.left c.fill.new.source) told.0 told.1
-    (subst (λ (a : Reading). ReadsOn a (reading c.fill.new.buffer c.fill.new.cursor) told.0 []) same told.2)
+    (subst (λ (a : LineReading). ReadsOn a (reading c.fill.new.buffer c.fill.new.cursor) told.0 []) same told.2)
     c.last_line.result c.last_line.new.cursor told.3.0 told.3.3 told.3.2 c.last_line.ensures
 
-pub returns-in-Err-clause-answers : goal.returns-in-Err-clause-answers
-returns-in-Err-clause-answers g c =
+pub returns-in_err-at-clause-answers : goal.returns-in_err-at-clause-answers
+returns-in_err-at-clause-answers g c =
     let same = brought c.args.buffer.now c.keep_front-cursor.new.buffer c.args.cursor.now c.keep_front-cursor.result c.requires.cursor c.requires.going c.requires.unended c.keep_front-cursor.ensures.count c.keep_front-cursor.ensures.front c.keep_front-cursor.auto.buffer in
-    subst (λ (a : Reading). Stops a (reading c.fill.new.buffer c.fill.new.cursor) (g.S.Source.left c.args.source.now) (g.S.Source.left c.fill.new.source) c.in-Err.end) same c.in-Err.ensures.fills.0
+    let p = err_from_is_err_and c.from_residual.result c.from_residual.ensures.1 in
+    rw (p.1, p.2)
+    (subst (λ (a : LineReading). Stops a (reading c.fill.new.buffer c.fill.new.cursor) (g.S.Source.left c.args.source.now) (g.S.Source.left c.fill.new.source) c.in_err-at.field-0.0) same c.in_err-at.ensures.fills.0)

@@ -5,6 +5,6 @@ use Rattle.block_model.specs.DatabaseState.{OpenTransaction}
 use Rattle.serial_model.specs.declared.sessions.Session.{Session}
 use Rattle.serial_model.proofs.sessions.place_in.Given as goal
 
-abbrev pub invariant-loop-i : goal.invariant-loop-i
-invariant-loop-i l = (x : OpenTransaction) → put nat_cmp l.number x (map (λ (s : Session). (s.number, s.transaction)) l.sessions)
+abbrev pub invariant-sessions : goal.invariant-sessions
+invariant-sessions l = (x : OpenTransaction) → put nat_cmp l.number x (map (λ (s : Session). (s.number, s.transaction)) l.sessions)
     ≡ map (λ (s : Session). (s.number, s.transaction)) (take l.i l.sessions) ++ put nat_cmp l.number x (map (λ (s : Session). (s.number, s.transaction)) (drop l.i l.sessions))

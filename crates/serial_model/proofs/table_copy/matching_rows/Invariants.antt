@@ -3,5 +3,5 @@ use Rattle.std.specs.List.{filter}
 use Rattle.block_model.specs.RowMatches.{row_matches}
 use Rattle.serial_model.proofs.table_copy.matching_rows.Given as goal
 
-abbrev pub invariant-loop-row : goal.invariant-loop-row
-invariant-loop-row l = l.found ≡ filter (row_matches l.query) (take l.row-index l.rows)
+abbrev pub invariant-rows : goal.invariant-rows
+invariant-rows l = l.found ≡ filter (row_matches l.query) (take l.row-index l.rows)

@@ -3,29 +3,27 @@ use Rattle.block_model.specs.declared.request.Request.TheVariants.{Look}
 use Rattle.block_model.specs.declared.request.Tag.TheVariants.{NoMemory}
 use Rattle.block_model.specs.DatabaseState.{OpenTransaction}
 use Rattle.block_model.specs.RequestEffect.{rows_found}
-use Rattle.query_words.specs.declared.statement.Statement.TheVariants.{Delete}
-use Rattle.query_words.specs.ScriptTexts.{max_entries}
-use Rattle.query_words.specs.StatementRequests.{tagged_entry, mark_entries}
+use Rattle.statements.specs.declared.statement.Statement.TheVariants.{Delete}
+use Rattle.statements.specs.declared.limits.TheConstants.{MAX_ENTRIES}
+use Rattle.statements.specs.StatementRequests.{tagged_entry, mark_entries}
 use Rattle.row_versions.specs.declared.versions.Hit.{Hit}
 use Rattle.row_versions.specs.Hits.{mark_of}
-use Rattle.session_core.proofs.Acting.{acts_wanting, acts_from, whole_delete, delete_is_past, past_of}
+use Rattle.session_core.proofs.Acting.{does_failing, does_from, delete_may_want, delete_is_past, past_of}
 use Rattle.session_core.proofs.acts.delete.Goals as goal
 
 pub returns-in_default-clause-ok : goal.returns-in_default-clause-ok
 returns-in_default-clause-ok c =
     let want = c.want_of_memory in
-    acts_wanting c.args.tables.now c.args.tables.now want.new.tables c.args.journal.now c.args.journal.now want.new.journal c.args.session (Delete c.args.query)
-    (tagged_entry c.args.session c.args.query.table (Look c.args.query) NoMemory) want.result refl refl refl refl (λ x. refl)
-    (whole_delete c.args.tables.now c.args.journal.now c.args.session c.args.query c.requires.taken) c.requires.fits refl refl (omega arith)
-    want.ensures.entries want.ensures.entries_room want.ensures.database want.ensures.layout want.ensures.rows want.ensures.room want.ensures.reply
+    does_failing c.args.tables.now c.args.tables.now want.new.versions c.args.journal.now c.args.journal.now want.new.journal c.args.session (Delete c.args.query)
+    (tagged_entry c.args.session c.args.query.table (Look c.args.query) NoMemory) want.result (delete_may_want c.args.tables.now c.args.journal.now c.args.session c.args.query c.requires.taken)
+    (record { versions = refl; layout = refl; sound = c.requires.taken.sound; entries = refl; room = omega arith }) c.requires.fits want.ensures.fails want.ensures.reply
 
 pub returns-in_default-make_room-clause-ok : goal.returns-in_default-make_room-clause-ok
 returns-in_default-make_room-clause-ok c =
     let want = c.want_of_memory-in_default-make_room in
-    acts_wanting c.args.tables.now c.args.tables.now want.new.tables c.args.journal.now c.make_room.new.self want.new.journal c.args.session (Delete c.args.query)
-    (tagged_entry c.args.session c.args.query.table (Look c.args.query) NoMemory) want.result refl refl refl refl (λ x. refl)
-    (whole_delete c.args.tables.now c.args.journal.now c.args.session c.args.query c.requires.taken) c.requires.fits refl c.make_room.ensures.entries c.make_room.ensures.kept
-    want.ensures.entries want.ensures.entries_room want.ensures.database want.ensures.layout want.ensures.rows want.ensures.room want.ensures.reply
+    does_failing c.args.tables.now c.args.tables.now want.new.versions c.args.journal.now c.make_room.new.self want.new.journal c.args.session (Delete c.args.query)
+    (tagged_entry c.args.session c.args.query.table (Look c.args.query) NoMemory) want.result (delete_may_want c.args.tables.now c.args.journal.now c.args.session c.args.query c.requires.taken)
+    (record { versions = refl; layout = refl; sound = c.requires.taken.sound; entries = c.make_room.ensures.entries; room = c.make_room.ensures.kept }) c.requires.fits want.ensures.fails want.ensures.reply
 
 pub returns-then-not-fits-clause-past : goal.returns-then-not-fits-clause-past
 returns-then-not-fits-clause-past c =
@@ -38,9 +36,9 @@ returns-then-not-fits-clause-past c =
     let are : mark_entries t.versions.database n q.table (rows_found found.transaction q) ≡ map (mark_of n q.table) (take marks c.in-Ok.hits.items) =
     subst (λ (o : Option OpenTransaction). IfSome o (λ x. mark_entries t.versions.database n q.table (rows_found x q) ≡ map (mark_of n q.table) (take marks c.as_slice.result.now))) found.under_way c.marks-marks.ensures.marks
     ∙ ap (λ (hits : List Hit). map (mark_of n q.table) (take marks hits)) c.as_slice.ensures.value in
-    delete_is_past t n q found.transaction found.under_way c.in-Ok.hits.items marks within are c.args.journal.now (past_of c.fits.result (length c.args.journal.now.entries + (1 + marks)) max_entries c.fits.ensures.1 c.if-not-fits.true)
+    delete_is_past t n q found.transaction found.under_way c.in-Ok.hits.items marks within are c.args.journal.now (past_of c.fits.result (length c.args.journal.now.entries + (1 + marks)) MAX_ENTRIES c.fits.ensures.1 c.if-not-fits.true)
 
 pub returns-clause-ok : goal.returns-clause-ok
 returns-clause-ok c =
-    acts_from c.args.tables.now c.delete_hits.new.tables c.args.journal.now c.make_room.new.self c.delete_hits.new.journal c.args.session (Delete c.args.query) c.delete_hits.result
+    does_from c.args.tables.now c.delete_hits.new.tables c.args.journal.now c.make_room.new.self c.delete_hits.new.journal c.args.session (Delete c.args.query) c.delete_hits.result
     c.make_room.ensures.entries c.make_room.ensures.kept c.delete_hits.ensures

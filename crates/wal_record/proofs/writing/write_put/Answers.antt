@@ -2,7 +2,7 @@ use Rattle.std.proofs.Common.{◌≡◌, ℕ, ◌+◌, ◌-◌, [], length, drop
 use Rattle.std.specs.Int.{bytes_high_first}
 use Rattle.wal_record.specs.ChangeBytes.{put_bytes, tagged}
 use borrow.Rule.Slice.PartMut.{put_mid}
-use Rattle.wal_record.proofs.Written.{put-next, part-next}
+use Rattle.wal_record.proofs.Written.{put-next, part_next}
 use Rattle.wal_record.proofs.writing.write_put.Goals as goal
 
 pub returns-clause-written : goal.returns-clause-written
@@ -14,5 +14,5 @@ returns-clause-written c =
     let front = tagged c.args.tag c.args.place (bytes_high_first 2 c.args.slot ++ bytes_high_first 2 (length bytes)) in
     let long : 10 + (10 + length bytes - 10) ≡ length (tagged c.args.tag c.args.place (put_bytes c.args.slot bytes)) = omega arith in
     ap (put_mid 10 _ c.put_u16-2.new.bytes) c.copy_from_slice.ensures.after
-    ∙ part-next old c.put_u16-2.new.bytes front bytes 10 _ two refl
+    ∙ part_next old c.put_u16-2.new.bytes front bytes 10 _ two refl
     ∙ ap (λ (n : ℕ). (front ++ bytes) ++ drop n old) long

@@ -2,7 +2,7 @@ use Rattle.std.proofs.Common.{◌≡◌, ℕ, ◌+◌, ◌-◌, ◌/◌, [], len
 use Rattle.std.specs.Int.{bytes_high_first}
 use Rattle.wal_record.specs.ChangeBytes.{counted_slots, tagged}
 use borrow.Rule.Slice.PartMut.{put_mid}
-use Rattle.wal_record.proofs.Written.{put-next, part-next}
+use Rattle.wal_record.proofs.Written.{put-next, part_next}
 use Rattle.wal_record.proofs.writing.write_slots.Goals as goal
 
 pub returns-clause-written : goal.returns-clause-written
@@ -13,5 +13,5 @@ returns-clause-written c =
     let front = tagged c.args.tag c.args.place (bytes_high_first 2 (length slots / 2)) in
     let long : 8 + (8 + length slots - 8) ≡ length (tagged c.args.tag c.args.place (counted_slots slots)) = omega arith in
     ap (put_mid 8 _ c.put_u16.new.bytes) c.copy_from_slice.ensures.after
-    ∙ part-next old c.put_u16.new.bytes front slots 8 _ one refl
+    ∙ part_next old c.put_u16.new.bytes front slots 8 _ one refl
     ∙ ap (λ (n : ℕ). (front ++ slots) ++ drop n old) long

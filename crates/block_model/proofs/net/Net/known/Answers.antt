@@ -1,6 +1,5 @@
-use Rattle.std.proofs.Common.{ℕ, ◌≡◌, ◌+◌, ◌*◌, ◌^◌, ◌<◌, ◌≤◌, arith, subst}
+use Rattle.std.proofs.Common.{arith, subst}
 use Rattle.block_model.specs.Networks.{IsNetwork}
-use Rattle.block_model.specs.Nets.{network_of}
 use Rattle.block_model.proofs.net.Net.known.Goals as goal
 
 pub returns : goal.returns

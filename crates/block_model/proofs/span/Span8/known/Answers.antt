@@ -2,10 +2,10 @@ use Rattle.std.proofs.Common.{ℤ, subst, refl}
 use Rattle.block_model.specs.declared.span.Shape.{Shape}
 use Rattle.block_model.specs.declared.span.Shape.TheVariants as shapes
 use Rattle.block_model.specs.Ranges.{IsRange}
-use Rattle.block_model.specs.Spans.{range_in, IsKept}
+use Rattle.block_model.specs.Spans.{range_in, HasRangeForm}
 use Rattle.block_model.proofs.span.Span8.known.Goals as goal
 
-has_number : (s : Shape) (l h : ℤ) → IsKept s l h → IsRange (range_in s l h)
+has_number : (s : Shape) (l h : ℤ) → HasRangeForm s l h → IsRange (range_in s l h)
 has_number shapes.Empty l h k = tt
 has_number shapes.All l h k = refl
 has_number shapes.From l h k = refl

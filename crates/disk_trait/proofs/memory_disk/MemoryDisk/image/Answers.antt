@@ -25,18 +25,18 @@ module _ (held : List ℕ) (events : List Event) (within : AreWithin (length hel
 
 pub returns-then-pick-eq1-clause-image : goal.returns-then-pick-eq1-clause-image
 returns-then-pick-eq1-clause-image c = rw (← c.self.view_is)
-    (subst (λ (v : List ℕ). is_crash_image c.self.inside.bytes.items c.self.inside.past.events v ≡ true) (sym (c.in-Ok.ensures.items ∙ c.as_slice.ensures.value))
+    (subst (λ (v : List ℕ). is_crash_image c.self.inside.bytes.items c.self.inside.past.events v ≡ true) (sym (c.in_ok-image.ensures.items ∙ c.as_slice.ensures.value))
     (contents_crash_image c.self.inside.bytes.items c.self.inside.past.events))
 
 pub returns-then-pick-eq0-clause-image : goal.returns-then-pick-eq0-clause-image
 returns-then-pick-eq0-clause-image c =
-    rw (← c.self.view_is) (old_image c.self.inside.bytes.items c.self.inside.past.events c.self.invariant _ _ (c.in-Ok.ensures.items ∙ c.as_slice.ensures.value) c.undo.ensures)
+    rw (← c.self.view_is) (old_image c.self.inside.bytes.items c.self.inside.past.events c.self.invariant _ _ (c.in_ok-image.ensures.items ∙ c.as_slice.ensures.value) c.undo.ensures)
 
 pub stripe-requires-clause-length : goal.stripe-requires-clause-length
 stripe-requires-clause-length c =
-    omega (arith, old_length c.self.inside.bytes.items c.self.inside.past.events c.self.invariant _ _ (c.in-Ok.ensures.items ∙ c.as_slice.ensures.value) c.undo.ensures, c.undo.new.image.ok, ap (length {A = ℕ}) c.as_slice-2.ensures.value)
+    omega (arith, old_length c.self.inside.bytes.items c.self.inside.past.events c.self.invariant _ _ (c.in_ok-image.ensures.items ∙ c.as_slice.ensures.value) c.undo.ensures, c.undo.new.image.ok, ap (length {A = ℕ}) c.as_slice-2.ensures.value)
 
 pub returns-clause-image : goal.returns-clause-image
 returns-clause-image c =
-    rw (← c.self.view_is) (mixed_image c.self.inside.bytes.items c.self.inside.past.events c.self.invariant _ _ (c.in-Ok.ensures.items ∙ c.as_slice.ensures.value) c.undo.ensures
+    rw (← c.self.view_is) (mixed_image c.self.inside.bytes.items c.self.inside.past.events c.self.invariant _ _ (c.in_ok-image.ensures.items ∙ c.as_slice.ensures.value) c.undo.ensures
     c.args.pick _ _ c.as_slice-2.ensures.value c.stripe.ensures)

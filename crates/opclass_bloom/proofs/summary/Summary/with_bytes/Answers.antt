@@ -3,5 +3,5 @@ use Rattle.opclass_bloom.specs.Kept.{bits_of}
 use Rattle.opclass_bloom.proofs.Bytes.{bits_of_zeros}
 use Rattle.opclass_bloom.proofs.summary.Summary.with_bytes.Goals as goal
 
-pub returns-in-Ok : goal.returns-in-Ok
-returns-in-Ok c = ap bits_of (c.in-Ok.ensures.items_if_clones_equal (λ y is. is)) ∙ bits_of_zeros c.args.bytes
+pub returns : goal.returns
+returns c = ap bits_of (c.in_ok-bytes.ensures.items_if_clones_equal (λ y is. is)) ∙ bits_of_zeros c.args.bytes

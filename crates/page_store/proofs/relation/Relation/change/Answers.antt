@@ -9,11 +9,11 @@ use Rattle.page_store.specs.Lowest.{IsLowest}
 use Rattle.page_store.specs.PageMap.{page_in}
 use Rattle.page_store.specs.Relations.{RelationChanged, RelationState, pages_of}
 use Rattle.page_store.proofs.Blocks.{All-with_block}
-use Rattle.page_store.proofs.Counts.{count-most, recounted, weight}
-use Rattle.page_store.proofs.Relations.{has-grown, page_in-block, relation-changed}
+use Rattle.page_store.proofs.Counts.{count_most, recounted, weight}
+use Rattle.page_store.proofs.Relations.{has_grown, page_in-block, relation_changed}
 use Rattle.page_store.proofs.Lookups.{on_err}
-use Rattle.page_store.proofs.Rooms.{unstarted-is}
-use Rattle.page_store.proofs.Soughts.{found-kept, lower-kept}
+use Rattle.page_store.proofs.Rooms.{unstarted_is}
+use Rattle.page_store.proofs.Soughts.{found_kept, lower_kept}
 use Rattle.page_store.proofs.relation.Relation.change.Goals as goal
 
 pub returns-in_err-change_at-clause-misfit : goal.returns-in_err-change_at-clause-misfit
@@ -36,52 +36,52 @@ overflow_add-self c =
     let now = c.started_at.ensures ∙ ap (λ (l : List Block). weight (block_in l c.args.block).page) c.deref-2.ensures.value in
     let count = recounted c.self.inside.blocks.items c.change_at.new.blocks.items c.args.block changed.0 c.self.inside.started c.started_at-before.result c.started_at.result changed.2 c.self.invariant.counted before now in
     let below : c.args.block < c.self.inside.limit = subst (λ (r : RelationState). c.args.block < r.limit) (sym c.self.view_is) c.requires in
-    let grown = has-grown c.self.inside.blocks.items c.change_at.new.blocks.items c.self.inside.limit c.args.block changed.0 changed.2 c.self.invariant.few below in
-    omega (arith, count.sum, count-most c.change_at.new.blocks.items, grown.few, c.self.ranges)
+    let grown = has_grown c.self.inside.blocks.items c.change_at.new.blocks.items c.self.inside.limit c.args.block changed.0 changed.2 c.self.invariant.few below in
+    omega (arith, count.sum, count_most c.change_at.new.blocks.items, grown.few, c.self.ranges)
 
 pub lowest-self-inside-requires-clause-few : goal.lowest-self-inside-requires-clause-few
 lowest-self-inside-requires-clause-few c =
     let changed = c.in_ok-change_at.ensures.changed in
     let below : c.args.block < c.self.inside.limit = subst (λ (r : RelationState). c.args.block < r.limit) (sym c.self.view_is) c.requires in
-    (has-grown c.self.inside.blocks.items c.deref-3.result.now c.self.inside.limit c.args.block changed.0 (c.deref-3.ensures.value ∙ changed.2) c.self.invariant.few below).few
+    (has_grown c.self.inside.blocks.items c.deref-3.result.now c.self.inside.limit c.args.block changed.0 (c.deref-3.ensures.value ∙ changed.2) c.self.invariant.few below).few
 
 pub lowest-self-inside-requires-clause-at : goal.lowest-self-inside-requires-clause-at
 lowest-self-inside-requires-clause-at c =
     let changed = c.in_ok-change_at.ensures.changed in
     let below : c.args.block < c.self.inside.limit = subst (λ (r : RelationState). c.args.block < r.limit) (sym c.self.view_is) c.requires in
-    (has-grown c.self.inside.blocks.items c.deref-3.result.now c.self.inside.limit c.args.block changed.0 (c.deref-3.ensures.value ∙ changed.2) c.self.invariant.few below).there
+    (has_grown c.self.inside.blocks.items c.deref-3.result.now c.self.inside.limit c.args.block changed.0 (c.deref-3.ensures.value ∙ changed.2) c.self.invariant.few below).there
 
 pub lowest-self-inside-requires-clause-lower : goal.lowest-self-inside-requires-clause-lower
 lowest-self-inside-requires-clause-lower c =
     let changed = c.in_ok-change_at.ensures.changed in
-    lower-kept sought.Room c.self.inside.blocks.items c.deref-3.result.now c.self.inside.limit c.self.inside.room c.args.block changed.0 c.self.invariant.lowest_room (c.deref-3.ensures.value ∙ changed.2)
+    lower_kept sought.Room c.self.inside.blocks.items c.deref-3.result.now c.self.inside.limit c.self.inside.room c.args.block changed.0 c.self.invariant.lowest_room (c.deref-3.ensures.value ∙ changed.2)
 
 pub lowest-self-inside-requires-clause-found : goal.lowest-self-inside-requires-clause-found
 lowest-self-inside-requires-clause-found c =
     let changed = c.in_ok-change_at.ensures.changed in
-    found-kept sought.Room c.self.inside.blocks.items c.deref-3.result.now c.self.inside.limit c.self.inside.room c.args.block changed.0 c.self.invariant.lowest_room (c.deref-3.ensures.value ∙ changed.2)
+    found_kept sought.Room c.self.inside.blocks.items c.deref-3.result.now c.self.inside.limit c.self.inside.room c.args.block changed.0 c.self.invariant.lowest_room (c.deref-3.ensures.value ∙ changed.2)
 
 pub lowest-self-inside-requires-2-clause-few : goal.lowest-self-inside-requires-2-clause-few
 lowest-self-inside-requires-2-clause-few c =
     let changed = c.in_ok-change_at.ensures.changed in
     let below : c.args.block < c.self.inside.limit = subst (λ (r : RelationState). c.args.block < r.limit) (sym c.self.view_is) c.requires in
-    (has-grown c.self.inside.blocks.items c.deref-4.result.now c.self.inside.limit c.args.block changed.0 (c.deref-4.ensures.value ∙ changed.2) c.self.invariant.few below).few
+    (has_grown c.self.inside.blocks.items c.deref-4.result.now c.self.inside.limit c.args.block changed.0 (c.deref-4.ensures.value ∙ changed.2) c.self.invariant.few below).few
 
 pub lowest-self-inside-requires-2-clause-at : goal.lowest-self-inside-requires-2-clause-at
 lowest-self-inside-requires-2-clause-at c =
     let changed = c.in_ok-change_at.ensures.changed in
     let below : c.args.block < c.self.inside.limit = subst (λ (r : RelationState). c.args.block < r.limit) (sym c.self.view_is) c.requires in
-    (has-grown c.self.inside.blocks.items c.deref-4.result.now c.self.inside.limit c.args.block changed.0 (c.deref-4.ensures.value ∙ changed.2) c.self.invariant.few below).there
+    (has_grown c.self.inside.blocks.items c.deref-4.result.now c.self.inside.limit c.args.block changed.0 (c.deref-4.ensures.value ∙ changed.2) c.self.invariant.few below).there
 
 pub lowest-self-inside-requires-2-clause-lower : goal.lowest-self-inside-requires-2-clause-lower
 lowest-self-inside-requires-2-clause-lower c =
     let changed = c.in_ok-change_at.ensures.changed in
-    lower-kept sought.Unstarted c.self.inside.blocks.items c.deref-4.result.now c.self.inside.limit c.self.inside.unstarted c.args.block changed.0 c.self.invariant.lowest_unstarted (c.deref-4.ensures.value ∙ changed.2)
+    lower_kept sought.Unstarted c.self.inside.blocks.items c.deref-4.result.now c.self.inside.limit c.self.inside.unstarted c.args.block changed.0 c.self.invariant.lowest_unstarted (c.deref-4.ensures.value ∙ changed.2)
 
 pub lowest-self-inside-requires-2-clause-found : goal.lowest-self-inside-requires-2-clause-found
 lowest-self-inside-requires-2-clause-found c =
     let changed = c.in_ok-change_at.ensures.changed in
-    found-kept sought.Unstarted c.self.inside.blocks.items c.deref-4.result.now c.self.inside.limit c.self.inside.unstarted c.args.block changed.0 c.self.invariant.lowest_unstarted (c.deref-4.ensures.value ∙ changed.2)
+    found_kept sought.Unstarted c.self.inside.blocks.items c.deref-4.result.now c.self.inside.limit c.self.inside.unstarted c.args.block changed.0 c.self.invariant.lowest_unstarted (c.deref-4.ensures.value ∙ changed.2)
 
 pub invariant_of-self-2 : goal.invariant_of-self-2
 invariant_of-self-2 c =
@@ -93,9 +93,9 @@ invariant_of-self-2 c =
     let now = c.started_at.ensures ∙ ap (λ (l : List Block). weight (block_in l c.args.block).page) c.deref-2.ensures.value in
     record {
       formed = c.self.invariant.formed;
-      few = (has-grown c.self.inside.blocks.items c.change_at.new.blocks.items limit c.args.block changed.0 changed.2 c.self.invariant.few below).few;
+      few = (has_grown c.self.inside.blocks.items c.change_at.new.blocks.items limit c.args.block changed.0 changed.2 c.self.invariant.few below).few;
       reserved = omega (arith, c.self.invariant.reserved, c.change_at.ensures.room);
-      checked = subst (All (IsBlock form)) (sym changed.2) (All-with_block (IsBlock form) c.self.inside.blocks.items c.args.block changed.0 (unstarted-is form) changed.1.block c.self.invariant.checked);
+      checked = subst (All (IsBlock form)) (sym changed.2) (All-with_block (IsBlock form) c.self.inside.blocks.items c.args.block changed.0 (unstarted_is form) changed.1.block c.self.invariant.checked);
       counted = (recounted c.self.inside.blocks.items c.change_at.new.blocks.items c.args.block changed.0 c.self.inside.started c.started_at-before.result c.started_at.result changed.2 c.self.invariant.counted before now).sum;
       lowest_room = subst (λ (l : List Block). IsLowest sought.Room l limit c.lowest-self-inside.result) c.deref-3.ensures.value c.lowest-self-inside.ensures;
       lowest_unstarted = subst (λ (l : List Block). IsLowest sought.Unstarted l limit c.lowest-self-inside-2.result) c.deref-4.ensures.value c.lowest-self-inside-2.ensures;
@@ -107,4 +107,4 @@ returns-clause-changed c =
     let change = logged c.args.change.now in
     let new : RelationState = record { form = c.self.inside.form; limit = c.self.inside.limit; pages = pages_of c.change_at.new.blocks.items } in
     subst (λ (r : RelationState). RelationChanged c.args.block change r new) c.self.view_is
-    (relation-changed c.self.inside.form c.self.inside.limit c.args.block change c.self.inside.blocks.items c.change_at.new.blocks.items changed.0 changed.1 changed.2)
+    (relation_changed c.self.inside.form c.self.inside.limit c.args.block change c.self.inside.blocks.items c.change_at.new.blocks.items changed.0 changed.1 changed.2)

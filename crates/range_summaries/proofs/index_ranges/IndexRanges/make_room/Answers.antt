@@ -15,8 +15,8 @@ returns-clause-kept c = λ tables h.
     let row = c.requires.row in
     let next : c.args.place / old.rows_per_range ≡ length items =
     starts_next schema row.0 index (contents_of old) c.args.table c.args.place c.requires.lawful c.requires.index row.1 c.if-self-table.false row.2 (omega (arith, c.if-range-len.false, c.len.ensures)) in
-    let pushed : c.push.new.ranges.items ≡ items ++ empty_tuple schema index (length items) ∷ [] =
-    c.in_ok-push.ensures.ok ∙ ap (λ (t : Tuple). items ++ t ∷ []) (c.in_ok-tuple.ensures ∙ ap (empty_tuple schema index) next) in
+    let pushed : c.push.new.self.items ≡ items ++ empty_tuple schema index (length items) ∷ [] =
+    c.in_ok-push.ensures.items ∙ ap (λ (t : Tuple). items ++ t ∷ []) (c.in_ok-tuple.ensures ∙ ap (empty_tuple schema index) next) in
     ranges_grown schema tables index (contents_of old) _ h
     (λ i. record { table = old.table; pages_per_range = old.pages_per_range; rows_per_range = old.rows_per_range; ranges = pushed i })
 
@@ -26,5 +26,5 @@ returns-clause-ok c = λ of_table.
     let row = c.requires.row in
     let next : c.args.place / old.rows_per_range ≡ length old.ranges.items =
     starts_next c.args.schema.now row.0 c.args.index.now (contents_of old) c.args.table c.args.place c.requires.lawful c.requires.index row.1 of_table row.2 (omega (arith, c.if-range-len.false, c.len.ensures)) in
-    let long : length c.push.new.ranges.items ≡ length old.ranges.items + 1 = ap length c.in_ok-push.ensures.ok ∙ length_push old.ranges.items c.in_ok-tuple.tuple in
+    let long : length c.push.new.self.items ≡ length old.ranges.items + 1 = ap length c.in_ok-push.ensures.items ∙ length_push old.ranges.items c.in_ok-tuple.tuple in
     omega (arith, next, long)

@@ -6,6 +6,7 @@ use Rattle.row_versions.specs.CoversMatches.{CoversMatches}
 use Rattle.row_versions.specs.VersionsState.{rows_at}
 use Rattle.bitmap_scan.proofs.InARow.{filter-to}
 use Rattle.range_summaries.specs.declared.index_ranges.IndexRanges.{IndexRanges}
+use Rattle.range_summaries.specs.declared.limits.TheConstants.{MAX_INDEXES}
 use Rattle.range_summaries.specs.ExplainedBlocks.{blocks_kept, rows_per_page_at}
 use Rattle.range_summaries.specs.IndexContents.{contents_of}
 use Rattle.range_summaries.specs.Judged.{AreRunsOf, Covers, HasNoMatch, passes}
@@ -21,12 +22,12 @@ next_run-run-requires-clause-covered c =
     let table = c.args.query.now.table in
     subst (λ (p : List IndexRanges × ℕ). All (λ r. r.table ≡ table → Covers p.1 (contents_of r)) p.0)
     (λ i. (sym c.as_slice.ensures.value i, sym (c.div_ceil-extent.ensures ∙ ap (div_ceil c.args.rows) c.from.ensures) i))
-    (each_covers r.0 r.1 c.args.self.now table c.args.rows c.args.rows_per_page r.2 r.4 r.5)
+    (each_covers r.0 r.1 c.args.self.now table c.args.rows c.args.rows_per_page r.2.summarised r.2.as_many r.2.a_page)
 
 pub next_run-run-requires-clause-places : goal.next_run-run-requires-clause-places
 next_run-run-requires-clause-places c =
     let r = c.requires.rows in
-    let many : length c.as_slice.result.now ≤ 8 = subst (λ (l : List IndexRanges). length l ≤ 8) (sym c.as_slice.ensures.value) (few_ranges r.0 r.1 c.args.self.now r.2) in
+    let many : length c.as_slice.result.now ≤ MAX_INDEXES = subst (λ (l : List IndexRanges). length l ≤ MAX_INDEXES) (sym c.as_slice.ensures.value) (few_ranges r.0 r.1 c.args.self.now r.2.summarised) in
     omega (arith, many, c.runs.invariant.places)
 
 pub next_run-run-requires-clause-known : goal.next_run-run-requires-clause-known
@@ -40,7 +41,7 @@ runs-init c =
       within = omega arith;
       places = search rules;
       appended = search rules;
-      known = no_runs c.args.query.now.conds c.div_ceil-extent.result 8 c.args.self.now.of_indexes.items (few_ranges r.0 r.1 c.args.self.now r.2);
+      known = no_runs c.args.query.now.conds c.div_ceil-extent.result MAX_INDEXES c.args.self.now.of_indexes.items (few_ranges r.0 r.1 c.args.self.now r.2.summarised);
       left_out = λ block below out. absurd (omega arith);
     }
 
@@ -85,30 +86,30 @@ runs-preserved c =
     }
 
 pub returns-clause-blocks : goal.returns-clause-blocks
-returns-clause-blocks c = λ schema tables kept fits many is.
+returns-clause-blocks c = λ schema tables h.
     let table = c.args.query.now.table in
     let conds = c.args.query.now.conds in
     let items = c.args.self.now.of_indexes.items in
     let extent = c.div_ceil-extent.result in
-    let ends : extent ≡ extent_of (rows_per_page_at schema table) (rows_at tables table) = c.div_ceil-extent.ensures ∙ (λ i. div_ceil (sym many i) ((c.from.ensures ∙ is) i)) in
+    let ends : extent ≡ extent_of (rows_per_page_at schema table) (rows_at tables table) = c.div_ceil-extent.ensures ∙ (λ i. div_ceil (sym h.as_many i) ((c.from.ensures ∙ h.a_page) i)) in
     let cover : All (λ r. r.table ≡ table → Covers extent (contents_of r)) items =
-    subst (λ (n : ℕ). All (λ r. r.table ≡ table → Covers n (contents_of r)) items) (sym (c.div_ceil-extent.ensures ∙ ap (div_ceil c.args.rows) c.from.ensures)) (each_covers schema tables c.args.self.now table c.args.rows c.args.rows_per_page kept many is) in
+    subst (λ (n : ℕ). All (λ r. r.table ≡ table → Covers n (contents_of r)) items) (sym (c.div_ceil-extent.ensures ∙ ap (div_ceil c.args.rows) c.from.ensures)) (each_covers schema tables c.args.self.now table c.args.rows c.args.rows_per_page h.summarised h.as_many h.a_page) in
     let last : c.runs.block ≡ extent = omega arith in
     c.runs.invariant.appended
     ∙ ap (λ (l : List ℕ). c.args.out.now ++ l)
     (ap (λ (n : ℕ). filter (passes items table conds) (range_with_len 0 n)) last
-    ∙ kept_agree schema tables c.args.self.now table extent conds kept ends cover)
+    ∙ kept_agree schema tables c.args.self.now table extent conds h.summarised ends cover)
 
 pub returns-clause-covers : goal.returns-clause-covers
-returns-clause-covers c = λ schema tables kept fits many is.
+returns-clause-covers c = λ schema tables h.
     let query = c.args.query.now in
     let table = query.table in
     let items = c.args.self.now.of_indexes.items in
     let extent = c.div_ceil-extent.result in
-    let ends : extent ≡ extent_of (rows_per_page_at schema table) (rows_at tables table) = c.div_ceil-extent.ensures ∙ (λ i. div_ceil (sym many i) ((c.from.ensures ∙ is) i)) in
+    let ends : extent ≡ extent_of (rows_per_page_at schema table) (rows_at tables table) = c.div_ceil-extent.ensures ∙ (λ i. div_ceil (sym h.as_many i) ((c.from.ensures ∙ h.a_page) i)) in
     let cover : All (λ r. r.table ≡ table → Covers extent (contents_of r)) items =
-    subst (λ (n : ℕ). All (λ r. r.table ≡ table → Covers n (contents_of r)) items) (sym (c.div_ceil-extent.ensures ∙ ap (div_ceil c.args.rows) c.from.ensures)) (each_covers schema tables c.args.self.now table c.args.rows c.args.rows_per_page kept many is) in
+    subst (λ (n : ℕ). All (λ r. r.table ≡ table → Covers n (contents_of r)) items) (sym (c.div_ceil-extent.ensures ∙ ap (div_ceil c.args.rows) c.from.ensures)) (each_covers schema tables c.args.self.now table c.args.rows c.args.rows_per_page h.summarised h.as_many h.a_page) in
     let last : c.runs.block ≡ extent = omega arith in
-    subst (λ (n : ℕ). CoversMatches (rows_at tables table) query n (blocks_kept schema table (rows_at tables table) query.conds)) (sym is)
-    (covers schema tables c.args.self.now query extent kept ends cover
+    subst (λ (n : ℕ). CoversMatches (rows_at tables table) query n (blocks_kept schema table (rows_at tables table) query.conds)) (sym h.a_page)
+    (covers schema tables c.args.self.now query extent h.summarised ends cover
     (subst (λ (n : ℕ). (block : ℕ) → block < n → passes items table query.conds block ≡ false → HasNoMatch items table query.conds block) last c.runs.invariant.left_out))

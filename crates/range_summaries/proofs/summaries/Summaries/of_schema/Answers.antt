@@ -15,7 +15,7 @@ indexes-preserved c =
     let is : c.index-item.result ≡ get_or schema.indexes i c.index-item.result = c.index-item.is ∙ ap (λ (l : List Index). get_or l i c.index-item.result) c.as_slice-index-items.ensures in
     let within : i < length schema.indexes = omega (arith, ap length c.as_slice-index-items.ensures) in
     let more : take (i + 1) schema.indexes ≡ take i schema.indexes ++ c.index-item.result ∷ [] = taken schema.indexes i c.index-item.result within is in
-    let pushed : map contents_of c.push.new.of_indexes.items ≡ map contents_of c.indexes.of_indexes.items ++ contents_of c.ranges_of.result ∷ [] =
-    ap (map contents_of) c.in_ok-push.ensures ∙ map-append contents_of c.indexes.of_indexes.items (c.ranges_of.result ∷ []) in
+    let pushed : map contents_of c.push.new.self.items ≡ map contents_of c.indexes.of_indexes.items ++ contents_of c.ranges_of.result ∷ [] =
+    ap (map contents_of) c.in_ok-push.ensures.items ∙ map-append contents_of c.indexes.of_indexes.items (c.ranges_of.result ∷ []) in
     subst (λ (p : List Index × List IndexContents). AllZip (AreRangesOf schema tables) p.0 p.1) (λ j. (sym more j, sym pushed j))
     (zip-push (AreRangesOf schema tables) (take i schema.indexes) (map contents_of c.indexes.of_indexes.items) c.index-item.result (contents_of c.ranges_of.result) c.indexes.invariant c.ranges_of.ensures)

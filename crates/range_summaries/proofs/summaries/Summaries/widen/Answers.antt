@@ -2,7 +2,7 @@ use Rattle.std.proofs.Common.{◌≡◌, ℕ, ◌<◌, List, get_or, length, sym
 use Rattle.std.specs.Vec.{with_items}
 use Rattle.std.proofs.lemmas.List.{with_items_is}
 use Rattle.block_model.specs.declared.value.Value.{Value}
-use Rattle.query_words.specs.LineFits.{IsInsertFor}
+use Rattle.statements.specs.StatementFits.{IsInsertFor}
 use Rattle.range_summaries.specs.declared.index_ranges.IndexRanges.{IndexRanges}
 use Rattle.range_summaries.specs.IndexContents.{contents_of}
 use Rattle.range_summaries.specs.Widened.{TakesRowAt, TookIfOf}

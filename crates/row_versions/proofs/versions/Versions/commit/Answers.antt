@@ -7,7 +7,7 @@ use Rattle.row_versions.specs.StoredVersions.{IsStored}
 use Rattle.row_versions.specs.SessionChanges.{ended}
 use Rattle.row_versions.proofs.Sights.{begun_known}
 use Rattle.row_versions.proofs.Ends.{ended_stored, ended_not_begun, committed_effect}
-use Rattle.row_versions.proofs.Copies.{rewritten, still_64, is_there}
+use Rattle.row_versions.proofs.Copies.{rewritten, still_all, is_there}
 use Rattle.row_versions.proofs.versions.Versions.commit.Goals as goal
 
 pub take_open-open-requires : goal.take_open-open-requires
@@ -20,7 +20,7 @@ index_mut-requires c =
 
 pub invariant_of-self : goal.invariant_of-self
 invariant_of-self c = record {
-  places = still_64 _ _ c.args.session None c.self.invariant.places c.take_open-open.ensures.gone;
+  places = still_all _ _ c.args.session None c.self.invariant.places c.take_open-open.ensures.gone;
   own_table = c.self.invariant.own_table;
   stored = subst (λ (e : Status). IsStored (all_versions c.self.inside.tables.items) (set c.self.inside.statuses.items c.take_open-open.result.t e) c.take_open-open.new.sessions.items) (sym c.ended.ensures)
       (ended_stored (all_versions c.self.inside.tables.items) c.self.inside.statuses.items c.self.inside.sessions.items c.take_open-open.new.sessions.items c.args.session c.take_open-open.result (ended c.take_open-open.result.failed)

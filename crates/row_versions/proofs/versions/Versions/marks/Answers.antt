@@ -3,7 +3,7 @@ use Rattle.std.specs.FinMap.{get}
 use Rattle.std.specs.Option.{IsSome}
 use Rattle.std.proofs.lemmas.List.{get_or_default}
 use Rattle.block_model.specs.RequestEffect.{rows_found}
-use Rattle.query_words.specs.StatementRequests.{mark_entries}
+use Rattle.statements.specs.StatementRequests.{mark_entries}
 use Rattle.row_versions.specs.declared.table.Version.{Version}
 use Rattle.row_versions.specs.declared.sessions.Open.{Open}
 use Rattle.row_versions.specs.declared.versions.Hit.{Hit}

@@ -6,10 +6,10 @@ use Rattle.row_versions.proofs.Fresh.{empty_state, new_versions, rows_of_none}
 use Rattle.row_versions.proofs.versions.Versions.new.Goals as goal
 
 pub invariant_of-result : goal.invariant_of-result
-invariant_of-result c = new_versions _ _ _ c.args.tables c.in_ok-empty_tables-in-Ok.ensures (c.in-Ok.ensures.items ∙ ap (λ (ss : List Status). ss ++ Unused ∷ []) c.new-statuses.ensures.items) c.in_ok-sessions.ensures
+invariant_of-result c = new_versions _ _ _ c.args.tables c.in_ok-empty_tables.ensures (c.in_ok-push.ensures.items ∙ ap (λ (ss : List Status). ss ++ Unused ∷ []) c.new-statuses.ensures.items) c.in_ok-sessions.ensures
 
-pub returns-in_ok-empty_tables-in-Ok-clause-database : goal.returns-in_ok-empty_tables-in-Ok-clause-database
-returns-in_ok-empty_tables-in-Ok-clause-database c = empty_state _ _ _ c.args.tables c.in_ok-empty_tables-in-Ok.ensures (c.in-Ok.ensures.items ∙ ap (λ (ss : List Status). ss ++ Unused ∷ []) c.new-statuses.ensures.items) c.in_ok-sessions.ensures
+pub returns-clause-database : goal.returns-clause-database
+returns-clause-database c = empty_state _ _ _ c.args.tables c.in_ok-empty_tables.ensures (c.in_ok-push.ensures.items ∙ ap (λ (ss : List Status). ss ++ Unused ∷ []) c.new-statuses.ensures.items) c.in_ok-sessions.ensures
 
-pub returns-in_ok-empty_tables-in-Ok-clause-tables : goal.returns-in_ok-empty_tables-in-Ok-clause-tables
-returns-in_ok-empty_tables-in-Ok-clause-tables c = ap stored_rows c.in_ok-empty_tables-in-Ok.ensures ∙ rows_of_none c.args.tables
+pub returns-clause-tables : goal.returns-clause-tables
+returns-clause-tables c = ap stored_rows c.in_ok-empty_tables.ensures ∙ rows_of_none c.args.tables

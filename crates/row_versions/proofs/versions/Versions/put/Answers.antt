@@ -10,7 +10,7 @@ use Rattle.row_versions.specs.SessionChanges.{with_next_k}
 use Rattle.row_versions.proofs.Stored.{Puts}
 use Rattle.row_versions.proofs.AllTables.{puts_at_end, rows_after_put, own_table-push}
 use Rattle.row_versions.proofs.Puttings.{put_stored, put_effect, new_version, new_is_absent}
-use Rattle.row_versions.proofs.Copies.{is_there, rewritten, still_64}
+use Rattle.row_versions.proofs.Copies.{is_there, rewritten, still_all}
 use Rattle.row_versions.proofs.versions.Versions.put.Goals as goal
 
 pub open_of-open-requires : goal.open_of-open-requires
@@ -42,7 +42,7 @@ puts c =
 
 pub invariant_of-self-2 : goal.invariant_of-self-2
 invariant_of-self-2 c = record {
-  places = still_64 _ _ c.args.session _ c.self.invariant.places (now c);
+  places = still_all _ _ c.args.session _ c.self.invariant.places (now c);
   own_table = λ table. subst (λ (t : List Version). All (λ v. v.row.table ≡ table) (versions_at (set c.self.inside.tables.items c.args.table t) table)) (sym (pushed c))
       (own_table-push c.self.inside.tables.items c.args.table (new_version c.open_of-open.result.now c.args.table c.args.values) (below c) c.self.invariant.own_table refl table);
   stored = put_stored (all_versions c.self.inside.tables.items) (all_versions (set c.self.inside.tables.items c.args.table c.push.new.self)) c.self.inside.statuses.items c.self.inside.sessions.items c.count_row.new.sessions.items

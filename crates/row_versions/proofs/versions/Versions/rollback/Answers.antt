@@ -4,7 +4,7 @@ use Rattle.row_versions.specs.VersionsState.{VersionsState}
 use Rattle.row_versions.specs.VisibleState.{all_versions}
 use Rattle.row_versions.proofs.Sights.{begun_known}
 use Rattle.row_versions.proofs.Ends.{ended_stored, ended_not_begun, rolled_effect}
-use Rattle.row_versions.proofs.Copies.{rewritten, still_64, is_there}
+use Rattle.row_versions.proofs.Copies.{rewritten, still_all, is_there}
 use Rattle.row_versions.proofs.versions.Versions.rollback.Goals as goal
 
 pub take_open-open-requires : goal.take_open-open-requires
@@ -17,7 +17,7 @@ index_mut-requires c =
 
 pub invariant_of-self : goal.invariant_of-self
 invariant_of-self c = record {
-  places = still_64 _ _ c.args.session None c.self.invariant.places c.take_open-open.ensures.gone;
+  places = still_all _ _ c.args.session None c.self.invariant.places c.take_open-open.ensures.gone;
   own_table = c.self.invariant.own_table;
   stored = ended_stored (all_versions c.self.inside.tables.items) c.self.inside.statuses.items c.self.inside.sessions.items c.take_open-open.new.sessions.items c.args.session c.take_open-open.result RolledBack
       c.self.invariant.stored c.take_open-open.ensures.was (rewritten _ _ c.args.session c.take_open-open.result None c.take_open-open.ensures.was c.take_open-open.ensures.gone) (ended_not_begun true);

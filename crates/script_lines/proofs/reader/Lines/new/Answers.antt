@@ -5,12 +5,12 @@ use Rattle.script_lines.proofs.reader.Lines.new.Goals as goal
 
 pub invariant_of-result : goal.invariant_of-result
 invariant_of-result c = record {
-  size = sym c.in-Ok.buffer.ok.0 ∙ c.in-Ok.ensures.len;
+  size = sym c.in_ok-buffer.buffer.ok.0 ∙ c.in_ok-buffer.ensures.len;
   ordered = omega arith;
   inside = omega arith;
   within = omega arith;
   spent = λ e. let no : Open ≡ Spent = e in cc;
 }
 
-pub returns-in-Ok-clause-limit : goal.returns-in-Ok-clause-limit
-returns-in-Ok-clause-limit c = nothing_read c.args.limit
+pub returns-clause-limit : goal.returns-clause-limit
+returns-clause-limit c = nothing_read c.args.limit

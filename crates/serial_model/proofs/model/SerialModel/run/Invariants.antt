@@ -4,8 +4,8 @@ use Rattle.block_model.specs.SerialRun.{serial_run, replies_to, is_legal}
 use Rattle.serial_model.specs.Answers.{answer_of}
 use Rattle.serial_model.proofs.model.SerialModel.run.Given as goal
 
-abbrev pub invariant-loop-entry : goal.invariant-loop-entry
-invariant-loop-entry l = record {
+abbrev pub invariant-entries : goal.invariant-entries
+invariant-entries l = record {
   legal : is_legal l.fn.self (take l.entry-index l.journal) ≡ true;
   state : l.self ≡ serial_run l.fn.self (take l.entry-index l.journal);
   answered : map answer_of l.answers ≡ replies_to l.fn.self (take l.entry-index l.journal);

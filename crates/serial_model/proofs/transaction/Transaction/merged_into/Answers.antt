@@ -17,30 +17,30 @@ unmarked table marks = retain_keys table (λ id. not (contains marks id))
 abbrev key : Row → RowId × Row
 key r = (r.id, r)
 
-pub loop-at-init : goal.loop-at-init
+pub rows-init : goal.rows-init
 unfolding unmarked
-loop-at-init c = c.remove_marked.ensures ∙ (λ i. unmarked (c.in_ok-rows.ensures i) (ap (λ (x : OpenTransaction). x.marks) c.self.view_is i))
+rows-init c = c.remove_marked.ensures ∙ (λ i. unmarked (c.in_ok-rows.ensures i) (ap (λ (x : OpenTransaction). x.marks) c.self.view_is i))
     ∙ ap (with_rows (unmarked c.args.table.now c.args.self.now.marks)) (sym (none_kept_yet id_cmp key (is_own c.args.self.now) c.rows-view.result.now))
 
-pub loop-at-preserved-in-Continue-branch-2 : goal.loop-at-preserved-in-Continue-branch-2
+pub rows-preserved-in-Continue-branch-2 : goal.rows-preserved-in-Continue-branch-2
 unfolding unmarked
-loop-at-preserved-in-Continue-branch-2 c =
+rows-preserved-in-Continue-branch-2 c =
     let row = c.index-view-at.result in
-    c.in_ok-put.ensures.ok ∙ (λ i. insert (c.loop-at.invariant i) (c.copied-then-is_own.ensures i).id (c.copied-then-is_own.ensures i))
-    ∙ ap (with_rows (unmarked c.args.table.now c.args.self.now.marks)) (sym (kept_here id_cmp key (is_own c.args.self.now) c.rows-view.result.now c.loop-at.at row (omega arith) c.loop-at.auto.at c.index-view-at.is (sym c.is_own.ensures ∙ c.if-is_own.true)))
+    c.in_ok-put.ensures.ok ∙ (λ i. insert (c.rows.invariant i) (c.copied-then-is_own.ensures i).id (c.copied-then-is_own.ensures i))
+    ∙ ap (with_rows (unmarked c.args.table.now c.args.self.now.marks)) (sym (kept_here id_cmp key (is_own c.args.self.now) c.rows-view.result.now c.rows.at row (omega arith) c.rows.auto.at c.index-view-at.is (sym c.is_own.ensures ∙ c.if-is_own.true)))
 
-pub loop-at-preserved : goal.loop-at-preserved
+pub rows-preserved : goal.rows-preserved
 unfolding unmarked
-loop-at-preserved c =
-    c.loop-at.invariant
-    ∙ ap (with_rows (unmarked c.args.table.now c.args.self.now.marks)) (sym (left_out_here id_cmp key (is_own c.args.self.now) c.rows-view.result.now c.loop-at.at c.index-view-at.result (omega arith) c.loop-at.auto.at c.index-view-at.is (sym c.is_own.ensures ∙ c.if-is_own.false)))
+rows-preserved c =
+    c.rows.invariant
+    ∙ ap (with_rows (unmarked c.args.table.now c.args.self.now.marks)) (sym (left_out_here id_cmp key (is_own c.args.self.now) c.rows-view.result.now c.rows.at c.index-view-at.result (omega arith) c.rows.auto.at c.index-view-at.is (sym c.is_own.ensures ∙ c.if-is_own.false)))
 
 pub returns : goal.returns
 unfolding unmarked
 returns c =
     let own = is_own c.args.self.now in
-    let at : c.loop-at.at ≡ 0 = omega arith in
-    c.loop-at.invariant
+    let at : c.rows.at ≡ 0 = omega arith in
+    c.rows.invariant
     ∙ ap (with_rows (unmarked c.args.table.now c.args.self.now.marks))
     (ap (λ n. where_key id_cmp own (at_ids (drop n c.rows-view.result.now))) at ∙ ap (where_key id_cmp own) c.rows-view.ensures
     ∙ ap (λ x. where_key id_cmp own (entries x.view)) c.self.view_is ∙ sym (entries_retained id_cmp ids_total ids_exact c.args.self.now.view own))

@@ -7,5 +7,5 @@ use Rattle.block_model.specs.RequestEffect.{is_own, with_rows}
 use Rattle.serial_model.specs.Listed.{at_ids}
 use Rattle.serial_model.proofs.transaction.Transaction.merged_into.Given as goal
 
-abbrev pub invariant-loop-at : goal.invariant-loop-at
-invariant-loop-at l = l.rows ≡ with_rows (retain_keys l.table (λ id. not (contains l.self.marks id))) (where_key id_cmp (is_own l.self) (at_ids (drop l.at l.view)))
+abbrev pub invariant-rows : goal.invariant-rows
+invariant-rows l = l.rows ≡ with_rows (retain_keys l.table (λ id. not (contains l.self.marks id))) (where_key id_cmp (is_own l.self) (at_ids (drop l.at l.view)))

@@ -1,6 +1,6 @@
 use Rattle.std.proofs.Common.{List, length, sym, subst}
 use Rattle.session_core.specs.declared.sessions.Session.{Session}
-use Rattle.session_core.specs.StoreInvariant.{store_of, IsKept}
+use Rattle.session_core.specs.StoreInvariant.{store_of, IsStoreKept}
 use Rattle.session_core.proofs.Keeping.{kept_new}
 use Rattle.session_core.proofs.store.Store.new.Goals as goal
 
@@ -8,5 +8,5 @@ pub invariant_of-result : goal.invariant_of-result
 invariant_of-result c =
     let tables = c.in_ok-tables.tables in
     let journal = c.new-journal.result in
-    subst (λ (sessions : List Session). IsKept tables journal (store_of tables sessions journal)) (sym c.new-sessions.ensures.items)
-    (kept_new tables journal (length c.args.layout.schema.tables) c.in_ok-tables.ensures.database c.in_ok-tables.ensures.rows c.new-journal.ensures)
+    subst (λ (sessions : List Session). IsStoreKept tables journal (store_of tables sessions journal)) (sym c.new-sessions.ensures.items)
+    (kept_new tables journal (length c.args.layout.schema.tables) c.in_ok-tables.ensures.sound c.in_ok-tables.ensures.database c.in_ok-tables.ensures.rows c.new-journal.ensures)

@@ -3,7 +3,7 @@ use Rattle.session_core.specs.SessionList.{names_of, hands_of}
 use Rattle.session_core.specs.StoreState.{StoreState}
 use Rattle.session_core.specs.JournalState.{JournalState}
 use Rattle.session_core.specs.StoreInvariant.{store_with, store_of}
-use Rattle.session_core.specs.Steps.{Ends, LacksRoom}
+use Rattle.session_core.specs.Steps.{Ends, JournalLacksRoom}
 use Rattle.session_core.proofs.Keeping.{is_taken, kept_after, kept_same, put_back}
 use Rattle.session_core.proofs.Ending.{ends, lacks_room}
 use Rattle.session_core.proofs.store.Store.step.Goals as goal
@@ -37,7 +37,7 @@ returns-in-Err c =
     let hands = put_back c.self.inside.tables c.self.inside.journal (names_of c.self.inside.sessions.items) (hands_of c.self.inside.sessions.items) c.args.session c.take_hand-hand.result.statement c.self.invariant c.take_hand-hand.ensures.hand
     (hands_of c.put_hand.new.sessions.items) (hands_of c.take_hand-hand.new.sessions.items) c.in-Err.hand.statement c.take_hand-hand.ensures.hands c.put_hand.ensures.hands c.in-Err.ensures.back in
     let names = c.put_hand.ensures.names ∙ c.take_hand-hand.ensures.names in (
-      subst (λ (s : StoreState). LacksRoom s c.args.session c.len.result) c.self.view_is
+      subst (λ (s : StoreState). JournalLacksRoom s c.args.session c.len.result) c.self.view_is
           (lacks_room c.self.inside.tables c.self.inside.journal (names_of c.self.inside.sessions.items) (hands_of c.self.inside.sessions.items) c.args.session c.self.invariant c.take_hand-hand.result.statement c.take_hand-hand.ensures.hand
           c.len.result c.in-Err.ensures.past (c.len.ensures ∙ ap (λ (j : JournalState). length j.entries) c.in-Err.ensures.journal)),
       (λ i. store_with (c.in-Err.ensures.tables i) (c.in-Err.ensures.journal i) (names i) (hands i)) ∙ c.self.view_is,

@@ -1,7 +1,7 @@
 use Rattle.std.proofs.Common.{◌≡◌, ◌<◌, None, Some, ap, sym, ◌∙◌, set, length, subst, arith}
-use Rattle.query_words.specs.declared.statement.Statement.{Statement}
-use Rattle.query_words.specs.LineFits.{IsStatementFor}
-use Rattle.query_words.specs.StatementRequests.{refusal_at}
+use Rattle.statements.specs.declared.statement.Statement.{Statement}
+use Rattle.statements.specs.StatementFits.{IsStatementFor}
+use Rattle.statements.specs.StatementRequests.{refusal_at}
 use Rattle.session_core.specs.SessionList.{names_of, hands_of}
 use Rattle.session_core.specs.StoreInvariant.{store_of}
 use Rattle.session_core.specs.StoreState.{StoreState, hand_of}
@@ -16,8 +16,8 @@ invariant_of-self-2 c =
     let free = none_refused (hand_of before c.args.session) (refusal_at before.database c.args.session c.args.statement) none in
     let below : c.args.session < length (hands_of c.self.inside.sessions.items) = omega (arith, c.requires.session, ap (λ (s : StoreState). length s.names) c.self.view_is, c.self.invariant.refines.a_hand_each) in
     let done = c.in-Ok.ensures in
-    kept_in_hand c.self.inside.tables c.hand_for.new.tables c.self.inside.journal c.hand_for.new.journal (names_of c.self.inside.sessions.items) (hands_of c.self.inside.sessions.items) c.args.session c.args.statement
+    kept_in_hand c.self.inside.tables c.hand_for.new.versions c.self.inside.journal c.hand_for.new.journal (names_of c.self.inside.sessions.items) (hands_of c.self.inside.sessions.items) c.args.session c.args.statement
     c.self.invariant below free.0 free.1 (subst (λ (s : StoreState). IsStatementFor s.layout.schema c.args.statement) (sym c.self.view_is) c.requires.statement)
-    done.layout done.database done.rows done.entries done.begins done.room done.begins_more done.room_more
+    done.kept done.begins_more done.room_more
     (names_of c.put_hand.new.sessions.items) (hands_of c.put_hand.new.sessions.items) c.put_hand.ensures.names
     (c.put_hand.ensures.hands ∙ ap (λ (statement : Statement). set (hands_of c.self.inside.sessions.items) c.args.session (Some statement)) done.ok)

@@ -1,5 +1,0 @@
-use Rattle.block_model.proofs.DiskPlaces.{pages_fill}
-use Rattle.block_model.proofs.layout.pages_fill_the_disk.Goals as goal
-
-pub returns : goal.returns
-returns c = pages_fill c.args.layout.now

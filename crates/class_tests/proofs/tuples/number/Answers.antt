@@ -1,0 +1,6 @@
+use Rattle.range_tuple.specs.AnyClass.{takes}
+use Rattle.class_tests.proofs.tuples.number.Goals as goal
+
+pub returns-in-Some : goal.returns-in-Some
+unfolding takes
+returns-in-Some c = tt

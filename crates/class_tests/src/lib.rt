@@ -1,0 +1,18 @@
+//! Tests of fields of bytes, operator classes, range tuples and candidate blocks, over the public calls of byte_fields,
+//! opclass_api, the crates of classes, range_tuple and bitmap_scan. Nothing stands on it.
+#![tactic(auto)]
+
+#[cfg(test)]
+mod bloom;
+#[cfg(test)]
+mod fields;
+#[cfg(test)]
+mod inclusion;
+#[cfg(test)]
+mod minmax;
+#[cfg(test)]
+mod multi;
+#[cfg(test)]
+mod scans;
+#[cfg(test)]
+mod tuples;

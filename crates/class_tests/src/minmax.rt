@@ -1,0 +1,92 @@
+//! The minmax class.
+
+ghost use Rattle.std.specs.Prelude.{◌≡◌, true};
+ghost use Rattle.opclass_api.specs.Conditions.{compares};
+
+use block_model::{Cond, NoMemory, Op, Value};
+use opclass_api::{Malformed, OpClass, may_match};
+use opclass_minmax::{MinMax, Summary, exact_summary};
+use std::alloc::Global;
+
+/// Whether the summary of 7, 5 and 9 may hold a match.
+fn asked(alloc: Global, op: Op, key: i64) -> Result<bool, NoMemory>
+    requires { compares op ≡ true }
+{
+    let values = [Value::Int(7), Value::Int(5), Value::Int(9)];
+    let cond = Cond {
+        column: 0,
+        op,
+        key: Value::Int(key),
+    };
+    may_match(&MinMax::new(), alloc, &values, &[cond])
+}
+
+#[test]
+fn conditions_are_judged_by_the_least_and_the_greatest(rt: HostRuntime) {
+    let alloc = rt.alloc();
+    assert_eq!(rt; asked(alloc, Op::Lt, 5), Ok(false));
+    assert_eq!(rt; asked(alloc, Op::Lt, 6), Ok(true));
+    assert_eq!(rt; asked(alloc, Op::Le, 4), Ok(false));
+    assert_eq!(rt; asked(alloc, Op::Le, 5), Ok(true));
+    assert_eq!(rt; asked(alloc, Op::Eq, 8), Ok(true));
+    assert_eq!(rt; asked(alloc, Op::Eq, 10), Ok(false));
+    assert_eq!(rt; asked(alloc, Op::Ge, 9), Ok(true));
+    assert_eq!(rt; asked(alloc, Op::Ge, 10), Ok(false));
+    assert_eq!(rt; asked(alloc, Op::Gt, 8), Ok(true));
+    assert_eq!(rt; asked(alloc, Op::Gt, 9), Ok(false));
+}
+
+#[test]
+fn nothing_yet_has_no_bytes_and_meets_no_condition(rt: HostRuntime) {
+    let class = MinMax::new();
+    let summary = class.empty(rt.alloc()).expect(&rt, "room");
+    let mut out = [7u8; 16];
+    assert_eq!(rt; class.greatest_size(), 16);
+    assert_eq!(rt; class.encode(&summary, &mut out), 0);
+    assert_eq!(rt; out, [7; 16]);
+    assert!(rt; class.consistent(&summary, &[]));
+    let cond = Cond {
+        column: 0,
+        op: Op::Le,
+        key: Value::Int(1),
+    };
+    assert!(rt; !class.consistent(&summary, &[cond]));
+}
+
+#[test]
+fn summaries_are_written_and_read(rt: HostRuntime) {
+    let class = MinMax::new();
+    let wanted = [
+        255, 255, 255, 255, 255, 255, 255, 254, 0, 0, 0, 0, 0, 0, 1, 0,
+    ];
+    let mut summary = exact_summary(&[Value::Int(256), Value::Int(-2)]);
+    let mut out = [7u8; 16];
+    assert_eq!(rt; class.encode(&summary, &mut out), 16);
+    assert_eq!(rt; out, wanted);
+    let mut again = Summary::new();
+    assert_eq!(rt; class.decode(&wanted, &mut again), Ok(()));
+    assert!(rt; !class.union(&mut summary, &again));
+    assert!(rt; !class.add(&mut summary, &Value::Int(256)));
+    assert!(rt; class.add(&mut summary, &Value::Int(257)));
+}
+
+#[test]
+fn malformed_bytes_name_their_place(rt: HostRuntime) {
+    let class = MinMax::new();
+    let mut summary = Summary::new();
+    let mut bytes = [0u8; 17];
+    bytes[7] = 2;
+    bytes[15] = 1;
+    assert_eq!(rt;
+        class.decode(&bytes[..16], &mut summary),
+        Err(Malformed { at: 8 })
+    );
+    assert_eq!(rt;
+        class.decode(&bytes[..15], &mut summary),
+        Err(Malformed { at: 15 })
+    );
+    assert_eq!(rt;
+        class.decode(&bytes, &mut summary),
+        Err(Malformed { at: 16 })
+    );
+}

@@ -1,0 +1,277 @@
+//! Range tuples.
+
+ghost use Rattle.std.specs.Prelude.{◌≡◌, ◌≤◌, ◌<◌, [], ◌∷◌, true, length, IfOk};
+ghost use Rattle.std.specs.List.{list_all};
+ghost use Rattle.block_model.specs.ClassLimits.{class_is_lawful, takes_kind, has_lawful_parameters};
+ghost use Rattle.block_model.specs.TupleSize.{summary_size, tuple_size};
+ghost use Rattle.range_tuple.specs.AnyClass.{class_of};
+ghost use Rattle.range_tuple.specs.TupleIncludes.{TakesValue};
+ghost use Rattle.range_tuple.specs.Tuples.{empty_placeholder, parts_of};
+
+use block_model::{
+    Class, Column, Columns, Cond, Index, Indexes, Kind, Name, Net, Op, Part, Parts, Schema, Table,
+    Tables, Value,
+};
+use range_tuple::RangeTuple;
+use std::alloc::Global;
+use std::process::Abort;
+use std::test::Fail;
+
+fn name(rt: &impl Abort, bytes: &[u8]) -> Name {
+    Name::new(bytes).expect(rt, "a name")
+}
+
+/// The placeholder of range 0 of an index with these parts on a table with these columns.
+fn placeholder(
+    rt: &impl Abort,
+    alloc: Global,
+    columns: Columns,
+    parts: Parts,
+) -> Result<RangeTuple, Fail>
+    requires some { 0 < length parts }
+    requires classes { list_all (class_is_lawful columns) parts ≡ true }
+    requires size { tuple_size columns parts ≤ 8156 }
+    ensures { IfOk result (λ t. t ≡ empty_placeholder 0 columns parts) }
+{
+    let mut tables = Tables::new(alloc);
+    tables.push(Table {
+        name: name(rt, b"t"),
+        rows_per_page: 1,
+        columns,
+    })?;
+    let index = Index {
+        name: name(rt, b"i"),
+        table: 0,
+        pages_per_range: 1,
+        auto: false,
+        parts,
+    };
+    let schema = Schema {
+        tables,
+        indexes: Indexes::new(alloc),
+    };
+    let tuple = RangeTuple::new(alloc, &index, &schema, 0)?;
+    Ok(tuple)
+}
+
+/// Of an index on one column.
+fn one(rt: &impl Abort, alloc: Global, kind: Kind, class: Class) -> Result<RangeTuple, Fail>
+    requires kind { takes_kind class kind ≡ true }
+    requires parameters { has_lawful_parameters class ≡ true }
+    requires size { summary_size class kind ≤ 8000 }
+    ensures parts { IfOk result (λ t. parts_of t.columns ≡ (0, class_of class kind) ∷ []) }
+{
+    let mut columns = Columns::new(alloc);
+    columns.push(Column {
+        name: name(rt, b"a"),
+        kind,
+    })?;
+    let mut parts = Parts::new(alloc);
+    parts.push(Part { column: 0, class })?;
+    placeholder(rt, alloc, columns, parts)
+}
+
+/// Of an index on an int8 by minmax and an inet by inclusion.
+fn two(rt: &impl Abort, alloc: Global) -> Result<RangeTuple, Fail>
+    ensures parts { IfOk result (λ t. parts_of t.columns ≡ (0, class_of Class.MinMax Kind.Int) ∷ (1, class_of Class.Inclusion Kind.Net) ∷ []) }
+{
+    let mut columns = Columns::new(alloc);
+    columns.push(Column {
+        name: name(rt, b"a"),
+        kind: Kind::Int,
+    })?;
+    columns.push(Column {
+        name: name(rt, b"b"),
+        kind: Kind::Net,
+    })?;
+    let mut parts = Parts::new(alloc);
+    parts.push(Part {
+        column: 0,
+        class: Class::MinMax,
+    })?;
+    parts.push(Part {
+        column: 1,
+        class: Class::Inclusion,
+    })?;
+    placeholder(rt, alloc, columns, parts)
+}
+
+/// Adds a row of one int8.
+fn add_number(tuple: &mut RangeTuple, n: i64) -> bool
+    requires { parts_of tuple.old.columns ≡ (0, class_of Class.MinMax Kind.Int) ∷ [] }
+    ensures { parts_of tuple.new.columns ≡ (0, class_of Class.MinMax Kind.Int) ∷ [] }
+{
+    tuple.add_row(&[number(Some(n))])
+}
+
+/// An int8, or null.
+fn number(n: Option<i64>) -> Value
+    ensures { TakesValue (class_of Class.MinMax Kind.Int) result }
+{
+    match n {
+        Some(n) => Value::Int(n),
+        None => Value::Null,
+    }
+}
+
+/// An inet, or null.
+fn address(net: Option<Net>) -> Value
+    ensures { TakesValue (class_of Class.Inclusion Kind.Net) result }
+{
+    match net {
+        Some(net) => Value::Net(net),
+        None => Value::Null,
+    }
+}
+
+/// Adds the row of an int8 or null, and of an inet or null.
+fn add_both(tuple: &mut RangeTuple, a: Option<i64>, b: Option<Net>) -> bool
+    requires { parts_of tuple.old.columns ≡ (0, class_of Class.MinMax Kind.Int) ∷ (1, class_of Class.Inclusion Kind.Net) ∷ [] }
+{
+    tuple.add_row(&[number(a), address(b)])
+}
+
+fn cond(column: u8, op: Op, key: Value) -> Cond {
+    Cond { column, op, key }
+}
+
+#[test]
+fn an_empty_placeholder_has_eight_bytes(rt: HostRuntime) -> Result<(), Fail> {
+    let tuple = one(&rt, rt.alloc(), Kind::Int, Class::MinMax)?;
+    let mut wanted = [7u8; 24];
+    wanted[..8].copy_from_slice(&[0, 0, 0, 0, 3, 0, 0, 0]);
+    let mut out = [7u8; 24];
+    assert_eq!(rt; tuple.greatest_size(), 24);
+    assert_eq!(rt; tuple.encode(&mut out), 8);
+    assert_eq!(rt; out, wanted);
+    assert!(rt; tuple.keeps(&[cond(0, Op::Eq, Value::Int(1))]));
+    Ok(())
+}
+
+#[test]
+fn a_final_minmax_tuple_has_24_bytes(rt: HostRuntime) -> Result<(), Fail> {
+    let wanted = [
+        0, 0, 0, 0, 0, 2, 0, 16, 0, 0, 0, 0, 0, 0, 0, 5, 0, 0, 0, 0, 0, 0, 0, 99,
+    ];
+    let mut tuple = one(&rt, rt.alloc(), Kind::Int, Class::MinMax)?;
+    assert!(rt; add_number(&mut tuple, 99));
+    assert!(rt; add_number(&mut tuple, 5));
+    assert!(rt; !add_number(&mut tuple, 7));
+    tuple.settle();
+    let mut out = [7u8; 24];
+    assert_eq!(rt; tuple.greatest_size(), 24);
+    assert_eq!(rt; tuple.encode(&mut out), 24);
+    assert_eq!(rt; out, wanted);
+    let mut other = one(&rt, rt.alloc(), Kind::Int, Class::MinMax)?;
+    assert_eq!(rt; other.decode(&wanted), Ok(()));
+    assert!(rt; !other.keeps(&[cond(0, Op::Lt, Value::Int(5))]));
+    assert!(rt; other.keeps(&[cond(0, Op::Le, Value::Int(5))]));
+    Ok(())
+}
+
+#[test]
+fn united_tuples_have_what_either_had(rt: HostRuntime) -> Result<(), Fail> {
+    let mut tuple = one(&rt, rt.alloc(), Kind::Int, Class::MinMax)?;
+    let mut other = one(&rt, rt.alloc(), Kind::Int, Class::MinMax)?;
+    tuple.settle();
+    assert!(rt; !tuple.keeps(&[]));
+    assert!(rt; !tuple.unite(&other));
+    let _ = add_number(&mut other, 3);
+    assert!(rt; tuple.unite(&other));
+    assert!(rt; tuple.keeps(&[cond(0, Op::Eq, Value::Int(3))]));
+    assert!(rt; !tuple.keeps(&[cond(0, Op::IsNull, Value::Null)]));
+    Ok(())
+}
+
+#[test]
+fn two_column_index_with_nulls(rt: HostRuntime) -> Result<(), Fail> {
+    let net = Net::v4(10 << 24 | 1, 32).expect(&rt, "an address");
+    let mut first = two(&rt, rt.alloc())?;
+    let mut second = two(&rt, rt.alloc())?;
+    assert!(rt; add_both(&mut first, Some(1), None));
+    assert!(rt; add_both(&mut second, None, Some(net)));
+    first.settle();
+    second.settle();
+    let a_is_1 = cond(0, Op::Eq, Value::Int(1));
+    let a_is_null = cond(0, Op::IsNull, Value::Null);
+    let b_is_null = cond(1, Op::IsNull, Value::Null);
+    let b_is_net = cond(1, Op::Eq, Value::Net(net));
+    assert!(rt; first.keeps(&[a_is_1]) && !second.keeps(&[a_is_1]));
+    assert!(rt; first.keeps(&[b_is_null]) && !second.keeps(&[b_is_null]));
+    assert!(rt; !first.keeps(&[a_is_null, b_is_net]) && second.keeps(&[a_is_null, b_is_net]));
+    assert!(rt; !first.keeps(&[a_is_1, b_is_net]) && !second.keeps(&[a_is_1, b_is_net]));
+    assert!(rt;
+        second.keeps(&[
+            cond(0, Op::IsNull, Value::Null),
+            cond(7, Op::Eq, Value::Int(1))
+        ])
+    );
+    Ok(())
+}
+
+/// The place of the fault that a tuple of one column finds in bytes.
+fn fault(tuple: &mut RangeTuple, bytes: &[u8]) -> Option<usize> {
+    match tuple.decode(bytes) {
+        Ok(()) => None,
+        Err(fault) => Some(fault.at),
+    }
+}
+
+#[test]
+fn malformed_fields_are_named(rt: HostRuntime) -> Result<(), Fail> {
+    let mut tuple = one(&rt, rt.alloc(), Kind::Int, Class::MinMax)?;
+    assert_eq!(rt; fault(&mut tuple, &[0, 0, 0, 0]), Some(4));
+    assert_eq!(rt; fault(&mut tuple, &[0, 0, 0, 0, 0, 1, 0, 1, 0]), Some(6));
+    assert_eq!(rt; fault(&mut tuple, &[0, 0, 0, 0, 0, 1, 0, 0, 9]), Some(8));
+    let cases = [
+        ([3, 0, 0, 0], None),
+        ([4, 0, 0, 0], Some(4)),
+        ([0, 0, 0, 0], Some(4)),
+        ([0, 4, 0, 0], Some(5)),
+        ([0, 2, 0, 0], Some(6)),
+    ];
+    for ([flags, state, high, low], wanted) in cases {
+        assert_eq!(rt;
+            fault(&mut tuple, &[0, 0, 0, 0, flags, state, high, low]),
+            wanted
+        );
+    }
+    Ok(())
+}
+
+/// Bytes of a final tuple of one column with values, whose summary has so many bytes, each of them 0.
+fn blank(size: u8) -> [u8; 26] {
+    let mut bytes = [0; 26];
+    bytes[5] = 2;
+    bytes[7] = size;
+    bytes
+}
+
+#[test]
+fn malformed_numbers_are_refused_by_their_class(rt: HostRuntime) -> Result<(), Fail> {
+    let mut minmax = one(&rt, rt.alloc(), Kind::Int, Class::MinMax)?;
+    let mut bytes = blank(16);
+    bytes[15] = 1;
+    assert_eq!(rt; fault(&mut minmax, &bytes[..24]), Some(16));
+    let mut multi = one(&rt, rt.alloc(), Kind::Int, Class::Multi { limit: 8 })?;
+    assert_eq!(rt; fault(&mut multi, &blank(2)[..10]), None);
+    assert_eq!(rt; fault(&mut multi, &blank(3)[..11]), Some(10));
+    Ok(())
+}
+
+#[test]
+fn malformed_hulls_and_bits_are_refused_by_their_class(rt: HostRuntime) -> Result<(), Fail> {
+    let mut ranges = one(&rt, rt.alloc(), Kind::Span, Class::Inclusion)?;
+    let mut bytes = blank(18);
+    assert_eq!(rt; fault(&mut ranges, &bytes), None);
+    bytes[8] = 4;
+    assert_eq!(rt; fault(&mut ranges, &bytes), Some(8));
+    let class = Class::Bloom {
+        bits: 64,
+        hashes: 2,
+    };
+    let mut bloom = one(&rt, rt.alloc(), Kind::Net, class)?;
+    assert_eq!(rt; fault(&mut bloom, &blank(8)[..16]), None);
+    assert_eq!(rt; fault(&mut bloom, &blank(7)[..15]), Some(15));
+    Ok(())
+}

@@ -1,0 +1,86 @@
+-- One index and its table, as the running statements meet them: rows and tuples on their pages, the range map, who locks
+-- what, and how far each summarising has come.
+use Rattle.std.specs.Prelude.{◌≡◌, ℕ, ◌+◌, ◌/◌, Bool, true, Option, Some, List}
+use Rattle.block_model.specs.declared.row.Row.{Row}
+
+-- where a tuple stands: an index page and a slot of it
+pub record TuplePlace : Type 0 where
+  pub block : ℕ
+  pub slot : ℕ
+
+-- a tuple: its bytes, its range, whether it is a placeholder, and which rows it includes
+pub record IndexTuple : Type 0 where
+  pub bytes : List ℕ
+  pub range : ℕ
+  pub placeholder : Bool
+  pub includes : Row → Bool
+
+-- How far the building of a summary has come: the table's extent isn't read yet; or it is read, the blocks of the range
+-- below `next` are passed, and the result so far includes these rows.
+pub data Progress : Type 0 where
+  ExtentUnread : Progress
+  Passing : (extent next : ℕ) → (Row → Bool) → Progress
+
+-- what a session is building: the summary of this range
+pub record Building : Type 0 where
+  pub range : ℕ
+  pub progress : Progress
+
+-- an index page: not started, of the range map and its count, with tuples, or with tuples and being emptied for the map
+pub data PageKind : Type 0 where
+  Unstarted : PageKind
+  Mapping : PageKind
+  Regular : PageKind
+  Emptying : PageKind
+
+-- The pages of an index: the kind of each; how long a further tuple each takes, and how long a tuple may stand at a place in
+-- place of the one there; how long an empty placeholder is; the number of map pages, and that of all pages at most.
+pub record Pages : Type 0 where
+  pub kind : ℕ → PageKind
+  pub room : ℕ → ℕ
+  pub room_at : TuplePlace → ℕ
+  pub placeholder : ℕ
+  pub map_pages : ℕ
+  pub limit : ℕ
+
+pub record IndexView : Type 0 where
+  -- heap blocks of a range, heap blocks of the table, and the rows in use by block and slot
+  pub pages_per_range : ℕ
+  pub blocks : ℕ
+  pub row : ℕ → ℕ → Option Row
+  -- the range map by range, the tuples by place
+  pub entry : ℕ → Option TuplePlace
+  pub tuple : TuplePlace → Option IndexTuple
+  pub pages : Pages
+  -- who locks an index page, and who holds the table's summarise lock
+  pub lock : ℕ → Option ℕ
+  pub summarise_lock : Option ℕ
+  -- what a session is building
+  pub building : ℕ → Option Building
+  -- the one tuple that a session has put and not named yet, or no longer names and has still to drop
+  pub loose : ℕ → Option TuplePlace
+  -- the tuples that were unnamed when the store was opened, and stand still
+  pub unnamed : TuplePlace → Bool
+
+-- the range in which a heap block lies
+abbrev pub range_of_block : IndexView → ℕ → ℕ
+range_of_block w b = b / w.pages_per_range
+
+-- the entries of a map page, and the page on which the entry of a range stands; block 0 counts the map pages
+abbrev pub entries_a_page : ℕ
+entries_a_page = 1020
+
+abbrev pub map_page_of : ℕ → ℕ
+map_page_of range = range / entries_a_page + 1
+
+-- a statement of this session is building the range's summary, and has come so far
+abbrev pub IsBuilding : IndexView → ℕ → ℕ → Progress → Type 0
+IsBuilding w s range progress = w.building s ≡ Some (record { range = range; progress = progress })
+
+-- the map names this tuple for the range
+abbrev pub NamesTuple : IndexView → ℕ → IndexTuple → Type 0
+NamesTuple w range t = (x : TuplePlace) × (w.entry range ≡ Some x) × (w.tuple x ≡ Some t)
+
+-- the map names a placeholder for the range
+abbrev pub NamesPlaceholder : IndexView → ℕ → Type 0
+NamesPlaceholder w range = (x : TuplePlace) × (t : IndexTuple) × (w.entry range ≡ Some x) × (w.tuple x ≡ Some t) × (t.placeholder ≡ true)

@@ -1,0 +1,97 @@
+//! Tests of session_core.
+
+ghost use Rattle.std.specs.Prelude.{◌∷◌, [], IfSome, ◌≡◌};
+
+use block_model::{
+    Class, Column, Index, Kind, Name, Part, Refusal, Reply, Schema, Sequence, Sizes, Table,
+};
+use session_core::{SessionFault, Step, Store};
+use statements::{MAX_SESSIONS, Statement};
+use std::alloc::Global;
+use std::process::Abort;
+use std::test::Fail;
+use store_layout::Layout;
+
+const SIZES: Sizes = Sizes {
+    heap_blocks: 8,
+    index_blocks: 4,
+    status_blocks: 1,
+    log_pages: 16,
+    frames: 16,
+};
+
+/// A store of the table `t(a int8)` with an index on `a`.
+fn new_store(rt: &impl Abort, alloc: Global) -> Result<Store, Fail> {
+    let column = Column {
+        name: Name::new(b"a").expect(rt, "a name"),
+        kind: Kind::Int,
+    };
+    let mut columns = Sequence::new(alloc);
+    columns.push(column)?;
+    let table = Table {
+        name: Name::new(b"t").expect(rt, "a name"),
+        rows_per_page: 2,
+        columns,
+    };
+    let mut parts = Sequence::new(alloc);
+    parts.push(Part {
+        column: 0,
+        class: Class::MinMax,
+    })?;
+    let index = Index {
+        name: Name::new(b"i").expect(rt, "a name"),
+        table: 0,
+        pages_per_range: 1,
+        auto: false,
+        parts,
+    };
+    let mut tables = Sequence::new(alloc);
+    tables.push(table)?;
+    let mut indexes = Sequence::new(alloc);
+    indexes.push(index)?;
+    let layout = Layout::new(Schema { tables, indexes }, SIZES)
+        .ok()
+        .expect(rt, "a layout");
+    let store = Store::new(alloc, layout)?;
+    Ok(store)
+}
+
+#[test]
+fn a_statement_in_hand_comes_first(rt: HostRuntime) -> Result<(), Fail> {
+    let mut store = new_store(&rt, rt.alloc())?;
+    let name = Name::new(b"s1").expect(&rt, "a name");
+    let s1 = store.session(name).ok().expect(&rt, "memory");
+    assert!(rt; store.name_of(s1) == name);
+    assert!(rt; !store.in_hand(s1));
+    assert_eq!(rt;
+        store.submit(s1, Statement::Commit),
+        Err(Refusal::NoTransaction)
+    );
+    assert_eq!(rt; store.submit(s1, Statement::Begin), Ok(()));
+    assert!(rt; store.in_hand(s1));
+    assert_eq!(rt; store.submit(s1, Statement::Commit), Err(Refusal::InHand));
+    let begun = store.step(s1);
+    assert!(rt; matches!(begun, Ok(Step::Done(Reply::Begun { t: 1 }))));
+    assert_eq!(rt; store.submit(s1, Statement::Begin), Err(Refusal::UnderWay));
+    assert_eq!(rt; store.journal().len(), 1);
+    Ok(())
+}
+
+#[test]
+fn one_session_more_than_there_may_be_is_refused(rt: HostRuntime) -> Result<(), Fail> {
+    let mut store = new_store(&rt, rt.alloc())?;
+    for i in 0..64u8 {
+        let name = Name::new(&[b'a' + i / 8, b'a' + i % 8]).expect(&rt, "a name");
+        assert_eq!(rt; store.session(name), Ok(u32::from(i)));
+    }
+    let other = Name::new(b"other").expect(&rt, "a name");
+    assert_eq!(rt;
+        store.session(other),
+        Err(SessionFault::Limit {
+            limit: MAX_SESSIONS as u64
+        })
+    );
+    let first = Name::new(b"aa").expect(&rt, "a name");
+    assert_eq!(rt; store.session(first), Ok(0));
+    Ok(())
+}

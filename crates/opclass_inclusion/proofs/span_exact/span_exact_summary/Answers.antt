@@ -1,0 +1,20 @@
+use Rattle.std.proofs.Common.{◌≡◌, fold, sym, subst, ap, ◌∙◌}
+use Rattle.opclass_inclusion.specs.SpanExact.{ExactSummary}
+use Rattle.opclass_inclusion.specs.SpanHulls.{no_range, with_value}
+use Rattle.opclass_inclusion.specs.declared.span_summary.SpanSummary.{SpanSummary}
+use Rattle.opclass_inclusion.proofs.SpanExactness.{exact_in_order, one_exact, exact_in_any_order}
+use Rattle.opclass_inclusion.proofs.span_exact.span_exact_summary.Goals as goal
+
+pub returns : goal.returns
+returns c =
+    let values = c.args.values.now in
+    let is : c.add_all.new.summary ≡ fold with_value no_range values = c.add_all.ensures.added_in_order ∙ ap (λ (s : SpanSummary). fold with_value s values) c.new-summary.ensures.summary in
+    let exact = subst (ExactSummary values) (sym is) (exact_in_order values c.requires) in
+    record {
+      of_class = c.add_all.ensures.stays_of_class;
+      added_in_order = is;
+      includes_each = c.add_all.ensures.includes_each;
+      exact = exact;
+      no_other = λ t also. one_exact values c.add_all.new.summary t exact also;
+      any_order = λ others same. exact_in_any_order values others c.requires same ∙ sym is;
+    }

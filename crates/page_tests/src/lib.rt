@@ -1,0 +1,18 @@
+//! Tests of sources, sinks, disks, changes of the log, pages and rows on pages, over the public calls of io_traits,
+//! disk_trait, wal_record, page_layout, page_redo, page_store and heap_rows. Nothing stands on it.
+#![tactic(auto)]
+
+#[cfg(test)]
+mod changes;
+#[cfg(test)]
+mod disks;
+#[cfg(test)]
+mod heaps;
+#[cfg(test)]
+mod pages;
+#[cfg(test)]
+mod redos;
+#[cfg(test)]
+mod stores;
+#[cfg(test)]
+mod streams;

@@ -1,0 +1,248 @@
+//! A page store over a disk that never fails.
+
+ghost use Rattle.std.specs.Prelude.{◌≡◌, ◌<◌, [], ◌∷◌, length, Some, IfSome};
+ghost use Rattle.block_model.specs.declared.value.Kind.TheVariants as kinds;
+ghost use Rattle.store_layout.specs.DiskLayout.{IsPlace, relation_blocks};
+ghost use Rattle.page_layout.specs.PageContents.{IsForm};
+ghost use Rattle.page_store.specs.Forms.{form_of};
+ghost use Rattle.wal_record.specs.Changes.{logged, place_of};
+
+use block_model::{Column, Kind, Kinds, Name, Place, Schema, Sequence, Sizes, Table};
+use disk_trait::{Disk, SteadyDisk};
+use page_layout::{Form, Page};
+use page_redo::fits;
+use page_store::{PageStore, StoreError};
+use std::alloc::Global;
+use std::marker::Model;
+use std::test::Fail;
+use store_layout::Layout;
+use wal_record::Change;
+
+/// The first block of the table's heap, and the next ones.
+const FIRST: Place = Place {
+    relation: 1,
+    block: 0,
+};
+
+const SECOND: Place = Place {
+    relation: 1,
+    block: 1,
+};
+
+const THIRD: Place = Place {
+    relation: 1,
+    block: 2,
+};
+
+/// The row 1.0 of 5, which no transaction deleted.
+const ROW: [u8; 30] = [
+    1, 0, 0, 0, 0, 0, 0, 0, 1, 0, 0, 0, 0, 0, 0, 0, 0, 0, 0, 0, 0, 0, 0, 0, 0, 0, 0, 0, 0, 5,
+];
+
+/// Two slots of an int8.
+fn heap() -> Form
+    ensures form { IsForm result }
+    ensures is { result ≡ Form.Heap 30 2 (kinds.Int ∷ []) 1 }
+{
+    let mut kinds = Kinds::new();
+    kinds.push(Kind::Int);
+    Form::Heap {
+        row: 30,
+        slots: 2,
+        kinds,
+        format: 1,
+    }
+}
+
+/// A store of the table `t(a int8)` of two rows a page and three blocks, over a disk that never fails.
+#[derive(Drop)]
+struct Trial {
+    store: PageStore<SteadyDisk>,
+}
+
+impl Model for Trial {
+    ghost use Rattle.std.specs.Prelude.{◌≡◌, ℕ, [], ◌∷◌, Some};
+    ghost use Rattle.block_model.specs.declared.value.Kind.TheVariants as kinds;
+    ghost use Rattle.store_layout.specs.DiskLayout.{relation_blocks};
+    ghost use Rattle.page_layout.specs.declared.page.Form.TheVariants as forms;
+    ghost use Rattle.page_store.specs.Forms.{form_of};
+
+    ghost Value = { ℕ };
+
+    ghost view = { λ a. 0 };
+
+    ghost invariant = { λ a. (form_of a.store.layout 1 ≡ Some (forms.Heap 30 2 (kinds.Int ∷ []) 1)) × (relation_blocks a.store.layout ≡ 1 ∷ 3 ∷ []) };
+}
+
+impl Trial {
+    fn new(alloc: Global) -> Option<Trial> {
+        let layout = layout(alloc)?;
+        let disk = SteadyDisk::new(alloc, 8192).ok()?;
+        let store = PageStore::plain(alloc, disk, layout).ok()?;
+        Some(Trial { store })
+    }
+
+    /// Makes a change of the heap where it fits.
+    fn make(&mut self, place: Place, change: &Change<'_>) -> bool
+        requires relation { place.relation ≡ 1 }
+        requires block { place.block < 3 }
+        requires own { place_of (logged change.now) ≡ place }
+    {
+        let fitting = match self.store.read(place) {
+            Ok(page) => fits(page, change, heap()),
+            Err(_) => false,
+        };
+        if !fitting {
+            return false;
+        }
+        self.store.change(place, change).is_ok()
+    }
+
+    fn start(&mut self, place: Place) -> bool
+        requires relation { place.relation ≡ 1 }
+        requires block { place.block < 3 }
+    {
+        self.make(place, &Change::PageStart { place, kind: 2 })
+    }
+
+    fn put(&mut self, place: Place, slot: u16) -> bool
+        requires relation { place.relation ≡ 1 }
+        requires block { place.block < 3 }
+    {
+        self.make(
+            place,
+            &Change::RowPut {
+                place,
+                slot,
+                bytes: &ROW,
+            },
+        )
+    }
+
+    /// Frees the second slot.
+    fn free(&mut self, place: Place) -> bool
+        requires relation { place.relation ≡ 1 }
+        requires block { place.block < 3 }
+    {
+        self.make(
+            place,
+            &Change::RowsDrop {
+                place,
+                slots: &[0, 1],
+            },
+        )
+    }
+
+    /// Makes an unstarted page of it.
+    fn empty(&mut self, place: Place) -> bool
+        requires relation { place.relation ≡ 1 }
+        requires block { place.block < 3 }
+    {
+        self.make(
+            place,
+            &Change::FullPage {
+                place,
+                bytes: &[0; 8192],
+            },
+        )
+    }
+
+    /// Whether the bytes are those of the page.
+    fn has(&mut self, place: Place, bytes: &[u8]) -> bool
+        requires relation { place.relation ≡ 1 }
+        requires block { place.block < 3 }
+    {
+        match self.store.read(place) {
+            Ok(page) => page.as_bytes() == bytes,
+            Err(_) => false,
+        }
+    }
+
+    fn blocks(&self) -> u32 {
+        let _store = &self.store;
+        self.store.blocks(1)
+    }
+
+    fn first_room(&self) -> Option<u32> {
+        let _store = &self.store;
+        self.store.first_room(1, 30, 0)
+    }
+}
+
+/// The table `t(a int8)` of two rows a page and three blocks.
+#[tactic(auto, unfolding(store_layout::specs::DiskLayout::relation_blocks))]
+fn layout(alloc: Global) -> Option<Layout>
+    ensures form { IfSome result (λ layout. form_of layout 1 ≡ Some (Form.Heap 30 2 (kinds.Int ∷ []) 1)) }
+    ensures blocks { IfSome result (λ layout. relation_blocks layout ≡ 1 ∷ 3 ∷ []) }
+{
+    let mut columns = Sequence::new(alloc);
+    columns
+        .push(Column {
+            name: Name::new(b"a")?,
+            kind: Kind::Int,
+        })
+        .ok()?;
+    let mut tables = Sequence::new(alloc);
+    tables
+        .push(Table {
+            name: Name::new(b"t")?,
+            rows_per_page: 2,
+            columns,
+        })
+        .ok()?;
+    let schema = Schema {
+        tables,
+        indexes: Sequence::new(alloc),
+    };
+    let sizes = Sizes {
+        heap_blocks: 3,
+        index_blocks: 3,
+        status_blocks: 1,
+        log_pages: 16,
+        frames: 16,
+    };
+    Layout::new(schema, sizes).ok()
+}
+
+#[test]
+fn pages_are_as_the_changes_made_them(rt: HostRuntime) -> Result<(), Fail> {
+    let mut trial = Trial::new(rt.alloc()).ok_or("trial")?;
+    let mut bytes = [0; 8192];
+    assert_eq!(rt; trial.has(FIRST, &bytes), true);
+    assert_eq!(rt; trial.put(FIRST, 0), false);
+    assert_eq!(rt; trial.start(FIRST), true);
+    assert_eq!(rt; trial.put(FIRST, 1), true);
+    assert_eq!(rt; trial.put(FIRST, 1), false);
+    bytes[0] = 2;
+    bytes[62..92].copy_from_slice(&ROW);
+    assert_eq!(rt; trial.has(FIRST, &bytes), true);
+    assert_eq!(rt; trial.has(SECOND, &[0; 8192]), true);
+    assert_eq!(rt; trial.store.flush(), Ok(()));
+    assert_eq!(rt; trial.store.layout().sizes().heap_blocks, 3);
+    assert_eq!(rt; trial.store.into_disk().size(), 8192);
+    Ok(())
+}
+
+#[test]
+fn room_is_the_lowest_free_slot_or_unstarted_block(rt: HostRuntime) -> Result<(), Fail> {
+    let mut trial = Trial::new(rt.alloc()).ok_or("trial")?;
+    assert_eq!(rt; (trial.blocks(), trial.first_room()), (0, Some(0)));
+    assert_eq!(rt; trial.start(FIRST) && trial.put(FIRST, 0), true);
+    assert_eq!(rt; (trial.blocks(), trial.first_room()), (1, Some(0)));
+    assert_eq!(rt; trial.put(FIRST, 1), true);
+    assert_eq!(rt; (trial.blocks(), trial.first_room()), (1, Some(1)));
+    assert_eq!(rt; trial.start(THIRD), true);
+    assert_eq!(rt; (trial.blocks(), trial.first_room()), (2, Some(2)));
+    assert_eq!(rt; trial.put(THIRD, 0) && trial.put(THIRD, 1), true);
+    assert_eq!(rt; (trial.blocks(), trial.first_room()), (2, Some(1)));
+    assert_eq!(rt;
+        trial.start(SECOND) && trial.put(SECOND, 0) && trial.put(SECOND, 1),
+        true
+    );
+    assert_eq!(rt; (trial.blocks(), trial.first_room()), (3, None));
+    assert_eq!(rt; trial.empty(SECOND), true);
+    assert_eq!(rt; (trial.blocks(), trial.first_room()), (2, Some(1)));
+    assert_eq!(rt; trial.free(FIRST), true);
+    assert_eq!(rt; (trial.blocks(), trial.first_room()), (2, Some(0)));
+    Ok(())
+}

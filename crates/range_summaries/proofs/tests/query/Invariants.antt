@@ -1,9 +1,0 @@
-use Rattle.std.proofs.Common.{◌≡◌, All, length}
-use Rattle.range_summaries.proofs.PairTables.{IsCondOf}
-use Rattle.range_summaries.proofs.tests.query.Given as goal
-
-abbrev pub invariant-conds : goal.invariant-conds
-invariant-conds g l = record {
-  as_many : length l.conds ≡ l.one-index;
-  of_columns : All IsCondOf l.conds;
-}

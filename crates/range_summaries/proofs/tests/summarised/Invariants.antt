@@ -1,8 +1,0 @@
-use Rattle.std.proofs.Common.{◌≡◌, List, length}
-use Rattle.block_model.specs.declared.row.Row.{Row}
-use Rattle.row_versions.specs.VersionsState.{rows_at}
-use Rattle.range_summaries.specs.Summarised.{AreSummaries}
-use Rattle.range_summaries.proofs.tests.summarised.Given as goal
-
-abbrev pub invariant-puts : goal.invariant-puts
-invariant-puts g l = (tables : List (List Row)) × AreSummaries l.layout.schema tables l.summaries × (length (rows_at tables 0) ≡ l.place)

@@ -1,6 +1,0 @@
-use Rattle.range_tuple.specs.AnyClass.{takes}
-use Rattle.range_tuple.proofs.tests.address.Goals as goal
-
-pub returns-in-Some : goal.returns-in-Some
-unfolding takes
-returns-in-Some c = tt

@@ -1,0 +1,2 @@
+pub mod DroppedTexts
+pub mod Texts

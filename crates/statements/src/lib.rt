@@ -1,0 +1,10 @@
+//! The statements of sessions, and their definitions: which statements fit a schema, which requests of a transaction a
+//! statement is and what it is answered, how sessions get their numbers, and the rows and the database that a journal of
+//! requests makes. It stands on block_model. The store and the readers of lines above speak of statements in these words.
+#![tactic(auto)]
+
+mod limits;
+mod statement;
+
+pub use limits::{MAX_ENTRIES, MAX_SESSIONS};
+pub use statement::Statement;

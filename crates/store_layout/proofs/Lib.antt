@@ -1,0 +1,3 @@
+pub mod NameLists
+pub mod FirstBroken
+pub mod DiskPlaces

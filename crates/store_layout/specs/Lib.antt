@@ -1,0 +1,4 @@
+pub mod Limits
+pub mod FirstBrokenRule
+pub mod DiskLayout
+pub mod PagesFillDisk
