@@ -25,7 +25,8 @@ use Rattle.query_words.specs.declared.line.Order.TheVariants as orders
 use Rattle.query_words.specs.declared.line.LineFault.{LineFault}
 use Rattle.query_words.specs.declared.line.LineFault.TheVariants as faults
 use Rattle.query_words.specs.Words.{PlacedWord, words_of}
-use Rattle.query_words.specs.Operators.{op_text, comparisons, op_among, op_of}
+use Rattle.query_words.specs.Operators.{op_text, comparisons, op_of}
+use Rattle.query_words.specs.Written.{first_written}
 use Rattle.statements.specs.OperatorKinds.{takes_operator}
 use Rattle.query_words.specs.Grammar.{SaidCond, Compared, Null, NotNull, SaidStatement, Begin, Commit, Rollback, Insert, Select, Delete, Explain, SaidLine, Nothing, Say, IsSaid, said_texts}
 use Rattle.query_words.specs.Syntax.{stop_of}
@@ -108,9 +109,9 @@ among_step : (b : Bool) (first op : Op) (later : Option Op) → TakesKey first �
 among_step true first op later h ih e = let same : first ≡ op = cc in subst TakesKey same h
 among_step false first op later h ih e = ih e
 
-among_key : (among : List Op) (word : List ℕ) (op : Op) → AllByRecursion TakesKey among → op_among among word ≡ Some op → TakesKey op
+among_key : (among : List Op) (word : List ℕ) (op : Op) → AllByRecursion TakesKey among → first_written op_text among word ≡ Some op → TakesKey op
 among_key [] word op all h = cc
-among_key (first ∷ rest) word op all h = among_step (bytes_eq word (op_text first)) first op (op_among rest word) all.0 (among_key rest word op all.1) h
+among_key (first ∷ rest) word op all h = among_step (bytes_eq word (op_text first)) first op (first_written op_text rest word) all.0 (among_key rest word op all.1) h
 
 comparison_key : (word : List ℕ) (op : Op) → op_of word ≡ Some op → TakesKey op
 comparison_key word op h =

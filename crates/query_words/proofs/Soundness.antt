@@ -1,6 +1,7 @@
 -- Words that are accepted are of the grammar, and what is read of them says so.
 use Rattle.std.proofs.Common.{◌≡◌, ℕ, ◌-◌, ◌≤◌, nat_lt, Bool, true, false, ◌&&◌, ◌||◌, List, [], ◌∷◌, ◌++◌, length, map, codes, Option, None, Some, refl, sym, ap, ◌∙◌, subst, cond, arith}
 use Rattle.std.proofs.lemmas.List.{length-map}
+use Rattle.std.proofs.lemmas.Option.{same_Some, none-some}
 use Rattle.std.specs.Option.{is_some, option_map, option_and_then}
 use Rattle.std.specs.Str.{bytes_eq}
 use Rattle.std.proofs.lemmas.Bool.{ltb-true, and_parts}
@@ -17,7 +18,8 @@ use Rattle.query_words.specs.declared.syntax.Expected.TheVariants as expected
 use Rattle.query_words.specs.Words.{PlacedWord, texts_of}
 use Rattle.query_words.specs.Operators.{op_of}
 use Rattle.query_words.specs.ValueWords.{is_value_word}
-use Rattle.query_words.specs.Verbs.{verb_text, all_verbs, verb_among, verb_of}
+use Rattle.query_words.specs.Verbs.{verb_text, all_verbs, verb_of}
+use Rattle.query_words.specs.Written.{first_written}
 use Rattle.query_words.specs.Grammar.{SaidCond, Compared, Null, NotNull, SaidStatement, Begin, Commit, Rollback, Insert, Select, Delete, Explain, words_of_cond, words_of_more, words_of_conds, words_of_statement}
 use Rattle.block_model.specs.declared.limits.TheConstants.{MAX_CONDITIONS}
 use Rattle.query_words.specs.Grammar.{IsNameWord, IsOperatorWord, IsValueWord, AreValueWords, IsSaidCond, AreSaidConds, IsSaidStatement, cond_texts, statement_texts}
@@ -112,18 +114,19 @@ operator_word : (word : List ℕ) (o : Option Op) → op_of word ≡ o → is_so
 operator_word word None e h = cc
 operator_word word (Some op) e h = (op, e)
 
--- a word is the text of the verb that it is
-verb_step : (b : Bool) (word : List ℕ) (v w : Verb) (next : Option Verb) → bytes_eq word (verb_text v) ≡ b → (next ≡ Some w → word ≡ verb_text w)
-    → cond b (Some v) next ≡ Some w → word ≡ verb_text w
-verb_step true word v w next e ih h = let same : v ≡ w = cc in same_text word (verb_text v) e ∙ ap verb_text same
-verb_step false word v w next e ih h = ih h
+-- a word is the text of what it is
+written_step : {A : Type 0} (text : A → List ℕ) (b : Bool) (word : List ℕ) (v w : A) (next : Option A) → bytes_eq word (text v) ≡ b
+    → (next ≡ Some w → word ≡ text w) → cond b (Some v) next ≡ Some w → word ≡ text w
+written_step text true word v w next e ih h = let same : v ≡ w = same_Some v w h in same_text word (text v) e ∙ ap text same
+written_step text false word v w next e ih h = ih h
 
-verb_among_text : (among : List Verb) (word : List ℕ) (v : Verb) → verb_among among word ≡ Some v → word ≡ verb_text v
-verb_among_text [] word v h = cc
-verb_among_text (u ∷ us) word v h = verb_step (bytes_eq word (verb_text u)) word u v (verb_among us word) refl (verb_among_text us word v) h
+written_text : {A : Type 0} (text : A → List ℕ) (all : List A) (word : List ℕ) (v : A) → first_written text all word ≡ Some v → word ≡ text v
+written_text text [] word v h = absurd (none-some v h)
+written_text text (u ∷ us) word v h =
+    written_step text (bytes_eq word (text u)) word u v (first_written text us word) refl (written_text text us word v) h
 
 pub verb_of_text : (word : List ℕ) (v : Verb) → verb_of word ≡ Some v → word ≡ verb_text v
-verb_of_text word v h = verb_among_text all_verbs word v h
+verb_of_text word v h = written_text verb_text all_verbs word v h
 
 abbrev Goes : List PlacedWord → Type 0
 Goes words = (next : Expected) → accepts next (texts_of words) ≡ true → Tail next words

@@ -1,4 +1,5 @@
 pub mod Words
+pub mod Written
 pub mod Operators
 pub mod Verbs
 pub mod ValueWords

@@ -1,8 +1,8 @@
 -- the operators, as they are written
-use Rattle.std.specs.Prelude.{ℕ, List, [], ◌∷◌, codes, Option, None, Some, if◌then◌else◌}
-use Rattle.std.specs.Str.{bytes_eq}
+use Rattle.std.specs.Prelude.{ℕ, List, [], ◌∷◌, codes, Option}
 use Rattle.block_model.specs.declared.value.Op.{Op}
 use Rattle.block_model.specs.declared.value.Op.TheVariants as ops
+use Rattle.query_words.specs.Written.{first_written}
 
 -- how it is written
 abbrev pub op_text : Op → List ℕ
@@ -30,11 +30,6 @@ comparisons =
     ops.Lt ∷ ops.Le ∷ ops.Eq ∷ ops.Ge ∷ ops.Gt ∷ ops.Overlaps ∷ ops.Contains ∷ ops.Within ∷ ops.Before ∷ ops.After
     ∷ ops.WithinEq ∷ ops.ContainsEq ∷ ops.NotAfter ∷ ops.NotBefore ∷ ops.Adjacent ∷ []
 
--- the first of them that is written so
-abbrev pub op_among : List Op → List ℕ → Option Op
-op_among [] word = None
-op_among (op ∷ rest) word = if bytes_eq word (op_text op) then Some op else op_among rest word
-
 -- the comparison that the word is
 abbrev pub op_of : List ℕ → Option Op
-op_of word = op_among comparisons word
+op_of word = first_written op_text comparisons word

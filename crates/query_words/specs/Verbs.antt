@@ -1,8 +1,8 @@
 -- the verbs of statements
-use Rattle.std.specs.Prelude.{ℕ, List, [], ◌∷◌, codes, Option, None, Some, if◌then◌else◌}
-use Rattle.std.specs.Str.{bytes_eq}
+use Rattle.std.specs.Prelude.{ℕ, List, [], ◌∷◌, codes, Option}
 use Rattle.query_words.specs.declared.verb.Verb.{Verb}
 use Rattle.query_words.specs.declared.verb.Verb.TheVariants as verbs
+use Rattle.query_words.specs.Written.{first_written}
 
 -- how it is written
 abbrev pub verb_text : Verb → List ℕ
@@ -18,11 +18,6 @@ abbrev pub all_verbs : List Verb
 all_verbs =
     verbs.Begin ∷ verbs.Commit ∷ verbs.Rollback ∷ verbs.Insert ∷ verbs.Select ∷ verbs.Delete ∷ verbs.Explain ∷ []
 
--- the first of them that is written so
-abbrev pub verb_among : List Verb → List ℕ → Option Verb
-verb_among [] word = None
-verb_among (verb ∷ rest) word = if bytes_eq word (verb_text verb) then Some verb else verb_among rest word
-
 -- the verb that the word is
 abbrev pub verb_of : List ℕ → Option Verb
-verb_of word = verb_among all_verbs word
+verb_of word = first_written verb_text all_verbs word

@@ -16,6 +16,7 @@ mod syntax;
 mod value_word;
 mod verb;
 mod word;
+mod written;
 
 pub use limits::MAX_LINE;
 pub use line::{Line, LineFault, Order, read_line};

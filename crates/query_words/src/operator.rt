@@ -1,10 +1,10 @@
 //! The operators: how they are written, and the kinds that take them.
 
 ghost use Rattle.std.specs.Prelude.{◌≡◌};
-ghost use Rattle.query_words.specs.Operators.{op_text, op_among, op_of};
+ghost use Rattle.query_words.specs.Operators.{op_text, op_of};
 ghost use Rattle.statements.specs.OperatorKinds.{takes_operator};
 
-use crate::word::is_word;
+use crate::written::{Written, first_written};
 use block_model::{Kind, Op};
 
 const COMPARISONS: [Op; 15] = [
@@ -50,22 +50,21 @@ pub fn op_text(op: Op) -> &'static [u8]
     }
 }
 
+impl Written for Op {
+    ghost use Rattle.query_words.specs.Operators.{op_text};
+
+    ghost text = { op_text };
+
+    fn text(self) -> &'static [u8] {
+        op_text(self)
+    }
+}
+
 /// The operator that is written so in one word, of whatever kind.
 pub fn read_op(word: &[u8]) -> Option<Op>
     ensures { result ≡ op_of word.now }
 {
-    op_among(&COMPARISONS, word)
-}
-
-fn op_among(ops: &[Op], word: &[u8]) -> Option<Op>
-    ensures { result ≡ op_among ops.now word.now }
-{
-    'ops: for op in ops {
-        if is_word(word, op_text(*op)) {
-            return Some(*op);
-        }
-    }
-    None
+    first_written(&COMPARISONS, word)
 }
 
 /// Whether a column of the kind takes the operator.

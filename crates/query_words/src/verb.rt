@@ -1,9 +1,9 @@
 //! The verbs of statements.
 
 ghost use Rattle.std.specs.Prelude.{◌≡◌};
-ghost use Rattle.query_words.specs.Verbs.{verb_text, verb_among, verb_of};
+ghost use Rattle.query_words.specs.Verbs.{verb_text, verb_of};
 
-use crate::word::is_word;
+use crate::written::{Written, first_written};
 
 /// What a statement does: the word behind the session's name.
 #[derive(Clone, Copy, Debug, PartialEq, Eq)]
@@ -42,20 +42,19 @@ pub fn verb_text(verb: Verb) -> &'static [u8]
     }
 }
 
+impl Written for Verb {
+    ghost use Rattle.query_words.specs.Verbs.{verb_text};
+
+    ghost text = { verb_text };
+
+    fn text(self) -> &'static [u8] {
+        verb_text(self)
+    }
+}
+
 /// The verb that is written so.
 pub fn read_verb(word: &[u8]) -> Option<Verb>
     ensures { result ≡ verb_of word.now }
 {
-    verb_among(&VERBS, word)
-}
-
-fn verb_among(verbs: &[Verb], word: &[u8]) -> Option<Verb>
-    ensures { result ≡ verb_among verbs.now word.now }
-{
-    'verbs: for verb in verbs {
-        if is_word(word, verb_text(*verb)) {
-            return Some(*verb);
-        }
-    }
-    None
+    first_written(&VERBS, word)
 }
