@@ -1,5 +1,5 @@
 -- laws of the kind of a page, of what reading a slot tells, and of the lowest free slot
-use Rattle.std.proofs.Common.{◌≡◌, ℕ, zero, suc, ◌+◌, ◌-◌, ◌<◌, ◌≤◌, Bool, true, false, cond, ltb, eqb, List, [], ◌∷◌, length, set, drop, get_or, refl, sym, ap, ◌∙◌, arith}
+use Rattle.std.proofs.Common.{◌≡◌, ℕ, zero, suc, ◌+◌, ◌-◌, ◌<◌, ◌≤◌, inr, Bool, true, false, cond, ltb, eqb, List, [], ◌∷◌, length, set, drop, get_or, refl, sym, ap, ◌∙◌, arith}
 use Rattle.std.specs.Prelude.{Option, None, Some, replicate, slice_get}
 use Rattle.std.specs.List.{position_or_len}
 use Rattle.std.specs.Option.{option_map}
@@ -10,8 +10,9 @@ use Rattle.block_model.specs.declared.value.Kind.{Kind}
 use Rattle.page_layout.specs.declared.page.Form.{Form}
 use Rattle.page_layout.specs.declared.page.Form.TheVariants as forms
 use Rattle.page_layout.specs.RowBytes.{StoredRow}
-use Rattle.page_layout.specs.PageContents.{Slot, HasSlots, IsStarted, IsUnstarted, heap_bytes, row_bytes_in, used_bytes}
+use Rattle.page_layout.specs.PageContents.{Slot, HasSlots, IsPageOf, IsRowOf, IsStarted, IsUnstarted, heap_bytes, row_bytes_in, used_bytes}
 use Rattle.page_layout.specs.PageFaults.{has_page_kind}
+use Rattle.page_layout.specs.PageWrites.{RowHasBytes}
 use Rattle.page_layout.specs.FreeSlots.{slot_count, is_free, lowest_free, lowest_free_from, AreUsedBelow}
 use Rattle.page_layout.specs.SlotsOnPage.{slots_in, slots_on}
 
@@ -50,6 +51,18 @@ started_isnt_unstarted form page started zeros =
 -- nor is a page that has slots
 pub started_not : (form : Form) (page : List ℕ) (slots : List Slot) → HasSlots form page slots → IsUnstarted page → ⊥
 started_not form page slots has zeros = absurd (omega (arith, heap_front form page slots has, unstarted_front page 8192 refl zeros))
+
+-- a page that has slots is one of its form
+pub has_page : (form : Form) (page : List ℕ) (slots : List Slot) → HasSlots form page slots → IsPageOf form page
+has_page forms.Status page slots has = absurd has
+has_page (forms.Heap row count ks format) page slots has = inr (slots, has)
+has_page forms.Index page slots has = absurd has
+
+-- bytes of a row of the form are those of some row
+pub row_has : (form : Form) (bytes : List ℕ) → IsRowOf form bytes → (row : StoredRow) × RowHasBytes form bytes row
+row_has forms.Status bytes is = absurd is
+row_has (forms.Heap size count ks format) bytes is = (is.0, (is.1, is.2))
+row_has forms.Index bytes is = absurd is
 
 -- how many slots there are
 

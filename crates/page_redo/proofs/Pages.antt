@@ -9,12 +9,8 @@ use Rattle.page_layout.specs.declared.page.Form.TheVariants as forms
 use Rattle.page_layout.specs.RowBytes.{StoredRow}
 use Rattle.page_layout.specs.PageContents.{Slot, HasSlots, IsPageOf, IsStatusPage, IsRowOf, header_bytes, statuses}
 use Rattle.page_layout.specs.PageWrites.{IsEmptyHeap, RowHasBytes}
+use Rattle.page_layout.specs.SlotLaws.{has_page, row_has}
 use Rattle.page_redo.specs.Redo.{Fits, IsAnew, IsOfStatuses, Means, Redone}
-
-pub has_page : (form : Form) (page : List ℕ) (slots : List Slot) → HasSlots form page slots → IsPageOf form page
-has_page forms.Status page slots has = absurd has
-has_page (forms.Heap row count ks format) page slots has = inr (slots, has)
-has_page forms.Index page slots has = absurd has
 
 -- lists of changes
 
@@ -53,11 +49,6 @@ empty-same : (form : Form) (a b : List ℕ) → IsEmptyHeap form a → IsEmptyHe
 empty-same forms.Status a b ha hb = absurd ha
 empty-same (forms.Heap row count ks format) a b ha hb = ha.bytes ∙ sym hb.bytes
 empty-same forms.Index a b ha hb = absurd ha
-
-row_has : (form : Form) (bytes : List ℕ) → IsRowOf form bytes → (row : StoredRow) × RowHasBytes form bytes row
-row_has forms.Status bytes is = absurd is
-row_has (forms.Heap size count ks format) bytes is = (is.0, (is.1, is.2))
-row_has forms.Index bytes is = absurd is
 
 step_same : (form : Form) (page a b : List ℕ) (change : LoggedChange) → AreBytes a → AreBytes b → Fits form page change → Means form page change a → Means form page change b → a ≡ b
 step_same form page a b (FullPage place bytes) sa sb fit ma mb = ma ∙ sym mb
