@@ -189,7 +189,7 @@ none_from from n slots all used =
 -- a put
 
 -- where a row was put into the lowest free slot all slots up to it are in use
-pub used_up_to : (slots : List Slot) (n : ℕ) (row : StoredRow) → n < length slots → AreUsedBelow n slots → AreUsedBelow (n + 1) (set slots n (Some row))
+pub used_up_to : (slots : List Slot) (n : ℕ) (row : StoredRow) → n < length slots → AreUsedBelow n slots → (k : ℕ) → k < n + 1 → is_free (get_or (set slots n (Some row)) k None) ≡ false
 used_up_to [] n row within used k below = absurd (omega arith)
 used_up_to (slot ∷ slots) zero row within used zero below = refl
 used_up_to (slot ∷ slots) zero row within used (suc k) below = absurd (omega arith)
