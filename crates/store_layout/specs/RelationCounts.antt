@@ -1,5 +1,5 @@
 -- how many relations a store has
-use Rattle.std.proofs.Common.{◌≡◌, ℕ, ◌+◌, List, length, length-append, arith}
+use Rattle.std.proofs.Common.{◌≡◌, ◌+◌, length, length-append, arith}
 use Rattle.std.proofs.lemmas.List.{length-map}
 use Rattle.store_layout.specs.DiskLayout.{DiskLayout, relation_blocks}
 
