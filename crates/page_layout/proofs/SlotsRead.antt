@@ -1,5 +1,5 @@
 -- The slots of a page are those that are read from its bytes.
-use Rattle.std.proofs.Common.{◌≡◌, ℕ, zero, suc, ◌-◌, ◌*◌, ◌<◌, inl, inr, Bool, cond, eqb, List, [], ◌∷◌, ◌++◌, length, take, drop, get_or, refl, sym, ap, subst, ◌∙◌, append_assoc, arith}
+use Rattle.std.proofs.Common.{◌≡◌, ℕ, zero, suc, ◌-◌, inl, inr, cond, eqb, List, [], ◌∷◌, ◌++◌, length, take, drop, get_or, refl, sym, ap, subst, ◌∙◌, append_assoc, arith}
 use Rattle.std.specs.Prelude.{Option, None, Some, replicate}
 use Rattle.std.proofs.lemmas.List.{take_at, drop_at, drop-replicate, get_or-replicate}
 use Rattle.block_model.specs.declared.value.Kind.{Kind}
@@ -55,7 +55,7 @@ started_has forms.Index page heap started = absurd heap
 
 -- the slots of a page that isn't started are free
 
-zero_first : (r m : ℕ) → get_or (take r (replicate m 0)) 0 0 ≡ 0
+zero_first : (r m : ℕ) → get_or {A = ℕ} (take r (replicate m 0)) 0 0 ≡ 0
 zero_first zero m = refl
 zero_first (suc r) zero = refl
 zero_first (suc r) (suc m) = refl

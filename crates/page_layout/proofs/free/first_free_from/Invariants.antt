@@ -1,4 +1,4 @@
-use Rattle.std.proofs.Common.{◌≡◌, ℕ, ◌+◌, ◌<◌, ◌≤◌, List, false, get_or}
+use Rattle.std.proofs.Common.{◌≡◌, ℕ, ◌<◌, ◌≤◌, List, false, get_or}
 use Rattle.std.specs.Prelude.{None}
 use Rattle.page_layout.specs.PageContents.{Slot, HasSlots}
 use Rattle.page_layout.specs.FreeSlots.{is_free}
