@@ -6,9 +6,8 @@ use Rattle.byte_fields.specs.Fields.{AreBytes}
 use Rattle.wal_record.specs.Changes.{LoggedChange, FullPage, PageStart, RowPut, RowMark, RowsDrop, TuplePut, TupleReplace, TupleDrop, Evacuate, MapPage, MapSet, MetaSet, StatusSet}
 use Rattle.page_layout.specs.declared.page.Form.{Form}
 use Rattle.page_layout.specs.declared.page.Form.TheVariants as forms
-use Rattle.page_layout.specs.RowBytes.{StoredRow}
-use Rattle.page_layout.specs.PageContents.{Slot, HasSlots, IsPageOf, IsStatusPage, IsRowOf, header_bytes, statuses}
-use Rattle.page_layout.specs.PageWrites.{IsEmptyHeap, RowHasBytes}
+use Rattle.page_layout.specs.PageContents.{Slot, HasSlots, IsPageOf, IsStatusPage, header_bytes, statuses}
+use Rattle.page_layout.specs.PageWrites.{IsEmptyHeap}
 use Rattle.page_layout.specs.SlotLaws.{has_page, row_has}
 use Rattle.page_redo.specs.Redo.{Fits, IsAnew, IsOfStatuses, Means, Redone}
 
