@@ -1,7 +1,7 @@
 -- what stands where after bytes were put over others
-use Rattle.std.proofs.Common.{◌≡◌, ◌⊎◌, inl, inr, ℕ, ◌+◌, ◌-◌, ◌≤◌, ◌<◌, List, ◌++◌, length, take, drop, get_or, sym, ◌∙◌, ap, subst, ⊎_elim, arith, length-append, length-drop, append_assoc}
+use Rattle.std.proofs.Common.{◌≡◌, ◌⊎◌, inl, inr, ℕ, ◌+◌, ◌-◌, ◌≤◌, ◌<◌, List, ◌++◌, length, take, drop, get_or, sym, ◌∙◌, ap, subst, ⊎_elim, arith, length-append, length-drop}
 use Rattle.std.proofs.lemmas.Bool.{cases_lt}
-use Rattle.std.proofs.lemmas.List.{take_at, drop_at, length-take-le, get_or_append_left, get_or-append_right, get_or-take, get_or-drop, ext_get_or}
+use Rattle.std.proofs.lemmas.List.{length-take-le, get_or_append_left, get_or-append_right, get_or-take, get_or-drop, ext_get_or}
 use Rattle.disk_trait.specs.Spliced.{spliced}
 use Rattle.disk_trait.specs.Torn.{Torn}
 use Rattle.disk_trait.specs.TornLaws.{length-spliced, take-spliced, behind-spliced}

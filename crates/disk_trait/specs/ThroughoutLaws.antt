@@ -1,5 +1,5 @@
 -- laws of what holds at every moment of a run of calls
-use Rattle.std.proofs.Common.{◌≡◌, ◌⊎◌, inl, inr, ⊎_elim, ℕ, ◌≤◌, List, refl, ◌∙◌, arith}
+use Rattle.std.proofs.Common.{inl, inr, ⊎_elim, ℕ, List, refl, ◌∙◌, arith}
 use Rattle.std.specs.Prelude.{IsTrue}
 use Rattle.disk_trait.specs.Told.{Told}
 use Rattle.disk_trait.specs.GoesOn.{GoesOn}
