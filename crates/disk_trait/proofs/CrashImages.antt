@@ -13,7 +13,8 @@ use Rattle.disk_trait.specs.IsCrashImage.{is_pending, is_crash_image, was_crash_
 use Rattle.disk_trait.specs.CrashImageLaws.{crash_image_from, crash_image_at, length-crash_image, contents_crash_image}
 use Rattle.disk_trait.specs.Recorded.{Recorded, with_write, with_sync}
 use Rattle.disk_trait.specs.Memory.{Recording, told_by_memory}
-use Rattle.disk_trait.proofs.Splices.{length-spliced, get_or-spliced_within, get_or-spliced_outside, torn_back, get_or-range, length-range, spliced_back, where_it_is}
+use Rattle.disk_trait.specs.TornLaws.{length-spliced}
+use Rattle.disk_trait.proofs.Splices.{get_or-spliced_within, get_or-spliced_outside, torn_back, get_or-range, length-range, spliced_back, where_it_is}
 
 -- outside of a write's range no more is pending than before
 not_pending_outside : (at n k : ℕ) (before : Bool) → (k < at) ⊎ (at + n ≤ k) → before ≡ false → ((nat_le at k && nat_lt k (at + n)) || before) ≡ false

@@ -8,7 +8,7 @@ use Rattle.disk_trait.specs.Recorded.{Recorded, with_write, with_sync}
 use Rattle.disk_trait.specs.AreWithin.{AreWithin}
 use Rattle.disk_trait.specs.Undone.{undone}
 use Rattle.disk_trait.specs.Noted.{events_onto, replaced_count}
-use Rattle.disk_trait.proofs.Splices.{length-spliced}
+use Rattle.disk_trait.specs.TornLaws.{length-spliced}
 use Rattle.disk_trait.specs.declared.history.Call.{Call}
 use Rattle.disk_trait.specs.declared.history.Call.TheVariants.{Wrote, Synced}
 

@@ -1,9 +1,10 @@
 -- what stands where after bytes were put over others
-use Rattle.std.proofs.Common.{◌≡◌, ◌⊎◌, inl, inr, ℕ, ◌+◌, ◌-◌, ◌≤◌, ◌<◌, List, ◌++◌, length, take, drop, get_or, sym, ◌∙◌, ap, subst, ⊎_elim, arith, length-append, length-drop, append_assoc}
+use Rattle.std.proofs.Common.{◌≡◌, ◌⊎◌, inl, inr, ℕ, ◌+◌, ◌-◌, ◌≤◌, ◌<◌, List, ◌++◌, length, take, drop, get_or, sym, ◌∙◌, ap, subst, ⊎_elim, arith, length-append, length-drop}
 use Rattle.std.proofs.lemmas.Bool.{cases_lt}
-use Rattle.std.proofs.lemmas.List.{take_at, drop_at, length-take-le, get_or_append_left, get_or-append_right, get_or-take, get_or-drop, ext_get_or}
+use Rattle.std.proofs.lemmas.List.{length-take-le, get_or_append_left, get_or-append_right, get_or-take, get_or-drop, ext_get_or}
 use Rattle.disk_trait.specs.Spliced.{spliced}
 use Rattle.disk_trait.specs.Torn.{Torn}
+use Rattle.disk_trait.specs.TornLaws.{length-spliced, take-spliced, behind-spliced}
 
 module _ (old : List ℕ) (at : ℕ) (bytes : List ℕ) (fits : at + length bytes ≤ length old) where
   front : length (take at old) ≡ at
@@ -12,24 +13,8 @@ module _ (old : List ℕ) (at : ℕ) (bytes : List ℕ) (fits : at + length byte
   reach : length (take at old ++ bytes) ≡ at + length bytes
   reach = omega (arith, front, length-append (take at old) bytes)
 
-  pub length-spliced : length (spliced old at bytes) ≡ length old
-  length-spliced = omega (arith, reach, length-append (take at old ++ bytes) (drop (at + length bytes) old), length-drop (at + length bytes) old)
-
-  pub take-spliced : take at (spliced old at bytes) ≡ take at old
-  take-spliced = ap (take at) (append_assoc (take at old) bytes (drop (at + length bytes) old)) ∙ take_at (take at old) (bytes ++ drop (at + length bytes) old) at front
-
-  pub drop-spliced : drop (at + length bytes) (spliced old at bytes) ≡ drop (at + length bytes) old
-  drop-spliced = drop_at (take at old ++ bytes) (drop (at + length bytes) old) (at + length bytes) reach
-
-  pub torn_spliced : (new : List ℕ) → new ≡ spliced old at bytes → Torn at (length bytes) old new
-  torn_spliced new is = record {
-    length = ap length is ∙ length-spliced;
-    before = ap (take at) is ∙ take-spliced;
-    after = ap (drop (at + length bytes)) is ∙ drop-spliced;
-  }
-
   pub torn_back : Torn at (length bytes) (spliced old at bytes) old
-  torn_back = record { length = sym length-spliced; before = sym take-spliced; after = sym drop-spliced }
+  torn_back = record { length = sym (length-spliced old at bytes fits); before = sym (take-spliced old at bytes fits); after = sym (behind-spliced old at bytes fits) }
 
   -- an element in the range
   pub get_or-spliced_within : (k : ℕ) → at ≤ k → k < at + length bytes → get_or (spliced old at bytes) k 0 ≡ get_or bytes (k - at) 0

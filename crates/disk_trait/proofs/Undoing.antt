@@ -9,7 +9,8 @@ use Rattle.disk_trait.specs.CrashImageLaws.{crash_image_from}
 use Rattle.disk_trait.specs.AreWithin.{AreWithin}
 use Rattle.disk_trait.specs.Undone.{undone}
 use Rattle.disk_trait.specs.IsStriped.{IsStriped}
-use Rattle.disk_trait.proofs.Splices.{length-spliced, get_or-spliced_outside}
+use Rattle.disk_trait.specs.TornLaws.{length-spliced}
+use Rattle.disk_trait.proofs.Splices.{get_or-spliced_outside}
 use Rattle.disk_trait.proofs.CrashImages.{not_in_range, not_before}
 
 pub length-undone : (contents : List ℕ) (events : List Event) → AreWithin (length contents) events → length (undone contents events) ≡ length contents

@@ -1,10 +1,14 @@
 pub mod Told
 pub mod Spliced
 pub mod Torn
+pub mod TornLaws
 pub mod Follows
 pub mod IsStable
 pub mod GoesOn
 pub mod Throughout
+pub mod ThroughoutLaws
+pub mod TornImage
+pub mod RangeLaws
 pub mod Steady
 pub mod File
 pub mod Event

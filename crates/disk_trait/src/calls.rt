@@ -1,9 +1,8 @@
 //! The calls of a disk in memory.
 
-ghost use Rattle.std.specs.Prelude.{◌≡◌, ◌↔◌, ◌≤◌, [], ◌∷◌, ◌++◌, IsTrue, IsErr, OnOk, OnErr, Some, None};
+ghost use Rattle.std.specs.Prelude.{◌≡◌, ◌↔◌, ◌≤◌, [], ◌∷◌, ◌++◌, IsTrue, OnOk, OnErr, Some, None};
 ghost use Rattle.disk_trait.specs.Calls.{one_more, FailsAt, FailsNext, first_stop};
 
-use crate::disk::DiskFault;
 use block_model::NoMemory;
 use std::alloc::Global;
 use std::marker::Model;
@@ -67,14 +66,12 @@ impl Calls {
         fails_at(self.fails.as_slice(), self.stop, self.made)
     }
 
-    /// Counts a fault, and answers it.
-    pub fn fault(&mut self) -> Result<(), DiskFault>
-        ensures err { IsErr result }
+    /// Counts a fault.
+    pub fn count_fault(&mut self)
         ensures counted { self.new ≡ record self.old { faults = one_more self.old.faults } }
         ensures later { self.old.faults ≤ self.new.faults }
     {
         self.faults = self.faults.saturating_add(1);
-        Err(DiskFault)
     }
 
     /// How many calls failed.

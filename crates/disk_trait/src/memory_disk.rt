@@ -192,14 +192,15 @@ impl Disk for MemoryDisk {
         ensures kept { self.new ≡ record self.old { calls = after_call self.old.calls result } }
     {
         if self.calls.fails_now() {
-            return self.calls.fault();
+            self.calls.count_fault();
+            return Err(DiskFault);
         }
         let from = at as usize;
         into.copy_from_slice(&self.bytes[from..from + into.len()]);
         Ok(())
     }
 
-    #[tactic(auto, using(crate::proofs::Splices::torn_spliced))]
+    #[tactic(auto, using(crate::specs::TornLaws::torn_spliced))]
     fn write(&mut self, at: u64, bytes: &[u8]) -> Result<(), DiskFault>
         requires { at + length bytes.now ≤ (told_by_memory self.old).size }
         ensures written { OnOk result (IsTrue (told_by_memory self.old).tells_contents → (told_by_memory self.new).contents ≡ spliced (told_by_memory self.old).contents at bytes.now) }
@@ -215,10 +216,12 @@ impl Disk for MemoryDisk {
     {
         let fails = self.calls.fails_now();
         if !record_write(&mut self.bytes, &mut self.past, at, bytes) {
-            return self.calls.fault();
+            self.calls.count_fault();
+            return Err(DiskFault);
         }
         if fails {
-            return self.calls.fault();
+            self.calls.count_fault();
+            return Err(DiskFault);
         }
         Ok(())
     }
@@ -237,7 +240,8 @@ impl Disk for MemoryDisk {
     {
         let fails = self.calls.fails_now();
         if fails || !record_sync(&mut self.past) {
-            return self.calls.fault();
+            self.calls.count_fault();
+            return Err(DiskFault);
         }
         Ok(())
     }

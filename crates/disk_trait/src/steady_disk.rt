@@ -66,7 +66,7 @@ impl Disk for SteadyDisk {
         Ok(())
     }
 
-    #[tactic(auto, using(crate::proofs::Splices::torn_spliced))]
+    #[tactic(auto, using(crate::specs::TornLaws::torn_spliced))]
     fn write(&mut self, at: u64, bytes: &[u8]) -> Result<(), DiskFault> {
         overwrite(&mut self.bytes, at as usize, bytes);
         Ok(())

@@ -7,5 +7,5 @@ pub mod Rows
 pub mod Slots
 pub mod Pages
 pub mod OnPages
-pub mod FreeSlots
+pub mod SlotsRead
 pub mod Writes

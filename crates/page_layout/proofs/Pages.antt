@@ -11,7 +11,7 @@ use Rattle.page_layout.specs.declared.page.Form.{Form}
 use Rattle.page_layout.specs.declared.page.Form.TheVariants as forms
 use Rattle.page_layout.specs.RowFaults.{first_of, shifted, slot_fault}
 use Rattle.page_layout.specs.PageContents.{slots_bytes, header_bytes, heap_bytes, IsStarted, IsPageOf, IsForm, HasFewColumns, statuses}
-use Rattle.page_layout.specs.PageFaults.{zeros_fault, slots_fault, kind_for, started_fault, page_fault}
+use Rattle.page_layout.specs.PageFaults.{zeros_fault, slots_fault, has_page_kind, started_fault, page_fault}
 use Rattle.page_layout.proofs.Numbers.{AreBytes-drop}
 use Rattle.page_layout.proofs.Faults.{first_none, shifted-none}
 use Rattle.page_layout.proofs.Slots.{zeros_take, zeros_pass, slots-take, slots-pass}
@@ -73,12 +73,12 @@ parts_of x c len f =
     let zeros : take 31 c ≡ replicate 31 0 = zeros_take (take 31 c) f ∙ ap (λ (n : ℕ). replicate n 0) (length-take-le 31 c (omega arith)) in
     ap (λ (l : List ℕ). x ∷ l) (sym (take-append-drop 31 c) ∙ ap (λ (l : List ℕ). l ++ drop 31 c) zeros)
 
-started_takes : (form : Form) (x : ℕ) (c : List ℕ) → IsForm form → HasFewColumns form → length (x ∷ c) ≡ 8192 → AreBytes (x ∷ c) → x ≡ kind_for form → started_fault form (x ∷ c) ≡ None → IsStarted form (x ∷ c)
+started_takes : (form : Form) (x : ℕ) (c : List ℕ) → IsForm form → HasFewColumns form → length (x ∷ c) ≡ 8192 → AreBytes (x ∷ c) → has_page_kind form x ≡ true → started_fault form (x ∷ c) ≡ None → IsStarted form (x ∷ c)
 unfolding started_fault heap_bytes
 started_takes forms.Status x c is few len small kind f =
     let parts = first_none (shifted 1 (zeros_fault (take 31 c))) None f in
     let whole = parts_of x c len (shifted-none 1 _ parts.0) in
-    (statuses (drop 31 c), record { bytes = (drop 31 c, omega (arith, length-drop 31 c), whole ∙ ap (λ (k : ℕ). header_bytes k ++ drop 31 c) kind, refl) })
+    (statuses (drop 31 c), record { bytes = (drop 31 c, omega (arith, length-drop 31 c), whole ∙ ap (λ (k : ℕ). header_bytes k ++ drop 31 c) (eqb-true x 1 kind), refl) })
 started_takes (forms.Heap row count ks format) x c is few len small kind f =
     let body = drop 31 c in
     let parts = first_none (shifted 1 (zeros_fault (take 31 c))) (shifted 32 (slots_fault ks count body)) f in
@@ -91,21 +91,22 @@ started_takes (forms.Heap row count ks format) x c is few len small kind f =
       record {
         counted = t.1.1.counted;
         are = t.1.1.are;
-        bytes = whole ∙ (λ i. header_bytes (kind i) ++ sym t.1.1.written i) ∙ ap (λ (n : ℕ). header_bytes 2 ++ (slots_bytes ks t.0 ++ replicate n 0)) zeros;
+        bytes = whole ∙ (λ i. header_bytes (eqb-true x 2 kind i) ++ sym t.1.1.written i) ∙ ap (λ (n : ℕ). header_bytes 2 ++ (slots_bytes ks t.0 ++ replicate n 0)) zeros;
       },
     )
+started_takes forms.Index x c is few len small kind f = absurd cc
 
-by_kind : (form : Form) (x : ℕ) (c : List ℕ) (unstarted started : Bool) → eqb x 0 ≡ unstarted → eqb x (kind_for form) ≡ started → IsForm form → HasFewColumns form → length (x ∷ c) ≡ 8192 → AreBytes (x ∷ c)
+by_kind : (form : Form) (x : ℕ) (c : List ℕ) (unstarted started : Bool) → eqb x 0 ≡ unstarted → has_page_kind form x ≡ started → IsForm form → HasFewColumns form → length (x ∷ c) ≡ 8192 → AreBytes (x ∷ c)
     → cond unstarted (zeros_fault (x ∷ c)) (cond started (started_fault form (x ∷ c)) (Some 0)) ≡ None → IsPageOf form (x ∷ c)
 by_kind form x c true started eu es is few len small f = inl (zeros_take (x ∷ c) f ∙ ap (λ (n : ℕ). replicate n 0) len)
-by_kind form x c false true eu es is few len small f = inr (started_takes form x c is few len small (eqb-true _ _ es) f)
+by_kind form x c false true eu es is few len small f = inr (started_takes form x c is few len small es f)
 by_kind form x c false false eu es is few len small f = absurd cc
 
 -- what has no fault is a page of its form
 pub page_takes : (form : Form) (page : List ℕ) → IsForm form → HasFewColumns form → length page ≡ 8192 → AreBytes page → page_fault form page ≡ None → IsPageOf form page
 unfolding page_fault
 page_takes form [] is few len small f = absurd (omega arith)
-page_takes form (x ∷ c) is few len small f = by_kind form x c (eqb x 0) (eqb x (kind_for form)) refl refl is few len small f
+page_takes form (x ∷ c) is few len small f = by_kind form x c (eqb x 0) (has_page_kind form x) refl refl is few len small f
 
 zeros_page : (form : Form) (n : ℕ) → page_fault form (replicate (suc n) 0) ≡ None
 unfolding page_fault
@@ -128,6 +129,7 @@ started_passes (forms.Heap row count ks format) page is few started =
     ∙ ap (λ (o : Option ℕ). first_of (shifted 1 o) (shifted 32 (slots_fault ks count body))) (zeros_pass 31)
     ∙ ap (λ (n : ℕ). shifted 32 (slots_fault ks n body)) (sym started.1.counted)
     ∙ ap (shifted 32) (slots-pass ks slots zeros few started.1.are)
+started_passes forms.Index page is few started = absurd started
 
 -- a page of its form has no fault
 pub page_passes : (form : Form) (page : List ℕ) (n : ℕ) → n ≡ 8192 → IsForm form → HasFewColumns form → IsPageOf form page → page_fault form page ≡ None

@@ -213,6 +213,7 @@ empty-heap ks count room =
 
 pub empty-by : (form : Form) (page zeros page_new : List ℕ) (n m : ℕ) → n ≡ 8192 → m ≡ 8160 → length page ≡ n → zeros ≡ put_mid 0 n page (replicate n 0) → page_new ≡ put_mid 0 1 zeros (2 ∷ []) → IsForm form → IsOfHeap form → IsEmptyHeap form page_new
 empty-by forms.Status page zeros page_new n m ne me long cleared written is heap = heap
+empty-by forms.Index page zeros page_new n m ne me long cleared written is heap = heap
 empty-by (forms.Heap row count ks format) page zeros page_new n m ne me long cleared written is heap =
     let all : zeros ≡ replicate n 0 = cleared ∙ write_all page (replicate n 0) n long in
     let split : replicate n 0 ≡ header_bytes 0 ++ replicate m 0 = ap (λ (k : ℕ). replicate k 0) (let e : n ≡ 32 + m = omega arith in e) ∙ sym (replicate-append-replicate 32 m 0) in

@@ -2,7 +2,7 @@
 use Rattle.std.specs.Prelude.{map}
 use Rattle.block_model.specs.declared.schema.Table.{Table}
 use Rattle.block_model.specs.RowSize.{row_size}
-use Rattle.page_layout.specs.declared.format.TheConstants.{FORMAT}
+use Rattle.store_layout.specs.declared.layout.TheConstants.{FORMAT}
 use Rattle.page_layout.specs.declared.page.Form.{Form}
 use Rattle.page_layout.specs.declared.page.Form.TheVariants as forms
 

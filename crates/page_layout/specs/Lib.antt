@@ -3,6 +3,8 @@ pub mod RowReading
 pub mod RowFaults
 pub mod PageContents
 pub mod FreeSlots
+pub mod SlotsOnPage
+pub mod SlotLaws
 pub mod PageFaults
 pub mod PageWrites
 pub mod HeapForms

@@ -3,6 +3,7 @@ use Rattle.std.specs.Prelude.{◌≡◌, ℕ, ◌-◌, ◌*◌, ◌/◌, ◌%◌
 use Rattle.block_model.specs.declared.limits.TheConstants.{PAGE_ROOM, PAGE_SIZE}
 use Rattle.block_model.specs.declared.value.Kind.{Kind}
 use Rattle.block_model.specs.RowSize.{row_size}
+use Rattle.store_layout.specs.declared.layout.TheConstants.{FORMAT}
 use Rattle.page_layout.specs.declared.page.Form.{Form}
 use Rattle.page_layout.specs.declared.page.Form.TheVariants as forms
 use Rattle.page_layout.specs.RowBytes.{StoredRow, IsRow, IsRowBytes, row_bytes}
@@ -64,10 +65,11 @@ pub record IsStatusPage (page : List ℕ) (entries : List ℕ) : Type 0 where
 abbrev pub IsUnstarted : List ℕ → Type 0
 IsUnstarted page = page ≡ replicate PAGE_SIZE 0
 
--- a page of its form that is started
+-- a page of its form that is started; no page of an index is started yet
 abbrev pub IsStarted : Form → List ℕ → Type 0
 IsStarted forms.Status page = (entries : List ℕ) × IsStatusPage page entries
 IsStarted (forms.Heap row count kinds format) page = (slots : List Slot) × IsHeap kinds count slots page
+IsStarted forms.Index page = ⊥
 
 abbrev pub IsPageOf : Form → List ℕ → Type 0
 IsPageOf form page = IsUnstarted page ⊎ IsStarted form page
@@ -75,22 +77,26 @@ IsPageOf form page = IsUnstarted page ⊎ IsStarted form page
 -- the slots are of the size of a row and fit a page
 abbrev pub IsForm : Form → Type 0
 IsForm forms.Status = Unit {0}
-IsForm (forms.Heap row count kinds format) = (row ≡ row_size kinds) × (count * row ≤ PAGE_ROOM) × (format ≡ 1)
+IsForm (forms.Heap row count kinds format) = (row ≡ row_size kinds) × (count * row ≤ PAGE_ROOM) × (format ≡ FORMAT)
+IsForm forms.Index = Unit {0}
 
 -- a table has at most eight columns
 abbrev pub HasFewColumns : Form → Type 0
 HasFewColumns forms.Status = Unit {0}
 HasFewColumns (forms.Heap row count kinds format) = length kinds ≤ 8
+HasFewColumns forms.Index = Unit {0}
 
 -- the page has these slots
 abbrev pub HasSlots : Form → List ℕ → List Slot → Type 0
 HasSlots forms.Status page slots = ⊥
 HasSlots (forms.Heap row count kinds format) page slots = IsHeap kinds count slots page
+HasSlots forms.Index page slots = ⊥
 
 -- a slot of that number is on each page
 abbrev pub HasSlot : Form → ℕ → Type 0
 HasSlot forms.Status slot = ⊥
 HasSlot (forms.Heap row count kinds format) slot = slot < count
+HasSlot forms.Index slot = ⊥
 
 -- the bytes of a row, where a slot is in use
 abbrev pub used_bytes : List Kind → Option Slot → Option (List ℕ)
@@ -100,11 +106,13 @@ used_bytes kinds slot = None
 abbrev pub row_bytes_in : Form → List Slot → ℕ → Option (List ℕ)
 row_bytes_in forms.Status slots slot = None
 row_bytes_in (forms.Heap row count kinds format) slots slot = used_bytes kinds (slice_get slots slot)
+row_bytes_in forms.Index slots slot = None
 
 -- the bytes are those of a row
 abbrev pub IsRowOf : Form → List ℕ → Type 0
 IsRowOf forms.Status bytes = ⊥
 IsRowOf (forms.Heap row count kinds format) bytes = IsRowBytes kinds bytes
+IsRowOf forms.Index bytes = ⊥
 
 -- the bytes of a slot, unless it is free
 abbrev pub used_in : List ℕ → Option (List ℕ)

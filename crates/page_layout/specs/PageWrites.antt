@@ -1,24 +1,40 @@
 -- what is written to pages
 use Rattle.std.specs.Prelude.{◌≡◌, ℕ, ◌+◌, ◌*◌, ◌/◌, ◌%◌, List, None, replicate, ◌==◌, if◌then◌else◌}
+use Rattle.block_model.specs.declared.value.Value.{Value}
 use Rattle.page_layout.specs.declared.page.Form.{Form}
 use Rattle.page_layout.specs.declared.page.Form.TheVariants as forms
-use Rattle.page_layout.specs.RowBytes.{StoredRow, IsRow, row_bytes}
+use Rattle.page_layout.specs.RowBytes.{StoredRow, HaveKinds, IsRow, row_bytes}
 use Rattle.page_layout.specs.PageContents.{IsHeap}
 
 -- the bytes are those of this row
 abbrev pub RowHasBytes : Form → List ℕ → StoredRow → Type 0
 RowHasBytes forms.Status bytes row = ⊥
 RowHasBytes (forms.Heap size count kinds format) bytes row = IsRow kinds row × (bytes ≡ row_bytes kinds row)
+RowHasBytes forms.Index bytes row = ⊥
 
 -- a form of heap pages
 abbrev pub IsOfHeap : Form → Type 0
 IsOfHeap forms.Status = ⊥
 IsOfHeap (forms.Heap size count kinds format) = Unit {0}
+IsOfHeap forms.Index = ⊥
 
 -- a heap page whose slots are all free
 abbrev pub IsEmptyHeap : Form → List ℕ → Type 0
 IsEmptyHeap forms.Status page = ⊥
 IsEmptyHeap (forms.Heap size count kinds format) page = IsHeap kinds count (replicate count None) page
+IsEmptyHeap forms.Index page = ⊥
+
+-- values of the kinds of the form's columns
+abbrev pub AreValuesFor : Form → List Value → Type 0
+AreValuesFor forms.Status values = ⊥
+AreValuesFor (forms.Heap size count kinds format) values = HaveKinds kinds values
+AreValuesFor forms.Index values = ⊥
+
+-- the bytes of a row
+abbrev pub row_length : Form → ℕ
+row_length forms.Status = 0
+row_length (forms.Heap size count kinds format) = size
+row_length forms.Index = 0
 
 -- the row with that deleter
 abbrev pub marked : StoredRow → ℕ → StoredRow

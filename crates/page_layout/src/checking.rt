@@ -4,7 +4,7 @@ ghost use Rattle.std.specs.Prelude.{◌≡◌, ◌*◌, ◌≤◌, ◌<◌, leng
 ghost use Rattle.block_model.specs.declared.limits.TheConstants.{PAGE_ROOM, PAGE_SIZE};
 ghost use Rattle.block_model.specs.RowSize.{row_size};
 ghost use Rattle.page_layout.specs.PageContents.{HasFewColumns, IsForm, IsPageOf};
-ghost use Rattle.page_layout.specs.PageFaults.{body_fault, kind_for, page_fault, slots_fault, started_fault, zeros_fault};
+ghost use Rattle.page_layout.specs.PageFaults.{body_fault, has_page_kind, page_fault, slots_fault, started_fault, zeros_fault};
 
 use crate::format::{HEAP, STATUS, UNSTARTED};
 use crate::page::{Form, HEADER, Page, PageFault, bytes_known};
@@ -57,19 +57,20 @@ fn page_fault(page: &[u8], form: &Form) -> Option<usize>
     if kind == UNSTARTED {
         return zeros_fault(page);
     }
-    if kind == kind_for(form) {
+    if has_page_kind(form, kind) {
         return started_fault(page, form);
     }
     Some(0)
 }
 
-/// The kind of a started page of the form.
-fn kind_for(form: &Form) -> u8
-    ensures { result ≡ kind_for form.now }
+/// Whether a started page of the form may have the kind.
+fn has_page_kind(form: &Form, kind: u8) -> bool
+    ensures { result ≡ has_page_kind form.now kind }
 {
     match form {
-        Form::Status => STATUS,
-        Form::Heap { .. } => HEAP,
+        Form::Status => kind == STATUS,
+        Form::Heap { .. } => kind == HEAP,
+        Form::Index => false,
     }
 }
 
@@ -94,7 +95,7 @@ fn body_fault(body: &[u8], form: &Form) -> Option<usize>
     ensures within { IfSome result (λ at. at < PAGE_ROOM) }
 {
     match form {
-        Form::Status => None,
+        Form::Status | Form::Index => None,
         Form::Heap {
             row,
             slots,
@@ -136,6 +137,7 @@ fn form_known(form: &Form)
     ensures { HasFewColumns form.now }
 {
     if let Form::Heap { kinds, .. } = form {
+        // Opens the kinds, so that their number is known.
         let _ = kinds.as_slice();
     }
 }

@@ -9,11 +9,11 @@ pub const STATUS: u8 = 1;
 /// The kind of a heap page.
 pub const HEAP: u8 = 2;
 
-/// The format of a store.
-pub const FORMAT: u16 = 1;
-
 /// How many statuses stand in a byte.
 pub const STATUSES_A_BYTE: u16 = 4;
 
 /// How many statuses a page has.
 pub const STATUS_ENTRIES: u16 = 32640;
+
+/// How many bytes a row has at most: 22, and eight ranges of 17.
+pub const MAX_ROW: usize = 158;

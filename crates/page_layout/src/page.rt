@@ -88,11 +88,12 @@ impl Page {
 pub(crate) fn bytes_known(bytes: &[u8])
     ensures { AreBytes bytes.now }
 {
+    // Opens the bytes, so that what their type says of each is known.
     let _ = bytes;
 }
 
-/// What a page of a relation is: statuses, or the heap of a table with the bytes of its rows, the slots of a page, the
-/// kinds of its columns, and the format of the store.
+/// What a page of a relation is: statuses; the heap of a table with the bytes of its rows, the slots of a page, the kinds
+/// of its columns, and the format of the store; or a page of an index, of which none is started yet.
 #[derive(Clone, Copy, Debug, PartialEq, Eq)]
 pub enum Form {
     Status,
@@ -102,6 +103,7 @@ pub enum Form {
         kinds: Kinds,
         format: u16,
     },
+    Index,
 }
 
 /// The lowest place of a field whose rule is broken.

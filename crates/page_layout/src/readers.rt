@@ -50,7 +50,7 @@ pub fn row_at(page: &Page, form: Form, slot: u16) -> Option<&[u8]>
     ensures row { IfSome result (λ bytes. IsRowOf form bytes.now) }
 {
     match form {
-        Form::Status => None,
+        Form::Status | Form::Index => None,
         Form::Heap { row, .. } => used_row(page.as_bytes(), usize::from(row), usize::from(slot)),
     }
 }

@@ -3,18 +3,19 @@
 ghost use Rattle.std.specs.Prelude.{◌≡◌, ◌≤◌, ◌<◌, ◌^◌, ◌++◌, drop, length, map, None};
 ghost use Rattle.block_model.specs.declared.limits.TheConstants.{MAX_COLUMNS};
 ghost use Rattle.block_model.specs.RowSize.{row_size};
+ghost use Rattle.store_layout.specs.declared.layout.TheConstants.{FORMAT};
 ghost use Rattle.page_layout.specs.HeapForms.{heap_form};
 ghost use Rattle.page_layout.specs.PageContents.{IsForm, IsRowOf};
-ghost use Rattle.page_layout.specs.PageWrites.{RowHasBytes};
+ghost use Rattle.page_layout.specs.PageWrites.{AreValuesFor, RowHasBytes, row_length};
 ghost use Rattle.page_layout.specs.RowReading.{row_in};
 ghost use Rattle.page_layout.specs.RowFaults.{row_fault};
 ghost use Rattle.page_layout.specs.RowBytes.{StoredRow, HaveKinds, IsRow, IsRowBytes, head_bytes, null_bits, row_bytes};
 
 use crate::column::{columns_size, read_columns, write_columns};
-use crate::format::FORMAT;
 use crate::page::Form;
 use block_model::{Kind, Kinds, RowId, Table, Value, Values};
 use byte_fields::{get_u32, get_u64, put_u32, put_u64};
+use store_layout::FORMAT;
 
 /// The first byte of a slot in use, and of a free one.
 pub(crate) const IN_USE: u8 = 1;
@@ -47,9 +48,10 @@ pub fn kinds_of(table: &Table) -> Kinds
 /// The bytes of a row of the table, which has at most eight columns.
 pub fn row_size(table: &Table, format: u16) -> u16
     requires columns { length table.now.columns ≤ MAX_COLUMNS }
-    requires format { format ≡ 1 }
+    requires format { format ≡ FORMAT }
     ensures { result ≡ row_size (map (λ c. c.kind) table.now.columns) }
 {
+    // Rows are the same in every format that there is.
     let _ = format;
     let kinds = kinds_of(table);
     22 + columns_size(kinds.as_slice())
@@ -78,17 +80,43 @@ pub fn encode_row(
     out: &mut [u8],
 )
     requires columns { length table.now.columns ≤ MAX_COLUMNS }
-    requires format { format ≡ 1 }
+    requires format { format ≡ FORMAT }
     requires kinds { HaveKinds (map (λ c. c.kind) table.now.columns) values.now }
     requires room { length out.old ≡ row_size (map (λ c. c.kind) table.now.columns) }
     ensures written { out.new ≡ row_bytes (map (λ c. c.kind) table.now.columns) (record { id = id; deleter = deleter; values = values.now }) }
     // So `decode_row` answers it again.
     ensures row { IsRow (map (λ c. c.kind) table.now.columns) (record { id = id; deleter = deleter; values = values.now }) }
 {
+    // Rows are the same in every format that there is.
     let _ = format;
     let kinds = kinds_of(table);
+    fill_row(kinds.as_slice(), id, deleter, values, out);
+}
+
+/// The same by the form of the page, one of a heap: `out` becomes the bytes of the row, of which `decode_row` and `row_in`
+/// read it again. The values are of the kinds of the form's columns.
+pub fn write_row(form: Form, id: RowId, deleter: u64, values: &[Value], out: &mut [u8])
+    requires form { IsForm form }
+    requires values { AreValuesFor form values.now }
+    requires room { length out.old ≡ row_length form }
+    ensures { RowHasBytes form out.new (record { id = id; deleter = deleter; values = values.now }) }
+{
+    match form {
+        Form::Status | Form::Index => unreachable!(),
+        Form::Heap { kinds, .. } => fill_row(kinds.as_slice(), id, deleter, values, out),
+    }
+}
+
+/// Writes the row of these kinds.
+fn fill_row(kinds: &[Kind], id: RowId, deleter: u64, values: &[Value], out: &mut [u8])
+    requires columns { length kinds.now ≤ 8 }
+    requires kinds { HaveKinds kinds.now values.now }
+    requires room { length out.old ≡ row_size kinds.now }
+    ensures written { out.new ≡ row_bytes kinds.now (record { id = id; deleter = deleter; values = values.now }) }
+    ensures row { IsRow kinds.now (record { id = id; deleter = deleter; values = values.now }) }
+{
     write_head(id, deleter, null_bits(values), out);
-    write_columns(kinds.as_slice(), values, &mut out[COLUMNS..]);
+    write_columns(kinds, values, &mut out[COLUMNS..]);
 }
 
 /// Writes all in front of the columns.
@@ -120,10 +148,11 @@ fn null_bits(values: &[Value]) -> u8
 /// The id and the deleter of the row with these bytes, which are those of a row of the table. `values` becomes its values.
 pub fn decode_row(table: &Table, format: u16, bytes: &[u8], values: &mut Values) -> (RowId, u64)
     requires columns { length table.now.columns ≤ MAX_COLUMNS }
-    requires format { format ≡ 1 }
+    requires format { format ≡ FORMAT }
     requires row { IsRowBytes (map (λ c. c.kind) table.now.columns) bytes.now }
     ensures row { (row : StoredRow) → IsRow (map (λ c. c.kind) table.now.columns) row → bytes.now ≡ row_bytes (map (λ c. c.kind) table.now.columns) row → (result ≡ (row.id, row.deleter)) × (values.new ≡ row.values) }
 {
+    // Rows are the same in every format that there is.
     let _ = format;
     let kinds = kinds_of(table);
     read_row(kinds.as_slice(), bytes, values)
@@ -136,7 +165,7 @@ pub fn row_in(form: Form, bytes: &[u8], values: &mut Values) -> (RowId, u64)
     ensures row { (row : StoredRow) → RowHasBytes form bytes.now row → (result ≡ (row.id, row.deleter)) × (values.new ≡ row.values) }
 {
     match form {
-        Form::Status => unreachable!(),
+        Form::Status | Form::Index => unreachable!(),
         Form::Heap { kinds, .. } => read_row(kinds.as_slice(), bytes, values),
     }
 }

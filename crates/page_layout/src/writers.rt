@@ -22,7 +22,7 @@ pub fn is_row(form: Form, bytes: &[u8]) -> bool
     ensures other { result ≡ false → IsRowOf form bytes.now → ⊥ }
 {
     match form {
-        Form::Status => false,
+        Form::Status | Form::Index => false,
         Form::Heap { row, kinds, .. } => has_row(kinds.as_slice(), usize::from(row), bytes),
     }
 }
@@ -48,6 +48,7 @@ pub fn start_heap(page: &mut Page, form: Form)
     requires heap { IsOfHeap form }
     ensures empty { IsEmptyHeap form page.new }
 {
+    // The bytes are the same for every table; the form says whose slots they are.
     let _ = form;
     page.known();
     page.clear(0, PAGE_SIZE);
@@ -78,8 +79,8 @@ pub fn mark_row(page: &mut Page, form: Form, slot: u16, deleter: u64)
     }
 }
 
-/// The slot is free.
-pub fn free_slot(page: &mut Page, form: Form, slot: u16)
+/// The slot becomes free.
+pub fn clear_slot(page: &mut Page, form: Form, slot: u16)
     requires form { IsForm form }
     requires slot { HasSlot form slot }
     ensures freed { (slots : List Slot) → HasSlots form page.old slots → HasSlots form page.new (set slots slot None) }

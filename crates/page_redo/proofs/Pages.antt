@@ -6,14 +6,10 @@ use Rattle.byte_fields.specs.Fields.{AreBytes}
 use Rattle.wal_record.specs.Changes.{LoggedChange, FullPage, PageStart, RowPut, RowMark, RowsDrop, TuplePut, TupleReplace, TupleDrop, Evacuate, MapPage, MapSet, MetaSet, StatusSet}
 use Rattle.page_layout.specs.declared.page.Form.{Form}
 use Rattle.page_layout.specs.declared.page.Form.TheVariants as forms
-use Rattle.page_layout.specs.RowBytes.{StoredRow}
-use Rattle.page_layout.specs.PageContents.{Slot, HasSlots, IsPageOf, IsStatusPage, IsRowOf, header_bytes, statuses}
-use Rattle.page_layout.specs.PageWrites.{IsEmptyHeap, RowHasBytes}
-use Rattle.page_redo.specs.Redo.{Fits, IsOfStatuses, Means, Redone}
-
-pub has_page : (form : Form) (page : List ℕ) (slots : List Slot) → HasSlots form page slots → IsPageOf form page
-has_page forms.Status page slots has = absurd has
-has_page (forms.Heap row count ks format) page slots has = inr (slots, has)
+use Rattle.page_layout.specs.PageContents.{Slot, HasSlots, IsPageOf, IsStatusPage, header_bytes, statuses}
+use Rattle.page_layout.specs.PageWrites.{IsEmptyHeap}
+use Rattle.page_layout.specs.SlotLaws.{has_page, row_has}
+use Rattle.page_redo.specs.Redo.{Fits, IsAnew, IsOfStatuses, Means, Redone}
 
 -- lists of changes
 
@@ -41,18 +37,17 @@ status_same a b entries small below ia ib =
 entries_of : (form : Form) (page : List ℕ) → IsOfStatuses form page → (entries : List ℕ) × IsStatusPage page entries
 entries_of forms.Status page is = is
 entries_of (forms.Heap row count ks format) page is = absurd is
+entries_of forms.Index page is = absurd is
 
 heap_same : (form : Form) (a b : List ℕ) (slots : List Slot) → HasSlots form a slots → HasSlots form b slots → a ≡ b
 heap_same forms.Status a b slots ha hb = absurd ha
 heap_same (forms.Heap row count ks format) a b slots ha hb = ha.bytes ∙ sym hb.bytes
+heap_same forms.Index a b slots ha hb = absurd ha
 
 empty-same : (form : Form) (a b : List ℕ) → IsEmptyHeap form a → IsEmptyHeap form b → a ≡ b
 empty-same forms.Status a b ha hb = absurd ha
 empty-same (forms.Heap row count ks format) a b ha hb = ha.bytes ∙ sym hb.bytes
-
-row_has : (form : Form) (bytes : List ℕ) → IsRowOf form bytes → (row : StoredRow) × RowHasBytes form bytes row
-row_has forms.Status bytes is = absurd is
-row_has (forms.Heap size count ks format) bytes is = (is.0, (is.1, is.2))
+empty-same forms.Index a b ha hb = absurd ha
 
 step_same : (form : Form) (page a b : List ℕ) (change : LoggedChange) → AreBytes a → AreBytes b → Fits form page change → Means form page change a → Means form page change b → a ≡ b
 step_same form page a b (FullPage place bytes) sa sb fit ma mb = ma ∙ sym mb
@@ -72,6 +67,7 @@ step_same form page a b (MetaSet place maps) sa sb fit ma mb = absurd fit
 empty-page : (form : Form) (page : List ℕ) → IsEmptyHeap form page → IsPageOf form page
 empty-page forms.Status page is = absurd is
 empty-page (forms.Heap row count ks format) page is = inr (replicate count None, is)
+empty-page forms.Index page is = absurd is
 
 -- a change that fits makes a page that passes its check
 pub changed_page : (form : Form) (old new : List ℕ) (change : LoggedChange) → Fits form old change → Means form old change new → IsPageOf form new
@@ -82,6 +78,7 @@ changed_page form old new (RowMark place slot deleter) fit means = has_page form
 changed_page form old new (RowsDrop place bytes) fit means = has_page form new _ (means fit.0.0 fit.0.1)
 changed_page forms.Status old new (StatusSet place entry status) fit means = inr (_, means fit.0.0 fit.0.1)
 changed_page (forms.Heap row count ks format) old new (StatusSet place entry status) fit means = absurd fit.0
+changed_page forms.Index old new (StatusSet place entry status) fit means = absurd fit.0
 changed_page form old new (TuplePut place slot bytes) fit means = absurd fit
 changed_page form old new (TupleReplace place slot bytes) fit means = absurd fit
 changed_page form old new (TupleDrop place slots) fit means = absurd fit
@@ -95,3 +92,24 @@ redone_same form page a b [] ra rb = ra ∙ sym rb
 redone_same form page a b (change ∷ changes) ra rb =
     let one : ra.0 ≡ rb.0 = step_same form page ra.0 rb.0 change ra.1 rb.1 ra.2 ra.3 rb.3 in
     redone_same form rb.0 a b changes (subst (λ (p : List ℕ). Redone form p changes a) one ra.4) rb.4
+
+-- a page that is begun anew, whatever stood there
+pub redone_anew : (form : Form) (page other new : List ℕ) (change : LoggedChange) (changes : List LoggedChange) → IsAnew change → Redone form page (change ∷ changes) new → Redone form other (change ∷ changes) new
+redone_anew form page other new (FullPage place bytes) changes is r = r
+redone_anew form page other new (PageStart place kind) changes is r = r
+redone_anew form page other new (RowPut place slot bytes) changes is r = absurd is
+redone_anew form page other new (RowMark place slot deleter) changes is r = absurd is
+redone_anew form page other new (RowsDrop place bytes) changes is r = absurd is
+redone_anew form page other new (TuplePut place slot bytes) changes is r = absurd is
+redone_anew form page other new (TupleReplace place slot bytes) changes is r = absurd is
+redone_anew form page other new (TupleDrop place slots) changes is r = absurd is
+redone_anew form page other new (Evacuate place) changes is r = absurd is
+redone_anew form page other new (MapPage place) changes is r = absurd is
+redone_anew form page other new (MapSet place entry spot) changes is r = absurd is
+redone_anew form page other new (MetaSet place maps) changes is r = absurd is
+redone_anew form page other new (StatusSet place entry status) changes is r = absurd is
+
+-- one change more
+pub redone_more : (form : Form) (page mid new : List ℕ) (changes : List LoggedChange) (change : LoggedChange) → Redone form page changes mid → AreBytes new → Fits form mid change → Means form mid change new → Redone form page (changes ++ change ∷ []) new
+redone_more form page mid new [] change r bytes fit means = (new, bytes, subst (λ (p : List ℕ). Fits form p change) r fit, subst (λ (p : List ℕ). Means form p change new) r means, refl)
+redone_more form page mid new (c ∷ changes) change r bytes fit means = (r.0, r.1, r.2, r.3, redone_more form r.0 mid new changes change r.4 bytes fit means)

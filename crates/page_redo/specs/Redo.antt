@@ -30,6 +30,7 @@ IsUsedSlot form page n = (slots : List Slot) × (row : StoredRow) × HasSlots fo
 abbrev pub IsOfStatuses : Form → List ℕ → Type 0
 IsOfStatuses forms.Status page = (entries : List ℕ) × IsStatusPage page entries
 IsOfStatuses (forms.Heap row count kinds format) page = ⊥
+IsOfStatuses forms.Index page = ⊥
 
 -- slots of two bytes each, ascending from the least one, and all below the count
 unfoldable pub are_ascending : ℕ → ℕ → List ℕ → Bool
@@ -68,3 +69,9 @@ Means form old change new = ⊥
 abbrev pub Redone : Form → List ℕ → List LoggedChange → List ℕ → Type 0
 Redone form page [] new = new ≡ page
 Redone form page (change ∷ changes) new = (next : List ℕ) × AreBytes next × Fits form page change × Means form page change next × Redone form next changes new
+
+-- a change that makes the whole page, whatever stood there
+abbrev pub IsAnew : LoggedChange → Type 0
+IsAnew (FullPage place bytes) = Unit {0}
+IsAnew (PageStart place kind) = Unit {0}
+IsAnew change = ⊥

@@ -1,6 +1,6 @@
 //! Whether a page takes a change.
 
-ghost use Rattle.std.specs.Prelude.{◌≡◌, ◌<◌, ◌≤◌, true, false};
+ghost use Rattle.std.specs.Prelude.{◌≡◌, ◌↔◌, ◌<◌, ◌≤◌, Some, true, false};
 ghost use Rattle.page_layout.specs.declared.format.TheConstants.{STATUS_ENTRIES};
 ghost use Rattle.page_layout.specs.PageContents.{HasSlot, IsForm, IsPageOf, IsRowOf};
 ghost use Rattle.page_layout.specs.FreeSlots.{slot_count};
@@ -64,7 +64,7 @@ fn is_start(kind: u8, form: &Form) -> bool
     ensures isnt { result ≡ false → IsStart form.now kind → ⊥ }
 {
     match form {
-        Form::Status => false,
+        Form::Status | Form::Index => false,
         Form::Heap { .. } => kind == HEAP,
     }
 }
@@ -76,7 +76,7 @@ fn is_heap(page: &Page, form: &Form) -> bool
 {
     page.known();
     match form {
-        Form::Status => false,
+        Form::Status | Form::Index => false,
         Form::Heap { .. } => kind_of(page) == HEAP,
     }
 }
@@ -89,7 +89,7 @@ fn is_of_statuses(page: &Page, form: &Form) -> bool
     page.known();
     match form {
         Form::Status => kind_of(page) == STATUS,
-        Form::Heap { .. } => false,
+        Form::Heap { .. } | Form::Index => false,
     }
 }
 
@@ -99,15 +99,9 @@ fn is_free(page: &Page, form: &Form, slot: u16) -> bool
     ensures is { result ≡ true → IsFreeSlot form.now page.now slot }
     ensures isnt { result ≡ false → IsFreeSlot form.now page.now slot → ⊥ }
 {
-    if !is_heap(page, form) {
-        return false;
-    }
-    if slot >= slot_count(form) {
-        return false;
-    }
-    match row_at(page, *form, slot) {
-        None => true,
-        Some(_) => false,
+    match use_of(page, form, slot) {
+        Some(used) => !used,
+        None => false,
     }
 }
 
@@ -117,15 +111,28 @@ fn is_used(page: &Page, form: &Form, slot: u16) -> bool
     ensures is { result ≡ true → IsUsedSlot form.now page.now slot }
     ensures isnt { result ≡ false → IsUsedSlot form.now page.now slot → ⊥ }
 {
+    match use_of(page, form, slot) {
+        Some(used) => used,
+        None => false,
+    }
+}
+
+/// Whether the slot of a heap page is in use. None where the page has no such slot.
+fn use_of(page: &Page, form: &Form, slot: u16) -> Option<bool>
+    requires form { IsForm form.now }
+    requires page { IsPageOf form.now page.now }
+    ensures free { IsFreeSlot form.now page.now slot ↔ (result ≡ Some false) }
+    ensures used { IsUsedSlot form.now page.now slot ↔ (result ≡ Some true) }
+{
     if !is_heap(page, form) {
-        return false;
+        return None;
     }
     if slot >= slot_count(form) {
-        return false;
+        return None;
     }
     match row_at(page, *form, slot) {
-        None => false,
-        Some(_) => true,
+        None => Some(false),
+        Some(_) => Some(true),
     }
 }
 

@@ -9,7 +9,7 @@ ghost use Rattle.wal_record.specs.Changes.{logged};
 
 use crate::fitting::{takes, takes_checked};
 use crate::tag::tag_of;
-use page_layout::{Form, Page, free_slot, mark_row, put_row, set_status, start_heap};
+use page_layout::{Form, Page, clear_slot, mark_row, put_row, set_status, start_heap};
 use wal_record::Change;
 
 /// The change of that tag doesn't fit the page.
@@ -23,6 +23,7 @@ pub fn redo(page: &mut Page, change: &Change<'_>, form: Form) -> Result<(), Misf
     requires form { IsForm form }
     ensures fitted { OnOk result (Fits form page.old (logged change.now)) }
     ensures done { OnOk result (Means form page.old (logged change.now) page.new) }
+    ensures passes { OnOk result (IsPageOf form page.new) }
     ensures misfit { IfErr result (λ e. Fits form page.old (logged change.now) → ⊥) }
     ensures tag { IfErr result (λ e. e.tag ≡ slice_index (bytes_of (logged change.now)) 0) }
     ensures same { IfErr result (λ e. page.new ≡ page.old) }
@@ -84,7 +85,7 @@ fn drop_rows(page: &mut Page, form: &Form, least: u32, slots: &[u8])
 {
     if let [high, low, slots @ ..] = slots {
         let slot = u16::from(*high) * 256 + u16::from(*low);
-        free_slot(page, *form, slot);
+        clear_slot(page, *form, slot);
         drop_rows(page, form, u32::from(slot) + 1, slots);
     }
 }

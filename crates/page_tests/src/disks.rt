@@ -120,3 +120,23 @@ fn file_disk_counts_its_faults(rt: HostRuntime) -> Result<(), Fail> {
     fs::remove_file(&rt, "disk")?;
     Ok(())
 }
+
+#[test]
+fn file_disk_writes_and_reads_at_offsets(rt: HostRuntime) -> Result<(), Fail> {
+    let file = OpenOptions::new()
+        .read(true)
+        .write(true)
+        .create(true)
+        .open(&rt, "offsets")?;
+    let mut disk = FileDisk::on(file, 8);
+    disk.write(2, b"xy")?;
+    disk.write(5, b"z")?;
+    let mut pair = [0u8; 2];
+    disk.read(2, &mut pair)?;
+    assert_eq!(rt; pair, *b"xy");
+    let mut one = [0u8; 1];
+    disk.read(5, &mut one)?;
+    assert_eq!(rt; one, *b"z");
+    fs::remove_file(&rt, "offsets")?;
+    Ok(())
+}

@@ -6,8 +6,8 @@ ghost use Rattle.page_layout.specs.PageContents.{HasSlot, IsForm};
 
 use block_model::{Column, Columns, Kind, Kinds, Name, RowId, Table, Value, Values};
 use page_layout::{
-    Form, Page, check, decode_row, encode_row, first_free, free_slots, kind_of, row_at, row_size,
-    slot_count, status_at,
+    Form, Page, check, decode_row, encode_row, first_free, first_free_from, free_slots, kind_of,
+    row_at, row_size, slot_count, status_at, write_row,
 };
 use std::alloc::Global;
 use std::process::Abort;
@@ -217,4 +217,52 @@ fn free_slots_are_those_without_a_row(rt: HostRuntime) {
         Some((0, None))
     );
     assert_eq!(rt; slot_count(&heap()), 2);
+}
+
+/// The lowest free slot from that number on, where the page has no fault.
+fn free_from(page: &Page, form: &Form, from: u16) -> Option<u16>
+    requires { IsForm form.now }
+{
+    match check(page, *form) {
+        Ok(()) => first_free_from(page, *form, from),
+        Err(_) => None,
+    }
+}
+
+#[test]
+fn free_slots_are_looked_for_from_a_slot_on(rt: HostRuntime) {
+    let mut bytes = [0; 8192];
+    bytes[0] = 2;
+    let page = Page::from_bytes(&bytes);
+    assert_eq!(rt; free_from(&page, &heap(), 0), Some(0));
+    assert_eq!(rt; free_from(&page, &heap(), 1), Some(1));
+    assert_eq!(rt; free_from(&page, &heap(), 2), None);
+}
+
+#[test]
+fn a_row_is_written_by_the_form_of_its_page(rt: HostRuntime) {
+    let mut kinds = Kinds::new();
+    kinds.push(Kind::Int);
+    let form = Form::Heap {
+        row: 30,
+        slots: 272,
+        kinds,
+        format: 1,
+    };
+    let mut out = [9; 30];
+    let id = RowId { t: 1, k: 0 };
+    write_row(form, id, 0, &[Value::Int(5)], &mut out);
+    let bytes = [
+        1, 0, 0, 0, 0, 0, 0, 0, 1, 0, 0, 0, 0, 0, 0, 0, 0, 0, 0, 0, 0, 0, 0, 0, 0, 0, 0, 0, 0, 5,
+    ];
+    assert_eq!(rt; out, bytes);
+}
+
+#[test]
+fn no_page_of_an_index_is_started(rt: HostRuntime) {
+    let bytes = [0; 8192];
+    assert_eq!(rt; fault_with(&bytes, 0, 0, Form::Index), None);
+    assert_eq!(rt; fault_with(&bytes, 0, 2, Form::Index), Some(0));
+    assert_eq!(rt; fault_with(&bytes, 0, 5, Form::Index), Some(0));
+    assert_eq!(rt; fault_with(&bytes, 9, 1, Form::Index), Some(9));
 }

@@ -1,12 +1,12 @@
 -- blocks of relations that stand one behind the other
-use Rattle.std.proofs.Common.{◌≡◌, ◌≢◌, ℕ, suc, zero, ◌+◌, ◌-◌, ◌*◌, ◌<◌, ◌≤◌, min, List, [], ◌∷◌, ◌++◌, length, map, take, get_or, sym, ap, ◌∙◌, inl, inr, arith, length-append}
-use Rattle.std.proofs.lemmas.List.{length-map}
+use Rattle.std.proofs.Common.{◌≡◌, ◌≢◌, ℕ, suc, zero, ◌+◌, ◌-◌, ◌*◌, ◌<◌, ◌≤◌, min, List, [], ◌∷◌, ◌++◌, length, map, take, get_or, sym, ap, ◌∙◌, inl, inr, arith}
 use Rattle.std.specs.List.{sum}
 use Rattle.std.proofs.lemmas.List.Sums.{sum_by-cons, sum_by-append}
 use Rattle.std.proofs.Math.Nat.{suc-mul}
 use Rattle.std.proofs.lemmas.Bool.{cases_lt, cases_order}
 use Rattle.block_model.specs.declared.place.Place.{Place}
 use Rattle.store_layout.specs.DiskLayout.{DiskLayout, disk_size, relation_blocks, page_offset, IsPlace, first_offset, HasBoundedSizes, HasSmallPlaces}
+use Rattle.store_layout.specs.RelationCounts.{count_relations}
 use Rattle.store_layout.specs.PagesFillDisk.{PagesFillDisk, AreApart}
 
 sum_cons : (x : ℕ) (xs : List ℕ) → sum (x ∷ xs) ≡ x + sum xs
@@ -78,10 +78,6 @@ front_of_relation d relation k is within =
     rw is
     (sum_cons d.sizes.status_blocks (take k others)
     ∙ ap (λ n. d.sizes.status_blocks + n) (front_of_both d.sizes.heap_blocks d.sizes.index_blocks d.schema.tables d.schema.indexes k within))
-
-pub count_relations : (d : DiskLayout) → length (relation_blocks d) ≡ 1 + (length d.schema.tables + length d.schema.indexes)
-unfolding relation_blocks
-count_relations d = simp (length-append, length-map) (omega arith)
 
 pub all_blocks : (d : DiskLayout) → disk_size d ≡ first_offset d + 8192 * sum (relation_blocks d)
 unfolding disk_size relation_blocks

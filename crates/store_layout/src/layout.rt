@@ -1,6 +1,7 @@
 //! The layout of a store: its tables, indexes and sizes, within their limits, and where its pages stand on the disk.
 
 ghost use Rattle.std.specs.Prelude.{◌≡◌, ◌*◌, ◌^◌, ◌<◌, ◌≤◌, length, sum, take, None, Some, IfOk, IfErr};
+ghost use Rattle.store_layout.specs.declared.layout.TheConstants.{FORMAT};
 ghost use Rattle.store_layout.specs.FirstBrokenRule.{first_broken_rule, KeepsLimits, IsLeastBroken};
 ghost use Rattle.store_layout.specs.DiskLayout.{disk_size, relation_blocks, page_offset, IsPlace, HasBoundedSizes, HasSmallPlaces};
 ghost use Rattle.store_layout.specs.PagesFillDisk.{PagesFillDisk};
@@ -12,6 +13,9 @@ use block_model::{PAGE_SIZE, Place, Schema, Sizes};
 use limits::first_broken_rule;
 use std::marker::Model;
 use thiserror::Error;
+
+/// The format of a store, of which there is one.
+pub const FORMAT: u16 = 1;
 
 /// The number, from 1 to 12, of the first limit that is passed.
 #[derive(Clone, Copy, Debug, Error, PartialEq, Eq)]
@@ -63,6 +67,13 @@ impl Layout {
         ensures { result ≡ self.now.sizes }
     {
         self.sizes
+    }
+
+    /// The number of the format, which its control page names. It is 1.
+    pub fn format(&self) -> u16
+        ensures { result ≡ FORMAT }
+    {
+        FORMAT
     }
 
     /// What the layer above may take as known: every limit is kept.

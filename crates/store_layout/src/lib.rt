@@ -5,4 +5,6 @@
 
 mod layout;
 
-pub use layout::{Layout, OverLimit, pages_fill_the_disk, the_first_broken_rule_is_the_least};
+pub use layout::{
+    FORMAT, Layout, OverLimit, pages_fill_the_disk, the_first_broken_rule_is_the_least,
+};

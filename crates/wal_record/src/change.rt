@@ -3,9 +3,6 @@
 use block_model::{Place, Spot};
 use thiserror::Error;
 
-/// How many bytes a page has.
-pub(crate) const PAGE: usize = 8192;
-
 /// A change of the page at its place. `bytes` and `slots` are borrowed; `slots` holds two bytes per slot, as logged.
 #[derive(Clone, Copy, Debug, PartialEq, Eq)]
 pub enum Change<'a> {

@@ -5,9 +5,9 @@ ghost use Rattle.wal_record.specs.Changes.{LoggedChange, IsChange, logged};
 ghost use Rattle.wal_record.specs.ChangeBytes.{IsFront, bytes_of, fault_place};
 ghost use Rattle.wal_record.specs.Reading.{Gives, one_byte, number_at, part_at, place_at, spot_at, counted_at, slots_at, put_bytes_at, map_change_at, tuple_change_at, row_change_at, page_change_at, change_at};
 
-use crate::change::{Change, Malformed, PAGE};
+use crate::change::{Change, Malformed};
 use crate::tag;
-use block_model::{Place, Spot};
+use block_model::{PAGE_SIZE, Place, Spot};
 use byte_fields::{get_u16, get_u32, get_u64};
 
 /// The change that begins the bytes, and how many bytes it takes. It borrows from the bytes.
@@ -58,7 +58,7 @@ fn page_change_of(tag: u8, place: Place, bytes: &[u8]) -> Option<(Change<'_>, &[
 {
     match tag {
         tag::FULL_PAGE => {
-            let (page, rest) = part_of(bytes, PAGE)?;
+            let (page, rest) = part_of(bytes, PAGE_SIZE)?;
             Some((Change::FullPage { place, bytes: page }, rest))
         }
         tag::PAGE_START => {

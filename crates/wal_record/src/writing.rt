@@ -6,9 +6,9 @@ ghost use Rattle.std.specs.Int.{bytes_high_first};
 ghost use Rattle.wal_record.specs.Changes.{AreSlots, HasSizes, IsChange, logged};
 ghost use Rattle.wal_record.specs.ChangeBytes.{IsWritten, bytes_of, counted_slots, put_bytes, spot_bytes, tagged};
 
-use crate::change::{Change, PAGE};
+use crate::change::Change;
 use crate::tag;
-use block_model::{Place, Spot};
+use block_model::{PAGE_SIZE, Place, Spot};
 use byte_fields::{put_u16, put_u32, put_u64};
 
 /// How many bytes the tag and the place have.
@@ -21,7 +21,7 @@ pub fn size(change: &Change<'_>) -> usize
     ensures { result ≡ length (bytes_of (logged change.now)) }
 {
     match change {
-        Change::FullPage { .. } => HEAD + PAGE,
+        Change::FullPage { .. } => HEAD + PAGE_SIZE,
         Change::PageStart { .. } => HEAD + 1,
         Change::RowPut { bytes, .. } => HEAD + 4 + bytes.len(),
         Change::RowMark { .. } => HEAD + 10,

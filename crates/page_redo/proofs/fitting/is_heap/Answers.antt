@@ -1,6 +1,6 @@
 use Rattle.std.proofs.Common.{◌∙◌}
 use Rattle.std.proofs.lemmas.Bool.{eqb-false}
-use Rattle.page_layout.proofs.FreeSlots.{heap_front}
+use Rattle.page_layout.specs.SlotLaws.{heap_front}
 use Rattle.page_redo.proofs.fitting.is_heap.Goals as goal
 
 pub returns-in-Heap-clause-isnt : goal.returns-in-Heap-clause-isnt

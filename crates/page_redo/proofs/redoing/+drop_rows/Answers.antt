@@ -19,4 +19,4 @@ returns-in-len2-up t c = λ list has.
     let slots = c.args.slots.now in
     let rest = take_all (length slots - 2) (drop 2 slots) (omega (arith, length-drop 2 slots)) in
     let same = (λ i. dropped (set list (c.from.ensures i * 256 + c.from-in-len2-up.ensures i) None) (rest i)) ∙ dropped-rest list slots c.in-len2-up.len_at_least in
-    subst (HasSlots c.args.form.now c.drop_rows.new.page) same (c.drop_rows.ensures (set list (c.from.result * 256 + c.from-in-len2-up.result) None) (c.free_slot.ensures.freed list has))
+    subst (HasSlots c.args.form.now c.drop_rows.new.page) same (c.drop_rows.ensures (set list (c.from.result * 256 + c.from-in-len2-up.result) None) (c.clear_slot.ensures.freed list has))

@@ -15,12 +15,12 @@ module _ (seen disk : Recording) (is : seen ≡ disk) (at : ℕ) (bytes : List �
 
 pub returns-then-fails-clause-images : goal.returns-then-fails-clause-images
 returns-then-fails-clause-images c =
-    write_follows c.args.self.now (record { contents = c.record_write.new.held.items; past = c.record_write.new.past; calls = c.fault-then-fails.new.self }) c.args.at c.args.bytes.now c.requires
+    write_follows c.args.self.now (record { contents = c.record_write.new.held.items; past = c.record_write.new.past; calls = c.count_fault-then-fails.new.self }) c.args.at c.args.bytes.now c.requires
     (contents_of _ _ c.self.view_is c.args.at c.args.bytes.now _ c.if-not-record_write.ensures.written) (past_of _ _ c.self.view_is c.args.at c.args.bytes.now _ c.if-not-record_write.ensures.recorded)
 
 pub returns-then-fails-clause-moments : goal.returns-then-fails-clause-moments
 returns-then-fails-clause-moments c =
-    write_goes_on c.args.self.now (record { contents = c.record_write.new.held.items; past = c.record_write.new.past; calls = c.fault-then-fails.new.self }) c.args.at c.args.bytes.now c.requires
+    write_goes_on c.args.self.now (record { contents = c.record_write.new.held.items; past = c.record_write.new.past; calls = c.count_fault-then-fails.new.self }) c.args.at c.args.bytes.now c.requires
     (contents_of _ _ c.self.view_is c.args.at c.args.bytes.now _ c.if-not-record_write.ensures.written) (past_of _ _ c.self.view_is c.args.at c.args.bytes.now _ c.if-not-record_write.ensures.recorded)
 
 pub returns-clause-images : goal.returns-clause-images

@@ -1,7 +1,8 @@
 use Rattle.std.proofs.Common.{◌≡◌, ℕ, ◌+◌, ◌-◌, ◌≤◌, suc, min, length, ap, sym, arith}
 use Rattle.block_model.specs.declared.schema.Schema.{Schema}
 use Rattle.block_model.specs.declared.schema.Sizes.{Sizes}
-use Rattle.store_layout.proofs.DiskPlaces.{count_relations, front_of_relation}
+use Rattle.store_layout.specs.RelationCounts.{count_relations}
+use Rattle.store_layout.proofs.DiskPlaces.{front_of_relation}
 use Rattle.store_layout.proofs.layout.Layout.blocks_before.Goals as goal
 
 pub blocks_of-requires-2 : goal.blocks_of-requires-2

@@ -1,14 +1,11 @@
 use Rattle.std.proofs.Common.{◌+◌, ◌-◌, ◌≤◌, ℕ, List, length, ◌++◌, refl, ap, ◌∙◌, arith}
-use Rattle.std.proofs.lemmas.List.{length-map}
-use Rattle.block_model.specs.declared.value.Kind.{Kind}
-use Rattle.block_model.specs.declared.schema.Column.{Column}
 use Rattle.page_layout.specs.RowBytes.{head_bytes, columns_bytes, row_bytes}
 use Rattle.page_layout.proofs.Columns.{length-have}
 use Rattle.page_layout.proofs.Written.{all_next}
-use Rattle.page_layout.proofs.row.encode_row.Goals as goal
+use Rattle.page_layout.proofs.row.fill_row.Goals as goal
 
 pub null_bits-requires : goal.null_bits-requires
-null_bits-requires c = omega (arith, length-have _ c.args.values.now c.requires.kinds, length-map {A = Column} {B = Kind})
+null_bits-requires c = omega (arith, length-have _ c.args.values.now c.requires.kinds, c.requires.columns)
 
 pub returns-clause-written : goal.returns-clause-written
 unfolding head_bytes row_bytes
@@ -19,4 +16,4 @@ returns-clause-written c =
     let long : length old ≤ 22 + (length out - 22) = omega (arith, c.write_head.auto.out) in
     all_next old out front c.write_columns.new.out 22 (length out - 22) c.write_head.ensures.written refl long
     ∙ ap (λ (l : List ℕ). front ++ l) c.write_columns.ensures.written
-    ∙ (λ i. head_bytes c.args.id c.args.deleter (c.null_bits.ensures.bits i) ++ columns_bytes ((c.as_slice.ensures.kinds ∙ c.kinds_of-kinds.ensures) i) c.args.values.now)
+    ∙ (λ i. head_bytes c.args.id c.args.deleter (c.null_bits.ensures.bits i) ++ columns_bytes c.args.kinds.now c.args.values.now)

@@ -1,5 +1,5 @@
 use Rattle.page_layout.proofs.Writes.{free_by}
-use Rattle.page_layout.proofs.writers.free_slot.Goals as goal
+use Rattle.page_layout.proofs.writers.clear_slot.Goals as goal
 
 pub returns-in-Heap : goal.returns-in-Heap
 returns-in-Heap c = record {
