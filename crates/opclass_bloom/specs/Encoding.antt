@@ -1,5 +1,5 @@
 -- the bytes of a summary
-use Rattle.std.specs.Prelude.{ℕ, ◌+◌, ◌*◌, ◌/◌, min, Bool, if◌then◌else◌, List, [], ◌∷◌}
+use Rattle.std.specs.Prelude.{ℕ, ◌+◌, ◌*◌, ◌/◌, min, Bool, if◌then◌else◌, List, [], ◌∷◌, length}
 use Rattle.opclass_bloom.specs.Parameters.{Parameters}
 
 -- bits as a number, the lowest first
@@ -16,6 +16,6 @@ bytes_of s = []
 abbrev pub size_of : Parameters → ℕ
 size_of p = p.bits / 8
 
--- where bytes of another length are out of form: at their end, or at the first byte too many
-abbrev pub fault_place : Parameters → ℕ → ℕ
-fault_place p size = min size (size_of p)
+-- where bytes of another length go wrong: at their end, or at the first byte too many
+abbrev pub fault_place : Parameters → List ℕ → ℕ
+fault_place p bytes = min (length bytes) (size_of p)

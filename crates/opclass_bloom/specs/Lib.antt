@@ -2,6 +2,7 @@ pub mod Bits
 pub mod Consistent
 pub mod Encoding
 pub mod ExactSummary
+pub mod Included
 pub mod Includes
 pub mod Kept
 pub mod Mixing

@@ -1,10 +1,12 @@
 //! Summaries of networks as bytes.
 
-ghost use Rattle.std.specs.Prelude.{◌≡◌, ◌≤◌, ◌-◌, ◌%◌, ◌^◌, ◌==◌, ◌++◌, not, None, Some, IfOk, MatchResult, length, drop};
+ghost use Rattle.std.specs.Prelude.{◌≡◌, ◌≤◌, ◌-◌, ◌%◌, ◌^◌, ◌==◌, ◌++◌, if◌then◌else◌, nat_lt, not, None, Some, IfErr, IfOk, MatchResult, length, drop};
+ghost use Rattle.byte_fields.specs.Fields.{field_at, number_of, put_at};
 ghost use Rattle.opclass_inclusion.specs.NetEncoding.{bytes_of, field_bytes, fields_of};
-ghost use Rattle.opclass_inclusion.specs.NetFaults.{fault_in, field_fault, fields_in};
+ghost use Rattle.opclass_inclusion.specs.NetFaults.{fault_in, field_end, field_fault, fields_in};
 ghost use Rattle.opclass_inclusion.specs.NetHulls.{IsSummary};
 
+use crate::fields::{byte_at, field_fault};
 use crate::net_summary::{NetSummary, V4_BITS, v4_address};
 use block_model::Net;
 use byte_fields::{get_u32, put_u32};
@@ -80,26 +82,48 @@ fn without_network(flags: u8) -> NetFields
 /// The summary that the bytes encode. `Err` exactly where they encode none.
 pub(crate) fn read(bytes: &[u8]) -> Result<NetSummary, Malformed>
     ensures found { IfOk result (λ s. IsSummary s × (bytes.now ≡ bytes_of s)) }
-    ensures place { MatchResult result (λ s. fault_in bytes.now ≡ None) (λ e. fault_in bytes.now ≡ Some e.at) }
+    ensures fault { MatchResult result (λ s. fault_in bytes.now ≡ None) (λ e. fault_in bytes.now ≡ Some e.at) }
+    ensures within { IfErr result (λ e. e.at ≤ length bytes.now) }
 {
+    let summary = match summary_in(&fields_in(bytes)) {
+        Ok(summary) => summary,
+        Err(fault) => return Err(field_fault(fault.at, field_end(fault.at), bytes.len())),
+    };
     if bytes.len() != SIZE {
         return Err(Malformed {
             at: bytes.len().min(SIZE),
         });
     }
-    summary_in(&fields_in(bytes))
+    Ok(summary)
 }
 
+fn field_end(at: usize) -> usize
+    ensures { result ≡ field_end at }
+{
+    if at == ADDRESS_AT { SIZE } else { at + 1 }
+}
+
+/// The fields; one that isn't whole counts as 0.
 fn fields_in(bytes: &[u8]) -> NetFields
-    requires { length bytes.now ≡ 7 }
     ensures fields { result ≡ fields_in bytes.now }
-    ensures whole { bytes.now ≡ field_bytes result }
+    ensures whole { length bytes.now ≡ 7 → bytes.now ≡ field_bytes result }
 {
     NetFields {
-        flags: bytes[FLAGS_AT],
-        family: bytes[FAMILY_AT],
-        prefix: bytes[PREFIX_AT],
-        address: get_u32(bytes, ADDRESS_AT),
+        flags: byte_at(bytes, FLAGS_AT),
+        family: byte_at(bytes, FAMILY_AT),
+        prefix: byte_at(bytes, PREFIX_AT),
+        address: address_in(bytes),
+    }
+}
+
+fn address_in(bytes: &[u8]) -> u32
+    ensures address { result ≡ (if nat_lt (length bytes.now) 7 then 0 else number_of (field_at bytes.now 3 4)) }
+    ensures again { 7 ≤ length bytes.now → put_at bytes.now 3 4 result ≡ bytes.now }
+{
+    if bytes.len() < SIZE {
+        0
+    } else {
+        get_u32(bytes, ADDRESS_AT)
     }
 }
 

@@ -9,22 +9,15 @@ use Rattle.std.proofs.lemmas.List.{append-nil, take_at, drop_at, drop-drop, take
 use Rattle.std.proofs.lemmas.List.Sums.{sum_by-cons}
 use borrow.Author.Gap.{read_sfits}
 use Rattle.byte_fields.specs.Fields.{AreBytes, field_at, number_of, number-fits, number-bytes, bytes-number, length-field, length-number}
+use Rattle.byte_fields.specs.Int8.{int8_bytes, length-int8, number_back}
 use Rattle.opclass_multi.specs.declared.element.Element.{Element}
 use Rattle.opclass_multi.specs.Elements.{point, IsOrdered, StartsAfter, AreApart, weight, count_of}
-use Rattle.opclass_multi.specs.Encoding.{int8_bytes, element_bytes, size_of, elements_bytes}
+use Rattle.opclass_multi.specs.Encoding.{element_bytes, size_of, elements_bytes}
 use Rattle.opclass_multi.specs.Reading.{number_at, is_above, point_in, interval_in, element_in, behind, read_on, elements_in, counted_in, read_of}
 use Rattle.opclass_multi.proofs.Reducing.{count_least, weight_bounds}
-use Rattle.opclass_multi.proofs.Writing.{length-int8, interval_bytes, point_bytes, interval_size, point_size, by_width, length-element}
+use Rattle.opclass_multi.proofs.Writing.{interval_bytes, point_bytes, interval_size, point_size, by_width, length-element}
 
 -- ---- what was written is read again
-unsigned_small : (z : ℤ) → FitsSigned w64 z → cast_unsigned w64 z < 256 ^ 8
-unsigned_small (pos n) fits = omega (arith, fits.sfits)
-unsigned_small (negsuc n) fits = omega arith
-
-number_back : (z : ℤ) → FitsSigned w64 z → cast_signed w64 (number_of (int8_bytes z)) ≡ z
-unfolding int8_bytes
-number_back z fits = ap (cast_signed w64) (number-bytes 8 (cast_unsigned w64 z) (unsigned_small z fits)) ∙ to_z-of_z w64 z fits
-
 front_number : (z : ℤ) (rest : List ℕ) → FitsSigned w64 z → number_at (int8_bytes z ++ rest) 0 ≡ z
 unfolding number_at
 front_number z rest fits = ap (λ (bytes : List ℕ). cast_signed w64 (number_of bytes)) (take_at (int8_bytes z) rest 8 (length-int8 z)) ∙ number_back z fits

@@ -61,3 +61,11 @@ counted_in limit n bytes = if nat_lt limit n then Err 0 else behind 2 [] (elemen
 -- the elements that the bytes encode within the limit
 abbrev pub read_of : ℕ → List ℕ → Result (List Element) ℕ
 read_of limit bytes = if nat_lt (length bytes) 2 then Err (length bytes) else counted_in limit (number_of (field_at bytes 0 2)) (drop 2 bytes)
+
+-- where they go wrong, if they do
+abbrev pub place_of : Result (List Element) ℕ → ℕ
+place_of (Ok es) = 0
+place_of (Err at) = at
+
+abbrev pub fault_place : ℕ → List ℕ → ℕ
+fault_place limit bytes = place_of (read_of limit bytes)

@@ -16,7 +16,8 @@ use std::alloc::Global;
 use std::marker::Model;
 
 /// Points and intervals in ascending order, no two with a common number, that count at most a limit: a point 1, an
-/// interval 2. It has room for the elements of two summaries.
+/// interval 2. Its room is for the elements of two summaries and one more, from its making on: no call takes or gives back
+/// memory.
 #[derive(Debug, Drop)]
 pub struct Summary {
     limit: u16,
@@ -28,12 +29,12 @@ impl Model for Summary {
 
     ghost Value = { Kept };
 
-    ghost use Rattle.std.specs.Prelude.{◌<◌, ◌*◌, vec_capacity};
+    ghost use Rattle.std.specs.Prelude.{◌≡◌, ◌+◌, ◌*◌, vec_capacity};
     ghost use Rattle.opclass_multi.specs.Kept.{IsLimit, IsSummary};
 
     ghost view = { λ a. record { limit = a.limit; elements = a.elements.items } };
 
-    ghost invariant = { λ a. IsLimit a.limit × IsSummary a.limit (record { limit = a.limit; elements = a.elements.items }) × (2 * a.limit < vec_capacity a.elements) };
+    ghost invariant = { λ a. IsLimit a.limit × IsSummary a.limit (record { limit = a.limit; elements = a.elements.items }) × (vec_capacity a.elements ≡ 2 * a.limit + 1) };
 }
 
 impl Summary {
@@ -111,6 +112,7 @@ impl Summary {
         ensures again { (s : Kept) → IsSummary self.old.limit s → bytes.now ≡ bytes_of s → IsOk result × (self.new ≡ s) }
         ensures unchanged { OnErr result (self.new ≡ self.old) }
         ensures place { IfErr result (λ e. read_of self.old.limit bytes.now ≡ Err e.at) }
+        ensures within { IfErr result (λ e. e.at ≤ length bytes.now) }
     {
         read(bytes, usize::from(self.limit), &mut self.elements)
     }

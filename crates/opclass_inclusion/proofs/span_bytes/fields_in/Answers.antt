@@ -1,7 +1,7 @@
 use Rattle.std.proofs.Common.{rules, FitsSigned, get_or, sym, ◌∷◌, ◌++◌, ◌∙◌}
 use Rattle.std.proofs.lemmas.Int.{to_z-of_z}
 use Rattle.std.specs.Int.{w64}
-use Rattle.opclass_inclusion.specs.SpanEncoding.{int8_bytes}
+use Rattle.byte_fields.specs.Int8.{int8_bytes}
 use Rattle.opclass_inclusion.proofs.SpanReading.{bytes_again}
 use Rattle.opclass_inclusion.proofs.span_bytes.fields_in.Goals as goal
 
