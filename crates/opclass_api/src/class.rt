@@ -1,6 +1,6 @@
 //! The trait of operator classes.
 
-ghost use Rattle.std.specs.Prelude.{◌≡◌, ◌≢◌, ◌<◌, ◌≤◌, ◌++◌, ◌⊎◌, ◌↔◌, ℕ, Bool, true, false, List, [], length, drop, fold, OnOk, OnErr, IfOk, IfErr, IsOk};
+ghost use Rattle.std.specs.Prelude.{◌≡◌, ◌≢◌, ◌<◌, ◌≤◌, ◌++◌, ◌⊎◌, ◌↔◌, ℕ, Bool, true, false, List, [], length, drop, fold, Result, Ok, Err, OnOk, OnErr, IfOk, IfErr, IsOk, MatchResult};
 ghost use Rattle.block_model.specs.declared.value.Value.{Value};
 ghost use Rattle.block_model.specs.declared.row.Cond.{Cond};
 ghost use Rattle.opclass_api.specs.Conditions.{AllCompare, meets_all, has_null_key};
@@ -55,8 +55,8 @@ pub trait OpClass {
     /// The bytes of a summary.
     ghost bytes_of: { Self → Self.Summary → List ℕ };
 
-    /// Where bytes that encode no summary go wrong.
-    ghost fault_place: { Self → List ℕ → ℕ };
+    /// The summary that bytes encode, or where they go wrong.
+    ghost read_of: { Self → List ℕ → Result Self.Summary ℕ };
 
     /// How many bytes a summary has at most.
     ghost greatest_size: { Self → ℕ };
@@ -116,13 +116,14 @@ pub trait OpClass {
         ensures found { OnOk result (bytes.now ≡ bytes_of self.now into.new) }
         ensures again { (s : Self.Summary) → is_of self.now s → bytes.now ≡ bytes_of self.now s → IsOk result × (into.new ≡ s) }
         ensures unchanged { OnErr result (into.new ≡ into.old) }
-        ensures place { IfErr result (λ fault. fault.at ≡ fault_place self.now bytes.now) }
+        ensures read { MatchResult result (λ ok. read_of self.now bytes.now ≡ Ok into.new) (λ fault. read_of self.now bytes.now ≡ Err fault.at) }
         ensures within { IfErr result (λ fault. fault.at ≤ length bytes.now) };
 
-    /// How many bytes a summary has at most.
+    /// How many bytes a summary has at most. No two summaries have the same bytes.
     fn greatest_size(&self) -> usize
         ensures size { result ≡ greatest_size self.now }
-        ensures bound { (s : Self.Summary) → is_of self.now s → length (bytes_of self.now s) ≤ greatest_size self.now };
+        ensures bound { (s : Self.Summary) → is_of self.now s → length (bytes_of self.now s) ≤ greatest_size self.now }
+        ensures read_again { (s : Self.Summary) → is_of self.now s → read_of self.now (bytes_of self.now s) ≡ Ok s };
 
     /// The test of included values says what `includes` does.
     ghost tested: { (class : Self) (s : Self.Summary) (v : Value) → (is_included class s v ≡ true) ↔ includes class s v };

@@ -8,3 +8,4 @@ pub mod Kept
 pub mod Mixing
 pub mod Parameters
 pub mod Positions
+pub mod Reading

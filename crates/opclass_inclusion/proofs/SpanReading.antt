@@ -1,6 +1,6 @@
 -- the bytes of a summary of ranges, written and read
-use Rattle.std.proofs.Common.{◌≡◌, ℕ, ℤ, pos, ◌+◌, ◌≤◌, Bool, true, false, Option, None, Some, List, [], ◌∷◌, ◌++◌, length, drop, set, get_or, refl, sym, ap, subst, ◌∙◌, arith, length-append}
-use Rattle.std.specs.Prelude.{FitsSigned, ◌==◌, nat_lt, ◌||◌, if◌then◌else◌}
+use Rattle.std.proofs.Common.{◌≡◌, ℕ, ℤ, pos, ◌+◌, ◌≤◌, Bool, true, false, Option, None, Some, Ok, List, [], ◌∷◌, ◌++◌, length, drop, set, get_or, refl, sym, ap, subst, ◌∙◌, arith, length-append}
+use Rattle.std.specs.Prelude.{FitsSigned, nat_lt, if◌then◌else◌}
 use Rattle.std.proofs.lemmas.Bool.{cond-false, le-ltb}
 use Rattle.std.proofs.lemmas.List.{drop_at, drop-drop, append-nil}
 use Rattle.std.proofs.Math.ListN.{drop_of_length-le}
@@ -10,9 +10,10 @@ use Rattle.byte_fields.specs.Fields.{number_of, put_at, field_at}
 use Rattle.byte_fields.specs.Int8.{int8_at, int8_bytes, length-int8, number_in}
 use Rattle.block_model.specs.Ranges.{Range, Empty, Between, IsRange, lower_of, upper_of}
 use Rattle.opclass_inclusion.specs.SpanEncoding.{bytes_of, field_bytes, fields_of, number_of_bound}
-use Rattle.opclass_inclusion.specs.Faults.{placed}
+use Rattle.opclass_inclusion.specs.Faults.{placed, read_unless}
 use Rattle.opclass_inclusion.specs.SpanFaults.{fault_in, field_end, field_fault, fields_in}
 use Rattle.opclass_inclusion.specs.SpanHulls.{BoundFits, IsSummary}
+use Rattle.opclass_inclusion.specs.SpanReading.{from_fields, read_of}
 use Rattle.opclass_inclusion.specs.declared.span_bytes.SpanFields.{SpanFields}
 use Rattle.opclass_inclusion.specs.declared.span_summary.SpanSummary.{SpanSummary}
 
@@ -118,17 +119,8 @@ pub faulty : (bytes : List ℕ) (at : ℕ) → fault_in bytes ≡ Some at → (s
 unfolding is_none
 faulty bytes at fault s lawful is = subst is_none (sym (no_fault bytes s lawful is) ∙ fault) tt
 
--- the summary of fields in form
-from_fields : SpanFields → SpanSummary
-from_fields f = record {
-  empty_added = (f.flags == 1) || (f.flags == 3);
-  hull =
-      if nat_lt f.flags 2 then Empty
-      else Between (if (f.shape == 2) || (f.shape == 6) then None else Some f.lower) (if (f.shape == 4) || (f.shape == 6) then None else Some f.upper);
-}
-
+-- the summary of its own fields
 from_its_fields : (e : Bool) (u : Range) → from_fields (fields_of (record { empty_added = e; hull = u })) ≡ record { empty_added = e; hull = u }
-unfolding from_fields
 from_its_fields true Empty = refl
 from_its_fields false Empty = refl
 from_its_fields true (Between None None) = refl
@@ -139,6 +131,13 @@ from_its_fields true (Between None (Some h)) = refl
 from_its_fields false (Between None (Some h)) = refl
 from_its_fields true (Between (Some l) (Some h)) = refl
 from_its_fields false (Between (Some l) (Some h)) = refl
+
+-- bytes that were written are read again
+pub read_again : (s : SpanSummary) → IsSummary s → read_of (bytes_of s) ≡ Ok s
+read_again s lawful =
+    ap (λ (fault : Option ℕ). read_unless fault (from_fields (fields_in (bytes_of s)))) (no_fault (bytes_of s) s lawful refl)
+    ∙ ap (λ (f : SpanFields). Ok (from_fields f)) (fields_read s lawful)
+    ∙ ap Ok (from_its_fields s.empty_added s.hull)
 
 -- no two summaries have the same bytes
 pub one_meaning : (s t : SpanSummary) (bytes : List ℕ) → IsSummary s → IsSummary t → bytes ≡ bytes_of s → bytes ≡ bytes_of t → s ≡ t

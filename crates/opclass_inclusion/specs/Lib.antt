@@ -6,6 +6,7 @@ pub mod NetFaults
 pub mod NetHulls
 pub mod NetIncluded
 pub mod NetIncludes
+pub mod NetReading
 pub mod SpanConsistent
 pub mod SpanEncoding
 pub mod SpanExact
@@ -13,3 +14,4 @@ pub mod SpanFaults
 pub mod SpanHulls
 pub mod SpanIncluded
 pub mod SpanIncludes
+pub mod SpanReading

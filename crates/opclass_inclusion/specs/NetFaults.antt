@@ -1,7 +1,7 @@
 -- which bytes encode no summary of networks, and where the fault is
 use Rattle.std.specs.Prelude.{ℕ, suc, ◌-◌, ◌%◌, ◌^◌, nat_lt, nat_le, ◌==◌, Bool, not, if◌then◌else◌, List, length, slice_index, Option, None, Some}
 use Rattle.byte_fields.specs.Fields.{field_at, number_of}
-use Rattle.opclass_inclusion.specs.Faults.{place_of, placed}
+use Rattle.opclass_inclusion.specs.Faults.{placed}
 use Rattle.opclass_inclusion.specs.declared.net_bytes.NetFields.{NetFields}
 
 -- flags say one thing at most
@@ -43,6 +43,3 @@ fields_in bytes = record {
 -- the first field out of form of 7 bytes
 abbrev pub fault_in : List ℕ → Option ℕ
 fault_in bytes = placed (length bytes) 7 field_end (field_fault (fields_in bytes))
-
-abbrev pub fault_place : List ℕ → ℕ
-fault_place bytes = place_of (fault_in bytes)

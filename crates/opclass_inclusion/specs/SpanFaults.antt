@@ -3,7 +3,7 @@ use Rattle.std.specs.Prelude.{◌≡◌, ℕ, suc, pos, nat_lt, nat_le, int_lt, 
 use Rattle.std.specs.Ordering.{int_eq}
 use Rattle.byte_fields.specs.Int8.{int8_at}
 use Rattle.block_model.specs.Ranges.{Range, lower_of, upper_of}
-use Rattle.opclass_inclusion.specs.Faults.{place_of, placed}
+use Rattle.opclass_inclusion.specs.Faults.{placed}
 use Rattle.opclass_inclusion.specs.SpanEncoding.{number_of_bound, shape_of}
 use Rattle.opclass_inclusion.specs.SpanHulls.{is_empty}
 use Rattle.opclass_inclusion.specs.declared.span_bytes.SpanFields.{SpanFields}
@@ -69,6 +69,3 @@ pub record IsHullIn (f : SpanFields) (r : Range) : Type 0 where
 -- the first field out of form of 18 bytes
 abbrev pub fault_in : List ℕ → Option ℕ
 fault_in bytes = placed (length bytes) 18 field_end (field_fault (fields_in bytes))
-
-abbrev pub fault_place : List ℕ → ℕ
-fault_place bytes = place_of (fault_in bytes)

@@ -1,14 +1,14 @@
 //! The class of networks under the trait.
 
-ghost use Rattle.std.specs.Prelude.{◌≡◌, ◌≤◌, length, refl, None, Some, OnOk, OnErr, IsOk, IsOkAnd, IfErr, MatchResult};
+ghost use Rattle.std.specs.Prelude.{◌≡◌, ◌≤◌, length, refl, Ok, Err, OnOk, OnErr, IsOk, IsOkAnd, IfErr, MatchResult};
 ghost use Rattle.block_model.specs.declared.value.Value.{Value};
 ghost use Rattle.opclass_inclusion.specs.NetConsistent.{consistent};
 ghost use Rattle.opclass_inclusion.specs.NetEncoding.{bytes_of};
 ghost use Rattle.opclass_inclusion.specs.NetExact.{summary_of};
-ghost use Rattle.opclass_inclusion.specs.NetFaults.{fault_in, fault_place};
 ghost use Rattle.opclass_inclusion.specs.NetIncluded.{tested};
 ghost use Rattle.opclass_inclusion.specs.NetHulls.{IsSummary, united, with_value};
 ghost use Rattle.opclass_inclusion.specs.NetIncludes.{Includes, IsNet, is_included};
+ghost use Rattle.opclass_inclusion.specs.NetReading.{read_of};
 ghost use Rattle.opclass_inclusion.specs.declared.net_summary.NetSummary.TheVariants.{NothingYet};
 
 use crate::net_bytes::{SIZE, read, write};
@@ -51,7 +51,7 @@ impl OpClass for NetHull {
 
     ghost bytes_of = { λ class. bytes_of };
 
-    ghost fault_place = { λ class. fault_place };
+    ghost read_of = { λ class. read_of };
 
     ghost greatest_size = { λ class. 7 };
 
@@ -92,9 +92,8 @@ impl OpClass for NetHull {
         ensures found { OnOk result (bytes.now ≡ bytes_of into.new) }
         ensures again { (s : NetSummary) → IsSummary s → bytes.now ≡ bytes_of s → IsOk result × (into.new ≡ s) }
         ensures unchanged { OnErr result (into.new ≡ into.old) }
-        ensures place { IfErr result (λ e. e.at ≡ fault_place bytes.now) }
+        ensures read { MatchResult result (λ ok. read_of bytes.now ≡ Ok into.new) (λ e. read_of bytes.now ≡ Err e.at) }
         ensures within { IfErr result (λ e. e.at ≤ length bytes.now) }
-        ensures fault { MatchResult result (λ ok. fault_in bytes.now ≡ None) (λ e. fault_in bytes.now ≡ Some e.at) }
     {
         *into = read(bytes)?;
         Ok(())

@@ -2,13 +2,15 @@
 use Rattle.std.proofs.Common.{◌≡◌, ℕ, ℤ, ◌+◌, ◌≤◌, ◌≤ℤ◌, ◌<ℤ◌, ◌<◌, List, [], ◌++◌, length, drop, refl, sym, ap, ◌∙◌, arith, length-append}
 use Rattle.std.proofs.lemmas.List.{take_at, drop_at, drop-drop, append-nil}
 use Rattle.std.proofs.Math.ListN.{drop_of_length-le}
-use Rattle.std.specs.Prelude.{FitsSigned}
+use Rattle.std.specs.Prelude.{FitsSigned, ◌==◌, nat_lt, int_lt, false, Ok}
+use Rattle.std.proofs.lemmas.Bool.{cond-false}
 use Rattle.std.specs.Int.{w64, cast_unsigned, cast_signed, int_min, int_max}
 use Rattle.std.proofs.lemmas.Int.{to_z-of_z, ints}
 use Rattle.byte_fields.specs.Fields.{number_of, put_at, field_at}
-use Rattle.byte_fields.specs.Int8.{int8_bytes, length-int8, number_in}
+use Rattle.byte_fields.specs.Int8.{int8_at, int8_bytes, length-int8, number_in}
 use Rattle.opclass_minmax.specs.Bounds.{Bounds, NothingYet, Between, IsSummary, IsOrdered, widened}
 use Rattle.opclass_minmax.specs.Encoding.{bytes_of}
+use Rattle.opclass_minmax.specs.Reading.{both_in, read_of}
 
 pub length-between : (l g : ℤ) → length (bytes_of (Between l g)) ≡ 16
 length-between l g = length-append (int8_bytes l) (int8_bytes g) ∙ omega (arith, length-int8 l, length-int8 g)
@@ -90,6 +92,21 @@ one_meaning (Between l g) (Between low high) bytes first second is was =
     let least : l ≡ low = sym (first_read l g bytes first is) ∙ first_read low high bytes second was in
     let greatest : g ≡ high = sym (second_read l g bytes first is) ∙ second_read low high bytes second was in
     rw (least, greatest) refl
+
+-- bytes that were written are read again
+pub read_again : (s : Bounds) → IsSummary s → read_of (bytes_of s) ≡ Ok s
+read_again NothingYet lawful = refl
+read_again (Between l g) lawful =
+    let bytes = bytes_of (Between l g) in
+    let size = length-between l g in
+    let least : int8_at bytes 0 ≡ l = first_read l g bytes lawful refl in
+    let greatest : int8_at bytes 8 ≡ g = second_read l g bytes lawful refl in
+    let order : int_lt g l ≡ false = (let below : l ≤ℤ g = lawful.in_order in grind (arith, ints)) in
+    cond-false (length bytes == 0) (Ok NothingYet) (both_in bytes) (ap (λ (n : ℕ). n == 0) size)
+    ∙ cond-false (nat_lt (length bytes) 16) _ _ (ap (λ (n : ℕ). nat_lt n 16) size)
+    ∙ cond-false (int_lt (int8_at bytes 8) (int8_at bytes 0)) _ _ ((λ i. int_lt (greatest i) (least i)) ∙ order)
+    ∙ cond-false (nat_lt 16 (length bytes)) _ _ (ap (λ (n : ℕ). nat_lt 16 n) size)
+    ∙ (λ i. Ok (Between (least i) (greatest i)))
 
 -- widened bounds have bytes
 pub widened_has_bytes : (s : Bounds) (low high : ℤ) → 0 < length (bytes_of (widened s low high))

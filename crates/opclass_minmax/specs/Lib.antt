@@ -5,3 +5,4 @@ pub mod ExactSummary
 pub mod Included
 pub mod Includes
 pub mod Kept
+pub mod Reading

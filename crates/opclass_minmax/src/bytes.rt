@@ -1,8 +1,9 @@
 //! Summaries as bytes.
 
-ghost use Rattle.std.specs.Prelude.{◌≡◌, ◌≤◌, ◌++◌, length, drop, IfErr, IfOk, IsErr};
+ghost use Rattle.std.specs.Prelude.{◌≡◌, ◌≤◌, ◌++◌, length, drop, Ok, Err, IfErr, IfOk, IsErr, MatchResult};
 ghost use Rattle.opclass_minmax.specs.Bounds.{Bounds, IsSummary};
-ghost use Rattle.opclass_minmax.specs.Encoding.{bytes_of, fault_place};
+ghost use Rattle.opclass_minmax.specs.Encoding.{bytes_of};
+ghost use Rattle.opclass_minmax.specs.Reading.{read_of};
 
 use crate::summary::{Extremes, Summary};
 use byte_fields::{get_i64, put_i64};
@@ -36,7 +37,7 @@ pub(crate) fn write(s: &Summary, out: &mut [u8]) -> usize
 pub(crate) fn read(bytes: &[u8]) -> Result<Summary, Malformed>
     ensures found { IfOk result (λ s. IsSummary s × (bytes.now ≡ bytes_of s)) }
     ensures refused { IsErr result → (s : Bounds) → IsSummary s → bytes.now ≡ bytes_of s → ⊥ }
-    ensures place { IfErr result (λ e. e.at ≡ fault_place bytes.now) }
+    ensures read { MatchResult result (λ s. read_of bytes.now ≡ Ok s) (λ e. read_of bytes.now ≡ Err e.at) }
     ensures within { IfErr result (λ e. e.at ≤ length bytes.now) }
 {
     if bytes.is_empty() {

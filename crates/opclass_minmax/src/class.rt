@@ -1,13 +1,14 @@
 //! The class under the trait.
 
-ghost use Rattle.std.specs.Prelude.{◌≡◌, ◌≤◌, length, refl, OnOk, OnErr, IsOk, IsOkAnd, IfErr};
+ghost use Rattle.std.specs.Prelude.{◌≡◌, ◌≤◌, length, refl, Ok, Err, OnOk, OnErr, IsOk, IsOkAnd, IfErr, MatchResult};
 ghost use Rattle.block_model.specs.declared.value.Value.{Value};
 ghost use Rattle.opclass_minmax.specs.Bounds.{Bounds, NothingYet, IsSummary, with_value, united};
 ghost use Rattle.opclass_minmax.specs.ExactSummary.{summary_of};
 ghost use Rattle.opclass_minmax.specs.Included.{tested};
 ghost use Rattle.opclass_minmax.specs.Includes.{IsInt, Includes, is_included};
 ghost use Rattle.opclass_minmax.specs.Consistent.{consistent};
-ghost use Rattle.opclass_minmax.specs.Encoding.{bytes_of, fault_place};
+ghost use Rattle.opclass_minmax.specs.Encoding.{bytes_of};
+ghost use Rattle.opclass_minmax.specs.Reading.{read_of};
 
 use crate::bytes::{GREATEST_SIZE, read, write};
 use crate::summary::Summary;
@@ -49,7 +50,7 @@ impl OpClass for MinMax {
 
     ghost bytes_of = { λ class. bytes_of };
 
-    ghost fault_place = { λ class. fault_place };
+    ghost read_of = { λ class. read_of };
 
     ghost greatest_size = { λ class. 16 };
 
@@ -92,7 +93,7 @@ impl OpClass for MinMax {
         ensures found { OnOk result (bytes.now ≡ bytes_of into.new) }
         ensures again { (s : Bounds) → IsSummary s → bytes.now ≡ bytes_of s → IsOk result × (into.new ≡ s) }
         ensures unchanged { OnErr result (into.new ≡ into.old) }
-        ensures place { IfErr result (λ e. e.at ≡ fault_place bytes.now) }
+        ensures read { MatchResult result (λ ok. read_of bytes.now ≡ Ok into.new) (λ e. read_of bytes.now ≡ Err e.at) }
         ensures within { IfErr result (λ e. e.at ≤ length bytes.now) }
     {
         *into = read(bytes)?;
