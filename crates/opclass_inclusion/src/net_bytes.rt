@@ -1,6 +1,6 @@
 //! Summaries of networks as bytes.
 
-ghost use Rattle.std.specs.Prelude.{◌≡◌, ◌≤◌, ◌-◌, ◌%◌, ◌^◌, ◌==◌, ◌++◌, if◌then◌else◌, nat_lt, not, None, Some, IfErr, IfOk, MatchResult, length, drop};
+ghost use Rattle.std.specs.Prelude.{◌≡◌, ◌<◌, ◌≤◌, ◌-◌, ◌%◌, ◌^◌, ◌==◌, ◌++◌, if◌then◌else◌, nat_lt, not, None, Some, IfErr, IfOk, MatchResult, length, drop};
 ghost use Rattle.byte_fields.specs.Fields.{field_at, number_of, put_at};
 ghost use Rattle.opclass_inclusion.specs.NetEncoding.{bytes_of, field_bytes, fields_of};
 ghost use Rattle.opclass_inclusion.specs.NetFaults.{fault_in, field_end, field_fault, fields_in};
@@ -98,7 +98,9 @@ pub(crate) fn read(bytes: &[u8]) -> Result<NetSummary, Malformed>
 }
 
 fn field_end(at: usize) -> usize
-    ensures { result ≡ field_end at }
+    requires { at ≤ 3 }
+    ensures end { result ≡ field_end at }
+    ensures later { at < result }
 {
     if at == ADDRESS_AT { SIZE } else { at + 1 }
 }
@@ -130,6 +132,7 @@ fn address_in(bytes: &[u8]) -> u32
 fn summary_in(fields: &NetFields) -> Result<NetSummary, Malformed>
     ensures found { IfOk result (λ s. IsSummary s × (fields_of s ≡ fields.now)) }
     ensures place { MatchResult result (λ s. field_fault fields.now ≡ None) (λ e. field_fault fields.now ≡ Some e.at) }
+    ensures early { IfErr result (λ e. e.at ≤ 3) }
 {
     match fields.flags {
         NOTHING_YET => {
@@ -151,6 +154,7 @@ fn refuse_network(fields: &NetFields) -> Result<(), Malformed>
     ensures prefix { IfOk result (λ ok. fields.now.prefix ≡ 0) }
     ensures address { IfOk result (λ ok. fields.now.address ≡ 0) }
     ensures place { MatchResult result (λ ok. field_fault fields.now ≡ None) (λ e. field_fault fields.now ≡ Some e.at) }
+    ensures early { IfErr result (λ e. e.at ≤ 3) }
 {
     if fields.family != 0 {
         return Err(Malformed { at: FAMILY_AT });
@@ -168,6 +172,7 @@ fn network_in(fields: &NetFields) -> Result<NetSummary, Malformed>
     requires { fields.now.flags ≡ 2 }
     ensures found { IfOk result (λ s. IsSummary s × (fields_of s ≡ fields.now)) }
     ensures place { MatchResult result (λ s. field_fault fields.now ≡ None) (λ e. field_fault fields.now ≡ Some e.at) }
+    ensures early { IfErr result (λ e. e.at ≤ 3) }
 {
     if fields.family != V4 {
         return Err(Malformed { at: FAMILY_AT });

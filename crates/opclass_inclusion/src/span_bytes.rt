@@ -1,6 +1,6 @@
 //! Summaries of ranges as bytes.
 
-ghost use Rattle.std.specs.Prelude.{◌≡◌, ◌≤◌, ◌+◌, ◌++◌, if◌then◌else◌, nat_lt, pos, None, Some, IfErr, IfOk, MatchResult, length, drop};
+ghost use Rattle.std.specs.Prelude.{◌≡◌, ◌<◌, ◌≤◌, ◌+◌, ◌++◌, if◌then◌else◌, nat_lt, pos, None, Some, IfErr, IfOk, MatchResult, length, drop};
 ghost use Rattle.std.specs.Int.{w64, cast_unsigned};
 ghost use Rattle.byte_fields.specs.Fields.{put_at};
 ghost use Rattle.byte_fields.specs.Int8.{int8_at};
@@ -112,7 +112,9 @@ pub(crate) fn read(bytes: &[u8]) -> Result<SpanSummary, Malformed>
 }
 
 fn field_end(at: usize) -> usize
-    ensures { result ≡ field_end at }
+    requires { at ≤ 10 }
+    ensures end { result ≡ field_end at }
+    ensures later { at < result }
 {
     match at {
         LOWER_AT => UPPER_AT,
@@ -149,6 +151,7 @@ fn number_at(bytes: &[u8], at: usize) -> i64
 fn summary_in(fields: &SpanFields) -> Result<SpanSummary, Malformed>
     ensures found { IfOk result (λ s. IsSummary s × (fields_of s ≡ fields.now)) }
     ensures place { MatchResult result (λ s. field_fault fields.now ≡ None) (λ e. field_fault fields.now ≡ Some e.at) }
+    ensures early { IfErr result (λ e. e.at ≤ 10) }
 {
     match fields.flags {
         0 => without_hull(fields, false),
@@ -163,6 +166,7 @@ fn without_hull(fields: &SpanFields, empty_added: bool) -> Result<SpanSummary, M
     requires { fields.now.flags ≡ bit empty_added 1 }
     ensures found { IfOk result (λ s. IsSummary s × (fields_of s ≡ fields.now)) }
     ensures place { MatchResult result (λ s. field_fault fields.now ≡ None) (λ e. field_fault fields.now ≡ Some e.at) }
+    ensures early { IfErr result (λ e. e.at ≤ 10) }
 {
     if fields.shape != 0 {
         return Err(Malformed { at: SHAPE_AT });
@@ -183,6 +187,7 @@ fn with_hull(fields: &SpanFields, empty_added: bool) -> Result<SpanSummary, Malf
     requires { fields.now.flags ≡ bit empty_added 1 + 2 }
     ensures found { IfOk result (λ s. IsSummary s × (fields_of s ≡ fields.now)) }
     ensures place { MatchResult result (λ s. field_fault fields.now ≡ None) (λ e. field_fault fields.now ≡ Some e.at) }
+    ensures early { IfErr result (λ e. e.at ≤ 10) }
 {
     let hull = hull_in(fields)?;
     let summary = SpanSummary::of(&hull);
@@ -197,6 +202,7 @@ fn hull_in(fields: &SpanFields) -> Result<Span8, Malformed>
     requires at_most { fields.now.flags ≤ 3 }
     ensures found { IfOk result (IsHullIn fields.now) }
     ensures place { MatchResult result (λ s. field_fault fields.now ≡ None) (λ e. field_fault fields.now ≡ Some e.at) }
+    ensures early { IfErr result (λ e. e.at ≤ 10) }
 {
     match fields.shape {
         BOTH_FINITE => {
