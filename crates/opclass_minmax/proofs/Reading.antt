@@ -1,9 +1,9 @@
 -- the bytes of a summary, written and read
-use Rattle.std.proofs.Common.{◌≡◌, ℕ, ℤ, ◌+◌, ◌≤◌, ◌≤ℤ◌, ◌<ℤ◌, ◌<◌, List, [], ◌++◌, length, drop, refl, sym, ap, ◌∙◌, arith, length-append, ne_eqb}
+use Rattle.std.proofs.Common.{◌≡◌, ℕ, ℤ, ◌≤◌, ◌≤ℤ◌, ◌<ℤ◌, ◌<◌, List, [], ◌++◌, length, drop, refl, sym, ap, ◌∙◌, arith, length-append}
 use Rattle.std.proofs.lemmas.List.{take_at, drop_at, drop-drop, append-nil}
 use Rattle.std.proofs.Math.ListN.{drop_of_length-le}
-use Rattle.std.specs.Prelude.{FitsSigned, ◌==◌, nat_lt, int_lt, true, false, Ok, Err}
-use Rattle.std.proofs.lemmas.Bool.{cond-false, cond-true, lt-ltb, le-ltb}
+use Rattle.std.specs.Prelude.{FitsSigned, ◌==◌, nat_lt, int_lt, false, Ok}
+use Rattle.std.proofs.lemmas.Bool.{cond-false}
 use Rattle.std.specs.Int.{w64, cast_unsigned, cast_signed, int_min, int_max}
 use Rattle.std.proofs.lemmas.Int.{to_z-of_z, ints}
 use Rattle.byte_fields.specs.Fields.{number_of, put_at, field_at}
@@ -107,28 +107,6 @@ read_again (Between l g) lawful =
     ∙ cond-false (int_lt (int8_at bytes 8) (int8_at bytes 0)) _ _ ((λ i. int_lt (greatest i) (least i)) ∙ order)
     ∙ cond-false (nat_lt 16 (length bytes)) _ _ (ap (λ (n : ℕ). nat_lt 16 n) size)
     ∙ (λ i. Ok (Between (least i) (greatest i)))
-
--- other bytes go wrong at their end, at the greatest value, or behind it
-some_there : (bytes : List ℕ) → (length bytes ≡ 0 → ⊥) → read_of bytes ≡ both_in bytes
-some_there bytes some = cond-false (length bytes == 0) (Ok NothingYet) (both_in bytes) (ne_eqb (length bytes) 0 some)
-
-pub read_short : (bytes : List ℕ) → (length bytes ≡ 0 → ⊥) → length bytes < 16 → read_of bytes ≡ Err (length bytes)
-read_short bytes some short = some_there bytes some ∙ cond-true (nat_lt (length bytes) 16) _ _ (lt-ltb (length bytes) 16 short)
-
-pub read_turned : (bytes : List ℕ) (l g : ℤ) → 16 ≤ length bytes → l ≡ int8_at bytes 0 → g ≡ int8_at bytes 8 → g <ℤ l → read_of bytes ≡ Err 8
-read_turned bytes l g long first second below =
-    let turned : int_lt g l ≡ true = grind (arith, ints) in
-    some_there bytes (λ none. omega (arith, long, none))
-    ∙ cond-false (nat_lt (length bytes) 16) _ _ (le-ltb (length bytes) 16 long)
-    ∙ cond-true (int_lt (int8_at bytes 8) (int8_at bytes 0)) _ _ ((λ i. int_lt (sym second i) (sym first i)) ∙ turned)
-
-pub read_long : (bytes : List ℕ) (l g : ℤ) → 16 < length bytes → l ≡ int8_at bytes 0 → g ≡ int8_at bytes 8 → l ≤ℤ g → read_of bytes ≡ Err 16
-read_long bytes l g long first second order =
-    let ordered : int_lt g l ≡ false = grind (arith, ints) in
-    some_there bytes (λ none. omega (arith, long, none))
-    ∙ cond-false (nat_lt (length bytes) 16) _ _ (le-ltb (length bytes) 16 (omega arith))
-    ∙ cond-false (int_lt (int8_at bytes 8) (int8_at bytes 0)) _ _ ((λ i. int_lt (sym second i) (sym first i)) ∙ ordered)
-    ∙ cond-true (nat_lt 16 (length bytes)) _ _ (lt-ltb 16 (length bytes) long)
 
 -- widened bounds have bytes
 pub widened_has_bytes : (s : Bounds) (low high : ℤ) → 0 < length (bytes_of (widened s low high))
