@@ -67,10 +67,10 @@ merged_keeps (e ∷ f ∷ fs) zero p q apart held =
 merged_keeps (e ∷ es) (suc at) p q apart held = or_later (covers p q e) (holds es p q) (holds (merged_at es at) p q) held (merged_keeps es at p q apart.2)
 
 -- it counts 2 in place of what both counted
-pub count_merged : (es : List Element) (at : ℕ) (d : Element) → suc at < length es → AreApart es → count_of (merged_at es at) + (weight (get_or es at d) + weight (get_or es (suc at) d)) ≡ suc (suc (count_of es))
-count_merged [] at d within apart = absurd (omega arith)
-count_merged (e ∷ []) zero d within apart = absurd (omega arith)
-count_merged (e ∷ f ∷ fs) zero d within apart =
+pub count_merged : (es : List Element) (at : ℕ) (x y : Element) → suc at < length es → AreApart es → count_of (merged_at es at) + (weight (get_or es at x) + weight (get_or es (suc at) y)) ≡ suc (suc (count_of es))
+count_merged [] at x y within apart = absurd (omega arith)
+count_merged (e ∷ []) zero x y within apart = absurd (omega arith)
+count_merged (e ∷ f ∷ fs) zero x y within apart =
     let both : Element = record { least = e.least; greatest = f.greatest } in
     let first : e.least ≤ℤ e.greatest = apart.0.in_order in
     let between : e.greatest <ℤ f.least = apart.1 in
@@ -78,7 +78,7 @@ count_merged (e ∷ f ∷ fs) zero d within apart =
     let wide : int_lt e.least f.greatest ≡ true = grind (arith, ints) in
     let two : weight both ≡ 2 = cond-true (int_lt e.least f.greatest) 2 1 wide in
     omega (arith, two, sum_by-cons weight both fs, sum_by-cons weight e (f ∷ fs), sum_by-cons weight f fs)
-count_merged (e ∷ es) (suc at) d within apart = omega (arith, sum_by-cons weight e (merged_at es at), sum_by-cons weight e es, count_merged es at d (omega arith) apart.2)
+count_merged (e ∷ es) (suc at) x y within apart = omega (arith, sum_by-cons weight e (merged_at es at), sum_by-cons weight e es, count_merged es at x y (omega arith) apart.2)
 
 -- the code of a merger
 pub merged_is : (es : List Element) (at : ℕ) (x later : Element) → suc at < length es → x ≡ get_or (remove es (suc at)) at x → later ≡ get_or es (suc at) later → set (remove es (suc at)) at (record { least = x.least; greatest = later.greatest }) ≡ merged_at es at

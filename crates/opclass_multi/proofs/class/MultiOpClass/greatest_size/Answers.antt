@@ -16,4 +16,4 @@ returns-clause-bound c = λ s of.
 pub returns-clause-read_again : goal.returns-clause-read_again
 returns-clause-read_again c = λ s of.
     let limit = c.args.self.now in
-    ap (kept_in limit) (read_again limit s.elements c.limit.ensures.known.greatest of.apart of.within) ∙ (λ i. Ok (record { limit = sym of.own_limit i; elements = s.elements }))
+    ap (kept_in limit) (read_again limit s.elements (omega (arith, c.limit.ensures.own, c.limit.ensures.known.greatest)) of.apart of.within) ∙ (λ i. Ok (record { limit = sym of.own_limit i; elements = s.elements }))

@@ -40,4 +40,5 @@ returns-clause-again c = λ s is_of is.
     (both.0, λ i. record { limit = (own_limit c ∙ sym is_of.own_limit) i; elements = both.1 i })
 
 pub returns-clause-read : goal.returns-clause-read
-returns-clause-read c = read_after (λ (e : Malformed). e.at) c.read.result c.from.result c.args.bytes.now c.read.new.elements.items c.read.ensures.found c.read.ensures.place
+returns-clause-read c =
+    read_after (λ (e : Malformed). e.at) c.read.result c.from.result c.self.inside.limit c.args.self.now.limit c.args.bytes.now c.read.new.elements.items (omega (arith, c.from.ensures)) (own_limit c) c.read.ensures.found c.read.ensures.place
