@@ -24,7 +24,7 @@ returns-then-bytes-size-clause-read c =
     let p = c.args.self.now in
     let size : c.size-size.result ≡ size_of p = c.size-size.ensures.size in
     cond-false (length bytes == size_of p) _ _ (ne_eqb (length bytes) (size_of p) (λ same. c.if-bytes-size.true (same ∙ sym size)))
-    ∙ ap (λ (n : ℕ). Err (min (length bytes) n)) (sym size)
+    ∙ ap Err (ap (λ (n : ℕ). min (length bytes) n) (sym size) ∙ sym c.min.ensures)
 
 pub returns-clause-read : goal.returns-clause-read
 returns-clause-read c =
