@@ -1,6 +1,6 @@
 -- a summary of networks that is asked misses no address that it includes
-use Rattle.std.proofs.Common.{◌≡◌, ◌≤◌, true, false, ◌&&◌, List, refl, sym, ◌∙◌, subst, inl, inr, arith}
-use Rattle.std.specs.Prelude.{◌==◌, ◌⊎◌, nat_lt}
+use Rattle.std.proofs.Common.{◌≡◌, ◌≤◌, true, false, List, refl, sym, ◌∙◌, subst, inl, inr, arith}
+use Rattle.std.specs.Prelude.{◌⊎◌, nat_lt}
 use Rattle.std.proofs.lemmas.Bool.{cases_lt, false≢true, and_parts, or_cases, or_left, or_right}
 use Rattle.block_model.specs.declared.row.Cond.{Cond}
 use Rattle.block_model.specs.declared.value.Value.{Value}

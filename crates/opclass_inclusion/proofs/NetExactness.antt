@@ -1,5 +1,5 @@
 -- addresses added one by one give the smallest network that each is in, whatever the order
-use Rattle.std.proofs.Common.{◌≡◌, ℕ, suc, Bool, true, false, List, [], ◌∷◌, ◌++◌, fold, All, Contains, refl, sym, arith, append_assoc, ◌∙◌}
+use Rattle.std.proofs.Common.{◌≡◌, suc, Bool, true, false, List, [], ◌∷◌, ◌++◌, fold, All, Contains, refl, sym, arith, append_assoc, ◌∙◌}
 use Rattle.std.specs.Prelude.{◌==◌, if◌then◌else◌}
 use Rattle.std.proofs.lemmas.List.{append-nil}
 use Rattle.std.proofs.lemmas.List.Elements.{All-nil, All-cons, All-weaker, All-head, All-tail, All-contains, All-append, Contains-append_left, Contains-append_right}

@@ -1,10 +1,11 @@
 //! Summaries of networks as bytes.
 
-ghost use Rattle.std.specs.Prelude.{◌≡◌, ◌<◌, ◌≤◌, ◌-◌, ◌%◌, ◌^◌, ◌==◌, ◌++◌, if◌then◌else◌, nat_lt, not, None, Some, IfErr, IfOk, MatchResult, length, drop};
+ghost use Rattle.std.specs.Prelude.{◌≡◌, ◌<◌, ◌≤◌, ◌-◌, ◌%◌, ◌^◌, ◌==◌, ◌++◌, if◌then◌else◌, nat_lt, not, None, Some, Ok, Err, IfErr, IfOk, MatchResult, length, drop};
 ghost use Rattle.byte_fields.specs.Fields.{field_at, number_of, put_at};
 ghost use Rattle.opclass_inclusion.specs.NetEncoding.{bytes_of, field_bytes, fields_of};
 ghost use Rattle.opclass_inclusion.specs.NetFaults.{fault_in, field_end, field_fault, fields_in};
 ghost use Rattle.opclass_inclusion.specs.NetHulls.{IsSummary};
+ghost use Rattle.opclass_inclusion.specs.NetReading.{read_of};
 
 use crate::fields::{byte_at, field_fault};
 use crate::net_summary::{NetSummary, V4_BITS, v4_address};
@@ -83,6 +84,7 @@ fn without_network(flags: u8) -> NetFields
 pub(crate) fn read(bytes: &[u8]) -> Result<NetSummary, Malformed>
     ensures found { IfOk result (λ s. IsSummary s × (bytes.now ≡ bytes_of s)) }
     ensures fault { MatchResult result (λ s. fault_in bytes.now ≡ None) (λ e. fault_in bytes.now ≡ Some e.at) }
+    ensures read { MatchResult result (λ s. read_of bytes.now ≡ Ok s) (λ e. read_of bytes.now ≡ Err e.at) }
     ensures within { IfErr result (λ e. e.at ≤ length bytes.now) }
 {
     let summary = match summary_in(&fields_in(bytes)) {

@@ -1,12 +1,13 @@
 //! Summaries of ranges as bytes.
 
-ghost use Rattle.std.specs.Prelude.{◌≡◌, ◌<◌, ◌≤◌, ◌+◌, ◌++◌, if◌then◌else◌, nat_lt, pos, None, Some, IfErr, IfOk, MatchResult, length, drop};
+ghost use Rattle.std.specs.Prelude.{◌≡◌, ◌<◌, ◌≤◌, ◌+◌, ◌++◌, if◌then◌else◌, nat_lt, pos, None, Some, Ok, Err, IfErr, IfOk, MatchResult, length, drop};
 ghost use Rattle.std.specs.Int.{w64, cast_unsigned};
 ghost use Rattle.byte_fields.specs.Fields.{put_at};
 ghost use Rattle.byte_fields.specs.Int8.{int8_at};
 ghost use Rattle.opclass_inclusion.specs.SpanEncoding.{bit, bytes_of, field_bytes, fields_of, shape_of};
 ghost use Rattle.opclass_inclusion.specs.SpanFaults.{IsHullIn, fault_in, field_end, field_fault, fields_in};
 ghost use Rattle.opclass_inclusion.specs.SpanHulls.{IsSummary};
+ghost use Rattle.opclass_inclusion.specs.SpanReading.{read_of};
 
 use crate::fields::{byte_at, field_fault};
 use crate::span_summary::{SpanSummary, between};
@@ -97,6 +98,7 @@ fn shape_of(hull: &Span8) -> u8
 pub(crate) fn read(bytes: &[u8]) -> Result<SpanSummary, Malformed>
     ensures found { IfOk result (λ s. IsSummary s × (bytes.now ≡ bytes_of s)) }
     ensures fault { MatchResult result (λ s. fault_in bytes.now ≡ None) (λ e. fault_in bytes.now ≡ Some e.at) }
+    ensures read { MatchResult result (λ s. read_of bytes.now ≡ Ok s) (λ e. read_of bytes.now ≡ Err e.at) }
     ensures within { IfErr result (λ e. e.at ≤ length bytes.now) }
 {
     let summary = match summary_in(&fields_in(bytes)) {

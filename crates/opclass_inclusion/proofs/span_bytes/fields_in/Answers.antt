@@ -1,4 +1,4 @@
-use Rattle.std.proofs.Common.{rules, arith, FitsSigned, get_or, sym, ◌∷◌, ◌++◌, ◌∙◌}
+use Rattle.std.proofs.Common.{rules, arith, FitsSigned, sym, ◌∷◌, ◌++◌, ◌∙◌}
 use Rattle.std.proofs.lemmas.Int.{to_z-of_z}
 use Rattle.std.specs.Int.{w64}
 use Rattle.byte_fields.specs.Int8.{int8_bytes}
