@@ -145,6 +145,9 @@ fn malformed_ranges_name_their_place(rt: HostRuntime) {
     assert_eq!(rt; span_fault(&span_bytes(2, 0, 1, 2)), Ok(()));
     assert_eq!(rt; span_fault(&[0; 17]), Err(Malformed { at: 17 }));
     assert_eq!(rt; span_fault(&[0; 19]), Err(Malformed { at: 18 }));
+    assert_eq!(rt; span_fault(&[4]), Err(Malformed { at: 0 }));
+    assert_eq!(rt; span_fault(&[2, 8]), Err(Malformed { at: 1 }));
+    assert_eq!(rt; span_fault(&[0, 0, 1]), Err(Malformed { at: 3 }));
     let cases = [
         ([4, 0, 0, 0], 0),
         ([1, 6, 0, 0], 1),
@@ -214,6 +217,10 @@ fn malformed_networks_name_their_place(rt: HostRuntime) {
     assert_eq!(rt; net_fault(&[2, 4, 32, 10, 0, 0, 1]), Ok(()));
     assert_eq!(rt; net_fault(&[0; 6]), Err(Malformed { at: 6 }));
     assert_eq!(rt; net_fault(&[0; 8]), Err(Malformed { at: 7 }));
+    assert_eq!(rt; net_fault(&[9]), Err(Malformed { at: 0 }));
+    assert_eq!(rt; net_fault(&[2, 6]), Err(Malformed { at: 1 }));
+    assert_eq!(rt; net_fault(&[2, 4, 24, 10, 0, 0]), Err(Malformed { at: 6 }));
+    assert_eq!(rt; net_fault(&[2, 4, 24, 10, 0, 0, 1, 0]), Err(Malformed { at: 3 }));
     let cases = [
         ([3, 4, 32, 10, 0, 0, 1], 0),
         ([1, 4, 0, 0, 0, 0, 0], 1),

@@ -87,6 +87,10 @@ fn malformed_bytes_name_their_place(rt: HostRuntime) {
     );
     assert_eq!(rt;
         class.decode(&bytes, &mut summary),
+        Err(Malformed { at: 8 })
+    );
+    assert_eq!(rt;
+        class.decode(&[0; 17], &mut summary),
         Err(Malformed { at: 16 })
     );
 }

@@ -1,6 +1,6 @@
 //! The trait of operator classes.
 
-ghost use Rattle.std.specs.Prelude.{◌≡◌, ◌≢◌, ◌<◌, ◌≤◌, ◌++◌, ◌⊎◌, ℕ, Bool, true, false, List, [], length, drop, OnOk, OnErr, IfOk, IsOk};
+ghost use Rattle.std.specs.Prelude.{◌≡◌, ◌≢◌, ◌<◌, ◌≤◌, ◌++◌, ◌⊎◌, ◌↔◌, ℕ, Bool, true, false, List, [], length, drop, fold, Result, Ok, Err, OnOk, OnErr, IfOk, IfErr, IsOk, MatchResult};
 ghost use Rattle.block_model.specs.declared.value.Value.{Value};
 ghost use Rattle.block_model.specs.declared.row.Cond.{Cond};
 ghost use Rattle.opclass_api.specs.Conditions.{AllCompare, meets_all, has_null_key};
@@ -9,8 +9,9 @@ use block_model::{Cond, NoMemory, Value};
 use std::alloc::Global;
 use thiserror::Error;
 
-/// Bytes that encode no summary; `at` is the first byte of the first field that is out of form, or the length where
-/// bytes are missing.
+/// Bytes that encode no summary. `at` is where no bytes of the form go on: the first byte of the first field that can't
+/// stand behind the fields before it, a number being one field; the first byte behind the form, where there are more; the
+/// length, where bytes are missing.
 #[derive(Clone, Copy, Debug, Error, PartialEq, Eq)]
 #[error("no summary goes on at byte {at}")]
 pub struct Malformed {
@@ -33,6 +34,9 @@ pub trait OpClass {
     /// The values that a summary includes.
     ghost includes: { Self → Self.Summary → Value → Type 0 };
 
+    /// Whether a summary includes a value: `includes` as a test.
+    ghost is_included: { Self → Self.Summary → Value → Bool };
+
     /// The summary of no value.
     ghost empty: { Self → Self.Summary };
 
@@ -42,18 +46,25 @@ pub trait OpClass {
     /// A summary, widened by another.
     ghost union: { Self → Self.Summary → Self.Summary → Self.Summary };
 
+    /// The exact summary of a list of values.
+    ghost exact: { Self → List Value → Self.Summary };
+
     /// Whether a summary may include a value that meets each condition.
     ghost consistent: { Self → Self.Summary → List Cond → Bool };
 
     /// The bytes of a summary.
     ghost bytes_of: { Self → Self.Summary → List ℕ };
 
+    /// The summary that bytes encode, or where they go wrong.
+    ghost read_of: { Self → List ℕ → Result Self.Summary ℕ };
+
     /// How many bytes a summary has at most.
     ghost greatest_size: { Self → ℕ };
 
-    /// The summary of no value, with all the room that it ever needs.
+    /// The summary of no value, with all the room that it ever needs. It includes nothing.
     fn empty(&self, alloc: Global) -> Result<Self::Summary, NoMemory>
-        ensures { IfOk result (λ s. (s ≡ empty self.now) × is_of self.now s) };
+        ensures summary { IfOk result (λ s. (s ≡ empty self.now) × is_of self.now s) }
+        ensures includes_nothing { (v : Value) → includes self.now (empty self.now) v → ⊥ };
 
     /// Widens a summary so that it includes a value; answers whether it changed. A summary to which a value was added has
     /// bytes, so that none with no bytes hides one.
@@ -104,10 +115,19 @@ pub trait OpClass {
         ensures stays_of_class { is_of self.now into.new }
         ensures found { OnOk result (bytes.now ≡ bytes_of self.now into.new) }
         ensures again { (s : Self.Summary) → is_of self.now s → bytes.now ≡ bytes_of self.now s → IsOk result × (into.new ≡ s) }
-        ensures unchanged { OnErr result (into.new ≡ into.old) };
+        ensures unchanged { OnErr result (into.new ≡ into.old) }
+        ensures read { MatchResult result (λ ok. read_of self.now bytes.now ≡ Ok into.new) (λ fault. read_of self.now bytes.now ≡ Err fault.at) }
+        ensures within { IfErr result (λ fault. fault.at ≤ length bytes.now) };
 
-    /// How many bytes a summary has at most.
+    /// How many bytes a summary has at most. No two summaries have the same bytes.
     fn greatest_size(&self) -> usize
         ensures size { result ≡ greatest_size self.now }
-        ensures bound { (s : Self.Summary) → is_of self.now s → length (bytes_of self.now s) ≤ greatest_size self.now };
+        ensures bound { (s : Self.Summary) → is_of self.now s → length (bytes_of self.now s) ≤ greatest_size self.now }
+        ensures read_again { (s : Self.Summary) → is_of self.now s → read_of self.now (bytes_of self.now s) ≡ Ok s };
+
+    /// The test of included values says what `includes` does.
+    ghost tested: { (class : Self) (s : Self.Summary) (v : Value) → (is_included class s v ≡ true) ↔ includes class s v };
+
+    /// The exact summary of values is what adding them in their order gives.
+    ghost added_in_order: { (class : Self) (values : List Value) → exact class values ≡ fold (add class) (empty class) values };
 }

@@ -1,6 +1,5 @@
 -- a summary that is asked misses no value that it includes
-use Rattle.std.proofs.Common.{◌≡◌, ℤ, Bool, true, false, ◌&&◌, ◌==◌, List, refl, sym, ap, ◌∙◌, subst, arith, eqb-true, int_eq}
-use Rattle.std.proofs.lemmas.Bool.{and_parts}
+use Rattle.std.proofs.Common.{◌≡◌, ℤ, Bool, true, false, List, refl, sym, ap, ◌∙◌, subst, arith, int_eq}
 use Rattle.std.proofs.lemmas.Int.{ints}
 use Rattle.block_model.specs.declared.value.Value.{Value}
 use Rattle.block_model.specs.declared.value.Value.TheVariants.{Null, Int, Span, Net}
@@ -10,7 +9,8 @@ use Rattle.block_model.specs.declared.row.Cond.{Cond}
 use Rattle.block_model.specs.Matches.{kind_matches, number_matches, network_matches}
 use Rattle.block_model.specs.Networks.{Network}
 use Rattle.opclass_api.specs.Conditions.{compares, AllCompare, meets, meets_all, has_null_key, is_null}
-use Rattle.opclass_api.proofs.Asking as Asked
+use Rattle.opclass_api.specs.Asking as Asked
+use Rattle.opclass_api.specs.EqualNetworks.{same_network}
 use Rattle.opclass_bloom.specs.Consistent.{consistent, key_holds, operator_holds, equal_holds}
 use Rattle.opclass_bloom.specs.Includes.{Includes, has_all}
 use Rattle.opclass_bloom.specs.Parameters.{Parameters}
@@ -22,15 +22,6 @@ unless_equal p s op key equal = refl
 
 same_number : (v k : ℤ) → int_eq v k ≡ true → v ≡ k
 same_number v k is = grind (arith, ints)
-
-same_network : (v k : Network) → network_matches v Eq k ≡ true → v ≡ k
-same_network v k is =
-    let two = and_parts ((v.family == k.family) && (v.prefix == k.prefix)) (v.address == k.address) is in
-    let one = and_parts (v.family == k.family) (v.prefix == k.prefix) two.0 in
-    let family = eqb-true v.family k.family one.0 in
-    let prefix = eqb-true v.prefix k.prefix one.1 in
-    let address = eqb-true v.address k.address two.1 in
-    λ i. record { family = family i; prefix = prefix i; address = address i }
 
 number_kept : (p : Parameters) (s : List Bool) (v : ℤ) (op : Op) (k : ℤ) → has_all p s (Int v) ≡ true → number_matches v op k ≡ true → operator_holds p s op (Int k) ≡ true
 number_kept p s v op k all m =

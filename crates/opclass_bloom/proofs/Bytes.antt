@@ -1,14 +1,16 @@
 -- bytes as bits, and bits as bytes
-use Rattle.std.proofs.Common.{◌≡◌, ℕ, zero, suc, ◌+◌, ◌-◌, ◌*◌, ◌/◌, ◌%◌, ◌^◌, ◌<◌, ◌≤◌, max, Bool, true, false, ◌||◌, ◌==◌, List, [], ◌∷◌, ◌++◌, length, get_or, set, replicate, bit_or, refl, sym, ap, ◌∙◌, arith, w8, Fits, inl, inr, true≢false, length-set, pow-suc, get_or-set_same, get_or-set_other, ext_get_or}
+use Rattle.std.proofs.Common.{◌≡◌, ℕ, zero, suc, ◌+◌, ◌-◌, ◌*◌, ◌/◌, ◌%◌, ◌^◌, ◌<◌, ◌≤◌, max, Bool, true, false, ◌||◌, ◌==◌, List, [], ◌∷◌, ◌++◌, length, get_or, set, replicate, bit_or, refl, sym, ap, ◌∙◌, arith, w8, Fits, inl, inr, Ok, eq-eqb, true≢false, length-set, pow-suc, get_or-set_same, get_or-set_other, ext_get_or}
 use Rattle.std.specs.Int.{bit_at}
-use Rattle.std.proofs.lemmas.Bool.{cases_eq}
+use Rattle.std.proofs.lemmas.Bool.{cases_eq, cond-true}
 use Rattle.std.proofs.lemmas.List.{get_or_append_left, get_or-append_right, set-append_left, set-append_right, replicate-append-replicate}
 use Rattle.std.proofs.lemmas.List.FromFn.{get_or-map-range_with_len}
 use Rattle.std.proofs.lemmas.Nat.{or_lt}
 use Rattle.std.proofs.lemmas.Nat.Bits.{bit_at_or, bit_at-lt, bit_at-zero, bit_at_lowest, bit_at-suc, bit_at_set_same, bit_at_set_other, same_from_bits_below}
-use Rattle.opclass_bloom.specs.Bits.{united}
-use Rattle.opclass_bloom.specs.Encoding.{number_of, bytes_of}
+use Rattle.opclass_bloom.specs.Bits.{IsSummary, united}
+use Rattle.opclass_bloom.specs.Encoding.{number_of, bytes_of, size_of}
 use Rattle.opclass_bloom.specs.Kept.{bits_of_byte, bits_of}
+use Rattle.opclass_bloom.specs.Parameters.{Parameters}
+use Rattle.opclass_bloom.specs.Reading.{read_of}
 
 pub length_bits : (bytes : List ℕ) → length (bits_of bytes) ≡ 8 * length bytes
 length_bits [] = refl
@@ -146,3 +148,9 @@ bits_of_zeros (suc n) =
 pub bytes_there : (s : List Bool) → 8 ≤ length s → 0 < length (bytes_of s)
 bytes_there (b0 ∷ b1 ∷ b2 ∷ b3 ∷ b4 ∷ b5 ∷ b6 ∷ b7 ∷ s) long = omega arith
 bytes_there s long = absurd (omega (arith, long))
+
+-- bytes that were written are read again
+pub read_again : (p : Parameters) (s : List Bool) (n : ℕ) → IsSummary p s → 8 * n ≡ p.bits → read_of p (bytes_of s) ≡ Ok s
+read_again p s n of_class whole =
+    let size : length (bytes_of s) ≡ size_of p = length_bytes s ∙ ap (λ (m : ℕ). m / 8) of_class in
+    cond-true (length (bytes_of s) == size_of p) _ _ (eq-eqb (length (bytes_of s)) (size_of p) size) ∙ ap Ok (bits_again s n (of_class ∙ sym whole))

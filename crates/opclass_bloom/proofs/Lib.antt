@@ -1,4 +1,5 @@
 pub mod Asking
 pub mod Bytes
+pub mod Empty
 pub mod Exactness
 pub mod Setting

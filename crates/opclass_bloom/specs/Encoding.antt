@@ -1,5 +1,5 @@
 -- the bytes of a summary
-use Rattle.std.specs.Prelude.{ℕ, ◌+◌, ◌*◌, ◌/◌, min, Bool, if◌then◌else◌, List, [], ◌∷◌}
+use Rattle.std.specs.Prelude.{ℕ, ◌+◌, ◌*◌, ◌/◌, Bool, if◌then◌else◌, List, [], ◌∷◌}
 use Rattle.opclass_bloom.specs.Parameters.{Parameters}
 
 -- bits as a number, the lowest first
@@ -15,7 +15,3 @@ bytes_of s = []
 -- how many bytes each summary has
 abbrev pub size_of : Parameters → ℕ
 size_of p = p.bits / 8
-
--- where bytes of another length are out of form: at their end, or at the first byte too many
-abbrev pub fault_place : Parameters → ℕ → ℕ
-fault_place p size = min size (size_of p)

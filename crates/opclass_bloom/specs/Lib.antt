@@ -2,8 +2,10 @@ pub mod Bits
 pub mod Consistent
 pub mod Encoding
 pub mod ExactSummary
+pub mod Included
 pub mod Includes
 pub mod Kept
 pub mod Mixing
 pub mod Parameters
 pub mod Positions
+pub mod Reading

@@ -1,11 +1,14 @@
 //! The class under the trait.
 
-ghost use Rattle.std.specs.Prelude.{◌≡◌, ◌<◌, true, ◌*◌, List, Bool, Some, length, fold, OnOk, OnErr, IsOk, IfErr, SomeIff, IsTrue, ◌↔◌};
+ghost use Rattle.std.specs.Prelude.{◌≡◌, ◌<◌, ◌≤◌, true, ◌*◌, List, Bool, Some, length, fold, refl, Ok, Err, OnOk, OnErr, IsOk, IfErr, MatchResult, SomeIff, IsTrue, ◌↔◌};
 ghost use Rattle.block_model.specs.declared.value.Value.{Value};
 ghost use Rattle.opclass_bloom.specs.Bits.{IsSummary, is_set, nothing_set, with_position, with_value, united};
 ghost use Rattle.opclass_bloom.specs.Consistent.{consistent, key_holds};
-ghost use Rattle.opclass_bloom.specs.Encoding.{bytes_of, size_of, fault_place};
-ghost use Rattle.opclass_bloom.specs.Includes.{HasWords, Includes, has_all};
+ghost use Rattle.opclass_bloom.specs.Encoding.{bytes_of, size_of};
+ghost use Rattle.opclass_bloom.specs.Reading.{read_of};
+ghost use Rattle.opclass_bloom.specs.ExactSummary.{summary_of};
+ghost use Rattle.opclass_bloom.specs.Included.{tested};
+ghost use Rattle.opclass_bloom.specs.Includes.{HasWords, Includes, has_all, is_included};
 ghost use Rattle.opclass_bloom.specs.Parameters.{Parameters, AreWithinLimits};
 ghost use Rattle.opclass_bloom.specs.Positions.{position, positions_by};
 ghost use Rattle.std.specs.List.{list_all};
@@ -137,19 +140,30 @@ impl OpClass for Bloom {
 
     ghost includes = { Includes };
 
+    ghost is_included = { is_included };
+
     ghost empty = { nothing_set };
 
     ghost add = { with_value };
 
     ghost union = { λ class. united };
 
+    ghost exact = { summary_of };
+
     ghost consistent = { consistent };
 
     ghost bytes_of = { λ class. bytes_of };
 
+    ghost read_of = { read_of };
+
     ghost greatest_size = { size_of };
 
+    ghost tested = { tested };
+
+    ghost added_in_order = { λ class values. refl };
+
     fn empty(&self, alloc: Global) -> Result<Summary, NoMemory> {
+        self.known();
         Summary::with_bytes(alloc, self.size())
     }
 
@@ -185,7 +199,8 @@ impl OpClass for Bloom {
         ensures again { (s : List Bool) → IsSummary self.now s → bytes.now ≡ bytes_of s → IsOk result × (into.new ≡ s) }
         ensures unchanged { OnErr result (into.new ≡ into.old) }
         ensures any_bits { IsOk result ↔ (length bytes.now ≡ size_of self.now) }
-        ensures place { IfErr result (λ e. e.at ≡ fault_place self.now (length bytes.now)) }
+        ensures read { MatchResult result (λ ok. read_of self.now bytes.now ≡ Ok into.new) (λ e. read_of self.now bytes.now ≡ Err e.at) }
+        ensures within { IfErr result (λ e. e.at ≤ length bytes.now) }
     {
         let size = self.size();
         if bytes.len() != size {

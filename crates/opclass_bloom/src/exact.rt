@@ -1,10 +1,10 @@
 //! The exact summary of a list of values.
 
-ghost use Rattle.std.specs.Prelude.{◌≡◌, ℕ, ◌<◌, ◌||◌, ◌++◌, Bool, All, List, fold, IfOk};
+ghost use Rattle.std.specs.Prelude.{◌≡◌, ℕ, ◌<◌, ◌||◌, ◌++◌, Bool, All, List, IfOk};
 ghost use Rattle.block_model.specs.declared.value.Value.{Value};
 ghost use Rattle.opclass_api.specs.SameValues.{HaveSameValues};
-ghost use Rattle.opclass_bloom.specs.Bits.{IsSummary, nothing_set, is_set, with_value, united};
-ghost use Rattle.opclass_bloom.specs.ExactSummary.{ExactSummary, has_position};
+ghost use Rattle.opclass_bloom.specs.Bits.{IsSummary, is_set, with_value, united};
+ghost use Rattle.opclass_bloom.specs.ExactSummary.{ExactSummary, has_position, summary_of};
 ghost use Rattle.opclass_bloom.specs.Includes.{HasWords};
 ghost use Rattle.opclass_bloom.specs.Parameters.{Parameters};
 
@@ -18,10 +18,10 @@ use std::alloc::Global;
 /// other summary is so. The same values in any other order give the same. Takes the memory of one summary.
 pub fn exact_summary(class: &Bloom, alloc: Global, values: &[Value]) -> Result<Summary, NoMemory>
     requires { All HasWords values.now }
-    ensures added_in_order { IfOk result (λ s. s ≡ fold (with_value class.now) (nothing_set class.now) values.now) }
+    ensures added_in_order { IfOk result (λ s. s ≡ summary_of class.now values.now) }
     ensures exact { IfOk result (ExactSummary class.now values.now) }
     ensures no_other { IfOk result (λ s. (t : List Bool) → ExactSummary class.now values.now t → t ≡ s) }
-    ensures any_order { IfOk result (λ s. (others : List Value) → HaveSameValues values.now others → fold (with_value class.now) (nothing_set class.now) others ≡ s) }
+    ensures any_order { IfOk result (λ s. (others : List Value) → HaveSameValues values.now others → summary_of class.now others ≡ s) }
 {
     summary_of(class, alloc, values)
 }

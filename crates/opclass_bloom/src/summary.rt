@@ -7,12 +7,14 @@ ghost use Rattle.opclass_bloom.specs.Encoding.{bytes_of};
 use crate::bits::{bit_of, copy_from, copy_to, set_bit, set_bits};
 use block_model::NoMemory;
 use std::alloc::Global;
+use std::boxed::BoxedSlice;
 use std::marker::Model;
 
-/// A list of positions, each set or not. Kept as the bits of bytes, the lowest bit of each byte first.
+/// A list of positions, each set or not. Kept as the bits of bytes, the lowest bit of each byte first, in a box that can't
+/// grow: no call takes memory.
 #[derive(Debug, Drop)]
 pub struct Summary {
-    bytes: Vec<u8>,
+    bytes: BoxedSlice<u8>,
 }
 
 impl Model for Summary {
@@ -21,8 +23,9 @@ impl Model for Summary {
     ghost Value = { List Bool };
 
     ghost use Rattle.opclass_bloom.specs.Kept.{bits_of};
+    ghost use Rattle.std.specs.Box.{boxed_slice_items};
 
-    ghost view = { λ a. bits_of a.bytes.items };
+    ghost view = { λ a. bits_of (boxed_slice_items a.bytes) };
 }
 
 impl Summary {
@@ -31,7 +34,9 @@ impl Summary {
         ensures { IfOk result (λ s. s ≡ replicate (8 * bytes) false) }
     {
         let bytes = vec![in alloc; 0u8; bytes]?;
-        Ok(Summary { bytes })
+        Ok(Summary {
+            bytes: bytes.into_boxed_slice(),
+        })
     }
 
     /// Whether the position is set.
@@ -39,7 +44,7 @@ impl Summary {
         requires { position < length self.now }
         ensures { result ≡ is_set self.now position }
     {
-        bit_of(&self.bytes, position)
+        bit_of(self.bytes.as_slice(), position)
     }
 
     /// Sets the position, and no other.
@@ -47,7 +52,7 @@ impl Summary {
         requires { position < length self.old }
         ensures { self.new ≡ with_position self.old position }
     {
-        set_bit(&mut self.bytes, position);
+        set_bit(self.bytes.as_mut_slice(), position);
     }
 
     /// Sets each position that is set in the other, which has as many; answers whether one was not.
@@ -57,7 +62,7 @@ impl Summary {
         ensures same { result ≡ false → self.new ≡ self.old }
         ensures changed { result ≡ true → self.new ≢ self.old }
     {
-        set_bits(&mut self.bytes, &other.bytes)
+        set_bits(self.bytes.as_mut_slice(), other.bytes.as_slice())
     }
 
     /// Writes the bytes to the front of `out`, and answers how many they are.
@@ -66,7 +71,7 @@ impl Summary {
         ensures size { result ≡ length (bytes_of self.now) }
         ensures written { out.new ≡ bytes_of self.now ++ drop result out.old }
     {
-        copy_to(&self.bytes, out)
+        copy_to(self.bytes.as_slice(), out)
     }
 
     /// Makes the positions those that the bytes say, which are an eighth of them.
@@ -75,6 +80,6 @@ impl Summary {
         ensures size { length self.new ≡ length self.old }
         ensures found { bytes.now ≡ bytes_of self.new }
     {
-        copy_from(&mut self.bytes, bytes);
+        copy_from(self.bytes.as_mut_slice(), bytes);
     }
 }

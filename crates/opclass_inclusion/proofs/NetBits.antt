@@ -118,7 +118,7 @@ agreeing_agree : (a b : Network) (n : ℕ) → leading_bits a 0 ≡ leading_bits
 agreeing_agree a b zero none = none
 agreeing_agree a b (suc p) none = one_agrees a b (leading_bits a (suc p) == leading_bits b (suc p)) p (agreeing_bits a b p) refl (agreeing_agree a b p none)
 
-not_equal : (a b : ℕ) → (a == b) ≡ false → a ≡ b → ⊥
+pub not_equal : (a b : ℕ) → (a == b) ≡ false → a ≡ b → ⊥
 not_equal a b e same = grind arith
 
 one_greatest : (a b : Network) (t : Bool) (p q r : ℕ) → (leading_bits a (suc p) == leading_bits b (suc p)) ≡ t → q ≤ suc p → leading_bits a q ≡ leading_bits b q → (q ≤ p → q ≤ r) → q ≤ (if t then suc p else r)

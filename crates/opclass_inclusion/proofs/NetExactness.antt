@@ -1,5 +1,5 @@
 -- addresses added one by one give the smallest network that each is in, whatever the order
-use Rattle.std.proofs.Common.{◌≡◌, ℕ, suc, Bool, true, false, List, [], ◌∷◌, ◌++◌, fold, All, Contains, refl, sym, arith, append_assoc, ◌∙◌}
+use Rattle.std.proofs.Common.{◌≡◌, suc, Bool, true, false, List, [], ◌∷◌, ◌++◌, fold, All, Contains, refl, sym, arith, append_assoc, ◌∙◌}
 use Rattle.std.specs.Prelude.{◌==◌, if◌then◌else◌}
 use Rattle.std.proofs.lemmas.List.{append-nil}
 use Rattle.std.proofs.lemmas.List.Elements.{All-nil, All-cons, All-weaker, All-head, All-tail, All-contains, All-append, Contains-append_left, Contains-append_right}
@@ -12,9 +12,9 @@ use Rattle.opclass_inclusion.specs.NetHulls.{IsSummary, common_prefix, merged, n
 use Rattle.opclass_inclusion.specs.NetIncludes.{IsIn}
 use Rattle.opclass_inclusion.specs.declared.net_summary.NetSummary.{NetSummary}
 use Rattle.opclass_inclusion.specs.declared.net_summary.NetSummary.TheVariants.{NothingYet, Unmergeable, Hull}
-use Rattle.opclass_inclusion.proofs.NetBits.{also_within_merged, equal, merged_within, network_within, no_host_with, one_network, parts, within_further, within_its_network, within_merged}
+use Rattle.opclass_inclusion.proofs.NetBits.{also_within_merged, equal, merged_within, network_within, no_host_with, not_equal, one_network, parts, within_further, within_its_network, within_merged}
 use Rattle.opclass_inclusion.proofs.NetHullLaws.{hull_with, in_wider, none_agree, union_lawful}
-use Rattle.opclass_api.proofs.ValueLists.{all_back, all_same, none_has, none_same}
+use Rattle.opclass_api.specs.ValueLists.{all_back, all_same, none_has, none_same}
 use Rattle.opclass_inclusion.proofs.ValueLists.{all_first, all_second}
 
 -- ---- two families
@@ -57,9 +57,6 @@ some_in [] u exact =
 some_in (v ∷ rest) u exact = head_of v rest u (All-head (IsIn u) v rest exact.holds_each)
 
 -- ---- both lists
-
-not_equal : (a b : ℕ) → (a == b) ≡ false → a ≡ b → ⊥
-not_equal a b e same = grind arith
 
 joined_exact : (first second : List Value) (a b : Network) (t : Bool) → (a.family == b.family) ≡ t → IsNetwork a → IsNetwork b → IsSmallestNetwork first a → IsSmallestNetwork second b → ExactSummary (first ++ second) (if t then Hull (merged a b) else Unmergeable)
 joined_exact first second a b true e one two exact also =

@@ -1,13 +1,16 @@
 -- the bytes of a summary of networks, written and read
-use Rattle.std.proofs.Common.{◌≡◌, ℕ, ◌-◌, ◌%◌, ◌≤◌, ◌^◌, ◌<◌, true, Option, None, Some, List, [], ◌∷◌, ◌++◌, length, drop, set, get_or, refl, sym, ap, subst, ◌∙◌, arith}
-use Rattle.std.specs.Prelude.{◌==◌, min, nat_le, if◌then◌else◌}
+use Rattle.std.proofs.Common.{◌≡◌, ℕ, ◌-◌, ◌%◌, ◌≤◌, ◌^◌, ◌<◌, true, false, Option, None, Some, Ok, List, [], ◌∷◌, ◌++◌, length, drop, set, get_or, refl, sym, ap, subst, ◌∙◌, arith}
+use Rattle.std.specs.Prelude.{nat_le, nat_lt}
+use Rattle.std.proofs.lemmas.Bool.{cond-false, le-ltb}
 use Rattle.std.proofs.lemmas.List.{append-nil}
 use Rattle.std.proofs.Math.ListN.{drop_of_length-le}
 use Rattle.byte_fields.specs.Fields.{number_of, put_at, field_at, number-put}
 use Rattle.block_model.specs.Networks.{Network, width_of}
 use Rattle.opclass_inclusion.specs.NetEncoding.{address_bytes, bytes_of, field_bytes, fields_of}
-use Rattle.opclass_inclusion.specs.NetFaults.{fault_in, field_fault, fields_in}
+use Rattle.opclass_inclusion.specs.Faults.{placed, read_unless}
+use Rattle.opclass_inclusion.specs.NetFaults.{fault_in, field_end, field_fault, fields_in}
 use Rattle.opclass_inclusion.specs.NetHulls.{IsHull, IsSummary}
+use Rattle.opclass_inclusion.specs.NetReading.{from_fields, read_of}
 use Rattle.opclass_inclusion.specs.declared.net_bytes.NetFields.{NetFields}
 use Rattle.opclass_inclusion.specs.declared.net_summary.NetSummary.{NetSummary}
 use Rattle.opclass_inclusion.specs.declared.net_summary.NetSummary.TheVariants.{NothingYet, Unmergeable, Hull}
@@ -58,7 +61,9 @@ address_small (Hull u) lawful = lawful.is_network.address
 fields_read : (s : NetSummary) → IsSummary s → fields_in (bytes_of s) ≡ fields_of s
 fields_read s lawful =
     let f = fields_of s in
-    let address = address_read f (address_small s lawful) in
+    let bytes = bytes_of s in
+    let whole : nat_lt (length bytes) 7 ≡ false = le-ltb (length bytes) 7 (omega (arith, length-fields f)) in
+    let address = cond-false (nat_lt (length bytes) 7) 0 (number_of (field_at bytes 3 4)) whole ∙ address_read f (address_small s lawful) in
     λ i. record { flags = f.flags; family = f.family; prefix = f.prefix; address = address i }
 
 -- the fields of a summary are in form
@@ -77,8 +82,9 @@ in_form (Hull u) lawful = hull_in_form u lawful
 no_fault : (bytes : List ℕ) (s : NetSummary) → IsSummary s → bytes ≡ bytes_of s → fault_in bytes ≡ None
 no_fault bytes s lawful is =
     ap fault_in is
-    ∙ ap (λ (n : ℕ). if n == 7 then field_fault (fields_in (bytes_of s)) else Some (min n 7)) (length-fields (fields_of s))
-    ∙ ap field_fault (fields_read s lawful) ∙ in_form s lawful
+    ∙ ap (λ (n : ℕ). placed n 7 field_end (field_fault (fields_in (bytes_of s)))) (length-fields (fields_of s))
+    ∙ ap (λ (f : NetFields). placed 7 7 field_end (field_fault f)) (fields_read s lawful)
+    ∙ ap (placed 7 7 field_end) (in_form s lawful)
 
 is_none : Option ℕ → Type 0
 is_none None = Unit {0}
@@ -89,15 +95,18 @@ pub faulty : (bytes : List ℕ) (at : ℕ) → fault_in bytes ≡ Some at → (s
 unfolding is_none
 faulty bytes at fault s lawful is = subst is_none (sym (no_fault bytes s lawful is) ∙ fault) tt
 
--- the summary of fields in form
-from_fields : NetFields → NetSummary
-from_fields f = if f.flags == 0 then NothingYet else if f.flags == 1 then Unmergeable else Hull (record { family = f.family; prefix = f.prefix; address = f.address })
-
+-- the summary of its own fields
 from_its_fields : (s : NetSummary) → from_fields (fields_of s) ≡ s
-unfolding from_fields
 from_its_fields NothingYet = refl
 from_its_fields Unmergeable = refl
 from_its_fields (Hull u) = refl
+
+-- bytes that were written are read again
+pub read_again : (s : NetSummary) → IsSummary s → read_of (bytes_of s) ≡ Ok s
+read_again s lawful =
+    ap (λ (fault : Option ℕ). read_unless fault (from_fields (fields_in (bytes_of s)))) (no_fault (bytes_of s) s lawful refl)
+    ∙ ap (λ (f : NetFields). Ok (from_fields f)) (fields_read s lawful)
+    ∙ ap Ok (from_its_fields s)
 
 -- no two summaries have the same bytes
 pub one_meaning : (s t : NetSummary) (bytes : List ℕ) → IsSummary s → IsSummary t → bytes ≡ bytes_of s → bytes ≡ bytes_of t → s ≡ t

@@ -13,7 +13,7 @@ use Rattle.opclass_api.specs.Conditions.{compares, has_null_key, is_null}
 use Rattle.opclass_inclusion.specs.SpanConsistent.{condition_holds, consistent, ends_after, hull_holds, key_holds, range_key_holds, starts_before}
 use Rattle.opclass_inclusion.specs.SpanIncludes.{IncludesRange, Includes}
 use Rattle.opclass_inclusion.specs.declared.span_summary.SpanSummary.{SpanSummary}
-use Rattle.opclass_api.proofs.Asking.{by_kind, fails, null_fails}
+use Rattle.opclass_api.specs.Asking.{by_kind, fails, null_fails}
 use Rattle.opclass_inclusion.proofs.SpanHullLaws.{lower_further, upper_further}
 
 -- ---- bounds

@@ -14,7 +14,7 @@ use Rattle.opclass_inclusion.specs.SpanExact.{ExactSummary, HoldsRange, HoldsVal
 use Rattle.opclass_inclusion.specs.SpanHulls.{hull_of, is_empty, no_range, of_range, united, with_value}
 use Rattle.opclass_inclusion.specs.SpanIncludes.{IsSpan}
 use Rattle.opclass_inclusion.specs.declared.span_summary.SpanSummary.{SpanSummary}
-use Rattle.opclass_api.proofs.ValueLists.{all_back, all_same, empty_lacks}
+use Rattle.opclass_api.specs.ValueLists.{all_back, all_same, empty_lacks}
 use Rattle.opclass_inclusion.proofs.ValueLists.{all_first, all_second}
 use Rattle.opclass_inclusion.proofs.SpanHullLaws.{holds_further, holds_itself, hull_holds_first, hull_holds_second, hull_is_smallest}
 

@@ -1,21 +1,21 @@
 -- the bytes of a summary of ranges, written and read
-use Rattle.std.proofs.Common.{◌≡◌, ℕ, ℤ, pos, negsuc, ◌+◌, ◌≤◌, ◌^◌, ◌<◌, Bool, true, false, Option, None, Some, List, [], ◌∷◌, ◌++◌, length, drop, set, get_or, refl, sym, ap, subst, ◌∙◌, arith, length-append}
-use Rattle.std.specs.Prelude.{FitsSigned, ◌==◌, nat_lt, min, ◌||◌, if◌then◌else◌}
+use Rattle.std.proofs.Common.{◌≡◌, ℕ, ℤ, pos, ◌≤◌, Bool, true, false, Option, None, Some, Ok, List, [], ◌∷◌, ◌++◌, length, drop, set, get_or, refl, sym, ap, subst, ◌∙◌, arith, length-append}
+use Rattle.std.specs.Prelude.{FitsSigned, nat_lt}
+use Rattle.std.proofs.lemmas.Bool.{cond-false, le-ltb}
 use Rattle.std.proofs.lemmas.List.{drop_at, drop-drop, append-nil}
 use Rattle.std.proofs.Math.ListN.{drop_of_length-le}
 use Rattle.std.specs.Int.{w64, cast_unsigned, cast_signed}
 use Rattle.std.proofs.lemmas.Int.{to_z-of_z}
-use Rattle.byte_fields.specs.Fields.{number_of, put_at, field_at, number-put}
+use Rattle.byte_fields.specs.Fields.{number_of, put_at, field_at}
+use Rattle.byte_fields.specs.Int8.{int8_at, int8_bytes, length-int8, number_in}
 use Rattle.block_model.specs.Ranges.{Range, Empty, Between, IsRange, lower_of, upper_of}
-use Rattle.opclass_inclusion.specs.SpanEncoding.{int8_bytes, bytes_of, field_bytes, fields_of, number_of_bound}
-use Rattle.opclass_inclusion.specs.SpanFaults.{fault_in, field_fault, fields_in}
+use Rattle.opclass_inclusion.specs.SpanEncoding.{bytes_of, field_bytes, fields_of, number_of_bound}
+use Rattle.opclass_inclusion.specs.Faults.{placed, read_unless}
+use Rattle.opclass_inclusion.specs.SpanFaults.{fault_in, field_end, field_fault, fields_in}
 use Rattle.opclass_inclusion.specs.SpanHulls.{BoundFits, IsSummary}
+use Rattle.opclass_inclusion.specs.SpanReading.{from_fields, read_of}
 use Rattle.opclass_inclusion.specs.declared.span_bytes.SpanFields.{SpanFields}
 use Rattle.opclass_inclusion.specs.declared.span_summary.SpanSummary.{SpanSummary}
-
-length-int8 : (z : ℤ) → length (int8_bytes z) ≡ 8
-unfolding int8_bytes
-length-int8 z = refl
 
 pub length-fields : (f : SpanFields) → length (field_bytes f) ≡ 18
 length-fields f = omega (arith, length-append (int8_bytes f.lower) (int8_bytes f.upper), length-int8 f.lower, length-int8 f.upper)
@@ -55,17 +55,6 @@ bytes_again l g (a ∷ b ∷ rest) size first second =
     ∙ ap (λ (d : List ℕ). a ∷ b ∷ (int8_bytes l ++ int8_bytes g ++ d)) none
     ∙ ap (λ (d : List ℕ). a ∷ b ∷ d) (append-nil (int8_bytes l ++ int8_bytes g))
 
-unsigned_small : (z : ℤ) → FitsSigned w64 z → cast_unsigned w64 z < 256 ^ 8
-unsigned_small (pos n) fits = omega (arith, fits.sfits)
-unsigned_small (negsuc n) fits = omega arith
-
--- a number of int8 is in its bytes
-number_in : (z : ℤ) (bytes : List ℕ) (at : ℕ) → FitsSigned w64 z → at + 8 ≤ length bytes → put_at bytes at 8 (cast_unsigned w64 z) ≡ bytes → cast_signed w64 (number_of (field_at bytes at 8)) ≡ z
-number_in z bytes at fits within same =
-    ap (λ (b : List ℕ). cast_signed w64 (number_of (field_at b at 8))) (sym same)
-    ∙ ap (cast_signed w64) (number-put bytes at 8 (cast_unsigned w64 z) within (unsigned_small z fits))
-    ∙ to_z-of_z w64 z fits
-
 -- what was written is read
 lower_read : (f : SpanFields) → FitsSigned w64 f.lower → cast_signed w64 (number_of (field_at (field_bytes f) 2 8)) ≡ f.lower
 lower_read f fits =
@@ -90,8 +79,11 @@ bound_fits (Some z) fits = fits
 fields_read : (s : SpanSummary) → IsSummary s → fields_in (bytes_of s) ≡ fields_of s
 fields_read s lawful =
     let f = fields_of s in
-    let lower = lower_read f (bound_fits (lower_of s.hull) lawful.lower_fits) in
-    let upper = upper_read f (bound_fits (upper_of s.hull) lawful.upper_fits) in
+    let bytes = bytes_of s in
+    let first : nat_lt (length bytes) 10 ≡ false = le-ltb (length bytes) 10 (omega (arith, length-fields f)) in
+    let second : nat_lt (length bytes) 18 ≡ false = le-ltb (length bytes) 18 (omega (arith, length-fields f)) in
+    let lower = cond-false (nat_lt (length bytes) 10) (pos 0) (int8_at bytes 2) first ∙ lower_read f (bound_fits (lower_of s.hull) lawful.lower_fits) in
+    let upper = cond-false (nat_lt (length bytes) 18) (pos 0) (int8_at bytes 10) second ∙ upper_read f (bound_fits (upper_of s.hull) lawful.upper_fits) in
     λ i. record { flags = f.flags; shape = f.shape; lower = lower i; upper = upper i }
 
 -- the fields of a summary are in form
@@ -111,8 +103,9 @@ in_form false (Between (Some l) (Some h)) is = rw is refl
 pub no_fault : (bytes : List ℕ) (s : SpanSummary) → IsSummary s → bytes ≡ bytes_of s → fault_in bytes ≡ None
 no_fault bytes s lawful is =
     ap fault_in is
-    ∙ ap (λ (n : ℕ). if n == 18 then field_fault (fields_in (bytes_of s)) else Some (min n 18)) (sized s)
-    ∙ ap field_fault (fields_read s lawful) ∙ in_form s.empty_added s.hull lawful.is_range
+    ∙ ap (λ (n : ℕ). placed n 18 field_end (field_fault (fields_in (bytes_of s)))) (sized s)
+    ∙ ap (λ (f : SpanFields). placed 18 18 field_end (field_fault f)) (fields_read s lawful)
+    ∙ ap (placed 18 18 field_end) (in_form s.empty_added s.hull lawful.is_range)
   where
     sized : (s : SpanSummary) → length (bytes_of s) ≡ 18
     sized s = length-fields (fields_of s)
@@ -126,17 +119,8 @@ pub faulty : (bytes : List ℕ) (at : ℕ) → fault_in bytes ≡ Some at → (s
 unfolding is_none
 faulty bytes at fault s lawful is = subst is_none (sym (no_fault bytes s lawful is) ∙ fault) tt
 
--- the summary of fields in form
-from_fields : SpanFields → SpanSummary
-from_fields f = record {
-  empty_added = (f.flags == 1) || (f.flags == 3);
-  hull =
-      if nat_lt f.flags 2 then Empty
-      else Between (if (f.shape == 2) || (f.shape == 6) then None else Some f.lower) (if (f.shape == 4) || (f.shape == 6) then None else Some f.upper);
-}
-
+-- the summary of its own fields
 from_its_fields : (e : Bool) (u : Range) → from_fields (fields_of (record { empty_added = e; hull = u })) ≡ record { empty_added = e; hull = u }
-unfolding from_fields
 from_its_fields true Empty = refl
 from_its_fields false Empty = refl
 from_its_fields true (Between None None) = refl
@@ -147,6 +131,13 @@ from_its_fields true (Between None (Some h)) = refl
 from_its_fields false (Between None (Some h)) = refl
 from_its_fields true (Between (Some l) (Some h)) = refl
 from_its_fields false (Between (Some l) (Some h)) = refl
+
+-- bytes that were written are read again
+pub read_again : (s : SpanSummary) → IsSummary s → read_of (bytes_of s) ≡ Ok s
+read_again s lawful =
+    ap (λ (fault : Option ℕ). read_unless fault (from_fields (fields_in (bytes_of s)))) (no_fault (bytes_of s) s lawful refl)
+    ∙ ap (λ (f : SpanFields). Ok (from_fields f)) (fields_read s lawful)
+    ∙ ap Ok (from_its_fields s.empty_added s.hull)
 
 -- no two summaries have the same bytes
 pub one_meaning : (s t : SpanSummary) (bytes : List ℕ) → IsSummary s → IsSummary t → bytes ≡ bytes_of s → bytes ≡ bytes_of t → s ≡ t

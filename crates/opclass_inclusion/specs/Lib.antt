@@ -1,12 +1,17 @@
+pub mod Faults
 pub mod NetConsistent
 pub mod NetEncoding
 pub mod NetExact
 pub mod NetFaults
 pub mod NetHulls
+pub mod NetIncluded
 pub mod NetIncludes
+pub mod NetReading
 pub mod SpanConsistent
 pub mod SpanEncoding
 pub mod SpanExact
 pub mod SpanFaults
 pub mod SpanHulls
+pub mod SpanIncluded
 pub mod SpanIncludes
+pub mod SpanReading

@@ -1,6 +1,7 @@
 -- which bytes encode no summary of networks, and where the fault is
-use Rattle.std.specs.Prelude.{ℕ, ◌-◌, ◌%◌, ◌^◌, nat_lt, nat_le, ◌==◌, min, Bool, not, if◌then◌else◌, List, length, slice_index, Option, None, Some}
+use Rattle.std.specs.Prelude.{ℕ, suc, ◌-◌, ◌%◌, ◌^◌, nat_lt, nat_le, ◌==◌, Bool, not, if◌then◌else◌, List, length, slice_index, Option, None, Some}
 use Rattle.byte_fields.specs.Fields.{field_at, number_of}
+use Rattle.opclass_inclusion.specs.Faults.{placed}
 use Rattle.opclass_inclusion.specs.declared.net_bytes.NetFields.{NetFields}
 
 -- flags say one thing at most
@@ -26,15 +27,19 @@ field_fault f =
     else if not (address_in_form f) then Some 3
     else None
 
--- the fields of 7 bytes
+-- where the field that begins at a place ends
+abbrev pub field_end : ℕ → ℕ
+field_end at = if at == 3 then 7 else suc at
+
+-- the fields of the bytes; one that isn't whole counts as 0
 abbrev pub fields_in : List ℕ → NetFields
 fields_in bytes = record {
   flags = slice_index bytes 0;
   family = slice_index bytes 1;
   prefix = slice_index bytes 2;
-  address = number_of (field_at bytes 3 4);
+  address = if nat_lt (length bytes) 7 then 0 else number_of (field_at bytes 3 4);
 }
 
--- bytes of another number are out of form at their end, or at the first byte too many
+-- the first field out of form of 7 bytes
 abbrev pub fault_in : List ℕ → Option ℕ
-fault_in bytes = if length bytes == 7 then field_fault (fields_in bytes) else Some (min (length bytes) 7)
+fault_in bytes = placed (length bytes) 7 field_end (field_fault (fields_in bytes))

@@ -1,5 +1,5 @@
 -- which values a summary of networks includes
-use Rattle.std.specs.Prelude.{◌≡◌, true}
+use Rattle.std.specs.Prelude.{◌≡◌, Bool, true, false}
 use Rattle.block_model.specs.declared.value.Value.{Value}
 use Rattle.block_model.specs.declared.value.Value.TheVariants.{Net}
 use Rattle.block_model.specs.Matches.{is_within}
@@ -22,3 +22,17 @@ abbrev pub Includes : NetSummary → Value → Type 0
 Includes NothingYet v = ⊥
 Includes Unmergeable v = IsNet v
 Includes (Hull u) v = IsIn u v
+
+-- the same as tests
+abbrev pub is_net : Value → Bool
+is_net (Net n) = true
+is_net v = false
+
+abbrev pub is_in : Network → Value → Bool
+is_in u (Net n) = is_within n u
+is_in u v = false
+
+abbrev pub is_included : NetSummary → Value → Bool
+is_included NothingYet v = false
+is_included Unmergeable v = is_net v
+is_included (Hull u) v = is_in u v

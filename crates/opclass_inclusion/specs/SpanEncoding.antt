@@ -1,14 +1,10 @@
 -- the bytes of a summary of ranges
 use Rattle.std.specs.Prelude.{ℕ, ℤ, pos, ◌+◌, Bool, true, false, not, if◌then◌else◌, List, ◌∷◌, ◌++◌, Option, None, Some}
-use Rattle.std.specs.Int.{w64, cast_unsigned, bytes_high_first}
+use Rattle.byte_fields.specs.Int8.{int8_bytes}
 use Rattle.block_model.specs.Ranges.{Range, Empty, Between, lower_of, upper_of}
 use Rattle.opclass_inclusion.specs.SpanHulls.{is_empty}
 use Rattle.opclass_inclusion.specs.declared.span_bytes.SpanFields.{SpanFields}
 use Rattle.opclass_inclusion.specs.declared.span_summary.SpanSummary.{SpanSummary}
-
--- a number of int8: 8 bytes in two's complement, the highest byte first
-unfoldable pub int8_bytes : ℤ → List ℕ
-int8_bytes z = bytes_high_first 8 (cast_unsigned w64 z)
 
 -- the value of a bit
 abbrev pub bit : Bool → ℕ → ℕ

@@ -1,9 +1,9 @@
 -- which bytes encode no summary of ranges, and where the fault is
-use Rattle.std.specs.Prelude.{◌≡◌, ℕ, pos, nat_lt, nat_le, int_lt, ◌==◌, min, Bool, not, ◌||◌, ◌&&◌, false, if◌then◌else◌, List, length, slice_index, Option, None, Some}
-use Rattle.std.specs.Int.{w64, cast_signed}
+use Rattle.std.specs.Prelude.{◌≡◌, ℕ, suc, pos, nat_lt, nat_le, int_lt, ◌==◌, Bool, not, ◌||◌, ◌&&◌, false, if◌then◌else◌, List, length, slice_index, Option, None, Some}
 use Rattle.std.specs.Ordering.{int_eq}
-use Rattle.byte_fields.specs.Fields.{field_at, number_of}
+use Rattle.byte_fields.specs.Int8.{int8_at}
 use Rattle.block_model.specs.Ranges.{Range, lower_of, upper_of}
+use Rattle.opclass_inclusion.specs.Faults.{placed}
 use Rattle.opclass_inclusion.specs.SpanEncoding.{number_of_bound, shape_of}
 use Rattle.opclass_inclusion.specs.SpanHulls.{is_empty}
 use Rattle.opclass_inclusion.specs.declared.span_bytes.SpanFields.{SpanFields}
@@ -46,13 +46,17 @@ field_fault f =
     else if not (upper_in_form f) then Some 10
     else None
 
--- the fields of 18 bytes
+-- where the field that begins at a place ends
+abbrev pub field_end : ℕ → ℕ
+field_end at = if at == 2 then 10 else if at == 10 then 18 else suc at
+
+-- the fields of the bytes; one that isn't whole counts as 0
 abbrev pub fields_in : List ℕ → SpanFields
 fields_in bytes = record {
   flags = slice_index bytes 0;
   shape = slice_index bytes 1;
-  lower = cast_signed w64 (number_of (field_at bytes 2 8));
-  upper = cast_signed w64 (number_of (field_at bytes 10 8));
+  lower = if nat_lt (length bytes) 10 then pos 0 else int8_at bytes 2;
+  upper = if nat_lt (length bytes) 18 then pos 0 else int8_at bytes 10;
 }
 
 -- a range of these fields that isn't empty
@@ -62,6 +66,6 @@ pub record IsHullIn (f : SpanFields) (r : Range) : Type 0 where
   pub lower : number_of_bound (lower_of r) ≡ f.lower
   pub upper : number_of_bound (upper_of r) ≡ f.upper
 
--- bytes of another number are out of form at their end, or at the first byte too many
+-- the first field out of form of 18 bytes
 abbrev pub fault_in : List ℕ → Option ℕ
-fault_in bytes = if length bytes == 18 then field_fault (fields_in bytes) else Some (min (length bytes) 18)
+fault_in bytes = placed (length bytes) 18 field_end (field_fault (fields_in bytes))

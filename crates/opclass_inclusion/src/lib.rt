@@ -3,6 +3,7 @@
 //! They stand on block_model, opclass_api and byte_fields. Layers above name a class by its trait.
 #![tactic(auto)]
 
+mod fields;
 mod net_bytes;
 mod net_class;
 mod net_exact;

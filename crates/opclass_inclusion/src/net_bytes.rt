@@ -1,10 +1,13 @@
 //! Summaries of networks as bytes.
 
-ghost use Rattle.std.specs.Prelude.{◌≡◌, ◌≤◌, ◌-◌, ◌%◌, ◌^◌, ◌==◌, ◌++◌, not, None, Some, IfOk, MatchResult, length, drop};
+ghost use Rattle.std.specs.Prelude.{◌≡◌, ◌<◌, ◌≤◌, ◌-◌, ◌%◌, ◌^◌, ◌==◌, ◌++◌, if◌then◌else◌, nat_lt, not, None, Some, Ok, Err, IfErr, IfOk, MatchResult, length, drop};
+ghost use Rattle.byte_fields.specs.Fields.{field_at, number_of, put_at};
 ghost use Rattle.opclass_inclusion.specs.NetEncoding.{bytes_of, field_bytes, fields_of};
-ghost use Rattle.opclass_inclusion.specs.NetFaults.{fault_in, field_fault, fields_in};
+ghost use Rattle.opclass_inclusion.specs.NetFaults.{fault_in, field_end, field_fault, fields_in};
 ghost use Rattle.opclass_inclusion.specs.NetHulls.{IsSummary};
+ghost use Rattle.opclass_inclusion.specs.NetReading.{read_of};
 
+use crate::fields::{byte_at, field_fault};
 use crate::net_summary::{NetSummary, V4_BITS, v4_address};
 use block_model::Net;
 use byte_fields::{get_u32, put_u32};
@@ -80,32 +83,58 @@ fn without_network(flags: u8) -> NetFields
 /// The summary that the bytes encode. `Err` exactly where they encode none.
 pub(crate) fn read(bytes: &[u8]) -> Result<NetSummary, Malformed>
     ensures found { IfOk result (λ s. IsSummary s × (bytes.now ≡ bytes_of s)) }
-    ensures place { MatchResult result (λ s. fault_in bytes.now ≡ None) (λ e. fault_in bytes.now ≡ Some e.at) }
+    ensures fault { MatchResult result (λ s. fault_in bytes.now ≡ None) (λ e. fault_in bytes.now ≡ Some e.at) }
+    ensures read { MatchResult result (λ s. read_of bytes.now ≡ Ok s) (λ e. read_of bytes.now ≡ Err e.at) }
+    ensures within { IfErr result (λ e. e.at ≤ length bytes.now) }
 {
+    let summary = match summary_in(&fields_in(bytes)) {
+        Ok(summary) => summary,
+        Err(fault) => return Err(field_fault(fault.at, field_end(fault.at), bytes.len())),
+    };
     if bytes.len() != SIZE {
         return Err(Malformed {
             at: bytes.len().min(SIZE),
         });
     }
-    summary_in(&fields_in(bytes))
+    Ok(summary)
 }
 
+fn field_end(at: usize) -> usize
+    requires { at ≤ 3 }
+    ensures end { result ≡ field_end at }
+    ensures later { at < result }
+{
+    if at == ADDRESS_AT { SIZE } else { at + 1 }
+}
+
+/// The fields; one that isn't whole counts as 0.
 fn fields_in(bytes: &[u8]) -> NetFields
-    requires { length bytes.now ≡ 7 }
     ensures fields { result ≡ fields_in bytes.now }
-    ensures whole { bytes.now ≡ field_bytes result }
+    ensures whole { length bytes.now ≡ 7 → bytes.now ≡ field_bytes result }
 {
     NetFields {
-        flags: bytes[FLAGS_AT],
-        family: bytes[FAMILY_AT],
-        prefix: bytes[PREFIX_AT],
-        address: get_u32(bytes, ADDRESS_AT),
+        flags: byte_at(bytes, FLAGS_AT),
+        family: byte_at(bytes, FAMILY_AT),
+        prefix: byte_at(bytes, PREFIX_AT),
+        address: address_in(bytes),
+    }
+}
+
+fn address_in(bytes: &[u8]) -> u32
+    ensures address { result ≡ (if nat_lt (length bytes.now) 7 then 0 else number_of (field_at bytes.now 3 4)) }
+    ensures again { 7 ≤ length bytes.now → put_at bytes.now 3 4 result ≡ bytes.now }
+{
+    if bytes.len() < SIZE {
+        0
+    } else {
+        get_u32(bytes, ADDRESS_AT)
     }
 }
 
 fn summary_in(fields: &NetFields) -> Result<NetSummary, Malformed>
     ensures found { IfOk result (λ s. IsSummary s × (fields_of s ≡ fields.now)) }
     ensures place { MatchResult result (λ s. field_fault fields.now ≡ None) (λ e. field_fault fields.now ≡ Some e.at) }
+    ensures early { IfErr result (λ e. e.at ≤ 3) }
 {
     match fields.flags {
         NOTHING_YET => {
@@ -127,6 +156,7 @@ fn refuse_network(fields: &NetFields) -> Result<(), Malformed>
     ensures prefix { IfOk result (λ ok. fields.now.prefix ≡ 0) }
     ensures address { IfOk result (λ ok. fields.now.address ≡ 0) }
     ensures place { MatchResult result (λ ok. field_fault fields.now ≡ None) (λ e. field_fault fields.now ≡ Some e.at) }
+    ensures early { IfErr result (λ e. e.at ≤ 3) }
 {
     if fields.family != 0 {
         return Err(Malformed { at: FAMILY_AT });
@@ -144,6 +174,7 @@ fn network_in(fields: &NetFields) -> Result<NetSummary, Malformed>
     requires { fields.now.flags ≡ 2 }
     ensures found { IfOk result (λ s. IsSummary s × (fields_of s ≡ fields.now)) }
     ensures place { MatchResult result (λ s. field_fault fields.now ≡ None) (λ e. field_fault fields.now ≡ Some e.at) }
+    ensures early { IfErr result (λ e. e.at ≤ 3) }
 {
     if fields.family != V4 {
         return Err(Malformed { at: FAMILY_AT });

@@ -1,11 +1,14 @@
 //! The class of networks under the trait.
 
-ghost use Rattle.std.specs.Prelude.{◌≡◌, None, Some, OnOk, OnErr, IsOk, IsOkAnd, MatchResult};
+ghost use Rattle.std.specs.Prelude.{◌≡◌, ◌≤◌, length, refl, Ok, Err, OnOk, OnErr, IsOk, IsOkAnd, IfErr, MatchResult};
+ghost use Rattle.block_model.specs.declared.value.Value.{Value};
 ghost use Rattle.opclass_inclusion.specs.NetConsistent.{consistent};
 ghost use Rattle.opclass_inclusion.specs.NetEncoding.{bytes_of};
-ghost use Rattle.opclass_inclusion.specs.NetFaults.{fault_in};
+ghost use Rattle.opclass_inclusion.specs.NetExact.{summary_of};
+ghost use Rattle.opclass_inclusion.specs.NetIncluded.{tested};
 ghost use Rattle.opclass_inclusion.specs.NetHulls.{IsSummary, united, with_value};
-ghost use Rattle.opclass_inclusion.specs.NetIncludes.{Includes, IsNet};
+ghost use Rattle.opclass_inclusion.specs.NetIncludes.{Includes, IsNet, is_included};
+ghost use Rattle.opclass_inclusion.specs.NetReading.{read_of};
 ghost use Rattle.opclass_inclusion.specs.declared.net_summary.NetSummary.TheVariants.{NothingYet};
 
 use crate::net_bytes::{SIZE, read, write};
@@ -34,20 +37,31 @@ impl OpClass for NetHull {
 
     ghost includes = { λ class. Includes };
 
+    ghost is_included = { λ class. is_included };
+
     ghost empty = { λ class. NothingYet };
 
     ghost add = { λ class. with_value };
 
     ghost union = { λ class. united };
 
+    ghost exact = { λ class. summary_of };
+
     ghost consistent = { λ class. consistent };
 
     ghost bytes_of = { λ class. bytes_of };
 
+    ghost read_of = { λ class. read_of };
+
     ghost greatest_size = { λ class. 7 };
 
+    ghost tested = { λ class. tested };
+
+    ghost added_in_order = { λ class values. refl };
+
     fn empty(&self, _alloc: Global) -> Result<NetSummary, NoMemory>
-        ensures { IsOkAnd result (λ s. (s ≡ NothingYet) × IsSummary s) }
+        ensures summary { IsOkAnd result (λ s. (s ≡ NothingYet) × IsSummary s) }
+        ensures includes_nothing { (v : Value) → Includes NothingYet v → ⊥ }
     {
         Ok(NetSummary::new())
     }
@@ -78,7 +92,8 @@ impl OpClass for NetHull {
         ensures found { OnOk result (bytes.now ≡ bytes_of into.new) }
         ensures again { (s : NetSummary) → IsSummary s → bytes.now ≡ bytes_of s → IsOk result × (into.new ≡ s) }
         ensures unchanged { OnErr result (into.new ≡ into.old) }
-        ensures place { MatchResult result (λ ok. fault_in bytes.now ≡ None) (λ e. fault_in bytes.now ≡ Some e.at) }
+        ensures read { MatchResult result (λ ok. read_of bytes.now ≡ Ok into.new) (λ e. read_of bytes.now ≡ Err e.at) }
+        ensures within { IfErr result (λ e. e.at ≤ length bytes.now) }
     {
         *into = read(bytes)?;
         Ok(())

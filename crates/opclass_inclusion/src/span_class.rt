@@ -1,11 +1,14 @@
 //! The class of ranges under the trait.
 
-ghost use Rattle.std.specs.Prelude.{◌≡◌, None, Some, OnOk, OnErr, IsOk, IsOkAnd, MatchResult};
+ghost use Rattle.std.specs.Prelude.{◌≡◌, ◌≤◌, length, refl, Ok, Err, OnOk, OnErr, IsOk, IsOkAnd, IfErr, MatchResult};
+ghost use Rattle.block_model.specs.declared.value.Value.{Value};
 ghost use Rattle.opclass_inclusion.specs.SpanConsistent.{consistent};
 ghost use Rattle.opclass_inclusion.specs.SpanEncoding.{bytes_of};
-ghost use Rattle.opclass_inclusion.specs.SpanFaults.{fault_in};
+ghost use Rattle.opclass_inclusion.specs.SpanExact.{summary_of};
+ghost use Rattle.opclass_inclusion.specs.SpanIncluded.{tested};
 ghost use Rattle.opclass_inclusion.specs.SpanHulls.{IsSummary, no_range, united, with_value};
-ghost use Rattle.opclass_inclusion.specs.SpanIncludes.{Includes, IsSpan};
+ghost use Rattle.opclass_inclusion.specs.SpanIncludes.{Includes, IsSpan, is_included};
+ghost use Rattle.opclass_inclusion.specs.SpanReading.{read_of};
 
 use crate::span_bytes::{SIZE, read, write};
 use crate::span_summary::SpanSummary;
@@ -33,20 +36,31 @@ impl OpClass for SpanHull {
 
     ghost includes = { λ class. Includes };
 
+    ghost is_included = { λ class. is_included };
+
     ghost empty = { λ class. no_range };
 
     ghost add = { λ class. with_value };
 
     ghost union = { λ class. united };
 
+    ghost exact = { λ class. summary_of };
+
     ghost consistent = { λ class. consistent };
 
     ghost bytes_of = { λ class. bytes_of };
 
+    ghost read_of = { λ class. read_of };
+
     ghost greatest_size = { λ class. 18 };
 
+    ghost tested = { λ class. tested };
+
+    ghost added_in_order = { λ class values. refl };
+
     fn empty(&self, _alloc: Global) -> Result<SpanSummary, NoMemory>
-        ensures { IsOkAnd result (λ s. (s ≡ no_range) × IsSummary s) }
+        ensures summary { IsOkAnd result (λ s. (s ≡ no_range) × IsSummary s) }
+        ensures includes_nothing { (v : Value) → Includes no_range v → ⊥ }
     {
         Ok(SpanSummary::new())
     }
@@ -77,7 +91,8 @@ impl OpClass for SpanHull {
         ensures found { OnOk result (bytes.now ≡ bytes_of into.new) }
         ensures again { (s : SpanSummary) → IsSummary s → bytes.now ≡ bytes_of s → IsOk result × (into.new ≡ s) }
         ensures unchanged { OnErr result (into.new ≡ into.old) }
-        ensures place { MatchResult result (λ ok. fault_in bytes.now ≡ None) (λ e. fault_in bytes.now ≡ Some e.at) }
+        ensures read { MatchResult result (λ ok. read_of bytes.now ≡ Ok into.new) (λ e. read_of bytes.now ≡ Err e.at) }
+        ensures within { IfErr result (λ e. e.at ≤ length bytes.now) }
     {
         *into = read(bytes)?;
         Ok(())

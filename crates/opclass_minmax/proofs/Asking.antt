@@ -4,8 +4,8 @@ use Rattle.block_model.specs.declared.value.Value.{Value}
 use Rattle.block_model.specs.declared.value.Value.TheVariants.{Null, Int, Span, Net}
 use Rattle.block_model.specs.declared.row.Cond.{Cond}
 use Rattle.opclass_api.specs.Conditions.{compares, AllCompare, meets, meets_all, has_null_key, is_null}
-use Rattle.opclass_api.proofs.Asking as Asked
-use Rattle.opclass_api.proofs.NumbersKept.{key_kept, key_null}
+use Rattle.opclass_api.specs.Asking as Asked
+use Rattle.opclass_api.specs.NumbersKept.{key_kept, key_null}
 use Rattle.opclass_minmax.specs.Bounds.{Bounds, NothingYet, Between}
 use Rattle.opclass_minmax.specs.Includes.{Includes}
 use Rattle.opclass_minmax.specs.Consistent.{consistent, condition_holds}

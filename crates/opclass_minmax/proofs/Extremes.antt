@@ -10,7 +10,7 @@ use Rattle.block_model.specs.declared.value.Value.TheVariants.{Null, Int, Span, 
 use Rattle.opclass_minmax.specs.Bounds.{Bounds, NothingYet, Between, with_value, united}
 use Rattle.opclass_minmax.specs.Includes.{IsInt, IsWithin, Includes}
 use Rattle.opclass_api.specs.SameValues.{HaveSameValues}
-use Rattle.opclass_api.proofs.ValueLists.{all_same, none_has, none_same}
+use Rattle.opclass_api.specs.ValueLists.{all_same, none_has, none_same}
 use Rattle.opclass_minmax.specs.ExactSummary.{ExactSummary}
 
 chosen_there : (xs : List Value) (b : Bool) (x y : ℤ) → Contains xs (Int x) → Contains xs (Int y) → Contains xs (Int (cond b x y))

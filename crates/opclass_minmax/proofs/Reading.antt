@@ -1,17 +1,16 @@
 -- the bytes of a summary, written and read
-use Rattle.std.proofs.Common.{◌≡◌, ℕ, ℤ, pos, negsuc, ◌+◌, ◌≤◌, ◌≤ℤ◌, ◌<ℤ◌, ◌^◌, ◌<◌, List, [], ◌++◌, length, drop, refl, sym, ap, ◌∙◌, arith, length-append}
+use Rattle.std.proofs.Common.{◌≡◌, ℕ, ℤ, ◌≤◌, ◌≤ℤ◌, ◌<ℤ◌, ◌<◌, List, [], ◌++◌, length, drop, refl, sym, ap, ◌∙◌, arith, length-append}
 use Rattle.std.proofs.lemmas.List.{take_at, drop_at, drop-drop, append-nil}
 use Rattle.std.proofs.Math.ListN.{drop_of_length-le}
-use Rattle.std.specs.Prelude.{FitsSigned}
+use Rattle.std.specs.Prelude.{FitsSigned, ◌==◌, nat_lt, int_lt, false, Ok}
+use Rattle.std.proofs.lemmas.Bool.{cond-false}
 use Rattle.std.specs.Int.{w64, cast_unsigned, cast_signed, int_min, int_max}
 use Rattle.std.proofs.lemmas.Int.{to_z-of_z, ints}
-use Rattle.byte_fields.specs.Fields.{number_of, put_at, field_at, number-put}
+use Rattle.byte_fields.specs.Fields.{number_of, put_at, field_at}
+use Rattle.byte_fields.specs.Int8.{int8_at, int8_bytes, length-int8, number_in}
 use Rattle.opclass_minmax.specs.Bounds.{Bounds, NothingYet, Between, IsSummary, IsOrdered, widened}
-use Rattle.opclass_minmax.specs.Encoding.{int8_bytes, bytes_of}
-
-length-int8 : (z : ℤ) → length (int8_bytes z) ≡ 8
-unfolding int8_bytes
-length-int8 z = refl
+use Rattle.opclass_minmax.specs.Encoding.{bytes_of}
+use Rattle.opclass_minmax.specs.Reading.{both_in, read_of}
 
 pub length-between : (l g : ℤ) → length (bytes_of (Between l g)) ≡ 16
 length-between l g = length-append (int8_bytes l) (int8_bytes g) ∙ omega (arith, length-int8 l, length-int8 g)
@@ -40,17 +39,6 @@ written_both l g out first new fits also put after =
     ∙ ap (λ (b : List ℕ). put_at b 8 8 (cast_unsigned w64 g)) (put ∙ ap (λ (z : ℤ). put_at out 0 8 (cast_unsigned w64 z)) (to_z-of_z w64 l fits) ∙ put_front l out)
     ∙ put_behind l g (drop 8 out)
     ∙ ap (λ (d : List ℕ). bytes_of (Between l g) ++ d) (drop-drop 8 8 out)
-
-unsigned_small : (z : ℤ) → FitsSigned w64 z → cast_unsigned w64 z < 256 ^ 8
-unsigned_small (pos n) fits = omega (arith, fits.sfits)
-unsigned_small (negsuc n) fits = omega arith
-
--- a number of int8 is in its bytes
-number_in : (z : ℤ) (bytes : List ℕ) (at : ℕ) → FitsSigned w64 z → at + 8 ≤ length bytes → put_at bytes at 8 (cast_unsigned w64 z) ≡ bytes → cast_signed w64 (number_of (field_at bytes at 8)) ≡ z
-number_in z bytes at fits within same =
-    ap (λ (b : List ℕ). cast_signed w64 (number_of (field_at b at 8))) (sym same)
-    ∙ ap (cast_signed w64) (number-put bytes at 8 (cast_unsigned w64 z) within (unsigned_small z fits))
-    ∙ to_z-of_z w64 z fits
 
 -- what was written is read
 first_read : (l g : ℤ) (bytes : List ℕ) → IsOrdered l g → bytes ≡ bytes_of (Between l g) → cast_signed w64 (number_of (field_at bytes 0 8)) ≡ l
@@ -82,7 +70,7 @@ bytes_again l g bytes size first second =
     ∙ append-nil (bytes_of (Between l g))
 
 -- two values out of order are no summary
-pub out_of_order : (l g : ℤ) (bytes : List ℕ) → length bytes ≡ 16 → l ≡ cast_signed w64 (number_of (field_at bytes 0 8)) → g ≡ cast_signed w64 (number_of (field_at bytes 8 8)) → g <ℤ l → (s : Bounds) → IsSummary s → bytes ≡ bytes_of s → ⊥
+pub out_of_order : (l g : ℤ) (bytes : List ℕ) → 16 ≤ length bytes → l ≡ cast_signed w64 (number_of (field_at bytes 0 8)) → g ≡ cast_signed w64 (number_of (field_at bytes 8 8)) → g <ℤ l → (s : Bounds) → IsSummary s → bytes ≡ bytes_of s → ⊥
 out_of_order l g bytes size first second below NothingYet lawful is = absurd (omega (arith, size, ap length is))
 out_of_order l g bytes size first second below (Between low high) lawful is =
     let least : l ≡ low = first ∙ first_read low high bytes lawful is in
@@ -104,6 +92,21 @@ one_meaning (Between l g) (Between low high) bytes first second is was =
     let least : l ≡ low = sym (first_read l g bytes first is) ∙ first_read low high bytes second was in
     let greatest : g ≡ high = sym (second_read l g bytes first is) ∙ second_read low high bytes second was in
     rw (least, greatest) refl
+
+-- bytes that were written are read again
+pub read_again : (s : Bounds) → IsSummary s → read_of (bytes_of s) ≡ Ok s
+read_again NothingYet lawful = refl
+read_again (Between l g) lawful =
+    let bytes = bytes_of (Between l g) in
+    let size = length-between l g in
+    let least : int8_at bytes 0 ≡ l = first_read l g bytes lawful refl in
+    let greatest : int8_at bytes 8 ≡ g = second_read l g bytes lawful refl in
+    let order : int_lt g l ≡ false = (let below : l ≤ℤ g = lawful.in_order in grind (arith, ints)) in
+    cond-false (length bytes == 0) (Ok NothingYet) (both_in bytes) (ap (λ (n : ℕ). n == 0) size)
+    ∙ cond-false (nat_lt (length bytes) 16) _ _ (ap (λ (n : ℕ). nat_lt n 16) size)
+    ∙ cond-false (int_lt (int8_at bytes 8) (int8_at bytes 0)) _ _ ((λ i. int_lt (greatest i) (least i)) ∙ order)
+    ∙ cond-false (nat_lt 16 (length bytes)) _ _ (ap (λ (n : ℕ). nat_lt 16 n) size)
+    ∙ (λ i. Ok (Between (least i) (greatest i)))
 
 -- widened bounds have bytes
 pub widened_has_bytes : (s : Bounds) (low high : ℤ) → 0 < length (bytes_of (widened s low high))

@@ -1,8 +1,9 @@
 //! Summaries as bytes.
 
-ghost use Rattle.std.specs.Prelude.{◌≡◌, ◌≤◌, ◌++◌, ℕ, length, drop, IfErr, IfOk, IsErr};
+ghost use Rattle.std.specs.Prelude.{◌≡◌, ◌≤◌, ◌++◌, length, drop, Ok, Err, IfErr, IfOk, IsErr, MatchResult};
 ghost use Rattle.opclass_minmax.specs.Bounds.{Bounds, IsSummary};
-ghost use Rattle.opclass_minmax.specs.Encoding.{bytes_of, fault_place};
+ghost use Rattle.opclass_minmax.specs.Encoding.{bytes_of};
+ghost use Rattle.opclass_minmax.specs.Reading.{read_of};
 
 use crate::summary::{Extremes, Summary};
 use byte_fields::{get_i64, put_i64};
@@ -10,6 +11,10 @@ use opclass_api::Malformed;
 
 /// How many bytes a summary has at most: those of two numbers.
 pub(crate) const GREATEST_SIZE: usize = 16;
+
+const LEAST_AT: usize = 0;
+
+const GREATEST_AT: usize = 8;
 
 /// Writes the bytes of a summary to the front of `out`, and answers how many they are.
 pub(crate) fn write(s: &Summary, out: &mut [u8]) -> usize
@@ -21,8 +26,8 @@ pub(crate) fn write(s: &Summary, out: &mut [u8]) -> usize
     match s.extremes() {
         None => 0,
         Some(extremes) => {
-            put_i64(out, 0, extremes.least);
-            put_i64(out, 8, extremes.greatest);
+            put_i64(out, LEAST_AT, extremes.least);
+            put_i64(out, GREATEST_AT, extremes.greatest);
             GREATEST_SIZE
         }
     }
@@ -32,20 +37,22 @@ pub(crate) fn write(s: &Summary, out: &mut [u8]) -> usize
 pub(crate) fn read(bytes: &[u8]) -> Result<Summary, Malformed>
     ensures found { IfOk result (λ s. IsSummary s × (bytes.now ≡ bytes_of s)) }
     ensures refused { IsErr result → (s : Bounds) → IsSummary s → bytes.now ≡ bytes_of s → ⊥ }
-    ensures place { IfErr result (λ e. e.at ≡ fault_place (length bytes.now)) }
+    ensures read { MatchResult result (λ s. read_of bytes.now ≡ Ok s) (λ e. read_of bytes.now ≡ Err e.at) }
+    ensures within { IfErr result (λ e. e.at ≤ length bytes.now) }
 {
-    match bytes.len() {
-        0 => Ok(Summary::new()),
-        16 => {
-            let least = get_i64(bytes, 0);
-            let greatest = get_i64(bytes, 8);
-            if greatest < least {
-                return Err(Malformed { at: 8 });
-            }
-            Ok(Summary::of(least, greatest))
-        }
-        len => Err(Malformed {
-            at: len.min(GREATEST_SIZE),
-        }),
+    if bytes.is_empty() {
+        return Ok(Summary::new());
     }
+    if bytes.len() < GREATEST_SIZE {
+        return Err(Malformed { at: bytes.len() });
+    }
+    let least = get_i64(bytes, LEAST_AT);
+    let greatest = get_i64(bytes, GREATEST_AT);
+    if greatest < least {
+        return Err(Malformed { at: GREATEST_AT });
+    }
+    if GREATEST_SIZE < bytes.len() {
+        return Err(Malformed { at: GREATEST_SIZE });
+    }
+    Ok(Summary::of(least, greatest))
 }

@@ -1,11 +1,14 @@
 //! The class under the trait.
 
-ghost use Rattle.std.specs.Prelude.{◌≡◌, length, OnOk, OnErr, IsOk, IsOkAnd, IfErr};
+ghost use Rattle.std.specs.Prelude.{◌≡◌, ◌≤◌, length, refl, Ok, Err, OnOk, OnErr, IsOk, IsOkAnd, IfErr, MatchResult};
 ghost use Rattle.block_model.specs.declared.value.Value.{Value};
 ghost use Rattle.opclass_minmax.specs.Bounds.{Bounds, NothingYet, IsSummary, with_value, united};
-ghost use Rattle.opclass_minmax.specs.Includes.{IsInt, Includes};
+ghost use Rattle.opclass_minmax.specs.ExactSummary.{summary_of};
+ghost use Rattle.opclass_minmax.specs.Included.{tested};
+ghost use Rattle.opclass_minmax.specs.Includes.{IsInt, Includes, is_included};
 ghost use Rattle.opclass_minmax.specs.Consistent.{consistent};
-ghost use Rattle.opclass_minmax.specs.Encoding.{bytes_of, fault_place};
+ghost use Rattle.opclass_minmax.specs.Encoding.{bytes_of};
+ghost use Rattle.opclass_minmax.specs.Reading.{read_of};
 
 use crate::bytes::{GREATEST_SIZE, read, write};
 use crate::summary::Summary;
@@ -33,20 +36,31 @@ impl OpClass for MinMax {
 
     ghost includes = { λ class. Includes };
 
+    ghost is_included = { λ class. is_included };
+
     ghost empty = { λ class. NothingYet };
 
     ghost add = { λ class. with_value };
 
     ghost union = { λ class. united };
 
+    ghost exact = { λ class. summary_of };
+
     ghost consistent = { λ class. consistent };
 
     ghost bytes_of = { λ class. bytes_of };
 
+    ghost read_of = { λ class. read_of };
+
     ghost greatest_size = { λ class. 16 };
 
+    ghost tested = { λ class. tested };
+
+    ghost added_in_order = { λ class values. refl };
+
     fn empty(&self, _alloc: Global) -> Result<Summary, NoMemory>
-        ensures { IsOkAnd result (λ s. (s ≡ NothingYet) × IsSummary s) }
+        ensures summary { IsOkAnd result (λ s. (s ≡ NothingYet) × IsSummary s) }
+        ensures includes_nothing { (v : Value) → Includes NothingYet v → ⊥ }
     {
         Ok(Summary::new())
     }
@@ -79,7 +93,8 @@ impl OpClass for MinMax {
         ensures found { OnOk result (bytes.now ≡ bytes_of into.new) }
         ensures again { (s : Bounds) → IsSummary s → bytes.now ≡ bytes_of s → IsOk result × (into.new ≡ s) }
         ensures unchanged { OnErr result (into.new ≡ into.old) }
-        ensures place { IfErr result (λ e. e.at ≡ fault_place (length bytes.now)) }
+        ensures read { MatchResult result (λ ok. read_of bytes.now ≡ Ok into.new) (λ e. read_of bytes.now ≡ Err e.at) }
+        ensures within { IfErr result (λ e. e.at ≤ length bytes.now) }
     {
         *into = read(bytes)?;
         Ok(())

@@ -56,6 +56,7 @@ impl Summary {
     pub fn known(&self)
         ensures { IsSummary self.now }
     {
+        // The toolchain opens the invariant where a field is read.
         let _ = &self.kept;
     }
 

@@ -8,8 +8,8 @@ use Rattle.block_model.specs.declared.value.Value.TheVariants.{Null, Int, Span, 
 use Rattle.block_model.specs.declared.row.Cond.{Cond}
 use Rattle.opclass_api.specs.Conditions.{AllCompare, meets_all, has_null_key}
 use Rattle.opclass_api.specs.NumberBounds.{key_holds}
-use Rattle.opclass_api.proofs.Asking as Asked
-use Rattle.opclass_api.proofs.NumbersKept.{key_kept, key_null}
+use Rattle.opclass_api.specs.Asking as Asked
+use Rattle.opclass_api.specs.NumbersKept.{key_kept, key_null}
 use Rattle.opclass_multi.specs.declared.element.Element.{Element}
 use Rattle.opclass_multi.specs.Elements.{covers, holds}
 use Rattle.opclass_multi.specs.Kept.{Kept}

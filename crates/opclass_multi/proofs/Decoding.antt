@@ -1,30 +1,25 @@
 -- bytes that are read: what was written is read again, and what is read was written
-use Rattle.std.proofs.Common.{◌≡◌, ℕ, zero, suc, ◌+◌, ◌-◌, ◌^◌, ◌≤◌, ◌<◌, ℤ, pos, negsuc, ◌≤ℤ◌, Bool, true, false, cond, Option, None, Some, Result, Ok, Err, List, [], ◌∷◌, ◌++◌, length, take, drop, FitsSigned, refl, sym, ap, subst, ◌∙◌, arith, inl, inr, append_assoc, length-append}
-use Rattle.std.specs.Prelude.{int_lt, nat_lt, ◌==◌, ◌&&◌, OnOk, OnErr, IfErr, IsOk}
-use Rattle.std.specs.Int.{w64, cast_unsigned, cast_signed, bytes_high_first}
+use Rattle.std.proofs.Common.{◌≡◌, ℕ, zero, suc, ◌+◌, ◌-◌, ◌^◌, ◌≤◌, ◌<◌, ℤ, ◌≤ℤ◌, Bool, true, false, cond, Option, None, Some, Result, Ok, Err, List, [], ◌∷◌, ◌++◌, length, take, drop, FitsSigned, refl, sym, ap, subst, ◌∙◌, arith, inl, inr, append_assoc, length-append}
+use Rattle.std.specs.Prelude.{int_lt, nat_lt, ◌==◌, ◌&&◌, OnOk, OnErr, IfErr, IsOk, MatchResult}
+use Rattle.std.specs.Int.{w64, cast_signed, bytes_high_first}
 use Rattle.std.specs.List.{flat_map}
 use Rattle.std.proofs.lemmas.Bool.{cond-true, cond-false, cases_lt, and_parts, eqb-true, ltb-true, ltb-false, lt-ltb, le-ltb}
-use Rattle.std.proofs.lemmas.Int.{to_z-of_z, of_z-to_z, ints}
-use Rattle.std.proofs.lemmas.List.{append-nil, take_at, drop_at, drop-drop, take-append-drop, get_or-drop, get_or-take, get_or_past, length-take, drop_all, drop_more}
+use Rattle.std.proofs.lemmas.Int.{of_z-to_z, ints}
+use Rattle.std.proofs.lemmas.List.{append-nil, take_at, drop_at, drop-drop, take-append-drop, get_or-drop, get_or-take, get_or_past, length-take, length-drop, take_all, drop_all, drop_more}
+use Rattle.std.proofs.lemmas.List.Edits.{take-paste}
+use Rattle.std.proofs.Math.Seq.{paste}
 use Rattle.std.proofs.lemmas.List.Sums.{sum_by-cons}
 use borrow.Author.Gap.{read_sfits}
 use Rattle.byte_fields.specs.Fields.{AreBytes, field_at, number_of, number-fits, number-bytes, bytes-number, length-field, length-number}
+use Rattle.byte_fields.specs.Int8.{int8_bytes, length-int8, number_back}
 use Rattle.opclass_multi.specs.declared.element.Element.{Element}
 use Rattle.opclass_multi.specs.Elements.{point, IsOrdered, StartsAfter, AreApart, weight, count_of}
-use Rattle.opclass_multi.specs.Encoding.{int8_bytes, element_bytes, size_of, elements_bytes}
-use Rattle.opclass_multi.specs.Reading.{number_at, is_above, point_in, interval_in, element_in, behind, read_on, elements_in, counted_in, read_of}
+use Rattle.opclass_multi.specs.Encoding.{element_bytes, size_of, elements_bytes}
+use Rattle.opclass_multi.specs.Reading.{number_at, is_above, point_in, interval_in, element_in, behind, read_on, elements_in, counted_in, read_of, kept_in, summary_in}
 use Rattle.opclass_multi.proofs.Reducing.{count_least, weight_bounds}
-use Rattle.opclass_multi.proofs.Writing.{length-int8, interval_bytes, point_bytes, interval_size, point_size, by_width, length-element}
+use Rattle.opclass_multi.proofs.Writing.{interval_bytes, point_bytes, interval_size, point_size, by_width, length-element}
 
 -- ---- what was written is read again
-unsigned_small : (z : ℤ) → FitsSigned w64 z → cast_unsigned w64 z < 256 ^ 8
-unsigned_small (pos n) fits = omega (arith, fits.sfits)
-unsigned_small (negsuc n) fits = omega arith
-
-number_back : (z : ℤ) → FitsSigned w64 z → cast_signed w64 (number_of (int8_bytes z)) ≡ z
-unfolding int8_bytes
-number_back z fits = ap (cast_signed w64) (number-bytes 8 (cast_unsigned w64 z) (unsigned_small z fits)) ∙ to_z-of_z w64 z fits
-
 front_number : (z : ℤ) (rest : List ℕ) → FitsSigned w64 z → number_at (int8_bytes z ++ rest) 0 ≡ z
 unfolding number_at
 front_number z rest fits = ap (λ (bytes : List ℕ). cast_signed w64 (number_of bytes)) (take_at (int8_bytes z) rest 8 (length-int8 z)) ∙ number_back z fits
@@ -369,3 +364,15 @@ again_after place (Ok u) limit bytes new es few found fault apart within is =
 again_after place (Err e) limit bytes new es few found fault apart within is =
     let again : read_of limit bytes ≡ Ok es = ap (read_of limit) is ∙ read_again limit es few apart within in
     absurd (cc)
+
+pub read_after : {E : Type 0} (place : E → ℕ) (r : Result (Unit {0}) E) (limit kept own : ℕ) (bytes : List ℕ) (new : List Element) → kept ≡ limit → kept ≡ own → OnOk r (read_of limit bytes ≡ Ok new)
+    → IfErr r (λ e. read_of limit bytes ≡ Err (place e)) → MatchResult r (λ ok. summary_in own bytes ≡ Ok (record { limit = kept; elements = new })) (λ e. summary_in own bytes ≡ Err (place e))
+read_after place (Ok u) limit kept own bytes new passed is found fault = ap (λ n. summary_in n bytes) (sym is ∙ passed) ∙ ap (kept_in limit) found ∙ (λ i. Ok (record { limit = sym passed i; elements = new }))
+read_after place (Err e) limit kept own bytes new passed is found fault = ap (λ n. summary_in n bytes) (sym is ∙ passed) ∙ ap (kept_in limit) fault
+
+-- the elements behind the first ones, moved to the front
+pub moved : (old n : ℕ) (xs : List Element) → old ≤ length xs → n ≡ length xs - old → take n (paste xs 0 (drop old xs) n) ≡ drop old xs
+moved old n xs within is =
+    let size : length (drop old xs) ≡ n = omega (arith, length-drop old xs) in
+    let whole : n ≡ 0 + n = omega arith in
+    ap (λ k. take k (paste xs 0 (drop old xs) n)) whole ∙ take-paste xs 0 (drop old xs) n (omega arith) (omega arith) ∙ take_all n (drop old xs) (omega arith)

@@ -1,5 +1,5 @@
 -- elements that are reduced: which, how far, and what stays
-use Rattle.std.proofs.Common.{◌≡◌, ℕ, zero, suc, ◌*◌, ◌<◌, ◌≤◌, ℤ, ◌≤ℤ◌, ◌<ℤ◌, Bool, true, false, ◌||◌, ◌&&◌, List, [], ◌∷◌, length, get_or, set, refl, sym, ap, ◌∙◌, arith, inl, inr}
+use Rattle.std.proofs.Common.{◌≡◌, ℕ, zero, suc, ◌+◌, ◌*◌, ◌<◌, ◌≤◌, ℤ, ◌≤ℤ◌, ◌<ℤ◌, Bool, true, false, ◌||◌, ◌&&◌, List, [], ◌∷◌, length, get_or, set, refl, sym, ap, ◌∙◌, arith, inl, inr}
 use Rattle.std.specs.Prelude.{int_lt, nat_lt}
 use Rattle.std.specs.List.{remove}
 use Rattle.std.proofs.lemmas.Bool.{cond_both, cond-true, cond-false, cases_order, and_parts, ltb-true, ltb-false, lt-ltb, le-ltb}
@@ -65,6 +65,20 @@ merged_keeps (e ∷ f ∷ fs) zero p q apart held =
     or_merged (covers p q e) (covers p q f) (holds fs p q) (covers p q (record { least = e.least; greatest = f.greatest })) held
     (merged_covers e.least e.greatest f.least f.greatest p q apart.0.in_order apart.1 apart.2.0.in_order)
 merged_keeps (e ∷ es) (suc at) p q apart held = or_later (covers p q e) (holds es p q) (holds (merged_at es at) p q) held (merged_keeps es at p q apart.2)
+
+-- it counts 2 in place of what both counted
+pub count_merged : (es : List Element) (at : ℕ) (x y : Element) → suc at < length es → AreApart es → count_of (merged_at es at) + (weight (get_or es at x) + weight (get_or es (suc at) y)) ≡ suc (suc (count_of es))
+count_merged [] at x y within apart = absurd (omega arith)
+count_merged (e ∷ []) zero x y within apart = absurd (omega arith)
+count_merged (e ∷ f ∷ fs) zero x y within apart =
+    let both : Element = record { least = e.least; greatest = f.greatest } in
+    let first : e.least ≤ℤ e.greatest = apart.0.in_order in
+    let between : e.greatest <ℤ f.least = apart.1 in
+    let second : f.least ≤ℤ f.greatest = apart.2.0.in_order in
+    let wide : int_lt e.least f.greatest ≡ true = grind (arith, ints) in
+    let two : weight both ≡ 2 = cond-true (int_lt e.least f.greatest) 2 1 wide in
+    omega (arith, two, sum_by-cons weight both fs, sum_by-cons weight e (f ∷ fs), sum_by-cons weight f fs)
+count_merged (e ∷ es) (suc at) x y within apart = omega (arith, sum_by-cons weight e (merged_at es at), sum_by-cons weight e es, count_merged es at x y (omega arith) apart.2)
 
 -- the code of a merger
 pub merged_is : (es : List Element) (at : ℕ) (x later : Element) → suc at < length es → x ≡ get_or (remove es (suc at)) at x → later ≡ get_or es (suc at) later → set (remove es (suc at)) at (record { least = x.least; greatest = later.greatest }) ≡ merged_at es at

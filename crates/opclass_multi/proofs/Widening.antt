@@ -22,7 +22,7 @@ ordered_point v fits = record { least_fits = fits; greatest_fits = fits; in_orde
 point_covers : (v : ℤ) → covers v v (point v) ≡ true
 point_covers v = grind (arith, ints)
 
-apart_point : (v : ℤ) (es : List Element) → FitsSigned w64 v → AreApart es → AreApart (with_element (point v) es)
+pub apart_point : (v : ℤ) (es : List Element) → FitsSigned w64 v → AreApart es → AreApart (with_element (point v) es)
 apart_point v es fits apart = apart_with (point v) es (ordered_point v fits) apart
 
 -- a number more, and they are apart

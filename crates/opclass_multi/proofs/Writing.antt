@@ -7,14 +7,11 @@ use Rattle.std.proofs.lemmas.Bool.{cond-true, cond-false, cond_both}
 use Rattle.std.proofs.lemmas.Int.{to_z-of_z}
 use Rattle.std.proofs.lemmas.List.{append-nil, take_at, drop_at, drop-drop, length-take-le, length-drop, set_split, take_more, flat_map_more}
 use Rattle.byte_fields.specs.Fields.{put_at, length-number}
+use Rattle.byte_fields.specs.Int8.{int8_bytes, length-int8}
 use Rattle.opclass_multi.specs.declared.element.Element.{Element}
 use Rattle.opclass_multi.specs.Elements.{weight, count_of}
-use Rattle.opclass_multi.specs.Encoding.{int8_bytes, element_bytes, size_of, elements_bytes, written_at}
+use Rattle.opclass_multi.specs.Encoding.{element_bytes, size_of, elements_bytes, written_at}
 use Rattle.std.proofs.lemmas.List.Sums.{sum_by-cons}
-
-pub length-int8 : (z : ℤ) → length (int8_bytes z) ≡ 8
-unfolding int8_bytes
-length-int8 z = refl
 
 -- an interval and a point
 pub interval_bytes : (e : Element) → int_lt e.least e.greatest ≡ true → element_bytes e ≡ 1 ∷ (int8_bytes e.least ++ int8_bytes e.greatest)

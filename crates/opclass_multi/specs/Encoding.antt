@@ -1,13 +1,10 @@
 -- the bytes of a summary
-use Rattle.std.specs.Prelude.{ℕ, ℤ, int_lt, if◌then◌else◌, ◌+◌, List, ◌∷◌, ◌++◌, length, take, drop}
-use Rattle.std.specs.Int.{w64, cast_unsigned, bytes_high_first}
+use Rattle.std.specs.Prelude.{ℕ, int_lt, if◌then◌else◌, ◌+◌, List, ◌∷◌, ◌++◌, length, take, drop}
+use Rattle.std.specs.Int.{bytes_high_first}
 use Rattle.std.specs.List.{flat_map}
+use Rattle.byte_fields.specs.Int8.{int8_bytes}
 use Rattle.opclass_multi.specs.declared.element.Element.{Element}
 use Rattle.opclass_multi.specs.Kept.{Kept}
-
--- a number of int8: 8 bytes in two's complement, the highest byte first
-unfoldable pub int8_bytes : ℤ → List ℕ
-int8_bytes z = bytes_high_first 8 (cast_unsigned w64 z)
 
 -- a point: a byte 0 and its number; an interval: a byte 1 and both ends
 abbrev pub element_bytes : Element → List ℕ

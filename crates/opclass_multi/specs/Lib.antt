@@ -2,6 +2,7 @@ pub mod Consistent
 pub mod Elements
 pub mod Encoding
 pub mod ExactSummary
+pub mod Included
 pub mod Includes
 pub mod Joined
 pub mod Kept

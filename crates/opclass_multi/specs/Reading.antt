@@ -5,6 +5,7 @@ use Rattle.byte_fields.specs.Fields.{field_at, number_of}
 use Rattle.opclass_multi.specs.declared.element.Element.{Element}
 use Rattle.opclass_multi.specs.Elements.{point, weight}
 use Rattle.opclass_multi.specs.Encoding.{size_of}
+use Rattle.opclass_multi.specs.Kept.{Kept}
 
 -- the number of int8 in the 8 bytes from a place
 unfoldable pub number_at : List ℕ → ℕ → ℤ
@@ -61,3 +62,11 @@ counted_in limit n bytes = if nat_lt limit n then Err 0 else behind 2 [] (elemen
 -- the elements that the bytes encode within the limit
 abbrev pub read_of : ℕ → List ℕ → Result (List Element) ℕ
 read_of limit bytes = if nat_lt (length bytes) 2 then Err (length bytes) else counted_in limit (number_of (field_at bytes 0 2)) (drop 2 bytes)
+
+-- the summary of these elements
+abbrev pub kept_in : ℕ → Result (List Element) ℕ → Result Kept ℕ
+kept_in limit (Ok es) = Ok (record { limit = limit; elements = es })
+kept_in limit (Err at) = Err at
+
+abbrev pub summary_in : ℕ → List ℕ → Result Kept ℕ
+summary_in limit bytes = kept_in limit (read_of limit bytes)

@@ -59,12 +59,13 @@ pub(crate) fn read(bytes: &[u8], limit: usize, elements: &mut Vec<Element>) -> R
     ensures found { OnOk result (read_of limit bytes.now ≡ Ok elements.new.items) }
     ensures unchanged { OnErr result (elements.new.items ≡ elements.old.items) }
     ensures place { IfErr result (λ e. read_of limit bytes.now ≡ Err e.at) }
-    ensures room { vec_capacity elements.old ≤ vec_capacity elements.new }
+    ensures within { IfErr result (λ e. e.at ≤ length bytes.now) }
+    ensures room { vec_capacity elements.new ≡ vec_capacity elements.old }
 {
     let old = elements.len();
     match read_behind(bytes, limit, elements) {
         Ok(()) => {
-            elements.rotate_left(old);
+            elements.copy_within(old.., 0);
             elements.truncate(elements.len() - old);
             Ok(())
         }
@@ -81,9 +82,10 @@ fn read_behind(bytes: &[u8], limit: usize, elements: &mut Vec<Element>) -> Resul
     requires room { vec_len elements.old + limit ≤ vec_capacity elements.old }
     ensures found { OnOk result (read_of limit bytes.now ≡ Ok (drop (vec_len elements.old) elements.new.items)) }
     ensures place { IfErr result (λ e. read_of limit bytes.now ≡ Err e.at) }
+    ensures within { IfErr result (λ e. e.at ≤ length bytes.now) }
     ensures stays { take (vec_len elements.old) elements.new.items ≡ elements.old.items }
     ensures size { vec_len elements.old ≤ vec_len elements.new }
-    ensures room { vec_capacity elements.old ≤ vec_capacity elements.new }
+    ensures room { vec_capacity elements.new ≡ vec_capacity elements.old }
 {
     if bytes.len() < NUMBER_SIZE {
         return Err(Malformed { at: bytes.len() });
@@ -113,7 +115,8 @@ fn read_behind(bytes: &[u8], limit: usize, elements: &mut Vec<Element>) -> Resul
 
 /// The element at the front of the bytes, or the place of its first field that is out of form.
 fn read_element(bytes: &[u8], intervals: usize, before: Option<i64>) -> Result<Element, usize>
-    ensures { result ≡ element_in intervals before bytes.now }
+    ensures element { result ≡ element_in intervals before bytes.now }
+    ensures within { IfErr result (λ place. place ≤ length bytes.now) }
 {
     if bytes.is_empty() {
         return Err(0);
@@ -126,7 +129,8 @@ fn read_element(bytes: &[u8], intervals: usize, before: Option<i64>) -> Result<E
 }
 
 fn read_point(bytes: &[u8], before: Option<i64>) -> Result<Element, usize>
-    ensures { result ≡ point_in before bytes.now }
+    ensures point { result ≡ point_in before bytes.now }
+    ensures within { IfErr result (λ place. place ≤ 1 + length bytes.now) }
 {
     if bytes.len() < INT8_SIZE {
         return Err(1 + bytes.len());
@@ -139,7 +143,8 @@ fn read_point(bytes: &[u8], before: Option<i64>) -> Result<Element, usize>
 }
 
 fn read_interval(bytes: &[u8], before: Option<i64>) -> Result<Element, usize>
-    ensures { result ≡ interval_in before bytes.now }
+    ensures interval { result ≡ interval_in before bytes.now }
+    ensures within { IfErr result (λ place. place ≤ 1 + length bytes.now) }
 {
     if bytes.len() < INT8_SIZE {
         return Err(1 + bytes.len());

@@ -1,11 +1,13 @@
 //! The class under the trait.
 
-ghost use Rattle.std.specs.Prelude.{◌≡◌, ◌+◌, ◌*◌, ◌↔◌, OnOk, OnErr, IsOk, IsSome, IfSome, IfErr, Err};
+ghost use Rattle.std.specs.Prelude.{◌≡◌, ◌≤◌, ◌+◌, ◌*◌, ◌↔◌, length, refl, Ok, Err, OnOk, OnErr, IsOk, IsSome, IfSome, IfErr, MatchResult};
 ghost use Rattle.opclass_multi.specs.Kept.{IsLimit, IsSummary, nothing_yet, with_value, united, Kept};
-ghost use Rattle.opclass_multi.specs.Includes.{IsInt, Includes};
+ghost use Rattle.opclass_multi.specs.ExactSummary.{exact_summary};
+ghost use Rattle.opclass_multi.specs.Included.{tested};
+ghost use Rattle.opclass_multi.specs.Includes.{IsInt, Includes, is_included};
 ghost use Rattle.opclass_multi.specs.Consistent.{consistent};
 ghost use Rattle.opclass_multi.specs.Encoding.{bytes_of};
-ghost use Rattle.opclass_multi.specs.Reading.{read_of};
+ghost use Rattle.opclass_multi.specs.Reading.{summary_in};
 
 use crate::summary::Summary;
 use block_model::{Cond, NoMemory, Value};
@@ -64,17 +66,27 @@ impl OpClass for Multi {
 
     ghost includes = { λ class. Includes };
 
+    ghost is_included = { λ class. is_included };
+
     ghost empty = { nothing_yet };
 
     ghost add = { λ class. with_value };
 
     ghost union = { λ class. united };
 
+    ghost exact = { exact_summary };
+
     ghost consistent = { λ class. consistent };
 
     ghost bytes_of = { λ class. bytes_of };
 
+    ghost read_of = { summary_in };
+
     ghost greatest_size = { λ class. 2 + 9 * class };
+
+    ghost tested = { λ class. tested };
+
+    ghost added_in_order = { λ class values. refl };
 
     fn empty(&self, alloc: Global) -> Result<Summary, NoMemory> {
         Summary::new(alloc, self.limit())
@@ -105,7 +117,8 @@ impl OpClass for Multi {
         ensures found { OnOk result (bytes.now ≡ bytes_of into.new) }
         ensures again { (s : Kept) → IsSummary self.now s → bytes.now ≡ bytes_of s → IsOk result × (into.new ≡ s) }
         ensures unchanged { OnErr result (into.new ≡ into.old) }
-        ensures place { IfErr result (λ e. read_of self.now bytes.now ≡ Err e.at) }
+        ensures read { MatchResult result (λ ok. summary_in self.now bytes.now ≡ Ok into.new) (λ e. summary_in self.now bytes.now ≡ Err e.at) }
+        ensures within { IfErr result (λ e. e.at ≤ length bytes.now) }
     {
         into.read(bytes)
     }

@@ -10,7 +10,7 @@ pub(crate) fn join(elements: &mut Vec<Element>, others: &[Element])
     requires { vec_len elements.old + length others.now ≤ vec_capacity elements.old }
     ensures joined { elements.new.items ≡ joined elements.old.items others.now }
     ensures size { vec_len elements.new ≤ vec_len elements.old + length others.now }
-    ensures room { vec_capacity elements.old ≤ vec_capacity elements.new }
+    ensures room { vec_capacity elements.new ≡ vec_capacity elements.old }
 {
     'others: for other in others {
         add(elements, *other);
@@ -22,7 +22,7 @@ pub(crate) fn add(elements: &mut Vec<Element>, element: Element)
     requires { vec_len elements.old < vec_capacity elements.old }
     ensures joined { elements.new.items ≡ with_element element elements.old.items }
     ensures size { vec_len elements.new ≤ vec_len elements.old + 1 }
-    ensures room { vec_capacity elements.old ≤ vec_capacity elements.new }
+    ensures room { vec_capacity elements.new ≡ vec_capacity elements.old }
 {
     let mut new = element;
     let mut at = 0;
@@ -47,7 +47,7 @@ fn insert_within(elements: &mut Vec<Element>, at: usize, element: Element)
     requires spare { vec_len elements.old < vec_capacity elements.old }
     ensures put { elements.new.items ≡ insert elements.old.items at element }
     ensures size { vec_len elements.new ≡ vec_len elements.old + 1 }
-    ensures room { vec_capacity elements.old ≤ vec_capacity elements.new }
+    ensures room { vec_capacity elements.new ≡ vec_capacity elements.old }
 {
     let Ok(()) = elements.insert(at, element) else {
         unreachable!()

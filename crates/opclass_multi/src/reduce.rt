@@ -1,7 +1,7 @@
 //! Elements reduced to what a limit allows.
 
 ghost use Rattle.std.specs.Prelude.{◌≡◌, ◌+◌, ◌≤◌, ◌<◌, ◌^◌, length, vec_len, vec_capacity};
-ghost use Rattle.opclass_multi.specs.Elements.{count_of};
+ghost use Rattle.opclass_multi.specs.Elements.{AreApart, count_of};
 ghost use Rattle.opclass_multi.specs.Reduced.{gap_at, IsLeastGap, merged_at, reduced};
 
 use crate::element::Element;
@@ -10,11 +10,15 @@ use crate::element::Element;
 pub(crate) fn reduce(elements: &mut Vec<Element>, limit: usize)
     requires some { 2 ≤ limit }
     requires few { vec_len elements.old ≤ 2 ^ 32 }
+    requires apart { AreApart elements.old.items }
     ensures reduced { elements.new.items ≡ reduced limit elements.old.items }
     ensures room { vec_capacity elements.new ≡ vec_capacity elements.old }
 {
-    'mergers: while limit < count(elements.as_slice()) {
+    let mut counted = count(elements.as_slice());
+    'mergers: while limit < counted {
         let at = least_gap(elements.as_slice());
+        // The interval that they become counts 2.
+        counted = counted + 2 - elements[at].weight() - elements[at + 1].weight();
         merge(elements, at);
     }
 }
@@ -33,8 +37,11 @@ fn least_gap(elements: &[Element]) -> usize
     ensures { IsLeastGap elements.now result }
 {
     let mut least = 0;
+    let mut narrowest = gap(elements, 0);
     'places: for at in 1..elements.len() - 1 {
-        if gap(elements, at) < gap(elements, least) {
+        let here = gap(elements, at);
+        if here < narrowest {
+            narrowest = here;
             least = at;
         }
     }

@@ -1,10 +1,10 @@
 //! The summary of the multi-minmax class.
 
-ghost use Rattle.std.specs.Prelude.{◌≡◌, ◌≢◌, true, false, Err, OnOk, OnErr, IsOk, IfOk, IfErr, ◌++◌, ◌≤◌, ◌+◌, ◌*◌, length, drop};
+ghost use Rattle.std.specs.Prelude.{◌≡◌, ◌≢◌, true, false, Ok, Err, OnOk, OnErr, IsOk, IfOk, IfErr, MatchResult, ◌++◌, ◌≤◌, ◌+◌, ◌*◌, length, drop};
 ghost use Rattle.opclass_multi.specs.Kept.{Kept, IsLimit, IsSummary, nothing_yet, with_number, united};
 ghost use Rattle.opclass_multi.specs.Consistent.{consistent};
 ghost use Rattle.opclass_multi.specs.Encoding.{bytes_of};
-ghost use Rattle.opclass_multi.specs.Reading.{read_of};
+ghost use Rattle.opclass_multi.specs.Reading.{summary_in};
 
 use crate::bytes::{read, write};
 use crate::conditions::may_meet;
@@ -16,7 +16,8 @@ use std::alloc::Global;
 use std::marker::Model;
 
 /// Points and intervals in ascending order, no two with a common number, that count at most a limit: a point 1, an
-/// interval 2. It has room for the elements of two summaries.
+/// interval 2. Its room is for the elements of two summaries and one more, from its making on: no call takes or gives back
+/// memory.
 #[derive(Debug, Drop)]
 pub struct Summary {
     limit: u16,
@@ -28,12 +29,12 @@ impl Model for Summary {
 
     ghost Value = { Kept };
 
-    ghost use Rattle.std.specs.Prelude.{◌<◌, ◌*◌, vec_capacity};
+    ghost use Rattle.std.specs.Prelude.{◌≡◌, ◌+◌, ◌*◌, vec_capacity};
     ghost use Rattle.opclass_multi.specs.Kept.{IsLimit, IsSummary};
 
     ghost view = { λ a. record { limit = a.limit; elements = a.elements.items } };
 
-    ghost invariant = { λ a. IsLimit a.limit × IsSummary a.limit (record { limit = a.limit; elements = a.elements.items }) × (2 * a.limit < vec_capacity a.elements) };
+    ghost invariant = { λ a. IsLimit a.limit × IsSummary a.limit (record { limit = a.limit; elements = a.elements.items }) × (vec_capacity a.elements ≡ 2 * a.limit + 1) };
 }
 
 impl Summary {
@@ -110,7 +111,8 @@ impl Summary {
         ensures found { OnOk result (bytes.now ≡ bytes_of self.new) }
         ensures again { (s : Kept) → IsSummary self.old.limit s → bytes.now ≡ bytes_of s → IsOk result × (self.new ≡ s) }
         ensures unchanged { OnErr result (self.new ≡ self.old) }
-        ensures place { IfErr result (λ e. read_of self.old.limit bytes.now ≡ Err e.at) }
+        ensures read { MatchResult result (λ ok. summary_in self.old.limit bytes.now ≡ Ok self.new) (λ e. summary_in self.old.limit bytes.now ≡ Err e.at) }
+        ensures within { IfErr result (λ e. e.at ≤ length bytes.now) }
     {
         read(bytes, usize::from(self.limit), &mut self.elements)
     }

@@ -19,7 +19,7 @@ pub(crate) fn widen(elements: &mut Vec<Element>, limit: usize, v: i64) -> bool
     ensures widened { elements.new.items ≡ (if holds elements.old.items v v then elements.old.items else reduced limit (with_element (point v) elements.old.items)) }
     ensures apart { AreApart elements.new.items }
     ensures within { count_of elements.new.items ≤ limit }
-    ensures room { 2 * limit < vec_capacity elements.new }
+    ensures room { vec_capacity elements.new ≡ vec_capacity elements.old }
     ensures same { result ≡ false → elements.new.items ≡ elements.old.items }
     ensures changed { result ≡ true → elements.new.items ≢ elements.old.items }
 {
@@ -42,7 +42,7 @@ pub(crate) fn unite(elements: &mut Vec<Element>, limit: usize, others: &[Element
     ensures widened { elements.new.items ≡ reduced limit (joined elements.old.items others.now) }
     ensures apart { AreApart elements.new.items }
     ensures within { count_of elements.new.items ≤ limit }
-    ensures room { 2 * limit < vec_capacity elements.new }
+    ensures room { vec_capacity elements.new ≡ vec_capacity elements.old }
     ensures same { result ≡ false → elements.new.items ≡ elements.old.items }
     ensures changed { result ≡ true → elements.new.items ≢ elements.old.items }
 {

@@ -16,7 +16,7 @@ returns-in-Err-clause-place c =
     let bytes : List ℕ = c.args.bytes.now in
     let number = c.from-number.result in
     let got : element_in c.elements.intervals c.elements.before (drop c.elements.at bytes) ≡ Err c.in-Err.place =
-    sym (c.read_element.ensures ∙ ap (element_in c.elements.intervals c.elements.before) (take_rest bytes c.elements.at)) ∙ c.in-Err.is in
+    sym (c.read_element.ensures.element ∙ ap (element_in c.elements.intervals c.elements.before) (take_rest bytes c.elements.at)) ∙ c.in-Err.is in
     on_fault (read_of c.args.limit bytes) c.elements.at (number - (c.elements.counter + 1)) (number - c.elements.counter) c.elements.intervals c.in-Err.place _ c.elements.before bytes (omega arith) c.elements.invariant.so_far got
 
 pub elements-preserved : goal.elements-preserved
@@ -29,7 +29,7 @@ elements-preserved c =
     let items : List Element = c.elements.elements.items in
     let old = c.args.elements.now.len in
     let got : element_in intervals c.elements.before (drop at bytes) ≡ Ok e =
-    sym (c.read_element.ensures ∙ ap (element_in intervals c.elements.before) (take_rest bytes at)) ∙ c.in-Ok.is in
+    sym (c.read_element.ensures.element ∙ ap (element_in intervals c.elements.before) (take_rest bytes at)) ∙ c.in-Ok.is in
     let small : AreBytes bytes = λ i. let byte = c.type_inv.bytes i in omega (arith, byte) in
     let one = element_taken intervals c.elements.before (drop at bytes) e (AreBytes-drop at bytes small) got in
     let within : size_of e ≤ length (drop at bytes) = taken_within intervals c.elements.before (drop at bytes) e one in
@@ -44,7 +44,7 @@ elements-preserved c =
       within = omega (arith, c.size-at.ensures, length-drop at bytes);
       few = omega (arith, c.weight.ensures, (weight_bounds e).0);
       size = omega (arith, c.push_reserved.ensures.len);
-      room = omega (arith, c.push_reserved.ensures.capacity);
+      room = c.push_reserved.ensures.capacity ∙ c.elements.invariant.room;
       stays = ap (take old) c.push_reserved.ensures.items ∙ take-append-le old items (e ∷ []) room ∙ c.elements.invariant.stays;
       so_far =
           on_more (read_of c.args.limit bytes) at (number - (c.elements.counter + 1)) (number - c.elements.counter) intervals (drop old items) c.elements.before bytes e (omega arith) c.elements.invariant.so_far got

@@ -6,20 +6,20 @@ use Rattle.opclass_multi.specs.Reading.{is_above}
 use Rattle.opclass_multi.proofs.Judging.{interval_below, interval_short, interval_narrow, interval_found}
 use Rattle.opclass_multi.proofs.bytes.read_interval.Goals as goal
 
-pub returns-then-not-is_above : goal.returns-then-not-is_above
-returns-then-not-is_above c =
+pub returns-then-not-is_above-clause-interval : goal.returns-then-not-is_above-clause-interval
+returns-then-not-is_above-clause-interval c =
     let fits : FitsSigned w64 c.int8_at-least.result = search rules in
     let same = to_z-of_z w64 c.int8_at-least.result fits ∙ c.int8_at-least.ensures in
     interval_below c.args.before c.args.bytes.now c.if-bytes-lt-INT8_SIZE.false (sym (c.is_above.ensures ∙ ap (is_above c.args.before) same) ∙ c.if-not-is_above.true)
 
-pub returns-then-bytes : goal.returns-then-bytes
-returns-then-bytes c =
+pub returns-then-bytes-clause-interval : goal.returns-then-bytes-clause-interval
+returns-then-bytes-clause-interval c =
     let fits : FitsSigned w64 c.int8_at-least.result = search rules in
     let same = to_z-of_z w64 c.int8_at-least.result fits ∙ c.int8_at-least.ensures in
     interval_short c.args.before c.args.bytes.now c.if-bytes-lt-INT8_SIZE.false (sym (c.is_above.ensures ∙ ap (is_above c.args.before) same) ∙ c.if-not-is_above.false) c.if-bytes.true
 
-pub returns-then-greatest-least : goal.returns-then-greatest-least
-returns-then-greatest-least c =
+pub returns-then-greatest-least-clause-interval : goal.returns-then-greatest-least-clause-interval
+returns-then-greatest-least-clause-interval c =
     let fits : FitsSigned w64 c.int8_at-least.result = search rules in
     let also : FitsSigned w64 c.int8_at-greatest.result = search rules in
     let same = to_z-of_z w64 c.int8_at-least.result fits ∙ c.int8_at-least.ensures in
@@ -27,8 +27,8 @@ returns-then-greatest-least c =
     interval_narrow c.args.before c.args.bytes.now (sym (c.is_above.ensures ∙ ap (is_above c.args.before) same) ∙ c.if-not-is_above.false) c.if-bytes.false
     ((λ i. int_lt (sym c.int8_at-least.ensures i) (sym c.int8_at-greatest.ensures i)) ∙ narrow)
 
-pub returns : goal.returns
-returns c =
+pub returns-clause-interval : goal.returns-clause-interval
+returns-clause-interval c =
     let fits : FitsSigned w64 c.int8_at-least.result = search rules in
     let also : FitsSigned w64 c.int8_at-greatest.result = search rules in
     let same = to_z-of_z w64 c.int8_at-least.result fits ∙ c.int8_at-least.ensures in

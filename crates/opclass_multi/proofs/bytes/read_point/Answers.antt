@@ -6,14 +6,14 @@ use Rattle.opclass_multi.specs.Reading.{is_above}
 use Rattle.opclass_multi.proofs.Judging.{point_below, point_found}
 use Rattle.opclass_multi.proofs.bytes.read_point.Goals as goal
 
-pub returns-then-not-is_above : goal.returns-then-not-is_above
-returns-then-not-is_above c =
+pub returns-then-not-is_above-clause-point : goal.returns-then-not-is_above-clause-point
+returns-then-not-is_above-clause-point c =
     let fits : FitsSigned w64 c.int8_at-number.result = search rules in
     let same = to_z-of_z w64 c.int8_at-number.result fits ∙ c.int8_at-number.ensures in
     point_below c.args.before c.args.bytes.now c.if-bytes-lt-INT8_SIZE.false (sym (c.is_above.ensures ∙ ap (is_above c.args.before) same) ∙ c.if-not-is_above.true)
 
-pub returns : goal.returns
-returns c =
+pub returns-clause-point : goal.returns-clause-point
+returns-clause-point c =
     let fits : FitsSigned w64 c.int8_at-number.result = search rules in
     let same = to_z-of_z w64 c.int8_at-number.result fits ∙ c.int8_at-number.ensures in
     ap Ok (c.point.ensures ∙ ap point same)

@@ -4,6 +4,7 @@ use Rattle.opclass_multi.specs.declared.element.Element.{Element}
 use Rattle.opclass_multi.specs.Elements.{AreApart, count_of, holds}
 use Rattle.opclass_multi.specs.Joined.{joined}
 use Rattle.opclass_multi.specs.Reduced.{reduced}
+use Rattle.opclass_multi.proofs.Joining.{apart_joined}
 use Rattle.opclass_multi.proofs.Reducing.{count_least}
 use Rattle.opclass_multi.proofs.Widening.{apart_united, within_limit, united_same, united_changed}
 use Rattle.opclass_multi.proofs.widen.unite.Goals as goal
@@ -21,6 +22,9 @@ join-requires c = omega (arith, c.args.elements.now.ok, count_least c.args.eleme
 
 pub reduce-requires-clause-few : goal.reduce-requires-clause-few
 reduce-requires-clause-few c = omega (arith, c.args.elements.now.ok, c.join.ensures.size, count_least c.args.elements.now.items, count_least c.args.others.now)
+
+pub reduce-requires-clause-apart : goal.reduce-requires-clause-apart
+reduce-requires-clause-apart c = subst AreApart (sym c.join.ensures.joined) (apart_joined c.args.elements.now.items c.args.others.now c.requires.apart c.requires.others_apart)
 
 -- what the two calls leave
 left : (c : goal.After-reduce) → c.reduce.new.elements.items ≡ reduced c.args.limit (joined c.args.elements.now.items c.args.others.now)

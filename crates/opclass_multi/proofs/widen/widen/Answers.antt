@@ -7,7 +7,7 @@ use Rattle.opclass_multi.specs.Elements.{point, AreApart, count_of, holds}
 use Rattle.opclass_multi.specs.Joined.{with_element}
 use Rattle.opclass_multi.specs.Reduced.{reduced}
 use Rattle.opclass_multi.proofs.Reducing.{count_least}
-use Rattle.opclass_multi.proofs.Widening.{apart_widened, widened_holds, within_limit}
+use Rattle.opclass_multi.proofs.Widening.{apart_point, apart_widened, widened_holds, within_limit}
 use Rattle.opclass_multi.proofs.widen.widen.Goals as goal
 
 pub add-requires : goal.add-requires
@@ -15,6 +15,12 @@ add-requires c = omega (arith, c.args.elements.now.ok, count_least c.args.elemen
 
 pub reduce-requires-clause-few : goal.reduce-requires-clause-few
 reduce-requires-clause-few c = omega (arith, c.args.elements.now.ok, count_least c.args.elements.now.items)
+
+pub reduce-requires-clause-apart : goal.reduce-requires-clause-apart
+reduce-requires-clause-apart c =
+    let point_is = c.point.ensures ∙ ap point (to_z-of_z w64 c.args.v c.ranges.v) in
+    let added = c.add.ensures.joined ∙ ap (λ (e : Element). with_element e c.args.elements.now.items) point_is in
+    subst AreApart (sym added) (apart_point c.args.v c.args.elements.now.items c.ranges.v c.requires.apart)
 
 -- what the two calls leave
 left : (c : goal.After-reduce) → c.reduce.new.elements.items ≡ reduced c.args.limit (with_element (point c.args.v) c.args.elements.now.items)

@@ -4,7 +4,7 @@ use Rattle.opclass_api.specs.declared.class.Malformed.{Malformed}
 use Rattle.opclass_multi.specs.Elements.{AreApart, count_of}
 use Rattle.opclass_multi.specs.Kept.{Kept}
 use Rattle.opclass_multi.proofs.Reducing.{count_least}
-use Rattle.opclass_multi.proofs.Decoding.{lawful_after, found_after, again_after}
+use Rattle.opclass_multi.proofs.Decoding.{lawful_after, found_after, again_after, read_after}
 use Rattle.opclass_multi.proofs.summary.Summary.read.Goals as goal
 
 pub read-requires-clause-room : goal.read-requires-clause-room
@@ -22,7 +22,7 @@ lawful c =
 
 pub invariant_of-self : goal.invariant_of-self
 invariant_of-self c =
-    (c.self.invariant.0, record { own_limit = refl; apart = (lawful c).0; within = omega (arith, (lawful c).1, c.from.ensures) }, omega (arith, c.self.invariant.2, c.read.ensures.room))
+    (c.self.invariant.0, record { own_limit = refl; apart = (lawful c).0; within = omega (arith, (lawful c).1, c.from.ensures) }, c.read.ensures.room ∙ c.self.invariant.2)
 
 own_limit : (c : goal.After-read) → c.self.inside.limit ≡ c.args.self.now.limit
 own_limit c = ap (λ (s : Kept). s.limit) c.self.view_is
@@ -38,3 +38,7 @@ returns-clause-again c = λ s is_of is.
     let both = again_after (λ (e : Malformed). e.at) c.read.result c.from.result c.args.bytes.now c.read.new.elements.items s.elements
     (omega (arith, c.from.ensures, c.self.invariant.0.greatest)) c.read.ensures.found c.read.ensures.place is_of.apart (omega (arith, is_of.within, c.from.ensures, own_limit c)) is in
     (both.0, λ i. record { limit = (own_limit c ∙ sym is_of.own_limit) i; elements = both.1 i })
+
+pub returns-clause-read : goal.returns-clause-read
+returns-clause-read c =
+    read_after (λ (e : Malformed). e.at) c.read.result c.from.result c.self.inside.limit c.args.self.now.limit c.args.bytes.now c.read.new.elements.items (omega (arith, c.from.ensures)) (own_limit c) c.read.ensures.found c.read.ensures.place
