@@ -1,5 +1,5 @@
 -- Where nobody is at work, a covered index is what steps keep.
-use Rattle.std.proofs.Common.{◌≡◌, inl, inr, ⊎_elim, ℕ, ◌/◌, ◌<◌, Some, Bool, true, sym, ◌∙◌, ap, subst, rules}
+use Rattle.std.proofs.Common.{◌≡◌, inl, inr, ⊎_elim, ℕ, ◌/◌, ◌≤◌, ◌<◌, Some, Bool, true, sym, ◌∙◌, ap, subst, arith, rules}
 use Rattle.std.specs.Prelude.{IsTrue}
 use Rattle.std.proofs.lemmas.Option.{same_Some, none-some}
 use Rattle.std.proofs.lemmas.Bool.{false≢true}
@@ -70,14 +70,17 @@ module _ (w v : IndexState) (kept : IsIndexKept w) (stops : Stops w v) where
       (λ (has : IsTrue (t.includes r)). inl has)
       (λ (waits : (t.placeholder ≡ true) × AllAwait (index_view w) b r).
       inr (waits.0, λ s p is. absurd (nobody_builds' s (range_of_block (index_view v) b) p is)))
-      (settled x t (ap (λ m. w.entry (b / m)) (sym stops.heap.pages_per_range) ∙ sym (stops.map.entry (range_of_block (index_view v) b)) ∙ named)
+      (settled x t (ap (λ m. w.entry (b / m)) (sym stops.pages_per_range) ∙ sym (stops.map.entry (range_of_block (index_view v) b)) ∙ named)
       (sym (stops.tuples.tuple x) ∙ here))
+
+  within : (b n m : ℕ) → b < n → n ≤ m → b < m
+  within b n m low more = omega arith
 
   pub stopped_kept : IsIndexKept v
   stopped_kept = record {
     sound = record {
-      ranged = subst (λ n. 0 < n) (sym stops.heap.pages_per_range) kept.sound.ranged;
-      rows_below = λ b k r there. subst (λ n. b < n) (sym stops.heap.blocks) (kept.sound.rows_below b k r (sym (stops.heap.row b k) ∙ there));
+      ranged = subst (λ n. 0 < n) (sym stops.pages_per_range) kept.sound.ranged;
+      rows_below = λ b k r there. within b w.blocks v.blocks (kept.sound.rows_below b k r (sym (stops.row b k) ∙ there)) stops.blocks;
       entries_name_tuples = λ m x named.
           let t = kept.sound.entries_name_tuples m x (sym (stops.map.entry m) ∙ named) in
           (t.0, stops.tuples.tuple x ∙ t.1, t.2);
@@ -97,5 +100,5 @@ module _ (w v : IndexState) (kept : IsIndexKept w) (stops : Stops w v) where
         (λ (a : IsAccounted (index_view w) b r). inl (stopped_accounted b r a))
         (λ (i : (s : ℕ) × (on_index : OnIndex) × (w.statement s ≡ Inserting b k r on_index)).
         absurd (false≢true (sym (stops.running i.0 b k r i.1 i.2) ∙ counted)))
-        (kept.rows b k r (sym (stops.heap.row b k) ∙ there) (stops.counts r.id.t counted));
+        (kept.rows b k r (sym (stops.row b k) ∙ there) (stops.counts r.id.t counted));
   }

@@ -355,11 +355,13 @@ pub data Run : List ℕ → IndexState → IndexState → Type 0 where
   Done : (w : IndexState) → Run [] w w
   Next : (s : ℕ) (rest : List ℕ) (w u v : IndexState) → Step s w u → Run rest u v → Run (s ∷ rest) w v
 
--- After a stop nobody is at work. The pages are the same; each tuple that was loose is one that the map doesn't name; and rows
--- whose insert was running don't count.
+-- After a stop nobody is at work. The pages are the same, but for heap blocks that were started and have no row; each tuple that
+-- was loose is one that the map doesn't name; and rows whose insert was running don't count.
 pub record Stops (w v : IndexState) : Type 0 where
   pub rest : IsAtRest v
-  pub heap : SameHeap (index_view w) (index_view v)
+  pub pages_per_range : v.pages_per_range ≡ w.pages_per_range
+  pub blocks : w.blocks ≤ v.blocks
+  pub row : (b k : ℕ) → v.row b k ≡ w.row b k
   pub map : SameMap (index_view w) (index_view v)
   pub tuples : SameTuples (index_view w) (index_view v)
   pub unnamed : (x : TuplePlace) (t : IndexTuple) → v.tuple x ≡ Some t → (v.entry t.range ≡ Some x) ⊎ IsTrue (v.unnamed x)

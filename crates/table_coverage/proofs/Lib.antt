@@ -4,6 +4,7 @@ pub mod TableSettled
 pub mod TableScans
 pub mod TableOpening
 pub mod TableBlocked
+pub mod TableLocks
 pub mod TableSeen
 pub mod Onward
 pub mod ScanHasStep

@@ -14,6 +14,7 @@ use Rattle.table_coverage.specs.TableSteps.{GivesLock, TableStep, TableRun, Tabl
 use Rattle.table_coverage.specs.TableCovered.{SeesRows, IsTableKept}
 use Rattle.table_coverage.proofs.TableRuns.{dropped_spares}
 use Rattle.table_coverage.proofs.TableSettled.{between_kept, indexes_kept}
+use Rattle.table_coverage.proofs.TableLocks.{does_lock, settles_lock}
 
 -- the scan of a task
 abbrev scan_of : Task → Option TableScan
@@ -227,18 +228,25 @@ settles_own s w v kept (GoesOn old new onward turns only) scan is =
     rows_same w v only.rows.row scan (onward_seen w old new onward (λ q e. kept.scans s q (turns.was ∙ e)) scan (sym turns.now ∙ is))
 settles_own s w v kept (GivesLock old done turns given rows indexes) scan is = absurd (none-some _ (ap scan_of (sym turns.now ∙ is)))
 
+-- the state between what a step does and where its statement comes
+pub table_between_kept : (s : ℕ) (w v : TableState) → IsTableKept w → Does s w v → IsTableKept v
+table_between_kept s w v kept does =
+    let left = does_leaves s w v does in
+    record {
+      indexes = between_kept s w v kept.indexes does;
+      summarise_lock = does_lock s w v kept.summarise_lock does;
+      rows_below = below_after s w v kept left;
+      scans = all_seen s w v kept left (does_own s w v kept does);
+    }
+
 pub table_step_kept : (s : ℕ) (w v : TableState) → IsTableKept w → TableStep s w v → IsTableKept v
 table_step_kept s w v kept step =
     let u = step.between in
-    let left = does_leaves s w u step.does in
-    let between : IsTableKept u = record {
-      indexes = between_kept s w v kept.indexes step;
-      rows_below = below_after s w u kept left;
-      scans = all_seen s w u kept left (does_own s w u kept step.does);
-    } in
+    let between = table_between_kept s w u kept step.does in
     let more = settles_leaves s u v step.settles in
     record {
       indexes = indexes_kept s w v kept.indexes step;
+      summarise_lock = settles_lock s u v between.summarise_lock step.settles;
       rows_below = below_after s u v between more;
       scans = all_seen s u v between more (settles_own s u v between step.settles);
     }

@@ -19,7 +19,7 @@ use Rattle.table_coverage.proofs.TableRuns.{vacuuming_holds, maintained_holds, r
 use Rattle.table_coverage.proofs.TableRuns.{refuses_insert, takes_lock, maintains, refuses_maintain, gives_lock, prunes, sweeps_page, begins_scan, ends_scan}
 use Rattle.table_coverage.proofs.TableRuns.{judges, reads_block}
 
-job_lock_kept : (job : Job) (s range : ℕ) (w v : IndexView) (old : Phase) (new : Statement) → JobStep job s range w v old new
+pub job_lock_kept : (job : Job) (s range : ℕ) (w v : IndexView) (old : Phase) (new : Statement) → JobStep job s range w v old new
     → v.summarise_lock ≡ w.summarise_lock
 job_lock_kept (EachRange extent) s range w v old new step = (summarise_keeps s range w v old new step).1
 job_lock_kept (OneRange extent only) s range w v old new step = (summarise_keeps s range w v old new step).1
@@ -178,9 +178,9 @@ settles_layout s w v (GoesOn old new onward turns only) = only.rows.layout.index
 settles_layout s w v (GivesLock old done turns given rows indexes) = rows.layout.indexes
 
 -- within a step
-pub between_kept : (s : ℕ) (w v : TableState) → AreIndexesKept w → (step : TableStep s w v) → AreIndexesKept step.between
-between_kept s w v kept step j inside = does_kept s w step.between kept j (subst (λ n. j < n) (does_layout s w step.between step.does) inside) step.does
+pub between_kept : (s : ℕ) (w v : TableState) → AreIndexesKept w → Does s w v → AreIndexesKept v
+between_kept s w v kept does j inside = does_kept s w v kept j (subst (λ n. j < n) (does_layout s w v does) inside) does
 
 pub indexes_kept : (s : ℕ) (w v : TableState) → AreIndexesKept w → TableStep s w v → AreIndexesKept v
 indexes_kept s w v kept step i below =
-    settles_kept s step.between v (between_kept s w v kept step) i (subst (λ n. i < n) (settles_layout s step.between v step.settles) below) step.settles
+    settles_kept s step.between v (between_kept s w step.between kept step.does) i (subst (λ n. i < n) (settles_layout s step.between v step.settles) below) step.settles

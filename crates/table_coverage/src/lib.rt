@@ -7,7 +7,7 @@
 
 ghost use Rattle.std.specs.Prelude.{◌≡◌, ◌⊎◌, ◌≤◌, ℕ, Bool, false, IsTrue, Some, List};
 ghost use Rattle.block_model.specs.declared.row.Row.{Row};
-ghost use Rattle.coverage.specs.IndexView.{IndexTuple};
+ghost use Rattle.coverage.specs.IndexView.{TuplePlace, IndexTuple};
 ghost use Rattle.coverage.specs.Steps.{Excludes};
 ghost use Rattle.table_coverage.specs.Table.{TableScan, Task, Resting, Scans, TableState, index_view_at};
 ghost use Rattle.table_coverage.specs.TableSteps.{OnlyTurns, JudgeStep, ReadsPage, IsBlocked, Does, HasStep, Onward, IsMaintained, TableStep, TableRun};
@@ -26,9 +26,11 @@ pub fn statements_go_on_in_one_way()
     ensures at_a_step { (s : ℕ) (w v : TableState) → TableStep s w v → HasStep v (v.task s) }
 {}
 
-/// Whatever the statements of a table with several indexes do, in any interleaving, each of its indexes stays covered.
+/// Whatever the statements of a table with several indexes do, in any interleaving, each of its indexes stays covered; the
+/// summarise lock is held for maintenance alone. It holds between what a step does and where its statement comes, too.
 pub fn table_stays_covered()
     ensures kept { (steps : List ℕ) (w v : TableState) → IsTableKept w → TableRun steps w v → IsTableKept v }
+    ensures between { (s : ℕ) (w v : TableState) → IsTableKept w → Does s w v → IsTableKept v }
     ensures covered { (w : TableState) → IsTableKept w → IsTableCovered w }
     ensures opened { (w : TableState) → IsTableCovered w → IsTableAtRest w → IsTableKept w }
     ensures stopped { (w v : TableState) → IsTableKept w → TableStops w v → IsTableKept v }
@@ -41,17 +43,21 @@ pub fn scans_are_exact()
     ensures judged { (w : TableState) (old p q : TableScan) → JudgeStep (index_view_at old.at w) old p → JudgeStep (index_view_at old.at w) old q → p ≡ q }
     ensures read { (w : TableState) (scan : TableScan) (m n : ℕ) (f g : ℕ → ℕ → Bool) → ReadsPage w scan m f → ReadsPage w scan n g
         → (m ≡ n) × ((b k : ℕ) → f b k ≡ g b k) }
-    ensures some_judged { (w : TableState) (scan : TableScan) → ((t : IndexTuple) → scan.keeps scan.at t ≡ false → Excludes t scan.matches)
+    ensures some_judged { (w : TableState) (scan : TableScan)
+        → ((x : TuplePlace) (t : IndexTuple) → (w.index scan.at).tuple x ≡ Some t → scan.keeps scan.at t ≡ false → Excludes t scan.matches)
         → (q : TableScan) × JudgeStep (index_view_at scan.at w) scan q }
     ensures some_read { (w : TableState) (scan : TableScan) (b : ℕ) → scan.explains ≡ false → scan.at ≡ w.indexes → IsTrue (scan.candidate b) → scan.read ≤ b
         → (next : ℕ) × (found : ℕ → ℕ → Bool) × ReadsPage w scan next found }
 {}
 
 /// Each matching row that a scan's session sees is found, or lies in a given block that isn't read yet, or in a range that
-/// isn't judged yet; and when the scan replies, it is found. A block is given where every index of the table gives it.
+/// isn't judged yet; and when the scan replies, it is found: `replies` says it of the scan's last step, after which no step of it
+/// is left. A block is given where every index of the table gives it.
 pub fn table_scans_miss_nothing()
     ensures found { (w : TableState) (s b k : ℕ) (scan : TableScan) → IsTableKept w → w.task s ≡ Scans scan → IsTrue (scan.sees b k)
         → (r : Row) × (w.row b k ≡ Some r) × (IsTrue (scan.matches r) → IsTrue (scan.found b k) ⊎ (IsGiven w scan b × (scan.read ≤ b)) ⊎ IsUnjudged w scan b) }
     ensures replied { (w : TableState) (s b k : ℕ) (scan : TableScan) → IsTableKept w → w.task s ≡ Scans scan → Onward w (Scans scan) Resting
         → scan.explains ≡ false → IsTrue (scan.sees b k) → (r : Row) × (w.row b k ≡ Some r) × (IsTrue (scan.matches r) → IsTrue (scan.found b k)) }
+    ensures replies { (s b k : ℕ) (w v : TableState) (scan : TableScan) → IsTableKept w → Does s w v → v.task s ≡ Scans scan → Onward v (Scans scan) Resting
+        → scan.explains ≡ false → IsTrue (scan.sees b k) → (r : Row) × (v.row b k ≡ Some r) × (IsTrue (scan.matches r) → IsTrue (scan.found b k)) }
 {}
