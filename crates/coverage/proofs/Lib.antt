@@ -8,6 +8,9 @@ pub mod Covered
 pub mod OnIndexSteps
 pub mod InsertSteps
 pub mod MaintainSteps
+pub mod PagesOrdered
+pub mod PagesGoOn
+pub mod PagesKept
 pub mod Runs
 pub mod Opening
 pub mod Verdicts

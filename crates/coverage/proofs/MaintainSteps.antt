@@ -2,7 +2,7 @@
 use Rattle.std.proofs.Common.{◌≡◌, ◌≢◌, inl, inr, ⊎_elim, ℕ, ◌+◌, ◌*◌, Option, Some, None, true, sym, ◌∙◌, ap, subst}
 use Rattle.std.specs.Prelude.{refl, IsTrue}
 use Rattle.std.proofs.lemmas.Option.{same_Some, none-some}
-use Rattle.coverage.specs.IndexView.{TuplePlace, IndexTuple, Progress, ExtentUnread, Passing, IndexView, IsBuilding}
+use Rattle.coverage.specs.IndexView.{TuplePlace, IndexTuple, Progress, ExtentUnread, Passing, IndexView, next_map_page, IsBuilding}
 use Rattle.coverage.specs.IsSound.{IsSound}
 use Rattle.coverage.specs.Changes.{TouchesNothing, Frame, at_work, Turns, StartsBuilding, ReadsExtent, PassesBlock, Carries, Places, Names, Turn as TurnKind}
 use Rattle.coverage.specs.Changes.{IsUntouched, Clears, Sweeps}
@@ -10,7 +10,7 @@ use Rattle.coverage.specs.Statements.{OnIndex, Empty, Held, Copied, Moving, Drop
 use Rattle.coverage.specs.Statements.{Maintaining, Holding, loose_at, loose_of, building_at, building_of}
 use Rattle.coverage.specs.Knowing.{LocksNone, MakesUnited, MakesNone, MakesSame, KnowsPhase, Knows}
 use Rattle.coverage.specs.IsCovered.{IndexState, index_view}
-use Rattle.coverage.specs.Steps.{next_map_page, PutsTuple, SetsEntry, ClearsEntry, IsUnnamed, SweepsTuples, GrowthStep, Grow, CountLeftOver, Count, Flag}
+use Rattle.coverage.specs.Steps.{PutsTuple, SetsEntry, ClearsEntry, IsUnnamed, SweepsTuples, GrowthStep, Grow, CountLeftOver, Count, Flag}
 use Rattle.coverage.specs.Steps.{EvacuatePut, EvacuateSet, EvacuateDrop, EvacuateSweep, Turn, SummariseStep, LookMap, LookGone, IsFinal, Found, ReadNoEntry}
 use Rattle.coverage.specs.Steps.{GrowMap, Put, Set, Extent, Pass, Unite, UniteCopies, SwapFinal, SetFinal, DropOld, DesummariseStep, ClearMap, ClearNone, Clear}
 use Rattle.coverage.specs.Steps.{ClearAgain, DropCleared, MaintainStep, Summarises, Desummarises, Turned}
@@ -35,7 +35,7 @@ makes_united : (w : IndexView) (s range : ℕ) (p : Progress) → IsBuilding w s
 makes_united w s range ExtentUnread building old new how = absurd how
 makes_united w s range (Passing extent next result) building old new how = (
   how.1.range,
-  (how.1.wider, inr (how.1.placeholder, (extent, result, subst (λ m. IsBuilding w s range (Passing extent m result)) how.0 building, how.1.united))),
+  (how.1.wider, inr (how.1.placeholder, (extent, next, result, building, how.0, how.1.united))),
 )
 
 -- tuples that the map doesn't name go, whoever drops them

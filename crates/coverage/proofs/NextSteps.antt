@@ -5,11 +5,11 @@ use Rattle.std.specs.Prelude.{refl, length}
 use Rattle.std.proofs.lemmas.Option.{same_Some}
 use Rattle.block_model.specs.declared.row.Row.{Row}
 use Rattle.coverage.specs.IndexView.{TuplePlace, IndexTuple, Progress, ExtentUnread, Passing, PageKind, Unstarted, Mapping, Regular, Emptying, IndexView}
-use Rattle.coverage.specs.IndexView.{range_of_block}
+use Rattle.coverage.specs.IndexView.{range_of_block, next_map_page, IsPastMap}
 use Rattle.coverage.specs.Changes.{IsFree}
 use Rattle.coverage.specs.Verdicts.{Verdict, Waits, Differs, Fits, Puts, PutVerdict, SwapVerdict, ClearVerdict}
 use Rattle.coverage.specs.Statements.{OnIndex, Empty, Held, Copied, Moving, Dropping, Phase, NotBuilding, Vacant, Growing, Evacuating, Placing, IsAt, Statement}
-use Rattle.coverage.specs.Steps.{IsUnnamed, next_map_page, IsPastMap, IsNextTuple, Grows, OnIndexStep, Maps, Gone, Again, MovePut}
+use Rattle.coverage.specs.Steps.{IsUnnamed, IsNextTuple, Grows, OnIndexStep, Maps, Gone, Again, MovePut}
 use Rattle.coverage.specs.Steps.{InsertStep, InsertOnIndex, InsertNoEntry, InsertCopies, InsertUnchanged, InsertSwap, InsertSet, InsertDrop}
 use Rattle.coverage.specs.Steps.{GrowthStep, Grow, CountLeftOver, Count, Flag, EvacuatePut, EvacuateSet, EvacuateDrop, EvacuateSweep, Turn}
 use Rattle.coverage.specs.Steps.{SummariseStep, LookMap, LookGone, IsFinal, Found, ReadNoEntry, GrowMap, Put, Set, Extent, Pass, Unite, UniteCopies, SwapFinal}
@@ -154,7 +154,7 @@ vacant_once w s range _ _ (MapGrows kind p grows at) (MapGrows kind' q grows' at
 -- all blocks are passed where a summariser goes on to the map
 abbrev IsUniting : OnIndex → Progress → Type 0
 IsUniting Empty ExtentUnread = ⊥
-IsUniting Empty (Passing extent next result) = next ≡ extent
+IsUniting Empty (Passing extent next result) = extent ≤ next
 IsUniting on_index progress = Unit
 
 -- the points of a summariser, by its phase
@@ -171,7 +171,7 @@ data SummarisePoint (w : IndexView) (s range : ℕ) : Phase → Point → Type 0
   MakesFinal : (progress : Progress) (on_index : OnIndex) (p : Point) → IsUniting on_index progress → OnIndexPoint w s range on_index p
       → SummarisePoint w s range (IsAt progress on_index) p
 
-passed : (next extent : ℕ) → next < extent → next ≡ extent → ⊥
+passed : (next extent : ℕ) → next < extent → extent ≤ next → ⊥
 passed next extent below all = omega arith
 
 summarise_once : (w : IndexView) (s range : ℕ) (phase : Phase) (p q : Point) → SummarisePoint w s range phase p → SummarisePoint w s range phase q → p ≡ q
@@ -204,7 +204,7 @@ growth_fact s range w v _ _ (EvacuateSweep x t grows next unnamed sweeps) =
     WantsEntry AtDrop (MapGrows Emptying AtDrop grows (UnnamedNext x t next unnamed sweeps.free))
 growth_fact s range w v _ _ (Turn grows empty free meta turns) = WantsEntry AtTurn (MapGrows Emptying AtTurn grows (NoneNext empty free meta))
 
-uniting : (on_index : OnIndex) (extent next : ℕ) (result : Row → Bool) → next ≡ extent → IsUniting on_index (Passing extent next result)
+uniting : (on_index : OnIndex) (extent next : ℕ) (result : Row → Bool) → extent ≤ next → IsUniting on_index (Passing extent next result)
 uniting Empty extent next result all = all
 uniting (Held x) extent next result all = tt
 uniting (Copied x old new) extent next result all = tt

@@ -9,8 +9,8 @@ use Rattle.coverage.specs.Changes.{IsFree}
 use Rattle.coverage.specs.Verdicts.{HasFreeSlots, Verdict, Waits, Differs, Fits, Puts, Full, PutVerdict, PutGoes, SwapVerdict, SwapFits, SwapMoves}
 use Rattle.coverage.specs.Verdicts.{ClearVerdict, ClearFits}
 use Rattle.coverage.specs.Statements.{OnIndex, Empty, Held, Copied, Moving, Dropping, NotBuilding, Idle, Inserting, Maintaining, Holding}
-use Rattle.coverage.specs.Knowing.{LocksNone, Knows}
-use Rattle.coverage.specs.Steps.{IsOneOf, ReadsIndex, DropsTuple, InsertOnIndex, InsertNoEntry, InsertCopies, InsertSwap, InsertSet, InsertDrop}
+use Rattle.coverage.specs.Knowing.{LocksNone, IsOneOf, Knows}
+use Rattle.coverage.specs.Steps.{ReadsIndex, DropsTuple, InsertOnIndex, InsertNoEntry, InsertCopies, InsertSwap, InsertSet, InsertDrop}
 use Rattle.coverage.specs.Steps.{Maps, Gone, Again, MovePut, ClearMap, ClearNone, Clear, ClearAgain, DropCleared}
 use Rattle.coverage.specs.Waiting.{IsInsertStuck, IsSwapFree, IsDesummariseStuck, IsClearFree}
 use Rattle.coverage.proofs.Verdicts.{some_swap, some_clear}

@@ -147,10 +147,15 @@ pub record Turn (s : ℕ) (w v : IndexView) (range : ℕ) (old new : Option Prog
   pub frame : Frame s TouchesNothing w v
   pub locked : IsLooseLocked s v
 
+-- the session has passed all blocks of the range, and the tuple includes its result
+abbrev pub UnitesResult : IndexView → ℕ → ℕ → IndexTuple → Type 0
+UnitesResult w s range new = (extent : ℕ) × (next : ℕ) × (result : Row → Bool) × IsBuilding w s range (Passing extent next result) × (extent ≤ next)
+    × IsWithin result new.includes
+
 -- The new tuple includes what the old one does, and is of its sort, or is final and unites the result of a session that has passed all blocks.
 abbrev pub Carries : IndexView → ℕ → ℕ → IndexTuple → IndexTuple → Type 0
 Carries w s range old new = IsWithin old.includes new.includes × ((new.placeholder ≡ old.placeholder)
-    ⊎ ((new.placeholder ≡ false) × ((extent : ℕ) × (result : Row → Bool) × IsBuilding w s range (Passing extent extent result) × IsWithin result new.includes)))
+    ⊎ ((new.placeholder ≡ false) × UnitesResult w s range new))
 
 -- what others build stays, and the session may end what it builds
 abbrev pub MayEnd : ℕ → IndexView → IndexView → Type 0

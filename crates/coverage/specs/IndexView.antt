@@ -1,6 +1,6 @@
 -- One index and its table, as the running statements meet them: rows and tuples on their pages, the range map, who locks
 -- what, and how far each summarising has come.
-use Rattle.std.specs.Prelude.{◌≡◌, ℕ, ◌+◌, ◌/◌, Bool, true, Option, Some, List}
+use Rattle.std.specs.Prelude.{◌≡◌, ℕ, ◌+◌, ◌/◌, ◌<◌, Bool, true, Option, Some, List}
 use Rattle.block_model.specs.declared.row.Row.{Row}
 
 -- where a tuple stands: an index page and a slot of it
@@ -72,6 +72,14 @@ entries_a_page = 1020
 
 abbrev pub map_page_of : ℕ → ℕ
 map_page_of range = range / entries_a_page + 1
+
+-- the page that the map grows onto
+abbrev pub next_map_page : IndexView → ℕ
+next_map_page w = w.pages.map_pages + 1
+
+-- the map has no page for the range's entry yet
+abbrev pub IsPastMap : IndexView → ℕ → Type 0
+IsPastMap w range = w.pages.map_pages < map_page_of range
 
 -- a statement of this session is building the range's summary, and has come so far
 abbrev pub IsBuilding : IndexView → ℕ → ℕ → Progress → Type 0

@@ -8,6 +8,7 @@ use Rattle.coverage.specs.GoesOn.{IsHeld}
 use Rattle.coverage.specs.Statements.{OnIndex, Empty, Held, Copied, Moving, Dropping, Phase, NotBuilding, Vacant, Growing, Evacuating, Placing, IsAt, Scan}
 use Rattle.coverage.specs.Statements.{Statement, Idle, Inserting, Maintaining, Holding, Scanning, loose_of, building_of}
 use Rattle.coverage.specs.Knowing.{Knows}
+use Rattle.coverage.specs.PageOrder.{AreOrdered, KnowsPages}
 
 -- one index and its table: what is on the pages, who locks what, each session's statement, and the transactions whose rows
 -- count: they are committed, or of an open session that hasn't failed
@@ -113,10 +114,12 @@ pub record IsAtRest (w : IndexState) : Type 0 where
   pub free : w.summarise_lock ≡ None
   pub unnamed_tuples : (x : TuplePlace) → IsTrue (w.unnamed x) → IsLeftUnnamed (index_view w) x
 
--- What every step keeps, and whatever is covered rests on: the view is sound, each statement's knowledge is true, and every
--- row that counts is settled or its insert is running.
+-- What every step keeps, and whatever is covered rests on: the view is sound, the pages stand in their order, each statement's
+-- knowledge is true, and every row that counts is settled or its insert is running.
 pub record IsIndexKept (w : IndexState) : Type 0 where
   pub sound : IsSound (index_view w)
+  pub ordered : AreOrdered (index_view w)
   pub knows : (s : ℕ) → Knows (index_view w) s (w.statement s)
+  pub knows_pages : (s : ℕ) → KnowsPages (index_view w) s (w.statement s)
   pub rows : (b k : ℕ) (r : Row) → w.row b k ≡ Some r → IsTrue (w.counts r.id.t)
       → IsAccounted (index_view w) b r ⊎ ((s : ℕ) × (on_index : OnIndex) × (w.statement s ≡ Inserting b k r on_index))

@@ -1,11 +1,11 @@
 -- Where a statement waits for a page's lock, or has no step.
 use Rattle.std.specs.Prelude.{◌≡◌, ℕ, Some, [], ◌∷◌, length}
 use Rattle.block_model.specs.declared.row.Row.{Row}
-use Rattle.coverage.specs.IndexView.{TuplePlace, IndexTuple, Progress, Unstarted, Mapping, Regular, Emptying, IndexView}
+use Rattle.coverage.specs.IndexView.{TuplePlace, IndexTuple, Progress, Unstarted, Mapping, Regular, Emptying, IndexView, next_map_page, IsPastMap}
 use Rattle.coverage.specs.Changes.{IsFree}
 use Rattle.coverage.specs.Verdicts.{IsLocked, IsFirstLocked, Waits, Full, PutVerdict, SwapVerdict, ClearVerdict}
 use Rattle.coverage.specs.Statements.{OnIndex, Held, Copied, Phase, NotBuilding, Vacant, IsAt, Statement}
-use Rattle.coverage.specs.Steps.{next_map_page, IsPastMap, IsNextTuple, Grows, InsertStep, DesummariseStep}
+use Rattle.coverage.specs.Steps.{IsNextTuple, Grows, InsertStep, DesummariseStep}
 
 -- The page for whose lock a summariser waits on its range.
 pub data IsPhaseWaiting (w : IndexView) (s range : ℕ) : Phase → ℕ → Type 0 where

@@ -6,7 +6,7 @@
 //! specs/Steps it is, and has the rest from here.
 #![tactic(auto)]
 
-ghost use Rattle.std.specs.Prelude.{◌≡◌, ◌≢◌, ◌<◌, ℕ, Bool, IsTrue, Option, Some, List};
+ghost use Rattle.std.specs.Prelude.{◌≡◌, ◌≢◌, ◌↔◌, ◌<◌, ℕ, Bool, IsTrue, Option, None, Some, List};
 ghost use Rattle.block_model.specs.declared.row.Row.{Row};
 ghost use Rattle.coverage.specs.IndexView.{IndexView, Pages, TuplePlace, IndexTuple, Progress, range_of_block, NamesPlaceholder};
 ghost use Rattle.coverage.specs.IsSettled.{IsSettled, IsAccounted};
@@ -16,7 +16,8 @@ ghost use Rattle.coverage.specs.Changes.{PutsRow, Places, Names, Turn, IsFree, S
 ghost use Rattle.coverage.specs.Changes.{Clears, Sweeps, Prunes, Takes, Ends, TurnsLocks};
 ghost use Rattle.coverage.specs.Statements.{OnIndex, Held, Copied, Phase, NotBuilding, Scan, Statement, Inserting, Maintaining, Scanning};
 ghost use Rattle.coverage.specs.IsCovered.{IndexState, index_view, new_index, AreRowsBelow, IsFoundOrUnread, IsCovered, IsAtRest, IsIndexKept};
-ghost use Rattle.coverage.specs.Steps.{InsertStep, SummariseStep, DesummariseStep, IsRangeExcluded, Run, Stops};
+ghost use Rattle.coverage.specs.Steps.{InsertStep, SummariseStep, DesummariseStep, IsRangeExcluded, Step, Run, Stops};
+ghost use Rattle.coverage.specs.PageOrder.{AreOrdered, AreNewPages};
 ghost use Rattle.coverage.specs.Points.{insert_point, summarise_point, desummarise_point};
 ghost use Rattle.coverage.specs.Knowing.{LocksNone, Knows, Spares};
 ghost use Rattle.coverage.specs.Verdicts.{Verdict, Waits, Differs, IsLocked, HasFreeSlots, PutVerdict, SwapVerdict, ClearVerdict};
@@ -81,18 +82,25 @@ pub fn knowledge_is_stable()
         → IsFree w s x.block → LocksNone w s → w.entry range ≡ Some x }
 {}
 
-/// Whatever the sessions do, in any interleaving: what an index rests on is kept, and the index is covered.
+/// Whatever the sessions do, in any interleaving: what an index rests on is kept, with the order of its pages and what each
+/// statement knows of pages and locks; the index is covered; which ranges have an entry is the matter of the session alone that
+/// holds the summarise lock; and the tuples that the map names stand past its pages.
 pub fn index_stays_covered()
     ensures kept { (steps : List ℕ) (w v : IndexState) → IsIndexKept w → Run steps w v → IsIndexKept v }
     ensures covered { (w : IndexState) → IsIndexKept w → IsCovered w }
+    ensures entries { (s : ℕ) (w v : IndexState) → IsIndexKept w → Step s w v → w.summarise_lock ≢ Some s → (range : ℕ)
+        → (w.entry range ≡ None) ↔ (v.entry range ≡ None) }
+    ensures past_map { (w : IndexState) (range : ℕ) (x : TuplePlace) → IsIndexKept w → w.entry range ≡ Some x → w.pages.map_pages < x.block }
 {}
 
-/// What an index rests on holds of one that is covered while nobody is at work, of the one that a stop at any moment leaves,
-/// and of the empty one of a new table.
+/// What an index rests on holds of one that is covered and has its pages in order while nobody is at work, of the one that a stop
+/// at any moment leaves, and of the empty one of a new table.
 pub fn opened_index_is_kept()
-    ensures opened { (w : IndexState) → IsCovered w → IsAtRest w → 0 < w.pages_per_range → AreRowsBelow w → IsIndexKept w }
+    ensures opened { (w : IndexState) → IsCovered w → IsAtRest w → 0 < w.pages_per_range → AreRowsBelow w → AreOrdered (index_view w)
+        → IsIndexKept w }
     ensures stopped { (w v : IndexState) → IsIndexKept w → Stops w v → IsIndexKept v }
-    ensures new { (per blocks : ℕ) (pages : Pages) (counts : ℕ → Bool) → 0 < per → IsIndexKept (new_index per blocks pages counts) }
+    ensures new { (per blocks : ℕ) (pages : Pages) (counts : ℕ → Bool) → 0 < per → AreNewPages pages
+        → IsIndexKept (new_index per blocks pages counts) }
 {}
 
 /// Each matching row that a scan's session sees is found, or lies in a candidate block that isn't read yet; and a range

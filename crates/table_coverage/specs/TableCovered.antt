@@ -3,6 +3,7 @@ use Rattle.std.specs.Prelude.{◌≡◌, ◌⊎◌, ℕ, ◌≤◌, ◌<◌, IsT
 use Rattle.block_model.specs.declared.row.Row.{Row}
 use Rattle.coverage.specs.IndexView.{TuplePlace, Progress, IsBuilding}
 use Rattle.coverage.specs.IsCovered.{IsCovered, IsAtRest, IsIndexKept}
+use Rattle.coverage.specs.PageOrder.{AreOrdered, AreNewPages}
 use Rattle.coverage.specs.Steps.{Stops}
 use Rattle.table_coverage.specs.Table.{TableScan, Task, Resting, Considers, Maintains, Prunes, SweepsFrom, Sweeps, Restarts, Scans, TableState, index_state}
 use Rattle.table_coverage.specs.Table.{index_view_at}
@@ -55,16 +56,17 @@ IsGiven w scan b = IsTrue (scan.candidate b) × ((i : ℕ) → i < w.indexes →
 abbrev pub IsUnjudged : TableState → TableScan → ℕ → Type 0
 IsUnjudged w scan b = (i : ℕ) × (i < w.indexes) × (IsJudged scan i (range_in w i b) → ⊥)
 
--- Nobody has a statement running, nobody holds the summarise lock, and each index rests; its ranges have blocks, and rows lie on
--- blocks of the table.
+-- Nobody has a statement running, nobody holds the summarise lock, and each index rests; its pages stand in their order, its ranges
+-- have blocks, and rows lie on blocks of the table.
 pub record IsTableAtRest (w : TableState) : Type 0 where
   pub resting : (s : ℕ) → w.task s ≡ Resting
   pub free : w.summarise_lock ≡ None
   pub rest : (i : ℕ) → i < w.indexes → IsAtRest (index_state i w)
+  pub ordered : (i : ℕ) → i < w.indexes → AreOrdered (index_view_at i w)
   pub ranged : (i : ℕ) → i < w.indexes → 0 < (w.index i).pages_per_range
   pub rows_below : (b k : ℕ) (r : Row) → w.row b k ≡ Some r → b < w.blocks
 
--- a new table, without rows and tuples
+-- a new table, without rows and tuples, whose indexes have their first two pages
 pub record IsNewTable (w : TableState) : Type 0 where
   pub resting : (s : ℕ) → w.task s ≡ Resting
   pub free : w.summarise_lock ≡ None
@@ -73,6 +75,7 @@ pub record IsNewTable (w : TableState) : Type 0 where
   pub tuple : (i : ℕ) (x : TuplePlace) → (w.index i).tuple x ≡ None
   pub lock : (i p : ℕ) → (w.index i).lock p ≡ None
   pub unnamed : (i : ℕ) (x : TuplePlace) → (w.index i).unnamed x ≡ false
+  pub pages : (i : ℕ) → AreNewPages (w.index i).pages
   pub ranged : (i : ℕ) → 0 < (w.index i).pages_per_range
 
 -- after a stop nobody is at work, and each index of the table is as one index is; a heap block may be started and have no row

@@ -1,13 +1,13 @@
 -- The steps of the statements of a table with several indexes: which comes next, and what it waits for.
 use Rattle.std.specs.Prelude.{◌≡◌, ◌≢◌, ◌⊎◌, ℕ, suc, ◌+◌, ◌*◌, ◌/◌, ◌≤◌, ◌<◌, max, Bool, true, false, IsTrue, ◌↔◌, None, Some, List, [], ◌∷◌, length}
 use Rattle.block_model.specs.declared.row.Row.{Row}
-use Rattle.coverage.specs.IndexView.{TuplePlace, IndexTuple, Progress, Regular, Emptying, IndexView, range_of_block}
+use Rattle.coverage.specs.IndexView.{TuplePlace, IndexTuple, Progress, Regular, Emptying, IndexView, range_of_block, next_map_page, IsPastMap}
 use Rattle.coverage.specs.Changes.{IsFree}
 use Rattle.coverage.specs.Verdicts.{IsLocked, Waits, Full, PutVerdict, SwapVerdict, ClearVerdict}
 use Rattle.coverage.specs.Statements.{OnIndex, Empty, Held, Copied, Phase, NotBuilding, Vacant, IsAt, Statement, Idle, Inserting, Maintaining, Holding}
 use Rattle.coverage.specs.Statements.{loose_in, loose_at}
 use Rattle.coverage.specs.Waiting.{IsPhaseWaiting}
-use Rattle.coverage.specs.Steps.{IsUnnamed, IsGone, Stands, SweepsTuples, Excludes, InsertStep, next_map_page, IsPastMap, IsNextTuple, Grows, SummariseStep}
+use Rattle.coverage.specs.Steps.{IsUnnamed, IsGone, Stands, SweepsTuples, Excludes, InsertStep, IsNextTuple, Grows, SummariseStep}
 use Rattle.coverage.specs.Steps.{DesummariseStep, SummariseLockPasses}
 use Rattle.table_coverage.specs.Table.{Job, EachRange, OneRange, WholeRanges, Desummarising, TableScan, Task, Resting, Reaches, Asks, Inserts, Considers}
 use Rattle.table_coverage.specs.Table.{Maintains, Prunes, SweepsFrom, Sweeps, Restarts, Scans, TableState, index_view_at}
