@@ -1,6 +1,7 @@
 pub mod Views
 pub mod TableRuns
 pub mod TableSettled
+pub mod TableJudged
 pub mod TableScans
 pub mod TableOpening
 pub mod TableBlocked

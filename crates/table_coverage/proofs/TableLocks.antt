@@ -4,7 +4,7 @@ use Rattle.std.proofs.lemmas.Option.{same_Some, none-some}
 use Rattle.block_model.specs.declared.row.Row.{Row}
 use Rattle.coverage.specs.Statements.{Idle, Inserting, Maintaining, Holding}
 use Rattle.coverage.proofs.Runs.{insert_keeps}
-use Rattle.table_coverage.specs.Table.{Task, Resting, Reaches, Asks, Inserts, Considers, Maintains, Prunes, SweepsFrom, Sweeps, Restarts, Scans, WholeRanges}
+use Rattle.table_coverage.specs.Table.{Task, Resting, Reaches, Asks, Inserts, Considers, Maintains, Prunes, SweepsFrom, Sweeps, Restarts, Scans}
 use Rattle.table_coverage.specs.Table.{TableState, index_view_at}
 use Rattle.table_coverage.specs.TableSteps.{OnlyTurns, BeginsWith, Summarize, SummarizeOne, Desummarize, Vacuum, IsInsertRefused, AskRefused, MemoryShort}
 use Rattle.table_coverage.specs.TableSteps.{IndexFull, IsVacuuming, Fails, Does, PutsRow, AsksSummary, InsertGoes, InsertCompletes, RefusesInsert, TakesLock}

@@ -37,6 +37,7 @@ table_opened w covered rest = record {
   summarise_lock = free_lock w rest.free rest.resting;
   rows_below = rest.rows_below;
   scans = λ s scan is. absurd (resting_scan scan (sym (rest.resting s) ∙ is));
+  exact = λ s scan is. absurd (resting_scan scan (sym (rest.resting s) ∙ is));
 }
 
 pub table_stopped : (w v : TableState) → IsTableKept w → TableStops w v → IsTableKept v
@@ -47,6 +48,7 @@ table_stopped w v kept stops = record {
   summarise_lock = free_lock v stops.free stops.resting;
   rows_below = λ b k r there. within b w.blocks v.blocks (kept.rows_below b k r (sym (stops.row b k) ∙ there)) stops.blocks;
   scans = λ s scan is. absurd (resting_scan scan (sym (stops.resting s) ∙ is));
+  exact = λ s scan is. absurd (resting_scan scan (sym (stops.resting s) ∙ is));
 }
   where
     within : (b n m : ℕ) → b < n → n ≤ m → b < m
@@ -76,4 +78,5 @@ new_table_kept w new = record {
   summarise_lock = free_lock w new.free new.resting;
   rows_below = λ b k r is. absurd (none-some _ (sym (new.row b k) ∙ is));
   scans = λ s scan is. absurd (resting_scan scan (sym (new.resting s) ∙ is));
+  exact = λ s scan is. absurd (resting_scan scan (sym (new.resting s) ∙ is));
 }

@@ -1,5 +1,5 @@
 -- Every step of a table's statements keeps what each of its indexes rests on.
-use Rattle.std.proofs.Common.{◌≡◌, ◌≢◌, ◌⊎◌, inl, inr, ⊎_elim, ℕ, ◌+◌, ◌≤◌, ◌<◌, Option, Some, None, Bool, false, sym, ◌∙◌, ap, subst, arith, suc}
+use Rattle.std.proofs.Common.{◌≡◌, ◌≢◌, ◌⊎◌, inl, inr, ⊎_elim, ℕ, ◌+◌, ◌≤◌, ◌<◌, Option, Some, None, Bool, true, false, sym, ◌∙◌, ap, subst, arith, suc}
 use Rattle.std.specs.Prelude.{refl, IsTrue, max}
 use Rattle.std.proofs.lemmas.Option.{none-some}
 use Rattle.std.proofs.lemmas.Bool.{cases_eq}
@@ -13,7 +13,7 @@ use Rattle.coverage.specs.Steps.{IsUnnamed, SweepsTuples, Excludes, InsertStep, 
 use Rattle.coverage.specs.Steps.{ScanDrops, ScanElsewhere, ScanPage, SummariseLockPasses, Step, PutRow, Insert, Refused, TakeSummariseLock, Maintain, Prune}
 use Rattle.coverage.specs.Steps.{Sweep, GiveSummariseLock, Abandon, BeginScan, Scans as StepScans, EndScan, Elsewhere, Counts}
 use Rattle.table_coverage.specs.Table.{Index, Job, EachRange, OneRange, WholeRanges, Desummarising, TableScan, Task, Resting, Reaches, Asks, Inserts, Considers}
-use Rattle.table_coverage.specs.Table.{Maintains, Prunes, SweepsFrom, Sweeps, Restarts, Scans, TableState, pick, on_index_by, inserting_of, held_at, scan_at}
+use Rattle.table_coverage.specs.Table.{Maintains, Prunes, SweepsFrom, Sweeps, Restarts, Scans, TableState, pick, judged_with, on_index_by, inserting_of, held_at, scan_at}
 use Rattle.table_coverage.specs.Table.{seen_by, index_state, index_view_at}
 use Rattle.table_coverage.specs.TableSteps.{TaskTurns, SameRows, SameIndexes, OnlyTurns, StepsIn, IsFirstPlace, TableTakesRow, IsInsertRefused, AskRefused}
 use Rattle.table_coverage.specs.TableSteps.{MemoryShort, IndexFull, BeginsWith, Summarize, SummarizeOne, Desummarize, Vacuum, JobStep, IsMaintainRefused}
@@ -346,18 +346,18 @@ module _ (s : ℕ) (w v : TableState) (kept : AreIndexesKept w) (i : ℕ) (below
       scans old (record old { held = Some x }) (record (scan_at i old) { held = Some (old.range, x) }) turns only
       (ap (λ h. record (scan_at i old) { held = h }) (place_here (record old { held = Some x }) x is refl))
       (ScanMap old.range x (held_none i old.at old.range old.held empty) named)
-  judges_here old _ is (JudgeNoEntry empty none) turns only = only_rests (Scans old) (Scans (record old { range = suc old.range })) turns only
+  judges_here old _ is (JudgeNoEntry empty none) turns only = only_rests (Scans old) (Scans (record old { range = suc old.range; judged = judged_with old true })) turns only
       (ap (λ h. Scanning (record (scan_at i old) { held = h }))
       (held_none i old.at (suc old.range) old.held empty ∙ sym (held_none i old.at old.range old.held empty)))
   judges_here old _ is (JudgeGone x held gone) turns only = scans old (record old { held = None }) (record (scan_at i old) { held = None }) turns only
       (ap (λ h. record (scan_at i old) { held = h }) (held_none i old.at old.range None refl))
       (ScanGone old.range x (place_here old x is held) gone)
   judges_here old _ is (JudgeKeeps x t held stands keeps) turns only =
-      scans old (record old { range = suc old.range; held = None }) (record (scan_at i old) { held = None }) turns only
+      scans old (record old { range = suc old.range; held = None; judged = judged_with old true }) (record (scan_at i old) { held = None }) turns only
       (ap (λ h. record (scan_at i old) { held = h }) (held_none i old.at (suc old.range) None refl))
       (ScanKeeps old.range x t (place_here old x is held) stands (subst (λ m. IsTrue (old.keeps m t)) (sym is) keeps))
   judges_here old _ is (JudgeDrops x t candidate held stands keeps excludes others) turns only =
-      scans old (record old { range = suc old.range; held = None; candidate = candidate })
+      scans old (record old { range = suc old.range; held = None; judged = judged_with old false; candidate = candidate })
       (record (scan_at i old) { held = None; candidate = candidate }) turns only
       (ap (λ h. record (scan_at i old) { held = h; candidate = candidate }) (held_none i old.at (suc old.range) None refl))
       (ScanDrops old.range x t candidate (place_here old x is held) stands (subst (λ m. old.keeps m t ≡ false) (sym is) keeps) excludes others)
@@ -366,16 +366,16 @@ module _ (s : ℕ) (w v : TableState) (kept : AreIndexesKept w) (i : ℕ) (below
       → TaskTurns s w v (Scans old) (Scans new) → OnlyTurns w v → IsIndexKept (index_state i v)
   judges_elsewhere old _ apart inside (JudgeMap x empty named) turns only = only_rests (Scans old) (Scans (record old { held = Some x })) turns only
       (ap (λ h. Scanning (record (scan_at i old) { held = h })) (scan_elsewhere (record old { held = Some x }) apart ∙ sym (scan_elsewhere old apart)))
-  judges_elsewhere old _ apart inside (JudgeNoEntry empty none) turns only = only_rests (Scans old) (Scans (record old { range = suc old.range })) turns only
+  judges_elsewhere old _ apart inside (JudgeNoEntry empty none) turns only = only_rests (Scans old) (Scans (record old { range = suc old.range; judged = judged_with old true })) turns only
       (ap (λ h. Scanning (record (scan_at i old) { held = h })) (scan_elsewhere (record old { range = suc old.range }) apart ∙ sym (scan_elsewhere old apart)))
   judges_elsewhere old _ apart inside (JudgeGone x held gone) turns only = only_rests (Scans old) (Scans (record old { held = None })) turns only
       (ap (λ h. Scanning (record (scan_at i old) { held = h })) (scan_elsewhere (record old { held = None }) apart ∙ sym (scan_elsewhere old apart)))
   judges_elsewhere old _ apart inside (JudgeKeeps x t held stands keeps) turns only =
-      only_rests (Scans old) (Scans (record old { range = suc old.range; held = None })) turns only
+      only_rests (Scans old) (Scans (record old { range = suc old.range; held = None; judged = judged_with old true })) turns only
       (ap (λ h. Scanning (record (scan_at i old) { held = h }))
       (scan_elsewhere (record old { range = suc old.range; held = None }) apart ∙ sym (scan_elsewhere old apart)))
   judges_elsewhere old _ apart inside (JudgeDrops x t candidate held stands keeps excludes others) turns only =
-      scans old (record old { range = suc old.range; held = None; candidate = candidate }) (record (scan_at i old) { candidate = candidate }) turns only
+      scans old (record old { range = suc old.range; held = None; judged = judged_with old false; candidate = candidate }) (record (scan_at i old) { candidate = candidate }) turns only
       (ap (λ h. record (scan_at i old) { held = h; candidate = candidate })
       (scan_elsewhere (record old { range = suc old.range; held = None; candidate = candidate }) apart ∙ sym (scan_elsewhere old apart)))
       (ScanElsewhere candidate (dropped_spares old x t candidate turns.was inside held stands.0 stands.1 excludes others))

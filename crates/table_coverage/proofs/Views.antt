@@ -7,9 +7,9 @@ use Rattle.coverage.specs.Changes.{SameHeap, SameMap, SameTuples, SameUnnamed, O
 use Rattle.coverage.specs.Statements.{OnIndex, Empty, Phase, Statement, Idle, Inserting, Maintaining, Holding, Scanning, loose_in}
 use Rattle.coverage.specs.Knowing.{LocksNone, Spares}
 use Rattle.coverage.specs.Steps.{ReadsIndex, SummariseLockPasses, Rests, Turned}
-use Rattle.table_coverage.specs.Table.{Index, Task, Resting, Reaches, Asks, Inserts, Considers, Maintains, Prunes, SweepsFrom, Sweeps, Restarts, Scans}
+use Rattle.table_coverage.specs.Table.{Index, TableScan, Task, Resting, Reaches, Asks, Inserts, Considers, Maintains, Prunes, SweepsFrom, Sweeps, Restarts, Scans}
 use Rattle.table_coverage.specs.Table.{TableState, pick, on_index_by, inserting_of, held_at, scan_at, seen_by, index_state, index_view_at}
-use Rattle.table_coverage.specs.TableSteps.{TaskTurns, SameRows, HasPut, SeesPlace}
+use Rattle.table_coverage.specs.TableSteps.{TaskTurns, SameRows, BeginsWith, Summarize, SummarizeOne, Desummarize, Vacuum, HasPut, SeesPlace}
 
 pub pick_same : (i : ℕ) → {A : Type 0} → (a b : A) → pick i i a b ≡ a
 pick_same zero a b = refl
@@ -237,3 +237,14 @@ module _ (i s : ℕ) (w v : TableState) (old new : Task) (turns : TaskTurns s w 
       pages = ap (λ (x : Index). x.pages) index;
       none = none_at i s w v index none;
     }
+
+-- the scan of a task
+abbrev pub scan_of : Task → Option TableScan
+scan_of (Scans scan) = Some scan
+scan_of task = None
+
+pub begins_no_scan : (w : TableState) (first : Task) → BeginsWith w first → scan_of first ≡ None
+begins_no_scan w _ (Summarize at below) = refl
+begins_no_scan w _ (SummarizeOne at only below) = refl
+begins_no_scan w _ (Desummarize at only below) = refl
+begins_no_scan w _ Vacuum = refl

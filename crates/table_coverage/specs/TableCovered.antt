@@ -1,5 +1,5 @@
 -- When a table is covered in all of its indexes, and what a scan of it still has before it.
-use Rattle.std.specs.Prelude.{◌≡◌, ◌⊎◌, ℕ, ◌≤◌, ◌<◌, IsTrue, ◌↔◌, false, None, Some}
+use Rattle.std.specs.Prelude.{◌≡◌, ◌≢◌, ◌⊎◌, ℕ, ◌≤◌, ◌<◌, IsTrue, ◌↔◌, true, false, None, Some}
 use Rattle.block_model.specs.declared.row.Row.{Row}
 use Rattle.coverage.specs.IndexView.{TuplePlace, Progress, IsBuilding}
 use Rattle.coverage.specs.IsCovered.{IsCovered, IsAtRest, IsIndexKept}
@@ -7,7 +7,7 @@ use Rattle.coverage.specs.PageOrder.{AreOrdered, AreNewPages}
 use Rattle.coverage.specs.Steps.{Stops}
 use Rattle.table_coverage.specs.Table.{TableScan, Task, Resting, Considers, Maintains, Prunes, SweepsFrom, Sweeps, Restarts, Scans, TableState, index_state}
 use Rattle.table_coverage.specs.Table.{index_view_at}
-use Rattle.table_coverage.specs.TableSteps.{range_in}
+use Rattle.table_coverage.specs.TableSteps.{range_in, first_block}
 
 -- every index of the table is covered, and one statement of the table builds at a time
 pub record IsTableCovered (w : TableState) : Type 0 where
@@ -37,24 +37,33 @@ IsMaintenance task = ⊥
 abbrev pub IsHeldForMaintenance : TableState → Type 0
 IsHeldForMaintenance w = (s : ℕ) → (w.summarise_lock ≡ Some s) ↔ IsMaintenance (w.task s)
 
+-- the ranges that a scan has been at: those of the indexes before its own, and those before its range in its own
+abbrev pub IsBehind : TableScan → ℕ → ℕ → Type 0
+IsBehind scan i range = (i < scan.at) ⊎ ((i ≡ scan.at) × (range < scan.range))
+
+-- A block below the extent is a candidate exactly where no judged range of it left it out; and exactly the ranges that the scan
+-- has been at are judged, of those that begin below the extent.
+pub record JudgesExactly (w : TableState) (scan : TableScan) : Type 0 where
+  pub candidate : (b : ℕ) → IsTrue (scan.candidate b)
+      ↔ ((b < scan.extent) × ((i : ℕ) → i < w.indexes → scan.judged i (range_in w i b) ≢ Some false))
+  pub judged : (i range : ℕ) → i < w.indexes → IsBehind scan i range → first_block w i range < scan.extent → scan.judged i range ≢ None
+  pub behind : (i range : ℕ) → scan.judged i range ≢ None → IsBehind scan i range
+
 -- what every step of the table's statements keeps
 pub record IsTableKept (w : TableState) : Type 0 where
   pub indexes : AreIndexesKept w
   pub summarise_lock : IsHeldForMaintenance w
   pub rows_below : (b k : ℕ) (r : Row) → w.row b k ≡ Some r → b < w.blocks
   pub scans : (s : ℕ) (scan : TableScan) → w.task s ≡ Scans scan → SeesRows w scan
+  pub exact : (s : ℕ) (scan : TableScan) → w.task s ≡ Scans scan → JudgesExactly w scan
 
--- the scan has judged this range of the index
-abbrev pub IsJudged : TableScan → ℕ → ℕ → Type 0
-IsJudged scan i range = (i < scan.at) ⊎ ((i ≡ scan.at) × (range < scan.range))
-
--- every index gives the block: its range is judged, and none has left the block out
+-- every index gives the block: its range there is judged and kept
 abbrev pub IsGiven : TableState → TableScan → ℕ → Type 0
-IsGiven w scan b = IsTrue (scan.candidate b) × ((i : ℕ) → i < w.indexes → IsJudged scan i (range_in w i b))
+IsGiven w scan b = (b < scan.extent) × ((i : ℕ) → i < w.indexes → scan.judged i (range_in w i b) ≡ Some true)
 
 -- the block lies in a range of some index that isn't judged yet
 abbrev pub IsUnjudged : TableState → TableScan → ℕ → Type 0
-IsUnjudged w scan b = (i : ℕ) × (i < w.indexes) × (IsJudged scan i (range_in w i b) → ⊥)
+IsUnjudged w scan b = (i : ℕ) × (i < w.indexes) × (scan.judged i (range_in w i b) ≡ None)
 
 -- Nobody has a statement running, nobody holds the summarise lock, and each index rests; its pages stand in their order, its ranges
 -- have blocks, and rows lie on blocks of the table.

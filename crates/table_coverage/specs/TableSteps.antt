@@ -10,7 +10,7 @@ use Rattle.coverage.specs.Waiting.{IsPhaseWaiting}
 use Rattle.coverage.specs.Steps.{IsUnnamed, IsGone, Stands, SweepsTuples, Excludes, InsertStep, IsNextTuple, Grows, SummariseStep}
 use Rattle.coverage.specs.Steps.{DesummariseStep, SummariseLockPasses}
 use Rattle.table_coverage.specs.Table.{Job, EachRange, OneRange, WholeRanges, Desummarising, TableScan, Task, Resting, Reaches, Asks, Inserts, Considers}
-use Rattle.table_coverage.specs.Table.{Maintains, Prunes, SweepsFrom, Sweeps, Restarts, Scans, TableState, index_view_at}
+use Rattle.table_coverage.specs.Table.{Maintains, Prunes, SweepsFrom, Sweeps, Restarts, Scans, TableState, judged_with, index_view_at}
 
 -- the session's statement turns from one into the other
 pub record TaskTurns (s : ℕ) (w v : TableState) (old new : Task) : Type 0 where
@@ -165,6 +165,7 @@ pub record ScanBegins (w : TableState) (scan : TableScan) : Type 0 where
   pub at : scan.at ≡ 0
   pub range : scan.range ≡ 0
   pub held : scan.held ≡ None
+  pub judged : (i range : ℕ) → scan.judged i range ≡ None
   pub read : scan.read ≡ 0
   pub found : (b k : ℕ) → scan.found b k ≡ false
   pub explain : scan.explains ≡ true → (b k : ℕ) → scan.sees b k ≡ false
@@ -172,14 +173,14 @@ pub record ScanBegins (w : TableState) (scan : TableScan) : Type 0 where
 -- One step of a scan in its range of the index that it judges, as a scan's step there.
 pub data JudgeStep (w : IndexView) (old : TableScan) : TableScan → Type 0 where
   JudgeMap : (x : TuplePlace) → old.held ≡ None → w.entry old.range ≡ Some x → JudgeStep w old (record old { held = Some x })
-  JudgeNoEntry : old.held ≡ None → w.entry old.range ≡ None → JudgeStep w old (record old { range = suc old.range })
+  JudgeNoEntry : old.held ≡ None → w.entry old.range ≡ None → JudgeStep w old (record old { range = suc old.range; judged = judged_with old true })
   JudgeGone : (x : TuplePlace) → old.held ≡ Some x → IsGone w old.range x → JudgeStep w old (record old { held = None })
   JudgeKeeps : (x : TuplePlace) (t : IndexTuple) → old.held ≡ Some x → Stands w old.range x t → IsTrue (old.keeps old.at t)
-      → JudgeStep w old (record old { range = suc old.range; held = None })
+      → JudgeStep w old (record old { range = suc old.range; held = None; judged = judged_with old true })
   JudgeDrops : (x : TuplePlace) (t : IndexTuple) (candidate : ℕ → Bool) → old.held ≡ Some x → Stands w old.range x t → old.keeps old.at t ≡ false
       → Excludes t old.matches
       → ((b : ℕ) → ((range_of_block w b ≡ old.range) × (candidate b ≡ false)) ⊎ ((range_of_block w b ≢ old.range) × (candidate b ≡ old.candidate b)))
-      → JudgeStep w old (record old { range = suc old.range; held = None; candidate = candidate })
+      → JudgeStep w old (record old { range = suc old.range; held = None; judged = judged_with old false; candidate = candidate })
 
 -- the next given block is read, and exactly its visible matches are found
 pub record ReadsPage (w : TableState) (scan : TableScan) (next : ℕ) (found : ℕ → ℕ → Bool) : Type 0 where

@@ -5,7 +5,7 @@
 //! of each of its steps which one of specs/TableSteps it is, and has coverage and the completeness of scans from here.
 #![tactic(auto)]
 
-ghost use Rattle.std.specs.Prelude.{◌≡◌, ◌⊎◌, ◌≤◌, ℕ, Bool, false, IsTrue, Some, List};
+ghost use Rattle.std.specs.Prelude.{◌≡◌, ◌⊎◌, ◌↔◌, ◌≤◌, ℕ, Bool, false, IsTrue, Some, List};
 ghost use Rattle.block_model.specs.declared.row.Row.{Row};
 ghost use Rattle.coverage.specs.IndexView.{TuplePlace, IndexTuple};
 ghost use Rattle.coverage.specs.Steps.{Excludes};
@@ -52,7 +52,8 @@ pub fn scans_are_exact()
 
 /// Each matching row that a scan's session sees is found, or lies in a given block that isn't read yet, or in a range that
 /// isn't judged yet; and when the scan replies, it is found: `replies` says it of the scan's last step, after which no step of it
-/// is left. A block is given where every index of the table gives it.
+/// is left. A block is given where every index of the table gives it, as each judged range was kept or not by what its step read;
+/// the candidates of a scan or an explain that replies are exactly the given blocks.
 pub fn table_scans_miss_nothing()
     ensures found { (w : TableState) (s b k : ℕ) (scan : TableScan) → IsTableKept w → w.task s ≡ Scans scan → IsTrue (scan.sees b k)
         → (r : Row) × (w.row b k ≡ Some r) × (IsTrue (scan.matches r) → IsTrue (scan.found b k) ⊎ (IsGiven w scan b × (scan.read ≤ b)) ⊎ IsUnjudged w scan b) }
@@ -60,4 +61,6 @@ pub fn table_scans_miss_nothing()
         → scan.explains ≡ false → IsTrue (scan.sees b k) → (r : Row) × (w.row b k ≡ Some r) × (IsTrue (scan.matches r) → IsTrue (scan.found b k)) }
     ensures replies { (s b k : ℕ) (w v : TableState) (scan : TableScan) → IsTableKept w → Does s w v → v.task s ≡ Scans scan → Onward v (Scans scan) Resting
         → scan.explains ≡ false → IsTrue (scan.sees b k) → (r : Row) × (v.row b k ≡ Some r) × (IsTrue (scan.matches r) → IsTrue (scan.found b k)) }
+    ensures given { (s : ℕ) (w v : TableState) (scan : TableScan) → IsTableKept w → Does s w v → v.task s ≡ Scans scan → Onward v (Scans scan) Resting
+        → (b : ℕ) → IsTrue (scan.candidate b) ↔ IsGiven v scan b }
 {}
