@@ -22,7 +22,7 @@ module _ (w : IndexView) (s range : ℕ) (x : TuplePlace) (old new : IndexTuple)
       (λ (same : new.placeholder ≡ old.placeholder). inr (same ∙ waits.0, waits.1))
       (λ (ends : (new.placeholder ≡ false) ×
       UnitesResult w s range new). ⊎_elim
-      (λ (has : IsTrue (ends.1.2 r)). inl (ends.1.5 r has))
+      (λ (has : IsTrue (ends.1.2.includes r)). inl (ends.1.5 r has))
       (λ (left : (ends.1.1 ≤ b) × (b < ends.1.0)). absurd (past b ends.1.1 ends.1.0 left.0 left.1 ends.1.4))
       (waits.1 s (Passing ends.1.0 ends.1.1 ends.1.2) (subst (λ m. IsBuilding w s m (Passing ends.1.0 ends.1.1 ends.1.2)) of ends.1.3)))
       carries.1)

@@ -1,4 +1,6 @@
+pub mod Numbers
 pub mod Sound
+pub mod RowsAdded
 pub mod Carried
 pub mod BuildingGoesOn
 pub mod OthersGoOn
@@ -14,6 +16,5 @@ pub mod PagesKept
 pub mod Runs
 pub mod Opening
 pub mod Verdicts
-pub mod Numbers
 pub mod NextSteps
 pub mod StepsExist

@@ -1,6 +1,6 @@
 -- Of the steps that a statement could take on an index there is one point alone, and none where it is blocked: each step has the
 -- facts that fix its point, and the facts hold for one point.
-use Rattle.std.proofs.Common.{◌≡◌, Bool, ℕ, ◌≤◌, ◌<◌, Some, sym, ◌∙◌, ap, subst, arith}
+use Rattle.std.proofs.Common.{◌≡◌, ℕ, ◌≤◌, ◌<◌, Some, sym, ◌∙◌, ap, subst, arith}
 use Rattle.std.specs.Prelude.{refl, length}
 use Rattle.std.proofs.lemmas.Option.{same_Some}
 use Rattle.block_model.specs.declared.row.Row.{Row}
@@ -167,7 +167,7 @@ data SummarisePoint (w : IndexView) (s range : ℕ) : Phase → Point → Type 0
   MovesOther : (m : ℕ) (on_index : OnIndex) (p : Point) → OnIndexPoint w s m on_index p → SummarisePoint w s range (Evacuating m on_index) p
   SetsPlaceholder : (x : TuplePlace) → SummarisePoint w s range (Placing x) AtSet
   ToExtent : SummarisePoint w s range (IsAt ExtentUnread Empty) AtExtent
-  PassesNext : (extent next : ℕ) (result : Row → Bool) → next < extent → SummarisePoint w s range (IsAt (Passing extent next result) Empty) AtPass
+  PassesNext : (extent next : ℕ) (result : IndexTuple) → next < extent → SummarisePoint w s range (IsAt (Passing extent next result) Empty) AtPass
   MakesFinal : (progress : Progress) (on_index : OnIndex) (p : Point) → IsUniting on_index progress → OnIndexPoint w s range on_index p
       → SummarisePoint w s range (IsAt progress on_index) p
 
@@ -204,7 +204,7 @@ growth_fact s range w v _ _ (EvacuateSweep x t grows next unnamed sweeps) =
     WantsEntry AtDrop (MapGrows Emptying AtDrop grows (UnnamedNext x t next unnamed sweeps.free))
 growth_fact s range w v _ _ (Turn grows empty free meta turns) = WantsEntry AtTurn (MapGrows Emptying AtTurn grows (NoneNext empty free meta))
 
-uniting : (on_index : OnIndex) (extent next : ℕ) (result : Row → Bool) → extent ≤ next → IsUniting on_index (Passing extent next result)
+uniting : (on_index : OnIndex) (extent next : ℕ) (result : IndexTuple) → extent ≤ next → IsUniting on_index (Passing extent next result)
 uniting Empty extent next result all = all
 uniting (Held x) extent next result all = tt
 uniting (Copied x old new) extent next result all = tt
@@ -219,10 +219,10 @@ summarise_fact s range w v _ _ (IsFinal x t stands final reads) = LooksAtTuple x
 summarise_fact s range w v _ _ (Found x t stands flag reads) = LooksAtTuple x
 summarise_fact s range w v _ _ (ReadNoEntry none reads) = LooksAtMap
 summarise_fact s range w v _ _ (GrowMap old new step) = growth_fact s range w v old new step
-summarise_fact s range w v _ _ (Put x t of flag size long verdict puts these) = WantsEntry AtPut (MapSuffices x long verdict)
+summarise_fact s range w v _ _ (Put x t is size long verdict puts these) = WantsEntry AtPut (MapSuffices x long verdict)
 summarise_fact s range w v _ _ (Set x sets none) = SetsPlaceholder x
-summarise_fact s range w v _ _ (Extent extent result is reads) = ToExtent
-summarise_fact s range w v _ _ (Pass extent next result wider below more block reads) = PassesNext extent next result below
+summarise_fact s range w v _ _ (Extent extent result start is reads) = ToExtent
+summarise_fact s range w v _ _ (Pass extent next slots result wider below none made reads) = PassesNext extent next result below
 summarise_fact s range w v _ _ (Unite extent next result old new all step) =
     MakesFinal (Passing extent next result) old (on_index_point step) (uniting old extent next result all) (on_index_fact s range w v old new step)
 summarise_fact s range w v _ _ (UniteCopies extent next result x old new all stands united reads) =

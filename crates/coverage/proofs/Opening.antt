@@ -4,10 +4,10 @@ use Rattle.std.specs.Prelude.{refl, IsTrue}
 use Rattle.std.proofs.lemmas.Option.{same_Some, none-some}
 use Rattle.std.proofs.lemmas.Bool.{false≢true}
 use Rattle.block_model.specs.declared.row.Row.{Row}
-use Rattle.coverage.specs.IndexView.{TuplePlace, IndexTuple, Progress, Pages, range_of_block, IsBuilding}
+use Rattle.coverage.specs.IndexView.{TuplePlace, IndexTuple, Contents, Progress, Pages, range_of_block, IsBuilding}
 use Rattle.coverage.specs.IsSettled.{IsSettled, AllAwait, IsAccounted}
 use Rattle.coverage.specs.IsSound.{IsSound}
-use Rattle.coverage.specs.Statements.{OnIndex, Scan, Inserting, Scanning, loose_of, building_of}
+use Rattle.coverage.specs.Statements.{OnIndex, Scan, Inserting, Scanning, AreLawful, loose_of, building_of}
 use Rattle.coverage.specs.Knowing.{Knows}
 use Rattle.coverage.specs.PageOrder.{AreOrdered, AreNewPages, KnowsPages}
 use Rattle.coverage.specs.IsCovered.{IndexState, index_view, new_index, AreRowsBelow, IsFoundOrUnread, IsCovered, IsAtRest, IsIndexKept}
@@ -16,7 +16,7 @@ use Rattle.coverage.proofs.Settled.{settled_accounted}
 use Rattle.coverage.proofs.PagesOrdered.{order_same, entries_same, order_started, order_new}
 
 module _ (w : IndexState) (covered : IsCovered w) (rest : IsAtRest w) (ranged : 0 < w.pages_per_range) (rows_below : AreRowsBelow w)
-    (ordered : AreOrdered (index_view w)) where
+    (ordered : AreOrdered (index_view w)) (lawful : AreLawful w.contents) where
   nobody_builds : (s range : ℕ) (p : Progress) → IsBuilding (index_view w) s range p → ⊥
   nobody_builds s range p is = none-some _ (sym (ap building_of (rest.idle s)) ∙ is)
 
@@ -24,7 +24,7 @@ module _ (w : IndexState) (covered : IsCovered w) (rest : IsAtRest w) (ranged : 
   nothing_loose s x is = none-some _ (sym (ap loose_of (rest.idle s)) ∙ is)
 
   rest_sound : IsSound (index_view w)
-  rest_sound = search (rules, nobody_builds, nothing_loose)
+  rest_sound = search (rules, lawful, nobody_builds, nothing_loose)
 
   pub rest_kept : IsIndexKept w
   rest_kept = record {
@@ -41,11 +41,11 @@ module _ (w : IndexState) (covered : IsCovered w) (rest : IsAtRest w) (ranged : 
   }
 
 -- a new table's index
-pub new_kept : (per blocks : ℕ) (pages : Pages) (counts : ℕ → Bool) → 0 < per → AreNewPages pages
-    → IsIndexKept (new_index per blocks pages counts)
-new_kept per blocks pages counts some new = record {
-  sound = search rules;
-  ordered = order_new (index_view (new_index per blocks pages counts)) new (λ x. refl) (λ range. refl);
+pub new_kept : (contents : Contents) (per blocks : ℕ) (pages : Pages) (counts : ℕ → Bool) → AreLawful contents → 0 < per → AreNewPages pages
+    → IsIndexKept (new_index contents per blocks pages counts)
+new_kept contents per blocks pages counts lawful some new = record {
+  sound = search (rules, lawful);
+  ordered = order_new (index_view (new_index contents per blocks pages counts)) new (λ x. refl) (λ range. refl);
   knows_pages = λ s. tt;
   knows = λ s. ((λ p is. none-some _ is), λ is. none-some _ is);
   rows = λ b k r is counted. absurd (none-some _ is);
@@ -104,6 +104,7 @@ module _ (w v : IndexState) (kept : IsIndexKept w) (stops : Stops w v) where
   pub stopped_kept : IsIndexKept v
   stopped_kept = record {
     sound = record {
+      lawful = subst AreLawful (sym stops.contents) kept.sound.lawful;
       ranged = subst (λ n. 0 < n) (sym stops.pages_per_range) kept.sound.ranged;
       rows_below = λ b k r there. within b w.blocks v.blocks (kept.sound.rows_below b k r (sym (stops.row b k) ∙ there)) stops.blocks;
       entries_name_tuples = λ m x named.

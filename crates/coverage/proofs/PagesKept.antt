@@ -332,7 +332,7 @@ module _ (s range : ℕ) (w v : IndexView) (ordered : AreOrdered w) (held : w.su
       (tt, (h.0, h.1, reads.frame.map.entry range ∙ h.2, reads.frame.tuples.tuple h.0 ∙ h.3, h.4 ∙ flag), tt)
   summarise_after _ _ (ReadNoEntry none reads) known pages = read_after s w v ordered (Maintaining range Vacant) reads tt
   summarise_after _ _ (GrowMap old new step) known pages = growth_after old new step known pages
-  summarise_after _ _ (Put x t of flag size long verdict puts these) known pages = record {
+  summarise_after _ _ (Put x t is size long verdict puts these) known pages = record {
     ordered = order_puts w v ordered s w.pages.placeholder x t puts (put_target w s range w.pages.placeholder x verdict);
     on = goes_on s w v puts.frame.heap puts.frame.locks (kinds_turned s w v x.block Regular puts.page puts.free) (inl held);
     knows = ((λ past. long (subst (λ m. m < map_page_of range) puts.page.map_pages past)), these);
@@ -342,7 +342,7 @@ module _ (s range : ℕ) (w v : IndexView) (ordered : AreOrdered w) (held : w.su
     on = goes_on s w v sets.frame.heap sets.frame.locks (same_kinds s w v sets.pages) (inl held);
     knows = (tt, (x, known.1.1.0, sets.now, sets.frame.tuples.tuple x ∙ known.1.1.1, known.1.1.3), tt);
   }
-  summarise_after _ _ (Extent extent result is reads) known pages =
+  summarise_after _ _ (Extent extent result start is reads) known pages =
       read_after s w v ordered (Maintaining range (IsAt (Passing extent (range * w.pages_per_range) result) Empty)) reads (
         tt,
         names_reads s range w v reads pages.1,
@@ -354,7 +354,7 @@ module _ (s range : ℕ) (w v : IndexView) (ordered : AreOrdered w) (held : w.su
     where
       least : (e a b : ℕ) → e ≡ min a b → e ≤ a
       least e a b is = omega arith
-  summarise_after _ _ (Pass extent next result wider below more block reads) known pages =
+  summarise_after _ _ (Pass extent next slots result wider below none made reads) known pages =
       read_after s w v ordered (Maintaining range (IsAt (Passing extent (next + 1) wider) Empty)) reads (
         tt,
         names_reads s range w v reads pages.1,

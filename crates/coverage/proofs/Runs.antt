@@ -60,10 +60,10 @@ summarise_keeps s range w v _ _ (IsFinal x t stands final reads) = (reads.frame.
 summarise_keeps s range w v _ _ (Found x t stands flag reads) = (reads.frame.heap, reads.frame.summarise_lock)
 summarise_keeps s range w v _ _ (ReadNoEntry none reads) = (reads.frame.heap, reads.frame.summarise_lock)
 summarise_keeps s range w v _ _ (GrowMap old new step) = growth_keeps s range w v old new step
-summarise_keeps s range w v _ _ (Put x t of flag size long verdict puts these) = (puts.frame.heap, puts.frame.summarise_lock)
+summarise_keeps s range w v _ _ (Put x t is size long verdict puts these) = (puts.frame.heap, puts.frame.summarise_lock)
 summarise_keeps s range w v _ _ (Set x sets none) = (sets.frame.heap, sets.frame.summarise_lock)
-summarise_keeps s range w v _ _ (Extent extent result is reads) = (reads.frame.heap, reads.frame.summarise_lock)
-summarise_keeps s range w v _ _ (Pass extent next result wider below more block reads) = (reads.frame.heap, reads.frame.summarise_lock)
+summarise_keeps s range w v _ _ (Extent extent result start is reads) = (reads.frame.heap, reads.frame.summarise_lock)
+summarise_keeps s range w v _ _ (Pass extent next slots result wider below none made reads) = (reads.frame.heap, reads.frame.summarise_lock)
 summarise_keeps s range w v _ _ (Unite extent next result old new all step) = on_index_keeps s range w v old new step
 summarise_keeps s range w v _ _ (UniteCopies extent next result x old new all stands united reads) = (reads.frame.heap, reads.frame.summarise_lock)
 summarise_keeps s range w v _ _ (SwapFinal p x old new verdict swap) = (swap.frame.heap, swap.frame.summarise_lock)
@@ -252,6 +252,7 @@ row_on s w v on scan b k r known = record {
 -- where nothing changes, the index is the same one
 rests_path : (w v : IndexState) → Rests w v → v ≡ w
 rests_path w v rests = λ i. record {
+  contents = rests.contents i;
   pages_per_range = rests.heap.pages_per_range i;
   blocks = rests.heap.blocks i;
   row = λ b k. rests.heap.row b k i;

@@ -1,16 +1,16 @@
 -- A running insert or desummarise has a step on the index, or waits, or is refused: the steps are there to be made.
-use Rattle.std.proofs.Common.{◌≡◌, ◌≢◌, ◌⊎◌, inl, inr, ⊎_elim, ℕ, Option, Some, None, true, sym, ◌∙◌, ap, subst, rules}
+use Rattle.std.proofs.Common.{◌≡◌, ◌≢◌, ◌⊎◌, inl, inr, ⊎_elim, ℕ, Option, Some, None, sym, ◌∙◌, ap, subst, rules}
 use Rattle.std.specs.Prelude.{refl, List, [], ◌∷◌, length}
 use Rattle.std.proofs.lemmas.Option.{same_Some, none-some}
 use Rattle.std.proofs.lemmas.Bool.{cases_eq}
 use Rattle.block_model.specs.declared.row.Row.{Row}
 use Rattle.coverage.specs.IndexView.{TuplePlace, IndexTuple, Regular, IndexView, range_of_block, map_page_of}
 use Rattle.coverage.specs.Changes.{IsFree}
-use Rattle.coverage.specs.Verdicts.{HasFreeSlots, Verdict, Waits, Differs, Fits, Puts, Full, PutVerdict, PutGoes, SwapVerdict, SwapFits, SwapMoves}
+use Rattle.coverage.specs.Verdicts.{IsLocked, HasFreeSlots, Verdict, Waits, Differs, Fits, Puts, Full, PutVerdict, PutGoes, SwapVerdict, SwapFits, SwapMoves}
 use Rattle.coverage.specs.Verdicts.{ClearVerdict, ClearFits}
 use Rattle.coverage.specs.Statements.{OnIndex, Empty, Held, Copied, Moving, Dropping, NotBuilding, Idle, Inserting, Maintaining, Holding}
 use Rattle.coverage.specs.Knowing.{LocksNone, IsOneOf, Knows}
-use Rattle.coverage.specs.Steps.{ReadsIndex, DropsTuple, InsertOnIndex, InsertNoEntry, InsertCopies, InsertSwap, InsertSet, InsertDrop}
+use Rattle.coverage.specs.Steps.{ReadsIndex, DropsTuple, InsertOnIndex, InsertNoEntry, InsertCopies, InsertUnchanged, InsertSwap, InsertSet, InsertDrop}
 use Rattle.coverage.specs.Steps.{Maps, Gone, Again, MovePut, ClearMap, ClearNone, Clear, ClearAgain, DropCleared}
 use Rattle.coverage.specs.Waiting.{IsInsertStuck, IsSwapFree, IsDesummariseStuck, IsClearFree}
 use Rattle.coverage.proofs.Verdicts.{some_swap, some_clear}
@@ -139,33 +139,32 @@ module _ (s b k : ℕ) (r : Row) (w : IndexView) where
   held_steps : (x : TuplePlace) → LocksNone w s → IsInsertStuck w s b k r (Held x) → ⊥
   held_steps x none stuck = by (w.tuple x) refl
     where
-      -- the tuple with the row added, in other bytes
-      added : IndexTuple → IndexTuple
-      added t = record t { bytes = 0 ∷ t.bytes; includes = λ q. true }
-
-      longer : (xs : List ℕ) → 0 ∷ xs ≢ xs
-      longer [] e = absurd (subst IsCons e tt)
+      -- with the row in the tuple already, another session's lock of its page decides
+      unchanged : (t : IndexTuple) → w.tuple x ≡ Some t → t.range ≡ range_of_block w b → t ≡ w.contents.added r t → ⊥
+      unchanged t is of same = by_lock (w.lock x.block) refl
         where
-          IsCons : List ℕ → Type 0
-          IsCons [] = ⊥
-          IsCons (y ∷ ys) = Unit {0}
-      longer (y ∷ ys) e = longer ys (subst (λ z. z ∷ ys ≡ ys) (sym (ap head_of e)) (ap tail_of e))
-        where
-          head_of : List ℕ → ℕ
-          head_of [] = 0
-          head_of (z ∷ zs) = z
+          copies : IsLocked w s x.block → ⊥
+          copies locked =
+              stuck (Inserting b k r (Copied x t (w.contents.added r t))) w
+              (InsertCopies x t (w.contents.added r t) (is, of) refl (inr locked) (reads_here s w none))
 
-          tail_of : List ℕ → List ℕ
-          tail_of [] = []
-          tail_of (z ∷ zs) = zs
+          completes : IsFree w s x.block → ⊥
+          completes free = stuck Idle w (InsertUnchanged x t (is, of) same free (reads_here s w none))
+
+          by_lock : (o : Option ℕ) → w.lock x.block ≡ o → ⊥
+          by_lock None free = completes (λ n held. absurd (none-some _ (sym free ∙ held)))
+          by_lock (Some n) held = ⊎_elim
+              (λ (own : n ≡ s). completes (λ m held'. same_Some _ _ (sym held' ∙ held) ∙ own))
+              (λ (other : n ≢ s). copies (n, held, other))
+              (cases_eq n s)
 
       by : (o : Option IndexTuple) → w.tuple x ≡ o → ⊥
       by None is =
           stuck (Inserting b k r Empty) w (InsertOnIndex (Held x) Empty (Gone x (λ t here. absurd (none-some _ (sym is ∙ here))) (reads_here s w none)))
       by (Some t) is = ⊎_elim
-          (λ (of : t.range ≡ range_of_block w b). stuck (Inserting b k r (Copied x t (added t))) w
-          (InsertCopies x t (added t) (is, of) (record { range = refl; placeholder = refl; wider = λ q has. refl; row = refl })
-          (inl (λ e. longer t.bytes (ap (λ (u : IndexTuple). u.bytes) e))) (reads_here s w none)))
+          (λ (of : t.range ≡ range_of_block w b).
+          stuck (Inserting b k r (Copied x t (w.contents.added r t))) w
+          (InsertCopies x t (w.contents.added r t) (is, of) refl (inl (λ same. unchanged t is of (sym same))) (reads_here s w none)))
           (λ (other : t.range ≢ range_of_block w b). stuck (Inserting b k r Empty) w
           (InsertOnIndex (Held x) Empty
           (Gone x (λ u here of. other (ap (λ (q : IndexTuple). q.range) (same_Some _ _ (sym is ∙ here)) ∙ of)) (reads_here s w none))))

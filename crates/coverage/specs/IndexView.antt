@@ -15,11 +15,18 @@ pub record IndexTuple : Type 0 where
   pub placeholder : Bool
   pub includes : Row → Bool
 
+-- What the operator classes of an index make of tuples: the placeholder of a range that includes nothing yet; the tuple with a row
+-- added; the final tuple that unites one with another.
+pub record Contents : Type 0 where
+  pub empty : ℕ → IndexTuple
+  pub added : Row → IndexTuple → IndexTuple
+  pub united : IndexTuple → IndexTuple → IndexTuple
+
 -- How far the building of a summary has come: the table's extent isn't read yet; or it is read, the blocks of the range
--- below `next` are passed, and the result so far includes these rows.
+-- below `next` are passed, and the result so far is this tuple.
 pub data Progress : Type 0 where
   ExtentUnread : Progress
-  Passing : (extent next : ℕ) → (Row → Bool) → Progress
+  Passing : (extent next : ℕ) → IndexTuple → Progress
 
 -- what a session is building: the summary of this range
 pub record Building : Type 0 where
@@ -44,6 +51,7 @@ pub record Pages : Type 0 where
   pub limit : ℕ
 
 pub record IndexView : Type 0 where
+  pub contents : Contents
   -- heap blocks of a range, heap blocks of the table, and the rows in use by block and slot
   pub pages_per_range : ℕ
   pub blocks : ℕ

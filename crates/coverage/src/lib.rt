@@ -8,13 +8,13 @@
 
 ghost use Rattle.std.specs.Prelude.{◌≡◌, ◌≢◌, ◌↔◌, ◌<◌, ℕ, Bool, IsTrue, Option, None, Some, List};
 ghost use Rattle.block_model.specs.declared.row.Row.{Row};
-ghost use Rattle.coverage.specs.IndexView.{IndexView, Pages, TuplePlace, IndexTuple, Progress, range_of_block, NamesPlaceholder};
+ghost use Rattle.coverage.specs.IndexView.{IndexView, Contents, Pages, TuplePlace, IndexTuple, Progress, range_of_block, NamesPlaceholder};
 ghost use Rattle.coverage.specs.IsSettled.{IsSettled, IsAccounted};
 ghost use Rattle.coverage.specs.IsSound.{IsSound};
 ghost use Rattle.coverage.specs.GoesOn.{GoesOn, IsHeld};
 ghost use Rattle.coverage.specs.Changes.{PutsRow, Places, Names, Turn, IsFree, Swaps, MovePuts, MoveSets, DropsLoose};
 ghost use Rattle.coverage.specs.Changes.{Clears, Sweeps, Prunes, Takes, Ends, TurnsLocks};
-ghost use Rattle.coverage.specs.Statements.{OnIndex, Held, Copied, Phase, NotBuilding, Scan, Statement, Inserting, Maintaining, Scanning};
+ghost use Rattle.coverage.specs.Statements.{OnIndex, Held, Copied, Phase, NotBuilding, Scan, Statement, Inserting, Maintaining, Scanning, AreLawful};
 ghost use Rattle.coverage.specs.IsCovered.{IndexState, index_view, new_index, AreRowsBelow, IsFoundOrUnread, IsCovered, IsAtRest, IsIndexKept};
 ghost use Rattle.coverage.specs.Steps.{InsertStep, SummariseStep, DesummariseStep, IsRangeExcluded, Step, Run, Stops};
 ghost use Rattle.coverage.specs.PageOrder.{AreOrdered, AreNewPages};
@@ -97,10 +97,10 @@ pub fn index_stays_covered()
 /// at any moment leaves, and of the empty one of a new table.
 pub fn opened_index_is_kept()
     ensures opened { (w : IndexState) → IsCovered w → IsAtRest w → 0 < w.pages_per_range → AreRowsBelow w → AreOrdered (index_view w)
-        → IsIndexKept w }
+        → AreLawful w.contents → IsIndexKept w }
     ensures stopped { (w v : IndexState) → IsIndexKept w → Stops w v → IsIndexKept v }
-    ensures new { (per blocks : ℕ) (pages : Pages) (counts : ℕ → Bool) → 0 < per → AreNewPages pages
-        → IsIndexKept (new_index per blocks pages counts) }
+    ensures new { (contents : Contents) (per blocks : ℕ) (pages : Pages) (counts : ℕ → Bool) → AreLawful contents → 0 < per → AreNewPages pages
+        → IsIndexKept (new_index contents per blocks pages counts) }
 {}
 
 /// Each matching row that a scan's session sees is found, or lies in a candidate block that isn't read yet; and a range

@@ -33,7 +33,7 @@ table_covered w kept = record {
 
 pub table_opened : (w : TableState) → IsTableCovered w → IsTableAtRest w → IsTableKept w
 table_opened w covered rest = record {
-  indexes = λ i below. rest_kept (index_state i w) (covered.indexes i below) (rest.rest i below) (rest.ranged i below) rest.rows_below (rest.ordered i below);
+  indexes = λ i below. rest_kept (index_state i w) (covered.indexes i below) (rest.rest i below) (rest.ranged i below) rest.rows_below (rest.ordered i below) (rest.lawful i below);
   summarise_lock = free_lock w rest.free rest.resting;
   rows_below = rest.rows_below;
   scans = λ s scan is. absurd (resting_scan scan (sym (rest.resting s) ∙ is));
@@ -70,7 +70,7 @@ module _ (w : TableState) (new : IsNewTable w) (i : ℕ) where
   new_index_kept = rest_kept (index_state i w)
       (search (rules, nobody_builds))
       new_rest (new.ranged i) (λ b k r is. absurd (none-some _ (sym (new.row b k) ∙ is)))
-      (order_new (index_view_at i w) (new.pages i) (new.tuple i) (new.entry i))
+      (order_new (index_view_at i w) (new.pages i) (new.tuple i) (new.entry i)) (new.lawful i)
 
 pub new_table_kept : (w : TableState) → IsNewTable w → IsTableKept w
 new_table_kept w new = record {

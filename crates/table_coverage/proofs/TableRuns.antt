@@ -164,6 +164,7 @@ module _ (s : ℕ) (w v : TableState) (kept : AreIndexesKept w) (i : ℕ) (below
   -- less comes to count, and the index sees nothing else
   pub counts_less : (t : ℕ) → Fails w v t → ((n : ℕ) → seen_by i (v.task n) ≡ seen_by i (w.task n)) → IsIndexKept (index_state i v)
   counts_less t fails views = steps (Counts v.counts (λ n counted. inl (fails.fewer n counted)) (λ j. record {
+    contents = ap (λ (x : Index). x.contents) index j;
     pages_per_range = ap (λ (x : Index). x.pages_per_range) index j;
     blocks = fails.blocks j;
     row = λ b k. fails.row b k j;

@@ -161,6 +161,9 @@ module _ (i s : ℕ) (w v : TableState) (index : v.index i ≡ w.index i) where
   unnamed_at : SameUnnamed (index_view_at i w) (index_view_at i v)
   unnamed_at = record { unnamed = λ y. ap (λ (x : Index). x.unnamed y) index }
 
+  contents_at : (v.index i).contents ≡ (w.index i).contents
+  contents_at = ap (λ (x : Index). x.contents) index
+
   lock_at : (p : ℕ) → (v.index i).lock p ≡ (w.index i).lock p
   lock_at p = ap (λ (x : Index). x.lock p) index
 
@@ -178,12 +181,13 @@ module _ (i s : ℕ) (w v : TableState) (index : v.index i ≡ w.index i) where
     unnamed_tuples = unnamed_at;
     summarise_lock = summarise_lock;
     locks = locks_at;
+    contents = contents_at;
   }
 
   pub reads_by : SameHeap (index_view_at i w) (index_view_at i v) → v.summarise_lock ≡ w.summarise_lock → LocksNone (index_view_at i w) s
       → ReadsIndex s (index_view_at i w) (index_view_at i v)
   reads_by heap summarise_lock none = record {
-    frame = record { heap = heap; map = map_at; tuples = tuples_at; unnamed_tuples = unnamed_at; summarise_lock = summarise_lock; locks = locks_at };
+    frame = record { heap = heap; map = map_at; tuples = tuples_at; unnamed_tuples = unnamed_at; summarise_lock = summarise_lock; locks = locks_at; contents = contents_at };
     pages = ap (λ (x : Index). x.pages) index;
     none = none_at none;
   }
@@ -203,6 +207,7 @@ module _ (i s : ℕ) (w v : TableState) (old new : Task) (turns : TaskTurns s w 
 
     pub rests_at : v.summarise_lock ≡ w.summarise_lock → seen_by i new ≡ seen_by i old → Rests (index_state i w) (index_state i v)
     rests_at summarise_lock same = record {
+      contents = contents_at i s w v index;
       heap = heap_at;
       map = map_at i s w v index;
       tuples = tuples_at i s w v index;
@@ -233,6 +238,7 @@ module _ (i s : ℕ) (w v : TableState) (old new : Task) (turns : TaskTurns s w 
         unnamed_tuples = unnamed_at i s w v index;
         summarise_lock = tt;
         locks = locks_at i s w v index;
+        contents = contents_at i s w v index;
       };
       pages = ap (λ (x : Index). x.pages) index;
       none = none_at i s w v index none;

@@ -1,12 +1,13 @@
 -- A table with several indexes: what its statements are at, and how each index sees it.
 use Rattle.std.specs.Prelude.{ℕ, zero, suc, Bool, Option, None, Some}
 use Rattle.block_model.specs.declared.row.Row.{Row}
-use Rattle.coverage.specs.IndexView.{TuplePlace, IndexTuple, Pages, IndexView}
+use Rattle.coverage.specs.IndexView.{TuplePlace, IndexTuple, Contents, Pages, IndexView}
 use Rattle.coverage.specs.Statements.{OnIndex, Empty, Phase, Scan, Statement, Idle, Inserting, Maintaining, Holding, Scanning}
 use Rattle.coverage.specs.IsCovered.{IndexState, index_view}
 
--- one index of the table: its pages, range map and tuples, and who locks what
+-- one index of the table: what is made of its tuples, its pages, range map and tuples, and who locks what
 pub record Index : Type 0 where
+  pub contents : Contents
   pub pages_per_range : ℕ
   pub autosummarize : Bool
   pub entry : ℕ → Option TuplePlace
@@ -124,6 +125,7 @@ seen_by i (Scans scan) = Scanning (scan_at i scan)
 -- the table as its index i sees it
 abbrev pub index_state : ℕ → TableState → IndexState
 index_state i w = record {
+  contents = (w.index i).contents;
   pages_per_range = (w.index i).pages_per_range;
   blocks = w.blocks;
   row = w.row;

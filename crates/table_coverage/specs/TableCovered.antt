@@ -2,6 +2,7 @@
 use Rattle.std.specs.Prelude.{◌≡◌, ◌≢◌, ◌⊎◌, ℕ, ◌≤◌, ◌<◌, IsTrue, ◌↔◌, true, false, None, Some}
 use Rattle.block_model.specs.declared.row.Row.{Row}
 use Rattle.coverage.specs.IndexView.{TuplePlace, Progress, IsBuilding}
+use Rattle.coverage.specs.Statements.{AreLawful}
 use Rattle.coverage.specs.IsCovered.{IsCovered, IsAtRest, IsIndexKept}
 use Rattle.coverage.specs.PageOrder.{AreOrdered, AreNewPages}
 use Rattle.coverage.specs.Steps.{Stops}
@@ -72,6 +73,7 @@ pub record IsTableAtRest (w : TableState) : Type 0 where
   pub free : w.summarise_lock ≡ None
   pub rest : (i : ℕ) → i < w.indexes → IsAtRest (index_state i w)
   pub ordered : (i : ℕ) → i < w.indexes → AreOrdered (index_view_at i w)
+  pub lawful : (i : ℕ) → i < w.indexes → AreLawful (w.index i).contents
   pub ranged : (i : ℕ) → i < w.indexes → 0 < (w.index i).pages_per_range
   pub rows_below : (b k : ℕ) (r : Row) → w.row b k ≡ Some r → b < w.blocks
 
@@ -85,6 +87,7 @@ pub record IsNewTable (w : TableState) : Type 0 where
   pub lock : (i p : ℕ) → (w.index i).lock p ≡ None
   pub unnamed : (i : ℕ) (x : TuplePlace) → (w.index i).unnamed x ≡ false
   pub pages : (i : ℕ) → AreNewPages (w.index i).pages
+  pub lawful : (i : ℕ) → AreLawful (w.index i).contents
   pub ranged : (i : ℕ) → 0 < (w.index i).pages_per_range
 
 -- after a stop nobody is at work, and each index of the table is as one index is; a heap block may be started and have no row
