@@ -17,4 +17,6 @@ pub mod Runs
 pub mod Opening
 pub mod Verdicts
 pub mod NextSteps
+pub mod OneOutcome
 pub mod StepsExist
+pub mod SummariseExists

@@ -36,7 +36,7 @@ clear_point Differs = AtAgain
 clear_point verdict = AtClear
 
 -- the next tuple of a page is one
-next_once : (w : IndexView) (page : ℕ) (x y : TuplePlace) (t u : IndexTuple) → IsNextTuple w page x t → IsNextTuple w page y u → (x ≡ y) × (t ≡ u)
+pub next_once : (w : IndexView) (page : ℕ) (x y : TuplePlace) (t u : IndexTuple) → IsNextTuple w page x t → IsNextTuple w page y u → (x ≡ y) × (t ≡ u)
 next_once w page x y t u one two = (place, same_Some _ _ (sym one.stands ∙ ap w.tuple place ∙ two.stands))
   where
     both : (a b : ℕ) → a ≤ b → b ≤ a → a ≡ b
@@ -52,7 +52,7 @@ next_once w page x y t u one two = (place, same_Some _ _ (sym one.stands ∙ ap 
     place = λ i. record { block = block i; slot = slot i }
 
 -- the next tuple isn't named and unnamed at once
-named_or_not : (w : IndexView) (page : ℕ) (x y : TuplePlace) (t u : IndexTuple)
+pub named_or_not : (w : IndexView) (page : ℕ) (x y : TuplePlace) (t u : IndexTuple)
     → IsNextTuple w page x t → IsNextTuple w page y u → w.entry t.range ≡ Some x → IsUnnamed w y → ⊥
 named_or_not w page x y t u one two named unnamed =
     let same = next_once w page x y t u one two in

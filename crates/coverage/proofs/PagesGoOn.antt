@@ -208,13 +208,13 @@ module _ (s : ℕ) (d : ℕ → ℕ → Bool) (w v : IndexView) (sound : IsSound
         ap (λ m. v.pages.kind (m + 1)) same ∙ pages.kinds (next_map_page w) n (known.1.locked (next_map_page w) (inl refl)) other ∙ known.0,
         subst (λ m. LocksThese v n ((m + 1) ∷ 0 ∷ [])) (sym same) (these_on (next_map_page w ∷ 0 ∷ []) known.1),
       )
-  phase_pages_on held range (Evacuating m on_index) known = locks_on m on_index known
+  phase_pages_on held range (Evacuating m on_index) known = (locks_on m on_index known.0, known.1)
   phase_pages_on held range (Placing x) known = (
     λ past. known.0 (subst (λ m. m < map_page_of range) (quiet_on held).map_pages past),
     these_on (x.block ∷ map_page_of range ∷ []) known.1,
   )
   phase_pages_on held range (IsAt p on_index) known =
-      (locks_on range on_index known.0, placeholder_on s d w v sound on n other held range known.1, within_on range p known.2)
+      (locks_on range on_index known.0, placeholder_on s d w v sound on n other held range known.1, within_on range p known.2, known.3)
 
   pub pages_on : (e : Statement) → Knows w n e → KnowsPages w n e → KnowsPages v n e
   pages_on Idle known pages_known = tt

@@ -12,7 +12,7 @@ use Rattle.coverage.specs.Verdicts.{Puts, Fits, IsTarget, PutVerdict, PutGoes, S
 use Rattle.coverage.specs.Statements.{OnIndex, Empty, Held, Copied, Dropping, Phase, NotBuilding, Vacant, Growing, IsAt, Statement}
 use Rattle.coverage.specs.Statements.{Idle, Inserting, Maintaining, Holding, IsAdded}
 use Rattle.coverage.specs.Knowing.{LocksThese, KnowsOnIndex, KnowsPhase}
-use Rattle.coverage.specs.PageOrder.{AreOrdered, IsForTuples, HasNamedSort, LocksOnIndex, IsPassWithin, KnowsPagesOfPhase, KnowsPages}
+use Rattle.coverage.specs.PageOrder.{AreOrdered, IsForTuples, HasNamedSort, LocksOnIndex, IsPassWithin, IsTurnToUnite, KnowsPagesOfPhase, KnowsPages}
 use Rattle.coverage.specs.Steps.{ReadsIndex, ReplacesTuple, SetsEntry, SameLocks, ClearsEntry, DropsTuple, SweepsTuples, OnIndexStep}
 use Rattle.coverage.specs.Steps.{Maps, Gone, Again, MovePut, InsertStep, InsertOnIndex, InsertNoEntry, InsertCopies, InsertUnchanged, InsertSwap, InsertSet}
 use Rattle.coverage.specs.Steps.{InsertDrop, IsNextTuple, TurnsKind, CountsPage, GrowthStep, Grow, CountLeftOver, Count, Flag, EvacuatePut, EvacuateSet}
@@ -178,13 +178,13 @@ module _ (s b k : ℕ) (r : Row) (w v : IndexView) (sound : IsSound w) (ordered 
 
 -- a page without a next tuple has none
 module _ (w : IndexView) (page : ℕ) (none : (x : TuplePlace) (t : IndexTuple) → IsNextTuple w page x t → ⊥) where
-  abbrev place : ℕ → TuplePlace
+  abbrev pub place : ℕ → TuplePlace
   place k = record { block = page; slot = k }
 
-  abbrev HasTuple : ℕ → Type 0
+  abbrev pub HasTuple : ℕ → Type 0
   HasTuple k = (t : IndexTuple) × (w.tuple (place k) ≡ Some t)
 
-  has_or_not : (k : ℕ) → HasTuple k ⊎ (HasTuple k → ⊥)
+  pub has_or_not : (k : ℕ) → HasTuple k ⊎ (HasTuple k → ⊥)
   has_or_not k = by (w.tuple (place k)) refl
     where
       by : (o : Option IndexTuple) → w.tuple (place k) ≡ o → HasTuple k ⊎ (HasTuple k → ⊥)
@@ -234,6 +234,13 @@ within_same range w v (Passing extent next result) heap within = (
       (λ (is : next ≡ range * w.pages_per_range). inr (is ∙ ap (λ m. range * m) (sym heap.pages_per_range)))
       within.1,
 )
+
+uniting : (s range : ℕ) (w v : IndexView) (extent next : ℕ) (result : IndexTuple) → extent ≤ next → (g h : OnIndex) → OnIndexStep s range w v g h
+    → IsTurnToUnite (Passing extent next result) h
+uniting s range w v extent next result all _ _ (Maps x named reads) = all
+uniting s range w v extent next result all _ _ (Gone x gone reads) = tt
+uniting s range w v extent next result all _ _ (Again x old new verdict reads) = tt
+uniting s range w v extent next result all _ _ (MovePut x y old new verdict puts these) = all
 
 module _ (s range : ℕ) (w v : IndexView) (ordered : AreOrdered w) (held : w.summarise_lock ≡ Some s) where
   -- the page after the map turns to another kind
@@ -292,12 +299,12 @@ module _ (s range : ℕ) (w v : IndexView) (ordered : AreOrdered w) (held : w.su
   growth_after _ _ (EvacuatePut x y t grows next named free verdict puts these) known pages = record {
     ordered = order_puts w v ordered s (length t.bytes) y t puts (put_target w s t.range (length t.bytes) y verdict);
     on = goes_on s w v puts.frame.heap puts.frame.locks (kinds_turned s w v y.block Regular puts.page puts.free) (inl held);
-    knows = these;
+    knows = (these, tt);
   }
   growth_after _ _ (EvacuateSet m x y t u sets same) known pages = record {
     ordered = set_ordered s w v ordered m y sets (ordered.entries m x known.1.2);
     on = goes_on s w v sets.frame.heap sets.frame.locks (same_kinds s w v sets.pages) (inl held);
-    knows = (y.block, these_same s w v same (x.block ∷ y.block ∷ map_page_of m ∷ []) pages);
+    knows = ((y.block, these_same s w v same (x.block ∷ y.block ∷ map_page_of m ∷ []) pages.0), tt);
   }
   growth_after _ _ (EvacuateDrop m x drops) known pages =
       record { ordered = drop_ordered s w v ordered x drops; on = drop_on s w v ordered x drops (inl held); knows = tt }
@@ -329,7 +336,7 @@ module _ (s range : ℕ) (w v : IndexView) (ordered : AreOrdered w) (held : w.su
   summarise_after _ _ (Found x t stands flag reads) known pages =
       let h = pages.1 t stands.0 stands.1 in
       read_after s w v ordered (Maintaining range (IsAt ExtentUnread Empty)) reads
-      (tt, (h.0, h.1, reads.frame.map.entry range ∙ h.2, reads.frame.tuples.tuple h.0 ∙ h.3, h.4 ∙ flag), tt)
+      (tt, (h.0, h.1, reads.frame.map.entry range ∙ h.2, reads.frame.tuples.tuple h.0 ∙ h.3, h.4 ∙ flag), tt, tt)
   summarise_after _ _ (ReadNoEntry none reads) known pages = read_after s w v ordered (Maintaining range Vacant) reads tt
   summarise_after _ _ (GrowMap old new step) known pages = growth_after old new step known pages
   summarise_after _ _ (Put x t is size long verdict puts these) known pages = record {
@@ -340,7 +347,7 @@ module _ (s range : ℕ) (w v : IndexView) (ordered : AreOrdered w) (held : w.su
   summarise_after _ _ (Set x sets none) known pages = record {
     ordered = set_ordered s w v ordered range x sets (long_enough pages.0);
     on = goes_on s w v sets.frame.heap sets.frame.locks (same_kinds s w v sets.pages) (inl held);
-    knows = (tt, (x, known.1.1.0, sets.now, sets.frame.tuples.tuple x ∙ known.1.1.1, known.1.1.3), tt);
+    knows = (tt, (x, known.1.1.0, sets.now, sets.frame.tuples.tuple x ∙ known.1.1.1, known.1.1.3), tt, tt);
   }
   summarise_after _ _ (Extent extent result start is reads) known pages =
       read_after s w v ordered (Maintaining range (IsAt (Passing extent (range * w.pages_per_range) result) Empty)) reads (
@@ -350,6 +357,7 @@ module _ (s range : ℕ) (w v : IndexView) (ordered : AreOrdered w) (held : w.su
           subst (λ n. extent ≤ n) (sym reads.frame.heap.blocks) (least extent w.blocks ((range + 1) * w.pages_per_range) is),
           inr (ap (λ m. range * m) (sym reads.frame.heap.pages_per_range)),
         ),
+        tt,
       )
     where
       least : (e a b : ℕ) → e ≡ min a b → e ≤ a
@@ -359,6 +367,7 @@ module _ (s range : ℕ) (w v : IndexView) (ordered : AreOrdered w) (held : w.su
         tt,
         names_reads s range w v reads pages.1,
         (subst (λ n. extent ≤ n) (sym reads.frame.heap.blocks) pages.2.0, inl (after next extent below)),
+        tt,
       )
     where
       after : (n e : ℕ) → n < e → n + 1 ≤ e
@@ -372,11 +381,12 @@ module _ (s range : ℕ) (w v : IndexView) (ordered : AreOrdered w) (held : w.su
           after.2,
           names_on_index s range range w v old new step pages.1,
           within_same range w v (Passing extent next result) (on_index_keeps s range w v old new step).0 pages.2,
+          uniting s range w v extent next result all old new step,
         );
       }
   summarise_after _ _ (UniteCopies extent next result x old new all stands united reads) known pages =
       read_after s w v ordered (Maintaining range (IsAt (Passing extent next result) (Copied x old new))) reads
-      (tt, names_reads s range w v reads pages.1, within_same range w v (Passing extent next result) reads.frame.heap pages.2)
+      (tt, names_reads s range w v reads pages.1, within_same range w v (Passing extent next result) reads.frame.heap pages.2, all)
   summarise_after _ _ (SwapFinal p x old new verdict swap) known pages = record {
     ordered = swap_ordered s w v ordered x old new swap (swap_regular w s range x old new verdict);
     on = goes_on s w v swap.frame.heap swap.frame.locks (kinds_turned s w v x.block Regular swap.page swap.free) (inl held);

@@ -27,7 +27,7 @@ pub chosen_no : {A P : Type 0} → (d : P ⊎ (P → ⊥)) → (a b : A) → (P 
 chosen_no (inl p) a b lacks = absurd (lacks p)
 chosen_no (inr lacks') a b lacks = refl
 
-place_is : (x y : TuplePlace) → (x ≡ y) ⊎ (x ≢ y)
+pub place_is : (x y : TuplePlace) → (x ≡ y) ⊎ (x ≢ y)
 place_is x y = ⊎_elim
     (λ (block : x.block ≡ y.block). ⊎_elim
     (λ (slot : x.slot ≡ y.slot). inl (λ i. record { block = block i; slot = slot i }))
@@ -36,7 +36,7 @@ place_is x y = ⊎_elim
     (λ (other : x.block ≢ y.block). inr (λ e. other (ap (λ (z : TuplePlace). z.block) e)))
     (cases_eq x.block y.block)
 
-one_of : (these : List ℕ) (p : ℕ) → IsOneOf these p ⊎ (IsOneOf these p → ⊥)
+pub one_of : (these : List ℕ) (p : ℕ) → IsOneOf these p ⊎ (IsOneOf these p → ⊥)
 one_of [] p = inr (λ none. none)
 one_of (q ∷ more) p = ⊎_elim
     (λ (is : p ≡ q). inl (inl is))
@@ -52,7 +52,7 @@ module _ (w : IndexView) (s : ℕ) (these : List ℕ) (free : (p : ℕ) → IsOn
   given p None = None
   given p (Some n) = chosen (cases_eq n s) None (Some n)
 
-  abbrev locks_after : ℕ → Option ℕ
+  abbrev pub locks_after : ℕ → Option ℕ
   locks_after p = chosen (one_of these p) (Some s) (given p (w.lock p))
 
   given_not : (p : ℕ) (o : Option ℕ) → given p o ≢ Some s
@@ -73,59 +73,59 @@ module _ (w : IndexView) (s : ℕ) (these : List ℕ) (free : (p : ℕ) → IsOn
       (λ (other : m ≢ s). sym (chosen_no (cases_eq m s) None (Some m) other) ∙ is)
       (cases_eq m s)
 
-  after_locked : (p : ℕ) → IsOneOf these p → locks_after p ≡ Some s
+  pub after_locked : (p : ℕ) → IsOneOf these p → locks_after p ≡ Some s
   after_locked p is = chosen_yes (one_of these p) (Some s) (given p (w.lock p)) is
 
-  after_only : (p : ℕ) → locks_after p ≡ Some s → IsOneOf these p
+  pub after_only : (p : ℕ) → locks_after p ≡ Some s → IsOneOf these p
   after_only p is = ⊎_elim
       (λ (one : IsOneOf these p). one)
       (λ (lacks : IsOneOf these p → ⊥). absurd (given_not p (w.lock p) (sym (chosen_no (one_of these p) (Some s) (given p (w.lock p)) lacks) ∙ is)))
       (one_of these p)
 
-  after_others : (p n : ℕ) → w.lock p ≡ Some n → n ≢ s → locks_after p ≡ Some n
+  pub after_others : (p n : ℕ) → w.lock p ≡ Some n → n ≢ s → locks_after p ≡ Some n
   after_others p n is other = ⊎_elim
       (λ (one : IsOneOf these p). absurd (other (free p one n is)))
       (λ (lacks : IsOneOf these p → ⊥). chosen_no (one_of these p) (Some s) (given p (w.lock p)) lacks ∙ given_other p n (w.lock p) other is)
       (one_of these p)
 
-  after_taken : (p n : ℕ) → locks_after p ≡ Some n → n ≢ s → w.lock p ≡ Some n
+  pub after_taken : (p n : ℕ) → locks_after p ≡ Some n → n ≢ s → w.lock p ≡ Some n
   after_taken p n is other = ⊎_elim
       (λ (one : IsOneOf these p). absurd (other (same_Some _ _ (sym is ∙ after_locked p one))))
       (λ (lacks : IsOneOf these p → ⊥). given_back p n (w.lock p) (sym (chosen_no (one_of these p) (Some s) (given p (w.lock p)) lacks) ∙ is))
       (one_of these p)
 
 -- a tuple at a place, an entry of a range, a kind of a page
-abbrev tuple_with : (TuplePlace → Option IndexTuple) → TuplePlace → Option IndexTuple → TuplePlace → Option IndexTuple
+abbrev pub tuple_with : (TuplePlace → Option IndexTuple) → TuplePlace → Option IndexTuple → TuplePlace → Option IndexTuple
 tuple_with f x o y = chosen (place_is y x) o (f y)
 
-tuple_here : (f : TuplePlace → Option IndexTuple) (x : TuplePlace) (o : Option IndexTuple) → tuple_with f x o x ≡ o
+pub tuple_here : (f : TuplePlace → Option IndexTuple) (x : TuplePlace) (o : Option IndexTuple) → tuple_with f x o x ≡ o
 tuple_here f x o = chosen_yes (place_is x x) o (f x) refl
 
-tuple_there : (f : TuplePlace → Option IndexTuple) (x : TuplePlace) (o : Option IndexTuple) (y : TuplePlace) → (y ≡ x) ⊎ (tuple_with f x o y ≡ f y)
+pub tuple_there : (f : TuplePlace → Option IndexTuple) (x : TuplePlace) (o : Option IndexTuple) (y : TuplePlace) → (y ≡ x) ⊎ (tuple_with f x o y ≡ f y)
 tuple_there f x o y = ⊎_elim (λ (is : y ≡ x). inl is) (λ (other : y ≢ x). inr (chosen_no (place_is y x) o (f y) other)) (place_is y x)
 
-abbrev number_with : {A : Type 0} → (ℕ → A) → ℕ → A → ℕ → A
+abbrev pub number_with : {A : Type 0} → (ℕ → A) → ℕ → A → ℕ → A
 number_with f n a m = chosen (cases_eq m n) a (f m)
 
-number_here : {A : Type 0} → (f : ℕ → A) (n : ℕ) (a : A) → number_with f n a n ≡ a
+pub number_here : {A : Type 0} → (f : ℕ → A) (n : ℕ) (a : A) → number_with f n a n ≡ a
 number_here f n a = chosen_yes (cases_eq n n) a (f n) refl
 
-number_there : {A : Type 0} → (f : ℕ → A) (n : ℕ) (a : A) (m : ℕ) → (m ≡ n) ⊎ (number_with f n a m ≡ f m)
+pub number_there : {A : Type 0} → (f : ℕ → A) (n : ℕ) (a : A) (m : ℕ) → (m ≡ n) ⊎ (number_with f n a m ≡ f m)
 number_there f n a m = ⊎_elim (λ (is : m ≡ n). inl is) (λ (other : m ≢ n). inr (chosen_no (cases_eq m n) a (f m) other)) (cases_eq m n)
 
 module _ (s : ℕ) (w : IndexView) where
   -- nothing changes, and the session locks no page
-  reads_here : LocksNone w s → ReadsIndex s w w
+  pub reads_here : LocksNone w s → ReadsIndex s w w
   reads_here none = search rules
 
-  free_none : (p : ℕ) → IsOneOf [] p → IsFree w s p
+  pub free_none : (p : ℕ) → IsOneOf [] p → IsFree w s p
   free_none p among = absurd among
 
   -- the tuple at a place goes, and the locks are given
-  abbrev drops_view : TuplePlace → IndexView
+  abbrev pub drops_view : TuplePlace → IndexView
   drops_view x = record w { tuple = tuple_with w.tuple x None; lock = locks_after w s [] free_none }
 
-  drops_here : (x : TuplePlace) → DropsTuple s w (drops_view x) x
+  pub drops_here : (x : TuplePlace) → DropsTuple s w (drops_view x) x
   drops_here x = search (rules, tuple_here, tuple_there, after_others, after_taken, after_only)
 
 module _ (s b k : ℕ) (r : Row) (w : IndexView) where

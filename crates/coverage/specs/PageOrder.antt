@@ -56,15 +56,29 @@ abbrev pub IsPassWithin : IndexView → ℕ → Progress → Type 0
 IsPassWithin w range ExtentUnread = Unit
 IsPassWithin w range (Passing extent next result) = (extent ≤ w.blocks) × ((next ≤ extent) ⊎ (next ≡ range * w.pages_per_range))
 
+-- a tuple of another range is moved from its put to its drop
+abbrev pub IsMove : OnIndex → Type 0
+IsMove (Moving x y old new) = Unit
+IsMove (Dropping x) = Unit
+IsMove on_index = ⊥
+
+-- the placeholder is read again where all blocks are passed, and the session no longer builds once the map names the final tuple
+abbrev pub IsTurnToUnite : Progress → OnIndex → Type 0
+IsTurnToUnite p Empty = Unit
+IsTurnToUnite ExtentUnread on_index = ⊥
+IsTurnToUnite (Passing extent next result) (Dropping x) = ⊥
+IsTurnToUnite (Passing extent next result) on_index = extent ≤ next
+
 -- What a maintenance statement knows: the page that the map grew by is started and locked with block 0; the entry of a placeholder
 -- that is put has its map page; the range that is built has a placeholder.
 abbrev pub KnowsPagesOfPhase : IndexView → ℕ → ℕ → Phase → Type 0
 KnowsPagesOfPhase w s range (NotBuilding on_index) = LocksOnIndex w s range on_index × KnowsSort w range on_index
 KnowsPagesOfPhase w s range Vacant = Unit
 KnowsPagesOfPhase w s range Growing = (w.pages.kind (next_map_page w) ≡ Mapping) × LocksThese w s (next_map_page w ∷ 0 ∷ [])
-KnowsPagesOfPhase w s range (Evacuating m on_index) = LocksOnIndex w s m on_index
+KnowsPagesOfPhase w s range (Evacuating m on_index) = LocksOnIndex w s m on_index × IsMove on_index
 KnowsPagesOfPhase w s range (Placing x) = (IsPastMap w range → ⊥) × LocksThese w s (x.block ∷ map_page_of range ∷ [])
 KnowsPagesOfPhase w s range (IsAt p on_index) = LocksOnIndex w s range on_index × NamesPlaceholder w range × IsPassWithin w range p
+    × IsTurnToUnite p on_index
 
 abbrev pub KnowsPages : IndexView → ℕ → Statement → Type 0
 KnowsPages w s Idle = Unit

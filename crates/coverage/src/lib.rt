@@ -17,11 +17,11 @@ ghost use Rattle.coverage.specs.Changes.{Clears, Sweeps, Prunes, Takes, Ends, Tu
 ghost use Rattle.coverage.specs.Statements.{OnIndex, Held, Copied, Phase, NotBuilding, Scan, Statement, Inserting, Maintaining, Scanning, AreLawful};
 ghost use Rattle.coverage.specs.IsCovered.{IndexState, index_view, new_index, AreRowsBelow, IsFoundOrUnread, IsCovered, IsAtRest, IsIndexKept};
 ghost use Rattle.coverage.specs.Steps.{InsertStep, SummariseStep, DesummariseStep, IsRangeExcluded, Step, Run, Stops};
-ghost use Rattle.coverage.specs.PageOrder.{AreOrdered, AreNewPages};
+ghost use Rattle.coverage.specs.PageOrder.{AreOrdered, AreNewPages, KnowsPages};
 ghost use Rattle.coverage.specs.Points.{insert_point, summarise_point, desummarise_point};
 ghost use Rattle.coverage.specs.Knowing.{LocksNone, Knows, Spares};
 ghost use Rattle.coverage.specs.Verdicts.{Verdict, Waits, Differs, IsLocked, HasFreeSlots, PutVerdict, SwapVerdict, ClearVerdict};
-ghost use Rattle.coverage.specs.Waiting.{IsPhaseWaiting, IsInsertStuck, IsSwapFree, IsDesummariseStuck, IsClearFree};
+ghost use Rattle.coverage.specs.Waiting.{IsPhaseWaiting, IsSummariseStuck, IsPhaseFree, HasBlocksOfRows, HasPlaceholderLength, IsInsertStuck, IsSwapFree, IsDesummariseStuck, IsClearFree};
 
 /// Each kind of change leaves the index sound.
 pub fn changes_are_sound()
@@ -131,7 +131,8 @@ pub fn verdicts_are_exact()
     ensures some_clear { (w : IndexView) (s range : ℕ) (x : TuplePlace) → ((p : Verdict) → ClearVerdict w s range x p → ⊥) → ⊥ }
 {}
 
-/// Of all steps that a statement could take on an index at a moment there is one point alone, and none where it is blocked.
+/// Of all steps that a statement could take on an index at a moment there is one point alone, and none where it is blocked; and what
+/// its statement is at afterwards, with the very tuple that it has in hand, is one thing.
 pub fn each_step_is_the_next_one()
     ensures insert { (s b k : ℕ) (r : Row) (w v u : IndexView) (on_index : OnIndex) (e f : Statement)
         (one : InsertStep s b k r w v on_index e) (two : InsertStep s b k r w u on_index f)
@@ -142,6 +143,12 @@ pub fn each_step_is_the_next_one()
     ensures desummarise { (s range : ℕ) (w v u : IndexView) (phase : Phase) (e f : Statement)
         (one : DesummariseStep s range w v phase e) (two : DesummariseStep s range w u phase f)
         → desummarise_point one ≡ desummarise_point two }
+    ensures insert_outcome { (s b k : ℕ) (r : Row) (w v u : IndexView) (on_index : OnIndex) (e f : Statement) → InsertStep s b k r w v on_index e
+        → InsertStep s b k r w u on_index f → e ≡ f }
+    ensures summarise_outcome { (s range : ℕ) (w v u : IndexView) (phase : Phase) (e f : Statement) → SummariseStep s range w v phase e
+        → SummariseStep s range w u phase f → e ≡ f }
+    ensures desummarise_outcome { (s range : ℕ) (w v u : IndexView) (phase : Phase) (e f : Statement) → DesummariseStep s range w v phase e
+        → DesummariseStep s range w u phase f → e ≡ f }
     ensures insert_blocked { (s b k p : ℕ) (r : Row) (w v : IndexView) (x : TuplePlace) (old new : IndexTuple) (e : Statement)
         → SwapVerdict w s (range_of_block w b) x old new (Waits p) → InsertStep s b k r w v (Copied x old new) e → ⊥ }
     ensures summarise_blocked { (s range p : ℕ) (w v : IndexView) (phase : Phase) (e : Statement) → IsPhaseWaiting w s range phase p
@@ -150,10 +157,13 @@ pub fn each_step_is_the_next_one()
         → DesummariseStep s range w v (NotBuilding (Held x)) e → ⊥ }
 {}
 
-/// A running insert or desummarise is never stuck: it has a step on the index, or waits for a page; or the insert's index is full.
+/// A running insert, summariser or desummarise is never stuck: it has a step on the index, or waits for a page; or no page is left
+/// for what the insert or the summariser has to put. The steps are those with the very tuples that the index's contents give.
 pub fn some_step_comes()
     ensures insert { (w : IndexView) → HasFreeSlots w → (s b k : ℕ) (r : Row) (on_index : OnIndex) → Knows w s (Inserting b k r on_index)
         → IsInsertStuck w s b k r on_index → IsSwapFree w s (range_of_block w b) on_index → ⊥ }
+    ensures summarise { (w : IndexView) → HasFreeSlots w → HasBlocksOfRows w → HasPlaceholderLength w → (s range : ℕ) (phase : Phase)
+        → Knows w s (Maintaining range phase) → KnowsPages w s (Maintaining range phase) → IsSummariseStuck w s range phase → IsPhaseFree w s range phase → ⊥ }
     ensures desummarise { (w : IndexView) (s range : ℕ) (on_index : OnIndex) → Knows w s (Maintaining range (NotBuilding on_index))
         → IsDesummariseStuck w s range on_index → IsClearFree w s range on_index → ⊥ }
 {}

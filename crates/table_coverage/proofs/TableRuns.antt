@@ -12,12 +12,13 @@ use Rattle.coverage.specs.IsCovered.{IsIndexKept}
 use Rattle.coverage.specs.Steps.{IsUnnamed, SweepsTuples, Excludes, InsertStep, MaintainStep, Summarises, Desummarises, ScanStep, ScanMap, ScanGone, ScanKeeps}
 use Rattle.coverage.specs.Steps.{ScanDrops, ScanElsewhere, ScanPage, SummariseLockPasses, Step, PutRow, Insert, Refused, TakeSummariseLock, Maintain, Prune}
 use Rattle.coverage.specs.Steps.{Sweep, GiveSummariseLock, Abandon, BeginScan, Scans as StepScans, EndScan, Elsewhere, Counts}
+use Rattle.coverage.specs.Waiting.{IsPhaseFull, FinalFull, PlaceFull, MapFull, EvacuateFull}
 use Rattle.table_coverage.specs.Table.{Index, Job, EachRange, OneRange, WholeRanges, Desummarising, TableScan, Task, Resting, Reaches, Asks, Inserts, Considers}
 use Rattle.table_coverage.specs.Table.{Maintains, Prunes, SweepsFrom, Sweeps, Restarts, Scans, TableState, pick, judged_with, on_index_by, inserting_of, held_at, scan_at}
 use Rattle.table_coverage.specs.Table.{seen_by, index_state, index_view_at}
 use Rattle.table_coverage.specs.TableSteps.{TaskTurns, SameRows, SameIndexes, OnlyTurns, StepsIn, IsFirstPlace, TableTakesRow, IsInsertRefused, AskRefused}
 use Rattle.table_coverage.specs.TableSteps.{MemoryShort, IndexFull, BeginsWith, Summarize, SummarizeOne, Desummarize, Vacuum, JobStep, IsMaintainRefused}
-use Rattle.table_coverage.specs.TableSteps.{NoMemory, FinalFull, PlaceFull, MapFull, EvacuateFull, HasPut, SeesPlace, IsVacuuming, DropsRows, ScanBegins}
+use Rattle.table_coverage.specs.TableSteps.{NoMemory, NoPage, HasPut, SeesPlace, IsVacuuming, DropsRows, ScanBegins}
 use Rattle.table_coverage.specs.TableSteps.{JudgeStep, JudgeMap, JudgeNoEntry, JudgeGone, JudgeKeeps, JudgeDrops, ReadsPage, Fails, IsMaintained, RangesDone}
 use Rattle.table_coverage.specs.TableSteps.{NothingToSweep}
 use Rattle.table_coverage.specs.TableCovered.{AreIndexesKept}
@@ -41,10 +42,13 @@ begins_holding i w _ Vacuum = refl
 
 pub refused_loose : (w : IndexView) (s range : ℕ) (phase : Phase) → IsMaintainRefused w s range phase → loose_at phase ≡ None
 refused_loose w s range _ (NoMemory phase none) = none
-refused_loose w s range _ (FinalFull p x old new verdict) = refl
-refused_loose w s range _ (PlaceFull long verdict) = refl
-refused_loose w s range _ (MapFull past limit) = refl
-refused_loose w s range _ (EvacuateFull x t grows next named free verdict) = refl
+refused_loose w s range phase (NoPage _ full) = full_loose phase full
+  where
+    full_loose : (phase : Phase) → IsPhaseFull w s range phase → loose_at phase ≡ None
+    full_loose _ (FinalFull p x old new verdict) = refl
+    full_loose _ (PlaceFull long verdict) = refl
+    full_loose _ (MapFull past limit) = refl
+    full_loose _ (EvacuateFull x t grows next named free verdict) = refl
 
 pub vacuuming_holds : (i : ℕ) (task : Task) → IsVacuuming task → seen_by i task ≡ Holding
 vacuuming_holds i Resting is = absurd is

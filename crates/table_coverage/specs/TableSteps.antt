@@ -1,13 +1,12 @@
 -- The steps of the statements of a table with several indexes: which comes next, and what it waits for.
-use Rattle.std.specs.Prelude.{◌≡◌, ◌≢◌, ◌⊎◌, ℕ, suc, ◌+◌, ◌*◌, ◌/◌, ◌≤◌, ◌<◌, max, Bool, true, false, IsTrue, ◌↔◌, None, Some, List, [], ◌∷◌, length}
+use Rattle.std.specs.Prelude.{◌≡◌, ◌≢◌, ◌⊎◌, ℕ, suc, ◌+◌, ◌*◌, ◌/◌, ◌≤◌, ◌<◌, max, Bool, true, false, IsTrue, ◌↔◌, None, Some, List, [], ◌∷◌}
 use Rattle.block_model.specs.declared.row.Row.{Row}
-use Rattle.coverage.specs.IndexView.{TuplePlace, IndexTuple, Progress, Regular, Emptying, IndexView, range_of_block, next_map_page, IsPastMap}
-use Rattle.coverage.specs.Changes.{IsFree}
-use Rattle.coverage.specs.Verdicts.{IsLocked, Waits, Full, PutVerdict, SwapVerdict, ClearVerdict}
-use Rattle.coverage.specs.Statements.{OnIndex, Empty, Held, Copied, Phase, NotBuilding, Vacant, IsAt, Statement, Idle, Inserting, Maintaining, Holding}
+use Rattle.coverage.specs.IndexView.{TuplePlace, IndexTuple, Regular, Emptying, IndexView, range_of_block}
+use Rattle.coverage.specs.Verdicts.{IsLocked, Waits, Full, SwapVerdict, ClearVerdict}
+use Rattle.coverage.specs.Statements.{OnIndex, Empty, Held, Copied, Phase, NotBuilding, Statement, Idle, Inserting, Maintaining, Holding}
 use Rattle.coverage.specs.Statements.{loose_in, loose_at}
-use Rattle.coverage.specs.Waiting.{IsPhaseWaiting}
-use Rattle.coverage.specs.Steps.{IsUnnamed, IsGone, Stands, SweepsTuples, Excludes, InsertStep, IsNextTuple, Grows, SummariseStep}
+use Rattle.coverage.specs.Waiting.{IsPhaseWaiting, IsPhaseFull}
+use Rattle.coverage.specs.Steps.{IsUnnamed, IsGone, Stands, SweepsTuples, Excludes, InsertStep, SummariseStep}
 use Rattle.coverage.specs.Steps.{DesummariseStep, SummariseLockPasses}
 use Rattle.table_coverage.specs.Table.{Job, EachRange, OneRange, WholeRanges, Desummarising, TableScan, Task, Resting, Reaches, Asks, Inserts, Considers}
 use Rattle.table_coverage.specs.Table.{Maintains, Prunes, SweepsFrom, Sweeps, Restarts, Scans, TableState, judged_with, index_view_at}
@@ -107,12 +106,7 @@ JobStep (Desummarising only) s range w v old new = DesummariseStep s range w v o
 -- A maintenance statement is refused: memory is short while nothing of it is loose; or no page is left for a tuple or for the map.
 pub data IsMaintainRefused (w : IndexView) (s range : ℕ) : Phase → Type 0 where
   NoMemory : (phase : Phase) → loose_at phase ≡ None → IsMaintainRefused w s range phase
-  FinalFull : (p : Progress) (x : TuplePlace) (old new : IndexTuple) → SwapVerdict w s range x old new Full
-      → IsMaintainRefused w s range (IsAt p (Copied x old new))
-  PlaceFull : (IsPastMap w range → ⊥) → PutVerdict w s range w.pages.placeholder Full → IsMaintainRefused w s range Vacant
-  MapFull : IsPastMap w range → w.pages.limit ≤ next_map_page w → IsMaintainRefused w s range Vacant
-  EvacuateFull : (x : TuplePlace) (t : IndexTuple) → Grows w range Emptying → IsNextTuple w (next_map_page w) x t → w.entry t.range ≡ Some x
-      → IsFree w s x.block → PutVerdict w s t.range (length t.bytes) Full → IsMaintainRefused w s range Vacant
+  NoPage : (phase : Phase) → IsPhaseFull w s range phase → IsMaintainRefused w s range phase
 
 -- A step is blocked: another session holds the summarise lock, or the lock of the page that is needed first.
 pub data IsBlocked (w : TableState) (s : ℕ) : Task → Type 0 where
