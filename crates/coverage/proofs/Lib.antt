@@ -15,6 +15,7 @@ pub mod PagesGoOn
 pub mod PagesKept
 pub mod Runs
 pub mod Opening
+pub mod RangeSummarised
 pub mod Verdicts
 pub mod NextSteps
 pub mod OneOutcome

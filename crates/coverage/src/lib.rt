@@ -6,7 +6,7 @@
 //! specs/Steps it is, and has the rest from here.
 #![tactic(auto)]
 
-ghost use Rattle.std.specs.Prelude.{◌≡◌, ◌≢◌, ◌↔◌, ◌<◌, ℕ, Bool, IsTrue, Option, None, Some, List};
+ghost use Rattle.std.specs.Prelude.{◌≡◌, ◌≢◌, ◌↔◌, ◌<◌, ℕ, Bool, false, IsTrue, Option, None, Some, List};
 ghost use Rattle.block_model.specs.declared.row.Row.{Row};
 ghost use Rattle.coverage.specs.IndexView.{IndexView, Contents, Pages, TuplePlace, IndexTuple, Progress, range_of_block, NamesPlaceholder};
 ghost use Rattle.coverage.specs.IsSettled.{IsSettled, IsAccounted};
@@ -166,4 +166,11 @@ pub fn some_step_comes()
         → Knows w s (Maintaining range phase) → KnowsPages w s (Maintaining range phase) → IsSummariseStuck w s range phase → IsPhaseFree w s range phase → ⊥ }
     ensures desummarise { (w : IndexView) (s range : ℕ) (on_index : OnIndex) → Knows w s (Maintaining range (NotBuilding on_index))
         → IsDesummariseStuck w s range on_index → IsClearFree w s range on_index → ⊥ }
+{}
+
+/// A run of these steps takes a range of a new index, with a lawful way to make tuples, from no entry to a final tuple: the
+/// definitions aren't empty.
+pub fn a_range_is_summarised()
+    ensures { (w : IndexState) × (v : IndexState) × (steps : List ℕ) × IsIndexKept w × Run steps w v × (w.entry 0 ≡ None)
+        × ((x : TuplePlace) × (t : IndexTuple) × (v.entry 0 ≡ Some x) × (v.tuple x ≡ Some t) × (t.placeholder ≡ false)) }
 {}

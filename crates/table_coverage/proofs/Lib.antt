@@ -9,3 +9,4 @@ pub mod TableLocks
 pub mod TableSeen
 pub mod Onward
 pub mod ScanHasStep
+pub mod VacuumGoesOn

@@ -299,6 +299,10 @@ pub record TableStep (s : ℕ) (w v : TableState) : Type 0 where
   pub does : Does s w between
   pub settles : Settles s between v
 
+-- the session has no step
+abbrev pub IsTableStuck : TableState → ℕ → Type 0
+IsTableStuck w s = (v : TableState) → TableStep s w v → ⊥
+
 -- these sessions step, one after the other
 pub data TableRun : List ℕ → TableState → TableState → Type 0 where
   TableDone : (w : TableState) → TableRun [] w w

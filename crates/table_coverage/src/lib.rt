@@ -5,12 +5,13 @@
 //! of each of its steps which one of specs/TableSteps it is, and has coverage and the completeness of scans from here.
 #![tactic(auto)]
 
-ghost use Rattle.std.specs.Prelude.{◌≡◌, ◌⊎◌, ◌↔◌, ◌≤◌, ℕ, Bool, false, IsTrue, Some, List};
+ghost use Rattle.std.specs.Prelude.{◌≡◌, ◌⊎◌, ◌↔◌, ◌≤◌, ◌<◌, ℕ, Bool, false, IsTrue, Some, List};
 ghost use Rattle.block_model.specs.declared.row.Row.{Row};
 ghost use Rattle.coverage.specs.IndexView.{TuplePlace, IndexTuple};
 ghost use Rattle.coverage.specs.Steps.{Excludes};
-ghost use Rattle.table_coverage.specs.Table.{TableScan, Task, Resting, Scans, TableState, index_view_at};
-ghost use Rattle.table_coverage.specs.TableSteps.{OnlyTurns, JudgeStep, ReadsPage, IsBlocked, Does, HasStep, Onward, IsMaintained, TableStep, TableRun};
+ghost use Rattle.table_coverage.specs.Table.{TableScan, Task, Resting, Prunes, Sweeps, Restarts, Scans, TableState, index_view_at};
+ghost use Rattle.table_coverage.specs.TableSteps.{OnlyTurns, JudgeStep, ReadsPage, IsBlocked, Does, HasStep, Onward, IsMaintained, TableStep, IsTableStuck, TableRun};
+ghost use Rattle.coverage.specs.Changes.{IsFree};
 ghost use Rattle.table_coverage.specs.TableCovered.{IsTableCovered, IsTableKept, IsTableAtRest, IsNewTable, TableStops, IsGiven, IsUnjudged};
 
 /// A blocked statement stays where it is and nothing changes, or it is refused.
@@ -63,4 +64,13 @@ pub fn table_scans_miss_nothing()
         → scan.explains ≡ false → IsTrue (scan.sees b k) → (r : Row) × (v.row b k ≡ Some r) × (IsTrue (scan.matches r) → IsTrue (scan.found b k)) }
     ensures given { (s : ℕ) (w v : TableState) (scan : TableScan) → IsTableKept w → Does s w v → v.task s ≡ Scans scan → Onward v (Scans scan) Resting
         → (b : ℕ) → IsTrue (scan.candidate b) ↔ IsGiven v scan b }
+{}
+
+/// A vacuum is never stuck beside its ranges: at a block of the heap and before an index it has a step, and at an index page it has
+/// one unless another session locks the page.
+pub fn vacuums_go_on()
+    ensures prunes { (w : TableState) (s extent next : ℕ) → w.task s ≡ Prunes extent next → next < extent → IsTableStuck w s → ⊥ }
+    ensures sweeps { (w : TableState) (s at page : ℕ) → w.task s ≡ Sweeps at page → at < w.indexes → IsFree (index_view_at at w) s page
+        → IsTableStuck w s → ⊥ }
+    ensures restarts { (w : TableState) (s at : ℕ) → w.task s ≡ Restarts at → at < w.indexes → IsTableStuck w s → ⊥ }
 {}
