@@ -10,3 +10,4 @@ pub mod TableSeen
 pub mod Onward
 pub mod ScanHasStep
 pub mod VacuumGoesOn
+pub mod MachinesKeep

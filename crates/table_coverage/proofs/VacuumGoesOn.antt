@@ -14,10 +14,7 @@ use Rattle.table_coverage.specs.Table.{index_view_at}
 use Rattle.table_coverage.specs.TableSteps.{TaskTurns, SameRows, OnlyTurns, first_block, Does, PrunesBlock, SweepsPage, RestartsIndex, HasTuples, IsFrom}
 use Rattle.table_coverage.specs.TableSteps.{Onward, Stays, ToRange, NextIndex, Pruned, ToPage, Swept, IsMaintained, RangesDone, NothingToSweep}
 use Rattle.table_coverage.specs.TableSteps.{GoesOn, GivesLock, IsTableStuck}
-use Rattle.table_coverage.proofs.Views.{pick_same, pick_other}
-
-pick_there : {A : Type 0} → (n m : ℕ) (a b : A) → (n ≡ m) ⊎ (pick n m a b ≡ b)
-pick_there n m a b = ⊎_elim (λ (is : n ≡ m). inl is) (λ (other : n ≢ m). inr (pick_other n m a b other)) (cases_eq n m)
+use Rattle.table_coverage.proofs.Views.{pick_same, pick_there}
 
 -- the session's statement is at this task, and all else is as before
 abbrev turned : TableState → ℕ → Task → TableState

@@ -1,6 +1,7 @@
 -- How each index of a table sees its statements, and what it sees of their steps.
 use Rattle.std.proofs.Common.{◌≡◌, ◌≢◌, ◌⊎◌, inl, inr, ⊎_elim, ℕ, ◌<◌, Option, Some, None, Bool, sym, ◌∙◌, ap, subst, arith, zero, suc}
 use Rattle.std.specs.Prelude.{refl, IsTrue}
+use Rattle.std.proofs.lemmas.Bool.{cases_eq}
 use Rattle.block_model.specs.declared.row.Row.{Row}
 use Rattle.coverage.specs.IndexView.{TuplePlace}
 use Rattle.coverage.specs.Changes.{SameHeap, SameMap, SameTuples, SameUnnamed, OwnLocks, TouchesRows, Frame}
@@ -20,6 +21,9 @@ pick_other zero zero a b apart = absurd (apart refl)
 pick_other zero (suc j) a b apart = refl
 pick_other (suc i) zero a b apart = refl
 pick_other (suc i) (suc j) a b apart = pick_other i j a b (λ e. apart (ap suc e))
+
+pub pick_there : {A : Type 0} → (n m : ℕ) (a b : A) → (n ≡ m) ⊎ (pick n m a b ≡ b)
+pick_there n m a b = ⊎_elim (λ (is : n ≡ m). inl is) (λ (other : n ≢ m). inr (pick_other n m a b other)) (cases_eq n m)
 
 pub pick_both : (i j : ℕ) → {A : Type 0} → (a : A) → pick i j a a ≡ a
 pick_both zero zero a = refl

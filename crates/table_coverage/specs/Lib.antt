@@ -1,3 +1,4 @@
 pub mod Table
 pub mod TableSteps
 pub mod TableCovered
+pub mod Machines

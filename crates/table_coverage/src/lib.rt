@@ -5,13 +5,14 @@
 //! of each of its steps which one of specs/TableSteps it is, and has coverage and the completeness of scans from here.
 #![tactic(auto)]
 
-ghost use Rattle.std.specs.Prelude.{◌≡◌, ◌⊎◌, ◌↔◌, ◌≤◌, ◌<◌, ℕ, Bool, false, IsTrue, Some, List};
+ghost use Rattle.std.specs.Prelude.{◌≡◌, ◌⊎◌, ◌↔◌, ◌≤◌, ◌<◌, ℕ, Bool, false, IsTrue, None, Some, List};
 ghost use Rattle.block_model.specs.declared.row.Row.{Row};
 ghost use Rattle.coverage.specs.IndexView.{TuplePlace, IndexTuple};
 ghost use Rattle.coverage.specs.Steps.{Excludes};
 ghost use Rattle.table_coverage.specs.Table.{TableScan, Task, Resting, Prunes, Sweeps, Restarts, Scans, TableState, index_view_at};
 ghost use Rattle.table_coverage.specs.TableSteps.{OnlyTurns, JudgeStep, ReadsPage, IsBlocked, Does, HasStep, Onward, IsMaintained, TableStep, IsTableStuck, TableRun};
 ghost use Rattle.coverage.specs.Changes.{IsFree};
+ghost use Rattle.table_coverage.specs.Machines.{ShownTable, Unseen, table_state, task_turned, IsFewer, MachineSteps, MachineEnds, ScanReplies};
 ghost use Rattle.table_coverage.specs.TableCovered.{IsTableCovered, IsTableKept, IsTableAtRest, IsNewTable, TableStops, IsGiven, IsUnjudged};
 
 /// A blocked statement stays where it is and nothing changes, or it is refused.
@@ -73,4 +74,18 @@ pub fn vacuums_go_on()
     ensures sweeps { (w : TableState) (s at page : ℕ) → w.task s ≡ Sweeps at page → at < w.indexes → IsFree (index_view_at at w) s page
         → IsTableStuck w s → ⊥ }
     ensures restarts { (w : TableState) (s at : ℕ) → w.task s ≡ Restarts at → at < w.indexes → IsTableStuck w s → ⊥ }
+{}
+
+/// What a machine promises over the pages and page locks that it sees, the table takes up: a step of it, whatever it doesn't see,
+/// keeps the table; so does its last step, with which the summarise lock is given; and after the last step of a scan each matching row
+/// that its session sees is found.
+pub fn machines_keep()
+    ensures steps { (s : ℕ) (old new : ShownTable) (before after : Task) (u : Unseen) → MachineSteps s old new before after → u.task s ≡ before
+        → IsTableKept (table_state old u)
+        → (unnamed : ℕ → TuplePlace → Bool) × IsFewer u.unnamed unnamed × IsTableKept (table_state new (task_turned s after (record u { unnamed = unnamed }))) }
+    ensures ends { (s : ℕ) (old new : ShownTable) (before : Task) (u : Unseen) → MachineEnds s old new before → u.task s ≡ before
+        → IsTableKept (table_state old u) → IsTableKept (table_state new (record (task_turned s Resting u) { summarise_lock = None })) }
+    ensures replies { (s b k : ℕ) (old new : ShownTable) (before : Task) (scan : TableScan) (u : Unseen) → ScanReplies s old new before scan
+        → u.task s ≡ before → IsTableKept (table_state old u) → scan.explains ≡ false → IsTrue (scan.sees b k)
+        → (r : Row) × (new.row b k ≡ Some r) × (IsTrue (scan.matches r) → IsTrue (scan.found b k)) }
 {}
