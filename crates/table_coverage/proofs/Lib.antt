@@ -11,3 +11,4 @@ pub mod Onward
 pub mod ScanHasStep
 pub mod VacuumGoesOn
 pub mod MachinesKeep
+pub mod MachinesIn

@@ -1,9 +1,11 @@
 -- What the pages and page locks of a table show, what of its state they don't, and what a step of a machine over them is.
-use Rattle.std.specs.Prelude.{◌≡◌, ℕ, Bool, IsTrue, Option, None}
+use Rattle.std.specs.Prelude.{◌≡◌, ◌⊎◌, ◌<◌, ℕ, Bool, IsTrue, Option, None}
 use Rattle.block_model.specs.declared.row.Row.{Row}
 use Rattle.coverage.specs.IndexView.{TuplePlace, IndexTuple, Contents, Pages}
-use Rattle.table_coverage.specs.Table.{TableScan, Task, Resting, Scans, TableState, pick}
-use Rattle.table_coverage.specs.TableSteps.{Does, Onward, IsMaintained, IsBlocked, TableStep}
+use Rattle.coverage.specs.Statements.{OnIndex, Phase, Inserting, Maintaining}
+use Rattle.coverage.specs.Steps.{InsertStep}
+use Rattle.table_coverage.specs.Table.{Job, TableScan, Task, Resting, Inserts, Maintains, Scans, TableState, pick, index_view_at}
+use Rattle.table_coverage.specs.TableSteps.{JobStep, Does, Onward, IsMaintained, IsBlocked, TableStep}
 use Rattle.table_coverage.specs.TableCovered.{IsTableKept}
 
 -- what an index's layout, pages and page locks show
@@ -88,3 +90,35 @@ ScanReplies s old new before scan = (u : Unseen) → u.task s ≡ before → IsT
 -- what a machine may rest on between its steps
 abbrev pub IsTaken : ℕ → ShownTable → Task → Type 0
 IsTaken s shown task = (u : Unseen) × (u.task s ≡ task) × IsTableKept (table_state shown u)
+
+-- the page locks are others
+abbrev pub with_locks : (ℕ → ℕ → Option ℕ) → ShownTable → ShownTable
+with_locks lock shown = record shown { index = λ i. record (shown.index i) { lock = lock i } }
+
+-- a scan's machine, which sees no page locks and isn't told its session
+abbrev pub ScanSteps : (old new : ShownTable) → (before after : Task) → Type 0
+ScanSteps old new before after = (s : ℕ) (lock : ℕ → ℕ → Option ℕ) → MachineSteps s (with_locks lock old) (with_locks lock new) before after
+
+-- one index changes alone
+pub record ChangesIndex (at : ℕ) (old new : ShownTable) : Type 0 where
+  pub below : at < old.indexes
+  pub indexes : new.indexes ≡ old.indexes
+  pub rows_per_page : new.rows_per_page ≡ old.rows_per_page
+  pub heap_limit : new.heap_limit ≡ old.heap_limit
+  pub blocks : new.blocks ≡ old.blocks
+  pub row : (b k : ℕ) → new.row b k ≡ old.row b k
+  pub others : (i : ℕ) → (i ≡ at) ⊎ (new.index i ≡ old.index i)
+  pub autosummarize : (new.index at).autosummarize ≡ (old.index at).autosummarize
+
+-- whatever an insert's machine doesn't see, its step in one index is one of the definitions
+abbrev pub InsertStepsIn : (s b k : ℕ) → Row → (at : ℕ) → (old new : ShownTable) → (before after : OnIndex) → Type 0
+InsertStepsIn s b k r at old new before after = (u : Unseen) → u.task s ≡ Inserts b k r at before → IsTableKept (table_state old u)
+    → InsertStep s b k r (index_view_at at (table_state old u)) (index_view_at at (table_state new (task_turned s (Inserts b k r at after) u))) before
+    (Inserting b k r after)
+
+-- so is that of a maintenance statement, but for the unnamed tuples that it drops
+abbrev pub MaintainStepsIn : (s : ℕ) → Job → (at range : ℕ) → (old new : ShownTable) → (before after : Phase) → Type 0
+MaintainStepsIn s job at range old new before after = (u : Unseen) → u.task s ≡ Maintains job at range before → IsTableKept (table_state old u)
+    → (unnamed : ℕ → TuplePlace → Bool) × IsFewer u.unnamed unnamed × ((i : ℕ) → (i ≡ at) ⊎ (unnamed i ≡ u.unnamed i))
+    × JobStep job s range (index_view_at at (table_state old u))
+    (index_view_at at (table_state new (task_turned s (Maintains job at range after) (record u { unnamed = unnamed })))) before (Maintaining range after)

@@ -9,10 +9,14 @@ ghost use Rattle.std.specs.Prelude.{◌≡◌, ◌⊎◌, ◌↔◌, ◌≤◌, 
 ghost use Rattle.block_model.specs.declared.row.Row.{Row};
 ghost use Rattle.coverage.specs.IndexView.{TuplePlace, IndexTuple};
 ghost use Rattle.coverage.specs.Steps.{Excludes};
-ghost use Rattle.table_coverage.specs.Table.{TableScan, Task, Resting, Prunes, Sweeps, Restarts, Scans, TableState, index_view_at};
+ghost use Rattle.table_coverage.specs.Table.{Job, TableScan, Task, Resting, Inserts, Maintains, Prunes, Sweeps, Restarts, Scans, TableState, index_view_at};
 ghost use Rattle.table_coverage.specs.TableSteps.{OnlyTurns, JudgeStep, ReadsPage, IsBlocked, Does, HasStep, Onward, IsMaintained, TableStep, IsTableStuck, TableRun};
 ghost use Rattle.coverage.specs.Changes.{IsFree};
-ghost use Rattle.table_coverage.specs.Machines.{ShownTable, Unseen, table_state, task_turned, IsFewer, MachineSteps, MachineEnds, ScanReplies};
+ghost use Rattle.table_coverage.specs.Machines.{ShownTable, Unseen, table_state, task_turned, IsFewer, MachineSteps, MachineEnds, ScanReplies, ChangesIndex, InsertStepsIn};
+ghost use Rattle.table_coverage.specs.Machines.{MaintainStepsIn};
+ghost use Rattle.coverage.specs.Statements.{OnIndex, Phase, Inserting, Maintaining};
+ghost use Rattle.coverage.specs.Knowing.{Knows};
+ghost use Rattle.coverage.specs.PageOrder.{KnowsPages};
 ghost use Rattle.table_coverage.specs.TableCovered.{IsTableCovered, IsTableKept, IsTableAtRest, IsNewTable, TableStops, IsGiven, IsUnjudged};
 
 /// A blocked statement stays where it is and nothing changes, or it is refused.
@@ -88,4 +92,19 @@ pub fn machines_keep()
     ensures replies { (s b k : ℕ) (old new : ShownTable) (before : Task) (scan : TableScan) (u : Unseen) → ScanReplies s old new before scan
         → u.task s ≡ before → IsTableKept (table_state old u) → scan.explains ≡ false → IsTrue (scan.sees b k)
         → (r : Row) × (new.row b k ≡ Some r) × (IsTrue (scan.matches r) → IsTrue (scan.found b k)) }
+{}
+
+/// A machine's step in one index that is one of the definitions is a step of the table; and what its statement knows in that index
+/// holds whenever the table is kept.
+pub fn machines_in_one_index()
+    ensures insert { (s b k : ℕ) (r : Row) (at : ℕ) (old new : ShownTable) (before after : OnIndex) → ChangesIndex at old new
+        → InsertStepsIn s b k r at old new before after → MachineSteps s old new (Inserts b k r at before) (Inserts b k r at after) }
+    ensures maintain { (s : ℕ) (job : Job) (at range : ℕ) (old new : ShownTable) (before after : Phase) → ChangesIndex at old new
+        → MaintainStepsIn s job at range old new before after → MachineSteps s old new (Maintains job at range before) (Maintains job at range after) }
+    ensures insert_knows { (s b k : ℕ) (r : Row) (at : ℕ) (w : TableState) (on_index : OnIndex) → IsTableKept w → at < w.indexes
+        → w.task s ≡ Inserts b k r at on_index
+        → Knows (index_view_at at w) s (Inserting b k r on_index) × KnowsPages (index_view_at at w) s (Inserting b k r on_index) }
+    ensures maintain_knows { (s : ℕ) (job : Job) (at range : ℕ) (w : TableState) (phase : Phase) → IsTableKept w → at < w.indexes
+        → w.task s ≡ Maintains job at range phase
+        → Knows (index_view_at at w) s (Maintaining range phase) × KnowsPages (index_view_at at w) s (Maintaining range phase) }
 {}
