@@ -21,3 +21,4 @@ pub mod NextSteps
 pub mod OneOutcome
 pub mod StepsExist
 pub mod SummariseExists
+pub mod InsertsEnd

@@ -560,3 +560,33 @@ named_past_map w range x kept named = ⊎_elim
 pub run_kept : (steps : List ℕ) (w v : IndexState) → IsIndexKept w → Run steps w v → IsIndexKept v
 run_kept _ _ _ kept (Done w) = kept
 run_kept _ _ _ kept (Next s rest w u v step more) = run_kept rest u v (step_kept s w u kept step) more
+
+-- blocks of the table are never taken away
+step_blocks : (s : ℕ) (w v : IndexState) → Step s w v → w.blocks ≤ v.blocks
+step_blocks s w v (PutRow b k r turned puts counts) = puts.row.grown
+step_blocks s w v (Insert b k r on_index new turned step counts) =
+    same_blocks (index_view w) (index_view v) (insert_keeps s b k r (index_view w) (index_view v) on_index new step).0
+step_blocks s w v (Refused b k r on_index none turned reads fails counts) = same_blocks (index_view w) (index_view v) reads.frame.heap
+step_blocks s w v (TakeSummariseLock turned passes counts) = same_blocks (index_view w) (index_view v) passes.frame.heap
+step_blocks s w v (BeginRange range turned reads counts) = same_blocks (index_view w) (index_view v) reads.frame.heap
+step_blocks s w v (Maintain range old new turned step counts) =
+    same_blocks (index_view w) (index_view v) (maintain_keeps s range (index_view w) (index_view v) old new step).0
+step_blocks s w v (Prune dropped spares turned drops counts) = not_less v.blocks w.blocks drops.rows.blocks
+step_blocks s w v (Sweep page turned sweeps counts) = same_blocks (index_view w) (index_view v) sweeps.frame.heap
+step_blocks s w v (GiveSummariseLock turned passes counts) = same_blocks (index_view w) (index_view v) passes.frame.heap
+step_blocks s w v (Abandon range phase none turned passes counts) = same_blocks (index_view w) (index_view v) passes.frame.heap
+step_blocks s w v (BeginScan scan begins turned reads counts) = same_blocks (index_view w) (index_view v) reads.frame.heap
+step_blocks s w v (Scans old new turned step reads counts) = same_blocks (index_view w) (index_view v) reads.frame.heap
+step_blocks s w v (EndScan scan turned reads counts) = same_blocks (index_view w) (index_view v) reads.frame.heap
+step_blocks s w v (Elsewhere rests) = same_blocks (index_view w) (index_view v) rests.heap
+step_blocks s w v (Counts counts few same) = not_less v.blocks w.blocks (ap (λ (u : IndexState). u.blocks) same)
+
+through : (a b c : ℕ) → a ≤ b → b ≤ c → a ≤ c
+through a b c le le' = omega arith
+
+self : (n : ℕ) → n ≤ n
+self n = omega arith
+
+pub run_blocks : (steps : List ℕ) (w v : IndexState) → Run steps w v → w.blocks ≤ v.blocks
+run_blocks _ _ _ (Done w) = self w.blocks
+run_blocks _ _ _ (Next s rest w u v step more) = through w.blocks u.blocks v.blocks (step_blocks s w u step) (run_blocks rest u v more)

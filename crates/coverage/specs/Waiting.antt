@@ -1,10 +1,10 @@
 -- Where a statement waits for a page's lock, or has no step.
-use Rattle.std.specs.Prelude.{◌≡◌, ℕ, ◌≤◌, Some, [], ◌∷◌, length}
+use Rattle.std.specs.Prelude.{◌≡◌, ℕ, suc, ◌≤◌, Some, [], ◌∷◌, length}
 use Rattle.block_model.specs.declared.row.Row.{Row}
 use Rattle.coverage.specs.IndexView.{TuplePlace, IndexTuple, Progress, Unstarted, Mapping, Regular, Emptying, IndexView, next_map_page, IsPastMap}
 use Rattle.coverage.specs.Changes.{IsFree}
 use Rattle.coverage.specs.Verdicts.{IsLocked, IsFirstLocked, Waits, Full, PutVerdict, SwapVerdict, ClearVerdict}
-use Rattle.coverage.specs.Statements.{OnIndex, Held, Copied, Phase, NotBuilding, Vacant, IsAt, Statement, HasNoMoreRows}
+use Rattle.coverage.specs.Statements.{OnIndex, Held, Copied, Phase, NotBuilding, Vacant, IsAt, Statement, Inserting, HasNoMoreRows}
 use Rattle.coverage.specs.Steps.{IsNextTuple, Grows, InsertStep, SummariseStep, DesummariseStep}
 
 -- The page for whose lock a summariser waits on its range.
@@ -62,3 +62,13 @@ IsDesummariseStuck w s range on_index = (e : Statement) (v : IndexView) → Desu
 -- where it holds a place, it waits for no page
 abbrev pub IsClearFree : IndexView → (s range : ℕ) → OnIndex → Type 0
 IsClearFree w s range on_index = (x : TuplePlace) (p : ℕ) → on_index ≡ Held x → ClearVerdict w s range x (Waits p) → ⊥
+
+-- an insert takes so many steps in the index, one right after the other, while no other session steps
+pub data InsertsAlone (s b k : ℕ) (r : Row) : (steps : ℕ) → IndexView → OnIndex → Type 0 where
+  LastStep : (w v : IndexView) (on_index : OnIndex) (new : Statement) → InsertStep s b k r w v on_index new → InsertsAlone s b k r 1 w on_index
+  OneMore : (steps : ℕ) (w v : IndexView) (old new : OnIndex) → InsertStep s b k r w v old (Inserting b k r new) → InsertsAlone s b k r steps v new
+      → InsertsAlone s b k r (suc steps) w old
+
+-- each entry names a tuple of its range
+abbrev pub AreNamed : IndexView → Type 0
+AreNamed w = (range : ℕ) (x : TuplePlace) → w.entry range ≡ Some x → (t : IndexTuple) × (w.tuple x ≡ Some t) × (t.range ≡ range)

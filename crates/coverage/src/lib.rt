@@ -6,7 +6,7 @@
 //! specs/Steps it is, and has the rest from here.
 #![tactic(auto)]
 
-ghost use Rattle.std.specs.Prelude.{◌≡◌, ◌≢◌, ◌↔◌, ◌<◌, ℕ, Bool, false, IsTrue, Option, None, Some, List};
+ghost use Rattle.std.specs.Prelude.{◌≡◌, ◌≢◌, ◌↔◌, ◌≤◌, ◌<◌, ℕ, Bool, false, IsTrue, Option, None, Some, List};
 ghost use Rattle.block_model.specs.declared.row.Row.{Row};
 ghost use Rattle.coverage.specs.IndexView.{IndexView, Contents, Pages, TuplePlace, IndexTuple, Progress, range_of_block, NamesPlaceholder};
 ghost use Rattle.coverage.specs.IsSettled.{IsSettled, IsAccounted};
@@ -21,7 +21,7 @@ ghost use Rattle.coverage.specs.PageOrder.{AreOrdered, AreNewPages, KnowsPages};
 ghost use Rattle.coverage.specs.Points.{insert_point, summarise_point, desummarise_point};
 ghost use Rattle.coverage.specs.Knowing.{LocksNone, Knows, Spares};
 ghost use Rattle.coverage.specs.Verdicts.{Verdict, Waits, Differs, IsLocked, HasFreeSlots, PutVerdict, SwapVerdict, ClearVerdict};
-ghost use Rattle.coverage.specs.Waiting.{IsPhaseWaiting, IsSummariseStuck, IsPhaseFree, HasBlocksOfRows, HasPlaceholderLength, IsInsertStuck, IsSwapFree, IsDesummariseStuck, IsClearFree};
+ghost use Rattle.coverage.specs.Waiting.{IsPhaseWaiting, IsSummariseStuck, IsPhaseFree, HasBlocksOfRows, HasPlaceholderLength, InsertsAlone, AreNamed, IsInsertStuck, IsSwapFree, IsDesummariseStuck, IsClearFree};
 
 /// Each kind of change leaves the index sound.
 pub fn changes_are_sound()
@@ -84,13 +84,14 @@ pub fn knowledge_is_stable()
 
 /// Whatever the sessions do, in any interleaving: what an index rests on is kept, with the order of its pages and what each
 /// statement knows of pages and locks; the index is covered; which ranges have an entry is the matter of the session alone that
-/// holds the summarise lock; and the tuples that the map names stand past its pages.
+/// holds the summarise lock; the tuples that the map names stand past its pages; and the table's blocks only grow.
 pub fn index_stays_covered()
     ensures kept { (steps : List ℕ) (w v : IndexState) → IsIndexKept w → Run steps w v → IsIndexKept v }
     ensures covered { (w : IndexState) → IsIndexKept w → IsCovered w }
     ensures entries { (s : ℕ) (w v : IndexState) → IsIndexKept w → Step s w v → w.summarise_lock ≢ Some s → (range : ℕ)
         → (w.entry range ≡ None) ↔ (v.entry range ≡ None) }
     ensures past_map { (w : IndexState) (range : ℕ) (x : TuplePlace) → IsIndexKept w → w.entry range ≡ Some x → w.pages.map_pages < x.block }
+    ensures blocks { (steps : List ℕ) (w v : IndexState) → Run steps w v → w.blocks ≤ v.blocks }
 {}
 
 /// What an index rests on holds of one that is covered and has its pages in order while nobody is at work, of the one that a stop
@@ -158,10 +159,11 @@ pub fn each_step_is_the_next_one()
 {}
 
 /// A running insert, summariser or desummarise is never stuck: it has a step on the index, or waits for a page; or no page is left
-/// for what the insert or the summariser has to put. The steps are those with the very tuples that the index's contents give.
+/// for what the insert or the summariser has to put. While no other session steps an insert takes at most six steps in an index. The steps are those with the very tuples that the index's contents give.
 pub fn some_step_comes()
     ensures insert { (w : IndexView) → HasFreeSlots w → (s b k : ℕ) (r : Row) (on_index : OnIndex) → Knows w s (Inserting b k r on_index)
         → IsInsertStuck w s b k r on_index → IsSwapFree w s (range_of_block w b) on_index → ⊥ }
+    ensures insert_ends { (w : IndexView) (s b k steps : ℕ) (r : Row) (on_index : OnIndex) → AreNamed w → InsertsAlone s b k r steps w on_index → steps ≤ 6 }
     ensures summarise { (w : IndexView) → HasFreeSlots w → HasBlocksOfRows w → HasPlaceholderLength w → (s range : ℕ) (phase : Phase)
         → Knows w s (Maintaining range phase) → KnowsPages w s (Maintaining range phase) → IsSummariseStuck w s range phase → IsPhaseFree w s range phase → ⊥ }
     ensures desummarise { (w : IndexView) (s range : ℕ) (on_index : OnIndex) → Knows w s (Maintaining range (NotBuilding on_index))

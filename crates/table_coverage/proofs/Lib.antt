@@ -12,3 +12,4 @@ pub mod ScanHasStep
 pub mod VacuumGoesOn
 pub mod MachinesKeep
 pub mod MachinesIn
+pub mod TableEntries

@@ -1,15 +1,15 @@
 -- A machine's step in one index is a step of the table, and what it may rest on there.
-use Rattle.std.proofs.Common.{◌≡◌, ◌⊎◌, inl, inr, ⊎_elim, ℕ, ◌<◌, Option, Bool, sym, ◌∙◌, ap, subst}
-use Rattle.std.specs.Prelude.{refl, IsTrue}
+use Rattle.std.proofs.Common.{◌≡◌, ◌⊎◌, inl, inr, ⊎_elim, ℕ, ◌<◌, Bool, ◌∙◌, ap, subst}
+use Rattle.std.specs.Prelude.{refl}
 use Rattle.block_model.specs.declared.row.Row.{Row}
 use Rattle.coverage.specs.IndexView.{TuplePlace}
 use Rattle.coverage.specs.Statements.{OnIndex, Phase, Statement, Inserting, Maintaining, Holding}
 use Rattle.coverage.specs.Knowing.{Knows}
 use Rattle.coverage.specs.PageOrder.{KnowsPages}
-use Rattle.table_coverage.specs.Table.{Index, Job, Task, Inserts, Maintains, TableState, pick, inserting_of, seen_by, index_view_at}
-use Rattle.table_coverage.specs.TableSteps.{TaskTurns, SameRows, StepsIn, InsertGoes, MaintainGoes, GoesOn, Stays}
+use Rattle.table_coverage.specs.Table.{Index, Job, Task, Inserts, Maintains, TableState, inserting_of, seen_by, index_view_at}
+use Rattle.table_coverage.specs.TableSteps.{TaskTurns, StepsIn, InsertGoes, MaintainGoes, GoesOn, Stays}
 use Rattle.table_coverage.specs.TableCovered.{IsTableKept}
-use Rattle.table_coverage.specs.Machines.{ShownIndex, ShownTable, Unseen, table_state, task_turned, IsFewer, MachineSteps, ChangesIndex, InsertStepsIn}
+use Rattle.table_coverage.specs.Machines.{ShownIndex, ShownTable, Unseen, table_state, task_turned, MachineSteps, ChangesIndex, InsertStepsIn}
 use Rattle.table_coverage.specs.Machines.{MaintainStepsIn}
 use Rattle.table_coverage.proofs.Views.{pick_same, pick_there, on_index_here}
 

@@ -1,9 +1,9 @@
 -- A machine's step, its end and a scan's reply, as the table takes them up.
-use Rattle.std.proofs.Common.{◌≡◌, ◌⊎◌, inl, inr, ⊎_elim, ℕ, Some, None, Bool, List, [], ◌∷◌, sym, ◌∙◌}
+use Rattle.std.proofs.Common.{◌≡◌, inl, inr, ⊎_elim, ℕ, Some, None, Bool, [], ◌∷◌, sym, ◌∙◌}
 use Rattle.std.specs.Prelude.{refl, false, IsTrue}
 use Rattle.block_model.specs.declared.row.Row.{Row}
 use Rattle.coverage.specs.IndexView.{TuplePlace}
-use Rattle.table_coverage.specs.Table.{TableScan, Task, Resting, Scans, TableState, pick}
+use Rattle.table_coverage.specs.Table.{TableScan, Task, Resting, Scans, pick}
 use Rattle.table_coverage.specs.TableSteps.{GivesLock, TableNext, TableDone}
 use Rattle.table_coverage.specs.TableCovered.{IsTableKept}
 use Rattle.table_coverage.specs.Machines.{ShownTable, Unseen, table_state, task_turned, IsFewer, MachineSteps, MachineEnds, ScanReplies}

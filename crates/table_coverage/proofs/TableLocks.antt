@@ -20,7 +20,7 @@ begins_maintenance w _ (SummarizeOne at only below) = tt
 begins_maintenance w _ (Desummarize at only below) = tt
 begins_maintenance w _ Vacuum = tt
 
-vacuuming_maintenance : (task : Task) → IsVacuuming task → IsMaintenance task
+pub vacuuming_maintenance : (task : Task) → IsVacuuming task → IsMaintenance task
 vacuuming_maintenance Resting is = absurd is
 vacuuming_maintenance (Reaches b k r at) is = absurd is
 vacuuming_maintenance (Asks b k r at) is = absurd is

@@ -247,3 +247,16 @@ table_step_kept s w v kept step =
 pub table_run_kept : (steps : List ℕ) (w v : TableState) → IsTableKept w → TableRun steps w v → IsTableKept v
 table_run_kept _ _ _ kept (TableDone w) = kept
 table_run_kept _ _ _ kept (TableNext s rest w u v step more) = table_run_kept rest u v (table_step_kept s w u kept step) more
+
+-- the table's blocks only grow
+pub table_run_blocks : (steps : List ℕ) (w v : TableState) → TableRun steps w v → w.blocks ≤ v.blocks
+table_run_blocks _ _ _ (TableDone w) = self w.blocks
+  where
+    self : (n : ℕ) → n ≤ n
+    self n = omega arith
+table_run_blocks _ _ _ (TableNext s rest w u v step more) =
+    through w.blocks step.between.blocks u.blocks v.blocks (does_leaves s w step.between step.does).blocks
+    (settles_leaves s step.between u step.settles).blocks (table_run_blocks rest u v more)
+  where
+    through : (a b c d : ℕ) → a ≤ b → b ≤ c → c ≤ d → a ≤ d
+    through a b c d one two three = omega arith

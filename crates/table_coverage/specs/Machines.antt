@@ -1,5 +1,5 @@
 -- What the pages and page locks of a table show, what of its state they don't, and what a step of a machine over them is.
-use Rattle.std.specs.Prelude.{◌≡◌, ◌⊎◌, ◌<◌, ℕ, Bool, IsTrue, Option, None}
+use Rattle.std.specs.Prelude.{◌≡◌, ◌⊎◌, ◌<◌, ℕ, Bool, IsTrue, Option}
 use Rattle.block_model.specs.declared.row.Row.{Row}
 use Rattle.coverage.specs.IndexView.{TuplePlace, IndexTuple, Contents, Pages}
 use Rattle.coverage.specs.Statements.{OnIndex, Phase, Inserting, Maintaining}

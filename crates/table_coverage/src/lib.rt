@@ -5,7 +5,7 @@
 //! of each of its steps which one of specs/TableSteps it is, and has coverage and the completeness of scans from here.
 #![tactic(auto)]
 
-ghost use Rattle.std.specs.Prelude.{◌≡◌, ◌⊎◌, ◌↔◌, ◌≤◌, ◌<◌, ℕ, Bool, false, IsTrue, None, Some, List};
+ghost use Rattle.std.specs.Prelude.{◌≡◌, ◌≢◌, ◌⊎◌, ◌↔◌, ◌≤◌, ◌<◌, ℕ, Bool, false, IsTrue, None, Some, List};
 ghost use Rattle.block_model.specs.declared.row.Row.{Row};
 ghost use Rattle.coverage.specs.IndexView.{TuplePlace, IndexTuple};
 ghost use Rattle.coverage.specs.Steps.{Excludes};
@@ -33,10 +33,14 @@ pub fn statements_go_on_in_one_way()
 {}
 
 /// Whatever the statements of a table with several indexes do, in any interleaving, each of its indexes stays covered; the
-/// summarise lock is held for maintenance alone. It holds between what a step does and where its statement comes, too.
+/// summarise lock is held for maintenance alone. It holds between what a step does and where its statement comes, too. Which ranges
+/// of an index have an entry is the matter of the session alone that holds the summarise lock; and the table's blocks only grow.
 pub fn table_stays_covered()
     ensures kept { (steps : List ℕ) (w v : TableState) → IsTableKept w → TableRun steps w v → IsTableKept v }
     ensures between { (s : ℕ) (w v : TableState) → IsTableKept w → Does s w v → IsTableKept v }
+    ensures entries { (s : ℕ) (w v : TableState) (i range : ℕ) → IsTableKept w → TableStep s w v → w.summarise_lock ≢ Some s
+        → ((w.index i).entry range ≡ None) ↔ ((v.index i).entry range ≡ None) }
+    ensures blocks { (steps : List ℕ) (w v : TableState) → TableRun steps w v → w.blocks ≤ v.blocks }
     ensures covered { (w : TableState) → IsTableKept w → IsTableCovered w }
     ensures opened { (w : TableState) → IsTableCovered w → IsTableAtRest w → IsTableKept w }
     ensures stopped { (w v : TableState) → IsTableKept w → TableStops w v → IsTableKept v }

@@ -1,5 +1,5 @@
 use Rattle.coverage.proofs.Covered.{kept_covered}
-use Rattle.coverage.proofs.Runs.{run_kept, entries_stay, named_past_map}
+use Rattle.coverage.proofs.Runs.{run_kept, run_blocks, entries_stay, named_past_map}
 use Rattle.coverage.proofs.index_stays_covered.Goals as goal
 
 pub returns : goal.returns
@@ -8,4 +8,5 @@ returns c = record {
   covered = kept_covered;
   entries = λ s w v kept step free range. entries_stay s w v kept step free range;
   past_map = named_past_map;
+  blocks = run_blocks;
 }
