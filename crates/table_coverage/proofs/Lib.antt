@@ -13,3 +13,4 @@ pub mod VacuumGoesOn
 pub mod MachinesKeep
 pub mod MachinesIn
 pub mod TableEntries
+pub mod TableOnePoint

@@ -12,6 +12,7 @@ ghost use Rattle.coverage.specs.Steps.{Excludes};
 ghost use Rattle.table_coverage.specs.Table.{Job, TableScan, Task, Resting, Inserts, Maintains, Prunes, Sweeps, Restarts, Scans, TableState, index_view_at};
 ghost use Rattle.table_coverage.specs.TableSteps.{OnlyTurns, JudgeStep, ReadsPage, IsBlocked, Does, HasStep, Onward, IsMaintained, TableStep, IsTableStuck, TableRun};
 ghost use Rattle.coverage.specs.Changes.{IsFree};
+ghost use Rattle.table_coverage.specs.TablePoints.{TablePoint, does_point};
 ghost use Rattle.table_coverage.specs.Machines.{ShownTable, Unseen, table_state, task_turned, IsFewer, MachineSteps, MachineEnds, ScanReplies, ChangesIndex, InsertStepsIn};
 ghost use Rattle.table_coverage.specs.Machines.{MaintainStepsIn};
 ghost use Rattle.coverage.specs.Statements.{OnIndex, Phase, Inserting, Maintaining};
@@ -25,11 +26,14 @@ pub fn blocked_statements_wait()
         → ((v.task s ≡ w.task s) × OnlyTurns w v) ⊎ (v.task s ≡ Resting) }
 {}
 
-/// Where a statement of a table comes by its step is one thing: its next step, or its reply. No step is left that does nothing.
+/// Where a statement of a table comes by its step is one thing: its next step, or its reply. No step is left that does nothing; and
+/// of the steps that a running statement could take at a moment there is one point alone.
 pub fn statements_go_on_in_one_way()
     ensures one_way { (w : TableState) (old p q : Task) → Onward w old p → Onward w old q → p ≡ q }
     ensures or_reply { (w : TableState) (old q : Task) → IsMaintained w old → Onward w old q → ⊥ }
     ensures at_a_step { (s : ℕ) (w v : TableState) → TableStep s w v → HasStep v (v.task s) }
+    ensures one_point { (s : ℕ) (w v u : TableState) (p q : TablePoint) → (w.task s ≡ Resting → ⊥) → (one : Does s w v) (two : Does s w u)
+        → does_point s w v one ≡ Some p → does_point s w u two ≡ Some q → p ≡ q }
 {}
 
 /// Whatever the statements of a table with several indexes do, in any interleaving, each of its indexes stays covered; the
