@@ -23,11 +23,11 @@ block_last : (b n : ℕ) → 0 < n → b < (b / n + 1) * n
 block_last b n some = omega arith
 
 -- after a block is passed, each row of the table that was awaited still is
-passed_on : (w : IndexView) (b k : ℕ) (r : Row) (next extent : ℕ) (result wider : Row → Bool) → IsWithin result wider
-    → ((j : ℕ) (q : Row) → w.row next j ≡ Some q → IsTrue (wider q)) → w.row b k ≡ Some r
-    → IsTrue (result r) ⊎ ((next ≤ b) × (b < extent)) → IsTrue (wider r) ⊎ ((next + 1 ≤ b) × (b < extent))
+passed_on : (w : IndexView) (b k : ℕ) (r : Row) (next extent : ℕ) (result wider : IndexTuple) → IsWithin result.includes wider.includes
+    → ((j : ℕ) (q : Row) → w.row next j ≡ Some q → IsTrue (wider.includes q)) → w.row b k ≡ Some r
+    → IsTrue (result.includes r) ⊎ ((next ≤ b) × (b < extent)) → IsTrue (wider.includes r) ⊎ ((next + 1 ≤ b) × (b < extent))
 passed_on w b k r next extent result wider more block there before = ⊎_elim
-    (λ (has : IsTrue (result r)). inl (more r has))
+    (λ (has : IsTrue (result.includes r)). inl (more r has))
     (λ (left : (next ≤ b) × (b < extent)). ⊎_elim
     (λ (is : next ≡ b). inl (block k r (subst (λ n. w.row n k ≡ Some r) (sym is) there)))
     (λ (is : next ≢ b). inr (omega arith, left.1))

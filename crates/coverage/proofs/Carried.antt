@@ -8,7 +8,10 @@ use Rattle.coverage.specs.IndexView.{TuplePlace, IndexTuple, Passing, IndexView,
 use Rattle.coverage.specs.IsSettled.{AllAwait, IsAccounted, TupleShows}
 use Rattle.coverage.specs.IsSound.{IsSound}
 use Rattle.coverage.specs.GoesOn.{GoesOn}
-use Rattle.coverage.specs.Changes.{IsWithin, Carries, MayEnd, Swaps, MovePuts, MoveSets}
+use Rattle.coverage.specs.Changes.{UnitesResult, Carries, MayEnd, Swaps, MovePuts, MoveSets}
+
+past : (b next extent : ℕ) → next ≤ b → b < extent → extent ≤ next → ⊥
+past b next extent from below all = omega arith
 
 module _ (w : IndexView) (s range : ℕ) (x : TuplePlace) (old new : IndexTuple) (entry : w.entry range ≡ Some x) (here : w.tuple x ≡ Some old)
     (carries : Carries w s range old new) (b : ℕ) (r : Row) (of : range ≡ range_of_block w b) where
@@ -18,10 +21,10 @@ module _ (w : IndexView) (s range : ℕ) (x : TuplePlace) (old new : IndexTuple)
       (λ (waits : (old.placeholder ≡ true) × AllAwait w b r). ⊎_elim
       (λ (same : new.placeholder ≡ old.placeholder). inr (same ∙ waits.0, waits.1))
       (λ (ends : (new.placeholder ≡ false) ×
-      ((extent : ℕ) × (result : Row → Bool) × IsBuilding w s range (Passing extent extent result) × IsWithin result new.includes)). ⊎_elim
-      (λ (has : IsTrue (ends.1.1 r)). inl (ends.1.3 r has))
-      (λ (left : (ends.1.0 ≤ b) × (b < ends.1.0)). absurd (omega arith))
-      (waits.1 s (Passing ends.1.0 ends.1.0 ends.1.1) (subst (λ m. IsBuilding w s m (Passing ends.1.0 ends.1.0 ends.1.1)) of ends.1.2)))
+      UnitesResult w s range new). ⊎_elim
+      (λ (has : IsTrue (ends.1.2.includes r)). inl (ends.1.5 r has))
+      (λ (left : (ends.1.1 ≤ b) × (b < ends.1.0)). absurd (past b ends.1.1 ends.1.0 left.0 left.1 ends.1.4))
+      (waits.1 s (Passing ends.1.0 ends.1.1 ends.1.2) (subst (λ m. IsBuilding w s m (Passing ends.1.0 ends.1.1 ends.1.2)) of ends.1.3)))
       carries.1)
       (settled x old (subst (λ m. w.entry m ≡ Some x) of entry) here)
 
@@ -89,8 +92,8 @@ module _ (s : ℕ) (d : ℕ → ℕ → Bool) (w v : IndexView) (range : ℕ) (x
             (same_Some _ _ (sym kind.tuple.was ∙ ap w.tuple (sym e) ∙ names.3)) ∙ names.4,
       ))
       (λ (ends : (new.placeholder ≡ false) ×
-      ((extent : ℕ) × (result : Row → Bool) × IsBuilding w s range (Passing extent extent result) × IsWithin result new.includes)).
-      inr (sound.builder_holds s range _ ends.1.2))
+      UnitesResult w s range new).
+      inr (sound.builder_holds s range _ ends.1.3))
       kind.carries.1)
       (λ (e : v.tuple names.0 ≡ w.tuple names.0). inl (names.0, names.1, kind.frame.map.entry m ∙ names.2, e ∙ names.3, names.4))
       (kind.tuple.others names.0)
@@ -145,8 +148,8 @@ module _ (s : ℕ) (d : ℕ → ℕ → Bool) (w v : IndexView) (range : ℕ) (x
         same ∙ ap (λ (u : IndexTuple). u.placeholder) (same_Some _ _ (sym kind.before ∙ ap w.tuple (sym place) ∙ names.3)) ∙ names.4,
       ))
       (λ (ends : (new.placeholder ≡ false) ×
-      ((extent : ℕ) × (result : Row → Bool) × IsBuilding w s range (Passing extent extent result) × IsWithin result new.includes)).
-      inr (sound.builder_holds s range _ ends.1.2))
+      UnitesResult w s range new).
+      inr (sound.builder_holds s range _ ends.1.3))
       kind.carries.1)
       (λ (e : v.entry m ≡ w.entry m). inl (names.0, names.1, e ∙ names.2, kind.frame.tuples.tuple names.0 ∙ names.3, names.4))
       (kind.entry.others m)

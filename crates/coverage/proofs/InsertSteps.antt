@@ -115,10 +115,10 @@ module _ (s b k : ℕ) (r : Row) (w v : IndexState) (sound : IsSound (index_view
       let both = looks_both s w v (Inserting b k r (Held x)) (Inserting b k r (Copied x old new)) turned sound refl refl refl reads.frame in
       goes (Held x) (Inserting b k r (Copied x old new)) turned known.0 known.1 known.2 (Copied x old new) refl both reads.frame.summarise_lock
       (copy_knows s w v (Inserting b k r (Held x)) (Inserting b k r (Copied x old new)) turned sound (range_of_block (index_view w) b)
-      (IsAdded r) makes_added x old new stands.1 added both reads.none known.2) tt
+      (IsAdded r) makes_added x old new stands.1 (subst (λ (u : IndexTuple). IsAdded r old u) (sym added) (sound.lawful.added r old)) both reads.none known.2) tt
   insert_outcome _ _ (InsertUnchanged x t stands added free reads) turned known =
       let here : w.tuple x ≡ Some t = stands.0 in
-      let has : IsTrue (t.includes r) = added.row in
+      let has : IsTrue (t.includes r) = subst (λ (u : IndexTuple). IsTrue (u.includes r)) (sym added) (sound.lawful.added r t).row in
       let named = held_named (index_view w) s (range_of_block (index_view w) b) x t sound known.2.1 here stands.1 free known.2.0 in
       ends (Held x) Idle turned known.0 known.1 known.2 refl
       (looks_both s w v (Inserting b k r (Held x)) Idle turned sound refl refl refl reads.frame) reads.frame.summarise_lock reads.none

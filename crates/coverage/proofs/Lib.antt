@@ -1,4 +1,6 @@
+pub mod Numbers
 pub mod Sound
+pub mod RowsAdded
 pub mod Carried
 pub mod BuildingGoesOn
 pub mod OthersGoOn
@@ -8,9 +10,15 @@ pub mod Covered
 pub mod OnIndexSteps
 pub mod InsertSteps
 pub mod MaintainSteps
+pub mod PagesOrdered
+pub mod PagesGoOn
+pub mod PagesKept
 pub mod Runs
 pub mod Opening
+pub mod RangeSummarised
 pub mod Verdicts
-pub mod Numbers
 pub mod NextSteps
+pub mod OneOutcome
 pub mod StepsExist
+pub mod SummariseExists
+pub mod InsertsEnd

@@ -2,19 +2,20 @@
 use Rattle.std.proofs.Common.{◌≡◌, ◌≢◌, inl, inr, ⊎_elim, ℕ, ◌+◌, ◌*◌, Option, Some, None, true, sym, ◌∙◌, ap, subst}
 use Rattle.std.specs.Prelude.{refl, IsTrue}
 use Rattle.std.proofs.lemmas.Option.{same_Some, none-some}
-use Rattle.coverage.specs.IndexView.{TuplePlace, IndexTuple, Progress, ExtentUnread, Passing, IndexView, IsBuilding}
+use Rattle.coverage.specs.IndexView.{TuplePlace, IndexTuple, Progress, ExtentUnread, Passing, IndexView, next_map_page, IsBuilding}
 use Rattle.coverage.specs.IsSound.{IsSound}
 use Rattle.coverage.specs.Changes.{TouchesNothing, Frame, at_work, Turns, StartsBuilding, ReadsExtent, PassesBlock, Carries, Places, Names, Turn as TurnKind}
 use Rattle.coverage.specs.Changes.{IsUntouched, Clears, Sweeps}
 use Rattle.coverage.specs.Statements.{OnIndex, Empty, Held, Copied, Moving, Dropping, Phase, NotBuilding, Vacant, Growing, Evacuating, Placing, IsAt, Statement}
-use Rattle.coverage.specs.Statements.{Maintaining, Holding, loose_at, loose_of, building_at, building_of}
+use Rattle.coverage.specs.Statements.{Maintaining, Holding, IsUnited, loose_at, loose_of, building_at, building_of}
 use Rattle.coverage.specs.Knowing.{LocksNone, MakesUnited, MakesNone, MakesSame, KnowsPhase, Knows}
 use Rattle.coverage.specs.IsCovered.{IndexState, index_view}
-use Rattle.coverage.specs.Steps.{next_map_page, PutsTuple, SetsEntry, ClearsEntry, IsUnnamed, SweepsTuples, GrowthStep, Grow, CountLeftOver, Count, Flag}
+use Rattle.coverage.specs.Steps.{PutsTuple, SetsEntry, ClearsEntry, IsUnnamed, SweepsTuples, GrowthStep, Grow, CountLeftOver, Count, Flag}
 use Rattle.coverage.specs.Steps.{EvacuatePut, EvacuateSet, EvacuateDrop, EvacuateSweep, Turn, SummariseStep, LookMap, LookGone, IsFinal, Found, ReadNoEntry}
 use Rattle.coverage.specs.Steps.{GrowMap, Put, Set, Extent, Pass, Unite, UniteCopies, SwapFinal, SetFinal, DropOld, DesummariseStep, ClearMap, ClearNone, Clear}
 use Rattle.coverage.specs.Steps.{ClearAgain, DropCleared, MaintainStep, Summarises, Desummarises, Turned}
 use Rattle.coverage.proofs.Sound.{places_sound, names_sound, turn_sound, clears_sound, sweeps_sound}
+use Rattle.coverage.proofs.RowsAdded.{rows_wider, rows_has}
 use Rattle.coverage.proofs.BuildingGoesOn.{turn_go_on, places_go_on, names_go_on}
 use Rattle.coverage.proofs.OthersGoOn.{clears_go_on, sweeps_go_on}
 use Rattle.coverage.proofs.OnIndexSteps.{never, Both, loose_same, loose_turns, building_same, building_turns, may_end, locks_by, nothing_loose, loose_locked}
@@ -35,7 +36,7 @@ makes_united : (w : IndexView) (s range : ℕ) (p : Progress) → IsBuilding w s
 makes_united w s range ExtentUnread building old new how = absurd how
 makes_united w s range (Passing extent next result) building old new how = (
   how.1.range,
-  (how.1.wider, inr (how.1.placeholder, (extent, result, subst (λ m. IsBuilding w s range (Passing extent m result)) how.0 building, how.1.united))),
+  (how.1.wider, inr (how.1.placeholder, (extent, next, result, building, how.0, how.1.united))),
 )
 
 -- tuples that the map doesn't name go, whoever drops them
@@ -252,16 +253,22 @@ module _ (s range : ℕ) (w v : IndexState) (sound : IsSound (index_view w)) (su
       read (NotBuilding Empty) (Maintaining range Vacant) turned refl refl refl reads.frame
       (reads.frame.summarise_lock ∙ summarise_lock, (reads.none, reads.frame.map.entry range ∙ none))
   summarise_left _ _ (GrowMap old new step) turned known = growth_left old new step turned known
-  summarise_left _ _ (Put x t of flag size long verdict puts these) turned known = put x t turned of flag puts (these.locked x.block (inl refl)) known.1
+  summarise_left _ _ (Put x t is size long verdict puts these) turned known =
+      let empty = sound.lawful.empty range in
+      put x t turned (ap (λ (u : IndexTuple). u.range) is ∙ empty.of) (ap (λ (u : IndexTuple). u.placeholder) is ∙ empty.placeholder) puts
+      (these.locked x.block (inl refl)) known.1
   summarise_left _ _ (Set x sets none) turned known = set x turned sets none known
-  summarise_left _ _ (Extent extent result is reads) turned known =
+  summarise_left _ _ (Extent extent result start is reads) turned known =
       turn (IsAt ExtentUnread Empty) (IsAt (Passing extent (range * w.pages_per_range) result) Empty) turned refl refl (Some ExtentUnread)
       (Some (Passing extent (range * w.pages_per_range) result)) refl refl
       (ReadsExtent extent result is) reads.frame reads.none
-  summarise_left _ _ (Pass extent next result wider below more block reads) turned known =
+  summarise_left _ _ (Pass extent next slots result wider below none made reads) turned known =
       turn (IsAt (Passing extent next result) Empty) (IsAt (Passing extent (next + 1) wider) Empty) turned refl refl (Some (Passing extent next result))
       (Some (Passing extent (next + 1) wider)) refl refl
-      (PassesBlock extent next result wider more block) reads.frame reads.none
+      (PassesBlock extent next result wider
+      (λ r has. subst (λ (u : IndexTuple). IsTrue (u.includes r)) (sym made) (rows_wider w.contents sound.lawful (w.row next) slots result r has))
+      (λ k r there. subst (λ (u : IndexTuple). IsTrue (u.includes r)) (sym made) (rows_has w.contents sound.lawful (w.row next) slots result none k r there)))
+      reads.frame reads.none
   summarise_left _ _ (Unite extent next result old new all step) turned known =
       let p = Passing extent next result in
       let out =
@@ -276,7 +283,8 @@ module _ (s range : ℕ) (w v : IndexState) (sound : IsSound (index_view w)) (su
         (
           reads.frame.summarise_lock ∙ summarise_lock,
           copy_knows s w v (Maintaining range (IsAt p (Held x))) (Maintaining range (IsAt p (Copied x old new))) turned sound range (MakesUnited p)
-              (makes_united (index_view w) s range p (building_here p (Held x) turned.was)) x old new stands.1 (all, united) both reads.none known,
+              (makes_united (index_view w) s range p (building_here p (Held x) turned.was)) x old new stands.1
+              (all, subst (λ (u : IndexTuple). IsUnited result old u) (sym united) (sound.lawful.united old result)) both reads.none known,
         ),
       )
   summarise_left _ _ (SwapFinal p x old new verdict swap) turned known = (

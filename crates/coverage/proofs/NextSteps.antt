@@ -1,15 +1,15 @@
 -- Of the steps that a statement could take on an index there is one point alone, and none where it is blocked: each step has the
 -- facts that fix its point, and the facts hold for one point.
-use Rattle.std.proofs.Common.{◌≡◌, Bool, ℕ, ◌≤◌, ◌<◌, Some, sym, ◌∙◌, ap, subst, arith}
+use Rattle.std.proofs.Common.{◌≡◌, ℕ, ◌≤◌, ◌<◌, Some, sym, ◌∙◌, ap, subst, arith}
 use Rattle.std.specs.Prelude.{refl, length}
 use Rattle.std.proofs.lemmas.Option.{same_Some}
 use Rattle.block_model.specs.declared.row.Row.{Row}
 use Rattle.coverage.specs.IndexView.{TuplePlace, IndexTuple, Progress, ExtentUnread, Passing, PageKind, Unstarted, Mapping, Regular, Emptying, IndexView}
-use Rattle.coverage.specs.IndexView.{range_of_block}
+use Rattle.coverage.specs.IndexView.{range_of_block, next_map_page, IsPastMap}
 use Rattle.coverage.specs.Changes.{IsFree}
 use Rattle.coverage.specs.Verdicts.{Verdict, Waits, Differs, Fits, Puts, PutVerdict, SwapVerdict, ClearVerdict}
 use Rattle.coverage.specs.Statements.{OnIndex, Empty, Held, Copied, Moving, Dropping, Phase, NotBuilding, Vacant, Growing, Evacuating, Placing, IsAt, Statement}
-use Rattle.coverage.specs.Steps.{IsUnnamed, next_map_page, IsPastMap, IsNextTuple, Grows, OnIndexStep, Maps, Gone, Again, MovePut}
+use Rattle.coverage.specs.Steps.{IsUnnamed, IsNextTuple, Grows, OnIndexStep, Maps, Gone, Again, MovePut}
 use Rattle.coverage.specs.Steps.{InsertStep, InsertOnIndex, InsertNoEntry, InsertCopies, InsertUnchanged, InsertSwap, InsertSet, InsertDrop}
 use Rattle.coverage.specs.Steps.{GrowthStep, Grow, CountLeftOver, Count, Flag, EvacuatePut, EvacuateSet, EvacuateDrop, EvacuateSweep, Turn}
 use Rattle.coverage.specs.Steps.{SummariseStep, LookMap, LookGone, IsFinal, Found, ReadNoEntry, GrowMap, Put, Set, Extent, Pass, Unite, UniteCopies, SwapFinal}
@@ -36,7 +36,7 @@ clear_point Differs = AtAgain
 clear_point verdict = AtClear
 
 -- the next tuple of a page is one
-next_once : (w : IndexView) (page : ℕ) (x y : TuplePlace) (t u : IndexTuple) → IsNextTuple w page x t → IsNextTuple w page y u → (x ≡ y) × (t ≡ u)
+pub next_once : (w : IndexView) (page : ℕ) (x y : TuplePlace) (t u : IndexTuple) → IsNextTuple w page x t → IsNextTuple w page y u → (x ≡ y) × (t ≡ u)
 next_once w page x y t u one two = (place, same_Some _ _ (sym one.stands ∙ ap w.tuple place ∙ two.stands))
   where
     both : (a b : ℕ) → a ≤ b → b ≤ a → a ≡ b
@@ -52,7 +52,7 @@ next_once w page x y t u one two = (place, same_Some _ _ (sym one.stands ∙ ap 
     place = λ i. record { block = block i; slot = slot i }
 
 -- the next tuple isn't named and unnamed at once
-named_or_not : (w : IndexView) (page : ℕ) (x y : TuplePlace) (t u : IndexTuple)
+pub named_or_not : (w : IndexView) (page : ℕ) (x y : TuplePlace) (t u : IndexTuple)
     → IsNextTuple w page x t → IsNextTuple w page y u → w.entry t.range ≡ Some x → IsUnnamed w y → ⊥
 named_or_not w page x y t u one two named unnamed =
     let same = next_once w page x y t u one two in
@@ -154,7 +154,7 @@ vacant_once w s range _ _ (MapGrows kind p grows at) (MapGrows kind' q grows' at
 -- all blocks are passed where a summariser goes on to the map
 abbrev IsUniting : OnIndex → Progress → Type 0
 IsUniting Empty ExtentUnread = ⊥
-IsUniting Empty (Passing extent next result) = next ≡ extent
+IsUniting Empty (Passing extent next result) = extent ≤ next
 IsUniting on_index progress = Unit
 
 -- the points of a summariser, by its phase
@@ -167,11 +167,11 @@ data SummarisePoint (w : IndexView) (s range : ℕ) : Phase → Point → Type 0
   MovesOther : (m : ℕ) (on_index : OnIndex) (p : Point) → OnIndexPoint w s m on_index p → SummarisePoint w s range (Evacuating m on_index) p
   SetsPlaceholder : (x : TuplePlace) → SummarisePoint w s range (Placing x) AtSet
   ToExtent : SummarisePoint w s range (IsAt ExtentUnread Empty) AtExtent
-  PassesNext : (extent next : ℕ) (result : Row → Bool) → next < extent → SummarisePoint w s range (IsAt (Passing extent next result) Empty) AtPass
+  PassesNext : (extent next : ℕ) (result : IndexTuple) → next < extent → SummarisePoint w s range (IsAt (Passing extent next result) Empty) AtPass
   MakesFinal : (progress : Progress) (on_index : OnIndex) (p : Point) → IsUniting on_index progress → OnIndexPoint w s range on_index p
       → SummarisePoint w s range (IsAt progress on_index) p
 
-passed : (next extent : ℕ) → next < extent → next ≡ extent → ⊥
+passed : (next extent : ℕ) → next < extent → extent ≤ next → ⊥
 passed next extent below all = omega arith
 
 summarise_once : (w : IndexView) (s range : ℕ) (phase : Phase) (p q : Point) → SummarisePoint w s range phase p → SummarisePoint w s range phase q → p ≡ q
@@ -204,7 +204,7 @@ growth_fact s range w v _ _ (EvacuateSweep x t grows next unnamed sweeps) =
     WantsEntry AtDrop (MapGrows Emptying AtDrop grows (UnnamedNext x t next unnamed sweeps.free))
 growth_fact s range w v _ _ (Turn grows empty free meta turns) = WantsEntry AtTurn (MapGrows Emptying AtTurn grows (NoneNext empty free meta))
 
-uniting : (on_index : OnIndex) (extent next : ℕ) (result : Row → Bool) → next ≡ extent → IsUniting on_index (Passing extent next result)
+uniting : (on_index : OnIndex) (extent next : ℕ) (result : IndexTuple) → extent ≤ next → IsUniting on_index (Passing extent next result)
 uniting Empty extent next result all = all
 uniting (Held x) extent next result all = tt
 uniting (Copied x old new) extent next result all = tt
@@ -219,10 +219,10 @@ summarise_fact s range w v _ _ (IsFinal x t stands final reads) = LooksAtTuple x
 summarise_fact s range w v _ _ (Found x t stands flag reads) = LooksAtTuple x
 summarise_fact s range w v _ _ (ReadNoEntry none reads) = LooksAtMap
 summarise_fact s range w v _ _ (GrowMap old new step) = growth_fact s range w v old new step
-summarise_fact s range w v _ _ (Put x t of flag size long verdict puts these) = WantsEntry AtPut (MapSuffices x long verdict)
+summarise_fact s range w v _ _ (Put x t is size long verdict puts these) = WantsEntry AtPut (MapSuffices x long verdict)
 summarise_fact s range w v _ _ (Set x sets none) = SetsPlaceholder x
-summarise_fact s range w v _ _ (Extent extent result is reads) = ToExtent
-summarise_fact s range w v _ _ (Pass extent next result wider below more block reads) = PassesNext extent next result below
+summarise_fact s range w v _ _ (Extent extent result start is reads) = ToExtent
+summarise_fact s range w v _ _ (Pass extent next slots result wider below none made reads) = PassesNext extent next result below
 summarise_fact s range w v _ _ (Unite extent next result old new all step) =
     MakesFinal (Passing extent next result) old (on_index_point step) (uniting old extent next result all) (on_index_fact s range w v old new step)
 summarise_fact s range w v _ _ (UniteCopies extent next result x old new all stands united reads) =

@@ -1,19 +1,22 @@
 -- Where nobody is at work, a covered index is what steps keep.
-use Rattle.std.proofs.Common.{◌≡◌, inl, inr, ⊎_elim, ℕ, ◌/◌, ◌<◌, Some, Bool, true, sym, ◌∙◌, ap, subst, rules}
-use Rattle.std.specs.Prelude.{IsTrue}
+use Rattle.std.proofs.Common.{◌≡◌, ◌≢◌, inl, inr, ⊎_elim, ℕ, ◌/◌, ◌≤◌, ◌<◌, Some, None, Bool, true, sym, ◌∙◌, ap, subst, arith, rules}
+use Rattle.std.specs.Prelude.{refl, IsTrue}
 use Rattle.std.proofs.lemmas.Option.{same_Some, none-some}
 use Rattle.std.proofs.lemmas.Bool.{false≢true}
 use Rattle.block_model.specs.declared.row.Row.{Row}
-use Rattle.coverage.specs.IndexView.{TuplePlace, Progress, Pages, range_of_block, IsBuilding}
+use Rattle.coverage.specs.IndexView.{TuplePlace, IndexTuple, Contents, Progress, Pages, range_of_block, IsBuilding}
 use Rattle.coverage.specs.IsSettled.{IsSettled, AllAwait, IsAccounted}
 use Rattle.coverage.specs.IsSound.{IsSound}
-use Rattle.coverage.specs.Statements.{OnIndex, Scan, Inserting, Scanning, loose_of, building_of}
+use Rattle.coverage.specs.Statements.{OnIndex, Scan, Inserting, Scanning, AreLawful, loose_of, building_of}
 use Rattle.coverage.specs.Knowing.{Knows}
+use Rattle.coverage.specs.PageOrder.{AreOrdered, AreNewPages, KnowsPages}
 use Rattle.coverage.specs.IsCovered.{IndexState, index_view, new_index, AreRowsBelow, IsFoundOrUnread, IsCovered, IsAtRest, IsIndexKept}
-use Rattle.coverage.specs.Steps.{IsRangeExcluded, Stops}
+use Rattle.coverage.specs.Steps.{IsRangeExcluded, StartsPage, Stops}
 use Rattle.coverage.proofs.Settled.{settled_accounted}
+use Rattle.coverage.proofs.PagesOrdered.{order_same, entries_same, order_started, order_new}
 
-module _ (w : IndexState) (covered : IsCovered w) (rest : IsAtRest w) (ranged : 0 < w.pages_per_range) (rows_below : AreRowsBelow w) where
+module _ (w : IndexState) (covered : IsCovered w) (rest : IsAtRest w) (ranged : 0 < w.pages_per_range) (rows_below : AreRowsBelow w)
+    (ordered : AreOrdered (index_view w)) (lawful : AreLawful w.contents) where
   nobody_builds : (s range : ℕ) (p : Progress) → IsBuilding (index_view w) s range p → ⊥
   nobody_builds s range p is = none-some _ (sym (ap building_of (rest.idle s)) ∙ is)
 
@@ -21,11 +24,13 @@ module _ (w : IndexState) (covered : IsCovered w) (rest : IsAtRest w) (ranged : 
   nothing_loose s x is = none-some _ (sym (ap loose_of (rest.idle s)) ∙ is)
 
   rest_sound : IsSound (index_view w)
-  rest_sound = search (rules, nobody_builds, nothing_loose)
+  rest_sound = search (rules, lawful, nobody_builds, nothing_loose)
 
   pub rest_kept : IsIndexKept w
   rest_kept = record {
     sound = rest_sound;
+    ordered = ordered;
+    knows_pages = λ s. subst (λ d. KnowsPages (index_view w) s d) (sym (rest.idle s)) tt;
     knows =
         λ s.
         subst (λ d. Knows (index_view w) s d) (sym (rest.idle s)) ((λ p is. none-some _ (sym (rest.unlocked p) ∙ is)), λ is. none-some _ (sym rest.free ∙ is));
@@ -36,10 +41,12 @@ module _ (w : IndexState) (covered : IsCovered w) (rest : IsAtRest w) (ranged : 
   }
 
 -- a new table's index
-pub new_kept : (per blocks : ℕ) (pages : Pages) (counts : ℕ → Bool) → 0 < per
-    → IsIndexKept (new_index per blocks pages counts)
-new_kept per blocks pages counts some = record {
-  sound = search rules;
+pub new_kept : (contents : Contents) (per blocks : ℕ) (pages : Pages) (counts : ℕ → Bool) → AreLawful contents → 0 < per → AreNewPages pages
+    → IsIndexKept (new_index contents per blocks pages counts)
+new_kept contents per blocks pages counts lawful some new = record {
+  sound = search (rules, lawful);
+  ordered = order_new (index_view (new_index contents per blocks pages counts)) new (λ x. refl) (λ range. refl);
+  knows_pages = λ s. tt;
   knows = λ s. ((λ p is. none-some _ is), λ is. none-some _ is);
   rows = λ b k r is counted. absurd (none-some _ is);
 }
@@ -65,22 +72,50 @@ module _ (w v : IndexState) (kept : IsIndexKept w) (stops : Stops w v) where
   nobody_builds' : (s range : ℕ) (p : Progress) → IsBuilding (index_view v) s range p → ⊥
   nobody_builds' s range p is = none-some _ (sym (ap building_of (stops.rest.idle s)) ∙ is)
 
+  -- a tuple that stands there stood there before
+  came : (x : TuplePlace) (t : IndexTuple) → v.tuple x ≡ Some t → w.tuple x ≡ Some t
+  came x t here = ⊎_elim
+      (λ (same : v.tuple x ≡ w.tuple x). sym same ∙ here)
+      (λ (gone : (v.tuple x ≡ None) × ((range : ℕ) → w.entry range ≢ Some x)). absurd (none-some _ (sym gone.0 ∙ here)))
+      (stops.tuples x)
+
+  stopped_ordered : AreOrdered (index_view v)
+  stopped_ordered = ⊎_elim
+      (λ (pages : v.pages ≡ w.pages).
+      order_same (index_view w) (index_view v) kept.ordered (λ p. ap (λ (g : Pages). g.kind p) pages) (ap (λ (g : Pages). g.map_pages) pages)
+      (ap (λ (g : Pages). g.limit) pages) (λ x t here. kept.ordered.tuples x t (came x t here))
+      (entries_same (index_view w) (index_view v) kept.ordered stops.map))
+      (λ (starts : StartsPage (index_view w) (index_view v)).
+      order_started (index_view w) (index_view v) kept.ordered starts.page starts.next starts.below starts.turns
+      (λ x t here. inr (kept.ordered.tuples x t (came x t here))) (entries_same (index_view w) (index_view v) kept.ordered stops.map))
+      stops.pages
+
   stopped_accounted : (b : ℕ) (r : Row) → IsAccounted (index_view w) b r → IsAccounted (index_view v) b r
   stopped_accounted b r settled x t named here = ⊎_elim
       (λ (has : IsTrue (t.includes r)). inl has)
       (λ (waits : (t.placeholder ≡ true) × AllAwait (index_view w) b r).
       inr (waits.0, λ s p is. absurd (nobody_builds' s (range_of_block (index_view v) b) p is)))
-      (settled x t (ap (λ m. w.entry (b / m)) (sym stops.heap.pages_per_range) ∙ sym (stops.map.entry (range_of_block (index_view v) b)) ∙ named)
-      (sym (stops.tuples.tuple x) ∙ here))
+      (settled x t (ap (λ m. w.entry (b / m)) (sym stops.pages_per_range) ∙ sym (stops.map.entry (range_of_block (index_view v) b)) ∙ named)
+      (came x t here))
+
+  within : (b n m : ℕ) → b < n → n ≤ m → b < m
+  within b n m low more = omega arith
 
   pub stopped_kept : IsIndexKept v
   stopped_kept = record {
     sound = record {
-      ranged = subst (λ n. 0 < n) (sym stops.heap.pages_per_range) kept.sound.ranged;
-      rows_below = λ b k r there. subst (λ n. b < n) (sym stops.heap.blocks) (kept.sound.rows_below b k r (sym (stops.heap.row b k) ∙ there));
+      lawful = subst AreLawful (sym stops.contents) kept.sound.lawful;
+      ranged = subst (λ n. 0 < n) (sym stops.pages_per_range) kept.sound.ranged;
+      rows_below = λ b k r there. within b w.blocks v.blocks (kept.sound.rows_below b k r (sym (stops.row b k) ∙ there)) stops.blocks;
       entries_name_tuples = λ m x named.
-          let t = kept.sound.entries_name_tuples m x (sym (stops.map.entry m) ∙ named) in
-          (t.0, stops.tuples.tuple x ∙ t.1, t.2);
+          let t = kept.sound.entries_name_tuples m x (sym (stops.map.entry m) ∙ named) in (
+            t.0,
+            ⊎_elim
+                (λ (same : v.tuple x ≡ w.tuple x). same ∙ t.1)
+                (λ (gone : (v.tuple x ≡ None) × ((range : ℕ) → w.entry range ≢ Some x)). absurd (gone.1 m (sym (stops.map.entry m) ∙ named)))
+                (stops.tuples x),
+            t.2,
+          );
       tuples_are_named = λ x t here. ⊎_elim
           (λ (e : v.entry t.range ≡ Some x). inl e)
           (λ (u : IsTrue (v.unnamed x)). inr (inr u))
@@ -89,6 +124,8 @@ module _ (w v : IndexState) (kept : IsIndexKept w) (stops : Stops w v) where
       builder_holds = λ s range p is. absurd (nobody_builds' s range p is);
       loose_is_locked = λ s x is. absurd (none-some _ (sym (ap loose_of (stops.rest.idle s)) ∙ is));
     };
+    ordered = stopped_ordered;
+    knows_pages = λ s. subst (λ d. KnowsPages (index_view v) s d) (sym (stops.rest.idle s)) tt;
     knows =
         λ s.
         subst (λ d. Knows (index_view v) s d) (sym (stops.rest.idle s))
@@ -97,5 +134,5 @@ module _ (w v : IndexState) (kept : IsIndexKept w) (stops : Stops w v) where
         (λ (a : IsAccounted (index_view w) b r). inl (stopped_accounted b r a))
         (λ (i : (s : ℕ) × (on_index : OnIndex) × (w.statement s ≡ Inserting b k r on_index)).
         absurd (false≢true (sym (stops.running i.0 b k r i.1 i.2) ∙ counted)))
-        (kept.rows b k r (sym (stops.heap.row b k) ∙ there) (stops.counts r.id.t counted));
+        (kept.rows b k r (sym (stops.row b k) ∙ there) (stops.counts r.id.t counted));
   }

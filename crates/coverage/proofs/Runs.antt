@@ -1,16 +1,17 @@
 -- Every step of every statement keeps what the index rests on.
-use Rattle.std.proofs.Common.{◌≡◌, ◌≢◌, ◌⊎◌, inl, inr, ⊎_elim, ℕ, ◌+◌, ◌/◌, ◌≤◌, Some, None, Bool, true, false, sym, ◌∙◌, ap, subst, arith}
-use Rattle.std.specs.Prelude.{refl, IsTrue}
+use Rattle.std.proofs.Common.{◌≡◌, ◌≢◌, ◌⊎◌, inl, inr, ⊎_elim, ℕ, ◌+◌, ◌/◌, ◌≤◌, ◌<◌, Option, Some, None, Bool, true, false, sym, ◌∙◌, ap, subst, arith}
+use Rattle.std.specs.Prelude.{refl, IsTrue, ◌↔◌}
 use Rattle.std.proofs.lemmas.Option.{same_Some, none-some}
 use Rattle.std.proofs.lemmas.Bool.{cases_eq, false≢true}
 use Rattle.block_model.specs.declared.row.Row.{Row}
-use Rattle.coverage.specs.IndexView.{TuplePlace, IndexView, range_of_block}
+use Rattle.coverage.specs.IndexView.{TuplePlace, Pages, IndexView, range_of_block}
 use Rattle.coverage.specs.IsSettled.{AllAwait, IsAccounted, TupleShows}
 use Rattle.coverage.specs.GoesOn.{IsHeld, GoesOn}
 use Rattle.coverage.specs.Changes.{TouchesNothing, Frame, SameHeap, PutsRow, Prunes, Takes, Ends}
 use Rattle.coverage.specs.Statements.{OnIndex, Empty, Phase, NotBuilding, Scan, Statement, Idle, Inserting, Maintaining, Holding, Scanning, loose_in, loose_of}
 use Rattle.coverage.specs.Statements.{building_of}
 use Rattle.coverage.specs.Knowing.{KnowsRow, Knows, Spares}
+use Rattle.coverage.specs.PageOrder.{KnowsPages}
 use Rattle.std.specs.Prelude.{List}
 use Rattle.coverage.specs.IsCovered.{IndexState, index_view, IsIndexKept}
 use Rattle.coverage.specs.Steps.{ReadsIndex, RowsDropped, IsUnnamed, InsertStep, InsertOnIndex, InsertNoEntry}
@@ -27,6 +28,10 @@ use Rattle.coverage.proofs.Stable.{knows_on}
 use Rattle.coverage.proofs.OnIndexSteps.{never, Both, loose_same, building_same, locks_by, nothing_loose, looks_both}
 use Rattle.coverage.proofs.InsertSteps.{KeepsHeapAndLock, on_index_keeps, Outcome, SettledOrOn, insert_outcome}
 use Rattle.coverage.proofs.MaintainSteps.{sweep_both, maintain_left}
+use Rattle.coverage.proofs.PagesGoOn.{Quiet, PagesAfter, not_less, same_blocks, quiet_same, still_after, pages_on}
+use Rattle.coverage.proofs.PagesKept.{sweep_after, insert_after, maintain_after}
+use Rattle.coverage.proofs.PagesOrdered.{for_tuples, IsNoMap}
+use Rattle.coverage.proofs.Numbers.{lt_or_ge}
 
 pub insert_keeps : (s b k : ℕ) (r : Row) (w v : IndexView) (h : OnIndex) (e : Statement) → InsertStep s b k r w v h e → KeepsHeapAndLock w v
 insert_keeps s b k r w v _ _ (InsertOnIndex old new step) = on_index_keeps s (range_of_block w b) w v old new step
@@ -55,10 +60,10 @@ summarise_keeps s range w v _ _ (IsFinal x t stands final reads) = (reads.frame.
 summarise_keeps s range w v _ _ (Found x t stands flag reads) = (reads.frame.heap, reads.frame.summarise_lock)
 summarise_keeps s range w v _ _ (ReadNoEntry none reads) = (reads.frame.heap, reads.frame.summarise_lock)
 summarise_keeps s range w v _ _ (GrowMap old new step) = growth_keeps s range w v old new step
-summarise_keeps s range w v _ _ (Put x t of flag size long verdict puts these) = (puts.frame.heap, puts.frame.summarise_lock)
+summarise_keeps s range w v _ _ (Put x t is size long verdict puts these) = (puts.frame.heap, puts.frame.summarise_lock)
 summarise_keeps s range w v _ _ (Set x sets none) = (sets.frame.heap, sets.frame.summarise_lock)
-summarise_keeps s range w v _ _ (Extent extent result is reads) = (reads.frame.heap, reads.frame.summarise_lock)
-summarise_keeps s range w v _ _ (Pass extent next result wider below more block reads) = (reads.frame.heap, reads.frame.summarise_lock)
+summarise_keeps s range w v _ _ (Extent extent result start is reads) = (reads.frame.heap, reads.frame.summarise_lock)
+summarise_keeps s range w v _ _ (Pass extent next slots result wider below none made reads) = (reads.frame.heap, reads.frame.summarise_lock)
 summarise_keeps s range w v _ _ (Unite extent next result old new all step) = on_index_keeps s range w v old new step
 summarise_keeps s range w v _ _ (UniteCopies extent next result x old new all stands united reads) = (reads.frame.heap, reads.frame.summarise_lock)
 summarise_keeps s range w v _ _ (SwapFinal p x old new verdict swap) = (swap.frame.heap, swap.frame.summarise_lock)
@@ -84,7 +89,7 @@ spares_never Holding = tt
 spares_never (Scanning scan) = λ b k sees dead. false≢true dead
 
 module _ (s : ℕ) (dropped : ℕ → ℕ → Bool) (w v : IndexState) (old new : Statement) (kept : IsIndexKept w) (turned : Turned s w v old new)
-    (out : Outcome s dropped w v old new)
+    (out : Outcome s dropped w v old new) (after : PagesAfter s (index_view w) (index_view v) new)
     (spares : (n : ℕ) → n ≢ s → Spares dropped (w.statement n))
     (rows : (b k : ℕ) (r : Row) → v.row b k ≡ Some r → (w.row b k ≡ Some r) ⊎ (new ≡ Inserting b k r Empty))
     (counts : (t : ℕ) → IsTrue (v.counts t) → IsTrue (w.counts t)) where
@@ -120,10 +125,24 @@ module _ (s : ℕ) (dropped : ℕ → ℕ → Bool) (w v : IndexState) (old new 
       (turned.others n))
       (cases_eq n s)
 
+  pages_after : (n : ℕ) → KnowsPages (index_view v) n (v.statement n)
+  pages_after n = ⊎_elim
+      (λ (is : n ≡ s). subst (λ m. KnowsPages (index_view v) m (v.statement m)) (sym is)
+      (subst (λ d. KnowsPages (index_view v) s d) (sym turned.now) after.knows))
+      (λ (other : n ≢ s). ⊎_elim
+      (λ (is : n ≡ s). absurd (other is))
+      (λ (same : v.statement n ≡ w.statement n).
+      subst (λ d. KnowsPages (index_view v) n d) (sym same)
+      (pages_on s dropped (index_view w) (index_view v) kept.sound out.on after.on n other (w.statement n) (kept.knows n) (kept.knows_pages n)))
+      (turned.others n))
+      (cases_eq n s)
+
   kept_after : IsIndexKept v
   kept_after = record {
     sound = out.sound;
+    ordered = after.ordered;
     knows = knows_after;
+    knows_pages = pages_after;
     rows = λ b k r there counted. ⊎_elim
         (λ (was : w.row b k ≡ Some r). row_after b k r was counted)
         (λ (fresh : new ≡ Inserting b k r Empty). inr (s, Empty, turned.now ∙ fresh))
@@ -233,6 +252,7 @@ row_on s w v on scan b k r known = record {
 -- where nothing changes, the index is the same one
 rests_path : (w v : IndexState) → Rests w v → v ≡ w
 rests_path w v rests = λ i. record {
+  contents = rests.contents i;
   pages_per_range = rests.heap.pages_per_range i;
   blocks = rests.heap.blocks i;
   row = λ b k. rests.heap.row b k i;
@@ -250,9 +270,25 @@ module _ (s : ℕ) (w v : IndexState) (kept : IsIndexKept w) where
   knows_it : (d : Statement) → w.statement s ≡ d → Knows (index_view w) s d
   knows_it d was = subst (λ m. Knows (index_view w) s m) was (kept.knows s)
 
+  knows_pages_it : (d : Statement) → w.statement s ≡ d → KnowsPages (index_view w) s d
+  knows_pages_it d was = subst (λ m. KnowsPages (index_view w) s m) was (kept.knows_pages s)
+
+  reads_after : (new : Statement) → ReadsIndex s (index_view w) (index_view v) → KnowsPages (index_view v) s new
+      → PagesAfter s (index_view w) (index_view v) new
+  reads_after new reads knows =
+      still_after s (index_view w) (index_view v) new reads.frame.heap.pages_per_range (same_blocks (index_view w) (index_view v) reads.frame.heap)
+      reads.frame.map reads.frame.tuples reads.pages reads.frame.locks kept.ordered knows
+
+  passes_after : (new : Statement) (o p : Option ℕ) → SummariseLockPasses s (index_view w) (index_view v) o p → KnowsPages (index_view v) s new
+      → PagesAfter s (index_view w) (index_view v) new
+  passes_after new o p passes knows =
+      still_after s (index_view w) (index_view v) new passes.frame.heap.pages_per_range (same_blocks (index_view w) (index_view v) passes.frame.heap)
+      passes.frame.map passes.frame.tuples passes.pages passes.frame.locks kept.ordered knows
+
   -- after a step that drops no row and puts none
-  steps : (old new : Statement) → Turned s w v old new → Outcome s never w v old new → SameHeap (index_view w) (index_view v) → SameCounts w v → IsIndexKept v
-  steps old new turned out heap counts = kept_after s never w v old new kept turned out (λ n other. spares_never (w.statement n))
+  steps : (old new : Statement) → Turned s w v old new → Outcome s never w v old new → PagesAfter s (index_view w) (index_view v) new
+      → SameHeap (index_view w) (index_view v) → SameCounts w v → IsIndexKept v
+  steps old new turned out after heap counts = kept_after s never w v old new kept turned out after (λ n other. spares_never (w.statement n))
       (λ b k r there. inl (sym (heap.row b k) ∙ there)) (λ t counted. sym (counts.counts t) ∙ counted)
 
   put_row : (b k : ℕ) (r : Row) → Turned s w v Idle (Inserting b k r Empty) → RowPut s (index_view w) (index_view v) b k r → SameCounts w v → IsIndexKept v
@@ -272,6 +308,8 @@ module _ (s : ℕ) (w v : IndexState) (kept : IsIndexKept w) where
         knows = (puts.row.now, (λ held. known.1 (sym puts.frame.summarise_lock ∙ held)), puts.none, tt);
         done = tt;
       })
+      (still_after s (index_view w) (index_view v) (Inserting b k r Empty) puts.row.pages_per_range puts.row.grown puts.frame.map puts.frame.tuples puts.pages
+      puts.frame.locks kept.ordered tt)
       (λ n other. spares_never (w.statement n))
       (λ c j q there. ⊎_elim
       (λ (at : (c ≡ b) × (j ≡ k)).
@@ -301,7 +339,7 @@ module _ (s : ℕ) (w v : IndexState) (kept : IsIndexKept w) where
         on = takes_go_on s never (index_view w) (index_view v) kept.sound kind;
         knows = (passes.now, passes.none);
         done = tt;
-      }) passes.frame.heap counts
+      }) (passes_after Holding None (Some s) passes tt) passes.frame.heap counts
 
   -- the lock is given by a reply, or by a refusal
   give_summarise_lock : (old : Statement) → loose_of old ≡ None → SettledOrOn (index_view v) v.counts old Idle → Turned s w v old Idle
@@ -321,7 +359,7 @@ module _ (s : ℕ) (w v : IndexState) (kept : IsIndexKept w) where
         on = ends_go_on s never (index_view w) (index_view v) kept.sound kind;
         knows = (passes.none, λ held. none-some _ (sym passes.now ∙ held));
         done = done;
-      }) passes.frame.heap counts
+      }) (passes_after Idle (Some s) None passes tt) passes.frame.heap counts
 
   prune : (dropped : ℕ → ℕ → Bool) → ((n : ℕ) → n ≢ s → Spares dropped (w.statement n)) → Turned s w v Holding Holding
       → RowsDropped s dropped (index_view w) (index_view v) → SameCounts w v → IsIndexKept v
@@ -342,6 +380,8 @@ module _ (s : ℕ) (w v : IndexState) (kept : IsIndexKept w) where
         knows = (drops.frame.summarise_lock ∙ known.0, drops.none);
         done = tt;
       })
+      (still_after s (index_view w) (index_view v) Holding drops.rows.pages_per_range (not_less v.blocks w.blocks drops.rows.blocks) drops.frame.map
+      drops.frame.tuples drops.pages drops.frame.locks kept.ordered tt)
       spares
       (λ b k r there. ⊎_elim
       (λ (was : v.row b k ≡ w.row b k). inl (sym was ∙ there))
@@ -367,7 +407,7 @@ module _ (s : ℕ) (w v : IndexState) (kept : IsIndexKept w) where
               (row.0, row_on s (index_view w) (index_view v) both.1 new b k row.0 (scan_row (index_view w) b k row.0 old new step before row.1)),
         );
         done = tt;
-      }) reads.frame.heap counts
+      }) (reads_after (Scanning new) reads tt) reads.frame.heap counts
 
   begin_scan : (scan : Scan) → ScanBegins w scan → Turned s w v Idle (Scanning scan) → ReadsIndex s (index_view w) (index_view v) → SameCounts w v
       → IsIndexKept v
@@ -384,7 +424,7 @@ module _ (s : ℕ) (w v : IndexState) (kept : IsIndexKept w) where
           λ b k sees. let row = begins.1 b k sees in (row.0, row_on s (index_view w) (index_view v) both.1 scan b k row.0 (first_row b k sees)),
         );
         done = tt;
-      }) reads.frame.heap counts
+      }) (reads_after (Scanning scan) reads tt) reads.frame.heap counts
     where
       first_row : (b k : ℕ) → (sees : IsTrue (scan.sees b k)) → KnowsRow (index_view w) scan b k (begins.1 b k sees).0
       first_row b k sees = let row = begins.1 b k sees in record {
@@ -409,6 +449,7 @@ module _ (s : ℕ) (w v : IndexState) (kept : IsIndexKept w) where
         knows = (reads.none, λ held. known.1 (sym reads.frame.summarise_lock ∙ held));
         done = λ counted. absurd (false≢true (sym fails ∙ counted));
       })
+      (reads_after Idle reads tt)
       (λ n other. spares_never (w.statement n)) (λ c j q there. inl (sym (reads.frame.heap.row c j) ∙ there)) counts
 
   pub step_kept : Step s w v → IsIndexKept v
@@ -416,6 +457,8 @@ module _ (s : ℕ) (w v : IndexState) (kept : IsIndexKept w) where
   step_kept (Insert b k r on_index new turned step counts) =
       steps (Inserting b k r on_index) new turned
       (insert_outcome s b k r w v kept.sound on_index new step turned (knows_it (Inserting b k r on_index) turned.was))
+      (insert_after s b k r (index_view w) (index_view v) kept.sound kept.ordered on_index new step (knows_it (Inserting b k r on_index) turned.was).2
+      (knows_pages_it (Inserting b k r on_index) turned.was))
       (insert_keeps s b k r (index_view w) (index_view v) on_index new step).0 counts
   step_kept (Refused b k r on_index none turned reads fails counts) = refused b k r on_index none turned reads fails counts
   step_kept (TakeSummariseLock turned passes counts) = take_summarise_lock turned passes counts
@@ -423,11 +466,13 @@ module _ (s : ℕ) (w v : IndexState) (kept : IsIndexKept w) where
       let known = knows_it Holding turned.was in
       let both = looks Holding (Maintaining range (NotBuilding Empty)) turned refl refl refl reads.frame in
       steps Holding (Maintaining range (NotBuilding Empty)) turned
-      (record { sound = both.0; on = both.1; knows = (reads.frame.summarise_lock ∙ known.0, reads.none); done = tt }) reads.frame.heap counts
+      (record { sound = both.0; on = both.1; knows = (reads.frame.summarise_lock ∙ known.0, reads.none); done = tt })
+      (reads_after (Maintaining range (NotBuilding Empty)) reads (tt, tt)) reads.frame.heap counts
   step_kept (Maintain range old new turned step counts) =
       let known = knows_it (Maintaining range old) turned.was in
       let left = maintain_left s range w v kept.sound known.0 old new step turned known.1 in
       steps (Maintaining range old) new turned (record { sound = left.0.0; on = left.0.1; knows = left.1; done = tt })
+      (maintain_after s range (index_view w) (index_view v) kept.ordered known.0 old new step known.1 (knows_pages_it (Maintaining range old) turned.was))
       (maintain_keeps s range (index_view w) (index_view v) old new step).0 counts
   step_kept (Prune dropped spares turned drops counts) = prune dropped spares turned drops counts
   step_kept (Sweep page turned sweeps counts) =
@@ -436,7 +481,9 @@ module _ (s : ℕ) (w v : IndexState) (kept : IsIndexKept w) where
       sweep_both s w v Holding Holding turned kept.sound page (λ x. (x.block ≡ page) × IsUnnamed (index_view w) x)
       (λ x on is. is.1) refl refl refl sweeps in
       steps Holding Holding turned
-      (record { sound = both.0; on = both.1; knows = (sweeps.frame.summarise_lock ∙ known.0, sweeps.none); done = tt }) sweeps.frame.heap counts
+      (record { sound = both.0; on = both.1; knows = (sweeps.frame.summarise_lock ∙ known.0, sweeps.none); done = tt })
+      (sweep_after s (index_view w) (index_view v) kept.ordered page (λ x. (x.block ≡ page) × IsUnnamed (index_view w) x) Holding sweeps known.0 tt)
+      sweeps.frame.heap counts
   step_kept (GiveSummariseLock turned passes counts) = give_summarise_lock Holding refl tt turned passes counts
   step_kept (Abandon range phase none turned passes counts) = give_summarise_lock (Maintaining range phase) none tt turned passes counts
   step_kept (BeginScan scan begins turned reads counts) = begin_scan scan begins turned reads counts
@@ -450,17 +497,96 @@ module _ (s : ℕ) (w v : IndexState) (kept : IsIndexKept w) where
         knows =
             (reads.none, λ held. known.0.1 (sym reads.frame.summarise_lock ∙ held));
         done = tt;
-      }) reads.frame.heap counts
+      }) (reads_after Idle reads tt) reads.frame.heap counts
   step_kept (Elsewhere rests) = subst (λ u. IsIndexKept u) (sym (rests_path w v rests)) kept
   step_kept (Counts counts few same) = subst (λ u. IsIndexKept u) (sym same) (record {
     sound = kept.sound;
+    ordered = kept.ordered;
     knows = kept.knows;
+    knows_pages = kept.knows_pages;
     rows = λ b k r there counted. ⊎_elim
         (λ (was : IsTrue (w.counts r.id.t)). kept.rows b k r there was)
         (λ (none : (c j : ℕ) (q : Row) → w.row c j ≡ Some q → q.id.t ≢ r.id.t). absurd (none b k r there refl))
         (few r.id.t counted);
   })
 
+-- a session that doesn't hold the summarise lock leaves it to its holder which ranges have an entry
+module _ (s : ℕ) (w v : IndexState) (kept : IsIndexKept w) where
+  quiet_read : ReadsIndex s (index_view w) (index_view v) → Quiet (index_view w) (index_view v)
+  quiet_read reads = quiet_same (index_view w) (index_view v) reads.frame.map reads.frame.tuples (ap (λ (g : Pages). g.map_pages) reads.pages)
+
+  step_quiet : Step s w v → (w.summarise_lock ≡ Some s) ⊎ Quiet (index_view w) (index_view v)
+  step_quiet (PutRow b k r turned puts counts) =
+      inr (quiet_same (index_view w) (index_view v) puts.frame.map puts.frame.tuples (ap (λ (g : Pages). g.map_pages) puts.pages))
+  step_quiet (Insert b k r on_index new turned step counts) =
+      (insert_after s b k r (index_view w) (index_view v) kept.sound kept.ordered on_index new step
+      (knows_it s w v kept (Inserting b k r on_index) turned.was).2 (knows_pages_it s w v kept (Inserting b k r on_index) turned.was)).on.quiet
+  step_quiet (Refused b k r on_index none turned reads fails counts) = inr (quiet_read reads)
+  step_quiet (TakeSummariseLock turned passes counts) =
+      inr (quiet_same (index_view w) (index_view v) passes.frame.map passes.frame.tuples (ap (λ (g : Pages). g.map_pages) passes.pages))
+  step_quiet (BeginRange range turned reads counts) = inr (quiet_read reads)
+  step_quiet (Maintain range old new turned step counts) = inl (knows_it s w v kept (Maintaining range old) turned.was).0
+  step_quiet (Prune dropped spares turned drops counts) = inl (knows_it s w v kept Holding turned.was).0
+  step_quiet (Sweep page turned sweeps counts) = inl (knows_it s w v kept Holding turned.was).0
+  step_quiet (GiveSummariseLock turned passes counts) = inl passes.was
+  step_quiet (Abandon range phase none turned passes counts) = inl passes.was
+  step_quiet (BeginScan scan begins turned reads counts) = inr (quiet_read reads)
+  step_quiet (Scans old new turned step reads counts) = inr (quiet_read reads)
+  step_quiet (EndScan scan turned reads counts) = inr (quiet_read reads)
+  step_quiet (Elsewhere rests) = inr (quiet_same (index_view w) (index_view v) rests.map rests.tuples (ap (λ (g : Pages). g.map_pages) rests.pages))
+  step_quiet (Counts counts few same) = inr (quiet_same (index_view w) (index_view v)
+      (record { entry = λ m. ap (λ (u : IndexState). u.entry m) same }) (record { tuple = λ x. ap (λ (u : IndexState). u.tuple x) same })
+      (ap (λ (u : IndexState). u.pages.map_pages) same))
+
+  pub entries_stay : Step s w v → w.summarise_lock ≢ Some s → (range : ℕ) → (w.entry range ≡ None) ↔ (v.entry range ≡ None)
+  entries_stay step free range = ((λ none. quiet.vacant range none), by_entry (w.entry range) refl)
+    where
+      quiet : Quiet (index_view w) (index_view v)
+      quiet = ⊎_elim (λ (held : w.summarise_lock ≡ Some s). absurd (free held)) (λ (q : Quiet (index_view w) (index_view v)). q) (step_quiet step)
+
+      by_entry : (o : Option TuplePlace) → w.entry range ≡ o → v.entry range ≡ None → w.entry range ≡ None
+      by_entry None is gone = is
+      by_entry (Some x) is gone = absurd (none-some _ (sym gone ∙ (quiet.still range x is).1))
+
+-- tuples that the map names stand past its pages
+pub named_past_map : (w : IndexState) (range : ℕ) (x : TuplePlace) → IsIndexKept w → w.entry range ≡ Some x → w.pages.map_pages < x.block
+named_past_map w range x kept named = ⊎_elim
+    (λ (less : w.pages.map_pages < x.block). less)
+    (λ (le : x.block ≤ w.pages.map_pages).
+    let t = kept.sound.entries_name_tuples range x named in
+    absurd (subst IsNoMap (kept.ordered.map x.block le) (for_tuples (index_view w) x.block (kept.ordered.tuples x t.0 t.1)).1))
+    (lt_or_ge w.pages.map_pages x.block)
+
 pub run_kept : (steps : List ℕ) (w v : IndexState) → IsIndexKept w → Run steps w v → IsIndexKept v
 run_kept _ _ _ kept (Done w) = kept
 run_kept _ _ _ kept (Next s rest w u v step more) = run_kept rest u v (step_kept s w u kept step) more
+
+-- blocks of the table are never taken away
+step_blocks : (s : ℕ) (w v : IndexState) → Step s w v → w.blocks ≤ v.blocks
+step_blocks s w v (PutRow b k r turned puts counts) = puts.row.grown
+step_blocks s w v (Insert b k r on_index new turned step counts) =
+    same_blocks (index_view w) (index_view v) (insert_keeps s b k r (index_view w) (index_view v) on_index new step).0
+step_blocks s w v (Refused b k r on_index none turned reads fails counts) = same_blocks (index_view w) (index_view v) reads.frame.heap
+step_blocks s w v (TakeSummariseLock turned passes counts) = same_blocks (index_view w) (index_view v) passes.frame.heap
+step_blocks s w v (BeginRange range turned reads counts) = same_blocks (index_view w) (index_view v) reads.frame.heap
+step_blocks s w v (Maintain range old new turned step counts) =
+    same_blocks (index_view w) (index_view v) (maintain_keeps s range (index_view w) (index_view v) old new step).0
+step_blocks s w v (Prune dropped spares turned drops counts) = not_less v.blocks w.blocks drops.rows.blocks
+step_blocks s w v (Sweep page turned sweeps counts) = same_blocks (index_view w) (index_view v) sweeps.frame.heap
+step_blocks s w v (GiveSummariseLock turned passes counts) = same_blocks (index_view w) (index_view v) passes.frame.heap
+step_blocks s w v (Abandon range phase none turned passes counts) = same_blocks (index_view w) (index_view v) passes.frame.heap
+step_blocks s w v (BeginScan scan begins turned reads counts) = same_blocks (index_view w) (index_view v) reads.frame.heap
+step_blocks s w v (Scans old new turned step reads counts) = same_blocks (index_view w) (index_view v) reads.frame.heap
+step_blocks s w v (EndScan scan turned reads counts) = same_blocks (index_view w) (index_view v) reads.frame.heap
+step_blocks s w v (Elsewhere rests) = same_blocks (index_view w) (index_view v) rests.heap
+step_blocks s w v (Counts counts few same) = not_less v.blocks w.blocks (ap (λ (u : IndexState). u.blocks) same)
+
+through : (a b c : ℕ) → a ≤ b → b ≤ c → a ≤ c
+through a b c le le' = omega arith
+
+self : (n : ℕ) → n ≤ n
+self n = omega arith
+
+pub run_blocks : (steps : List ℕ) (w v : IndexState) → Run steps w v → w.blocks ≤ v.blocks
+run_blocks _ _ _ (Done w) = self w.blocks
+run_blocks _ _ _ (Next s rest w u v step more) = through w.blocks u.blocks v.blocks (step_blocks s w u step) (run_blocks rest u v more)

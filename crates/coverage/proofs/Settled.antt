@@ -49,7 +49,7 @@ module _ (w : IndexView) (sound : IsSound w) (b : ℕ) (r : Row) where
       → IsAwaited p b r → IsSettled w b r
   builder_case t n flag s ExtentUnread is waits = AheadOfPass t n flag s ExtentUnread is tt
   builder_case t n flag s (Passing extent next result) is waits = ⊎_elim
-      (λ (has : IsTrue (result r)). ResultIncludes t n flag s (Passing extent next result) is has)
+      (λ (has : IsTrue (result.includes r)). ResultIncludes t n flag s (Passing extent next result) is has)
       (λ (left : (next ≤ b) × (b < extent)). AheadOfPass t n flag s (Passing extent next result) is left)
       waits
 

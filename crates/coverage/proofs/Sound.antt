@@ -3,6 +3,7 @@ use Rattle.std.proofs.Common.{◌≡◌, ◌≢◌, ◌⊎◌, ⊎_elim, ℕ, Op
 use Rattle.std.proofs.lemmas.Bool.{cases_eq}
 use Rattle.block_model.specs.declared.row.Row.{Row}
 use Rattle.coverage.specs.IndexView.{TuplePlace, IndexTuple, Progress, IndexView}
+use Rattle.coverage.specs.Statements.{AreLawful}
 use Rattle.coverage.specs.IsSound.{IsSound}
 use Rattle.coverage.specs.Changes.{OwnLocks, IsLooseLocked, PutsRow, Places, Names, Turn, Swaps, MovePuts, MoveSets, DropsLoose, Clears, Sweeps, Prunes, Takes}
 use Rattle.coverage.specs.Changes.{Ends, TurnsLocks}
@@ -18,44 +19,48 @@ lock_kept s w v sound locks locked others n x is = ⊎_elim
     (others n))
     (cases_eq n s)
 
+-- what is made of tuples stays
+lawful_kept : (w v : IndexView) → IsSound w → v.contents ≡ w.contents → AreLawful v.contents
+lawful_kept w v sound same = subst AreLawful (sym same) sound.lawful
+
 pub puts_row_sound : (s : ℕ) (w v : IndexView) (b k : ℕ) (r : Row) → IsSound w → PutsRow s w v b k r → IsSound v
-puts_row_sound s w v b k r sound kind = search (rules, lock_kept)
+puts_row_sound s w v b k r sound kind = search (rules, lock_kept, lawful_kept)
 
 pub places_sound : (s : ℕ) (w v : IndexView) (x : TuplePlace) (t : IndexTuple) → IsSound w → Places s w v x t → IsSound v
-places_sound s w v x t sound kind = search (rules, lock_kept)
+places_sound s w v x t sound kind = search (rules, lock_kept, lawful_kept)
 
 pub names_sound : (s : ℕ) (w v : IndexView) (range : ℕ) (x : TuplePlace) (t : IndexTuple) → IsSound w → Names s w v range x t → IsSound v
-names_sound s w v range x t sound kind = search (rules, lock_kept)
+names_sound s w v range x t sound kind = search (rules, lock_kept, lawful_kept)
 
 pub turn_sound : (s : ℕ) (w v : IndexView) (range : ℕ) (old new : Option Progress) → IsSound w → Turn s w v range old new → IsSound v
-turn_sound s w v range old new sound kind = search (rules, lock_kept)
+turn_sound s w v range old new sound kind = search (rules, lock_kept, lawful_kept)
 
 pub swaps_sound : (s : ℕ) (w v : IndexView) (range : ℕ) (x : TuplePlace) (old new : IndexTuple) → IsSound w → Swaps s w v range x old new → IsSound v
-swaps_sound s w v range x old new sound kind = search (rules, lock_kept)
+swaps_sound s w v range x old new sound kind = search (rules, lock_kept, lawful_kept)
 
 pub move_puts_sound : (s : ℕ) (w v : IndexView) (range : ℕ) (x y : TuplePlace) (old new : IndexTuple) → IsSound w → MovePuts s w v range x y old new → IsSound v
-move_puts_sound s w v range x y old new sound kind = search (rules, lock_kept)
+move_puts_sound s w v range x y old new sound kind = search (rules, lock_kept, lawful_kept)
 
 pub move_sets_sound : (s : ℕ) (w v : IndexView) (range : ℕ) (x y : TuplePlace) (old new : IndexTuple) → IsSound w → MoveSets s w v range x y old new → IsSound v
-move_sets_sound s w v range x y old new sound kind = search (rules, lock_kept)
+move_sets_sound s w v range x y old new sound kind = search (rules, lock_kept, lawful_kept)
 
 pub drops_sound : (s : ℕ) (w v : IndexView) (x : TuplePlace) (old : IndexTuple) → IsSound w → DropsLoose s w v x old → IsSound v
-drops_sound s w v x old sound kind = search (rules, lock_kept)
+drops_sound s w v x old sound kind = search (rules, lock_kept, lawful_kept)
 
 pub clears_sound : (s : ℕ) (w v : IndexView) (range : ℕ) (x : TuplePlace) → IsSound w → Clears s w v range x → IsSound v
-clears_sound s w v range x sound kind = search (rules, lock_kept)
+clears_sound s w v range x sound kind = search (rules, lock_kept, lawful_kept)
 
 pub sweeps_sound : (s : ℕ) (w v : IndexView) (p : ℕ) → IsSound w → Sweeps s w v p → IsSound v
-sweeps_sound s w v p sound kind = search (rules, lock_kept)
+sweeps_sound s w v p sound kind = search (rules, lock_kept, lawful_kept)
 
 pub prunes_sound : (s : ℕ) (dropped : ℕ → ℕ → Bool) (w v : IndexView) → IsSound w → Prunes s dropped w v → IsSound v
-prunes_sound s dropped w v sound kind = search (rules, lock_kept)
+prunes_sound s dropped w v sound kind = search (rules, lock_kept, lawful_kept)
 
 pub takes_sound : (s : ℕ) (w v : IndexView) → IsSound w → Takes s w v → IsSound v
-takes_sound s w v sound kind = search (rules, lock_kept)
+takes_sound s w v sound kind = search (rules, lock_kept, lawful_kept)
 
 pub ends_sound : (s : ℕ) (w v : IndexView) → IsSound w → Ends s w v → IsSound v
-ends_sound s w v sound kind = search (rules, lock_kept)
+ends_sound s w v sound kind = search (rules, lock_kept, lawful_kept)
 
 pub turns_locks_sound : (s : ℕ) (w v : IndexView) → IsSound w → TurnsLocks s w v → IsSound v
-turns_locks_sound s w v sound kind = search (rules, lock_kept)
+turns_locks_sound s w v sound kind = search (rules, lock_kept, lawful_kept)

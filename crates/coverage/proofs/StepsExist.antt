@@ -1,16 +1,16 @@
 -- A running insert or desummarise has a step on the index, or waits, or is refused: the steps are there to be made.
-use Rattle.std.proofs.Common.{◌≡◌, ◌≢◌, ◌⊎◌, inl, inr, ⊎_elim, ℕ, Option, Some, None, true, sym, ◌∙◌, ap, subst, rules}
+use Rattle.std.proofs.Common.{◌≡◌, ◌≢◌, ◌⊎◌, inl, inr, ⊎_elim, ℕ, Option, Some, None, sym, ◌∙◌, ap, subst, rules}
 use Rattle.std.specs.Prelude.{refl, List, [], ◌∷◌, length}
 use Rattle.std.proofs.lemmas.Option.{same_Some, none-some}
 use Rattle.std.proofs.lemmas.Bool.{cases_eq}
 use Rattle.block_model.specs.declared.row.Row.{Row}
 use Rattle.coverage.specs.IndexView.{TuplePlace, IndexTuple, Regular, IndexView, range_of_block, map_page_of}
 use Rattle.coverage.specs.Changes.{IsFree}
-use Rattle.coverage.specs.Verdicts.{HasFreeSlots, Verdict, Waits, Differs, Fits, Puts, Full, PutVerdict, PutGoes, SwapVerdict, SwapFits, SwapMoves}
+use Rattle.coverage.specs.Verdicts.{IsLocked, HasFreeSlots, Verdict, Waits, Differs, Fits, Puts, Full, PutVerdict, PutGoes, SwapVerdict, SwapFits, SwapMoves}
 use Rattle.coverage.specs.Verdicts.{ClearVerdict, ClearFits}
 use Rattle.coverage.specs.Statements.{OnIndex, Empty, Held, Copied, Moving, Dropping, NotBuilding, Idle, Inserting, Maintaining, Holding}
-use Rattle.coverage.specs.Knowing.{LocksNone, Knows}
-use Rattle.coverage.specs.Steps.{IsOneOf, ReadsIndex, DropsTuple, InsertOnIndex, InsertNoEntry, InsertCopies, InsertSwap, InsertSet, InsertDrop}
+use Rattle.coverage.specs.Knowing.{LocksNone, IsOneOf, Knows}
+use Rattle.coverage.specs.Steps.{ReadsIndex, DropsTuple, InsertOnIndex, InsertNoEntry, InsertCopies, InsertUnchanged, InsertSwap, InsertSet, InsertDrop}
 use Rattle.coverage.specs.Steps.{Maps, Gone, Again, MovePut, ClearMap, ClearNone, Clear, ClearAgain, DropCleared}
 use Rattle.coverage.specs.Waiting.{IsInsertStuck, IsSwapFree, IsDesummariseStuck, IsClearFree}
 use Rattle.coverage.proofs.Verdicts.{some_swap, some_clear}
@@ -27,7 +27,7 @@ pub chosen_no : {A P : Type 0} → (d : P ⊎ (P → ⊥)) → (a b : A) → (P 
 chosen_no (inl p) a b lacks = absurd (lacks p)
 chosen_no (inr lacks') a b lacks = refl
 
-place_is : (x y : TuplePlace) → (x ≡ y) ⊎ (x ≢ y)
+pub place_is : (x y : TuplePlace) → (x ≡ y) ⊎ (x ≢ y)
 place_is x y = ⊎_elim
     (λ (block : x.block ≡ y.block). ⊎_elim
     (λ (slot : x.slot ≡ y.slot). inl (λ i. record { block = block i; slot = slot i }))
@@ -36,7 +36,7 @@ place_is x y = ⊎_elim
     (λ (other : x.block ≢ y.block). inr (λ e. other (ap (λ (z : TuplePlace). z.block) e)))
     (cases_eq x.block y.block)
 
-one_of : (these : List ℕ) (p : ℕ) → IsOneOf these p ⊎ (IsOneOf these p → ⊥)
+pub one_of : (these : List ℕ) (p : ℕ) → IsOneOf these p ⊎ (IsOneOf these p → ⊥)
 one_of [] p = inr (λ none. none)
 one_of (q ∷ more) p = ⊎_elim
     (λ (is : p ≡ q). inl (inl is))
@@ -52,7 +52,7 @@ module _ (w : IndexView) (s : ℕ) (these : List ℕ) (free : (p : ℕ) → IsOn
   given p None = None
   given p (Some n) = chosen (cases_eq n s) None (Some n)
 
-  abbrev locks_after : ℕ → Option ℕ
+  abbrev pub locks_after : ℕ → Option ℕ
   locks_after p = chosen (one_of these p) (Some s) (given p (w.lock p))
 
   given_not : (p : ℕ) (o : Option ℕ) → given p o ≢ Some s
@@ -73,59 +73,59 @@ module _ (w : IndexView) (s : ℕ) (these : List ℕ) (free : (p : ℕ) → IsOn
       (λ (other : m ≢ s). sym (chosen_no (cases_eq m s) None (Some m) other) ∙ is)
       (cases_eq m s)
 
-  after_locked : (p : ℕ) → IsOneOf these p → locks_after p ≡ Some s
+  pub after_locked : (p : ℕ) → IsOneOf these p → locks_after p ≡ Some s
   after_locked p is = chosen_yes (one_of these p) (Some s) (given p (w.lock p)) is
 
-  after_only : (p : ℕ) → locks_after p ≡ Some s → IsOneOf these p
+  pub after_only : (p : ℕ) → locks_after p ≡ Some s → IsOneOf these p
   after_only p is = ⊎_elim
       (λ (one : IsOneOf these p). one)
       (λ (lacks : IsOneOf these p → ⊥). absurd (given_not p (w.lock p) (sym (chosen_no (one_of these p) (Some s) (given p (w.lock p)) lacks) ∙ is)))
       (one_of these p)
 
-  after_others : (p n : ℕ) → w.lock p ≡ Some n → n ≢ s → locks_after p ≡ Some n
+  pub after_others : (p n : ℕ) → w.lock p ≡ Some n → n ≢ s → locks_after p ≡ Some n
   after_others p n is other = ⊎_elim
       (λ (one : IsOneOf these p). absurd (other (free p one n is)))
       (λ (lacks : IsOneOf these p → ⊥). chosen_no (one_of these p) (Some s) (given p (w.lock p)) lacks ∙ given_other p n (w.lock p) other is)
       (one_of these p)
 
-  after_taken : (p n : ℕ) → locks_after p ≡ Some n → n ≢ s → w.lock p ≡ Some n
+  pub after_taken : (p n : ℕ) → locks_after p ≡ Some n → n ≢ s → w.lock p ≡ Some n
   after_taken p n is other = ⊎_elim
       (λ (one : IsOneOf these p). absurd (other (same_Some _ _ (sym is ∙ after_locked p one))))
       (λ (lacks : IsOneOf these p → ⊥). given_back p n (w.lock p) (sym (chosen_no (one_of these p) (Some s) (given p (w.lock p)) lacks) ∙ is))
       (one_of these p)
 
 -- a tuple at a place, an entry of a range, a kind of a page
-abbrev tuple_with : (TuplePlace → Option IndexTuple) → TuplePlace → Option IndexTuple → TuplePlace → Option IndexTuple
+abbrev pub tuple_with : (TuplePlace → Option IndexTuple) → TuplePlace → Option IndexTuple → TuplePlace → Option IndexTuple
 tuple_with f x o y = chosen (place_is y x) o (f y)
 
-tuple_here : (f : TuplePlace → Option IndexTuple) (x : TuplePlace) (o : Option IndexTuple) → tuple_with f x o x ≡ o
+pub tuple_here : (f : TuplePlace → Option IndexTuple) (x : TuplePlace) (o : Option IndexTuple) → tuple_with f x o x ≡ o
 tuple_here f x o = chosen_yes (place_is x x) o (f x) refl
 
-tuple_there : (f : TuplePlace → Option IndexTuple) (x : TuplePlace) (o : Option IndexTuple) (y : TuplePlace) → (y ≡ x) ⊎ (tuple_with f x o y ≡ f y)
+pub tuple_there : (f : TuplePlace → Option IndexTuple) (x : TuplePlace) (o : Option IndexTuple) (y : TuplePlace) → (y ≡ x) ⊎ (tuple_with f x o y ≡ f y)
 tuple_there f x o y = ⊎_elim (λ (is : y ≡ x). inl is) (λ (other : y ≢ x). inr (chosen_no (place_is y x) o (f y) other)) (place_is y x)
 
-abbrev number_with : {A : Type 0} → (ℕ → A) → ℕ → A → ℕ → A
+abbrev pub number_with : {A : Type 0} → (ℕ → A) → ℕ → A → ℕ → A
 number_with f n a m = chosen (cases_eq m n) a (f m)
 
-number_here : {A : Type 0} → (f : ℕ → A) (n : ℕ) (a : A) → number_with f n a n ≡ a
+pub number_here : {A : Type 0} → (f : ℕ → A) (n : ℕ) (a : A) → number_with f n a n ≡ a
 number_here f n a = chosen_yes (cases_eq n n) a (f n) refl
 
-number_there : {A : Type 0} → (f : ℕ → A) (n : ℕ) (a : A) (m : ℕ) → (m ≡ n) ⊎ (number_with f n a m ≡ f m)
+pub number_there : {A : Type 0} → (f : ℕ → A) (n : ℕ) (a : A) (m : ℕ) → (m ≡ n) ⊎ (number_with f n a m ≡ f m)
 number_there f n a m = ⊎_elim (λ (is : m ≡ n). inl is) (λ (other : m ≢ n). inr (chosen_no (cases_eq m n) a (f m) other)) (cases_eq m n)
 
 module _ (s : ℕ) (w : IndexView) where
   -- nothing changes, and the session locks no page
-  reads_here : LocksNone w s → ReadsIndex s w w
+  pub reads_here : LocksNone w s → ReadsIndex s w w
   reads_here none = search rules
 
-  free_none : (p : ℕ) → IsOneOf [] p → IsFree w s p
+  pub free_none : (p : ℕ) → IsOneOf [] p → IsFree w s p
   free_none p among = absurd among
 
   -- the tuple at a place goes, and the locks are given
-  abbrev drops_view : TuplePlace → IndexView
+  abbrev pub drops_view : TuplePlace → IndexView
   drops_view x = record w { tuple = tuple_with w.tuple x None; lock = locks_after w s [] free_none }
 
-  drops_here : (x : TuplePlace) → DropsTuple s w (drops_view x) x
+  pub drops_here : (x : TuplePlace) → DropsTuple s w (drops_view x) x
   drops_here x = search (rules, tuple_here, tuple_there, after_others, after_taken, after_only)
 
 module _ (s b k : ℕ) (r : Row) (w : IndexView) where
@@ -139,33 +139,32 @@ module _ (s b k : ℕ) (r : Row) (w : IndexView) where
   held_steps : (x : TuplePlace) → LocksNone w s → IsInsertStuck w s b k r (Held x) → ⊥
   held_steps x none stuck = by (w.tuple x) refl
     where
-      -- the tuple with the row added, in other bytes
-      added : IndexTuple → IndexTuple
-      added t = record t { bytes = 0 ∷ t.bytes; includes = λ q. true }
-
-      longer : (xs : List ℕ) → 0 ∷ xs ≢ xs
-      longer [] e = absurd (subst IsCons e tt)
+      -- with the row in the tuple already, another session's lock of its page decides
+      unchanged : (t : IndexTuple) → w.tuple x ≡ Some t → t.range ≡ range_of_block w b → t ≡ w.contents.added r t → ⊥
+      unchanged t is of same = by_lock (w.lock x.block) refl
         where
-          IsCons : List ℕ → Type 0
-          IsCons [] = ⊥
-          IsCons (y ∷ ys) = Unit {0}
-      longer (y ∷ ys) e = longer ys (subst (λ z. z ∷ ys ≡ ys) (sym (ap head_of e)) (ap tail_of e))
-        where
-          head_of : List ℕ → ℕ
-          head_of [] = 0
-          head_of (z ∷ zs) = z
+          copies : IsLocked w s x.block → ⊥
+          copies locked =
+              stuck (Inserting b k r (Copied x t (w.contents.added r t))) w
+              (InsertCopies x t (w.contents.added r t) (is, of) refl (inr locked) (reads_here s w none))
 
-          tail_of : List ℕ → List ℕ
-          tail_of [] = []
-          tail_of (z ∷ zs) = zs
+          completes : IsFree w s x.block → ⊥
+          completes free = stuck Idle w (InsertUnchanged x t (is, of) same free (reads_here s w none))
+
+          by_lock : (o : Option ℕ) → w.lock x.block ≡ o → ⊥
+          by_lock None free = completes (λ n held. absurd (none-some _ (sym free ∙ held)))
+          by_lock (Some n) held = ⊎_elim
+              (λ (own : n ≡ s). completes (λ m held'. same_Some _ _ (sym held' ∙ held) ∙ own))
+              (λ (other : n ≢ s). copies (n, held, other))
+              (cases_eq n s)
 
       by : (o : Option IndexTuple) → w.tuple x ≡ o → ⊥
       by None is =
           stuck (Inserting b k r Empty) w (InsertOnIndex (Held x) Empty (Gone x (λ t here. absurd (none-some _ (sym is ∙ here))) (reads_here s w none)))
       by (Some t) is = ⊎_elim
-          (λ (of : t.range ≡ range_of_block w b). stuck (Inserting b k r (Copied x t (added t))) w
-          (InsertCopies x t (added t) (is, of) (record { range = refl; placeholder = refl; wider = λ q has. refl; row = refl })
-          (inl (λ e. longer t.bytes (ap (λ (u : IndexTuple). u.bytes) e))) (reads_here s w none)))
+          (λ (of : t.range ≡ range_of_block w b).
+          stuck (Inserting b k r (Copied x t (w.contents.added r t))) w
+          (InsertCopies x t (w.contents.added r t) (is, of) refl (inl (λ same. unchanged t is of (sym same))) (reads_here s w none)))
           (λ (other : t.range ≢ range_of_block w b). stuck (Inserting b k r Empty) w
           (InsertOnIndex (Held x) Empty
           (Gone x (λ u here of. other (ap (λ (q : IndexTuple). q.range) (same_Some _ _ (sym is ∙ here)) ∙ of)) (reads_here s w none))))

@@ -137,7 +137,7 @@ pub clear_differs : (w : IndexView) (s range : ℕ) (x : TuplePlace) → ClearVe
 clear_differs w s range x (ClearDiffers free map other) = other
 
 -- of two pages, the first one that another session locks, or none
-two_pages : (w : IndexView) (s p m : ℕ) → ((q : ℕ) × IsFirstLocked w s (p ∷ m ∷ []) q) ⊎ (IsFree w s p × IsFree w s m)
+pub two_pages : (w : IndexView) (s p m : ℕ) → ((q : ℕ) × IsFirstLocked w s (p ∷ m ∷ []) q) ⊎ (IsFree w s p × IsFree w s m)
 two_pages w s p m = ⊎_elim
     (λ (locked : IsLocked w s p). inl (p, First p (m ∷ []) locked))
     (λ (free : IsFree w s p). ⊎_elim

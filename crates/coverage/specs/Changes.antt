@@ -73,6 +73,7 @@ pub record Frame (s : ℕ) (touched : Touched) (w v : IndexView) : Type 0 where
   pub unnamed_tuples : KeepsUnnamed touched w v
   pub summarise_lock : KeepsSummariseLock touched w v
   pub locks : OwnLocks s w v
+  pub contents : v.contents ≡ w.contents
 
 -- the page of the session's loose tuple is locked by it
 abbrev pub IsLooseLocked : ℕ → IndexView → Type 0
@@ -134,10 +135,10 @@ pub record Names (s : ℕ) (w v : IndexView) (range : ℕ) (x : TuplePlace) (t :
 -- A building session takes up a placeholder that it found, reads the extent, or adds all rows in use of the next block.
 pub data Turns (w : IndexView) (s range : ℕ) : Option Progress → Option Progress → Type 0 where
   StartsBuilding : w.summarise_lock ≡ Some s → Turns w s range None (Some ExtentUnread)
-  ReadsExtent : (extent : ℕ) (result : Row → Bool) → extent ≡ min w.blocks ((range + 1) * w.pages_per_range)
+  ReadsExtent : (extent : ℕ) (result : IndexTuple) → extent ≡ min w.blocks ((range + 1) * w.pages_per_range)
       → Turns w s range (Some ExtentUnread) (Some (Passing extent (range * w.pages_per_range) result))
-  PassesBlock : (extent next : ℕ) (result wider : Row → Bool) → IsWithin result wider
-      → ((k : ℕ) (r : Row) → w.row next k ≡ Some r → IsTrue (wider r))
+  PassesBlock : (extent next : ℕ) (result wider : IndexTuple) → IsWithin result.includes wider.includes
+      → ((k : ℕ) (r : Row) → w.row next k ≡ Some r → IsTrue (wider.includes r))
       → Turns w s range (Some (Passing extent next result)) (Some (Passing extent (next + 1) wider))
 
 pub record Turn (s : ℕ) (w v : IndexView) (range : ℕ) (old new : Option Progress) : Type 0 where
@@ -147,10 +148,15 @@ pub record Turn (s : ℕ) (w v : IndexView) (range : ℕ) (old new : Option Prog
   pub frame : Frame s TouchesNothing w v
   pub locked : IsLooseLocked s v
 
+-- the session has passed all blocks of the range, and the tuple includes its result
+abbrev pub UnitesResult : IndexView → ℕ → ℕ → IndexTuple → Type 0
+UnitesResult w s range new = (extent : ℕ) × (next : ℕ) × (result : IndexTuple) × IsBuilding w s range (Passing extent next result) × (extent ≤ next)
+    × IsWithin result.includes new.includes
+
 -- The new tuple includes what the old one does, and is of its sort, or is final and unites the result of a session that has passed all blocks.
 abbrev pub Carries : IndexView → ℕ → ℕ → IndexTuple → IndexTuple → Type 0
 Carries w s range old new = IsWithin old.includes new.includes × ((new.placeholder ≡ old.placeholder)
-    ⊎ ((new.placeholder ≡ false) × ((extent : ℕ) × (result : Row → Bool) × IsBuilding w s range (Passing extent extent result) × IsWithin result new.includes)))
+    ⊎ ((new.placeholder ≡ false) × UnitesResult w s range new))
 
 -- what others build stays, and the session may end what it builds
 abbrev pub MayEnd : ℕ → IndexView → IndexView → Type 0

@@ -1,6 +1,6 @@
 -- One index and its table, as the running statements meet them: rows and tuples on their pages, the range map, who locks
 -- what, and how far each summarising has come.
-use Rattle.std.specs.Prelude.{◌≡◌, ℕ, ◌+◌, ◌/◌, Bool, true, Option, Some, List}
+use Rattle.std.specs.Prelude.{◌≡◌, ℕ, ◌+◌, ◌/◌, ◌<◌, Bool, true, Option, Some, List}
 use Rattle.block_model.specs.declared.row.Row.{Row}
 
 -- where a tuple stands: an index page and a slot of it
@@ -15,11 +15,18 @@ pub record IndexTuple : Type 0 where
   pub placeholder : Bool
   pub includes : Row → Bool
 
+-- What the operator classes of an index make of tuples: the placeholder of a range that includes nothing yet; the tuple with a row
+-- added; the final tuple that unites one with another.
+pub record Contents : Type 0 where
+  pub empty : ℕ → IndexTuple
+  pub added : Row → IndexTuple → IndexTuple
+  pub united : IndexTuple → IndexTuple → IndexTuple
+
 -- How far the building of a summary has come: the table's extent isn't read yet; or it is read, the blocks of the range
--- below `next` are passed, and the result so far includes these rows.
+-- below `next` are passed, and the result so far is this tuple.
 pub data Progress : Type 0 where
   ExtentUnread : Progress
-  Passing : (extent next : ℕ) → (Row → Bool) → Progress
+  Passing : (extent next : ℕ) → IndexTuple → Progress
 
 -- what a session is building: the summary of this range
 pub record Building : Type 0 where
@@ -44,6 +51,7 @@ pub record Pages : Type 0 where
   pub limit : ℕ
 
 pub record IndexView : Type 0 where
+  pub contents : Contents
   -- heap blocks of a range, heap blocks of the table, and the rows in use by block and slot
   pub pages_per_range : ℕ
   pub blocks : ℕ
@@ -72,6 +80,14 @@ entries_a_page = 1020
 
 abbrev pub map_page_of : ℕ → ℕ
 map_page_of range = range / entries_a_page + 1
+
+-- the page that the map grows onto
+abbrev pub next_map_page : IndexView → ℕ
+next_map_page w = w.pages.map_pages + 1
+
+-- the map has no page for the range's entry yet
+abbrev pub IsPastMap : IndexView → ℕ → Type 0
+IsPastMap w range = w.pages.map_pages < map_page_of range
 
 -- a statement of this session is building the range's summary, and has come so far
 abbrev pub IsBuilding : IndexView → ℕ → ℕ → Progress → Type 0

@@ -1,17 +1,19 @@
 -- When an index is covered: no scan loses a row to it, whatever is running.
 use Rattle.std.specs.Prelude.{◌≡◌, ◌⊎◌, ℕ, ◌≤◌, ◌<◌, Bool, false, IsTrue, Option, None, Some}
 use Rattle.block_model.specs.declared.row.Row.{Row}
-use Rattle.coverage.specs.IndexView.{TuplePlace, IndexTuple, Progress, Pages, IndexView, range_of_block, IsBuilding}
+use Rattle.coverage.specs.IndexView.{TuplePlace, IndexTuple, Contents, Progress, Pages, IndexView, range_of_block, IsBuilding}
 use Rattle.coverage.specs.IsSettled.{IsSettled, IsAccounted}
 use Rattle.coverage.specs.IsSound.{IsLeftUnnamed, IsSound}
 use Rattle.coverage.specs.GoesOn.{IsHeld}
 use Rattle.coverage.specs.Statements.{OnIndex, Empty, Held, Copied, Moving, Dropping, Phase, NotBuilding, Vacant, Growing, Evacuating, Placing, IsAt, Scan}
 use Rattle.coverage.specs.Statements.{Statement, Idle, Inserting, Maintaining, Holding, Scanning, loose_of, building_of}
 use Rattle.coverage.specs.Knowing.{Knows}
+use Rattle.coverage.specs.PageOrder.{AreOrdered, KnowsPages}
 
 -- one index and its table: what is on the pages, who locks what, each session's statement, and the transactions whose rows
 -- count: they are committed, or of an open session that hasn't failed
 pub record IndexState : Type 0 where
+  pub contents : Contents
   pub pages_per_range : ℕ
   pub blocks : ℕ
   pub row : ℕ → ℕ → Option Row
@@ -26,6 +28,7 @@ pub record IndexState : Type 0 where
 
 abbrev pub index_view : IndexState → IndexView
 index_view w = record {
+  contents = w.contents;
   pages_per_range = w.pages_per_range;
   blocks = w.blocks;
   row = w.row;
@@ -82,8 +85,9 @@ pub record IsCovered (w : IndexState) : Type 0 where
       → (b k : ℕ) (r : Row) → IsTrue (scan.sees b k) → w.row b k ≡ Some r → range_of_block (index_view w) b ≡ range → IsTrue (t.includes r)
 
 -- the empty index of a new table
-abbrev pub new_index : (pages_per_range blocks : ℕ) → Pages → (ℕ → Bool) → IndexState
-new_index pages_per_range blocks pages counts = record {
+abbrev pub new_index : Contents → (pages_per_range blocks : ℕ) → Pages → (ℕ → Bool) → IndexState
+new_index contents pages_per_range blocks pages counts = record {
+  contents = contents;
   pages_per_range = pages_per_range;
   blocks = blocks;
   row = λ b k. None;
@@ -113,10 +117,12 @@ pub record IsAtRest (w : IndexState) : Type 0 where
   pub free : w.summarise_lock ≡ None
   pub unnamed_tuples : (x : TuplePlace) → IsTrue (w.unnamed x) → IsLeftUnnamed (index_view w) x
 
--- What every step keeps, and whatever is covered rests on: the view is sound, each statement's knowledge is true, and every
--- row that counts is settled or its insert is running.
+-- What every step keeps, and whatever is covered rests on: the view is sound, the pages stand in their order, each statement's
+-- knowledge is true, and every row that counts is settled or its insert is running.
 pub record IsIndexKept (w : IndexState) : Type 0 where
   pub sound : IsSound (index_view w)
+  pub ordered : AreOrdered (index_view w)
   pub knows : (s : ℕ) → Knows (index_view w) s (w.statement s)
+  pub knows_pages : (s : ℕ) → KnowsPages (index_view w) s (w.statement s)
   pub rows : (b k : ℕ) (r : Row) → w.row b k ≡ Some r → IsTrue (w.counts r.id.t)
       → IsAccounted (index_view w) b r ⊎ ((s : ℕ) × (on_index : OnIndex) × (w.statement s ≡ Inserting b k r on_index))

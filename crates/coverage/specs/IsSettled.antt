@@ -11,7 +11,7 @@ IsAhead (Passing extent next result) b = (next ≤ b) × (b < extent)
 -- the result of the pass includes the row
 abbrev pub IsInResult : Progress → Row → Type 0
 IsInResult ExtentUnread r = ⊥
-IsInResult (Passing extent next result) r = IsTrue (result r)
+IsInResult (Passing extent next result) r = IsTrue (result.includes r)
 
 -- A row of block b is settled in one of six cases.
 pub data IsSettled (w : IndexView) (b : ℕ) (r : Row) : Type 0 where
@@ -34,7 +34,7 @@ pub data IsSettled (w : IndexView) (b : ℕ) (r : Row) : Type 0 where
 -- the row is in the result, or the pass will still come by it
 abbrev pub IsAwaited : Progress → ℕ → Row → Type 0
 IsAwaited ExtentUnread b r = Unit
-IsAwaited (Passing extent next result) b r = IsTrue (result r) ⊎ ((next ≤ b) × (b < extent))
+IsAwaited (Passing extent next result) b r = IsTrue (result.includes r) ⊎ ((next ≤ b) × (b < extent))
 
 -- whoever is building the row's range awaits it
 abbrev pub AllAwait : IndexView → ℕ → Row → Type 0

@@ -1,6 +1,7 @@
 -- What holds of map, tuples, locks and heap by themselves.
 use Rattle.std.specs.Prelude.{◌≡◌, ◌≢◌, ◌⊎◌, ℕ, ◌<◌, IsTrue, None, Some}
 use Rattle.block_model.specs.declared.row.Row.{Row}
+use Rattle.coverage.specs.Statements.{AreLawful}
 use Rattle.coverage.specs.IndexView.{TuplePlace, IndexTuple, Progress, IndexView, IsBuilding}
 
 -- A tuple left unnamed at the opening stands on its page; no entry names it, and it is loose in nobody's hands.
@@ -10,6 +11,7 @@ pub record IsLeftUnnamed (w : IndexView) (x : TuplePlace) : Type 0 where
   pub apart : (s : ℕ) → w.loose s ≢ Some x
 
 pub record IsSound (w : IndexView) : Type 0 where
+  pub lawful : AreLawful w.contents
   pub ranged : 0 < w.pages_per_range
   -- rows lie on blocks of the table
   pub rows_below : (b k : ℕ) (r : Row) → w.row b k ≡ Some r → b < w.blocks

@@ -1,5 +1,5 @@
 -- What each running statement knows of the index between its steps.
-use Rattle.std.specs.Prelude.{◌≡◌, ◌≢◌, ◌⊎◌, ℕ, ◌≤◌, Bool, true, IsTrue, None, Some}
+use Rattle.std.specs.Prelude.{◌≡◌, ◌≢◌, ◌⊎◌, ℕ, ◌≤◌, Bool, true, IsTrue, None, Some, List, [], ◌∷◌}
 use Rattle.block_model.specs.declared.row.Row.{Row}
 use Rattle.coverage.specs.IndexView.{TuplePlace, IndexTuple, Progress, ExtentUnread, Passing, IndexView, range_of_block}
 use Rattle.coverage.specs.IsSettled.{IsAccounted, TupleShows}
@@ -10,6 +10,15 @@ use Rattle.coverage.specs.Statements.{Statement, Idle, Inserting, Maintaining, H
 -- the session locks no page: so it is between steps, but in a put, a move or a clear
 abbrev pub LocksNone : IndexView → ℕ → Type 0
 LocksNone w s = (p : ℕ) → w.lock p ≢ Some s
+
+abbrev pub IsOneOf : List ℕ → ℕ → Type 0
+IsOneOf [] p = ⊥
+IsOneOf (q ∷ more) p = (p ≡ q) ⊎ IsOneOf more p
+
+-- the session locks these pages and no other
+pub record LocksThese (v : IndexView) (s : ℕ) (these : List ℕ) : Type 0 where
+  pub locked : (p : ℕ) → IsOneOf these p → v.lock p ≡ Some s
+  pub only : (p : ℕ) → v.lock p ≡ Some s → IsOneOf these p
 
 -- a session without a running statement holds no page lock and no summarise lock
 abbrev pub HoldsNothing : IndexView → ℕ → Type 0
@@ -35,7 +44,7 @@ SettledBy w b r (Dropping x) = IsAccounted w b r
 -- a final tuple is made from the result of all blocks
 abbrev pub MakesUnited : Progress → IndexTuple → IndexTuple → Type 0
 MakesUnited ExtentUnread old new = ⊥
-MakesUnited (Passing extent next result) old new = (next ≡ extent) × IsUnited result old new
+MakesUnited (Passing extent next result) old new = (extent ≤ next) × IsUnited result old new
 
 -- nothing is made where nothing is being built
 abbrev pub MakesNone : IndexTuple → IndexTuple → Type 0

@@ -6,6 +6,7 @@ pub mod Changes
 pub mod Verdicts
 pub mod Statements
 pub mod Knowing
+pub mod PageOrder
 pub mod IsCovered
 pub mod Steps
 pub mod Points

@@ -1,7 +1,7 @@
 -- The running statements of one index's table: what each is at, between two steps.
-use Rattle.std.specs.Prelude.{◌≡◌, ℕ, Bool, false, IsTrue, Option, None, Some}
+use Rattle.std.specs.Prelude.{◌≡◌, ℕ, zero, suc, ◌≤◌, Bool, true, false, IsTrue, Option, None, Some}
 use Rattle.block_model.specs.declared.row.Row.{Row}
-use Rattle.coverage.specs.IndexView.{TuplePlace, IndexTuple, Progress, ExtentUnread, Building}
+use Rattle.coverage.specs.IndexView.{TuplePlace, IndexTuple, Contents, Progress, ExtentUnread, Building}
 use Rattle.coverage.specs.Changes.{IsWithin}
 
 -- What a statement has on an index of a range: nothing; the place that the map named; also the tuple copied there, and the one to
@@ -82,6 +82,11 @@ building_of (Maintaining range phase) = building_at range phase
 building_of Holding = None
 building_of (Scanning scan) = None
 
+-- a slot's row is added, if it has one
+abbrev pub row_added : Contents → Option Row → IndexTuple → IndexTuple
+row_added contents None t = t
+row_added contents (Some r) t = contents.added r t
+
 -- the new tuple is the old one with the row added
 pub record IsAdded (r : Row) (old new : IndexTuple) : Type 0 where
   pub range : new.range ≡ old.range
@@ -90,8 +95,29 @@ pub record IsAdded (r : Row) (old new : IndexTuple) : Type 0 where
   pub row : IsTrue (new.includes r)
 
 -- the new tuple is final, and unites the old one with a result
-pub record IsUnited (result : Row → Bool) (old new : IndexTuple) : Type 0 where
+pub record IsUnited (result old new : IndexTuple) : Type 0 where
   pub range : new.range ≡ old.range
   pub placeholder : new.placeholder ≡ false
   pub wider : IsWithin old.includes new.includes
-  pub united : IsWithin result new.includes
+  pub united : IsWithin result.includes new.includes
+
+-- a placeholder of its range that includes nothing
+pub record IsEmptyPlaceholder (range : ℕ) (t : IndexTuple) : Type 0 where
+  pub of : t.range ≡ range
+  pub placeholder : t.placeholder ≡ true
+  pub includes : (r : Row) → t.includes r ≡ false
+
+-- what is made of tuples includes what it has to
+pub record AreLawful (contents : Contents) : Type 0 where
+  pub empty : (range : ℕ) → IsEmptyPlaceholder range (contents.empty range)
+  pub added : (r : Row) (t : IndexTuple) → IsAdded r t (contents.added r t)
+  pub united : (t result : IndexTuple) → IsUnited result t (contents.united t result)
+
+-- the rows of a block's first slots are added, in order of slot
+abbrev pub rows_added : Contents → (ℕ → Option Row) → ℕ → IndexTuple → IndexTuple
+rows_added contents row zero t = t
+rows_added contents row (suc n) t = row_added contents (row n) (rows_added contents row n t)
+
+-- no row stands in the slots from this one on
+abbrev pub HasNoMoreRows : (ℕ → Option Row) → ℕ → Type 0
+HasNoMoreRows row n = (k : ℕ) → n ≤ k → row k ≡ None

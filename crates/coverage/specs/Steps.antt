@@ -2,23 +2,14 @@
 use Rattle.std.specs.Prelude.{◌≡◌, ◌≢◌, ◌⊎◌, ℕ, ◌+◌, ◌*◌, ◌≤◌, ◌<◌, min, Bool, true, false, IsTrue, Option, None, Some, List, [], ◌∷◌, length}
 use Rattle.block_model.specs.declared.row.Row.{Row}
 use Rattle.coverage.specs.IndexView.{TuplePlace, IndexTuple, Progress, ExtentUnread, Passing, PageKind, Unstarted, Mapping, Regular, Emptying, IndexView}
-use Rattle.coverage.specs.IndexView.{range_of_block, map_page_of}
+use Rattle.coverage.specs.IndexView.{range_of_block, map_page_of, next_map_page, IsPastMap}
 use Rattle.coverage.specs.Changes.{ChangesAt, SameHeap, SameMap, SameTuples, SameUnnamed, TouchesNothing, TouchesRows, TouchesEntries, TouchesTuples}
-use Rattle.coverage.specs.Changes.{TouchesUnnamed, TouchesSummariseLock, Frame, RowComes, RowsGo, IsFree, IsWithin, IsUntouched}
-use Rattle.coverage.specs.Verdicts.{IsLocked, Differs, Fits, Puts, PutVerdict, SwapVerdict, ClearVerdict}
+use Rattle.coverage.specs.Changes.{TouchesUnnamed, TouchesSummariseLock, Frame, RowComes, RowsGo, IsFree, IsUntouched}
+use Rattle.coverage.specs.Verdicts.{IsLocked, IsLowestNumber, IsPageUnstarted, Differs, Fits, Puts, PutVerdict, SwapVerdict, ClearVerdict}
 use Rattle.coverage.specs.Statements.{OnIndex, Empty, Held, Copied, Moving, Dropping, Phase, NotBuilding, Vacant, Growing, Evacuating, Placing, IsAt, Scan}
-use Rattle.coverage.specs.Statements.{Statement, Idle, Inserting, Maintaining, Holding, Scanning, IsAdded, IsUnited, loose_at, loose_in}
-use Rattle.coverage.specs.Knowing.{LocksNone, Spares}
+use Rattle.coverage.specs.Statements.{Statement, Idle, Inserting, Maintaining, Holding, Scanning, rows_added, HasNoMoreRows, loose_at, loose_in}
+use Rattle.coverage.specs.Knowing.{LocksNone, LocksThese, Spares}
 use Rattle.coverage.specs.IsCovered.{IndexState, index_view, IsAtRest}
-
-abbrev pub IsOneOf : List ℕ → ℕ → Type 0
-IsOneOf [] p = ⊥
-IsOneOf (q ∷ more) p = (p ≡ q) ⊎ IsOneOf more p
-
--- the session locks these pages and no other
-pub record LocksThese (v : IndexView) (s : ℕ) (these : List ℕ) : Type 0 where
-  pub locked : (p : ℕ) → IsOneOf these p → v.lock p ≡ Some s
-  pub only : (p : ℕ) → v.lock p ≡ Some s → IsOneOf these p
 
 -- rows, entries, tuples and pages stay as they are, and the session locks no page
 pub record ReadsIndex (s : ℕ) (w v : IndexView) : Type 0 where
@@ -114,25 +105,17 @@ pub data InsertStep (s b k : ℕ) (r : Row) (w v : IndexView) : OnIndex → Stat
   InsertOnIndex : (old new : OnIndex) → OnIndexStep s (range_of_block w b) w v old new → InsertStep s b k r w v old (Inserting b k r new)
   InsertNoEntry : w.entry (range_of_block w b) ≡ None → ReadsIndex s w v → InsertStep s b k r w v Empty Idle
   -- the tuple is copied, and with the row it changes, or another session locks its page
-  InsertCopies : (x : TuplePlace) (old new : IndexTuple) → Stands w (range_of_block w b) x old → IsAdded r old new → (new ≢ old) ⊎ IsLocked w s x.block
+  InsertCopies : (x : TuplePlace) (old new : IndexTuple) → Stands w (range_of_block w b) x old → new ≡ w.contents.added r old → (new ≢ old) ⊎ IsLocked w s x.block
       → ReadsIndex s w v
       → InsertStep s b k r w v (Held x) (Inserting b k r (Copied x old new))
   -- the row changes nothing in it, and no other session locks its page
-  InsertUnchanged : (x : TuplePlace) (t : IndexTuple) → Stands w (range_of_block w b) x t → IsAdded r t t → IsFree w s x.block → ReadsIndex s w v
+  InsertUnchanged : (x : TuplePlace) (t : IndexTuple) → Stands w (range_of_block w b) x t → t ≡ w.contents.added r t → IsFree w s x.block → ReadsIndex s w v
       → InsertStep s b k r w v (Held x) Idle
   InsertSwap : (x : TuplePlace) (old new : IndexTuple) → SwapVerdict w s (range_of_block w b) x old new Fits → ReplacesTuple s w v x old new
       → InsertStep s b k r w v (Copied x old new) Idle
   InsertSet : (x y : TuplePlace) (old new : IndexTuple) → SetsEntry s w v (range_of_block w b) y → SameLocks w v
       → InsertStep s b k r w v (Moving x y old new) (Inserting b k r (Dropping x))
   InsertDrop : (x : TuplePlace) → DropsTuple s w v x → InsertStep s b k r w v (Dropping x) Idle
-
--- the page that the map grows onto
-abbrev pub next_map_page : IndexView → ℕ
-next_map_page w = w.pages.map_pages + 1
-
--- the map has no page for the range's entry yet
-abbrev pub IsPastMap : IndexView → ℕ → Type 0
-IsPastMap w range = w.pages.map_pages < map_page_of range
 
 -- the next tuple of a page that is emptied, in the order of its slots
 pub record IsNextTuple (w : IndexView) (page : ℕ) (x : TuplePlace) (t : IndexTuple) : Type 0 where
@@ -191,20 +174,21 @@ pub data SummariseStep (s range : ℕ) (w v : IndexView) : Phase → Statement �
   ReadNoEntry : w.entry range ≡ None → ReadsIndex s w v → SummariseStep s range w v (NotBuilding Empty) (Maintaining range Vacant)
   GrowMap : (old new : Phase) → GrowthStep s range w v old new → SummariseStep s range w v old (Maintaining range new)
   -- where the map is long enough a placeholder is put, and named
-  Put : (x : TuplePlace) (t : IndexTuple) → t.range ≡ range → t.placeholder ≡ true → length t.bytes ≡ w.pages.placeholder → (IsPastMap w range → ⊥)
+  Put : (x : TuplePlace) (t : IndexTuple) → t ≡ w.contents.empty range → length t.bytes ≡ w.pages.placeholder → (IsPastMap w range → ⊥)
       → PutVerdict w s range w.pages.placeholder (Puts x)
       → PutsTuple s w v x t → LocksThese v s (x.block ∷ map_page_of range ∷ []) → SummariseStep s range w v Vacant (Maintaining range (Placing x))
   Set : (x : TuplePlace) → SetsEntry s w v range x → LocksNone v s → SummariseStep s range w v (Placing x) (Maintaining range (IsAt ExtentUnread Empty))
-  Extent : (extent : ℕ) (result : Row → Bool) → extent ≡ min w.blocks ((range + 1) * w.pages_per_range) → ReadsIndex s w v
+  Extent : (extent : ℕ) (result : IndexTuple) → result ≡ w.contents.empty range → extent ≡ min w.blocks ((range + 1) * w.pages_per_range) → ReadsIndex s w v
       → SummariseStep s range w v (IsAt ExtentUnread Empty) (Maintaining range (IsAt (Passing extent (range * w.pages_per_range) result) Empty))
-  -- all rows in use of the next block are added to the result
-  Pass : (extent next : ℕ) (result wider : Row → Bool) → next < extent → IsWithin result wider → ((k : ℕ) (r : Row) → w.row next k ≡ Some r → IsTrue (wider r))
+  -- all rows in use of the next block are added to the result, in order of slot
+  Pass : (extent next slots : ℕ) (result wider : IndexTuple) → next < extent → HasNoMoreRows (w.row next) slots
+      → wider ≡ rows_added w.contents (w.row next) slots result
       → ReadsIndex s w v
       → SummariseStep s range w v (IsAt (Passing extent next result) Empty) (Maintaining range (IsAt (Passing extent (next + 1) wider) Empty))
   -- all blocks are passed: the placeholder is read, united with the result, and gives way to the final tuple
-  Unite : (extent next : ℕ) (result : Row → Bool) (old new : OnIndex) → next ≡ extent → OnIndexStep s range w v old new
+  Unite : (extent next : ℕ) (result : IndexTuple) (old new : OnIndex) → extent ≤ next → OnIndexStep s range w v old new
       → SummariseStep s range w v (IsAt (Passing extent next result) old) (Maintaining range (IsAt (Passing extent next result) new))
-  UniteCopies : (extent next : ℕ) (result : Row → Bool) (x : TuplePlace) (old new : IndexTuple) → next ≡ extent → Stands w range x old → IsUnited result old new
+  UniteCopies : (extent next : ℕ) (result : IndexTuple) (x : TuplePlace) (old new : IndexTuple) → extent ≤ next → Stands w range x old → new ≡ w.contents.united old result
       → ReadsIndex s w v
       → SummariseStep s range w v (IsAt (Passing extent next result) (Held x)) (Maintaining range (IsAt (Passing extent next result) (Copied x old new)))
   SwapFinal : (p : Progress) (x : TuplePlace) (old new : IndexTuple) → SwapVerdict w s range x old new Fits → ReplacesTuple s w v x old new
@@ -304,6 +288,7 @@ ScanBegins w scan = (scan.held ≡ None) × ((b k : ℕ) → IsTrue (scan.sees b
 
 -- nothing of this index changes
 pub record Rests (w v : IndexState) : Type 0 where
+  pub contents : v.contents ≡ w.contents
   pub heap : SameHeap (index_view w) (index_view v)
   pub map : SameMap (index_view w) (index_view v)
   pub tuples : SameTuples (index_view w) (index_view v)
@@ -355,13 +340,25 @@ pub data Run : List ℕ → IndexState → IndexState → Type 0 where
   Done : (w : IndexState) → Run [] w w
   Next : (s : ℕ) (rest : List ℕ) (w u v : IndexState) → Step s w u → Run rest u v → Run (s ∷ rest) w v
 
--- After a stop nobody is at work. The pages are the same; each tuple that was loose is one that the map doesn't name; and rows
--- whose insert was running don't count.
+-- the next page of the index that isn't started is started, for tuples
+pub record StartsPage (w v : IndexView) : Type 0 where
+  pub page : ℕ
+  pub next : IsLowestNumber (IsPageUnstarted w) page
+  pub below : page < w.pages.limit
+  pub turns : TurnsPage w v page Regular
+
+-- After a stop nobody is at work. The pages are the same; but heap blocks, or an index page, may be started and hold nothing yet,
+-- and tuples that the map doesn't name may be gone. Each tuple that was loose is one that the map doesn't name; and rows whose
+-- insert was running don't count.
 pub record Stops (w v : IndexState) : Type 0 where
   pub rest : IsAtRest v
-  pub heap : SameHeap (index_view w) (index_view v)
+  pub contents : v.contents ≡ w.contents
+  pub pages_per_range : v.pages_per_range ≡ w.pages_per_range
+  pub blocks : w.blocks ≤ v.blocks
+  pub row : (b k : ℕ) → v.row b k ≡ w.row b k
   pub map : SameMap (index_view w) (index_view v)
-  pub tuples : SameTuples (index_view w) (index_view v)
+  pub tuples : (x : TuplePlace) → (v.tuple x ≡ w.tuple x) ⊎ ((v.tuple x ≡ None) × ((range : ℕ) → w.entry range ≢ Some x))
+  pub pages : (v.pages ≡ w.pages) ⊎ StartsPage (index_view w) (index_view v)
   pub unnamed : (x : TuplePlace) (t : IndexTuple) → v.tuple x ≡ Some t → (v.entry t.range ≡ Some x) ⊎ IsTrue (v.unnamed x)
   pub counts : (t : ℕ) → IsTrue (v.counts t) → IsTrue (w.counts t)
   pub running : (s b k : ℕ) (r : Row) (on_index : OnIndex) → w.statement s ≡ Inserting b k r on_index → v.counts r.id.t ≡ false

@@ -6,21 +6,22 @@
 //! specs/Steps it is, and has the rest from here.
 #![tactic(auto)]
 
-ghost use Rattle.std.specs.Prelude.{◌≡◌, ◌≢◌, ◌<◌, ℕ, Bool, IsTrue, Option, Some, List};
+ghost use Rattle.std.specs.Prelude.{◌≡◌, ◌≢◌, ◌↔◌, ◌≤◌, ◌<◌, ℕ, Bool, false, IsTrue, Option, None, Some, List};
 ghost use Rattle.block_model.specs.declared.row.Row.{Row};
-ghost use Rattle.coverage.specs.IndexView.{IndexView, Pages, TuplePlace, IndexTuple, Progress, range_of_block, NamesPlaceholder};
+ghost use Rattle.coverage.specs.IndexView.{IndexView, Contents, Pages, TuplePlace, IndexTuple, Progress, range_of_block, NamesPlaceholder};
 ghost use Rattle.coverage.specs.IsSettled.{IsSettled, IsAccounted};
 ghost use Rattle.coverage.specs.IsSound.{IsSound};
 ghost use Rattle.coverage.specs.GoesOn.{GoesOn, IsHeld};
 ghost use Rattle.coverage.specs.Changes.{PutsRow, Places, Names, Turn, IsFree, Swaps, MovePuts, MoveSets, DropsLoose};
 ghost use Rattle.coverage.specs.Changes.{Clears, Sweeps, Prunes, Takes, Ends, TurnsLocks};
-ghost use Rattle.coverage.specs.Statements.{OnIndex, Held, Copied, Phase, NotBuilding, Scan, Statement, Inserting, Maintaining, Scanning};
+ghost use Rattle.coverage.specs.Statements.{OnIndex, Held, Copied, Phase, NotBuilding, Scan, Statement, Inserting, Maintaining, Scanning, AreLawful};
 ghost use Rattle.coverage.specs.IsCovered.{IndexState, index_view, new_index, AreRowsBelow, IsFoundOrUnread, IsCovered, IsAtRest, IsIndexKept};
-ghost use Rattle.coverage.specs.Steps.{InsertStep, SummariseStep, DesummariseStep, IsRangeExcluded, Run, Stops};
+ghost use Rattle.coverage.specs.Steps.{InsertStep, SummariseStep, DesummariseStep, IsRangeExcluded, Step, Run, Stops};
+ghost use Rattle.coverage.specs.PageOrder.{AreOrdered, AreNewPages, KnowsPages};
 ghost use Rattle.coverage.specs.Points.{insert_point, summarise_point, desummarise_point};
 ghost use Rattle.coverage.specs.Knowing.{LocksNone, Knows, Spares};
 ghost use Rattle.coverage.specs.Verdicts.{Verdict, Waits, Differs, IsLocked, HasFreeSlots, PutVerdict, SwapVerdict, ClearVerdict};
-ghost use Rattle.coverage.specs.Waiting.{IsPhaseWaiting, IsInsertStuck, IsSwapFree, IsDesummariseStuck, IsClearFree};
+ghost use Rattle.coverage.specs.Waiting.{IsPhaseWaiting, IsSummariseStuck, IsPhaseFree, HasBlocksOfRows, HasPlaceholderLength, InsertsAlone, AreNamed, IsInsertStuck, IsSwapFree, IsDesummariseStuck, IsClearFree};
 
 /// Each kind of change leaves the index sound.
 pub fn changes_are_sound()
@@ -81,18 +82,26 @@ pub fn knowledge_is_stable()
         → IsFree w s x.block → LocksNone w s → w.entry range ≡ Some x }
 {}
 
-/// Whatever the sessions do, in any interleaving: what an index rests on is kept, and the index is covered.
+/// Whatever the sessions do, in any interleaving: what an index rests on is kept, with the order of its pages and what each
+/// statement knows of pages and locks; the index is covered; which ranges have an entry is the matter of the session alone that
+/// holds the summarise lock; the tuples that the map names stand past its pages; and the table's blocks only grow.
 pub fn index_stays_covered()
     ensures kept { (steps : List ℕ) (w v : IndexState) → IsIndexKept w → Run steps w v → IsIndexKept v }
     ensures covered { (w : IndexState) → IsIndexKept w → IsCovered w }
+    ensures entries { (s : ℕ) (w v : IndexState) → IsIndexKept w → Step s w v → w.summarise_lock ≢ Some s → (range : ℕ)
+        → (w.entry range ≡ None) ↔ (v.entry range ≡ None) }
+    ensures past_map { (w : IndexState) (range : ℕ) (x : TuplePlace) → IsIndexKept w → w.entry range ≡ Some x → w.pages.map_pages < x.block }
+    ensures blocks { (steps : List ℕ) (w v : IndexState) → Run steps w v → w.blocks ≤ v.blocks }
 {}
 
-/// What an index rests on holds of one that is covered while nobody is at work, of the one that a stop at any moment leaves,
-/// and of the empty one of a new table.
+/// What an index rests on holds of one that is covered and has its pages in order while nobody is at work, of the one that a stop
+/// at any moment leaves, and of the empty one of a new table.
 pub fn opened_index_is_kept()
-    ensures opened { (w : IndexState) → IsCovered w → IsAtRest w → 0 < w.pages_per_range → AreRowsBelow w → IsIndexKept w }
+    ensures opened { (w : IndexState) → IsCovered w → IsAtRest w → 0 < w.pages_per_range → AreRowsBelow w → AreOrdered (index_view w)
+        → AreLawful w.contents → IsIndexKept w }
     ensures stopped { (w v : IndexState) → IsIndexKept w → Stops w v → IsIndexKept v }
-    ensures new { (per blocks : ℕ) (pages : Pages) (counts : ℕ → Bool) → 0 < per → IsIndexKept (new_index per blocks pages counts) }
+    ensures new { (contents : Contents) (per blocks : ℕ) (pages : Pages) (counts : ℕ → Bool) → AreLawful contents → 0 < per → AreNewPages pages
+        → IsIndexKept (new_index contents per blocks pages counts) }
 {}
 
 /// Each matching row that a scan's session sees is found, or lies in a candidate block that isn't read yet; and a range
@@ -123,7 +132,8 @@ pub fn verdicts_are_exact()
     ensures some_clear { (w : IndexView) (s range : ℕ) (x : TuplePlace) → ((p : Verdict) → ClearVerdict w s range x p → ⊥) → ⊥ }
 {}
 
-/// Of all steps that a statement could take on an index at a moment there is one point alone, and none where it is blocked.
+/// Of all steps that a statement could take on an index at a moment there is one point alone, and none where it is blocked; and what
+/// its statement is at afterwards, with the very tuple that it has in hand, is one thing.
 pub fn each_step_is_the_next_one()
     ensures insert { (s b k : ℕ) (r : Row) (w v u : IndexView) (on_index : OnIndex) (e f : Statement)
         (one : InsertStep s b k r w v on_index e) (two : InsertStep s b k r w u on_index f)
@@ -134,6 +144,12 @@ pub fn each_step_is_the_next_one()
     ensures desummarise { (s range : ℕ) (w v u : IndexView) (phase : Phase) (e f : Statement)
         (one : DesummariseStep s range w v phase e) (two : DesummariseStep s range w u phase f)
         → desummarise_point one ≡ desummarise_point two }
+    ensures insert_outcome { (s b k : ℕ) (r : Row) (w v u : IndexView) (on_index : OnIndex) (e f : Statement) → InsertStep s b k r w v on_index e
+        → InsertStep s b k r w u on_index f → e ≡ f }
+    ensures summarise_outcome { (s range : ℕ) (w v u : IndexView) (phase : Phase) (e f : Statement) → SummariseStep s range w v phase e
+        → SummariseStep s range w u phase f → e ≡ f }
+    ensures desummarise_outcome { (s range : ℕ) (w v u : IndexView) (phase : Phase) (e f : Statement) → DesummariseStep s range w v phase e
+        → DesummariseStep s range w u phase f → e ≡ f }
     ensures insert_blocked { (s b k p : ℕ) (r : Row) (w v : IndexView) (x : TuplePlace) (old new : IndexTuple) (e : Statement)
         → SwapVerdict w s (range_of_block w b) x old new (Waits p) → InsertStep s b k r w v (Copied x old new) e → ⊥ }
     ensures summarise_blocked { (s range p : ℕ) (w v : IndexView) (phase : Phase) (e : Statement) → IsPhaseWaiting w s range phase p
@@ -142,10 +158,21 @@ pub fn each_step_is_the_next_one()
         → DesummariseStep s range w v (NotBuilding (Held x)) e → ⊥ }
 {}
 
-/// A running insert or desummarise is never stuck: it has a step on the index, or waits for a page; or the insert's index is full.
+/// A running insert, summariser or desummarise is never stuck: it has a step on the index, or waits for a page; or no page is left
+/// for what the insert or the summariser has to put. While no other session steps an insert takes at most six steps in an index. The steps are those with the very tuples that the index's contents give.
 pub fn some_step_comes()
     ensures insert { (w : IndexView) → HasFreeSlots w → (s b k : ℕ) (r : Row) (on_index : OnIndex) → Knows w s (Inserting b k r on_index)
         → IsInsertStuck w s b k r on_index → IsSwapFree w s (range_of_block w b) on_index → ⊥ }
+    ensures insert_ends { (w : IndexView) (s b k steps : ℕ) (r : Row) (on_index : OnIndex) → AreNamed w → InsertsAlone s b k r steps w on_index → steps ≤ 6 }
+    ensures summarise { (w : IndexView) → HasFreeSlots w → HasBlocksOfRows w → HasPlaceholderLength w → (s range : ℕ) (phase : Phase)
+        → Knows w s (Maintaining range phase) → KnowsPages w s (Maintaining range phase) → IsSummariseStuck w s range phase → IsPhaseFree w s range phase → ⊥ }
     ensures desummarise { (w : IndexView) (s range : ℕ) (on_index : OnIndex) → Knows w s (Maintaining range (NotBuilding on_index))
         → IsDesummariseStuck w s range on_index → IsClearFree w s range on_index → ⊥ }
+{}
+
+/// A run of these steps takes a range of a new index, with a lawful way to make tuples, from no entry to a final tuple: the
+/// definitions aren't empty.
+pub fn a_range_is_summarised()
+    ensures { (w : IndexState) × (v : IndexState) × (steps : List ℕ) × IsIndexKept w × Run steps w v × (w.entry 0 ≡ None)
+        × ((x : TuplePlace) × (t : IndexTuple) × (v.entry 0 ≡ Some x) × (v.tuple x ≡ Some t) × (t.placeholder ≡ false)) }
 {}

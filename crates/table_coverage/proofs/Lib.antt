@@ -1,9 +1,16 @@
 pub mod Views
 pub mod TableRuns
 pub mod TableSettled
+pub mod TableJudged
 pub mod TableScans
 pub mod TableOpening
 pub mod TableBlocked
+pub mod TableLocks
 pub mod TableSeen
 pub mod Onward
 pub mod ScanHasStep
+pub mod VacuumGoesOn
+pub mod MachinesKeep
+pub mod MachinesIn
+pub mod TableEntries
+pub mod TableOnePoint

@@ -8,13 +8,13 @@ use Rattle.coverage.specs.IndexView.{TuplePlace, IndexTuple, IndexView, range_of
 use Rattle.coverage.specs.Steps.{Excludes}
 use Rattle.coverage.proofs.Numbers.{lt_or_ge, lowest_below}
 use Rattle.coverage.proofs.StepsExist.{chosen, chosen_yes, chosen_no}
-use Rattle.table_coverage.specs.Table.{TableScan, TableState}
+use Rattle.table_coverage.specs.Table.{TableScan, TableState, judged_with}
 use Rattle.table_coverage.specs.TableSteps.{JudgeStep, JudgeMap, JudgeNoEntry, JudgeGone, JudgeKeeps, JudgeDrops, ReadsPage}
 
 -- the range that the scan is at is judged by what stands there
-module _ (w : IndexView) (scan : TableScan) (honest : (t : IndexTuple) → scan.keeps scan.at t ≡ false → Excludes t scan.matches) where
+module _ (w : IndexView) (scan : TableScan) (honest : (x : TuplePlace) (t : IndexTuple) → w.tuple x ≡ Some t → scan.keeps scan.at t ≡ false → Excludes t scan.matches) where
   by_entry : scan.held ≡ None → (o : Option TuplePlace) → w.entry scan.range ≡ o → (q : TableScan) × JudgeStep w scan q
-  by_entry empty None is = (record scan { range = suc scan.range }, JudgeNoEntry empty is)
+  by_entry empty None is = (record scan { range = suc scan.range; judged = judged_with scan true }, JudgeNoEntry empty is)
   by_entry empty (Some x) is = (record scan { held = Some x }, JudgeMap x empty is)
 
   abbrev left_out : ℕ → Bool
@@ -28,9 +28,9 @@ module _ (w : IndexView) (scan : TableScan) (honest : (t : IndexTuple) → scan.
 
   by_keeps : (x : TuplePlace) (t : IndexTuple) → scan.held ≡ Some x → w.tuple x ≡ Some t → t.range ≡ scan.range → (keeps : Bool) → scan.keeps scan.at t ≡ keeps
       → (q : TableScan) × JudgeStep w scan q
-  by_keeps x t held here of true is = (record scan { range = suc scan.range; held = None }, JudgeKeeps x t held (here, of) is)
+  by_keeps x t held here of true is = (record scan { range = suc scan.range; held = None; judged = judged_with scan true }, JudgeKeeps x t held (here, of) is)
   by_keeps x t held here of false is =
-      (record scan { range = suc scan.range; held = None; candidate = left_out }, JudgeDrops x t left_out held (here, of) is (honest t is) leaves_out)
+      (record scan { range = suc scan.range; held = None; judged = judged_with scan false; candidate = left_out }, JudgeDrops x t left_out held (here, of) is (honest x t here is) leaves_out)
 
   by_tuple : (x : TuplePlace) → scan.held ≡ Some x → (o : Option IndexTuple) → w.tuple x ≡ o → (q : TableScan) × JudgeStep w scan q
   by_tuple x held None is = (record scan { held = None }, JudgeGone x held (λ t here. absurd (none-some _ (sym is ∙ here))))

@@ -1,14 +1,15 @@
 -- What a table's indexes rest on: at an opening, after a stop, and in a new table.
-use Rattle.std.proofs.Common.{◌≡◌, ℕ, ◌<◌, sym, ◌∙◌, ap, subst, rules}
+use Rattle.std.proofs.Common.{◌≡◌, ℕ, ◌≤◌, ◌<◌, None, sym, ◌∙◌, ap, subst, arith, rules}
 use Rattle.std.proofs.lemmas.Option.{same_Some, none-some}
 use Rattle.std.proofs.lemmas.Bool.{false≢true}
 use Rattle.coverage.specs.IndexView.{Progress, IsBuilding}
 use Rattle.coverage.specs.Statements.{building_of}
 use Rattle.coverage.specs.IsCovered.{IsAtRest, IsIndexKept}
 use Rattle.table_coverage.specs.Table.{TableScan, Task, Resting, Scans, TableState, seen_by, index_state, index_view_at}
-use Rattle.table_coverage.specs.TableCovered.{IsTableCovered, IsTableKept, IsTableAtRest, IsNewTable, TableStops}
+use Rattle.table_coverage.specs.TableCovered.{IsMaintenance, IsHeldForMaintenance, IsTableCovered, IsTableKept, IsTableAtRest, IsNewTable, TableStops}
 use Rattle.coverage.proofs.Covered.{kept_covered}
 use Rattle.coverage.proofs.Opening.{rest_kept, stopped_kept}
+use Rattle.coverage.proofs.PagesOrdered.{order_new}
 
 -- who rests has no scan
 abbrev IsResting : Task → Type 0
@@ -17,6 +18,10 @@ IsResting task = ⊥
 
 resting_scan : (scan : TableScan) → Resting ≡ Scans scan → ⊥
 resting_scan scan e = subst IsResting e tt
+
+-- nobody maintains, and nobody holds the summarise lock
+free_lock : (w : TableState) → w.summarise_lock ≡ None → ((s : ℕ) → w.task s ≡ Resting) → IsHeldForMaintenance w
+free_lock w free resting s = ((λ held. absurd (none-some _ (sym free ∙ held))), λ maintains. absurd (subst IsMaintenance (resting s) maintains))
 
 pub table_covered : (w : TableState) → IsTableKept w → IsTableCovered w
 table_covered w kept = record {
@@ -28,9 +33,11 @@ table_covered w kept = record {
 
 pub table_opened : (w : TableState) → IsTableCovered w → IsTableAtRest w → IsTableKept w
 table_opened w covered rest = record {
-  indexes = λ i below. rest_kept (index_state i w) (covered.indexes i below) (rest.rest i below) (rest.ranged i below) rest.rows_below;
+  indexes = λ i below. rest_kept (index_state i w) (covered.indexes i below) (rest.rest i below) (rest.ranged i below) rest.rows_below (rest.ordered i below) (rest.lawful i below);
+  summarise_lock = free_lock w rest.free rest.resting;
   rows_below = rest.rows_below;
   scans = λ s scan is. absurd (resting_scan scan (sym (rest.resting s) ∙ is));
+  exact = λ s scan is. absurd (resting_scan scan (sym (rest.resting s) ∙ is));
 }
 
 pub table_stopped : (w v : TableState) → IsTableKept w → TableStops w v → IsTableKept v
@@ -38,9 +45,14 @@ table_stopped w v kept stops = record {
   indexes =
       λ i below.
       let inside = subst (λ n. i < n) stops.indexes below in stopped_kept (index_state i w) (index_state i v) (kept.indexes i inside) (stops.stops i inside);
-  rows_below = λ b k r there. subst (λ n. b < n) (sym stops.blocks) (kept.rows_below b k r (sym (stops.row b k) ∙ there));
+  summarise_lock = free_lock v stops.free stops.resting;
+  rows_below = λ b k r there. within b w.blocks v.blocks (kept.rows_below b k r (sym (stops.row b k) ∙ there)) stops.blocks;
   scans = λ s scan is. absurd (resting_scan scan (sym (stops.resting s) ∙ is));
+  exact = λ s scan is. absurd (resting_scan scan (sym (stops.resting s) ∙ is));
 }
+  where
+    within : (b n m : ℕ) → b < n → n ≤ m → b < m
+    within b n m low more = omega arith
 
 module _ (w : TableState) (new : IsNewTable w) (i : ℕ) where
   new_rest : IsAtRest (index_state i w)
@@ -58,10 +70,13 @@ module _ (w : TableState) (new : IsNewTable w) (i : ℕ) where
   new_index_kept = rest_kept (index_state i w)
       (search (rules, nobody_builds))
       new_rest (new.ranged i) (λ b k r is. absurd (none-some _ (sym (new.row b k) ∙ is)))
+      (order_new (index_view_at i w) (new.pages i) (new.tuple i) (new.entry i)) (new.lawful i)
 
 pub new_table_kept : (w : TableState) → IsNewTable w → IsTableKept w
 new_table_kept w new = record {
   indexes = λ i below. new_index_kept w new i;
+  summarise_lock = free_lock w new.free new.resting;
   rows_below = λ b k r is. absurd (none-some _ (sym (new.row b k) ∙ is));
   scans = λ s scan is. absurd (resting_scan scan (sym (new.resting s) ∙ is));
+  exact = λ s scan is. absurd (resting_scan scan (sym (new.resting s) ∙ is));
 }

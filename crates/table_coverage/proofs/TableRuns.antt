@@ -1,5 +1,5 @@
 -- Every step of a table's statements keeps what each of its indexes rests on.
-use Rattle.std.proofs.Common.{◌≡◌, ◌≢◌, ◌⊎◌, inl, inr, ⊎_elim, ℕ, ◌+◌, ◌≤◌, ◌<◌, Option, Some, None, Bool, false, sym, ◌∙◌, ap, subst, arith, suc}
+use Rattle.std.proofs.Common.{◌≡◌, ◌≢◌, ◌⊎◌, inl, inr, ⊎_elim, ℕ, ◌+◌, ◌≤◌, ◌<◌, Option, Some, None, Bool, true, false, sym, ◌∙◌, ap, subst, arith, suc}
 use Rattle.std.specs.Prelude.{refl, IsTrue, max}
 use Rattle.std.proofs.lemmas.Option.{none-some}
 use Rattle.std.proofs.lemmas.Bool.{cases_eq}
@@ -12,12 +12,13 @@ use Rattle.coverage.specs.IsCovered.{IsIndexKept}
 use Rattle.coverage.specs.Steps.{IsUnnamed, SweepsTuples, Excludes, InsertStep, MaintainStep, Summarises, Desummarises, ScanStep, ScanMap, ScanGone, ScanKeeps}
 use Rattle.coverage.specs.Steps.{ScanDrops, ScanElsewhere, ScanPage, SummariseLockPasses, Step, PutRow, Insert, Refused, TakeSummariseLock, Maintain, Prune}
 use Rattle.coverage.specs.Steps.{Sweep, GiveSummariseLock, Abandon, BeginScan, Scans as StepScans, EndScan, Elsewhere, Counts}
+use Rattle.coverage.specs.Waiting.{IsPhaseFull, FinalFull, PlaceFull, MapFull, EvacuateFull}
 use Rattle.table_coverage.specs.Table.{Index, Job, EachRange, OneRange, WholeRanges, Desummarising, TableScan, Task, Resting, Reaches, Asks, Inserts, Considers}
-use Rattle.table_coverage.specs.Table.{Maintains, Prunes, SweepsFrom, Sweeps, Restarts, Scans, TableState, pick, on_index_by, inserting_of, held_at, scan_at}
+use Rattle.table_coverage.specs.Table.{Maintains, Prunes, SweepsFrom, Sweeps, Restarts, Scans, TableState, pick, judged_with, on_index_by, inserting_of, held_at, scan_at}
 use Rattle.table_coverage.specs.Table.{seen_by, index_state, index_view_at}
 use Rattle.table_coverage.specs.TableSteps.{TaskTurns, SameRows, SameIndexes, OnlyTurns, StepsIn, IsFirstPlace, TableTakesRow, IsInsertRefused, AskRefused}
 use Rattle.table_coverage.specs.TableSteps.{MemoryShort, IndexFull, BeginsWith, Summarize, SummarizeOne, Desummarize, Vacuum, JobStep, IsMaintainRefused}
-use Rattle.table_coverage.specs.TableSteps.{NoMemory, FinalFull, PlaceFull, MapFull, EvacuateFull, HasPut, SeesPlace, IsVacuuming, DropsRows, ScanBegins}
+use Rattle.table_coverage.specs.TableSteps.{NoMemory, NoPage, HasPut, SeesPlace, IsVacuuming, DropsRows, ScanBegins}
 use Rattle.table_coverage.specs.TableSteps.{JudgeStep, JudgeMap, JudgeNoEntry, JudgeGone, JudgeKeeps, JudgeDrops, ReadsPage, Fails, IsMaintained, RangesDone}
 use Rattle.table_coverage.specs.TableSteps.{NothingToSweep}
 use Rattle.table_coverage.specs.TableCovered.{AreIndexesKept}
@@ -41,10 +42,13 @@ begins_holding i w _ Vacuum = refl
 
 pub refused_loose : (w : IndexView) (s range : ℕ) (phase : Phase) → IsMaintainRefused w s range phase → loose_at phase ≡ None
 refused_loose w s range _ (NoMemory phase none) = none
-refused_loose w s range _ (FinalFull p x old new verdict) = refl
-refused_loose w s range _ (PlaceFull long verdict) = refl
-refused_loose w s range _ (MapFull past limit) = refl
-refused_loose w s range _ (EvacuateFull x t grows next named free verdict) = refl
+refused_loose w s range phase (NoPage _ full) = full_loose phase full
+  where
+    full_loose : (phase : Phase) → IsPhaseFull w s range phase → loose_at phase ≡ None
+    full_loose _ (FinalFull p x old new verdict) = refl
+    full_loose _ (PlaceFull long verdict) = refl
+    full_loose _ (MapFull past limit) = refl
+    full_loose _ (EvacuateFull x t grows next named free verdict) = refl
 
 pub vacuuming_holds : (i : ℕ) (task : Task) → IsVacuuming task → seen_by i task ≡ Holding
 vacuuming_holds i Resting is = absurd is
@@ -164,6 +168,7 @@ module _ (s : ℕ) (w v : TableState) (kept : AreIndexesKept w) (i : ℕ) (below
   -- less comes to count, and the index sees nothing else
   pub counts_less : (t : ℕ) → Fails w v t → ((n : ℕ) → seen_by i (v.task n) ≡ seen_by i (w.task n)) → IsIndexKept (index_state i v)
   counts_less t fails views = steps (Counts v.counts (λ n counted. inl (fails.fewer n counted)) (λ j. record {
+    contents = ap (λ (x : Index). x.contents) index j;
     pages_per_range = ap (λ (x : Index). x.pages_per_range) index j;
     blocks = fails.blocks j;
     row = λ b k. fails.row b k j;
@@ -346,18 +351,18 @@ module _ (s : ℕ) (w v : TableState) (kept : AreIndexesKept w) (i : ℕ) (below
       scans old (record old { held = Some x }) (record (scan_at i old) { held = Some (old.range, x) }) turns only
       (ap (λ h. record (scan_at i old) { held = h }) (place_here (record old { held = Some x }) x is refl))
       (ScanMap old.range x (held_none i old.at old.range old.held empty) named)
-  judges_here old _ is (JudgeNoEntry empty none) turns only = only_rests (Scans old) (Scans (record old { range = suc old.range })) turns only
+  judges_here old _ is (JudgeNoEntry empty none) turns only = only_rests (Scans old) (Scans (record old { range = suc old.range; judged = judged_with old true })) turns only
       (ap (λ h. Scanning (record (scan_at i old) { held = h }))
       (held_none i old.at (suc old.range) old.held empty ∙ sym (held_none i old.at old.range old.held empty)))
   judges_here old _ is (JudgeGone x held gone) turns only = scans old (record old { held = None }) (record (scan_at i old) { held = None }) turns only
       (ap (λ h. record (scan_at i old) { held = h }) (held_none i old.at old.range None refl))
       (ScanGone old.range x (place_here old x is held) gone)
   judges_here old _ is (JudgeKeeps x t held stands keeps) turns only =
-      scans old (record old { range = suc old.range; held = None }) (record (scan_at i old) { held = None }) turns only
+      scans old (record old { range = suc old.range; held = None; judged = judged_with old true }) (record (scan_at i old) { held = None }) turns only
       (ap (λ h. record (scan_at i old) { held = h }) (held_none i old.at (suc old.range) None refl))
       (ScanKeeps old.range x t (place_here old x is held) stands (subst (λ m. IsTrue (old.keeps m t)) (sym is) keeps))
   judges_here old _ is (JudgeDrops x t candidate held stands keeps excludes others) turns only =
-      scans old (record old { range = suc old.range; held = None; candidate = candidate })
+      scans old (record old { range = suc old.range; held = None; judged = judged_with old false; candidate = candidate })
       (record (scan_at i old) { held = None; candidate = candidate }) turns only
       (ap (λ h. record (scan_at i old) { held = h; candidate = candidate }) (held_none i old.at (suc old.range) None refl))
       (ScanDrops old.range x t candidate (place_here old x is held) stands (subst (λ m. old.keeps m t ≡ false) (sym is) keeps) excludes others)
@@ -366,16 +371,16 @@ module _ (s : ℕ) (w v : TableState) (kept : AreIndexesKept w) (i : ℕ) (below
       → TaskTurns s w v (Scans old) (Scans new) → OnlyTurns w v → IsIndexKept (index_state i v)
   judges_elsewhere old _ apart inside (JudgeMap x empty named) turns only = only_rests (Scans old) (Scans (record old { held = Some x })) turns only
       (ap (λ h. Scanning (record (scan_at i old) { held = h })) (scan_elsewhere (record old { held = Some x }) apart ∙ sym (scan_elsewhere old apart)))
-  judges_elsewhere old _ apart inside (JudgeNoEntry empty none) turns only = only_rests (Scans old) (Scans (record old { range = suc old.range })) turns only
+  judges_elsewhere old _ apart inside (JudgeNoEntry empty none) turns only = only_rests (Scans old) (Scans (record old { range = suc old.range; judged = judged_with old true })) turns only
       (ap (λ h. Scanning (record (scan_at i old) { held = h })) (scan_elsewhere (record old { range = suc old.range }) apart ∙ sym (scan_elsewhere old apart)))
   judges_elsewhere old _ apart inside (JudgeGone x held gone) turns only = only_rests (Scans old) (Scans (record old { held = None })) turns only
       (ap (λ h. Scanning (record (scan_at i old) { held = h })) (scan_elsewhere (record old { held = None }) apart ∙ sym (scan_elsewhere old apart)))
   judges_elsewhere old _ apart inside (JudgeKeeps x t held stands keeps) turns only =
-      only_rests (Scans old) (Scans (record old { range = suc old.range; held = None })) turns only
+      only_rests (Scans old) (Scans (record old { range = suc old.range; held = None; judged = judged_with old true })) turns only
       (ap (λ h. Scanning (record (scan_at i old) { held = h }))
       (scan_elsewhere (record old { range = suc old.range; held = None }) apart ∙ sym (scan_elsewhere old apart)))
   judges_elsewhere old _ apart inside (JudgeDrops x t candidate held stands keeps excludes others) turns only =
-      scans old (record old { range = suc old.range; held = None; candidate = candidate }) (record (scan_at i old) { candidate = candidate }) turns only
+      scans old (record old { range = suc old.range; held = None; judged = judged_with old false; candidate = candidate }) (record (scan_at i old) { candidate = candidate }) turns only
       (ap (λ h. record (scan_at i old) { held = h; candidate = candidate })
       (scan_elsewhere (record old { range = suc old.range; held = None; candidate = candidate }) apart ∙ sym (scan_elsewhere old apart)))
       (ScanElsewhere candidate (dropped_spares old x t candidate turns.was inside held stands.0 stands.1 excludes others))

@@ -2,33 +2,15 @@
 use Rattle.std.proofs.Common.{◌≡◌, ◌≢◌, ◌⊎◌, inl, inr, ⊎_elim, ℕ, ◌≤◌, ◌<◌, Option, Some, None, Bool, true, false, sym, ◌∙◌, ap, subst, arith, suc}
 use Rattle.std.specs.Prelude.{refl, IsTrue}
 use Rattle.std.proofs.lemmas.Option.{same_Some, none-some}
-use Rattle.std.proofs.lemmas.Bool.{cases_eq, false≢true}
+use Rattle.std.proofs.lemmas.Bool.{false≢true}
 use Rattle.block_model.specs.declared.row.Row.{Row}
-use Rattle.table_coverage.specs.Table.{TableScan, Resting, Scans, TableState}
+use Rattle.table_coverage.specs.Table.{TableScan, Resting, Scans, TableState, judged_with}
 use Rattle.coverage.specs.IndexView.{TuplePlace, IndexTuple, IndexView, range_of_block}
 use Rattle.coverage.specs.Steps.{IsGone}
-use Rattle.table_coverage.specs.TableSteps.{range_in, JudgeStep, JudgeMap, JudgeNoEntry, JudgeGone, JudgeKeeps, JudgeDrops, ReadsPage, Onward, JudgesNext}
+use Rattle.table_coverage.specs.TableSteps.{JudgeStep, JudgeMap, JudgeNoEntry, JudgeGone, JudgeKeeps, JudgeDrops, ReadsPage, Onward, JudgesNext}
 use Rattle.table_coverage.specs.TableSteps.{Scanned}
-use Rattle.table_coverage.specs.TableCovered.{IsTableKept, IsJudged, IsGiven, IsUnjudged}
-use Rattle.coverage.proofs.Numbers.{lt_or_ge, all_or_one}
-
-judged_or_not : (scan : TableScan) (i range : ℕ) → IsJudged scan i range ⊎ (IsJudged scan i range → ⊥)
-judged_or_not scan i range = ⊎_elim
-    (λ (before : i < scan.at). inl (inl before))
-    (λ (from : scan.at ≤ i). ⊎_elim
-    (λ (is : i ≡ scan.at). ⊎_elim
-    (λ (low : range < scan.range). inl (inr (is, low)))
-    (λ (high : scan.range ≤ range).
-    inr (λ judged. ⊎_elim (λ (before : i < scan.at). apart scan.at i from before)
-    (λ (at : (i ≡ scan.at) × (range < scan.range)). apart scan.range range high at.1) judged))
-    (lt_or_ge range scan.range))
-    (λ (other : i ≢ scan.at).
-    inr (λ judged. ⊎_elim (λ (before : i < scan.at). apart scan.at i from before) (λ (at : (i ≡ scan.at) × (range < scan.range)). other at.0) judged))
-    (cases_eq i scan.at))
-    (lt_or_ge i scan.at)
-  where
-    apart : (n m : ℕ) → n ≤ m → m < n → ⊥
-    apart n m le less = omega arith
+use Rattle.table_coverage.specs.TableCovered.{IsTableKept, IsGiven, IsUnjudged}
+use Rattle.table_coverage.proofs.TableJudged.{given_or_unjudged}
 
 pub table_scan_finds : (w : TableState) (s b k : ℕ) (scan : TableScan) → IsTableKept w → w.task s ≡ Scans scan → IsTrue (scan.sees b k)
     → (r : Row) × (w.row b k ≡ Some r) × (IsTrue (scan.matches r) → IsTrue (scan.found b k) ⊎ (IsGiven w scan b × (scan.read ≤ b)) ⊎ IsUnjudged w scan b)
@@ -39,9 +21,9 @@ table_scan_finds w s b k scan kept is sees =
       λ matches. ⊎_elim
           (λ (found : IsTrue (scan.found b k)). inl found)
           (λ (left : IsTrue (scan.candidate b) × (scan.read ≤ b)). ⊎_elim
-          (λ (all : (i : ℕ) → i < w.indexes → IsJudged scan i (range_in w i b)). inr (inl ((left.0, all), left.1)))
-          (λ (one : (i : ℕ) × (i < w.indexes) × (IsJudged scan i (range_in w i b) → ⊥)). inr (inr one))
-          (all_or_one w.indexes (λ i. IsJudged scan i (range_in w i b)) (λ i. judged_or_not scan i (range_in w i b))))
+          (λ (given : IsGiven w scan b). inr (inl (given, left.1)))
+          (λ (one : IsUnjudged w scan b). inr (inr one))
+          (given_or_unjudged w scan b (kept.exact s scan is) left.0))
           (row.2 matches),
     )
 
@@ -119,7 +101,7 @@ module _ (w : IndexView) (old : TableScan) where
   judge_once _ _ (JudgeDrops x t candidate held stands drops excludes others) (JudgeKeeps y u held' stands' keeps) =
       keeps_or_not y x u t held' held stands'.0 stands.0 keeps drops
   judge_once _ _ (JudgeDrops x t candidate held stands drops excludes others) (JudgeDrops y u candidate' held' stands' drops' excludes' others') =
-      λ i. record old { range = suc old.range; held = None; candidate = λ b. same_candidates w old candidate candidate' others others' b i }
+      λ i. record old { range = suc old.range; held = None; judged = judged_with old false; candidate = λ b. same_candidates w old candidate candidate' others others' b i }
 
 pub reads_once : (w : TableState) (scan : TableScan) (m n : ℕ) (f g : ℕ → ℕ → Bool) → ReadsPage w scan m f → ReadsPage w scan n g
     → (m ≡ n) × ((b k : ℕ) → f b k ≡ g b k)

@@ -1,30 +1,22 @@
 -- The rows that scans of a table see stay within their reach, with any number of indexes; and whole runs of the table's steps.
-use Rattle.std.proofs.Common.{◌≡◌, ◌≢◌, ◌⊎◌, inl, inr, ⊎_elim, ℕ, ◌+◌, ◌≤◌, ◌<◌, max, Option, Some, None, Bool, sym, ◌∙◌, ap, subst, arith, suc, rules}
+use Rattle.std.proofs.Common.{◌≡◌, ◌≢◌, ◌⊎◌, inl, inr, ⊎_elim, ℕ, ◌+◌, ◌≤◌, ◌<◌, max, Some, None, Bool, sym, ◌∙◌, ap, subst, arith, suc, rules}
 use Rattle.std.specs.Prelude.{refl, IsTrue, List}
 use Rattle.std.proofs.lemmas.Option.{same_Some, none-some}
 use Rattle.std.proofs.lemmas.Bool.{cases_eq}
 use Rattle.block_model.specs.declared.row.Row.{Row}
 use Rattle.table_coverage.specs.Table.{TableScan, Task, Resting, SweepsFrom, Scans, TableState, index_view_at}
-use Rattle.table_coverage.specs.TableSteps.{TaskTurns, OnlyTurns, BeginsWith, Summarize, SummarizeOne, Desummarize, Vacuum, SeesPlace, JudgeStep, JudgeMap}
+use Rattle.table_coverage.specs.TableSteps.{TaskTurns, OnlyTurns, SeesPlace, JudgeStep, JudgeMap}
 use Rattle.table_coverage.specs.TableSteps.{JudgeNoEntry, JudgeGone, JudgeKeeps, JudgeDrops, ReadsPage, Fails, Does, PutsRow, AsksSummary, InsertGoes}
 use Rattle.table_coverage.specs.TableSteps.{InsertCompletes, RefusesInsert, TakesLock, MaintainGoes, MaintainCompletes, RefusesMaintain, RefusesVacuum}
 use Rattle.table_coverage.specs.TableSteps.{PrunesBlock, SweepsPage, RestartsIndex, BeginsScan, Judges, ReadsBlock, RefusesScan, Blocked, Transacts, Onward}
 use Rattle.table_coverage.specs.TableSteps.{Stays, ToAsk, ToIndex, Inserted, ToRange, NextIndex, Pruned, ToPage, Swept, JudgesNext, Scanned, Settles, GoesOn}
 use Rattle.table_coverage.specs.TableSteps.{GivesLock, TableStep, TableRun, TableDone, TableNext}
 use Rattle.table_coverage.specs.TableCovered.{SeesRows, IsTableKept}
+use Rattle.table_coverage.proofs.Views.{scan_of, begins_no_scan}
 use Rattle.table_coverage.proofs.TableRuns.{dropped_spares}
+use Rattle.table_coverage.proofs.TableJudged.{does_exact, settles_exact}
 use Rattle.table_coverage.proofs.TableSettled.{between_kept, indexes_kept}
-
--- the scan of a task
-abbrev scan_of : Task → Option TableScan
-scan_of (Scans scan) = Some scan
-scan_of task = None
-
-begins_no_scan : (w : TableState) (first : Task) → BeginsWith w first → scan_of first ≡ None
-begins_no_scan w _ (Summarize at below) = refl
-begins_no_scan w _ (SummarizeOne at only below) = refl
-begins_no_scan w _ (Desummarize at only below) = refl
-begins_no_scan w _ Vacuum = refl
+use Rattle.table_coverage.proofs.TableLocks.{does_lock, settles_lock}
 
 -- what a step leaves to the scans of others
 record Leaves (s : ℕ) (w v : TableState) : Type 0 where
@@ -227,22 +219,44 @@ settles_own s w v kept (GoesOn old new onward turns only) scan is =
     rows_same w v only.rows.row scan (onward_seen w old new onward (λ q e. kept.scans s q (turns.was ∙ e)) scan (sym turns.now ∙ is))
 settles_own s w v kept (GivesLock old done turns given rows indexes) scan is = absurd (none-some _ (ap scan_of (sym turns.now ∙ is)))
 
+-- the state between what a step does and where its statement comes
+pub table_between_kept : (s : ℕ) (w v : TableState) → IsTableKept w → Does s w v → IsTableKept v
+table_between_kept s w v kept does =
+    let left = does_leaves s w v does in
+    record {
+      indexes = between_kept s w v kept.indexes does;
+      summarise_lock = does_lock s w v kept.summarise_lock does;
+      rows_below = below_after s w v kept left;
+      scans = all_seen s w v kept left (does_own s w v kept does);
+      exact = does_exact s w v kept.exact does;
+    }
+
 pub table_step_kept : (s : ℕ) (w v : TableState) → IsTableKept w → TableStep s w v → IsTableKept v
 table_step_kept s w v kept step =
     let u = step.between in
-    let left = does_leaves s w u step.does in
-    let between : IsTableKept u = record {
-      indexes = between_kept s w v kept.indexes step;
-      rows_below = below_after s w u kept left;
-      scans = all_seen s w u kept left (does_own s w u kept step.does);
-    } in
+    let between = table_between_kept s w u kept step.does in
     let more = settles_leaves s u v step.settles in
     record {
       indexes = indexes_kept s w v kept.indexes step;
+      summarise_lock = settles_lock s u v between.summarise_lock step.settles;
       rows_below = below_after s u v between more;
       scans = all_seen s u v between more (settles_own s u v between step.settles);
+      exact = settles_exact s u v between.exact step.settles;
     }
 
 pub table_run_kept : (steps : List ℕ) (w v : TableState) → IsTableKept w → TableRun steps w v → IsTableKept v
 table_run_kept _ _ _ kept (TableDone w) = kept
 table_run_kept _ _ _ kept (TableNext s rest w u v step more) = table_run_kept rest u v (table_step_kept s w u kept step) more
+
+-- the table's blocks only grow
+pub table_run_blocks : (steps : List ℕ) (w v : TableState) → TableRun steps w v → w.blocks ≤ v.blocks
+table_run_blocks _ _ _ (TableDone w) = self w.blocks
+  where
+    self : (n : ℕ) → n ≤ n
+    self n = omega arith
+table_run_blocks _ _ _ (TableNext s rest w u v step more) =
+    through w.blocks step.between.blocks u.blocks v.blocks (does_leaves s w step.between step.does).blocks
+    (settles_leaves s step.between u step.settles).blocks (table_run_blocks rest u v more)
+  where
+    through : (a b c d : ℕ) → a ≤ b → b ≤ c → c ≤ d → a ≤ d
+    through a b c d one two three = omega arith

@@ -3,6 +3,7 @@ use Rattle.std.proofs.Common.{◌≡◌, ◌≢◌, ◌⊎◌, inl, inr, ⊎_eli
 use Rattle.std.specs.Prelude.{refl}
 use Rattle.std.proofs.lemmas.Bool.{cases_eq}
 use Rattle.coverage.specs.IndexView.{IndexView}
+use Rattle.coverage.specs.Changes.{SameHeap}
 use Rattle.coverage.specs.Statements.{Empty, Phase, NotBuilding, Statement, Idle, Inserting, Maintaining, Holding, Scanning}
 use Rattle.coverage.specs.IsCovered.{IsIndexKept}
 use Rattle.coverage.specs.Steps.{BeginRange, EndScan, Counts}
@@ -19,12 +20,18 @@ use Rattle.table_coverage.proofs.TableRuns.{vacuuming_holds, maintained_holds, r
 use Rattle.table_coverage.proofs.TableRuns.{refuses_insert, takes_lock, maintains, refuses_maintain, gives_lock, prunes, sweeps_page, begins_scan, ends_scan}
 use Rattle.table_coverage.proofs.TableRuns.{judges, reads_block}
 
-job_lock_kept : (job : Job) (s range : ℕ) (w v : IndexView) (old : Phase) (new : Statement) → JobStep job s range w v old new
+pub job_lock_kept : (job : Job) (s range : ℕ) (w v : IndexView) (old : Phase) (new : Statement) → JobStep job s range w v old new
     → v.summarise_lock ≡ w.summarise_lock
 job_lock_kept (EachRange extent) s range w v old new step = (summarise_keeps s range w v old new step).1
 job_lock_kept (OneRange extent only) s range w v old new step = (summarise_keeps s range w v old new step).1
 job_lock_kept (WholeRanges extent) s range w v old new step = (summarise_keeps s range w v old new step).1
 job_lock_kept (Desummarising only) s range w v old new step = (desummarise_keeps s range w v old new step).1
+
+pub job_heap_kept : (job : Job) (s range : ℕ) (w v : IndexView) (old : Phase) (new : Statement) → JobStep job s range w v old new → SameHeap w v
+job_heap_kept (EachRange extent) s range w v old new step = (summarise_keeps s range w v old new step).0
+job_heap_kept (OneRange extent only) s range w v old new step = (summarise_keeps s range w v old new step).0
+job_heap_kept (WholeRanges extent) s range w v old new step = (summarise_keeps s range w v old new step).0
+job_heap_kept (Desummarising only) s range w v old new step = (desummarise_keeps s range w v old new step).0
 
 module _ (s : ℕ) (w v : TableState) (kept : AreIndexesKept w) (i : ℕ) (below : i < w.indexes) where
   -- want of memory ends a scan, and then its transaction fails
@@ -82,7 +89,7 @@ module _ (s : ℕ) (w v : TableState) (kept : AreIndexesKept w) (i : ℕ) (below
   does_kept (Transacts counts resting few same) = steps s w v kept i below (Counts counts few (ap (index_state i) same))
 
 -- the table keeps its indexes
-does_layout : (s : ℕ) (w v : TableState) → Does s w v → v.indexes ≡ w.indexes
+pub does_layout : (s : ℕ) (w v : TableState) → Does s w v → v.indexes ≡ w.indexes
 does_layout s w v (PutsRow b k r place turns takes) = takes.layout.indexes
 does_layout s w v (AsksSummary b k r at turns only) = only.rows.layout.indexes
 does_layout s w v (InsertGoes b k r at old new turns stepped step) = stepped.rows.layout.indexes
@@ -173,14 +180,14 @@ module _ (s : ℕ) (w v : TableState) (kept : AreIndexesKept w) (i : ℕ) (below
   settles_kept (GoesOn old new onward turns only) = goes_on old new onward turns only
   settles_kept (GivesLock old done turns given rows indexes) = gives_lock s w v kept i below old (maintained_holds i w old done) turns given rows indexes
 
-settles_layout : (s : ℕ) (w v : TableState) → Settles s w v → v.indexes ≡ w.indexes
+pub settles_layout : (s : ℕ) (w v : TableState) → Settles s w v → v.indexes ≡ w.indexes
 settles_layout s w v (GoesOn old new onward turns only) = only.rows.layout.indexes
 settles_layout s w v (GivesLock old done turns given rows indexes) = rows.layout.indexes
 
 -- within a step
-pub between_kept : (s : ℕ) (w v : TableState) → AreIndexesKept w → (step : TableStep s w v) → AreIndexesKept step.between
-between_kept s w v kept step j inside = does_kept s w step.between kept j (subst (λ n. j < n) (does_layout s w step.between step.does) inside) step.does
+pub between_kept : (s : ℕ) (w v : TableState) → AreIndexesKept w → Does s w v → AreIndexesKept v
+between_kept s w v kept does j inside = does_kept s w v kept j (subst (λ n. j < n) (does_layout s w v does) inside) does
 
 pub indexes_kept : (s : ℕ) (w v : TableState) → AreIndexesKept w → TableStep s w v → AreIndexesKept v
 indexes_kept s w v kept step i below =
-    settles_kept s step.between v (between_kept s w v kept step) i (subst (λ n. i < n) (settles_layout s step.between v step.settles) below) step.settles
+    settles_kept s step.between v (between_kept s w step.between kept step.does) i (subst (λ n. i < n) (settles_layout s step.between v step.settles) below) step.settles

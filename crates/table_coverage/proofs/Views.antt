@@ -1,15 +1,16 @@
 -- How each index of a table sees its statements, and what it sees of their steps.
 use Rattle.std.proofs.Common.{◌≡◌, ◌≢◌, ◌⊎◌, inl, inr, ⊎_elim, ℕ, ◌<◌, Option, Some, None, Bool, sym, ◌∙◌, ap, subst, arith, zero, suc}
 use Rattle.std.specs.Prelude.{refl, IsTrue}
+use Rattle.std.proofs.lemmas.Bool.{cases_eq}
 use Rattle.block_model.specs.declared.row.Row.{Row}
 use Rattle.coverage.specs.IndexView.{TuplePlace}
 use Rattle.coverage.specs.Changes.{SameHeap, SameMap, SameTuples, SameUnnamed, OwnLocks, TouchesRows, Frame}
 use Rattle.coverage.specs.Statements.{OnIndex, Empty, Phase, Statement, Idle, Inserting, Maintaining, Holding, Scanning, loose_in}
 use Rattle.coverage.specs.Knowing.{LocksNone, Spares}
 use Rattle.coverage.specs.Steps.{ReadsIndex, SummariseLockPasses, Rests, Turned}
-use Rattle.table_coverage.specs.Table.{Index, Task, Resting, Reaches, Asks, Inserts, Considers, Maintains, Prunes, SweepsFrom, Sweeps, Restarts, Scans}
+use Rattle.table_coverage.specs.Table.{Index, TableScan, Task, Resting, Reaches, Asks, Inserts, Considers, Maintains, Prunes, SweepsFrom, Sweeps, Restarts, Scans}
 use Rattle.table_coverage.specs.Table.{TableState, pick, on_index_by, inserting_of, held_at, scan_at, seen_by, index_state, index_view_at}
-use Rattle.table_coverage.specs.TableSteps.{TaskTurns, SameRows, HasPut, SeesPlace}
+use Rattle.table_coverage.specs.TableSteps.{TaskTurns, SameRows, BeginsWith, Summarize, SummarizeOne, Desummarize, Vacuum, HasPut, SeesPlace}
 
 pub pick_same : (i : ℕ) → {A : Type 0} → (a b : A) → pick i i a b ≡ a
 pick_same zero a b = refl
@@ -20,6 +21,9 @@ pick_other zero zero a b apart = absurd (apart refl)
 pick_other zero (suc j) a b apart = refl
 pick_other (suc i) zero a b apart = refl
 pick_other (suc i) (suc j) a b apart = pick_other i j a b (λ e. apart (ap suc e))
+
+pub pick_there : {A : Type 0} → (n m : ℕ) (a b : A) → (n ≡ m) ⊎ (pick n m a b ≡ b)
+pick_there n m a b = ⊎_elim (λ (is : n ≡ m). inl is) (λ (other : n ≢ m). inr (pick_other n m a b other)) (cases_eq n m)
 
 pub pick_both : (i j : ℕ) → {A : Type 0} → (a : A) → pick i j a a ≡ a
 pick_both zero zero a = refl
@@ -161,6 +165,9 @@ module _ (i s : ℕ) (w v : TableState) (index : v.index i ≡ w.index i) where
   unnamed_at : SameUnnamed (index_view_at i w) (index_view_at i v)
   unnamed_at = record { unnamed = λ y. ap (λ (x : Index). x.unnamed y) index }
 
+  contents_at : (v.index i).contents ≡ (w.index i).contents
+  contents_at = ap (λ (x : Index). x.contents) index
+
   lock_at : (p : ℕ) → (v.index i).lock p ≡ (w.index i).lock p
   lock_at p = ap (λ (x : Index). x.lock p) index
 
@@ -178,12 +185,13 @@ module _ (i s : ℕ) (w v : TableState) (index : v.index i ≡ w.index i) where
     unnamed_tuples = unnamed_at;
     summarise_lock = summarise_lock;
     locks = locks_at;
+    contents = contents_at;
   }
 
   pub reads_by : SameHeap (index_view_at i w) (index_view_at i v) → v.summarise_lock ≡ w.summarise_lock → LocksNone (index_view_at i w) s
       → ReadsIndex s (index_view_at i w) (index_view_at i v)
   reads_by heap summarise_lock none = record {
-    frame = record { heap = heap; map = map_at; tuples = tuples_at; unnamed_tuples = unnamed_at; summarise_lock = summarise_lock; locks = locks_at };
+    frame = record { heap = heap; map = map_at; tuples = tuples_at; unnamed_tuples = unnamed_at; summarise_lock = summarise_lock; locks = locks_at; contents = contents_at };
     pages = ap (λ (x : Index). x.pages) index;
     none = none_at none;
   }
@@ -203,6 +211,7 @@ module _ (i s : ℕ) (w v : TableState) (old new : Task) (turns : TaskTurns s w 
 
     pub rests_at : v.summarise_lock ≡ w.summarise_lock → seen_by i new ≡ seen_by i old → Rests (index_state i w) (index_state i v)
     rests_at summarise_lock same = record {
+      contents = contents_at i s w v index;
       heap = heap_at;
       map = map_at i s w v index;
       tuples = tuples_at i s w v index;
@@ -233,7 +242,19 @@ module _ (i s : ℕ) (w v : TableState) (old new : Task) (turns : TaskTurns s w 
         unnamed_tuples = unnamed_at i s w v index;
         summarise_lock = tt;
         locks = locks_at i s w v index;
+        contents = contents_at i s w v index;
       };
       pages = ap (λ (x : Index). x.pages) index;
       none = none_at i s w v index none;
     }
+
+-- the scan of a task
+abbrev pub scan_of : Task → Option TableScan
+scan_of (Scans scan) = Some scan
+scan_of task = None
+
+pub begins_no_scan : (w : TableState) (first : Task) → BeginsWith w first → scan_of first ≡ None
+begins_no_scan w _ (Summarize at below) = refl
+begins_no_scan w _ (SummarizeOne at only below) = refl
+begins_no_scan w _ (Desummarize at only below) = refl
+begins_no_scan w _ Vacuum = refl

@@ -1,3 +1,5 @@
 pub mod Table
 pub mod TableSteps
 pub mod TableCovered
+pub mod TablePoints
+pub mod Machines

@@ -1,12 +1,13 @@
 -- A table with several indexes: what its statements are at, and how each index sees it.
 use Rattle.std.specs.Prelude.{ℕ, zero, suc, Bool, Option, None, Some}
 use Rattle.block_model.specs.declared.row.Row.{Row}
-use Rattle.coverage.specs.IndexView.{TuplePlace, IndexTuple, Pages, IndexView}
+use Rattle.coverage.specs.IndexView.{TuplePlace, IndexTuple, Contents, Pages, IndexView}
 use Rattle.coverage.specs.Statements.{OnIndex, Empty, Phase, Scan, Statement, Idle, Inserting, Maintaining, Holding, Scanning}
 use Rattle.coverage.specs.IsCovered.{IndexState, index_view}
 
--- one index of the table: its pages, range map and tuples, and who locks what
+-- one index of the table: what is made of its tuples, its pages, range map and tuples, and who locks what
 pub record Index : Type 0 where
+  pub contents : Contents
   pub pages_per_range : ℕ
   pub autosummarize : Bool
   pub entry : ℕ → Option TuplePlace
@@ -24,8 +25,9 @@ pub data Job : Type 0 where
   Desummarising : (only : ℕ) → Job
 
 -- A scan of the table: the rows that its session sees; the test of its query, and which tuples of each index keep it; the
--- extent that it read; the index and range that it judges next, and the place that the map named there; its candidate blocks,
--- and up to where they are read; the rows found. An explain reads none.
+-- extent that it read; the index and range that it judges next, and the place that the map named there; which ranges of which
+-- index it has judged, and whether it kept their blocks; its candidate blocks, and up to where they are read; the rows found. An
+-- explain reads none.
 pub record TableScan : Type 0 where
   pub sees : ℕ → ℕ → Bool
   pub matches : Row → Bool
@@ -35,6 +37,7 @@ pub record TableScan : Type 0 where
   pub at : ℕ
   pub range : ℕ
   pub held : Option TuplePlace
+  pub judged : ℕ → ℕ → Option Bool
   pub candidate : ℕ → Bool
   pub read : ℕ
   pub found : ℕ → ℕ → Bool
@@ -74,6 +77,10 @@ pick zero zero a b = a
 pick zero (suc m) a b = b
 pick (suc n) zero a b = b
 pick (suc n) (suc m) a b = pick n m a b
+
+-- the range that a scan is at is judged too
+abbrev pub judged_with : TableScan → Bool → ℕ → ℕ → Option Bool
+judged_with scan keeps i range = pick i scan.at (pick range scan.range (Some keeps) (scan.judged i range)) (scan.judged i range)
 
 -- what an insert that is at one index has on index i: nothing more to do on those before it, nothing yet on those after it
 abbrev pub on_index_by : ℕ → ℕ → OnIndex → Option OnIndex
@@ -118,6 +125,7 @@ seen_by i (Scans scan) = Scanning (scan_at i scan)
 -- the table as its index i sees it
 abbrev pub index_state : ℕ → TableState → IndexState
 index_state i w = record {
+  contents = (w.index i).contents;
   pages_per_range = (w.index i).pages_per_range;
   blocks = w.blocks;
   row = w.row;

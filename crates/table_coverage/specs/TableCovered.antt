@@ -1,11 +1,14 @@
 -- When a table is covered in all of its indexes, and what a scan of it still has before it.
-use Rattle.std.specs.Prelude.{◌≡◌, ◌⊎◌, ℕ, ◌≤◌, ◌<◌, IsTrue, false, None, Some}
+use Rattle.std.specs.Prelude.{◌≡◌, ◌≢◌, ◌⊎◌, ℕ, ◌≤◌, ◌<◌, IsTrue, ◌↔◌, true, false, None, Some}
 use Rattle.block_model.specs.declared.row.Row.{Row}
 use Rattle.coverage.specs.IndexView.{TuplePlace, Progress, IsBuilding}
+use Rattle.coverage.specs.Statements.{AreLawful}
 use Rattle.coverage.specs.IsCovered.{IsCovered, IsAtRest, IsIndexKept}
+use Rattle.coverage.specs.PageOrder.{AreOrdered, AreNewPages}
 use Rattle.coverage.specs.Steps.{Stops}
-use Rattle.table_coverage.specs.Table.{TableScan, Resting, Scans, TableState, index_state, index_view_at}
-use Rattle.table_coverage.specs.TableSteps.{range_in}
+use Rattle.table_coverage.specs.Table.{TableScan, Task, Resting, Considers, Maintains, Prunes, SweepsFrom, Sweeps, Restarts, Scans, TableState, index_state}
+use Rattle.table_coverage.specs.Table.{index_view_at}
+use Rattle.table_coverage.specs.TableSteps.{range_in, first_block}
 
 -- every index of the table is covered, and one statement of the table builds at a time
 pub record IsTableCovered (w : TableState) : Type 0 where
@@ -21,32 +24,60 @@ SeesRows w scan = (b k : ℕ) → IsTrue (scan.sees b k)
 abbrev pub AreIndexesKept : TableState → Type 0
 AreIndexesKept w = (i : ℕ) → i < w.indexes → IsIndexKept (index_state i w)
 
+-- a maintenance statement is in hand: summarise, desummarise, vacuum or a queued request
+abbrev pub IsMaintenance : Task → Type 0
+IsMaintenance (Considers job at range) = Unit
+IsMaintenance (Maintains job at range phase) = Unit
+IsMaintenance (Prunes extent next) = Unit
+IsMaintenance (SweepsFrom at from) = Unit
+IsMaintenance (Sweeps at page) = Unit
+IsMaintenance (Restarts at) = Unit
+IsMaintenance task = ⊥
+
+-- the table's summarise lock is held by the session with a maintenance statement in hand, and by no other
+abbrev pub IsHeldForMaintenance : TableState → Type 0
+IsHeldForMaintenance w = (s : ℕ) → (w.summarise_lock ≡ Some s) ↔ IsMaintenance (w.task s)
+
+-- the ranges that a scan has been at: those of the indexes before its own, and those before its range in its own
+abbrev pub IsBehind : TableScan → ℕ → ℕ → Type 0
+IsBehind scan i range = (i < scan.at) ⊎ ((i ≡ scan.at) × (range < scan.range))
+
+-- A block below the extent is a candidate exactly where no judged range of it left it out; and exactly the ranges that the scan
+-- has been at are judged, of those that begin below the extent.
+pub record JudgesExactly (w : TableState) (scan : TableScan) : Type 0 where
+  pub candidate : (b : ℕ) → IsTrue (scan.candidate b)
+      ↔ ((b < scan.extent) × ((i : ℕ) → i < w.indexes → scan.judged i (range_in w i b) ≢ Some false))
+  pub judged : (i range : ℕ) → i < w.indexes → IsBehind scan i range → first_block w i range < scan.extent → scan.judged i range ≢ None
+  pub behind : (i range : ℕ) → scan.judged i range ≢ None → IsBehind scan i range
+
 -- what every step of the table's statements keeps
 pub record IsTableKept (w : TableState) : Type 0 where
   pub indexes : AreIndexesKept w
+  pub summarise_lock : IsHeldForMaintenance w
   pub rows_below : (b k : ℕ) (r : Row) → w.row b k ≡ Some r → b < w.blocks
   pub scans : (s : ℕ) (scan : TableScan) → w.task s ≡ Scans scan → SeesRows w scan
+  pub exact : (s : ℕ) (scan : TableScan) → w.task s ≡ Scans scan → JudgesExactly w scan
 
--- the scan has judged this range of the index
-abbrev pub IsJudged : TableScan → ℕ → ℕ → Type 0
-IsJudged scan i range = (i < scan.at) ⊎ ((i ≡ scan.at) × (range < scan.range))
-
--- every index gives the block: its range is judged, and none has left the block out
+-- every index gives the block: its range there is judged and kept
 abbrev pub IsGiven : TableState → TableScan → ℕ → Type 0
-IsGiven w scan b = IsTrue (scan.candidate b) × ((i : ℕ) → i < w.indexes → IsJudged scan i (range_in w i b))
+IsGiven w scan b = (b < scan.extent) × ((i : ℕ) → i < w.indexes → scan.judged i (range_in w i b) ≡ Some true)
 
 -- the block lies in a range of some index that isn't judged yet
 abbrev pub IsUnjudged : TableState → TableScan → ℕ → Type 0
-IsUnjudged w scan b = (i : ℕ) × (i < w.indexes) × (IsJudged scan i (range_in w i b) → ⊥)
+IsUnjudged w scan b = (i : ℕ) × (i < w.indexes) × (scan.judged i (range_in w i b) ≡ None)
 
--- Nobody has a statement running, and each index rests; its ranges have blocks, and rows lie on blocks of the table.
+-- Nobody has a statement running, nobody holds the summarise lock, and each index rests; its pages stand in their order, its ranges
+-- have blocks, and rows lie on blocks of the table.
 pub record IsTableAtRest (w : TableState) : Type 0 where
   pub resting : (s : ℕ) → w.task s ≡ Resting
+  pub free : w.summarise_lock ≡ None
   pub rest : (i : ℕ) → i < w.indexes → IsAtRest (index_state i w)
+  pub ordered : (i : ℕ) → i < w.indexes → AreOrdered (index_view_at i w)
+  pub lawful : (i : ℕ) → i < w.indexes → AreLawful (w.index i).contents
   pub ranged : (i : ℕ) → i < w.indexes → 0 < (w.index i).pages_per_range
   pub rows_below : (b k : ℕ) (r : Row) → w.row b k ≡ Some r → b < w.blocks
 
--- a new table, without rows and tuples
+-- a new table, without rows and tuples, whose indexes have their first two pages
 pub record IsNewTable (w : TableState) : Type 0 where
   pub resting : (s : ℕ) → w.task s ≡ Resting
   pub free : w.summarise_lock ≡ None
@@ -55,12 +86,15 @@ pub record IsNewTable (w : TableState) : Type 0 where
   pub tuple : (i : ℕ) (x : TuplePlace) → (w.index i).tuple x ≡ None
   pub lock : (i p : ℕ) → (w.index i).lock p ≡ None
   pub unnamed : (i : ℕ) (x : TuplePlace) → (w.index i).unnamed x ≡ false
+  pub pages : (i : ℕ) → AreNewPages (w.index i).pages
+  pub lawful : (i : ℕ) → AreLawful (w.index i).contents
   pub ranged : (i : ℕ) → 0 < (w.index i).pages_per_range
 
--- after a stop nobody is at work, and each index of the table is as one index is
+-- after a stop nobody is at work, and each index of the table is as one index is; a heap block may be started and have no row
 pub record TableStops (w v : TableState) : Type 0 where
   pub resting : (s : ℕ) → v.task s ≡ Resting
+  pub free : v.summarise_lock ≡ None
   pub indexes : v.indexes ≡ w.indexes
-  pub blocks : v.blocks ≡ w.blocks
+  pub blocks : w.blocks ≤ v.blocks
   pub row : (b k : ℕ) → v.row b k ≡ w.row b k
   pub stops : (i : ℕ) → i < w.indexes → Stops (index_state i w) (index_state i v)

@@ -1,16 +1,15 @@
 -- The steps of the statements of a table with several indexes: which comes next, and what it waits for.
-use Rattle.std.specs.Prelude.{◌≡◌, ◌≢◌, ◌⊎◌, ℕ, suc, ◌+◌, ◌*◌, ◌/◌, ◌≤◌, ◌<◌, max, Bool, true, false, IsTrue, ◌↔◌, None, Some, List, [], ◌∷◌, length}
+use Rattle.std.specs.Prelude.{◌≡◌, ◌≢◌, ◌⊎◌, ℕ, suc, ◌+◌, ◌*◌, ◌/◌, ◌≤◌, ◌<◌, max, Bool, true, false, IsTrue, ◌↔◌, None, Some, List, [], ◌∷◌}
 use Rattle.block_model.specs.declared.row.Row.{Row}
-use Rattle.coverage.specs.IndexView.{TuplePlace, IndexTuple, Progress, Regular, Emptying, IndexView, range_of_block}
-use Rattle.coverage.specs.Changes.{IsFree}
-use Rattle.coverage.specs.Verdicts.{IsLocked, Waits, Full, PutVerdict, SwapVerdict, ClearVerdict}
-use Rattle.coverage.specs.Statements.{OnIndex, Empty, Held, Copied, Phase, NotBuilding, Vacant, IsAt, Statement, Idle, Inserting, Maintaining, Holding}
+use Rattle.coverage.specs.IndexView.{TuplePlace, IndexTuple, Regular, Emptying, IndexView, range_of_block}
+use Rattle.coverage.specs.Verdicts.{IsLocked, Waits, Full, SwapVerdict, ClearVerdict}
+use Rattle.coverage.specs.Statements.{OnIndex, Empty, Held, Copied, Phase, NotBuilding, Statement, Idle, Inserting, Maintaining, Holding}
 use Rattle.coverage.specs.Statements.{loose_in, loose_at}
-use Rattle.coverage.specs.Waiting.{IsPhaseWaiting}
-use Rattle.coverage.specs.Steps.{IsUnnamed, IsGone, Stands, SweepsTuples, Excludes, InsertStep, next_map_page, IsPastMap, IsNextTuple, Grows, SummariseStep}
+use Rattle.coverage.specs.Waiting.{IsPhaseWaiting, IsPhaseFull}
+use Rattle.coverage.specs.Steps.{IsUnnamed, IsGone, Stands, SweepsTuples, Excludes, InsertStep, SummariseStep}
 use Rattle.coverage.specs.Steps.{DesummariseStep, SummariseLockPasses}
 use Rattle.table_coverage.specs.Table.{Job, EachRange, OneRange, WholeRanges, Desummarising, TableScan, Task, Resting, Reaches, Asks, Inserts, Considers}
-use Rattle.table_coverage.specs.Table.{Maintains, Prunes, SweepsFrom, Sweeps, Restarts, Scans, TableState, index_view_at}
+use Rattle.table_coverage.specs.Table.{Maintains, Prunes, SweepsFrom, Sweeps, Restarts, Scans, TableState, judged_with, index_view_at}
 
 -- the session's statement turns from one into the other
 pub record TaskTurns (s : ℕ) (w v : TableState) (old new : Task) : Type 0 where
@@ -107,12 +106,7 @@ JobStep (Desummarising only) s range w v old new = DesummariseStep s range w v o
 -- A maintenance statement is refused: memory is short while nothing of it is loose; or no page is left for a tuple or for the map.
 pub data IsMaintainRefused (w : IndexView) (s range : ℕ) : Phase → Type 0 where
   NoMemory : (phase : Phase) → loose_at phase ≡ None → IsMaintainRefused w s range phase
-  FinalFull : (p : Progress) (x : TuplePlace) (old new : IndexTuple) → SwapVerdict w s range x old new Full
-      → IsMaintainRefused w s range (IsAt p (Copied x old new))
-  PlaceFull : (IsPastMap w range → ⊥) → PutVerdict w s range w.pages.placeholder Full → IsMaintainRefused w s range Vacant
-  MapFull : IsPastMap w range → w.pages.limit ≤ next_map_page w → IsMaintainRefused w s range Vacant
-  EvacuateFull : (x : TuplePlace) (t : IndexTuple) → Grows w range Emptying → IsNextTuple w (next_map_page w) x t → w.entry t.range ≡ Some x
-      → IsFree w s x.block → PutVerdict w s t.range (length t.bytes) Full → IsMaintainRefused w s range Vacant
+  NoPage : (phase : Phase) → IsPhaseFull w s range phase → IsMaintainRefused w s range phase
 
 -- A step is blocked: another session holds the summarise lock, or the lock of the page that is needed first.
 pub data IsBlocked (w : TableState) (s : ℕ) : Task → Type 0 where
@@ -165,6 +159,7 @@ pub record ScanBegins (w : TableState) (scan : TableScan) : Type 0 where
   pub at : scan.at ≡ 0
   pub range : scan.range ≡ 0
   pub held : scan.held ≡ None
+  pub judged : (i range : ℕ) → scan.judged i range ≡ None
   pub read : scan.read ≡ 0
   pub found : (b k : ℕ) → scan.found b k ≡ false
   pub explain : scan.explains ≡ true → (b k : ℕ) → scan.sees b k ≡ false
@@ -172,14 +167,14 @@ pub record ScanBegins (w : TableState) (scan : TableScan) : Type 0 where
 -- One step of a scan in its range of the index that it judges, as a scan's step there.
 pub data JudgeStep (w : IndexView) (old : TableScan) : TableScan → Type 0 where
   JudgeMap : (x : TuplePlace) → old.held ≡ None → w.entry old.range ≡ Some x → JudgeStep w old (record old { held = Some x })
-  JudgeNoEntry : old.held ≡ None → w.entry old.range ≡ None → JudgeStep w old (record old { range = suc old.range })
+  JudgeNoEntry : old.held ≡ None → w.entry old.range ≡ None → JudgeStep w old (record old { range = suc old.range; judged = judged_with old true })
   JudgeGone : (x : TuplePlace) → old.held ≡ Some x → IsGone w old.range x → JudgeStep w old (record old { held = None })
   JudgeKeeps : (x : TuplePlace) (t : IndexTuple) → old.held ≡ Some x → Stands w old.range x t → IsTrue (old.keeps old.at t)
-      → JudgeStep w old (record old { range = suc old.range; held = None })
+      → JudgeStep w old (record old { range = suc old.range; held = None; judged = judged_with old true })
   JudgeDrops : (x : TuplePlace) (t : IndexTuple) (candidate : ℕ → Bool) → old.held ≡ Some x → Stands w old.range x t → old.keeps old.at t ≡ false
       → Excludes t old.matches
       → ((b : ℕ) → ((range_of_block w b ≡ old.range) × (candidate b ≡ false)) ⊎ ((range_of_block w b ≢ old.range) × (candidate b ≡ old.candidate b)))
-      → JudgeStep w old (record old { range = suc old.range; held = None; candidate = candidate })
+      → JudgeStep w old (record old { range = suc old.range; held = None; judged = judged_with old false; candidate = candidate })
 
 -- the next given block is read, and exactly its visible matches are found
 pub record ReadsPage (w : TableState) (scan : TableScan) (next : ℕ) (found : ℕ → ℕ → Bool) : Type 0 where
@@ -303,6 +298,10 @@ pub record TableStep (s : ℕ) (w v : TableState) : Type 0 where
   pub between : TableState
   pub does : Does s w between
   pub settles : Settles s between v
+
+-- the session has no step
+abbrev pub IsTableStuck : TableState → ℕ → Type 0
+IsTableStuck w s = (v : TableState) → TableStep s w v → ⊥
 
 -- these sessions step, one after the other
 pub data TableRun : List ℕ → TableState → TableState → Type 0 where

@@ -5,12 +5,19 @@
 //! of each of its steps which one of specs/TableSteps it is, and has coverage and the completeness of scans from here.
 #![tactic(auto)]
 
-ghost use Rattle.std.specs.Prelude.{◌≡◌, ◌⊎◌, ◌≤◌, ℕ, Bool, false, IsTrue, Some, List};
+ghost use Rattle.std.specs.Prelude.{◌≡◌, ◌≢◌, ◌⊎◌, ◌↔◌, ◌≤◌, ◌<◌, ℕ, Bool, false, IsTrue, None, Some, List};
 ghost use Rattle.block_model.specs.declared.row.Row.{Row};
-ghost use Rattle.coverage.specs.IndexView.{IndexTuple};
+ghost use Rattle.coverage.specs.IndexView.{TuplePlace, IndexTuple};
 ghost use Rattle.coverage.specs.Steps.{Excludes};
-ghost use Rattle.table_coverage.specs.Table.{TableScan, Task, Resting, Scans, TableState, index_view_at};
-ghost use Rattle.table_coverage.specs.TableSteps.{OnlyTurns, JudgeStep, ReadsPage, IsBlocked, Does, HasStep, Onward, IsMaintained, TableStep, TableRun};
+ghost use Rattle.table_coverage.specs.Table.{Job, TableScan, Task, Resting, Inserts, Maintains, Prunes, Sweeps, Restarts, Scans, TableState, index_view_at};
+ghost use Rattle.table_coverage.specs.TableSteps.{OnlyTurns, JudgeStep, ReadsPage, IsBlocked, Does, HasStep, Onward, IsMaintained, TableStep, IsTableStuck, TableRun};
+ghost use Rattle.coverage.specs.Changes.{IsFree};
+ghost use Rattle.table_coverage.specs.TablePoints.{TablePoint, does_point};
+ghost use Rattle.table_coverage.specs.Machines.{ShownTable, Unseen, table_state, task_turned, IsFewer, MachineSteps, MachineEnds, ScanReplies, ChangesIndex, InsertStepsIn};
+ghost use Rattle.table_coverage.specs.Machines.{MaintainStepsIn};
+ghost use Rattle.coverage.specs.Statements.{OnIndex, Phase, Inserting, Maintaining};
+ghost use Rattle.coverage.specs.Knowing.{Knows};
+ghost use Rattle.coverage.specs.PageOrder.{KnowsPages};
 ghost use Rattle.table_coverage.specs.TableCovered.{IsTableCovered, IsTableKept, IsTableAtRest, IsNewTable, TableStops, IsGiven, IsUnjudged};
 
 /// A blocked statement stays where it is and nothing changes, or it is refused.
@@ -19,16 +26,25 @@ pub fn blocked_statements_wait()
         → ((v.task s ≡ w.task s) × OnlyTurns w v) ⊎ (v.task s ≡ Resting) }
 {}
 
-/// Where a statement of a table comes by its step is one thing: its next step, or its reply. No step is left that does nothing.
+/// Where a statement of a table comes by its step is one thing: its next step, or its reply. No step is left that does nothing; and
+/// of the steps that a running statement could take at a moment there is one point alone.
 pub fn statements_go_on_in_one_way()
     ensures one_way { (w : TableState) (old p q : Task) → Onward w old p → Onward w old q → p ≡ q }
     ensures or_reply { (w : TableState) (old q : Task) → IsMaintained w old → Onward w old q → ⊥ }
     ensures at_a_step { (s : ℕ) (w v : TableState) → TableStep s w v → HasStep v (v.task s) }
+    ensures one_point { (s : ℕ) (w v u : TableState) (p q : TablePoint) → (w.task s ≡ Resting → ⊥) → (one : Does s w v) (two : Does s w u)
+        → does_point s w v one ≡ Some p → does_point s w u two ≡ Some q → p ≡ q }
 {}
 
-/// Whatever the statements of a table with several indexes do, in any interleaving, each of its indexes stays covered.
+/// Whatever the statements of a table with several indexes do, in any interleaving, each of its indexes stays covered; the
+/// summarise lock is held for maintenance alone. It holds between what a step does and where its statement comes, too. Which ranges
+/// of an index have an entry is the matter of the session alone that holds the summarise lock; and the table's blocks only grow.
 pub fn table_stays_covered()
     ensures kept { (steps : List ℕ) (w v : TableState) → IsTableKept w → TableRun steps w v → IsTableKept v }
+    ensures between { (s : ℕ) (w v : TableState) → IsTableKept w → Does s w v → IsTableKept v }
+    ensures entries { (s : ℕ) (w v : TableState) (i range : ℕ) → IsTableKept w → TableStep s w v → w.summarise_lock ≢ Some s
+        → ((w.index i).entry range ≡ None) ↔ ((v.index i).entry range ≡ None) }
+    ensures blocks { (steps : List ℕ) (w v : TableState) → TableRun steps w v → w.blocks ≤ v.blocks }
     ensures covered { (w : TableState) → IsTableKept w → IsTableCovered w }
     ensures opened { (w : TableState) → IsTableCovered w → IsTableAtRest w → IsTableKept w }
     ensures stopped { (w v : TableState) → IsTableKept w → TableStops w v → IsTableKept v }
@@ -41,17 +57,62 @@ pub fn scans_are_exact()
     ensures judged { (w : TableState) (old p q : TableScan) → JudgeStep (index_view_at old.at w) old p → JudgeStep (index_view_at old.at w) old q → p ≡ q }
     ensures read { (w : TableState) (scan : TableScan) (m n : ℕ) (f g : ℕ → ℕ → Bool) → ReadsPage w scan m f → ReadsPage w scan n g
         → (m ≡ n) × ((b k : ℕ) → f b k ≡ g b k) }
-    ensures some_judged { (w : TableState) (scan : TableScan) → ((t : IndexTuple) → scan.keeps scan.at t ≡ false → Excludes t scan.matches)
+    ensures some_judged { (w : TableState) (scan : TableScan)
+        → ((x : TuplePlace) (t : IndexTuple) → (w.index scan.at).tuple x ≡ Some t → scan.keeps scan.at t ≡ false → Excludes t scan.matches)
         → (q : TableScan) × JudgeStep (index_view_at scan.at w) scan q }
     ensures some_read { (w : TableState) (scan : TableScan) (b : ℕ) → scan.explains ≡ false → scan.at ≡ w.indexes → IsTrue (scan.candidate b) → scan.read ≤ b
         → (next : ℕ) × (found : ℕ → ℕ → Bool) × ReadsPage w scan next found }
 {}
 
 /// Each matching row that a scan's session sees is found, or lies in a given block that isn't read yet, or in a range that
-/// isn't judged yet; and when the scan replies, it is found. A block is given where every index of the table gives it.
+/// isn't judged yet; and when the scan replies, it is found: `replies` says it of the scan's last step, after which no step of it
+/// is left. A block is given where every index of the table gives it, as each judged range was kept or not by what its step read;
+/// the candidates of a scan or an explain that replies are exactly the given blocks.
 pub fn table_scans_miss_nothing()
     ensures found { (w : TableState) (s b k : ℕ) (scan : TableScan) → IsTableKept w → w.task s ≡ Scans scan → IsTrue (scan.sees b k)
         → (r : Row) × (w.row b k ≡ Some r) × (IsTrue (scan.matches r) → IsTrue (scan.found b k) ⊎ (IsGiven w scan b × (scan.read ≤ b)) ⊎ IsUnjudged w scan b) }
     ensures replied { (w : TableState) (s b k : ℕ) (scan : TableScan) → IsTableKept w → w.task s ≡ Scans scan → Onward w (Scans scan) Resting
         → scan.explains ≡ false → IsTrue (scan.sees b k) → (r : Row) × (w.row b k ≡ Some r) × (IsTrue (scan.matches r) → IsTrue (scan.found b k)) }
+    ensures replies { (s b k : ℕ) (w v : TableState) (scan : TableScan) → IsTableKept w → Does s w v → v.task s ≡ Scans scan → Onward v (Scans scan) Resting
+        → scan.explains ≡ false → IsTrue (scan.sees b k) → (r : Row) × (v.row b k ≡ Some r) × (IsTrue (scan.matches r) → IsTrue (scan.found b k)) }
+    ensures given { (s : ℕ) (w v : TableState) (scan : TableScan) → IsTableKept w → Does s w v → v.task s ≡ Scans scan → Onward v (Scans scan) Resting
+        → (b : ℕ) → IsTrue (scan.candidate b) ↔ IsGiven v scan b }
+{}
+
+/// A vacuum is never stuck beside its ranges: at a block of the heap and before an index it has a step, and at an index page it has
+/// one unless another session locks the page.
+pub fn vacuums_go_on()
+    ensures prunes { (w : TableState) (s extent next : ℕ) → w.task s ≡ Prunes extent next → next < extent → IsTableStuck w s → ⊥ }
+    ensures sweeps { (w : TableState) (s at page : ℕ) → w.task s ≡ Sweeps at page → at < w.indexes → IsFree (index_view_at at w) s page
+        → IsTableStuck w s → ⊥ }
+    ensures restarts { (w : TableState) (s at : ℕ) → w.task s ≡ Restarts at → at < w.indexes → IsTableStuck w s → ⊥ }
+{}
+
+/// What a machine promises over the pages and page locks that it sees, the table takes up: a step of it, whatever it doesn't see,
+/// keeps the table; so does its last step, with which the summarise lock is given; and after the last step of a scan each matching row
+/// that its session sees is found.
+pub fn machines_keep()
+    ensures steps { (s : ℕ) (old new : ShownTable) (before after : Task) (u : Unseen) → MachineSteps s old new before after → u.task s ≡ before
+        → IsTableKept (table_state old u)
+        → (unnamed : ℕ → TuplePlace → Bool) × IsFewer u.unnamed unnamed × IsTableKept (table_state new (task_turned s after (record u { unnamed = unnamed }))) }
+    ensures ends { (s : ℕ) (old new : ShownTable) (before : Task) (u : Unseen) → MachineEnds s old new before → u.task s ≡ before
+        → IsTableKept (table_state old u) → IsTableKept (table_state new (record (task_turned s Resting u) { summarise_lock = None })) }
+    ensures replies { (s b k : ℕ) (old new : ShownTable) (before : Task) (scan : TableScan) (u : Unseen) → ScanReplies s old new before scan
+        → u.task s ≡ before → IsTableKept (table_state old u) → scan.explains ≡ false → IsTrue (scan.sees b k)
+        → (r : Row) × (new.row b k ≡ Some r) × (IsTrue (scan.matches r) → IsTrue (scan.found b k)) }
+{}
+
+/// A machine's step in one index that is one of the definitions is a step of the table; and what its statement knows in that index
+/// holds whenever the table is kept.
+pub fn machines_in_one_index()
+    ensures insert { (s b k : ℕ) (r : Row) (at : ℕ) (old new : ShownTable) (before after : OnIndex) → ChangesIndex at old new
+        → InsertStepsIn s b k r at old new before after → MachineSteps s old new (Inserts b k r at before) (Inserts b k r at after) }
+    ensures maintain { (s : ℕ) (job : Job) (at range : ℕ) (old new : ShownTable) (before after : Phase) → ChangesIndex at old new
+        → MaintainStepsIn s job at range old new before after → MachineSteps s old new (Maintains job at range before) (Maintains job at range after) }
+    ensures insert_knows { (s b k : ℕ) (r : Row) (at : ℕ) (w : TableState) (on_index : OnIndex) → IsTableKept w → at < w.indexes
+        → w.task s ≡ Inserts b k r at on_index
+        → Knows (index_view_at at w) s (Inserting b k r on_index) × KnowsPages (index_view_at at w) s (Inserting b k r on_index) }
+    ensures maintain_knows { (s : ℕ) (job : Job) (at range : ℕ) (w : TableState) (phase : Phase) → IsTableKept w → at < w.indexes
+        → w.task s ≡ Maintains job at range phase
+        → Knows (index_view_at at w) s (Maintaining range phase) × KnowsPages (index_view_at at w) s (Maintaining range phase) }
 {}

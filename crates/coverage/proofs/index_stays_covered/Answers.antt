@@ -1,6 +1,12 @@
 use Rattle.coverage.proofs.Covered.{kept_covered}
-use Rattle.coverage.proofs.Runs.{run_kept}
+use Rattle.coverage.proofs.Runs.{run_kept, run_blocks, entries_stay, named_past_map}
 use Rattle.coverage.proofs.index_stays_covered.Goals as goal
 
 pub returns : goal.returns
-returns c = record { kept = run_kept; covered = kept_covered }
+returns c = record {
+  kept = run_kept;
+  covered = kept_covered;
+  entries = λ s w v kept step free range. entries_stay s w v kept step free range;
+  past_map = named_past_map;
+  blocks = run_blocks;
+}

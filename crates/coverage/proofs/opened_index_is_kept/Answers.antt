@@ -3,7 +3,7 @@ use Rattle.coverage.proofs.opened_index_is_kept.Goals as goal
 
 pub returns : goal.returns
 returns c = record {
-  opened = λ w covered rest ranged below. rest_kept w covered rest ranged below;
+  opened = λ w covered rest ranged below ordered lawful. rest_kept w covered rest ranged below ordered lawful;
   new = new_kept;
   stopped = stopped_kept;
 }

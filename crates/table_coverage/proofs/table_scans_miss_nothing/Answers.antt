@@ -1,5 +1,12 @@
+use Rattle.table_coverage.proofs.TableSeen.{table_between_kept}
+use Rattle.table_coverage.proofs.TableJudged.{replied_given}
 use Rattle.table_coverage.proofs.TableScans.{table_scan_finds, replied_finds}
 use Rattle.table_coverage.proofs.table_scans_miss_nothing.Goals as goal
 
 pub returns : goal.returns
-returns c = record { found = table_scan_finds; replied = replied_finds }
+returns c = record {
+  found = table_scan_finds;
+  replied = replied_finds;
+  replies = λ s b k w v scan kept does is done reads sees. replied_finds v s b k scan (table_between_kept s w v kept does) is done reads sees;
+  given = λ s w v scan kept does is done b. replied_given v scan ((table_between_kept s w v kept does).exact s scan is) done b;
+}

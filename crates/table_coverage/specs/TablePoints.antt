@@ -1,0 +1,57 @@
+-- The name of each step of a table's statements, as it is printed.
+use Rattle.std.specs.Prelude.{ℕ, Option, None, Some}
+use Rattle.coverage.specs.IndexView.{IndexView}
+use Rattle.coverage.specs.Statements.{Phase, Statement, Maintaining, Holding}
+use Rattle.coverage.specs.Points.{Point, AtMap, AtTuple, AtExtent, insert_point, summarise_point, desummarise_point}
+use Rattle.table_coverage.specs.Table.{Job, EachRange, OneRange, WholeRanges, Desummarising, TableScan, TableState, index_view_at}
+use Rattle.table_coverage.specs.TableSteps.{JobStep, JudgeStep, JudgeMap, JudgeNoEntry, JudgeGone, JudgeKeeps, JudgeDrops, Does, PutsRow, AsksSummary, InsertGoes}
+use Rattle.table_coverage.specs.TableSteps.{InsertCompletes, RefusesInsert, TakesLock, MaintainGoes, MaintainCompletes, RefusesMaintain, RefusesVacuum}
+use Rattle.table_coverage.specs.TableSteps.{PrunesBlock, SweepsPage, RestartsIndex, BeginsScan, Judges, ReadsBlock, RefusesScan, Blocked, Transacts}
+
+-- a point of an index, or one of the table: a row is put, a summary asked for, the summarise lock taken or found held, a heap block
+-- pruned, an index page swept, a heap block read
+pub data TablePoint : Type 0 where
+  OfIndex : Point → TablePoint
+  AtRow : TablePoint
+  AtAsk : TablePoint
+  AtRight : TablePoint
+  AtPrune : TablePoint
+  AtSweep : TablePoint
+  AtPage : TablePoint
+
+abbrev pub job_point : (job : Job) (s range : ℕ) (w v : IndexView) (old : Phase) (new : Statement) → JobStep job s range w v old new → Point
+job_point (EachRange extent) s range w v old new step = summarise_point step
+job_point (OneRange extent only) s range w v old new step = summarise_point step
+job_point (WholeRanges extent) s range w v old new step = summarise_point step
+job_point (Desummarising only) s range w v old new step = desummarise_point step
+
+abbrev pub judge_point : {w : IndexView} {old new : TableScan} → JudgeStep w old new → Point
+judge_point (JudgeMap x empty named) = AtMap
+judge_point (JudgeNoEntry empty none) = AtMap
+judge_point (JudgeGone x held gone) = AtTuple
+judge_point (JudgeKeeps x t held stands keeps) = AtTuple
+judge_point (JudgeDrops x t candidate held stands drops excludes others) = AtTuple
+
+-- a refusal, a wait, and what a transaction alone does have none
+abbrev pub does_point : (s : ℕ) (w v : TableState) → Does s w v → Option TablePoint
+does_point s w v (PutsRow b k r place turns takes) = Some AtRow
+does_point s w v (AsksSummary b k r at turns only) = Some AtAsk
+does_point s w v (InsertGoes b k r at old new turns stepped step) = Some (OfIndex (insert_point step))
+does_point s w v (InsertCompletes b k r at old turns stepped step) = Some (OfIndex (insert_point step))
+does_point s w v (RefusesInsert b k r old refused turns fails) = None
+does_point s w v (TakesLock first begins turns free held rows indexes) = Some AtRight
+does_point s w v (MaintainGoes job at range old new turns stepped step) =
+    Some (OfIndex (job_point job s range (index_view_at at w) (index_view_at at v) old (Maintaining range new) step))
+does_point s w v (MaintainCompletes job at range old turns stepped step) =
+    Some (OfIndex (job_point job s range (index_view_at at w) (index_view_at at v) old Holding step))
+does_point s w v (RefusesMaintain job at range phase refused turns stepped passes) = None
+does_point s w v (RefusesVacuum old vacuuming turns given rows indexes) = None
+does_point s w v (PrunesBlock extent next dropped inside spared turns drops) = Some AtPrune
+does_point s w v (SweepsPage at page turns stepped sweeps) = Some AtSweep
+does_point s w v (RestartsIndex at turns only) = Some AtRight
+does_point s w v (BeginsScan scan begins turns only) = Some (OfIndex AtExtent)
+does_point s w v (Judges old new inside low step turns only) = Some (OfIndex (judge_point step))
+does_point s w v (ReadsBlock scan next found reads turns only) = Some AtPage
+does_point s w v (RefusesScan scan t turns how) = None
+does_point s w v (Blocked task blocked turns only) = None
+does_point s w v (Transacts counts resting few same) = None
