@@ -27,12 +27,12 @@ same_turned (Some a) None = refl
 same_turned (Some a) (Some b) = int_eq_turned a b
 
 -- an operator that is no null test compares values of one kind
-abbrev is_comparison : Op → Bool
+abbrev pub is_comparison : Op → Bool
 is_comparison IsNull = false
 is_comparison NotNull = false
 is_comparison op = true
 
-compares : (op : Op) → is_comparison op ≡ true → (v k : Value) → matches v op k ≡ kind_matches v op k
+pub compares : (op : Op) → is_comparison op ≡ true → (v k : Value) → matches v op k ≡ kind_matches v op k
 compares IsNull h v k = absurd (false≢true h)
 compares NotNull h v k = absurd (false≢true h)
 compares op h Null k = refl

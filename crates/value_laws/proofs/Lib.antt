@@ -3,3 +3,7 @@ mod Bounds
 mod Sets
 mod Equality
 mod Within
+mod Addresses
+mod Networks
+mod Numbers
+mod OperatorKinds

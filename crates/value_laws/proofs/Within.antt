@@ -7,7 +7,7 @@ use Rattle.block_model.specs.Networks.{Network, leading_bits, width_of}
 use Rattle.value_laws.specs.WithinIsPreorder.{IsWithin, WithinIsPreorder}
 
 -- fewer leading bits of addresses that agree in more
-fewer : (a b w p q : ℕ) → q ≤ p → a / 2 ^ (w - p) ≡ b / 2 ^ (w - p) → a / 2 ^ (w - q) ≡ b / 2 ^ (w - q)
+pub fewer : (a b w p q : ℕ) → q ≤ p → a / 2 ^ (w - p) ≡ b / 2 ^ (w - p) → a / 2 ^ (w - q) ≡ b / 2 ^ (w - q)
 fewer a b w p q h e =
     let split : w - q ≡ (w - p) + ((w - q) - (w - p)) = omega arith in
     ap (λ (m : ℕ). a / 2 ^ m) split ∙ sym (shr-shr a (w - p) ((w - q) - (w - p))) ∙ ap (λ (x : ℕ). x / 2 ^ ((w - q) - (w - p))) e ∙ shr-shr b (w - p) ((w - q) - (w - p)) ∙ ap (λ (m : ℕ). b / 2 ^ m) (sym split)
@@ -18,10 +18,10 @@ fewer_bits v m q same h agree =
     ap (λ (f : ℕ). v.address / 2 ^ (width_of f - q)) same ∙ fewer v.address m.address (width_of m.family) m.prefix q h e
 
 -- the three parts of it
-record Parts (v k : Network) : Type 0 where
-  family : v.family ≡ k.family
-  longer : k.prefix ≤ v.prefix
-  agree : leading_bits v k.prefix ≡ leading_bits k k.prefix
+pub record Parts (v k : Network) : Type 0 where
+  pub family : v.family ≡ k.family
+  pub longer : k.prefix ≤ v.prefix
+  pub agree : leading_bits v k.prefix ≡ leading_bits k k.prefix
 
 equal : (a b : ℕ) → (a == b) ≡ true → a ≡ b
 equal a b e = grind arith
@@ -35,13 +35,13 @@ at_most a b e = grind arith
 is_at_most : (a b : ℕ) → a ≤ b → nat_le a b ≡ true
 is_at_most a b e = grind arith
 
-parts : (v k : Network) → IsWithin v k → Parts v k
+pub parts : (v k : Network) → IsWithin v k → Parts v k
 parts v k h =
     let p : (((v.family == k.family) && nat_le k.prefix v.prefix) ≡ true) × ((leading_bits v k.prefix == leading_bits k k.prefix) ≡ true) = and_parts _ _ h in
     let q : ((v.family == k.family) ≡ true) × (nat_le k.prefix v.prefix ≡ true) = and_parts _ _ p.0 in
     record { family = equal v.family k.family q.0; longer = at_most k.prefix v.prefix q.1; agree = equal (leading_bits v k.prefix) (leading_bits k k.prefix) p.1 }
 
-whole : (v k : Network) → Parts v k → IsWithin v k
+pub whole : (v k : Network) → Parts v k → IsWithin v k
 whole v k h = and_from _ _ (and_from _ _ (is_equal v.family k.family h.family) (is_at_most k.prefix v.prefix h.longer)) (is_equal (leading_bits v k.prefix) (leading_bits k k.prefix) h.agree)
 
 transitive : (v m k : Network) → Parts v m → Parts m k → Parts v k

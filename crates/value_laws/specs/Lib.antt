@@ -10,3 +10,8 @@ pub mod NotAfterIsReached
 pub mod NotBeforeIsPreceded
 pub mod WithinIsPreorder
 pub mod MutualWithinIsOneNetwork
+pub mod AddressesOfNetworks
+pub mod NetworksAreSets
+pub mod NumbersAreOrdered
+pub mod OperatorsHaveKinds
+pub mod NullTests
