@@ -12,10 +12,11 @@ use Rattle.std.proofs.lemmas.List.Sums.{sum_by-cons}
 use borrow.Author.Gap.{read_sfits}
 use Rattle.byte_fields.specs.Fields.{AreBytes, field_at, number_of, number-fits, number-bytes, bytes-number, length-field, length-number}
 use Rattle.byte_fields.specs.Int8.{int8_bytes, length-int8, number_back}
+use Rattle.opclass_multi.specs.declared.bytes.ReadElement.{ReadElement}
 use Rattle.opclass_multi.specs.declared.element.Element.{Element}
 use Rattle.opclass_multi.specs.Elements.{point, IsOrdered, StartsAfter, AreApart, weight, count_of}
 use Rattle.opclass_multi.specs.Encoding.{element_bytes, size_of, elements_bytes}
-use Rattle.opclass_multi.specs.Reading.{number_at, is_above, point_in, interval_in, element_in, behind, read_on, elements_in, counted_in, read_of, kept_in, summary_in}
+use Rattle.opclass_multi.specs.Reading.{number_at, is_above, point_in, interval_in, element_in, behind, read_on, elements_in, counted_in, read_of, kept_in, sized, summary_in}
 use Rattle.opclass_multi.proofs.Reducing.{count_least, weight_bounds}
 use Rattle.opclass_multi.proofs.Writing.{interval_bytes, point_bytes, interval_size, point_size, by_width, length-element}
 
@@ -215,6 +216,18 @@ element_taken intervals before (tag ∷ bytes) e small is =
     (λ t is. let parts = and_parts (tag == 1) (nat_lt 0 intervals) t in
     subst (λ n. Taken intervals before (n ∷ bytes) e) (sym (eqb-true tag 1 parts.0)) (interval_taken intervals before bytes e (λ i. small (suc i)) (ltb-true 0 intervals parts.1) is))
     (λ g wrong. absurd (cc)))
+
+-- an element that was read with its size
+pub sized_ok : (r : Result Element ℕ) (t : ReadElement) → sized r ≡ Ok t → (r ≡ Ok t.element) × (t.size ≡ size_of t.element)
+sized_ok (Ok e) t is =
+    let one : ReadElement = record { element = e; size = size_of e } in
+    let own : one ≡ t = cc in
+    (λ i. Ok ((own i).element), sym (ap (λ (x : ReadElement). x.size) own) ∙ ap (λ (x : ReadElement). size_of x.element) own)
+sized_ok (Err at) t is = absurd (cc)
+
+pub sized_err : (r : Result Element ℕ) (place : ℕ) → sized r ≡ Err place → r ≡ Err place
+sized_err (Ok e) place is = absurd (cc)
+sized_err (Err at) place is = let own : at ≡ place = cc in ap Err own
 
 -- elements that were read
 record AllTaken (n intervals : ℕ) (before : Option ℤ) (bytes : List ℕ) (es : List Element) : Type 0 where

@@ -2,6 +2,7 @@
 use Rattle.std.specs.Prelude.{ℕ, zero, suc, ◌+◌, ◌-◌, ◌==◌, nat_lt, ℤ, int_lt, Bool, true, ◌&&◌, if◌then◌else◌, Option, None, Some, Result, Ok, Err, List, [], ◌∷◌, ◌++◌, length, drop}
 use Rattle.std.specs.Int.{w64, cast_signed}
 use Rattle.byte_fields.specs.Fields.{field_at, number_of}
+use Rattle.opclass_multi.specs.declared.bytes.ReadElement.{ReadElement}
 use Rattle.opclass_multi.specs.declared.element.Element.{Element}
 use Rattle.opclass_multi.specs.Elements.{point, weight}
 use Rattle.opclass_multi.specs.Encoding.{size_of}
@@ -37,6 +38,11 @@ element_in intervals before [] = Err 0
 element_in intervals before (tag ∷ bytes) =
     if tag == 0 then point_in before bytes
     else (if (tag == 1 && nat_lt 0 intervals) then interval_in before bytes else Err 0)
+
+-- an element with the number of its bytes
+abbrev pub sized : Result Element ℕ → Result ReadElement ℕ
+sized (Ok e) = Ok (record { element = e; size = size_of e })
+sized (Err at) = Err at
 
 -- what is read behind so many bytes, which gave those elements
 abbrev pub behind : ℕ → List Element → Result (List Element) ℕ → Result (List Element) ℕ

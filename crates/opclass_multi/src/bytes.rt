@@ -3,7 +3,7 @@
 ghost use Rattle.std.specs.Prelude.{◌≡◌, ◌≤◌, ◌<◌, ◌+◌, ◌*◌, ◌++◌, Ok, Err, length, take, drop, OnOk, OnErr, IfErr, [], ◌∷◌, vec_len, vec_capacity, Option, ℤ};
 ghost use Rattle.opclass_multi.specs.Elements.{count_of};
 ghost use Rattle.opclass_multi.specs.Encoding.{element_bytes, elements_bytes, size_of, written_at};
-ghost use Rattle.opclass_multi.specs.Reading.{number_at, is_above, point_in, interval_in, element_in, read_of};
+ghost use Rattle.opclass_multi.specs.Reading.{number_at, is_above, point_in, interval_in, element_in, read_of, sized};
 
 use crate::element::Element;
 use byte_fields::{get_i64, get_u16, put_i64, put_u16};
@@ -18,6 +18,17 @@ const INT8_SIZE: usize = 8;
 const POINT: u8 = 0;
 
 const INTERVAL: u8 = 1;
+
+const POINT_SIZE: usize = 9;
+
+const INTERVAL_SIZE: usize = 17;
+
+/// An element that was read, and how many bytes it has.
+#[derive(Clone, Copy)]
+pub(crate) struct ReadElement {
+    pub(crate) element: Element,
+    pub(crate) size: usize,
+}
 
 /// Writes the bytes of elements within a limit to the front of `out`, and answers how many they are.
 pub(crate) fn write(elements: &[Element], limit: usize, out: &mut [u8]) -> usize
@@ -98,14 +109,14 @@ fn read_behind(bytes: &[u8], limit: usize, elements: &mut Vec<Element>) -> Resul
     let mut before = None;
     let mut at = NUMBER_SIZE;
     'elements: for _ in 0..number {
-        let element = match read_element(&bytes[at..], intervals, before) {
-            Ok(element) => element,
+        let read = match read_element(&bytes[at..], intervals, before) {
+            Ok(read) => read,
             Err(place) => return Err(Malformed { at: at + place }),
         };
-        intervals = intervals + 1 - element.weight();
-        before = Some(element.greatest);
-        at += element.size();
-        elements.push_reserved(element);
+        intervals = intervals + 1 - read.element.weight();
+        before = Some(read.element.greatest);
+        at += read.size;
+        elements.push_reserved(read.element);
     }
     if at < bytes.len() {
         return Err(Malformed { at });
@@ -114,8 +125,8 @@ fn read_behind(bytes: &[u8], limit: usize, elements: &mut Vec<Element>) -> Resul
 }
 
 /// The element at the front of the bytes, or the place of its first field that is out of form.
-fn read_element(bytes: &[u8], intervals: usize, before: Option<i64>) -> Result<Element, usize>
-    ensures element { result ≡ element_in intervals before bytes.now }
+fn read_element(bytes: &[u8], intervals: usize, before: Option<i64>) -> Result<ReadElement, usize>
+    ensures element { result ≡ sized (element_in intervals before bytes.now) }
     ensures within { IfErr result (λ place. place ≤ length bytes.now) }
 {
     if bytes.is_empty() {
@@ -128,8 +139,8 @@ fn read_element(bytes: &[u8], intervals: usize, before: Option<i64>) -> Result<E
     }
 }
 
-fn read_point(bytes: &[u8], before: Option<i64>) -> Result<Element, usize>
-    ensures point { result ≡ point_in before bytes.now }
+fn read_point(bytes: &[u8], before: Option<i64>) -> Result<ReadElement, usize>
+    ensures point { result ≡ sized (point_in before bytes.now) }
     ensures within { IfErr result (λ place. place ≤ 1 + length bytes.now) }
 {
     if bytes.len() < INT8_SIZE {
@@ -139,11 +150,14 @@ fn read_point(bytes: &[u8], before: Option<i64>) -> Result<Element, usize>
     if !is_above(before, number) {
         return Err(1);
     }
-    Ok(Element::point(number))
+    Ok(ReadElement {
+        element: Element::point(number),
+        size: POINT_SIZE,
+    })
 }
 
-fn read_interval(bytes: &[u8], before: Option<i64>) -> Result<Element, usize>
-    ensures interval { result ≡ interval_in before bytes.now }
+fn read_interval(bytes: &[u8], before: Option<i64>) -> Result<ReadElement, usize>
+    ensures interval { result ≡ sized (interval_in before bytes.now) }
     ensures within { IfErr result (λ place. place ≤ 1 + length bytes.now) }
 {
     if bytes.len() < INT8_SIZE {
@@ -160,7 +174,10 @@ fn read_interval(bytes: &[u8], before: Option<i64>) -> Result<Element, usize>
     if greatest <= least {
         return Err(1 + INT8_SIZE);
     }
-    Ok(Element { least, greatest })
+    Ok(ReadElement {
+        element: Element { least, greatest },
+        size: INTERVAL_SIZE,
+    })
 }
 
 fn int8_at(bytes: &[u8], at: usize) -> i64

@@ -2,21 +2,23 @@ use Rattle.std.proofs.Common.{◌≡◌, true, false, Ok, sym, ap, ◌∙◌, ru
 use Rattle.std.specs.Prelude.{int_lt}
 use Rattle.std.specs.Int.{w64}
 use Rattle.std.proofs.lemmas.Int.{to_z-of_z, ints}
-use Rattle.opclass_multi.specs.Reading.{is_above}
+use Rattle.opclass_multi.specs.Reading.{is_above, number_at, sized}
 use Rattle.opclass_multi.proofs.Judging.{interval_below, interval_short, interval_narrow, interval_found}
+use Rattle.opclass_multi.specs.declared.element.Element.{Element}
+use Rattle.opclass_multi.proofs.Writing.{interval_size}
 use Rattle.opclass_multi.proofs.bytes.read_interval.Goals as goal
 
 pub returns-then-not-is_above-clause-interval : goal.returns-then-not-is_above-clause-interval
 returns-then-not-is_above-clause-interval c =
     let fits : FitsSigned w64 c.int8_at-least.result = search rules in
     let same = to_z-of_z w64 c.int8_at-least.result fits ∙ c.int8_at-least.ensures in
-    interval_below c.args.before c.args.bytes.now c.if-bytes-lt-INT8_SIZE.false (sym (c.is_above.ensures ∙ ap (is_above c.args.before) same) ∙ c.if-not-is_above.true)
+    ap sized (interval_below c.args.before c.args.bytes.now c.if-bytes-lt-INT8_SIZE.false (sym (c.is_above.ensures ∙ ap (is_above c.args.before) same) ∙ c.if-not-is_above.true))
 
 pub returns-then-bytes-clause-interval : goal.returns-then-bytes-clause-interval
 returns-then-bytes-clause-interval c =
     let fits : FitsSigned w64 c.int8_at-least.result = search rules in
     let same = to_z-of_z w64 c.int8_at-least.result fits ∙ c.int8_at-least.ensures in
-    interval_short c.args.before c.args.bytes.now c.if-bytes-lt-INT8_SIZE.false (sym (c.is_above.ensures ∙ ap (is_above c.args.before) same) ∙ c.if-not-is_above.false) c.if-bytes.true
+    ap sized (interval_short c.args.before c.args.bytes.now c.if-bytes-lt-INT8_SIZE.false (sym (c.is_above.ensures ∙ ap (is_above c.args.before) same) ∙ c.if-not-is_above.false) c.if-bytes.true)
 
 pub returns-then-greatest-least-clause-interval : goal.returns-then-greatest-least-clause-interval
 returns-then-greatest-least-clause-interval c =
@@ -24,8 +26,8 @@ returns-then-greatest-least-clause-interval c =
     let also : FitsSigned w64 c.int8_at-greatest.result = search rules in
     let same = to_z-of_z w64 c.int8_at-least.result fits ∙ c.int8_at-least.ensures in
     let narrow : int_lt c.int8_at-least.result c.int8_at-greatest.result ≡ false = grind (arith, ints) in
-    interval_narrow c.args.before c.args.bytes.now (sym (c.is_above.ensures ∙ ap (is_above c.args.before) same) ∙ c.if-not-is_above.false) c.if-bytes.false
-    ((λ i. int_lt (sym c.int8_at-least.ensures i) (sym c.int8_at-greatest.ensures i)) ∙ narrow)
+    ap sized (interval_narrow c.args.before c.args.bytes.now (sym (c.is_above.ensures ∙ ap (is_above c.args.before) same) ∙ c.if-not-is_above.false) c.if-bytes.false
+    ((λ i. int_lt (sym c.int8_at-least.ensures i) (sym c.int8_at-greatest.ensures i)) ∙ narrow))
 
 pub returns-clause-interval : goal.returns-clause-interval
 returns-clause-interval c =
@@ -34,6 +36,8 @@ returns-clause-interval c =
     let same = to_z-of_z w64 c.int8_at-least.result fits ∙ c.int8_at-least.ensures in
     let other = to_z-of_z w64 c.int8_at-greatest.result also ∙ c.int8_at-greatest.ensures in
     let wide : int_lt c.int8_at-least.result c.int8_at-greatest.result ≡ true = grind (arith, ints) in
-    (λ i. Ok (record { least = same i; greatest = other i }))
-    ∙ interval_found c.args.before c.args.bytes.now (sym (c.is_above.ensures ∙ ap (is_above c.args.before) same) ∙ c.if-not-is_above.false) c.if-bytes.false
-    ((λ i. int_lt (sym c.int8_at-least.ensures i) (sym c.int8_at-greatest.ensures i)) ∙ wide)
+    let e : Element = record { least = number_at c.args.bytes.now 0; greatest = number_at c.args.bytes.now 8 } in
+    let own : int_lt e.least e.greatest ≡ true = (λ i. int_lt (sym c.int8_at-least.ensures i) (sym c.int8_at-greatest.ensures i)) ∙ wide in
+    (λ i. Ok (record { element = record { least = same i; greatest = other i }; size = sym (interval_size e own) i }))
+    ∙ ap sized (interval_found c.args.before c.args.bytes.now (sym (c.is_above.ensures ∙ ap (is_above c.args.before) same) ∙ c.if-not-is_above.false) c.if-bytes.false
+    own)
