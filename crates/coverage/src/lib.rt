@@ -114,7 +114,7 @@ pub fn scans_miss_nothing()
 {}
 
 /// A step that would change pages comes out in one way: it waits, finds a difference, goes on in place or elsewhere, or is
-/// full. It waits only for a page that another session locks, and finds a difference only where there is one.
+/// full. It waits only for a page that another session locks, and for one alone, and finds a difference only where there is one.
 pub fn verdicts_are_exact()
     ensures one_put { (w : IndexView) (s range need : ℕ) (p q : Verdict) → PutVerdict w s range need p → PutVerdict w s range need q → p ≡ q }
     ensures one_swap { (w : IndexView) (s range : ℕ) (x : TuplePlace) (old new : IndexTuple) (p q : Verdict) → SwapVerdict w s range x old new p
@@ -126,6 +126,8 @@ pub fn verdicts_are_exact()
         → w.tuple x ≢ Some old }
     ensures clear_waits { (w : IndexView) (s range p : ℕ) (x : TuplePlace) → ClearVerdict w s range x (Waits p) → IsLocked w s p }
     ensures clear_differs { (w : IndexView) (s range : ℕ) (x : TuplePlace) → ClearVerdict w s range x Differs → w.entry range ≢ Some x }
+    ensures phase_waits { (w : IndexView) (s range p : ℕ) (phase : Phase) → IsPhaseWaiting w s range phase p → IsLocked w s p }
+    ensures one_phase_wait { (w : IndexView) (s range p q : ℕ) (phase : Phase) → IsPhaseWaiting w s range phase p → IsPhaseWaiting w s range phase q → p ≡ q }
     ensures some_put { (w : IndexView) → HasFreeSlots w → (s range need : ℕ) → ((p : Verdict) → PutVerdict w s range need p → ⊥) → ⊥ }
     ensures some_swap { (w : IndexView) → HasFreeSlots w → (s range : ℕ) (x : TuplePlace) (old new : IndexTuple)
         → ((p : Verdict) → SwapVerdict w s range x old new p → ⊥) → ⊥ }

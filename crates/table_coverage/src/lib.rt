@@ -12,7 +12,7 @@ ghost use Rattle.coverage.specs.Steps.{Excludes};
 ghost use Rattle.table_coverage.specs.Table.{Job, TableScan, Task, Resting, Inserts, Maintains, Prunes, Sweeps, Restarts, Scans, TableState, index_view_at};
 ghost use Rattle.table_coverage.specs.TableSteps.{OnlyTurns, JudgeStep, ReadsPage, IsBlocked, Does, HasStep, Onward, IsMaintained, TableStep, IsTableStuck, TableRun};
 ghost use Rattle.coverage.specs.Changes.{IsFree};
-ghost use Rattle.table_coverage.specs.TablePoints.{TablePoint, does_point};
+ghost use Rattle.table_coverage.specs.TablePoints.{TablePoint, does_point, waits_for, IsHeldBy};
 ghost use Rattle.table_coverage.specs.Machines.{ShownTable, Unseen, table_state, task_turned, IsFewer, MachineSteps, MachineEnds, ScanReplies, ChangesIndex, InsertStepsIn};
 ghost use Rattle.table_coverage.specs.Machines.{MaintainStepsIn};
 ghost use Rattle.coverage.specs.Statements.{OnIndex, Phase, Inserting, Maintaining};
@@ -20,10 +20,15 @@ ghost use Rattle.coverage.specs.Knowing.{Knows};
 ghost use Rattle.coverage.specs.PageOrder.{KnowsPages};
 ghost use Rattle.table_coverage.specs.TableCovered.{IsTableCovered, IsTableKept, IsTableAtRest, IsNewTable, TableStops, IsGiven, IsUnjudged};
 
-/// A blocked statement stays where it is and nothing changes, or it is refused.
+/// A blocked statement stays where it is and nothing changes, or it is refused; no step of it has a point. What it waits for is one
+/// lock, which another session holds.
 pub fn blocked_statements_wait()
-    ensures { (s : ℕ) (w v : TableState) → IsBlocked w s (w.task s) → (w.task s ≡ Resting → ⊥) → Does s w v
+    ensures waits { (s : ℕ) (w v : TableState) → IsBlocked w s (w.task s) → (w.task s ≡ Resting → ⊥) → Does s w v
         → ((v.task s ≡ w.task s) × OnlyTurns w v) ⊎ (v.task s ≡ Resting) }
+    ensures no_point { (s : ℕ) (w v : TableState) → IsBlocked w s (w.task s) → (w.task s ≡ Resting → ⊥) → (does : Does s w v) → does_point s w v does ≡ None }
+    ensures held { (s : ℕ) (w : TableState) (task : Task) (blocked : IsBlocked w s task)
+        → (n : ℕ) × IsHeldBy w (waits_for w s task blocked) n × (n ≢ s) }
+    ensures one { (s : ℕ) (w : TableState) (task : Task) (one two : IsBlocked w s task) → waits_for w s task one ≡ waits_for w s task two }
 {}
 
 /// Where a statement of a table comes by its step is one thing: its next step, or its reply. No step is left that does nothing; and
