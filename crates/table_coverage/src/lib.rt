@@ -32,13 +32,16 @@ pub fn blocked_statements_wait()
 {}
 
 /// Where a statement of a table comes by its step is one thing: its next step, or its reply. No step is left that does nothing; and
-/// of the steps that a running statement could take at a moment there is one point alone.
+/// of the steps that a running statement could take at a moment, which have a point, there is one point alone, and one task that the
+/// statement is at afterwards.
 pub fn statements_go_on_in_one_way()
     ensures one_way { (w : TableState) (old p q : Task) → Onward w old p → Onward w old q → p ≡ q }
     ensures or_reply { (w : TableState) (old q : Task) → IsMaintained w old → Onward w old q → ⊥ }
     ensures at_a_step { (s : ℕ) (w v : TableState) → TableStep s w v → HasStep v (v.task s) }
     ensures one_point { (s : ℕ) (w v u : TableState) (p q : TablePoint) → (w.task s ≡ Resting → ⊥) → (one : Does s w v) (two : Does s w u)
         → does_point s w v one ≡ Some p → does_point s w u two ≡ Some q → p ≡ q }
+    ensures one_outcome { (s : ℕ) (w v u : TableState) (p q : TablePoint) → (w.task s ≡ Resting → ⊥) → (one : Does s w v) (two : Does s w u)
+        → does_point s w v one ≡ Some p → does_point s w u two ≡ Some q → v.task s ≡ u.task s }
 {}
 
 /// Whatever the statements of a table with several indexes do, in any interleaving, each of its indexes stays covered; the
