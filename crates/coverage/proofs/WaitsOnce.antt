@@ -1,5 +1,5 @@
 -- A summariser that waits does so for one page, which another session locks.
-use Rattle.std.proofs.Common.{◌≡◌, ◌≢◌, ℕ, Some, length, sym, ◌∙◌, ap, subst}
+use Rattle.std.proofs.Common.{◌≡◌, ℕ, length, sym, ◌∙◌, ap, subst}
 use Rattle.std.specs.Prelude.{refl, [], ◌∷◌}
 use Rattle.coverage.specs.IndexView.{TuplePlace, IndexTuple, PageKind, Unstarted, Mapping, Regular, Emptying, IndexView, next_map_page, IsPastMap}
 use Rattle.coverage.specs.Changes.{IsFree}

@@ -15,7 +15,7 @@ use Rattle.table_coverage.specs.TableSteps.{Blocked, Transacts}
 use Rattle.coverage.specs.Waiting.{IsPhaseWaiting, FinalWaits, PlaceWaits, GrowWaits, CountWaits, FlagWaits, EvacuateWaits, EvacuatePutWaits, TurnWaits}
 use Rattle.coverage.proofs.Verdicts.{free_not_locked, swap_once, clear_once, swap_waits, clear_waits}
 use Rattle.coverage.proofs.WaitsOnce.{waits_same, phase_wait_once, phase_wait_locked}
-use Rattle.table_coverage.specs.TablePoints.{does_point, WaitedFor, SummariseLock, PageLock, waits_for, IsHeldBy}
+use Rattle.table_coverage.specs.TablePoints.{does_point, PageLock, waits_for, IsHeldBy}
 use Rattle.coverage.proofs.NextSteps.{insert_blocked, summarise_blocked, desummarise_blocked}
 
 module _ (s : ℕ) (w : TableState) where

@@ -9,8 +9,8 @@ ghost use Rattle.std.specs.Prelude.{◌≡◌, ◌≢◌, ◌⊎◌, ◌↔◌, 
 ghost use Rattle.block_model.specs.declared.row.Row.{Row};
 ghost use Rattle.coverage.specs.IndexView.{TuplePlace, IndexTuple};
 ghost use Rattle.coverage.specs.Steps.{Excludes};
-ghost use Rattle.table_coverage.specs.Table.{Job, TableScan, Task, Resting, Inserts, Maintains, Prunes, Sweeps, Restarts, Scans, TableState, index_view_at};
-ghost use Rattle.table_coverage.specs.TableSteps.{OnlyTurns, JudgeStep, ReadsPage, IsBlocked, Does, HasStep, Onward, IsMaintained, TableStep, IsTableStuck, TableRun};
+ghost use Rattle.table_coverage.specs.Table.{Job, EachRange, WholeRanges, TableScan, Task, Resting, Inserts, Maintains, Prunes, Sweeps, Restarts, Scans, TableState, index_view_at};
+ghost use Rattle.table_coverage.specs.TableSteps.{range_in, AsksFor, HasRange, OnlyTurns, JudgeStep, ReadsPage, IsBlocked, Does, HasStep, Onward, IsMaintained, TableStep, IsTableStuck, TableRun};
 ghost use Rattle.coverage.specs.Changes.{IsFree};
 ghost use Rattle.table_coverage.specs.TablePoints.{TablePoint, does_point, waits_for, IsHeldBy};
 ghost use Rattle.table_coverage.specs.Machines.{ShownTable, Unseen, table_state, task_turned, IsFewer, MachineSteps, MachineEnds, ScanReplies, ChangesIndex, InsertStepsIn};
@@ -123,4 +123,15 @@ pub fn machines_in_one_index()
     ensures maintain_knows { (s : ℕ) (job : Job) (at range : ℕ) (w : TableState) (phase : Phase) → IsTableKept w → at < w.indexes
         → w.task s ≡ Maintains job at range phase
         → Knows (index_view_at at w) s (Maintaining range phase) × KnowsPages (index_view_at at w) s (Maintaining range phase) }
+{}
+
+/// A vacuum summarises the ranges all of whose blocks lie below the extent, a summarise of the table those with a block below it; and an
+/// insert asks for a summary where its row is at the first place of a range that isn't the first one.
+pub fn ranges_are_exact()
+    ensures whole { (w : TableState) (at range extent : ℕ) → 0 < (w.index at).pages_per_range
+        → HasRange w (WholeRanges extent) at range ↔ ((b : ℕ) → range_in w at b ≡ range → b < extent) }
+    ensures each { (w : TableState) (at range extent : ℕ) → 0 < (w.index at).pages_per_range
+        → HasRange w (EachRange extent) at range ↔ ((b : ℕ) × (range_in w at b ≡ range) × (b < extent)) }
+    ensures asks { (w : TableState) (at b k : ℕ) → 0 < (w.index at).pages_per_range → AsksFor w b k at
+        ↔ (IsTrue (w.index at).autosummarize × (0 < range_in w at b) × ((c j : ℕ) → range_in w at c ≡ range_in w at b → (b < c) ⊎ ((b ≡ c) × (k ≤ j)))) }
 {}
