@@ -15,3 +15,4 @@ pub mod MachinesIn
 pub mod TableEntries
 pub mod TableOnePoint
 pub mod RangesExact
+pub mod NothingSkipped

@@ -12,6 +12,7 @@ ghost use Rattle.coverage.specs.Steps.{Excludes};
 ghost use Rattle.table_coverage.specs.Table.{Job, EachRange, WholeRanges, TableScan, Task, Resting, Inserts, Maintains, Prunes, Sweeps, Restarts, Scans, TableState, index_view_at};
 ghost use Rattle.table_coverage.specs.TableSteps.{range_in, AsksFor, HasRange, OnlyTurns, JudgeStep, ReadsPage, IsBlocked, Does, HasStep, Onward, IsMaintained, TableStep, IsTableStuck, TableRun};
 ghost use Rattle.coverage.specs.Changes.{IsFree};
+ghost use Rattle.table_coverage.specs.NextTasks.{AfterRange, AfterBlock, AfterPage};
 ghost use Rattle.table_coverage.specs.TablePoints.{TablePoint, does_point, waits_for, IsHeldBy};
 ghost use Rattle.table_coverage.specs.Machines.{ShownTable, Unseen, table_state, task_turned, IsFewer, MachineSteps, MachineEnds, ScanReplies, ChangesIndex, InsertStepsIn};
 ghost use Rattle.table_coverage.specs.Machines.{MaintainStepsIn};
@@ -134,4 +135,12 @@ pub fn ranges_are_exact()
         → HasRange w (EachRange extent) at range ↔ ((b : ℕ) × (range_in w at b ≡ range) × (b < extent)) }
     ensures asks { (w : TableState) (at b k : ℕ) → 0 < (w.index at).pages_per_range → AsksFor w b k at
         ↔ (IsTrue (w.index at).autosummarize × (0 < range_in w at b) × ((c j : ℕ) → range_in w at c ≡ range_in w at b → (b < c) ⊎ ((b ≡ c) × (k ≤ j)))) }
+{}
+
+/// No maintenance statement skips a range; and no vacuum skips a block of the heap, or an index page with tuples.
+pub fn nothing_is_skipped()
+    ensures ranges { (s : ℕ) (w v : TableState) (job : Job) (at range : ℕ) (old : Phase) → TableStep s w v → w.task s ≡ Maintains job at range old
+        → AfterRange job at range (v.task s) }
+    ensures blocks { (s : ℕ) (w v : TableState) (extent next : ℕ) → TableStep s w v → w.task s ≡ Prunes extent next → AfterBlock extent next (v.task s) }
+    ensures pages { (s : ℕ) (w v : TableState) (step : TableStep s w v) (at page : ℕ) → w.task s ≡ Sweeps at page → AfterPage step.between at page (v.task s) }
 {}
