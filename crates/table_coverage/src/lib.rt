@@ -14,7 +14,7 @@ ghost use Rattle.table_coverage.specs.TableSteps.{range_in, AsksFor, HasRange, O
 ghost use Rattle.coverage.specs.Changes.{IsFree};
 ghost use Rattle.table_coverage.specs.NextTasks.{AfterRange, AfterBlock, AfterPage};
 ghost use Rattle.table_coverage.specs.TablePoints.{TablePoint, does_point, waits_for, IsHeldBy};
-ghost use Rattle.table_coverage.specs.Machines.{ShownTable, Unseen, table_state, task_turned, IsFewer, MachineSteps, MachineEnds, ScanReplies, ChangesIndex, InsertStepsIn};
+ghost use Rattle.table_coverage.specs.Machines.{ShownTable, Unseen, table_state, task_turned, IsFewer, MachineSteps, MachineEnds, MachineWaits, ScanReplies, ScanSteps, ChangesIndex, InsertStepsIn};
 ghost use Rattle.table_coverage.specs.Machines.{MaintainStepsIn};
 ghost use Rattle.coverage.specs.Statements.{OnIndex, Phase, Inserting, Maintaining};
 ghost use Rattle.coverage.specs.Knowing.{Knows};
@@ -99,7 +99,7 @@ pub fn vacuums_go_on()
 
 /// What a machine promises over the pages and page locks that it sees, the table takes up: a step of it, whatever it doesn't see,
 /// keeps the table; so does its last step, with which the summarise lock is given; and after the last step of a scan each matching row
-/// that its session sees is found.
+/// that its session sees is found. What a blocked machine waits for, another session holds; and a scan's machine needs no page locks.
 pub fn machines_keep()
     ensures steps { (s : ℕ) (old new : ShownTable) (before after : Task) (u : Unseen) → MachineSteps s old new before after → u.task s ≡ before
         → IsTableKept (table_state old u)
@@ -109,6 +109,10 @@ pub fn machines_keep()
     ensures replies { (s b k : ℕ) (old new : ShownTable) (before : Task) (scan : TableScan) (u : Unseen) → ScanReplies s old new before scan
         → u.task s ≡ before → IsTableKept (table_state old u) → scan.explains ≡ false → IsTrue (scan.sees b k)
         → (r : Row) × (new.row b k ≡ Some r) × (IsTrue (scan.matches r) → IsTrue (scan.found b k)) }
+    ensures waits { (s : ℕ) (shown : ShownTable) (task : Task) (u : Unseen) → MachineWaits s shown task → u.task s ≡ task → IsTableKept (table_state shown u)
+        → (n : ℕ) × (n ≢ s) × ((u.summarise_lock ≡ Some n) ⊎ ((at : ℕ) × (page : ℕ) × ((shown.index at).lock page ≡ Some n))) }
+    ensures scans { (s : ℕ) (old new : ShownTable) (before after : Task) → ScanSteps old new before after
+        → ((i : ℕ) → (new.index i).lock ≡ (old.index i).lock) → MachineSteps s old new before after }
 {}
 
 /// A machine's step in one index that is one of the definitions is a step of the table; and what its statement knows in that index
