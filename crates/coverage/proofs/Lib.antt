@@ -19,6 +19,8 @@ pub mod RangeSummarised
 pub mod Verdicts
 pub mod NextSteps
 pub mod OneOutcome
+pub mod FullApart
+pub mod WaitsOnce
 pub mod StepsExist
 pub mod SummariseExists
 pub mod InsertsEnd

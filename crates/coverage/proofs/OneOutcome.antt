@@ -33,7 +33,7 @@ IsPut (Puts y) = Unit
 IsPut verdict = ⊥
 
 -- A statement's next state on the index, and what decides it.
-data NextOnIndex (w : IndexView) (s range : ℕ) : OnIndex → OnIndex → Type 0 where
+pub data NextOnIndex (w : IndexView) (s range : ℕ) : OnIndex → OnIndex → Type 0 where
   Named : (x : TuplePlace) → w.entry range ≡ Some x → NextOnIndex w s range Empty (Held x)
   Lost : (x : TuplePlace) → IsGone w range x → NextOnIndex w s range (Held x) Empty
   Changed : (x : TuplePlace) (old new : IndexTuple) → SwapVerdict w s range x old new Differs → NextOnIndex w s range (Copied x old new) Empty
@@ -78,7 +78,7 @@ module _ (w : IndexView) (s range : ℕ) where
   there_same x t u one two = same_Some _ _ (sym one.0 ∙ two.0)
 
 -- An insert's next state, and what decides it.
-data NextInsert (w : IndexView) (s b k : ℕ) (r : Row) : OnIndex → Statement → Type 0 where
+pub data NextInsert (w : IndexView) (s b k : ℕ) (r : Row) : OnIndex → Statement → Type 0 where
   GoesOn : (g h : OnIndex) → NextOnIndex w s (range_of_block w b) g h → NextInsert w s b k r g (Inserting b k r h)
   Unsummarised : w.entry (range_of_block w b) ≡ None → NextInsert w s b k r Empty Idle
   Copies : (x : TuplePlace) (old new : IndexTuple) → Stands w (range_of_block w b) x old → new ≡ w.contents.added r old
@@ -89,7 +89,7 @@ data NextInsert (w : IndexView) (s b k : ℕ) (r : Row) : OnIndex → Statement 
   SetNew : (x y : TuplePlace) (old new : IndexTuple) → NextInsert w s b k r (Moving x y old new) (Inserting b k r (Dropping x))
   DropsOld : (x : TuplePlace) → NextInsert w s b k r (Dropping x) Idle
 
-insert_next : (s b k : ℕ) (r : Row) (w v : IndexView) (g : OnIndex) (e : Statement) → InsertStep s b k r w v g e → NextInsert w s b k r g e
+pub insert_next : (s b k : ℕ) (r : Row) (w v : IndexView) (g : OnIndex) (e : Statement) → InsertStep s b k r w v g e → NextInsert w s b k r g e
 insert_next s b k r w v _ _ (InsertOnIndex old new step) = GoesOn old new (on_index_next s (range_of_block w b) w v old new step)
 insert_next s b k r w v _ _ (InsertNoEntry none reads) = Unsummarised none
 insert_next s b k r w v _ _ (InsertCopies x old new stands added changes reads) = Copies x old new stands added changes
@@ -168,7 +168,7 @@ rows_same contents row n m t none none' = ⊎_elim
     before a c less = omega arith
 
 -- A summariser's next state, and what decides it.
-data NextGrowth (w : IndexView) (s : ℕ) : PageKind → Phase → Type 0 where
+pub data NextGrowth (w : IndexView) (s : ℕ) : PageKind → Phase → Type 0 where
   Starts : NextGrowth w s Unstarted Growing
   Counts : NextGrowth w s Mapping Vacant
   Flags : NextGrowth w s Regular Vacant
@@ -177,7 +177,7 @@ data NextGrowth (w : IndexView) (s : ℕ) : PageKind → Phase → Type 0 where
   SweepsNext : (x : TuplePlace) (t : IndexTuple) → IsNextTuple w (next_map_page w) x t → IsUnnamed w x → NextGrowth w s Emptying Vacant
   Turns : ((x : TuplePlace) (t : IndexTuple) → IsNextTuple w (next_map_page w) x t → ⊥) → NextGrowth w s Emptying Growing
 
-data NextPhase (w : IndexView) (s range : ℕ) : Phase → Statement → Type 0 where
+pub data NextPhase (w : IndexView) (s range : ℕ) : Phase → Statement → Type 0 where
   LooksNamed : (x : TuplePlace) → w.entry range ≡ Some x → NextPhase w s range (NotBuilding Empty) (Maintaining range (NotBuilding (Held x)))
   LooksVacant : w.entry range ≡ None → NextPhase w s range (NotBuilding Empty) (Maintaining range Vacant)
   LooksLost : (x : TuplePlace) → IsGone w range x → NextPhase w s range (NotBuilding (Held x)) (Maintaining range (NotBuilding Empty))
@@ -219,7 +219,7 @@ growth_next s range w v _ _ (EvacuateDrop m x drops) = DropsOther m x
 growth_next s range w v _ _ (EvacuateSweep x t grows next unnamed sweeps) = Lengthens Emptying Vacant grows (SweepsNext x t next unnamed)
 growth_next s range w v _ _ (Turn grows empty free meta turns) = Lengthens Emptying Growing grows (Turns empty)
 
-summarise_next : (s range : ℕ) (w v : IndexView) (phase : Phase) (e : Statement) → SummariseStep s range w v phase e → NextPhase w s range phase e
+pub summarise_next : (s range : ℕ) (w v : IndexView) (phase : Phase) (e : Statement) → SummariseStep s range w v phase e → NextPhase w s range phase e
 summarise_next s range w v _ _ (LookMap x named reads) = LooksNamed x named
 summarise_next s range w v _ _ (LookGone x gone reads) = LooksLost x gone
 summarise_next s range w v _ _ (IsFinal x t stands final reads) = LooksFinal x t stands final

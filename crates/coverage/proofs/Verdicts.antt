@@ -35,7 +35,7 @@ target_once w need p q (OnStarted one) (OnNew none two below) = absurd (none p o
 target_once w need p q (OnNew none one below) (OnStarted two) = absurd (none q two.0)
 target_once w need p q (OnNew none one below) (OnNew none' two below') = lowest_once (IsPageUnstarted w) p q one two
 
-first_locked_once : (w : IndexView) (s : ℕ) (pages : List ℕ) (p q : ℕ) → IsFirstLocked w s pages p → IsFirstLocked w s pages q → p ≡ q
+pub first_locked_once : (w : IndexView) (s : ℕ) (pages : List ℕ) (p q : ℕ) → IsFirstLocked w s pages p → IsFirstLocked w s pages q → p ≡ q
 first_locked_once w s _ p q (First m more one) (First m' more' two) = refl
 first_locked_once w s _ p q (First m more one) (Later m' q' more' free two) = absurd (free_not_locked w s m free one)
 first_locked_once w s _ p q (Later m p' more free one) (First m' more' two) = absurd (free_not_locked w s m free two)
@@ -115,7 +115,7 @@ clear_once w s range x _ _ (ClearFits free map is) (ClearDiffers free' map' not)
 clear_once w s range x _ _ (ClearFits free map is) (ClearFits free' map' is') = refl
 
 -- a page that is waited for is one that another session locks
-first_is_locked : (w : IndexView) (s : ℕ) (pages : List ℕ) (p : ℕ) → IsFirstLocked w s pages p → IsLocked w s p
+pub first_is_locked : (w : IndexView) (s : ℕ) (pages : List ℕ) (p : ℕ) → IsFirstLocked w s pages p → IsLocked w s p
 first_is_locked w s _ p (First _ more locked) = locked
 first_is_locked w s _ p (Later q _ more free later) = first_is_locked w s more p later
 

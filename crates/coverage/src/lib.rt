@@ -20,8 +20,8 @@ ghost use Rattle.coverage.specs.Steps.{InsertStep, SummariseStep, DesummariseSte
 ghost use Rattle.coverage.specs.PageOrder.{AreOrdered, AreNewPages, KnowsPages};
 ghost use Rattle.coverage.specs.Points.{insert_point, summarise_point, desummarise_point};
 ghost use Rattle.coverage.specs.Knowing.{LocksNone, Knows, Spares};
-ghost use Rattle.coverage.specs.Verdicts.{Verdict, Waits, Differs, IsLocked, HasFreeSlots, PutVerdict, SwapVerdict, ClearVerdict};
-ghost use Rattle.coverage.specs.Waiting.{IsPhaseWaiting, IsSummariseStuck, IsPhaseFree, HasBlocksOfRows, HasPlaceholderLength, InsertsAlone, AreNamed, IsInsertStuck, IsSwapFree, IsDesummariseStuck, IsClearFree};
+ghost use Rattle.coverage.specs.Verdicts.{Verdict, Waits, Differs, Full, IsLocked, HasFreeSlots, PutVerdict, SwapVerdict, ClearVerdict};
+ghost use Rattle.coverage.specs.Waiting.{IsPhaseWaiting, IsPhaseFull, IsSummariseStuck, IsPhaseFree, HasBlocksOfRows, HasPlaceholderLength, InsertsAlone, AreNamed, IsInsertStuck, IsSwapFree, IsDesummariseStuck, IsClearFree};
 
 /// Each kind of change leaves the index sound.
 pub fn changes_are_sound()
@@ -114,7 +114,7 @@ pub fn scans_miss_nothing()
 {}
 
 /// A step that would change pages comes out in one way: it waits, finds a difference, goes on in place or elsewhere, or is
-/// full. It waits only for a page that another session locks, and finds a difference only where there is one.
+/// full. It waits only for a page that another session locks, and for one alone, and finds a difference only where there is one.
 pub fn verdicts_are_exact()
     ensures one_put { (w : IndexView) (s range need : ℕ) (p q : Verdict) → PutVerdict w s range need p → PutVerdict w s range need q → p ≡ q }
     ensures one_swap { (w : IndexView) (s range : ℕ) (x : TuplePlace) (old new : IndexTuple) (p q : Verdict) → SwapVerdict w s range x old new p
@@ -126,13 +126,15 @@ pub fn verdicts_are_exact()
         → w.tuple x ≢ Some old }
     ensures clear_waits { (w : IndexView) (s range p : ℕ) (x : TuplePlace) → ClearVerdict w s range x (Waits p) → IsLocked w s p }
     ensures clear_differs { (w : IndexView) (s range : ℕ) (x : TuplePlace) → ClearVerdict w s range x Differs → w.entry range ≢ Some x }
+    ensures phase_waits { (w : IndexView) (s range p : ℕ) (phase : Phase) → IsPhaseWaiting w s range phase p → IsLocked w s p }
+    ensures one_phase_wait { (w : IndexView) (s range p q : ℕ) (phase : Phase) → IsPhaseWaiting w s range phase p → IsPhaseWaiting w s range phase q → p ≡ q }
     ensures some_put { (w : IndexView) → HasFreeSlots w → (s range need : ℕ) → ((p : Verdict) → PutVerdict w s range need p → ⊥) → ⊥ }
     ensures some_swap { (w : IndexView) → HasFreeSlots w → (s range : ℕ) (x : TuplePlace) (old new : IndexTuple)
         → ((p : Verdict) → SwapVerdict w s range x old new p → ⊥) → ⊥ }
     ensures some_clear { (w : IndexView) (s range : ℕ) (x : TuplePlace) → ((p : Verdict) → ClearVerdict w s range x p → ⊥) → ⊥ }
 {}
 
-/// Of all steps that a statement could take on an index at a moment there is one point alone, and none where it is blocked; and what
+/// Of all steps that a statement could take on an index at a moment there is one point alone, and none where it is blocked or lacks a page; and what
 /// its statement is at afterwards, with the very tuple that it has in hand, is one thing.
 pub fn each_step_is_the_next_one()
     ensures insert { (s b k : ℕ) (r : Row) (w v u : IndexView) (on_index : OnIndex) (e f : Statement)
@@ -153,6 +155,10 @@ pub fn each_step_is_the_next_one()
     ensures insert_blocked { (s b k p : ℕ) (r : Row) (w v : IndexView) (x : TuplePlace) (old new : IndexTuple) (e : Statement)
         → SwapVerdict w s (range_of_block w b) x old new (Waits p) → InsertStep s b k r w v (Copied x old new) e → ⊥ }
     ensures summarise_blocked { (s range p : ℕ) (w v : IndexView) (phase : Phase) (e : Statement) → IsPhaseWaiting w s range phase p
+        → SummariseStep s range w v phase e → ⊥ }
+    ensures insert_full { (w v : IndexView) (s b k : ℕ) (r : Row) (x : TuplePlace) (old new : IndexTuple) (e : Statement)
+        → SwapVerdict w s (range_of_block w b) x old new Full → InsertStep s b k r w v (Copied x old new) e → ⊥ }
+    ensures summarise_full { (w v : IndexView) (s range : ℕ) (phase : Phase) (e : Statement) → IsPhaseFull w s range phase
         → SummariseStep s range w v phase e → ⊥ }
     ensures desummarise_blocked { (s range p : ℕ) (w v : IndexView) (x : TuplePlace) (e : Statement) → ClearVerdict w s range x (Waits p)
         → DesummariseStep s range w v (NotBuilding (Held x)) e → ⊥ }

@@ -14,3 +14,5 @@ pub mod MachinesKeep
 pub mod MachinesIn
 pub mod TableEntries
 pub mod TableOnePoint
+pub mod RangesExact
+pub mod NothingSkipped

@@ -1,12 +1,14 @@
 -- A machine's step, its end and a scan's reply, as the table takes them up.
-use Rattle.std.proofs.Common.{◌≡◌, inl, inr, ⊎_elim, ℕ, Some, None, Bool, [], ◌∷◌, sym, ◌∙◌}
+use Rattle.std.proofs.Common.{◌≡◌, ◌≢◌, ◌⊎◌, inl, inr, ⊎_elim, ℕ, Some, None, Bool, [], ◌∷◌, sym, ◌∙◌, subst}
 use Rattle.std.specs.Prelude.{refl, false, IsTrue}
 use Rattle.block_model.specs.declared.row.Row.{Row}
 use Rattle.coverage.specs.IndexView.{TuplePlace}
-use Rattle.table_coverage.specs.Table.{TableScan, Task, Resting, Scans, pick}
+use Rattle.table_coverage.specs.Table.{TableScan, Task, Resting, Scans, TableState, pick}
 use Rattle.table_coverage.specs.TableSteps.{GivesLock, TableNext, TableDone}
 use Rattle.table_coverage.specs.TableCovered.{IsTableKept}
-use Rattle.table_coverage.specs.Machines.{ShownTable, Unseen, table_state, task_turned, IsFewer, MachineSteps, MachineEnds, ScanReplies}
+use Rattle.table_coverage.specs.Machines.{ShownTable, Unseen, table_state, task_turned, IsFewer, MachineSteps, MachineEnds, MachineWaits, ScanReplies, ScanSteps}
+use Rattle.table_coverage.specs.TablePoints.{WaitedFor, SummariseLock, PageLock, waits_for, IsHeldBy}
+use Rattle.table_coverage.proofs.TableBlocked.{blocked_by}
 use Rattle.table_coverage.proofs.Views.{pick_same, pick_there}
 use Rattle.table_coverage.proofs.TableSeen.{table_run_kept, table_between_kept}
 use Rattle.table_coverage.proofs.TableScans.{replied_finds}
@@ -51,3 +53,23 @@ reply_finds s b k old new before scan u step is kept reads sees =
     replied_finds (table_state new (task_turned s (Scans scan) u)) s b k scan
     (table_between_kept s (table_state old u) (table_state new (task_turned s (Scans scan) u)) kept last.0) (pick_same s (Scans scan) (u.task s)) last.1 reads
     sees
+
+-- what a blocked machine waits for, another session holds
+held_cases : (w : TableState) (n : ℕ) (what : WaitedFor) → IsHeldBy w what n
+    → (w.summarise_lock ≡ Some n) ⊎ ((at : ℕ) × (page : ℕ) × ((w.index at).lock page ≡ Some n))
+held_cases w n SummariseLock held = inl held
+held_cases w n (PageLock at page) held = inr (at, page, held)
+
+pub waits_held : (s : ℕ) (shown : ShownTable) (task : Task) (u : Unseen) → MachineWaits s shown task → u.task s ≡ task → IsTableKept (table_state shown u)
+    → (n : ℕ) × (n ≢ s) × ((u.summarise_lock ≡ Some n) ⊎ ((at : ℕ) × (page : ℕ) × ((shown.index at).lock page ≡ Some n)))
+waits_held s shown task u waits is kept =
+    let blocked = waits u is kept in
+    let by = blocked_by s (table_state shown u) task blocked in
+    (by.0, by.2, held_cases (table_state shown u) by.0 (waits_for (table_state shown u) s task blocked) by.1)
+
+-- a scan's machine leaves the page locks as they are
+pub scans_step : (s : ℕ) (old new : ShownTable) (before after : Task) → ScanSteps old new before after
+    → ((i : ℕ) → (new.index i).lock ≡ (old.index i).lock) → MachineSteps s old new before after
+scans_step s old new before after steps same =
+    subst (λ (n : ShownTable). MachineSteps s old n before after) (λ j. record new { index = λ i. record (new.index i) { lock = sym (same i) j } })
+    (steps s (λ i. (old.index i).lock))

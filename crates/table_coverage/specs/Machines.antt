@@ -87,10 +87,6 @@ ScanReplies s old new before scan = (u : Unseen) → u.task s ≡ before → IsT
     → Does s (table_state old u) (table_state new (task_turned s (Scans scan) u))
     × Onward (table_state new (task_turned s (Scans scan) u)) (Scans scan) Resting
 
--- what a machine may rest on between its steps
-abbrev pub IsTaken : ℕ → ShownTable → Task → Type 0
-IsTaken s shown task = (u : Unseen) × (u.task s ≡ task) × IsTableKept (table_state shown u)
-
 -- the page locks are others
 abbrev pub with_locks : (ℕ → ℕ → Option ℕ) → ShownTable → ShownTable
 with_locks lock shown = record shown { index = λ i. record (shown.index i) { lock = lock i } }

@@ -1,12 +1,13 @@
 -- The name of each step of a table's statements, as it is printed.
-use Rattle.std.specs.Prelude.{ℕ, Option, None, Some}
+use Rattle.std.specs.Prelude.{◌≡◌, ℕ, Option, None, Some}
 use Rattle.coverage.specs.IndexView.{IndexView}
 use Rattle.coverage.specs.Statements.{Phase, Statement, Maintaining, Holding}
 use Rattle.coverage.specs.Points.{Point, AtMap, AtTuple, AtExtent, insert_point, summarise_point, desummarise_point}
-use Rattle.table_coverage.specs.Table.{Job, EachRange, OneRange, WholeRanges, Desummarising, TableScan, TableState, index_view_at}
+use Rattle.table_coverage.specs.Table.{Job, EachRange, OneRange, WholeRanges, Desummarising, TableScan, Task, TableState, index_view_at}
 use Rattle.table_coverage.specs.TableSteps.{JobStep, JudgeStep, JudgeMap, JudgeNoEntry, JudgeGone, JudgeKeeps, JudgeDrops, Does, PutsRow, AsksSummary, InsertGoes}
 use Rattle.table_coverage.specs.TableSteps.{InsertCompletes, RefusesInsert, TakesLock, MaintainGoes, MaintainCompletes, RefusesMaintain, RefusesVacuum}
-use Rattle.table_coverage.specs.TableSteps.{PrunesBlock, SweepsPage, RestartsIndex, BeginsScan, Judges, ReadsBlock, RefusesScan, Blocked, Transacts}
+use Rattle.table_coverage.specs.TableSteps.{PrunesBlock, SweepsPage, RestartsIndex, BeginsScan, Judges, ReadsBlock, RefusesScan, Blocked, Transacts, IsBlocked}
+use Rattle.table_coverage.specs.TableSteps.{SummariseLockHeld, InsertWaits, SummariseWaits, DesummariseWaits, SweepWaits}
 
 -- a point of an index, or one of the table: a row is put, a summary asked for, the summarise lock taken or found held, a heap block
 -- pruned, an index page swept, a heap block read
@@ -55,3 +56,19 @@ does_point s w v (ReadsBlock scan next found reads turns only) = Some AtPage
 does_point s w v (RefusesScan scan t turns how) = None
 does_point s w v (Blocked task blocked turns only) = None
 does_point s w v (Transacts counts resting few same) = None
+
+-- what a blocked statement waits for: the summarise lock, or the lock of a page of an index
+pub data WaitedFor : Type 0 where
+  SummariseLock : WaitedFor
+  PageLock : (at page : ℕ) → WaitedFor
+
+abbrev pub waits_for : (w : TableState) (s : ℕ) (task : Task) → IsBlocked w s task → WaitedFor
+waits_for w s _ (SummariseLockHeld n held other) = SummariseLock
+waits_for w s _ (InsertWaits q b k r at x old new verdict) = PageLock at q
+waits_for w s _ (SummariseWaits q job at range phase waits) = PageLock at q
+waits_for w s _ (DesummariseWaits q only at range x verdict) = PageLock at q
+waits_for w s _ (SweepWaits at page locked) = PageLock at page
+
+abbrev pub IsHeldBy : TableState → WaitedFor → ℕ → Type 0
+IsHeldBy w SummariseLock n = w.summarise_lock ≡ Some n
+IsHeldBy w (PageLock at page) n = (w.index at).lock page ≡ Some n

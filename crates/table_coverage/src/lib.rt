@@ -9,31 +9,40 @@ ghost use Rattle.std.specs.Prelude.{◌≡◌, ◌≢◌, ◌⊎◌, ◌↔◌, 
 ghost use Rattle.block_model.specs.declared.row.Row.{Row};
 ghost use Rattle.coverage.specs.IndexView.{TuplePlace, IndexTuple};
 ghost use Rattle.coverage.specs.Steps.{Excludes};
-ghost use Rattle.table_coverage.specs.Table.{Job, TableScan, Task, Resting, Inserts, Maintains, Prunes, Sweeps, Restarts, Scans, TableState, index_view_at};
-ghost use Rattle.table_coverage.specs.TableSteps.{OnlyTurns, JudgeStep, ReadsPage, IsBlocked, Does, HasStep, Onward, IsMaintained, TableStep, IsTableStuck, TableRun};
+ghost use Rattle.table_coverage.specs.Table.{Job, EachRange, WholeRanges, TableScan, Task, Resting, Inserts, Maintains, Prunes, Sweeps, Restarts, Scans, TableState, index_view_at};
+ghost use Rattle.table_coverage.specs.TableSteps.{range_in, AsksFor, HasRange, OnlyTurns, JudgeStep, ReadsPage, IsBlocked, Does, HasStep, Onward, IsMaintained, TableStep, IsTableStuck, TableRun};
 ghost use Rattle.coverage.specs.Changes.{IsFree};
-ghost use Rattle.table_coverage.specs.TablePoints.{TablePoint, does_point};
-ghost use Rattle.table_coverage.specs.Machines.{ShownTable, Unseen, table_state, task_turned, IsFewer, MachineSteps, MachineEnds, ScanReplies, ChangesIndex, InsertStepsIn};
+ghost use Rattle.table_coverage.specs.NextTasks.{AfterRange, AfterBlock, AfterPage};
+ghost use Rattle.table_coverage.specs.TablePoints.{TablePoint, does_point, waits_for, IsHeldBy};
+ghost use Rattle.table_coverage.specs.Machines.{ShownTable, Unseen, table_state, task_turned, IsFewer, MachineSteps, MachineEnds, MachineWaits, ScanReplies, ScanSteps, ChangesIndex, InsertStepsIn};
 ghost use Rattle.table_coverage.specs.Machines.{MaintainStepsIn};
 ghost use Rattle.coverage.specs.Statements.{OnIndex, Phase, Inserting, Maintaining};
 ghost use Rattle.coverage.specs.Knowing.{Knows};
 ghost use Rattle.coverage.specs.PageOrder.{KnowsPages};
 ghost use Rattle.table_coverage.specs.TableCovered.{IsTableCovered, IsTableKept, IsTableAtRest, IsNewTable, TableStops, IsGiven, IsUnjudged};
 
-/// A blocked statement stays where it is and nothing changes, or it is refused.
+/// A blocked statement stays where it is and nothing changes, or it is refused; no step of it has a point. What it waits for is one
+/// lock, which another session holds.
 pub fn blocked_statements_wait()
-    ensures { (s : ℕ) (w v : TableState) → IsBlocked w s (w.task s) → (w.task s ≡ Resting → ⊥) → Does s w v
+    ensures waits { (s : ℕ) (w v : TableState) → IsBlocked w s (w.task s) → (w.task s ≡ Resting → ⊥) → Does s w v
         → ((v.task s ≡ w.task s) × OnlyTurns w v) ⊎ (v.task s ≡ Resting) }
+    ensures no_point { (s : ℕ) (w v : TableState) → IsBlocked w s (w.task s) → (w.task s ≡ Resting → ⊥) → (does : Does s w v) → does_point s w v does ≡ None }
+    ensures held { (s : ℕ) (w : TableState) (task : Task) (blocked : IsBlocked w s task)
+        → (n : ℕ) × IsHeldBy w (waits_for w s task blocked) n × (n ≢ s) }
+    ensures one { (s : ℕ) (w : TableState) (task : Task) (one two : IsBlocked w s task) → waits_for w s task one ≡ waits_for w s task two }
 {}
 
 /// Where a statement of a table comes by its step is one thing: its next step, or its reply. No step is left that does nothing; and
-/// of the steps that a running statement could take at a moment there is one point alone.
+/// of the steps that a running statement could take at a moment, which have a point, there is one point alone, and one task that the
+/// statement is at afterwards.
 pub fn statements_go_on_in_one_way()
     ensures one_way { (w : TableState) (old p q : Task) → Onward w old p → Onward w old q → p ≡ q }
     ensures or_reply { (w : TableState) (old q : Task) → IsMaintained w old → Onward w old q → ⊥ }
     ensures at_a_step { (s : ℕ) (w v : TableState) → TableStep s w v → HasStep v (v.task s) }
     ensures one_point { (s : ℕ) (w v u : TableState) (p q : TablePoint) → (w.task s ≡ Resting → ⊥) → (one : Does s w v) (two : Does s w u)
         → does_point s w v one ≡ Some p → does_point s w u two ≡ Some q → p ≡ q }
+    ensures one_outcome { (s : ℕ) (w v u : TableState) (p q : TablePoint) → (w.task s ≡ Resting → ⊥) → (one : Does s w v) (two : Does s w u)
+        → does_point s w v one ≡ Some p → does_point s w u two ≡ Some q → v.task s ≡ u.task s }
 {}
 
 /// Whatever the statements of a table with several indexes do, in any interleaving, each of its indexes stays covered; the
@@ -90,7 +99,7 @@ pub fn vacuums_go_on()
 
 /// What a machine promises over the pages and page locks that it sees, the table takes up: a step of it, whatever it doesn't see,
 /// keeps the table; so does its last step, with which the summarise lock is given; and after the last step of a scan each matching row
-/// that its session sees is found.
+/// that its session sees is found. What a blocked machine waits for, another session holds; and a scan's machine needs no page locks.
 pub fn machines_keep()
     ensures steps { (s : ℕ) (old new : ShownTable) (before after : Task) (u : Unseen) → MachineSteps s old new before after → u.task s ≡ before
         → IsTableKept (table_state old u)
@@ -100,6 +109,10 @@ pub fn machines_keep()
     ensures replies { (s b k : ℕ) (old new : ShownTable) (before : Task) (scan : TableScan) (u : Unseen) → ScanReplies s old new before scan
         → u.task s ≡ before → IsTableKept (table_state old u) → scan.explains ≡ false → IsTrue (scan.sees b k)
         → (r : Row) × (new.row b k ≡ Some r) × (IsTrue (scan.matches r) → IsTrue (scan.found b k)) }
+    ensures waits { (s : ℕ) (shown : ShownTable) (task : Task) (u : Unseen) → MachineWaits s shown task → u.task s ≡ task → IsTableKept (table_state shown u)
+        → (n : ℕ) × (n ≢ s) × ((u.summarise_lock ≡ Some n) ⊎ ((at : ℕ) × (page : ℕ) × ((shown.index at).lock page ≡ Some n))) }
+    ensures scans { (s : ℕ) (old new : ShownTable) (before after : Task) → ScanSteps old new before after
+        → ((i : ℕ) → (new.index i).lock ≡ (old.index i).lock) → MachineSteps s old new before after }
 {}
 
 /// A machine's step in one index that is one of the definitions is a step of the table; and what its statement knows in that index
@@ -115,4 +128,23 @@ pub fn machines_in_one_index()
     ensures maintain_knows { (s : ℕ) (job : Job) (at range : ℕ) (w : TableState) (phase : Phase) → IsTableKept w → at < w.indexes
         → w.task s ≡ Maintains job at range phase
         → Knows (index_view_at at w) s (Maintaining range phase) × KnowsPages (index_view_at at w) s (Maintaining range phase) }
+{}
+
+/// A vacuum summarises the ranges all of whose blocks lie below the extent, a summarise of the table those with a block below it; and an
+/// insert asks for a summary where its row is at the first place of a range that isn't the first one.
+pub fn ranges_are_exact()
+    ensures whole { (w : TableState) (at range extent : ℕ) → 0 < (w.index at).pages_per_range
+        → HasRange w (WholeRanges extent) at range ↔ ((b : ℕ) → range_in w at b ≡ range → b < extent) }
+    ensures each { (w : TableState) (at range extent : ℕ) → 0 < (w.index at).pages_per_range
+        → HasRange w (EachRange extent) at range ↔ ((b : ℕ) × (range_in w at b ≡ range) × (b < extent)) }
+    ensures asks { (w : TableState) (at b k : ℕ) → 0 < (w.index at).pages_per_range → AsksFor w b k at
+        ↔ (IsTrue (w.index at).autosummarize × (0 < range_in w at b) × ((c j : ℕ) → range_in w at c ≡ range_in w at b → (b < c) ⊎ ((b ≡ c) × (k ≤ j)))) }
+{}
+
+/// No maintenance statement skips a range; and no vacuum skips a block of the heap, or an index page with tuples.
+pub fn nothing_is_skipped()
+    ensures ranges { (s : ℕ) (w v : TableState) (job : Job) (at range : ℕ) (old : Phase) → TableStep s w v → w.task s ≡ Maintains job at range old
+        → AfterRange job at range (v.task s) }
+    ensures blocks { (s : ℕ) (w v : TableState) (extent next : ℕ) → TableStep s w v → w.task s ≡ Prunes extent next → AfterBlock extent next (v.task s) }
+    ensures pages { (s : ℕ) (w v : TableState) (step : TableStep s w v) (at page : ℕ) → w.task s ≡ Sweeps at page → AfterPage step.between at page (v.task s) }
 {}
