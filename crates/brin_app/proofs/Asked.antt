@@ -11,7 +11,7 @@ use Rattle.command_words.specs.declared.command.Command.{Command}
 use Rattle.command_words.specs.declared.command.Command.TheVariants.{Run}
 use Rattle.command_words.specs.declared.command.CommandFault.{CommandFault}
 use Rattle.command_words.specs.declared.command.CommandFault.TheVariants as commands
-use Rattle.command_words.specs.CommandWords.{command_of}
+use Rattle.command_words.specs.CommandWords.{IsCommand, IsOnlyCommand}
 use Rattle.schema_words.specs.declared.declarations.DeclFault.{DeclFault}
 use Rattle.schema_words.specs.declared.declarations.DeclFault.TheVariants as declarations
 use Rattle.schema_words.specs.FirstFault.{Answers}
@@ -37,33 +37,33 @@ ok_alone declared schema sizes (Ok layout) only kept = λ other denoted. sym (on
 ok_alone declared schema sizes (Err e) only kept = tt
 
 -- words that are a command ask for the layout that was made for it
-pub ok_asked : {E : Type 0} (words declared : List (List ℕ)) (sizes : Sizes) (result : Result DiskLayout E) → command_of words ≡ Some (Run sizes declared) → IfOk result (IsLayoutFor sizes declared) → IfOk result (AsksFor words)
-ok_asked words declared sizes (Ok layout) command makes = record { sizes = sizes; declared = declared; command = command; makes = makes }
+pub ok_asked : {E : Type 0} (words declared : List (List ℕ)) (sizes : Sizes) (result : Result DiskLayout E) → IsOnlyCommand words (Run sizes declared) → IfOk result (IsLayoutFor sizes declared) → IfOk result (AsksFor words)
+ok_asked words declared sizes (Ok layout) command makes = record { sizes = sizes; declared = declared; command = command.is; makes = makes }
 ok_asked words declared sizes (Err e) command makes = tt
 
-same_sizes : (o : Option Command) (a b : Sizes) (c d : List (List ℕ)) → o ≡ Some (Run a c) → o ≡ Some (Run b d) → b ≡ a
-same_sizes o a b c d e f = let is : Some (Run a c) ≡ Some (Run b d) = sym e ∙ f in cc
+same_sizes : (a b : Sizes) (c d : List (List ℕ)) → Run b d ≡ Run a c → b ≡ a
+same_sizes a b c d is = cc
 
-same_declared : (o : Option Command) (a b : Sizes) (c d : List (List ℕ)) → o ≡ Some (Run a c) → o ≡ Some (Run b d) → d ≡ c
-same_declared o a b c d e f = let is : Some (Run a c) ≡ Some (Run b d) = sym e ∙ f in cc
+same_declared : (a b : Sizes) (c d : List (List ℕ)) → Run b d ≡ Run a c → d ≡ c
+same_declared a b c d is = cc
 
 layout_is : (a b : DiskLayout) → a.schema ≡ b.schema → a.sizes ≡ b.sizes → a ≡ b
 layout_is a b e f = ap (λ schema. record { schema = schema; sizes = a.sizes }) e ∙ ap (λ sizes. record { schema = b.schema; sizes = sizes }) f
 
 -- and for no other one
-pub ok_only : {E : Type 0} (words declared : List (List ℕ)) (sizes : Sizes) (result : Result DiskLayout E) → command_of words ≡ Some (Run sizes declared) → IfOk result (IsLayoutFor sizes declared)
-    → IfOk result (λ layout. (schema : Schema) → Denotes declared schema → schema ≡ layout.schema) → IfOk result (λ layout. (other : DiskLayout) → AsksFor words other → other ≡ layout)
-ok_only words declared sizes (Ok layout) command makes alone = λ other asks.
+pub ok_only : {E : Type 0} (words declared : List (List ℕ)) (sizes : Sizes) (result : Result DiskLayout E) → IfOk result (IsLayoutFor sizes declared)
+    → IfOk result (λ layout. (schema : Schema) → Denotes declared schema → schema ≡ layout.schema) → IsOnlyCommand words (Run sizes declared) → IfOk result (λ layout. (other : DiskLayout) → AsksFor words other → other ≡ layout)
+ok_only words declared sizes (Ok layout) makes alone only = λ other asks.
     layout_is other layout
-    (alone other.schema (subst (λ (l : List (List ℕ)). Denotes l other.schema) (same_declared (command_of words) sizes asks.sizes declared asks.declared command asks.command) asks.makes.schema))
-    (asks.makes.sizes_are ∙ same_sizes (command_of words) sizes asks.sizes declared asks.declared command asks.command ∙ sym makes.sizes_are)
-ok_only words declared sizes (Err e) command makes alone = tt
+    (alone other.schema (subst (λ (l : List (List ℕ)). Denotes l other.schema) (same_declared sizes asks.sizes declared asks.declared (only.alone (Run asks.sizes asks.declared) asks.command)) asks.makes.schema))
+    (asks.makes.sizes_are ∙ same_sizes sizes asks.sizes declared asks.declared (only.alone (Run asks.sizes asks.declared) asks.command) ∙ sym makes.sizes_are)
+ok_only words declared sizes (Err e) makes alone only = tt
 
 -- a command for which there is no layout asks for nothing
-pub none_asked : (words declared : List (List ℕ)) (sizes : Sizes) → command_of words ≡ Some (Run sizes declared) → ((schema : Schema) → Denotes declared schema → IsSome (first_broken_rule schema sizes)) → AsksForNothing words
-none_asked words declared sizes command broken layout asks =
-    let denoted : Denotes declared layout.schema = subst (λ (l : List (List ℕ)). Denotes l layout.schema) (same_declared (command_of words) sizes asks.sizes declared asks.declared command asks.command) asks.makes.schema in
-    let within : first_broken_rule layout.schema sizes ≡ None = subst (λ (z : Sizes). first_broken_rule layout.schema z ≡ None) (same_sizes (command_of words) sizes asks.sizes declared asks.declared command asks.command) asks.makes.within in
+pub none_asked : (words declared : List (List ℕ)) (sizes : Sizes) → ((schema : Schema) → Denotes declared schema → IsSome (first_broken_rule schema sizes)) → IsOnlyCommand words (Run sizes declared) → AsksForNothing words
+none_asked words declared sizes broken only layout asks =
+    let denoted : Denotes declared layout.schema = subst (λ (l : List (List ℕ)). Denotes l layout.schema) (same_declared sizes asks.sizes declared asks.declared (only.alone (Run asks.sizes asks.declared) asks.command)) asks.makes.schema in
+    let within : first_broken_rule layout.schema sizes ≡ None = subst (λ (z : Sizes). first_broken_rule layout.schema z ≡ None) (same_sizes sizes asks.sizes declared asks.declared (only.alone (Run asks.sizes asks.declared) asks.command)) asks.makes.within in
     lacks (first_broken_rule layout.schema sizes) within (broken layout.schema denoted)
   where
     lacks : (o : Option ℕ) → o ≡ None → IsSome o → ⊥
@@ -71,8 +71,8 @@ none_asked words declared sizes command broken layout asks =
     lacks (Some n) e h = cc
 
 -- and neither do words that are no command
-pub no_command : (words : List (List ℕ)) → command_of words ≡ None → AsksForNothing words
-no_command words none layout asks = let is : None ≡ Some (Run asks.sizes asks.declared) = sym none ∙ asks.command in cc
+pub no_command : (words : List (List ℕ)) → ((command : Command) → IsCommand words command → ⊥) → AsksForNothing words
+no_command words none layout asks = none (Run asks.sizes asks.declared) asks.command
 
 -- ---- faults that go up
 

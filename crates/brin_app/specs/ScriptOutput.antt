@@ -7,7 +7,7 @@ use Rattle.block_model.specs.declared.schema.Schema.{Schema}
 use Rattle.block_model.specs.declared.schema.Sizes.{Sizes}
 use Rattle.brin_app.specs.ScriptTexts.{ScriptPlace, script_start, IsLineText, ScriptLacksRoom}
 use Rattle.command_words.specs.declared.command.Command.TheVariants.{Run}
-use Rattle.command_words.specs.CommandWords.{command_of}
+use Rattle.command_words.specs.CommandWords.{IsCommand}
 use Rattle.schema_words.specs.DeclaredSchema.{Denotes}
 use Rattle.brin_app.specs.declared.status.TheConstants.{SCRIPT_LIMIT}
 use Rattle.range_summaries.specs.ExplainedBlocks.{explained}
@@ -26,7 +26,7 @@ pub record IsLayoutFor (sizes : Sizes) (declared : List (List ℕ)) (layout : Di
 pub record AsksFor (words : List (List ℕ)) (layout : DiskLayout) : Type 0 where
   pub sizes : Sizes
   pub declared : List (List ℕ)
-  pub command : command_of words ≡ Some (Run sizes declared)
+  pub command : IsCommand words (Run sizes declared)
   pub makes : IsLayoutFor sizes declared layout
 
 -- they are no command, or a limit is passed

@@ -9,7 +9,8 @@ use Rattle.clap.specs.Faults.{fault_of, built_fault, level_fault, walk_fault, tu
 use Rattle.clap.specs.Kinds.{Kinds, or_else}
 use Rattle.clap.proofs.FaultLemmas.{stopped_fault}
 use Rattle.clap.specs.declared.error.kind.ErrorKind.TheVariants.{MissingSubcommand}
-use Rattle.command_words.specs.CommandWords.{Text, WordsSaid, nothing_read, option_in}
+use Rattle.command_words.specs.CommandWords.{Text, WordsSaid}
+use Rattle.command_words.specs.ReadingOrder.{nothing_read, option_in}
 use Rattle.command_words.specs.ClapReading.{is_end, clap_read, has_single_hyphen, has_no_single_hyphen}
 use Rattle.command_words.specs.ClapRules.{declared_id, option_rule, rules, leaf, Agrees}
 use Rattle.command_words.specs.ClapCommands.{Sub, entry, command_said, raw_rules, raw_leaf, top, raw_app, leaf_of, built_app, Enters, program_subs}

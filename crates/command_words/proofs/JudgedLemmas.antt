@@ -3,7 +3,8 @@ use Rattle.std.proofs.Common.{◌≡◌, ◌∙◌, refl, sym, ap, subst, List, 
 use Rattle.std.specs.List.{list_any, list_all}
 use Rattle.std.proofs.lemmas.Bool.{cases_Bool, and_parts, not-true, false_from_ne_true, eqb-true}
 use Rattle.command_words.specs.declared.command.Command.{Command}
-use Rattle.command_words.specs.CommandWords.{Text, WordsSaid, WordsReading, value_of, option_in, nothing_read, is_number, begins_with_hyphen, take_word, name_and_value, read_words, CommandForm, command_in, commands, form_named}
+use Rattle.command_words.specs.CommandWords.{Text, WordsSaid, value_of, is_number, begins_with_hyphen, CommandForm, commands}
+use Rattle.command_words.specs.ReadingOrder.{WordsReading, option_in, nothing_read, take_word, name_and_value, read_words, command_in, form_named}
 use Rattle.command_words.specs.ClapReading.{is_end, has_single_hyphen, clap_read, clap_word, numbers_given, is_number_if_given, has_no_single_hyphen}
 use Rattle.command_words.specs.ClapCommands.{entry, command_matched, judged, meaning_checked}
 use Rattle.command_words.proofs.RowLemmas.{given_at, same_text, text_is}

@@ -7,11 +7,23 @@ use Rattle.std.proofs.lemmas.Bool.{cases_Bool, and_parts, not-true}
 use Rattle.std.proofs.lemmas.List.Folds.{list_all-append}
 use Rattle.block_model.specs.declared.schema.Sizes.{Sizes}
 use Rattle.command_words.specs.declared.command.Command.TheVariants.{Run}
-use Rattle.command_words.specs.CommandWords.{Text, WordsSaid, WordsReading, nothing_read, value_of, is_number, number_of, begins_with_hyphen, option_in, give_number, take_option, take_named, take_free, take_word, read_words, size_options, sizes_of, run_with, run_of, command_of}
-use Rattle.command_words.specs.Laws.{option_words, has_no_end, OptionStandsOnce, OptionHasItsNumber, FurtherWordIsDeclaredLast, SizesHaveDefaults}
+use Rattle.command_words.specs.CommandWords.{Text, WordsSaid, value_of, is_number, number_of, begins_with_hyphen, size_options, sizes_of, run_with, run_of}
+use Rattle.command_words.specs.ReadingOrder.{WordsReading, nothing_read, option_in, give_number, take_option, take_named, take_free, take_word, read_words, command_of}
+use Rattle.command_words.specs.Laws.{option_words, has_no_end}
 use Rattle.command_words.proofs.RowLemmas.{given_at, text_is, same_text}
 use Rattle.command_words.proofs.TurnLemmas.{some_or_none}
 use Rattle.command_words.proofs.JudgedLemmas.{none_either}
+
+-- ---- the laws of what is read
+
+abbrev pub IsReadOnce : Text → Type 0
+IsReadOnce name = (a b : Bool) (v w : Text) (before between after : List Text) → has_no_end before ≡ true → has_no_end between ≡ true
+    → command_of (codes "run" ∷ before ++ option_words a name v ++ between ++ option_words b name w ++ after) ≡ None
+
+abbrev pub IsReadAsNumber : Text → (Sizes → ℕ) → Type 0
+IsReadAsNumber name size = (a : Bool) (digits : Text) (before after : List Text) (sizes : Sizes) (declared : List Text) → has_no_end before ≡ true
+    → command_of (codes "run" ∷ before ++ option_words a name digits ++ after) ≡ Some (Run sizes declared)
+    → (is_number digits ≡ true) × (size sizes ≡ number_of digits)
 
 -- ---- what every word keeps
 
@@ -182,8 +194,8 @@ none_said : {X : Type 0} (o : Option X) → IfSome o (λ x. ⊥) → o ≡ None
 none_said None h = refl
 none_said (Some x) h = absurd h
 
-pub stands_once : (name : Text) → IsOption size_options name → OptionStandsOnce name
-stands_once name o = λ a b v w before between after free free_between.
+pub read_once : (name : Text) → IsOption size_options name → IsReadOnce name
+read_once name o = λ a b v w before between after free free_between.
     let whole : Says size_options (λ s. ⊥) nothing_read (before ++ (option_words a name v ++ (between ++ (option_words b name w ++ after)))) =
     reach size_options (λ s. Unit {0}) (λ s. ⊥) nothing_stays nothing_read before _ free refl tt
     (λ q still u. at_option size_options name v (λ s. ⊥) o a q _ still
@@ -228,9 +240,9 @@ number_stays name digits = record {
   word = λ said w h. h;
 }
 
-pub has_number : (name : Text) (size : Sizes → ℕ) (default : ℕ) → IsOption size_options name
-    → ((said : WordsSaid) → size (sizes_of said) ≡ unwrap_or (option_map number_of (value_of name said.values)) default) → OptionHasItsNumber (name, size)
-has_number name size default o is = λ a digits before after sizes declared free e.
+pub read_as_number : (name : Text) (size : Sizes → ℕ) (default : ℕ) → IsOption size_options name
+    → ((said : WordsSaid) → size (sizes_of said) ≡ unwrap_or (option_map number_of (value_of name said.values)) default) → IsReadAsNumber name size
+read_as_number name size default o is = λ a digits before after sizes declared free e.
     let parts = run_parts (before ++ option_words a name digits ++ after) sizes declared e in
     let whole : Says size_options (HasNumber name digits) nothing_read (before ++ (option_words a name digits ++ after)) =
     reach size_options (λ s. Unit {0}) (HasNumber name digits) nothing_stays nothing_read before _ free refl tt
@@ -241,11 +253,11 @@ has_number name size default o is = λ a digits before after sizes declared free
 
 -- ---- a further word
 
-no_option : (word : Text) → begins_with_hyphen word ≡ false → (bytes_eq word (codes "--") ≡ false) × (option_in word ≡ None)
+pub no_option : (word : Text) → begins_with_hyphen word ≡ false → (bytes_eq word (codes "--") ≡ false) × (option_in word ≡ None)
 no_option [] h = (refl, refl)
 no_option (c ∷ cs) h = (rw h refl, rw h refl)
 
-declared_word : (names : List Text) (word : Text) (r : WordsReading) → begins_with_hyphen word ≡ false → r.waits ≡ None
+pub declared_word : (names : List Text) (word : Text) (r : WordsReading) → begins_with_hyphen word ≡ false → r.waits ≡ None
     → take_word names r.waits word r ≡ Some (record { said = record { values = r.said.values; declared = r.said.declared ++ word ∷ [] }; waits = None; ended = r.ended })
 declared_word names word r h e = rw e (go r.ended)
   where
@@ -279,8 +291,9 @@ all_utf8 words sizes declared e = elim (cases_Bool (list_all is_utf8 words)) [
   | inr h ↦ let bad : None ≡ Some (Run sizes declared) = rw h at e in cc
 ]
 
-pub further_word : FurtherWordIsDeclaredLast
-further_word = λ words word sizes declared e utf8 h. go words word sizes declared e utf8 h
+pub read_further : (words : List Text) (word : Text) (sizes : Sizes) (declared : List Text) → command_of words ≡ Some (Run sizes declared) → is_utf8 word ≡ true → begins_with_hyphen word ≡ false
+    → command_of (words ++ word ∷ []) ≡ Some (Run sizes (declared ++ word ∷ []))
+read_further words word sizes declared e utf8 h = go words word sizes declared e utf8 h
   where
     go : (words : List Text) (word : Text) (sizes : Sizes) (declared : List Text) → command_of words ≡ Some (Run sizes declared) → is_utf8 word ≡ true → begins_with_hyphen word ≡ false
         → command_of (words ++ word ∷ []) ≡ Some (Run sizes (declared ++ word ∷ []))
@@ -299,17 +312,18 @@ further_word = λ words word sizes declared e utf8 h. go words word sizes declar
             list_all-append is_utf8 (codes "run" ∷ ws) (word ∷ []) ∙ rw (all_utf8 (codes "run" ∷ ws) sizes declared e, utf8) refl in
             rw (each, read_last size_options nothing_read ws word parts.0 parts.1 h) (run_longer (sizes_of parts.0) parts.0.declared word ∙ ap₂ (λ (s : Sizes) (d : List Text). Some (Run s (d ++ word ∷ []))) (sym parts.2) (sym parts.3))
 
-ascii_below : (bs : Text) → list_all (λ b. nat_lt b 128) bs ≡ true → (i : ℕ) → slice_index bs i < 128
+pub ascii_below : (bs : Text) → list_all (λ b. nat_lt b 128) bs ≡ true → (i : ℕ) → slice_index bs i < 128
 ascii_below [] e i = omega arith
 ascii_below (b ∷ bs) e zero = ltb-true b 128 (and_parts (nat_lt b 128) (list_all (λ c. nat_lt c 128) bs) e).0
 ascii_below (b ∷ bs) e (suc i) = ascii_below bs (and_parts (nat_lt b 128) (list_all (λ c. nat_lt c 128) bs) e).1 i
 
-run_is_utf8 : is_utf8 (codes "run") ≡ true
+pub run_is_utf8 : is_utf8 (codes "run") ≡ true
 run_is_utf8 = is_utf8-from_IsUtf8 (codes "run") (IsUtf8-from_ascii (codes "run") (ascii_below (codes "run") refl))
 
-pub defaults : SizesHaveDefaults
+pub read_defaults : (word : Text) → is_utf8 word ≡ true → begins_with_hyphen word ≡ false
+    → command_of (codes "run" ∷ word ∷ []) ≡ Some (Run (record { heap_blocks = 4096; index_blocks = 1024; status_blocks = 4; log_pages = 128; frames = 256 }) (word ∷ []))
 unfolding read_words
-defaults = λ word utf8 h.
+read_defaults word utf8 h =
     let each : list_all is_utf8 (codes "run" ∷ word ∷ []) ≡ true = rw (run_is_utf8, utf8) refl in
     rw (each, declared_word size_options word nothing_read h refl) refl
 

@@ -8,3 +8,5 @@ pub mod NumberLemmas
 pub mod SizeLemmas
 pub mod TextLemmas
 pub mod LawLemmas
+pub mod Spelling
+pub mod SpeltLaws

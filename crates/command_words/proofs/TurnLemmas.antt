@@ -10,7 +10,8 @@ use Rattle.clap.specs.Faults.{defaults_fault, level_fault, settle_fault, turn_fa
 use Rattle.clap.specs.Takes.{is_given}
 use Rattle.clap.specs.Kinds.{Kinds, or_else}
 use Rattle.clap.specs.declared.error.kind.ErrorKind.TheVariants.{TooManyValues}
-use Rattle.command_words.specs.CommandWords.{Text, WordsSaid, WordsReading, value_of, nothing_read, option_in, begins_with_hyphen}
+use Rattle.command_words.specs.CommandWords.{Text, WordsSaid, value_of, begins_with_hyphen}
+use Rattle.command_words.specs.ReadingOrder.{WordsReading, nothing_read, option_in}
 use Rattle.command_words.specs.ClapReading.{is_end, clap_word, clap_read, has_single_hyphen, has_no_single_hyphen}
 use Rattle.command_words.specs.ClapRules.{declared_id, option_rule, rules, leaf, RowsShow, Agrees}
 use Rattle.command_words.proofs.RowLemmas.{text_is, long_known, long_unknown, id_known, id_declared, first_place, known_apart, has_value, set_shows, add_shows, no_defaults}

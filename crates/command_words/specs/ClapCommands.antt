@@ -4,7 +4,8 @@ use Rattle.clap.specs.Walk.{Rule, Row}
 use Rattle.clap.specs.Simple.{App, Shape, new_rule, new_shape}
 use Rattle.clap.specs.declared.builder.action.ArgAction.TheVariants.{Set, Append}
 use Rattle.command_words.specs.declared.command.Command.{Command}
-use Rattle.command_words.specs.CommandWords.{Text, WordsSaid, CommandForm, commands, form_named, nothing_read}
+use Rattle.command_words.specs.CommandWords.{Text, WordsSaid, CommandForm, commands}
+use Rattle.command_words.specs.ReadingOrder.{form_named, nothing_read}
 use Rattle.command_words.specs.ClapReading.{clap_read, has_no_single_hyphen, numbers_given}
 use Rattle.command_words.specs.ClapRules.{declared_id, leaf, RowsShow}
 

@@ -2,7 +2,8 @@
 -- in this crate alone, and proved to give the same commands as CommandWords, with the tests that stand below
 use Rattle.std.specs.Prelude.{ℕ, ◌==◌, ◌&&◌, ◌||◌, Bool, true, false, not, List, [], ◌∷◌, Option, Some, None, is_some, codes, bytes_eq, if◌then◌else◌, option_and_then}
 use Rattle.std.specs.List.{list_any, list_all}
-use Rattle.command_words.specs.CommandWords.{Text, WordsSaid, WordsReading, give, declare, option_in, value_of, is_number, number_of, begins_with_hyphen}
+use Rattle.command_words.specs.CommandWords.{Text, WordsSaid, value_of, is_number, number_of, begins_with_hyphen}
+use Rattle.command_words.specs.ReadingOrder.{WordsReading, give, declare, option_in}
 
 -- one hyphen, and no second
 abbrev pub has_single_hyphen : Text → Bool

@@ -1,4 +1,5 @@
 pub mod CommandWords
+pub mod ReadingOrder
 pub mod ClapReading
 pub mod ClapRules
 pub mod ClapCommands

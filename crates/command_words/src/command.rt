@@ -4,7 +4,9 @@ ghost use Rattle.std.specs.Prelude.{◌≡◌, IfOk, IfErr, map, Some, None};
 ghost use Rattle.clap.specs.Words.{found_of, rows_of};
 ghost use Rattle.command_words.specs.ClapCommands.{command_matched, meaning_checked};
 ghost use Rattle.command_words.specs.ClapRules.{RowsShow};
-ghost use Rattle.command_words.specs.CommandWords.{WordsSaid, command_of, run_form};
+ghost use Rattle.command_words.specs.CommandWords.{WordsSaid, run_form, IsCommand, IsOnlyCommand};
+ghost use Rattle.command_words.specs.ReadingOrder.{command_of};
+ghost use Rattle.command_words.specs.declared.command.Command.{Command};
 ghost use Rattle.command_words.specs.declared.command.CommandFault.TheVariants.{Usage, Memory};
 
 use crate::matching::{declared_in, matched, sizes_in};
@@ -56,9 +58,18 @@ impl<T: Drop> From<AllocFailed<T>> for CommandFault {
     }
 }
 
-/// The command that the words are. Usage comes exactly where they are none; want of memory is free.
-#[tactic(auto, using(crate::proofs::JudgedLemmas::command_alike))]
+/// The command that the words are, and the only one. Usage comes where they are none; want of memory is free.
+#[tactic(auto, using(crate::proofs::SpeltLaws::ok_spelt, crate::proofs::SpeltLaws::usage_unspelt))]
 pub fn read_command(alloc: Global, words: &Words) -> Result<Command, CommandFault>
+    ensures ok { IfOk result (IsOnlyCommand words.now) }
+    ensures usage { IfErr result (λ fault. fault ≡ Usage → (command : Command) → ¬ (IsCommand words.now command)) }
+{
+    read_in_order(alloc, words)
+}
+
+/// The command that the words are, read one after the other.
+#[tactic(auto, using(crate::proofs::JudgedLemmas::command_alike))]
+fn read_in_order(alloc: Global, words: &Words) -> Result<Command, CommandFault>
     ensures ok { IfOk result (λ command. command_of words.now ≡ Some command) }
     ensures usage { IfErr result (λ fault. fault ≡ Usage → command_of words.now ≡ None) }
 {

@@ -1,6 +1,16 @@
 //! What the words of a command mean.
 
-ghost use Rattle.command_words.specs.Laws.{FurtherWordIsDeclaredLast, OptionsHaveTheirNumbers, OptionsStandOnce, SizesHaveDefaults};
+ghost use Rattle.command_words.specs.Laws.{FurtherWordIsDeclaredLast, OptionsHaveTheirNumbers, OptionsStandOnce, OrderSaysNothing, SizesHaveDefaults, WordsAreOneCommand};
+
+/// No words are two commands.
+pub fn words_are_one_command()
+    ensures { WordsAreOneCommand }
+{}
+
+/// The order of options, and whether one is written in one word or in two, says nothing; declared words keep theirs.
+pub fn order_says_nothing()
+    ensures { OrderSaysNothing }
+{}
 
 /// No option stands twice, in whatever spellings.
 pub fn options_stand_once()

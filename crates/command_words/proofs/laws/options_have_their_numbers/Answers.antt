@@ -1,6 +1,7 @@
 use Rattle.std.proofs.Common.{codes, refl}
 use Rattle.command_words.specs.Laws.{OptionHasItsNumber}
-use Rattle.command_words.proofs.LawLemmas.{has_number, five, is_heap_blocks, is_index_blocks, is_status_blocks, is_log_pages, is_frames}
+use Rattle.command_words.proofs.SpeltLaws.{has_number}
+use Rattle.command_words.proofs.LawLemmas.{five, is_heap_blocks, is_index_blocks, is_status_blocks, is_log_pages, is_frames}
 use Rattle.command_words.proofs.laws.options_have_their_numbers.Goals as goal
 
 pub returns : goal.returns

@@ -1,6 +1,7 @@
 use Rattle.std.proofs.Common.{codes}
 use Rattle.command_words.specs.Laws.{OptionStandsOnce}
-use Rattle.command_words.proofs.LawLemmas.{stands_once, five, is_heap_blocks, is_index_blocks, is_status_blocks, is_log_pages, is_frames}
+use Rattle.command_words.proofs.SpeltLaws.{stands_once}
+use Rattle.command_words.proofs.LawLemmas.{five, is_heap_blocks, is_index_blocks, is_status_blocks, is_log_pages, is_frames}
 use Rattle.command_words.proofs.laws.options_stand_once.Goals as goal
 
 pub returns : goal.returns

@@ -1,4 +1,4 @@
-use Rattle.command_words.proofs.LawLemmas.{defaults}
+use Rattle.command_words.proofs.SpeltLaws.{defaults}
 use Rattle.command_words.proofs.laws.sizes_have_defaults.Goals as goal
 
 pub returns : goal.returns
