@@ -2,34 +2,36 @@
 use Rattle.std.proofs.Common.{◌≡◌, ◌≢◌, ◌⊎◌, ℕ, ◌+◌, ◌<◌, ◌≤◌, inl, inr, Bool, cond, List, [], ◌∷◌, ◌++◌, length, get_or, set, refl, sym, ap, subst, ◌∙◌, arith, length-append}
 use Rattle.std.specs.Prelude.{Option, None, Some, replicate, slice_get, nat_lt}
 use Rattle.std.proofs.lemmas.Bool.{cases_lt, cases_eq, false_from_ne_true, lt-ltb, le-ltb}
-use Rattle.std.proofs.lemmas.List.{length-set, get_or-set_same, get_or-set_other, get_or_past, get_or_append_left, get_or_push, set_at}
+use Rattle.std.proofs.lemmas.List.{ext_get_or, length-set, get_or-set_same, get_or-set_other, get_or_past, get_or_append_left, get_or_push, set_at}
 use Rattle.std.proofs.lemmas.Option.{slice_get-get_or}
 use Rattle.block_model.specs.declared.place.Place.{Place}
 use Rattle.block_model.specs.declared.place.Spot.{Spot}
 use Rattle.store_layout.specs.DiskLayout.{DiskLayout}
 use Rattle.page_layout.specs.declared.page.Form.{Form}
 use Rattle.page_layout.specs.RowBytes.{StoredRow}
-use Rattle.page_layout.specs.PageContents.{Slot, HasSlots, IsForm, IsUnstarted}
-use Rattle.page_layout.specs.FreeSlots.{slot_count, is_free, lowest_free}
-use Rattle.page_layout.proofs.FreeSlots.{started_not, same-free}
+use Rattle.page_layout.specs.PageContents.{Slot, HasSlots, IsUnstarted}
+use Rattle.page_layout.specs.FreeSlots.{is_free, lowest_free}
+use Rattle.page_layout.specs.SlotLaws.{started_not}
+use Rattle.page_layout.specs.SlotsOnPage.{slots_on}
 use Rattle.page_redo.specs.Redo.{IsFreeSlot, IsUsedSlot}
 use Rattle.page_store.specs.PageMap.{PageMap, block_at, page_at}
 use Rattle.page_store.specs.FirstRoom.{IsFirstRoom}
+use Rattle.page_store.specs.Started.{AreFirst}
 use Rattle.heap_rows.specs.Heaps.{relation_of, form_at, slots_a_page}
 use Rattle.heap_rows.specs.HeapBlocks.{HasBlocks, slots_of}
 use Rattle.heap_rows.specs.IsTableFull.{IsTableFull, AreUsed}
-use Rattle.heap_rows.specs.LeavesOthers.{KeepsRows}
-use Rattle.heap_rows.specs.RoomOnPage.{HasSlotsOnceStarted, KeepsOrStarts}
+use Rattle.heap_rows.specs.RoomOnPage.{HasSlotsOnceStarted}
 use Rattle.heap_rows.specs.RowPlaces.{IsInUse, place_for, slot_at, with_row, with_slot}
-use Rattle.heap_rows.proofs.Places.{none_used, used_none, free_slot, first_of_empty, place_at, place_behind}
+use Rattle.heap_rows.proofs.Places.{used_none, free_not_none, free_slot, first_of_empty, place_at, place_behind}
 
--- what the layout says of the table
+-- the slots of a page are those that are read of its bytes
+abbrev pub OneList : Type 0
+OneList = (form : Form) (page : List ℕ) (slots : List Slot) → HasSlots form page slots → slots ≡ slots_on form page
+
+-- what the layout says of the table, and every page of its slots
 pub record IsHeap (layout : DiskLayout) (table : ℕ) : Type 0 where
-  pub form : IsForm (form_at layout table)
   pub some : 0 < slots_a_page layout table
-
-pub heap_of : (layout : DiskLayout) (table : ℕ) (form : Form) → form ≡ form_at layout table → IsForm form → 0 < slot_count form → IsHeap layout table
-heap_of layout table form is is_form some = record { form = subst IsForm is is_form; some = subst (λ (f : Form). 0 < slot_count f) is some }
+  pub one : OneList
 
 -- a fact of the form and the relation that the code found
 pub at_table : (layout : DiskLayout) (table relation : ℕ) (form : Form) (P : Form → ℕ → Type 0) → form ≡ form_at layout table → relation ≡ relation_of table → P form relation → P (form_at layout table) (relation_of table)
@@ -41,14 +43,14 @@ LeavesOthersOf old new table block = (other : ℕ) → other ≢ block → block
 
 -- the first room of the table's pages, as the page store gives it
 abbrev pub IsRoomOf : DiskLayout → PageMap → ℕ → Option ℕ → Type 0
-IsRoomOf layout pages table first = IsFirstRoom (Some (form_at layout table)) layout.sizes.heap_blocks (block_at pages (relation_of table)) first
+IsRoomOf layout pages table first = IsFirstRoom (form_at layout table) layout.sizes.heap_blocks 0 0 (block_at pages (relation_of table)) first
 
-pub room_of : (layout : DiskLayout) (pages : PageMap) (table relation : ℕ) (form : Option Form) (limit : ℕ) (first : Option ℕ) → relation ≡ relation_of table → form ≡ Some (form_at layout table) → limit ≡ layout.sizes.heap_blocks
-    → IsFirstRoom form limit (block_at pages relation) first → IsRoomOf layout pages table first
+pub room_of : (layout : DiskLayout) (pages : PageMap) (table relation : ℕ) (form : Form) (limit : ℕ) (first : Option ℕ) → relation ≡ relation_of table → form ≡ form_at layout table → limit ≡ layout.sizes.heap_blocks
+    → IsFirstRoom form limit 0 0 (block_at pages relation) first → IsRoomOf layout pages table first
 room_of layout pages table relation form limit first is_relation is_form is_limit room_there =
-    subst (λ (f : Option Form). IsFirstRoom f layout.sizes.heap_blocks (block_at pages (relation_of table)) first) is_form
-    (subst (λ (n : ℕ). IsFirstRoom form n (block_at pages (relation_of table)) first) is_limit
-    (subst (λ (r : ℕ). IsFirstRoom form limit (block_at pages r) first) is_relation room_there))
+    subst (λ (f : Form). IsFirstRoom f layout.sizes.heap_blocks 0 0 (block_at pages (relation_of table)) first) is_form
+    (subst (λ (n : ℕ). IsFirstRoom form n 0 0 (block_at pages (relation_of table)) first) is_limit
+    (subst (λ (r : ℕ). IsFirstRoom form limit 0 0 (block_at pages r) first) is_relation room_there))
 
 -- the block has a free slot
 abbrev HasRoomAt : DiskLayout → PageMap → ℕ → ℕ → Type 0
@@ -60,7 +62,13 @@ room_within : {layout : DiskLayout} {table : ℕ} {pages : PageMap} {blocks : Li
 room_within {layout} {table} {pages} {blocks} heap has block below room_there =
     let free = room_there in
     elim (cases_lt block (length blocks)) [
-      | inl there ↦ (there, λ none. same-free (form_at layout table) (block_at pages (relation_of table) block) free.1.0 (slots_of blocks block) free.0 heap.form free.1.1 (has.started block there) free.1.2 (none_used (slots_of blocks block) none))
+      | inl there ↦ (
+        there,
+        λ none.
+            let page = block_at pages (relation_of table) block in
+            let same : free.1.0 ≡ slots_of blocks block = heap.one (form_at layout table) page free.1.0 free.1.1 ∙ sym (heap.one (form_at layout table) page (slots_of blocks block) (has.started block there)) in
+            free_not_none free.1.0 free.0 free.1.2 (ap lowest_free same ∙ none),
+      )
       | inr past ↦ absurd (started_not (form_at layout table) (block_at pages (relation_of table) block) free.1.0 free.1.1 (has.unstarted block past below))
     ]
 
@@ -98,9 +106,9 @@ pub first_room : {layout : DiskLayout} {table : ℕ} {pages : PageMap} {blocks :
     → InBlock blocks block ⊎ Behind layout.sizes.heap_blocks blocks block
 first_room {layout} {table} {pages} {blocks} heap has block (inl with_room) =
     let within = room_within heap has block with_room.below with_room.room in
-    inl (record { there = within.0; before = λ k lower. used_none (slots_of blocks k) (no_room heap has k (let first = within.0 in omega arith) (with_room.lower k lower)); here = within.1 })
+    inl (record { there = within.0; before = λ k lower. used_none (slots_of blocks k) (no_room heap has k (let first = within.0 in omega arith) (with_room.lower k lower tt)); here = within.1 })
 first_room {layout} {table} {pages} {blocks} heap has block (inr next) =
-    inr (record { there = next_block has block next.below next.unstarted next.lower; below = next.below; before = λ k there. used_none (slots_of blocks k) (no_room heap has k there (next.no_room k)) })
+    inr (record { there = next_block has block next.below next.unstarted next.lower; below = next.below; before = λ k there. used_none (slots_of blocks k) (no_room heap has k there (next.no_room k tt)) })
 
 -- a change of one page
 
@@ -200,21 +208,6 @@ put-blocks {layout} {table} {old} {blocks} new heap has block slot row first oth
           (push_block has block (set empty slot (Some row)) behind.there behind.below others (puts empty (inr (unstarted, refl)))))
     ]
 
--- a put that fails
-pub kept_blocks : {layout : DiskLayout} {table : ℕ} {old : PageMap} {blocks : List (List Slot)} (new : PageMap) (heap : IsHeap layout table) (has : HasBlocks layout old table blocks) (block : ℕ) → IsRoomOf layout old table (Some block)
-    → LeavesOthersOf old new table block → KeepsOrStarts (form_at layout table) (block_at old (relation_of table) block) (block_at new (relation_of table) block) → KeepsRows layout new table blocks
-kept_blocks {layout} {table} {old} {blocks} new heap has block first others (inl same) =
-    inl (same-blocks has (λ b.
-    elim (cases_eq b block) [
-      | inl is ↦ let P : ℕ → Type 0 = λ n. block_at new (relation_of table) n ≡ block_at old (relation_of table) n in subst P (sym is) same
-      | inr other ↦ others b other
-    ]))
-kept_blocks {layout} {table} {old} {blocks} new heap has block first others (inr started) =
-    elim (first_room heap has block first) [
-      | inl in_block ↦ absurd (started_not (form_at layout table) (block_at old (relation_of table) block) (slots_of blocks block) (has.started block in_block.there) started.0)
-      | inr behind ↦ inr (push_block has block (replicate (slots_a_page layout table) None) behind.there behind.below others started.1)
-    ]
-
 -- a table without a place
 
 pub full_blocks : {layout : DiskLayout} {table : ℕ} {pages : PageMap} {blocks : List (List Slot)} (heap : IsHeap layout table) (has : HasBlocks layout pages table blocks) → IsRoomOf layout pages table None → IsTableFull layout.sizes.heap_blocks blocks
@@ -224,7 +217,7 @@ full_blocks {layout} {table} {pages} {blocks} heap has full = record {
         | inl before ↦ absurd (full.started (length blocks) before (has.unstarted (length blocks) (omega arith) before))
         | inr all ↦ let most = has.within in omega arith
       ];
-  all_slots = λ block there. no_room heap has block there (full.no_room block);
+  all_slots = λ block there. no_room heap has block there (full.no_room block tt);
 }
 
 pub full_not_first : {layout : DiskLayout} {table : ℕ} {pages : PageMap} {blocks : List (List Slot)} (heap : IsHeap layout table) (has : HasBlocks layout pages table blocks) (block : ℕ) → IsRoomOf layout pages table (Some block) → IsTableFull layout.sizes.heap_blocks blocks → ⊥
@@ -255,6 +248,30 @@ pub is_used : {layout : DiskLayout} {table : ℕ} {pages : PageMap} (spot : Spot
 is_used spot use_of =
     let there = in_use use_of.2 spot use_of.1 use_of.3 in
     (slots_of use_of.0 spot.block, use_of.1, use_of.2.started spot.block there.0, there.1)
+
+-- the blocks of a table are one list
+
+no_longer : {layout : DiskLayout} {table : ℕ} {pages : PageMap} {a b : List (List Slot)} → HasBlocks layout pages table a → HasBlocks layout pages table b → length b ≤ length a
+no_longer {layout} {table} {pages} {a} {b} first second =
+    elim (cases_lt (length a) (length b)) [
+      | inl more ↦ absurd (started_not (form_at layout table) (block_at pages (relation_of table) (length a)) (slots_of b (length a)) (second.started (length a) more) (first.unstarted (length a) (omega arith) (omega (arith, more, second.within))))
+      | inr few ↦ few
+    ]
+
+pub one_list : OneList → (layout : DiskLayout) (pages : PageMap) (table : ℕ) (a b : List (List Slot)) → HasBlocks layout pages table a → HasBlocks layout pages table b → a ≡ b
+one_list one layout pages table a b first second =
+    let up = no_longer first second in
+    let down = no_longer second first in
+    ext_get_or [] a b (omega arith) (λ n below.
+    let page = block_at pages (relation_of table) n in
+    one (form_at layout table) page (slots_of a n) (first.started n below) ∙ sym (one (form_at layout table) page (slots_of b n) (second.started n (omega arith))))
+
+pub blocks_first : (layout : DiskLayout) (pages : PageMap) (table : ℕ) (blocks : List (List Slot)) → HasBlocks layout pages table blocks → AreFirst layout.sizes.heap_blocks (block_at pages (relation_of table)) (length blocks)
+blocks_first layout pages table blocks has = record {
+  within = has.within;
+  started = λ n below zeros. started_not (form_at layout table) (block_at pages (relation_of table) n) (slots_of blocks n) (has.started n below) zeros;
+  others = has.unstarted;
+}
 
 -- a table without started pages
 pub no_blocks : (layout : DiskLayout) (pages : PageMap) (table : ℕ) → ((place : Place) → IsUnstarted (page_at pages place)) → HasBlocks layout pages table []
