@@ -1,11 +1,9 @@
 -- What the limits of a layout say of a table.
 use Rattle.std.proofs.Common.{◌≡◌, ℕ, zero, suc, ◌+◌, ◌*◌, ◌/◌, ◌<◌, ◌≤◌, nat_le, List, [], ◌∷◌, ◌++◌, length, map, get_or, refl, ap, ◌∙◌, arith}
-use Rattle.std.specs.Prelude.{Some, sum_by}
-use Rattle.std.specs.Option.{option_map}
+use Rattle.std.specs.Prelude.{sum_by}
 use Rattle.std.proofs.lemmas.Bool.{and_parts, leb-true}
-use Rattle.std.proofs.lemmas.List.{length-map}
+use Rattle.std.proofs.lemmas.List.{get_or-map, get_or_append_left, length-map}
 use Rattle.std.proofs.lemmas.List.Sums.{AllPass-from_list_all, sum_by-cons}
-use Rattle.std.proofs.lemmas.Option.{slice_get-get_or}
 use Rattle.block_model.specs.declared.value.Kind.{Kind}
 use Rattle.block_model.specs.declared.value.Kind.TheVariants as kinds
 use Rattle.block_model.specs.declared.schema.Column.{Column}
@@ -14,9 +12,10 @@ use Rattle.store_layout.specs.DiskLayout.{DiskLayout, relation_blocks}
 use Rattle.store_layout.specs.FirstBrokenRule.{KeepsLimits}
 use Rattle.store_layout.specs.Limits.{rows_fit}
 use Rattle.block_model.specs.RowSize.{row_size, value_size}
-use Rattle.page_store.specs.Forms.{HasForm, form_of}
+use Rattle.page_layout.specs.declared.page.Form.{Form}
+use Rattle.page_layout.specs.declared.page.Form.TheVariants as forms
+use Rattle.page_store.specs.Forms.{form_of, forms_of}
 use Rattle.page_layout.specs.HeapForms.{heap_form}
-use Rattle.page_store.proofs.Stores.{have_forms}
 use Rattle.page_store.specs.PageMap.{block_limit}
 use Rattle.heap_rows.specs.Heaps.{relation_of, no_table, table_at, form_at}
 
@@ -26,10 +25,6 @@ some_row layout table there limits =
     let t : Table = table_at layout table in
     let s : ℕ = row_size (map (λ (c : Column). c.kind) t.columns) in
     leb-true 1 t.rows_per_page (and_parts (nat_le 1 t.rows_per_page) (nat_le t.rows_per_page (8160 / s)) (AllPass-from_list_all rows_fit layout.schema.tables (limits 4) table no_table there)).0
-
--- and its rows fit a page
-pub has_form : (layout : DiskLayout) (table : ℕ) → table < length layout.schema.tables → KeepsLimits layout.schema layout.sizes → HasForm (table_at layout table)
-has_form layout table there limits = have_forms layout.schema layout.sizes limits table no_table there
 
 -- a row has at most eight ranges
 pub few_bytes : (ks : List Kind) → sum_by value_size ks ≤ 17 * length ks
@@ -54,7 +49,11 @@ limit_is d table relation is there =
     let next : relation ≡ suc table = omega arith in
     ap (block_limit d) next ∙ same-there d.sizes.heap_blocks d.sizes.index_blocks d.schema.tables d.schema.indexes table there
 
-pub form_found : (d : DiskLayout) (table : ℕ) → table < length d.schema.tables → form_of d (relation_of table) ≡ Some (form_at d table)
+pub form_found : (d : DiskLayout) (table : ℕ) → table < length d.schema.tables → form_of d (relation_of table) ≡ form_at d table
+unfolding forms_of
 form_found d table there =
     let next : table + 1 ≡ suc table = omega arith in
-    ap (form_of d) next ∙ ap (option_map heap_form) (slice_get-get_or d.schema.tables table no_table there)
+    let heaps : List Form = map heap_form d.schema.tables in
+    ap (form_of d) next
+    ∙ get_or_append_left heaps (map (λ _. forms.Index) d.schema.indexes) forms.Index table (omega (arith, there, length-map d.schema.tables heap_form))
+    ∙ get_or-map heap_form d.schema.tables table no_table forms.Index there

@@ -1,7 +1,7 @@
 pub mod Heaps
 pub mod Places
 pub mod Spots
-pub mod Blocks
+pub mod TableBlocks
 pub mod Rooms
 pub mod SlotRows
 pub mod Leaves

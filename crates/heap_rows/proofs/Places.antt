@@ -9,7 +9,7 @@ use Rattle.std.proofs.lemmas.List.Quantifiers.{position-Some}
 use Rattle.std.proofs.lemmas.Option.{slice_get-get_or, get_or_from_slice_get, slice_get_within}
 use Rattle.page_layout.specs.PageContents.{Slot}
 use Rattle.page_layout.specs.FreeSlots.{is_free, lowest_free}
-use Rattle.page_layout.proofs.FreeSlots.{lowest_found, lowest_none}
+use Rattle.page_layout.specs.SlotLaws.{lowest_found, lowest_none}
 use Rattle.heap_rows.specs.IsTableFull.{AreUsed}
 use Rattle.heap_rows.specs.RowPlaces.{place_from, spot_in}
 

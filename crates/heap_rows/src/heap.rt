@@ -1,29 +1,25 @@
 //! The relation of a table, and the form of its pages.
 
-ghost use Rattle.std.specs.Prelude.{◌≡◌, ◌*◌, ◌<◌, ◌≤◌, length, take, Some};
+ghost use Rattle.std.specs.Prelude.{◌≡◌, ◌*◌, ◌<◌, ◌≤◌, length, take};
 ghost use Rattle.store_layout.specs.DiskLayout.{relation_blocks};
-ghost use Rattle.page_layout.specs.FreeSlots.{slot_count};
+ghost use Rattle.page_layout.specs.declared.format.TheConstants.{MAX_ROW};
 ghost use Rattle.page_layout.specs.PageContents.{IsForm};
-ghost use Rattle.page_layout.specs.PageWrites.{IsOfHeap, RowHasBytes};
-ghost use Rattle.page_layout.specs.RowBytes.{HaveKinds};
+ghost use Rattle.page_layout.specs.PageWrites.{AreValuesFor, RowHasBytes, row_length};
 ghost use Rattle.page_store.specs.Forms.{form_of};
 ghost use Rattle.page_store.specs.PageMap.{block_limit};
-ghost use Rattle.heap_rows.specs.Heaps.{form_at, kinds_at, relation_of, slots_a_page, table_at};
+ghost use Rattle.heap_rows.specs.Heaps.{form_at, relation_of, slots_a_page, table_at};
+ghost use Rattle.heap_rows.specs.RowPlaces.{new_row};
 
 use block_model::{RowId, Table, Value};
-use page_layout::{FORMAT, Form, encode_row, heap_form, row_size};
+use page_layout::{Form, MAX_ROW, write_row};
+use page_store::tables_have_forms;
 use store_layout::Layout;
 
-/// The most bytes that a row has: the head, and eight ranges.
-pub(crate) const MOST_BYTES: usize = 158;
-
-/// The table of that number, with at most eight columns.
+/// The table of that number.
 fn declared(layout: &Layout, table: u8) -> &Table
     requires { table < length layout.now.schema.tables }
-    ensures table { result.now ≡ table_at layout.now table }
-    ensures columns { length result.now.columns ≤ 8 }
+    ensures { result.now ≡ table_at layout.now table }
 {
-    layout.known();
     &layout.schema().tables.as_slice()[usize::from(table)]
 }
 
@@ -38,17 +34,17 @@ pub(crate) fn relation_of(layout: &Layout, table: u8) -> u8
     table + 1
 }
 
-/// The form of the table's pages, each of which has a slot.
-pub(crate) fn form_of(layout: &Layout, table: u8) -> Form
+/// Does nothing; tells its caller that the pages of the table's relation are of its heap, that its rows fit a page, and that a
+/// page has some.
+pub(crate) fn known(layout: &Layout, table: u8)
     requires { table < length layout.now.schema.tables }
-    ensures form { result ≡ form_at layout.now table }
-    ensures found { form_of layout.now (relation_of table) ≡ Some result }
-    ensures is_form { IsForm result }
-    ensures heap { IsOfHeap result }
-    ensures some { 0 < slot_count result }
+    ensures found { form_of layout.now (relation_of table) ≡ form_at layout.now table }
+    ensures is_form { IsForm (form_at layout.now table) }
+    ensures some { 0 < slots_a_page layout.now table }
+    ensures small { row_length (form_at layout.now table) ≤ MAX_ROW }
 {
     layout.known();
-    heap_form(declared(layout, table))
+    tables_have_forms(layout);
 }
 
 /// How many slots the table may have.
@@ -61,21 +57,25 @@ pub(crate) fn slots_in_all(layout: &Layout, table: u8) -> u64
 }
 
 /// Writes the row, which no transaction deleted, into the front of `out`, and answers how many bytes it has.
-pub(crate) fn write_row(
-    layout: &Layout,
-    table: u8,
-    id: RowId,
-    values: &[Value],
-    out: &mut [u8],
-) -> usize
-    requires table { table < length layout.now.schema.tables }
-    requires kinds { HaveKinds (kinds_at layout.now table) values.now }
-    requires room { length out.old ≡ 158 }
-    ensures within { result ≤ 158 }
-    ensures row { RowHasBytes (form_at layout.now table) (take result out.new) (record { id = id; deleter = 0; values = values.now }) }
+pub(crate) fn write_new(form: Form, id: RowId, values: &[Value], out: &mut [u8]) -> usize
+    requires form { IsForm form }
+    requires values { AreValuesFor form values.now }
+    requires small { row_length form ≤ MAX_ROW }
+    requires room { length out.old ≡ MAX_ROW }
+    ensures within { result ≤ MAX_ROW }
+    ensures row { RowHasBytes form (take result out.new) (new_row id values.now) }
 {
-    let table = declared(layout, table);
-    let size = usize::from(row_size(table, FORMAT));
-    encode_row(table, FORMAT, id, 0, values, &mut out[..size]);
+    let size = row_length(&form);
+    write_row(form, id, 0, values, &mut out[..size]);
     size
+}
+
+/// How many bytes a row has.
+fn row_length(form: &Form) -> usize
+    ensures { result ≡ row_length form.now }
+{
+    match form {
+        Form::Heap { row, .. } => usize::from(*row),
+        Form::Status | Form::Index => 0,
+    }
 }

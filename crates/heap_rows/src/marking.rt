@@ -1,16 +1,14 @@
 //! Marking a row as deleted.
 
-ghost use Rattle.std.specs.Prelude.{◌≡◌, ◌<◌, length, Some, IfErr, OnOk, OnErr};
-ghost use Rattle.page_layout.specs.PageWrites.{marked};
-ghost use Rattle.page_layout.specs.RowBytes.{StoredRow};
-ghost use Rattle.page_store.specs.Keeps.{Keeps, Tells};
+ghost use Rattle.std.specs.Prelude.{◌<◌, length, IfErr, OnOk, OnErr};
+ghost use Rattle.page_store.specs.Keeps.{Keeps, Tells, Untold};
 ghost use Rattle.page_store.specs.Outcome.{NamesPage, Outcome};
 ghost use Rattle.heap_rows.specs.Heaps.{relation_of};
-ghost use Rattle.heap_rows.specs.HeapBlocks.{HasBlocks, OfBlocks};
+ghost use Rattle.heap_rows.specs.HeapBlocks.{OfBlocks};
 ghost use Rattle.heap_rows.specs.LeavesOthers.{LeavesOthers};
-ghost use Rattle.heap_rows.specs.RowPlaces.{ChangesSlot, IsInUse, slot_at, with_slot};
+ghost use Rattle.heap_rows.specs.RowPlaces.{IsInUse, MarksRow, MarksSlot};
 
-use crate::heap::relation_of;
+use crate::heap::{known, relation_of};
 use block_model::{Place, Spot};
 use disk_trait::Disk;
 use page_store::{PageStore, StoreError};
@@ -28,12 +26,12 @@ pub fn mark<D: Disk + Drop>(
     requires block { spot.block < pages.old.layout.sizes.heap_blocks }
     requires used { Tells D.told pages.old → IsInUse pages.old.layout pages.old.pages table spot }
     // By the blocks that the table has.
-    ensures marked { OnOk result (OfBlocks D.told pages.old table (λ blocks. (row : StoredRow) → slot_at blocks spot ≡ Some row → HasBlocks pages.old.layout pages.new.pages table (with_slot blocks spot (Some (marked row deleter))))) }
-    ensures slots { OnOk result (OfBlocks D.told pages.old table (λ blocks. (row : StoredRow) → slot_at blocks spot ≡ Some row → ChangesSlot blocks (with_slot blocks spot (Some (marked row deleter))) spot (Some (marked row deleter)))) }
+    ensures marked { OnOk result (OfBlocks D.told pages.old table (MarksRow pages.old.layout pages.new.pages table spot deleter)) }
+    ensures slots { OnOk result (OfBlocks D.told pages.old table (MarksSlot spot deleter)) }
     ensures kept { OnErr result (Keeps D.told pages.old pages.new) }
     ensures others { LeavesOthers D.told table pages.old pages.new }
     ensures at { IfErr result (NamesPage pages.old.layout (record { relation = relation_of table; block = spot.block })) }
-    ensures outcome { Outcome D.told pages.old pages.new result }
+    ensures outcome { Outcome D.told (Untold D.told pages.old) pages.old pages.new result }
 {
     let relation = relation_of(pages.layout(), table);
     let place = Place {
@@ -45,5 +43,6 @@ pub fn mark<D: Disk + Drop>(
         slot: spot.slot,
         deleter,
     };
+    known(pages.layout(), table);
     pages.change(place, &mark)
 }

@@ -1,10 +1,10 @@
 pub mod Lookups
-pub mod FreeCounts
-pub mod Pages
-pub mod Blocks
-pub mod Rooms
-pub mod FreeKept
-pub mod Counts
+pub mod Filling
+pub mod PageKinds
+pub mod FactsKept
 pub mod Soughts
+pub mod FactLists
+pub mod Rooms
 pub mod Relations
+pub mod Maps
 pub mod Stores

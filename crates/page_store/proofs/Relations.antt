@@ -1,122 +1,186 @@
--- The pages of a relation by its blocks.
-use Rattle.std.proofs.Common.{◌≡◌, ℕ, zero, suc, ◌+◌, ◌-◌, ◌<◌, ◌≤◌, inl, inr, true, false, not, eqb, List, [], ◌∷◌, length, get_or, refl, sym, ap, subst, ⊎_elim, ◌∙◌, arith}
-use Rattle.std.specs.Prelude.{Some, None, replicate, slice_get}
-use Rattle.std.proofs.lemmas.Bool.{cases_lt, cases_Bool}
-use Rattle.std.proofs.lemmas.List.Elements.{All-nil}
+-- The pages of a relation, by those that memory holds and the facts of all.
+use Rattle.std.proofs.Common.{◌≡◌, ℕ, zero, suc, ◌+◌, ◌<◌, ◌≤◌, inl, inr, true, false, not, eqb, List, [], ◌∷◌, length, set, get_or, refl, sym, ap, subst, ⊎_elim, ◌∙◌, arith}
+use Rattle.std.specs.Prelude.{Option, None, Some, IfSome, count_by, replicate, slice_get}
+use Rattle.std.proofs.lemmas.Bool.{cases_lt, cases_eq}
+use Rattle.std.proofs.lemmas.List.{get_or-replicate, get_or-set_same, get_or-set_other, get_or_past, length-replicate, length-set}
 use Rattle.std.proofs.lemmas.Option.{get_or_from_slice_get}
 use Rattle.page_layout.specs.declared.page.Form.{Form}
 use Rattle.page_layout.specs.PageContents.{IsForm, IsPageOf, IsUnstarted}
-use Rattle.page_redo.specs.Redo.{Fits, Means}
+use Rattle.page_layout.specs.SlotsOnPage.{lowest_on}
+use Rattle.page_redo.specs.Redo.{Redone}
 use Rattle.wal_record.specs.Changes.{LoggedChange}
-use Rattle.page_store.specs.declared.block.Block.{Block}
+use Rattle.page_store.specs.declared.facts.PageFacts.{PageFacts}
 use Rattle.page_store.specs.declared.lowest.Sought.TheVariants as sought
-use Rattle.page_store.specs.Blocks.{BlockChanged, IsBlock, block_in, unstarted_block, with_block}
-use Rattle.page_store.specs.FirstRoom.{BlockHasRoom, IsFirstRoom}
-use Rattle.page_store.specs.Lowest.{is_sought}
-use Rattle.page_store.specs.PageMap.{page_in}
-use Rattle.page_store.specs.Relations.{IsRelation, RelationChanged, pages_of}
+use Rattle.page_store.specs.FactLists.{IsFirstOf, tells_started}
+use Rattle.page_store.specs.Filled.{filled}
+use Rattle.page_store.specs.FirstRoom.{IsFirstRoom, PageHasRoom}
+use Rattle.page_store.specs.Lowest.{has_slot, is_sought}
+use Rattle.page_store.specs.PageFacts.{facts_in, facts_on, no_facts}
+use Rattle.page_store.specs.PageMap.{page_in, unstarted_page}
+use Rattle.page_store.specs.Relations.{IsRelation, RelationChanged}
 use Rattle.page_store.specs.Started.{AreFirst, is_started}
-use Rattle.page_store.proofs.Blocks.{block_in-past, length-with_block, with_block-same, with_block-other}
-use Rattle.page_store.proofs.Counts.{count_first}
-use Rattle.page_store.proofs.Soughts.{none_in, room_end, unstarted_end, unstarted_room}
-use Rattle.page_store.proofs.Pages.{kind_unstarted, unstarted_kind}
-use Rattle.page_store.proofs.Rooms.{block_in-is, room_found, room_lower, unstarted_found, unstarted_lower}
+use Rattle.page_store.proofs.FactsKept.{OneList}
+use Rattle.page_store.proofs.Filling.{count_alike, filled-filled, filled-set, filled_set-other, get_or-filled, length-filled, length-filled-set}
+use Rattle.page_store.proofs.PageKinds.{count_first, kind_started, kind_unstarted, unstarted_facts, unstarted_is, unstarted_kind}
+use Rattle.page_store.proofs.Rooms.{heap_looked_at, room_found, room_lower}
 
-pub page_in-block : (blocks : List Block) (n : ℕ) → page_in (pages_of blocks) n ≡ (block_in blocks n).page
-unfolding page_in block_in unstarted_block
-page_in-block [] n = refl
-page_in-block (block ∷ blocks) zero = refl
-page_in-block (block ∷ blocks) (suc n) = page_in-block blocks n
+-- all pages of a relation
+abbrev pub all_pages : List (List ℕ) → List PageFacts → List (List ℕ)
+all_pages pages facts = filled unstarted_page (length facts) pages
 
-module _ (form : Form) (limit : ℕ) (blocks : List Block) (capacity started room unstarted : ℕ) (is : IsRelation form limit blocks capacity started room unstarted) where
-  block_is : (n : ℕ) → IsBlock form (block_in blocks n)
-  block_is n = block_in-is form blocks is.checked n
+pub length-all : (pages : List (List ℕ)) (facts : List PageFacts) → length pages ≤ length facts → length (all_pages pages facts) ≡ length facts
+length-all pages facts few = omega (arith, few, length-filled unstarted_page (length facts) pages)
 
-  no_room : (n : ℕ) → is_sought sought.Room (block_in blocks n) ≡ false → BlockHasRoom (Some form) (page_in (pages_of blocks) n) → ⊥
-  no_room n none has = room_lower form (block_in blocks n) (block_is n) none (subst (BlockHasRoom (Some form)) (page_in-block blocks n) has)
+pub page-all : (pages : List (List ℕ)) (facts : List PageFacts) (n : ℕ) → page_in (all_pages pages facts) n ≡ page_in pages n
+page-all pages facts n = get_or-filled unstarted_page (length facts) pages n
 
-  is-started : (n : ℕ) → is_sought sought.Unstarted (block_in blocks n) ≡ false → IsUnstarted (page_in (pages_of blocks) n) → ⊥
-  is-started n none zeros = unstarted_lower (block_in blocks n) none (subst IsUnstarted (page_in-block blocks n) zeros)
+-- a new relation
 
-  none_has_room : limit ≤ room → (n : ℕ) → BlockHasRoom (Some form) (page_in (pages_of blocks) n) → ⊥
-  none_has_room none n =
-      ⊎_elim
-      (λ low. no_room n (is.lowest_room.lower n (omega (arith, low, none))))
-      (λ high. no_room n (ap (is_sought sought.Room) (block_in-past blocks n (omega (arith, high, is.few))) ∙ unstarted_room))
-      (cases_lt n limit)
+no_facts-in : (limit n : ℕ) → facts_in (replicate limit no_facts) n ≡ no_facts
+no_facts-in limit n =
+    ⊎_elim (λ low. get_or-replicate limit n no_facts no_facts low) (λ high. get_or_past (replicate limit no_facts) n no_facts (omega (arith, high, length-replicate limit no_facts))) (cases_lt n limit)
 
-  pub room_some : room < limit → IsFirstRoom (Some form) limit (page_in (pages_of blocks)) (Some room)
-  room_some below = inl (record {
-    below = below;
-    room = subst (BlockHasRoom (Some form)) (sym (page_in-block blocks room)) (room_found form (block_in blocks room) (block_is room) (is.lowest_room.found below));
-    lower = λ other low. no_room other (is.lowest_room.lower other low);
+pub new_relation : (form : Form) (limit : ℕ) (pages : List (List ℕ)) (capacity : ℕ) (facts : List PageFacts) → IsForm form → pages ≡ [] → facts ≡ replicate limit no_facts → limit ≤ capacity → IsRelation form pages capacity facts
+new_relation form limit pages capacity facts formed none all reserved =
+    subst (λ (l : List (List ℕ)). IsRelation form l capacity facts) (sym none)
+    (subst (λ (l : List PageFacts). IsRelation form [] capacity l) (sym all)
+    (record {
+      formed = formed;
+      few = omega arith;
+      reserved = omega (arith, reserved, length-replicate limit no_facts);
+      checked = λ n. inl unstarted_is;
+      known = λ n. no_facts-in limit n ∙ sym (unstarted_facts form);
+    }))
+
+-- more room in memory
+pub roomier : (form : Form) (pages : List (List ℕ)) (capacity more : ℕ) (facts : List PageFacts) → capacity ≤ more → IsRelation form pages capacity facts → IsRelation form pages more facts
+roomier form pages capacity more facts le is = record { formed = is.formed; few = is.few; reserved = omega (arith, is.reserved, le); checked = is.checked; known = is.known }
+
+-- unstarted pages more in memory
+
+pub reached_relation : (form : Form) (pages new : List (List ℕ)) (capacity more at : ℕ) (facts : List PageFacts) → IsRelation form pages capacity facts → at < length facts → capacity ≤ more → new ≡ filled unstarted_page (at + 1) pages → IsRelation form new more facts
+reached_relation form pages new capacity more at facts is below le e =
+    subst (λ (l : List (List ℕ)). IsRelation form l more facts) (sym e) (record {
+      formed = is.formed;
+      few = omega (arith, is.few, below, length-filled unstarted_page (at + 1) pages);
+      reserved = omega (arith, is.reserved, le);
+      checked = λ n. subst (IsPageOf form) (sym (get_or-filled unstarted_page (at + 1) pages n)) (is.checked n);
+      known = λ n. is.known n ∙ ap (facts_on form) (sym (get_or-filled unstarted_page (at + 1) pages n));
+    })
+
+pub reached_pages : (pages new : List (List ℕ)) (at : ℕ) (facts : List PageFacts) → at < length facts → new ≡ filled unstarted_page (at + 1) pages → all_pages new facts ≡ all_pages pages facts
+reached_pages pages new at facts below e = ap (filled unstarted_page (length facts)) e ∙ filled-filled unstarted_page (at + 1) (length facts) pages (omega arith)
+
+-- after changes of the page of a block
+
+module _ (form : Form) (pages new : List (List ℕ)) (at : ℕ) (facts noted : List PageFacts) (one : PageFacts)
+    (below : at < length facts) (is_new : new ≡ set (filled unstarted_page (at + 1) pages) at (page_in new at)) (is_noted : noted ≡ set facts at one) where
+  same_count : length noted ≡ length facts
+  same_count = ap (length {A = PageFacts}) is_noted ∙ length-set facts at one
+
+  other_page : (n : ℕ) → (n ≡ at → ⊥) → page_in new n ≡ page_in pages n
+  other_page n differ = ap (λ (l : List (List ℕ)). page_in l n) is_new ∙ filled_set-other unstarted_page pages at (page_in new at) n differ
+
+  pub changed_relation : (capacity more : ℕ) → IsRelation form pages capacity facts → capacity ≤ more → IsPageOf form (page_in new at) → one ≡ facts_on form (page_in new at) → IsRelation form new more noted
+  changed_relation capacity more is le passes known = record {
+    formed = is.formed;
+    few = omega (arith, is.few, below, same_count, ap (length {A = List ℕ}) is_new, length-filled-set unstarted_page pages at (page_in new at));
+    reserved = omega (arith, is.reserved, le, same_count);
+    checked = λ n.
+        ⊎_elim (λ same. subst (λ (k : ℕ). IsPageOf form (page_in new k)) (sym same) passes) (λ differ. subst (IsPageOf form) (sym (other_page n differ)) (is.checked n)) (cases_eq n at);
+    known = λ n.
+        ap (λ (l : List PageFacts). facts_in l n) is_noted
+        ∙ ⊎_elim
+        (λ same.
+        ap (facts_in (set facts at one)) same ∙ get_or-set_same facts at one no_facts below ∙ known ∙ ap (λ (k : ℕ). facts_on form (page_in new k)) (sym same))
+        (λ differ. get_or-set_other facts at n one no_facts differ ∙ is.known n ∙ ap (facts_on form) (sym (other_page n differ)))
+        (cases_eq n at);
+  }
+
+  pub relation_changed : (changes : List LoggedChange) → Redone form (page_in pages at) changes (page_in new at)
+      → RelationChanged at changes (record { form = form; pages = all_pages pages facts }) (record { form = form; pages = all_pages new noted })
+  relation_changed changes redone =
+      let was = page-all pages facts at in
+      let now = page-all new noted at in
+      record {
+        form = refl;
+        redone = subst (λ (p : List ℕ). Redone form p changes (page_in (all_pages new noted) at)) (sym was) (subst (Redone form (page_in pages at) changes) (sym now) redone);
+        pages =
+            ap (λ (k : ℕ). filled unstarted_page k new) same_count
+            ∙ ap (filled unstarted_page (length facts)) is_new
+            ∙ filled-set unstarted_page (length facts) pages at (page_in new at) below
+            ∙ ap (set (all_pages pages facts) at) (sym now);
+      }
+
+-- the page of a block
+
+pub page_of_block : (pages : List (List ℕ)) (facts : List PageFacts) (n : ℕ) (page : List ℕ) → slice_get pages n ≡ Some page → page_in (all_pages pages facts) n ≡ page
+page_of_block pages facts n page there = page-all pages facts n ∙ get_or_from_slice_get pages n page unstarted_page there
+
+none_in : {X : Type 0} (xs : List X) (n : ℕ) (d : X) → slice_get xs n ≡ None → get_or xs n d ≡ d
+none_in [] n d none = refl
+none_in (x ∷ xs) zero d none = absurd cc
+none_in (x ∷ xs) (suc n) d none = none_in xs n d none
+
+pub page_of_none : (pages : List (List ℕ)) (facts : List PageFacts) (n : ℕ) → slice_get pages n ≡ None → page_in (all_pages pages facts) n ≡ unstarted_page
+page_of_none pages facts n none = page-all pages facts n ∙ none_in pages n unstarted_page none
+
+-- what the facts tell of the pages
+
+module _ (form : Form) (pages : List (List ℕ)) (capacity : ℕ) (facts : List PageFacts) (is : IsRelation form pages capacity facts) where
+  pub page_is : (n : ℕ) → IsPageOf form (page_in (all_pages pages facts) n)
+  page_is n = subst (IsPageOf form) (sym (page-all pages facts n)) (is.checked n)
+
+  pub facts_are : (n : ℕ) → facts_in facts n ≡ facts_on form (page_in (all_pages pages facts) n)
+  facts_are n = is.known n ∙ ap (facts_on form) (sym (page-all pages facts n))
+
+  pub lowest_are : (n : ℕ) → (facts_in facts n).lowest ≡ lowest_on form (page_in (all_pages pages facts) n)
+  lowest_are n = ap (λ (f : PageFacts). f.lowest) (facts_are n)
+
+  pub kinds_are : (n : ℕ) → (facts_in facts n).kind ≡ get_or (page_in (all_pages pages facts) n) 0 0
+  kinds_are n = ap (λ (f : PageFacts). f.kind) (facts_are n)
+
+  no_room : OneList → (need n : ℕ) → is_sought sought.Room (facts_in facts n) ≡ false → PageHasRoom form need (page_in (all_pages pages facts) n) → ⊥
+  no_room one need n none = room_lower one form need (page_in (all_pages pages facts) n) (sym (ap has_slot (lowest_are n)) ∙ none)
+
+  pub is_unstarted : (n : ℕ) → is_sought sought.Unstarted (facts_in facts n) ≡ true → IsUnstarted (page_in (all_pages pages facts) n)
+  is_unstarted n kind = kind_unstarted form (page_in (all_pages pages facts) n) (page_is n) (sym (ap (λ (k : ℕ). eqb k 0) (kinds_are n)) ∙ kind)
+
+  pub isnt_unstarted : (n : ℕ) → is_sought sought.Unstarted (facts_in facts n) ≡ false → IsUnstarted (page_in (all_pages pages facts) n) → ⊥
+  isnt_unstarted n kind zeros = let yes = unstarted_kind (page_in (all_pages pages facts) n) zeros in let same = ap (λ (k : ℕ). eqb k 0) (kinds_are n) in absurd cc
+
+  whole : length (all_pages pages facts) ≡ length facts
+  whole = length-all pages facts is.few
+
+  pub first_of_pages : OneList → (need past : ℕ) (result : Option ℕ) → IsFirstOf facts result → IsFirstRoom form (length (all_pages pages facts)) need past (page_in (all_pages pages facts)) result
+  first_of_pages one need past (Some n) (below, inl lowest) =
+      let room = room_found one form need (page_in (all_pages pages facts) n) (page_is n) (sym (ap has_slot (lowest_are n)) ∙ lowest.found below) in
+      inl (record {
+        below = omega (arith, below, whole);
+        looked_at = heap_looked_at form (page_in (all_pages pages facts) n) past room.0 n room.1;
+        room = room;
+        lower = λ other low _. no_room one need other (lowest.lower other low);
+      })
+  first_of_pages one need past (Some n) (below, inr (none, lowest)) = inr (record {
+    below = omega (arith, below, whole);
+    unstarted = is_unstarted n (lowest.found below);
+    lower = λ other low. isnt_unstarted other (lowest.lower other low);
+    no_room = λ other _. no_room one need other (none other);
   })
+  first_of_pages one need past None (none, lowest) = record {
+    started = λ n low. isnt_unstarted n (lowest.lower n (omega (arith, low, whole)));
+    no_room = λ n _. no_room one need n (none n);
+  }
 
-  pub room_next : limit ≤ room → unstarted < limit → IsFirstRoom (Some form) limit (page_in (pages_of blocks)) (Some unstarted)
-  room_next none below = inr (record {
-    below = below;
-    unstarted = subst IsUnstarted (sym (page_in-block blocks unstarted)) (unstarted_found form (block_in blocks unstarted) (block_is unstarted) (is.lowest_unstarted.found below));
-    lower = λ other low. is-started other (is.lowest_unstarted.lower other low);
-    no_room = none_has_room none;
-  })
+  pub started_same : count_by is_started (all_pages pages facts) ≡ count_by tells_started facts
+  started_same = count_alike is_started tells_started (all_pages pages facts) facts unstarted_page no_facts whole (λ n low. ap (λ (k : ℕ). not (eqb k 0)) (sym (kinds_are n)))
 
-  pub room_none : limit ≤ room → limit ≤ unstarted → IsFirstRoom (Some form) limit (page_in (pages_of blocks)) None
-  room_none none all = record { started = λ n low. is-started n (is.lowest_unstarted.lower n (omega (arith, low, all))); no_room = none_has_room none }
-
-  kind_of : (n : ℕ) → (IsUnstarted (page_in (pages_of blocks) n) → ⊥) → is_started (page_in (pages_of blocks) n) ≡ true
-  kind_of n not-zeros =
-      let page = page_in (pages_of blocks) n in
-      let of_form = subst (IsPageOf form) (sym (page_in-block blocks n)) (block_is n).page in
-      ⊎_elim (λ kind. absurd (not-zeros (kind_unstarted form page of_form kind))) (λ kind. ap not kind) (cases_Bool (eqb (get_or page 0 0) 0))
-
-  pub started_first : (n : ℕ) → AreFirst (page_in (pages_of blocks)) n → started ≡ n
+  pub started_first : (n : ℕ) → AreFirst (length (all_pages pages facts)) (page_in (all_pages pages facts)) n → count_by tells_started facts ≡ n
   started_first n first =
-      is.counted ∙ count_first (pages_of blocks) n (λ k low. kind_of k (first.started k low)) (λ k high. ap not (unstarted_kind (page_in (pages_of blocks) k) (first.others k high)))
+      sym started_same
+      ∙ count_first (all_pages pages facts) n first.within (λ k low. kind_started form (page_in (all_pages pages facts) k) (page_is k) (first.started k low))
+      (λ k high low. ap not (unstarted_kind (page_in (all_pages pages facts) k) (first.others k high low)))
 
-pub new_relation : (form : Form) (limit : ℕ) (blocks : List Block) (capacity : ℕ) → IsForm form → blocks ≡ [] → limit ≤ capacity → IsRelation form limit blocks capacity 0 limit 0
-new_relation form limit blocks capacity formed none reserved = subst (λ (l : List Block). IsRelation form limit l capacity 0 limit 0) (sym none) (record {
-  formed = formed;
-  few = omega arith;
-  reserved = reserved;
-  checked = All-nil (IsBlock form);
-  counted = refl;
-  lowest_room = room_end sought.Room [] limit 0 refl (omega arith) (λ other low. absurd (omega arith));
-  lowest_unstarted = unstarted_end sought.Unstarted [] limit 0 refl (omega arith) (omega arith) (λ other low. absurd (omega arith));
-})
-
--- after a change of a block
-
-pub relation_changed : (form : Form) (limit at : ℕ) (change : LoggedChange) (blocks new : List Block) (block : Block) → BlockChanged form change (block_in blocks at) block → new ≡ with_block blocks at block
-    → RelationChanged at change (record { form = form; limit = limit; pages = pages_of blocks }) (record { form = form; limit = limit; pages = pages_of new })
-relation_changed form limit at change blocks new block changed e =
-    let was = page_in-block blocks at in
-    let now : page_in (pages_of new) at ≡ block.page = page_in-block new at ∙ ap (λ (l : List Block). (block_in l at).page) e ∙ ap (λ (b : Block). b.page) (with_block-same blocks at block) in
-    record {
-      form = refl;
-      limit = refl;
-      fitted = subst (λ (p : List ℕ). Fits form p change) (sym was) changed.fitted;
-      done = subst (λ (p : List ℕ). Means form p change (page_in (pages_of new) at)) (sym was) (subst (Means form (block_in blocks at).page change) (sym now) changed.done);
-      others = λ other differ.
-          page_in-block new other
-          ∙ ap (λ (l : List Block). (block_in l other).page) e
-          ∙ ap (λ (b : Block). b.page) (with_block-other blocks at block other differ)
-          ∙ sym (page_in-block blocks other);
-    }
-
--- there are no more blocks than the relation may have, and the changed one is there
-pub record HasGrown (new : List Block) (limit n : ℕ) : Type 0 where
-  pub few : length new ≤ limit
-  pub there : n < length new
-
-pub has_grown : (old new : List Block) (limit n : ℕ) (block : Block) → new ≡ with_block old n block → length old ≤ limit → n < limit → HasGrown new limit n
-has_grown old new limit n block e few below =
-    let long : length new ≡ length old + (n + 1 - length old) = ap (length {A = Block}) e ∙ length-with_block old n block in
-    record { few = omega (arith, long, few, below); there = omega (arith, long) }
-
-pub page_of_block : (blocks : List Block) (n : ℕ) (block : Block) → slice_get blocks n ≡ Some block → page_in (pages_of blocks) n ≡ block.page
-unfolding block_in
-page_of_block blocks n block there = page_in-block blocks n ∙ ap (λ (b : Block). b.page) (get_or_from_slice_get blocks n block unstarted_block there)
-
-pub page_of_none : (blocks : List Block) (n : ℕ) → slice_get blocks n ≡ None → page_in (pages_of blocks) n ≡ replicate 8192 0
-unfolding unstarted_block
-page_of_none blocks n none = page_in-block blocks n ∙ ap (λ (b : Block). b.page) (none_in blocks n none)
+pub first_within : (facts : List PageFacts) (result : Option ℕ) → IsFirstOf facts result → IfSome result (λ n. n < length facts)
+first_within facts None first = tt
+first_within facts (Some n) first = first.0

@@ -1,50 +1,96 @@
--- Blocks that pass their check: whether they have room, and whether they are started.
-use Rattle.std.proofs.Common.{◌≡◌, ℕ, ◌<◌, inl, inr, true, false, List, refl, arith}
-use Rattle.std.specs.Prelude.{Some, replicate}
-use Rattle.std.specs.List.{All}
-use Rattle.std.proofs.lemmas.Bool.{ltb-true, lt-ltb}
+-- The room of a page, by its lowest free slot.
+use Rattle.std.proofs.Common.{◌≡◌, ℕ, inl, inr, Bool, true, false, cond, eqb, List, length, get_or, refl, ap, ◌∙◌, arith}
+use Rattle.std.specs.Prelude.{Option, None, Some, slice_get}
+use Rattle.std.specs.List.{position_or_len}
+use Rattle.std.proofs.lemmas.Bool.{ltb-false}
+use Rattle.std.proofs.lemmas.List.Sums.{fails_before_first}
+use Rattle.std.proofs.lemmas.Option.{get_or_from_slice_get, slice_get-get_or, slice_get_within}
 use Rattle.page_layout.specs.declared.page.Form.{Form}
 use Rattle.page_layout.specs.declared.page.Form.TheVariants as forms
-use Rattle.page_layout.specs.PageContents.{HasSlots, Slot, IsPageOf, IsUnstarted}
-use Rattle.page_layout.proofs.FreeSlots.{heap_front, unstarted_front}
+use Rattle.page_layout.specs.FreeSlots.{is_free, lowest_free}
+use Rattle.page_layout.specs.PageContents.{HasSlot, HasSlots, IsPageOf, Slot}
+use Rattle.page_layout.specs.SlotLaws.{lowest_is}
+use Rattle.page_layout.specs.SlotsOnPage.{lowest_on}
 use Rattle.page_redo.specs.Redo.{IsFreeSlot}
-use Rattle.page_store.specs.declared.block.Block.{Block}
-use Rattle.page_store.specs.declared.lowest.Sought.TheVariants as sought
-use Rattle.page_store.specs.Blocks.{IsBlock, block_in, unstarted_block}
-use Rattle.page_store.specs.FirstRoom.{BlockHasRoom}
-use Rattle.page_store.specs.Lowest.{is_sought}
-use Rattle.page_store.proofs.Blocks.{All-block_in}
-use Rattle.page_store.proofs.FreeCounts.{some_free, free_some}
-use Rattle.page_store.proofs.Pages.{unstarted_kind, kind_unstarted}
+use Rattle.page_store.specs.FirstRoom.{IsLookedAt, PageHasRoom}
+use Rattle.page_store.specs.Lowest.{has_slot}
+use Rattle.page_store.proofs.FactsKept.{OneList, lowest_started}
+use Rattle.page_store.proofs.PageKinds.{lowest-unstarted}
 
-pub no_slots : (form : Form) (page : List ℕ) (slots : List Slot) → IsUnstarted page → HasSlots form page slots → ⊥
-no_slots form page slots zeros has = let none = unstarted_front page 8192 refl zeros in let heap = heap_front form page slots has in omega (arith, none, heap)
+-- slots
 
-pub unstarted_is : (form : Form) → IsBlock form unstarted_block
-unfolding unstarted_block
-unstarted_is form = record { page = inl refl; contents = λ slots has. absurd (no_slots form (replicate 8192 0) slots refl has); unstarted = λ zeros. refl; statuses = λ is. refl }
+free_slot : (slot : Slot) → is_free slot ≡ true → slot ≡ None
+free_slot None e = refl
+free_slot (Some row) e = absurd cc
 
-pub block_in-is : (form : Form) (blocks : List Block) → All (IsBlock form) blocks → (n : ℕ) → IsBlock form (block_in blocks n)
-block_in-is form blocks all n = All-block_in (IsBlock form) blocks (unstarted_is form) all n
+none_lower : (b : Bool) (n : ℕ) → cond b (Some n) None ≡ None → b ≡ false
+none_lower true n e = absurd cc
+none_lower false n e = refl
 
-room_on : (form : Form) (page : List ℕ) (free : ℕ) → IsBlock form (record { page = page; free = free }) → 0 < free → IsPageOf form page → (slot : ℕ) × IsFreeSlot form page slot
-room_on form page free is some (inl zeros) = absurd (let none = is.unstarted zeros in omega (arith, none, some))
-room_on forms.Status page free is some (inr started) = absurd (let none = is.statuses refl in omega (arith, none, some))
-room_on (forms.Heap row count kinds format) page free is some (inr started) =
-    let found = some_free started.0 (omega (arith, some, is.contents started.0 started.1)) in
-    (found.0, (started.0, started.1, found.1))
+-- a free slot is found
+free_found : (slots : List Slot) (n : ℕ) → slice_get slots n ≡ Some None → lowest_free slots ≡ None → ⊥
+free_found slots n there none =
+    let past = ltb-false (position_or_len is_free slots) (length slots) (none_lower _ _ none) in
+    let within = slice_get_within slots n None there in
+    let used = fails_before_first is_free slots n None (omega arith) in
+    let here : is_free (get_or slots n None) ≡ true = ap is_free (get_or_from_slice_get slots n None None there) in
+    absurd cc
 
-pub room_found : (form : Form) (block : Block) → IsBlock form block → is_sought sought.Room block ≡ true → BlockHasRoom (Some form) block.page
-room_found form block is found = room_on form block.page block.free is (ltb-true 0 block.free found) is.page
+-- a page that has a lowest free slot
 
-pub room_lower : (form : Form) (block : Block) → IsBlock form block → is_sought sought.Room block ≡ false → BlockHasRoom (Some form) block.page → ⊥
-room_lower form block is none room =
-    let some = free_some room.1.0 room.0 room.1.2 in
-    let yes = lt-ltb 0 block.free (omega (arith, some, is.contents room.1.0 room.1.1)) in
-    cc (none, yes)
+free_on_slots : (form : Form) (page : List ℕ) (slots : List Slot) (slot : ℕ) → HasSlots form page slots → lowest_free slots ≡ Some slot → IsFreeSlot form page slot
+free_on_slots form page slots slot has lowest =
+    let is = lowest_is slots slot lowest in
+    (slots, has, slice_get-get_or slots slot None is.within ∙ ap Some (free_slot (get_or slots slot None) is.free))
 
-pub unstarted_found : (form : Form) (block : Block) → IsBlock form block → is_sought sought.Unstarted block ≡ true → IsUnstarted block.page
-unstarted_found form block is found = kind_unstarted form block.page is.page found
+pub free_there : OneList → (form : Form) (page : List ℕ) (slot : ℕ) → IsPageOf form page → lowest_on form page ≡ Some slot → IsFreeSlot form page slot
+free_there one form page slot (inl zeros) lowest = absurd (let none = lowest-unstarted form page zeros in cc)
+free_there one forms.Status page slot (inr started) lowest = absurd (status_none (eqb (get_or page 0 0) 0) lowest)
+  where
+    status_none : (b : Bool) → cond b None None ≡ Some slot → ⊥
+    status_none true e = absurd cc
+    status_none false e = absurd cc
+free_there one (forms.Heap row count kinds format) page slot (inr started) lowest =
+    let form = forms.Heap row count kinds format in
+    free_on_slots form page started.0 slot started.1 (lowest_started form page started.0 started.1 (one form page started.0 started.1) ∙ lowest)
+free_there one forms.Index page slot (inr started) lowest = absurd started
 
-pub unstarted_lower : (block : Block) → is_sought sought.Unstarted block ≡ false → IsUnstarted block.page → ⊥
-unstarted_lower block none zeros = let yes = unstarted_kind block.page zeros in cc (none, yes)
+-- one that has a free slot has a lowest one
+pub free_not_none : OneList → (form : Form) (page : List ℕ) (slot : ℕ) → IsFreeSlot form page slot → lowest_on form page ≡ None → ⊥
+free_not_none one form page slot free none =
+    free_found free.0 slot free.2 (lowest_started form page free.0 free.1 (one form page free.0 free.1) ∙ none)
+
+-- the slot is one of the pages of the form
+pub slot_there : (form : Form) (page : List ℕ) (slot : ℕ) → IsFreeSlot form page slot → HasSlot form slot
+slot_there forms.Status page slot free = absurd free.1
+slot_there (forms.Heap row count kinds format) page slot free = let within = slice_get_within free.0 slot None free.2 in omega (arith, within, free.1.counted)
+slot_there forms.Index page slot free = absurd free.1
+
+-- every block of a heap is looked at
+pub heap_looked_at : (form : Form) (page : List ℕ) (past slot block : ℕ) → IsFreeSlot form page slot → IsLookedAt form past block
+heap_looked_at forms.Status page past slot block free = tt
+heap_looked_at (forms.Heap row count kinds format) page past slot block free = tt
+heap_looked_at forms.Index page past slot block free = absurd free.1
+
+-- by the test
+
+has_found : (o : Option ℕ) → has_slot o ≡ true → (slot : ℕ) × (o ≡ Some slot)
+has_found None e = absurd cc
+has_found (Some slot) e = (slot, refl)
+
+has_none : (o : Option ℕ) → has_slot o ≡ false → o ≡ None
+has_none None e = refl
+has_none (Some slot) e = absurd cc
+
+pub room_found : OneList → (form : Form) (need : ℕ) (page : List ℕ) → IsPageOf form page → has_slot (lowest_on form page) ≡ true → PageHasRoom form need page
+room_found one form need page of_form has =
+    let found = has_found (lowest_on form page) has in
+    (found.0, free_there one form page found.0 of_form found.1)
+
+pub room_lower : OneList → (form : Form) (need : ℕ) (page : List ℕ) → has_slot (lowest_on form page) ≡ false → PageHasRoom form need page → ⊥
+room_lower one form need page none room = free_not_none one form page room.0 room.1 (has_none (lowest_on form page) none)
+
+-- the room of a page by its lowest slot
+
+pub lowest_same : OneList → (form : Form) (page : List ℕ) (o : Option ℕ) → lowest_on form page ≡ o → (slots : List Slot) → HasSlots form page slots → lowest_free slots ≡ o
+lowest_same one form page o lowest slots has = lowest_started form page slots has (one form page slots has) ∙ lowest

@@ -1,32 +1,39 @@
--- where the next row of a relation may stand, by the form, the limit and the pages of its blocks
-use Rattle.std.specs.Prelude.{ℕ, ◌<◌, ◌⊎◌, List, Option, Some, None, IsSomeAnd}
+-- where the next row or tuple of a relation may stand, by the form, the limit and the pages of its blocks
+use Rattle.std.specs.Prelude.{ℕ, ◌<◌, ◌⊎◌, List, Option, Some, None}
 use Rattle.page_layout.specs.declared.page.Form.{Form}
+use Rattle.page_layout.specs.declared.page.Form.TheVariants as forms
 use Rattle.page_layout.specs.PageContents.{IsUnstarted}
 use Rattle.page_redo.specs.Redo.{IsFreeSlot}
 
--- a slot of the page is free
-abbrev pub BlockHasRoom : Option Form → List ℕ → Type 0
-BlockHasRoom form page = IsSomeAnd form (λ f. (slot : ℕ) × IsFreeSlot f page slot)
+-- a page has room for that many bytes: in a heap a slot is free, whatever the bytes; of an index no page is started yet
+abbrev pub PageHasRoom : Form → ℕ → List ℕ → Type 0
+PageHasRoom form need page = (slot : ℕ) × IsFreeSlot form page slot
 
--- the lowest block that has room
-pub record IsFirstWithRoom (form : Option Form) (limit : ℕ) (page : ℕ → List ℕ) (block : ℕ) : Type 0 where
+-- the block is looked at: in an index it comes behind the map pages, of which there are `past`; elsewhere each one is
+abbrev pub IsLookedAt : Form → ℕ → ℕ → Type 0
+IsLookedAt forms.Index past block = past < block
+IsLookedAt form past block = Unit {0}
+
+-- the lowest block that is looked at and has room
+pub record IsFirstWithRoom (form : Form) (limit need past : ℕ) (page : ℕ → List ℕ) (block : ℕ) : Type 0 where
   pub below : block < limit
-  pub room : BlockHasRoom form (page block)
-  pub lower : (other : ℕ) → other < block → BlockHasRoom form (page other) → ⊥
+  pub looked_at : IsLookedAt form past block
+  pub room : PageHasRoom form need (page block)
+  pub lower : (other : ℕ) → other < block → IsLookedAt form past other → PageHasRoom form need (page other) → ⊥
 
--- no block has room, and this is the lowest one that isn't started
-pub record IsNextUnstarted (form : Option Form) (limit : ℕ) (page : ℕ → List ℕ) (block : ℕ) : Type 0 where
+-- no block that is looked at has room, and this is the lowest one that isn't started
+pub record IsNextUnstarted (form : Form) (limit need past : ℕ) (page : ℕ → List ℕ) (block : ℕ) : Type 0 where
   pub below : block < limit
   pub unstarted : IsUnstarted (page block)
   pub lower : (other : ℕ) → other < block → IsUnstarted (page other) → ⊥
-  pub no_room : (other : ℕ) → BlockHasRoom form (page other) → ⊥
+  pub no_room : (other : ℕ) → IsLookedAt form past other → PageHasRoom form need (page other) → ⊥
 
--- no block has room, and each below the limit is started
-pub record IsRelationFull (form : Option Form) (limit : ℕ) (page : ℕ → List ℕ) : Type 0 where
+-- no block that is looked at has room, and each below the limit is started
+pub record IsRelationFull (form : Form) (limit need past : ℕ) (page : ℕ → List ℕ) : Type 0 where
   pub started : (block : ℕ) → block < limit → IsUnstarted (page block) → ⊥
-  pub no_room : (block : ℕ) → BlockHasRoom form (page block) → ⊥
+  pub no_room : (block : ℕ) → IsLookedAt form past block → PageHasRoom form need (page block) → ⊥
 
 -- the lowest block that has room, else the lowest one that isn't started, else none
-abbrev pub IsFirstRoom : Option Form → ℕ → (ℕ → List ℕ) → Option ℕ → Type 0
-IsFirstRoom form limit page (Some block) = IsFirstWithRoom form limit page block ⊎ IsNextUnstarted form limit page block
-IsFirstRoom form limit page None = IsRelationFull form limit page
+abbrev pub IsFirstRoom : Form → ℕ → ℕ → ℕ → (ℕ → List ℕ) → Option ℕ → Type 0
+IsFirstRoom form limit need past page (Some block) = IsFirstWithRoom form limit need past page block ⊎ IsNextUnstarted form limit need past page block
+IsFirstRoom form limit need past page None = IsRelationFull form limit need past page

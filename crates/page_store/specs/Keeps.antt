@@ -1,5 +1,6 @@
--- what a call that changes no page leaves
-use Rattle.std.specs.Prelude.{◌≡◌, IsTrue}
+-- what a call leaves of a store
+use Rattle.std.specs.Prelude.{◌≡◌, ◌≤◌, IsTrue}
+use Rattle.std.proofs.Common.{◌∙◌, arith}
 use Rattle.disk_trait.specs.Told.{Told}
 use Rattle.page_store.specs.PageMap.{View}
 
@@ -7,8 +8,35 @@ use Rattle.page_store.specs.PageMap.{View}
 abbrev pub Tells : {D : Type 0} → (D → Told) → View D → Type 0
 Tells told store = IsTrue (told store.disk).tells_contents
 
--- the pages are as before where the disk tells its contents, as it does or doesn't also afterwards, and so is the layout
-pub record Keeps {D : Type 0} (told : D → Told) (old new : View D) : Type 0 where
-  pub tells : (told new.disk).tells_contents ≡ (told old.disk).tells_contents
+-- it doesn't
+abbrev pub Untold : {D : Type 0} → (D → Told) → View D → Type 0
+Untold told store = Tells told store → ⊥
+
+-- What every call leaves, whether it changes pages or not: the layout, and whether the disk tells its contents. Its count of
+-- faults doesn't fall. While the pages stand in memory alone the disk stays as it is.
+pub record Leaves {D : Type 0} (told : D → Told) (old new : View D) : Type 0 where
   pub layout : new.layout ≡ old.layout
+  pub tells : (told new.disk).tells_contents ≡ (told old.disk).tells_contents
+  pub faults : (told old.disk).faults ≤ (told new.disk).faults
+  pub disk : new.disk ≡ old.disk
+
+-- a call that changes no page leaves them too, where the disk tells its contents
+pub record Keeps {D : Type 0} (told : D → Told) (old new : View D) : Type 0 where
+  pub leaves : Leaves told old new
   pub pages : Tells told old → new.pages ≡ old.pages
+
+-- a call that changes no page, and then any call
+pub keeps_then : {D : Type 0} (told : D → Told) (old mid new : View D) → Keeps told old mid → Leaves told mid new → Leaves told old new
+keeps_then told old mid new first second = record {
+  layout = second.layout ∙ first.leaves.layout;
+  tells = second.tells ∙ first.leaves.tells;
+  faults = omega (arith, second.faults, first.leaves.faults);
+  disk = second.disk ∙ first.leaves.disk;
+}
+
+-- two calls that change no page
+pub keeps_on : {D : Type 0} (told : D → Told) (old mid new : View D) → Keeps told old mid → Keeps told mid new → Keeps told old new
+keeps_on told old mid new first second = record {
+  leaves = keeps_then told old mid new first second.leaves;
+  pages = λ tells. second.pages (first.leaves.tells ∙ tells) ∙ first.pages tells;
+}

@@ -5,7 +5,10 @@ pub mod Keeps
 pub mod Outcome
 pub mod Started
 pub mod FirstRoom
-pub mod Blocks
+pub mod PageRoom
+pub mod Filled
+pub mod PageFacts
 pub mod Lowest
+pub mod FactLists
 pub mod Relations
 pub mod Store

@@ -11,7 +11,8 @@ is_started page = not (slice_index page 0 == 0)
 abbrev pub started_count : PageMap → ℕ → ℕ
 started_count pages relation = count_by is_started (slice_index_or pages relation [])
 
--- of the pages of the blocks, the first n are started, and no other is
-pub record AreFirst (page : ℕ → List ℕ) (n : ℕ) : Type 0 where
+-- of the pages of the blocks below the limit, the first n are started, and no other is
+pub record AreFirst (limit : ℕ) (page : ℕ → List ℕ) (n : ℕ) : Type 0 where
+  pub within : n ≤ limit
   pub started : (block : ℕ) → block < n → IsUnstarted (page block) → ⊥
-  pub others : (block : ℕ) → n ≤ block → IsUnstarted (page block)
+  pub others : (block : ℕ) → n ≤ block → block < limit → IsUnstarted (page block)

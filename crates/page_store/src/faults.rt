@@ -16,7 +16,7 @@ pub enum StoreError {
     Damaged { at: u64 },
 }
 
-/// Why a step of a machine over pages isn't done.
+/// Why a step of a machine over pages isn't done. `Memory` comes from no call yet: the steps that read a whole table will answer it.
 #[derive(Clone, Copy, Debug, Error, PartialEq, Eq)]
 pub enum MachineFault {
     /// The relation has no room; it has that many slots or blocks.

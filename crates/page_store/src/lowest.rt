@@ -1,11 +1,11 @@
 //! The lowest block that has room, or that isn't started.
 
 ghost use Rattle.std.specs.Prelude.{◌≡◌, ◌≢◌, ◌<◌, ◌≤◌, ℕ, length, true, false};
-ghost use Rattle.page_store.specs.Blocks.{block_in};
 ghost use Rattle.page_store.specs.Lowest.{IsLowest, is_sought};
+ghost use Rattle.page_store.specs.PageFacts.{facts_in};
 
-use crate::block::Block;
-use page_layout::{UNSTARTED, kind_of};
+use crate::facts::PageFacts;
+use page_layout::UNSTARTED;
 
 /// What a block is looked for by.
 #[derive(Clone, Copy)]
@@ -14,31 +14,31 @@ pub(crate) enum Sought {
     Unstarted,
 }
 
-pub(crate) fn is_sought(block: &Block, sought: Sought) -> bool
-    ensures { result ≡ is_sought sought block.now }
+pub(crate) fn is_sought(facts: PageFacts, sought: Sought) -> bool
+    ensures { result ≡ is_sought sought facts }
 {
     match sought {
-        Sought::Room => block.free > 0,
-        Sought::Unstarted => kind_of(&block.page) == UNSTARTED,
+        Sought::Room => facts.lowest.is_some(),
+        Sought::Unstarted => facts.kind == UNSTARTED,
     }
 }
 
 /// The lowest block that is sought, after the block `at` has changed; before, it was `lowest`. The limit where there is none.
 pub(crate) fn lowest(
-    blocks: &[Block],
+    facts: &[PageFacts],
     limit: usize,
     sought: Sought,
     lowest: usize,
     at: usize,
 ) -> usize
-    requires few { length blocks.now ≤ limit }
-    requires at { at < length blocks.now }
+    requires few { length facts.now ≤ limit }
+    requires at { at < length facts.now }
     requires within { lowest ≤ limit }
-    requires lower { (other : ℕ) → other < lowest → other ≢ at → is_sought sought (block_in blocks.now other) ≡ false }
-    requires found { lowest < limit → lowest ≢ at → is_sought sought (block_in blocks.now lowest) ≡ true }
-    ensures { IsLowest sought blocks.now limit result }
+    requires lower { (other : ℕ) → other < lowest → other ≢ at → is_sought sought (facts_in facts.now other) ≡ false }
+    requires found { lowest < limit → lowest ≢ at → is_sought sought (facts_in facts.now lowest) ≡ true }
+    ensures { IsLowest sought facts.now limit result }
 {
-    let here = is_sought(&blocks[at], sought);
+    let here = is_sought(facts[at], sought);
     if lowest < at {
         return lowest;
     }
@@ -48,23 +48,23 @@ pub(crate) fn lowest(
     if at < lowest {
         return lowest;
     }
-    first_from(blocks, limit, sought, at + 1)
+    first_from(facts, limit, sought, at + 1)
 }
 
 /// The lowest block that is sought, where none before that one is.
-fn first_from(blocks: &[Block], limit: usize, sought: Sought, from: usize) -> usize
-    requires few { length blocks.now ≤ limit }
-    requires from { from ≤ length blocks.now }
-    requires lower { (other : ℕ) → other < from → is_sought sought (block_in blocks.now other) ≡ false }
-    ensures { IsLowest sought blocks.now limit result }
+fn first_from(facts: &[PageFacts], limit: usize, sought: Sought, from: usize) -> usize
+    requires few { length facts.now ≤ limit }
+    requires from { from ≤ length facts.now }
+    requires lower { (other : ℕ) → other < from → is_sought sought (facts_in facts.now other) ≡ false }
+    ensures { IsLowest sought facts.now limit result }
 {
-    'looking: for n in from..blocks.len() {
-        if is_sought(&blocks[n], sought) {
+    'candidates: for n in from..facts.len() {
+        if is_sought(facts[n], sought) {
             return n;
         }
     }
     match sought {
         Sought::Room => limit,
-        Sought::Unstarted => blocks.len(),
+        Sought::Unstarted => facts.len(),
     }
 }

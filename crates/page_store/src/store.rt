@@ -1,28 +1,29 @@
 //! The store of pages.
 
-ghost use Rattle.std.specs.Prelude.{◌≡◌, ◌<◌, ◌≤◌, ℕ, None, true, false, length, replicate, slice_get, slice_set, IfOk, IfSome, IfErr, IsSomeAnd, MatchOption, OnOk, OnErr};
-ghost use Rattle.block_model.specs.declared.limits.TheConstants.{PAGE_SIZE};
+ghost use Rattle.std.specs.Prelude.{◌≡◌, ◌<◌, ◌≤◌, ℕ, None, true, false, [], ◌∷◌, length, slice_get, slice_index_or, IfOk, IfSome, IfErr, OnOk, OnErr};
 ghost use Rattle.store_layout.specs.DiskLayout.{IsPlace, relation_blocks};
 ghost use Rattle.block_model.specs.declared.place.Place.{Place as AnyPlace};
-ghost use Rattle.page_layout.specs.PageContents.{IsPageOf, IsUnstarted};
-ghost use Rattle.wal_record.specs.Changes.{logged, place_of};
-ghost use Rattle.page_store.specs.PageMap.{block_at, block_limit, page_at, page_in};
-ghost use Rattle.page_store.specs.Forms.{FitsIn, IsPageIn, form_of};
+ghost use Rattle.page_layout.specs.PageContents.{IsForm, IsPageOf, IsUnstarted};
+ghost use Rattle.wal_record.specs.Changes.{PageStart as LoggedStart, logged, place_of};
+ghost use Rattle.page_store.specs.PageMap.{IsWhole, block_at, block_limit, page_at, page_in};
+ghost use Rattle.page_store.specs.Forms.{FitInTurn, FitsIn, IsPageIn, form_of};
 ghost use Rattle.page_store.specs.Changed.{Changed};
-ghost use Rattle.page_store.specs.Keeps.{Keeps, Tells};
-ghost use Rattle.page_store.specs.Outcome.{NamesPage, Outcome};
+ghost use Rattle.page_store.specs.Keeps.{Keeps, Leaves, Tells, Untold};
+ghost use Rattle.page_store.specs.Outcome.{IsReopen, NamesPage, Outcome};
+ghost use Rattle.page_store.specs.PageRoom.{IsRoom, NamesSlot};
 ghost use Rattle.page_store.specs.Started.{AreFirst, started_count};
 ghost use Rattle.page_redo.specs.Redo.{Fits};
-ghost use Rattle.page_store.specs.Relations.{RelationChanged, RelationState};
-ghost use Rattle.page_store.specs.Store.{map_of};
+ghost use Rattle.page_store.specs.Relations.{ChangesRelation};
 ghost use Rattle.page_store.specs.FirstRoom.{IsFirstRoom};
 
 use crate::faults::StoreError;
 use crate::forms::empty_relations;
+use crate::page_room::Room;
+use crate::pages::unstarted_page;
 use crate::relation::Relation;
 use block_model::{NoMemory, Place};
 use disk_trait::Disk;
-use page_layout::Page;
+use page_layout::{Form, Page};
 use std::alloc::Global;
 use std::marker::Model;
 use store_layout::Layout;
@@ -51,7 +52,7 @@ impl<D: Disk + Drop> Model for PageStore<D> {
 
 impl<D: Disk + Drop> PageStore<D> {
     /// A store of this layout over the disk, which is untouched. No page is started. The memory of all pages is taken here, and no
-    /// other call takes any.
+    /// other call takes any. No crate calls it yet: the store of tables will.
     pub fn plain(alloc: Global, disk: D, layout: Layout) -> Result<PageStore<D>, NoMemory>
         ensures disk { IfOk result (λ store. store.disk ≡ disk) }
         ensures layout { IfOk result (λ store. store.layout ≡ layout) }
@@ -63,7 +64,7 @@ impl<D: Disk + Drop> PageStore<D> {
             disk,
             layout,
             relations,
-            unstarted: Page::zeroed(),
+            unstarted: unstarted_page(),
         })
     }
 
@@ -77,7 +78,7 @@ impl<D: Disk + Drop> PageStore<D> {
         ensures page { IfOk result (λ page. Tells D.told self.old → page.now ≡ page_at self.old.pages place) }
         ensures form { IfOk result (λ page. IsPageIn self.old.layout place.relation page.now) }
         ensures at { IfErr result (λ error. NamesPage self.old.layout place error) }
-        ensures* rests { sem 𝓛 (Rests (the_row D.row D.Disk) self.entry (λ s. Keeps D.told self.old s × Outcome D.told self.old s result)) }
+        ensures* rests { sem 𝓛 (Rests (the_row D.row D.Disk) self.entry (λ s. Keeps D.told self.old s × Outcome D.told (Untold D.told self.old) self.old s result)) }
     {
         Ok(self.page_at(place))
     }
@@ -87,12 +88,11 @@ impl<D: Disk + Drop> PageStore<D> {
         requires place { IsPlace self.old.layout place }
         requires own { place_of (logged change.now) ≡ place }
         requires fits { Tells D.told self.old → FitsIn self.old.layout place.relation (page_at self.old.pages place) (logged change.now) }
-        ensures changed { OnOk result (Tells D.told self.old → Changed self.old.layout place (logged change.now) self.old.pages self.new.pages) }
+        ensures changed { OnOk result (Tells D.told self.old → Changed self.old.layout place (logged change.now ∷ []) self.old.pages self.new.pages) }
         ensures kept { OnErr result (Keeps D.told self.old self.new) }
-        ensures layout { self.new.layout ≡ self.old.layout }
-        ensures tells { (D.told self.new.disk).tells_contents ≡ (D.told self.old.disk).tells_contents }
+        ensures leaves { Leaves D.told self.old self.new }
         ensures at { IfErr result (λ error. NamesPage self.old.layout place error) }
-        ensures outcome { Outcome D.told self.old self.new result }
+        ensures outcome { Outcome D.told (Untold D.told self.old) self.old self.new result }
     {
         if !change_relation(&mut self.relations, place, change) {
             return Err(StoreError::Damaged {
@@ -102,13 +102,56 @@ impl<D: Disk + Drop> PageStore<D> {
         Ok(())
     }
 
-    /// Makes every change so far durable. Does nothing while the pages stand in memory alone.
+    /// Starts the page at the place as one of that kind, whatever stood there, and makes the change of it, in one step. After an
+    /// error nothing is changed, and the page isn't started.
+    pub fn start_with(
+        &mut self,
+        place: Place,
+        kind: u8,
+        change: &Change<'_>,
+    ) -> Result<(), StoreError>
+        requires place { IsPlace self.old.layout place }
+        requires own { place_of (logged change.now) ≡ place }
+        requires fits { Tells D.told self.old → FitInTurn (form_of self.old.layout place.relation) (page_at self.old.pages place) (LoggedStart place kind ∷ logged change.now ∷ []) }
+        ensures changed { OnOk result (Tells D.told self.old → Changed self.old.layout place (LoggedStart place kind ∷ logged change.now ∷ []) self.old.pages self.new.pages) }
+        ensures kept { OnErr result (Keeps D.told self.old self.new) }
+        ensures leaves { Leaves D.told self.old self.new }
+        ensures at { IfErr result (λ error. NamesPage self.old.layout place error) }
+        ensures outcome { Outcome D.told (Untold D.told self.old) self.old self.new result }
+    {
+        if !start_relation(&mut self.relations, place, kind, change) {
+            let at = self.layout.page_at(place);
+            return Err(StoreError::Damaged { at });
+        }
+        Ok(())
+    }
+
+    /// Makes every change so far durable. Does nothing while the pages stand in memory alone. No crate calls it yet: a commit
+    /// will.
     pub fn flush(&mut self) -> Result<(), StoreError>
         ensures kept { Keeps D.told self.old self.new }
-        ensures outcome { Outcome D.told self.old self.new result }
+        ensures outcome { Outcome D.told (Untold D.told self.old) self.old self.new result }
     {
+        // Reads a field, so that the store is opened and no fault is known to be kept.
+        let _ = &self.relations;
+        Ok(())
+    }
+
+    /// Reopen where the disk failed in an earlier call, so that a call that needs no page can answer it too. No device call.
+    pub fn ready(&self) -> Result<(), StoreError>
+        ensures reopen { IfErr result IsReopen }
+        ensures outcome { Outcome D.told (Untold D.told self.now) self.now self.now result }
+    {
+        // Reads a field, so that the store is opened and no fault is known to be kept.
         let _ = &self.layout;
         Ok(())
+    }
+
+    /// Does nothing; tells its caller that the map has each page of the layout.
+    pub fn known(&self)
+        ensures whole { IsWhole self.now.layout self.now.pages }
+    {
+        let _ = &self.layout;
     }
 
     /// The tables, indexes and sizes.
@@ -123,72 +166,98 @@ impl<D: Disk + Drop> PageStore<D> {
         requires relation { relation < length (relation_blocks self.now.layout) }
         ensures within { result ≤ block_limit self.now.layout relation }
         ensures count { Tells D.told self.now → result ≡ started_count self.now.pages relation }
-        ensures first { Tells D.told self.now → (n : ℕ) → AreFirst (block_at self.now.pages relation) n → result ≡ n }
+        ensures first { Tells D.told self.now → (n : ℕ) → AreFirst (block_limit self.now.layout relation) (block_at self.now.pages relation) n → result ≡ n }
     {
-        match self.relations.get(relation as usize) {
-            Some(relation) => relation.started(),
-            None => 0,
-        }
+        self.relation_at(relation).started()
     }
 
-    /// The lowest block of the relation that has room, else the lowest one that isn't started, else none. For a table a block has
-    /// room where a slot is free, and neither `need` nor `past` is looked at.
+    /// The lowest block of the relation that has room, else the lowest one that isn't started, else none. Of a table a block has
+    /// room where a slot is free, and neither `need`, in bytes, nor `past`, the number of map pages, is looked at. No page of an
+    /// index is started yet, so no crate gives them a value: those of indexes will.
     pub fn first_room(&self, relation: u8, need: u16, past: u32) -> Option<u32>
         requires relation { relation < length (relation_blocks self.now.layout) }
         ensures within { IfSome result (λ block. block < block_limit self.now.layout relation) }
-        ensures room { Tells D.told self.now → IsFirstRoom (form_of self.now.layout relation) (block_limit self.now.layout relation) (block_at self.now.pages relation) result }
+        ensures room { Tells D.told self.now → IsFirstRoom (form_of self.now.layout relation) (block_limit self.now.layout relation) need past (block_at self.now.pages relation) result }
     {
+        // Where no page of an index is started they decide nothing.
         let _ = (need, past);
-        match self.relations.get(relation as usize) {
-            Some(relation) => relation.first_room(),
-            None => {
-                self.layout.known();
-                Some(0)
-            }
-        }
+        self.relation_at(relation).first_room()
     }
 
-    /// The disk, as it is.
+    /// What room the page at the place has for a row. No device call.
+    pub fn room_at(&self, place: Place) -> Room
+        requires place { IsPlace self.now.layout place }
+        ensures room { Tells D.told self.now → IsRoom (form_of self.now.layout place.relation) (page_at self.now.pages place) result }
+        ensures slot { NamesSlot (form_of self.now.layout place.relation) result }
+    {
+        self.relation_at(place.relation).room_at(place.block)
+    }
+
+    /// The form of the pages of the relation.
+    pub fn form(&self, relation: u8) -> Form
+        requires relation { relation < length (relation_blocks self.now.layout) }
+        ensures form { result ≡ form_of self.now.layout relation }
+        ensures is { IsForm result }
+    {
+        self.relation_at(relation).form()
+    }
+
+    /// The disk, as it is. No crate calls it yet: a store that is closed will.
     pub fn into_disk(self) -> D
         ensures { result ≡ self.disk }
     {
         self.disk
     }
 
+    /// The relation of that number.
+    fn relation_at(&self, relation: u8) -> &Relation
+        requires relation { relation < length (relation_blocks self.now.layout) }
+        ensures form { result.now.form ≡ form_of self.now.layout relation }
+        ensures pages { result.now.pages ≡ slice_index_or self.now.pages relation [] }
+        ensures limit { length result.now.pages ≡ block_limit self.now.layout relation }
+    {
+        let relations = &self.relations;
+        &relations[usize::from(relation)]
+    }
+
     fn page_at(&self, place: Place) -> &Page
+        requires place { IsPlace self.now.layout place }
         ensures page { page_at self.now.pages place ≡ result.now }
         ensures form { IsPageIn self.now.layout place.relation result.now }
         ensures failed { self.now.failed ≡ None }
     {
-        page_of(&self.relations, &self.unstarted, place)
-    }
-}
-
-/// The page at the place.
-fn page_of<'a>(relations: &'a [Relation], unstarted: &'a Page, place: Place) -> &'a Page
-    requires unstarted { unstarted.now ≡ replicate PAGE_SIZE 0 }
-    ensures page { page_at (map_of relations.now) place ≡ result.now }
-    ensures form { MatchOption (slice_get relations.now place.relation) (IsUnstarted result.now) (λ relation. IsPageOf relation.form result.now) }
-{
-    match relations.get(place.relation as usize) {
-        Some(relation) => match relation.page(place.block) {
+        match self.relation_at(place.relation).page(place.block) {
             Some(page) => page,
-            None => unstarted,
-        },
-        None => unstarted,
+            None => &self.unstarted,
+        }
     }
 }
 
 /// Makes the change of the page at the place, where it fits, and says whether it did.
 fn change_relation(relations: &mut Vec<Relation>, place: Place, change: &Change<'_>) -> bool
-    requires { IfSome (slice_get relations.old.items place.relation) (λ relation. place.block < relation.limit) }
-    ensures changed { result ≡ true → (new : RelationState) × IsSomeAnd (slice_get relations.old.items place.relation) (λ relation. RelationChanged place.block (logged change.now) relation new) × (relations.new.items ≡ slice_set relations.old.items place.relation new) }
-    ensures misfit { result ≡ false → IsSomeAnd (slice_get relations.old.items place.relation) (λ relation. Fits relation.form (page_in relation.pages place.block) (logged change.now)) → ⊥ }
+    requires relation { place.relation < length relations.old.items }
+    requires block { IfSome (slice_get relations.old.items place.relation) (λ relation. place.block < length relation.pages) }
+    ensures changed { result ≡ true → ChangesRelation place (logged change.now ∷ []) relations.old.items relations.new.items }
+    ensures misfit { result ≡ false → IfSome (slice_get relations.old.items place.relation) (λ relation. Fits relation.form (page_in relation.pages place.block) (logged change.now) → ⊥) }
     ensures same { result ≡ false → relations.new.items ≡ relations.old.items }
 {
-    let at = place.relation as usize;
-    if at >= relations.len() {
-        return false;
-    }
+    let at = usize::from(place.relation);
     relations[at].change(place.block, change).is_ok()
+}
+
+/// Starts the page at the place and makes the change of it, where they fit, and says whether they did.
+fn start_relation(
+    relations: &mut Vec<Relation>,
+    place: Place,
+    kind: u8,
+    change: &Change<'_>,
+) -> bool
+    requires relation { place.relation < length relations.old.items }
+    requires block { IfSome (slice_get relations.old.items place.relation) (λ relation. place.block < length relation.pages) }
+    ensures changed { result ≡ true → ChangesRelation place (LoggedStart place kind ∷ logged change.now ∷ []) relations.old.items relations.new.items }
+    ensures misfit { result ≡ false → IfSome (slice_get relations.old.items place.relation) (λ relation. FitInTurn relation.form (page_in relation.pages place.block) (LoggedStart place kind ∷ logged change.now ∷ []) → ⊥) }
+    ensures same { result ≡ false → relations.new.items ≡ relations.old.items }
+{
+    let at = usize::from(place.relation);
+    relations[at].start_with(place, kind, change).is_ok()
 }

@@ -7,7 +7,7 @@ ghost use Rattle.heap_rows.specs.HeapBlocks.{HasBlocks};
 
 use block_model::{Column, Kind, Name, RowId, Schema, Sequence, Sizes, Spot, Table, Value, Values};
 use disk_trait::SteadyDisk;
-use heap_rows::{PageRows, Stored, mark, put, rows_of, unstarted_tables_have_no_blocks};
+use heap_rows::{PageRows, Stored, blocks, mark, put, rows_of, unstarted_tables_have_no_blocks};
 use page_store::{MachineFault, PageStore};
 use std::alloc::Global;
 use std::test::Fail;
@@ -101,5 +101,6 @@ fn rows_are_put_marked_and_read(rt: HostRuntime) -> Result<(), Fail> {
         values,
     };
     assert_eq!(rt; rows.as_slice(), [stored].as_slice());
+    assert_eq!(rt; blocks(&store, 0), 2);
     Ok(())
 }

@@ -11,7 +11,7 @@ use block_model::{Column, Kind, Kinds, Name, Place, Schema, Sequence, Sizes, Tab
 use disk_trait::{Disk, SteadyDisk};
 use page_layout::{Form, Page};
 use page_redo::fits;
-use page_store::{PageStore, StoreError};
+use page_store::{PageStore, Room, StoreError};
 use std::alloc::Global;
 use std::marker::Model;
 use std::test::Fail;
@@ -71,7 +71,7 @@ impl Model for Trial {
 
     ghost view = { λ a. 0 };
 
-    ghost invariant = { λ a. (form_of a.store.layout 1 ≡ Some (forms.Heap 30 2 (kinds.Int ∷ []) 1)) × (relation_blocks a.store.layout ≡ 1 ∷ 3 ∷ []) };
+    ghost invariant = { λ a. (form_of a.store.layout 1 ≡ forms.Heap 30 2 (kinds.Int ∷ []) 1) × (relation_blocks a.store.layout ≡ 1 ∷ 3 ∷ []) };
 }
 
 impl Trial {
@@ -163,6 +163,14 @@ impl Trial {
         self.store.blocks(1)
     }
 
+    fn room(&self, place: Place) -> Room
+        requires relation { place.relation ≡ 1 }
+        requires block { place.block < 3 }
+    {
+        let _store = &self.store;
+        self.store.room_at(place)
+    }
+
     fn first_room(&self) -> Option<u32> {
         let _store = &self.store;
         self.store.first_room(1, 30, 0)
@@ -170,9 +178,9 @@ impl Trial {
 }
 
 /// The table `t(a int8)` of two rows a page and three blocks.
-#[tactic(auto, unfolding(store_layout::specs::DiskLayout::relation_blocks))]
+#[tactic(auto, unfolding(store_layout::specs::DiskLayout::relation_blocks, page_store::specs::Forms::forms_of))]
 fn layout(alloc: Global) -> Option<Layout>
-    ensures form { IfSome result (λ layout. form_of layout 1 ≡ Some (Form.Heap 30 2 (kinds.Int ∷ []) 1)) }
+    ensures form { IfSome result (λ layout. form_of layout 1 ≡ Form.Heap 30 2 (kinds.Int ∷ []) 1) }
     ensures blocks { IfSome result (λ layout. relation_blocks layout ≡ 1 ∷ 3 ∷ []) }
 {
     let mut columns = Sequence::new(alloc);
@@ -213,6 +221,7 @@ fn pages_are_as_the_changes_made_them(rt: HostRuntime) -> Result<(), Fail> {
     assert_eq!(rt; trial.start(FIRST), true);
     assert_eq!(rt; trial.put(FIRST, 1), true);
     assert_eq!(rt; trial.put(FIRST, 1), false);
+    assert_eq!(rt; trial.store.ready(), Ok(()));
     bytes[0] = 2;
     bytes[62..92].copy_from_slice(&ROW);
     assert_eq!(rt; trial.has(FIRST, &bytes), true);
@@ -227,10 +236,13 @@ fn pages_are_as_the_changes_made_them(rt: HostRuntime) -> Result<(), Fail> {
 fn room_is_the_lowest_free_slot_or_unstarted_block(rt: HostRuntime) -> Result<(), Fail> {
     let mut trial = Trial::new(rt.alloc()).ok_or("trial")?;
     assert_eq!(rt; (trial.blocks(), trial.first_room()), (0, Some(0)));
+    assert_eq!(rt; trial.room(FIRST), Room::NotStarted);
     assert_eq!(rt; trial.start(FIRST) && trial.put(FIRST, 0), true);
     assert_eq!(rt; (trial.blocks(), trial.first_room()), (1, Some(0)));
+    assert_eq!(rt; trial.room(FIRST), Room::Free(1));
     assert_eq!(rt; trial.put(FIRST, 1), true);
     assert_eq!(rt; (trial.blocks(), trial.first_room()), (1, Some(1)));
+    assert_eq!(rt; trial.room(FIRST), Room::Full);
     assert_eq!(rt; trial.start(THIRD), true);
     assert_eq!(rt; (trial.blocks(), trial.first_room()), (2, Some(2)));
     assert_eq!(rt; trial.put(THIRD, 0) && trial.put(THIRD, 1), true);

@@ -1,5 +1,5 @@
 use Rattle.std.proofs.Common.{◌+◌, refl, arith}
-use Rattle.store_layout.proofs.DiskPlaces.{count_relations}
+use Rattle.store_layout.specs.RelationCounts.{count_relations}
 use Rattle.heap_rows.proofs.Heaps.{limit_is}
 use Rattle.heap_rows.proofs.heap.relation_of.Goals as goal
 

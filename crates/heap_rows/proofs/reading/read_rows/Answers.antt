@@ -1,6 +1,6 @@
 use Rattle.std.proofs.Common.{◌≡◌, ◌<◌, ◌∙◌, List, [], ◌∷◌, ◌++◌, length, ap, sym, arith, length-append}
 use Rattle.page_layout.specs.PageContents.{Slot, HasSlots}
-use Rattle.page_layout.proofs.FreeSlots.{free_read, length-has}
+use Rattle.page_layout.specs.SlotLaws.{free_read, length-has}
 use Rattle.heap_rows.specs.StoredRows.{RowsInRoom, stored_from}
 use Rattle.heap_rows.proofs.Places.{free_slot}
 use Rattle.heap_rows.proofs.SlotRows.{read_row, stored-add, stored-skip}

@@ -14,4 +14,4 @@ mark-requires-clause-used c = λ tells.
     let blocks : List (List Slot) = with_row (slots_a_page c.args.store.now.layout 0) [] c.in-Ok.spot row in
     let has = c.in-Ok.ensures.put refl [] c.requires.empty in
     let changes = c.in-Ok.ensures.slots refl [] c.requires.empty in
-    (blocks, row, subst (λ (layout : DiskLayout). HasBlocks layout c.put.new.pages.pages 0 blocks) (sym c.put.ensures.others.layout) has, changes.1.there)
+    (blocks, row, subst (λ (layout : DiskLayout). HasBlocks layout c.put.new.pages.pages 0 blocks) (sym c.put.ensures.others.leaves.layout) has, changes.1.there)

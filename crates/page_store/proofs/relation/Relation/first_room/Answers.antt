@@ -1,21 +1,18 @@
-use Rattle.std.proofs.Common.{subst}
-use Rattle.std.specs.Prelude.{None, Some}
+use Rattle.std.proofs.Common.{◌<◌, ℕ, length, subst, sym}
+use Rattle.std.specs.Prelude.{IfSome}
 use Rattle.page_store.specs.FirstRoom.{IsFirstRoom}
 use Rattle.page_store.specs.PageMap.{page_in}
 use Rattle.page_store.specs.Relations.{RelationState}
-use Rattle.page_store.proofs.Relations.{room_some, room_next, room_none}
+use Rattle.page_store.proofs.Relations.{first_of_pages, first_within, length-all}
 use Rattle.page_store.proofs.relation.Relation.first_room.Goals as goal
 
-pub returns-then-self-limit-clause-room : goal.returns-then-self-limit-clause-room
-returns-then-self-limit-clause-room c =
-    subst (λ (r : RelationState). IsFirstRoom (Some r.form) r.limit (page_in r.pages) (Some c.self.inside.room)) c.self.view_is (room_some _ _ _ _ _ _ _ c.self.invariant c.if-self-limit.true)
-
-pub returns-then-self-limit-2-clause-room : goal.returns-then-self-limit-2-clause-room
-returns-then-self-limit-2-clause-room c =
-    subst (λ (r : RelationState). IsFirstRoom (Some r.form) r.limit (page_in r.pages) (Some c.self.inside.unstarted)) c.self.view_is
-    (room_next _ _ _ _ _ _ _ c.self.invariant c.if-self-limit.false c.if-self-limit-2.true)
+pub returns-clause-within : goal.returns-clause-within
+returns-clause-within c =
+    let inside = c.self.inside in
+    subst (λ (r : RelationState). IfSome c.first_room.result (λ block. block < length r.pages)) c.self.view_is
+    (subst (λ (k : ℕ). IfSome c.first_room.result (λ block. block < k)) (sym (length-all inside.pages.items inside.facts c.self.invariant.few)) (first_within inside.facts c.first_room.result c.first_room.ensures))
 
 pub returns-clause-room : goal.returns-clause-room
-returns-clause-room c =
-    subst (λ (r : RelationState). IsFirstRoom (Some r.form) r.limit (page_in r.pages) None) c.self.view_is
-    (room_none _ _ _ _ _ _ _ c.self.invariant c.if-self-limit.false c.if-self-limit-2.false)
+returns-clause-room c = λ need past.
+    subst (λ (r : RelationState). IsFirstRoom r.form (length r.pages) need past (page_in r.pages) c.first_room.result) c.self.view_is
+    (first_of_pages _ _ _ _ c.self.invariant c.slots_are_read.ensures.one need past c.first_room.result c.first_room.ensures)

@@ -1,0 +1,61 @@
+-- Whether a page is started, by its kind.
+use Rattle.std.proofs.Common.{◌≡◌, ℕ, zero, suc, ◌<◌, ◌≤◌, inl, inr, Bool, true, false, cond, eqb, not, List, [], ◌∷◌, length, get_or, refl, ap, ⊎_elim, arith}
+use Rattle.std.specs.Prelude.{None, count_by}
+use Rattle.std.proofs.lemmas.Bool.{cases_Bool, eq-eqb}
+use Rattle.std.proofs.lemmas.List.Sums.{sum_by-cons}
+use Rattle.page_layout.specs.declared.page.Form.{Form}
+use Rattle.page_layout.specs.declared.page.Form.TheVariants as forms
+use Rattle.page_layout.specs.FreeSlots.{lowest_free}
+use Rattle.page_layout.specs.PageContents.{IsPageOf, IsStarted, IsUnstarted}
+use Rattle.page_layout.specs.SlotLaws.{heap_front, unstarted_front}
+use Rattle.page_layout.specs.SlotsOnPage.{lowest_on, slots_on}
+use Rattle.page_store.specs.PageFacts.{facts_on, no_facts}
+use Rattle.page_store.specs.PageMap.{page_in, unstarted_page}
+use Rattle.page_store.specs.Started.{is_started}
+
+pub unstarted_is : IsUnstarted unstarted_page
+unfolding unstarted_page
+unstarted_is = refl
+
+pub zero_kind : (page : List ℕ) → IsUnstarted page → get_or page 0 0 ≡ 0
+zero_kind page zeros = unstarted_front page 8192 refl zeros
+
+pub unstarted_kind : (page : List ℕ) → IsUnstarted page → eqb (get_or page 0 0) 0 ≡ true
+unstarted_kind page zeros = eq-eqb (get_or page 0 0) 0 (zero_kind page zeros)
+
+pub started_kind : (form : Form) (page : List ℕ) → IsStarted form page → eqb (get_or page 0 0) 0 ≡ false
+started_kind forms.Status page started = ap (λ (l : List ℕ). eqb (get_or l 0 0) 0) started.1.bytes.2
+started_kind (forms.Heap row count kinds format) page started = ap (λ (k : ℕ). eqb k 0) (heap_front (forms.Heap row count kinds format) page started.0 started.1)
+started_kind forms.Index page started = absurd started
+
+pub kind_unstarted : (form : Form) (page : List ℕ) → IsPageOf form page → eqb (get_or page 0 0) 0 ≡ true → IsUnstarted page
+kind_unstarted form page (inl zeros) kind = zeros
+kind_unstarted form page (inr started) kind = absurd (let other = started_kind form page started in cc)
+
+pub kind_started : (form : Form) (page : List ℕ) → IsPageOf form page → (IsUnstarted page → ⊥) → is_started page ≡ true
+kind_started form page of_form some =
+    ⊎_elim (λ kind. absurd (some (kind_unstarted form page of_form kind))) (λ kind. ap not kind) (cases_Bool (eqb (get_or page 0 0) 0))
+
+-- what is kept of a page that isn't started
+pub lowest-unstarted : (form : Form) (page : List ℕ) → IsUnstarted page → lowest_on form page ≡ None
+lowest-unstarted form page zeros = ap (λ (k : ℕ). cond (eqb k 0) None (lowest_free (slots_on form page))) (zero_kind page zeros)
+
+pub unstarted_facts : (form : Form) → facts_on form unstarted_page ≡ no_facts
+unstarted_facts form = λ i. record { kind = zero_kind unstarted_page unstarted_is i; lowest = lowest-unstarted form unstarted_page unstarted_is i }
+
+-- 1 for a started page, else 0
+abbrev weight : List ℕ → ℕ
+weight page = cond (is_started page) 1 0
+
+-- where the first n pages are started and no others
+pub count_first : (pages : List (List ℕ)) (n : ℕ) → n ≤ length pages → ((k : ℕ) → k < n → is_started (page_in pages k) ≡ true) → ((k : ℕ) → n ≤ k → k < length pages → is_started (page_in pages k) ≡ false) → count_by is_started pages ≡ n
+count_first [] zero few started others = refl
+count_first [] (suc n) few started others = absurd (omega arith)
+count_first (page ∷ pages) zero few started others =
+    let none : weight page ≡ 0 = ap (λ (t : Bool). cond t 1 0) (others 0 (omega arith) (omega arith)) in
+    let rest = count_first pages zero (omega arith) (λ k low. absurd (omega arith)) (λ k high low. others (suc k) (omega arith) (omega arith)) in
+    omega (arith, none, rest, sum_by-cons weight page pages)
+count_first (page ∷ pages) (suc n) few started others =
+    let one : weight page ≡ 1 = ap (λ (t : Bool). cond t 1 0) (started 0 (omega arith)) in
+    let rest = count_first pages n (omega arith) (λ k low. started (suc k) (omega arith)) (λ k high low. others (suc k) (omega arith) (omega arith)) in
+    omega (arith, one, rest, sum_by-cons weight page pages)

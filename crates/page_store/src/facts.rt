@@ -1,0 +1,74 @@
+//! What memory keeps of a page.
+
+ghost use Rattle.std.specs.Prelude.{◌≡◌};
+ghost use Rattle.page_layout.specs.PageContents.{IsForm, IsPageOf};
+ghost use Rattle.page_layout.specs.SlotsOnPage.{lowest_on};
+ghost use Rattle.wal_record.specs.Changes.{logged};
+ghost use Rattle.page_store.specs.PageFacts.{HasPutInto, IsMadeFrom, facts_on};
+
+use page_layout::{Form, Page, UNSTARTED, first_free, first_free_from, kind_of, slots_are_read};
+use wal_record::Change;
+
+/// What is kept of a page beside the page: its kind, and its lowest free slot where it has one.
+#[derive(Clone, Copy)]
+pub(crate) struct PageFacts {
+    pub kind: u8,
+    pub lowest: Option<u16>,
+}
+
+/// Those of a page that isn't started.
+pub(crate) const NO_FACTS: PageFacts = PageFacts {
+    kind: UNSTARTED,
+    lowest: None,
+};
+
+/// The facts of a page that passes its check.
+pub(crate) fn facts_of(page: &Page, form: &Form) -> PageFacts
+    requires form { IsForm form.now }
+    requires page { IsPageOf form.now page.now }
+    ensures { result ≡ facts_on form.now page.now }
+{
+    PageFacts {
+        kind: kind_of(page),
+        lowest: first_free(page, *form),
+    }
+}
+
+/// The facts of a page that passes its check, after a change, where they were these before.
+pub(crate) fn facts_after(
+    page: &Page,
+    form: &Form,
+    change: &Change<'_>,
+    old: &PageFacts,
+) -> PageFacts
+    requires form { IsForm form.now }
+    requires page { IsPageOf form.now page.now }
+    requires made { IsMadeFrom form.now old.now (logged change.now) page.now }
+    ensures { result ≡ facts_on form.now page.now }
+{
+    slots_are_read();
+    match *change {
+        Change::RowPut { slot, .. } => PageFacts {
+            kind: old.kind,
+            lowest: lowest_after_put(page, form, slot, old.lowest),
+        },
+        Change::RowMark { .. } => *old,
+        _ => facts_of(page, form),
+    }
+}
+
+/// The lowest free slot of a page into a slot of which a row was put, where it was this one before.
+fn lowest_after_put(page: &Page, form: &Form, slot: u16, old: Option<u16>) -> Option<u16>
+    requires form { IsForm form.now }
+    requires page { IsPageOf form.now page.now }
+    requires put { HasPutInto form.now slot old page.now }
+    ensures { result ≡ lowest_on form.now page.now }
+{
+    slots_are_read();
+    if let Some(lowest) = old {
+        if lowest == slot {
+            return first_free_from(page, *form, slot);
+        }
+    }
+    first_free(page, *form)
+}
