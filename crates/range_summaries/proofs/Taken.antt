@@ -23,7 +23,7 @@ use Rattle.range_tuple.specs.KindValues.{IsOfKind}
 use Rattle.range_tuple.specs.TupleIncludes.{TupleTakesRow, TakesThere, TakesValue}
 use Rattle.range_tuple.specs.Tuples.{Tuple, empty_column, part_of, parts_of, with_row}
 use Rattle.range_tuple.specs.declared.classes.AnyClass.{AnyClass}
-use Rattle.range_tuple.proofs.ByPlace.{parts-with_row, takes_by_parts}
+use Rattle.range_tuple.specs.SameIndex.{parts-with_row, takes_by_parts}
 use Rattle.range_summaries.specs.ExplainedBlocks.{empty_tuple, range_tuple, rows_per_range, with_rows}
 use Rattle.range_summaries.specs.LawfulIndexes.{IsLawfulIndex}
 use Rattle.row_versions.specs.Chunks.{chunk}

@@ -12,7 +12,7 @@ ghost use Rattle.range_summaries.specs.LawfulIndexes.{HasLawfulIndexes, IsLawful
 ghost use Rattle.range_summaries.specs.Widened.{IsWidened, TakesRowAt, TookIfOf};
 
 use block_model::{Cond, Index, NoMemory, Schema, Value};
-use range_tuple::RangeTuple;
+use range_tuple::ListedTuple;
 use std::alloc::Global;
 
 /// An index of a table: how large its ranges are, and their tuples in order from the first range.
@@ -21,7 +21,7 @@ pub(crate) struct IndexRanges {
     pub(crate) table: u8,
     pages_per_range: u32,
     rows_per_range: u64,
-    ranges: Vec<RangeTuple>,
+    ranges: Vec<ListedTuple>,
 }
 
 /// Blocks in a row of which an index keeps all, or leaves all out: those below `end`.
@@ -126,17 +126,17 @@ fn empty_tuple(
     schema: &Schema,
     index: &Index,
     range: u32,
-) -> Result<RangeTuple, NoMemory>
+) -> Result<ListedTuple, NoMemory>
     requires { IsLawfulIndex schema.now index.now }
     ensures { IfOk result (λ t. t ≡ empty_tuple schema.now index.now range) }
 {
-    let mut tuple = RangeTuple::new(alloc, index, schema, range)?;
+    let mut tuple = ListedTuple::new(alloc, index, schema, range)?;
     tuple.settle();
     Ok(tuple)
 }
 
 /// Adds a row's values to the tuple of that range.
-fn widen_at(ranges: &mut Vec<RangeTuple>, range: usize, values: &[Value])
+fn widen_at(ranges: &mut Vec<ListedTuple>, range: usize, values: &[Value])
     requires there { range < length ranges.old.items }
     requires takes { TupleTakesRow (range_at ranges.old.items range) values.now }
     ensures { IsWidened ranges.old.items range values.now ranges.new.items }

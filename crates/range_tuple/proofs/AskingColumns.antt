@@ -1,7 +1,9 @@
 -- a column that is asked misses no row that it includes
-use Rattle.std.proofs.Common.{◌≡◌, ℕ, Bool, true, false, not, cond, ◌&&◌, ◌||◌, ◌==◌, Option, None, Some, List, [], ◌∷◌, slice_get, get_or, refl, sym, ap, ◌∙◌, eqb-true}
-use Rattle.std.specs.List.{list_all, AllPass}
-use Rattle.std.proofs.lemmas.Bool.{false≢true, and_parts, and_from, false_from_ne_true, true_from_ne_false}
+use Rattle.std.proofs.Common.{◌≡◌, ℕ, ◌+◌, Bool, true, false, not, cond, ◌&&◌, ◌||◌, ◌==◌, Option, None, Some, List, [], ◌∷◌, ◌++◌, take, drop, slice_get, get_or, refl, sym, ap, ◌∙◌, eqb-true}
+use Rattle.std.specs.List.{list_all, list_any, AllPass}
+use Rattle.std.proofs.lemmas.List.{append-nil, drop-drop, take-append-drop}
+use Rattle.std.proofs.lemmas.List.Elements.{filter-append}
+use Rattle.std.proofs.lemmas.Bool.{false≢true, and_parts, and_from, or_parts, false_from_ne_true, true_from_ne_false}
 use Rattle.std.proofs.lemmas.List.Sums.{AllPass-from_list_all, list_all-from_AllPass}
 use Rattle.block_model.specs.declared.row.Cond.{Cond}
 use Rattle.block_model.specs.declared.value.Op.{Op}
@@ -75,3 +77,19 @@ misses_there column m conds row (Some v) may none is within =
 -- where a column doesn't allow conditions, a row that it includes doesn't match them
 pub misses : (column : IndexedColumn) (m : Bool) (conds : List Cond) → (m ≡ false → has_values column.state ≡ true → (v : Value) → includes column.class column.summary v → meets_all (comparisons column.place conds) v ≡ false) → list_all (allows_cond column m) conds ≡ false → (row : List Value) → ColumnIncludes row column → list_all (column_matches row) conds ≡ false
 misses column m conds may none row within = misses_there column m conds row (slice_get row column.place) may none refl within
+
+-- where no condition is on the column, it allows them
+pub none_asked : (column : IndexedColumn) (m : Bool) (conds : List Cond) → list_any (λ cond. cond.column == column.place) conds ≡ false → list_all (allows_cond column m) conds ≡ true
+none_asked column m [] none = refl
+none_asked column m (c ∷ conds) none =
+    let parts = or_parts (c.column == column.place) (list_any (λ cond. cond.column == column.place) conds) none in
+    and_from (allows_cond column m c) (list_all (allows_cond column m) conds) (ap (λ (b : Bool). not b || allows_op column.state m c.op) parts.0) (none_asked column m conds parts.1)
+
+-- comparisons that stand in a row, and no other before or behind
+pub in_row : (place : ℕ) (conds : List Cond) (first size : ℕ) → comparisons place (take first conds) ≡ [] → comparisons place (take size (drop first conds)) ≡ take size (drop first conds) → comparisons place (drop (first + size) conds) ≡ [] → take size (drop first conds) ≡ comparisons place conds
+in_row place conds first size before row past =
+    let p : Cond → Bool = λ cond. (cond.column == place) && compares cond.op in
+    let rest = drop first conds in
+    let behind : comparisons place (drop size rest) ≡ [] = ap (comparisons place) (drop-drop size first conds) ∙ past in
+    let last : comparisons place rest ≡ take size rest = ap (comparisons place) (sym (take-append-drop size rest)) ∙ filter-append p (take size rest) (drop size rest) ∙ (λ i. row i ++ behind i) ∙ append-nil (take size rest) in
+    sym (ap (comparisons place) (sym (take-append-drop first conds)) ∙ filter-append p (take first conds) rest ∙ (λ i. before i ++ last i))

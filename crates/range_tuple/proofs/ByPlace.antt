@@ -1,5 +1,5 @@
 -- columns of an index, place by place
-use Rattle.std.proofs.Common.{◌≡◌, ℕ, zero, suc, ◌+◌, ◌<◌, Bool, true, false, not, Option, None, Some, List, [], ◌∷◌, All, length, map, sum_by, get_or, set, slice_get, refl, sym, ap, ◌∙◌, subst, arith}
+use Rattle.std.proofs.Common.{◌≡◌, ℕ, zero, suc, ◌+◌, ◌*◌, ◌<◌, ◌≤◌, Bool, true, false, not, Option, None, Some, List, [], ◌∷◌, All, length, map, sum_by, get_or, set, slice_get, refl, sym, ap, ◌∙◌, arith}
 use Rattle.std.specs.List.{list_all}
 use Rattle.std.proofs.lemmas.Bool.{false≢true, and_parts}
 use Rattle.std.proofs.lemmas.List.{get_or-map, length-map, map-set, set-get_or}
@@ -9,8 +9,8 @@ use Rattle.block_model.specs.declared.value.Value.{Value}
 use Rattle.block_model.specs.declared.value.Value.TheVariants.{Null, Int, Span, Net}
 use Rattle.range_tuple.specs.AnyClass.{greatest_size}
 use Rattle.range_tuple.specs.KeptColumns.{AreKept}
-use Rattle.range_tuple.specs.TupleIncludes.{ColumnIncludes, ColumnTakes, IncludesThere, TakesThere}
-use Rattle.range_tuple.specs.Tuples.{IndexedColumn, part_of, parts_of, has_nothing, with_value_there, with_row_at, united_column, united_columns, column_room, tuple_room}
+use Rattle.range_tuple.specs.TupleIncludes.{ColumnIncludes, IncludesThere}
+use Rattle.range_tuple.specs.Tuples.{IndexedColumn, part_of, parts_of, has_nothing, united_column, united_columns, column_room, tuple_room}
 use Rattle.range_tuple.specs.declared.classes.AnyClass.{AnyClass}
 
 -- ---- the same index
@@ -27,17 +27,6 @@ part_at xs ys i x y same within first second =
 pub parts-set : (ys : List IndexedColumn) (i : ℕ) (a b : IndexedColumn) → a ≡ get_or ys i a → part_of b ≡ part_of a → parts_of (set ys i b) ≡ parts_of ys
 parts-set ys i a b read part =
     map-set part_of ys i b ∙ ap (λ (p : ℕ × AnyClass). set (parts_of ys) i p) (part ∙ ap part_of read) ∙ sym (map-set part_of ys i (get_or ys i a)) ∙ ap parts_of (set-get_or ys i a)
-
-part_with_there : (column : IndexedColumn) (o : Option Value) → part_of (with_value_there column o) ≡ part_of column
-part_with_there column None = refl
-part_with_there column (Some Null) = refl
-part_with_there column (Some (Int n)) = refl
-part_with_there column (Some (Span r)) = refl
-part_with_there column (Some (Net n)) = refl
-
-pub parts-with_row : (values : List Value) (columns : List IndexedColumn) → parts_of (map (with_row_at values) columns) ≡ parts_of columns
-parts-with_row values [] = refl
-parts-with_row values (column ∷ columns) = λ i. part_with_there column (slice_get values column.place) i ∷ parts-with_row values columns i
 
 pub parts-united : (columns others : List IndexedColumn) → parts_of (united_columns columns others) ≡ parts_of columns
 parts-united [] others = refl
@@ -71,14 +60,18 @@ sum_by_map f (x ∷ xs) = sum_by-cons f x xs ∙ ap (λ (n : ℕ). f x + n) (sum
 pub same_sums : {X Y : Type 0} (f : X → ℕ) (g : Y → ℕ) (xs : List X) (ys : List Y) → map f xs ≡ map g ys → sum_by f xs ≡ sum_by g ys
 same_sums f g xs ys same = sum_by_map f xs ∙ ap (sum_by (λ (n : ℕ). n)) same ∙ sym (sum_by_map g ys)
 
--- columns of the same index are kept beside the same ones
-pub kept_after : (range : ℕ) (columns spare new : List IndexedColumn) → AreKept range columns spare → parts_of new ≡ parts_of columns → AreKept range new spare
-kept_after range columns spare new kept same = record {
+-- columns of the same index are kept as well
+pub kept_after : (range : ℕ) (columns new : List IndexedColumn) → AreKept range columns → parts_of new ≡ parts_of columns → AreKept range new
+kept_after range columns new kept same = record {
   range_fits = kept.range_fits;
   some = omega (arith, kept.some, length-parts new columns same);
-  same_index = kept.same_index ∙ sym same;
   fits = omega (arith, kept.fits, same_room new columns same);
 }
+
+-- three bytes a column at least
+pub heads_fit : (columns : List IndexedColumn) → 3 * length columns ≤ sum_by column_room columns
+heads_fit [] = omega arith
+heads_fit (column ∷ columns) = omega (arith, heads_fit columns, sum_by-cons column_room column columns)
 
 -- ---- nothing added
 
@@ -97,8 +90,3 @@ nothing_there column (Some (Net n)) nothing within = not_both _ (and_parts _ _ n
 pub nothing_included : (columns : List IndexedColumn) (row : List Value) → 0 < length columns → list_all has_nothing columns ≡ true → All (ColumnIncludes row) columns → ⊥
 nothing_included [] row some nothing all = omega (arith, some)
 nothing_included (column ∷ columns) row some nothing all = nothing_there column (slice_get row column.place) (and_parts _ _ nothing).0 (All-head (ColumnIncludes row) column columns all)
-
--- whether a row's values are taken, by the columns of the index
-pub takes_by_parts : (columns : List IndexedColumn) (values : List Value) → All (λ (p : ℕ × AnyClass). TakesThere p.1 (slice_get values p.0)) (parts_of columns) → All (ColumnTakes values) columns
-takes_by_parts columns values all k d below =
-    subst (λ (p : ℕ × AnyClass). TakesThere p.1 (slice_get values p.0)) (get_or-map part_of columns k d (part_of d) below) (all k (part_of d) (rw (length-map columns part_of) below))

@@ -1,6 +1,6 @@
 -- what is known of a class and a summary whose forms are known
-use Rattle.std.proofs.Common.{◌≡◌, ℕ, ◌+◌, ◌*◌, ◌≤◌, Bool, List, length, Result, refl, ap, subst}
-use Rattle.std.specs.Prelude.{IsOk}
+use Rattle.std.proofs.Common.{◌≡◌, ℕ, ◌+◌, ◌*◌, ◌≤◌, Bool, List, length, Result, Ok, Err, refl, ap, subst}
+use Rattle.std.specs.Prelude.{IsOk, MatchResult}
 use Rattle.opclass_api.specs.declared.class.Malformed.{Malformed}
 use Rattle.block_model.specs.declared.value.Value.{Value}
 use Rattle.opclass_minmax.specs.declared.class.MinMax.{MinMax}
@@ -15,7 +15,7 @@ use Rattle.opclass_minmax.specs as minmax
 use Rattle.opclass_multi.specs as multi
 use Rattle.opclass_inclusion.specs as inclusion
 use Rattle.opclass_bloom.specs as bloom
-use Rattle.range_tuple.specs.AnyClass.{takes, is_of, bytes_of, greatest_size}
+use Rattle.range_tuple.specs.AnyClass.{takes, is_of, bytes_of, greatest_size, kept_as, read_of}
 use Rattle.range_tuple.specs.declared.classes.AnyClass.{AnyClass}
 use Rattle.range_tuple.specs.declared.classes.AnyClass.TheVariants as forms
 use Rattle.range_tuple.specs.declared.classes.AnySummary.{AnySummary}
@@ -196,3 +196,48 @@ bloom_bound class bound (kept.Multi s) of = absurd of
 bloom_bound class bound (kept.SpanHull s) of = absurd of
 bloom_bound class bound (kept.NetHull s) of = absurd of
 bloom_bound class bound (kept.Bloom s) of = bound s of
+
+-- what is read of a form is read of the class
+pub kept_read : {X : Type 0} (form : X → AnySummary) (r : Result X ℕ) (new : X) (result : Result (Unit {0}) Malformed) → MatchResult result (λ ok. r ≡ Ok new) (λ fault. r ≡ Err fault.at) → MatchResult result (λ ok. kept_as form r ≡ Ok (form new)) (λ fault. kept_as form r ≡ Err fault.at)
+kept_read form r new (Ok done) is = ap (kept_as form) is
+kept_read form r new (Err fault) is = ap (kept_as form) is
+
+pub minmax_read : (class : MinMax) → ((s : Bounds) → minmax.Bounds.IsSummary s → minmax.Reading.read_of (minmax.Encoding.bytes_of s) ≡ Ok s) → (s : AnySummary) → is_of (forms.MinMax class) s → read_of (forms.MinMax class) (bytes_of (forms.MinMax class) s) ≡ Ok s
+unfolding is_of bytes_of read_of
+minmax_read class again (kept.MinMax s) of = ap (kept_as kept.MinMax) (again s of)
+minmax_read class again (kept.Multi s) of = absurd of
+minmax_read class again (kept.SpanHull s) of = absurd of
+minmax_read class again (kept.NetHull s) of = absurd of
+minmax_read class again (kept.Bloom s) of = absurd of
+
+pub multi_read : (class : ℕ) → ((s : Kept) → multi.Kept.IsSummary class s → multi.Reading.summary_in class (multi.Encoding.bytes_of s) ≡ Ok s) → (s : AnySummary) → is_of (forms.Multi class) s → read_of (forms.Multi class) (bytes_of (forms.Multi class) s) ≡ Ok s
+unfolding is_of bytes_of read_of
+multi_read class again (kept.MinMax s) of = absurd of
+multi_read class again (kept.Multi s) of = ap (kept_as kept.Multi) (again s of)
+multi_read class again (kept.SpanHull s) of = absurd of
+multi_read class again (kept.NetHull s) of = absurd of
+multi_read class again (kept.Bloom s) of = absurd of
+
+pub span_read : (class : SpanHull) → ((s : SpanSummary) → inclusion.SpanHulls.IsSummary s → inclusion.SpanReading.read_of (inclusion.SpanEncoding.bytes_of s) ≡ Ok s) → (s : AnySummary) → is_of (forms.SpanHull class) s → read_of (forms.SpanHull class) (bytes_of (forms.SpanHull class) s) ≡ Ok s
+unfolding is_of bytes_of read_of
+span_read class again (kept.MinMax s) of = absurd of
+span_read class again (kept.Multi s) of = absurd of
+span_read class again (kept.SpanHull s) of = ap (kept_as kept.SpanHull) (again s of)
+span_read class again (kept.NetHull s) of = absurd of
+span_read class again (kept.Bloom s) of = absurd of
+
+pub net_read : (class : NetHull) → ((s : NetSummary) → inclusion.NetHulls.IsSummary s → inclusion.NetReading.read_of (inclusion.NetEncoding.bytes_of s) ≡ Ok s) → (s : AnySummary) → is_of (forms.NetHull class) s → read_of (forms.NetHull class) (bytes_of (forms.NetHull class) s) ≡ Ok s
+unfolding is_of bytes_of read_of
+net_read class again (kept.MinMax s) of = absurd of
+net_read class again (kept.Multi s) of = absurd of
+net_read class again (kept.SpanHull s) of = absurd of
+net_read class again (kept.NetHull s) of = ap (kept_as kept.NetHull) (again s of)
+net_read class again (kept.Bloom s) of = absurd of
+
+pub bloom_read : (class : Parameters) → ((s : List Bool) → bloom.Bits.IsSummary class s → bloom.Reading.read_of class (bloom.Encoding.bytes_of s) ≡ Ok s) → (s : AnySummary) → is_of (forms.Bloom class) s → read_of (forms.Bloom class) (bytes_of (forms.Bloom class) s) ≡ Ok s
+unfolding is_of bytes_of read_of
+bloom_read class again (kept.MinMax s) of = absurd of
+bloom_read class again (kept.Multi s) of = absurd of
+bloom_read class again (kept.SpanHull s) of = absurd of
+bloom_read class again (kept.NetHull s) of = absurd of
+bloom_read class again (kept.Bloom s) of = ap (kept_as kept.Bloom) (again s of)

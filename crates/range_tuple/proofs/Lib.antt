@@ -2,6 +2,14 @@ pub mod AskingColumns
 pub mod ByPlace
 pub mod ColumnBytes
 pub mod EachColumn
+pub mod Exactness
 pub mod Forms
+pub mod HeadFaults
 pub mod InPlace
+pub mod ReadBack
+pub mod ReadingColumns
+pub mod TestedRows
+pub mod TupleRead
+pub mod TuplesInForm
+pub mod Uniting
 pub mod WholeTuples

@@ -1,5 +1,5 @@
 -- the five forms of operator class as one class
-use Rattle.std.specs.Prelude.{ℕ, ◌+◌, ◌*◌, Bool, true, List}
+use Rattle.std.specs.Prelude.{ℕ, ◌+◌, ◌*◌, Bool, true, false, List, Result, Ok, Err}
 use Rattle.block_model.specs.declared.row.Cond.{Cond}
 use Rattle.block_model.specs.declared.schema.Class.{Class}
 use Rattle.block_model.specs.declared.schema.Class.TheVariants as classes
@@ -99,3 +99,33 @@ greatest_size (forms.Multi limit) = 2 + 9 * limit
 greatest_size (forms.SpanHull class) = 18
 greatest_size (forms.NetHull class) = 7
 greatest_size (forms.Bloom p) = bloom.Encoding.size_of p
+
+-- whether a summary includes a value
+unfoldable pub is_included : AnyClass → AnySummary → Value → Bool
+is_included (forms.MinMax class) (kept.MinMax s) v = minmax.Includes.is_included s v
+is_included (forms.Multi limit) (kept.Multi s) v = multi.Includes.is_included s v
+is_included (forms.SpanHull class) (kept.SpanHull s) v = inclusion.SpanIncludes.is_included s v
+is_included (forms.NetHull class) (kept.NetHull s) v = inclusion.NetIncludes.is_included s v
+is_included (forms.Bloom p) (kept.Bloom s) v = bloom.Includes.is_included p s v
+is_included class s v = false
+
+-- the exact summary of values
+unfoldable pub exact : AnyClass → List Value → AnySummary
+exact (forms.MinMax class) values = kept.MinMax (minmax.ExactSummary.summary_of values)
+exact (forms.Multi limit) values = kept.Multi (multi.ExactSummary.exact_summary limit values)
+exact (forms.SpanHull class) values = kept.SpanHull (inclusion.SpanExact.summary_of values)
+exact (forms.NetHull class) values = kept.NetHull (inclusion.NetExact.summary_of values)
+exact (forms.Bloom p) values = kept.Bloom (bloom.ExactSummary.summary_of p values)
+
+-- a summary of one of the forms, or where its bytes go wrong
+abbrev pub kept_as : {X : Type 0} → (X → AnySummary) → Result X ℕ → Result AnySummary ℕ
+kept_as form (Ok s) = Ok (form s)
+kept_as form (Err at) = Err at
+
+-- the summary that bytes encode, or where they go wrong
+unfoldable pub read_of : AnyClass → List ℕ → Result AnySummary ℕ
+read_of (forms.MinMax class) bytes = kept_as kept.MinMax (minmax.Reading.read_of bytes)
+read_of (forms.Multi limit) bytes = kept_as kept.Multi (multi.Reading.summary_in limit bytes)
+read_of (forms.SpanHull class) bytes = kept_as kept.SpanHull (inclusion.SpanReading.read_of bytes)
+read_of (forms.NetHull class) bytes = kept_as kept.NetHull (inclusion.NetReading.read_of bytes)
+read_of (forms.Bloom p) bytes = kept_as kept.Bloom (bloom.Reading.read_of p bytes)

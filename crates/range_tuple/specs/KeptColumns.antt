@@ -1,21 +1,39 @@
--- how a column is kept
-use Rattle.std.specs.Prelude.{◌≡◌, ℕ, ◌<◌, ◌≤◌, ◌^◌, List, length}
-use Rattle.range_tuple.specs.AnyClass.{is_of, empty, bytes_of, greatest_size}
-use Rattle.range_tuple.specs.Tuples.{IndexedColumn, IsSummaryIn, parts_of, tuple_room}
+-- how columns are kept
+use Rattle.std.specs.Prelude.{◌≡◌, ℕ, ◌<◌, ◌≤◌, ◌^◌, List, length, Ok}
+use Rattle.range_tuple.specs.AnyClass.{is_of, empty, bytes_of, read_of, greatest_size}
+use Rattle.range_tuple.specs.Tuples.{IndexedColumn, IsSummaryIn, Tuple, parts_of, tuple_room}
 use Rattle.range_tuple.specs.declared.classes.AnyClass.{AnyClass}
 use Rattle.range_tuple.specs.declared.classes.AnySummary.{AnySummary}
 use Rattle.range_tuple.specs.declared.state.NullState.{NullState}
 
--- beside the column: the bytes of the summary of no value, by which it is read again, and the room that a length has
-pub record IsColumnKept (class : AnyClass) (state : NullState) (summary : AnySummary) (blank : List ℕ) : Type 0 where
+-- a summary in its state, whose length has room in 2 bytes
+pub record IsColumnKept (class : AnyClass) (state : NullState) (summary : AnySummary) : Type 0 where
   pub in_state : IsSummaryIn class state summary
-  pub empty_of_class : is_of class (empty class)
-  pub blank_bytes : blank ≡ bytes_of class (empty class)
   pub length_fits : greatest_size class < 65536
 
--- a tuple's range has 4 bytes, it has a column, its bytes fit a page, and the columns to be read into are the same
-pub record AreKept (range : ℕ) (columns spare : List IndexedColumn) : Type 0 where
+-- beside a column that is read: the bytes of the summary of no value
+pub record IsBlankOf (class : AnyClass) (blank : List ℕ) : Type 0 where
+  pub empty_of_class : is_of class (empty class)
+  pub blank_bytes : blank ≡ bytes_of class (empty class)
+
+-- a tuple's range has 4 bytes, it has a column, and its bytes fit a page
+pub record AreKept (range : ℕ) (columns : List IndexedColumn) : Type 0 where
   pub range_fits : range < 2 ^ 32
   pub some : 0 < length columns
-  pub same_index : parts_of spare ≡ parts_of columns
   pub fits : tuple_room columns ≤ 8156
+
+-- beside a tuple: columns of the same index to be read, and room for its bytes
+pub record CanBeRead (t : Tuple) (spare : List IndexedColumn) (scratch : List ℕ) : Type 0 where
+  pub same_index : parts_of spare ≡ parts_of t.columns
+  pub room : tuple_room t.columns ≤ length scratch
+
+-- what a class knows of bytes: a summary has no more than its greatest size, whose length has room in 2 bytes, and its bytes are
+-- read as it
+pub record IsReadAgain (class : AnyClass) : Type 0 where
+  pub bound : (s : AnySummary) → is_of class s → length (bytes_of class s) ≤ greatest_size class
+  pub fits : (s : AnySummary) → is_of class s → length (bytes_of class s) < 65536
+  pub again : (s : AnySummary) → is_of class s → read_of class (bytes_of class s) ≡ Ok s
+
+-- the class of a column does
+abbrev pub ReadsAgain : IndexedColumn → Type 0
+ReadsAgain column = IsReadAgain column.class

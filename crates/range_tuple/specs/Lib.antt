@@ -1,8 +1,14 @@
 pub mod AnyClass
+pub mod ClassLaws
+pub mod ExactTuples
+pub mod IncludedRows
 pub mod Keeps
 pub mod KeptColumns
 pub mod KindValues
 pub mod NullStates
+pub mod SameIndex
 pub mod TupleBytes
+pub mod TupleFaults
 pub mod TupleIncludes
+pub mod TupleReading
 pub mod Tuples

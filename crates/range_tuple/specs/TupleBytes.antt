@@ -1,30 +1,36 @@
 -- the bytes of a tuple
-use Rattle.std.specs.Prelude.{◌≡◌, ℕ, ◌+◌, ◌<◌, ◌≤◌, Bool, true, false, if◌then◌else◌, List, [], ◌∷◌, ◌++◌, length, drop}
+use Rattle.std.specs.Prelude.{ℕ, ◌+◌, Bool, if◌then◌else◌, List, [], ◌∷◌, ◌++◌, length, map}
 use Rattle.std.specs.Int.{bytes_high_first}
 use Rattle.std.specs.List.{flat_map}
 use Rattle.range_tuple.specs.AnyClass.{bytes_of}
 use Rattle.range_tuple.specs.NullStates.{number_of, has_values}
 use Rattle.range_tuple.specs.Tuples.{IndexedColumn, Tuple}
-use Rattle.range_tuple.specs.declared.state.NullState.{NullState}
 
 -- the summary where values were added, else none
 unfoldable pub summary_bytes : IndexedColumn → List ℕ
 summary_bytes column = if has_values column.state then bytes_of column.class column.summary else []
 
--- 1 byte of state, 2 of the summary's length, and the summary
-unfoldable pub column_bytes : IndexedColumn → List ℕ
-column_bytes column = number_of column.state ∷ (bytes_high_first 2 (length (summary_bytes column)) ++ summary_bytes column)
+-- the number of the state
+abbrev pub state_number : IndexedColumn → ℕ
+state_number column = number_of column.state
 
--- bytes that begin with a state, and the length of a summary that stands behind: 0 exactly where there are no values
-pub record HasHeader (state : NullState) (size : ℕ) (bytes : List ℕ) : Type 0 where
-  pub front : bytes ≡ number_of state ∷ (bytes_high_first 2 size ++ drop 3 bytes)
-  pub of_values : has_values state ≡ true → 0 < size
-  pub of_none : has_values state ≡ false → size ≡ 0
-  pub within : 3 + size ≤ length bytes
+-- 2 bytes of the summary's length, 0 where there is none
+unfoldable pub length_bytes : IndexedColumn → List ℕ
+length_bytes column = bytes_high_first 2 (length (summary_bytes column))
 
--- one column after the other
-abbrev pub columns_bytes : List IndexedColumn → List ℕ
-columns_bytes columns = flat_map column_bytes columns
+-- 1 byte a column
+abbrev pub states_bytes : List IndexedColumn → List ℕ
+states_bytes columns = map state_number columns
+
+abbrev pub lengths_bytes : List IndexedColumn → List ℕ
+lengths_bytes columns = flat_map length_bytes columns
+
+abbrev pub summaries_bytes : List IndexedColumn → List ℕ
+summaries_bytes columns = flat_map summary_bytes columns
+
+-- the states of all columns, then the lengths of all, then the summaries of all
+unfoldable pub columns_bytes : List IndexedColumn → List ℕ
+columns_bytes columns = states_bytes columns ++ (lengths_bytes columns ++ summaries_bytes columns)
 
 -- bit 0 placeholder, bit 1 empty
 abbrev pub flags_of : Bool → Bool → ℕ

@@ -48,6 +48,14 @@ empty_column columns part = record {
 abbrev pub empty_placeholder : ℕ → List TableColumn → List Part → Tuple
 empty_placeholder range columns parts = tuple_of range true (map (empty_column columns) parts)
 
+-- the same column of another range, in which nothing was added
+abbrev pub emptied : IndexedColumn → IndexedColumn
+emptied column = record column { state = Nothing; summary = empty column.class }
+
+-- the empty placeholder of another range of the index
+abbrev pub restarted : ℕ → Tuple → Tuple
+restarted range t = tuple_of range true (map emptied t.columns)
+
 -- a null sets the state alone; any other value is added to the summary too
 abbrev pub with_value : IndexedColumn → Value → IndexedColumn
 with_value column Null = record column { state = state_of true (has_values column.state) }

@@ -1,6 +1,7 @@
-//! The conditions asked of one column.
+//! The conditions asked of one column. Where they stand in a row among the conditions of the scan they are asked there; only
+//! where others stand between them they are gathered first.
 
-ghost use Rattle.std.specs.Prelude.{◌≡◌, ◌<◌, ◌≤◌, ◌==◌, ◌&&◌, [], ◌∷◌, ◌++◌, length};
+ghost use Rattle.std.specs.Prelude.{◌≡◌, ◌<◌, ◌≤◌, ◌==◌, ◌&&◌, [], ◌∷◌, ◌++◌, length, take, drop, slice_range, IfSome};
 ghost use Rattle.block_model.specs.declared.limits.TheConstants.{MAX_CONDITIONS};
 ghost use Rattle.opclass_api.specs.Conditions.{compares};
 ghost use Rattle.range_tuple.specs.Keeps.{comparisons};
@@ -70,6 +71,48 @@ impl Asked {
     {
         &self.slots[..self.len]
     }
+}
+
+/// Where all comparisons on a column stand in a row among the conditions: the place of the first, and that behind the last.
+/// None where others stand between them.
+pub(crate) fn in_a_row(place: u8, conds: &[Cond]) -> Option<(usize, usize)>
+    ensures in_order { IfSome result (λ row. row.0 ≤ row.1) }
+    ensures within { IfSome result (λ row. row.1 ≤ length conds.now) }
+    ensures comparisons { IfSome result (λ row. slice_range conds.now row.0 row.1 ≡ comparisons place conds.now) }
+{
+    let first = others_before(place, conds);
+    let end = first + how_many_in_a_row(place, &conds[first..]);
+    let behind = &conds[end..];
+    if others_before(place, behind) < behind.len() {
+        return None;
+    }
+    Some((first, end))
+}
+
+/// How many conditions stand before the first comparison on the column.
+fn others_before(place: u8, conds: &[Cond]) -> usize
+    ensures within { result ≤ length conds.now }
+    ensures others { comparisons place (take result conds.now) ≡ [] }
+{
+    'conds: for at in 0..conds.len() {
+        if is_comparison_on(place, &conds[at]) {
+            return at;
+        }
+    }
+    conds.len()
+}
+
+/// How many of the first conditions are comparisons on the column.
+fn how_many_in_a_row(place: u8, conds: &[Cond]) -> usize
+    ensures within { result ≤ length conds.now }
+    ensures comparisons { comparisons place (take result conds.now) ≡ take result conds.now }
+{
+    'conds: for at in 0..conds.len() {
+        if !is_comparison_on(place, &conds[at]) {
+            return at;
+        }
+    }
+    conds.len()
 }
 
 fn is_comparison_on(place: u8, cond: &Cond) -> bool

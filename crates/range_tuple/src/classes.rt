@@ -8,7 +8,8 @@ ghost use Rattle.block_model.specs.ClassLimits.{takes_kind, has_lawful_parameter
 ghost use Rattle.block_model.specs.TupleSize.{summary_size};
 ghost use Rattle.range_tuple.specs.KindValues.{IsOfKind};
 ghost use Rattle.range_tuple.specs.TupleIncludes.{TakesValue};
-ghost use Rattle.range_tuple.specs.AnyClass.{class_of, takes, is_of, includes, empty, add, united, consistent, bytes_of, greatest_size};
+ghost use Rattle.range_tuple.specs.AnyClass.{class_of, takes, is_of, includes, is_included, empty, add, united, exact, consistent, bytes_of, read_of, greatest_size};
+ghost use Rattle.range_tuple.specs.ClassLaws.{tested, added_in_order};
 
 use block_model::{Class, Cond, Kind, NoMemory, Value};
 use opclass_api::{Malformed, OpClass};
@@ -79,17 +80,27 @@ impl OpClass for AnyClass {
 
     ghost includes = { includes };
 
+    ghost is_included = { is_included };
+
     ghost empty = { empty };
 
     ghost add = { add };
 
     ghost union = { united };
 
+    ghost exact = { exact };
+
     ghost consistent = { consistent };
 
     ghost bytes_of = { bytes_of };
 
+    ghost read_of = { read_of };
+
     ghost greatest_size = { greatest_size };
+
+    ghost tested = { tested };
+
+    ghost added_in_order = { added_in_order };
 
     fn empty(&self, alloc: Global) -> Result<AnySummary, NoMemory> {
         match self {

@@ -1,40 +1,40 @@
 //! An indexed column of a tuple.
 
-ghost use Rattle.std.specs.Prelude.{◌≡◌, ◌≢◌, ◌<◌, ◌≤◌, ◌+◌, ◌++◌, true, false, List, [], length, drop, IfOk, IsOk, Ok, ℕ, IfErr, OnErr, OnOk};
+ghost use Rattle.std.specs.Prelude.{◌≡◌, ◌≢◌, ◌<◌, ◌≤◌, ◌++◌, ◌==◌, true, false, List, length, drop, IfOk, Ok, Err, IfErr, OnOk, MatchResult};
 ghost use Rattle.block_model.specs.declared.limits.TheConstants.{MAX_CONDITIONS};
-ghost use Rattle.std.specs.List.{list_all};
+ghost use Rattle.std.specs.List.{list_all, list_any};
 ghost use Rattle.block_model.specs.declared.value.Value.{Value};
 ghost use Rattle.block_model.specs.RowMatches.{column_matches};
-ghost use Rattle.range_tuple.specs.AnyClass.{takes, is_of, includes, empty, add, bytes_of, greatest_size};
-ghost use Rattle.range_tuple.specs.Keeps.{column_allows, allows_cond, allows_op};
+ghost use Rattle.opclass_api.specs.Conditions.{meets_all};
+ghost use Rattle.range_tuple.specs.AnyClass.{takes, is_of, includes, empty, add, consistent, bytes_of, read_of, greatest_size};
+ghost use Rattle.range_tuple.specs.Keeps.{column_allows, allows_cond, allows_op, comparisons};
+ghost use Rattle.range_tuple.specs.KeptColumns.{IsBlankOf, IsReadAgain};
 ghost use Rattle.range_tuple.specs.NullStates.{state_of, has_nulls, has_values};
-ghost use Rattle.range_tuple.specs.TupleBytes.{column_bytes, summary_bytes, HasHeader};
+ghost use Rattle.range_tuple.specs.TupleBytes.{state_number, summary_bytes};
 ghost use Rattle.range_tuple.specs.TupleIncludes.{IncludesValue, ColumnIncludes, ColumnTakes, TakesValue};
 ghost use Rattle.range_tuple.specs.declared.classes.AnySummary.{AnySummary};
 ghost use Rattle.range_tuple.specs.declared.state.NullState.{NullState};
-ghost use Rattle.range_tuple.specs.Tuples.{IndexedColumn, IsColumn, part_of, with_value, with_row_at, united_column, column_room, has_nothing};
+ghost use Rattle.range_tuple.specs.Tuples.{IndexedColumn, IsColumn, emptied, part_of, with_value, with_row_at, united_column, column_room, has_nothing};
 
-use crate::asked::Asked;
+use crate::asked::{Asked, in_a_row};
 use crate::classes::{AnyClass, AnySummary};
 use crate::state::NullState;
 use block_model::{Cond, NoMemory, Op, Value};
-use byte_fields::{get_u16, put_u16};
 use opclass_api::{Malformed, OpClass};
 use std::alloc::Global;
 use std::marker::Model;
 
-/// How many bytes stand before a column's summary: its state and the summary's length.
-pub(crate) const HEADER: usize = 3;
+/// How many bytes stand before the summaries for each column: its state and its summary's length.
+pub(crate) const COLUMN_HEADER: usize = 3;
 
 /// An indexed column: its number in the table, its class, which of nulls and values rows had there, and the summary of
-/// the values. `blank` has the bytes of the summary of no value, by which it is read again.
+/// the values.
 #[derive(Debug, Drop)]
 pub(crate) struct TupleColumn {
     place: u8,
     class: AnyClass,
     state: NullState,
     summary: AnySummary,
-    blank: Vec<u8>,
 }
 
 impl Model for TupleColumn {
@@ -46,7 +46,7 @@ impl Model for TupleColumn {
 
     ghost view = { λ a. record { place = a.place; class = a.class; state = a.state; summary = a.summary } };
 
-    ghost invariant = { λ a. IsColumnKept a.class a.state a.summary a.blank.items };
+    ghost invariant = { λ a. IsColumnKept a.class a.state a.summary };
 }
 
 impl TupleColumn {
@@ -56,22 +56,44 @@ impl TupleColumn {
         ensures { IfOk result (λ column. column ≡ record { place = place; class = class; state = NullState.Nothing; summary = empty class }) }
     {
         let summary = class.empty(alloc)?;
-        let blank = encoded(alloc, &class, &summary)?;
         Ok(TupleColumn {
             place,
             class,
             state: NullState::Nothing,
             summary,
-            blank,
         })
     }
 
-    /// Does nothing; tells its caller that every column is one. The call of the class brings what the class knows of sizes.
+    /// The same column of another range, in which nothing was added. Takes the memory of its summary.
+    pub(crate) fn another(&self, alloc: Global) -> Result<TupleColumn, NoMemory>
+        ensures { IfOk result (λ column. column ≡ emptied self.now) }
+    {
+        TupleColumn::new(alloc, self.place, self.class)
+    }
+
+    /// The bytes of the summary. Takes their memory, and at most that of the greatest summary.
+    pub(crate) fn encoded(&self, alloc: Global) -> Result<Vec<u8>, NoMemory>
+        ensures { IfOk result (λ bytes. bytes.items ≡ bytes_of self.now.class self.now.summary) }
+    {
+        let mut bytes = vec![in alloc; 0u8; self.class.greatest_size()]?;
+        let size = self.class.encode(&self.summary, &mut bytes);
+        bytes.truncate(size);
+        Ok(bytes)
+    }
+
+    /// Does nothing; tells its caller that every column is one, and what its class knows of bytes.
     pub(crate) fn known(&self)
         ensures column { IsColumn self.now }
-        ensures fits { (s : AnySummary) → is_of self.now.class s → length (bytes_of self.now.class s) < 65536 }
+        ensures class { IsReadAgain self.now.class }
     {
         let _ = self.class.greatest_size();
+    }
+
+    /// The number of its state.
+    pub(crate) fn state_number(&self) -> u8
+        ensures { result ≡ state_number self.now }
+    {
+        self.state.number()
     }
 
     /// The number of the column in the table.
@@ -161,16 +183,40 @@ impl TupleColumn {
         grown || self.state != old
     }
 
-    /// Whether the column allows each condition on it. One that doesn't includes no row that matches them.
+    /// Whether the column allows each condition on it. One that doesn't includes no row that matches them. Where none is on
+    /// the column, the class isn't asked.
     pub(crate) fn allows(&self, conds: &[Cond]) -> bool
         requires { length conds.now ≤ MAX_CONDITIONS }
         ensures answer { result ≡ column_allows conds.now self.now }
         ensures misses_no_match { result ≡ false → (row : List Value) → ColumnIncludes row self.now → list_all (column_matches row) conds.now ≡ false }
     {
-        let asked = Asked::of(self.place, conds);
-        let may_match = self.state.has_values()
-            && self.class.consistent(&self.summary, asked.as_slice());
+        if !self.is_asked(conds) {
+            return true;
+        }
+        let may_match = self.state.has_values() && self.may_hold(conds);
         self.allow_each(may_match, conds)
+    }
+
+    /// Whether a condition is on the column.
+    fn is_asked(&self, conds: &[Cond]) -> bool
+        ensures { result ≡ list_any (λ cond. cond.column == self.now.place) conds.now }
+    {
+        conds.iter().any(|cond| cond.column == self.place)
+    }
+
+    /// Whether the summary may include a value that meets each comparison on the column.
+    fn may_hold(&self, conds: &[Cond]) -> bool
+        requires { length conds.now ≤ MAX_CONDITIONS }
+        ensures answer { result ≡ consistent self.now.class self.now.summary (comparisons self.now.place conds.now) }
+        ensures misses_no_match { result ≡ false → (v : Value) → includes self.now.class self.now.summary v → meets_all (comparisons self.now.place conds.now) v ≡ false }
+    {
+        match in_a_row(self.place, conds) {
+            Some((first, end)) => self.class.consistent(&self.summary, &conds[first..end]),
+            None => {
+                let asked = Asked::of(self.place, conds);
+                self.class.consistent(&self.summary, asked.as_slice())
+            }
+        }
     }
 
     fn allow_each(&self, may_match: bool, conds: &[Cond]) -> bool
@@ -193,23 +239,11 @@ impl TupleColumn {
     pub(crate) fn room(&self) -> usize
         ensures { result ≡ column_room self.now }
     {
-        HEADER + self.class.greatest_size()
+        COLUMN_HEADER + self.class.greatest_size()
     }
 
-    /// Writes the bytes of the column to the front of `out`, and answers how many they are.
-    pub(crate) fn write(&self, out: &mut [u8]) -> usize
-        requires { column_room self.now ≤ length out.old }
-        ensures size { result ≡ length (column_bytes self.now) }
-        ensures within { result ≤ column_room self.now }
-        ensures written { out.new ≡ column_bytes self.now ++ drop result out.old }
-    {
-        let size = self.write_summary(&mut out[HEADER..]);
-        out[0] = self.state.number();
-        put_u16(out, 1, size);
-        HEADER + usize::from(size)
-    }
-
-    fn write_summary(&self, out: &mut [u8]) -> u16
+    /// Writes the bytes of the summary to the front of `out`, none where there are no values, and answers how many they are.
+    pub(crate) fn write_summary(&self, out: &mut [u8]) -> u16
         requires { greatest_size self.now.class ≤ length out.old }
         ensures size { result ≡ length (summary_bytes self.now) }
         ensures within { result ≤ greatest_size self.now.class }
@@ -221,87 +255,29 @@ impl TupleColumn {
         self.class.encode(&self.summary, out) as u16
     }
 
-    /// Makes the column the one whose bytes are the first of these, and answers how many they are. `Err` exactly where
-    /// the bytes begin with none of this place and class: the column is unchanged then.
-    pub(crate) fn read(&mut self, bytes: &[u8]) -> Result<usize, Malformed>
-        ensures same_part { part_of self.new ≡ part_of self.old }
-        ensures found { IfOk result (λ size. bytes.now ≡ column_bytes self.new ++ drop size bytes.now) }
-        ensures size { IfOk result (λ size. size ≡ length (column_bytes self.new)) }
-        ensures again { (column : IndexedColumn) (rest : List ℕ) → IsColumn column → part_of column ≡ part_of self.old → bytes.now ≡ column_bytes column ++ rest → IsOk result × (self.new ≡ column) }
-        ensures place { IfErr result (λ fault. fault.at ≤ length bytes.now) }
-        ensures unchanged { OnErr result (self.new ≡ self.old) }
-    {
-        self.known();
-        let (state, size) = header_in(bytes)?;
-        if state.has_values() {
-            self.read_values(state, &bytes[HEADER..HEADER + size])?;
-        } else {
-            self.clear(state);
-        }
-        Ok(HEADER + size)
-    }
-
-    /// Takes the summary of no value, in a state without values.
-    fn clear(&mut self, state: NullState)
-        requires { has_values state ≡ false }
+    /// Takes the summary of no value, whose bytes are given, in a state without values.
+    pub(crate) fn clear(&mut self, state: NullState, blank: &[u8])
+        requires no_values { has_values state ≡ false }
+        requires blank { IsBlankOf self.old.class blank.now }
         ensures { self.new ≡ record self.old { state = state; summary = empty self.old.class } }
     {
         // These bytes are a summary's, so they are always read.
-        let _ = self.class.decode(&self.blank, &mut self.summary);
+        let _ = self.class.decode(blank, &mut self.summary);
         self.state = state;
     }
 
-    /// Takes the summary that the bytes encode, in a state with values. A fault's place counts from the column's front.
-    fn read_values(&mut self, state: NullState, bytes: &[u8]) -> Result<(), Malformed>
+    /// Takes the summary that the bytes encode, in a state with values.
+    pub(crate) fn read_values(&mut self, state: NullState, bytes: &[u8]) -> Result<(), Malformed>
         requires values { has_values state ≡ true }
         requires some { 0 < length bytes.now }
         ensures same_part { part_of self.new ≡ part_of self.old }
         ensures state { OnOk result (self.new.state ≡ state) }
         ensures found { OnOk result (bytes.now ≡ bytes_of self.new.class self.new.summary) }
-        ensures again { (s : AnySummary) → is_of self.old.class s → bytes.now ≡ bytes_of self.old.class s → IsOk result × (self.new.summary ≡ s) }
-        ensures place { IfErr result (λ fault. fault.at ≤ 3 + length bytes.now) }
-        ensures unchanged { OnErr result (self.new ≡ self.old) }
+        ensures read { MatchResult result (λ ok. read_of self.old.class bytes.now ≡ Ok self.new.summary) (λ fault. read_of self.old.class bytes.now ≡ Err fault.at) }
+        ensures within { IfErr result (λ fault. fault.at ≤ length bytes.now) }
     {
-        if let Err(fault) = self.class.decode(bytes, &mut self.summary) {
-            return Err(Malformed {
-                at: HEADER + fault.at.min(bytes.len()),
-            });
-        }
+        self.class.decode(bytes, &mut self.summary)?;
         self.state = state;
         Ok(())
     }
-}
-
-/// The bytes of a summary. Takes their memory, and at most that of the greatest summary.
-fn encoded(alloc: Global, class: &AnyClass, summary: &AnySummary) -> Result<Vec<u8>, NoMemory>
-    requires { is_of class.now summary.now }
-    ensures { IfOk result (λ bytes. bytes.items ≡ bytes_of class.now summary.now) }
-{
-    let mut bytes = vec![in alloc; 0u8; class.greatest_size()]?;
-    let size = class.encode(summary, &mut bytes);
-    bytes.truncate(size);
-    Ok(bytes)
-}
-
-/// The state of the column whose bytes are the first of these, and the length of its summary, behind which they end at
-/// the earliest. `Err` exactly where they begin with none.
-fn header_in(bytes: &[u8]) -> Result<(NullState, usize), Malformed>
-    ensures found { IfOk result (λ header. HasHeader header.0 header.1 bytes.now) }
-    ensures again { (state : NullState) (size : ℕ) → size < 65536 → HasHeader state size bytes.now → result ≡ Ok (state, size) }
-    ensures place { IfErr result (λ fault. fault.at ≤ length bytes.now) }
-{
-    if bytes.len() < HEADER {
-        return Err(Malformed { at: bytes.len() });
-    }
-    let Some(state) = NullState::from_number(bytes[0]) else {
-        return Err(Malformed { at: 0 });
-    };
-    let size = usize::from(get_u16(bytes, 1));
-    if state.has_values() != (0 < size) {
-        return Err(Malformed { at: 1 });
-    }
-    if bytes.len() < HEADER + size {
-        return Err(Malformed { at: bytes.len() });
-    }
-    Ok((state, size))
 }

@@ -1,6 +1,6 @@
 //! The columns of a tuple, one after the other.
 
-ghost use Rattle.std.specs.Prelude.{◌≡◌, ◌≢◌, ◌<◌, ◌≤◌, ◌+◌, ◌++◌, true, false, All, List, length, map, drop, sum_by, IfOk, IsOk, OnOk, IfErr};
+ghost use Rattle.std.specs.Prelude.{◌≡◌, ◌≢◌, ◌<◌, ◌≤◌, ◌+◌, ◌*◌, ◌++◌, true, false, All, List, length, map, drop, sum_by, Ok, Err, IfOk, OnOk, IfErr, MatchResult};
 ghost use Rattle.block_model.specs.declared.limits.TheConstants.{MAX_CONDITIONS};
 ghost use Rattle.std.specs.List.{list_all};
 ghost use Rattle.block_model.specs.declared.value.Value.{Value};
@@ -8,15 +8,21 @@ ghost use Rattle.block_model.specs.IndexedColumns.{columns_of, kind_at};
 ghost use Rattle.block_model.specs.ClassLimits.{class_is_lawful};
 ghost use Rattle.block_model.specs.RowMatches.{column_matches};
 ghost use Rattle.block_model.specs.TupleSize.{part_size};
-ghost use Rattle.range_tuple.specs.AnyClass.{class_of};
 ghost use Rattle.range_tuple.specs.Keeps.{column_allows};
-ghost use Rattle.range_tuple.specs.TupleBytes.{columns_bytes};
+ghost use Rattle.range_tuple.specs.KeptColumns.{ReadsAgain};
+ghost use Rattle.range_tuple.specs.TupleBytes.{columns_bytes, lengths_bytes, states_bytes, summaries_bytes};
+ghost use Rattle.range_tuple.specs.TupleFaults.{head_fault};
+ghost use Rattle.range_tuple.specs.TupleReading.{columns_in};
 ghost use Rattle.range_tuple.specs.TupleIncludes.{ColumnIncludes, ColumnTakes};
-ghost use Rattle.range_tuple.specs.Tuples.{IndexedColumn, IsColumn, empty_column, has_nothing, with_row_at, united_columns, parts_of, column_room};
+ghost use Rattle.range_tuple.specs.Tuples.{IndexedColumn, IsColumn, empty_column, emptied, has_nothing, with_row_at, united_columns, parts_of, column_room};
 
 use crate::classes::AnyClass;
-use crate::column::TupleColumn;
-use block_model::{Column, Cond, Index, Kind, NoMemory, Part, Schema, Value, columns_of, kind_at};
+use crate::column::{COLUMN_HEADER, TupleColumn};
+use crate::head::HEADER;
+use crate::spare::SpareColumn;
+use crate::state::NullState;
+use block_model::{Column, Cond, Index, NoMemory, Part, Schema, Value, columns_of, kind_at};
+use byte_fields::{get_u16, put_u16};
 use opclass_api::Malformed;
 use std::alloc::Global;
 
@@ -31,7 +37,7 @@ pub(crate) fn new_columns(
     ensures columns { IfOk result (λ columns. columns.items ≡ map (empty_column (columns_of schema.now index.now)) index.now.parts) }
     ensures rooms { IfOk result (λ columns. map column_room columns.items ≡ map (part_size (columns_of schema.now index.now)) index.now.parts) }
 {
-    let mut columns = Vec::new(alloc);
+    let mut columns = Vec::with_capacity(alloc, index.parts.len())?;
     'parts: for part in index.parts.as_slice() {
         let column = new_column(alloc, part, columns_of(schema, index))?;
         columns.push(column)?;
@@ -49,9 +55,32 @@ fn new_column(alloc: Global, part: &Part, columns: &[Column]) -> Result<TupleCol
     TupleColumn::new(alloc, part.column, class)
 }
 
+/// Columns to be read in place of these. Takes the memory of their summaries.
+pub(crate) fn new_spare(
+    alloc: Global,
+    columns: &[TupleColumn],
+) -> Result<Vec<SpareColumn>, NoMemory>
+    ensures { IfOk result (λ spare. spare.items ≡ map emptied columns.now) }
+{
+    let mut spare = Vec::with_capacity(alloc, columns.len())?;
+    'columns: for column in columns {
+        spare.push(SpareColumn::of(alloc, column)?)?;
+    }
+    Ok(spare)
+}
+
 /// Every column is one.
 pub(crate) fn known(columns: &[TupleColumn])
     ensures { All IsColumn columns.now }
+{
+    'columns: for column in columns {
+        column.known();
+    }
+}
+
+/// Does nothing; tells its caller what each class knows of bytes.
+pub(crate) fn known_classes(columns: &[TupleColumn])
+    ensures { All ReadsAgain columns.now }
 {
     'columns: for column in columns {
         column.known();
@@ -132,30 +161,85 @@ pub(crate) fn write_each(columns: &[TupleColumn], out: &mut [u8]) -> usize
     ensures within { result ≤ sum_by column_room columns.now }
     ensures written { out.new ≡ columns_bytes columns.now ++ drop result out.old }
 {
+    let count = columns.len();
+    let (states, rest) = out.split_at_mut(count);
+    let (lengths, summaries) = rest.split_at_mut(2 * count);
+    write_states(columns, states);
+    COLUMN_HEADER * count + write_summaries(columns, lengths, summaries)
+}
+
+/// Writes the states, one byte each.
+fn write_states(columns: &[TupleColumn], out: &mut [u8])
+    requires { length out.old ≡ length columns.now }
+    ensures { out.new ≡ states_bytes columns.now }
+{
+    'columns: for i in 0..columns.len() {
+        out[i] = columns[i].state_number();
+    }
+}
+
+/// Writes the lengths of the summaries, two bytes each, and to the front of `summaries` the summaries themselves. Answers how
+/// many bytes these are.
+fn write_summaries(columns: &[TupleColumn], lengths: &mut [u8], summaries: &mut [u8]) -> usize
+    requires lengths { length lengths.old ≡ 2 * length columns.now }
+    requires room { sum_by column_room columns.now ≤ 3 * length columns.now + length summaries.old }
+    ensures size { result ≡ length (summaries_bytes columns.now) }
+    ensures within { 3 * length columns.now + result ≤ sum_by column_room columns.now }
+    ensures lengths { lengths.new ≡ lengths_bytes columns.now }
+    ensures summaries { summaries.new ≡ summaries_bytes columns.now ++ drop result summaries.old }
+{
     let mut at = 0;
-    'columns: for column in columns {
-        at += column.write(&mut out[at..]);
+    'columns: for i in 0..columns.len() {
+        let size = columns[i].write_summary(&mut summaries[at..]);
+        put_u16(lengths, 2 * i, size);
+        at += usize::from(size);
     }
     at
 }
 
-/// Makes the columns those that the bytes encode. `Err` exactly where they encode none of this index.
-pub(crate) fn read_each(columns: &mut [TupleColumn], bytes: &[u8]) -> Result<(), Malformed>
-    ensures same_index { parts_of columns.new ≡ parts_of columns.old }
-    ensures found { OnOk result (bytes.now ≡ columns_bytes columns.new) }
-    ensures again { (cs : List IndexedColumn) → All IsColumn cs → parts_of cs ≡ parts_of columns.old → bytes.now ≡ columns_bytes cs → IsOk result × (columns.new ≡ cs) }
-    ensures place { IfErr result (λ fault. fault.at ≤ length bytes.now) }
+/// Makes the columns those of the tuple that the bytes encode, in which the fields before the summaries are in form. `Err`
+/// exactly where the bytes encode none of this index.
+pub(crate) fn read_each(spare: &mut [SpareColumn], bytes: &[u8]) -> Result<(), Malformed>
+    requires { head_fault (length spare.old) bytes.now ≡ None }
+    ensures same_index { parts_of spare.new ≡ parts_of spare.old }
+    ensures found { OnOk result (drop 5 bytes.now ≡ columns_bytes spare.new) }
+    ensures read { MatchResult result (λ ok. columns_in (length spare.old) bytes.now (parts_of spare.old) 0 (5 + 3 * length spare.old) ≡ Ok spare.new) (λ fault. columns_in (length spare.old) bytes.now (parts_of spare.old) 0 (5 + 3 * length spare.old) ≡ Err fault.at) }
+    ensures within { IfErr result (λ fault. fault.at ≤ length bytes.now) }
 {
-    let mut at = 0;
-    'columns: for i in 0..columns.len() {
-        let column = &mut columns[i];
-        match column.read(&bytes[at..]) {
-            Ok(size) => at += size,
-            Err(fault) => return Err(Malformed { at: at + fault.at }),
+    let count = spare.len();
+    let mut at = HEADER + COLUMN_HEADER * count;
+    'columns: for i in 0..count {
+        let state = NullState::of_number(bytes[HEADER + i]);
+        let size = usize::from(get_u16(bytes, HEADER + count + 2 * i));
+        let column = &mut spare[i];
+        if let Err(fault) = column.read(state, size, &bytes[at..]) {
+            return Err(Malformed { at: at + fault.at });
         }
+        at += size;
     }
     if at < bytes.len() {
         return Err(Malformed { at });
     }
     Ok(())
+}
+
+/// Puts the columns that were read in place of a tuple's, which are read next.
+pub(crate) fn exchange_each(columns: &mut [TupleColumn], spare: &mut [SpareColumn])
+    requires { parts_of columns.old ≡ parts_of spare.old }
+    ensures taken { columns.new ≡ spare.old }
+    ensures given { spare.new ≡ columns.old }
+{
+    'columns: for i in 0..columns.len() {
+        spare[i].exchange(&mut columns[i]);
+    }
+}
+
+/// Makes each column one in which nothing was added.
+pub(crate) fn empty_out_each(columns: &mut [TupleColumn], spare: &[SpareColumn])
+    requires { parts_of columns.old ≡ parts_of spare.now }
+    ensures { columns.new ≡ map emptied columns.old }
+{
+    'columns: for i in 0..columns.len() {
+        spare[i].empty_out(&mut columns[i]);
+    }
 }

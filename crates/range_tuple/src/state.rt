@@ -1,6 +1,6 @@
 //! Which of nulls and values rows had in a column.
 
-ghost use Rattle.std.specs.Prelude.{◌≡◌, ◌<◌, Some, IfSome, IfNone};
+ghost use Rattle.std.specs.Prelude.{◌≡◌, ◌≤◌};
 ghost use Rattle.range_tuple.specs.NullStates.{number_of, state_of, has_nulls, has_values};
 
 /// What was added in a column: nothing, nulls alone, values without nulls, or both.
@@ -51,17 +51,16 @@ impl NullState {
         }
     }
 
-    /// The state of that number. None exactly where there is none, from 4 on.
-    pub(crate) fn from_number(number: u8) -> Option<NullState>
-        ensures found { IfSome result (λ state. number_of state ≡ number) }
-        ensures all { IfNone result (3 < number) }
+    /// The state of a number from 0 to 3.
+    pub(crate) fn of_number(number: u8) -> NullState
+        requires { number ≤ 3 }
+        ensures { number_of result ≡ number }
     {
         match number {
-            0 => Some(NullState::Nothing),
-            1 => Some(NullState::Nulls),
-            2 => Some(NullState::Values),
-            3 => Some(NullState::Both),
-            _ => None,
+            0 => NullState::Nothing,
+            1 => NullState::Nulls,
+            2 => NullState::Values,
+            _ => NullState::Both,
         }
     }
 }

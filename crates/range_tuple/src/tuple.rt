@@ -1,6 +1,6 @@
 //! Range tuples.
 
-ghost use Rattle.std.specs.Prelude.{◌≡◌, ◌≢◌, ◌<◌, ◌≤◌, ◌++◌, true, false, List, length, drop, IfOk, IfSome, IfNone, IsOk, OnOk, OnErr, IfErr};
+ghost use Rattle.std.specs.Prelude.{◌≡◌, ◌≢◌, ◌<◌, ◌≤◌, ◌++◌, true, false, List, length, drop, Some, Ok, Err, IfOk, IsOk, OnOk, OnErr, IfErr, MatchResult};
 ghost use Rattle.block_model.specs.declared.limits.TheConstants.{MAX_CONDITIONS};
 ghost use Rattle.std.specs.List.{list_all};
 ghost use Rattle.block_model.specs.declared.value.Value.{Value};
@@ -9,46 +9,42 @@ ghost use Rattle.block_model.specs.ClassLimits.{class_is_lawful};
 ghost use Rattle.block_model.specs.RowMatches.{column_matches};
 ghost use Rattle.block_model.specs.TupleSize.{tuple_size};
 ghost use Rattle.range_tuple.specs.Keeps.{keeps};
-ghost use Rattle.range_tuple.specs.TupleBytes.{tuple_bytes, flags_of};
+ghost use Rattle.range_tuple.specs.TupleBytes.{tuple_bytes};
 ghost use Rattle.range_tuple.specs.TupleIncludes.{TupleIncludes, TupleTakesRow};
-ghost use Rattle.range_tuple.specs.Tuples.{Tuple, IsTuple, empty_placeholder, with_row, united_tuple, parts_of, tuple_room};
+ghost use Rattle.range_tuple.specs.TupleReading.{read_of, says_placeholder, tuple_in};
+ghost use Rattle.range_tuple.specs.Tuples.{Tuple, IsTuple, empty_placeholder, restarted, with_row, united_tuple, parts_of, tuple_room};
 
-use crate::column::TupleColumn;
-use crate::columns::{
-    add_to_each, all_allow, have_nothing, known, new_columns, read_each, room_of, unite_each,
-    write_each,
-};
+use crate::columns::read_each;
+use crate::head::head_fault;
+use crate::listed::ListedTuple;
+use crate::spare::SpareColumn;
 use block_model::{Cond, Index, NoMemory, Schema, Value};
-use byte_fields::{get_u32, put_u32};
+use byte_fields::get_u32;
 use opclass_api::Malformed;
 use std::alloc::Global;
 use std::marker::Model;
-use std::mem;
-
-/// How many bytes stand before the columns: the range's number, and the flags.
-const HEADER: usize = 5;
 
 /// What an index keeps of a range of blocks ("BRIN Indexes"). Seen as the number of the range, whether it is a placeholder,
 /// whether no row was added, and the indexed columns: of each its number in the table, its class, which of nulls and
-/// values rows had there, and the summary of the values. `spare` has the same columns, to be read into.
+/// values rows had there, and the summary of the values. It is made once an index and then read from the bytes of one
+/// tuple after the other: `spare` has the columns that are read, `scratch` room for the bytes of a tuple.
 #[derive(Debug, Drop)]
 pub struct RangeTuple {
-    range: u32,
-    placeholder: bool,
-    columns: Vec<TupleColumn>,
-    spare: Vec<TupleColumn>,
+    tuple: ListedTuple,
+    spare: Vec<SpareColumn>,
+    scratch: Vec<u8>,
 }
 
 impl Model for RangeTuple {
-    ghost use Rattle.range_tuple.specs.Tuples.{Tuple, tuple_of};
+    ghost use Rattle.range_tuple.specs.Tuples.{Tuple};
 
     ghost Value = { Tuple };
 
-    ghost use Rattle.range_tuple.specs.KeptColumns.{AreKept};
+    ghost use Rattle.range_tuple.specs.KeptColumns.{CanBeRead};
 
-    ghost view = { λ a. tuple_of a.range a.placeholder a.columns.items };
+    ghost view = { λ a. a.tuple };
 
-    ghost invariant = { λ a. AreKept a.range a.columns.items a.spare.items };
+    ghost invariant = { λ a. CanBeRead a.tuple a.spare.items a.scratch.items };
 }
 
 impl RangeTuple {
@@ -66,24 +62,56 @@ impl RangeTuple {
         ensures placeholder { IfOk result (λ t. t ≡ empty_placeholder range (columns_of schema.now index.now) index.now.parts) }
         ensures room { IfOk result (λ t. tuple_room t.columns ≡ tuple_size (columns_of schema.now index.now) index.now.parts) }
     {
-        let columns = new_columns(alloc, index, schema)?;
-        let spare = new_columns(alloc, index, schema)?;
+        let tuple = ListedTuple::new(alloc, index, schema, range)?;
+        let spare = tuple.new_spare(alloc)?;
+        let scratch = vec![in alloc; 0u8; tuple.greatest_size()]?;
         Ok(RangeTuple {
-            range,
-            placeholder: true,
-            columns,
+            tuple,
             spare,
+            scratch,
         })
     }
 
-    /// Every tuple is one.
+    /// Does nothing; tells its caller that every tuple is one, that it has a column, and that its bytes fit a page.
     pub fn known(&self)
-        ensures { IsTuple self.now }
+        ensures tuple { IsTuple self.now }
+        ensures some { 0 < length self.now.columns }
+        ensures fits { tuple_room self.now.columns ≤ 8156 }
     {
-        known(&self.columns);
+        self.tuple.known();
     }
 
-    /// Adds a row; answers whether the tuple changed.
+    /// Does nothing; tells its caller that the bytes of a tuple of the index are read as it, so tuples with the same bytes are
+    /// one.
+    pub fn one_tuple(&self)
+        ensures read { (t : Tuple) → IsTuple t → parts_of t.columns ≡ parts_of self.now.columns → tuple_in (parts_of self.now.columns) (tuple_bytes t) ≡ Some t }
+        ensures one { (t u : Tuple) → IsTuple t → IsTuple u → parts_of t.columns ≡ parts_of self.now.columns → parts_of u.columns ≡ parts_of self.now.columns → tuple_bytes t ≡ tuple_bytes u → t ≡ u }
+    {
+        self.tuple.known_classes();
+    }
+
+    /// Does nothing; tells its caller that the bytes of a tuple of the index fit its greatest size.
+    pub fn bytes_fit(&self)
+        ensures { (t : Tuple) → IsTuple t → parts_of t.columns ≡ parts_of self.now.columns → length (tuple_bytes t) ≤ tuple_room t.columns }
+    {
+        self.tuple.known_classes();
+    }
+
+    /// The number of its range.
+    pub fn range(&self) -> u32
+        ensures { result ≡ self.now.range }
+    {
+        self.tuple.range()
+    }
+
+    /// Whether it is a placeholder, and not final.
+    pub fn is_placeholder(&self) -> bool
+        ensures { result ≡ self.now.placeholder }
+    {
+        self.tuple.is_placeholder()
+    }
+
+    /// Adds a row; answers whether the tuple changed. Takes no memory.
     pub fn add_row(&mut self, values: &[Value]) -> bool
         requires { TupleTakesRow self.old values.now }
         ensures widened { self.new ≡ with_row values.now self.old }
@@ -91,12 +119,13 @@ impl RangeTuple {
         ensures keeps_what_it_included { (row : List Value) → TupleIncludes self.old row → TupleIncludes self.new row }
         ensures same { result ≡ false → self.new ≡ self.old }
         ensures changed { result ≡ true → self.new ≢ self.old }
+        ensures same_index { parts_of self.new.columns ≡ parts_of self.old.columns }
     {
-        add_to_each(&mut self.columns, values)
+        self.tuple.add_row(values)
     }
 
     /// Takes in what another tuple of the index has; answers whether the tuple changed. The range's number and the
-    /// placeholder flag stay.
+    /// placeholder flag stay. Takes no memory.
     pub fn unite(&mut self, other: &RangeTuple) -> bool
         requires { parts_of other.now.columns ≡ parts_of self.old.columns }
         ensures widened { self.new ≡ united_tuple self.old other.now }
@@ -104,15 +133,35 @@ impl RangeTuple {
         ensures includes_the_others { (row : List Value) → TupleIncludes other.now row → TupleIncludes self.new row }
         ensures same { result ≡ false → self.new ≡ self.old }
         ensures changed { result ≡ true → self.new ≢ self.old }
+        ensures same_index { parts_of self.new.columns ≡ parts_of self.old.columns }
     {
-        unite_each(&mut self.columns, &other.columns)
+        self.tuple.unite(&other.tuple)
     }
 
     /// Makes the tuple final: no placeholder any more.
     pub fn settle(&mut self)
         ensures { self.new ≡ record self.old { placeholder = false } }
     {
-        self.placeholder = false;
+        self.tuple.settle();
+    }
+
+    /// Makes the tuple the empty placeholder of another range of the index. Takes no memory.
+    pub fn restart(&mut self, range: u32)
+        ensures restarted { self.new ≡ restarted range self.old }
+        ensures same_index { parts_of self.new.columns ≡ parts_of self.old.columns }
+    {
+        self.tuple.restart(range, &self.spare);
+    }
+
+    /// Makes the tuple the same as another of the index. Takes no memory.
+    pub fn copy_from(&mut self, other: &RangeTuple)
+        requires { parts_of other.now.columns ≡ parts_of self.old.columns }
+        ensures { self.new ≡ other.now }
+    {
+        other.known();
+        let size = other.encode(&mut self.scratch);
+        // These bytes are a tuple's of the index, so they are always read.
+        let _ = read(&mut self.tuple, &mut self.spare, &self.scratch[..size]);
     }
 
     /// Whether the range may hold a row that matches the conditions, which are at most sixteen. A tuple that doesn't keep
@@ -122,53 +171,31 @@ impl RangeTuple {
         ensures answer { result ≡ keeps self.now conds.now }
         ensures misses_no_match { result ≡ false → (row : List Value) → TupleIncludes self.now row → list_all (column_matches row) conds.now ≡ false }
     {
-        if self.placeholder {
-            return true;
-        }
-        !have_nothing(&self.columns) && all_allow(&self.columns, conds)
+        self.tuple.keeps(conds)
     }
 
-    /// Writes the bytes of the tuple to the front of `out`, and answers how many they are.
+    /// Writes the bytes of the tuple to the front of `out`, and answers how many they are. Takes no memory.
     pub fn encode(&self, out: &mut [u8]) -> usize
         requires room { tuple_room self.now.columns ≤ length out.old }
         ensures size { result ≡ length (tuple_bytes self.now) }
         ensures within { result ≤ tuple_room self.now.columns }
         ensures written { out.new ≡ tuple_bytes self.now ++ drop result out.old }
     {
-        let size = write_each(&self.columns, &mut out[HEADER..]);
-        put_u32(out, 0, self.range);
-        out[4] = flags_of(self.placeholder, have_nothing(&self.columns));
-        HEADER + size
+        self.tuple.encode(out)
     }
 
     /// Makes the tuple the one that the bytes encode. `Err` exactly where they encode no tuple of this index, with the place
-    /// in the bytes of a field that is out of form, or their length where some are missing: the tuple is unchanged then.
-    /// Takes no memory.
+    /// of the first field that can't stand behind the fields before it, or the length of the bytes where some are missing:
+    /// the tuple is unchanged then. Takes no memory.
     pub fn decode(&mut self, bytes: &[u8]) -> Result<(), Malformed>
         ensures same_index { parts_of self.new.columns ≡ parts_of self.old.columns }
         ensures found { OnOk result (bytes.now ≡ tuple_bytes self.new) }
         ensures again { (t : Tuple) → IsTuple t → parts_of t.columns ≡ parts_of self.old.columns → bytes.now ≡ tuple_bytes t → IsOk result × (self.new ≡ t) }
-        ensures place { IfErr result (λ fault. fault.at ≤ length bytes.now) }
+        ensures read { MatchResult result (λ ok. read_of (parts_of self.old.columns) bytes.now ≡ Ok self.new) (λ fault. read_of (parts_of self.old.columns) bytes.now ≡ Err fault.at) }
+        ensures within { IfErr result (λ fault. fault.at ≤ length bytes.now) }
         ensures unchanged { OnErr result (self.new ≡ self.old) }
     {
-        if bytes.len() < HEADER {
-            return Err(Malformed { at: bytes.len() });
-        }
-        let Some((placeholder, empty)) = flags_in(bytes[4]) else {
-            return Err(Malformed { at: 4 });
-        };
-        if let Err(fault) = read_each(&mut self.spare, &bytes[HEADER..]) {
-            return Err(Malformed {
-                at: HEADER + fault.at,
-            });
-        }
-        if have_nothing(&self.spare) != empty {
-            return Err(Malformed { at: 4 });
-        }
-        self.range = get_u32(bytes, 0);
-        self.placeholder = placeholder;
-        mem::swap(&mut self.columns, &mut self.spare);
-        Ok(())
+        read(&mut self.tuple, &mut self.spare, bytes)
     }
 
     /// How many bytes the tuple has at most.
@@ -176,27 +203,35 @@ impl RangeTuple {
         ensures size { result ≡ tuple_room self.now.columns }
         ensures fits { result ≤ 8156 }
     {
-        HEADER + room_of(&self.columns)
+        self.tuple.greatest_size()
     }
 }
 
-/// Bit 0 of the flags says placeholder, and bit 1 empty.
-fn flags_of(placeholder: bool, empty: bool) -> u8
-    ensures { result ≡ flags_of placeholder empty }
+/// Makes the tuple the one that the bytes encode, by columns of its index that are read.
+fn read(tuple: &mut ListedTuple, spare: &mut [SpareColumn], bytes: &[u8]) -> Result<(), Malformed>
+    requires { parts_of spare.old ≡ parts_of tuple.old.columns }
+    ensures same_index { parts_of tuple.new.columns ≡ parts_of tuple.old.columns }
+    ensures same_spare { parts_of spare.new ≡ parts_of spare.old }
+    ensures found { OnOk result (bytes.now ≡ tuple_bytes tuple.new) }
+    ensures again { (t : Tuple) → IsTuple t → parts_of t.columns ≡ parts_of tuple.old.columns → bytes.now ≡ tuple_bytes t → IsOk result × (tuple.new ≡ t) }
+    ensures read { MatchResult result (λ ok. read_of (parts_of tuple.old.columns) bytes.now ≡ Ok tuple.new) (λ fault. read_of (parts_of tuple.old.columns) bytes.now ≡ Err fault.at) }
+    ensures within { IfErr result (λ fault. fault.at ≤ length bytes.now) }
+    ensures unchanged { OnErr result (tuple.new ≡ tuple.old) }
 {
-    u8::from(placeholder) + 2 * u8::from(empty)
+    tuple.known();
+    tuple.known_classes();
+    if let Some(at) = head_fault(bytes, spare.len()) {
+        return Err(Malformed { at });
+    }
+    read_each(spare, bytes)?;
+    tuple.exchange(get_u32(bytes, 0), says_placeholder(bytes), spare);
+    Ok(())
 }
 
-/// Whether flags say placeholder, and empty. None exactly where they have another bit.
-fn flags_in(flags: u8) -> Option<(bool, bool)>
-    ensures found { IfSome result (λ is. flags_of is.0 is.1 ≡ flags) }
-    ensures other { IfNone result (3 < flags) }
+/// Whether the flags in a tuple's bytes say placeholder.
+fn says_placeholder(bytes: &[u8]) -> bool
+    requires { 4 < length bytes.now }
+    ensures { result ≡ says_placeholder bytes.now }
 {
-    match flags {
-        0 => Some((false, false)),
-        1 => Some((true, false)),
-        2 => Some((false, true)),
-        3 => Some((true, true)),
-        _ => None,
-    }
+    bytes[4] == 1 || bytes[4] == 3
 }

@@ -1,59 +1,91 @@
-use Rattle.std.proofs.Common.{◌≡◌, ℕ, ◌+◌, ◌-◌, ◌<◌, ◌++◌, List, [], ◌∷◌, length, get_or, take, drop, sym, ap, ◌∙◌, subst, arith}
-use Rattle.std.proofs.lemmas.Bool.{false≢true}
-use Rattle.std.proofs.lemmas.List.{get_or_default, length-append, take_more, take_more_set, take_rest}
-use Rattle.std.proofs.lemmas.List.Elements.{All-get_or}
-use Rattle.range_tuple.specs.TupleBytes.{column_bytes, columns_bytes}
-use Rattle.range_tuple.specs.Tuples.{IndexedColumn, IsColumn, part_of, parts_of}
-use Rattle.range_tuple.proofs.ByPlace.{length-parts, part_at, parts-set}
-use Rattle.range_tuple.proofs.EachColumn.{read_more, read_within, rest_there, set_bytes}
+use Rattle.std.proofs.Common.{◌≡◌, ℕ, ◌<◌, ◌≤◌, ◌+◌, ◌*◌, Ok, Err, List, length, take, drop, sym, ap, ◌∙◌, subst, arith}
+use Rattle.std.proofs.lemmas.List.{take_rest}
+use Rattle.range_tuple.specs.TupleBytes.{summary_bytes}
+use Rattle.range_tuple.specs.TupleReading.{summary_in}
+use Rattle.range_tuple.specs.Tuples.{part_of, parts_of}
+use Rattle.range_tuple.proofs.ByPlace.{length-parts, parts-set}
+use Rattle.range_tuple.proofs.ColumnBytes.{field_is}
+use Rattle.range_tuple.proofs.HeadFaults.{in_form, length_agrees, state_small}
+use Rattle.range_tuple.proofs.ReadingColumns.{IsNext, all_found, none_read, read_fails, read_more}
 use Rattle.range_tuple.proofs.columns.read_each.Goals as goal
 
--- columns at one place of the same index
-same_part : (cs ys old : List IndexedColumn) (i : ℕ) (x : IndexedColumn) → parts_of cs ≡ parts_of old → parts_of ys ≡ parts_of old → i < length cs → i < length ys → part_of (get_or cs i x) ≡ part_of (get_or ys i x)
-same_part cs ys old i x first second within inside =
-    part_at cs ys i (get_or cs i x) (get_or ys i x) (first ∙ sym second) inside (get_or_default cs i x (get_or cs i x) within) (get_or_default ys i x (get_or ys i x) inside)
+pub columns-init : goal.columns-init
+columns-init c =
+    let form = in_form (length c.args.spare.now) c.args.bytes.now c.requires in
+    none_read c.args.bytes.now c.args.spare.now (5 + 3 * length c.args.spare.now) (omega arith) form.long
 
-pub returns-in-Err-clause-again : goal.returns-in-Err-clause-again
-returns-in-Err-clause-again c = λ cs lawful same is.
-    let ys = c.columns.columns in
+pub of_number-state-requires : goal.of_number-state-requires
+of_number-state-requires c =
+    let form = in_form (length c.args.spare.now) c.args.bytes.now c.requires in
+    state_small (length c.args.spare.now) c.args.bytes.now c.columns.i (form.states c.columns.i c.columns-test.true)
+
+pub read-requires-clause-values : goal.read-requires-clause-values
+read-requires-clause-values c =
+    let count = length c.args.spare.now in
+    let form = in_form count c.args.bytes.now c.requires in
+    (length_agrees count c.args.bytes.now c.columns.i c.of_number-state.result c.from-size.result (form.lengths c.columns.i c.columns-test.true) c.of_number-state.ensures (c.from-size.ensures ∙ c.get_u16.ensures.got)).0
+
+pub read-requires-clause-no_values : goal.read-requires-clause-no_values
+read-requires-clause-no_values c =
+    let count = length c.args.spare.now in
+    let form = in_form count c.args.bytes.now c.requires in
+    (length_agrees count c.args.bytes.now c.columns.i c.of_number-state.result c.from-size.result (form.lengths c.columns.i c.columns-test.true) c.of_number-state.ensures (c.from-size.ensures ∙ c.get_u16.ensures.got)).1
+
+pub returns-in-Err-clause-same_index : goal.returns-in-Err-clause-same_index
+returns-in-Err-clause-same_index c =
+    let x = c.index-spare-i.result in
+    parts-set c.columns.spare c.columns.i x c.read.new.self c.index-spare-i.is (c.read.ensures.same_part ∙ ap part_of (sym c.index-spare-i.is)) ∙ c.columns.invariant.same_index
+
+pub returns-in-Err-clause-read : goal.returns-in-Err-clause-read
+returns-in-Err-clause-read c =
+    let bytes = c.args.bytes.now in
+    let count = length c.args.spare.now in
+    let parts = parts_of c.args.spare.now in
     let i = c.columns.i in
     let at = c.columns.at in
-    let bytes = c.args.bytes.now in
-    let x = c.index-columns-i.result in
-    let within : i < length cs = omega (arith, length-parts cs c.args.columns.now same, c.columns-test.true) in
-    let inside : i < length ys = omega (arith, c.columns.auto.columns, c.columns-test.true) in
-    let d = get_or cs i x in
-    let tail = take (length bytes - at) (drop at bytes) in
-    let there : tail ≡ column_bytes d ++ columns_bytes (drop (i + 1) cs) = take_rest bytes at ∙ rest_there cs ys bytes at i x (c.columns.invariant.again cs lawful same is) c.columns.invariant.place is within in
-    let part = same_part cs ys c.args.columns.now i x same c.columns.invariant.same_index within inside in
-    absurd (false≢true (c.in-Err.ensures.again d (columns_bytes (drop (i + 1) cs)) (All-get_or IsColumn cs i x within lawful) part there).0)
+    let x = c.index-spare-i.result in
+    let form = in_form count bytes c.requires in
+    let inside : i < length c.columns.spare = omega (arith, c.columns.auto.spare, c.columns-test.true) in
+    let size : c.get_u16.result ≡ c.from-size.result = sym c.from-size.ensures in
+    let next : IsNext bytes count i at c.from-size.result x c.of_number-state.result = record {
+      state_is = c.of_number-state.ensures;
+      size_is = c.from-size.ensures ∙ c.get_u16.ensures.got;
+      size_bytes = rw (← size) (field_is bytes (5 + count + 2 * i) 2 c.get_u16.result (omega (arith, form.long, c.columns-test.true)) c.get_u16.ensures.again);
+    } in
+    let wrong : summary_in x.class c.of_number-state.result c.from-size.result (drop at bytes) ≡ Err c.in-Err.fault.at =
+    subst (λ (bs : List ℕ). summary_in x.class c.of_number-state.result c.from-size.result bs ≡ Err c.in-Err.fault.at) (take_rest bytes at) (rw c.index-spare-i.is c.in-Err.ensures.read)
+    in
+    read_fails parts bytes count i at c.from-size.result c.in-Err.fault.at c.columns.spare x c.of_number-state.result c.columns.invariant inside c.index-spare-i.is next wrong
 
 pub columns-preserved : goal.columns-preserved
 columns-preserved c =
-    let ys = c.columns.columns in
-    let i = c.columns.i in
-    let x = c.index-columns-i.result in
-    let y = c.read.new.self in
     let bytes = c.args.bytes.now in
+    let count = length c.args.spare.now in
+    let parts = parts_of c.args.spare.now in
+    let i = c.columns.i in
     let at = c.columns.at in
-    let before = c.columns.invariant in
-    let inside : i < length ys = omega (arith, c.columns.auto.columns, c.columns-test.true) in
-    let tail = take (length bytes - at) (drop at bytes) in
-    let read : tail ≡ column_bytes y ++ drop c.in-Ok.size tail = c.in-Ok.ensures.found in
-    let found : drop at bytes ≡ column_bytes y ++ drop c.in-Ok.size (drop at bytes) = subst (λ (xs : List ℕ). xs ≡ column_bytes y ++ drop c.in-Ok.size xs) (take_rest bytes at) read in
-    let size : c.in-Ok.size ≡ length (column_bytes y) = c.in-Ok.ensures.size in
-    let bytes_now = set_bytes ys i y inside in
-    record {
-      same_index = parts-set ys i x y c.index-columns-i.is (c.read.ensures.same_part ∙ ap part_of (sym c.index-columns-i.is)) ∙ before.same_index;
-      within = read_within bytes (column_bytes y) at c.in-Ok.size before.within size found;
-      place = omega (arith, before.place, size, ap length bytes_now, length-append (columns_bytes (take i ys)) (column_bytes y));
-      found = rw bytes_now (read_more bytes (columns_bytes (take i ys)) (column_bytes y) at c.in-Ok.size before.found found);
-      again = λ cs lawful same is.
-          let within : i < length cs = omega (arith, length-parts cs c.args.columns.now same, c.columns-test.true) in
-          let d = get_or cs i x in
-          let front = before.again cs lawful same is in
-          let there : tail ≡ column_bytes d ++ columns_bytes (drop (i + 1) cs) = take_rest bytes at ∙ rest_there cs ys bytes at i x front before.place is within in
-          let part = same_part cs ys c.args.columns.now i x same before.same_index within inside in
-          let last : y ≡ d = (c.read.ensures.again d (columns_bytes (drop (i + 1) cs)) (All-get_or IsColumn cs i x within lawful) part there).1 in
-          take_more_set ys i y inside ∙ ap (λ (zs : List IndexedColumn). zs ++ y ∷ []) front ∙ ap (λ (z : IndexedColumn). take i cs ++ z ∷ []) last ∙ sym (take_more cs i x within);
-    }
+    let x = c.index-spare-i.result in
+    let y = c.read.new.self in
+    let form = in_form count bytes c.requires in
+    let inside : i < length c.columns.spare = omega (arith, c.columns.auto.spare, c.columns-test.true) in
+    let size : c.get_u16.result ≡ c.from-size.result = sym c.from-size.ensures in
+    let next : IsNext bytes count i at c.from-size.result x c.of_number-state.result = record {
+      state_is = c.of_number-state.ensures;
+      size_is = c.from-size.ensures ∙ c.get_u16.ensures.got;
+      size_bytes = rw (← size) (field_is bytes (5 + count + 2 * i) 2 c.get_u16.result (omega (arith, form.long, c.columns-test.true)) c.get_u16.ensures.again);
+    } in
+    let rest = take_rest bytes at in
+    let read : summary_in x.class c.of_number-state.result c.from-size.result (drop at bytes) ≡ Ok y.summary =
+    subst (λ (bs : List ℕ). summary_in x.class c.of_number-state.result c.from-size.result bs ≡ Ok y.summary) rest (rw c.index-spare-i.is c.in_default.ensures.read)
+    in
+    read_more parts bytes count i at c.from-size.result c.columns.spare x y c.of_number-state.result c.columns.invariant inside c.columns-test.true form.long c.index-spare-i.is next
+    (c.read.ensures.same_part ∙ ap part_of (sym c.index-spare-i.is)) c.in_default.ensures.state
+    (subst (λ (bs : List ℕ). c.from-size.result ≤ length bs) rest c.in_default.ensures.within)
+    (subst (λ (bs : List ℕ). take c.from-size.result bs ≡ summary_bytes y) rest c.in_default.ensures.found) read
+
+pub returns-clause-found : goal.returns-clause-found
+returns-clause-found c =
+    let bytes = c.args.bytes.now in
+    let spare = c.columns.spare in
+    let long : length c.args.spare.now ≡ length spare = length-parts c.args.spare.now spare (sym c.columns.invariant.same_index) in
+    all_found (parts_of c.args.spare.now) bytes c.columns.i c.columns.at spare (rw (← long) c.columns.invariant) (omega (arith, long, c.columns-test.false, c.columns.auto.i-end)) c.if-at-bytes.false

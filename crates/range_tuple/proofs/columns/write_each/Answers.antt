@@ -1,19 +1,24 @@
-use Rattle.std.proofs.Common.{length, take, sym, ap, arith}
-use Rattle.std.proofs.lemmas.List.{length-append}
-use Rattle.range_tuple.specs.TupleBytes.{column_bytes, columns_bytes}
-use Rattle.range_tuple.proofs.EachColumn.{more_bytes, more_room, written_more}
+use Rattle.std.proofs.Common.{◌≡◌, ℕ, ◌*◌, ◌++◌, List, length, drop, ap, ◌∙◌, arith}
+use Rattle.range_tuple.specs.TupleBytes.{lengths_bytes, states_bytes, summaries_bytes}
+use Rattle.range_tuple.proofs.ByPlace.{heads_fit}
+use Rattle.range_tuple.proofs.EachColumn.{length-columns, written_columns}
 use Rattle.range_tuple.proofs.columns.write_each.Goals as goal
 
-pub columns-preserved : goal.columns-preserved
-columns-preserved c =
+pub split_at_mut-states-requires : goal.split_at_mut-states-requires
+split_at_mut-states-requires c = omega (arith, c.requires, heads_fit c.args.columns.now)
+
+pub split_at_mut-lengths-requires : goal.split_at_mut-lengths-requires
+split_at_mut-lengths-requires c = omega (arith, c.requires, heads_fit c.args.columns.now, c.split_at_mut-states.ensures.back_len)
+
+pub returns-clause-size : goal.returns-clause-size
+returns-clause-size c = omega (arith, length-columns c.args.columns.now, c.write_summaries.ensures.size)
+
+pub returns-clause-written : goal.returns-clause-written
+returns-clause-written c =
+    let n = length c.args.columns.now in
+    let r = c.write_summaries.result in
+    let back : c.split_at_mut-lengths.result.1.now ≡ drop (2 * n) (drop n c.args.out.now) = c.split_at_mut-lengths.ensures.back ∙ ap (drop (2 * n)) c.split_at_mut-states.ensures.back in
     let columns = c.args.columns.now in
-    let i = c.columns.column-index in
-    let x = c.column-item.result in
-    let front = columns_bytes (take i columns) in
-    let more = more_bytes columns i x c.columns-test.true c.column-item.is in
-    let before = c.columns.invariant in
-    record {
-      place = omega (arith, before.place, c.write-at.ensures.size, ap length more, length-append front (column_bytes x));
-      within = omega (arith, before.within, c.write-at.ensures.within, more_room columns i x c.columns-test.true c.column-item.is);
-      so_far = rw more (written_more c.args.out.now c.columns.out c.write-at.new.out front (column_bytes x) c.columns.at c.write-at.result (sym before.place) before.so_far c.write-at.ensures.written);
-    }
+    (λ i. c.write_states.ensures i ++ (c.write_summaries.ensures.lengths i ++ c.write_summaries.ensures.summaries i))
+    ∙ ap (λ (rest : List ℕ). states_bytes columns ++ (lengths_bytes columns ++ (summaries_bytes columns ++ drop r rest))) back
+    ∙ written_columns columns c.args.out.now r

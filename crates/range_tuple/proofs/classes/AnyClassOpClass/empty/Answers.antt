@@ -1,24 +1,52 @@
 use Rattle.std.proofs.Common.{ap}
 use Rattle.range_tuple.specs.declared.classes.AnySummary.TheVariants as kept
-use Rattle.range_tuple.specs.AnyClass.{empty, is_of}
+use Rattle.range_tuple.specs.AnyClass.{empty, includes, is_of}
 use Rattle.range_tuple.proofs.classes.AnyClassOpClass.empty.Goals as goal
 
-pub returns-in_ok-empty-in-MinMax : goal.returns-in_ok-empty-in-MinMax
+pub returns-in_ok-empty-in-MinMax-clause-summary : goal.returns-in_ok-empty-in-MinMax-clause-summary
 unfolding empty is_of
-returns-in_ok-empty-in-MinMax c = rw c.in-MinMax.is (ap kept.MinMax c.in_ok-empty-in-MinMax.ensures.0, c.in_ok-empty-in-MinMax.ensures.1)
+returns-in_ok-empty-in-MinMax-clause-summary c = rw c.in-MinMax.is (ap kept.MinMax c.in_ok-empty-in-MinMax.ensures.summary.0, c.in_ok-empty-in-MinMax.ensures.summary.1)
 
-pub returns-in_ok-empty-in-Multi : goal.returns-in_ok-empty-in-Multi
+pub returns-in_ok-empty-in-Multi-clause-summary : goal.returns-in_ok-empty-in-Multi-clause-summary
 unfolding empty is_of
-returns-in_ok-empty-in-Multi c = rw c.in-Multi.is (ap kept.Multi c.in_ok-empty-in-Multi.ensures.0, c.in_ok-empty-in-Multi.ensures.1)
+returns-in_ok-empty-in-Multi-clause-summary c = rw c.in-Multi.is (ap kept.Multi c.in_ok-empty-in-Multi.ensures.summary.0, c.in_ok-empty-in-Multi.ensures.summary.1)
 
-pub returns-in_ok-empty-in-SpanHull : goal.returns-in_ok-empty-in-SpanHull
+pub returns-in_ok-empty-in-SpanHull-clause-summary : goal.returns-in_ok-empty-in-SpanHull-clause-summary
 unfolding empty is_of
-returns-in_ok-empty-in-SpanHull c = rw c.in-SpanHull.is (ap kept.SpanHull c.in_ok-empty-in-SpanHull.ensures.0, c.in_ok-empty-in-SpanHull.ensures.1)
+returns-in_ok-empty-in-SpanHull-clause-summary c = rw c.in-SpanHull.is (ap kept.SpanHull c.in_ok-empty-in-SpanHull.ensures.summary.0, c.in_ok-empty-in-SpanHull.ensures.summary.1)
 
-pub returns-in_ok-empty-in-NetHull : goal.returns-in_ok-empty-in-NetHull
+pub returns-in_ok-empty-in-NetHull-clause-summary : goal.returns-in_ok-empty-in-NetHull-clause-summary
 unfolding empty is_of
-returns-in_ok-empty-in-NetHull c = rw c.in-NetHull.is (ap kept.NetHull c.in_ok-empty-in-NetHull.ensures.0, c.in_ok-empty-in-NetHull.ensures.1)
+returns-in_ok-empty-in-NetHull-clause-summary c = rw c.in-NetHull.is (ap kept.NetHull c.in_ok-empty-in-NetHull.ensures.summary.0, c.in_ok-empty-in-NetHull.ensures.summary.1)
 
-pub returns-in_ok-empty-in-Bloom : goal.returns-in_ok-empty-in-Bloom
+pub returns-in_ok-empty-in-Bloom-clause-summary : goal.returns-in_ok-empty-in-Bloom-clause-summary
 unfolding empty is_of
-returns-in_ok-empty-in-Bloom c = rw c.in-Bloom.is (ap kept.Bloom c.in_ok-empty-in-Bloom.ensures.0, c.in_ok-empty-in-Bloom.ensures.1)
+returns-in_ok-empty-in-Bloom-clause-summary c = rw c.in-Bloom.is (ap kept.Bloom c.in_ok-empty-in-Bloom.ensures.summary.0, c.in_ok-empty-in-Bloom.ensures.summary.1)
+
+pub returns-in_err-empty-in-Multi-clause-includes_nothing : goal.returns-in_err-empty-in-Multi-clause-includes_nothing
+unfolding empty includes
+returns-in_err-empty-in-Multi-clause-includes_nothing c = rw c.in-Multi.is c.empty-in-Multi.ensures.includes_nothing
+
+pub returns-in_err-empty-in-Bloom-clause-includes_nothing : goal.returns-in_err-empty-in-Bloom-clause-includes_nothing
+unfolding empty includes
+returns-in_err-empty-in-Bloom-clause-includes_nothing c = rw c.in-Bloom.is c.empty-in-Bloom.ensures.includes_nothing
+
+pub returns-in_ok-empty-in-MinMax-clause-includes_nothing : goal.returns-in_ok-empty-in-MinMax-clause-includes_nothing
+unfolding empty includes
+returns-in_ok-empty-in-MinMax-clause-includes_nothing c = rw c.in-MinMax.is c.empty.ensures.includes_nothing
+
+pub returns-in_ok-empty-in-Multi-clause-includes_nothing : goal.returns-in_ok-empty-in-Multi-clause-includes_nothing
+unfolding empty includes
+returns-in_ok-empty-in-Multi-clause-includes_nothing c = rw c.in-Multi.is c.empty-in-Multi.ensures.includes_nothing
+
+pub returns-in_ok-empty-in-SpanHull-clause-includes_nothing : goal.returns-in_ok-empty-in-SpanHull-clause-includes_nothing
+unfolding empty includes
+returns-in_ok-empty-in-SpanHull-clause-includes_nothing c = rw c.in-SpanHull.is c.empty-in-SpanHull.ensures.includes_nothing
+
+pub returns-in_ok-empty-in-NetHull-clause-includes_nothing : goal.returns-in_ok-empty-in-NetHull-clause-includes_nothing
+unfolding empty includes
+returns-in_ok-empty-in-NetHull-clause-includes_nothing c = rw c.in-NetHull.is c.empty-in-NetHull.ensures.includes_nothing
+
+pub returns-in_ok-empty-in-Bloom-clause-includes_nothing : goal.returns-in_ok-empty-in-Bloom-clause-includes_nothing
+unfolding empty includes
+returns-in_ok-empty-in-Bloom-clause-includes_nothing c = rw c.in-Bloom.is c.empty-in-Bloom.ensures.includes_nothing

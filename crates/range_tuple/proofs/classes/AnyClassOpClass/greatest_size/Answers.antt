@@ -1,5 +1,5 @@
 use Rattle.range_tuple.specs.AnyClass.{greatest_size}
-use Rattle.range_tuple.proofs.Forms.{minmax_bound, multi_bound, span_bound, net_bound, bloom_bound}
+use Rattle.range_tuple.proofs.Forms.{minmax_bound, multi_bound, span_bound, net_bound, bloom_bound, minmax_read, multi_read, span_read, net_read, bloom_read}
 use Rattle.range_tuple.proofs.classes.AnyClassOpClass.greatest_size.Goals as goal
 
 pub returns-in-MinMax-clause-size : goal.returns-in-MinMax-clause-size
@@ -41,3 +41,18 @@ returns-in-Bloom-clause-size c = rw c.in-Bloom.is c.greatest_size-in-Bloom.ensur
 pub returns-in-Bloom-clause-bound : goal.returns-in-Bloom-clause-bound
 unfolding greatest_size
 returns-in-Bloom-clause-bound c = rw c.in-Bloom.is (bloom_bound c.in-Bloom.class c.greatest_size-in-Bloom.ensures.bound)
+
+pub returns-in-MinMax-clause-read_again : goal.returns-in-MinMax-clause-read_again
+returns-in-MinMax-clause-read_again c = rw c.in-MinMax.is (minmax_read c.in-MinMax.class c.greatest_size.ensures.read_again)
+
+pub returns-in-Multi-clause-read_again : goal.returns-in-Multi-clause-read_again
+returns-in-Multi-clause-read_again c = rw c.in-Multi.is (multi_read c.in-Multi.class c.greatest_size-in-Multi.ensures.read_again)
+
+pub returns-in-SpanHull-clause-read_again : goal.returns-in-SpanHull-clause-read_again
+returns-in-SpanHull-clause-read_again c = rw c.in-SpanHull.is (span_read c.in-SpanHull.class c.greatest_size-in-SpanHull.ensures.read_again)
+
+pub returns-in-NetHull-clause-read_again : goal.returns-in-NetHull-clause-read_again
+returns-in-NetHull-clause-read_again c = rw c.in-NetHull.is (net_read c.in-NetHull.class c.greatest_size-in-NetHull.ensures.read_again)
+
+pub returns-in-Bloom-clause-read_again : goal.returns-in-Bloom-clause-read_again
+returns-in-Bloom-clause-read_again c = rw c.in-Bloom.is (bloom_read c.in-Bloom.class c.greatest_size-in-Bloom.ensures.read_again)
