@@ -220,7 +220,10 @@ fn malformed_networks_name_their_place(rt: HostRuntime) {
     assert_eq!(rt; net_fault(&[9]), Err(Malformed { at: 0 }));
     assert_eq!(rt; net_fault(&[2, 6]), Err(Malformed { at: 1 }));
     assert_eq!(rt; net_fault(&[2, 4, 24, 10, 0, 0]), Err(Malformed { at: 6 }));
-    assert_eq!(rt; net_fault(&[2, 4, 24, 10, 0, 0, 1, 0]), Err(Malformed { at: 3 }));
+    assert_eq!(rt;
+        net_fault(&[2, 4, 24, 10, 0, 0, 1, 0]),
+        Err(Malformed { at: 3 })
+    );
     let cases = [
         ([3, 4, 32, 10, 0, 0, 1], 0),
         ([1, 4, 0, 0, 0, 0, 0], 1),

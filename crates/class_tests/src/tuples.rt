@@ -170,6 +170,43 @@ fn a_final_minmax_tuple_has_24_bytes(rt: HostRuntime) -> Result<(), Fail> {
 }
 
 #[test]
+fn a_tuple_of_two_columns_has_states_then_lengths_then_summaries(
+    rt: HostRuntime,
+) -> Result<(), Fail> {
+    let net = Net::v4(10 << 24 | 1, 32).expect(&rt, "an address");
+    let wanted = [
+        0, 0, 0, 1, 1, 2, 2, 0, 16, 0, 7, 0, 0, 0, 0, 0, 0, 0, 5, 0, 0, 0, 0, 0, 0, 0, 5, 2, 4, 32,
+        10, 0, 0, 1,
+    ];
+    let mut tuple = two(&rt, rt.alloc())?;
+    tuple.restart(1);
+    assert!(rt; add_both(&mut tuple, Some(5), Some(net)));
+    let mut out = [7u8; 34];
+    assert_eq!(rt; tuple.greatest_size(), 34);
+    assert_eq!(rt; tuple.encode(&mut out), 34);
+    assert_eq!(rt; out, wanted);
+    assert_eq!(rt; tuple.decode(&wanted), Ok(()));
+    Ok(())
+}
+
+#[test]
+fn tuples_are_restarted_and_copied(rt: HostRuntime) -> Result<(), Fail> {
+    let mut tuple = one(&rt, rt.alloc(), Kind::Int, Class::MinMax)?;
+    let mut copy = one(&rt, rt.alloc(), Kind::Int, Class::MinMax)?;
+    let _ = add_number(&mut tuple, 3);
+    tuple.settle();
+    copy.copy_from(&tuple);
+    assert!(rt; !copy.is_placeholder() && !copy.keeps(&[cond(0, Op::Eq, Value::Int(4))]));
+    tuple.restart(9);
+    assert!(rt; tuple.is_placeholder());
+    assert_eq!(rt; tuple.range(), 9);
+    assert_eq!(rt; copy.range(), 0);
+    tuple.settle();
+    assert!(rt; !tuple.keeps(&[]));
+    Ok(())
+}
+
+#[test]
 fn united_tuples_have_what_either_had(rt: HostRuntime) -> Result<(), Fail> {
     let mut tuple = one(&rt, rt.alloc(), Kind::Int, Class::MinMax)?;
     let mut other = one(&rt, rt.alloc(), Kind::Int, Class::MinMax)?;
@@ -226,7 +263,8 @@ fn malformed_fields_are_named(rt: HostRuntime) -> Result<(), Fail> {
     let cases = [
         ([3, 0, 0, 0], None),
         ([4, 0, 0, 0], Some(4)),
-        ([0, 0, 0, 0], Some(4)),
+        ([0, 0, 0, 0], Some(5)),
+        ([2, 2, 0, 16], Some(5)),
         ([0, 4, 0, 0], Some(5)),
         ([0, 2, 0, 0], Some(6)),
     ];

@@ -3,7 +3,7 @@ use Rattle.std.proofs.lemmas.List.Elements.{All-cons, All-nil}
 use Rattle.range_tuple.specs.TupleIncludes.{TakesThere}
 use Rattle.range_tuple.specs.Tuples.{Tuple, parts_of}
 use Rattle.range_tuple.specs.declared.classes.AnyClass.{AnyClass}
-use Rattle.range_tuple.proofs.ByPlace.{parts-with_row, takes_by_parts}
+use Rattle.range_tuple.specs.SameIndex.{parts-with_row, takes_by_parts}
 use Rattle.class_tests.proofs.scans.add_number.Goals as goal
 
 pub add_row-requires : goal.add_row-requires

@@ -5,7 +5,7 @@ use Rattle.block_model.specs.declared.value.Kind.TheVariants as kinds
 use Rattle.range_tuple.specs.AnyClass.{class_of}
 use Rattle.range_tuple.specs.TupleIncludes.{TakesThere}
 use Rattle.range_tuple.specs.declared.classes.AnyClass.{AnyClass}
-use Rattle.range_tuple.proofs.ByPlace.{takes_by_parts}
+use Rattle.range_tuple.specs.SameIndex.{takes_by_parts}
 use Rattle.class_tests.proofs.tuples.add_both.Goals as goal
 
 pub add_row-requires : goal.add_row-requires
