@@ -4,7 +4,7 @@ ghost use Rattle.std.specs.Prelude.{◌≡◌, ◌<◌, ◌≤◌, ◌/◌, [], 
 ghost use Rattle.std.specs.List.{list_all};
 ghost use Rattle.block_model.specs.ClassLimits.{class_is_lawful};
 ghost use Rattle.block_model.specs.TupleSize.{tuple_size};
-ghost use Rattle.range_tuple.specs.AnyClass.{class_of};
+ghost use Rattle.opclass_any.specs.AnyClass.{class_of};
 ghost use Rattle.range_tuple.specs.TupleIncludes.{TakesValue};
 ghost use Rattle.range_tuple.specs.Tuples.{empty_placeholder, parts_of};
 

@@ -18,11 +18,11 @@ use Rattle.block_model.specs.IndexedColumns.{columns_of, kind_at}
 use Rattle.block_model.specs.ClassLimits.{class_is_lawful, takes_kind}
 use Rattle.block_model.specs.ValuesOfKind.{IsValueOf}
 use Rattle.statements.specs.StatementFits.{AreValuesFor}
-use Rattle.range_tuple.specs.AnyClass.{class_of}
+use Rattle.opclass_any.specs.AnyClass.{class_of}
 use Rattle.range_tuple.specs.KindValues.{IsOfKind}
 use Rattle.range_tuple.specs.TupleIncludes.{TupleTakesRow, TakesThere, TakesValue}
 use Rattle.range_tuple.specs.Tuples.{Tuple, empty_column, part_of, parts_of, with_row}
-use Rattle.range_tuple.specs.declared.classes.AnyClass.{AnyClass}
+use Rattle.opclass_any.specs.declared.classes.AnyClass.{AnyClass}
 use Rattle.range_tuple.specs.SameIndex.{parts-with_row, takes_by_parts}
 use Rattle.range_summaries.specs.ExplainedBlocks.{empty_tuple, range_tuple, rows_per_range, with_rows}
 use Rattle.range_summaries.specs.LawfulIndexes.{IsLawfulIndex}

@@ -13,7 +13,7 @@ use Rattle.block_model.specs.declared.value.Value.TheVariants.{Null, Int, Span, 
 use Rattle.block_model.specs.Matches.{matches}
 use Rattle.block_model.specs.RowMatches.{column_matches, value_there_matches}
 use Rattle.opclass_api.specs.Conditions.{compares, AllCompare, meets, meets_all}
-use Rattle.range_tuple.specs.AnyClass.{includes}
+use Rattle.opclass_any.specs.AnyClass.{includes}
 use Rattle.range_tuple.specs.Keeps.{comparisons, allows_op, allows_cond}
 use Rattle.range_tuple.specs.NullStates.{has_values}
 use Rattle.range_tuple.specs.TupleIncludes.{IncludesValue, IncludesThere, ColumnIncludes}

@@ -7,11 +7,11 @@ use Rattle.std.proofs.lemmas.List.Elements.{All-head}
 use Rattle.std.proofs.lemmas.List.Sums.{sum_by-cons}
 use Rattle.block_model.specs.declared.value.Value.{Value}
 use Rattle.block_model.specs.declared.value.Value.TheVariants.{Null, Int, Span, Net}
-use Rattle.range_tuple.specs.AnyClass.{greatest_size}
+use Rattle.opclass_any.specs.AnyClass.{greatest_size}
 use Rattle.range_tuple.specs.KeptColumns.{AreKept}
 use Rattle.range_tuple.specs.TupleIncludes.{ColumnIncludes, IncludesThere}
 use Rattle.range_tuple.specs.Tuples.{IndexedColumn, part_of, parts_of, has_nothing, united_column, united_columns, column_room, tuple_room}
-use Rattle.range_tuple.specs.declared.classes.AnyClass.{AnyClass}
+use Rattle.opclass_any.specs.declared.classes.AnyClass.{AnyClass}
 
 -- ---- the same index
 

@@ -4,12 +4,12 @@ use Rattle.std.proofs.lemmas.List.{drop_at, length-append, length-take-le, take_
 use Rattle.std.specs.Int.{bytes_high_first}
 use Rattle.byte_fields.specs.Fields.{field_at, length-number, put_at, put-part}
 use borrow.Rule.Slice.PartMut.{put_mid}
-use Rattle.range_tuple.specs.AnyClass.{is_of, bytes_of}
+use Rattle.opclass_any.specs.AnyClass.{is_of, bytes_of}
 use Rattle.range_tuple.specs.NullStates.{number_of, has_values}
 use Rattle.range_tuple.specs.TupleBytes.{summary_bytes}
 use Rattle.range_tuple.specs.Tuples.{IndexedColumn, IsColumn, part_of}
-use Rattle.range_tuple.specs.declared.classes.AnyClass.{AnyClass}
-use Rattle.range_tuple.specs.declared.classes.AnySummary.{AnySummary}
+use Rattle.opclass_any.specs.declared.classes.AnyClass.{AnyClass}
+use Rattle.opclass_any.specs.declared.classes.AnySummary.{AnySummary}
 use Rattle.range_tuple.specs.declared.state.NullState.{NullState}
 use Rattle.range_tuple.specs.declared.state.NullState.TheVariants.{Nothing, Nulls, Values, Both}
 

@@ -9,13 +9,13 @@ use Rattle.block_model.specs.declared.schema.Part.{Part}
 use Rattle.block_model.specs.declared.value.Value.{Value}
 use Rattle.block_model.specs.declared.value.Value.TheVariants.{Null, Int, Span, Net}
 use Rattle.opclass_api.specs.Conditions.{is_null}
-use Rattle.range_tuple.specs.AnyClass.{add, empty, united}
-use Rattle.range_tuple.specs.ClassLaws.{added_in_order}
+use Rattle.opclass_any.specs.AnyClass.{add, empty, united}
+use Rattle.opclass_any.specs.ClassLaws.{added_in_order}
 use Rattle.range_tuple.specs.ExactTuples.{IsExact, IsExactTuple, IsExactUnion, IsExactWith, is_value, option_list, values_at, with_rows}
 use Rattle.range_tuple.specs.NullStates.{has_nulls, has_values, state_of}
 use Rattle.range_tuple.specs.Tuples.{IndexedColumn, Tuple, empty_column, parts_of, tuple_of, united_column, united_columns, with_row, with_row_at, with_value, with_value_there}
-use Rattle.range_tuple.specs.declared.classes.AnyClass.{AnyClass}
-use Rattle.range_tuple.specs.declared.classes.AnySummary.{AnySummary}
+use Rattle.opclass_any.specs.declared.classes.AnyClass.{AnyClass}
+use Rattle.opclass_any.specs.declared.classes.AnySummary.{AnySummary}
 use Rattle.range_tuple.proofs.ByPlace.{get_or-united, length-parts, length-united}
 
 pub nulls_of : (a b : Bool) → has_nulls (state_of a b) ≡ a

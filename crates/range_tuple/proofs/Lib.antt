@@ -3,7 +3,6 @@ pub mod ByPlace
 pub mod ColumnBytes
 pub mod EachColumn
 pub mod Exactness
-pub mod Forms
 pub mod HeadFaults
 pub mod InPlace
 pub mod ReadBack

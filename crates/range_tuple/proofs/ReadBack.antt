@@ -4,15 +4,15 @@ use Rattle.std.specs.Prelude.{nat_lt}
 use Rattle.std.proofs.lemmas.Bool.{eq-eqb, le-ltb, lt-ltb, ne_eqb}
 use Rattle.std.proofs.lemmas.List.{append-nil, drop_at, get_or_at, length-append, length-map, take_at}
 use Rattle.std.proofs.lemmas.List.Concat.{flat_map-append}
-use Rattle.range_tuple.specs.AnyClass.{empty, read_of}
+use Rattle.opclass_any.specs.AnyClass.{empty, read_of}
 use Rattle.range_tuple.specs.KeptColumns.{IsReadAgain, ReadsAgain}
 use Rattle.range_tuple.specs.NullStates.{number_of, has_values}
 use Rattle.range_tuple.specs.TupleBytes.{columns_bytes, flags_of, length_bytes, summaries_bytes, summary_bytes, tuple_bytes}
 use Rattle.range_tuple.specs.TupleFaults.{head_fault, length_at, state_at}
 use Rattle.range_tuple.specs.TupleReading.{behind, columns_in, read_on, says_placeholder, some_in, state_in, summary_in, read_of as read_tuple, tuple_behind, whole}
 use Rattle.range_tuple.specs.Tuples.{IndexedColumn, IsColumn, IsTuple, Tuple, part_of, parts_of}
-use Rattle.range_tuple.specs.declared.classes.AnyClass.{AnyClass}
-use Rattle.range_tuple.specs.declared.classes.AnySummary.{AnySummary}
+use Rattle.opclass_any.specs.declared.classes.AnyClass.{AnyClass}
+use Rattle.opclass_any.specs.declared.classes.AnySummary.{AnySummary}
 use Rattle.range_tuple.specs.declared.state.NullState.{NullState}
 use Rattle.range_tuple.specs.declared.state.NullState.TheVariants.{Nothing, Nulls, Values, Both}
 use Rattle.range_tuple.proofs.ColumnBytes.{summary_fits, summary_of_values}

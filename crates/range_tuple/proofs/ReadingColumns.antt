@@ -10,8 +10,8 @@ use Rattle.range_tuple.specs.TupleBytes.{columns_bytes, length_bytes, lengths_by
 use Rattle.range_tuple.specs.TupleFaults.{length_at, state_at}
 use Rattle.range_tuple.specs.TupleReading.{behind, columns_in, read_on, state_in, summary_in}
 use Rattle.range_tuple.specs.Tuples.{IndexedColumn, part_of, parts_of}
-use Rattle.range_tuple.specs.declared.classes.AnyClass.{AnyClass}
-use Rattle.range_tuple.specs.declared.classes.AnySummary.{AnySummary}
+use Rattle.opclass_any.specs.declared.classes.AnyClass.{AnyClass}
+use Rattle.opclass_any.specs.declared.classes.AnySummary.{AnySummary}
 use Rattle.range_tuple.specs.declared.state.NullState.{NullState}
 use Rattle.range_tuple.proofs.ByPlace.{parts-set}
 use Rattle.range_tuple.proofs.EachColumn.{flat_set}

@@ -5,7 +5,7 @@ use Rattle.std.proofs.lemmas.Bool.{and_from, and_parts, false≢true}
 use Rattle.std.proofs.lemmas.List.Elements.{All-head, All-tail, All-nil, All-cons}
 use Rattle.block_model.specs.declared.value.Value.{Value}
 use Rattle.block_model.specs.declared.value.Value.TheVariants.{Null, Int, Span, Net}
-use Rattle.range_tuple.specs.ClassLaws.{tested}
+use Rattle.opclass_any.specs.ClassLaws.{tested}
 use Rattle.range_tuple.specs.IncludedRows.{column_includes, includes_there, includes_value, tuple_includes}
 use Rattle.range_tuple.specs.TupleIncludes.{ColumnIncludes, IncludesThere, IncludesValue, TupleIncludes}
 use Rattle.range_tuple.specs.Tuples.{IndexedColumn, Tuple}

@@ -6,14 +6,14 @@ use Rattle.std.specs.Int.{bytes_high_first}
 use Rattle.std.proofs.lemmas.List.{get_or_default, length-append}
 use Rattle.std.proofs.lemmas.List.Sums.{sum_by-cons}
 use Rattle.byte_fields.specs.Fields.{field_at, length-number, number_of, put_at}
-use Rattle.range_tuple.specs.AnyClass.{greatest_size}
+use Rattle.opclass_any.specs.AnyClass.{greatest_size}
 use Rattle.range_tuple.specs.KeptColumns.{IsReadAgain, ReadsAgain}
 use Rattle.range_tuple.specs.NullStates.{has_values}
 use Rattle.range_tuple.specs.TupleBytes.{columns_bytes, flags_of, summaries_bytes, summary_bytes, tuple_bytes}
 use Rattle.range_tuple.specs.TupleFaults.{head_fault, says_empty}
 use Rattle.range_tuple.specs.TupleReading.{columns_in, read_of, says_placeholder, tuple_behind}
 use Rattle.range_tuple.specs.Tuples.{IndexedColumn, IsColumn, IsTuple, Tuple, column_room, tuple_room, has_nothing, parts_of, tuple_of}
-use Rattle.range_tuple.specs.declared.classes.AnyClass.{AnyClass}
+use Rattle.opclass_any.specs.declared.classes.AnyClass.{AnyClass}
 use Rattle.range_tuple.proofs.ByPlace.{length-parts, part_at}
 use Rattle.range_tuple.proofs.HeadFaults.{in_form, nothing_is_said}
 use Rattle.range_tuple.proofs.TuplesInForm.{states_said}

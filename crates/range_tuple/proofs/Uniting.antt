@@ -3,7 +3,7 @@ use Rattle.std.proofs.Common.{◌≡◌, ℕ, Bool, true, false, cond, Option, N
 use Rattle.std.proofs.lemmas.Bool.{false≢true, or_left, or_right}
 use Rattle.block_model.specs.declared.value.Value.{Value}
 use Rattle.block_model.specs.declared.value.Value.TheVariants.{Null, Int, Span, Net}
-use Rattle.range_tuple.specs.AnyClass.{includes, united}
+use Rattle.opclass_any.specs.AnyClass.{includes, united}
 use Rattle.range_tuple.specs.NullStates.{has_nulls, has_values}
 use Rattle.range_tuple.specs.TupleIncludes.{ColumnIncludes, IncludesThere, IncludesValue}
 use Rattle.range_tuple.specs.Tuples.{IndexedColumn, united_column}

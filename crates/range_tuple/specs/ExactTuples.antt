@@ -3,7 +3,7 @@ use Rattle.std.specs.Prelude.{◌≡◌, ℕ, ◌<◌, Bool, not, ◌||◌, if�
 use Rattle.std.specs.List.{filter, flat_map, list_any}
 use Rattle.block_model.specs.declared.value.Value.{Value}
 use Rattle.opclass_api.specs.Conditions.{is_null}
-use Rattle.range_tuple.specs.AnyClass.{exact, united}
+use Rattle.opclass_any.specs.AnyClass.{exact, united}
 use Rattle.range_tuple.specs.NullStates.{has_nulls, has_values}
 use Rattle.range_tuple.specs.Tuples.{IndexedColumn, Tuple, with_row}
 

@@ -3,7 +3,7 @@ use Rattle.std.specs.Prelude.{Bool, false, ◌&&◌, List, slice_get, Option, No
 use Rattle.std.specs.List.{list_all}
 use Rattle.block_model.specs.declared.value.Value.{Value}
 use Rattle.block_model.specs.declared.value.Value.TheVariants.{Null}
-use Rattle.range_tuple.specs.AnyClass.{is_included}
+use Rattle.opclass_any.specs.AnyClass.{is_included}
 use Rattle.range_tuple.specs.NullStates.{has_nulls, has_values}
 use Rattle.range_tuple.specs.Tuples.{IndexedColumn, Tuple}
 

@@ -5,7 +5,7 @@ use Rattle.block_model.specs.declared.value.Op.{Op}
 use Rattle.block_model.specs.declared.value.Op.TheVariants.{IsNull, NotNull}
 use Rattle.block_model.specs.declared.row.Cond.{Cond}
 use Rattle.opclass_api.specs.Conditions.{compares}
-use Rattle.range_tuple.specs.AnyClass.{consistent}
+use Rattle.opclass_any.specs.AnyClass.{consistent}
 use Rattle.range_tuple.specs.NullStates.{has_nulls, has_values}
 use Rattle.range_tuple.specs.Tuples.{IndexedColumn, Tuple}
 use Rattle.range_tuple.specs.declared.state.NullState.{NullState}

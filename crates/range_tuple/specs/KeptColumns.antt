@@ -1,9 +1,9 @@
 -- how columns are kept
 use Rattle.std.specs.Prelude.{◌≡◌, ℕ, ◌<◌, ◌≤◌, ◌^◌, List, length, Ok}
-use Rattle.range_tuple.specs.AnyClass.{is_of, empty, bytes_of, read_of, greatest_size}
+use Rattle.opclass_any.specs.AnyClass.{is_of, empty, bytes_of, read_of, greatest_size}
 use Rattle.range_tuple.specs.Tuples.{IndexedColumn, IsSummaryIn, Tuple, parts_of, tuple_room}
-use Rattle.range_tuple.specs.declared.classes.AnyClass.{AnyClass}
-use Rattle.range_tuple.specs.declared.classes.AnySummary.{AnySummary}
+use Rattle.opclass_any.specs.declared.classes.AnyClass.{AnyClass}
+use Rattle.opclass_any.specs.declared.classes.AnySummary.{AnySummary}
 use Rattle.range_tuple.specs.declared.state.NullState.{NullState}
 
 -- a summary in its state, whose length has room in 2 bytes

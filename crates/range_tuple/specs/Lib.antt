@@ -1,5 +1,3 @@
-pub mod AnyClass
-pub mod ClassLaws
 pub mod ExactTuples
 pub mod IncludedRows
 pub mod Keeps

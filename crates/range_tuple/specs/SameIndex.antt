@@ -5,7 +5,7 @@ use Rattle.block_model.specs.declared.value.Value.{Value}
 use Rattle.block_model.specs.declared.value.Value.TheVariants.{Null, Int, Span, Net}
 use Rattle.range_tuple.specs.TupleIncludes.{ColumnTakes, TakesThere}
 use Rattle.range_tuple.specs.Tuples.{IndexedColumn, emptied, part_of, parts_of, with_row_at, with_value_there}
-use Rattle.range_tuple.specs.declared.classes.AnyClass.{AnyClass}
+use Rattle.opclass_any.specs.declared.classes.AnyClass.{AnyClass}
 
 part_with_there : (column : IndexedColumn) (o : Option Value) → part_of (with_value_there column o) ≡ part_of column
 part_with_there column None = refl

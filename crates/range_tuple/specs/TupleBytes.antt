@@ -2,7 +2,7 @@
 use Rattle.std.specs.Prelude.{ℕ, ◌+◌, Bool, if◌then◌else◌, List, [], ◌∷◌, ◌++◌, length, map}
 use Rattle.std.specs.Int.{bytes_high_first}
 use Rattle.std.specs.List.{flat_map}
-use Rattle.range_tuple.specs.AnyClass.{bytes_of}
+use Rattle.opclass_any.specs.AnyClass.{bytes_of}
 use Rattle.range_tuple.specs.NullStates.{number_of, has_values}
 use Rattle.range_tuple.specs.Tuples.{IndexedColumn, Tuple}
 

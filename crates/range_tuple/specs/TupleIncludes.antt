@@ -2,10 +2,10 @@
 use Rattle.std.specs.Prelude.{◌≡◌, true, All, List, slice_get, Option, None, Some}
 use Rattle.block_model.specs.declared.value.Value.{Value}
 use Rattle.block_model.specs.declared.value.Value.TheVariants.{Null}
-use Rattle.range_tuple.specs.AnyClass.{takes, includes}
+use Rattle.opclass_any.specs.AnyClass.{takes, includes}
 use Rattle.range_tuple.specs.NullStates.{has_nulls, has_values}
 use Rattle.range_tuple.specs.Tuples.{IndexedColumn, Tuple}
-use Rattle.range_tuple.specs.declared.classes.AnyClass.{AnyClass}
+use Rattle.opclass_any.specs.declared.classes.AnyClass.{AnyClass}
 
 -- a null where nulls were added, any other value where values were and the summary includes it
 abbrev pub IncludesValue : IndexedColumn → Value → Type 0

@@ -1,12 +1,12 @@
 -- the tuple of an index that bytes encode, or where they go wrong
 use Rattle.std.specs.Prelude.{ℕ, zero, suc, ◌+◌, ◌*◌, ◌==◌, nat_lt, Bool, true, false, ◌||◌, if◌then◌else◌, List, [], ◌∷◌, ◌++◌, length, take, drop, slice_index, Option, None, Some, Result, Ok, Err}
 use Rattle.byte_fields.specs.Fields.{field_at, number_of}
-use Rattle.range_tuple.specs.AnyClass.{empty, read_of as summary_of}
+use Rattle.opclass_any.specs.AnyClass.{empty, read_of as summary_of}
 use Rattle.range_tuple.specs.NullStates.{has_values}
 use Rattle.range_tuple.specs.TupleFaults.{head_fault, length_at, state_at}
 use Rattle.range_tuple.specs.Tuples.{IndexedColumn, Tuple, tuple_of}
-use Rattle.range_tuple.specs.declared.classes.AnyClass.{AnyClass}
-use Rattle.range_tuple.specs.declared.classes.AnySummary.{AnySummary}
+use Rattle.opclass_any.specs.declared.classes.AnyClass.{AnyClass}
+use Rattle.opclass_any.specs.declared.classes.AnySummary.{AnySummary}
 use Rattle.range_tuple.specs.declared.state.NullState.{NullState}
 use Rattle.range_tuple.specs.declared.state.NullState.TheVariants.{Nothing, Nulls, Values, Both}
 

@@ -6,10 +6,10 @@ use Rattle.block_model.specs.declared.schema.Part.{Part}
 use Rattle.block_model.specs.declared.value.Value.{Value}
 use Rattle.block_model.specs.declared.value.Value.TheVariants.{Null}
 use Rattle.block_model.specs.IndexedColumns.{kind_at}
-use Rattle.range_tuple.specs.AnyClass.{class_of, empty, add, united, is_of, bytes_of, greatest_size}
+use Rattle.opclass_any.specs.AnyClass.{class_of, empty, add, united, is_of, bytes_of, greatest_size}
 use Rattle.range_tuple.specs.NullStates.{has_nulls, has_values, state_of}
-use Rattle.range_tuple.specs.declared.classes.AnyClass.{AnyClass}
-use Rattle.range_tuple.specs.declared.classes.AnySummary.{AnySummary}
+use Rattle.opclass_any.specs.declared.classes.AnyClass.{AnyClass}
+use Rattle.opclass_any.specs.declared.classes.AnySummary.{AnySummary}
 use Rattle.range_tuple.specs.declared.state.NullState.{NullState}
 use Rattle.range_tuple.specs.declared.state.NullState.TheVariants.{Nothing}
 

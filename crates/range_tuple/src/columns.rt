@@ -16,13 +16,13 @@ ghost use Rattle.range_tuple.specs.TupleReading.{columns_in};
 ghost use Rattle.range_tuple.specs.TupleIncludes.{ColumnIncludes, ColumnTakes};
 ghost use Rattle.range_tuple.specs.Tuples.{IndexedColumn, IsColumn, empty_column, emptied, has_nothing, with_row_at, united_columns, parts_of, column_room};
 
-use crate::classes::AnyClass;
 use crate::column::{COLUMN_HEADER, TupleColumn};
 use crate::head::HEADER;
 use crate::spare::SpareColumn;
 use crate::state::NullState;
 use block_model::{Column, Cond, Index, NoMemory, Part, Schema, Value, columns_of, kind_at};
 use byte_fields::{get_u16, put_u16};
+use opclass_any::AnyClass;
 use opclass_api::Malformed;
 use std::alloc::Global;
 

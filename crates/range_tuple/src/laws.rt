@@ -1,14 +1,19 @@
-//! Laws of tuples: what their bytes tell, and what rows leave in them.
+//! Laws of tuples: what their bytes tell, what rows leave in them, and which rows they take.
 
 ghost use Rattle.std.specs.Prelude.{◌≡◌, ◌↔◌, ℕ, Bool, true, List, map};
+ghost use Rattle.block_model.specs.declared.schema.Class.{Class};
 ghost use Rattle.block_model.specs.declared.schema.Column.{Column};
 ghost use Rattle.block_model.specs.declared.schema.Part.{Part};
+ghost use Rattle.block_model.specs.declared.value.Kind.{Kind};
 ghost use Rattle.block_model.specs.declared.value.Value.{Value};
+ghost use Rattle.block_model.specs.ClassLimits.{takes_kind};
 ghost use Rattle.byte_fields.specs.Fields.{field_at, number_of};
+ghost use Rattle.opclass_any.specs.AnyClass.{class_of};
 ghost use Rattle.range_tuple.specs.ExactTuples.{IsExactTuple, IsExactUnion, with_rows};
 ghost use Rattle.range_tuple.specs.IncludedRows.{tuple_includes};
+ghost use Rattle.range_tuple.specs.KindValues.{IsOfKind};
 ghost use Rattle.range_tuple.specs.TupleBytes.{tuple_bytes};
-ghost use Rattle.range_tuple.specs.TupleIncludes.{TupleIncludes};
+ghost use Rattle.range_tuple.specs.TupleIncludes.{TakesValue, TupleIncludes};
 ghost use Rattle.range_tuple.specs.Tuples.{IsTuple, Tuple, empty_column, parts_of, tuple_of, united_tuple};
 
 /// The first four bytes of a tuple spell the number of its range.
@@ -30,4 +35,9 @@ pub fn a_union_adds_what_the_other_had()
 /// A row is included exactly where the test of included rows says so.
 pub fn a_row_is_included_as_tested()
     ensures { (t : Tuple) (row : List Value) → (tuple_includes t row ≡ true) ↔ TupleIncludes t row }
+{}
+
+/// Values of a kind, and null, are taken by the form of each class that takes the kind.
+pub fn values_of_a_kind_are_taken()
+    ensures { (class : Class) (kind : Kind) (v : Value) → takes_kind class kind ≡ true → IsOfKind kind v → TakesValue (class_of class kind) v }
 {}

@@ -1,12 +1,11 @@
 //! Range tuples: what an index keeps of a range of blocks. For each indexed column a tuple has which of nulls and values
 //! rows had there, and a summary of the values; it is a placeholder or final. No call loses a row, and a final tuple that
-//! doesn't keep conditions has no row that matches them. It stands on block_model, byte_fields, opclass_api and the four
-//! crates of classes, which `classes` alone names. The layers above use `RangeTuple`, which is made once an index and read from
+//! doesn't keep conditions has no row that matches them. It stands on block_model, byte_fields, opclass_api and opclass_any, and
+//! names no class. The layers above use `RangeTuple`, which is made once an index and read from
 //! bytes, `ListedTuple` in lists, the laws, and the words in specs/.
 #![tactic(auto)]
 
 mod asked;
-mod classes;
 mod column;
 mod columns;
 mod head;
@@ -16,10 +15,9 @@ mod spare;
 mod state;
 mod tuple;
 
-pub use classes::{AnyClass, AnySummary, values_of_a_kind_are_taken};
 pub use laws::{
     a_row_is_included_as_tested, a_union_adds_what_the_other_had, bytes_begin_with_the_range,
-    rows_leave_exact_summaries,
+    rows_leave_exact_summaries, values_of_a_kind_are_taken,
 };
 pub use listed::ListedTuple;
 pub use state::NullState;

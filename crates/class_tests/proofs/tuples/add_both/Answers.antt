@@ -2,9 +2,9 @@ use Rattle.std.proofs.Common.{ℕ, All, [], ◌∷◌, slice_get, sym, subst}
 use Rattle.std.proofs.lemmas.List.Elements.{All-cons, All-nil}
 use Rattle.block_model.specs.declared.schema.Class.TheVariants as classes
 use Rattle.block_model.specs.declared.value.Kind.TheVariants as kinds
-use Rattle.range_tuple.specs.AnyClass.{class_of}
+use Rattle.opclass_any.specs.AnyClass.{class_of}
 use Rattle.range_tuple.specs.TupleIncludes.{TakesThere}
-use Rattle.range_tuple.specs.declared.classes.AnyClass.{AnyClass}
+use Rattle.opclass_any.specs.declared.classes.AnyClass.{AnyClass}
 use Rattle.range_tuple.specs.SameIndex.{takes_by_parts}
 use Rattle.class_tests.proofs.tuples.add_both.Goals as goal
 

@@ -2,7 +2,7 @@ use Rattle.std.proofs.Common.{ℕ, All, [], ◌∷◌, slice_get, sym, ap, ◌�
 use Rattle.std.proofs.lemmas.List.Elements.{All-cons, All-nil}
 use Rattle.range_tuple.specs.TupleIncludes.{TakesThere}
 use Rattle.range_tuple.specs.Tuples.{Tuple, parts_of}
-use Rattle.range_tuple.specs.declared.classes.AnyClass.{AnyClass}
+use Rattle.opclass_any.specs.declared.classes.AnyClass.{AnyClass}
 use Rattle.range_tuple.specs.SameIndex.{parts-with_row, takes_by_parts}
 use Rattle.class_tests.proofs.tuples.add_number.Goals as goal
 

@@ -1,4 +1,4 @@
-use Rattle.range_tuple.specs.AnyClass.{takes}
+use Rattle.opclass_any.specs.AnyClass.{takes}
 use Rattle.class_tests.proofs.tuples.address.Goals as goal
 
 pub returns-in-Some : goal.returns-in-Some

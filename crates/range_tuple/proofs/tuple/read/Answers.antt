@@ -7,7 +7,7 @@ use Rattle.range_tuple.specs.TupleBytes.{tuple_bytes}
 use Rattle.range_tuple.specs.TupleFaults.{head_fault}
 use Rattle.range_tuple.specs.TupleReading.{columns_in, read_of}
 use Rattle.range_tuple.specs.Tuples.{IndexedColumn, Tuple, part_of, parts_of, tuple_of}
-use Rattle.range_tuple.specs.declared.classes.AnyClass.{AnyClass}
+use Rattle.opclass_any.specs.declared.classes.AnyClass.{AnyClass}
 use Rattle.range_tuple.proofs.ByPlace.{heads_fit, length-parts}
 use Rattle.range_tuple.proofs.HeadFaults.{in_form}
 use Rattle.range_tuple.proofs.TupleRead.{bytes_found, read_back, read_columns, read_head, read_tuple}

@@ -2,7 +2,7 @@ use Rattle.std.proofs.Common.{◌≡◌, true, false, sym, ap, ◌∙◌}
 use Rattle.std.proofs.lemmas.Bool.{false≢true}
 use Rattle.block_model.specs.declared.value.Value.{Value}
 use Rattle.opclass_api.specs.Conditions.{meets_all}
-use Rattle.range_tuple.specs.AnyClass.{includes}
+use Rattle.opclass_any.specs.AnyClass.{includes}
 use Rattle.range_tuple.specs.Keeps.{comparisons, may_meet}
 use Rattle.range_tuple.specs.NullStates.{has_values}
 use Rattle.range_tuple.specs.Tuples.{IndexedColumn}

@@ -1,12 +1,12 @@
 use Rattle.std.proofs.Common.{◌≡◌, ℕ, true, sym, ap, ◌∙◌, subst, rules}
 use Rattle.std.proofs.lemmas.Bool.{false≢true}
 use Rattle.block_model.specs.declared.value.Value.{Value}
-use Rattle.range_tuple.specs.AnyClass.{includes, united}
+use Rattle.opclass_any.specs.AnyClass.{includes, united}
 use Rattle.range_tuple.specs.NullStates.{has_values}
 use Rattle.range_tuple.specs.TupleIncludes.{ColumnIncludes}
 use Rattle.range_tuple.specs.Tuples.{IndexedColumn, part_of, united_column}
-use Rattle.range_tuple.specs.declared.classes.AnyClass.{AnyClass}
-use Rattle.range_tuple.specs.declared.classes.AnySummary.{AnySummary}
+use Rattle.opclass_any.specs.declared.classes.AnyClass.{AnyClass}
+use Rattle.opclass_any.specs.declared.classes.AnySummary.{AnySummary}
 use Rattle.range_tuple.proofs.Uniting.{row_kept, row_taken}
 use Rattle.range_tuple.proofs.column.TupleColumn.unite.Goals.{then-has_values, else-has_values}
 use Rattle.range_tuple.proofs.column.TupleColumn.unite.Goals as goal

@@ -4,11 +4,11 @@ use Rattle.std.proofs.lemmas.Bool.Decides.{nat_tests}
 use Rattle.std.proofs.lemmas.List.{take_min}
 use Rattle.std.proofs.lemmas.Result.{err_from_is_err_and}
 use Rattle.opclass_api.specs.declared.class.Malformed.{Malformed}
-use Rattle.range_tuple.specs.AnyClass.{empty, read_of}
+use Rattle.opclass_any.specs.AnyClass.{empty, read_of}
 use Rattle.range_tuple.specs.NullStates.{has_values}
 use Rattle.range_tuple.specs.TupleReading.{summary_in}
 use Rattle.range_tuple.specs.Tuples.{IndexedColumn}
-use Rattle.range_tuple.specs.declared.classes.AnyClass.{AnyClass}
+use Rattle.opclass_any.specs.declared.classes.AnyClass.{AnyClass}
 use Rattle.range_tuple.proofs.ColumnBytes.{summary_of_none, summary_of_values}
 use Rattle.range_tuple.proofs.ReadBack.{read_fault, read_no_bytes, read_none, read_short, read_whole}
 use Rattle.range_tuple.proofs.spare.SpareColumn.read.Goals as goal

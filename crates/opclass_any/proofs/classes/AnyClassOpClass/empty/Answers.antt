@@ -1,7 +1,7 @@
 use Rattle.std.proofs.Common.{ap}
-use Rattle.range_tuple.specs.declared.classes.AnySummary.TheVariants as kept
-use Rattle.range_tuple.specs.AnyClass.{empty, includes, is_of}
-use Rattle.range_tuple.proofs.classes.AnyClassOpClass.empty.Goals as goal
+use Rattle.opclass_any.specs.declared.classes.AnySummary.TheVariants as kept
+use Rattle.opclass_any.specs.AnyClass.{empty, includes, is_of}
+use Rattle.opclass_any.proofs.classes.AnyClassOpClass.empty.Goals as goal
 
 pub returns-in_ok-empty-in-MinMax-clause-summary : goal.returns-in_ok-empty-in-MinMax-clause-summary
 unfolding empty is_of

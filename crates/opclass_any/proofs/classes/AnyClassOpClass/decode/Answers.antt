@@ -1,13 +1,13 @@
 use Rattle.std.proofs.Common.{◌≡◌, ◌≤◌, ℕ, List, Result, Ok, Err, length}
 use Rattle.std.specs.Prelude.{OnOk, IsOk, IfErr, MatchResult}
-use Rattle.range_tuple.proofs.Forms.{minmax_summary, minmax_other, minmax_again, multi_summary, multi_other, multi_again, span_summary, span_other, span_again, net_summary, net_other, net_again, bloom_summary, bloom_other, bloom_again, kept_read}
+use Rattle.opclass_any.proofs.Forms.{minmax_summary, minmax_other, minmax_again, multi_summary, multi_other, multi_again, span_summary, span_other, span_again, net_summary, net_other, net_again, bloom_summary, bloom_other, bloom_again, kept_read}
 use Rattle.opclass_api.specs.declared.class.Malformed.{Malformed}
-use Rattle.range_tuple.specs.AnyClass.{is_of, bytes_of, read_of}
-use Rattle.range_tuple.specs.declared.classes.AnySummary.TheVariants as kept
-use Rattle.range_tuple.specs.declared.classes.AnyClass.{AnyClass}
-use Rattle.range_tuple.specs.declared.classes.AnySummary.{AnySummary}
-use Rattle.range_tuple.proofs.classes.AnyClassOpClass.decode.Goals.{in-MinMax-MinMax, in-Multi-Multi, in-SpanHull-SpanHull, in-NetHull-NetHull, in-Bloom-Bloom, in_default, in_default-2, in_default-3, in_default-4, in_default-5}
-use Rattle.range_tuple.proofs.classes.AnyClassOpClass.decode.Goals as goal
+use Rattle.opclass_any.specs.AnyClass.{is_of, bytes_of, read_of}
+use Rattle.opclass_any.specs.declared.classes.AnySummary.TheVariants as kept
+use Rattle.opclass_any.specs.declared.classes.AnyClass.{AnyClass}
+use Rattle.opclass_any.specs.declared.classes.AnySummary.{AnySummary}
+use Rattle.opclass_any.proofs.classes.AnyClassOpClass.decode.Goals.{in-MinMax-MinMax, in-Multi-Multi, in-SpanHull-SpanHull, in-NetHull-NetHull, in-Bloom-Bloom, in_default, in_default-2, in_default-3, in_default-4, in_default-5}
+use Rattle.opclass_any.proofs.classes.AnyClassOpClass.decode.Goals as goal
 
 pub decode-requires : goal.decode-requires
 decode-requires c = record { of_class = minmax_summary _ _ _ _ c.in-MinMax-MinMax.is-0 c.in-MinMax-MinMax.is-1 c.requires.of_class }

@@ -1,6 +1,6 @@
 use Rattle.std.proofs.Common.{refl, inl, inr}
-use Rattle.range_tuple.specs.AnyClass.{greatest_size}
-use Rattle.range_tuple.proofs.classes.inclusion_of.Goals as goal
+use Rattle.opclass_any.specs.AnyClass.{greatest_size}
+use Rattle.opclass_any.proofs.classes.inclusion_of.Goals as goal
 
 pub returns-in-Net-clause-size : goal.returns-in-Net-clause-size
 unfolding greatest_size

@@ -2,8 +2,8 @@ use Rattle.std.proofs.Common.{◌≡◌, ℕ, Option, refl, subst, ap}
 use Rattle.std.specs.Prelude.{IfSome, SomeIff}
 use Rattle.opclass_bloom.specs.Encoding.{size_of}
 use Rattle.opclass_bloom.specs.Parameters.{Parameters, AreWithinLimits}
-use Rattle.range_tuple.specs.AnyClass.{greatest_size}
-use Rattle.range_tuple.proofs.classes.AnyClass.of.Goals as goal
+use Rattle.opclass_any.specs.AnyClass.{greatest_size}
+use Rattle.opclass_any.proofs.classes.AnyClass.of.Goals as goal
 
 pub returns-in-MinMax-clause-size : goal.returns-in-MinMax-clause-size
 unfolding greatest_size

@@ -6,10 +6,10 @@ use Rattle.block_model.specs.declared.schema.Class.TheVariants as classes
 use Rattle.block_model.specs.declared.value.Kind.{Kind}
 use Rattle.block_model.specs.declared.value.Kind.TheVariants as kinds
 use Rattle.block_model.specs.declared.value.Value.{Value}
-use Rattle.range_tuple.specs.declared.classes.AnyClass.{AnyClass}
-use Rattle.range_tuple.specs.declared.classes.AnyClass.TheVariants as forms
-use Rattle.range_tuple.specs.declared.classes.AnySummary.{AnySummary}
-use Rattle.range_tuple.specs.declared.classes.AnySummary.TheVariants as kept
+use Rattle.opclass_any.specs.declared.classes.AnyClass.{AnyClass}
+use Rattle.opclass_any.specs.declared.classes.AnyClass.TheVariants as forms
+use Rattle.opclass_any.specs.declared.classes.AnySummary.{AnySummary}
+use Rattle.opclass_any.specs.declared.classes.AnySummary.TheVariants as kept
 use Rattle.opclass_minmax.specs as minmax
 use Rattle.opclass_multi.specs as multi
 use Rattle.opclass_inclusion.specs as inclusion

@@ -1,12 +1,12 @@
 use Rattle.std.proofs.Common.{◌≡◌, ◌<◌, length, ap}
 use Rattle.block_model.specs.declared.value.Value.{Value}
-use Rattle.range_tuple.proofs.Forms.{minmax_summary, minmax_other, multi_summary, multi_other, span_summary, span_other, net_summary, net_other, bloom_summary, bloom_other}
-use Rattle.range_tuple.specs.AnyClass.{is_of, includes, united, bytes_of}
-use Rattle.range_tuple.specs.declared.classes.AnyClass.{AnyClass}
-use Rattle.range_tuple.specs.declared.classes.AnySummary.{AnySummary}
-use Rattle.range_tuple.specs.declared.classes.AnySummary.TheVariants as kept
-use Rattle.range_tuple.proofs.classes.AnyClassOpClass.union.Goals.{in-MinMax-MinMax-MinMax, in-Multi-Multi-Multi, in-SpanHull-SpanHull-SpanHull, in-NetHull-NetHull-NetHull, in-Bloom-Bloom-Bloom, in_default, in_default-2, in_default-3, in_default-4, in_default-5, in_default-6, in_default-7, in_default-8, in_default-9, in_default-10}
-use Rattle.range_tuple.proofs.classes.AnyClassOpClass.union.Goals as goal
+use Rattle.opclass_any.proofs.Forms.{minmax_summary, minmax_other, multi_summary, multi_other, span_summary, span_other, net_summary, net_other, bloom_summary, bloom_other}
+use Rattle.opclass_any.specs.AnyClass.{is_of, includes, united, bytes_of}
+use Rattle.opclass_any.specs.declared.classes.AnyClass.{AnyClass}
+use Rattle.opclass_any.specs.declared.classes.AnySummary.{AnySummary}
+use Rattle.opclass_any.specs.declared.classes.AnySummary.TheVariants as kept
+use Rattle.opclass_any.proofs.classes.AnyClassOpClass.union.Goals.{in-MinMax-MinMax-MinMax, in-Multi-Multi-Multi, in-SpanHull-SpanHull-SpanHull, in-NetHull-NetHull-NetHull, in-Bloom-Bloom-Bloom, in_default, in_default-2, in_default-3, in_default-4, in_default-5, in_default-6, in_default-7, in_default-8, in_default-9, in_default-10}
+use Rattle.opclass_any.proofs.classes.AnyClassOpClass.union.Goals as goal
 
 pub union-requires-clause-of_class : goal.union-requires-clause-of_class
 union-requires-clause-of_class c = minmax_summary _ _ _ _ c.in-MinMax-MinMax-MinMax.is-0 c.in-MinMax-MinMax-MinMax.is-1 c.requires.of_class

@@ -15,11 +15,11 @@ use Rattle.opclass_minmax.specs as minmax
 use Rattle.opclass_multi.specs as multi
 use Rattle.opclass_inclusion.specs as inclusion
 use Rattle.opclass_bloom.specs as bloom
-use Rattle.range_tuple.specs.AnyClass.{takes, is_of, bytes_of, greatest_size, kept_as, read_of}
-use Rattle.range_tuple.specs.declared.classes.AnyClass.{AnyClass}
-use Rattle.range_tuple.specs.declared.classes.AnyClass.TheVariants as forms
-use Rattle.range_tuple.specs.declared.classes.AnySummary.{AnySummary}
-use Rattle.range_tuple.specs.declared.classes.AnySummary.TheVariants as kept
+use Rattle.opclass_any.specs.AnyClass.{takes, is_of, bytes_of, greatest_size, kept_as, read_of}
+use Rattle.opclass_any.specs.declared.classes.AnyClass.{AnyClass}
+use Rattle.opclass_any.specs.declared.classes.AnyClass.TheVariants as forms
+use Rattle.opclass_any.specs.declared.classes.AnySummary.{AnySummary}
+use Rattle.opclass_any.specs.declared.classes.AnySummary.TheVariants as kept
 
 pub minmax_summary : (a : AnyClass) (b : AnySummary) (class : MinMax) (s : Bounds) → a ≡ forms.MinMax class → b ≡ kept.MinMax s → is_of a b → minmax.Bounds.IsSummary s
 unfolding is_of

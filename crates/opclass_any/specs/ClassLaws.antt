@@ -13,11 +13,11 @@ use Rattle.opclass_minmax.specs as minmax
 use Rattle.opclass_multi.specs as multi
 use Rattle.opclass_inclusion.specs as inclusion
 use Rattle.opclass_bloom.specs as bloom
-use Rattle.range_tuple.specs.AnyClass.{add, empty, exact, includes, is_included}
-use Rattle.range_tuple.specs.declared.classes.AnyClass.{AnyClass}
-use Rattle.range_tuple.specs.declared.classes.AnyClass.TheVariants as forms
-use Rattle.range_tuple.specs.declared.classes.AnySummary.{AnySummary}
-use Rattle.range_tuple.specs.declared.classes.AnySummary.TheVariants as kept
+use Rattle.opclass_any.specs.AnyClass.{add, empty, exact, includes, is_included}
+use Rattle.opclass_any.specs.declared.classes.AnyClass.{AnyClass}
+use Rattle.opclass_any.specs.declared.classes.AnyClass.TheVariants as forms
+use Rattle.opclass_any.specs.declared.classes.AnySummary.{AnySummary}
+use Rattle.opclass_any.specs.declared.classes.AnySummary.TheVariants as kept
 
 -- the test says what `includes` does
 pub tested : (class : AnyClass) (s : AnySummary) (v : Value) → (is_included class s v ≡ true) ↔ includes class s v

@@ -1,6 +1,6 @@
-use Rattle.range_tuple.specs.AnyClass.{greatest_size}
-use Rattle.range_tuple.proofs.Forms.{minmax_bound, multi_bound, span_bound, net_bound, bloom_bound, minmax_read, multi_read, span_read, net_read, bloom_read}
-use Rattle.range_tuple.proofs.classes.AnyClassOpClass.greatest_size.Goals as goal
+use Rattle.opclass_any.specs.AnyClass.{greatest_size}
+use Rattle.opclass_any.proofs.Forms.{minmax_bound, multi_bound, span_bound, net_bound, bloom_bound, minmax_read, multi_read, span_read, net_read, bloom_read}
+use Rattle.opclass_any.proofs.classes.AnyClassOpClass.greatest_size.Goals as goal
 
 pub returns-in-MinMax-clause-size : goal.returns-in-MinMax-clause-size
 unfolding greatest_size

@@ -7,10 +7,10 @@ use Rattle.block_model.specs.declared.value.Kind.{Kind}
 use Rattle.block_model.specs.declared.value.Kind.TheVariants as kinds
 use Rattle.block_model.specs.declared.value.Value.{Value}
 use Rattle.block_model.specs.declared.value.Value.TheVariants.{Null, Int, Span, Net}
-use Rattle.range_tuple.specs.AnyClass.{class_of, takes}
+use Rattle.opclass_any.specs.AnyClass.{class_of, takes}
 use Rattle.range_tuple.specs.KindValues.{IsOfKind}
 use Rattle.range_tuple.specs.TupleIncludes.{TakesValue}
-use Rattle.range_tuple.proofs.classes.values_of_a_kind_are_taken.Goals as goal
+use Rattle.range_tuple.proofs.laws.values_of_a_kind_are_taken.Goals as goal
 
 taken : (class : Class) (kind : Kind) (v : Value) → takes_kind class kind ≡ true → IsOfKind kind v → TakesValue (class_of class kind) v
 unfolding takes

@@ -1,6 +1,6 @@
-use Rattle.range_tuple.proofs.Forms.{minmax_summary, minmax_room, minmax_other, multi_summary, multi_room, multi_other, span_summary, span_room, span_other, net_summary, net_room, net_other, bloom_summary, bloom_room, bloom_other}
-use Rattle.range_tuple.specs.AnyClass.{bytes_of, greatest_size}
-use Rattle.range_tuple.proofs.classes.AnyClassOpClass.encode.Goals as goal
+use Rattle.opclass_any.proofs.Forms.{minmax_summary, minmax_room, minmax_other, multi_summary, multi_room, multi_other, span_summary, span_room, span_other, net_summary, net_room, net_other, bloom_summary, bloom_room, bloom_other}
+use Rattle.opclass_any.specs.AnyClass.{bytes_of, greatest_size}
+use Rattle.opclass_any.proofs.classes.AnyClassOpClass.encode.Goals as goal
 
 pub encode-requires-clause-of_class : goal.encode-requires-clause-of_class
 encode-requires-clause-of_class c = minmax_summary _ _ _ _ c.in-MinMax-MinMax.is-0 c.in-MinMax-MinMax.is-1 c.requires.of_class

@@ -1,4 +1,4 @@
-//! The five forms of operator class as one class. This module alone names them.
+//! The five forms of operator class as one class.
 
 ghost use Rattle.std.specs.Prelude.{◌≡◌, true};
 ghost use Rattle.block_model.specs.declared.schema.Class.{Class};
@@ -6,10 +6,8 @@ ghost use Rattle.block_model.specs.declared.value.Kind.{Kind};
 ghost use Rattle.block_model.specs.declared.value.Value.{Value};
 ghost use Rattle.block_model.specs.ClassLimits.{takes_kind, has_lawful_parameters};
 ghost use Rattle.block_model.specs.TupleSize.{summary_size};
-ghost use Rattle.range_tuple.specs.KindValues.{IsOfKind};
-ghost use Rattle.range_tuple.specs.TupleIncludes.{TakesValue};
-ghost use Rattle.range_tuple.specs.AnyClass.{class_of, takes, is_of, includes, is_included, empty, add, united, exact, consistent, bytes_of, read_of, greatest_size};
-ghost use Rattle.range_tuple.specs.ClassLaws.{tested, added_in_order};
+ghost use Rattle.opclass_any.specs.AnyClass.{class_of, takes, is_of, includes, is_included, empty, add, united, exact, consistent, bytes_of, read_of, greatest_size};
+ghost use Rattle.opclass_any.specs.ClassLaws.{tested, added_in_order};
 
 use block_model::{Class, Cond, Kind, NoMemory, Value};
 use opclass_api::{Malformed, OpClass};
@@ -55,11 +53,6 @@ impl AnyClass {
         }
     }
 }
-
-/// Values of a kind, and null, are taken by the form of each class that takes the kind.
-pub fn values_of_a_kind_are_taken()
-    ensures { (class : Class) (kind : Kind) (v : Value) → takes_kind class kind ≡ true → IsOfKind kind v → TakesValue (class_of class kind) v }
-{}
 
 fn inclusion_of(kind: Kind) -> AnyClass
     ensures class { result ≡ class_of Class.Inclusion kind }

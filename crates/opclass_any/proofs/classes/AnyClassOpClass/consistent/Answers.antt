@@ -1,6 +1,6 @@
-use Rattle.range_tuple.proofs.Forms.{minmax_summary, minmax_other, multi_summary, multi_other, span_summary, span_other, net_summary, net_other, bloom_summary, bloom_other}
-use Rattle.range_tuple.specs.AnyClass.{takes, includes, consistent}
-use Rattle.range_tuple.proofs.classes.AnyClassOpClass.consistent.Goals as goal
+use Rattle.opclass_any.proofs.Forms.{minmax_summary, minmax_other, multi_summary, multi_other, span_summary, span_other, net_summary, net_other, bloom_summary, bloom_other}
+use Rattle.opclass_any.specs.AnyClass.{takes, includes, consistent}
+use Rattle.opclass_any.proofs.classes.AnyClassOpClass.consistent.Goals as goal
 
 pub consistent-requires-clause-of_class : goal.consistent-requires-clause-of_class
 consistent-requires-clause-of_class c = minmax_summary _ _ _ _ c.in-MinMax-MinMax.is-0 c.in-MinMax-MinMax.is-1 c.requires.of_class

@@ -1,0 +1,2 @@
+pub mod AnyClass
+pub mod ClassLaws
