@@ -16,6 +16,7 @@ pub mod PagesKept
 pub mod Runs
 pub mod Opening
 pub mod RangeSummarised
+pub mod TupleMoved
 pub mod Verdicts
 pub mod NextSteps
 pub mod OneOutcome

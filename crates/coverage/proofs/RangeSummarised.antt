@@ -1,6 +1,7 @@
 -- A run that takes a range of a new index to its final tuple: the steps, one after the other.
 use Rattle.std.proofs.Common.{◌≡◌, ◌⊎◌, inl, inr, ⊎_elim, ℕ, ◌<◌, ◌≤◌, Option, Some, None, true, false, List, [], ◌∷◌, sym, ◌∙◌, ap, arith, zero, suc}
-use Rattle.std.specs.Prelude.{refl}
+use Rattle.std.specs.Prelude.{refl, Bool, IsTrue}
+use Rattle.std.proofs.lemmas.Bool.{false≢true}
 use Rattle.std.proofs.lemmas.Option.{same_Some, none-some}
 use Rattle.coverage.specs.IndexView.{TuplePlace, IndexTuple, Contents, ExtentUnread, Passing, PageKind, Unstarted, Mapping, Regular, Emptying, Pages}
 use Rattle.coverage.specs.Statements.{Empty, Held, Copied, NotBuilding, Vacant, Placing, IsAt, Statement, Idle, Maintaining, Holding, AreLawful}
@@ -12,13 +13,13 @@ use Rattle.coverage.specs.Steps.{Pass, Unite, UniteCopies, SwapFinal, Maps, Run,
 use Rattle.coverage.proofs.Opening.{new_kept}
 
 -- the first where the numbers are the same
-abbrev at_number : {A : Type 0} → ℕ → ℕ → A → A → A
+abbrev pub at_number : {A : Type 0} → ℕ → ℕ → A → A → A
 at_number zero zero a b = a
 at_number zero (suc m) a b = b
 at_number (suc n) zero a b = b
 at_number (suc n) (suc m) a b = at_number n m a b
 
-at_other : {A : Type 0} → (n m : ℕ) (a b : A) → (n ≡ m) ⊎ (at_number n m a b ≡ b)
+pub at_other : {A : Type 0} → (n m : ℕ) (a b : A) → (n ≡ m) ⊎ (at_number n m a b ≡ b)
 at_other zero zero a b = inl refl
 at_other zero (suc m) a b = inr refl
 at_other (suc n) zero a b = inr refl
@@ -33,49 +34,69 @@ new_kind zero = Mapping
 new_kind (suc zero) = Mapping
 new_kind (suc (suc n)) = Unstarted
 
-abbrev grown_kind : ℕ → PageKind
+abbrev pub grown_kind : ℕ → PageKind
 grown_kind zero = Mapping
 grown_kind (suc zero) = Mapping
 grown_kind (suc (suc zero)) = Regular
 grown_kind (suc (suc (suc n))) = Unstarted
 
-abbrev pages : (ℕ → PageKind) → Pages
-pages kind = record { kind = kind; room = λ p. 0; room_at = λ x. 100; placeholder = 8; map_pages = 1; limit = 16 }
+abbrev pub pages : (ℕ → PageKind) → Pages
+pages kind = record { kind = kind; room = λ p. 0; room_at = λ x. 8; placeholder = 8; map_pages = 1; limit = 16 }
 
-abbrev place : TuplePlace
+abbrev pub place : TuplePlace
 place = record { block = 2; slot = 0 }
 
-abbrev eight : List ℕ
+abbrev pub eight : List ℕ
 eight = 0 ∷ 0 ∷ 0 ∷ 0 ∷ 1 ∷ 0 ∷ 0 ∷ 0 ∷ []
 
--- a tuple with a row added includes all
-abbrev contents : Contents
+-- a tuple with a row added is a byte longer, and includes all
+abbrev pub nine_bytes : List ℕ
+nine_bytes = 0 ∷ 0 ∷ 0 ∷ 0 ∷ 1 ∷ 0 ∷ 0 ∷ 0 ∷ 0 ∷ []
+
+abbrev either : Bool → Bool → Bool
+either true b = true
+either false b = b
+
+either_left : (a b : Bool) → IsTrue a → IsTrue (either a b)
+either_left true b has = refl
+either_left false b has = absurd (false≢true has)
+
+either_right : (a b : Bool) → IsTrue b → IsTrue (either a b)
+either_right true b has = refl
+either_right false b has = has
+
+abbrev pub contents : Contents
 contents = record {
   empty = λ range. record { bytes = eight; range = range; placeholder = true; includes = λ r. false };
-  added = λ r t. record t { includes = λ q. true };
-  united = λ t result. record t { placeholder = false; includes = λ q. true };
+  added = λ r t. record t { bytes = nine_bytes; includes = λ q. true };
+  united = λ t result. record t { placeholder = false; includes = λ q. either (t.includes q) (result.includes q) };
 }
 
 lawful : AreLawful contents
 lawful = record {
   empty = λ range. record { of = refl; placeholder = refl; includes = λ r. refl };
   added = λ r t. record { range = refl; placeholder = refl; wider = λ q has. refl; row = refl };
-  united = λ t result. record { range = refl; placeholder = refl; wider = λ q has. refl; united = λ q has. refl };
+  united = λ t result. record {
+    range = refl;
+    placeholder = refl;
+    wider = λ q has. either_left (t.includes q) (result.includes q) has;
+    united = λ q has. either_right (t.includes q) (result.includes q) has;
+  };
 }
 
 abbrev empty_tuple : IndexTuple
 empty_tuple = record { bytes = eight; range = 0; placeholder = true; includes = λ r. false }
 
 abbrev pub final_tuple : IndexTuple
-final_tuple = record { bytes = eight; range = 0; placeholder = false; includes = λ r. true }
+final_tuple = record { bytes = eight; range = 0; placeholder = false; includes = λ r. false }
 
-abbrev one_tuple : Option IndexTuple → TuplePlace → Option IndexTuple
+abbrev pub one_tuple : Option IndexTuple → TuplePlace → Option IndexTuple
 one_tuple o x = at_number x.block 2 (at_number x.slot 0 o None) None
 
-abbrev one_entry : Option TuplePlace → ℕ → Option TuplePlace
+abbrev pub one_entry : Option TuplePlace → ℕ → Option TuplePlace
 one_entry o m = at_number m 0 o None
 
-abbrev no_locks : ℕ → Option ℕ
+abbrev pub no_locks : ℕ → Option ℕ
 no_locks p = None
 
 abbrev two_locks : ℕ → Option ℕ
@@ -85,7 +106,7 @@ abbrev state : Option TuplePlace → Option IndexTuple → (ℕ → PageKind) �
 state entry tuple kind lock summarise_lock e = record {
   contents = contents;
   pages_per_range = 1;
-  blocks = 1;
+  blocks = 1021;
   row = λ b k. None;
   entry = one_entry entry;
   tuple = one_tuple tuple;
@@ -107,7 +128,7 @@ nothing = None
 abbrev nowhere : Option TuplePlace
 nowhere = None
 
-none_at : (n m : ℕ) → at_number n m nothing None ≡ None
+pub none_at : (n m : ℕ) → at_number n m nothing None ≡ None
 none_at zero zero = refl
 none_at zero (suc m) = refl
 none_at (suc n) zero = refl
@@ -133,7 +154,7 @@ one_two (suc (suc zero)) is = inl refl
 one_two (suc (suc (suc p))) is = absurd (none-some _ is)
 
 abbrev pub S0 : IndexState
-S0 = new_index contents 1 1 (pages new_kind) (λ t. false)
+S0 = new_index contents 1 1021 (pages new_kind) (λ t. false)
 
 abbrev S1 : IndexState
 S1 = state None None new_kind no_locks (Some 0) Holding
@@ -218,13 +239,13 @@ two = BeginRange 0 (turned _ _ _ _ _ _ _ _ _ _ _ _) (reads _ _ _ _ _) (record { 
 three : Step 0 S2 S3
 three = Maintain 0 _ _ (turned _ _ _ _ _ _ _ _ _ _ _ _) (Summarises (ReadNoEntry (no_entry 0) (reads _ _ _ _ _))) (record { counts = λ t. refl })
 
-abbrev kind_number : PageKind → ℕ
+abbrev pub kind_number : PageKind → ℕ
 kind_number Unstarted = 0
 kind_number Mapping = 1
 kind_number Regular = 2
 kind_number Emptying = 3
 
-differ : (n m : ℕ) → n ≡ m → n < m → ⊥
+pub differ : (n m : ℕ) → n ≡ m → n < m → ⊥
 differ n m is less = omega arith
 
 no_room : (q : ℕ) → PageHasRoom (index_view S3) 8 q → ⊥
@@ -406,7 +427,7 @@ new_pages = record { one = refl; map = map; rest = rest; below = omega arith }
     rest (suc (suc p)) high = refl
 
 pub first_kept : IsIndexKept S0
-first_kept = new_kept contents 1 1 (pages new_kind) (λ t. false) lawful (omega arith) new_pages
+first_kept = new_kept contents 1 1021 (pages new_kind) (λ t. false) lawful (omega arith) new_pages
 
 pub range_run : Run (0 ∷ 0 ∷ 0 ∷ 0 ∷ 0 ∷ 0 ∷ 0 ∷ 0 ∷ 0 ∷ 0 ∷ 0 ∷ []) S0 S11
 range_run = Next 0 _ _ _ _ one (Next 0 _ _ _ _ two (Next 0 _ _ _ _ three (Next 0 _ _ _ _ four (Next 0 _ _ _ _ five (Next 0 _ _ _ _ six (Next 0 _ _ _ _ seven

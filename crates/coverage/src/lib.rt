@@ -14,7 +14,7 @@ ghost use Rattle.coverage.specs.IsSound.{IsSound};
 ghost use Rattle.coverage.specs.GoesOn.{GoesOn, IsHeld};
 ghost use Rattle.coverage.specs.Changes.{PutsRow, Places, Names, Turn, IsFree, Swaps, MovePuts, MoveSets, DropsLoose};
 ghost use Rattle.coverage.specs.Changes.{Clears, Sweeps, Prunes, Takes, Ends, TurnsLocks};
-ghost use Rattle.coverage.specs.Statements.{OnIndex, Held, Copied, Phase, NotBuilding, Scan, Statement, Inserting, Maintaining, Scanning, AreLawful};
+ghost use Rattle.coverage.specs.Statements.{OnIndex, Empty, Held, Copied, Phase, NotBuilding, Scan, Statement, Inserting, Maintaining, Scanning, AreLawful};
 ghost use Rattle.coverage.specs.IsCovered.{IndexState, index_view, new_index, AreRowsBelow, IsFoundOrUnread, IsCovered, IsAtRest, IsIndexKept};
 ghost use Rattle.coverage.specs.Steps.{InsertStep, SummariseStep, DesummariseStep, IsRangeExcluded, Step, Run, Stops};
 ghost use Rattle.coverage.specs.PageOrder.{AreOrdered, AreNewPages, KnowsPages};
@@ -181,4 +181,12 @@ pub fn some_step_comes()
 pub fn a_range_is_summarised()
     ensures { (w : IndexState) × (v : IndexState) × (steps : List ℕ) × IsIndexKept w × Run steps w v × (w.entry 0 ≡ None)
         × ((x : TuplePlace) × (t : IndexTuple) × (v.entry 0 ≡ Some x) × (v.tuple x ≡ Some t) × (t.placeholder ≡ false)) }
+{}
+
+/// A run of these steps, from an index that is kept and an insert that has put its row, moves a tuple: the entry names another
+/// place than before, whose tuple includes the row, which the old one doesn't, and nothing stands at the old place.
+pub fn an_insert_moves_a_tuple()
+    ensures { (r : Row) → (w : IndexState) × (v : IndexState) × (steps : List ℕ) × IsIndexKept w × (w.statement 0 ≡ Inserting 0 0 r Empty) × Run steps w v
+        × ((x : TuplePlace) × (y : TuplePlace) × (t : IndexTuple) × (u : IndexTuple) × (x ≢ y) × (w.entry 0 ≡ Some x) × (v.entry 0 ≡ Some y)
+        × (w.tuple x ≡ Some t) × (t.includes r ≡ false) × (v.tuple y ≡ Some u) × IsTrue (u.includes r) × (v.tuple x ≡ None)) }
 {}

@@ -1,0 +1,15 @@
+use Rattle.std.specs.Prelude.{refl, [], ◌∷◌}
+use Rattle.coverage.proofs.RangeSummarised.{place, final_tuple}
+use Rattle.coverage.proofs.TupleMoved.{T1, T6, put_kept, moved_run, moved_place, wide_tuple, places_differ}
+use Rattle.coverage.proofs.an_insert_moves_a_tuple.Goals as goal
+
+pub returns : goal.returns
+returns c = λ r. (
+  T1 r,
+  T6 r,
+  0 ∷ 0 ∷ 0 ∷ 0 ∷ 0 ∷ [],
+  put_kept r,
+  refl,
+  moved_run r,
+  (place, moved_place, final_tuple, wide_tuple, places_differ, refl, refl, refl, refl, refl, refl, refl),
+)
