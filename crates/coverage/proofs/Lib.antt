@@ -17,6 +17,7 @@ pub mod Runs
 pub mod Opening
 pub mod RangeSummarised
 pub mod TupleMoved
+pub mod MapGrown
 pub mod Verdicts
 pub mod NextSteps
 pub mod OneOutcome

@@ -287,5 +287,8 @@ drops r = Insert 0 0 r (Dropping place) _ (turned _ _ _ _ _ _ _ _ _ _ _)
 pub moved_run : (r : Row) → Run (0 ∷ 0 ∷ 0 ∷ 0 ∷ 0 ∷ []) (T1 r) (T6 r)
 moved_run r = Next 0 _ _ _ _ (maps r) (Next 0 _ _ _ _ (copies r) (Next 0 _ _ _ _ (move_put r) (Next 0 _ _ _ _ (sets r) (Next 0 _ _ _ _ (drops r) (Done (T6 r))))))
 
+pub blocks_differ : place.block ≡ moved_place.block → ⊥
+blocks_differ is = differ 2 3 is (omega arith)
+
 pub places_differ : place ≡ moved_place → ⊥
-places_differ is = differ 2 3 (ap (λ (x : TuplePlace). x.block) is) (omega arith)
+places_differ is = blocks_differ (ap (λ (x : TuplePlace). x.block) is)

@@ -6,9 +6,9 @@
 //! specs/Steps it is, and has the rest from here.
 #![tactic(auto)]
 
-ghost use Rattle.std.specs.Prelude.{◌≡◌, ◌≢◌, ◌↔◌, ◌≤◌, ◌<◌, ℕ, Bool, false, IsTrue, Option, None, Some, List};
+ghost use Rattle.std.specs.Prelude.{◌≡◌, ◌≢◌, ◌↔◌, ◌≤◌, ◌<◌, ℕ, suc, Bool, false, IsTrue, Option, None, Some, List};
 ghost use Rattle.block_model.specs.declared.row.Row.{Row};
-ghost use Rattle.coverage.specs.IndexView.{IndexView, Contents, Pages, TuplePlace, IndexTuple, Progress, range_of_block, NamesPlaceholder};
+ghost use Rattle.coverage.specs.IndexView.{IndexView, Contents, Pages, TuplePlace, IndexTuple, Progress, Mapping, range_of_block, next_map_page, NamesPlaceholder};
 ghost use Rattle.coverage.specs.IsSettled.{IsSettled, IsAccounted};
 ghost use Rattle.coverage.specs.IsSound.{IsSound};
 ghost use Rattle.coverage.specs.GoesOn.{GoesOn, IsHeld};
@@ -189,4 +189,12 @@ pub fn an_insert_moves_a_tuple()
     ensures { (r : Row) → (w : IndexState) × (v : IndexState) × (steps : List ℕ) × IsIndexKept w × (w.statement 0 ≡ Inserting 0 0 r Empty) × Run steps w v
         × ((x : TuplePlace) × (y : TuplePlace) × (t : IndexTuple) × (u : IndexTuple) × (x ≢ y) × (w.entry 0 ≡ Some x) × (v.entry 0 ≡ Some y)
         × (w.tuple x ≡ Some t) × (t.includes r ≡ false) × (v.tuple y ≡ Some u) × IsTrue (u.includes r) × (v.tuple x ≡ None)) }
+{}
+
+/// A run of these steps, from an index that is kept, makes the map grow by a page on which a tuple stood: the tuple stands on
+/// another page unchanged, where its entry names it, and the page has become one of the map.
+pub fn a_map_grows()
+    ensures { (w : IndexState) × (v : IndexState) × (steps : List ℕ) × IsIndexKept w × Run steps w v × (v.pages.map_pages ≡ suc w.pages.map_pages)
+        × ((x : TuplePlace) × (y : TuplePlace) × (t : IndexTuple) × (x.block ≡ next_map_page (index_view w)) × (v.pages.kind x.block ≡ Mapping)
+        × (x.block ≢ y.block) × (w.entry t.range ≡ Some x) × (w.tuple x ≡ Some t) × (v.entry t.range ≡ Some y) × (v.tuple y ≡ Some t) × (v.tuple x ≡ None)) }
 {}
