@@ -72,7 +72,7 @@ contents = record {
   united = λ t result. record t { placeholder = false; includes = λ q. either (t.includes q) (result.includes q) };
 }
 
-lawful : AreLawful contents
+pub lawful : AreLawful contents
 lawful = record {
   empty = λ range. record { of = refl; placeholder = refl; includes = λ r. refl };
   added = λ r t. record { range = refl; placeholder = refl; wider = λ q has. refl; row = refl };
@@ -134,7 +134,7 @@ none_at zero (suc m) = refl
 none_at (suc n) zero = refl
 none_at (suc n) (suc m) = none_at n m
 
-no_tuple : (x : TuplePlace) → one_tuple None x ≡ None
+pub no_tuple : (x : TuplePlace) → one_tuple None x ≡ None
 no_tuple x = ap (λ o. at_number x.block 2 o None) (none_at x.slot 0) ∙ none_at x.block 2
 
 no_entry : (n : ℕ) → at_number n 0 nowhere None ≡ None

@@ -16,3 +16,4 @@ pub mod TableEntries
 pub mod TableOnePoint
 pub mod RangesExact
 pub mod NothingSkipped
+pub mod VacuumRun

@@ -148,3 +148,12 @@ pub fn nothing_is_skipped()
     ensures blocks { (s : ℕ) (w v : TableState) (extent next : ℕ) → TableStep s w v → w.task s ≡ Prunes extent next → AfterBlock extent next (v.task s) }
     ensures pages { (s : ℕ) (w v : TableState) (step : TableStep s w v) (at page : ℕ) → w.task s ≡ Sweeps at page → AfterPage step.between at page (v.task s) }
 {}
+
+/// A run of a vacuum over two indexes, from a table that is kept, with any row that doesn't count: the row goes, the tuple that
+/// was left unnamed in each index goes, and then the session rests and the summarise lock is free. No range is whole in it.
+pub fn a_vacuum_ends()
+    ensures { (r : Row) → (w : TableState) × (v : TableState) × (steps : List ℕ) × IsTableKept w × TableRun steps w v × (w.indexes ≡ 2)
+        × (w.row 0 0 ≡ Some r) × (v.row 0 0 ≡ None)
+        × ((x : TuplePlace) × ((i : ℕ) → i < 2 → ((w.index i).tuple x ≢ None) × ((v.index i).tuple x ≡ None)))
+        × (v.task 0 ≡ Resting) × (v.summarise_lock ≡ None) }
+{}
