@@ -2,8 +2,9 @@
 """Times the built program on large scripts: first_script.py PROGRAM. No part of the gate.
 
 Runs a million inserts in one transaction, alone and with a select of all, the same of two sessions in turn, a million
-comments, inserts with a hundred selects of one row each, without and with an index, and 64 sessions that each insert a row and
-select it, in turn; each three times. Tells the best time, lines a second and the peak of memory. The answers go to a file.
+comments, inserts with a hundred selects of one row each, without and with an index, 64 sessions that each insert a row and
+select it, in turn, and a thousand explains over 131,072 ranges of one page; each three times. Tells the best time, lines a
+second and the peak of memory. The answers go to a file.
 """
 import os
 import subprocess
@@ -14,6 +15,8 @@ LINES = 1_000_000
 WORDS = ["run", "table t(a int8)"]
 INDEX = ["index i on t(a minmax)"]
 SMALL_RANGES = ["index i on t(a minmax) pages_per_range 1"]
+ONE_A_PAGE = ["run", "table t(a int8) rows_per_page 1"]
+RANGES = 131_072
 
 
 def inserts(sessions):
@@ -47,6 +50,14 @@ def interleaved():
     yield from (f"s{n} commit\n" for n in range(64))
 
 
+def explains():
+    """The lines that fill a range of one page each, and then explain a query of one row a thousand times."""
+    yield "s begin\n"
+    yield from (f"s insert t {n}\n" for n in range(RANGES))
+    yield "s commit\n"
+    yield from (f"s explain t where a = {n * (RANGES // 1000)}\n" for n in range(1000))
+
+
 def run(program, words, script, out):
     """The seconds and the peak of memory, in kilobytes, of a run; GNU time keeps this process out of the peak."""
     with open(script, "rb") as source, open(out, "wb") as sink:
@@ -68,6 +79,7 @@ def main():
         "inserts, then 100 selects of one row": (WORDS, lambda: [inserts(1), lookups()]),
         "the same with an index": (WORDS + INDEX, lambda: [inserts(1), lookups()]),
         "64 sessions in turn, an insert and a select of its row": (WORDS + SMALL_RANGES, lambda: [interleaved()]),
+        "1,000 explains over 131,072 ranges": (ONE_A_PAGE + SMALL_RANGES, lambda: [explains()]),
         "comments": (WORDS, lambda: [comments()]),
     }
     with tempfile.TemporaryDirectory() as folder:
