@@ -9,7 +9,7 @@ use Rattle.coverage.specs.IsCovered.{IndexState, index_view, IsIndexKept}
 use Rattle.coverage.specs.Steps.{ReadsIndex, Turned, Step, TakeSummariseLock, BeginRange, Maintain, Summarises, ReadNoEntry, GrowMap, Flag, EvacuatePut}
 use Rattle.coverage.specs.Steps.{EvacuateSet, EvacuateDrop, Turn, Count, Run, Done, Next}
 use Rattle.coverage.proofs.RangeSummarised.{at_number, none_at, statement_at, grown_kind, kind_number, differ, pages, place, contents}
-use Rattle.coverage.proofs.RangeSummarised.{final_tuple, one_tuple, one_entry, no_locks, S0, S11, first_kept, range_run}
+use Rattle.coverage.proofs.RangeSummarised.{final_tuple, one_tuple, one_entry, no_locks, new_state, range_done, first_kept, range_run}
 use Rattle.coverage.proofs.TupleMoved.{moved_place, two_tuples, three_locks, own_three, one_of_three, locked_three, tuples_moved, tuples_dropped, entry_moved}
 use Rattle.coverage.proofs.Runs.{run_kept}
 
@@ -55,33 +55,34 @@ state entry tuple all lock e = record {
 abbrev before : TuplePlace → Option IndexTuple
 before = one_tuple (Some final_tuple)
 
-abbrev G1 : IndexState
-G1 = state place before (pages grown_kind) no_locks Holding
+-- the states of the run, each named for the step that led to it
+abbrev lock_taken : IndexState
+lock_taken = state place before (pages grown_kind) no_locks Holding
 
-abbrev G2 : IndexState
-G2 = state place before (pages grown_kind) no_locks (Maintaining 1020 (NotBuilding Empty))
+abbrev range_begun : IndexState
+range_begun = state place before (pages grown_kind) no_locks (Maintaining 1020 (NotBuilding Empty))
 
-abbrev G3 : IndexState
-G3 = state place before (pages grown_kind) no_locks (Maintaining 1020 Vacant)
+abbrev entry_missing : IndexState
+entry_missing = state place before (pages grown_kind) no_locks (Maintaining 1020 Vacant)
 
-abbrev G4 : IndexState
-G4 = state place before (pages flagged_kind) no_locks (Maintaining 1020 Vacant)
+abbrev page_flagged : IndexState
+page_flagged = state place before (pages flagged_kind) no_locks (Maintaining 1020 Vacant)
 
-abbrev G5 : IndexState
-G5 = state place (two_tuples (Some final_tuple) (Some final_tuple)) (pages emptied_kind) three_locks
+abbrev copy_put : IndexState
+copy_put = state place (two_tuples (Some final_tuple) (Some final_tuple)) (pages emptied_kind) three_locks
     (Maintaining 1020 (Evacuating 0 (Moving place moved_place final_tuple final_tuple)))
 
-abbrev G6 : IndexState
-G6 = state moved_place (two_tuples (Some final_tuple) (Some final_tuple)) (pages emptied_kind) three_locks (Maintaining 1020 (Evacuating 0 (Dropping place)))
+abbrev entry_set : IndexState
+entry_set = state moved_place (two_tuples (Some final_tuple) (Some final_tuple)) (pages emptied_kind) three_locks (Maintaining 1020 (Evacuating 0 (Dropping place)))
 
-abbrev G7 : IndexState
-G7 = state moved_place (two_tuples None (Some final_tuple)) (pages emptied_kind) no_locks (Maintaining 1020 Vacant)
+abbrev old_dropped : IndexState
+old_dropped = state moved_place (two_tuples None (Some final_tuple)) (pages emptied_kind) no_locks (Maintaining 1020 Vacant)
 
-abbrev G8 : IndexState
-G8 = state moved_place (two_tuples None (Some final_tuple)) (pages turned_kind) map_locks (Maintaining 1020 Growing)
+abbrev page_turned : IndexState
+page_turned = state moved_place (two_tuples None (Some final_tuple)) (pages turned_kind) map_locks (Maintaining 1020 Growing)
 
-abbrev pub G9 : IndexState
-G9 = state moved_place (two_tuples None (Some final_tuple)) (record (pages turned_kind) { map_pages = 2 }) no_locks (Maintaining 1020 Vacant)
+abbrev pub map_grown : IndexState
+map_grown = state moved_place (two_tuples None (Some final_tuple)) (record (pages turned_kind) { map_pages = 2 }) no_locks (Maintaining 1020 Vacant)
 
 turns : (e f : Statement) (n : ℕ) → (n ≡ 0) ⊎ (statement_at f n ≡ statement_at e n)
 turns e f zero = inl refl
@@ -107,7 +108,7 @@ turned : (entry entry' : TuplePlace) (tuple tuple' : TuplePlace → Option Index
     → Turned 0 (state entry tuple all lock e) (state entry' tuple' all' lock' f) e f
 turned entry entry' tuple tuple' all all' lock lock' e f = record { was = refl; now = refl; others = λ n. turns e f n }
 
-takes : Step 0 S11 G1
+takes : Step 0 range_done lock_taken
 takes = TakeSummariseLock (record { was = refl; now = refl; others = λ n. turns Idle Holding n })
     (record {
       was = refl;
@@ -126,10 +127,10 @@ takes = TakeSummariseLock (record { was = refl; now = refl; others = λ n. turns
     })
     (record { counts = λ t. refl })
 
-begins : Step 0 G1 G2
+begins : Step 0 lock_taken range_begun
 begins = BeginRange 1020 (turned _ _ _ _ _ _ _ _ _ _) (reads _ _) (record { counts = λ t. refl })
 
-looks : Step 0 G2 G3
+looks : Step 0 range_begun entry_missing
 looks = Maintain 1020 _ _ (turned _ _ _ _ _ _ _ _ _ _) (Summarises (ReadNoEntry refl (reads _ _))) (record { counts = λ t. refl })
 
 flag_kinds : (p : ℕ) → (p ≡ 2) ⊎ (flagged_kind p ≡ grown_kind p)
@@ -138,7 +139,7 @@ flag_kinds (suc zero) = inr refl
 flag_kinds (suc (suc zero)) = inl refl
 flag_kinds (suc (suc (suc p))) = inr refl
 
-flags : Step 0 G3 G4
+flags : Step 0 entry_missing page_flagged
 flags = Maintain 1020 _ _ (turned _ _ _ _ _ _ _ _ _ _)
     (Summarises (GrowMap Vacant Vacant (Flag (record { short = omega arith; below = omega arith; is = refl }) (λ n is. absurd (none-some _ is))
     (record {
@@ -180,7 +181,7 @@ put_kinds (suc (suc zero)) = inr refl
 put_kinds (suc (suc (suc zero))) = inl refl
 put_kinds (suc (suc (suc (suc p)))) = inr refl
 
-puts : Step 0 G4 G5
+puts : Step 0 page_flagged copy_put
 puts = Maintain 1020 _ _ (turned _ _ _ _ _ _ _ _ _ _)
     (Summarises (GrowMap Vacant (Evacuating 0 (Moving place moved_place final_tuple final_tuple)) (EvacuatePut place moved_place final_tuple
     (record { short = omega arith; below = omega arith; is = refl })
@@ -214,7 +215,7 @@ puts = Maintain 1020 _ _ (turned _ _ _ _ _ _ _ _ _ _)
     (record { locked = locked_three; only = one_of_three }))))
     (record { counts = λ t. refl })
 
-sets : Step 0 G5 G6
+sets : Step 0 copy_put entry_set
 sets = Maintain 1020 _ _ (turned _ _ _ _ _ _ _ _ _ _)
     (Summarises (GrowMap (Evacuating 0 (Moving place moved_place final_tuple final_tuple)) (Evacuating 0 (Dropping place))
     (EvacuateSet 0 place moved_place final_tuple final_tuple
@@ -235,7 +236,7 @@ sets = Maintain 1020 _ _ (turned _ _ _ _ _ _ _ _ _ _)
     (record { lock = λ p. refl }))))
     (record { counts = λ t. refl })
 
-drops : Step 0 G6 G7
+drops : Step 0 entry_set old_dropped
 drops = Maintain 1020 _ _ (turned _ _ _ _ _ _ _ _ _ _)
     (Summarises (GrowMap (Evacuating 0 (Dropping place)) Vacant
     (EvacuateDrop 0 place
@@ -296,7 +297,7 @@ emptied x t on here = none-some _
     ∙ sym (ap (λ b. at_number b 2 (at_number x.slot 0 None None) (at_number b 3 (at_number x.slot 0 (Some final_tuple) None) None)) on)
     ∙ here)
 
-turns_page : Step 0 G7 G8
+turns_page : Step 0 old_dropped page_turned
 turns_page = Maintain 1020 _ _ (turned _ _ _ _ _ _ _ _ _ _)
     (Summarises (GrowMap Vacant Growing (Turn (record { short = omega arith; below = omega arith; is = refl })
     (λ x t next. emptied x t next.on next.stands)
@@ -324,7 +325,7 @@ turns_page = Maintain 1020 _ _ (turned _ _ _ _ _ _ _ _ _ _)
     }))))
     (record { counts = λ t. refl })
 
-counts_page : Step 0 G8 G9
+counts_page : Step 0 page_turned map_grown
 counts_page = Maintain 1020 _ _ (turned _ _ _ _ _ _ _ _ _ _)
     (Summarises (GrowMap Growing Vacant (Count
     (record {
@@ -342,9 +343,9 @@ counts_page = Maintain 1020 _ _ (turned _ _ _ _ _ _ _ _ _ _)
     }))))
     (record { counts = λ t. refl })
 
-pub summarised_kept : IsIndexKept S11
-summarised_kept = run_kept _ S0 S11 first_kept range_run
+pub summarised_kept : IsIndexKept range_done
+summarised_kept = run_kept _ new_state range_done first_kept range_run
 
-pub growth_run : Run (0 ∷ 0 ∷ 0 ∷ 0 ∷ 0 ∷ 0 ∷ 0 ∷ 0 ∷ 0 ∷ []) S11 G9
+pub growth_run : Run (0 ∷ 0 ∷ 0 ∷ 0 ∷ 0 ∷ 0 ∷ 0 ∷ 0 ∷ 0 ∷ []) range_done map_grown
 growth_run = Next 0 _ _ _ _ takes (Next 0 _ _ _ _ begins (Next 0 _ _ _ _ looks (Next 0 _ _ _ _ flags (Next 0 _ _ _ _ puts (Next 0 _ _ _ _ sets
-    (Next 0 _ _ _ _ drops (Next 0 _ _ _ _ turns_page (Next 0 _ _ _ _ counts_page (Done G9)))))))))
+    (Next 0 _ _ _ _ drops (Next 0 _ _ _ _ turns_page (Next 0 _ _ _ _ counts_page (Done map_grown)))))))))

@@ -153,41 +153,42 @@ one_two (suc zero) is = inr (inl refl)
 one_two (suc (suc zero)) is = inl refl
 one_two (suc (suc (suc p))) is = absurd (none-some _ is)
 
-abbrev pub S0 : IndexState
-S0 = new_index contents 1 1021 (pages new_kind) (λ t. false)
+-- the states of the run, each named for the step that led to it
+abbrev pub new_state : IndexState
+new_state = new_index contents 1 1021 (pages new_kind) (λ t. false)
 
-abbrev S1 : IndexState
-S1 = state None None new_kind no_locks (Some 0) Holding
+abbrev lock_taken : IndexState
+lock_taken = state None None new_kind no_locks (Some 0) Holding
 
-abbrev S2 : IndexState
-S2 = state None None new_kind no_locks (Some 0) (Maintaining 0 (NotBuilding Empty))
+abbrev range_begun : IndexState
+range_begun = state None None new_kind no_locks (Some 0) (Maintaining 0 (NotBuilding Empty))
 
-abbrev S3 : IndexState
-S3 = state None None new_kind no_locks (Some 0) (Maintaining 0 Vacant)
+abbrev entry_missing : IndexState
+entry_missing = state None None new_kind no_locks (Some 0) (Maintaining 0 Vacant)
 
-abbrev S4 : IndexState
-S4 = state None (Some empty_tuple) grown_kind two_locks (Some 0) (Maintaining 0 (Placing place))
+abbrev placeholder_put : IndexState
+placeholder_put = state None (Some empty_tuple) grown_kind two_locks (Some 0) (Maintaining 0 (Placing place))
 
-abbrev S5 : IndexState
-S5 = state (Some place) (Some empty_tuple) grown_kind no_locks (Some 0) (Maintaining 0 (IsAt ExtentUnread Empty))
+abbrev placeholder_named : IndexState
+placeholder_named = state (Some place) (Some empty_tuple) grown_kind no_locks (Some 0) (Maintaining 0 (IsAt ExtentUnread Empty))
 
-abbrev S6 : IndexState
-S6 = state (Some place) (Some empty_tuple) grown_kind no_locks (Some 0) (Maintaining 0 (IsAt (Passing 1 0 empty_tuple) Empty))
+abbrev extent_read : IndexState
+extent_read = state (Some place) (Some empty_tuple) grown_kind no_locks (Some 0) (Maintaining 0 (IsAt (Passing 1 0 empty_tuple) Empty))
 
-abbrev S7 : IndexState
-S7 = state (Some place) (Some empty_tuple) grown_kind no_locks (Some 0) (Maintaining 0 (IsAt (Passing 1 1 empty_tuple) Empty))
+abbrev block_passed : IndexState
+block_passed = state (Some place) (Some empty_tuple) grown_kind no_locks (Some 0) (Maintaining 0 (IsAt (Passing 1 1 empty_tuple) Empty))
 
-abbrev S8 : IndexState
-S8 = state (Some place) (Some empty_tuple) grown_kind no_locks (Some 0) (Maintaining 0 (IsAt (Passing 1 1 empty_tuple) (Held place)))
+abbrev placeholder_read : IndexState
+placeholder_read = state (Some place) (Some empty_tuple) grown_kind no_locks (Some 0) (Maintaining 0 (IsAt (Passing 1 1 empty_tuple) (Held place)))
 
-abbrev S9 : IndexState
-S9 = state (Some place) (Some empty_tuple) grown_kind no_locks (Some 0) (Maintaining 0 (IsAt (Passing 1 1 empty_tuple) (Copied place empty_tuple final_tuple)))
+abbrev result_copied : IndexState
+result_copied = state (Some place) (Some empty_tuple) grown_kind no_locks (Some 0) (Maintaining 0 (IsAt (Passing 1 1 empty_tuple) (Copied place empty_tuple final_tuple)))
 
-abbrev S10 : IndexState
-S10 = state (Some place) (Some final_tuple) grown_kind no_locks (Some 0) Holding
+abbrev final_swapped : IndexState
+final_swapped = state (Some place) (Some final_tuple) grown_kind no_locks (Some 0) Holding
 
-abbrev pub S11 : IndexState
-S11 = state (Some place) (Some final_tuple) grown_kind no_locks None Idle
+abbrev pub range_done : IndexState
+range_done = state (Some place) (Some final_tuple) grown_kind no_locks None Idle
 
 turns_new : (f : Statement) (n : ℕ) → (n ≡ 0) ⊎ (statement_at f n ≡ Idle)
 turns_new f zero = inl refl
@@ -214,7 +215,7 @@ turned : (entry entry' : Option TuplePlace) (tuple tuple' : Option IndexTuple) (
     (e f : Statement) → Turned 0 (state entry tuple kind lock held e) (state entry' tuple' kind' lock' held' f) e f
 turned entry entry' tuple tuple' kind kind' lock lock' held held' e f = record { was = refl; now = refl; others = λ n. turns e f n }
 
-one : Step 0 S0 S1
+one : Step 0 new_state lock_taken
 one = TakeSummariseLock (record { was = refl; now = refl; others = λ n. turns_new Holding n })
     (record {
       was = refl;
@@ -233,10 +234,10 @@ one = TakeSummariseLock (record { was = refl; now = refl; others = λ n. turns_n
     })
     (record { counts = λ t. refl })
 
-two : Step 0 S1 S2
+two : Step 0 lock_taken range_begun
 two = BeginRange 0 (turned _ _ _ _ _ _ _ _ _ _ _ _) (reads _ _ _ _ _) (record { counts = λ t. refl })
 
-three : Step 0 S2 S3
+three : Step 0 range_begun entry_missing
 three = Maintain 0 _ _ (turned _ _ _ _ _ _ _ _ _ _ _ _) (Summarises (ReadNoEntry (no_entry 0) (reads _ _ _ _ _))) (record { counts = λ t. refl })
 
 abbrev pub kind_number : PageKind → ℕ
@@ -248,7 +249,7 @@ kind_number Emptying = 3
 pub differ : (n m : ℕ) → n ≡ m → n < m → ⊥
 differ n m is less = omega arith
 
-no_room : (q : ℕ) → PageHasRoom (index_view S3) 8 q → ⊥
+no_room : (q : ℕ) → PageHasRoom (index_view entry_missing) 8 q → ⊥
 no_room zero has = differ 1 2 (ap kind_number has.1) (omega arith)
 no_room (suc zero) has = differ 1 2 (ap kind_number has.1) (omega arith)
 no_room (suc (suc q)) has = differ 0 2 (ap kind_number has.1) (omega arith)
@@ -282,7 +283,7 @@ put_others t u y = ⊎_elim
     (put_none t y))
     (put_none u y)
 
-four : Step 0 S3 S4
+four : Step 0 entry_missing placeholder_put
 four = Maintain 0 _ _ (turned _ _ _ _ _ _ _ _ _ _ _ _)
     (Summarises (Put place empty_tuple refl refl (λ past. absurd (omega arith))
     (PutGoes place ((OnNew no_room (refl, lowest) (omega arith)), (refl, λ q free. omega arith)) (λ n is. absurd (none-some _ is))
@@ -322,7 +323,7 @@ entry_others : (m : ℕ) → (m ≡ 0) ⊎ (one_entry (Some place) m ≡ one_ent
 entry_others zero = inl refl
 entry_others (suc m) = inr refl
 
-five : Step 0 S4 S5
+five : Step 0 placeholder_put placeholder_named
 five = Maintain 0 _ _ (turned _ _ _ _ _ _ _ _ _ _ _ _)
     (Summarises (Set place (record {
       now = refl;
@@ -340,24 +341,24 @@ five = Maintain 0 _ _ (turned _ _ _ _ _ _ _ _ _ _ _ _)
     }) (λ p is. none-some _ is)))
     (record { counts = λ t. refl })
 
-six : Step 0 S5 S6
+six : Step 0 placeholder_named extent_read
 six = Maintain 0 _ _ (turned _ _ _ _ _ _ _ _ _ _ _ _) (Summarises (Extent 1 empty_tuple refl refl (reads _ _ _ _ _))) (record { counts = λ t. refl })
 
-seven : Step 0 S6 S7
+seven : Step 0 extent_read block_passed
 seven = Maintain 0 _ _ (turned _ _ _ _ _ _ _ _ _ _ _ _)
     (Summarises (Pass 1 0 0 empty_tuple empty_tuple (omega arith) (λ k le. refl) refl (reads _ _ _ _ _)))
     (record { counts = λ t. refl })
 
-eight_th : Step 0 S7 S8
+eight_th : Step 0 block_passed placeholder_read
 eight_th = Maintain 0 _ _ (turned _ _ _ _ _ _ _ _ _ _ _ _)
     (Summarises (Unite 1 1 empty_tuple Empty (Held place) (omega arith) (Maps place refl (reads _ _ _ _ _)))) (record { counts = λ t. refl })
 
-nine : Step 0 S8 S9
+nine : Step 0 placeholder_read result_copied
 nine = Maintain 0 _ _ (turned _ _ _ _ _ _ _ _ _ _ _ _)
     (Summarises (UniteCopies 1 1 empty_tuple place empty_tuple final_tuple (omega arith) (refl, refl) refl (reads _ _ _ _ _)))
     (record { counts = λ t. refl })
 
-ten : Step 0 S9 S10
+ten : Step 0 result_copied final_swapped
 ten = Maintain 0 _ _ (turned _ _ _ _ _ _ _ _ _ _ _ _)
     (Summarises (SwapFinal (Passing 1 1 empty_tuple) place empty_tuple final_tuple (SwapFits (λ n is. absurd (none-some _ is)) refl refl (omega arith))
     (record {
@@ -385,7 +386,7 @@ ten = Maintain 0 _ _ (turned _ _ _ _ _ _ _ _ _ _ _ _)
     })))
     (record { counts = λ t. refl })
 
-eleven : Step 0 S10 S11
+eleven : Step 0 final_swapped range_done
 eleven = GiveSummariseLock (turned _ _ _ _ _ _ _ _ _ _ _ _)
     (record {
       was = refl;
@@ -426,18 +427,18 @@ new_pages = record { one = refl; map = map; rest = rest; below = omega arith }
         differ' p high = omega arith
     rest (suc (suc p)) high = refl
 
-pub first_kept : IsIndexKept S0
+pub first_kept : IsIndexKept new_state
 first_kept = new_kept contents 1 1021 (pages new_kind) (λ t. false) lawful (omega arith) new_pages
 
-pub range_run : Run (0 ∷ 0 ∷ 0 ∷ 0 ∷ 0 ∷ 0 ∷ 0 ∷ 0 ∷ 0 ∷ 0 ∷ 0 ∷ []) S0 S11
+pub range_run : Run (0 ∷ 0 ∷ 0 ∷ 0 ∷ 0 ∷ 0 ∷ 0 ∷ 0 ∷ 0 ∷ 0 ∷ 0 ∷ []) new_state range_done
 range_run = Next 0 _ _ _ _ one (Next 0 _ _ _ _ two (Next 0 _ _ _ _ three (Next 0 _ _ _ _ four (Next 0 _ _ _ _ five (Next 0 _ _ _ _ six (Next 0 _ _ _ _ seven
-    (Next 0 _ _ _ _ eight_th (Next 0 _ _ _ _ nine (Next 0 _ _ _ _ ten (Next 0 _ _ _ _ eleven (Done S11)))))))))))
+    (Next 0 _ _ _ _ eight_th (Next 0 _ _ _ _ nine (Next 0 _ _ _ _ ten (Next 0 _ _ _ _ eleven (Done range_done)))))))))))
 
 abbrev pub final_at : TuplePlace
 final_at = place
 
-pub final_named : S11.entry 0 ≡ Some final_at
+pub final_named : range_done.entry 0 ≡ Some final_at
 final_named = refl
 
-pub final_there : S11.tuple final_at ≡ Some final_tuple
+pub final_there : range_done.tuple final_at ≡ Some final_tuple
 final_there = refl

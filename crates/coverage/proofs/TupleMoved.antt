@@ -9,7 +9,7 @@ use Rattle.coverage.specs.Verdicts.{OnNew, PutGoes, SwapMoves}
 use Rattle.coverage.specs.IsCovered.{IndexState, index_view, IsIndexKept}
 use Rattle.coverage.specs.Steps.{ReadsIndex, Turned, Step, PutRow, Insert, InsertOnIndex, InsertCopies, InsertSet, InsertDrop, Maps, MovePut, Run, Done, Next}
 use Rattle.coverage.proofs.RangeSummarised.{at_number, at_other, none_at, statement_at, grown_kind, kind_number, differ, pages, place, nine_bytes, contents}
-use Rattle.coverage.proofs.RangeSummarised.{final_tuple, one_tuple, one_entry, no_locks, S0, S11, first_kept, range_run}
+use Rattle.coverage.proofs.RangeSummarised.{final_tuple, one_tuple, one_entry, no_locks, new_state, range_done, first_kept, range_run}
 use Rattle.coverage.proofs.Runs.{run_kept, step_kept}
 
 abbrev pub two_kind : ℕ → PageKind
@@ -50,24 +50,25 @@ state r entry tuple kind lock e = record {
   counts = λ t. false;
 }
 
-abbrev pub T1 : Row → IndexState
-T1 r = state r (Some place) (one_tuple (Some final_tuple)) grown_kind no_locks (Inserting 0 0 r Empty)
+-- the states of the run, each named for the step that led to it
+abbrev pub row_put : Row → IndexState
+row_put r = state r (Some place) (one_tuple (Some final_tuple)) grown_kind no_locks (Inserting 0 0 r Empty)
 
-abbrev T2 : Row → IndexState
-T2 r = state r (Some place) (one_tuple (Some final_tuple)) grown_kind no_locks (Inserting 0 0 r (Held place))
+abbrev entry_read : Row → IndexState
+entry_read r = state r (Some place) (one_tuple (Some final_tuple)) grown_kind no_locks (Inserting 0 0 r (Held place))
 
-abbrev T3 : Row → IndexState
-T3 r = state r (Some place) (one_tuple (Some final_tuple)) grown_kind no_locks (Inserting 0 0 r (Copied place final_tuple wide_tuple))
+abbrev tuple_copied : Row → IndexState
+tuple_copied r = state r (Some place) (one_tuple (Some final_tuple)) grown_kind no_locks (Inserting 0 0 r (Copied place final_tuple wide_tuple))
 
-abbrev T4 : Row → IndexState
-T4 r = state r (Some place) (two_tuples (Some final_tuple) (Some wide_tuple)) two_kind three_locks
+abbrev copy_put : Row → IndexState
+copy_put r = state r (Some place) (two_tuples (Some final_tuple) (Some wide_tuple)) two_kind three_locks
     (Inserting 0 0 r (Moving place moved_place final_tuple wide_tuple))
 
-abbrev T5 : Row → IndexState
-T5 r = state r (Some moved_place) (two_tuples (Some final_tuple) (Some wide_tuple)) two_kind three_locks (Inserting 0 0 r (Dropping place))
+abbrev entry_set : Row → IndexState
+entry_set r = state r (Some moved_place) (two_tuples (Some final_tuple) (Some wide_tuple)) two_kind three_locks (Inserting 0 0 r (Dropping place))
 
-abbrev pub T6 : Row → IndexState
-T6 r = state r (Some moved_place) (two_tuples None (Some wide_tuple)) two_kind no_locks Idle
+abbrev pub tuple_moved : Row → IndexState
+tuple_moved r = state r (Some moved_place) (two_tuples None (Some wide_tuple)) two_kind no_locks Idle
 
 turns : (e f : Statement) (n : ℕ) → (n ≡ 0) ⊎ (statement_at f n ≡ statement_at e n)
 turns e f zero = inl refl
@@ -118,7 +119,7 @@ row_others r zero zero = inl (refl, refl)
 row_others r zero (suc j) = inr refl
 row_others r (suc c) j = inr refl
 
-put_row : (r : Row) → Step 0 S11 (T1 r)
+put_row : (r : Row) → Step 0 range_done (row_put r)
 put_row r = PutRow 0 0 r (record { was = refl; now = refl; others = λ n. turns Idle (Inserting 0 0 r Empty) n })
     (record {
       row = record { was = refl; now = refl; others = row_others r; pages_per_range = refl; grown = omega arith; below = omega arith };
@@ -136,20 +137,20 @@ put_row r = PutRow 0 0 r (record { was = refl; now = refl; others = λ n. turns 
     })
     (record { counts = λ t. refl })
 
-pub put_kept : (r : Row) → IsIndexKept (T1 r)
-put_kept r = step_kept 0 S11 (T1 r) (run_kept _ S0 S11 first_kept range_run) (put_row r)
+pub put_kept : (r : Row) → IsIndexKept (row_put r)
+put_kept r = step_kept 0 range_done (row_put r) (run_kept _ new_state range_done first_kept range_run) (put_row r)
 
 turned : (r : Row) (entry entry' : Option TuplePlace) (tuple tuple' : TuplePlace → Option IndexTuple) (kind kind' : ℕ → PageKind) (lock lock' : ℕ → Option ℕ)
     (e f : Statement) → Turned 0 (state r entry tuple kind lock e) (state r entry' tuple' kind' lock' f) e f
 turned r entry entry' tuple tuple' kind kind' lock lock' e f = record { was = refl; now = refl; others = λ n. turns e f n }
 
-maps : (r : Row) → Step 0 (T1 r) (T2 r)
+maps : (r : Row) → Step 0 (row_put r) (entry_read r)
 maps r = Insert 0 0 r Empty _ (turned _ _ _ _ _ _ _ _ _ _ _) (InsertOnIndex Empty (Held place) (Maps place refl (reads _ _ _))) (record { counts = λ t. refl })
 
 lengths_differ : final_tuple ≡ wide_tuple → ⊥
 lengths_differ is = differ 8 9 (ap (λ (t : IndexTuple). length t.bytes) is) (omega arith)
 
-copies : (r : Row) → Step 0 (T2 r) (T3 r)
+copies : (r : Row) → Step 0 (entry_read r) (tuple_copied r)
 copies r = Insert 0 0 r (Held place) _ (turned _ _ _ _ _ _ _ _ _ _ _)
     (InsertCopies place final_tuple wide_tuple (refl, refl) refl (inl (λ is. lengths_differ (sym is))) (reads _ _ _))
     (record { counts = λ t. refl })
@@ -199,7 +200,7 @@ tuples_dropped t u y = ⊎_elim
     (at_other y.block 2 (at_number y.slot 0 None None) (at_number y.block 3 (at_number y.slot 0 (Some u) None) None)))
     (at_other y.block 2 (at_number y.slot 0 (Some t) None) (at_number y.block 3 (at_number y.slot 0 (Some u) None) None))
 
-move_put : (r : Row) → Step 0 (T3 r) (T4 r)
+move_put : (r : Row) → Step 0 (tuple_copied r) (copy_put r)
 move_put r = Insert 0 0 r (Copied place final_tuple wide_tuple) _ (turned _ _ _ _ _ _ _ _ _ _ _)
     (InsertOnIndex (Copied place final_tuple wide_tuple) (Moving place moved_place final_tuple wide_tuple)
     (MovePut place moved_place final_tuple wide_tuple
@@ -236,7 +237,7 @@ pub entry_moved : (m : ℕ) → (m ≡ 0) ⊎ (one_entry (Some moved_place) m �
 entry_moved zero = inl refl
 entry_moved (suc m) = inr refl
 
-sets : (r : Row) → Step 0 (T4 r) (T5 r)
+sets : (r : Row) → Step 0 (copy_put r) (entry_set r)
 sets r = Insert 0 0 r (Moving place moved_place final_tuple wide_tuple) _ (turned _ _ _ _ _ _ _ _ _ _ _)
     (InsertSet place moved_place final_tuple wide_tuple
     (record {
@@ -256,7 +257,7 @@ sets r = Insert 0 0 r (Moving place moved_place final_tuple wide_tuple) _ (turne
     (record { lock = λ p. refl }))
     (record { counts = λ t. refl })
 
-drops : (r : Row) → Step 0 (T5 r) (T6 r)
+drops : (r : Row) → Step 0 (entry_set r) (tuple_moved r)
 drops r = Insert 0 0 r (Dropping place) _ (turned _ _ _ _ _ _ _ _ _ _ _)
     (InsertDrop place
     (record {
@@ -284,8 +285,8 @@ drops r = Insert 0 0 r (Dropping place) _ (turned _ _ _ _ _ _ _ _ _ _ _)
     }))
     (record { counts = λ t. refl })
 
-pub moved_run : (r : Row) → Run (0 ∷ 0 ∷ 0 ∷ 0 ∷ 0 ∷ []) (T1 r) (T6 r)
-moved_run r = Next 0 _ _ _ _ (maps r) (Next 0 _ _ _ _ (copies r) (Next 0 _ _ _ _ (move_put r) (Next 0 _ _ _ _ (sets r) (Next 0 _ _ _ _ (drops r) (Done (T6 r))))))
+pub moved_run : (r : Row) → Run (0 ∷ 0 ∷ 0 ∷ 0 ∷ 0 ∷ []) (row_put r) (tuple_moved r)
+moved_run r = Next 0 _ _ _ _ (maps r) (Next 0 _ _ _ _ (copies r) (Next 0 _ _ _ _ (move_put r) (Next 0 _ _ _ _ (sets r) (Next 0 _ _ _ _ (drops r) (Done (tuple_moved r))))))
 
 pub blocks_differ : place.block ≡ moved_place.block → ⊥
 blocks_differ is = differ 2 3 is (omega arith)

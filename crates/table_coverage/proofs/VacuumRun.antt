@@ -73,23 +73,24 @@ table index row held task = record {
   counts = λ t. false;
 }
 
-abbrev pub V0 : Row → TableState
-V0 r = table all_full (one_row r) None (λ n. Resting)
+-- the states of the run, each named for the step that led to it
+abbrev pub at_rest : Row → TableState
+at_rest r = table all_full (one_row r) None (λ n. Resting)
 
-abbrev V1 : Row → TableState
-V1 r = table all_full (one_row r) (Some 0) (task_at (Prunes 1 0))
+abbrev vacuum_begun : Row → TableState
+vacuum_begun r = table all_full (one_row r) (Some 0) (task_at (Prunes 1 0))
 
-abbrev V2 : Task → TableState
-V2 e = table all_full no_row (Some 0) (task_at e)
+abbrev block_pruned : Task → TableState
+block_pruned e = table all_full no_row (Some 0) (task_at e)
 
-abbrev V3 : Task → TableState
-V3 e = table first_swept no_row (Some 0) (task_at e)
+abbrev first_index_swept : Task → TableState
+first_index_swept e = table first_swept no_row (Some 0) (task_at e)
 
-abbrev V4 : Task → TableState
-V4 e = table both_swept no_row (Some 0) (task_at e)
+abbrev both_indexes_swept : Task → TableState
+both_indexes_swept e = table both_swept no_row (Some 0) (task_at e)
 
-abbrev pub V5 : TableState
-V5 = table both_swept no_row None (task_at Resting)
+abbrev pub vacuum_ended : TableState
+vacuum_ended = table both_swept no_row None (task_at Resting)
 
 same_at : {A : Type 0} → (n m : ℕ) (a : A) → at_number n m a a ≡ a
 same_at zero zero a = refl
@@ -133,7 +134,7 @@ row_below : (r : Row) (b k : ℕ) (q : Row) → one_row r b k ≡ Some q → b <
 row_below r zero k q there = omega arith
 row_below r (suc b) k q there = absurd (none-some _ there)
 
-ordered_with : (r : Row) (i : ℕ) → AreOrdered (index_view_at i (V0 r))
+ordered_with : (r : Row) (i : ℕ) → AreOrdered (index_view_at i (at_rest r))
 ordered_with r i = record {
   counted = summarised_kept.ordered.counted;
   map = summarised_kept.ordered.map;
@@ -144,7 +145,7 @@ ordered_with r i = record {
   entries = λ range x named. absurd (none-some _ named);
 }
 
-index_covered : (r : Row) (i : ℕ) → IsCovered (index_state i (V0 r))
+index_covered : (r : Row) (i : ℕ) → IsCovered (index_state i (at_rest r))
 index_covered r i = record {
   rows_settled = λ b k q there counts. absurd (false≢true counts);
   entries_name_tuples = λ range x named. absurd (none-some _ named);
@@ -154,7 +155,7 @@ index_covered r i = record {
   held_tuples_include = λ s scan is range x held t here of final b k q sees there lies. absurd (idle_scan scan is);
 }
 
-index_rests : (r : Row) (i : ℕ) → IsAtRest (index_state i (V0 r))
+index_rests : (r : Row) (i : ℕ) → IsAtRest (index_state i (at_rest r))
 index_rests r i = record {
   idle = λ s. refl;
   unlocked = λ p. refl;
@@ -162,8 +163,8 @@ index_rests r i = record {
   unnamed_tuples = λ x left. record { stands = λ gone. left_stands x left gone; unnamed = λ range is. none-some _ is; apart = λ s is. none-some _ is };
 }
 
-pub vacuum_kept : (r : Row) → IsTableKept (V0 r)
-vacuum_kept r = table_opened (V0 r)
+pub vacuum_kept : (r : Row) → IsTableKept (at_rest r)
+vacuum_kept r = table_opened (at_rest r)
     (record { indexes = λ i below. index_covered r i; one_builder = λ i j s n range m p q below below' is other. absurd (none-some _ is) })
     (record {
       resting = λ s. refl;
@@ -204,9 +205,9 @@ only_turns index row held task task' = record {
   summarise_lock = refl;
 }
 
-takes : (r : Row) → TableStep 0 (V0 r) (V1 r)
+takes : (r : Row) → TableStep 0 (at_rest r) (vacuum_begun r)
 takes r = record {
-  between = V1 r;
+  between = vacuum_begun r;
   does = TakesLock (Prunes 1 0) Vacuum (record { was = refl; now = refl; others = turns_first (Prunes 1 0) }) refl refl (same_rows _ _ _ _ _ _ _)
       (record { index = λ i. refl });
   settles = GoesOn _ _ (Stays (Prunes 1 0) (omega arith)) (turned _ _ _ _ _ _ _ _) (only_turns _ _ _ _ _);
@@ -249,13 +250,13 @@ not_three q is high = omega arith
 not_less : (n : ℕ) → n < n → ⊥
 not_less n less = omega arith
 
-first_of_all : (e : Task) (n q : ℕ) → HasTuples (V2 e) n q → IsFrom 0 0 n q → IsFrom 0 2 n q
+first_of_all : (e : Task) (n q : ℕ) → HasTuples (block_pruned e) n q → IsFrom 0 0 n q → IsFrom 0 2 n q
 first_of_all e zero q has from = inr (refl, from_two q (tuple_page q has.1))
 first_of_all e (suc n) q has from = inl (omega arith)
 
-prunes : (r : Row) → TableStep 0 (V1 r) (V2 (Sweeps 0 2))
+prunes : (r : Row) → TableStep 0 (vacuum_begun r) (block_pruned (Sweeps 0 2))
 prunes r = record {
-  between = V2 (Prunes 1 1);
+  between = block_pruned (Prunes 1 1);
   does = PrunesBlock 1 0 dropped (omega arith) spares (turned _ _ _ _ _ _ _ _) (record {
     layout = record { indexes = refl; rows_per_page = refl; heap_limit = refl };
     on = dropped_on;
@@ -300,9 +301,9 @@ sweep_places x = ⊎_elim
         let block : x.block ≡ 2 = ap (λ (y : TuplePlace). y.block) is in
         inr (block, (block, (final_tuple, ap (one_tuple (Some final_tuple)) is, λ named. none-some _ named)))
 
-sweep_first : TableStep 0 (V2 (Sweeps 0 2)) (V3 (Sweeps 1 2))
+sweep_first : TableStep 0 (block_pruned (Sweeps 0 2)) (first_index_swept (Sweeps 1 2))
 sweep_first = record {
-  between = V3 (SweepsFrom 0 3);
+  between = first_index_swept (SweepsFrom 0 3);
   does = SweepsPage 0 2 (turned _ _ _ _ _ _ _ _)
       (record { below = omega arith; rows = same_rows _ _ _ _ _ _ _; others = first_others; autosummarize = refl })
       (record {
@@ -336,7 +337,7 @@ sweep_first = record {
   })) (turned _ _ _ _ _ _ _ _) (only_turns _ _ _ _ _);
 }
   where
-    next_of_all : (n q : ℕ) → HasTuples (V3 (SweepsFrom 0 3)) n q → IsFrom 0 3 n q → IsFrom 1 2 n q
+    next_of_all : (n q : ℕ) → HasTuples (first_index_swept (SweepsFrom 0 3)) n q → IsFrom 0 3 n q → IsFrom 1 2 n q
     next_of_all zero q has from = absurd (⊎_elim
         (λ (less : 0 < 0). not_less 0 less)
         (λ (high : (0 ≡ 0) × (3 ≤ q)). not_three q (tuple_page q has.1) high.1)
@@ -344,9 +345,9 @@ sweep_first = record {
     next_of_all (suc zero) q has from = inr (refl, from_two q (tuple_page q has.1))
     next_of_all (suc (suc n)) q has from = inl (omega arith)
 
-sweep_second : TableStep 0 (V3 (Sweeps 1 2)) (V4 (Restarts 0))
+sweep_second : TableStep 0 (first_index_swept (Sweeps 1 2)) (both_indexes_swept (Restarts 0))
 sweep_second = record {
-  between = V4 (SweepsFrom 1 3);
+  between = both_indexes_swept (SweepsFrom 1 3);
   does = SweepsPage 1 2 (turned _ _ _ _ _ _ _ _)
       (record { below = omega arith; rows = same_rows _ _ _ _ _ _ _; others = both_others; autosummarize = refl })
       (record {
@@ -379,7 +380,7 @@ sweep_second = record {
     past : (m : ℕ) → suc (suc m) < 2 → ⊥
     past m less = omega arith
 
-    none_left : (m p : ℕ) → HasTuples (V4 (SweepsFrom 1 3)) m p → IsFrom 1 3 m p → ⊥
+    none_left : (m p : ℕ) → HasTuples (both_indexes_swept (SweepsFrom 1 3)) m p → IsFrom 1 3 m p → ⊥
     none_left zero p has from = ⊎_elim
         (λ (less : 1 < 0). absurd (omega arith))
         (λ (high : (1 ≡ 0) × (3 ≤ p)). differ 0 1 (sym high.0) (omega arith))
@@ -393,26 +394,26 @@ sweep_second = record {
 no_range : 2 ≤ 1 → ⊥
 no_range le = omega arith
 
-restart_first : TableStep 0 (V4 (Restarts 0)) (V4 (Restarts 1))
+restart_first : TableStep 0 (both_indexes_swept (Restarts 0)) (both_indexes_swept (Restarts 1))
 restart_first = record {
-  between = V4 (Considers (WholeRanges 1) 0 0);
+  between = both_indexes_swept (Considers (WholeRanges 1) 0 0);
   does = RestartsIndex 0 (turned _ _ _ _ _ _ _ _) (only_turns _ _ _ _ _);
   settles = GoesOn _ _ (NextIndex 1 0 0 no_range (omega arith)) (turned _ _ _ _ _ _ _ _) (only_turns _ _ _ _ _);
 }
 
-restart_second : TableStep 0 (V4 (Restarts 1)) V5
+restart_second : TableStep 0 (both_indexes_swept (Restarts 1)) vacuum_ended
 restart_second = record {
-  between = V4 (Considers (WholeRanges 1) 1 0);
+  between = both_indexes_swept (Considers (WholeRanges 1) 1 0);
   does = RestartsIndex 1 (turned _ _ _ _ _ _ _ _) (only_turns _ _ _ _ _);
   settles = GivesLock _ (RangesDone (WholeRanges 1) 1 0 no_range refl) (turned _ _ _ _ _ _ _ _) refl (same_rows _ _ _ _ _ _ _)
       (record { index = λ i. refl });
 }
 
-pub vacuum_run : (r : Row) → TableRun (0 ∷ 0 ∷ 0 ∷ 0 ∷ 0 ∷ 0 ∷ []) (V0 r) V5
+pub vacuum_run : (r : Row) → TableRun (0 ∷ 0 ∷ 0 ∷ 0 ∷ 0 ∷ 0 ∷ []) (at_rest r) vacuum_ended
 vacuum_run r = TableNext 0 _ _ _ _ (takes r) (TableNext 0 _ _ _ _ (prunes r) (TableNext 0 _ _ _ _ sweep_first (TableNext 0 _ _ _ _ sweep_second
-    (TableNext 0 _ _ _ _ restart_first (TableNext 0 _ _ _ _ restart_second (TableDone V5))))))
+    (TableNext 0 _ _ _ _ restart_first (TableNext 0 _ _ _ _ restart_second (TableDone vacuum_ended))))))
 
-pub tuples_went : (r : Row) (i : ℕ) → i < 2 → (((V0 r).index i).tuple place ≢ None) × ((V5.index i).tuple place ≡ None)
+pub tuples_went : (r : Row) (i : ℕ) → i < 2 → (((at_rest r).index i).tuple place ≢ None) × ((vacuum_ended.index i).tuple place ≡ None)
 tuples_went r zero low = ((λ is. none-some _ (sym is)), refl)
 tuples_went r (suc zero) low = ((λ is. none-some _ (sym is)), refl)
 tuples_went r (suc (suc i)) low = absurd (past i low)

@@ -1,12 +1,12 @@
 use Rattle.std.specs.Prelude.{refl, [], ◌∷◌}
 use Rattle.coverage.proofs.RangeSummarised.{place, final_tuple}
-use Rattle.coverage.proofs.TupleMoved.{T1, T6, put_kept, moved_run, moved_place, wide_tuple, places_differ}
+use Rattle.coverage.proofs.TupleMoved.{row_put, tuple_moved, put_kept, moved_run, moved_place, wide_tuple, places_differ}
 use Rattle.coverage.proofs.an_insert_moves_a_tuple.Goals as goal
 
 pub returns : goal.returns
 returns c = λ r. (
-  T1 r,
-  T6 r,
+  row_put r,
+  tuple_moved r,
   0 ∷ 0 ∷ 0 ∷ 0 ∷ 0 ∷ [],
   put_kept r,
   refl,
