@@ -8,9 +8,9 @@ use Rattle.coverage.specs.Verdicts.{OnNew, PutGoes}
 use Rattle.coverage.specs.IsCovered.{IndexState, index_view, IsIndexKept}
 use Rattle.coverage.specs.Steps.{ReadsIndex, Turned, Step, TakeSummariseLock, BeginRange, Maintain, Summarises, ReadNoEntry, GrowMap, Flag, EvacuatePut}
 use Rattle.coverage.specs.Steps.{EvacuateSet, EvacuateDrop, Turn, Count, Run, Done, Next}
-use Rattle.coverage.proofs.RangeSummarised.{at_number, none_at, statement_at, grown_kind, kind_number, differ, pages, place, contents}
+use Rattle.coverage.proofs.RangeSummarised.{turns, at_number, none_at, statement_at, grown_kind, kind_number, differ, pages, place, contents}
 use Rattle.coverage.proofs.RangeSummarised.{final_tuple, one_tuple, one_entry, no_locks, new_state, range_done, first_kept, range_run}
-use Rattle.coverage.proofs.TupleMoved.{moved_place, two_tuples, three_locks, own_three, one_of_three, locked_three, tuples_moved, tuples_dropped, entry_moved}
+use Rattle.coverage.proofs.TupleMoved.{no_room, moved_place, two_tuples, three_locks, own_three, one_of_three, locked_three, tuples_moved, tuples_dropped, entry_moved}
 use Rattle.coverage.proofs.Runs.{run_kept}
 
 abbrev flagged_kind : ℕ → PageKind
@@ -83,10 +83,6 @@ page_turned = state moved_place (two_tuples None (Some final_tuple)) (pages turn
 
 abbrev pub map_grown : IndexState
 map_grown = state moved_place (two_tuples None (Some final_tuple)) (record (pages turned_kind) { map_pages = 2 }) no_locks (Maintaining 1020 Vacant)
-
-turns : (e f : Statement) (n : ℕ) → (n ≡ 0) ⊎ (statement_at f n ≡ statement_at e n)
-turns e f zero = inl refl
-turns e f (suc n) = inr refl
 
 reads : (e f : Statement)
     → ReadsIndex 0 (index_view (state place before (pages grown_kind) no_locks e)) (index_view (state place before (pages grown_kind) no_locks f))
@@ -164,9 +160,6 @@ flags = Maintain 1020 _ _ (turned _ _ _ _ _ _ _ _ _ _)
       locks = record { locked = λ p among. absurd among; only = λ p is. none-some _ is };
     }))))
     (record { counts = λ t. refl })
-
-no_room : (n : ℕ) → n ≤ 0 → 0 < n → ⊥
-no_room n low some = omega arith
 
 lowest : (q : ℕ) → flagged_kind q ≡ Unstarted → 3 ≤ q
 lowest zero is = absurd (differ 0 1 (sym (ap kind_number is)) (omega arith))

@@ -118,7 +118,7 @@ state entry tuple kind lock summarise_lock e = record {
   counts = λ t. false;
 }
 
-turns : (e f : Statement) (n : ℕ) → (n ≡ 0) ⊎ (statement_at f n ≡ statement_at e n)
+pub turns : (e f : Statement) (n : ℕ) → (n ≡ 0) ⊎ (statement_at f n ≡ statement_at e n)
 turns e f zero = inl refl
 turns e f (suc n) = inr refl
 

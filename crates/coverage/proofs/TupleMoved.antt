@@ -8,7 +8,7 @@ use Rattle.coverage.specs.Statements.{Empty, Held, Copied, Moving, Dropping, Sta
 use Rattle.coverage.specs.Verdicts.{OnNew, PutGoes, SwapMoves}
 use Rattle.coverage.specs.IsCovered.{IndexState, index_view, IsIndexKept}
 use Rattle.coverage.specs.Steps.{ReadsIndex, Turned, Step, PutRow, Insert, InsertOnIndex, InsertCopies, InsertSet, InsertDrop, Maps, MovePut, Run, Done, Next}
-use Rattle.coverage.proofs.RangeSummarised.{at_number, at_other, none_at, statement_at, grown_kind, kind_number, differ, pages, place, nine_bytes, contents}
+use Rattle.coverage.proofs.RangeSummarised.{turns, at_number, at_other, none_at, statement_at, grown_kind, kind_number, differ, pages, place, nine_bytes, contents}
 use Rattle.coverage.proofs.RangeSummarised.{final_tuple, one_tuple, one_entry, no_locks, new_state, range_done, first_kept, range_run}
 use Rattle.coverage.proofs.Runs.{run_kept, step_kept}
 
@@ -69,10 +69,6 @@ entry_set r = state r (Some moved_place) (two_tuples (Some final_tuple) (Some wi
 
 abbrev pub tuple_moved : Row → IndexState
 tuple_moved r = state r (Some moved_place) (two_tuples None (Some wide_tuple)) two_kind no_locks Idle
-
-turns : (e f : Statement) (n : ℕ) → (n ≡ 0) ⊎ (statement_at f n ≡ statement_at e n)
-turns e f zero = inl refl
-turns e f (suc n) = inr refl
 
 pub own_three : (p n : ℕ) → three_locks p ≡ Some n → n ≡ 0
 own_three zero n is = absurd (none-some _ is)
@@ -155,7 +151,7 @@ copies r = Insert 0 0 r (Held place) _ (turned _ _ _ _ _ _ _ _ _ _ _)
     (InsertCopies place final_tuple wide_tuple (refl, refl) refl (inl (λ is. lengths_differ (sym is))) (reads _ _ _))
     (record { counts = λ t. refl })
 
-no_room : (n : ℕ) → n ≤ 0 → 0 < n → ⊥
+pub no_room : (n : ℕ) → n ≤ 0 → 0 < n → ⊥
 no_room n low some = omega arith
 
 pub lowest_grown : (q : ℕ) → grown_kind q ≡ Unstarted → 3 ≤ q
