@@ -15,7 +15,7 @@ LINES = 1_000_000
 WORDS = ["run", "table t(a int8)"]
 INDEX = ["index i on t(a minmax)"]
 SMALL_RANGES = ["index i on t(a minmax) pages_per_range 1"]
-ONE_A_PAGE = ["run", "table t(a int8) rows_per_page 1"]
+ONE_A_PAGE = ["run", "--heap-blocks=131072", "table t(a int8) rows_per_page 1"]
 RANGES = 131_072
 
 

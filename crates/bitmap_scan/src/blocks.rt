@@ -11,7 +11,7 @@ ghost use Rattle.bitmap_scan.specs.CandidateBlocks.{AddsFront, candidate_blocks}
 ghost use Rattle.bitmap_scan.specs.LeftOut.{LeaveNoMatch};
 
 use block_model::{Blocks, Cond, NoMemory};
-use range_tuple::RangeTuple;
+use range_tuple::{RangeTuple, ScanKeys};
 
 /// Appends the blocks below `blocks` whose range's tuple keeps the conditions, of which there are at most sixteen, in
 /// ascending order. The element at place r of the tuples is of range r, the blocks from r * `pages_per_range`. No row that
@@ -31,10 +31,11 @@ pub fn given(
     ensures left_out { OnOk result (LeaveNoMatch tuples.now conds.now blocks pages_per_range) }
     ensures err { OnErr result (AddsFront (candidate_blocks tuples.now conds.now blocks pages_per_range) out.old out.new) }
 {
+    let keys = ScanKeys::new(conds);
     let mut block = 0u32;
     'candidates: for tuple in tuples {
         let end = blocks.min(block.saturating_add(pages_per_range));
-        append_kept(tuple, conds, block, end, out)?;
+        append_kept(tuple, &keys, block, end, out)?;
         block = end;
     }
     Ok(())
@@ -53,18 +54,17 @@ pub fn all_blocks(blocks: u32, out: &mut Blocks) -> Result<(), NoMemory>
 /// doesn't, no row that it includes matches them.
 fn append_kept(
     tuple: &RangeTuple,
-    conds: &[Cond],
+    keys: &ScanKeys<'_>,
     from: u32,
     end: u32,
     out: &mut Blocks,
 ) -> Result<(), NoMemory>
-    requires in_order { from ≤ end }
-    requires few { length conds.now ≤ MAX_CONDITIONS }
-    ensures ok { OnOk result (out.new ≡ out.old ++ (if keeps tuple.now conds.now then range_with_len from (end - from) else [])) }
-    ensures left_out { keeps tuple.now conds.now ≡ false → (row : List Value) → TupleIncludes tuple.now row → list_all (column_matches row) conds.now ≡ false }
-    ensures err { OnErr result ((keeps tuple.now conds.now ≡ true) × AddsFront (range_with_len from (end - from)) out.old out.new) }
+    requires { from ≤ end }
+    ensures ok { OnOk result (out.new ≡ out.old ++ (if keeps tuple.now keys.now then range_with_len from (end - from) else [])) }
+    ensures left_out { keeps tuple.now keys.now ≡ false → (row : List Value) → TupleIncludes tuple.now row → list_all (column_matches row) keys.now ≡ false }
+    ensures err { OnErr result ((keeps tuple.now keys.now ≡ true) × AddsFront (range_with_len from (end - from)) out.old out.new) }
 {
-    if !tuple.keeps(conds) {
+    if !tuple.keeps_by(keys) {
         return Ok(());
     }
     append(from, end, out)

@@ -1,1 +1,2 @@
 mod BoundsNumbers
+mod NameBytes

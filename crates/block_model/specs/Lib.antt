@@ -8,6 +8,7 @@ pub mod Networks
 pub mod Nets
 pub mod Matches
 pub mod ValuesOfKind
+pub mod KindLists
 pub mod RowMatches
 pub mod TableState
 pub mod DatabaseState

@@ -14,3 +14,6 @@ pub const PAGE_SIZE: usize = 8192;
 
 /// The bytes of a page behind its header.
 pub const PAGE_ROOM: usize = 8160;
+
+/// The bytes of the greatest range tuple that a page takes.
+pub const MAX_TUPLE: u64 = 8156;

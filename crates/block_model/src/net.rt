@@ -18,14 +18,13 @@ pub struct Net {
 
 impl Model for Net {
     ghost use Rattle.block_model.specs.Networks.{Network};
+    ghost use Rattle.block_model.specs.Nets.{network_of, HasNetworkForm, net_of, net_of_network};
 
     ghost Value = { Network };
 
-    ghost use Rattle.block_model.specs.Nets.{network_of, HasNetworkForm, net_of, net_of_network};
+    ghost invariant = { HasNetworkForm };
 
     ghost view = { network_of };
-
-    ghost invariant = { HasNetworkForm };
 
     ghost inverse = { net_of };
 

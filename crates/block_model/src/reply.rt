@@ -34,6 +34,33 @@ pub enum Refusal {
     NothingStarted,
 }
 
+/// What a step of a statement did, where the statement goes on.
+#[derive(Clone, Copy, Debug, PartialEq, Eq)]
+pub enum Point {
+    Row,
+    Ask,
+    Map,
+    Copy,
+    Again,
+    Swap,
+    Put,
+    Set,
+    Drop,
+    Extent,
+    Tuple,
+    Page,
+    Mark,
+    Right,
+    Pass,
+    Clear,
+    Prune,
+    Sweep,
+    Grow,
+    Meta,
+    Flag,
+    Turn,
+}
+
 /// What ends a statement.
 #[derive(Debug, Drop)]
 pub enum Reply {

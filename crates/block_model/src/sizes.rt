@@ -1,11 +1,12 @@
 //! How many bytes a row and a range tuple take.
 
-ghost use Rattle.block_model.specs.declared.limits.TheConstants.{MAX_COLUMNS};
-ghost use Rattle.std.specs.Prelude.{◌≡◌, ◌≤◌, length, map, sum_by};
+ghost use Rattle.block_model.specs.declared.limits.TheConstants.{MAX_COLUMNS, PAGE_ROOM};
+ghost use Rattle.std.specs.Prelude.{◌≡◌, ◌≤◌, ◌/◌, length, map, sum_by};
 ghost use Rattle.block_model.specs.IndexedColumns.{columns_of, kind_at};
 ghost use Rattle.block_model.specs.RowSize.{row_size, value_size};
 ghost use Rattle.block_model.specs.TupleSize.{summary_size, part_size, tuple_size};
 
+use crate::limits::PAGE_ROOM;
 use crate::schema::{Class, Column, Index, Part, Schema};
 use crate::value::Kind;
 
@@ -29,16 +30,25 @@ pub fn kind_at(columns: &[Column], at: u8) -> Kind
     }
 }
 
-/// The bytes of a row.
-pub fn row_size(columns: &[Column]) -> u64
-    requires { length columns.now ≤ MAX_COLUMNS }
+/// How many rows of these columns fit a page; none where there are too many columns.
+pub fn most_rows(columns: &[Column]) -> u16
+    ensures { result ≡ PAGE_ROOM / row_size (map (λ c. c.kind) columns.now) }
+{
+    if columns.len() > PAGE_ROOM {
+        return 0;
+    }
+    (PAGE_ROOM as u64 / row_size(columns)) as u16
+}
+
+fn row_size(columns: &[Column]) -> u64
+    requires { length columns.now ≤ PAGE_ROOM }
     ensures { result ≡ row_size (map (λ c. c.kind) columns.now) }
 {
     22 + u64::from(values_size(columns))
 }
 
 fn values_size(columns: &[Column]) -> u32
-    requires { length columns.now ≤ MAX_COLUMNS }
+    requires { length columns.now ≤ PAGE_ROOM }
     ensures { result ≡ sum_by value_size (map (λ c. c.kind) columns.now) }
 {
     columns.iter().map(|column| value_size(column.kind)).sum()

@@ -2,6 +2,7 @@
 
 ghost use Rattle.std.specs.Prelude.{◌≡◌, ◌≢◌, ◌↔◌, pos, ◌+ℤ◌, IsTrue, MatchOption, IfOk, ◌||◌, if◌then◌else◌, None, Some};
 ghost use Rattle.block_model.specs.Ranges.{Range, Empty, Between, lower_of, upper_of, leaves_room, touches, IsRange};
+ghost use Rattle.block_model.specs.ValuesOfKind.{HasBounds};
 ghost use Rattle.block_model.specs.RangeBounds.{grown_lower, grown_upper, canonical_range, within_int8, range_between, range_from_bounds, HasNumbersBetween};
 
 use std::marker::Model;
@@ -83,11 +84,13 @@ impl Span8 {
         }
     }
 
-    /// Every range that isn't empty has a number. Does nothing.
+    /// Every range that isn't empty has a number, and its bounds are numbers of int8. Does nothing.
     pub fn known(&self)
-        ensures { IsRange self.now }
+        ensures number { IsRange self.now }
+        ensures bounds { HasBounds self.now }
     {
-        let _ = &self.shape;
+        let _lower = self.lower;
+        let _upper = self.upper;
     }
 
     /// Whether no number is in it.

@@ -1,13 +1,16 @@
 //! Values, their kinds, the operators on them, and short lists of them.
 
 ghost use Rattle.block_model.specs.declared.limits.TheConstants.{MAX_COLUMNS};
-ghost use Rattle.std.specs.Prelude.{◌≡◌, ℤ, ◌+◌, ◌<◌, ◌≤◌, ◌==◌, [], ◌∷◌, ◌++◌, length, slice_index_or, slice_get, Some};
+ghost use Rattle.std.specs.Prelude.{◌≡◌, ℤ, ◌+◌, ◌<◌, ◌≤◌, ◌==◌, [], ◌∷◌, ◌++◌, length, map, slice_index_or, slice_get, Some, true};
 ghost use Rattle.block_model.specs.Matches.{matches, kind_matches, number_matches, range_matches, bounds_match, holds_bounds, network_matches, is_within};
 ghost use Rattle.block_model.specs.Ranges.{leaves_room, starts_first, ends_last, same_bound, meets_before, touches, lower_of, upper_of};
 ghost use Rattle.block_model.specs.Networks.{leading_bits};
+ghost use Rattle.block_model.specs.ValuesOfKind.{has_kind, IsValueOf};
+ghost use Rattle.block_model.specs.declared.value.Kind.{Kind as OneKind};
 
 use crate::limits::MAX_COLUMNS;
 use crate::net::Net;
+use crate::schema::Column;
 use crate::span::Span8;
 use std::marker::Model;
 
@@ -26,6 +29,23 @@ pub enum Value {
     Int(i64),
     Span(Span8),
     Net(Net),
+}
+
+impl Value {
+    /// Every value that has a kind is one of that kind: its numbers are of int8, its range has a number, its address 32
+    /// bits. Does nothing.
+    pub fn known(&self)
+        ensures { (kind : OneKind) → has_kind kind self.now ≡ true → IsValueOf kind self.now }
+    {
+        match self {
+            Value::Null => {}
+            Value::Int(number) => {
+                let _number = *number;
+            }
+            Value::Span(range) => range.known(),
+            Value::Net(network) => network.known(),
+        }
+    }
 }
 
 /// An operator of a condition.
@@ -120,51 +140,28 @@ impl Values {
     }
 }
 
-/// Up to eight kinds, seen as their list. It is written beside `Values` because the toolchain takes no array of a type
-/// parameter in a struct.
+/// The kinds of up to eight columns, seen as their list. The toolchain takes no array of a type parameter in a struct,
+/// so that this is no `Values` of another element.
 #[derive(Clone, Copy, Debug, PartialEq, Eq)]
 pub struct Kinds {
     slots: [Kind; MAX_COLUMNS],
     len: usize,
 }
 
-impl Model for Kinds {
-    ghost use Rattle.block_model.specs.declared.limits.TheConstants.{MAX_COLUMNS};
-    ghost use Rattle.std.specs.Prelude.{List, take, length};
-    ghost use Rattle.std.proofs.Common.{sym};
-    ghost use Rattle.block_model.specs.Padded.{padded, IsPadded, length_padded};
-    ghost use Rattle.block_model.specs.declared.value.Kind.{Kind as OneKind};
-    ghost use Rattle.block_model.specs.declared.value.Kind.TheVariants.{Int};
-
-    ghost Value = { List OneKind };
-
-    ghost view = { λ a. take a.len a.slots };
-
-    ghost invariant = { λ a. IsPadded MAX_COLUMNS Int a.slots a.len };
-
-    ghost inverse = { λ kinds. record { slots = padded MAX_COLUMNS Int kinds; len = length kinds } };
-
-    ghost inverse_ok = { λ a h i. record { slots = sym h.fills i; len = length_padded MAX_COLUMNS Int a.slots a.len h i } };
-}
-
 impl Kinds {
-    /// No kind.
-    pub fn new() -> Kinds
-        ensures { result ≡ [] }
+    /// The kinds of these columns, of which there are at most eight.
+    pub fn of(columns: &[Column]) -> Kinds
+        requires { length columns.now ≤ MAX_COLUMNS }
+        ensures { result ≡ map (λ c. c.kind) columns.now }
     {
-        Kinds {
-            slots: [Kind::Int; MAX_COLUMNS],
-            len: 0,
+        let mut slots = [Kind::Int; MAX_COLUMNS];
+        for (at, column) in columns.iter().enumerate() {
+            slots[at] = column.kind;
         }
-    }
-
-    /// Adds a kind at the end; there is room for eight.
-    pub fn push(&mut self, kind: Kind)
-        requires { length self.old < MAX_COLUMNS }
-        ensures { self.new ≡ self.old ++ kind ∷ [] }
-    {
-        self.slots[self.len] = kind;
-        self.len += 1;
+        Kinds {
+            slots,
+            len: columns.len(),
+        }
     }
 
     /// The kinds.
@@ -176,8 +173,24 @@ impl Kinds {
     }
 }
 
-/// Whether a value meets a condition: its operator and key. A null key meets `is null` and `is not null` alone; values
-/// of different kinds meet nothing. Takes no memory.
+impl Model for Kinds {
+    ghost use Rattle.block_model.specs.KindLists.{kinds_in, AreKinds, kinds_kept, kinds_kept_back};
+    ghost use Rattle.block_model.specs.declared.value.Kind.{Kind as OneKind};
+    ghost use Rattle.std.specs.Prelude.{List};
+
+    ghost view = { kinds_in };
+
+    ghost Value = { List OneKind };
+
+    ghost invariant = { AreKinds };
+
+    ghost inverse = { kinds_kept };
+
+    ghost inverse_ok = { kinds_kept_back };
+}
+
+/// Whether a value meets a condition: its operator and key. A null key meets `is null` and `is not null` alone. By any
+/// other operator than these two, values of different kinds meet nothing. Takes no memory.
 pub fn matches(value: &Value, op: Op, key: &Value) -> bool
     ensures { result ≡ matches value.now op key.now }
 {

@@ -4,8 +4,7 @@ use Rattle.std.specs.Prelude.{slice_set, MatchOption, IfOk, Result, Ok, Err}
 use Rattle.std.specs.FinMap as map
 use Rattle.std.proofs.lemmas.List.{append-nil, get_or-set_same, set-get_or}
 use Rattle.block_model.specs.DatabaseState.{DatabaseState, OpenTransaction}
-use Rattle.block_model.specs.SerialRun.{replies_to}
-use Rattle.block_model.specs.declared.row.Row.{Row}
+use Rattle.block_model.specs.declared.request.Entry.{Entry}
 use Rattle.block_model.specs.declared.row.Query.{Query}
 use Rattle.block_model.specs.declared.reply.Reply.{Reply}
 use Rattle.block_model.specs.declared.reply.Reply.TheVariants as replies
@@ -13,8 +12,10 @@ use Rattle.block_model.specs.declared.reply.Refusal.{Refusal}
 use Rattle.block_model.specs.declared.reply.Refusal.TheVariants as refusals
 use Rattle.statements.specs.declared.statement.Statement.{Statement}
 use Rattle.statements.specs.declared.statement.Statement.TheVariants as statements
-use Rattle.statements.specs.StatementRequests.{refusal_at, submission_refusal, requests_of, unless_refused, reply_unless_refused, statement_requests, statement_reply}
-use Rattle.statements.specs.JournalAnswers.{Explaining, database_of, rows_of, reply_at, reply_behind, requests_behind}
+use Rattle.statements.specs.StatementRequests.{refusal_at, submission_refusal, statement_reply}
+use Rattle.statements.specs.TakenStatements.{taken_requests, taken_reply, refused_requests, refused_reply}
+use Rattle.statements.specs.HeapRoom.{finds_full, full_table}
+use Rattle.statements.specs.JournalAnswers.{Opening, database_of, rows_of, reply_behind, requests_behind}
 use Rattle.statements.specs.declared.limits.TheConstants.{MAX_ENTRIES}
 use Rattle.range_summaries.specs.ExplainedBlocks.{explained}
 use Rattle.session_core.specs.StoreState.{StoreState, IsRefinement, hand_of, with_hand}
@@ -28,44 +29,32 @@ explain_taken None q r e = cc
 explain_taken (Some x) q r e = cc
 
 -- what isn't taken is answered why
-refused_reply : (s : DatabaseState) (n : ℕ) (statement : Statement) (r : Refusal) → refusal_at s n statement ≡ Some r → statement_reply s n false statement ≡ replies.Refused r
-unfolding statement_reply
-refused_reply s n statement r h = ap (λ o. reply_unless_refused o statement (replies_to s (requests_of s n false statement))) h
+refused : (o : Opening) (j : List Entry) (n : ℕ) (statement : Statement) (r : Refusal) → refusal_at (database_of o j) n statement ≡ Some r
+    → statement_reply (full_table o.layout) (database_of o j) n false (finds_full o.layout (rows_of o j) statement) statement ≡ Some (replies.Refused r)
+refused o j n statement r h = refused_reply (full_table o.layout) (database_of o j) n false (finds_full o.layout (rows_of o j) statement) statement r h
 
-refused_at : (explained : Explaining) (s : DatabaseState) (rows : List Row) (n : ℕ) (statement : Statement) (r : Refusal) → refusal_at s n statement ≡ Some r → reply_at explained s rows n false statement ≡ replies.Refused r
-refused_at explained s rows n statements.Begin r h = refused_reply s n statements.Begin r h
-refused_at explained s rows n statements.Commit r h = refused_reply s n statements.Commit r h
-refused_at explained s rows n statements.Rollback r h = refused_reply s n statements.Rollback r h
-refused_at explained s rows n (statements.Insert table values) r h = refused_reply s n (statements.Insert table values) r h
-refused_at explained s rows n (statements.Select q) r h = refused_reply s n (statements.Select q) r h
-refused_at explained s rows n (statements.Delete q) r h = refused_reply s n (statements.Delete q) r h
-refused_at explained s rows n (statements.Explain q) r h = absurd (explain_taken (map.get s.sessions n) q r h)
-refused_at explained s rows n (statements.Summarize index block) r h = refused_reply s n (statements.Summarize index block) r h
-refused_at explained s rows n (statements.Desummarize index block) r h = refused_reply s n (statements.Desummarize index block) r h
-refused_at explained s rows n (statements.Vacuum table) r h = refused_reply s n (statements.Vacuum table) r h
-refused_at explained s rows n statements.Work r h = refused_reply s n statements.Work r h
-
--- and makes no request
-refused_requests : (s : DatabaseState) (n : ℕ) (short : Bool) (statement : Statement) (r : Refusal) → refusal_at s n statement ≡ Some r → statement_requests s n short statement ≡ []
-unfolding statement_requests
-refused_requests s n short statement r h = ap (λ o. unless_refused o (requests_of s n short statement)) h
-
-taken_requests : (s : DatabaseState) (n : ℕ) (short : Bool) (statement : Statement) → refusal_at s n statement ≡ None → statement_requests s n short statement ≡ requests_of s n short statement
-unfolding statement_requests
-taken_requests s n short statement h = ap (λ o. unless_refused o (requests_of s n short statement)) h
-
-taken_reply : (s : DatabaseState) (n : ℕ) (short : Bool) (statement : Statement) → refusal_at s n statement ≡ None → statement_reply s n short statement ≡ reply_unless_refused None statement (replies_to s (requests_of s n short statement))
-unfolding statement_reply
-taken_reply s n short statement h = ap (λ o. reply_unless_refused o statement (replies_to s (requests_of s n short statement))) h
+refused_behind : (o : Opening) (j : List Entry) (n : ℕ) (statement : Statement) (r : Refusal) → refusal_at (database_of o j) n statement ≡ Some r → reply_behind explained o j n false statement ≡ Some (replies.Refused r)
+refused_behind o j n statements.Begin r h = refused o j n statements.Begin r h
+refused_behind o j n statements.Commit r h = refused o j n statements.Commit r h
+refused_behind o j n statements.Rollback r h = refused o j n statements.Rollback r h
+refused_behind o j n (statements.Insert table values) r h = refused o j n (statements.Insert table values) r h
+refused_behind o j n (statements.Select q) r h = refused o j n (statements.Select q) r h
+refused_behind o j n (statements.Delete q) r h = refused o j n (statements.Delete q) r h
+refused_behind o j n (statements.Explain q) r h = absurd (explain_taken (map.get (database_of o j).sessions n) q r h)
+refused_behind o j n (statements.Summarize index block) r h = refused o j n (statements.Summarize index block) r h
+refused_behind o j n (statements.Desummarize index block) r h = refused o j n (statements.Desummarize index block) r h
+refused_behind o j n (statements.Vacuum table) r h = refused o j n (statements.Vacuum table) r h
+refused_behind o j n statements.Work r h = refused o j n statements.Work r h
 
 -- nothing is done, and this is the reply
-unchanged : (s : StoreState) (n : ℕ) (statement : Statement) (short : Bool) (reply : Reply) → IsRefinement s → requests_behind s.journal n short statement ≡ [] → reply ≡ reply_behind (explained s.layout.schema) s.journal n short statement → EndsStatement s n statement s reply
+unchanged : (s : StoreState) (n : ℕ) (statement : Statement) (short : Bool) (reply : Reply) → IsRefinement s → requests_behind s.opening s.journal n short statement ≡ [] → Some reply ≡ reply_behind explained s.opening s.journal n short statement
+    → EndsStatement s n statement s reply
 unchanged s n statement short reply known none replied = record {
   short = short;
   replied = replied;
   journal = sym (ap (λ l. s.journal ++ l) none ∙ append-nil s.journal);
   fits = known.fits;
-  layout = refl;
+  opening = refl;
   names = refl;
   hands = refl;
 }
@@ -73,42 +62,42 @@ unchanged s n statement short reply known none replied = record {
 -- what speaks against a statement is what its reply says
 refused_acts : (s : StoreState) (n : ℕ) (statement : Statement) (r : Refusal) → IsRefinement s → refusal_at s.database n statement ≡ Some r → EndsStatement s n statement s (replies.Refused r)
 refused_acts s n statement r known h =
-    let at : refusal_at (database_of s.journal) n statement ≡ Some r = subst (λ (d : DatabaseState). refusal_at d n statement ≡ Some r) known.shown h in
-    unchanged s n statement false (replies.Refused r) known (refused_requests (database_of s.journal) n false statement r at)
-    (sym (refused_at (explained s.layout.schema) (database_of s.journal) (rows_of s.journal) n statement r at))
+    let at : refusal_at (database_of s.opening s.journal) n statement ≡ Some r = subst (λ (d : DatabaseState). refusal_at d n statement ≡ Some r) known.shown h in
+    unchanged s n statement false (replies.Refused r) known
+    (refused_requests (database_of s.opening s.journal) n false (finds_full s.opening.layout (rows_of s.opening s.journal) statement) statement r at)
+    (sym (refused_behind s.opening s.journal n statement r at))
 
 -- memory is short before the step
-short_requests : (s : DatabaseState) (n : ℕ) (statement : Statement) → may_want_memory statement ≡ true → refusal_at s n statement ≡ None → statement_requests s n true statement ≡ []
-short_requests s n statements.Begin may h = taken_requests s n true statements.Begin h
-short_requests s n statements.Commit may h = absurd (cc)
-short_requests s n statements.Rollback may h = absurd (cc)
-short_requests s n (statements.Insert table values) may h = absurd (cc)
-short_requests s n (statements.Select q) may h = absurd (cc)
-short_requests s n (statements.Delete q) may h = absurd (cc)
-short_requests s n (statements.Explain q) may h = taken_requests s n true (statements.Explain q) h
-short_requests s n (statements.Summarize index block) may h = absurd (cc)
-short_requests s n (statements.Desummarize index block) may h = absurd (cc)
-short_requests s n (statements.Vacuum table) may h = absurd (cc)
-short_requests s n statements.Work may h = absurd (cc)
+short_requests : (o : Opening) (j : List Entry) (n : ℕ) (statement : Statement) → may_want_memory statement ≡ true → refusal_at (database_of o j) n statement ≡ None → requests_behind o j n true statement ≡ []
+short_requests o j n statements.Begin may h = taken_requests (database_of o j) n true false statements.Begin h
+short_requests o j n statements.Commit may h = absurd (cc)
+short_requests o j n statements.Rollback may h = absurd (cc)
+short_requests o j n (statements.Insert table values) may h = absurd (cc)
+short_requests o j n (statements.Select q) may h = absurd (cc)
+short_requests o j n (statements.Delete q) may h = absurd (cc)
+short_requests o j n (statements.Explain q) may h = taken_requests (database_of o j) n true false (statements.Explain q) h
+short_requests o j n (statements.Summarize index block) may h = absurd (cc)
+short_requests o j n (statements.Desummarize index block) may h = absurd (cc)
+short_requests o j n (statements.Vacuum table) may h = absurd (cc)
+short_requests o j n statements.Work may h = absurd (cc)
 
-short_reply : (explained : Explaining) (s : DatabaseState) (rows : List Row) (n : ℕ) (statement : Statement) → may_want_memory statement ≡ true → refusal_at s n statement ≡ None → reply_at explained s rows n true statement ≡ replies.Refused refusals.Memory
-short_reply explained s rows n statements.Begin may h = taken_reply s n true statements.Begin h
-short_reply explained s rows n statements.Commit may h = absurd (cc)
-short_reply explained s rows n statements.Rollback may h = absurd (cc)
-short_reply explained s rows n (statements.Insert table values) may h = absurd (cc)
-short_reply explained s rows n (statements.Select q) may h = absurd (cc)
-short_reply explained s rows n (statements.Delete q) may h = absurd (cc)
-short_reply explained s rows n (statements.Explain q) may h = refl
-short_reply explained s rows n (statements.Summarize index block) may h = absurd (cc)
-short_reply explained s rows n (statements.Desummarize index block) may h = absurd (cc)
-short_reply explained s rows n (statements.Vacuum table) may h = absurd (cc)
-short_reply explained s rows n statements.Work may h = absurd (cc)
+short_reply : (o : Opening) (j : List Entry) (n : ℕ) (statement : Statement) → may_want_memory statement ≡ true → refusal_at (database_of o j) n statement ≡ None → reply_behind explained o j n true statement ≡ Some (replies.Refused refusals.Memory)
+short_reply o j n statements.Begin may h = taken_reply (full_table o.layout) (database_of o j) n true false statements.Begin h
+short_reply o j n statements.Commit may h = absurd (cc)
+short_reply o j n statements.Rollback may h = absurd (cc)
+short_reply o j n (statements.Insert table values) may h = absurd (cc)
+short_reply o j n (statements.Select q) may h = absurd (cc)
+short_reply o j n (statements.Delete q) may h = absurd (cc)
+short_reply o j n (statements.Explain q) may h = refl
+short_reply o j n (statements.Summarize index block) may h = absurd (cc)
+short_reply o j n (statements.Desummarize index block) may h = absurd (cc)
+short_reply o j n (statements.Vacuum table) may h = absurd (cc)
+short_reply o j n statements.Work may h = absurd (cc)
 
 short_acts : (s : StoreState) (n : ℕ) (statement : Statement) → IsRefinement s → may_want_memory statement ≡ true → refusal_at s.database n statement ≡ None → EndsStatement s n statement s (replies.Refused refusals.Memory)
 short_acts s n statement known may h =
-    let at : refusal_at (database_of s.journal) n statement ≡ None = subst (λ (d : DatabaseState). refusal_at d n statement ≡ None) known.shown h in
-    unchanged s n statement true (replies.Refused refusals.Memory) known (short_requests (database_of s.journal) n statement may at)
-    (sym (short_reply (explained s.layout.schema) (database_of s.journal) (rows_of s.journal) n statement may at))
+    let at : refusal_at (database_of s.opening s.journal) n statement ≡ None = subst (λ (d : DatabaseState). refusal_at d n statement ≡ None) known.shown h in
+    unchanged s n statement true (replies.Refused refusals.Memory) known (short_requests s.opening s.journal n statement may at) (sym (short_reply s.opening s.journal n statement may at))
 
 -- why a statement wasn't taken, where nothing is in hand
 because_of : (s : StoreState) (n : ℕ) (statement : Statement) (refusal : Refusal) (o : Option Refusal) → IsRefinement s → refusal_at s.database n statement ≡ o
@@ -146,22 +135,24 @@ taken_ends s s₁ s' n statement reply within idle is ends =
     let same : at.statement ≡ statement = sym (put_in_hand s n statement at.statement within at.in_hand) in
     record {
       short = at.short;
-      replied = at.replied ∙ ap (λ st. reply_behind (explained s.layout.schema) s.journal n at.short st) same;
-      journal = at.journal ∙ ap (λ st. s.journal ++ requests_behind s.journal n at.short st) same;
+      replied = at.replied ∙ ap (λ st. reply_behind explained s.opening s.journal n at.short st) same;
+      journal = at.journal ∙ ap (λ st. s.journal ++ requests_behind s.opening s.journal n at.short st) same;
       fits = at.fits;
-      layout = at.layout;
+      opening = at.opening;
       names = at.names;
       hands = at.hands ∙ set_again s.hands n (Some statement) None ∙ ap (λ h. slice_set s.hands n h) (sym idle) ∙ set-get_or s.hands n None;
     }
 
 -- a statement that was taken and doesn't fit
-pub taken_past : (s s₁ : StoreState) (n : ℕ) (statement : Statement) → n < length s.hands → s₁ ≡ with_hand s n (Some statement) → HandPastJournal s₁ n → StatementPastJournal s n statement
-taken_past s s₁ n statement within is full =
-    let at : HandPastJournal (with_hand s n (Some statement)) n = subst (λ (t : StoreState). HandPastJournal t n) is full in
+pub taken_past : (s s₁ s' : StoreState) (n : ℕ) (statement : Statement) → n < length s.hands → s₁ ≡ with_hand s n (Some statement) → HandPastJournal s₁ n s' → StatementPastJournal s n statement s'
+taken_past s s₁ s' n statement within is full =
+    let at : HandPastJournal (with_hand s n (Some statement)) n s' = subst (λ (t : StoreState). HandPastJournal t n s') is full in
     let same : at.lacks.statement ≡ statement = sym (put_in_hand s n statement at.lacks.statement within at.lacks.in_hand) in
     record {
       short = at.lacks.short;
-      past = subst (λ (st : Statement). MAX_ENTRIES < length s.journal + length (requests_behind s.journal n at.lacks.short st)) same at.lacks.past;
+      past = subst (λ (st : Statement). MAX_ENTRIES < length s.journal + length (requests_behind s.opening s.journal n at.lacks.short st)) same at.lacks.past;
+      names = ap (λ (t : StoreState). t.names) at.same;
+      journal = ap (λ (t : StoreState). t.journal) at.same;
     }
 
 pub ok_ends : {E : Type 0} (s s₁ s' : StoreState) (n : ℕ) (statement : Statement) (result : Result Reply E) → n < length s.hands → hand_of s n ≡ None → s₁ ≡ with_hand s n (Some statement) → IfOk result (λ reply. Ends s₁ n s' reply)

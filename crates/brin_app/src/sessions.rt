@@ -1,14 +1,14 @@
 //! The sessions of a script.
 
-ghost use Rattle.std.specs.Prelude.{◌≡◌, ◌≢◌, ◌<◌, ◌++◌, None, Ok, IfOk, OnOk, IsErrOf, IsSome, ℕ, List, length};
+ghost use Rattle.std.specs.Prelude.{◌≡◌, ◌≢◌, ◌<◌, ◌++◌, None, Ok, IfOk, IfErr, OnOk, IsErrOf, IsSome, ℕ, List, length};
 ghost use Rattle.query_words.specs.LineFits.{IsLineFor};
+ghost use Rattle.statements.specs.JournalAnswers.{new_opening};
 ghost use Rattle.statements.specs.StatementFits.{IsStatementFor};
-ghost use Rattle.brin_app.specs.ScriptTexts.{fault_text, script_start, ScriptLacksRoom};
-ghost use Rattle.range_summaries.specs.ExplainedBlocks.{explained};
+ghost use Rattle.brin_app.specs.ScriptTexts.{fault_text, script_start};
 ghost use Rattle.session_core.specs.StoreState.{hand_of};
 ghost use Rattle.session_core.specs.Steps.{Ends};
 ghost use Rattle.brin_app.specs.Acting.{EndsStatement, StatementPastJournal, HandPastJournal, AreIdle};
-ghost use Rattle.brin_app.specs.SessionPlaces.{place_of, IsAnswered, IsSaid, IsTooMuch};
+ghost use Rattle.brin_app.specs.SessionPlaces.{place_of, IsAnswered, IsSaid, IsStopped, StopsLine};
 
 use block_model::{Name, NoMemory, Refusal, Reply};
 use query_words::{Line, LineFault, Order, read_line};
@@ -27,11 +27,11 @@ pub struct Sessions {
 }
 
 impl Engine for Sessions {
-    ghost use Rattle.brin_app.specs.SessionPlaces.{AnswersLine, LacksRoomFor};
+    ghost use Rattle.brin_app.specs.SessionPlaces.{AnswersLine, StopsLine};
 
     ghost answers = { AnswersLine };
 
-    ghost lacks_room = { LacksRoomFor };
+    ghost stops = { StopsLine };
 
     fn answer(&mut self, line: &[u8], out: &mut Vec<u8>) -> Result<(), AnswerFault> {
         answer_line(self, line, out)
@@ -42,7 +42,7 @@ impl Sessions {
     /// No session and no row, over a store of this layout.
     pub fn new(alloc: Global, layout: Layout) -> Result<Sessions, NoMemory>
         ensures place { IfOk result (λ s. place_of s.store ≡ script_start) }
-        ensures layout { IfOk result (λ s. s.store.layout ≡ layout) }
+        ensures opening { IfOk result (λ s. s.store.opening ≡ new_opening layout) }
         ensures idle { IfOk result (λ s. AreIdle s.store) }
     {
         let store = Store::new(alloc, layout)?;
@@ -53,7 +53,7 @@ impl Sessions {
 /// Appends the text of a line, and does what it says.
 fn answer_line(sessions: &mut Sessions, line: &[u8], out: &mut Vec<u8>) -> Result<(), AnswerFault>
     ensures ok { OnOk result ((text : List ℕ) × (out.new.items ≡ out.old.items ++ text) × (AreIdle sessions.old.store → IsAnswered sessions.old.store line.now text sessions.new.store)) }
-    ensures full { AreIdle sessions.old.store → IsErrOf result AnswerFault.Full → ScriptLacksRoom (explained sessions.old.store.layout.schema) sessions.old.store.layout.schema (place_of sessions.old.store) line.now }
+    ensures stops { IfErr result (λ fault. StopsLine sessions.old line.now fault sessions.new) }
 {
     match read_line(sessions.alloc, line, sessions.store.layout()) {
         Ok(line) => obey(&mut sessions.store, line, out),
@@ -79,9 +79,9 @@ fn refuse(fault: LineFault, out: &mut Vec<u8>) -> Result<(), AnswerFault>
 
 /// Does what a line says, and appends its text.
 fn obey(store: &mut Store, line: Line, out: &mut Vec<u8>) -> Result<(), AnswerFault>
-    requires { IsLineFor store.old.layout.schema line }
+    requires { IsLineFor store.old.opening.layout.schema line }
     ensures ok { OnOk result ((text : List ℕ) × (out.new.items ≡ out.old.items ++ text) × (AreIdle store.old → IsSaid store.old (Ok line) text store.new)) }
-    ensures full { AreIdle store.old → IsErrOf result AnswerFault.Full → IsTooMuch store.old (Ok line) }
+    ensures stops { AreIdle store.old → IfErr result (λ fault. IsStopped store.old (Ok line) fault store.new) }
 {
     match line {
         Line::Nothing => {
@@ -102,9 +102,9 @@ fn say(
     statement: Statement,
     out: &mut Vec<u8>,
 ) -> Result<(), AnswerFault>
-    requires { IsStatementFor store.old.layout.schema statement }
+    requires { IsStatementFor store.old.opening.layout.schema statement }
     ensures ok { OnOk result ((text : List ℕ) × (out.new.items ≡ out.old.items ++ text) × (AreIdle store.old → IsSaid store.old (Ok (Line.Say session.now (Order.Whole statement))) text store.new)) }
-    ensures full { AreIdle store.old → IsErrOf result AnswerFault.Full → IsTooMuch store.old (Ok (Line.Say session.now (Order.Whole statement))) }
+    ensures stops { AreIdle store.old → IfErr result (λ fault. IsStopped store.old (Ok (Line.Say session.now (Order.Whole statement))) fault store.new) }
 {
     let number = match store.session(*session) {
         Ok(number) => number,
@@ -124,9 +124,10 @@ fn say(
 /// Does what a statement of the session says, or says why it isn't taken.
 fn act(store: &mut Store, session: u32, statement: Statement) -> Result<Reply, AnswerFault>
     requires session { session < length store.old.names }
-    requires statement { IsStatementFor store.old.layout.schema statement }
+    requires statement { IsStatementFor store.old.opening.layout.schema statement }
     ensures ok { hand_of store.old session ≡ None → IfOk result (λ reply. EndsStatement store.old session statement store.new reply) }
-    ensures full { hand_of store.old session ≡ None → IsErrOf result AnswerFault.Full → StatementPastJournal store.old session statement }
+    ensures full { hand_of store.old session ≡ None → IsErrOf result AnswerFault.Full → StatementPastJournal store.old session statement store.new }
+    ensures memory { ¬ (IsErrOf result AnswerFault.Memory) }
 {
     store.known();
     match store.submit(session, statement) {
@@ -139,7 +140,7 @@ fn act(store: &mut Store, session: u32, statement: Statement) -> Result<Reply, A
 fn step(store: &mut Store, session: u32) -> Result<Reply, AnswerFault>
     requires { IsSome (hand_of store.old session) }
     ensures ok { IfOk result (λ reply. Ends store.old session store.new reply) }
-    ensures full { IsErrOf result AnswerFault.Full → HandPastJournal store.old session }
+    ensures full { IsErrOf result AnswerFault.Full → HandPastJournal store.old session store.new }
     ensures memory { ¬ (IsErrOf result AnswerFault.Memory) }
 {
     match store.step(session) {

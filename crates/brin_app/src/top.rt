@@ -5,6 +5,7 @@ ghost use Rattle.block_model.specs.Causes.{Rose};
 ghost use Rattle.store_layout.specs.DiskLayout.{DiskLayout};
 ghost use Rattle.store_layout.specs.FirstBrokenRule.{first_broken_rule};
 ghost use Rattle.block_model.specs.declared.schema.Schema.{Schema};
+ghost use Rattle.statements.specs.JournalAnswers.{new_opening};
 ghost use Rattle.schema_words.specs.DeclaredSchema.{Denotes};
 ghost use Rattle.brin_app.specs.ScriptOutput.{IsLayoutFor, AsksFor, AsksForNothing, IsScriptOutput, HasSpentCauses, IsComplete, exit_status};
 
@@ -29,7 +30,7 @@ pub fn brin_main<S: Source, K: Sink>(
     source: &mut S,
     sink: &mut K,
 ) -> u8
-    ensures script_output { (layout : DiskLayout) → AsksFor words.now layout → IsScriptOutput result layout.schema (S.left source.old) (S.left source.new) (K.taken sink.old) (K.taken sink.new) }
+    ensures script_output { (layout : DiskLayout) → AsksFor words.now layout → IsScriptOutput result (new_opening layout) (S.left source.old) (S.left source.new) (K.taken sink.old) (K.taken sink.new) }
 
     // When each status comes. Want of memory, 7, is free.
     ensures usage { result ≡ 2 → AsksForNothing words.now }
@@ -37,8 +38,8 @@ pub fn brin_main<S: Source, K: Sink>(
     ensures untouched { AsksForNothing words.now → (source.new ≡ source.old) × (sink.new ≡ sink.old) }
     ensures read_fault { result ≡ 4 → Rose (S.faults source.old) (S.faults source.new) }
     ensures write_fault { result ≡ 5 → Rose (K.faults sink.old) (K.faults sink.new) }
-    ensures spent { (layout : DiskLayout) → AsksFor words.now layout → HasSpentCauses result layout.schema (S.left source.old) (S.left source.new) }
-    ensures complete { (layout : DiskLayout) → AsksFor words.now layout → IsComplete result layout.schema (S.left source.old) (Rose (S.faults source.old) (S.faults source.new)) (Rose (K.faults sink.old) (K.faults sink.new)) }
+    ensures spent { (layout : DiskLayout) → AsksFor words.now layout → HasSpentCauses result (new_opening layout) (S.left source.old) (S.left source.new) }
+    ensures complete { (layout : DiskLayout) → AsksFor words.now layout → IsComplete result (new_opening layout) (S.left source.old) (Rose (S.faults source.old) (S.faults source.new)) (Rose (K.faults sink.old) (K.faults sink.new)) }
 {
     match read_words(alloc, words) {
         Ok(layout) => run_script(alloc, layout, source, sink),
@@ -118,7 +119,7 @@ fn layout_of(schema: Schema, sizes: Sizes) -> Result<Layout, WordsFault>
 
 /// Runs the script of the source over a new database.
 fn run_script<S: Source, K: Sink>(alloc: Global, layout: Layout, source: &mut S, sink: &mut K) -> u8
-    ensures script_output { IsScriptOutput result layout.schema (S.left source.old) (S.left source.new) (K.taken sink.old) (K.taken sink.new) }
+    ensures script_output { IsScriptOutput result (new_opening layout) (S.left source.old) (S.left source.new) (K.taken sink.old) (K.taken sink.new) }
     ensures read_fault { result ≡ 4 → Rose (S.faults source.old) (S.faults source.new) }
     ensures write_fault { result ≡ 5 → Rose (K.faults sink.old) (K.faults sink.new) }
 {

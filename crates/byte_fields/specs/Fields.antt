@@ -82,13 +82,20 @@ bytes-number xs small =
 pub length-field : (bytes : List ℕ) (at n : ℕ) → at + n ≤ length bytes → length (field_at bytes at n) ≡ n
 length-field bytes at n within = length-take-le n (drop at bytes) (omega (arith, length-drop at bytes))
 
+-- bytes behind others are bytes, and so is a front of them
+pub AreBytes-drop : (n : ℕ) (bytes : List ℕ) → AreBytes bytes → AreBytes (drop n bytes)
+AreBytes-drop n bytes small i = rw (get_or-drop n bytes i 0) (small (n + i))
+
+pub AreBytes-take : (n : ℕ) (bytes : List ℕ) → AreBytes bytes → AreBytes (take n bytes)
+AreBytes-take n bytes small i =
+    elim (cases_lt i n) [
+      | inl lt ↦ rw (get_or-take n bytes i 0 lt) (small i)
+      | inr le ↦ rw (get_or_past (take n bytes) i 0 (omega (arith, length-take n bytes))) (omega arith)
+    ]
+
 -- the bytes of a field are bytes
 AreBytes-field : (bytes : List ℕ) (at n : ℕ) → AreBytes bytes → AreBytes (field_at bytes at n)
-AreBytes-field bytes at n small i =
-    elim (cases_lt i n) [
-      | inl lt ↦ rw (get_or-take n (drop at bytes) i 0 lt, get_or-drop at bytes i 0) (small (at + i))
-      | inr le ↦ rw (get_or_past (field_at bytes at n) i 0 (omega (arith, length-take n (drop at bytes)))) (omega arith)
-    ]
+AreBytes-field bytes at n small = AreBytes-take n (drop at bytes) (AreBytes-drop at bytes small)
 
 -- a put is a write to a part
 pub put-part : (bytes : List ℕ) (at n x : ℕ) → put_at bytes at n x ≡ put_mid at n bytes (bytes_high_first n x)

@@ -1,2 +1,3 @@
 pub mod Fields
 pub mod Int8
+pub mod Written

@@ -9,6 +9,8 @@ mod fields;
 #[cfg(test)]
 mod inclusion;
 #[cfg(test)]
+mod made;
+#[cfg(test)]
 mod minmax;
 #[cfg(test)]
 mod multi;

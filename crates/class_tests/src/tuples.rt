@@ -1,75 +1,16 @@
 //! Range tuples.
 
-ghost use Rattle.std.specs.Prelude.{◌≡◌, ◌≤◌, ◌<◌, [], ◌∷◌, true, length, IfOk};
-ghost use Rattle.std.specs.List.{list_all};
-ghost use Rattle.block_model.specs.ClassLimits.{class_is_lawful, takes_kind, has_lawful_parameters};
-ghost use Rattle.block_model.specs.TupleSize.{summary_size, tuple_size};
+ghost use Rattle.std.specs.Prelude.{◌≡◌, [], ◌∷◌, IfOk};
 ghost use Rattle.opclass_any.specs.AnyClass.{class_of};
 ghost use Rattle.range_tuple.specs.TupleIncludes.{TakesValue};
-ghost use Rattle.range_tuple.specs.Tuples.{empty_placeholder, parts_of};
+ghost use Rattle.range_tuple.specs.Tuples.{parts_of};
 
-use block_model::{
-    Class, Column, Columns, Cond, Index, Indexes, Kind, Name, Net, Op, Part, Parts, Schema, Table,
-    Tables, Value,
-};
-use range_tuple::RangeTuple;
+use crate::made::{add_number, name, number, one, placeholder};
+use block_model::{Class, Column, Columns, Cond, Kind, Net, Op, Part, Parts, Value};
+use range_tuple::{RangeTuple, ScanKeys};
 use std::alloc::Global;
 use std::process::Abort;
 use std::test::Fail;
-
-fn name(rt: &impl Abort, bytes: &[u8]) -> Name {
-    Name::new(bytes).expect(rt, "a name")
-}
-
-/// The placeholder of range 0 of an index with these parts on a table with these columns.
-fn placeholder(
-    rt: &impl Abort,
-    alloc: Global,
-    columns: Columns,
-    parts: Parts,
-) -> Result<RangeTuple, Fail>
-    requires some { 0 < length parts }
-    requires classes { list_all (class_is_lawful columns) parts ≡ true }
-    requires size { tuple_size columns parts ≤ 8156 }
-    ensures { IfOk result (λ t. t ≡ empty_placeholder 0 columns parts) }
-{
-    let mut tables = Tables::new(alloc);
-    tables.push(Table {
-        name: name(rt, b"t"),
-        rows_per_page: 1,
-        columns,
-    })?;
-    let index = Index {
-        name: name(rt, b"i"),
-        table: 0,
-        pages_per_range: 1,
-        auto: false,
-        parts,
-    };
-    let schema = Schema {
-        tables,
-        indexes: Indexes::new(alloc),
-    };
-    let tuple = RangeTuple::new(alloc, &index, &schema, 0)?;
-    Ok(tuple)
-}
-
-/// Of an index on one column.
-fn one(rt: &impl Abort, alloc: Global, kind: Kind, class: Class) -> Result<RangeTuple, Fail>
-    requires kind { takes_kind class kind ≡ true }
-    requires parameters { has_lawful_parameters class ≡ true }
-    requires size { summary_size class kind ≤ 8000 }
-    ensures parts { IfOk result (λ t. parts_of t.columns ≡ (0, class_of class kind) ∷ []) }
-{
-    let mut columns = Columns::new(alloc);
-    columns.push(Column {
-        name: name(rt, b"a"),
-        kind,
-    })?;
-    let mut parts = Parts::new(alloc);
-    parts.push(Part { column: 0, class })?;
-    placeholder(rt, alloc, columns, parts)
-}
 
 /// Of an index on an int8 by minmax and an inet by inclusion.
 fn two(rt: &impl Abort, alloc: Global) -> Result<RangeTuple, Fail>
@@ -94,24 +35,6 @@ fn two(rt: &impl Abort, alloc: Global) -> Result<RangeTuple, Fail>
         class: Class::Inclusion,
     })?;
     placeholder(rt, alloc, columns, parts)
-}
-
-/// Adds a row of one int8.
-fn add_number(tuple: &mut RangeTuple, n: i64) -> bool
-    requires { parts_of tuple.old.columns ≡ (0, class_of Class.MinMax Kind.Int) ∷ [] }
-    ensures { parts_of tuple.new.columns ≡ (0, class_of Class.MinMax Kind.Int) ∷ [] }
-{
-    tuple.add_row(&[number(Some(n))])
-}
-
-/// An int8, or null.
-fn number(n: Option<i64>) -> Value
-    ensures { TakesValue (class_of Class.MinMax Kind.Int) result }
-{
-    match n {
-        Some(n) => Value::Int(n),
-        None => Value::Null,
-    }
 }
 
 /// An inet, or null.
@@ -277,39 +200,37 @@ fn malformed_fields_are_named(rt: HostRuntime) -> Result<(), Fail> {
     Ok(())
 }
 
-/// Bytes of a final tuple of one column with values, whose summary has so many bytes, each of them 0.
-fn blank(size: u8) -> [u8; 26] {
-    let mut bytes = [0; 26];
-    bytes[5] = 2;
-    bytes[7] = size;
-    bytes
-}
-
 #[test]
-fn malformed_numbers_are_refused_by_their_class(rt: HostRuntime) -> Result<(), Fail> {
-    let mut minmax = one(&rt, rt.alloc(), Kind::Int, Class::MinMax)?;
-    let mut bytes = blank(16);
-    bytes[15] = 1;
-    assert_eq!(rt; fault(&mut minmax, &bytes[..24]), Some(16));
-    let mut multi = one(&rt, rt.alloc(), Kind::Int, Class::Multi { limit: 8 })?;
-    assert_eq!(rt; fault(&mut multi, &blank(2)[..10]), None);
-    assert_eq!(rt; fault(&mut multi, &blank(3)[..11]), Some(10));
+fn a_fault_of_a_class_is_told_at_its_place(rt: HostRuntime) -> Result<(), Fail> {
+    let mut tuple = one(&rt, rt.alloc(), Kind::Int, Class::Multi { limit: 8 })?;
+    assert_eq!(rt; fault(&mut tuple, &[0, 0, 0, 0, 0, 2, 0, 2, 0, 0]), None);
+    assert_eq!(rt;
+        fault(&mut tuple, &[0, 0, 0, 0, 0, 2, 0, 3, 0, 0, 0]),
+        Some(10)
+    );
     Ok(())
 }
 
+/// Whether the tuple keeps conditions on a column that stand apart, as keys of a scan and by themselves.
+fn keeps_apart(rt: &impl Abort, tuple: &RangeTuple, below: i64) -> (bool, bool) {
+    let net = Net::v4(10 << 24 | 1, 32).expect(rt, "an address");
+    let conds = [
+        cond(0, Op::NotNull, Value::Null),
+        cond(0, Op::Ge, Value::Int(2)),
+        cond(1, Op::Eq, Value::Net(net)),
+        cond(0, Op::Lt, Value::Int(below)),
+    ];
+    let keys = ScanKeys::new(&conds);
+    (tuple.keeps_by(&keys), tuple.keeps(&conds))
+}
+
 #[test]
-fn malformed_hulls_and_bits_are_refused_by_their_class(rt: HostRuntime) -> Result<(), Fail> {
-    let mut ranges = one(&rt, rt.alloc(), Kind::Span, Class::Inclusion)?;
-    let mut bytes = blank(18);
-    assert_eq!(rt; fault(&mut ranges, &bytes), None);
-    bytes[8] = 4;
-    assert_eq!(rt; fault(&mut ranges, &bytes), Some(8));
-    let class = Class::Bloom {
-        bits: 64,
-        hashes: 2,
-    };
-    let mut bloom = one(&rt, rt.alloc(), Kind::Net, class)?;
-    assert_eq!(rt; fault(&mut bloom, &blank(8)[..16]), None);
-    assert_eq!(rt; fault(&mut bloom, &blank(7)[..15]), Some(15));
+fn conditions_that_stand_apart_are_judged_together(rt: HostRuntime) -> Result<(), Fail> {
+    let net = Net::v4(10 << 24 | 1, 32).expect(&rt, "an address");
+    let mut tuple = two(&rt, rt.alloc())?;
+    assert!(rt; add_both(&mut tuple, Some(5), Some(net)));
+    tuple.settle();
+    assert_eq!(rt; keeps_apart(&rt, &tuple, 6), (true, true));
+    assert_eq!(rt; keeps_apart(&rt, &tuple, 5), (false, false));
     Ok(())
 }

@@ -2,7 +2,7 @@
 use Rattle.std.proofs.Common.{◌≡◌, ◌⊎◌, inl, inr, ⊎_elim, ℕ, Some, sym, ◌∙◌, ap, subst}
 use Rattle.std.specs.Prelude.{IsTrue}
 use Rattle.std.proofs.lemmas.Option.{same_Some}
-use Rattle.coverage.specs.IndexView.{TuplePlace, IndexTuple, IndexView, range_of_block}
+use Rattle.coverage.specs.IndexView.{TuplePlace, IndexTuple, IndexView, range_of_block, IsTupleOf}
 use Rattle.coverage.specs.IsSettled.{IsAccounted}
 use Rattle.coverage.specs.GoesOn.{IsHeld}
 use Rattle.coverage.specs.Statements.{OnIndex, Empty, Held, Copied, Moving, Dropping, Phase, NotBuilding, Vacant, Growing, Evacuating, Placing, IsAt, Statement}
@@ -10,6 +10,7 @@ use Rattle.coverage.specs.Statements.{Idle, Inserting, Maintaining, Holding, Sca
 use Rattle.coverage.specs.Knowing.{KnowsOnIndex, MakesUnited, MakesNone, MakesSame, KnowsPhase, Knows}
 use Rattle.coverage.specs.IsCovered.{IndexState, index_view, OnIndexHolds, PhaseHolds, StatementHolds, IsCovered, IsIndexKept}
 use Rattle.coverage.proofs.Settled.{accounted_settled}
+use Rattle.coverage.proofs.Formed.{named_formed, held_formed}
 
 on_index_held : (w : IndexView) (s m : ℕ) (Makes : IndexTuple → IndexTuple → Type 0) (on_index : OnIndex) → KnowsOnIndex w s m Makes on_index
     → (range : ℕ) (x : TuplePlace) → OnIndexHolds m on_index range x → IsHeld w range x
@@ -25,7 +26,7 @@ phase_held w s m Vacant known range x holds = absurd holds
 phase_held w s m Growing known range x holds = absurd holds
 phase_held w s m (Evacuating n on_index) known range x holds = on_index_held w s n MakesSame on_index known.1 range x holds
 phase_held w s m (Placing y) known range x holds = absurd holds
-phase_held w s m (IsAt p on_index) known range x holds = on_index_held w s m (MakesUnited p) on_index known range x holds
+phase_held w s m (IsAt p on_index) known range x holds = on_index_held w s m (MakesUnited p) on_index known.0 range x holds
 
 statement_held : (w : IndexView) (s : ℕ) (d : Statement) → Knows w s d → (range : ℕ) (x : TuplePlace) → StatementHolds w d range x → IsHeld w range x
 statement_held w s Idle known range x holds = absurd holds
@@ -40,7 +41,9 @@ kept_covered w kept = record {
       (λ (a : IsAccounted (index_view w) b r). inl (accounted_settled (index_view w) kept.sound b r a))
       (λ (i : (s : ℕ) × (on_index : OnIndex) × (w.statement s ≡ Inserting b k r on_index)). inr i)
       (kept.rows b k r there counts);
-  entries_name_tuples = kept.sound.entries_name_tuples;
+  entries_name_tuples = λ range x named.
+      let t = kept.sound.entries_name_tuples range x named in
+      (t.0, t.1, t.2, named_formed (index_view w) range x t.0 kept.sound named t.1);
   tuples_are_named = λ x t here. ⊎_elim
       (λ (e : w.entry t.range ≡ Some x). inl e)
       (λ (o : ((s : ℕ) × (loose_of (w.statement s) ≡ Some x)) ⊎ IsTrue (w.unnamed x)). ⊎_elim
@@ -56,3 +59,9 @@ kept_covered w kept = record {
       subst (λ q. IsTrue (t.includes q)) (same_Some _ _ (sym row.1.there ∙ there))
       (row.1.shown x (held ∙ ap (λ m. Some (m, x)) (sym within)) t here (of ∙ sym within) final);
 }
+
+-- a tuple of the range at a place that a statement holds is one of the index
+pub read_formed : (w : IndexState) (s range : ℕ) (x : TuplePlace) (t : IndexTuple) → IsIndexKept w → StatementHolds (index_view w) (w.statement s) range x
+    → w.tuple x ≡ Some t → t.range ≡ range → IsTupleOf (index_view w) t
+read_formed w s range x t kept holds here of = held_formed (index_view w) range x t kept.sound
+    (statement_held (index_view w) s (w.statement s) (kept.knows s) range x holds) here of

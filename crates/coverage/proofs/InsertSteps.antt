@@ -4,7 +4,7 @@ use Rattle.std.specs.Prelude.{refl, IsTrue}
 use Rattle.std.proofs.lemmas.Option.{same_Some, none-some}
 use Rattle.std.proofs.lemmas.Bool.{false≢true}
 use Rattle.block_model.specs.declared.row.Row.{Row}
-use Rattle.coverage.specs.IndexView.{TuplePlace, IndexTuple, IndexView, range_of_block}
+use Rattle.coverage.specs.IndexView.{TuplePlace, IndexTuple, IsFormed, IndexView, range_of_block}
 use Rattle.coverage.specs.IsSettled.{IsAccounted}
 use Rattle.coverage.specs.IsSound.{IsSound}
 use Rattle.coverage.specs.GoesOn.{GoesOn}
@@ -15,6 +15,7 @@ use Rattle.coverage.specs.IsCovered.{IndexState, index_view}
 use Rattle.coverage.specs.Steps.{OnIndexStep, Maps, Gone, Again, MovePut, InsertStep, InsertOnIndex, InsertNoEntry, InsertCopies, InsertUnchanged, InsertSwap}
 use Rattle.coverage.specs.Steps.{InsertSet, InsertDrop, Turned}
 use Rattle.coverage.proofs.Stable.{held_named}
+use Rattle.coverage.proofs.Formed.{held_formed}
 use Rattle.coverage.proofs.OnIndexSteps.{never, Both, may_end, looks_both, drop_both, copied_named, swap_both, set_both, set_knows, on_index_step, copy_knows}
 
 -- an insert that is done has its row settled, if that still counts
@@ -112,13 +113,17 @@ module _ (s b k : ℕ) (r : Row) (w v : IndexState) (sound : IsSound (index_view
       absurd (none-some _ (sym none ∙ sym (reads.frame.map.entry (range_of_block (index_view w) b)) ∙ ap v.entry
       (sym (same_heap_range (index_view w) (index_view v) b reads.frame.heap.pages_per_range)) ∙ named)))
   insert_outcome _ _ (InsertCopies x old new stands added changes reads) turned known =
+      let its = held_formed (index_view w) (range_of_block (index_view w) b) x old sound known.2.1 stands.0 stands.1 in
+      let law = sound.lawful.added r old its.0 in
       let both = looks_both s w v (Inserting b k r (Held x)) (Inserting b k r (Copied x old new)) turned sound refl refl refl reads.frame in
       goes (Held x) (Inserting b k r (Copied x old new)) turned known.0 known.1 known.2 (Copied x old new) refl both reads.frame.summarise_lock
       (copy_knows s w v (Inserting b k r (Held x)) (Inserting b k r (Copied x old new)) turned sound (range_of_block (index_view w) b)
-      (IsAdded r) makes_added x old new stands.1 (subst (λ (u : IndexTuple). IsAdded r old u) (sym added) (sound.lawful.added r old)) both reads.none known.2) tt
+      (IsAdded r) makes_added x old new stands.1 (subst (λ (u : IndexTuple). IsAdded r old u) (sym added) law.1)
+      (subst (IsFormed w.contents) (sym added) law.0) both reads.none known.2) tt
   insert_outcome _ _ (InsertUnchanged x t stands added free reads) turned known =
       let here : w.tuple x ≡ Some t = stands.0 in
-      let has : IsTrue (t.includes r) = subst (λ (u : IndexTuple). IsTrue (u.includes r)) (sym added) (sound.lawful.added r t).row in
+      let its = held_formed (index_view w) (range_of_block (index_view w) b) x t sound known.2.1 here stands.1 in
+      let has : IsTrue (t.includes r) = subst (λ (u : IndexTuple). IsTrue (u.includes r)) (sym added) (sound.lawful.added r t its.0).1.row in
       let named = held_named (index_view w) s (range_of_block (index_view w) b) x t sound known.2.1 here stands.1 free known.2.0 in
       ends (Held x) Idle turned known.0 known.1 known.2 refl
       (looks_both s w v (Inserting b k r (Held x)) Idle turned sound refl refl refl reads.frame) reads.frame.summarise_lock reads.none

@@ -5,7 +5,7 @@ use Rattle.coverage.specs.IndexView.{TuplePlace, IndexTuple, IndexView, range_of
 use Rattle.coverage.specs.Verdicts.{Differs, SwapVerdict}
 use Rattle.coverage.specs.Statements.{OnIndex, Empty, Held, Copied, Moving, Dropping, Statement, Inserting}
 use Rattle.coverage.specs.Steps.{ReadsIndex, IsGone, Stands, OnIndexStep, Maps, Gone, Again, MovePut, InsertStep, InsertOnIndex, InsertNoEntry, InsertCopies, InsertUnchanged, InsertSwap, InsertSet, InsertDrop}
-use Rattle.coverage.specs.Waiting.{InsertsAlone, LastStep, OneMore, AreNamed}
+use Rattle.coverage.specs.Stuck.{InsertsAlone, LastStep, OneMore, AreNamed}
 use Rattle.coverage.proofs.Verdicts.{swap_differs}
 
 -- where an insert goes on in the index
@@ -88,9 +88,9 @@ module _ (s b k : ℕ) (r : Row) where
       by _ (BackFromPlace _ gone reads) more = absurd (gone t stands.0 stands.1)
       by _ (ToCopy _ old new stands' reads) more = next n 3 (copy_bound n v x old new (reads.frame.tuples.tuple x ∙ stands'.0) more)
 
-  empty_bound : (n : ℕ) (w : IndexView) → AreNamed w → InsertsAlone s b k r n w Empty → n ≤ 5
-  empty_bound _ w named (LastStep _ v _ e step) = at_most 4
-  empty_bound _ w named (OneMore n _ v _ h step more) = by h (insert_goes s b k r w v Empty (Inserting b k r h) step tt) more
+  pub begun_bound : (n : ℕ) (w : IndexView) → AreNamed w → InsertsAlone s b k r n w Empty → n ≤ 5
+  begun_bound _ w named (LastStep _ v _ e step) = at_most 4
+  begun_bound _ w named (OneMore n _ v _ h step more) = by h (insert_goes s b k r w v Empty (Inserting b k r h) step tt) more
     where
       by : (h : OnIndex) → GoesTo s (range_of_block w b) w v Empty h → InsertsAlone s b k r n v h → suc n ≤ 5
       by _ (ToPlace x is reads) more =
@@ -101,14 +101,14 @@ module _ (s b k : ℕ) (r : Row) where
   within n m le le' = omega arith
 
   pub insert_bound : (n : ℕ) (w : IndexView) (g : OnIndex) → AreNamed w → InsertsAlone s b k r n w g → n ≤ 6
-  insert_bound n w Empty named alone = within n 5 (empty_bound n w named alone) (omega arith)
+  insert_bound n w Empty named alone = within n 5 (begun_bound n w named alone) (omega arith)
   insert_bound n w (Moving x y old new) named alone = within n 2 (move_bound n w x y old new alone) (omega arith)
   insert_bound n w (Dropping x) named alone = within n 1 (drop_bound n w x alone) (omega arith)
   insert_bound _ w (Held x) named (LastStep _ v _ e step) = at_most 5
   insert_bound _ w (Held x) named (OneMore n _ v _ h step more) = by h (insert_goes s b k r w v (Held x) (Inserting b k r h) step tt) more
     where
       by : (h : OnIndex) → GoesTo s (range_of_block w b) w v (Held x) h → InsertsAlone s b k r n v h → suc n ≤ 6
-      by _ (BackFromPlace _ gone reads) more = next n 5 (empty_bound n v (named_on s w v reads named) more)
+      by _ (BackFromPlace _ gone reads) more = next n 5 (begun_bound n v (named_on s w v reads named) more)
       by _ (ToCopy _ old new stands reads) more =
           next n 5 (within' n 3 (copy_bound n v x old new (reads.frame.tuples.tuple x ∙ stands.0) more) (omega arith))
         where
@@ -118,7 +118,7 @@ module _ (s b k : ℕ) (r : Row) where
   insert_bound _ w (Copied x old new) named (OneMore n _ v _ h step more) = by h (insert_goes s b k r w v (Copied x old new) (Inserting b k r h) step tt) more
     where
       by : (h : OnIndex) → GoesTo s (range_of_block w b) w v (Copied x old new) h → InsertsAlone s b k r n v h → suc n ≤ 6
-      by _ (BackFromCopy _ _ _ verdict reads) more = next n 5 (empty_bound n v (named_on s w v reads named) more)
+      by _ (BackFromCopy _ _ _ verdict reads) more = next n 5 (begun_bound n v (named_on s w v reads named) more)
       by _ (ToMove _ y _ _) more = next n 5 (within' n 2 (move_bound n v x y old new more) (omega arith))
         where
           within' : (n m : ℕ) → n ≤ m → m ≤ 5 → n ≤ 5

@@ -1,4 +1,5 @@
 pub mod Numbers
+pub mod Formed
 pub mod Sound
 pub mod RowsAdded
 pub mod Carried
@@ -15,6 +16,8 @@ pub mod PagesGoOn
 pub mod PagesKept
 pub mod Runs
 pub mod Opening
+pub mod ExampleTuples
+pub mod SmallIndex
 pub mod RangeSummarised
 pub mod TupleMoved
 pub mod MapGrown
@@ -26,3 +29,5 @@ pub mod WaitsOnce
 pub mod StepsExist
 pub mod SummariseExists
 pub mod InsertsEnd
+pub mod Counted
+pub mod CountsExact

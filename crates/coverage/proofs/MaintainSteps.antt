@@ -1,21 +1,22 @@
 -- What a step of a maintenance statement leaves.
-use Rattle.std.proofs.Common.{◌≡◌, ◌≢◌, inl, inr, ⊎_elim, ℕ, ◌+◌, ◌*◌, Option, Some, None, true, sym, ◌∙◌, ap, subst}
+use Rattle.std.proofs.Common.{◌≡◌, ◌≢◌, inl, inr, ⊎_elim, ℕ, ◌+◌, ◌*◌, ◌<◌, Option, Some, None, true, sym, ◌∙◌, ap, subst}
 use Rattle.std.specs.Prelude.{refl, IsTrue}
 use Rattle.std.proofs.lemmas.Option.{same_Some, none-some}
-use Rattle.coverage.specs.IndexView.{TuplePlace, IndexTuple, Progress, ExtentUnread, Passing, IndexView, next_map_page, IsBuilding}
+use Rattle.coverage.specs.IndexView.{TuplePlace, IndexTuple, IsFormed, Progress, ExtentUnread, Passing, IndexView, next_map_page, IsRangeOf, IsBuilding}
 use Rattle.coverage.specs.IsSound.{IsSound}
-use Rattle.coverage.specs.Changes.{TouchesNothing, Frame, at_work, Turns, StartsBuilding, ReadsExtent, PassesBlock, Carries, Places, Names, Turn as TurnKind}
+use Rattle.coverage.specs.Changes.{SameHeap, TouchesNothing, Frame, at_work, Turns, StartsBuilding, ReadsExtent, PassesBlock, Carries, Places, Names, Turn as TurnKind}
 use Rattle.coverage.specs.Changes.{IsUntouched, Clears, Sweeps}
 use Rattle.coverage.specs.Statements.{OnIndex, Empty, Held, Copied, Moving, Dropping, Phase, NotBuilding, Vacant, Growing, Evacuating, Placing, IsAt, Statement}
 use Rattle.coverage.specs.Statements.{Maintaining, Holding, IsUnited, loose_at, loose_of, building_at, building_of}
-use Rattle.coverage.specs.Knowing.{LocksNone, MakesUnited, MakesNone, MakesSame, KnowsPhase, Knows}
+use Rattle.coverage.specs.Knowing.{LocksNone, MakesUnited, MakesNone, MakesSame, IsResultFormed, KnowsPhase, Knows}
 use Rattle.coverage.specs.IsCovered.{IndexState, index_view}
 use Rattle.coverage.specs.Steps.{PutsTuple, SetsEntry, ClearsEntry, IsUnnamed, SweepsTuples, GrowthStep, Grow, CountLeftOver, Count, Flag}
 use Rattle.coverage.specs.Steps.{EvacuatePut, EvacuateSet, EvacuateDrop, EvacuateSweep, Turn, SummariseStep, LookMap, LookGone, IsFinal, Found, ReadNoEntry}
 use Rattle.coverage.specs.Steps.{GrowMap, Put, Set, Extent, Pass, Unite, UniteCopies, SwapFinal, SetFinal, DropOld, DesummariseStep, ClearMap, ClearNone, Clear}
 use Rattle.coverage.specs.Steps.{ClearAgain, DropCleared, MaintainStep, Summarises, Desummarises, Turned}
 use Rattle.coverage.proofs.Sound.{places_sound, names_sound, turn_sound, clears_sound, sweeps_sound}
-use Rattle.coverage.proofs.RowsAdded.{rows_wider, rows_has}
+use Rattle.coverage.proofs.RowsAdded.{rows_formed, rows_wider, rows_has}
+use Rattle.coverage.proofs.Formed.{range_of_on, no_less, named_formed, held_formed, its_range}
 use Rattle.coverage.proofs.BuildingGoesOn.{turn_go_on, places_go_on, names_go_on}
 use Rattle.coverage.proofs.OthersGoOn.{clears_go_on, sweeps_go_on}
 use Rattle.coverage.proofs.OnIndexSteps.{never, Both, loose_same, loose_turns, building_same, building_turns, may_end, locks_by, nothing_loose, loose_locked}
@@ -95,15 +96,25 @@ module _ (s range : ℕ) (w v : IndexState) (sound : IsSound (index_view w)) (su
           (looks.summarise_lock ∙ summarise_lock, knows),
         )
 
+  -- a range of the table is one still
+  range_kept : v.contents ≡ w.contents → SameHeap (index_view w) (index_view v) → IsRangeOf (index_view w) range → IsRangeOf (index_view v) range
+  range_kept contents heap its =
+      range_of_on (index_view w) (index_view v) contents heap.pages_per_range (no_less v.blocks w.blocks heap.blocks) range its
+
+  result_kept : (p : Progress) → v.contents ≡ w.contents → IsResultFormed (index_view w) p → IsResultFormed (index_view v) p
+  result_kept ExtentUnread same formed = tt
+  result_kept (Passing extent next result) same formed = subst (λ c. IsFormed c result) (sym same) formed
+
   put : (x : TuplePlace) (t : IndexTuple) → Turned s w v (Maintaining range Vacant) (Maintaining range (Placing x)) → t.range ≡ range → t.placeholder ≡ true
       → PutsTuple s (index_view w) (index_view v) x t
-      → v.lock x.block ≡ Some s → w.entry range ≡ None → Left (Maintaining range (Placing x))
-  put x t turned of flag puts locked none =
+      → v.lock x.block ≡ Some s → w.entry range ≡ None → IsFormed w.contents t → IsRangeOf (index_view w) range → Left (Maintaining range (Placing x))
+  put x t turned of flag puts locked none formed its =
       let kind : Places s (index_view w) (index_view v) x t = record {
         tuple = puts.tuple;
         free = puts.free;
         placeholder = flag;
         vacant = ap w.entry of ∙ none;
+        formed = (formed, subst (λ n. n * w.pages_per_range < w.blocks) (sym of) its.0);
         loose = loose_turns s w v (Maintaining range Vacant) (Maintaining range (Placing x)) turned None (Some x) refl refl;
         building =
             building_turns s w v (Maintaining range Vacant) (Maintaining range (Placing x)) turned None (at_work t.range (Some ExtentUnread)) refl
@@ -115,7 +126,10 @@ module _ (s range : ℕ) (w v : IndexState) (sound : IsSound (index_view w)) (su
             (loose_locked s w v (Maintaining range Vacant) (Maintaining range (Placing x)) turned x refl locked);
       } in (
         (places_sound s (index_view w) (index_view v) x t sound kind, places_go_on s never (index_view w) (index_view v) x t sound kind),
-        (puts.frame.summarise_lock ∙ summarise_lock, (puts.frame.map.entry range ∙ none, (locked, (t, puts.tuple.now, of, flag)))),
+        (
+          puts.frame.summarise_lock ∙ summarise_lock,
+          (puts.frame.map.entry range ∙ none, (locked, (t, puts.tuple.now, of, flag)), range_kept puts.frame.contents puts.frame.heap its),
+        ),
       )
 
   set : (x : TuplePlace) → Turned s w v (Maintaining range (Placing x)) (Maintaining range (IsAt ExtentUnread Empty))
@@ -137,7 +151,7 @@ module _ (s range : ℕ) (w v : IndexState) (sound : IsSound (index_view w)) (su
             (nothing_loose s w v (Maintaining range (Placing x)) (Maintaining range (IsAt ExtentUnread Empty)) turned refl);
       } in (
         (names_sound s (index_view w) (index_view v) range x t.0 sound kind, names_go_on s never (index_view w) (index_view v) range x t.0 sound kind),
-        (sets.frame.summarise_lock ∙ summarise_lock, none),
+        (sets.frame.summarise_lock ∙ summarise_lock, (none, range_kept sets.frame.contents sets.frame.heap known.2, tt)),
       )
 
   clear : (x : TuplePlace) → Turned s w v (Maintaining range (NotBuilding (Held x))) (Maintaining range (NotBuilding (Dropping x)))
@@ -180,28 +194,35 @@ module _ (s range : ℕ) (w v : IndexState) (sound : IsSound (index_view w)) (su
       → KnowsPhase (index_view w) s range old → Left (Maintaining range new)
   growth_left _ _ (Grow grows free meta turns) turned known =
       read Vacant (Maintaining range Growing) turned refl refl refl turns.frame
-      (turns.frame.summarise_lock ∙ summarise_lock, turns.frame.map.entry range ∙ known.1)
+      (turns.frame.summarise_lock ∙ summarise_lock, (turns.frame.map.entry range ∙ known.1, range_kept turns.frame.contents turns.frame.heap known.2))
   growth_left _ _ (CountLeftOver grows meta counts) turned known =
-      read Vacant (Maintaining range Vacant) turned refl refl refl counts.frame
-      (counts.frame.summarise_lock ∙ summarise_lock, (counts.none, counts.frame.map.entry range ∙ known.1))
+      read Vacant (Maintaining range Vacant) turned refl refl refl counts.frame (
+        counts.frame.summarise_lock ∙ summarise_lock,
+        (counts.none, counts.frame.map.entry range ∙ known.1, range_kept counts.frame.contents counts.frame.heap known.2),
+      )
   growth_left _ _ (Count counts) turned known =
-      read Growing (Maintaining range Vacant) turned refl refl refl counts.frame
-      (counts.frame.summarise_lock ∙ summarise_lock, (counts.none, counts.frame.map.entry range ∙ known))
+      read Growing (Maintaining range Vacant) turned refl refl refl counts.frame (
+        counts.frame.summarise_lock ∙ summarise_lock,
+        (counts.none, counts.frame.map.entry range ∙ known.0, range_kept counts.frame.contents counts.frame.heap known.1),
+      )
   growth_left _ _ (Flag grows free turns) turned known =
-      read Vacant (Maintaining range Vacant) turned refl refl refl turns.frame
-      (turns.frame.summarise_lock ∙ summarise_lock, ((λ p is. turns.locks.only p is), turns.frame.map.entry range ∙ known.1))
+      read Vacant (Maintaining range Vacant) turned refl refl refl turns.frame (
+        turns.frame.summarise_lock ∙ summarise_lock,
+        ((λ p is. turns.locks.only p is), turns.frame.map.entry range ∙ known.1, range_kept turns.frame.contents turns.frame.heap known.2),
+      )
   growth_left _ _ (EvacuatePut x y t grows next named free verdict puts these) turned known =
       let here : w.tuple x ≡ Some t = next.stands in
       let source = these.locked x.block (inl refl) in
       let target = these.locked y.block (inr (inl refl)) in (
         put_both s w v (Maintaining range Vacant) (Maintaining range (Evacuating t.range (Moving x y t t))) turned sound t.range MakesSame
-            (makes_same (index_view w) s t.range) x y t t named here refl refl refl refl refl puts target,
+            (makes_same (index_view w) s t.range) x y t t named here refl refl (named_formed (index_view w) t.range x t sound named here).0 refl refl refl puts target,
         (
           puts.frame.summarise_lock ∙ summarise_lock,
           (
             puts.frame.map.entry range ∙ known.1,
             put_knows s w v (Maintaining range Vacant) (Maintaining range (Evacuating t.range (Moving x y t t))) turned sound t.range MakesSame
                 (makes_same (index_view w) s t.range) x y t t named here refl refl puts source target,
+            range_kept puts.frame.contents puts.frame.heap known.2,
           ),
         ),
       )
@@ -219,22 +240,23 @@ module _ (s range : ℕ) (w v : IndexState) (sound : IsSound (index_view w)) (su
                 (sets.others range),
             set_knows s w v (Maintaining range (Evacuating m (Moving x y t u))) (Maintaining range (Evacuating m (Dropping x))) turned sound m MakesSame
                 (makes_same (index_view w) s m) MakesSame m x y t u known.1 sets locked,
+            range_kept sets.frame.contents sets.frame.heap known.2,
           ),
         ),
       )
   growth_left _ _ (EvacuateDrop m x drops) turned known = (
     drop_both s w v (Maintaining range (Evacuating m (Dropping x)))
         (Maintaining range Vacant) turned sound x known.1.0 known.1.1 known.1.2 refl refl refl drops,
-    (drops.frame.summarise_lock ∙ summarise_lock, (drops.none, drops.frame.map.entry range ∙ known.0)),
+    (drops.frame.summarise_lock ∙ summarise_lock, (drops.none, drops.frame.map.entry range ∙ known.0, range_kept drops.frame.contents drops.frame.heap known.2)),
   )
   growth_left _ _ (EvacuateSweep x t grows next unnamed sweeps) turned known = (
     sweep_both s w v (Maintaining range Vacant) (Maintaining range Vacant) turned sound (next_map_page (index_view w)) (λ y. y ≡ x)
         (λ y on is. subst (λ z. IsUnnamed (index_view w) z) (sym is) unnamed) refl refl refl sweeps,
-    (sweeps.frame.summarise_lock ∙ summarise_lock, (sweeps.none, sweeps.frame.map.entry range ∙ known.1)),
+    (sweeps.frame.summarise_lock ∙ summarise_lock, (sweeps.none, sweeps.frame.map.entry range ∙ known.1, range_kept sweeps.frame.contents sweeps.frame.heap known.2)),
   )
   growth_left _ _ (Turn grows empty free meta turns) turned known =
       read Vacant (Maintaining range Growing) turned refl refl refl turns.frame
-      (turns.frame.summarise_lock ∙ summarise_lock, turns.frame.map.entry range ∙ known.1)
+      (turns.frame.summarise_lock ∙ summarise_lock, (turns.frame.map.entry range ∙ known.1, range_kept turns.frame.contents turns.frame.heap known.2))
 
   pub summarise_left : (old : Phase) (new : Statement) → SummariseStep s range (index_view w) (index_view v) old new → Turned s w v (Maintaining range old) new
       → KnowsPhase (index_view w) s range old → Left new
@@ -248,60 +270,83 @@ module _ (s range : ℕ) (w v : IndexState) (sound : IsSound (index_view w)) (su
       read (NotBuilding (Held x)) Holding turned refl refl refl reads.frame (holds reads.frame.summarise_lock reads.none)
   summarise_left _ _ (Found x t stands flag reads) turned known =
       turn (NotBuilding (Held x)) (IsAt ExtentUnread Empty) turned refl refl None (Some ExtentUnread) refl refl
-      (StartsBuilding summarise_lock) reads.frame reads.none
-  summarise_left _ _ (ReadNoEntry none reads) turned known =
-      read (NotBuilding Empty) (Maintaining range Vacant) turned refl refl refl reads.frame
-      (reads.frame.summarise_lock ∙ summarise_lock, (reads.none, reads.frame.map.entry range ∙ none))
+      (StartsBuilding summarise_lock) reads.frame (
+        reads.none,
+        range_kept reads.frame.contents reads.frame.heap (its_range (index_view w) range t
+            (held_formed (index_view w) range x t sound known.1 stands.0 stands.1) stands.1),
+        tt,
+      )
+  summarise_left _ _ (ReadNoEntry none of reads) turned known =
+      read (NotBuilding Empty) (Maintaining range Vacant) turned refl refl refl reads.frame (
+        reads.frame.summarise_lock ∙ summarise_lock,
+        (reads.none, reads.frame.map.entry range ∙ none, range_kept reads.frame.contents reads.frame.heap of),
+      )
   summarise_left _ _ (GrowMap old new step) turned known = growth_left old new step turned known
-  summarise_left _ _ (Put x t is size long verdict puts these) turned known =
-      let empty = sound.lawful.empty range in
-      put x t turned (ap (λ (u : IndexTuple). u.range) is ∙ empty.of) (ap (λ (u : IndexTuple). u.placeholder) is ∙ empty.placeholder) puts
-      (these.locked x.block (inl refl)) known.1
+  summarise_left _ _ (Put x t is long verdict puts these) turned known =
+      let empty = sound.lawful.empty range known.2.1 in
+      put x t turned (ap (λ (u : IndexTuple). u.range) is ∙ empty.1.of) (ap (λ (u : IndexTuple). u.placeholder) is ∙ empty.1.placeholder) puts
+      (these.locked x.block (inl refl)) known.1 (subst (IsFormed w.contents) (sym is) empty.0) known.2
   summarise_left _ _ (Set x sets none) turned known = set x turned sets none known
   summarise_left _ _ (Extent extent result start is reads) turned known =
       turn (IsAt ExtentUnread Empty) (IsAt (Passing extent (range * w.pages_per_range) result) Empty) turned refl refl (Some ExtentUnread)
       (Some (Passing extent (range * w.pages_per_range) result)) refl refl
-      (ReadsExtent extent result is) reads.frame reads.none
+      (ReadsExtent extent result is) reads.frame (
+        reads.none,
+        range_kept reads.frame.contents reads.frame.heap known.1,
+        subst (λ c. IsFormed c result) (sym reads.frame.contents) (subst (IsFormed w.contents) (sym start) (sound.lawful.empty range known.1.1).0),
+      )
   summarise_left _ _ (Pass extent next slots result wider below none made reads) turned known =
       turn (IsAt (Passing extent next result) Empty) (IsAt (Passing extent (next + 1) wider) Empty) turned refl refl (Some (Passing extent next result))
       (Some (Passing extent (next + 1) wider)) refl refl
       (PassesBlock extent next result wider
-      (λ r has. subst (λ (u : IndexTuple). IsTrue (u.includes r)) (sym made) (rows_wider w.contents sound.lawful (w.row next) slots result r has))
-      (λ k r there. subst (λ (u : IndexTuple). IsTrue (u.includes r)) (sym made) (rows_has w.contents sound.lawful (w.row next) slots result none k r there)))
-      reads.frame reads.none
+      (λ r has. subst (λ (u : IndexTuple). IsTrue (u.includes r)) (sym made) (rows_wider w.contents sound.lawful (w.row next) slots result known.2 r has))
+      (λ k r there. subst (λ (u : IndexTuple). IsTrue (u.includes r)) (sym made) (rows_has w.contents sound.lawful (w.row next) slots result known.2 none k r there)))
+      reads.frame (
+        reads.none,
+        range_kept reads.frame.contents reads.frame.heap known.1,
+        subst (λ c. IsFormed c wider) (sym reads.frame.contents)
+            (subst (IsFormed w.contents) (sym made) (rows_formed w.contents sound.lawful (w.row next) slots result known.2)),
+      )
   summarise_left _ _ (Unite extent next result old new all step) turned known =
       let p = Passing extent next result in
       let out =
       on_index_step s w v (Maintaining range (IsAt p old)) (Maintaining range (IsAt p new)) turned sound range (MakesUnited p)
-      (makes_united (index_view w) s range p (building_here p old turned.was)) old new step known refl refl refl in
-      (out.0, ((on_index_keeps s range (index_view w) (index_view v) old new step).1 ∙ summarise_lock, out.1))
+      (makes_united (index_view w) s range p (building_here p old turned.was)) old new step known.0 refl refl refl in
+      let keeps = on_index_keeps s range (index_view w) (index_view v) old new step in
+      (out.0, (keeps.1 ∙ summarise_lock, (out.1, range_kept out.0.1.contents keeps.0 known.1, result_kept p out.0.1.contents known.2)))
   summarise_left _ _ (UniteCopies extent next result x old new all stands united reads) turned known =
       let p = Passing extent next result in
+      let its = held_formed (index_view w) range x old sound known.0.1 stands.0 stands.1 in
+      let law = sound.lawful.united old result its.0 known.2 in
       let both =
       looks_both s w v (Maintaining range (IsAt p (Held x))) (Maintaining range (IsAt p (Copied x old new))) turned sound refl refl refl reads.frame in (
         both,
         (
           reads.frame.summarise_lock ∙ summarise_lock,
-          copy_knows s w v (Maintaining range (IsAt p (Held x))) (Maintaining range (IsAt p (Copied x old new))) turned sound range (MakesUnited p)
-              (makes_united (index_view w) s range p (building_here p (Held x) turned.was)) x old new stands.1
-              (all, subst (λ (u : IndexTuple). IsUnited result old u) (sym united) (sound.lawful.united old result)) both reads.none known,
+          (
+            copy_knows s w v (Maintaining range (IsAt p (Held x))) (Maintaining range (IsAt p (Copied x old new))) turned sound range (MakesUnited p)
+                (makes_united (index_view w) s range p (building_here p (Held x) turned.was)) x old new stands.1
+                (all, subst (λ (u : IndexTuple). IsUnited result old u) (sym united) law.1) (subst (IsFormed w.contents) (sym united) law.0) both reads.none known.0,
+            range_kept reads.frame.contents reads.frame.heap known.1,
+            result_kept p reads.frame.contents known.2,
+          ),
         ),
       )
   summarise_left _ _ (SwapFinal p x old new verdict swap) turned known = (
     swap_both s w v (Maintaining range (IsAt p (Copied x old new))) Holding turned sound range (MakesUnited p)
-        (makes_united (index_view w) s range p (building_here p (Copied x old new) turned.was)) x old new known refl refl
+        (makes_united (index_view w) s range p (building_here p (Copied x old new) turned.was)) x old new known.0 refl refl
         (may_end s w v (Maintaining range (IsAt p (Copied x old new))) Holding turned refl) swap,
     holds swap.frame.summarise_lock swap.none,
   )
   summarise_left _ _ (SetFinal p x y old new sets same) turned known =
-      let locked : v.lock x.block ≡ Some s = same.lock x.block ∙ known.0 in (
+      let locked : v.lock x.block ≡ Some s = same.lock x.block ∙ known.0.0 in (
         set_both s w v (Maintaining range (IsAt p (Moving x y old new))) (Maintaining range (NotBuilding (Dropping x))) turned sound range (MakesUnited p)
-            (makes_united (index_view w) s range p (building_here p (Moving x y old new) turned.was)) x y old new known refl refl
+            (makes_united (index_view w) s range p (building_here p (Moving x y old new) turned.was)) x y old new known.0 refl refl
             (may_end s w v (Maintaining range (IsAt p (Moving x y old new))) (Maintaining range (NotBuilding (Dropping x))) turned refl) sets locked,
         (
           sets.frame.summarise_lock ∙ summarise_lock,
           set_knows s w v (Maintaining range (IsAt p (Moving x y old new))) (Maintaining range (NotBuilding (Dropping x))) turned sound range (MakesUnited p)
-              (makes_united (index_view w) s range p (building_here p (Moving x y old new) turned.was)) MakesNone range x y old new known sets locked,
+              (makes_united (index_view w) s range p (building_here p (Moving x y old new) turned.was)) MakesNone range x y old new known.0 sets locked,
         ),
       )
   summarise_left _ _ (DropOld x drops) turned known = (

@@ -1,344 +1,167 @@
--- A run in which the map grows onto a page with a tuple: the page is flagged, its tuple moves, the page is turned and counted.
-use Rattle.std.proofs.Common.{◌≡◌, ◌⊎◌, inl, inr, ⊎_elim, ℕ, ◌<◌, ◌≤◌, Option, Some, None, false, [], ◌∷◌, sym, ◌∙◌, ap, arith, zero, suc}
+-- A run in which the map grows by a page on which a tuple stands: it is flagged, the tuple moves, the page is turned and counted; then
+-- the placeholder is put and named for which the map was too short.
+use Rattle.std.proofs.Common.{◌≡◌, ⊎_elim, ℕ, ◌≤◌, Some, None, true, false, [], ◌∷◌, sym, ◌∙◌, ap, arith, zero, suc}
 use Rattle.std.specs.Prelude.{refl}
-use Rattle.std.proofs.lemmas.Option.{same_Some, none-some}
-use Rattle.coverage.specs.IndexView.{TuplePlace, IndexTuple, PageKind, Unstarted, Mapping, Regular, Emptying, Pages}
-use Rattle.coverage.specs.Statements.{Empty, Moving, Dropping, NotBuilding, Vacant, Growing, Evacuating, Statement, Idle, Maintaining, Holding}
+use Rattle.std.proofs.lemmas.Option.{none-some}
+use Rattle.coverage.specs.IndexView.{TuplePlace, IndexTuple, ExtentUnread, Unstarted, Mapping, Emptying, IsPastMap, NamesPlaceholder}
+use Rattle.coverage.specs.Statements.{Empty, Moving, Dropping, Phase, NotBuilding, Vacant, Growing, Evacuating, Placing, IsAt, Idle, Maintaining, Holding}
 use Rattle.coverage.specs.Verdicts.{OnNew, PutGoes}
-use Rattle.coverage.specs.IsCovered.{IndexState, index_view, IsIndexKept}
-use Rattle.coverage.specs.Steps.{ReadsIndex, Turned, Step, TakeSummariseLock, BeginRange, Maintain, Summarises, ReadNoEntry, GrowMap, Flag, EvacuatePut}
-use Rattle.coverage.specs.Steps.{EvacuateSet, EvacuateDrop, Turn, Count, Run, Done, Next}
-use Rattle.coverage.proofs.RangeSummarised.{turns, at_number, none_at, statement_at, grown_kind, kind_number, differ, pages, place, contents}
-use Rattle.coverage.proofs.RangeSummarised.{final_tuple, one_tuple, one_entry, no_locks, new_state, range_done, first_kept, range_run}
-use Rattle.coverage.proofs.TupleMoved.{no_room, moved_place, two_tuples, three_locks, own_three, one_of_three, locked_three, tuples_moved, tuples_dropped, entry_moved}
-use Rattle.coverage.proofs.Runs.{run_kept}
+use Rattle.coverage.specs.IsCovered.{IndexState}
+use Rattle.coverage.specs.Waiting.{Grows}
+use Rattle.coverage.specs.Steps.{Step, TakeSummariseLock, BeginRange, GrowthStep, ReadNoEntry, GrowMap, Put, Set, Count, Flag, EvacuatePut, EvacuateSet, EvacuateDrop}
+use Rattle.coverage.specs.Steps.{Turn, Run, Done, Next}
+use Rattle.coverage.proofs.ExampleTuples.{tuple_of, final_tuple}
+use Rattle.coverage.proofs.SmallIndex.{at_here, placed_others, no_tuples, place, kind_number, differ, Small, index_of, view, at_statement, put_at, set_at, drop_at, kind_at}
+use Rattle.coverage.proofs.SmallIndex.{count_at, held_by, turned, summarises, free, locks_these, nobody, reads, puts, sets, drops, turns_kind, counts_page, passes}
+use Rattle.coverage.proofs.RangeSummarised.{no_rows, summarised, range_done, no_room}
+use Rattle.coverage.proofs.TupleMoved.{moved_place}
 
-abbrev flagged_kind : ℕ → PageKind
-flagged_kind zero = Mapping
-flagged_kind (suc zero) = Mapping
-flagged_kind (suc (suc zero)) = Emptying
-flagged_kind (suc (suc (suc n))) = Unstarted
+abbrev pub new_place : TuplePlace
+new_place = record { block = 4; slot = 0 }
 
-abbrev emptied_kind : ℕ → PageKind
-emptied_kind zero = Mapping
-emptied_kind (suc zero) = Mapping
-emptied_kind (suc (suc zero)) = Emptying
-emptied_kind (suc (suc (suc zero))) = Regular
-emptied_kind (suc (suc (suc (suc n)))) = Unstarted
+abbrev pub new_tuple : IndexTuple
+new_tuple = tuple_of 1020 true false
 
-abbrev turned_kind : ℕ → PageKind
-turned_kind zero = Mapping
-turned_kind (suc zero) = Mapping
-turned_kind (suc (suc zero)) = Mapping
-turned_kind (suc (suc (suc zero))) = Regular
-turned_kind (suc (suc (suc (suc n)))) = Unstarted
-
-abbrev map_locks : ℕ → Option ℕ
-map_locks p = at_number p 2 (Some 0) (at_number p 0 (Some 0) None)
-
-abbrev state : TuplePlace → (TuplePlace → Option IndexTuple) → Pages → (ℕ → Option ℕ) → Statement → IndexState
-state entry tuple all lock e = record {
-  contents = contents;
-  pages_per_range = 1;
-  blocks = 1021;
-  row = λ b k. None;
-  entry = one_entry (Some entry);
-  tuple = tuple;
-  pages = all;
-  lock = lock;
-  summarise_lock = Some 0;
-  unnamed = λ x. false;
-  statement = statement_at e;
-  counts = λ t. false;
-}
-
-abbrev before : TuplePlace → Option IndexTuple
-before = one_tuple (Some final_tuple)
+abbrev at_last : Phase → Small → Small
+at_last phase w = at_statement (Maintaining 1020 phase) w
 
 -- the states of the run, each named for the step that led to it
-abbrev lock_taken : IndexState
-lock_taken = state place before (pages grown_kind) no_locks Holding
+abbrev lock_taken : Small
+lock_taken = held_by (Some 0) Holding summarised
 
-abbrev range_begun : IndexState
-range_begun = state place before (pages grown_kind) no_locks (Maintaining 1020 (NotBuilding Empty))
+abbrev range_begun : Small
+range_begun = at_last (NotBuilding Empty) lock_taken
 
-abbrev entry_missing : IndexState
-entry_missing = state place before (pages grown_kind) no_locks (Maintaining 1020 Vacant)
+abbrev entry_missing : Small
+entry_missing = at_last Vacant range_begun
 
-abbrev page_flagged : IndexState
-page_flagged = state place before (pages flagged_kind) no_locks (Maintaining 1020 Vacant)
+abbrev page_flagged : Small
+page_flagged = at_last Vacant (kind_at Emptying [] entry_missing)
 
-abbrev copy_put : IndexState
-copy_put = state place (two_tuples (Some final_tuple) (Some final_tuple)) (pages emptied_kind) three_locks
-    (Maintaining 1020 (Evacuating 0 (Moving place moved_place final_tuple final_tuple)))
+abbrev copy_put : Small
+copy_put = at_last (Evacuating 0 (Moving place moved_place final_tuple final_tuple)) (put_at moved_place final_tuple (2 ∷ 3 ∷ 1 ∷ []) page_flagged)
 
-abbrev entry_set : IndexState
-entry_set = state moved_place (two_tuples (Some final_tuple) (Some final_tuple)) (pages emptied_kind) three_locks (Maintaining 1020 (Evacuating 0 (Dropping place)))
+abbrev entry_set : Small
+entry_set = at_last (Evacuating 0 (Dropping place)) (set_at 0 moved_place (2 ∷ 3 ∷ 1 ∷ []) copy_put)
 
-abbrev old_dropped : IndexState
-old_dropped = state moved_place (two_tuples None (Some final_tuple)) (pages emptied_kind) no_locks (Maintaining 1020 Vacant)
+abbrev old_dropped : Small
+old_dropped = at_last Vacant (drop_at place entry_set)
 
-abbrev page_turned : IndexState
-page_turned = state moved_place (two_tuples None (Some final_tuple)) (pages turned_kind) map_locks (Maintaining 1020 Growing)
+abbrev page_turned : Small
+page_turned = at_last Growing (kind_at Mapping (2 ∷ 0 ∷ []) old_dropped)
+
+abbrev page_counted : Small
+page_counted = at_last Vacant (count_at page_turned)
+
+abbrev placeholder_put : Small
+placeholder_put = at_last (Placing new_place) (put_at new_place new_tuple (4 ∷ 2 ∷ []) page_counted)
+
+abbrev placeholder_named : Small
+placeholder_named = at_last (IsAt ExtentUnread Empty) (set_at 1020 new_place [] placeholder_put)
 
 abbrev pub map_grown : IndexState
-map_grown = state moved_place (two_tuples None (Some final_tuple)) (record (pages turned_kind) { map_pages = 2 }) no_locks (Maintaining 1020 Vacant)
+map_grown = index_of no_rows placeholder_named
 
-reads : (e f : Statement)
-    → ReadsIndex 0 (index_view (state place before (pages grown_kind) no_locks e)) (index_view (state place before (pages grown_kind) no_locks f))
-reads e f = record {
-  frame = record {
-    heap = record { pages_per_range = refl; blocks = refl; row = λ b k. refl };
-    map = record { entry = λ m. refl };
-    tuples = record { tuple = λ x. refl };
-    unnamed_tuples = record { unnamed = λ x. refl };
-    summarise_lock = refl;
-    locks = record { others = λ p n is other. is; taken = λ p n is other. is };
-    contents = refl;
-  };
-  pages = refl;
-  none = λ p is. none-some _ is;
-}
+grows : (w v : Small) (old new : Phase) → w.statement ≡ Maintaining 1020 old → v.statement ≡ Maintaining 1020 new
+    → GrowthStep 0 1020 (view no_rows w) (view no_rows v) old new → Step 0 (index_of no_rows w) (index_of no_rows v)
+grows w v old new was now step = summarises no_rows w v 1020 old (Maintaining 1020 new) was now (GrowMap old new step)
 
-turned : (entry entry' : TuplePlace) (tuple tuple' : TuplePlace → Option IndexTuple) (all all' : Pages) (lock lock' : ℕ → Option ℕ) (e f : Statement)
-    → Turned 0 (state entry tuple all lock e) (state entry' tuple' all' lock' f) e f
-turned entry entry' tuple tuple' all all' lock lock' e f = record { was = refl; now = refl; others = λ n. turns e f n }
-
-takes : Step 0 range_done lock_taken
-takes = TakeSummariseLock (record { was = refl; now = refl; others = λ n. turns Idle Holding n })
-    (record {
-      was = refl;
-      now = refl;
-      pages = refl;
-      none = λ p is. none-some _ is;
-      frame = record {
-        heap = record { pages_per_range = refl; blocks = refl; row = λ b k. refl };
-        map = record { entry = λ m. refl };
-        tuples = record { tuple = λ x. refl };
-        unnamed_tuples = record { unnamed = λ x. refl };
-        summarise_lock = tt;
-        locks = record { others = λ p n is other. is; taken = λ p n is other. is };
-        contents = refl;
-      };
-    })
+takes : Step 0 range_done (index_of no_rows lock_taken)
+takes = TakeSummariseLock (turned no_rows summarised lock_taken Idle Holding refl refl) (passes no_rows summarised None (Some 0) Holding refl refl)
     (record { counts = λ t. refl })
 
-begins : Step 0 lock_taken range_begun
-begins = BeginRange 1020 (turned _ _ _ _ _ _ _ _ _ _) (reads _ _) (record { counts = λ t. refl })
+begins : Step 0 (index_of no_rows lock_taken) (index_of no_rows range_begun)
+begins = BeginRange 1020 (turned no_rows lock_taken range_begun Holding (Maintaining 1020 (NotBuilding Empty)) refl refl)
+    (reads no_rows lock_taken (Maintaining 1020 (NotBuilding Empty)) refl) (record { counts = λ t. refl })
 
-looks : Step 0 range_begun entry_missing
-looks = Maintain 1020 _ _ (turned _ _ _ _ _ _ _ _ _ _) (Summarises (ReadNoEntry refl (reads _ _))) (record { counts = λ t. refl })
+looks : Step 0 (index_of no_rows range_begun) (index_of no_rows entry_missing)
+looks = summarises no_rows range_begun entry_missing 1020 (NotBuilding Empty) (Maintaining 1020 Vacant) refl refl
+    (ReadNoEntry refl (omega arith, omega arith) (reads no_rows range_begun (Maintaining 1020 Vacant) refl))
 
-flag_kinds : (p : ℕ) → (p ≡ 2) ⊎ (flagged_kind p ≡ grown_kind p)
-flag_kinds zero = inr refl
-flag_kinds (suc zero) = inr refl
-flag_kinds (suc (suc zero)) = inl refl
-flag_kinds (suc (suc (suc p))) = inr refl
+flags : Step 0 (index_of no_rows entry_missing) (index_of no_rows page_flagged)
+flags = grows entry_missing page_flagged Vacant Vacant refl refl
+    (Flag (record { short = omega arith; below = omega arith; is = refl }) (free no_rows entry_missing 2)
+    (turns_kind no_rows entry_missing Emptying [] (Maintaining 1020 Vacant)))
 
-flags : Step 0 entry_missing page_flagged
-flags = Maintain 1020 _ _ (turned _ _ _ _ _ _ _ _ _ _)
-    (Summarises (GrowMap Vacant Vacant (Flag (record { short = omega arith; below = omega arith; is = refl }) (λ n is. absurd (none-some _ is))
-    (record {
-      frame = record {
-        heap = record { pages_per_range = refl; blocks = refl; row = λ b k. refl };
-        map = record { entry = λ m. refl };
-        tuples = record { tuple = λ x. refl };
-        unnamed_tuples = record { unnamed = λ x. refl };
-        summarise_lock = refl;
-        locks = record { others = λ p n is other. is; taken = λ p n is other. is };
-        contents = refl;
-      };
-      page = record {
-        now = refl;
-        kinds = flag_kinds;
-        rooms = λ p. inr refl;
-        places = λ x. inr refl;
-        placeholder = refl;
-        map_pages = refl;
-        limit = refl;
-      };
-      locks = record { locked = λ p among. absurd among; only = λ p is. none-some _ is };
-    }))))
-    (record { counts = λ t. refl })
-
-lowest : (q : ℕ) → flagged_kind q ≡ Unstarted → 3 ≤ q
+lowest : (q : ℕ) → page_flagged.pages.kind q ≡ Unstarted → 3 ≤ q
 lowest zero is = absurd (differ 0 1 (sym (ap kind_number is)) (omega arith))
 lowest (suc zero) is = absurd (differ 0 1 (sym (ap kind_number is)) (omega arith))
 lowest (suc (suc zero)) is = absurd (differ 0 3 (sym (ap kind_number is)) (omega arith))
 lowest (suc (suc (suc q))) is = omega arith
 
-put_kinds : (p : ℕ) → (p ≡ 3) ⊎ (emptied_kind p ≡ flagged_kind p)
-put_kinds zero = inr refl
-put_kinds (suc zero) = inr refl
-put_kinds (suc (suc zero)) = inr refl
-put_kinds (suc (suc (suc zero))) = inl refl
-put_kinds (suc (suc (suc (suc p)))) = inr refl
+emptying : Grows (view no_rows page_flagged) 1020 Emptying
+emptying = record { short = omega arith; below = omega arith; is = refl }
 
-puts : Step 0 page_flagged copy_put
-puts = Maintain 1020 _ _ (turned _ _ _ _ _ _ _ _ _ _)
-    (Summarises (GrowMap Vacant (Evacuating 0 (Moving place moved_place final_tuple final_tuple)) (EvacuatePut place moved_place final_tuple
-    (record { short = omega arith; below = omega arith; is = refl })
-    (record { on = refl; stands = refl; first = λ y u on here. omega arith })
-    refl
-    (λ n is. absurd (none-some _ is))
-    (PutGoes moved_place ((OnNew (λ q has. no_room 8 has.2 (omega arith)) (refl, lowest) (omega arith)), (refl, λ q free. omega arith))
-    (λ n is. absurd (none-some _ is)) (λ n is. absurd (none-some _ is)))
-    (record {
-      tuple = record { was = refl; now = refl; others = tuples_moved final_tuple final_tuple };
-      free = λ n is. absurd (none-some _ is);
-      page = record {
-        now = refl;
-        kinds = put_kinds;
-        rooms = λ p. inr refl;
-        places = λ x. inr refl;
-        placeholder = refl;
-        map_pages = refl;
-        limit = refl;
-      };
-      frame = record {
-        heap = record { pages_per_range = refl; blocks = refl; row = λ b k. refl };
-        map = record { entry = λ m. refl };
-        tuples = tt;
-        unnamed_tuples = record { unnamed = λ x. refl };
-        summarise_lock = refl;
-        locks = record { others = λ p n is other. absurd (none-some _ is); taken = λ p n is other. absurd (other (own_three p n is)) };
-        contents = refl;
-      };
-    })
-    (record { locked = locked_three; only = one_of_three }))))
-    (record { counts = λ t. refl })
+copies : Step 0 (index_of no_rows page_flagged) (index_of no_rows copy_put)
+copies =
+    let moving = Evacuating 0 (Moving place moved_place final_tuple final_tuple) in
+    grows page_flagged copy_put Vacant moving refl refl
+    (EvacuatePut place moved_place final_tuple emptying (record { on = refl; stands = refl; first = λ y u on here. omega arith }) refl
+    (free no_rows page_flagged 2)
+    (PutGoes moved_place ((OnNew (λ q has. no_room 8 has.2 (omega arith)) (refl, lowest) (omega arith)), (refl, λ q none. omega arith))
+    (free no_rows page_flagged 3) (free no_rows page_flagged 1))
+    (puts no_rows page_flagged moved_place final_tuple (2 ∷ 3 ∷ 1 ∷ []) (Maintaining 1020 moving) refl)
+    (locks_these no_rows copy_put))
 
-sets : Step 0 copy_put entry_set
-sets = Maintain 1020 _ _ (turned _ _ _ _ _ _ _ _ _ _)
-    (Summarises (GrowMap (Evacuating 0 (Moving place moved_place final_tuple final_tuple)) (Evacuating 0 (Dropping place))
+move_set : Step 0 (index_of no_rows copy_put) (index_of no_rows entry_set)
+move_set = grows copy_put entry_set (Evacuating 0 (Moving place moved_place final_tuple final_tuple)) (Evacuating 0 (Dropping place)) refl refl
     (EvacuateSet 0 place moved_place final_tuple final_tuple
-    (record {
-      now = refl;
-      others = entry_moved;
-      pages = refl;
-      frame = record {
-        heap = record { pages_per_range = refl; blocks = refl; row = λ b k. refl };
-        map = tt;
-        tuples = record { tuple = λ x. refl };
-        unnamed_tuples = record { unnamed = λ x. refl };
-        summarise_lock = refl;
-        locks = record { others = λ p n is other. is; taken = λ p n is other. is };
-        contents = refl;
-      };
-    })
-    (record { lock = λ p. refl }))))
-    (record { counts = λ t. refl })
+    (sets no_rows copy_put 0 moved_place (2 ∷ 3 ∷ 1 ∷ []) (Maintaining 1020 (Evacuating 0 (Dropping place)))) (record { lock = λ p. refl }))
 
-drops : Step 0 entry_set old_dropped
-drops = Maintain 1020 _ _ (turned _ _ _ _ _ _ _ _ _ _)
-    (Summarises (GrowMap (Evacuating 0 (Dropping place)) Vacant
-    (EvacuateDrop 0 place
-    (record {
-      now = refl;
-      others = tuples_dropped final_tuple final_tuple;
-      page = record {
-        now = refl;
-        kinds = λ p. inr refl;
-        rooms = λ p. inr refl;
-        places = λ x. inr refl;
-        placeholder = refl;
-        map_pages = refl;
-        limit = refl;
-      };
-      frame = record {
-        heap = record { pages_per_range = refl; blocks = refl; row = λ b k. refl };
-        map = record { entry = λ m. refl };
-        tuples = tt;
-        unnamed_tuples = record { unnamed = λ x. refl };
-        summarise_lock = refl;
-        locks = record { others = λ p n is other. absurd (other (own_three p n is)); taken = λ p n is other. absurd (none-some _ is) };
-        contents = refl;
-      };
-      none = λ p is. none-some _ is;
-    }))))
-    (record { counts = λ t. refl })
-
-turn_kinds : (p : ℕ) → (p ≡ 2) ⊎ (turned_kind p ≡ emptied_kind p)
-turn_kinds zero = inr refl
-turn_kinds (suc zero) = inr refl
-turn_kinds (suc (suc zero)) = inl refl
-turn_kinds (suc (suc (suc zero))) = inr refl
-turn_kinds (suc (suc (suc (suc p)))) = inr refl
-
-own_map : (p n : ℕ) → map_locks p ≡ Some n → n ≡ 0
-own_map zero n is = sym (same_Some _ _ is)
-own_map (suc zero) n is = absurd (none-some _ is)
-own_map (suc (suc zero)) n is = sym (same_Some _ _ is)
-own_map (suc (suc (suc p))) n is = absurd (none-some _ is)
-
-one_of_map : (p : ℕ) → map_locks p ≡ Some 0 → (p ≡ 2) ⊎ ((p ≡ 0) ⊎ ⊥)
-one_of_map zero is = inr (inl refl)
-one_of_map (suc zero) is = absurd (none-some _ is)
-one_of_map (suc (suc zero)) is = inl refl
-one_of_map (suc (suc (suc p))) is = absurd (none-some _ is)
-
-locked_map : (p : ℕ) → (p ≡ 2) ⊎ ((p ≡ 0) ⊎ ⊥) → map_locks p ≡ Some 0
-locked_map p among = ⊎_elim
-    (λ (is : p ≡ 2). ap map_locks is)
-    (λ (more : (p ≡ 0) ⊎ ⊥). ⊎_elim (λ (is : p ≡ 0). ap map_locks is) (λ (never : ⊥). absurd never) more)
-    among
+old_drop : Step 0 (index_of no_rows entry_set) (index_of no_rows old_dropped)
+old_drop = grows entry_set old_dropped (Evacuating 0 (Dropping place)) Vacant refl refl
+    (EvacuateDrop 0 place (drops no_rows entry_set place (Maintaining 1020 Vacant)))
 
 -- no tuple stands on the emptied page
-emptied : (x : TuplePlace) (t : IndexTuple) → x.block ≡ 2 → two_tuples None (Some final_tuple) x ≡ Some t → ⊥
-emptied x t on here = none-some _
-    (sym (none_at x.slot 0)
-    ∙ sym (ap (λ b. at_number b 2 (at_number x.slot 0 None None) (at_number b 3 (at_number x.slot 0 (Some final_tuple) None) None)) on)
-    ∙ here)
+emptied : (x : TuplePlace) (t : IndexTuple) → x.block ≡ 2 → old_dropped.tuple x ≡ Some t → ⊥
+emptied x t on here = ⊎_elim
+    (λ (is : x ≡ place). gone is)
+    (λ (e : old_dropped.tuple x ≡ copy_put.tuple x). ⊎_elim
+    (λ (is : x ≡ moved_place). differ 2 3 (sym on ∙ ap (λ (y : TuplePlace). y.block) is) (omega arith))
+    (λ (d : copy_put.tuple x ≡ summarised.tuple x). ⊎_elim
+    (λ (is : x ≡ place). gone is)
+    (λ (c : summarised.tuple x ≡ None). none-some _ (sym c ∙ sym d ∙ sym e ∙ here))
+    (placed_others place (Some final_tuple) no_tuples x))
+    (placed_others moved_place (Some final_tuple) summarised.tuple x))
+    (placed_others place None copy_put.tuple x)
+  where
+    gone : x ≡ place → ⊥
+    gone is = none-some _ (sym (ap old_dropped.tuple is) ∙ here)
 
-turns_page : Step 0 old_dropped page_turned
-turns_page = Maintain 1020 _ _ (turned _ _ _ _ _ _ _ _ _ _)
-    (Summarises (GrowMap Vacant Growing (Turn (record { short = omega arith; below = omega arith; is = refl })
-    (λ x t next. emptied x t next.on next.stands)
-    (λ n is. absurd (none-some _ is)) (λ n is. absurd (none-some _ is))
-    (record {
-      frame = record {
-        heap = record { pages_per_range = refl; blocks = refl; row = λ b k. refl };
-        map = record { entry = λ m. refl };
-        tuples = record { tuple = λ x. refl };
-        unnamed_tuples = record { unnamed = λ x. refl };
-        summarise_lock = refl;
-        locks = record { others = λ p n is other. absurd (none-some _ is); taken = λ p n is other. absurd (other (own_map p n is)) };
-        contents = refl;
-      };
-      page = record {
-        now = refl;
-        kinds = turn_kinds;
-        rooms = λ p. inr refl;
-        places = λ x. inr refl;
-        placeholder = refl;
-        map_pages = refl;
-        limit = refl;
-      };
-      locks = record { locked = locked_map; only = one_of_map };
-    }))))
-    (record { counts = λ t. refl })
+turns_page : Step 0 (index_of no_rows old_dropped) (index_of no_rows page_turned)
+turns_page = grows old_dropped page_turned Vacant Growing refl refl
+    (Turn (record { short = omega arith; below = omega arith; is = refl }) (λ x t next. emptied x t next.on next.stands)
+    (free no_rows old_dropped 2) (free no_rows old_dropped 0) (turns_kind no_rows old_dropped Mapping (2 ∷ 0 ∷ []) (Maintaining 1020 Growing)))
 
-counts_page : Step 0 page_turned map_grown
-counts_page = Maintain 1020 _ _ (turned _ _ _ _ _ _ _ _ _ _)
-    (Summarises (GrowMap Growing Vacant (Count
-    (record {
-      frame = record {
-        heap = record { pages_per_range = refl; blocks = refl; row = λ b k. refl };
-        map = record { entry = λ m. refl };
-        tuples = record { tuple = λ x. refl };
-        unnamed_tuples = record { unnamed = λ x. refl };
-        summarise_lock = refl;
-        locks = record { others = λ p n is other. absurd (other (own_map p n is)); taken = λ p n is other. absurd (none-some _ is) };
-        contents = refl;
-      };
-      pages = refl;
-      none = λ p is. none-some _ is;
-    }))))
-    (record { counts = λ t. refl })
+counts : Step 0 (index_of no_rows page_turned) (index_of no_rows page_counted)
+counts = grows page_turned page_counted Growing Vacant refl refl (Count (counts_page no_rows page_turned (Maintaining 1020 Vacant)))
 
-pub summarised_kept : IsIndexKept range_done
-summarised_kept = run_kept _ new_state range_done first_kept range_run
+next_lowest : (q : ℕ) → page_counted.pages.kind q ≡ Unstarted → 4 ≤ q
+next_lowest zero is = absurd (differ 0 1 (sym (ap kind_number is)) (omega arith))
+next_lowest (suc zero) is = absurd (differ 0 1 (sym (ap kind_number is)) (omega arith))
+next_lowest (suc (suc zero)) is = absurd (differ 0 1 (sym (ap kind_number is)) (omega arith))
+next_lowest (suc (suc (suc zero))) is = absurd (differ 0 2 (sym (ap kind_number is)) (omega arith))
+next_lowest (suc (suc (suc (suc q)))) is = omega arith
 
-pub growth_run : Run (0 ∷ 0 ∷ 0 ∷ 0 ∷ 0 ∷ 0 ∷ 0 ∷ 0 ∷ 0 ∷ []) range_done map_grown
-growth_run = Next 0 _ _ _ _ takes (Next 0 _ _ _ _ begins (Next 0 _ _ _ _ looks (Next 0 _ _ _ _ flags (Next 0 _ _ _ _ puts (Next 0 _ _ _ _ sets
-    (Next 0 _ _ _ _ drops (Next 0 _ _ _ _ turns_page (Next 0 _ _ _ _ counts_page (Done map_grown)))))))))
+new_put : Step 0 (index_of no_rows page_counted) (index_of no_rows placeholder_put)
+new_put = summarises no_rows page_counted placeholder_put 1020 Vacant (Maintaining 1020 (Placing new_place)) refl refl
+    (Put new_place new_tuple refl (λ past. absurd (omega arith))
+    (PutGoes new_place ((OnNew (λ q has. no_room 8 has.2 (omega arith)) (refl, next_lowest) (omega arith)), (refl, λ q none. omega arith))
+    (free no_rows page_counted 4) (free no_rows page_counted 2))
+    (puts no_rows page_counted new_place new_tuple (4 ∷ 2 ∷ []) (Maintaining 1020 (Placing new_place)) refl)
+    (locks_these no_rows placeholder_put))
+
+new_set : Step 0 (index_of no_rows placeholder_put) map_grown
+new_set = summarises no_rows placeholder_put placeholder_named 1020 (Placing new_place) (Maintaining 1020 (IsAt ExtentUnread Empty)) refl refl
+    (Set new_place (sets no_rows placeholder_put 1020 new_place [] (Maintaining 1020 (IsAt ExtentUnread Empty))) (nobody [] refl))
+
+pub growth_run : Run (0 ∷ 0 ∷ 0 ∷ 0 ∷ 0 ∷ 0 ∷ 0 ∷ 0 ∷ 0 ∷ 0 ∷ 0 ∷ []) range_done map_grown
+growth_run = Next 0 _ _ _ _ takes (Next 0 _ _ _ _ begins (Next 0 _ _ _ _ looks (Next 0 _ _ _ _ flags (Next 0 _ _ _ _ copies (Next 0 _ _ _ _ move_set
+    (Next 0 _ _ _ _ old_drop (Next 0 _ _ _ _ turns_page (Next 0 _ _ _ _ counts (Next 0 _ _ _ _ new_put (Next 0 _ _ _ _ new_set (Done map_grown)))))))))))
+
+-- the map was too short for the range's entry, and names a placeholder for it afterwards
+pub was_short : IsPastMap (view no_rows summarised) 1020
+was_short = omega arith
+
+pub names_new : NamesPlaceholder (view no_rows placeholder_named) 1020
+names_new = (new_place, new_tuple, at_here 1020 (Some new_place) (placeholder_put.entry 1020), refl, refl)

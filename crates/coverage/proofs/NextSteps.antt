@@ -4,12 +4,13 @@ use Rattle.std.proofs.Common.{◌≡◌, ℕ, ◌≤◌, ◌<◌, Some, sym, ◌
 use Rattle.std.specs.Prelude.{refl, length}
 use Rattle.std.proofs.lemmas.Option.{same_Some}
 use Rattle.block_model.specs.declared.row.Row.{Row}
-use Rattle.coverage.specs.IndexView.{TuplePlace, IndexTuple, Progress, ExtentUnread, Passing, PageKind, Unstarted, Mapping, Regular, Emptying, IndexView}
+use Rattle.coverage.specs.IndexView.{TuplePlace, IndexTuple, Progress, ExtentUnread, Passing, PageKind, Unstarted, Mapping, Regular, Emptying, IndexView, placeholder_length}
 use Rattle.coverage.specs.IndexView.{range_of_block, next_map_page, IsPastMap}
 use Rattle.coverage.specs.Changes.{IsFree}
 use Rattle.coverage.specs.Verdicts.{Verdict, Waits, Differs, Fits, Puts, PutVerdict, SwapVerdict, ClearVerdict}
 use Rattle.coverage.specs.Statements.{OnIndex, Empty, Held, Copied, Moving, Dropping, Phase, NotBuilding, Vacant, Growing, Evacuating, Placing, IsAt, Statement}
-use Rattle.coverage.specs.Steps.{IsUnnamed, IsNextTuple, Grows, OnIndexStep, Maps, Gone, Again, MovePut}
+use Rattle.coverage.specs.Steps.{IsUnnamed, OnIndexStep, Maps, Gone, Again, MovePut}
+use Rattle.coverage.specs.Waiting.{IsNextTuple, Grows}
 use Rattle.coverage.specs.Steps.{InsertStep, InsertOnIndex, InsertNoEntry, InsertCopies, InsertUnchanged, InsertSwap, InsertSet, InsertDrop}
 use Rattle.coverage.specs.Steps.{GrowthStep, Grow, CountLeftOver, Count, Flag, EvacuatePut, EvacuateSet, EvacuateDrop, EvacuateSweep, Turn}
 use Rattle.coverage.specs.Steps.{SummariseStep, LookMap, LookGone, IsFinal, Found, ReadNoEntry, GrowMap, Put, Set, Extent, Pass, Unite, UniteCopies, SwapFinal}
@@ -141,7 +142,7 @@ kind_once w s Emptying p q one two = emptying_once w s p q one two
 
 -- the points of a summariser that read that the map has no entry
 data VacantPoint (w : IndexView) (s range : ℕ) : Point → Type 0 where
-  MapSuffices : (x : TuplePlace) → (IsPastMap w range → ⊥) → PutVerdict w s range w.pages.placeholder (Puts x) → VacantPoint w s range AtPut
+  MapSuffices : (x : TuplePlace) → (IsPastMap w range → ⊥) → PutVerdict w s range (placeholder_length w range) (Puts x) → VacantPoint w s range AtPut
   MapGrows : (kind : PageKind) (p : Point) → Grows w range kind → KindPoint w s kind p → VacantPoint w s range p
 
 vacant_once : (w : IndexView) (s range : ℕ) (p q : Point) → VacantPoint w s range p → VacantPoint w s range q → p ≡ q
@@ -217,9 +218,9 @@ summarise_fact s range w v _ _ (LookMap x named reads) = LooksAtMap
 summarise_fact s range w v _ _ (LookGone x gone reads) = LooksAtTuple x
 summarise_fact s range w v _ _ (IsFinal x t stands final reads) = LooksAtTuple x
 summarise_fact s range w v _ _ (Found x t stands flag reads) = LooksAtTuple x
-summarise_fact s range w v _ _ (ReadNoEntry none reads) = LooksAtMap
+summarise_fact s range w v _ _ (ReadNoEntry none of reads) = LooksAtMap
 summarise_fact s range w v _ _ (GrowMap old new step) = growth_fact s range w v old new step
-summarise_fact s range w v _ _ (Put x t is size long verdict puts these) = WantsEntry AtPut (MapSuffices x long verdict)
+summarise_fact s range w v _ _ (Put x t is long verdict puts these) = WantsEntry AtPut (MapSuffices x long verdict)
 summarise_fact s range w v _ _ (Set x sets none) = SetsPlaceholder x
 summarise_fact s range w v _ _ (Extent extent result start is reads) = ToExtent
 summarise_fact s range w v _ _ (Pass extent next slots result wider below none made reads) = PassesNext extent next result below
@@ -246,8 +247,8 @@ module _ (w : IndexView) (s range : ℕ) where
   kind_at kind _ grows (WantsEntry p (MapSuffices x long verdict)) = absurd (long grows.short)
   kind_at kind _ grows (WantsEntry p (MapGrows kind' _ grows' at)) = subst (λ l. KindPoint w s l p) (sym grows'.is ∙ grows.is) at
 
-  place_waits : (q : ℕ) (p : Point) → (IsPastMap w range → ⊥) → PutVerdict w s range w.pages.placeholder (Waits q) → SummarisePoint w s range Vacant p → ⊥
-  place_waits q _ long waits (WantsEntry p (MapSuffices x long' verdict)) = no_put w s range w.pages.placeholder q x waits verdict
+  place_waits : (q : ℕ) (p : Point) → (IsPastMap w range → ⊥) → PutVerdict w s range (placeholder_length w range) (Waits q) → SummarisePoint w s range Vacant p → ⊥
+  place_waits q _ long waits (WantsEntry p (MapSuffices x long' verdict)) = no_put w s range (placeholder_length w range) q x waits verdict
   place_waits q _ long waits (WantsEntry p (MapGrows kind _ grows at)) = long grows.short
 
   put_waits : (q : ℕ) (x : TuplePlace) (t : IndexTuple) (p : Point) → IsNextTuple w (next_map_page w) x t → w.entry t.range ≡ Some x

@@ -2,7 +2,7 @@
 use Rattle.std.proofs.Common.{◌≡◌, ◌≢◌, inl, inr, ⊎_elim, ℕ, Option, Some, None, Bool, false, sym, ◌∙◌, ap, subst}
 use Rattle.std.specs.Prelude.{refl}
 use Rattle.std.proofs.lemmas.Option.{same_Some, none-some}
-use Rattle.coverage.specs.IndexView.{TuplePlace, IndexTuple, Building, IndexView}
+use Rattle.coverage.specs.IndexView.{TuplePlace, IndexTuple, IsFormed, Building, IndexView}
 use Rattle.coverage.specs.IsSound.{IsSound}
 use Rattle.coverage.specs.GoesOn.{GoesOn}
 use Rattle.coverage.specs.Changes.{ChangesAt, SameLoose, TouchesNothing, Frame, IsLooseLocked, IsFree, Carries, MayEnd, Swaps, MovePuts, MoveSets, DropsLoose}
@@ -122,6 +122,7 @@ module _ (s : ℕ) (w v : IndexState) (d e : Statement) (turned : Turned s w v d
             free = swap.free;
             entry = copied_named x old new known swap.tuple.was swap.free;
             of = (known.2, made.0 ∙ known.2);
+            formed = known.4;
             carries = made.1;
             ends = ends;
             loose = loose_same (now ∙ sym was);
@@ -171,9 +172,9 @@ module _ (s : ℕ) (w v : IndexState) (d e : Statement) (turned : Turned s w v d
       set_knows After n x y old new known sets locked = (locked, set_unnamed x y old new known sets, (old, sets.frame.tuples.tuple x ∙ known.3))
 
       pub put_both : (x y : TuplePlace) (old new : IndexTuple) → w.entry range ≡ Some x → w.tuple x ≡ Some old → old.range ≡ range → Makes old new
-          → loose_of d ≡ None → loose_of e ≡ Some y → building_of e ≡ building_of d
+          → IsFormed w.contents new → loose_of d ≡ None → loose_of e ≡ Some y → building_of e ≡ building_of d
           → PutsTuple s (index_view w) (index_view v) y new → v.lock y.block ≡ Some s → Both s (index_view w) (index_view v)
-      put_both x y old new entry before of how was now work puts target =
+      put_both x y old new entry before of how formed was now work puts target =
           let made = makes old new how in
           let kind : MovePuts s (index_view w) (index_view v) range x y old new = record {
             tuple = puts.tuple;
@@ -181,6 +182,7 @@ module _ (s : ℕ) (w v : IndexState) (d e : Statement) (turned : Turned s w v d
             before = before;
             entry = entry;
             of = (of, made.0 ∙ of);
+            formed = formed;
             carries = made.1;
             loose = loose_turns None (Some y) was now;
             frame = puts.frame;
@@ -214,12 +216,13 @@ module _ (s : ℕ) (w v : IndexState) (d e : Statement) (turned : Turned s w v d
           let entry = copied_named x old new known compared.1 compared.0 in
           let source = these.locked x.block (inl refl) in
           let target = these.locked y.block (inr (inl refl)) in (
-            put_both x y old new entry compared.1 known.2 known.3 was now work puts target,
+            put_both x y old new entry compared.1 known.2 known.3 known.4 was now work puts target,
             put_knows x y old new entry compared.1 known.2 known.3 puts source target,
           )
 
       -- the tuple is copied, and the new one made
-      pub copy_knows : (x : TuplePlace) (old new : IndexTuple) → old.range ≡ range → Makes old new → Both s (index_view w) (index_view v)
+      pub copy_knows : (x : TuplePlace) (old new : IndexTuple) → old.range ≡ range → Makes old new → IsFormed w.contents new → Both s (index_view w) (index_view v)
           → LocksNone (index_view v) s → KnowsOnIndex (index_view w) s range Makes (Held x)
           → KnowsOnIndex (index_view v) s range Makes (Copied x old new)
-      copy_knows x old new of how both none known = (none, both.1.held range x known.1, of, how)
+      copy_knows x old new of how formed both none known =
+          (none, both.1.held range x known.1, of, how, subst (λ c. IsFormed c new) (sym both.1.contents) formed)

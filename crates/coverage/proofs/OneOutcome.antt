@@ -4,14 +4,15 @@ use Rattle.std.specs.Prelude.{refl}
 use Rattle.std.proofs.lemmas.Option.{same_Some, none-some}
 use Rattle.std.proofs.lemmas.Bool.{cases_eq, false≢true}
 use Rattle.block_model.specs.declared.row.Row.{Row}
-use Rattle.coverage.specs.IndexView.{TuplePlace, IndexTuple, Contents, Progress, ExtentUnread, Passing, PageKind, Unstarted, Mapping, Regular, Emptying}
+use Rattle.coverage.specs.IndexView.{TuplePlace, IndexTuple, Contents, Progress, ExtentUnread, Passing, PageKind, Unstarted, Mapping, Regular, Emptying, placeholder_length}
 use Rattle.coverage.specs.IndexView.{IndexView, range_of_block, next_map_page, IsPastMap}
 use Rattle.coverage.specs.Changes.{IsFree}
 use Rattle.coverage.specs.Verdicts.{IsLocked, Verdict, Differs, Fits, Puts, PutVerdict, SwapVerdict}
 use Rattle.coverage.specs.Statements.{OnIndex, Empty, Held, Copied, Moving, Dropping, Phase, NotBuilding, Vacant, Growing, Evacuating, Placing, IsAt, Statement}
 use Rattle.coverage.specs.Statements.{Idle, Inserting, Maintaining, Holding, rows_added, row_added, HasNoMoreRows}
 use Rattle.coverage.specs.Steps.{IsUnnamed, IsGone, Stands, OnIndexStep, Maps, Gone, Again, MovePut, InsertStep, InsertOnIndex, InsertNoEntry, InsertCopies}
-use Rattle.coverage.specs.Steps.{InsertUnchanged, InsertSwap, InsertSet, InsertDrop, IsNextTuple, Grows, GrowthStep, Grow, CountLeftOver, Count, Flag}
+use Rattle.coverage.specs.Steps.{InsertUnchanged, InsertSwap, InsertSet, InsertDrop, GrowthStep, Grow, CountLeftOver, Count, Flag}
+use Rattle.coverage.specs.Waiting.{IsNextTuple, Grows}
 use Rattle.coverage.specs.Steps.{EvacuatePut, EvacuateSet, EvacuateDrop, EvacuateSweep, Turn, SummariseStep, LookMap, LookGone, IsFinal, Found, ReadNoEntry}
 use Rattle.coverage.specs.Steps.{GrowMap, Put, Set, Extent, Pass, Unite, UniteCopies, SwapFinal, SetFinal, DropOld, DesummariseStep, ClearMap, ClearNone, Clear}
 use Rattle.coverage.specs.Steps.{ClearAgain, DropCleared}
@@ -186,7 +187,7 @@ pub data NextPhase (w : IndexView) (s range : ℕ) : Phase → Statement → Typ
       → NextPhase w s range (NotBuilding (Held x)) (Maintaining range (IsAt ExtentUnread Empty))
   Drops : (x : TuplePlace) → NextPhase w s range (NotBuilding (Dropping x)) Holding
   Lengthens : (kind : PageKind) (new : Phase) → Grows w range kind → NextGrowth w s kind new → NextPhase w s range Vacant (Maintaining range new)
-  Places : (y : TuplePlace) → (IsPastMap w range → ⊥) → PutVerdict w s range w.pages.placeholder (Puts y)
+  Places : (y : TuplePlace) → (IsPastMap w range → ⊥) → PutVerdict w s range (placeholder_length w range) (Puts y)
       → NextPhase w s range Vacant (Maintaining range (Placing y))
   CountsStarted : NextPhase w s range Growing (Maintaining range Vacant)
   SetsOther : (m : ℕ) (x y : TuplePlace) (t u : IndexTuple)
@@ -224,9 +225,9 @@ summarise_next s range w v _ _ (LookMap x named reads) = LooksNamed x named
 summarise_next s range w v _ _ (LookGone x gone reads) = LooksLost x gone
 summarise_next s range w v _ _ (IsFinal x t stands final reads) = LooksFinal x t stands final
 summarise_next s range w v _ _ (Found x t stands flag reads) = LooksFound x t stands flag
-summarise_next s range w v _ _ (ReadNoEntry none reads) = LooksVacant none
+summarise_next s range w v _ _ (ReadNoEntry none of reads) = LooksVacant none
 summarise_next s range w v _ _ (GrowMap old new step) = growth_next s range w v old new step
-summarise_next s range w v _ _ (Put x t is size long verdict puts these) = Places x long verdict
+summarise_next s range w v _ _ (Put x t is long verdict puts these) = Places x long verdict
 summarise_next s range w v _ _ (Set x sets none) = Names x
 summarise_next s range w v _ _ (Extent extent result start is reads) = ReadsExtent extent result start is
 summarise_next s range w v _ _ (Pass extent next slots result wider below none made reads) = Passes extent next slots result wider below none made
@@ -287,7 +288,7 @@ module _ (w : IndexView) (s range : ℕ) where
   phase_same _ _ _ (Lengthens kind p grows one) (Places y long verdict) = absurd (long grows.short)
   phase_same _ _ _ (Places y long verdict) (Lengthens kind p grows two) = absurd (long grows.short)
   phase_same _ _ _ (Places y long verdict) (Places z long' verdict') =
-      ap (λ q. Maintaining range (Placing (place_of q y))) (put_once w s range w.pages.placeholder (Puts y) (Puts z) verdict verdict')
+      ap (λ q. Maintaining range (Placing (place_of q y))) (put_once w s range (placeholder_length w range) (Puts y) (Puts z) verdict verdict')
   phase_same _ _ _ CountsStarted CountsStarted = refl
   phase_same _ _ _ (SetsOther m x y t u) (SetsOther m' x' y' t' u') = refl
   phase_same _ _ _ (DropsOther m x) (DropsOther m' x') = refl

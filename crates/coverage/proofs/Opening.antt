@@ -1,10 +1,10 @@
 -- Where nobody is at work, a covered index is what steps keep.
-use Rattle.std.proofs.Common.{◌≡◌, ◌≢◌, inl, inr, ⊎_elim, ℕ, ◌/◌, ◌≤◌, ◌<◌, Some, None, Bool, true, sym, ◌∙◌, ap, subst, arith, rules}
+use Rattle.std.proofs.Common.{◌≡◌, ◌≢◌, ◌⊎◌, inl, inr, ⊎_elim, ℕ, ◌/◌, ◌≤◌, ◌<◌, Some, None, Bool, true, sym, ◌∙◌, ap, subst, arith, rules}
 use Rattle.std.specs.Prelude.{refl, IsTrue}
 use Rattle.std.proofs.lemmas.Option.{same_Some, none-some}
 use Rattle.std.proofs.lemmas.Bool.{false≢true}
 use Rattle.block_model.specs.declared.row.Row.{Row}
-use Rattle.coverage.specs.IndexView.{TuplePlace, IndexTuple, Contents, Progress, Pages, range_of_block, IsBuilding}
+use Rattle.coverage.specs.IndexView.{TuplePlace, IndexTuple, Contents, Progress, Pages, range_of_block, IsTupleOf, IsBuilding}
 use Rattle.coverage.specs.IsSettled.{IsSettled, AllAwait, IsAccounted}
 use Rattle.coverage.specs.IsSound.{IsSound}
 use Rattle.coverage.specs.Statements.{OnIndex, Scan, Inserting, Scanning, AreLawful, loose_of, building_of}
@@ -13,6 +13,7 @@ use Rattle.coverage.specs.PageOrder.{AreOrdered, AreNewPages, KnowsPages}
 use Rattle.coverage.specs.IsCovered.{IndexState, index_view, new_index, AreRowsBelow, IsFoundOrUnread, IsCovered, IsAtRest, IsIndexKept}
 use Rattle.coverage.specs.Steps.{IsRangeExcluded, StartsPage, Stops}
 use Rattle.coverage.proofs.Settled.{settled_accounted}
+use Rattle.coverage.proofs.Formed.{tuple_of_on}
 use Rattle.coverage.proofs.PagesOrdered.{order_same, entries_same, order_started, order_new}
 
 module _ (w : IndexState) (covered : IsCovered w) (rest : IsAtRest w) (ranged : 0 < w.pages_per_range) (rows_below : AreRowsBelow w)
@@ -23,8 +24,22 @@ module _ (w : IndexState) (covered : IsCovered w) (rest : IsAtRest w) (ranged : 
   nothing_loose : (s : ℕ) (x : TuplePlace) → loose_of (w.statement s) ≡ Some x → ⊥
   nothing_loose s x is = none-some _ (sym (ap loose_of (rest.idle s)) ∙ is)
 
+  names_some : (range : ℕ) (x : TuplePlace) → w.entry range ≡ Some x → (t : IndexTuple) × (w.tuple x ≡ Some t) × (t.range ≡ range)
+  names_some range x named = let t = covered.entries_name_tuples range x named in (t.0, t.1, t.2)
+
+  all_formed : (x : TuplePlace) (t : IndexTuple) → w.tuple x ≡ Some t → IsTupleOf (index_view w) t ⊎ IsTrue (w.unnamed x)
+  all_formed x t here = ⊎_elim
+      (λ (named : w.entry t.range ≡ Some x).
+      let by_map = covered.entries_name_tuples t.range x named in
+      inl (subst (IsTupleOf (index_view w)) (same_Some _ _ (sym by_map.1 ∙ here)) by_map.3))
+      (λ (o : ((s : ℕ) × (loose_of (w.statement s) ≡ Some x) × (w.lock x.block ≡ Some s)) ⊎ IsTrue (w.unnamed x)). ⊎_elim
+      (λ (loose : (s : ℕ) × (loose_of (w.statement s) ≡ Some x) × (w.lock x.block ≡ Some s)). absurd (nothing_loose loose.0 x loose.1))
+      (λ (unnamed : IsTrue (w.unnamed x)). inr unnamed)
+      o)
+      (covered.tuples_are_named x t here)
+
   rest_sound : IsSound (index_view w)
-  rest_sound = search (rules, lawful, nobody_builds, nothing_loose)
+  rest_sound = search (rules, lawful, nobody_builds, nothing_loose, names_some, all_formed)
 
   pub rest_kept : IsIndexKept w
   rest_kept = record {
@@ -101,6 +116,17 @@ module _ (w v : IndexState) (kept : IsIndexKept w) (stops : Stops w v) where
   within : (b n m : ℕ) → b < n → n ≤ m → b < m
   within b n m low more = omega arith
 
+  -- what was unnamed at the opening and stands still is unnamed
+  stopped_formed : (x : TuplePlace) (t : IndexTuple) → v.tuple x ≡ Some t → IsTupleOf (index_view v) t ⊎ IsTrue (v.unnamed x)
+  stopped_formed x t here = ⊎_elim
+      (λ (is : IsTupleOf (index_view w) t). inl (tuple_of_on (index_view w) (index_view v) stops.contents stops.pages_per_range stops.blocks t is))
+      (λ (unnamed : IsTrue (w.unnamed x)). ⊎_elim
+      (λ (named : v.entry t.range ≡ Some x).
+      absurd ((kept.sound.unnamed_tuples x unnamed).unnamed t.range (sym (stops.map.entry t.range) ∙ named)))
+      (λ (u : IsTrue (v.unnamed x)). inr u)
+      (stops.unnamed x t here))
+      (kept.sound.formed x t (came x t here))
+
   pub stopped_kept : IsIndexKept v
   stopped_kept = record {
     sound = record {
@@ -120,6 +146,7 @@ module _ (w v : IndexState) (kept : IsIndexKept w) (stops : Stops w v) where
           (λ (e : v.entry t.range ≡ Some x). inl e)
           (λ (u : IsTrue (v.unnamed x)). inr (inr u))
           (stops.unnamed x t here);
+      formed = stopped_formed;
       unnamed_tuples = stops.rest.unnamed_tuples;
       builder_holds = λ s range p is. absurd (nobody_builds' s range p is);
       loose_is_locked = λ s x is. absurd (none-some _ (sym (ap loose_of (stops.rest.idle s)) ∙ is));

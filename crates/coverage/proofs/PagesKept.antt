@@ -4,7 +4,7 @@ use Rattle.std.specs.Prelude.{refl}
 use Rattle.std.proofs.lemmas.Option.{none-some}
 use Rattle.std.proofs.lemmas.Bool.{cases_eq}
 use Rattle.block_model.specs.declared.row.Row.{Row}
-use Rattle.coverage.specs.IndexView.{TuplePlace, IndexTuple, Progress, ExtentUnread, Passing, PageKind, Unstarted, Mapping, Regular, Emptying, Pages, IndexView}
+use Rattle.coverage.specs.IndexView.{TuplePlace, IndexTuple, Progress, ExtentUnread, Passing, PageKind, Unstarted, Mapping, Regular, Emptying, Pages, IndexView, placeholder_length}
 use Rattle.coverage.specs.IndexView.{map_page_of, next_map_page, IsPastMap, range_of_block, NamesPlaceholder}
 use Rattle.coverage.specs.IsSound.{IsSound}
 use Rattle.coverage.specs.Changes.{SameHeap, OwnLocks, IsUntouched}
@@ -15,7 +15,8 @@ use Rattle.coverage.specs.Knowing.{LocksThese, KnowsOnIndex, KnowsPhase}
 use Rattle.coverage.specs.PageOrder.{AreOrdered, IsForTuples, HasNamedSort, LocksOnIndex, IsPassWithin, IsTurnToUnite, KnowsPagesOfPhase, KnowsPages}
 use Rattle.coverage.specs.Steps.{ReadsIndex, ReplacesTuple, SetsEntry, SameLocks, ClearsEntry, DropsTuple, SweepsTuples, OnIndexStep}
 use Rattle.coverage.specs.Steps.{Maps, Gone, Again, MovePut, InsertStep, InsertOnIndex, InsertNoEntry, InsertCopies, InsertUnchanged, InsertSwap, InsertSet}
-use Rattle.coverage.specs.Steps.{InsertDrop, IsNextTuple, TurnsKind, CountsPage, GrowthStep, Grow, CountLeftOver, Count, Flag, EvacuatePut, EvacuateSet}
+use Rattle.coverage.specs.Steps.{InsertDrop, TurnsKind, CountsPage, GrowthStep, Grow, CountLeftOver, Count, Flag, EvacuatePut, EvacuateSet}
+use Rattle.coverage.specs.Waiting.{IsNextTuple}
 use Rattle.coverage.specs.Steps.{EvacuateDrop, EvacuateSweep, Turn, SummariseStep, LookMap, LookGone, IsFinal, Found, ReadNoEntry, GrowMap, Put, Set, Extent}
 use Rattle.coverage.specs.Steps.{Pass, Unite, UniteCopies, SwapFinal, SetFinal, DropOld, DesummariseStep, ClearMap, ClearNone, Clear, ClearAgain, DropCleared}
 use Rattle.coverage.specs.Steps.{MaintainStep, Summarises, Desummarises}
@@ -337,10 +338,10 @@ module _ (s range : ℕ) (w v : IndexView) (ordered : AreOrdered w) (held : w.su
       let h = pages.1 t stands.0 stands.1 in
       read_after s w v ordered (Maintaining range (IsAt ExtentUnread Empty)) reads
       (tt, (h.0, h.1, reads.frame.map.entry range ∙ h.2, reads.frame.tuples.tuple h.0 ∙ h.3, h.4 ∙ flag), tt, tt)
-  summarise_after _ _ (ReadNoEntry none reads) known pages = read_after s w v ordered (Maintaining range Vacant) reads tt
+  summarise_after _ _ (ReadNoEntry none of reads) known pages = read_after s w v ordered (Maintaining range Vacant) reads tt
   summarise_after _ _ (GrowMap old new step) known pages = growth_after old new step known pages
-  summarise_after _ _ (Put x t is size long verdict puts these) known pages = record {
-    ordered = order_puts w v ordered s w.pages.placeholder x t puts (put_target w s range w.pages.placeholder x verdict);
+  summarise_after _ _ (Put x t is long verdict puts these) known pages = record {
+    ordered = order_puts w v ordered s (placeholder_length w range) x t puts (put_target w s range (placeholder_length w range) x verdict);
     on = goes_on s w v puts.frame.heap puts.frame.locks (kinds_turned s w v x.block Regular puts.page puts.free) (inl held);
     knows = ((λ past. long (subst (λ m. m < map_page_of range) puts.page.map_pages past)), these);
   }
@@ -393,7 +394,7 @@ module _ (s range : ℕ) (w v : IndexView) (ordered : AreOrdered w) (held : w.su
     knows = tt;
   }
   summarise_after _ _ (SetFinal p x y old new sets same) known pages = record {
-    ordered = set_ordered s w v ordered range y sets (ordered.entries range x known.2);
+    ordered = set_ordered s w v ordered range y sets (ordered.entries range x known.0.2);
     on = goes_on s w v sets.frame.heap sets.frame.locks (same_kinds s w v sets.pages) (inl held);
     knows = ((y.block, these_same s w v same (x.block ∷ y.block ∷ map_page_of range ∷ []) pages.0), tt);
   }

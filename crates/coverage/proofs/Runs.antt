@@ -32,6 +32,7 @@ use Rattle.coverage.proofs.PagesGoOn.{Quiet, PagesAfter, not_less, same_blocks, 
 use Rattle.coverage.proofs.PagesKept.{sweep_after, insert_after, maintain_after}
 use Rattle.coverage.proofs.PagesOrdered.{for_tuples, IsNoMap}
 use Rattle.coverage.proofs.Numbers.{lt_or_ge}
+use Rattle.coverage.proofs.FullApart.{ended_loose, full_loose}
 
 pub insert_keeps : (s b k : ℕ) (r : Row) (w v : IndexView) (h : OnIndex) (e : Statement) → InsertStep s b k r w v h e → KeepsHeapAndLock w v
 insert_keeps s b k r w v _ _ (InsertOnIndex old new step) = on_index_keeps s (range_of_block w b) w v old new step
@@ -58,9 +59,9 @@ summarise_keeps s range w v _ _ (LookMap x named reads) = (reads.frame.heap, rea
 summarise_keeps s range w v _ _ (LookGone x gone reads) = (reads.frame.heap, reads.frame.summarise_lock)
 summarise_keeps s range w v _ _ (IsFinal x t stands final reads) = (reads.frame.heap, reads.frame.summarise_lock)
 summarise_keeps s range w v _ _ (Found x t stands flag reads) = (reads.frame.heap, reads.frame.summarise_lock)
-summarise_keeps s range w v _ _ (ReadNoEntry none reads) = (reads.frame.heap, reads.frame.summarise_lock)
+summarise_keeps s range w v _ _ (ReadNoEntry none of reads) = (reads.frame.heap, reads.frame.summarise_lock)
 summarise_keeps s range w v _ _ (GrowMap old new step) = growth_keeps s range w v old new step
-summarise_keeps s range w v _ _ (Put x t is size long verdict puts these) = (puts.frame.heap, puts.frame.summarise_lock)
+summarise_keeps s range w v _ _ (Put x t is long verdict puts these) = (puts.frame.heap, puts.frame.summarise_lock)
 summarise_keeps s range w v _ _ (Set x sets none) = (sets.frame.heap, sets.frame.summarise_lock)
 summarise_keeps s range w v _ _ (Extent extent result start is reads) = (reads.frame.heap, reads.frame.summarise_lock)
 summarise_keeps s range w v _ _ (Pass extent next slots result wider below none made reads) = (reads.frame.heap, reads.frame.summarise_lock)
@@ -460,7 +461,8 @@ module _ (s : ℕ) (w v : IndexState) (kept : IsIndexKept w) where
       (insert_after s b k r (index_view w) (index_view v) kept.sound kept.ordered on_index new step (knows_it (Inserting b k r on_index) turned.was).2
       (knows_pages_it (Inserting b k r on_index) turned.was))
       (insert_keeps s b k r (index_view w) (index_view v) on_index new step).0 counts
-  step_kept (Refused b k r on_index none turned reads fails counts) = refused b k r on_index none turned reads fails counts
+  step_kept (Refused b k r on_index ended turned reads fails counts) =
+      refused b k r on_index (ended_loose (index_view w) s b on_index ended) turned reads fails counts
   step_kept (TakeSummariseLock turned passes counts) = take_summarise_lock turned passes counts
   step_kept (BeginRange range turned reads counts) =
       let known = knows_it Holding turned.was in
@@ -485,7 +487,8 @@ module _ (s : ℕ) (w v : IndexState) (kept : IsIndexKept w) where
       (sweep_after s (index_view w) (index_view v) kept.ordered page (λ x. (x.block ≡ page) × IsUnnamed (index_view w) x) Holding sweeps known.0 tt)
       sweeps.frame.heap counts
   step_kept (GiveSummariseLock turned passes counts) = give_summarise_lock Holding refl tt turned passes counts
-  step_kept (Abandon range phase none turned passes counts) = give_summarise_lock (Maintaining range phase) none tt turned passes counts
+  step_kept (Abandon range number phase full turned passes counts) =
+      give_summarise_lock (Maintaining range phase) (full_loose (index_view w) s range number phase full) tt turned passes counts
   step_kept (BeginScan scan begins turned reads counts) = begin_scan scan begins turned reads counts
   step_kept (Scans old new turned step reads counts) = scans old new turned step reads counts
   step_kept (EndScan scan turned reads counts) =
@@ -521,7 +524,7 @@ module _ (s : ℕ) (w v : IndexState) (kept : IsIndexKept w) where
   step_quiet (Insert b k r on_index new turned step counts) =
       (insert_after s b k r (index_view w) (index_view v) kept.sound kept.ordered on_index new step
       (knows_it s w v kept (Inserting b k r on_index) turned.was).2 (knows_pages_it s w v kept (Inserting b k r on_index) turned.was)).on.quiet
-  step_quiet (Refused b k r on_index none turned reads fails counts) = inr (quiet_read reads)
+  step_quiet (Refused b k r on_index ended turned reads fails counts) = inr (quiet_read reads)
   step_quiet (TakeSummariseLock turned passes counts) =
       inr (quiet_same (index_view w) (index_view v) passes.frame.map passes.frame.tuples (ap (λ (g : Pages). g.map_pages) passes.pages))
   step_quiet (BeginRange range turned reads counts) = inr (quiet_read reads)
@@ -529,7 +532,7 @@ module _ (s : ℕ) (w v : IndexState) (kept : IsIndexKept w) where
   step_quiet (Prune dropped spares turned drops counts) = inl (knows_it s w v kept Holding turned.was).0
   step_quiet (Sweep page turned sweeps counts) = inl (knows_it s w v kept Holding turned.was).0
   step_quiet (GiveSummariseLock turned passes counts) = inl passes.was
-  step_quiet (Abandon range phase none turned passes counts) = inl passes.was
+  step_quiet (Abandon range number phase full turned passes counts) = inl passes.was
   step_quiet (BeginScan scan begins turned reads counts) = inr (quiet_read reads)
   step_quiet (Scans old new turned step reads counts) = inr (quiet_read reads)
   step_quiet (EndScan scan turned reads counts) = inr (quiet_read reads)
@@ -566,7 +569,7 @@ step_blocks : (s : ℕ) (w v : IndexState) → Step s w v → w.blocks ≤ v.blo
 step_blocks s w v (PutRow b k r turned puts counts) = puts.row.grown
 step_blocks s w v (Insert b k r on_index new turned step counts) =
     same_blocks (index_view w) (index_view v) (insert_keeps s b k r (index_view w) (index_view v) on_index new step).0
-step_blocks s w v (Refused b k r on_index none turned reads fails counts) = same_blocks (index_view w) (index_view v) reads.frame.heap
+step_blocks s w v (Refused b k r on_index ended turned reads fails counts) = same_blocks (index_view w) (index_view v) reads.frame.heap
 step_blocks s w v (TakeSummariseLock turned passes counts) = same_blocks (index_view w) (index_view v) passes.frame.heap
 step_blocks s w v (BeginRange range turned reads counts) = same_blocks (index_view w) (index_view v) reads.frame.heap
 step_blocks s w v (Maintain range old new turned step counts) =
@@ -574,7 +577,7 @@ step_blocks s w v (Maintain range old new turned step counts) =
 step_blocks s w v (Prune dropped spares turned drops counts) = not_less v.blocks w.blocks drops.rows.blocks
 step_blocks s w v (Sweep page turned sweeps counts) = same_blocks (index_view w) (index_view v) sweeps.frame.heap
 step_blocks s w v (GiveSummariseLock turned passes counts) = same_blocks (index_view w) (index_view v) passes.frame.heap
-step_blocks s w v (Abandon range phase none turned passes counts) = same_blocks (index_view w) (index_view v) passes.frame.heap
+step_blocks s w v (Abandon range number phase full turned passes counts) = same_blocks (index_view w) (index_view v) passes.frame.heap
 step_blocks s w v (BeginScan scan begins turned reads counts) = same_blocks (index_view w) (index_view v) reads.frame.heap
 step_blocks s w v (Scans old new turned step reads counts) = same_blocks (index_view w) (index_view v) reads.frame.heap
 step_blocks s w v (EndScan scan turned reads counts) = same_blocks (index_view w) (index_view v) reads.frame.heap

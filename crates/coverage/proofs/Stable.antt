@@ -3,14 +3,15 @@ use Rattle.std.proofs.Common.{◌≡◌, ◌≢◌, ⊎_elim, ℕ, ◌/◌, Some
 use Rattle.std.specs.Prelude.{IsTrue}
 use Rattle.std.proofs.lemmas.Option.{same_Some}
 use Rattle.block_model.specs.declared.row.Row.{Row}
-use Rattle.coverage.specs.IndexView.{TuplePlace, IndexTuple, IndexView, range_of_block, NamesPlaceholder}
+use Rattle.coverage.specs.IndexView.{TuplePlace, IndexTuple, Progress, ExtentUnread, Passing, IndexView, range_of_block, IsRangeOf, NamesPlaceholder}
 use Rattle.coverage.specs.IsSound.{IsSound}
 use Rattle.coverage.specs.GoesOn.{IsHeld, GoesOn}
 use Rattle.coverage.specs.Changes.{IsFree}
 use Rattle.coverage.specs.Statements.{OnIndex, Empty, Held, Copied, Moving, Dropping, Phase, NotBuilding, Vacant, Growing, Evacuating, Placing, IsAt, Scan}
 use Rattle.coverage.specs.Statements.{Statement, Idle, Inserting, Maintaining, Holding, Scanning, IsAdded}
 use Rattle.coverage.specs.Knowing.{LocksNone, HoldsNothing, KnowsOnIndex, SettledBy, MakesUnited, MakesNone, MakesSame, HasPlaced, KnowsPhase, KnowsRow, Knows}
-use Rattle.coverage.specs.Knowing.{Spares}
+use Rattle.coverage.specs.Knowing.{IsResultFormed, Spares}
+use Rattle.coverage.proofs.Formed.{formed_on, range_of_on}
 
 -- Where nobody else locks the page and the session locks none, a tuple of the range at a place that it holds is the one that the map names.
 pub held_named : (w : IndexView) (s range : ℕ) (x : TuplePlace) (t : IndexTuple) → IsSound w → IsHeld w range x → w.tuple x ≡ Some t → t.range ≡ range
@@ -43,7 +44,8 @@ module _ (a : ℕ) (d : ℕ → ℕ → Bool) (w v : IndexView) (sound : IsSound
       → KnowsOnIndex v s range Makes on_index
   on_index_on range Makes Empty known = none_on known
   on_index_on range Makes (Held x) known = (none_on known.0, on.held range x known.1)
-  on_index_on range Makes (Copied x old new) known = (none_on known.0, on.held range x known.1, known.2, known.3)
+  on_index_on range Makes (Copied x old new) known =
+      (none_on known.0, on.held range x known.1, known.2, known.3, formed_on w v on.contents on.pages_per_range on.blocks new known.4)
   on_index_on range Makes (Moving x y old new) known = (
     on.locks x.block s known.0 other,
     on.locks y.block s known.1 other,
@@ -77,13 +79,21 @@ module _ (a : ℕ) (d : ℕ → ℕ → Bool) (w v : IndexView) (sound : IsSound
   settled_by_on b k r (Moving x y old new) there known = tt
   settled_by_on b k r (Dropping x) there known = on.settled b k r there known
 
+  its_range_on : (range : ℕ) → IsRangeOf w range → IsRangeOf v range
+  its_range_on range is = range_of_on w v on.contents on.pages_per_range on.blocks range is
+
+  result_on : (p : Progress) → IsResultFormed w p → IsResultFormed v p
+  result_on ExtentUnread formed = tt
+  result_on (Passing extent next result) formed = formed_on w v on.contents on.pages_per_range on.blocks result formed
+
   phase_on : w.summarise_lock ≡ Some s → (range : ℕ) (phase : Phase) → KnowsPhase w s range phase → KnowsPhase v s range phase
   phase_on held range (NotBuilding on_index) known = on_index_on range MakesNone on_index known
-  phase_on held range Vacant known = (none_on known.0, unset_on held range known.1)
-  phase_on held range Growing known = unset_on held range known
-  phase_on held range (Evacuating m on_index) known = (unset_on held range known.0, on_index_on m MakesSame on_index known.1)
-  phase_on held range (Placing x) known = (unset_on held range known.0, placed_on range x known.1)
-  phase_on held range (IsAt p on_index) known = on_index_on range (MakesUnited p) on_index known
+  phase_on held range Vacant known = (none_on known.0, unset_on held range known.1, its_range_on range known.2)
+  phase_on held range Growing known = (unset_on held range known.0, its_range_on range known.1)
+  phase_on held range (Evacuating m on_index) known = (unset_on held range known.0, on_index_on m MakesSame on_index known.1, its_range_on range known.2)
+  phase_on held range (Placing x) known = (unset_on held range known.0, placed_on range x known.1, its_range_on range known.2)
+  phase_on held range (IsAt p on_index) known =
+      (on_index_on range (MakesUnited p) on_index known.0, its_range_on range known.1, result_on p known.2)
 
   summarise_lock_on : w.summarise_lock ≡ Some s → v.summarise_lock ≡ Some s
   summarise_lock_on held = ⊎_elim (λ (is : s ≡ a). absurd (other is)) (λ (e : v.summarise_lock ≡ Some s). e) (on.summarise_lock s held)

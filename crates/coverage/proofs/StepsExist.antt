@@ -12,7 +12,7 @@ use Rattle.coverage.specs.Statements.{OnIndex, Empty, Held, Copied, Moving, Drop
 use Rattle.coverage.specs.Knowing.{LocksNone, IsOneOf, Knows}
 use Rattle.coverage.specs.Steps.{ReadsIndex, DropsTuple, InsertOnIndex, InsertNoEntry, InsertCopies, InsertUnchanged, InsertSwap, InsertSet, InsertDrop}
 use Rattle.coverage.specs.Steps.{Maps, Gone, Again, MovePut, ClearMap, ClearNone, Clear, ClearAgain, DropCleared}
-use Rattle.coverage.specs.Waiting.{IsInsertStuck, IsSwapFree, IsDesummariseStuck, IsClearFree}
+use Rattle.coverage.specs.Stuck.{IsInsertStuck, IsSwapFree, IsDesummariseStuck, IsClearFree}
 use Rattle.coverage.proofs.Verdicts.{some_swap, some_clear}
 
 -- a value that a decision gives
@@ -172,7 +172,7 @@ module _ (s b k : ℕ) (r : Row) (w : IndexView) where
 
   -- the copied tuple is judged again
   copied_steps : HasFreeSlots w → (x : TuplePlace) (old new : IndexTuple) → LocksNone w s → IsInsertStuck w s b k r (Copied x old new)
-      → (SwapVerdict w s (range_of_block w b) x old new Full → ⊥) → ((p : ℕ) → SwapVerdict w s (range_of_block w b) x old new (Waits p) → ⊥) → ⊥
+      → ((number : ℕ) → SwapVerdict w s (range_of_block w b) x old new (Full number) → ⊥) → ((p : ℕ) → SwapVerdict w s (range_of_block w b) x old new (Waits p) → ⊥) → ⊥
   copied_steps slots x old new none stuck room free = some_swap w slots s (range_of_block w b) x old new by
     where
       swaps : SwapVerdict w s (range_of_block w b) x old new Fits → ⊥
@@ -226,7 +226,7 @@ module _ (s b k : ℕ) (r : Row) (w : IndexView) where
       by Differs verdict = stuck (Inserting b k r Empty) w (InsertOnIndex (Copied x old new) Empty (Again x old new verdict (reads_here s w none)))
       by Fits verdict = swaps verdict
       by (Puts y) verdict = moves y verdict
-      by Full verdict = room verdict
+      by (Full number) verdict = room number verdict
 
   -- the map names the new tuple
   moving_steps : (x y : TuplePlace) (old new : IndexTuple) → IsInsertStuck w s b k r (Moving x y old new) → ⊥
@@ -285,7 +285,7 @@ module _ (s range : ℕ) (w : IndexView) where
       by Differs verdict = stuck (Maintaining range (NotBuilding Empty)) w (ClearAgain x verdict (reads_here s w none))
       by Fits verdict = clears verdict
       by (Puts y) verdict = elim verdict [ ]
-      by Full verdict = elim verdict [ ]
+      by (Full number) verdict = elim verdict [ ]
 
   clear_dropping : (x : TuplePlace) → IsDesummariseStuck w s range (Dropping x) → ⊥
   clear_dropping x stuck = stuck Holding (drops_view s w x) (DropCleared x (drops_here s w x))

@@ -3,7 +3,7 @@ use Rattle.std.proofs.Common.{◌≡◌, ◌≢◌, ◌⊎◌, inl, inr, ⊎_eli
 use Rattle.std.specs.Prelude.{refl, List, [], ◌∷◌, length}
 use Rattle.std.proofs.lemmas.Option.{same_Some, none-some}
 use Rattle.std.proofs.lemmas.Bool.{cases_eq}
-use Rattle.coverage.specs.IndexView.{TuplePlace, IndexTuple, Progress, ExtentUnread, Passing, PageKind, Unstarted, Mapping, Regular, Emptying, IndexView}
+use Rattle.coverage.specs.IndexView.{TuplePlace, IndexTuple, Progress, ExtentUnread, Passing, PageKind, Unstarted, Mapping, Regular, Emptying, IndexView, placeholder_length, IsRangeOf}
 use Rattle.coverage.specs.IndexView.{map_page_of, next_map_page, IsPastMap, NamesPlaceholder}
 use Rattle.coverage.specs.Changes.{IsFree}
 use Rattle.coverage.specs.Verdicts.{IsLocked, IsFirstLocked, HasFreeSlots, Verdict, Waits, Differs, Fits, Puts, Full, PutVerdict, PutGoes, SwapVerdict}
@@ -12,11 +12,13 @@ use Rattle.coverage.specs.Statements.{OnIndex, Empty, Held, Copied, Moving, Drop
 use Rattle.coverage.specs.Statements.{Holding, rows_added}
 use Rattle.coverage.specs.Knowing.{LocksNone, IsOneOf, LocksThese, Knows}
 use Rattle.coverage.specs.PageOrder.{KnowsPages}
-use Rattle.coverage.specs.Steps.{PutsTuple, Maps, Gone, Again, MovePut, IsNextTuple, Grows, TurnsKind, CountsPage, SweepsTuples, Grow}
+use Rattle.coverage.specs.Steps.{PutsTuple, Maps, Gone, Again, MovePut, TurnsKind, CountsPage, SweepsTuples, Grow}
 use Rattle.coverage.specs.Steps.{CountLeftOver, Count, Flag, EvacuatePut, EvacuateSet, EvacuateDrop, EvacuateSweep, Turn, LookMap, LookGone, IsFinal, Found}
 use Rattle.coverage.specs.Steps.{ReadNoEntry, GrowMap, Put, Set, Extent, Pass, Unite, UniteCopies, SwapFinal, SetFinal, DropOld}
 use Rattle.coverage.specs.Waiting.{FinalWaits, PlaceWaits, GrowWaits, CountWaits, FlagWaits, EvacuateWaits, EvacuatePutWaits, TurnWaits}
-use Rattle.coverage.specs.Waiting.{FinalFull, PlaceFull, MapFull, EvacuateFull, IsSummariseStuck, IsPhaseFree, HasBlocksOfRows, HasPlaceholderLength}
+use Rattle.coverage.specs.Waiting.{FinalFull, PlaceFull, MapFull, EvacuateFull}
+use Rattle.coverage.specs.Waiting.{IsNextTuple, Grows}
+use Rattle.coverage.specs.Stuck.{IsSummariseStuck, IsPhaseFree, HasBlocksOfRows}
 use Rattle.coverage.proofs.Numbers.{lt_or_ge}
 use Rattle.coverage.proofs.Verdicts.{locked_or_free, two_pages, some_put, some_swap}
 use Rattle.coverage.proofs.StepsExist.{place_is, locks_after, after_locked, after_only, after_others, after_taken, tuple_with, tuple_here, tuple_there}
@@ -88,12 +90,12 @@ module _ (s : ℕ) (w : IndexView) where
     lock = locks_after w s [] (free_none s w);
   }
 
-module _ (s range : ℕ) (w : IndexView) (slots : HasFreeSlots w) (blocks : HasBlocksOfRows w) (size : HasPlaceholderLength w) where
+module _ (s range : ℕ) (w : IndexView) (slots : HasFreeSlots w) (blocks : HasBlocksOfRows w) (its : IsRangeOf w range) where
   look_map : LocksNone w s → IsSummariseStuck w s range (NotBuilding Empty) → ⊥
   look_map none stuck = by (w.entry range) refl
     where
       by : (o : Option TuplePlace) → w.entry range ≡ o → ⊥
-      by None is = stuck (Maintaining range Vacant) w (ReadNoEntry is (reads_here s w none))
+      by None is = stuck (Maintaining range Vacant) w (ReadNoEntry is its (reads_here s w none))
       by (Some x) is = stuck (Maintaining range (NotBuilding (Held x))) w (LookMap x is (reads_here s w none))
 
   look_tuple : (x : TuplePlace) → LocksNone w s → IsSummariseStuck w s range (NotBuilding (Held x)) → ⊥
@@ -113,23 +115,23 @@ module _ (s range : ℕ) (w : IndexView) (slots : HasFreeSlots w) (blocks : HasB
 
   -- the placeholder is put, or waits, or lacks a page
   places : (IsPastMap w range → ⊥) → IsSummariseStuck w s range Vacant → IsPhaseFree w s range Vacant → ⊥
-  places long stuck free = some_put w slots s range w.pages.placeholder by
+  places long stuck free = some_put w slots s range (placeholder_length w range) by
     where
-      puts : (y : TuplePlace) → PutVerdict w s range w.pages.placeholder (Puts y) → ⊥
+      puts : (y : TuplePlace) → PutVerdict w s range (placeholder_length w range) (Puts y) → ⊥
       puts y (PutGoes _ target unlocked map) =
           let these = y.block ∷ map_page_of range ∷ [] in
           let free_all = free_two w s y.block (map_page_of range) unlocked map in
           let t = w.contents.empty range in
           stuck (Maintaining range (Placing y)) (put_view s w y t these free_all)
-          (Put y t refl (size range) long (PutGoes y target unlocked map) (puts_here s w y t these free_all target.1.0 unlocked)
+          (Put y t refl long (PutGoes y target unlocked map) (puts_here s w y t these free_all target.1.0 unlocked)
           (locks_here s w y t these free_all))
 
-      by : (p : Verdict) → PutVerdict w s range w.pages.placeholder p → ⊥
+      by : (p : Verdict) → PutVerdict w s range (placeholder_length w range) p → ⊥
       by (Waits p) verdict = free.0 p (PlaceWaits p long verdict)
       by Differs verdict = elim verdict [ ]
       by Fits verdict = elim verdict [ ]
       by (Puts y) verdict = puts y verdict
-      by Full verdict = free.1 (PlaceFull long verdict)
+      by (Full number) verdict = free.1 number (PlaceFull number long verdict)
 
   -- a page is emptied for the map
   evacuates : Grows w range Emptying → IsSummariseStuck w s range Vacant → IsPhaseFree w s range Vacant → ⊥
@@ -158,7 +160,7 @@ module _ (s range : ℕ) (w : IndexView) (slots : HasFreeSlots w) (blocks : HasB
           by Differs verdict = elim verdict [ ]
           by Fits verdict = elim verdict [ ]
           by (Puts y) verdict = puts y verdict
-          by Full verdict = free.1 (EvacuateFull x t grows next named unlocked verdict)
+          by (Full number) verdict = free.1 number (EvacuateFull number x t grows next named unlocked verdict)
 
       sweeps : (x : TuplePlace) (t : IndexTuple) → IsNextTuple w (next_map_page w) x t → w.entry t.range ≢ Some x → IsFree w s (next_map_page w) → ⊥
       sweeps x t next unnamed unlocked = stuck (Maintaining range Vacant) (sweep_view s w x)
@@ -243,7 +245,7 @@ module _ (s range : ℕ) (w : IndexView) (slots : HasFreeSlots w) (blocks : HasB
       (λ (past : w.pages.map_pages < map_page_of range). ⊎_elim
       (λ (low : next_map_page w < w.pages.limit).
       grows_by (w.pages.kind (next_map_page w)) (record { short = past; below = low; is = refl }) stuck free)
-      (λ (full : w.pages.limit ≤ next_map_page w). free.1 (MapFull past full))
+      (λ (full : w.pages.limit ≤ next_map_page w). free.1 w.pages.limit (MapFull past full))
       (lt_or_ge (next_map_page w) w.pages.limit))
       (λ (long : map_page_of range ≤ w.pages.map_pages). places (λ past. cross w.pages.map_pages (map_page_of range) past long) stuck free)
       (lt_or_ge w.pages.map_pages (map_page_of range))
@@ -345,7 +347,7 @@ module _ (s range : ℕ) (w : IndexView) (slots : HasFreeSlots w) (blocks : HasB
             (Unite extent next result (Copied x old new) Empty all (Again x old new verdict (reads_here s w none)))
         by Fits verdict = swaps verdict
         by (Puts y) verdict = moves y verdict
-        by Full verdict = free.1 (FinalFull (Passing extent next result) x old new verdict)
+        by (Full number) verdict = free.1 number (FinalFull number (Passing extent next result) x old new verdict)
 
   abbrev HasNoStep : Phase → Type 0
   HasNoStep phase = Knows w s (Maintaining range phase) → KnowsPages w s (Maintaining range phase) → IsSummariseStuck w s range phase
@@ -369,14 +371,14 @@ module _ (s range : ℕ) (w : IndexView) (slots : HasFreeSlots w) (blocks : HasB
   building : (p : Progress) (on_index : OnIndex) → HasNoStep (IsAt p on_index)
   building ExtentUnread Empty known pages stuck free =
       stuck (Maintaining range (IsAt (Passing (min w.blocks ((range + 1) * w.pages_per_range)) (range * w.pages_per_range) (w.contents.empty range)) Empty)) w
-      (Extent (min w.blocks ((range + 1) * w.pages_per_range)) (w.contents.empty range) refl refl (reads_here s w known.1))
+      (Extent (min w.blocks ((range + 1) * w.pages_per_range)) (w.contents.empty range) refl refl (reads_here s w known.1.0))
   building ExtentUnread (Held x) known pages stuck free = pages.3
   building ExtentUnread (Copied x old new) known pages stuck free = pages.3
   building ExtentUnread (Moving x y old new) known pages stuck free = pages.3
   building ExtentUnread (Dropping x) known pages stuck free = pages.3
-  building (Passing extent next result) Empty known pages stuck free = passes extent next result known.1 pages.1 stuck
-  building (Passing extent next result) (Held x) known pages stuck free = unites extent next result x known.1.0 pages.3 stuck
-  building (Passing extent next result) (Copied x old new) known pages stuck free = finals extent next result x old new known.1.0 pages.3 stuck free
+  building (Passing extent next result) Empty known pages stuck free = passes extent next result known.1.0 pages.1 stuck
+  building (Passing extent next result) (Held x) known pages stuck free = unites extent next result x known.1.0.0 pages.3 stuck
+  building (Passing extent next result) (Copied x old new) known pages stuck free = finals extent next result x old new known.1.0.0 pages.3 stuck free
   building (Passing extent next result) (Moving x y old new) known pages stuck free = sets_final (Passing extent next result) x y old new stuck
   building (Passing extent next result) (Dropping x) known pages stuck free = pages.3
 

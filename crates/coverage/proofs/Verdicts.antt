@@ -161,7 +161,7 @@ module _ (w : IndexView) (slots : HasFreeSlots w) where
       (lowest_below (IsFreeSlot w p) (slot_decides w p) (suc (slots p).0))
 
   pub some_put : (s range need : ℕ) → ((p : Verdict) → PutVerdict w s range need p → ⊥) → ⊥
-  some_put s range need none = none Full (NoTarget (λ p target. ⊎_elim
+  some_put s range need none = none (Full w.pages.limit) (NoTarget (λ p target. ⊎_elim
       (λ (waits : (q : ℕ) × IsFirstLocked w s (p ∷ map_page_of range ∷ []) q). none (Waits waits.0) (PutWaits p waits.0 target waits.1))
       (λ (free : IsFree w s p × IsFree w s (map_page_of range)).
       let slot = lowest_slot p in

@@ -1,11 +1,11 @@
 -- A summariser that waits does so for one page, which another session locks.
 use Rattle.std.proofs.Common.{◌≡◌, ℕ, length, sym, ◌∙◌, ap, subst}
 use Rattle.std.specs.Prelude.{refl, [], ◌∷◌}
-use Rattle.coverage.specs.IndexView.{TuplePlace, IndexTuple, PageKind, Unstarted, Mapping, Regular, Emptying, IndexView, next_map_page, IsPastMap}
+use Rattle.coverage.specs.IndexView.{TuplePlace, IndexTuple, PageKind, Unstarted, Mapping, Regular, Emptying, IndexView, next_map_page, IsPastMap, placeholder_length}
 use Rattle.coverage.specs.Changes.{IsFree}
 use Rattle.coverage.specs.Verdicts.{IsLocked, IsFirstLocked, Verdict, Waits, PutVerdict}
 use Rattle.coverage.specs.Statements.{Copied, Phase, Vacant, IsAt}
-use Rattle.coverage.specs.Steps.{IsNextTuple, Grows}
+use Rattle.coverage.specs.Waiting.{IsNextTuple, Grows}
 use Rattle.coverage.specs.Waiting.{IsPhaseWaiting, FinalWaits, PlaceWaits, GrowWaits, CountWaits, FlagWaits, EvacuateWaits, EvacuatePutWaits, TurnWaits}
 use Rattle.coverage.proofs.Verdicts.{free_not_locked, first_locked_once, first_is_locked, put_once, swap_once, put_waits, swap_waits}
 use Rattle.coverage.proofs.NextSteps.{next_once}
@@ -33,7 +33,7 @@ KindWait w s Regular q = q ≡ next_map_page w
 KindWait w s Emptying q = EmptyingWait w s q
 
 data VacantWait (w : IndexView) (s range : ℕ) : ℕ → Type 0 where
-  ForPlace : (q : ℕ) → (IsPastMap w range → ⊥) → PutVerdict w s range w.pages.placeholder (Waits q) → VacantWait w s range q
+  ForPlace : (q : ℕ) → (IsPastMap w range → ⊥) → PutVerdict w s range (placeholder_length w range) (Waits q) → VacantWait w s range q
   ForMap : (kind : PageKind) (q : ℕ) → Grows w range kind → KindWait w s kind q → VacantWait w s range q
 
 module _ (w : IndexView) (s range : ℕ) where
@@ -72,7 +72,7 @@ module _ (w : IndexView) (s range : ℕ) where
 
   vacant_once : (p q : ℕ) → VacantWait w s range p → VacantWait w s range q → p ≡ q
   vacant_once p q (ForPlace _ long verdict) (ForPlace _ long' verdict') =
-      waits_same p q (put_once w s range w.pages.placeholder (Waits p) (Waits q) verdict verdict')
+      waits_same p q (put_once w s range (placeholder_length w range) (Waits p) (Waits q) verdict verdict')
   vacant_once p q (ForPlace _ long verdict) (ForMap kind _ grows at) = absurd (long grows.short)
   vacant_once p q (ForMap kind _ grows at) (ForPlace _ long verdict) = absurd (long grows.short)
   vacant_once p q (ForMap kind _ grows at) (ForMap kind' _ grows' at') =
@@ -94,7 +94,7 @@ module _ (w : IndexView) (s range : ℕ) where
 
   pub phase_wait_locked : (phase : Phase) (q : ℕ) → IsPhaseWaiting w s range phase q → IsLocked w s q
   phase_wait_locked _ q (FinalWaits _ progress x old new verdict) = swap_waits w s range x old new q verdict
-  phase_wait_locked _ q (PlaceWaits _ long verdict) = put_waits w s range w.pages.placeholder q verdict
+  phase_wait_locked _ q (PlaceWaits _ long verdict) = put_waits w s range (placeholder_length w range) q verdict
   phase_wait_locked _ q (GrowWaits _ grows locked) = first_is_locked w s (next_map_page w ∷ 0 ∷ []) q locked
   phase_wait_locked _ _ (CountWaits grows locked) = locked
   phase_wait_locked _ _ (FlagWaits grows locked) = locked

@@ -1,7 +1,7 @@
 -- The kinds of change that a step of session s makes to the view of the index.
 use Rattle.std.specs.Prelude.{◌≡◌, ◌≢◌, ◌⊎◌, ℕ, ◌+◌, ◌*◌, ◌≤◌, ◌<◌, min, Bool, true, false, IsTrue, Option, None, Some}
 use Rattle.block_model.specs.declared.row.Row.{Row}
-use Rattle.coverage.specs.IndexView.{TuplePlace, IndexTuple, Progress, ExtentUnread, Passing, Building, IndexView, IsBuilding}
+use Rattle.coverage.specs.IndexView.{TuplePlace, IndexTuple, IsFormed, Progress, ExtentUnread, Passing, Building, IndexView, IsTupleOf, IsBuilding}
 
 -- at one place the old value goes and the new one comes
 pub record ChangesAt {X A : Type 0} (f g : X → Option A) (x : X) (old new : Option A) : Type 0 where
@@ -114,6 +114,7 @@ pub record Places (s : ℕ) (w v : IndexView) (x : TuplePlace) (t : IndexTuple) 
   pub free : IsFree w s x.block
   pub placeholder : t.placeholder ≡ true
   pub vacant : w.entry t.range ≡ None
+  pub formed : IsTupleOf w t
   pub loose : ChangesAt w.loose v.loose s None (Some x)
   pub building : ChangesAt w.building v.building s None (at_work t.range (Some ExtentUnread))
   pub summarise_lock : w.summarise_lock ≡ Some s
@@ -168,6 +169,7 @@ pub record Swaps (s : ℕ) (w v : IndexView) (range : ℕ) (x : TuplePlace) (old
   pub free : IsFree w s x.block
   pub entry : w.entry range ≡ Some x
   pub of : (old.range ≡ range) × (new.range ≡ range)
+  pub formed : IsFormed w.contents new
   pub carries : Carries w s range old new
   pub ends : MayEnd s w v
   pub loose : SameLoose w v
@@ -181,6 +183,7 @@ pub record MovePuts (s : ℕ) (w v : IndexView) (range : ℕ) (x y : TuplePlace)
   pub before : w.tuple x ≡ Some old
   pub entry : w.entry range ≡ Some x
   pub of : (old.range ≡ range) × (new.range ≡ range)
+  pub formed : IsFormed w.contents new
   pub carries : Carries w s range old new
   pub loose : ChangesAt w.loose v.loose s None (Some y)
   pub work : SameWork w v

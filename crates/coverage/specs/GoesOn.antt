@@ -1,5 +1,5 @@
 -- What one step of a session leaves to all other sessions.
-use Rattle.std.specs.Prelude.{◌≡◌, ◌≢◌, ◌⊎◌, ℕ, Bool, IsTrue, None, Some}
+use Rattle.std.specs.Prelude.{◌≡◌, ◌≢◌, ◌⊎◌, ℕ, ◌≤◌, Bool, IsTrue, None, Some}
 use Rattle.block_model.specs.declared.row.Row.{Row}
 use Rattle.coverage.specs.IndexView.{TuplePlace, IndexTuple, IndexView, NamesPlaceholder}
 use Rattle.coverage.specs.IsSettled.{IsAccounted, TupleShows}
@@ -11,7 +11,9 @@ IsHeld w range x = (t : IndexTuple) → w.tuple x ≡ Some t → t.range ≡ ran
 
 -- The step of `actor`, which drops dead rows at the places `dropped`.
 pub record GoesOn (actor : ℕ) (dropped : ℕ → ℕ → Bool) (w v : IndexView) : Type 0 where
+  pub contents : v.contents ≡ w.contents
   pub pages_per_range : v.pages_per_range ≡ w.pages_per_range
+  pub blocks : w.blocks ≤ v.blocks
   -- rows stay, and stay settled
   pub rows : (b k : ℕ) (r : Row) → w.row b k ≡ Some r → (v.row b k ≡ Some r) ⊎ IsTrue (dropped b k)
   pub settled : (b k : ℕ) (r : Row) → w.row b k ≡ Some r → IsAccounted w b r → IsAccounted v b r

@@ -1,6 +1,6 @@
 -- One index and its table, as the running statements meet them: rows and tuples on their pages, the range map, who locks
 -- what, and how far each summarising has come.
-use Rattle.std.specs.Prelude.{◌≡◌, ℕ, ◌+◌, ◌/◌, ◌<◌, Bool, true, Option, Some, List}
+use Rattle.std.specs.Prelude.{◌≡◌, ℕ, ◌+◌, ◌*◌, ◌/◌, ◌≤◌, ◌<◌, Bool, true, Option, Some, List, length}
 use Rattle.block_model.specs.declared.row.Row.{Row}
 
 -- where a tuple stands: an index page and a slot of it
@@ -16,11 +16,25 @@ pub record IndexTuple : Type 0 where
   pub includes : Row → Bool
 
 -- What the operator classes of an index make of tuples: the placeholder of a range that includes nothing yet; the tuple with a row
--- added; the final tuple that unites one with another.
+-- added; the final tuple that unites one with another; the tuple that bytes are of, if they are of one of this index; how long its
+-- tuples are at most, and how many ranges there may be.
 pub record Contents : Type 0 where
   pub empty : ℕ → IndexTuple
   pub added : Row → IndexTuple → IndexTuple
   pub united : IndexTuple → IndexTuple → IndexTuple
+  pub read : List ℕ → Option IndexTuple
+  pub greatest : ℕ
+  pub ranges : ℕ
+
+-- A tuple of this index: its bytes say what it is, and it isn't longer, nor of a higher range, than tuples may be.
+pub record IsFormed (contents : Contents) (t : IndexTuple) : Type 0 where
+  pub says : contents.read t.bytes ≡ Some t
+  pub size : length t.bytes ≤ contents.greatest
+  pub number : t.range < contents.ranges
+
+-- the longest tuple that a page takes
+abbrev pub most_bytes : ℕ
+most_bytes = 8156
 
 -- How far the building of a summary has come: the table's extent isn't read yet; or it is read, the blocks of the range
 -- below `next` are passed, and the result so far is this tuple.
@@ -41,12 +55,11 @@ pub data PageKind : Type 0 where
   Emptying : PageKind
 
 -- The pages of an index: the kind of each; how long a further tuple each takes, and how long a tuple may stand at a place in
--- place of the one there; how long an empty placeholder is; the number of map pages, and that of all pages at most.
+-- place of the one there; the number of map pages, and that of all pages at most.
 pub record Pages : Type 0 where
   pub kind : ℕ → PageKind
   pub room : ℕ → ℕ
   pub room_at : TuplePlace → ℕ
-  pub placeholder : ℕ
   pub map_pages : ℕ
   pub limit : ℕ
 
@@ -93,9 +106,21 @@ IsPastMap w range = w.pages.map_pages < map_page_of range
 abbrev pub IsBuilding : IndexView → ℕ → ℕ → Progress → Type 0
 IsBuilding w s range progress = w.building s ≡ Some (record { range = range; progress = progress })
 
+-- a range of the table: it has a block, and there may be a tuple of it
+abbrev pub IsRangeOf : IndexView → ℕ → Type 0
+IsRangeOf w range = (range * w.pages_per_range < w.blocks) × (range < w.contents.ranges)
+
+-- a tuple of this index, of a range of the table
+abbrev pub IsTupleOf : IndexView → IndexTuple → Type 0
+IsTupleOf w t = IsFormed w.contents t × (t.range * w.pages_per_range < w.blocks)
+
 -- the map names this tuple for the range
 abbrev pub NamesTuple : IndexView → ℕ → IndexTuple → Type 0
 NamesTuple w range t = (x : TuplePlace) × (w.entry range ≡ Some x) × (w.tuple x ≡ Some t)
+
+-- how long the empty placeholder of a range is
+abbrev pub placeholder_length : IndexView → ℕ → ℕ
+placeholder_length w range = length (w.contents.empty range).bytes
 
 -- the map names a placeholder for the range
 abbrev pub NamesPlaceholder : IndexView → ℕ → Type 0

@@ -1,7 +1,7 @@
 -- When an index is covered: no scan loses a row to it, whatever is running.
 use Rattle.std.specs.Prelude.{◌≡◌, ◌⊎◌, ℕ, ◌≤◌, ◌<◌, Bool, false, IsTrue, Option, None, Some}
 use Rattle.block_model.specs.declared.row.Row.{Row}
-use Rattle.coverage.specs.IndexView.{TuplePlace, IndexTuple, Contents, Progress, Pages, IndexView, range_of_block, IsBuilding}
+use Rattle.coverage.specs.IndexView.{TuplePlace, IndexTuple, Contents, Progress, Pages, IndexView, range_of_block, IsTupleOf, IsBuilding}
 use Rattle.coverage.specs.IsSettled.{IsSettled, IsAccounted}
 use Rattle.coverage.specs.IsSound.{IsLeftUnnamed, IsSound}
 use Rattle.coverage.specs.GoesOn.{IsHeld}
@@ -70,8 +70,9 @@ pub record IsCovered (w : IndexState) : Type 0 where
   -- every row that counts is settled, or its insert is running
   pub rows_settled : (b k : ℕ) (r : Row) → w.row b k ≡ Some r → IsTrue (w.counts r.id.t)
       → IsSettled (index_view w) b r ⊎ ((s : ℕ) × (on_index : OnIndex) × (w.statement s ≡ Inserting b k r on_index))
-  -- every entry names a tuple of its range
-  pub entries_name_tuples : (range : ℕ) (x : TuplePlace) → w.entry range ≡ Some x → (t : IndexTuple) × (w.tuple x ≡ Some t) × (t.range ≡ range)
+  -- every entry names a tuple of its range, which is one of the index
+  pub entries_name_tuples : (range : ℕ) (x : TuplePlace) → w.entry range ≡ Some x
+      → (t : IndexTuple) × (w.tuple x ≡ Some t) × (t.range ≡ range) × IsTupleOf (index_view w) t
   -- every tuple is named for its range; or its page is locked by the session whose put, move or clear is running; or it was unnamed at the opening
   pub tuples_are_named : (x : TuplePlace) (t : IndexTuple) → w.tuple x ≡ Some t
       → (w.entry t.range ≡ Some x) ⊎ ((s : ℕ) × (loose_of (w.statement s) ≡ Some x) × (w.lock x.block ≡ Some s)) ⊎ IsTrue (w.unnamed x)

@@ -2,7 +2,7 @@
 use Rattle.std.specs.Prelude.{◌≡◌, ◌≢◌, ◌⊎◌, ℕ, ◌<◌, IsTrue, None, Some}
 use Rattle.block_model.specs.declared.row.Row.{Row}
 use Rattle.coverage.specs.Statements.{AreLawful}
-use Rattle.coverage.specs.IndexView.{TuplePlace, IndexTuple, Progress, IndexView, IsBuilding}
+use Rattle.coverage.specs.IndexView.{TuplePlace, IndexTuple, Progress, IndexView, IsTupleOf, IsBuilding}
 
 -- A tuple left unnamed at the opening stands on its page; no entry names it, and it is loose in nobody's hands.
 pub record IsLeftUnnamed (w : IndexView) (x : TuplePlace) : Type 0 where
@@ -20,6 +20,8 @@ pub record IsSound (w : IndexView) : Type 0 where
   -- a tuple is named for its range, or is loose in a session's hands, or was unnamed at the opening
   pub tuples_are_named : (x : TuplePlace) (t : IndexTuple) → w.tuple x ≡ Some t
       → (w.entry t.range ≡ Some x) ⊎ ((s : ℕ) × (w.loose s ≡ Some x)) ⊎ IsTrue (w.unnamed x)
+  -- a tuple is one of the index, or was unnamed at the opening
+  pub formed : (x : TuplePlace) (t : IndexTuple) → w.tuple x ≡ Some t → IsTupleOf w t ⊎ IsTrue (w.unnamed x)
   pub unnamed_tuples : (x : TuplePlace) → IsTrue (w.unnamed x) → IsLeftUnnamed w x
   -- who is building a range holds the table's summarise lock
   pub builder_holds : (s range : ℕ) (p : Progress) → IsBuilding w s range p → w.summarise_lock ≡ Some s

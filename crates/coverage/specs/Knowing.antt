@@ -1,7 +1,7 @@
 -- What each running statement knows of the index between its steps.
 use Rattle.std.specs.Prelude.{◌≡◌, ◌≢◌, ◌⊎◌, ℕ, ◌≤◌, Bool, true, IsTrue, None, Some, List, [], ◌∷◌}
 use Rattle.block_model.specs.declared.row.Row.{Row}
-use Rattle.coverage.specs.IndexView.{TuplePlace, IndexTuple, Progress, ExtentUnread, Passing, IndexView, range_of_block}
+use Rattle.coverage.specs.IndexView.{TuplePlace, IndexTuple, IsFormed, Progress, ExtentUnread, Passing, IndexView, range_of_block, IsRangeOf}
 use Rattle.coverage.specs.IsSettled.{IsAccounted, TupleShows}
 use Rattle.coverage.specs.GoesOn.{IsHeld}
 use Rattle.coverage.specs.Statements.{OnIndex, Empty, Held, Copied, Moving, Dropping, Phase, NotBuilding, Vacant, Growing, Evacuating, Placing, IsAt, Scan}
@@ -28,7 +28,7 @@ HoldsNothing w s = LocksNone w s × (w.summarise_lock ≢ Some s)
 abbrev pub KnowsOnIndex : IndexView → ℕ → ℕ → (IndexTuple → IndexTuple → Type 0) → OnIndex → Type 0
 KnowsOnIndex w s range Makes Empty = LocksNone w s
 KnowsOnIndex w s range Makes (Held x) = LocksNone w s × IsHeld w range x
-KnowsOnIndex w s range Makes (Copied x old new) = LocksNone w s × IsHeld w range x × (old.range ≡ range) × Makes old new
+KnowsOnIndex w s range Makes (Copied x old new) = LocksNone w s × IsHeld w range x × (old.range ≡ range) × Makes old new × IsFormed w.contents new
 KnowsOnIndex w s range Makes (Moving x y old new) = (w.lock x.block ≡ Some s) × (w.lock y.block ≡ Some s)
     × (w.entry range ≡ Some x) × (w.tuple x ≡ Some old) × (w.tuple y ≡ Some new) × (old.range ≡ range) × Makes old new × (x ≢ y)
 KnowsOnIndex w s range Makes (Dropping x) = (w.lock x.block ≡ Some s) × ((m : ℕ) → w.entry m ≢ Some x) × ((t : IndexTuple) × (w.tuple x ≡ Some t))
@@ -53,17 +53,22 @@ MakesNone old new = ⊥
 abbrev pub MakesSame : IndexTuple → IndexTuple → Type 0
 MakesSame old new = new ≡ old
 
+-- the result so far is a tuple of the index
+abbrev pub IsResultFormed : IndexView → Progress → Type 0
+IsResultFormed w ExtentUnread = Unit
+IsResultFormed w (Passing extent next result) = IsFormed w.contents result
+
 -- a placeholder of the range stands there, and the session locks its page
 abbrev pub HasPlaced : IndexView → ℕ → ℕ → TuplePlace → Type 0
 HasPlaced w s range x = (w.lock x.block ≡ Some s) × ((t : IndexTuple) × (w.tuple x ≡ Some t) × (t.range ≡ range) × (t.placeholder ≡ true))
 
 abbrev pub KnowsPhase : IndexView → ℕ → ℕ → Phase → Type 0
 KnowsPhase w s range (NotBuilding on_index) = KnowsOnIndex w s range MakesNone on_index
-KnowsPhase w s range Vacant = LocksNone w s × (w.entry range ≡ None)
-KnowsPhase w s range Growing = w.entry range ≡ None
-KnowsPhase w s range (Evacuating m on_index) = (w.entry range ≡ None) × KnowsOnIndex w s m MakesSame on_index
-KnowsPhase w s range (Placing x) = (w.entry range ≡ None) × HasPlaced w s range x
-KnowsPhase w s range (IsAt p on_index) = KnowsOnIndex w s range (MakesUnited p) on_index
+KnowsPhase w s range Vacant = LocksNone w s × (w.entry range ≡ None) × IsRangeOf w range
+KnowsPhase w s range Growing = (w.entry range ≡ None) × IsRangeOf w range
+KnowsPhase w s range (Evacuating m on_index) = (w.entry range ≡ None) × KnowsOnIndex w s m MakesSame on_index × IsRangeOf w range
+KnowsPhase w s range (Placing x) = (w.entry range ≡ None) × HasPlaced w s range x × IsRangeOf w range
+KnowsPhase w s range (IsAt p on_index) = KnowsOnIndex w s range (MakesUnited p) on_index × IsRangeOf w range × IsResultFormed w p
 
 -- What a scan knows of a row that its session sees: a final tuple at the place that it holds for the row's range includes
 -- it; and where the row matches, it is found, or its block is a candidate and not read yet.

@@ -11,3 +11,5 @@ pub mod IsCovered
 pub mod Steps
 pub mod Points
 pub mod Waiting
+pub mod Counts
+pub mod Stuck

@@ -1,7 +1,7 @@
 -- The running statements of one index's table: what each is at, between two steps.
-use Rattle.std.specs.Prelude.{◌≡◌, ℕ, zero, suc, ◌≤◌, Bool, true, false, IsTrue, Option, None, Some}
+use Rattle.std.specs.Prelude.{◌≡◌, ℕ, zero, suc, ◌≤◌, ◌<◌, Bool, true, false, IsTrue, Option, None, Some}
 use Rattle.block_model.specs.declared.row.Row.{Row}
-use Rattle.coverage.specs.IndexView.{TuplePlace, IndexTuple, Contents, Progress, ExtentUnread, Building}
+use Rattle.coverage.specs.IndexView.{TuplePlace, IndexTuple, Contents, IsFormed, most_bytes, Progress, ExtentUnread, Building}
 use Rattle.coverage.specs.Changes.{IsWithin}
 
 -- What a statement has on an index of a range: nothing; the place that the map named; also the tuple copied there, and the one to
@@ -107,11 +107,13 @@ pub record IsEmptyPlaceholder (range : ℕ) (t : IndexTuple) : Type 0 where
   pub placeholder : t.placeholder ≡ true
   pub includes : (r : Row) → t.includes r ≡ false
 
--- what is made of tuples includes what it has to
+-- What is made of tuples of the index is one, and includes what it has to; and a page takes each.
 pub record AreLawful (contents : Contents) : Type 0 where
-  pub empty : (range : ℕ) → IsEmptyPlaceholder range (contents.empty range)
-  pub added : (r : Row) (t : IndexTuple) → IsAdded r t (contents.added r t)
-  pub united : (t result : IndexTuple) → IsUnited result t (contents.united t result)
+  pub greatest : contents.greatest ≤ most_bytes
+  pub empty : (range : ℕ) → range < contents.ranges → IsFormed contents (contents.empty range) × IsEmptyPlaceholder range (contents.empty range)
+  pub added : (r : Row) (t : IndexTuple) → IsFormed contents t → IsFormed contents (contents.added r t) × IsAdded r t (contents.added r t)
+  pub united : (t result : IndexTuple) → IsFormed contents t → IsFormed contents result
+      → IsFormed contents (contents.united t result) × IsUnited result t (contents.united t result)
 
 -- the rows of a block's first slots are added, in order of slot
 abbrev pub rows_added : Contents → (ℕ → Option Row) → ℕ → IndexTuple → IndexTuple

@@ -1,13 +1,14 @@
 -- The steps of the statements, each by what it does to the index and to its own state, and where it comes.
 use Rattle.std.specs.Prelude.{◌≡◌, ◌≢◌, ◌⊎◌, ℕ, ◌+◌, ◌*◌, ◌≤◌, ◌<◌, min, Bool, true, false, IsTrue, Option, None, Some, List, [], ◌∷◌, length}
 use Rattle.block_model.specs.declared.row.Row.{Row}
-use Rattle.coverage.specs.IndexView.{TuplePlace, IndexTuple, Progress, ExtentUnread, Passing, PageKind, Unstarted, Mapping, Regular, Emptying, IndexView}
-use Rattle.coverage.specs.IndexView.{range_of_block, map_page_of, next_map_page, IsPastMap}
+use Rattle.coverage.specs.IndexView.{TuplePlace, IndexTuple, Progress, ExtentUnread, Passing, PageKind, Unstarted, Mapping, Regular, Emptying, IndexView, placeholder_length}
+use Rattle.coverage.specs.IndexView.{range_of_block, map_page_of, next_map_page, IsPastMap, IsRangeOf}
 use Rattle.coverage.specs.Changes.{ChangesAt, SameHeap, SameMap, SameTuples, SameUnnamed, TouchesNothing, TouchesRows, TouchesEntries, TouchesTuples}
 use Rattle.coverage.specs.Changes.{TouchesUnnamed, TouchesSummariseLock, Frame, RowComes, RowsGo, IsFree, IsUntouched}
 use Rattle.coverage.specs.Verdicts.{IsLocked, IsLowestNumber, IsPageUnstarted, Differs, Fits, Puts, PutVerdict, SwapVerdict, ClearVerdict}
+use Rattle.coverage.specs.Waiting.{Grows, IsNextTuple, IsPhaseFull, IsInsertEnded}
 use Rattle.coverage.specs.Statements.{OnIndex, Empty, Held, Copied, Moving, Dropping, Phase, NotBuilding, Vacant, Growing, Evacuating, Placing, IsAt, Scan}
-use Rattle.coverage.specs.Statements.{Statement, Idle, Inserting, Maintaining, Holding, Scanning, rows_added, HasNoMoreRows, loose_at, loose_in}
+use Rattle.coverage.specs.Statements.{Statement, Idle, Inserting, Maintaining, Holding, Scanning, rows_added, HasNoMoreRows}
 use Rattle.coverage.specs.Knowing.{LocksNone, LocksThese, Spares}
 use Rattle.coverage.specs.IsCovered.{IndexState, index_view, IsAtRest}
 
@@ -23,7 +24,6 @@ pub record TurnsPage (w v : IndexView) (page : ℕ) (kind : PageKind) : Type 0 w
   pub kinds : (p : ℕ) → (p ≡ page) ⊎ (v.pages.kind p ≡ w.pages.kind p)
   pub rooms : (p : ℕ) → (p ≡ page) ⊎ (v.pages.room p ≡ w.pages.room p)
   pub places : (x : TuplePlace) → (x.block ≡ page) ⊎ (v.pages.room_at x ≡ w.pages.room_at x)
-  pub placeholder : v.pages.placeholder ≡ w.pages.placeholder
   pub map_pages : v.pages.map_pages ≡ w.pages.map_pages
   pub limit : v.pages.limit ≡ w.pages.limit
 
@@ -117,18 +117,6 @@ pub data InsertStep (s b k : ℕ) (r : Row) (w v : IndexView) : OnIndex → Stat
       → InsertStep s b k r w v (Moving x y old new) (Inserting b k r (Dropping x))
   InsertDrop : (x : TuplePlace) → DropsTuple s w v x → InsertStep s b k r w v (Dropping x) Idle
 
--- the next tuple of a page that is emptied, in the order of its slots
-pub record IsNextTuple (w : IndexView) (page : ℕ) (x : TuplePlace) (t : IndexTuple) : Type 0 where
-  pub on : x.block ≡ page
-  pub stands : w.tuple x ≡ Some t
-  pub first : (y : TuplePlace) (u : IndexTuple) → y.block ≡ page → w.tuple y ≡ Some u → x.slot ≤ y.slot
-
--- the map may grow onto a page of this kind
-pub record Grows (w : IndexView) (range : ℕ) (kind : PageKind) : Type 0 where
-  pub short : IsPastMap w range
-  pub below : next_map_page w < w.pages.limit
-  pub is : w.pages.kind (next_map_page w) ≡ kind
-
 -- A page of the map's growth becomes of another kind, and the session locks these pages.
 pub record TurnsKind (s : ℕ) (w v : IndexView) (kind : PageKind) (these : List ℕ) : Type 0 where
   pub frame : Frame s TouchesNothing w v
@@ -171,11 +159,11 @@ pub data SummariseStep (s range : ℕ) (w v : IndexView) : Phase → Statement �
       → SummariseStep s range w v (NotBuilding (Held x)) Holding
   Found : (x : TuplePlace) (t : IndexTuple) → Stands w range x t → t.placeholder ≡ true → ReadsIndex s w v
       → SummariseStep s range w v (NotBuilding (Held x)) (Maintaining range (IsAt ExtentUnread Empty))
-  ReadNoEntry : w.entry range ≡ None → ReadsIndex s w v → SummariseStep s range w v (NotBuilding Empty) (Maintaining range Vacant)
+  ReadNoEntry : w.entry range ≡ None → IsRangeOf w range → ReadsIndex s w v → SummariseStep s range w v (NotBuilding Empty) (Maintaining range Vacant)
   GrowMap : (old new : Phase) → GrowthStep s range w v old new → SummariseStep s range w v old (Maintaining range new)
   -- where the map is long enough a placeholder is put, and named
-  Put : (x : TuplePlace) (t : IndexTuple) → t ≡ w.contents.empty range → length t.bytes ≡ w.pages.placeholder → (IsPastMap w range → ⊥)
-      → PutVerdict w s range w.pages.placeholder (Puts x)
+  Put : (x : TuplePlace) (t : IndexTuple) → t ≡ w.contents.empty range → (IsPastMap w range → ⊥)
+      → PutVerdict w s range (placeholder_length w range) (Puts x)
       → PutsTuple s w v x t → LocksThese v s (x.block ∷ map_page_of range ∷ []) → SummariseStep s range w v Vacant (Maintaining range (Placing x))
   Set : (x : TuplePlace) → SetsEntry s w v range x → LocksNone v s → SummariseStep s range w v (Placing x) (Maintaining range (IsAt ExtentUnread Empty))
   Extent : (extent : ℕ) (result : IndexTuple) → result ≡ w.contents.empty range → extent ≡ min w.blocks ((range + 1) * w.pages_per_range) → ReadsIndex s w v
@@ -305,8 +293,8 @@ pub data Step (s : ℕ) (w v : IndexState) : Type 0 where
   PutRow : (b k : ℕ) (r : Row) → Turned s w v Idle (Inserting b k r Empty) → RowPut s (index_view w) (index_view v) b k r → SameCounts w v → Step s w v
   Insert : (b k : ℕ) (r : Row) (on_index : OnIndex) (new : Statement) → Turned s w v (Inserting b k r on_index) new
       → InsertStep s b k r (index_view w) (index_view v) on_index new → SameCounts w v → Step s w v
-  -- an insert is refused, and its transaction has failed
-  Refused : (b k : ℕ) (r : Row) (on_index : OnIndex) → loose_in on_index ≡ None → Turned s w v (Inserting b k r on_index) Idle
+  -- an insert is refused, since no page is left, and its transaction has failed
+  Refused : (b k : ℕ) (r : Row) (on_index : OnIndex) → IsInsertEnded (index_view w) s b on_index → Turned s w v (Inserting b k r on_index) Idle
       → ReadsIndex s (index_view w) (index_view v)
       → v.counts r.id.t ≡ false → ((t : ℕ) → IsTrue (v.counts t) → IsTrue (w.counts t)) → Step s w v
   TakeSummariseLock : Turned s w v Idle Holding → SummariseLockPasses s (index_view w) (index_view v) None (Some s) → SameCounts w v → Step s w v
@@ -322,8 +310,8 @@ pub data Step (s : ℕ) (w v : IndexState) : Type 0 where
       → SameCounts w v → Step s w v
   -- the reply
   GiveSummariseLock : Turned s w v Holding Idle → SummariseLockPasses s (index_view w) (index_view v) (Some s) None → SameCounts w v → Step s w v
-  -- a refusal: what was being built stays a placeholder
-  Abandon : (range : ℕ) (phase : Phase) → loose_at phase ≡ None → Turned s w v (Maintaining range phase) Idle
+  -- a refusal, since no page is left: what was being built stays a placeholder
+  Abandon : (range number : ℕ) (phase : Phase) → IsPhaseFull (index_view w) s range phase number → Turned s w v (Maintaining range phase) Idle
       → SummariseLockPasses s (index_view w) (index_view v) (Some s) None → SameCounts w v → Step s w v
   BeginScan : (scan : Scan) → ScanBegins w scan → Turned s w v Idle (Scanning scan) → ReadsIndex s (index_view w) (index_view v) → SameCounts w v → Step s w v
   Scans : (old new : Scan) → Turned s w v (Scanning old) (Scanning new) → ScanStep (index_view w) old new → ReadsIndex s (index_view w) (index_view v)

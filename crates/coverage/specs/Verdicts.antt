@@ -39,17 +39,18 @@ HasFreeSlots w = (p : ℕ) → (k : ℕ) × IsFreeSlot w p k
 abbrev pub IsTargetPlace : IndexView → ℕ → TuplePlace → Type 0
 IsTargetPlace w need y = IsTarget w need y.block × IsLowestNumber (IsFreeSlot w y.block) y.slot
 
--- it waits for this page; what it compares differs; it has room in place; a tuple is put at this place; no page has room
+-- it waits for this page; what it compares differs; it has room in place; a tuple is put at this place; no page has room, of so many
+-- that there may be
 pub data Verdict : Type 0 where
   Waits : ℕ → Verdict
   Differs : Verdict
   Fits : Verdict
   Puts : TuplePlace → Verdict
-  Full : Verdict
+  Full : ℕ → Verdict
 
 -- A tuple of this length is to be put for a range: the page is chosen, then its lock and that of the map page are needed.
 pub data PutVerdict (w : IndexView) (s range need : ℕ) : Verdict → Type 0 where
-  NoTarget : ((p : ℕ) → IsTarget w need p → ⊥) → PutVerdict w s range need Full
+  NoTarget : ((p : ℕ) → IsTarget w need p → ⊥) → PutVerdict w s range need (Full w.pages.limit)
   PutWaits : (p q : ℕ) → IsTarget w need p → IsFirstLocked w s (p ∷ map_page_of range ∷ []) q → PutVerdict w s range need (Waits q)
   PutGoes : (y : TuplePlace) → IsTargetPlace w need y → IsFree w s y.block → IsFree w s (map_page_of range) → PutVerdict w s range need (Puts y)
 

@@ -6,22 +6,25 @@
 //! specs/Steps it is, and has the rest from here.
 #![tactic(auto)]
 
-ghost use Rattle.std.specs.Prelude.{◌≡◌, ◌≢◌, ◌↔◌, ◌≤◌, ◌<◌, ℕ, suc, Bool, false, IsTrue, Option, None, Some, List};
+ghost use Rattle.std.specs.Prelude.{◌≡◌, ◌≢◌, ◌⊎◌, ◌↔◌, ◌≤◌, ◌<◌, ℕ, suc, Bool, false, IsTrue, Option, None, Some, List};
 ghost use Rattle.block_model.specs.declared.row.Row.{Row};
-ghost use Rattle.coverage.specs.IndexView.{IndexView, Contents, Pages, TuplePlace, IndexTuple, Progress, Mapping, range_of_block, next_map_page, NamesPlaceholder};
+ghost use Rattle.coverage.specs.IndexView.{IndexView, Contents, Pages, TuplePlace, IndexTuple, Progress, ExtentUnread, Mapping};
+ghost use Rattle.coverage.specs.IndexView.{IsFormed, IsRangeOf, IsTupleOf, range_of_block, next_map_page, IsPastMap, NamesPlaceholder};
 ghost use Rattle.coverage.specs.IsSettled.{IsSettled, IsAccounted};
 ghost use Rattle.coverage.specs.IsSound.{IsSound};
 ghost use Rattle.coverage.specs.GoesOn.{GoesOn, IsHeld};
 ghost use Rattle.coverage.specs.Changes.{PutsRow, Places, Names, Turn, IsFree, Swaps, MovePuts, MoveSets, DropsLoose};
 ghost use Rattle.coverage.specs.Changes.{Clears, Sweeps, Prunes, Takes, Ends, TurnsLocks};
-ghost use Rattle.coverage.specs.Statements.{OnIndex, Empty, Held, Copied, Phase, NotBuilding, Scan, Statement, Inserting, Maintaining, Scanning, AreLawful};
-ghost use Rattle.coverage.specs.IsCovered.{IndexState, index_view, new_index, AreRowsBelow, IsFoundOrUnread, IsCovered, IsAtRest, IsIndexKept};
-ghost use Rattle.coverage.specs.Steps.{InsertStep, SummariseStep, DesummariseStep, IsRangeExcluded, Step, Run, Stops};
+ghost use Rattle.coverage.specs.Statements.{OnIndex, Empty, Held, Copied, Phase, NotBuilding, IsAt, Scan, Statement, Inserting, Maintaining, Scanning, AreLawful};
+ghost use Rattle.coverage.specs.IsCovered.{IndexState, index_view, new_index, AreRowsBelow, IsFoundOrUnread, StatementHolds, IsCovered, IsAtRest, IsIndexKept};
+ghost use Rattle.coverage.specs.Steps.{IsUnnamed, SweepsTuples, InsertStep, SummariseStep, DesummariseStep, IsRangeExcluded, Step, Run, Stops};
 ghost use Rattle.coverage.specs.PageOrder.{AreOrdered, AreNewPages, KnowsPages};
 ghost use Rattle.coverage.specs.Points.{insert_point, summarise_point, desummarise_point};
+ghost use Rattle.coverage.specs.Counts.{HasGone, AreRowsGone, AreTuplesGone, NamesFinal, summarise_count, desummarise_count};
 ghost use Rattle.coverage.specs.Knowing.{LocksNone, Knows, Spares};
 ghost use Rattle.coverage.specs.Verdicts.{Verdict, Waits, Differs, Full, IsLocked, HasFreeSlots, PutVerdict, SwapVerdict, ClearVerdict};
-ghost use Rattle.coverage.specs.Waiting.{IsPhaseWaiting, IsPhaseFull, IsSummariseStuck, IsPhaseFree, HasBlocksOfRows, HasPlaceholderLength, InsertsAlone, AreNamed, IsInsertStuck, IsSwapFree, IsDesummariseStuck, IsClearFree};
+ghost use Rattle.coverage.specs.Waiting.{IsPhaseWaiting, IsPhaseFull};
+ghost use Rattle.coverage.specs.Stuck.{IsSummariseStuck, IsPhaseFree, HasBlocksOfRows, InsertsAlone, AreNamed, IsInsertStuck, IsSwapFree, IsDesummariseStuck, IsClearFree};
 
 /// Each kind of change leaves the index sound.
 pub fn changes_are_sound()
@@ -83,11 +86,15 @@ pub fn knowledge_is_stable()
 {}
 
 /// Whatever the sessions do, in any interleaving: what an index rests on is kept, with the order of its pages and what each
-/// statement knows of pages and locks; the index is covered; which ranges have an entry is the matter of the session alone that
+/// statement knows of pages and locks; the index is covered; a tuple is one of the index, or was unnamed at the opening, so what a
+/// statement reads at a place that it holds is one; which ranges have an entry is the matter of the session alone that
 /// holds the summarise lock; the tuples that the map names stand past its pages; and the table's blocks only grow.
 pub fn index_stays_covered()
     ensures kept { (steps : List ℕ) (w v : IndexState) → IsIndexKept w → Run steps w v → IsIndexKept v }
     ensures covered { (w : IndexState) → IsIndexKept w → IsCovered w }
+    ensures formed { (w : IndexState) (x : TuplePlace) (t : IndexTuple) → IsIndexKept w → w.tuple x ≡ Some t → IsTupleOf (index_view w) t ⊎ IsTrue (w.unnamed x) }
+    ensures read { (w : IndexState) (s range : ℕ) (x : TuplePlace) (t : IndexTuple) → IsIndexKept w → StatementHolds (index_view w) (w.statement s) range x
+        → w.tuple x ≡ Some t → t.range ≡ range → IsTupleOf (index_view w) t }
     ensures entries { (s : ℕ) (w v : IndexState) → IsIndexKept w → Step s w v → w.summarise_lock ≢ Some s → (range : ℕ)
         → (w.entry range ≡ None) ↔ (v.entry range ≡ None) }
     ensures past_map { (w : IndexState) (range : ℕ) (x : TuplePlace) → IsIndexKept w → w.entry range ≡ Some x → w.pages.map_pages < x.block }
@@ -114,7 +121,8 @@ pub fn scans_miss_nothing()
 {}
 
 /// A step that would change pages comes out in one way: it waits, finds a difference, goes on in place or elsewhere, or is
-/// full. It waits only for a page that another session locks, and for one alone, and finds a difference only where there is one.
+/// full. It waits only for a page that another session locks, and for one alone, and finds a difference only where there is one:
+/// tuples of one index with the same bytes are one. Where it is full, it tells how many pages there may be.
 pub fn verdicts_are_exact()
     ensures one_put { (w : IndexView) (s range need : ℕ) (p q : Verdict) → PutVerdict w s range need p → PutVerdict w s range need q → p ≡ q }
     ensures one_swap { (w : IndexView) (s range : ℕ) (x : TuplePlace) (old new : IndexTuple) (p q : Verdict) → SwapVerdict w s range x old new p
@@ -128,6 +136,11 @@ pub fn verdicts_are_exact()
     ensures clear_differs { (w : IndexView) (s range : ℕ) (x : TuplePlace) → ClearVerdict w s range x Differs → w.entry range ≢ Some x }
     ensures phase_waits { (w : IndexView) (s range p : ℕ) (phase : Phase) → IsPhaseWaiting w s range phase p → IsLocked w s p }
     ensures one_phase_wait { (w : IndexView) (s range p q : ℕ) (phase : Phase) → IsPhaseWaiting w s range phase p → IsPhaseWaiting w s range phase q → p ≡ q }
+    ensures same_bytes { (contents : Contents) (t u : IndexTuple) → IsFormed contents t → IsFormed contents u → t.bytes ≡ u.bytes → t ≡ u }
+    ensures full_put { (w : IndexView) (s range need number : ℕ) → PutVerdict w s range need (Full number) → number ≡ w.pages.limit }
+    ensures full_swap { (w : IndexView) (s range number : ℕ) (x : TuplePlace) (old new : IndexTuple) → SwapVerdict w s range x old new (Full number)
+        → number ≡ w.pages.limit }
+    ensures full_phase { (w : IndexView) (s range number : ℕ) (phase : Phase) → IsPhaseFull w s range phase number → number ≡ w.pages.limit }
     ensures some_put { (w : IndexView) → HasFreeSlots w → (s range need : ℕ) → ((p : Verdict) → PutVerdict w s range need p → ⊥) → ⊥ }
     ensures some_swap { (w : IndexView) → HasFreeSlots w → (s range : ℕ) (x : TuplePlace) (old new : IndexTuple)
         → ((p : Verdict) → SwapVerdict w s range x old new p → ⊥) → ⊥ }
@@ -156,24 +169,46 @@ pub fn each_step_is_the_next_one()
         → SwapVerdict w s (range_of_block w b) x old new (Waits p) → InsertStep s b k r w v (Copied x old new) e → ⊥ }
     ensures summarise_blocked { (s range p : ℕ) (w v : IndexView) (phase : Phase) (e : Statement) → IsPhaseWaiting w s range phase p
         → SummariseStep s range w v phase e → ⊥ }
-    ensures insert_full { (w v : IndexView) (s b k : ℕ) (r : Row) (x : TuplePlace) (old new : IndexTuple) (e : Statement)
-        → SwapVerdict w s (range_of_block w b) x old new Full → InsertStep s b k r w v (Copied x old new) e → ⊥ }
-    ensures summarise_full { (w v : IndexView) (s range : ℕ) (phase : Phase) (e : Statement) → IsPhaseFull w s range phase
+    ensures insert_full { (w v : IndexView) (s b k number : ℕ) (r : Row) (x : TuplePlace) (old new : IndexTuple) (e : Statement)
+        → SwapVerdict w s (range_of_block w b) x old new (Full number) → InsertStep s b k r w v (Copied x old new) e → ⊥ }
+    ensures summarise_full { (w v : IndexView) (s range number : ℕ) (phase : Phase) (e : Statement) → IsPhaseFull w s range phase number
         → SummariseStep s range w v phase e → ⊥ }
     ensures desummarise_blocked { (s range p : ℕ) (w v : IndexView) (x : TuplePlace) (e : Statement) → ClearVerdict w s range x (Waits p)
         → DesummariseStep s range w v (NotBuilding (Held x)) e → ⊥ }
 {}
 
 /// A running insert, summariser or desummarise is never stuck: it has a step on the index, or waits for a page; or no page is left
-/// for what the insert or the summariser has to put. While no other session steps an insert takes at most six steps in an index. The steps are those with the very tuples that the index's contents give.
+/// for what the insert or the summariser has to put. While no other session steps an insert takes
+/// at most six steps in an index, and five from its first one on. The steps are those with the very tuples that the index's contents give.
 pub fn some_step_comes()
     ensures insert { (w : IndexView) → HasFreeSlots w → (s b k : ℕ) (r : Row) (on_index : OnIndex) → Knows w s (Inserting b k r on_index)
         → IsInsertStuck w s b k r on_index → IsSwapFree w s (range_of_block w b) on_index → ⊥ }
+    ensures insert_ends_begun { (w : IndexView) (s b k steps : ℕ) (r : Row) → AreNamed w → InsertsAlone s b k r steps w Empty → steps ≤ 5 }
     ensures insert_ends { (w : IndexView) (s b k steps : ℕ) (r : Row) (on_index : OnIndex) → AreNamed w → InsertsAlone s b k r steps w on_index → steps ≤ 6 }
-    ensures summarise { (w : IndexView) → HasFreeSlots w → HasBlocksOfRows w → HasPlaceholderLength w → (s range : ℕ) (phase : Phase)
+    ensures summarise { (w : IndexView) → HasFreeSlots w → HasBlocksOfRows w → (s range : ℕ) (phase : Phase) → IsRangeOf w range
         → Knows w s (Maintaining range phase) → KnowsPages w s (Maintaining range phase) → IsSummariseStuck w s range phase → IsPhaseFree w s range phase → ⊥ }
     ensures desummarise { (w : IndexView) (s range : ℕ) (on_index : OnIndex) → Knows w s (Maintaining range (NotBuilding on_index))
         → IsDesummariseStuck w s range on_index → IsClearFree w s range on_index → ⊥ }
+{}
+
+/// How many rows of a heap block, or tuples of an index page, went is one number; and of all steps that a statement could take on an index
+/// at a moment, each adds the same to the count that its reply tells: one where the map comes to name a final tuple of a summariser's
+/// range, or where a desummarise's range loses its entry. The tuples that a sweep drops are those that the map doesn't name.
+pub fn counts_are_exact()
+    ensures rows { (before after : ℕ → ℕ → Option Row) (block m n : ℕ) → AreRowsGone before after block m → AreRowsGone before after block n → m ≡ n }
+    ensures tuples { (before after : TuplePlace → Option IndexTuple) (page m n : ℕ) → AreTuplesGone before after page m
+        → AreTuplesGone before after page n → m ≡ n }
+    ensures summarise { (s range : ℕ) (w v u : IndexView) (phase : Phase) (e f : Statement)
+        (one : SummariseStep s range w v phase e) (two : SummariseStep s range w u phase f) → summarise_count one ≡ summarise_count two }
+    ensures desummarise { (s range : ℕ) (w v u : IndexView) (phase : Phase) (e f : Statement)
+        (one : DesummariseStep s range w v phase e) (two : DesummariseStep s range w u phase f) → desummarise_count one ≡ desummarise_count two }
+    ensures summarised { (w v : IndexState) (s range : ℕ) (old : Phase) (new : Statement) (step : SummariseStep s range (index_view w) (index_view v) old new)
+        → IsIndexKept w → IsIndexKept v → w.statement s ≡ Maintaining range old → v.statement s ≡ new
+        → (summarise_count step ≡ 1) ↔ (NamesFinal (index_view v) range × (NamesFinal (index_view w) range → ⊥)) }
+    ensures cleared { (w v : IndexState) (s range : ℕ) (old : Phase) (new : Statement) (step : DesummariseStep s range (index_view w) (index_view v) old new)
+        → (desummarise_count step ≡ 1) ↔ ((w.entry range ≢ None) × (v.entry range ≡ None)) }
+    ensures swept { (s page : ℕ) (w v : IndexView) → SweepsTuples s w v page (λ x. (x.block ≡ page) × IsUnnamed w x) → (x : TuplePlace) → x.block ≡ page
+        → HasGone (w.tuple x) (v.tuple x) ↔ IsUnnamed w x }
 {}
 
 /// A run of these steps takes a range of a new index, with a lawful way to make tuples, from no entry to a final tuple: the
@@ -192,9 +227,12 @@ pub fn an_insert_moves_a_tuple()
 {}
 
 /// A run of these steps, from an index that is kept, makes the map grow by a page on which a tuple stood: the tuple stands on
-/// another page unchanged, where its entry names it, and the page has become one of the map.
+/// another page unchanged, where its entry names it, and the page has become one of the map. The run goes on until the map names the
+/// placeholder of the range for whose entry it was too short.
 pub fn a_map_grows()
     ensures { (w : IndexState) × (v : IndexState) × (steps : List ℕ) × IsIndexKept w × Run steps w v × (v.pages.map_pages ≡ suc w.pages.map_pages)
         × ((x : TuplePlace) × (y : TuplePlace) × (t : IndexTuple) × (x.block ≡ next_map_page (index_view w)) × (v.pages.kind x.block ≡ Mapping)
-        × (x.block ≢ y.block) × (w.entry t.range ≡ Some x) × (w.tuple x ≡ Some t) × (v.entry t.range ≡ Some y) × (v.tuple y ≡ Some t) × (v.tuple x ≡ None)) }
+        × (x.block ≢ y.block) × (w.entry t.range ≡ Some x) × (w.tuple x ≡ Some t) × (v.entry t.range ≡ Some y) × (v.tuple y ≡ Some t) × (v.tuple x ≡ None))
+        × ((range : ℕ) × IsPastMap (index_view w) range × NamesPlaceholder (index_view v) range
+        × (v.statement 0 ≡ Maintaining range (IsAt ExtentUnread Empty))) }
 {}

@@ -14,7 +14,6 @@ pub mod File
 pub mod Event
 pub mod IsCrashImage
 pub mod CrashImageLaws
-pub mod Calls
 pub mod Recorded
 pub mod Noted
 pub mod IsNoted

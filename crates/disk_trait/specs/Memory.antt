@@ -1,10 +1,10 @@
 -- a disk in memory that keeps a record of its writes and syncs
-use Rattle.std.specs.Prelude.{ℕ, true, List, [], length, take, drop, None}
+use Rattle.std.specs.Prelude.{ℕ, true, List, [], length, take, drop}
 use Rattle.disk_trait.specs.Told.{Told}
 use Rattle.disk_trait.specs.Spliced.{spliced}
 use Rattle.disk_trait.specs.IsCrashImage.{is_crash_image, was_crash_image}
 use Rattle.disk_trait.specs.Recorded.{Recorded, with_write}
-use Rattle.disk_trait.specs.Calls.{CallCounts}
+use Rattle.call_counts.specs.Calls.{CallCounts, fresh}
 
 -- what it holds, what happened on it, and its calls
 pub record Recording : Type 0 where
@@ -17,7 +17,7 @@ abbrev pub made_of : List ℕ → Recording
 made_of bytes = record {
   contents = bytes;
   past = record { events = []; calls_left = 0; bytes_left = 0 };
-  calls = record { fails = []; stop = None; made = 0; faults = 0 };
+  calls = fresh [];
 }
 
 -- the disk after a write that was recorded

@@ -1,5 +1,5 @@
 -- the record of a disk's events, and its room
-use Rattle.std.specs.Prelude.{◌≡◌, ◌⊎◌, ◌<◌, ◌≤◌, ◌-◌, ℕ, List, ◌∷◌, length}
+use Rattle.std.specs.Prelude.{◌≡◌, ◌⊎◌, ◌<◌, ◌≤◌, ◌+◌, ◌-◌, ℕ, List, ◌∷◌, length}
 use Rattle.disk_trait.specs.Event.{Event, wrote, synced}
 
 -- the events, the newest first; how many more have room, and how many bytes more that they replace
@@ -7,6 +7,10 @@ pub record Recorded : Type 0 where
   pub events : List Event
   pub calls_left : ℕ
   pub bytes_left : ℕ
+
+-- with room for so many events more, and for so many bytes more that they replace
+abbrev pub with_room : Recorded → ℕ → ℕ → Recorded
+with_room past calls bytes = record past { calls_left = past.calls_left + calls; bytes_left = past.bytes_left + bytes }
 
 -- there is room for an event that replaces so many bytes
 pub record RecordHasRoom (past : Recorded) (count : ℕ) : Type 0 where

@@ -1,14 +1,12 @@
 //! A file as a disk.
 
-ghost use Rattle.std.specs.Prelude.{◌≡◌, is_ok, if◌then◌else◌};
+ghost use Rattle.std.specs.Prelude.{◌≡◌};
 ghost use Rattle.std.proofs.lemmas.Bool.{false≢true};
-ghost use Rattle.block_model.specs.Causes.{HasCause};
-ghost use Rattle.disk_trait.specs.Calls.{one_more};
 ghost use Rattle.disk_trait.specs.File.{told_by_file};
 
 use crate::disk::{Disk, DiskFault};
+use call_counts::counted;
 use std::fs::File;
-use std::io;
 use std::os::unix::fs::FileExt;
 
 /// A file of std as a disk. It tells nothing of what it holds, and counts each call that failed.
@@ -32,19 +30,6 @@ impl FileDisk {
     }
 }
 
-/// The outcome of a call of the file, whose fault is counted.
-fn counted(outcome: io::Result<()>, faults: &mut u64) -> Result<(), DiskFault>
-    ensures same { is_ok result ≡ is_ok outcome }
-    ensures count { faults.new ≡ (if is_ok outcome then faults.old else one_more faults.old) }
-    ensures cause { HasCause faults.old faults.new result }
-{
-    if outcome.is_err() {
-        *faults = faults.saturating_add(1);
-        return Err(DiskFault);
-    }
-    Ok(())
-}
-
 impl Disk for FileDisk {
     ghost told = { λ d. told_by_file d.size d.faults };
 
@@ -65,15 +50,18 @@ impl Disk for FileDisk {
     }
 
     fn read(&mut self, at: u64, into: &mut [u8]) -> Result<(), DiskFault> {
-        counted(self.file.read_exact_at(into, at), &mut self.faults)
+        let outcome = self.file.read_exact_at(into, at);
+        counted(outcome.ok(), DiskFault, &mut self.faults)
     }
 
     fn write(&mut self, at: u64, bytes: &[u8]) -> Result<(), DiskFault> {
-        counted(self.file.write_all_at(bytes, at), &mut self.faults)
+        let outcome = self.file.write_all_at(bytes, at);
+        counted(outcome.ok(), DiskFault, &mut self.faults)
     }
 
     fn sync(&mut self) -> Result<(), DiskFault> {
-        counted(self.file.sync_all(), &mut self.faults)
+        let outcome = self.file.sync_all();
+        counted(outcome.ok(), DiskFault, &mut self.faults)
     }
 
     fn faults(&self) -> u64 {

@@ -1,7 +1,7 @@
 //! The record of a disk's writes and syncs.
 
-ghost use Rattle.std.specs.Prelude.{◌≡◌, ◌↔◌, ◌+◌, ◌<◌, ◌≤◌, [], length, vec_len, IsTrue, OnOk, OnErr};
-ghost use Rattle.disk_trait.specs.Recorded.{RecordHasRoom, with_write, with_sync};
+ghost use Rattle.std.specs.Prelude.{◌≡◌, ◌↔◌, ◌+◌, ◌<◌, [], length, IsTrue, OnOk, OnErr};
+ghost use Rattle.disk_trait.specs.Recorded.{RecordHasRoom, with_room, with_write, with_sync};
 ghost use Rattle.disk_trait.specs.AreWithin.{AreWithin};
 ghost use Rattle.disk_trait.specs.Undone.{undone};
 ghost use Rattle.disk_trait.specs.Noted.{events_onto, replaced_count};
@@ -56,7 +56,7 @@ impl History {
 
     /// Takes room for so many calls more, and for so many bytes more that they replace. After a refusal nothing is changed.
     pub fn room(&mut self, calls: u64, bytes: u64) -> Result<(), NoMemory>
-        ensures ok { OnOk result (self.new ≡ record self.old { calls_left = self.old.calls_left + calls; bytes_left = self.old.bytes_left + bytes }) }
+        ensures ok { OnOk result (self.new ≡ with_room self.old calls bytes) }
         ensures err { OnErr result (self.new ≡ self.old) }
     {
         let Some(calls_left) = self.calls_left.checked_add(calls as usize) else {

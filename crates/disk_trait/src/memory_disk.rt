@@ -1,6 +1,7 @@
 //! A disk in memory that fails where it is told to, and tells what a crash may leave.
 
-ghost use Rattle.std.specs.Prelude.{◌≡◌, ◌↔◌, ◌⊎◌, ◌+◌, ◌<◌, ◌≤◌, ◌∷◌, [], ◌++◌, ℕ, List, IsTrue, length, vec_len, take, drop, replicate, Some, IfOk, OnOk, OnErr, IsErr};
+ghost use Rattle.std.specs.Prelude.{◌≡◌, ◌↔◌, ◌⊎◌, ◌<◌, ◌≤◌, IsTrue, IfOk, OnOk, OnErr, IsErr};
+ghost use Rattle.std.specs.Prelude.{ℕ, ◌+◌, Some, List, [], ◌∷◌, ◌++◌, length, vec_len, take, drop, replicate};
 ghost use Rattle.std.specs.Bool.{OnTrue, OnFalse};
 ghost use Rattle.block_model.specs.Causes.{HasCause};
 ghost use Rattle.disk_trait.specs.Spliced.{spliced};
@@ -8,18 +9,18 @@ ghost use Rattle.disk_trait.specs.Torn.{Torn};
 ghost use Rattle.disk_trait.specs.Follows.{Follows};
 ghost use Rattle.disk_trait.specs.IsStable.{IsStable};
 ghost use Rattle.disk_trait.specs.GoesOn.{GoesOn};
-ghost use Rattle.disk_trait.specs.Calls.{FailsNext, after_call, first_stop};
-ghost use Rattle.disk_trait.specs.Recorded.{RecordHasRoom, RecordLacksRoom, with_write, with_sync};
+ghost use Rattle.call_counts.specs.Calls.{FailsNext, after_call, first_stop};
+ghost use Rattle.disk_trait.specs.Recorded.{RecordHasRoom, RecordLacksRoom, with_room, with_write, with_sync};
 ghost use Rattle.disk_trait.specs.Memory.{made_of, written, told_by_memory};
 ghost use Rattle.disk_trait.specs.Undone.{undone};
 ghost use Rattle.disk_trait.specs.IsStriped.{IsStriped};
 ghost use Rattle.disk_trait.specs.CrashImageLaws.{contents_crash_image, length-crash_image, was_crash_image_now, was_crash_image_latest};
 
 use crate::bytes::overwrite;
-use crate::calls::Calls;
 use crate::disk::{Disk, DiskFault};
 use crate::history::History;
 use block_model::NoMemory;
+use call_counts::Calls;
 use std::alloc::Global;
 use std::marker::Model;
 
@@ -63,7 +64,7 @@ impl MemoryDisk {
         MemoryDisk {
             bytes,
             past: History::new(alloc),
-            calls: Calls::new(alloc),
+            calls: Calls::new(Vec::new(alloc)),
         }
     }
 
@@ -86,7 +87,7 @@ impl MemoryDisk {
     /// Takes room for the record of so many calls more, and of so many bytes more that they write. A write takes a call and
     /// its bytes, a sync a call. After a refusal nothing is changed.
     pub fn room(&mut self, calls: u64, bytes: u64) -> Result<(), NoMemory>
-        ensures ok { OnOk result (self.new ≡ record self.old { past = record self.old.past { calls_left = self.old.past.calls_left + calls; bytes_left = self.old.past.bytes_left + bytes } }) }
+        ensures ok { OnOk result (self.new ≡ record self.old { past = with_room self.old.past calls bytes }) }
         ensures err { OnErr result (self.new ≡ self.old) }
     {
         self.past.room(calls, bytes)

@@ -1,17 +1,14 @@
 -- What the limits of a layout say of a table.
-use Rattle.std.proofs.Common.{◌≡◌, ℕ, zero, suc, ◌+◌, ◌*◌, ◌/◌, ◌<◌, ◌≤◌, nat_le, List, [], ◌∷◌, ◌++◌, length, map, get_or, refl, ap, ◌∙◌, arith}
-use Rattle.std.specs.Prelude.{sum_by}
+use Rattle.std.proofs.Common.{◌≡◌, ℕ, zero, suc, ◌+◌, ◌/◌, ◌<◌, ◌≤◌, nat_le, List, [], ◌∷◌, ◌++◌, length, map, get_or, refl, ap, ◌∙◌, arith}
 use Rattle.std.proofs.lemmas.Bool.{and_parts, leb-true}
 use Rattle.std.proofs.lemmas.List.{get_or-map, get_or_append_left, length-map}
-use Rattle.std.proofs.lemmas.List.Sums.{AllPass-from_list_all, sum_by-cons}
-use Rattle.block_model.specs.declared.value.Kind.{Kind}
-use Rattle.block_model.specs.declared.value.Kind.TheVariants as kinds
+use Rattle.std.proofs.lemmas.List.Sums.{AllPass-from_list_all}
 use Rattle.block_model.specs.declared.schema.Column.{Column}
 use Rattle.block_model.specs.declared.schema.Table.{Table}
 use Rattle.store_layout.specs.DiskLayout.{DiskLayout, relation_blocks}
 use Rattle.store_layout.specs.FirstBrokenRule.{KeepsLimits}
 use Rattle.store_layout.specs.Limits.{rows_fit}
-use Rattle.block_model.specs.RowSize.{row_size, value_size}
+use Rattle.block_model.specs.RowSize.{row_size}
 use Rattle.page_layout.specs.declared.page.Form.{Form}
 use Rattle.page_layout.specs.declared.page.Form.TheVariants as forms
 use Rattle.page_store.specs.Forms.{form_of, forms_of}
@@ -25,16 +22,6 @@ some_row layout table there limits =
     let t : Table = table_at layout table in
     let s : ℕ = row_size (map (λ (c : Column). c.kind) t.columns) in
     leb-true 1 t.rows_per_page (and_parts (nat_le 1 t.rows_per_page) (nat_le t.rows_per_page (8160 / s)) (AllPass-from_list_all rows_fit layout.schema.tables (limits 4) table no_table there)).0
-
--- a row has at most eight ranges
-pub few_bytes : (ks : List Kind) → sum_by value_size ks ≤ 17 * length ks
-few_bytes [] = omega arith
-few_bytes (kinds.Int ∷ ks) = omega (arith, sum_by-cons value_size kinds.Int ks, few_bytes ks)
-few_bytes (kinds.Span ∷ ks) = omega (arith, sum_by-cons value_size kinds.Span ks, few_bytes ks)
-few_bytes (kinds.Net ∷ ks) = omega (arith, sum_by-cons value_size kinds.Net ks, few_bytes ks)
-
-pub small_row : (columns : List Column) → length columns ≤ 8 → row_size (map (λ c. c.kind) columns) ≤ 158
-small_row columns few = omega (arith, few_bytes (map (λ (c : Column). c.kind) columns), length-map {A = Column} {B = Kind})
 
 -- the relation of a table
 

@@ -1,47 +1,24 @@
 -- The lowest free slot, of a page and of a table's blocks.
-use Rattle.std.proofs.Common.{◌≡◌, ℕ, zero, suc, ◌+◌, ◌<◌, Bool, true, false, cond, List, [], ◌∷◌, length, get_or, refl, sym, ap, ◌∙◌, arith}
+use Rattle.std.proofs.Common.{◌≡◌, ℕ, zero, suc, ◌+◌, ◌<◌, cond, List, [], ◌∷◌, length, get_or, refl, sym, ap, ◌∙◌, arith}
 use Rattle.std.specs.Prelude.{Option, None, Some, replicate, slice_get, nat_lt}
-use Rattle.std.specs.List.{position_or_len}
-use Rattle.std.proofs.lemmas.Bool.{ltb-false}
 use Rattle.std.proofs.lemmas.List.{get_or-replicate, length-replicate}
-use Rattle.std.proofs.lemmas.List.Sums.{fails_before_first}
 use Rattle.std.proofs.lemmas.List.Quantifiers.{position-Some}
-use Rattle.std.proofs.lemmas.Option.{slice_get-get_or, get_or_from_slice_get, slice_get_within}
+use Rattle.std.proofs.lemmas.Option.{slice_get-get_or}
 use Rattle.page_layout.specs.PageContents.{Slot}
 use Rattle.page_layout.specs.FreeSlots.{is_free, lowest_free}
-use Rattle.page_layout.specs.SlotLaws.{lowest_found, lowest_none}
+use Rattle.page_layout.specs.SlotLaws.{free_slot, lowest_found, lowest_none}
 use Rattle.heap_rows.specs.IsTableFull.{AreUsed}
 use Rattle.heap_rows.specs.RowPlaces.{place_from, spot_in}
 
 -- slots of one page
-
-pub free_slot : (slot : Slot) → is_free slot ≡ true → slot ≡ None
-free_slot None e = refl
-free_slot (Some row) e = absurd cc
 
 pub lowest_there : (slots : List Slot) (n : ℕ) → lowest_free slots ≡ Some n → slice_get slots n ≡ Some None
 lowest_there slots n e =
     let at = position-Some is_free slots n None e in
     slice_get-get_or slots n None at.0 ∙ ap Some (free_slot (get_or slots n None) at.1)
 
-none_before : (b : Bool) (n : ℕ) → cond b (Some n) None ≡ None → b ≡ false
-none_before true n e = absurd cc
-none_before false n e = refl
-
-pub none_used : (slots : List Slot) → lowest_free slots ≡ None → AreUsed slots
-none_used slots e = λ n below.
-    let past = ltb-false (position_or_len is_free slots) (length slots) (none_before _ _ e) in
-    fails_before_first is_free slots n None (omega arith)
-
 pub used_none : (slots : List Slot) → AreUsed slots → lowest_free slots ≡ None
 used_none slots used = sym (lowest_none slots (length slots) refl used)
-
--- a free slot is found
-pub free_not_none : (slots : List Slot) (n : ℕ) → slice_get slots n ≡ Some None → lowest_free slots ≡ None → ⊥
-free_not_none slots n there none =
-    let used = none_used slots none n (slice_get_within slots n None there) in
-    let here : is_free (get_or slots n None) ≡ true = ap is_free (get_or_from_slice_get slots n None None there) in
-    cc
 
 pub first_of_empty : (count : ℕ) → 0 < count → lowest_free (replicate count None) ≡ Some 0
 first_of_empty count some =

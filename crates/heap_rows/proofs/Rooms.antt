@@ -9,18 +9,18 @@ use Rattle.page_layout.specs.declared.page.Form.TheVariants as forms
 use Rattle.page_layout.specs.PageContents.{Slot, HasSlot, HasSlots, IsRowOf, IsUnstarted}
 use Rattle.page_layout.specs.PageWrites.{IsEmptyHeap, IsOfHeap}
 use Rattle.page_layout.specs.FreeSlots.{slot_count, lowest_free}
-use Rattle.page_layout.specs.SlotLaws.{started_not}
+use Rattle.page_layout.specs.SlotLaws.{free_found, started_not}
 use Rattle.page_redo.specs.Redo.{IsFreeSlot, Redone}
 use Rattle.page_store.specs.Changed.{redone_once, redone_twice}
 use Rattle.page_store.specs.Forms.{FitInTurn}
 use Rattle.wal_record.specs.Changes.{PageStart, RowPut}
 use Rattle.heap_rows.specs.RoomOnPage.{PageTakesRow, HasSlotsOnceStarted, PutsBytes}
-use Rattle.heap_rows.proofs.Places.{free_not_none, first_of_empty}
+use Rattle.heap_rows.proofs.Places.{first_of_empty}
 
 -- a page without room takes no row
 pub no_row : (form : Form) (page : List ℕ) → PageTakesRow form page → (IsUnstarted page → ⊥) → ((slots : List Slot) → HasSlots form page slots → lowest_free slots ≡ None) → ⊥
 no_row form page (inl zeros) started none = started zeros
-no_row form page (inr free) started none = free_not_none free.1.0 free.0 free.1.2 (none free.1.0 free.1.1)
+no_row form page (inr free) started none = free_found free.1.0 free.0 free.1.2 (none free.1.0 free.1.1)
 
 -- the slots that a start gives a page
 pub empty_has : (form : Form) (page : List ℕ) → IsEmptyHeap form page → HasSlots form page (replicate (slot_count form) None)

@@ -11,7 +11,7 @@ use Rattle.page_layout.specs.declared.page.Form.{Form}
 use Rattle.page_layout.specs.RowBytes.{StoredRow}
 use Rattle.page_layout.specs.PageContents.{Slot, HasSlots, IsUnstarted}
 use Rattle.page_layout.specs.FreeSlots.{is_free, lowest_free}
-use Rattle.page_layout.specs.SlotLaws.{started_not}
+use Rattle.page_layout.specs.SlotLaws.{free_found, free_slot, started_not}
 use Rattle.page_layout.specs.SlotsOnPage.{slots_on}
 use Rattle.page_redo.specs.Redo.{IsFreeSlot, IsUsedSlot}
 use Rattle.page_store.specs.PageMap.{PageMap, block_at, page_at}
@@ -22,7 +22,7 @@ use Rattle.heap_rows.specs.HeapBlocks.{HasBlocks, slots_of}
 use Rattle.heap_rows.specs.IsTableFull.{IsTableFull, AreUsed}
 use Rattle.heap_rows.specs.RoomOnPage.{HasSlotsOnceStarted}
 use Rattle.heap_rows.specs.RowPlaces.{IsInUse, place_for, slot_at, with_row, with_slot}
-use Rattle.heap_rows.proofs.Places.{used_none, free_not_none, free_slot, first_of_empty, place_at, place_behind}
+use Rattle.heap_rows.proofs.Places.{used_none, first_of_empty, place_at, place_behind}
 
 -- the slots of a page are those that are read of its bytes
 abbrev pub OneList : Type 0
@@ -67,7 +67,7 @@ room_within {layout} {table} {pages} {blocks} heap has block below room_there =
         λ none.
             let page = block_at pages (relation_of table) block in
             let same : free.1.0 ≡ slots_of blocks block = heap.one (form_at layout table) page free.1.0 free.1.1 ∙ sym (heap.one (form_at layout table) page (slots_of blocks block) (has.started block there)) in
-            free_not_none free.1.0 free.0 free.1.2 (ap lowest_free same ∙ none),
+            free_found free.1.0 free.0 free.1.2 (ap lowest_free same ∙ none),
       )
       | inr past ↦ absurd (started_not (form_at layout table) (block_at pages (relation_of table) block) free.1.0 free.1.1 (has.unstarted block past below))
     ]

@@ -1,10 +1,10 @@
 -- the heap of each table
-use Rattle.std.specs.Prelude.{ℕ, ◌+◌, List, [], map, slice_index_or}
+use Rattle.std.specs.Prelude.{ℕ, ◌+◌, List, [], slice_index_or}
 use Rattle.block_model.specs.declared.value.Kind.{Kind}
 use Rattle.block_model.specs.declared.schema.Table.{Table}
 use Rattle.store_layout.specs.DiskLayout.{DiskLayout}
 use Rattle.page_layout.specs.declared.page.Form.{Form}
-use Rattle.page_layout.specs.HeapForms.{heap_form}
+use Rattle.page_layout.specs.HeapForms.{heap_form, kinds_of}
 
 -- the statuses are relation 0, and the tables come behind them
 abbrev pub relation_of : ℕ → ℕ
@@ -20,7 +20,7 @@ table_at layout table = slice_index_or layout.schema.tables table no_table
 
 -- the kinds of its columns
 abbrev pub kinds_at : DiskLayout → ℕ → List Kind
-kinds_at layout table = map (λ c. c.kind) (table_at layout table).columns
+kinds_at layout table = kinds_of (table_at layout table)
 
 -- how many slots each of its pages has
 abbrev pub slots_a_page : DiskLayout → ℕ → ℕ

@@ -6,6 +6,10 @@ use Rattle.page_layout.specs.PageContents.{Slot, HasSlots, IsUnstarted}
 use Rattle.page_layout.specs.PageWrites.{RowHasBytes}
 use Rattle.page_layout.specs.FreeSlots.{slot_count, lowest_free}
 use Rattle.page_redo.specs.Redo.{IsFreeSlot}
+use Rattle.page_store.specs.Forms.{form_of}
+use Rattle.page_store.specs.PageMap.{PageMap, page_at}
+use Rattle.store_layout.specs.DiskLayout.{DiskLayout}
+use Rattle.block_model.specs.declared.place.Place.{Place}
 
 -- the page isn't started, or has a free slot
 abbrev pub PageTakesRow : Form → List ℕ → Type 0
@@ -22,3 +26,7 @@ PutsRow form old row slot new = (slots : List Slot) → HasSlotsOnceStarted form
 -- so it is of whatever row has the bytes
 abbrev pub PutsBytes : Form → List ℕ → List ℕ → ℕ → List ℕ → Type 0
 PutsBytes form bytes old slot new = (row : StoredRow) → RowHasBytes form bytes row → PutsRow form old row slot new
+
+-- on the page at a place
+abbrev pub PutsBytesAt : DiskLayout → Place → List ℕ → PageMap → PageMap → ℕ → Type 0
+PutsBytesAt layout place bytes old new slot = PutsBytes (form_of layout place.relation) bytes (page_at old place) slot (page_at new place)

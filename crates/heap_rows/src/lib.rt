@@ -1,8 +1,9 @@
 //! Rows in the slots of a table's heap pages. `put` takes the lowest free slot of the lowest block that has one, else the
 //! first slot of the next block; it is full exactly where each slot of each block that the table may have is in use.
 //! `mark` sets the deleter of a row, `rows_of` reads the rows of a block without taking memory, and `blocks` says how many
-//! there are. A call that answers an error leaves every page as it was. It stands on page_store. The layer above sees a
-//! table as its blocks, each a list of slots (specs/HeapBlocks.antt).
+//! there are. A call that answers an error leaves every page as it was. It stands on page_store. The layer above uses
+//! these four, with a `PageRows` that it makes once, and sees a table as its blocks, each a list of slots
+//! (specs/HeapBlocks.antt).
 #![tactic(auto)]
 
 mod heap;

@@ -15,7 +15,7 @@ ghost use Rattle.heap_rows.specs.HeapBlocks.{OfBlocks};
 ghost use Rattle.heap_rows.specs.IsTableFull.{IsTableFull};
 ghost use Rattle.heap_rows.specs.LeavesOthers.{LeavesOtherPages, LeavesOthers};
 ghost use Rattle.heap_rows.specs.PutAnswers.{NamesTable, PutOutcome, SaysFull};
-ghost use Rattle.heap_rows.specs.RoomOnPage.{PageTakesRow, PutsBytes};
+ghost use Rattle.heap_rows.specs.RoomOnPage.{PageTakesRow, PutsBytesAt};
 ghost use Rattle.heap_rows.specs.RowPlaces.{FillsSlot, TakesRowAt, new_row, place_for};
 
 use crate::heap::{known, relation_of, slots_in_all, write_new};
@@ -93,7 +93,7 @@ fn put_bytes<D: Disk + Drop>(
     requires row { IsRowOf (form_of pages.old.layout place.relation) bytes.now }
     requires ready { pages.old.failed ≡ None }
     requires room { Tells D.told pages.old → PageTakesRow (form_of pages.old.layout place.relation) (page_at pages.old.pages place) }
-    ensures put { IfOk result (λ slot. Tells D.told pages.old → PutsBytes (form_of pages.old.layout place.relation) bytes.now (page_at pages.old.pages place) slot (page_at pages.new.pages place)) }
+    ensures put { IfOk result (λ slot. Tells D.told pages.old → PutsBytesAt pages.old.layout place bytes.now pages.old.pages pages.new.pages slot) }
     ensures within { IfOk result (HasSlot (form_of pages.old.layout place.relation)) }
     ensures kept { OnErr result (Keeps D.told pages.old pages.new) }
     ensures others { LeavesOtherPages D.told place pages.old pages.new }

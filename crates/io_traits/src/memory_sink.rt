@@ -3,12 +3,12 @@
 ghost use Rattle.std.specs.Prelude.{◌≡◌, ◌↔◌, ◌⊎◌, ◌<◌, ◌≤◌, ◌++◌, [], Some, length, take, IfOk, IsOk, IsErr, OnErr};
 ghost use Rattle.std.specs.Io.KnownBytes.{WriteAppends};
 ghost use Rattle.block_model.specs.Causes.{HasCause};
-ghost use Rattle.io_traits.specs.Calls.{FailsNext, succeeded, failed};
+ghost use Rattle.call_counts.specs.Calls.{FailsNext, fresh, succeeded, failed};
 ghost use Rattle.io_traits.specs.Memory.{taken_count, IsFullFor};
 
-use crate::calls::Calls;
 use crate::sink::{Sink, SinkFault};
 use block_model::NoMemory;
+use call_counts::Calls;
 use std::alloc::Global;
 use std::marker::Model;
 
@@ -42,7 +42,7 @@ impl MemorySink {
         fails: Vec<u64>,
     ) -> Result<MemorySink, NoMemory>
         requires { 0 < piece }
-        ensures ok { IfOk result (λ s. s ≡ record { taken = []; room = room; piece = piece; calls = record { fails = fails.items; made = 0; faults = 0 } }) }
+        ensures ok { IfOk result (λ s. s ≡ record { taken = []; room = room; piece = piece; calls = fresh fails.items }) }
         ensures none { room ≡ 0 → IsOk result }
     {
         let bytes = Vec::with_capacity(alloc, room)?;

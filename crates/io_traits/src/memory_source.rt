@@ -4,11 +4,11 @@ ghost use Rattle.std.specs.Prelude.{◌≡◌, ◌↔◌, ◌<◌, ◌≤◌, So
 ghost use Rattle.std.specs.Io.{ReadsAtMost};
 ghost use Rattle.std.specs.Io.KnownBytes.{ReadConsumes};
 ghost use Rattle.block_model.specs.Causes.{HasCause};
-ghost use Rattle.io_traits.specs.Calls.{FailsNext, succeeded, failed};
+ghost use Rattle.call_counts.specs.Calls.{FailsNext, fresh, succeeded, failed};
 ghost use Rattle.io_traits.specs.Memory.{given_count};
 
-use crate::calls::Calls;
 use crate::source::{Source, SourceFault};
+use call_counts::Calls;
 use std::marker::Model;
 
 /// A source that gives bytes of memory in pieces, and fails where it is told to.
@@ -35,7 +35,7 @@ impl MemorySource {
     /// Gives these bytes, at most `piece` a call. The calls of the numbers `fails`, from 1, fail.
     pub fn new(bytes: Vec<u8>, piece: usize, fails: Vec<u64>) -> MemorySource
         requires { 0 < piece }
-        ensures { result ≡ record { left = bytes.items; piece = piece; calls = record { fails = fails.items; made = 0; faults = 0 } } }
+        ensures { result ≡ record { left = bytes.items; piece = piece; calls = fresh fails.items } }
     {
         MemorySource {
             bytes,

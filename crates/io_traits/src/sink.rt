@@ -4,9 +4,10 @@ ghost use Rattle.std.specs.Prelude.{◌≡◌, ℕ, List, ◌<◌, ◌≤◌, le
 ghost use Rattle.std.specs.declared.option.Option.{Option};
 ghost use Rattle.std.specs.Io.KnownBytes.{WriteAppends, Appends};
 ghost use Rattle.block_model.specs.Causes.{HasCause};
-ghost use Rattle.io_traits.specs.Calls.{CountsFault};
+ghost use Rattle.call_counts.specs.Calls.{CountsFault};
 ghost use Rattle.io_traits.specs.Written.{AppendsPart};
 
+use call_counts::counted;
 use std::io::Write;
 use thiserror::Error;
 
@@ -63,13 +64,9 @@ impl<W: Write> Sink for WriterSink<W> {
         ensures cause { HasCause (⟦<WriterSink<W> as Sink>⟧.faults self.old) (⟦<WriterSink<W> as Sink>⟧.faults self.new) result }
         ensures counted { CountsFault (⟦<WriterSink<W> as Sink>⟧.faults self.old) (⟦<WriterSink<W> as Sink>⟧.faults self.new) result }
     {
-        match self.writer.write(bytes) {
-            Ok(count) if count > 0 || bytes.is_empty() => Ok(count),
-            _ => {
-                self.faults = self.faults.saturating_add(1);
-                Err(SinkFault)
-            }
-        }
+        let taken = self.writer.write(bytes).ok();
+        let some = taken.filter(|count| *count > 0 || bytes.is_empty());
+        counted(some, SinkFault, &mut self.faults)
     }
 
     fn faults(&self) -> u64 {

@@ -5,8 +5,9 @@ ghost use Rattle.std.specs.declared.option.Option.{Option};
 ghost use Rattle.std.specs.Io.{ReadsAtMost};
 ghost use Rattle.std.specs.Io.KnownBytes.{ReadConsumes};
 ghost use Rattle.block_model.specs.Causes.{HasCause};
-ghost use Rattle.io_traits.specs.Calls.{CountsFault};
+ghost use Rattle.call_counts.specs.Calls.{CountsFault};
 
+use call_counts::counted;
 use std::io::Read;
 use thiserror::Error;
 
@@ -61,13 +62,7 @@ impl<R: Read> Source for ReaderSource<R> {
         ensures cause { HasCause (⟦<ReaderSource<R> as Source>⟧.faults self.old) (⟦<ReaderSource<R> as Source>⟧.faults self.new) result }
         ensures counted { CountsFault (⟦<ReaderSource<R> as Source>⟧.faults self.old) (⟦<ReaderSource<R> as Source>⟧.faults self.new) result }
     {
-        match self.reader.read(into) {
-            Ok(count) => Ok(count),
-            Err(_) => {
-                self.faults = self.faults.saturating_add(1);
-                Err(SourceFault)
-            }
-        }
+        counted(self.reader.read(into).ok(), SourceFault, &mut self.faults)
     }
 
     fn faults(&self) -> u64 {

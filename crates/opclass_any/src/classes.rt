@@ -95,6 +95,7 @@ impl OpClass for AnyClass {
 
     ghost added_in_order = { added_in_order };
 
+    #[tactic(auto, unfolding(crate::specs::AnyClass::empty, crate::specs::AnyClass::is_of, crate::specs::AnyClass::includes))]
     fn empty(&self, alloc: Global) -> Result<AnySummary, NoMemory> {
         match self {
             AnyClass::MinMax(class) => Ok(AnySummary::MinMax(class.empty(alloc)?)),
@@ -105,6 +106,7 @@ impl OpClass for AnyClass {
         }
     }
 
+    #[tactic(auto, unfolding(crate::specs::AnyClass::add, crate::specs::AnyClass::is_of, crate::specs::AnyClass::includes, crate::specs::AnyClass::bytes_of), using(crate::proofs::Forms::others))]
     fn add(&self, s: &mut AnySummary, v: &Value) -> bool {
         match (self, s) {
             (AnyClass::MinMax(class), AnySummary::MinMax(s)) => class.add(s, v),
@@ -116,6 +118,7 @@ impl OpClass for AnyClass {
         }
     }
 
+    #[tactic(auto, unfolding(crate::specs::AnyClass::united, crate::specs::AnyClass::is_of, crate::specs::AnyClass::includes, crate::specs::AnyClass::bytes_of), using(crate::proofs::Forms::others))]
     fn union(&self, s: &mut AnySummary, other: &AnySummary) -> bool {
         match (self, s, other) {
             (AnyClass::MinMax(class), AnySummary::MinMax(s), AnySummary::MinMax(other)) => {
@@ -137,6 +140,7 @@ impl OpClass for AnyClass {
         }
     }
 
+    #[tactic(auto, unfolding(crate::specs::AnyClass::consistent, crate::specs::AnyClass::takes, crate::specs::AnyClass::includes), using(crate::proofs::Forms::others))]
     fn consistent(&self, s: &AnySummary, conds: &[Cond]) -> bool {
         match (self, s) {
             (AnyClass::MinMax(class), AnySummary::MinMax(s)) => class.consistent(s, conds),
@@ -148,6 +152,7 @@ impl OpClass for AnyClass {
         }
     }
 
+    #[tactic(auto, unfolding(crate::specs::AnyClass::bytes_of, crate::specs::AnyClass::greatest_size), using(crate::proofs::Forms::rooms, crate::proofs::Forms::others))]
     fn encode(&self, s: &AnySummary, out: &mut [u8]) -> usize {
         match (self, s) {
             (AnyClass::MinMax(class), AnySummary::MinMax(s)) => class.encode(s, out),
@@ -159,6 +164,7 @@ impl OpClass for AnyClass {
         }
     }
 
+    #[tactic(auto, unfolding(crate::specs::AnyClass::is_of, crate::specs::AnyClass::bytes_of, crate::specs::AnyClass::read_of), using(crate::proofs::Forms::agains, crate::proofs::Forms::others))]
     fn decode(&self, bytes: &[u8], into: &mut AnySummary) -> Result<(), Malformed> {
         match (self, into) {
             (AnyClass::MinMax(class), AnySummary::MinMax(into)) => class.decode(bytes, into),
@@ -170,6 +176,7 @@ impl OpClass for AnyClass {
         }
     }
 
+    #[tactic(auto, unfolding(crate::specs::AnyClass::greatest_size), using(crate::proofs::Forms::sizes))]
     fn greatest_size(&self) -> usize {
         match self {
             AnyClass::MinMax(class) => class.greatest_size(),

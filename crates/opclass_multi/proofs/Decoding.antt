@@ -218,16 +218,17 @@ element_taken intervals before (tag ∷ bytes) e small is =
     (λ g wrong. absurd (cc)))
 
 -- an element that was read with its size
-pub sized_ok : (r : Result Element ℕ) (t : ReadElement) → sized r ≡ Ok t → (r ≡ Ok t.element) × (t.size ≡ size_of t.element)
-sized_ok (Ok e) t is =
-    let one : ReadElement = record { element = e; size = size_of e } in
+pub sized_ok : (intervals : ℕ) (r : Result Element ℕ) (t : ReadElement) → sized intervals r ≡ Ok t → (r ≡ Ok t.element) × (t.size ≡ size_of t.element) × (t.intervals ≡ suc intervals - weight t.element)
+sized_ok intervals (Ok e) t is =
+    let one : ReadElement = record { element = e; size = size_of e; intervals = suc intervals - weight e } in
     let own : one ≡ t = cc in
-    (λ i. Ok ((own i).element), sym (ap (λ (x : ReadElement). x.size) own) ∙ ap (λ (x : ReadElement). size_of x.element) own)
-sized_ok (Err at) t is = absurd (cc)
+    let element : e ≡ t.element = ap (λ (x : ReadElement). x.element) own in
+    (ap Ok element, sym (ap (λ (x : ReadElement). x.size) own) ∙ ap size_of element, sym (ap (λ (x : ReadElement). x.intervals) own) ∙ ap (λ (x : Element). suc intervals - weight x) element)
+sized_ok intervals (Err at) t is = absurd (cc)
 
-pub sized_err : (r : Result Element ℕ) (place : ℕ) → sized r ≡ Err place → r ≡ Err place
-sized_err (Ok e) place is = absurd (cc)
-sized_err (Err at) place is = let own : at ≡ place = cc in ap Err own
+pub sized_err : (intervals : ℕ) (r : Result Element ℕ) (place : ℕ) → sized intervals r ≡ Err place → r ≡ Err place
+sized_err intervals (Ok e) place is = absurd (cc)
+sized_err intervals (Err at) place is = let own : at ≡ place = cc in ap Err own
 
 -- elements that were read
 record AllTaken (n intervals : ℕ) (before : Option ℤ) (bytes : List ℕ) (es : List Element) : Type 0 where

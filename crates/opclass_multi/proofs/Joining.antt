@@ -30,7 +30,7 @@ starts_later v f fs after apart =
     let order : f.least ≤ℤ f.greatest = apart.0.in_order in
     starts_lower v f.greatest fs (omega (arith, ints)) apart.1
 
-ordered_hull : (e f : Element) → IsOrdered e → IsOrdered f → IsOrdered (hull e f)
+pub ordered_hull : (e f : Element) → IsOrdered e → IsOrdered f → IsOrdered (hull e f)
 ordered_hull e f one other =
     let first : e.least ≤ℤ e.greatest = one.in_order in
     let second : f.least ≤ℤ f.greatest = other.in_order in

@@ -1,9 +1,13 @@
 pub mod Asking
+pub mod Closed
 pub mod Decoding
 pub mod Ends
+pub mod Holding
 pub mod Joining
 pub mod Judging
+pub mod Places
 pub mod Reducing
+pub mod Seams
 pub mod Unique
 pub mod Widening
 pub mod Writing

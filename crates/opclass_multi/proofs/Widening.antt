@@ -16,7 +16,7 @@ use Rattle.opclass_multi.specs.Includes.{Includes}
 use Rattle.opclass_multi.proofs.Joining.{apart_with, held_more, apart_joined, joined_well, joined_keeps, joined_holds_others, all_within_stay}
 use Rattle.opclass_multi.proofs.Reducing.{apart_reduced, reduced_keeps, reduced_fits, reduces, fits_reduced}
 
-ordered_point : (v : ℤ) → FitsSigned w64 v → IsOrdered (point v)
+pub ordered_point : (v : ℤ) → FitsSigned w64 v → IsOrdered (point v)
 ordered_point v fits = record { least_fits = fits; greatest_fits = fits; in_order = omega (arith, ints) }
 
 point_covers : (v : ℤ) → covers v v (point v) ≡ true

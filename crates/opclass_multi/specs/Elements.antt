@@ -27,6 +27,11 @@ abbrev pub StartsAfter : ℤ → List Element → Type 0
 StartsAfter v [] = Unit {0}
 StartsAfter v (e ∷ es) = v <ℤ e.least
 
+-- no element, or the first ends at the number or behind it
+abbrev pub EndsFrom : ℤ → List Element → Type 0
+EndsFrom v [] = Unit {0}
+EndsFrom v (e ∷ es) = v ≤ℤ e.greatest
+
 -- ascending, and no two with a common number
 abbrev pub AreApart : List Element → Type 0
 AreApart [] = Unit {0}

@@ -1,3 +1,4 @@
+pub mod Closing
 pub mod Consistent
 pub mod Elements
 pub mod Encoding

@@ -39,10 +39,10 @@ element_in intervals before (tag ∷ bytes) =
     if tag == 0 then point_in before bytes
     else (if (tag == 1 && nat_lt 0 intervals) then interval_in before bytes else Err 0)
 
--- an element with the number of its bytes
-abbrev pub sized : Result Element ℕ → Result ReadElement ℕ
-sized (Ok e) = Ok (record { element = e; size = size_of e })
-sized (Err at) = Err at
+-- an element, the number of its bytes, and of the intervals that may follow it
+abbrev pub sized : ℕ → Result Element ℕ → Result ReadElement ℕ
+sized intervals (Ok e) = Ok (record { element = e; size = size_of e; intervals = suc intervals - weight e })
+sized intervals (Err at) = Err at
 
 -- what is read behind so many bytes, which gave those elements
 abbrev pub behind : ℕ → List Element → Result (List Element) ℕ → Result (List Element) ℕ

@@ -1,6 +1,6 @@
 //! Elements as bytes.
 
-ghost use Rattle.std.specs.Prelude.{◌≡◌, ◌≤◌, ◌<◌, ◌+◌, ◌*◌, ◌++◌, Ok, Err, length, take, drop, OnOk, OnErr, IfErr, [], ◌∷◌, vec_len, vec_capacity, Option, ℤ};
+ghost use Rattle.std.specs.Prelude.{◌≡◌, ◌≤◌, ◌<◌, ◌+◌, ◌*◌, ◌++◌, Ok, Err, length, take, drop, OnOk, OnErr, IfOk, IfErr, [], ◌∷◌, vec_len, vec_capacity, Option, ℤ};
 ghost use Rattle.opclass_multi.specs.Elements.{count_of};
 ghost use Rattle.opclass_multi.specs.Encoding.{element_bytes, elements_bytes, size_of, written_at};
 ghost use Rattle.opclass_multi.specs.Reading.{number_at, is_above, point_in, interval_in, element_in, read_of, sized};
@@ -23,11 +23,12 @@ const POINT_SIZE: usize = 9;
 
 const INTERVAL_SIZE: usize = 17;
 
-/// An element that was read, and how many bytes it has.
+/// An element that was read, how many bytes it has, and how many intervals may follow it within the limit.
 #[derive(Clone, Copy)]
 pub(crate) struct ReadElement {
     pub(crate) element: Element,
     pub(crate) size: usize,
+    pub(crate) intervals: usize,
 }
 
 /// Writes the bytes of elements within a limit to the front of `out`, and answers how many they are.
@@ -63,40 +64,54 @@ fn write_element(element: &Element, out: &mut [u8], at: usize)
 }
 
 /// Makes `elements` those that the bytes encode within a limit. `Err` exactly where they encode none: they are unchanged
-/// then.
-pub(crate) fn read(bytes: &[u8], limit: usize, elements: &mut Vec<Element>) -> Result<(), Malformed>
+/// then. The elements are read into the spare places first.
+pub(crate) fn read(
+    bytes: &[u8],
+    limit: usize,
+    spare: &mut [Element],
+    elements: &mut Vec<Element>,
+) -> Result<(), Malformed>
     requires limit { limit ≤ 256 }
-    requires room { vec_len elements.old + limit ≤ vec_capacity elements.old }
+    requires places { limit ≤ length spare.old }
+    requires room { limit ≤ vec_capacity elements.old }
     ensures found { OnOk result (read_of limit bytes.now ≡ Ok elements.new.items) }
     ensures unchanged { OnErr result (elements.new.items ≡ elements.old.items) }
     ensures place { IfErr result (λ e. read_of limit bytes.now ≡ Err e.at) }
     ensures within { IfErr result (λ e. e.at ≤ length bytes.now) }
+    ensures places { length spare.new ≡ length spare.old }
     ensures room { vec_capacity elements.new ≡ vec_capacity elements.old }
 {
-    let old = elements.len();
-    match read_behind(bytes, limit, elements) {
-        Ok(()) => {
-            elements.copy_within(old.., 0);
-            elements.truncate(elements.len() - old);
+    match read_into(bytes, limit, spare) {
+        Ok(number) => {
+            replace(elements, &spare[..number]);
             Ok(())
         }
-        Err(fault) => {
-            elements.truncate(old);
-            Err(fault)
-        }
+        Err(fault) => Err(fault),
     }
 }
 
-/// Puts the elements that the bytes encode behind those that stand there.
-fn read_behind(bytes: &[u8], limit: usize, elements: &mut Vec<Element>) -> Result<(), Malformed>
+/// Makes the elements those others. Takes no memory.
+fn replace(elements: &mut Vec<Element>, others: &[Element])
+    requires { length others.now ≤ vec_capacity elements.old }
+    ensures replaced { elements.new.items ≡ others.now }
+    ensures room { vec_capacity elements.new ≡ vec_capacity elements.old }
+{
+    elements.truncate(others.len());
+    let kept = elements.len();
+    elements.as_mut_slice().copy_from_slice(&others[..kept]);
+    'others: for at in kept..others.len() {
+        elements.push_reserved(others[at]);
+    }
+}
+
+/// Puts the elements that the bytes encode into the places from the first on, and answers how many they are.
+fn read_into(bytes: &[u8], limit: usize, places: &mut [Element]) -> Result<usize, Malformed>
     requires limit { limit ≤ 256 }
-    requires room { vec_len elements.old + limit ≤ vec_capacity elements.old }
-    ensures found { OnOk result (read_of limit bytes.now ≡ Ok (drop (vec_len elements.old) elements.new.items)) }
+    requires places { limit ≤ length places.old }
+    ensures found { IfOk result (λ number. (number ≤ limit) × (read_of limit bytes.now ≡ Ok (take number places.new))) }
     ensures place { IfErr result (λ e. read_of limit bytes.now ≡ Err e.at) }
     ensures within { IfErr result (λ e. e.at ≤ length bytes.now) }
-    ensures stays { take (vec_len elements.old) elements.new.items ≡ elements.old.items }
-    ensures size { vec_len elements.old ≤ vec_len elements.new }
-    ensures room { vec_capacity elements.new ≡ vec_capacity elements.old }
+    ensures places { length places.new ≡ length places.old }
 {
     if bytes.len() < NUMBER_SIZE {
         return Err(Malformed { at: bytes.len() });
@@ -108,44 +123,58 @@ fn read_behind(bytes: &[u8], limit: usize, elements: &mut Vec<Element>) -> Resul
     let mut intervals = limit - number;
     let mut before = None;
     let mut at = NUMBER_SIZE;
-    'elements: for _ in 0..number {
+    'elements: for place in 0..number {
         let read = match read_element(&bytes[at..], intervals, before) {
             Ok(read) => read,
-            Err(place) => return Err(Malformed { at: at + place }),
+            Err(fault) => return Err(Malformed { at: at + fault }),
         };
-        intervals = intervals + 1 - read.element.weight();
+        intervals = read.intervals;
         before = Some(read.element.greatest);
         at += read.size;
-        elements.push_reserved(read.element);
+        places[place] = read.element;
     }
     if at < bytes.len() {
         return Err(Malformed { at });
     }
-    Ok(())
+    Ok(number)
 }
 
 /// The element at the front of the bytes, or the place of its first field that is out of form.
 fn read_element(bytes: &[u8], intervals: usize, before: Option<i64>) -> Result<ReadElement, usize>
-    ensures element { result ≡ sized (element_in intervals before bytes.now) }
+    ensures element { result ≡ sized intervals (element_in intervals before bytes.now) }
     ensures within { IfErr result (λ place. place ≤ length bytes.now) }
 {
-    if bytes.is_empty() {
-        return Err(0);
+    if bytes.len() < POINT_SIZE {
+        return Err(missing(bytes, intervals));
     }
     match bytes[0] {
-        POINT => read_point(&bytes[1..], before),
-        INTERVAL if 0 < intervals => read_interval(&bytes[1..], before),
+        POINT => read_point(&bytes[1..], intervals, before),
+        INTERVAL if 0 < intervals => read_interval(&bytes[1..], intervals, before),
         _ => Err(0),
     }
 }
 
-fn read_point(bytes: &[u8], before: Option<i64>) -> Result<ReadElement, usize>
-    ensures point { result ≡ sized (point_in before bytes.now) }
+/// Where bytes go wrong that are too few for an element.
+fn missing(bytes: &[u8], intervals: usize) -> usize
+    requires few { length bytes.now < 9 }
+    ensures place { (before : Option ℤ) → element_in intervals before bytes.now ≡ Err result }
+    ensures within { result ≤ length bytes.now }
+{
+    if bytes.is_empty() {
+        return 0;
+    }
+    match bytes[0] {
+        POINT => bytes.len(),
+        INTERVAL if 0 < intervals => bytes.len(),
+        _ => 0,
+    }
+}
+
+fn read_point(bytes: &[u8], intervals: usize, before: Option<i64>) -> Result<ReadElement, usize>
+    requires whole { 8 ≤ length bytes.now }
+    ensures point { result ≡ sized intervals (point_in before bytes.now) }
     ensures within { IfErr result (λ place. place ≤ 1 + length bytes.now) }
 {
-    if bytes.len() < INT8_SIZE {
-        return Err(1 + bytes.len());
-    }
     let number = int8_at(bytes, 0);
     if !is_above(before, number) {
         return Err(1);
@@ -153,16 +182,16 @@ fn read_point(bytes: &[u8], before: Option<i64>) -> Result<ReadElement, usize>
     Ok(ReadElement {
         element: Element::point(number),
         size: POINT_SIZE,
+        intervals,
     })
 }
 
-fn read_interval(bytes: &[u8], before: Option<i64>) -> Result<ReadElement, usize>
-    ensures interval { result ≡ sized (interval_in before bytes.now) }
+fn read_interval(bytes: &[u8], intervals: usize, before: Option<i64>) -> Result<ReadElement, usize>
+    requires some { 0 < intervals }
+    requires begun { 8 ≤ length bytes.now }
+    ensures interval { result ≡ sized intervals (interval_in before bytes.now) }
     ensures within { IfErr result (λ place. place ≤ 1 + length bytes.now) }
 {
-    if bytes.len() < INT8_SIZE {
-        return Err(1 + bytes.len());
-    }
     let least = int8_at(bytes, 0);
     if !is_above(before, least) {
         return Err(1);
@@ -177,6 +206,7 @@ fn read_interval(bytes: &[u8], before: Option<i64>) -> Result<ReadElement, usize
     Ok(ReadElement {
         element: Element { least, greatest },
         size: INTERVAL_SIZE,
+        intervals: intervals - 1,
     })
 }
 

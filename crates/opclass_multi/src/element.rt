@@ -10,6 +10,7 @@ pub struct Element {
 }
 
 impl Element {
+    ghost use Rattle.opclass_multi.specs.Closing.{gap_between, spanned};
     ghost use Rattle.opclass_multi.specs.Elements.{point, weight, covers};
     ghost use Rattle.opclass_multi.specs.Encoding.{size_of};
     ghost use Rattle.opclass_multi.specs.Joined.{hull};
@@ -52,6 +53,23 @@ impl Element {
         Element {
             least: self.least.min(other.least),
             greatest: self.greatest.max(other.greatest),
+        }
+    }
+
+    /// From its end to the start of a later one. It may pass an `i64`.
+    pub(crate) fn gap_to(&self, later: Element) -> i128
+        ensures { result ≡ gap_between self.now later }
+    {
+        i128::from(later.least) - i128::from(self.greatest)
+    }
+
+    /// From its start to the end of a later one.
+    pub(crate) fn to(self, later: Element) -> Element
+        ensures { result ≡ spanned self later }
+    {
+        Element {
+            least: self.least,
+            greatest: later.greatest,
         }
     }
 }

@@ -13,15 +13,17 @@ use crate::widen::{unite, widen};
 use block_model::{Cond, NoMemory};
 use opclass_api::Malformed;
 use std::alloc::Global;
+use std::boxed::BoxedSlice;
 use std::marker::Model;
 
 /// Points and intervals in ascending order, no two with a common number, that count at most a limit: a point 1, an
-/// interval 2. Its room is for the elements of two summaries and one more, from its making on: no call takes or gives back
-/// memory.
+/// interval 2. Its room is for the elements of two summaries and one more, and for those that are read, from its making on: no
+/// call takes or gives back memory.
 #[derive(Debug, Drop)]
 pub struct Summary {
     limit: u16,
     elements: Vec<Element>,
+    spare: BoxedSlice<Element>,
 }
 
 impl Model for Summary {
@@ -29,12 +31,13 @@ impl Model for Summary {
 
     ghost Value = { Kept };
 
-    ghost use Rattle.std.specs.Prelude.{◌≡◌, ◌+◌, ◌*◌, vec_capacity};
+    ghost use Rattle.std.specs.Prelude.{◌≡◌, ◌+◌, ◌*◌, length, vec_capacity};
+    ghost use Rattle.std.specs.Box.{boxed_slice_items};
     ghost use Rattle.opclass_multi.specs.Kept.{IsLimit, IsSummary};
 
     ghost view = { λ a. record { limit = a.limit; elements = a.elements.items } };
 
-    ghost invariant = { λ a. IsLimit a.limit × IsSummary a.limit (record { limit = a.limit; elements = a.elements.items }) × (vec_capacity a.elements ≡ 2 * a.limit + 1) };
+    ghost invariant = { λ a. IsLimit a.limit × IsSummary a.limit (record { limit = a.limit; elements = a.elements.items }) × (vec_capacity a.elements ≡ 2 * a.limit + 1) × (length (boxed_slice_items a.spare) ≡ a.limit) };
 }
 
 impl Summary {
@@ -44,7 +47,12 @@ impl Summary {
         ensures { IfOk result (λ s. s ≡ nothing_yet limit) }
     {
         let elements = Vec::with_capacity(alloc, 2 * usize::from(limit) + 1)?;
-        Ok(Summary { limit, elements })
+        let spare = vec![in alloc; Element::point(0); usize::from(limit)]?;
+        Ok(Summary {
+            limit,
+            elements,
+            spare: spare.into_boxed_slice(),
+        })
     }
 
     /// Every summary is of its limit.
@@ -114,6 +122,11 @@ impl Summary {
         ensures read { MatchResult result (λ ok. summary_in self.old.limit bytes.now ≡ Ok self.new) (λ e. summary_in self.old.limit bytes.now ≡ Err e.at) }
         ensures within { IfErr result (λ e. e.at ≤ length bytes.now) }
     {
-        read(bytes, usize::from(self.limit), &mut self.elements)
+        read(
+            bytes,
+            usize::from(self.limit),
+            self.spare.as_mut_slice(),
+            &mut self.elements,
+        )
     }
 }

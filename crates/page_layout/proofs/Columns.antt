@@ -1,6 +1,6 @@
 -- Columns as bytes: sizes, and what is read from what was written.
 use Rattle.std.specs.Int.{w64, bytes_high_first, cast_unsigned}
-use Rattle.std.proofs.Common.{◌≡◌, ℤ, ℕ, ◌+◌, ◌-◌, ◌*◌, ◌/◌, ◌%◌, eqb, ◌<◌, ◌≤◌, true, List, [], ◌∷◌, ◌++◌, length, take, drop, get_or, refl, sym, ap, ◌∙◌, length-append, arith, length-drop}
+use Rattle.std.proofs.Common.{◌≡◌, ℤ, ℕ, ◌+◌, ◌-◌, ◌/◌, ◌%◌, eqb, ◌<◌, true, List, [], ◌∷◌, ◌++◌, length, take, drop, get_or, refl, sym, ap, ◌∙◌, length-append, arith, length-drop}
 use Rattle.std.specs.Prelude.{sum_by}
 use Rattle.std.proofs.lemmas.List.{length-replicate, take_all}
 use Rattle.std.proofs.lemmas.List.Sums.{sum_by-cons}
@@ -10,19 +10,11 @@ use Rattle.block_model.specs.declared.value.Value.{Value}
 use Rattle.block_model.specs.declared.value.Value.TheVariants.{Null, Int, Span, Net}
 use Rattle.block_model.specs.Ranges.{lower_of, upper_of}
 use Rattle.block_model.specs.RowSize.{value_size}
+use Rattle.block_model.specs.ValuesOfKind.{has_kind}
 use Rattle.std.specs.Prelude.{Option, None, Some}
 use Rattle.page_layout.specs.RowFaults.{shifted, column_fault, columns_fault}
 use Rattle.page_layout.proofs.Faults.{first_none, shifted-none}
-use Rattle.page_layout.specs.RowBytes.{HaveKinds, has_kind, column_bytes, columns_bytes, bound_bytes}
-
-pub size_small : (kind : Kind) → value_size kind ≤ 17
-size_small kinds.Int = omega arith
-size_small kinds.Span = omega arith
-size_small kinds.Net = omega arith
-
-pub sizes_small : (ks : List Kind) → sum_by value_size ks ≤ 17 * length ks
-sizes_small [] = omega arith
-sizes_small (k ∷ ks) = omega (arith, sum_by-cons value_size k ks, size_small k, sizes_small ks)
+use Rattle.page_layout.specs.RowBytes.{HaveKinds, column_bytes, columns_bytes, bound_bytes}
 
 length-bound : (b : Option ℤ) → length (bound_bytes b) ≡ 8
 length-bound None = refl

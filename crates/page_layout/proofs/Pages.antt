@@ -6,13 +6,12 @@ use Rattle.std.proofs.lemmas.List.{length-replicate, take_all, take-append-drop,
 use Rattle.std.proofs.Math.Nat.{suc-mul, mul-le-mul_right}
 use Rattle.block_model.specs.declared.value.Kind.{Kind}
 use Rattle.block_model.specs.RowSize.{row_size}
-use Rattle.byte_fields.specs.Fields.{AreBytes}
+use Rattle.byte_fields.specs.Fields.{AreBytes, AreBytes-drop}
 use Rattle.page_layout.specs.declared.page.Form.{Form}
 use Rattle.page_layout.specs.declared.page.Form.TheVariants as forms
 use Rattle.page_layout.specs.RowFaults.{first_of, shifted, slot_fault}
 use Rattle.page_layout.specs.PageContents.{slots_bytes, header_bytes, heap_bytes, IsStarted, IsPageOf, IsForm, HasFewColumns, statuses}
 use Rattle.page_layout.specs.PageFaults.{zeros_fault, slots_fault, has_page_kind, started_fault, page_fault}
-use Rattle.page_layout.proofs.Numbers.{AreBytes-drop}
 use Rattle.page_layout.proofs.Faults.{first_none, shifted-none}
 use Rattle.page_layout.proofs.Slots.{zeros_take, zeros_pass, slots-take, slots-pass}
 

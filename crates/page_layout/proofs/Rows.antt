@@ -9,11 +9,11 @@ use Rattle.std.proofs.lemmas.List.Sums.{sum_by-cons}
 use Rattle.block_model.specs.declared.value.Kind.{Kind}
 use Rattle.block_model.specs.declared.value.Value.{Value}
 use Rattle.block_model.specs.RowSize.{value_size, row_size}
-use Rattle.byte_fields.specs.Fields.{AreBytes, number_of, number-bytes}
+use Rattle.byte_fields.specs.Fields.{AreBytes, number_of, number-bytes, AreBytes-drop}
 use Rattle.page_layout.specs.RowBytes.{StoredRow, IsRow, HaveKinds, AreValues, column_bytes, columns_bytes, head_bytes, row_bytes, null_bits, is_null}
 use Rattle.page_layout.specs.RowReading.{column_in, columns_in, row_in}
 use Rattle.page_layout.specs.RowFaults.{first_of, shifted, fault_unless, column_fault, columns_fault, row_fault}
-use Rattle.page_layout.proofs.Numbers.{field-bytes, field-small, AreBytes-drop}
+use Rattle.page_layout.proofs.Numbers.{field-bytes, field-small}
 use Rattle.page_layout.proofs.Columns.{length-column, length-columns}
 use Rattle.page_layout.proofs.Values.{column_again, column_passes, column_takes}
 use Rattle.page_layout.proofs.Faults.{first_none, holds-unless, shifted-none}

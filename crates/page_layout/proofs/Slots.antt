@@ -9,13 +9,13 @@ use Rattle.std.proofs.lemmas.List.Sums.{sum_by-cons}
 use Rattle.block_model.specs.declared.value.Kind.{Kind}
 use Rattle.block_model.specs.declared.value.Value.TheVariants.{Null}
 use Rattle.block_model.specs.RowSize.{value_size, row_size}
-use Rattle.byte_fields.specs.Fields.{AreBytes, number_of}
+use Rattle.byte_fields.specs.Fields.{AreBytes, number_of, AreBytes-drop, AreBytes-take}
 use Rattle.page_layout.specs.RowBytes.{StoredRow, column_bytes, columns_bytes, head_bytes, row_bytes}
 use Rattle.page_layout.specs.RowReading.{column_in, columns_in, row_in}
 use Rattle.page_layout.specs.RowFaults.{first_of, shifted, fault_unless, column_fault, columns_fault, row_fault, free_fault, slot_fault}
 use Rattle.page_layout.specs.PageContents.{Slot, IsSlot, AreSlots, slot_bytes, slots_bytes}
 use Rattle.page_layout.specs.PageFaults.{zeros_fault, slots_fault}
-use Rattle.page_layout.proofs.Numbers.{AreBytes-drop, AreBytes-take}
+use Rattle.page_layout.specs.SlotLaws.{none_of}
 use Rattle.page_layout.proofs.Faults.{first_none, holds-unless, shifted-none}
 use Rattle.page_layout.proofs.Values.{column_passes, zero-number}
 use Rattle.page_layout.proofs.Rows.{row_takes, head_again, columns_take, row_passes, length-row}
@@ -33,10 +33,6 @@ all_zero : (bytes : List ℕ) → length bytes ≤ front_zeros bytes → bytes �
 unfolding front_zeros
 all_zero [] le = refl
 all_zero (b ∷ bytes) le = one_zero b bytes (eqb b 0) refl le (all_zero bytes)
-
-none_of : (b : Bool) (n : ℕ) → cond b (Some n) None ≡ None → b ≡ false
-none_of true n e = absurd cc
-none_of false n e = refl
 
 -- bytes of which each is zero
 pub zeros_take : (bytes : List ℕ) → zeros_fault bytes ≡ None → bytes ≡ replicate (length bytes) 0

@@ -13,12 +13,14 @@ use Rattle.block_model.specs.declared.value.Value.{Value}
 use Rattle.block_model.specs.declared.value.Value.TheVariants.{Null, Int, Span, Net}
 use Rattle.block_model.specs.Ranges.{Range, Empty, Between, IsRange, lower_of, upper_of}
 use Rattle.block_model.specs.RowSize.{value_size}
-use Rattle.byte_fields.specs.Fields.{AreBytes, number_of, number-bytes}
-use Rattle.page_layout.specs.RowBytes.{has_kind, IsValue, IsBound, column_bytes, range_flags, bound_bytes, is_null}
-use Rattle.page_layout.specs.RowReading.{signed_at, stored_range, value_in, column_in}
+use Rattle.block_model.specs.ValuesOfKind.{has_kind}
+use Rattle.byte_fields.specs.Int8.{int8_at}
+use Rattle.byte_fields.specs.Fields.{AreBytes, number_of, number-bytes, AreBytes-drop}
+use Rattle.page_layout.specs.RowBytes.{IsValue, IsBound, column_bytes, range_flags, bound_bytes, is_null}
+use Rattle.page_layout.specs.RowReading.{stored_range, value_in, column_in}
 use Rattle.page_layout.specs.RowFaults.{first_of, fault_unless, absent_fault, range_fault, value_fault, null_fault, column_fault}
 use Rattle.page_layout.proofs.Faults.{first_none, holds-unless}
-use Rattle.page_layout.proofs.Numbers.{signed_back, signed_bytes, field-bytes, field-small, zero-bytes, AreBytes-drop}
+use Rattle.page_layout.proofs.Numbers.{signed_back, signed_bytes, field-bytes, field-small, zero-bytes}
 
 -- a value is read from its column
 pub column_again : (kind : Kind) (value : Value) (rest : List ℕ) → has_kind kind value ≡ true → IsValue value → column_in (is_null value) kind (column_bytes kind value ++ rest) ≡ value
@@ -133,11 +135,11 @@ null_takes kinds.Span [] long small f = absurd (omega arith)
 null_takes kinds.Span (x ∷ b) long small f =
     let more : 16 ≤ length b = omega arith in
     let tight : AreBytes b = λ i. small (suc i) in
-    let one = first_none (fault_unless (eqb x 0) 0) (absent_fault (signed_at (x ∷ b) 1) (signed_at (x ∷ b) 9)) f in
+    let one = first_none (fault_unless (eqb x 0) 0) (absent_fault (int8_at (x ∷ b) 1) (int8_at (x ∷ b) 9)) f in
     let zero : x ≡ 0 = eqb-true x 0 (holds-unless (eqb x 0) 0 one.0) in
-    let both = both-absent (signed_at (x ∷ b) 1) (signed_at (x ∷ b) 9) one.1 in
-    let low : bound_bytes None ≡ take 8 b = zero-bound (signed_at (x ∷ b) 1) both.0 ∙ signed_bytes b (omega arith) tight in
-    let high : bound_bytes None ≡ take 8 (drop 8 b) = zero-bound (signed_at (x ∷ b) 9) both.1 ∙ signed_bytes (drop 8 b) (omega (arith, length-drop 8 b)) (AreBytes-drop 8 b tight) in
+    let both = both-absent (int8_at (x ∷ b) 1) (int8_at (x ∷ b) 9) one.1 in
+    let low : bound_bytes None ≡ take 8 b = zero-bound (int8_at (x ∷ b) 1) both.0 ∙ signed_bytes b (omega arith) tight in
+    let high : bound_bytes None ≡ take 8 (drop 8 b) = zero-bound (int8_at (x ∷ b) 9) both.1 ∙ signed_bytes (drop 8 b) (omega (arith, length-drop 8 b)) (AreBytes-drop 8 b tight) in
     record { has = refl; is = tt; nulled = refl; written = (λ i. sym zero i ∷ ((low i ++ high i) ++ drop 16 b)) ∙ ap (λ (t : List ℕ). x ∷ t) (two_fields b) }
 null_takes kinds.Net [] long small f = absurd (omega arith)
 null_takes kinds.Net (x ∷ []) long small f = absurd (omega arith)
@@ -157,7 +159,7 @@ value_takes kinds.Span [] long small f = absurd (omega arith)
 value_takes kinds.Span (x ∷ b) long small f =
     let more : 16 ≤ length b = omega arith in
     let tight : AreBytes b = λ i. small (suc i) in
-    let t = range_takes x (signed_at (x ∷ b) 1) (signed_at (x ∷ b) 9) f in
+    let t = range_takes x (int8_at (x ∷ b) 1) (int8_at (x ∷ b) 9) f in
     let len : 8 ≤ length (drop 8 b) = omega (arith, length-drop 8 b) in
     let low = t.lower ∙ signed_bytes b (omega arith) tight in
     let high = t.upper ∙ signed_bytes (drop 8 b) len (AreBytes-drop 8 b tight) in

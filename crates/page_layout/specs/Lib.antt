@@ -8,3 +8,4 @@ pub mod SlotLaws
 pub mod PageFaults
 pub mod PageWrites
 pub mod HeapForms
+pub mod RowSizes

@@ -1,15 +1,15 @@
 -- what is written to pages
-use Rattle.std.specs.Prelude.{◌≡◌, ℕ, ◌+◌, ◌*◌, ◌/◌, ◌%◌, List, None, replicate, ◌==◌, if◌then◌else◌}
+use Rattle.std.specs.Prelude.{◌≡◌, ℕ, ◌+◌, ◌*◌, ◌/◌, ◌%◌, List, None, Some, replicate, set, slice_get, ◌==◌, if◌then◌else◌}
 use Rattle.block_model.specs.declared.value.Value.{Value}
 use Rattle.page_layout.specs.declared.page.Form.{Form}
 use Rattle.page_layout.specs.declared.page.Form.TheVariants as forms
-use Rattle.page_layout.specs.RowBytes.{StoredRow, HaveKinds, IsRow, row_bytes}
-use Rattle.page_layout.specs.PageContents.{IsHeap}
+use Rattle.page_layout.specs.RowBytes.{AreBytesOf, StoredRow, HaveKinds}
+use Rattle.page_layout.specs.PageContents.{HasSlots, IsHeap, Slot}
 
 -- the bytes are those of this row
 abbrev pub RowHasBytes : Form → List ℕ → StoredRow → Type 0
 RowHasBytes forms.Status bytes row = ⊥
-RowHasBytes (forms.Heap size count kinds format) bytes row = IsRow kinds row × (bytes ≡ row_bytes kinds row)
+RowHasBytes (forms.Heap size count kinds format) bytes row = AreBytesOf kinds bytes row
 RowHasBytes forms.Index bytes row = ⊥
 
 -- a form of heap pages
@@ -39,6 +39,18 @@ row_length forms.Index = 0
 -- the row with that deleter
 abbrev pub marked : StoredRow → ℕ → StoredRow
 marked row t = record { id = row.id; deleter = t; values = row.values }
+
+-- Slots that a page has afterwards, by those that it had. The row of the bytes stands in the slot:
+abbrev pub HasRowPut : Form → List ℕ → ℕ → List ℕ → List ℕ → Type 0
+HasRowPut form old slot bytes new = (slots : List Slot) (row : StoredRow) → HasSlots form old slots → RowHasBytes form bytes row → HasSlots form new (set slots slot (Some row))
+
+-- the row in the slot has that deleter
+abbrev pub HasRowMarked : Form → List ℕ → ℕ → ℕ → List ℕ → Type 0
+HasRowMarked form old slot deleter new = (slots : List Slot) (row : StoredRow) → HasSlots form old slots → slice_get slots slot ≡ Some (Some row) → HasSlots form new (set slots slot (Some (marked row deleter)))
+
+-- the slot is free
+abbrev pub HasSlotFreed : Form → List ℕ → ℕ → List ℕ → Type 0
+HasSlotFreed form old slot new = (slots : List Slot) → HasSlots form old slots → HasSlots form new (set slots slot None)
 
 -- the byte with one of its four statuses in that place
 abbrev pub put_status : ℕ → ℕ → ℕ → ℕ

@@ -2,13 +2,13 @@
 use Rattle.std.specs.Prelude.{◌≡◌, ℕ, ℤ, ◌+◌, ◌*◌, ◌<◌, ◌^◌, Bool, true, false, List, [], ◌∷◌, ◌++◌, Option, None, Some, replicate, if◌then◌else◌, FitsSigned}
 use Rattle.std.specs.Int.{w64, bytes_high_first, cast_unsigned}
 use Rattle.block_model.specs.declared.value.Kind.{Kind}
-use Rattle.block_model.specs.declared.value.Kind.TheVariants as kinds
 use Rattle.block_model.specs.declared.value.Value.{Value}
 use Rattle.block_model.specs.declared.value.Value.TheVariants.{Null, Int, Span, Net}
 use Rattle.block_model.specs.declared.row.RowId.{RowId}
 use Rattle.block_model.specs.Ranges.{Range, Empty, Between, IsRange, lower_of, upper_of}
 use Rattle.block_model.specs.Networks.{Network, IsNetwork}
 use Rattle.block_model.specs.RowSize.{value_size}
+use Rattle.block_model.specs.ValuesOfKind.{has_kind}
 
 -- a row with the transaction that deleted it, 0 for none
 pub record StoredRow : Type 0 where
@@ -66,14 +66,6 @@ head_bytes id deleter bits = 1 ∷ (bytes_high_first 8 id.t ++ bytes_high_first 
 unfoldable pub row_bytes : List Kind → StoredRow → List ℕ
 row_bytes kinds row = head_bytes row.id row.deleter (null_bits row.values) ++ columns_bytes kinds row.values
 
--- a null is of each kind
-abbrev pub has_kind : Kind → Value → Bool
-has_kind kind Null = true
-has_kind kinds.Int (Int n) = true
-has_kind kinds.Span (Span r) = true
-has_kind kinds.Net (Net n) = true
-has_kind kind value = false
-
 -- one value of each column's kind
 abbrev pub HaveKinds : List Kind → List Value → Type 0
 HaveKinds [] [] = Unit {0}
@@ -104,6 +96,14 @@ pub record IsRow (kinds : List Kind) (row : StoredRow) : Type 0 where
   pub columns : HaveKinds kinds row.values
   pub values : AreValues row.values
 
+-- the bytes are those of this row
+abbrev pub AreBytesOf : List Kind → List ℕ → StoredRow → Type 0
+AreBytesOf kinds bytes row = IsRow kinds row × (bytes ≡ row_bytes kinds row)
+
 -- the bytes are those of a row
 abbrev pub IsRowBytes : List Kind → List ℕ → Type 0
 IsRowBytes kinds bytes = (row : StoredRow) × IsRow kinds row × (bytes ≡ row_bytes kinds row)
+
+-- what is read of a row: its id and its deleter, and its values
+abbrev pub IsReadAs : StoredRow → RowId × ℕ → List Value → Type 0
+IsReadAs row read values = (read ≡ (row.id, row.deleter)) × (values ≡ row.values)

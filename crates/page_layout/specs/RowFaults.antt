@@ -4,7 +4,8 @@ use Rattle.std.specs.Ordering.{int_eq}
 use Rattle.block_model.specs.declared.value.Kind.{Kind}
 use Rattle.block_model.specs.declared.value.Kind.TheVariants as kinds
 use Rattle.block_model.specs.RowSize.{value_size}
-use Rattle.page_layout.specs.RowReading.{number_at, signed_at}
+use Rattle.page_layout.specs.RowReading.{number_at}
+use Rattle.byte_fields.specs.Int8.{int8_at}
 
 -- a fault of the part before, or of the part behind it
 abbrev pub first_of : Option ℕ → Option ℕ → Option ℕ
@@ -41,13 +42,13 @@ network_fault family prefix = first_of (fault_unless (family == 4) 0) (fault_unl
 -- every eight bytes are a number
 abbrev pub value_fault : Kind → List ℕ → Option ℕ
 value_fault kinds.Int bytes = None
-value_fault kinds.Span bytes = range_fault (slice_index bytes 0) (signed_at bytes 1) (signed_at bytes 9)
+value_fault kinds.Span bytes = range_fault (slice_index bytes 0) (int8_at bytes 1) (int8_at bytes 9)
 value_fault kinds.Net bytes = network_fault (slice_index bytes 0) (slice_index bytes 1)
 
 -- each field of a null column is zero
 abbrev pub null_fault : Kind → List ℕ → Option ℕ
 null_fault kinds.Int bytes = fault_unless (number_at bytes 0 8 == 0) 0
-null_fault kinds.Span bytes = first_of (fault_unless (slice_index bytes 0 == 0) 0) (absent_fault (signed_at bytes 1) (signed_at bytes 9))
+null_fault kinds.Span bytes = first_of (fault_unless (slice_index bytes 0 == 0) 0) (absent_fault (int8_at bytes 1) (int8_at bytes 9))
 null_fault kinds.Net bytes = first_of (fault_unless (slice_index bytes 0 == 0) 0) (first_of (fault_unless (slice_index bytes 1 == 0) 1) (fault_unless (number_at bytes 2 4 == 0) 2))
 
 abbrev pub column_fault : Bool → Kind → List ℕ → Option ℕ

@@ -1,6 +1,5 @@
 -- the values that stand in the bytes of a row
 use Rattle.std.specs.Prelude.{ℕ, ℤ, ◌/◌, ◌%◌, ◌==◌, Bool, List, [], ◌∷◌, drop, slice_index, None, Some, if◌then◌else◌}
-use Rattle.std.specs.Int.{w64, cast_signed}
 use Rattle.block_model.specs.declared.value.Kind.{Kind}
 use Rattle.block_model.specs.declared.value.Kind.TheVariants as kinds
 use Rattle.block_model.specs.declared.value.Value.{Value}
@@ -10,14 +9,11 @@ use Rattle.block_model.specs.Networks.{network_v4}
 use Rattle.block_model.specs.RowSize.{value_size}
 use Rattle.page_layout.specs.RowBytes.{StoredRow}
 use Rattle.byte_fields.specs.Fields.{field_at, number_of}
+use Rattle.byte_fields.specs.Int8.{int8_at}
 
 -- the number of n bytes from a place
 abbrev pub number_at : List ℕ → ℕ → ℕ → ℕ
 number_at bytes at n = number_of (field_at bytes at n)
-
--- the signed number of eight bytes from a place
-abbrev pub signed_at : List ℕ → ℕ → ℤ
-signed_at bytes at = cast_signed w64 (number_at bytes at 8)
 
 -- the range of these flags and bounds
 abbrev pub stored_range : ℕ → ℤ → ℤ → Range
@@ -30,8 +26,8 @@ stored_range flags l h =
 
 -- the value in its column
 abbrev pub value_in : Kind → List ℕ → Value
-value_in kinds.Int bytes = Int (signed_at bytes 0)
-value_in kinds.Span bytes = Span (stored_range (slice_index bytes 0) (signed_at bytes 1) (signed_at bytes 9))
+value_in kinds.Int bytes = Int (int8_at bytes 0)
+value_in kinds.Span bytes = Span (stored_range (slice_index bytes 0) (int8_at bytes 1) (int8_at bytes 9))
 value_in kinds.Net bytes = Net (network_v4 (number_at bytes 2 4) (slice_index bytes 1))
 
 abbrev pub column_in : Bool → Kind → List ℕ → Value

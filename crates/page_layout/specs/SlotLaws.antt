@@ -6,6 +6,7 @@ use Rattle.std.specs.Option.{option_map}
 use Rattle.std.proofs.lemmas.Bool.{lt-ltb, le-ltb, ltb-true, ltb-false}
 use Rattle.std.proofs.lemmas.List.{get_or-replicate, get_or-drop, length-drop}
 use Rattle.std.proofs.lemmas.List.Sums.{position_or_len_is, fails_before_first, passes_at_first}
+use Rattle.std.proofs.lemmas.Option.{get_or_from_slice_get, slice_get_within}
 use Rattle.block_model.specs.declared.value.Kind.{Kind}
 use Rattle.page_layout.specs.declared.page.Form.{Form}
 use Rattle.page_layout.specs.declared.page.Form.TheVariants as forms
@@ -141,6 +142,28 @@ lowest_at slots n k false at low e = absurd cc
 
 pub lowest_is : (slots : List Slot) (n : ℕ) → lowest_free slots ≡ Some n → IsLowestFree slots n
 lowest_is slots n e = lowest_at slots n (position_or_len is_free slots) (ltb (position_or_len is_free slots) (length slots)) refl refl e
+
+-- a free slot has no row
+pub free_slot : (slot : Slot) → is_free slot ≡ true → slot ≡ None
+free_slot None e = refl
+free_slot (Some row) e = absurd cc
+
+pub none_of : (b : Bool) (n : ℕ) → cond b (Some n) None ≡ None → b ≡ false
+none_of true n e = absurd cc
+none_of false n e = refl
+
+-- where none is found all are in use
+pub none_free : (slots : List Slot) → lowest_free slots ≡ None → AreUsedBelow (length slots) slots
+none_free slots e = λ n below.
+    let past = ltb-false (position_or_len is_free slots) (length slots) (none_of _ _ e) in
+    fails_before_first is_free slots n None (omega arith)
+
+-- so where a slot is free one is found
+pub free_found : (slots : List Slot) (n : ℕ) → slice_get slots n ≡ Some None → lowest_free slots ≡ None → ⊥
+free_found slots n there none =
+    let used = none_free slots none n (slice_get_within slots n None there) in
+    let here : is_free (get_or slots n None) ≡ true = ap is_free (get_or_from_slice_get slots n None None there) in
+    absurd cc
 
 -- from a slot on: the same where all before it are in use
 

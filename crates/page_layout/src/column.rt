@@ -2,8 +2,8 @@
 
 ghost use Rattle.std.specs.Prelude.{◌≡◌, ◌≤◌, ◌+◌, ◌++◌, ◌∷◌, [], drop, length, sum_by, None, true};
 ghost use Rattle.block_model.specs.RowSize.{value_size};
-ghost use Rattle.block_model.specs.Ranges.{lower_of, upper_of, IsRange};
-ghost use Rattle.page_layout.specs.RowBytes.{HaveKinds, IsValue, IsBound, AreValues, bound_bytes, column_bytes, columns_bytes, has_kind, network_bytes, range_bytes, range_flags};
+ghost use Rattle.block_model.specs.ValuesOfKind.{has_kind};
+ghost use Rattle.page_layout.specs.RowBytes.{HaveKinds, IsValue, IsBound, AreValues, bound_bytes, column_bytes, columns_bytes, network_bytes, range_bytes, range_flags};
 ghost use Rattle.page_layout.specs.RowReading.{column_in, columns_in, value_in, stored_range};
 ghost use Rattle.page_layout.specs.RowFaults.{columns_fault, column_fault, value_fault, range_fault};
 

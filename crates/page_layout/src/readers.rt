@@ -2,6 +2,7 @@
 
 ghost use Rattle.std.specs.Prelude.{◌≡◌, ◌+◌, ◌*◌, ◌<◌, ◌≤◌, drop, take, length, slice_index, IfSome, List, None};
 ghost use Rattle.std.specs.Option.{option_map};
+ghost use Rattle.page_layout.specs.declared.format.TheConstants.{STATUS_ENTRIES};
 ghost use Rattle.page_layout.specs.PageContents.{HasSlot, HasSlots, IsForm, IsPageOf, IsRowOf, IsUnstarted, Slot, row_bytes_in, status_in, statuses, used_in};
 
 use crate::format::STATUSES_A_BYTE;
@@ -15,10 +16,10 @@ pub fn kind_of(page: &Page) -> u8
     page.as_bytes()[0]
 }
 
-/// The status of that entry of a page of statuses, of which a page has 32640.
+/// The status of that entry of a page of statuses, of which a page has `STATUS_ENTRIES`.
 pub fn status_at(page: &Page, entry: u16) -> u8
     requires page { IsPageOf Form.Status page.now }
-    requires entry { entry < 32640 }
+    requires entry { entry < STATUS_ENTRIES }
     ensures { result ≡ slice_index (statuses (drop 32 page.now)) entry }
 {
     let bytes = page.as_bytes();

@@ -1,15 +1,15 @@
 //! Rows as bytes.
 
-ghost use Rattle.std.specs.Prelude.{◌≡◌, ◌≤◌, ◌<◌, ◌^◌, ◌++◌, drop, length, map, None};
+ghost use Rattle.std.specs.Prelude.{◌≡◌, ◌≤◌, ◌<◌, ◌^◌, ◌++◌, drop, length, None};
 ghost use Rattle.block_model.specs.declared.limits.TheConstants.{MAX_COLUMNS};
 ghost use Rattle.block_model.specs.RowSize.{row_size};
 ghost use Rattle.store_layout.specs.declared.layout.TheConstants.{FORMAT};
-ghost use Rattle.page_layout.specs.HeapForms.{heap_form};
+ghost use Rattle.page_layout.specs.HeapForms.{heap_form, kinds_of};
 ghost use Rattle.page_layout.specs.PageContents.{IsForm, IsRowOf};
 ghost use Rattle.page_layout.specs.PageWrites.{AreValuesFor, RowHasBytes, row_length};
 ghost use Rattle.page_layout.specs.RowReading.{row_in};
 ghost use Rattle.page_layout.specs.RowFaults.{row_fault};
-ghost use Rattle.page_layout.specs.RowBytes.{StoredRow, HaveKinds, IsRow, IsRowBytes, head_bytes, null_bits, row_bytes};
+ghost use Rattle.page_layout.specs.RowBytes.{AreBytesOf, HaveKinds, IsReadAs, IsRow, IsRowBytes, StoredRow, head_bytes, null_bits, row_bytes};
 
 use crate::column::{columns_size, read_columns, write_columns};
 use crate::page::Form;
@@ -36,20 +36,16 @@ pub(crate) const COLUMNS: usize = 22;
 /// The kinds of a table's columns, of which a table has at most eight.
 pub fn kinds_of(table: &Table) -> Kinds
     requires { length table.now.columns ≤ MAX_COLUMNS }
-    ensures { result ≡ map (λ c. c.kind) table.now.columns }
+    ensures { result ≡ kinds_of table.now }
 {
-    let mut kinds = Kinds::new();
-    for column in table.columns.as_slice() {
-        kinds.push(column.kind);
-    }
-    kinds
+    Kinds::of(table.columns.as_slice())
 }
 
 /// The bytes of a row of the table, which has at most eight columns.
 pub fn row_size(table: &Table, format: u16) -> u16
     requires columns { length table.now.columns ≤ MAX_COLUMNS }
     requires format { format ≡ FORMAT }
-    ensures { result ≡ row_size (map (λ c. c.kind) table.now.columns) }
+    ensures { result ≡ row_size (kinds_of table.now) }
 {
     // Rows are the same in every format that there is.
     let _ = format;
@@ -81,11 +77,11 @@ pub fn encode_row(
 )
     requires columns { length table.now.columns ≤ MAX_COLUMNS }
     requires format { format ≡ FORMAT }
-    requires kinds { HaveKinds (map (λ c. c.kind) table.now.columns) values.now }
-    requires room { length out.old ≡ row_size (map (λ c. c.kind) table.now.columns) }
-    ensures written { out.new ≡ row_bytes (map (λ c. c.kind) table.now.columns) (record { id = id; deleter = deleter; values = values.now }) }
+    requires kinds { HaveKinds (kinds_of table.now) values.now }
+    requires room { length out.old ≡ row_size (kinds_of table.now) }
+    ensures written { out.new ≡ row_bytes (kinds_of table.now) (record { id = id; deleter = deleter; values = values.now }) }
     // So `decode_row` answers it again.
-    ensures row { IsRow (map (λ c. c.kind) table.now.columns) (record { id = id; deleter = deleter; values = values.now }) }
+    ensures row { IsRow (kinds_of table.now) (record { id = id; deleter = deleter; values = values.now }) }
 {
     // Rows are the same in every format that there is.
     let _ = format;
@@ -149,8 +145,8 @@ fn null_bits(values: &[Value]) -> u8
 pub fn decode_row(table: &Table, format: u16, bytes: &[u8], values: &mut Values) -> (RowId, u64)
     requires columns { length table.now.columns ≤ MAX_COLUMNS }
     requires format { format ≡ FORMAT }
-    requires row { IsRowBytes (map (λ c. c.kind) table.now.columns) bytes.now }
-    ensures row { (row : StoredRow) → IsRow (map (λ c. c.kind) table.now.columns) row → bytes.now ≡ row_bytes (map (λ c. c.kind) table.now.columns) row → (result ≡ (row.id, row.deleter)) × (values.new ≡ row.values) }
+    requires row { IsRowBytes (kinds_of table.now) bytes.now }
+    ensures row { (row : StoredRow) → AreBytesOf (kinds_of table.now) bytes.now row → IsReadAs row result values.new }
 {
     // Rows are the same in every format that there is.
     let _ = format;
@@ -162,7 +158,7 @@ pub fn decode_row(table: &Table, format: u16, bytes: &[u8], values: &mut Values)
 pub fn row_in(form: Form, bytes: &[u8], values: &mut Values) -> (RowId, u64)
     requires form { IsForm form }
     requires row { IsRowOf form bytes.now }
-    ensures row { (row : StoredRow) → RowHasBytes form bytes.now row → (result ≡ (row.id, row.deleter)) × (values.new ≡ row.values) }
+    ensures row { (row : StoredRow) → RowHasBytes form bytes.now row → IsReadAs row result values.new }
 {
     match form {
         Form::Status | Form::Index => unreachable!(),

@@ -2,7 +2,8 @@
 
 ghost use Rattle.std.specs.Prelude.{◌≡◌, ◌≤◌, ◌<◌, length, sum_by, IfSome};
 ghost use Rattle.block_model.specs.RowSize.{row_size, value_size};
-ghost use Rattle.page_layout.specs.RowFaults.{absent_fault, column_fault, columns_fault, fault_unless, first_of, free_fault, network_fault, null_fault, range_fault, row_fault, slot_fault, value_fault};
+ghost use Rattle.page_layout.specs.RowFaults.{columns_fault, fault_unless, first_of, free_fault, row_fault, slot_fault};
+ghost use Rattle.page_layout.specs.RowFaults.{absent_fault, column_fault, network_fault, null_fault, range_fault, value_fault};
 
 use crate::column::{
     ADDRESS, BOUNDED, EMPTY, FAMILY_V4, LOWER, NO_BOUNDS, NO_LOWER, NO_UPPER, PREFIX, UPPER,

@@ -1,13 +1,11 @@
 //! What is written to a page that passed its check.
 
-ghost use Rattle.std.specs.Prelude.{◌≡◌, ◌+◌, ◌*◌, ◌<◌, ◌≤◌, ◌^◌, drop, length, replicate, set, slice_get, List, ℕ, None, Some, true, false};
-ghost use Rattle.std.specs.Int.{bytes_high_first};
+ghost use Rattle.std.specs.Prelude.{◌≡◌, ◌<◌, ◌≤◌, length, set, List, ℕ, true, false};
 ghost use Rattle.block_model.specs.RowSize.{row_size};
-ghost use Rattle.page_layout.specs.PageContents.{HasSlot, HasSlots, IsForm, IsRowOf, IsStatusPage, Slot, heap_bytes, header_bytes, status_in, statuses};
-ghost use Rattle.page_layout.specs.PageWrites.{IsEmptyHeap, IsOfHeap, RowHasBytes, marked, put_status};
-ghost use Rattle.page_layout.specs.RowBytes.{IsRowBytes, StoredRow, row_bytes};
-ghost use Rattle.page_layout.specs.RowFaults.{row_fault};
-ghost use borrow.Rule.Slice.PartMut.{put_mid};
+ghost use Rattle.page_layout.specs.declared.format.TheConstants.{STATUS_ENTRIES};
+ghost use Rattle.page_layout.specs.PageContents.{HasSlot, IsForm, IsRowOf, IsStatusPage};
+ghost use Rattle.page_layout.specs.PageWrites.{HasRowMarked, HasRowPut, HasSlotFreed, IsEmptyHeap, IsOfHeap, put_status};
+ghost use Rattle.page_layout.specs.RowBytes.{IsRowBytes};
 
 use crate::format::{HEAP, STATUSES_A_BYTE};
 use crate::page::{Form, HEADER, Page};
@@ -60,7 +58,7 @@ pub fn put_row(page: &mut Page, form: Form, slot: u16, bytes: &[u8])
     requires form { IsForm form }
     requires slot { HasSlot form slot }
     requires row { IsRowOf form bytes.now }
-    ensures put { (slots : List Slot) (row : StoredRow) → HasSlots form page.old slots → RowHasBytes form bytes.now row → HasSlots form page.new (set slots slot (Some row)) }
+    ensures put { HasRowPut form page.old slot bytes.now page.new }
 {
     if let Form::Heap { row, .. } = form {
         page.write(HEADER + usize::from(slot) * usize::from(row), bytes);
@@ -71,7 +69,7 @@ pub fn put_row(page: &mut Page, form: Form, slot: u16, bytes: &[u8])
 pub fn mark_row(page: &mut Page, form: Form, slot: u16, deleter: u64)
     requires form { IsForm form }
     requires slot { HasSlot form slot }
-    ensures marked { (slots : List Slot) (row : StoredRow) → HasSlots form page.old slots → slice_get slots slot ≡ Some (Some row) → HasSlots form page.new (set slots slot (Some (marked row deleter))) }
+    ensures marked { HasRowMarked form page.old slot deleter page.new }
 {
     if let Form::Heap { row, .. } = form {
         let at = HEADER + usize::from(slot) * usize::from(row);
@@ -83,7 +81,7 @@ pub fn mark_row(page: &mut Page, form: Form, slot: u16, deleter: u64)
 pub fn clear_slot(page: &mut Page, form: Form, slot: u16)
     requires form { IsForm form }
     requires slot { HasSlot form slot }
-    ensures freed { (slots : List Slot) → HasSlots form page.old slots → HasSlots form page.new (set slots slot None) }
+    ensures freed { HasSlotFreed form page.old slot page.new }
 {
     if let Form::Heap { row, .. } = form {
         let row = usize::from(row);
@@ -91,9 +89,9 @@ pub fn clear_slot(page: &mut Page, form: Form, slot: u16)
     }
 }
 
-/// The status of that entry of a page of statuses, of which a page has 32640.
+/// The status of that entry of a page of statuses, of which a page has `STATUS_ENTRIES`.
 pub fn set_status(page: &mut Page, entry: u16, status: u8)
-    requires entry { entry < 32640 }
+    requires entry { entry < STATUS_ENTRIES }
     requires status { status < 4 }
     ensures set { (entries : List ℕ) → IsStatusPage page.old entries → IsStatusPage page.new (set entries entry status) }
 {

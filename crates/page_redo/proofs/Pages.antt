@@ -109,7 +109,7 @@ redone_anew form page other new (MapSet place entry spot) changes is r = absurd 
 redone_anew form page other new (MetaSet place maps) changes is r = absurd is
 redone_anew form page other new (StatusSet place entry status) changes is r = absurd is
 
--- one change more
-pub redone_more : (form : Form) (page mid new : List ℕ) (changes : List LoggedChange) (change : LoggedChange) → Redone form page changes mid → AreBytes new → Fits form mid change → Means form mid change new → Redone form page (changes ++ change ∷ []) new
-redone_more form page mid new [] change r bytes fit means = (new, bytes, subst (λ (p : List ℕ). Fits form p change) r fit, subst (λ (p : List ℕ). Means form p change new) r means, refl)
-redone_more form page mid new (c ∷ changes) change r bytes fit means = (r.0, r.1, r.2, r.3, redone_more form r.0 mid new changes change r.4 bytes fit means)
+-- changes behind others
+pub redone_more : (form : Form) (page mid new : List ℕ) (first more : List LoggedChange) → Redone form page first mid → Redone form mid more new → Redone form page (first ++ more) new
+redone_more form page mid new [] more r s = subst (λ (p : List ℕ). Redone form p more new) r s
+redone_more form page mid new (change ∷ changes) more r s = (r.0, r.1, r.2, r.3, redone_more form r.0 mid new changes more r.4 s)

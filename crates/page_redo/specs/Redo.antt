@@ -1,13 +1,14 @@
 -- which pages a change of the log fits, and what it does to them
 use Rattle.std.specs.Prelude.{◌≡◌, ℕ, ◌+◌, ◌*◌, ◌<◌, ◌&&◌, Bool, true, false, List, [], ◌∷◌, None, Some, length, nat_le, nat_lt, set, slice_get}
 use Rattle.block_model.specs.declared.limits.TheConstants.{PAGE_SIZE}
+use Rattle.page_layout.specs.declared.format.TheConstants.{STATUS_ENTRIES}
 use Rattle.byte_fields.specs.Fields.{AreBytes}
 use Rattle.page_layout.specs.declared.page.Form.{Form}
 use Rattle.page_layout.specs.declared.page.Form.TheVariants as forms
 use Rattle.page_layout.specs.RowBytes.{StoredRow}
 use Rattle.page_layout.specs.PageContents.{Slot, HasSlots, IsPageOf, IsRowOf, IsStatusPage}
 use Rattle.page_layout.specs.FreeSlots.{slot_count}
-use Rattle.page_layout.specs.PageWrites.{IsEmptyHeap, IsOfHeap, RowHasBytes, marked}
+use Rattle.page_layout.specs.PageWrites.{HasRowMarked, HasRowPut, IsEmptyHeap, IsOfHeap}
 use Rattle.wal_record.specs.Changes.{LoggedChange, FullPage, PageStart, RowPut, RowMark, RowsDrop, StatusSet}
 
 -- a page of statuses is no page that a change starts
@@ -52,15 +53,15 @@ Fits form page (PageStart place kind) = IsStart form kind
 Fits form page (RowPut place slot bytes) = IsFreeSlot form page slot × IsRowOf form bytes
 Fits form page (RowMark place slot deleter) = IsUsedSlot form page slot
 Fits form page (RowsDrop place slots) = IsHeapPage form page × (are_ascending 0 (slot_count form) slots ≡ true)
-Fits form page (StatusSet place entry status) = IsOfStatuses form page × (entry < 32640) × (status < 4)
+Fits form page (StatusSet place entry status) = IsOfStatuses form page × (entry < STATUS_ENTRIES) × (status < 4)
 Fits form page change = ⊥
 
 -- by the lists of slots or statuses that the page has before: those that it has afterwards
 abbrev pub Means : Form → List ℕ → LoggedChange → List ℕ → Type 0
 Means form old (FullPage place bytes) new = new ≡ bytes
 Means form old (PageStart place kind) new = IsEmptyHeap form new
-Means form old (RowPut place slot bytes) new = (slots : List Slot) (row : StoredRow) → HasSlots form old slots → RowHasBytes form bytes row → HasSlots form new (set slots slot (Some row))
-Means form old (RowMark place slot deleter) new = (slots : List Slot) (row : StoredRow) → HasSlots form old slots → slice_get slots slot ≡ Some (Some row) → HasSlots form new (set slots slot (Some (marked row deleter)))
+Means form old (RowPut place slot bytes) new = HasRowPut form old slot bytes new
+Means form old (RowMark place slot deleter) new = HasRowMarked form old slot deleter new
 Means form old (RowsDrop place bytes) new = (slots : List Slot) → HasSlots form old slots → HasSlots form new (dropped slots bytes)
 Means form old (StatusSet place entry status) new = (entries : List ℕ) → IsStatusPage old entries → IsStatusPage new (set entries entry status)
 Means form old change new = ⊥
@@ -69,6 +70,10 @@ Means form old change new = ⊥
 abbrev pub Redone : Form → List ℕ → List LoggedChange → List ℕ → Type 0
 Redone form page [] new = new ≡ page
 Redone form page (change ∷ changes) new = (next : List ℕ) × AreBytes next × Fits form page change × Means form page change next × Redone form next changes new
+
+-- what the changes make of a page, they make of any
+abbrev pub ForgetPage : Form → List LoggedChange → Type 0
+ForgetPage form changes = (page other new : List ℕ) → Redone form page changes new → Redone form other changes new
 
 -- a change that makes the whole page, whatever stood there
 abbrev pub IsAnew : LoggedChange → Type 0

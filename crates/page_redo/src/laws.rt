@@ -1,10 +1,9 @@
 //! What changes do one after the other.
 
-ghost use Rattle.std.specs.Prelude.{◌≡◌, [], ◌∷◌, ◌++◌, List, ℕ};
-ghost use Rattle.byte_fields.specs.Fields.{AreBytes};
+ghost use Rattle.std.specs.Prelude.{◌≡◌, ◌∷◌, ◌++◌, List, ℕ};
 ghost use Rattle.page_layout.specs.PageContents.{IsPageOf};
 ghost use Rattle.page_layout.specs.declared.page.Form.{Form as PageForm};
-ghost use Rattle.page_redo.specs.Redo.{Fits, IsAnew, Means, Redone};
+ghost use Rattle.page_redo.specs.Redo.{Fits, ForgetPage, IsAnew, Means, Redone};
 ghost use Rattle.wal_record.specs.Changes.{LoggedChange};
 
 /// A change that fits makes a page that passes the check of its form.
@@ -19,10 +18,10 @@ pub fn redo_is_a_function()
 
 /// A change that makes the whole page forgets what stood there: a page that a stop tore is redone like any other.
 pub fn redo_forgets_a_page_begun_anew()
-    ensures { (form : PageForm) (page other new : List ℕ) (change : LoggedChange) (changes : List LoggedChange) → IsAnew change → Redone form page (change ∷ changes) new → Redone form other (change ∷ changes) new }
+    ensures { (form : PageForm) (change : LoggedChange) (changes : List LoggedChange) → IsAnew change → ForgetPage form (change ∷ changes) }
 {}
 
-/// One change more goes on behind a list of changes.
+/// Changes go on behind others.
 pub fn redo_goes_on()
-    ensures { (form : PageForm) (page mid new : List ℕ) (changes : List LoggedChange) (change : LoggedChange) → Redone form page changes mid → AreBytes new → Fits form mid change → Means form mid change new → Redone form page (changes ++ change ∷ []) new }
+    ensures { (form : PageForm) (page mid new : List ℕ) (first more : List LoggedChange) → Redone form page first mid → Redone form mid more new → Redone form page (first ++ more) new }
 {}

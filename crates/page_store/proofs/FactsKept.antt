@@ -6,12 +6,11 @@ use Rattle.std.proofs.lemmas.List.Folds.{position_or_len-set}
 use Rattle.std.proofs.lemmas.Option.{get_or_from_slice_get}
 use Rattle.block_model.specs.declared.place.Place.{Place}
 use Rattle.page_layout.specs.declared.page.Form.{Form}
-use Rattle.page_layout.specs.declared.page.Form.TheVariants as forms
 use Rattle.page_layout.specs.FreeSlots.{AreUsedBelow, is_free, lowest_free, lowest_free_from}
-use Rattle.page_layout.specs.PageContents.{Slot, HasSlots, IsRowOf}
-use Rattle.page_layout.specs.PageWrites.{RowHasBytes, marked}
+use Rattle.page_layout.specs.PageContents.{Slot, HasSlots}
+use Rattle.page_layout.specs.PageWrites.{marked}
 use Rattle.page_layout.specs.RowBytes.{StoredRow}
-use Rattle.page_layout.specs.SlotLaws.{heap_front, lowest_from, lowest_is, used_up_to}
+use Rattle.page_layout.specs.SlotLaws.{heap_front, lowest_from, lowest_is, row_has, used_up_to}
 use Rattle.page_layout.specs.SlotsOnPage.{lowest_on, slots_on}
 use Rattle.wal_record.specs.Changes.{RowPut, RowMark}
 use Rattle.page_store.specs.declared.facts.PageFacts.{PageFacts}
@@ -20,11 +19,6 @@ use Rattle.page_store.specs.PageFacts.{HasPutInto, IsMadeFrom, facts_on}
 -- the slots of a page are those that are read of its bytes
 abbrev pub OneList : Type 0
 OneList = (form : Form) (page : List ℕ) (slots : List Slot) → HasSlots form page slots → slots ≡ slots_on form page
-
-row_of : (form : Form) (bytes : List ℕ) → IsRowOf form bytes → (row : StoredRow) × RowHasBytes form bytes row
-row_of forms.Status bytes is = absurd is
-row_of (forms.Heap size count kinds format) bytes is = (is.0, (is.1, is.2))
-row_of forms.Index bytes is = absurd is
 
 -- the lowest free slot of a page that has slots
 pub lowest_started : (form : Form) (page : List ℕ) (slots : List Slot) → HasSlots form page slots → slots ≡ slots_on form page → lowest_free slots ≡ lowest_on form page
@@ -39,13 +33,13 @@ same-kind form before page slots others facts known has had =
 
 pub put-kind : (form : Form) (place : Place) (slot : ℕ) (bytes page : List ℕ) (facts : PageFacts) → IsMadeFrom form facts (RowPut place slot bytes) page → facts.kind ≡ get_or page 0 0
 put-kind form place slot bytes page facts made =
-    let row = row_of form bytes made.fits.1 in
+    let row = row_has form bytes made.fits.1 in
     let slots = made.fits.0.0 in
     same-kind form made.before page slots (set slots slot (Some row.0)) facts made.known made.fits.0.1 (made.means slots row.0 made.fits.0.1 row.1)
 
 pub put_into : OneList → (form : Form) (place : Place) (slot : ℕ) (bytes page : List ℕ) (facts : PageFacts) → IsMadeFrom form facts (RowPut place slot bytes) page → HasPutInto form slot facts.lowest page
 put_into one form place slot bytes page facts made =
-    let row = row_of form bytes made.fits.1 in
+    let row = row_has form bytes made.fits.1 in
     let slots = made.fits.0.0 in
     let had = made.fits.0.1 in
     let now = made.means slots row.0 had row.1 in

@@ -1,40 +1,18 @@
 -- The room of a page, by its lowest free slot.
-use Rattle.std.proofs.Common.{◌≡◌, ℕ, inl, inr, Bool, true, false, cond, eqb, List, length, get_or, refl, ap, ◌∙◌, arith}
-use Rattle.std.specs.Prelude.{Option, None, Some, slice_get}
-use Rattle.std.specs.List.{position_or_len}
-use Rattle.std.proofs.lemmas.Bool.{ltb-false}
-use Rattle.std.proofs.lemmas.List.Sums.{fails_before_first}
-use Rattle.std.proofs.lemmas.Option.{get_or_from_slice_get, slice_get-get_or, slice_get_within}
+use Rattle.std.proofs.Common.{◌≡◌, ℕ, inl, inr, Bool, true, false, cond, eqb, List, get_or, refl, ap, ◌∙◌, arith}
+use Rattle.std.specs.Prelude.{Option, None, Some}
+use Rattle.std.proofs.lemmas.Option.{slice_get-get_or, slice_get_within}
 use Rattle.page_layout.specs.declared.page.Form.{Form}
 use Rattle.page_layout.specs.declared.page.Form.TheVariants as forms
-use Rattle.page_layout.specs.FreeSlots.{is_free, lowest_free}
+use Rattle.page_layout.specs.FreeSlots.{lowest_free}
 use Rattle.page_layout.specs.PageContents.{HasSlot, HasSlots, IsPageOf, Slot}
-use Rattle.page_layout.specs.SlotLaws.{lowest_is}
+use Rattle.page_layout.specs.SlotLaws.{free_found, free_slot, lowest_is}
 use Rattle.page_layout.specs.SlotsOnPage.{lowest_on}
 use Rattle.page_redo.specs.Redo.{IsFreeSlot}
 use Rattle.page_store.specs.FirstRoom.{IsLookedAt, PageHasRoom}
 use Rattle.page_store.specs.Lowest.{has_slot}
 use Rattle.page_store.proofs.FactsKept.{OneList, lowest_started}
 use Rattle.page_store.proofs.PageKinds.{lowest-unstarted}
-
--- slots
-
-free_slot : (slot : Slot) → is_free slot ≡ true → slot ≡ None
-free_slot None e = refl
-free_slot (Some row) e = absurd cc
-
-none_lower : (b : Bool) (n : ℕ) → cond b (Some n) None ≡ None → b ≡ false
-none_lower true n e = absurd cc
-none_lower false n e = refl
-
--- a free slot is found
-free_found : (slots : List Slot) (n : ℕ) → slice_get slots n ≡ Some None → lowest_free slots ≡ None → ⊥
-free_found slots n there none =
-    let past = ltb-false (position_or_len is_free slots) (length slots) (none_lower _ _ none) in
-    let within = slice_get_within slots n None there in
-    let used = fails_before_first is_free slots n None (omega arith) in
-    let here : is_free (get_or slots n None) ≡ true = ap is_free (get_or_from_slice_get slots n None None there) in
-    absurd cc
 
 -- a page that has a lowest free slot
 

@@ -4,6 +4,9 @@ use Rattle.page_layout.specs.declared.page.Form.{Form}
 use Rattle.page_layout.specs.declared.page.Form.TheVariants as forms
 use Rattle.page_layout.specs.PageContents.{IsUnstarted}
 use Rattle.page_redo.specs.Redo.{IsFreeSlot}
+use Rattle.page_store.specs.Forms.{form_of}
+use Rattle.page_store.specs.PageMap.{PageMap, block_at, block_limit}
+use Rattle.store_layout.specs.DiskLayout.{DiskLayout}
 
 -- a page has room for that many bytes: in a heap a slot is free, whatever the bytes; of an index no page is started yet
 abbrev pub PageHasRoom : Form → ℕ → List ℕ → Type 0
@@ -37,3 +40,7 @@ pub record IsRelationFull (form : Form) (limit need past : ℕ) (page : ℕ → 
 abbrev pub IsFirstRoom : Form → ℕ → ℕ → ℕ → (ℕ → List ℕ) → Option ℕ → Type 0
 IsFirstRoom form limit need past page (Some block) = IsFirstWithRoom form limit need past page block ⊎ IsNextUnstarted form limit need past page block
 IsFirstRoom form limit need past page None = IsRelationFull form limit need past page
+
+-- that of a relation of a store
+abbrev pub IsFirstRoomOf : DiskLayout → PageMap → ℕ → ℕ → ℕ → Option ℕ → Type 0
+IsFirstRoomOf layout pages relation need past answer = IsFirstRoom (form_of layout relation) (block_limit layout relation) need past (block_at pages relation) answer

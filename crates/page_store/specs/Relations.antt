@@ -1,5 +1,5 @@
 -- the pages of one relation
-use Rattle.std.specs.Prelude.{◌≡◌, ℕ, ◌≤◌, List, Some, length, replicate, set, slice_get}
+use Rattle.std.specs.Prelude.{◌≡◌, ℕ, ◌≤◌, List, Some, IfSome, length, replicate, set, slice_get}
 use Rattle.block_model.specs.declared.place.Place.{Place}
 use Rattle.page_layout.specs.declared.page.Form.{Form}
 use Rattle.page_layout.specs.PageContents.{IsForm, IsPageOf}
@@ -40,3 +40,7 @@ pub record ChangesRelation (place : Place) (changes : List LoggedChange) (old ne
   pub there : slice_get old place.relation ≡ Some before
   pub changed : RelationChanged place.block changes before after
   pub relations : new ≡ set old place.relation after
+
+-- a fact of the page at a place, and of the form of its relation
+abbrev pub OfPageAt : Place → List RelationState → (Form → List ℕ → Type 0) → Type 0
+OfPageAt place relations P = IfSome (slice_get relations place.relation) (λ relation. P relation.form (page_in relation.pages place.block))

@@ -3,9 +3,9 @@
 ghost use Rattle.std.specs.Prelude.{◌≡◌, ◌<◌, ◌≤◌, ℕ, None, true, false, [], ◌∷◌, length, slice_get, slice_index_or, IfOk, IfSome, IfErr, OnOk, OnErr};
 ghost use Rattle.store_layout.specs.DiskLayout.{IsPlace, relation_blocks};
 ghost use Rattle.block_model.specs.declared.place.Place.{Place as AnyPlace};
-ghost use Rattle.page_layout.specs.PageContents.{IsForm, IsPageOf, IsUnstarted};
+ghost use Rattle.page_layout.specs.PageContents.{IsForm, IsUnstarted};
 ghost use Rattle.wal_record.specs.Changes.{PageStart as LoggedStart, logged, place_of};
-ghost use Rattle.page_store.specs.PageMap.{IsWhole, block_at, block_limit, page_at, page_in};
+ghost use Rattle.page_store.specs.PageMap.{IsWhole, block_at, block_limit, page_at};
 ghost use Rattle.page_store.specs.Forms.{FitInTurn, FitsIn, IsPageIn, form_of};
 ghost use Rattle.page_store.specs.Changed.{Changed};
 ghost use Rattle.page_store.specs.Keeps.{Keeps, Leaves, Tells, Untold};
@@ -13,8 +13,8 @@ ghost use Rattle.page_store.specs.Outcome.{IsReopen, NamesPage, Outcome};
 ghost use Rattle.page_store.specs.PageRoom.{IsRoom, NamesSlot};
 ghost use Rattle.page_store.specs.Started.{AreFirst, started_count};
 ghost use Rattle.page_redo.specs.Redo.{Fits};
-ghost use Rattle.page_store.specs.Relations.{ChangesRelation};
-ghost use Rattle.page_store.specs.FirstRoom.{IsFirstRoom};
+ghost use Rattle.page_store.specs.Relations.{ChangesRelation, OfPageAt};
+ghost use Rattle.page_store.specs.FirstRoom.{IsFirstRoomOf};
 
 use crate::faults::StoreError;
 use crate::forms::empty_relations;
@@ -151,6 +151,7 @@ impl<D: Disk + Drop> PageStore<D> {
     pub fn known(&self)
         ensures whole { IsWhole self.now.layout self.now.pages }
     {
+        // Reads a field, so that the store is opened.
         let _ = &self.layout;
     }
 
@@ -177,7 +178,7 @@ impl<D: Disk + Drop> PageStore<D> {
     pub fn first_room(&self, relation: u8, need: u16, past: u32) -> Option<u32>
         requires relation { relation < length (relation_blocks self.now.layout) }
         ensures within { IfSome result (λ block. block < block_limit self.now.layout relation) }
-        ensures room { Tells D.told self.now → IsFirstRoom (form_of self.now.layout relation) (block_limit self.now.layout relation) need past (block_at self.now.pages relation) result }
+        ensures room { Tells D.told self.now → IsFirstRoomOf self.now.layout self.now.pages relation need past result }
     {
         // Where no page of an index is started they decide nothing.
         let _ = (need, past);
@@ -238,7 +239,7 @@ fn change_relation(relations: &mut Vec<Relation>, place: Place, change: &Change<
     requires relation { place.relation < length relations.old.items }
     requires block { IfSome (slice_get relations.old.items place.relation) (λ relation. place.block < length relation.pages) }
     ensures changed { result ≡ true → ChangesRelation place (logged change.now ∷ []) relations.old.items relations.new.items }
-    ensures misfit { result ≡ false → IfSome (slice_get relations.old.items place.relation) (λ relation. Fits relation.form (page_in relation.pages place.block) (logged change.now) → ⊥) }
+    ensures misfit { result ≡ false → OfPageAt place relations.old.items (λ form page. Fits form page (logged change.now) → ⊥) }
     ensures same { result ≡ false → relations.new.items ≡ relations.old.items }
 {
     let at = usize::from(place.relation);
@@ -255,7 +256,7 @@ fn start_relation(
     requires relation { place.relation < length relations.old.items }
     requires block { IfSome (slice_get relations.old.items place.relation) (λ relation. place.block < length relation.pages) }
     ensures changed { result ≡ true → ChangesRelation place (LoggedStart place kind ∷ logged change.now ∷ []) relations.old.items relations.new.items }
-    ensures misfit { result ≡ false → IfSome (slice_get relations.old.items place.relation) (λ relation. FitInTurn relation.form (page_in relation.pages place.block) (LoggedStart place kind ∷ logged change.now ∷ []) → ⊥) }
+    ensures misfit { result ≡ false → OfPageAt place relations.old.items (λ form page. FitInTurn form page (LoggedStart place kind ∷ logged change.now ∷ []) → ⊥) }
     ensures same { result ≡ false → relations.new.items ≡ relations.old.items }
 {
     let at = usize::from(place.relation);

@@ -1,53 +1,16 @@
 //! Rows on heap pages.
 
-ghost use Rattle.std.specs.Prelude.{◌≡◌, [], ◌∷◌, length, IfSome};
+ghost use Rattle.std.specs.Prelude.{◌≡◌, [], ◌∷◌, length};
 ghost use Rattle.block_model.specs.declared.value.Kind.TheVariants as kinds;
 ghost use Rattle.heap_rows.specs.Heaps.{kinds_at, slots_a_page};
 ghost use Rattle.heap_rows.specs.HeapBlocks.{HasBlocks};
 
-use block_model::{Column, Kind, Name, RowId, Schema, Sequence, Sizes, Spot, Table, Value, Values};
+use crate::int8_rows::layout_of;
+use block_model::{RowId, Spot, Value, Values};
 use disk_trait::SteadyDisk;
 use heap_rows::{PageRows, Stored, blocks, mark, put, rows_of, unstarted_tables_have_no_blocks};
 use page_store::{MachineFault, PageStore};
-use std::alloc::Global;
 use std::test::Fail;
-use store_layout::Layout;
-
-/// The table `t(a int8)` of a row a page and two blocks.
-fn layout(alloc: Global) -> Option<Layout>
-    ensures tables { IfSome result (λ layout. length layout.schema.tables ≡ 1) }
-    ensures kinds { IfSome result (λ layout. kinds_at layout 0 ≡ kinds.Int ∷ []) }
-    ensures slots { IfSome result (λ layout. slots_a_page layout 0 ≡ 1) }
-    ensures blocks { IfSome result (λ layout. layout.sizes.heap_blocks ≡ 2) }
-{
-    let mut columns = Sequence::new(alloc);
-    columns
-        .push(Column {
-            name: Name::new(b"a")?,
-            kind: Kind::Int,
-        })
-        .ok()?;
-    let mut tables = Sequence::new(alloc);
-    tables
-        .push(Table {
-            name: Name::new(b"t")?,
-            rows_per_page: 1,
-            columns,
-        })
-        .ok()?;
-    let schema = Schema {
-        tables,
-        indexes: Sequence::new(alloc),
-    };
-    let sizes = Sizes {
-        heap_blocks: 2,
-        index_blocks: 3,
-        status_blocks: 1,
-        log_pages: 16,
-        frames: 16,
-    };
-    Layout::new(schema, sizes).ok()
-}
 
 /// Puts a row of 5 into the table, which has none, and marks it.
 fn put_and_mark(store: &mut PageStore<SteadyDisk>, id: RowId, deleter: u64) -> Option<Spot>
@@ -69,7 +32,7 @@ fn put_and_mark(store: &mut PageStore<SteadyDisk>, id: RowId, deleter: u64) -> O
 
 #[test]
 fn rows_are_put_marked_and_read(rt: HostRuntime) -> Result<(), Fail> {
-    let layout = layout(rt.alloc()).ok_or("layout")?;
+    let layout = layout_of(rt.alloc(), 1, 2).ok_or("layout")?;
     let mut rows = PageRows::new(rt.alloc(), &layout.schema().tables.as_slice()[0])?;
     let disk = SteadyDisk::new(rt.alloc(), 0)?;
     let mut store = PageStore::plain(rt.alloc(), disk, layout)?;

@@ -5,9 +5,13 @@
 #[cfg(test)]
 mod changes;
 #[cfg(test)]
+mod columns;
+#[cfg(test)]
 mod disks;
 #[cfg(test)]
 mod heaps;
+#[cfg(test)]
+mod int8_rows;
 #[cfg(test)]
 mod pages;
 #[cfg(test)]

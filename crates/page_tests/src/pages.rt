@@ -1,10 +1,12 @@
 //! Status and heap pages.
 
-ghost use Rattle.std.specs.Prelude.{◌≡◌, ◌∷◌, [], map, IfOk};
+ghost use Rattle.std.specs.Prelude.{◌≡◌, ◌∷◌, [], length, map, IfOk};
 ghost use Rattle.block_model.specs.declared.value.Kind.TheVariants as kinds;
 ghost use Rattle.page_layout.specs.PageContents.{HasSlot, IsForm};
 
-use block_model::{Column, Columns, Kind, Kinds, Name, RowId, Table, Value, Values};
+use crate::columns::column;
+use crate::int8_rows;
+use block_model::{Columns, Kind, Kinds, Name, RowId, Table, Value, Values};
 use page_layout::{
     Form, Page, check, decode_row, encode_row, first_free, first_free_from, free_slots, kind_of,
     row_at, row_size, slot_count, status_at, write_row,
@@ -18,14 +20,11 @@ fn heap() -> Form
     ensures form { IsForm result }
     ensures slots { HasSlot result 0 × HasSlot result 1 }
 {
-    let mut kinds = Kinds::new();
-    kinds.push(Kind::Int);
-    kinds.push(Kind::Span);
-    kinds.push(Kind::Net);
+    let columns = [column(Kind::Int), column(Kind::Span), column(Kind::Net)];
     Form::Heap {
         row: 53,
         slots: 2,
-        kinds,
+        kinds: Kinds::of(&columns),
         format: 1,
     }
 }
@@ -152,14 +151,12 @@ fn rows_stand_in_their_slots(rt: HostRuntime) {
 
 /// A table of an int8.
 fn table(rt: &impl Abort, alloc: Global) -> Result<Table, Fail>
-    ensures { IfOk result (λ t. map (λ c. c.kind) t.columns ≡ kinds.Int ∷ []) }
+    ensures kinds { IfOk result (λ t. map (λ c. c.kind) t.columns ≡ kinds.Int ∷ []) }
+    ensures one { IfOk result (λ t. length t.columns ≡ 1) }
 {
     let mut columns = Columns::new(alloc);
-    let name = Name::new(b"a").expect(rt, "a name");
-    columns.push(Column {
-        name,
-        kind: Kind::Int,
-    })?;
+    let name = Name::new(b"t").expect(rt, "a name");
+    columns.push(column(Kind::Int))?;
     Ok(Table {
         name,
         rows_per_page: 272,
@@ -174,10 +171,7 @@ fn a_row_of_one_number_has_thirty_bytes(rt: HostRuntime) -> Result<(), Fail> {
     let id = RowId { t: 1, k: 0 };
     let mut out = [9; 30];
     encode_row(&table, 1, id, 0, &[Value::Int(5)], &mut out);
-    let bytes = [
-        1, 0, 0, 0, 0, 0, 0, 0, 1, 0, 0, 0, 0, 0, 0, 0, 0, 0, 0, 0, 0, 0, 0, 0, 0, 0, 0, 0, 0, 5,
-    ];
-    assert_eq!(rt; out, bytes);
+    assert_eq!(rt; out, int8_rows::ROW);
     let mut values = Values::new();
     assert_eq!(rt; decode_row(&table, 1, &out, &mut values), (id, 0));
     assert_eq!(rt; values.as_slice(), [Value::Int(5)].as_slice());
@@ -241,21 +235,16 @@ fn free_slots_are_looked_for_from_a_slot_on(rt: HostRuntime) {
 
 #[test]
 fn a_row_is_written_by_the_form_of_its_page(rt: HostRuntime) {
-    let mut kinds = Kinds::new();
-    kinds.push(Kind::Int);
     let form = Form::Heap {
         row: 30,
         slots: 272,
-        kinds,
+        kinds: Kinds::of(&[column(Kind::Int)]),
         format: 1,
     };
     let mut out = [9; 30];
     let id = RowId { t: 1, k: 0 };
     write_row(form, id, 0, &[Value::Int(5)], &mut out);
-    let bytes = [
-        1, 0, 0, 0, 0, 0, 0, 0, 1, 0, 0, 0, 0, 0, 0, 0, 0, 0, 0, 0, 0, 0, 0, 0, 0, 0, 0, 0, 0, 5,
-    ];
-    assert_eq!(rt; out, bytes);
+    assert_eq!(rt; out, int8_rows::ROW);
 }
 
 #[test]

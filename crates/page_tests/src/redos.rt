@@ -2,7 +2,8 @@
 
 ghost use Rattle.page_layout.specs.PageContents.{IsForm};
 
-use block_model::{Kind, Kinds, Place};
+use crate::int8_rows::{ROW, heap};
+use block_model::Place;
 use page_layout::{Form, Page, check};
 use page_redo::{Misfit, fits, redo, redo_checked};
 use wal_record::Change;
@@ -12,81 +13,72 @@ const PLACE: Place = Place {
     block: 0,
 };
 
-/// Two slots of an int8.
-fn heap() -> Form
-    ensures form { IsForm result }
-{
-    let mut kinds = Kinds::new();
-    kinds.push(Kind::Int);
-    Form::Heap {
-        row: 30,
-        slots: 2,
-        kinds,
-        format: 1,
-    }
-}
-
-/// The row 1.0 of 5, which no transaction deleted.
-const ROW: [u8; 30] = [
-    1, 0, 0, 0, 0, 0, 0, 0, 1, 0, 0, 0, 0, 0, 0, 0, 0, 0, 0, 0, 0, 0, 0, 0, 0, 0, 0, 0, 0, 5,
-];
-
 /// The row 1.0 of 5, which transaction 258 deleted.
 const MARKED: [u8; 30] = [
     1, 0, 0, 0, 0, 0, 0, 0, 1, 0, 0, 0, 0, 0, 0, 0, 0, 0, 0, 1, 2, 0, 0, 0, 0, 0, 0, 0, 0, 5,
 ];
 
+/// Makes the change where it fits, else answers its tag.
+fn misfit(page: &mut Page, change: &Change<'_>, form: Form) -> Option<u8>
+    requires { IsForm form }
+{
+    match redo(page, change, form) {
+        Ok(()) => None,
+        Err(misfit) => Some(misfit.tag),
+    }
+}
+
 #[test]
-fn heap_pages_take_rows_marks_and_drops(rt: HostRuntime) {
-    let form = heap();
+fn heap_pages_take_rows_and_marks(rt: HostRuntime) {
     let mut bytes = [0; 8192];
     bytes[0] = 2;
     let mut page = Page::from_bytes(&[7; 8192]);
+    let place = PLACE;
     let put = Change::RowPut {
-        place: PLACE,
+        place,
         slot: 1,
         bytes: &ROW,
     };
-    let start = Change::PageStart {
-        place: PLACE,
-        kind: 2,
-    };
-    assert_eq!(rt; redo(&mut page, &put, heap()), Err(Misfit { tag: 3 }));
-    assert_eq!(rt; redo(&mut page, &start, heap()), Ok(()));
+    let start = Change::PageStart { place, kind: 2 };
+    assert_eq!(rt; misfit(&mut page, &put, heap()), Some(3));
+    assert_eq!(rt; misfit(&mut page, &start, heap()), None);
     assert_eq!(rt; page.as_bytes(), bytes.as_slice());
-    assert_eq!(rt; redo(&mut page, &put, heap()), Ok(()));
+    assert_eq!(rt; misfit(&mut page, &put, heap()), None);
     bytes[62..92].copy_from_slice(&ROW);
     assert_eq!(rt; page.as_bytes(), bytes.as_slice());
-    assert_eq!(rt; redo(&mut page, &put, heap()), Err(Misfit { tag: 3 }));
-    for (slot, answer) in [
-        (0, Err(Misfit { tag: 4 })),
-        (1, Ok(())),
-        (2, Err(Misfit { tag: 4 })),
-    ] {
+    assert_eq!(rt; misfit(&mut page, &put, heap()), Some(3));
+    for (slot, answer) in [(0, Some(4)), (1, None), (2, Some(4))] {
         let mark = Change::RowMark {
-            place: PLACE,
+            place,
             slot,
             deleter: 258,
         };
-        assert_eq!(rt; redo(&mut page, &mark, heap()), answer);
+        assert_eq!(rt; misfit(&mut page, &mark, heap()), answer);
     }
     bytes[62..92].copy_from_slice(&MARKED);
     assert_eq!(rt; page.as_bytes(), bytes.as_slice());
+}
+
+#[test]
+fn heap_pages_take_drops(rt: HostRuntime) {
+    let mut bytes = [0; 8192];
+    bytes[0] = 2;
+    let empty = bytes;
+    bytes[62..92].copy_from_slice(&MARKED);
+    let mut page = Page::from_bytes(&bytes);
+    let place = PLACE;
     for slots in [[0, 1, 0, 0], [0, 1, 0, 1], [0, 1, 0, 2]] {
         let drop = Change::RowsDrop {
-            place: PLACE,
+            place,
             slots: &slots,
         };
-        assert_eq!(rt; redo(&mut page, &drop, heap()), Err(Misfit { tag: 5 }));
+        assert_eq!(rt; misfit(&mut page, &drop, heap()), Some(5));
     }
     assert_eq!(rt; page.as_bytes(), bytes.as_slice());
-    let drop = Change::RowsDrop {
-        place: PLACE,
-        slots: &[0, 1],
-    };
-    assert_eq!(rt; redo(&mut page, &drop, form), Ok(()));
-    bytes[62..92].fill(0);
-    assert_eq!(rt; page.as_bytes(), bytes.as_slice());
+    let slots = &[0, 1];
+    let drop = Change::RowsDrop { place, slots };
+    assert_eq!(rt; misfit(&mut page, &drop, heap()), None);
+    assert_eq!(rt; page.as_bytes(), empty.as_slice());
 }
 
 #[test]
@@ -94,28 +86,23 @@ fn whole_pages_and_statuses_are_set(rt: HostRuntime) {
     let mut bytes = [0; 8192];
     bytes[0] = 1;
     let mut page = Page::from_bytes(&[7; 8192]);
+    let place = PLACE;
     let set = Change::StatusSet {
-        place: PLACE,
+        place,
         entry: 5,
         status: 2,
     };
     let full = Change::FullPage {
-        place: PLACE,
+        place,
         bytes: &bytes,
     };
-    let evacuate = Change::Evacuate { place: PLACE };
-    assert_eq!(rt;
-        redo(&mut page, &set, Form::Status),
-        Err(Misfit { tag: 13 })
-    );
-    assert_eq!(rt; redo(&mut page, &full, heap()), Err(Misfit { tag: 1 }));
-    assert_eq!(rt; redo(&mut page, &full, Form::Status), Ok(()));
+    let evacuate = Change::Evacuate { place };
+    assert_eq!(rt; misfit(&mut page, &set, Form::Status), Some(13));
+    assert_eq!(rt; misfit(&mut page, &full, heap()), Some(1));
+    assert_eq!(rt; misfit(&mut page, &full, Form::Status), None);
     assert_eq!(rt; page.as_bytes(), bytes.as_slice());
-    assert_eq!(rt; redo(&mut page, &set, Form::Status), Ok(()));
-    assert_eq!(rt;
-        redo(&mut page, &evacuate, Form::Status),
-        Err(Misfit { tag: 9 })
-    );
+    assert_eq!(rt; misfit(&mut page, &set, Form::Status), None);
+    assert_eq!(rt; misfit(&mut page, &evacuate, Form::Status), Some(9));
     assert!(rt; fits(&page, &set, Form::Status));
     bytes[33] = 8;
     assert_eq!(rt; page.as_bytes(), bytes.as_slice());

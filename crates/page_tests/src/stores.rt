@@ -1,21 +1,16 @@
 //! A page store over a disk that never fails.
 
-ghost use Rattle.std.specs.Prelude.{◌≡◌, ◌<◌, [], ◌∷◌, length, Some, IfSome};
-ghost use Rattle.block_model.specs.declared.value.Kind.TheVariants as kinds;
-ghost use Rattle.store_layout.specs.DiskLayout.{IsPlace, relation_blocks};
-ghost use Rattle.page_layout.specs.PageContents.{IsForm};
-ghost use Rattle.page_store.specs.Forms.{form_of};
+ghost use Rattle.std.specs.Prelude.{◌≡◌, ◌<◌};
 ghost use Rattle.wal_record.specs.Changes.{logged, place_of};
 
-use block_model::{Column, Kind, Kinds, Name, Place, Schema, Sequence, Sizes, Table};
+use crate::int8_rows::{ROW, heap, layout_of};
+use block_model::Place;
 use disk_trait::{Disk, SteadyDisk};
-use page_layout::{Form, Page};
 use page_redo::fits;
-use page_store::{PageStore, Room, StoreError};
+use page_store::{PageStore, Room};
 use std::alloc::Global;
 use std::marker::Model;
 use std::test::Fail;
-use store_layout::Layout;
 use wal_record::Change;
 
 /// The first block of the table's heap, and the next ones.
@@ -34,27 +29,7 @@ const THIRD: Place = Place {
     block: 2,
 };
 
-/// The row 1.0 of 5, which no transaction deleted.
-const ROW: [u8; 30] = [
-    1, 0, 0, 0, 0, 0, 0, 0, 1, 0, 0, 0, 0, 0, 0, 0, 0, 0, 0, 0, 0, 0, 0, 0, 0, 0, 0, 0, 0, 5,
-];
-
-/// Two slots of an int8.
-fn heap() -> Form
-    ensures form { IsForm result }
-    ensures is { result ≡ Form.Heap 30 2 (kinds.Int ∷ []) 1 }
-{
-    let mut kinds = Kinds::new();
-    kinds.push(Kind::Int);
-    Form::Heap {
-        row: 30,
-        slots: 2,
-        kinds,
-        format: 1,
-    }
-}
-
-/// A store of the table `t(a int8)` of two rows a page and three blocks, over a disk that never fails.
+/// A store of the table `t(c int8)` of two rows a page and three blocks, over a disk that never fails.
 #[derive(Drop)]
 struct Trial {
     store: PageStore<SteadyDisk>,
@@ -76,7 +51,7 @@ impl Model for Trial {
 
 impl Trial {
     fn new(alloc: Global) -> Option<Trial> {
-        let layout = layout(alloc)?;
+        let layout = layout_of(alloc, 2, 3)?;
         let disk = SteadyDisk::new(alloc, 8192).ok()?;
         let store = PageStore::plain(alloc, disk, layout).ok()?;
         Some(Trial { store })
@@ -175,41 +150,6 @@ impl Trial {
         let _store = &self.store;
         self.store.first_room(1, 30, 0)
     }
-}
-
-/// The table `t(a int8)` of two rows a page and three blocks.
-#[tactic(auto, unfolding(store_layout::specs::DiskLayout::relation_blocks, page_store::specs::Forms::forms_of))]
-fn layout(alloc: Global) -> Option<Layout>
-    ensures form { IfSome result (λ layout. form_of layout 1 ≡ Form.Heap 30 2 (kinds.Int ∷ []) 1) }
-    ensures blocks { IfSome result (λ layout. relation_blocks layout ≡ 1 ∷ 3 ∷ []) }
-{
-    let mut columns = Sequence::new(alloc);
-    columns
-        .push(Column {
-            name: Name::new(b"a")?,
-            kind: Kind::Int,
-        })
-        .ok()?;
-    let mut tables = Sequence::new(alloc);
-    tables
-        .push(Table {
-            name: Name::new(b"t")?,
-            rows_per_page: 2,
-            columns,
-        })
-        .ok()?;
-    let schema = Schema {
-        tables,
-        indexes: Sequence::new(alloc),
-    };
-    let sizes = Sizes {
-        heap_blocks: 3,
-        index_blocks: 3,
-        status_blocks: 1,
-        log_pages: 16,
-        frames: 16,
-    };
-    Layout::new(schema, sizes).ok()
 }
 
 #[test]

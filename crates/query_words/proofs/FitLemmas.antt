@@ -1,6 +1,6 @@
 -- A line that is said fits the schema.
-use Rattle.std.proofs.Common.{◌≡◌, ℕ, suc, ◌+◌, Bool, true, false, List, [], ◌∷◌, ◌++◌, length, Option, None, Some, Result, Ok, Err, IfOk, refl, sym, ap, ◌∙◌, subst, cond, arith, append-nil, append_assoc}
-use Rattle.std.specs.Option.{option_and_then}
+use Rattle.std.proofs.Common.{◌≡◌, ℕ, suc, ◌+◌, Bool, true, false, ◌&&◌, List, [], ◌∷◌, ◌++◌, length, Option, None, Some, Result, Ok, Err, IfOk, refl, sym, ap, ◌∙◌, subst, cond, arith, append-nil, append_assoc}
+use Rattle.std.specs.Option.{option_map, option_and_then}
 use Rattle.std.specs.List.{slice_get, AllByRecursion}
 use Rattle.std.specs.Str.{bytes_eq}
 use Rattle.std.proofs.lemmas.List.Elements.{All-from_recursion}
@@ -14,6 +14,7 @@ use Rattle.block_model.specs.declared.row.Query.{Query}
 use Rattle.block_model.specs.declared.schema.Schema.{Schema}
 use Rattle.block_model.specs.declared.schema.Table.{Table}
 use Rattle.block_model.specs.declared.schema.Column.{Column}
+use Rattle.block_model.specs.declared.schema.Index.{Index}
 use Rattle.block_model.specs.ValuesOfKind.{IsValueOf}
 use Rattle.value_text.specs.Laws.{DenotedIsOfKind}
 use Rattle.value_text.specs.ValueOf.{value_of, ValueOfIsDenoted}
@@ -21,20 +22,25 @@ use Rattle.statements.specs.declared.statement.Statement.{Statement}
 use Rattle.statements.specs.declared.statement.Statement.TheVariants as statements
 use Rattle.query_words.specs.declared.line.Line.{Line}
 use Rattle.query_words.specs.declared.line.Line.TheVariants as lines
+use Rattle.query_words.specs.declared.line.Order.{Order}
 use Rattle.query_words.specs.declared.line.Order.TheVariants as orders
+use Rattle.query_words.specs.declared.verb.Verb.{Verb}
+use Rattle.query_words.specs.declared.verb.Verb.TheVariants as verbs
 use Rattle.query_words.specs.declared.line.LineFault.{LineFault}
 use Rattle.query_words.specs.declared.line.LineFault.TheVariants as faults
 use Rattle.query_words.specs.Words.{PlacedWord, words_of}
 use Rattle.query_words.specs.Operators.{op_text, comparisons, op_of}
 use Rattle.query_words.specs.Written.{first_written}
 use Rattle.statements.specs.OperatorKinds.{takes_operator}
-use Rattle.query_words.specs.Grammar.{SaidCond, Compared, Null, NotNull, SaidStatement, Begin, Commit, Rollback, Insert, Select, Delete, Explain, SaidLine, Nothing, Say, IsSaid, said_texts}
+use Rattle.query_words.specs.Grammar.{SaidCond, Compared, Null, NotNull, SaidStatement, Begin, Commit, Rollback, Insert, Select, Delete, Explain, Summarize, Desummarize, Vacuum, Work, SaidOrder, Whole, Start, Step, Finish, SaidLine, Nothing, Say, verb_said, IsSaidOrder, IsSaid, statement_texts, order_texts, said_texts}
+use Rattle.query_words.specs.Blocks.{block_of}
+use Rattle.query_words.specs.Verbs.{answered, has_verb}
 use Rattle.query_words.specs.Syntax.{stop_of}
 use Rattle.query_words.specs.Parsed.{said_of}
-use Rattle.query_words.specs.Statements.{◌>>=◌, or_fault, table_from, table_said, column_from, column_said, op_in, op_said, value_said, cond_on, test_said, cond_said, conds_said, values_said, query_said, insert_said, statement_said}
-use Rattle.query_words.specs.Lines.{ReadsAs, line_said, line_judged, line_within, line_of}
-use Rattle.statements.specs.StatementFits.{HasKeyFor, IsCondFor, AreValuesFor, IsQueryFor, IsInsertFor, IsStatementFor}
-use Rattle.query_words.specs.LineFits.{IsLineFor}
+use Rattle.query_words.specs.Statements.{◌>>=◌, or_fault, table_from, table_said, column_from, column_said, op_in, op_said, value_said, cond_on, test_said, cond_said, conds_said, values_said, query_said, insert_said, index_from, index_said, vacuum_said, statement_said, order_said}
+use Rattle.query_words.specs.Lines.{line_said, line_judged}
+use Rattle.statements.specs.StatementFits.{HasKeyFor, IsCondFor, AreValuesFor, IsQueryFor, IsInsertFor}
+use Rattle.query_words.specs.LineFits.{IsTableOf, IsIndexOf, FitsStatement, FitsOrder, FitsLine, IsLineFor, answered_fits, statement_verb, is_order_in, is_line_in}
 use Rattle.query_words.proofs.LineLawLemmas.{unstopped}
 
 -- the value of a kind is one of it
@@ -46,16 +52,16 @@ pub value_fits : KnowsValues → (kind : Kind) (word : List ℕ) (value : Value)
 value_fits knows kind word value h = knows.of_kind kind word value ((knows.denoted kind word value).0 h)
 
 -- what was handed on, where the end is Ok
-record Came {A B : Type 0} (said : Result A LineFault) (next : A → Result B LineFault) (end : B) : Type 0 where
-  from : A
-  first : said ≡ Ok from
-  then : next from ≡ Ok end
+pub record Came {A B : Type 0} (said : Result A LineFault) (next : A → Result B LineFault) (end : B) : Type 0 where
+  pub from : A
+  pub first : said ≡ Ok from
+  pub then : next from ≡ Ok end
 
-came : {A B : Type 0} (said : Result A LineFault) (next : A → Result B LineFault) (end : B) → (said >>= next) ≡ Ok end → Came said next end
+pub came : {A B : Type 0} (said : Result A LineFault) (next : A → Result B LineFault) (end : B) → (said >>= next) ≡ Ok end → Came said next end
 came (Ok x) next end h = record { from = x; first = refl; then = h }
 came (Err fault) next end h = cc
 
-found_there : {A : Type 0} (fault : LineFault) (o : Option A) (x : A) → or_fault fault o ≡ Ok x → o ≡ Some x
+pub found_there : {A : Type 0} (fault : LineFault) (o : Option A) (x : A) → or_fault fault o ≡ Ok x → o ≡ Some x
 found_there fault None x h = cc
 found_there fault (Some y) x h = cc
 
@@ -219,7 +225,7 @@ query_fits knows schema table conds q h =
     } in
     subst (IsQueryFor schema) same fits
 
-insert_fits : KnowsValues → (schema : Schema) (len : ℕ) (table : PlacedWord) (words : List PlacedWord) (s : Statement) → insert_said schema len table words ≡ Ok s → IsStatementFor schema s
+insert_fits : KnowsValues → (schema : Schema) (len : ℕ) (table : PlacedWord) (words : List PlacedWord) (s : Statement) → insert_said schema len table words ≡ Ok s → FitsStatement schema s
 insert_fits knows schema len table words s h =
     let a = came (table_said schema table) (λ t. values_said len [] t.1 words >>= λ vs. Ok (statements.Insert t.0 vs)) s h in
     let found = table_found 0 schema.tables table.text a.from (found_there (faults.NoTable table.at) (table_from 0 schema.tables table.text) a.from a.first) in
@@ -231,54 +237,178 @@ insert_fits knows schema len table words s h =
       table = ap (slice_get schema.tables) (sym (at_zero a.from.0 found.number found.counted)) ∙ found.table;
       values = subst (λ (columns : List Column). AreValuesFor columns b.from) (sym found.columns) (subst (AreValuesFor a.from.1) (sym m.are) m.fit);
     } in
-    subst (IsStatementFor schema) same fits
+    subst (FitsStatement schema) same fits
 
 select_fits : KnowsValues → (schema : Schema) (table : PlacedWord) (conds : List (SaidCond PlacedWord)) (make : Query → Statement) (s : Statement)
-    → ((q : Query) → IsQueryFor schema q → IsStatementFor schema (make q)) → (query_said schema table conds >>= λ q. Ok (make q)) ≡ Ok s → IsStatementFor schema s
+    → ((q : Query) → IsQueryFor schema q → FitsStatement schema (make q)) → (query_said schema table conds >>= λ q. Ok (make q)) ≡ Ok s → FitsStatement schema s
 select_fits knows schema table conds make s fits h =
     let a = came (query_said schema table conds) (λ q. Ok (make q)) s h in
     let same : make a.from ≡ s = let e = a.then in cc in
-    subst (IsStatementFor schema) same (fits a.from (query_fits knows schema table conds a.from a.first))
+    subst (FitsStatement schema) same (fits a.from (query_fits knows schema table conds a.from a.first))
 
-pub statement_fits : KnowsValues → (schema : Schema) (len : ℕ) (said : SaidStatement PlacedWord) (s : Statement) → statement_said schema len said ≡ Ok s → IsStatementFor schema s
-statement_fits knows schema len Begin s h = let same : statements.Begin ≡ s = cc in subst (IsStatementFor schema) same tt
-statement_fits knows schema len Commit s h = let same : statements.Commit ≡ s = cc in subst (IsStatementFor schema) same tt
-statement_fits knows schema len Rollback s h = let same : statements.Rollback ≡ s = cc in subst (IsStatementFor schema) same tt
-statement_fits knows schema len (Insert table words) s h = insert_fits knows schema len table words s h
-statement_fits knows schema len (Select table conds) s h = select_fits knows schema table conds (λ q. statements.Select q) s (λ q f. f) h
-statement_fits knows schema len (Delete table conds) s h = select_fits knows schema table conds (λ q. statements.Delete q) s (λ q f. f) h
-statement_fits knows schema len (Explain table conds) s h = select_fits knows schema table conds (λ q. statements.Explain q) s (λ q f. f) h
+-- the index of a name, by its number
+record IndexFound (indexes : List Index) (n i : ℕ) : Type 0 where
+  number : ℕ
+  of : Index
+  index : slice_get indexes number ≡ Some of
+  counted : i ≡ n + number
 
-line_fits : KnowsValues → (schema : Schema) (len : ℕ) (said : SaidLine PlacedWord) (line : Line) → IsSaid (said_texts said) → line_said schema len said ≡ Ok line → IsLineFor schema line
-line_fits knows schema len (Nothing words) line is h = let same : lines.Nothing ≡ line = cc in subst (IsLineFor schema) same tt
-line_fits knows schema len (Say session said) line is h =
-    let a = came (statement_said schema len said) (λ s. Ok (lines.Say session.text (orders.Whole s))) line h in
-    let same : lines.Say session.text (orders.Whole a.from) ≡ line = let e = a.then in cc in
-    subst (IsLineFor schema) same (is.0, statement_fits knows schema len said a.from a.first)
+index_step : (b : Bool) (n : ℕ) (index : Index) (indexes : List Index) (later : Option ℕ) (i : ℕ) → (later ≡ Some i → IndexFound indexes (n + 1) i)
+    → cond b (Some n) later ≡ Some i → IndexFound (index ∷ indexes) n i
+index_step true n index indexes later i ih h =
+    let e : n ≡ i = cc in record { number = 0; of = index; index = refl; counted = sym e ∙ (let k : n ≡ n + 0 = omega arith in k) }
+index_step false n index indexes later i ih h =
+    let r = ih h in record { number = suc r.number; of = r.of; index = r.index; counted = r.counted ∙ (let k : n + 1 + r.number ≡ n + suc r.number = omega arith in k) }
 
-judged_fits : KnowsValues → (schema : Schema) (bytes : List ℕ) (line : Line) (o : Option ℕ) → stop_of (length bytes) (words_of bytes) ≡ o
-    → line_judged schema (length bytes) o (said_of (words_of bytes)) ≡ Ok line → IsLineFor schema line
-judged_fits knows schema bytes line (Some at) stop h = cc
-judged_fits knows schema bytes line None stop h =
-    let u = unstopped knows.denoted (length bytes) (words_of bytes) stop in
-    line_fits knows schema (length bytes) u.said line u.is_said (sym (ap (line_judged schema (length bytes) None) u.parsed) ∙ h)
+index_found : (n : ℕ) (indexes : List Index) (name : List ℕ) (i : ℕ) → index_from n indexes name ≡ Some i → IndexFound indexes n i
+index_found n [] name i h = cc
+index_found n (index ∷ indexes) name i h = index_step (bytes_eq index.name name) n index indexes (index_from (n + 1) indexes name) i (index_found (n + 1) indexes name i) h
 
-within_fits : KnowsValues → (schema : Schema) (bytes : List ℕ) (line : Line) (b : Bool) → line_within b schema bytes ≡ Ok line → IsLineFor schema line
-within_fits knows schema bytes line true h = cc
-within_fits knows schema bytes line false h = judged_fits knows schema bytes line (stop_of (length bytes) (words_of bytes)) refl h
+index_fits : (schema : Schema) (word : PlacedWord) (make : ℕ → Statement) (s : Statement) → ((i : ℕ) → IsIndexOf schema i → FitsStatement schema (make i))
+    → (index_said schema word >>= λ i. Ok (make i)) ≡ Ok s → FitsStatement schema s
+index_fits schema word make s fits h =
+    let a = came (index_said schema word) (λ i. Ok (make i)) s h in
+    let found = index_found 0 schema.indexes word.text a.from (found_there (faults.NoIndex word.at) (index_from 0 schema.indexes word.text) a.from a.first) in
+    let same : make a.from ≡ s = let e = a.then in cc in
+    subst (FitsStatement schema) same (fits a.from (found.of, ap (slice_get schema.indexes) (sym (at_zero a.from found.number found.counted)) ∙ found.index))
 
--- a line that is read fits the schema
-pub line_of_fits : KnowsValues → (schema : Schema) (bytes : List ℕ) (line : Line) → line_of schema bytes ≡ Ok line → IsLineFor schema line
-unfolding line_of
-line_of_fits knows schema bytes line h = within_fits knows schema bytes line _ h
+vacuum_fits : (schema : Schema) (word : PlacedWord) (s : Statement) → vacuum_said schema word ≡ Ok s → FitsStatement schema s
+vacuum_fits schema word s h =
+    let a = came (table_said schema word) (λ t. Ok (statements.Vacuum t.0)) s h in
+    let found = table_found 0 schema.tables word.text a.from (found_there (faults.NoTable word.at) (table_from 0 schema.tables word.text) a.from a.first) in
+    let same : statements.Vacuum a.from.0 ≡ s = let e = a.then in cc in
+    let fits : IsTableOf schema a.from.0 = (found.of, ap (slice_get schema.tables) (sym (at_zero a.from.0 found.number found.counted)) ∙ found.table) in
+    subst (FitsStatement schema) same fits
 
-pub answer_fits : KnowsValues → (schema : Schema) (bytes : List ℕ) (answer : Result Line LineFault) → ReadsAs answer (line_of schema bytes) → IfOk answer (IsLineFor schema)
-answer_fits knows schema bytes (Ok line) h = line_of_fits knows schema bytes line h
-answer_fits knows schema bytes (Err fault) h = tt
+-- a statement that is said fits, and has the verb that was said
+pub record SaidFits (schema : Schema) (said : SaidStatement PlacedWord) (s : Statement) : Type 0 where
+  pub fits : FitsStatement schema s
+  pub verb : statement_verb s ≡ verb_said said
 
-pub words_fit : KnowsValues → (schema : Schema) (len : ℕ) (words : List PlacedWord) (answer : Result Line LineFault) → stop_of len words ≡ None
-    → ReadsAs answer (line_judged schema len None (said_of words)) → IfOk answer (IsLineFor schema)
-words_fit knows schema len words (Ok line) stop h =
-    let u = unstopped knows.denoted len words stop in
-    line_fits knows schema len u.said line u.is_said (sym (ap (line_judged schema len None) u.parsed) ∙ h)
-words_fit knows schema len words (Err fault) stop h = tt
+bare_fits : (schema : Schema) (said : SaidStatement PlacedWord) (made s : Statement) → FitsStatement schema made → statement_verb made ≡ verb_said said → made ≡ s → SaidFits schema said s
+bare_fits schema said made s fits verb same = record { fits = subst (FitsStatement schema) same fits; verb = ap statement_verb (sym same) ∙ verb }
+
+-- its verb, whatever it was made of
+made_verb : {A : Type 0} (said : Result A LineFault) (make : A → Statement) (v : Verb) (s : Statement) → ((x : A) → statement_verb (make x) ≡ v) → (said >>= λ x. Ok (make x)) ≡ Ok s
+    → statement_verb s ≡ v
+made_verb said make v s verb h =
+    let a = came said (λ x. Ok (make x)) s h in
+    let same : make a.from ≡ s = let e = a.then in cc in
+    ap statement_verb (sym same) ∙ verb a.from
+
+insert_verb : (schema : Schema) (len : ℕ) (table : PlacedWord) (words : List PlacedWord) (s : Statement) → insert_said schema len table words ≡ Ok s → statement_verb s ≡ verbs.Insert
+insert_verb schema len table words s h =
+    let a = came (table_said schema table) (λ t. values_said len [] t.1 words >>= λ vs. Ok (statements.Insert t.0 vs)) s h in
+    made_verb (values_said len [] a.from.1 words) (λ vs. statements.Insert a.from.0 vs) verbs.Insert s (λ vs. refl) a.then
+
+pub statement_fits : KnowsValues → (schema : Schema) (len : ℕ) (said : SaidStatement PlacedWord) (s : Statement) → statement_said schema len said ≡ Ok s → SaidFits schema said s
+statement_fits knows schema len Begin s h = bare_fits schema Begin statements.Begin s tt refl (let e : statements.Begin ≡ s = cc in e)
+statement_fits knows schema len Commit s h = bare_fits schema Commit statements.Commit s tt refl (let e : statements.Commit ≡ s = cc in e)
+statement_fits knows schema len Rollback s h = bare_fits schema Rollback statements.Rollback s tt refl (let e : statements.Rollback ≡ s = cc in e)
+statement_fits knows schema len Work s h = bare_fits schema Work statements.Work s tt refl (let e : statements.Work ≡ s = cc in e)
+statement_fits knows schema len (Insert table words) s h =
+    record { fits = insert_fits knows schema len table words s h; verb = insert_verb schema len table words s h }
+statement_fits knows schema len (Select table conds) s h = record {
+  fits = select_fits knows schema table conds (λ q. statements.Select q) s (λ q f. f) h;
+  verb = made_verb (query_said schema table conds) (λ q. statements.Select q) verbs.Select s (λ q. refl) h;
+}
+statement_fits knows schema len (Delete table conds) s h = record {
+  fits = select_fits knows schema table conds (λ q. statements.Delete q) s (λ q f. f) h;
+  verb = made_verb (query_said schema table conds) (λ q. statements.Delete q) verbs.Delete s (λ q. refl) h;
+}
+statement_fits knows schema len (Explain table conds) s h = record {
+  fits = select_fits knows schema table conds (λ q. statements.Explain q) s (λ q f. f) h;
+  verb = made_verb (query_said schema table conds) (λ q. statements.Explain q) verbs.Explain s (λ q. refl) h;
+}
+statement_fits knows schema len (Summarize index block) s h =
+    let make : ℕ → Statement = λ i. statements.Summarize i (option_map (λ b. block_of b.text) block) in record {
+      fits = index_fits schema index make s (λ i f. f) h;
+      verb = made_verb (index_said schema index) make verbs.Summarize s (λ i. refl) h;
+    }
+statement_fits knows schema len (Desummarize index block) s h =
+    let make : ℕ → Statement = λ i. statements.Desummarize i (block_of block.text) in record {
+      fits = index_fits schema index make s (λ i f. f) h;
+      verb = made_verb (index_said schema index) make verbs.Desummarize s (λ i. refl) h;
+    }
+statement_fits knows schema len (Vacuum table) s h = record {
+  fits = vacuum_fits schema table s h;
+  verb = made_verb (table_said schema table) (λ t. statements.Vacuum t.0) verbs.Vacuum s (λ t. refl) h;
+}
+
+-- a line that is read fits the schema, and its verbs are the language's
+pub record LineFitsBoth (language : List Verb) (schema : Schema) (line : Line) : Type 0 where
+  pub fits : FitsLine schema line
+  pub spoken : is_line_in language line ≡ true
+
+both : (a b : Bool) → a ≡ true → b ≡ true → (a && b) ≡ true
+both true true h k = refl
+both true false h k = k
+both false b h k = h
+
+verb_texts : (said : SaidStatement PlacedWord) → verb_said (statement_texts said) ≡ verb_said said
+verb_texts Begin = refl
+verb_texts Commit = refl
+verb_texts Rollback = refl
+verb_texts (Insert table values) = refl
+verb_texts (Select table conds) = refl
+verb_texts (Delete table conds) = refl
+verb_texts (Explain table conds) = refl
+verb_texts (Summarize index block) = refl
+verb_texts (Desummarize index block) = refl
+verb_texts (Vacuum table) = refl
+verb_texts Work = refl
+
+has_same : (language : List Verb) (schema : Schema) (said : SaidStatement PlacedWord) (s : Statement) → SaidFits schema said s → has_verb language (verb_said (statement_texts said)) ≡ true
+    → has_verb language (statement_verb s) ≡ true
+has_same language schema said s f has = ap (has_verb language) (f.verb ∙ sym (verb_texts said)) ∙ has
+
+-- the order of a line
+record OrderFits (language : List Verb) (schema : Schema) (order : Order) : Type 0 where
+  fits : FitsOrder schema order
+  spoken : is_order_in language order ≡ true
+
+order_same : (language : List Verb) (schema : Schema) (made order : Order) → made ≡ order → OrderFits language schema made → OrderFits language schema order
+order_same language schema made order same f = subst (OrderFits language schema) same f
+
+order_fits : (language : List Verb) → KnowsValues → (schema : Schema) (len : ℕ) (said : SaidOrder PlacedWord) (order : Order) → IsSaidOrder language (order_texts said) → order_said schema len said ≡ Ok order
+    → OrderFits language schema order
+order_fits language knows schema len (Whole said) order is h =
+    let a = came (statement_said schema len said) (λ s. Ok (orders.Whole s)) order h in
+    let same : orders.Whole a.from ≡ order = let e = a.then in cc in
+    let f = statement_fits knows schema len said a.from a.first in
+    order_same language schema (orders.Whole a.from) order same (record { fits = f.fits; spoken = has_same language schema said a.from f is.0 })
+order_fits language knows schema len (Start said) order is h =
+    let a = came (statement_said schema len said) (λ s. Ok (orders.Start s)) order h in
+    let same : orders.Start a.from ≡ order = let e = a.then in cc in
+    let f = statement_fits knows schema len said a.from a.first in
+    order_same language schema (orders.Start a.from) order same
+    (record { fits = f.fits; spoken = both (has_verb language verbs.Start) (has_verb language (statement_verb a.from)) is.0 (has_same language schema said a.from f is.1.0) })
+order_fits language knows schema len Step order is h =
+    order_same language schema orders.Step order (let e : orders.Step ≡ order = cc in e) (record { fits = tt; spoken = is })
+order_fits language knows schema len Finish order is h =
+    order_same language schema orders.Finish order (let e : orders.Finish ≡ order = cc in e) (record { fits = tt; spoken = is })
+
+line_fits : (language : List Verb) → KnowsValues → (schema : Schema) (len : ℕ) (said : SaidLine PlacedWord) (line : Line) → IsSaid language (said_texts said) → line_said schema len said ≡ Ok line
+    → LineFitsBoth language schema line
+line_fits language knows schema len (Nothing words) line is h =
+    let same : lines.Nothing ≡ line = cc in
+    let made : LineFitsBoth language schema lines.Nothing = record { fits = tt; spoken = refl } in
+    subst (LineFitsBoth language schema) same made
+line_fits language knows schema len (Say session said) line is h =
+    let a = came (order_said schema len said) (λ o. Ok (lines.Say session.text o)) line h in
+    let same : lines.Say session.text a.from ≡ line = let e = a.then in cc in
+    let f = order_fits language knows schema len said a.from is.1 a.first in
+    let made : LineFitsBoth language schema (lines.Say session.text a.from) = record { fits = f.fits; spoken = f.spoken } in
+    subst (LineFitsBoth language schema) same made
+
+-- words that stop nowhere and are read as a line
+pub words_fit : (language : List Verb) → KnowsValues → (schema : Schema) (len : ℕ) (words : List PlacedWord) (read : Line)
+    → (stop_of language len words ≡ None) × (line_judged schema len None (said_of language words) ≡ Ok read) → LineFitsBoth language schema read
+words_fit language knows schema len words read h =
+    let u = unstopped language knows.denoted len words h.0 in
+    line_fits language knows schema len u.said read u.is_said (sym (ap (line_judged schema len None) u.parsed) ∙ h.1)
+
+-- what the engine's language says fits the engine
+pub answer_fits : (schema : Schema) (answer : Result Line LineFault) → IfOk answer (FitsLine schema) → IfOk answer (λ read. is_line_in answered read ≡ true) → IfOk answer (IsLineFor schema)
+answer_fits schema (Ok read) fits within = answered_fits schema read fits within
+answer_fits schema (Err fault) fits within = tt

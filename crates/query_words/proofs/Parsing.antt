@@ -1,15 +1,15 @@
 -- Words of the grammar are read as what they say.
-use Rattle.std.proofs.Common.{◌≡◌, ℕ, Bool, false, List, [], ◌∷◌, ◌++◌, map, codes, Option, None, Some, refl, ap, ◌∙◌, cond}
-use Rattle.std.specs.Option.{option_and_then}
+use Rattle.std.proofs.Common.{◌≡◌, ℕ, Bool, true, false, List, [], ◌∷◌, ◌++◌, map, codes, Option, None, Some, refl, ap, ◌∙◌, cond}
+use Rattle.std.specs.Option.{option_map, option_and_then}
 use Rattle.std.specs.Str.{bytes_eq}
 use Rattle.query_words.specs.declared.verb.Verb.{Verb}
 use Rattle.query_words.specs.declared.verb.Verb.TheVariants as verbs
 use Rattle.query_words.specs.Words.{PlacedWord, texts_of}
-use Rattle.query_words.specs.Verbs.{verb_text, verb_of}
-use Rattle.query_words.specs.Grammar.{SaidCond, Compared, Null, NotNull, SaidStatement, Begin, Commit, Rollback, Insert, Select, Delete, Explain, words_of_cond, words_of_more, words_of_conds, words_of_statement}
-use Rattle.query_words.specs.Grammar.{IsSaidCond, AreSaidConds, IsSaidStatement, cond_texts, statement_texts}
-use Rattle.query_words.specs.Parsed.{conds_behind, conds_from, statement_behind, statement_of_words}
-use Rattle.query_words.proofs.Completeness.{is_other}
+use Rattle.query_words.specs.Verbs.{verb_text, has_verb, verb_of}
+use Rattle.query_words.specs.Grammar.{SaidCond, Compared, Null, NotNull, SaidStatement, Begin, Commit, Rollback, Insert, Select, Delete, Explain, Summarize, Desummarize, Vacuum, Work, SaidOrder, Whole, Start, Step, Finish, verb_said, words_behind, words_of_cond, words_of_more, words_of_conds, words_of_statement, words_of_order}
+use Rattle.query_words.specs.Grammar.{IsSaidCond, AreSaidConds, HasSaidParts, IsSaidOrder, cond_texts, statement_texts, order_texts}
+use Rattle.query_words.specs.Parsed.{conds_behind, conds_from, statement_behind, statement_of_words, order_behind, order_of_words}
+use Rattle.query_words.proofs.Completeness.{is_other, verb_back}
 
 -- the first word and those behind it
 pub record Begins (words : List PlacedWord) (text : List ℕ) (rest : List (List ℕ)) : Type 0 where
@@ -115,41 +115,128 @@ conds_read (said ∷ conds) words are e =
     ∙ ap (λ (cs : List (SaidCond PlacedWord)). map cond_texts cs) r.parsed
     ∙ two_parts (cond_texts r.first) said (map cond_texts (conds_from [] r.behind)) conds r.said_is (more_read conds r.behind are.1 r.rest_is)
 
--- the statement that words are read as, with the words for what isn't looked up
-pub record StatementRead (words : List PlacedWord) (said : SaidStatement (List ℕ)) : Type 0 where
-  pub statement : SaidStatement PlacedWord
-  pub parsed : statement_of_words words ≡ Some statement
-  pub said_is : statement_texts statement ≡ said
+-- what stands behind a verb, with the words for what isn't looked up
+record BehindRead (said : SaidStatement (List ℕ)) (words : List PlacedWord) : Type 0 where
+  statement : SaidStatement PlacedWord
+  parsed : statement_behind (verb_said said) words ≡ Some statement
+  said_is : statement_texts statement ≡ said
 
-verb_read : (words : List PlacedWord) (v : Verb) (said : SaidStatement (List ℕ)) (rest : List (List ℕ)) → (b : Begins words (verb_text v) rest) → verb_of (verb_text v) ≡ Some v
-    → (statement : SaidStatement PlacedWord) → statement_behind v b.behind ≡ Some statement → statement_texts statement ≡ said → StatementRead words said
-verb_read words v said rest b is statement parsed said_is = record {
-  statement = statement;
-  parsed = ap statement_of_words b.is ∙ ap (λ (o : Option Verb). option_and_then (λ u. statement_behind u b.behind) o) (ap verb_of b.text_is ∙ is) ∙ parsed;
-  said_is = said_is;
-}
+-- the order that words are read as
+pub record OrderRead (language : List Verb) (words : List PlacedWord) (said : SaidOrder (List ℕ)) : Type 0 where
+  pub order : SaidOrder PlacedWord
+  pub parsed : order_of_words language words ≡ Some order
+  pub said_is : order_texts order ≡ said
 
-pub statement_read : (said : SaidStatement (List ℕ)) (words : List PlacedWord) → IsSaidStatement said → texts_of words ≡ words_of_statement said → StatementRead words said
-statement_read Begin words is e = verb_read words verbs.Begin Begin [] (begins words (codes "begin") [] e) refl Begin refl refl
-statement_read Commit words is e = verb_read words verbs.Commit Commit [] (begins words (codes "commit") [] e) refl Commit refl refl
-statement_read Rollback words is e = verb_read words verbs.Rollback Rollback [] (begins words (codes "rollback") [] e) refl Rollback refl refl
-statement_read (Insert table values) words is e =
-    let b = begins words (codes "insert") (table ∷ values) e in
-    let t = begins b.behind table values b.rest_is in
-    verb_read words verbs.Insert (Insert table values) (table ∷ values) b refl (Insert t.first t.behind) (ap (statement_behind verbs.Insert) t.is)
-    (ap (λ (n : List ℕ). Insert n (texts_of t.behind)) t.text_is ∙ ap (λ (vs : List (List ℕ)). Insert table vs) t.rest_is)
-statement_read (Select table conds) words is e =
-    let b = begins words (codes "select") (table ∷ words_of_conds conds) e in
-    let t = begins b.behind table (words_of_conds conds) b.rest_is in
-    verb_read words verbs.Select (Select table conds) (table ∷ words_of_conds conds) b refl (Select t.first (conds_from [] t.behind)) (ap (statement_behind verbs.Select) t.is)
-    (ap (λ (n : List ℕ). Select n (map cond_texts (conds_from [] t.behind))) t.text_is ∙ ap (λ (cs : List (SaidCond (List ℕ))). Select table cs) (conds_read conds t.behind is.1 t.rest_is))
-statement_read (Delete table conds) words is e =
-    let b = begins words (codes "delete") (table ∷ words_of_conds conds) e in
-    let t = begins b.behind table (words_of_conds conds) b.rest_is in
-    verb_read words verbs.Delete (Delete table conds) (table ∷ words_of_conds conds) b refl (Delete t.first (conds_from [] t.behind)) (ap (statement_behind verbs.Delete) t.is)
-    (ap (λ (n : List ℕ). Delete n (map cond_texts (conds_from [] t.behind))) t.text_is ∙ ap (λ (cs : List (SaidCond (List ℕ))). Delete table cs) (conds_read conds t.behind is.1 t.rest_is))
-statement_read (Explain table conds) words is e =
-    let b = begins words (codes "explain") (table ∷ words_of_conds conds) e in
-    let t = begins b.behind table (words_of_conds conds) b.rest_is in
-    verb_read words verbs.Explain (Explain table conds) (table ∷ words_of_conds conds) b refl (Explain t.first (conds_from [] t.behind)) (ap (statement_behind verbs.Explain) t.is)
-    (ap (λ (n : List ℕ). Explain n (map cond_texts (conds_from [] t.behind))) t.text_is ∙ ap (λ (cs : List (SaidCond (List ℕ))). Explain table cs) (conds_read conds t.behind is.1 t.rest_is))
+no_words : (words : List PlacedWord) → texts_of words ≡ [] → words ≡ []
+no_words [] e = refl
+no_words (word ∷ words) e = cc
+
+behind_read : (said : SaidStatement (List ℕ)) (words : List PlacedWord) → HasSaidParts said → texts_of words ≡ words_behind said → BehindRead said words
+behind_read Begin words is e = record { statement = Begin; parsed = refl; said_is = refl }
+behind_read Commit words is e = record { statement = Commit; parsed = refl; said_is = refl }
+behind_read Rollback words is e = record { statement = Rollback; parsed = refl; said_is = refl }
+behind_read Work words is e = record { statement = Work; parsed = refl; said_is = refl }
+behind_read (Insert table values) words is e =
+    let t = begins words table values e in record {
+      statement = Insert t.first t.behind;
+      parsed = ap (statement_behind verbs.Insert) t.is;
+      said_is = ap (λ (n : List ℕ). Insert n (texts_of t.behind)) t.text_is ∙ ap (λ (vs : List (List ℕ)). Insert table vs) t.rest_is;
+    }
+behind_read (Select table conds) words is e =
+    let t = begins words table (words_of_conds conds) e in record {
+      statement = Select t.first (conds_from [] t.behind);
+      parsed = ap (statement_behind verbs.Select) t.is;
+      said_is = ap (λ (n : List ℕ). Select n (map cond_texts (conds_from [] t.behind))) t.text_is
+          ∙ ap (λ (cs : List (SaidCond (List ℕ))). Select table cs) (conds_read conds t.behind is.1 t.rest_is);
+    }
+behind_read (Delete table conds) words is e =
+    let t = begins words table (words_of_conds conds) e in record {
+      statement = Delete t.first (conds_from [] t.behind);
+      parsed = ap (statement_behind verbs.Delete) t.is;
+      said_is = ap (λ (n : List ℕ). Delete n (map cond_texts (conds_from [] t.behind))) t.text_is
+          ∙ ap (λ (cs : List (SaidCond (List ℕ))). Delete table cs) (conds_read conds t.behind is.1 t.rest_is);
+    }
+behind_read (Explain table conds) words is e =
+    let t = begins words table (words_of_conds conds) e in record {
+      statement = Explain t.first (conds_from [] t.behind);
+      parsed = ap (statement_behind verbs.Explain) t.is;
+      said_is = ap (λ (n : List ℕ). Explain n (map cond_texts (conds_from [] t.behind))) t.text_is
+          ∙ ap (λ (cs : List (SaidCond (List ℕ))). Explain table cs) (conds_read conds t.behind is.1 t.rest_is);
+    }
+behind_read (Summarize index None) words is e =
+    let t = begins words index [] e in
+    let none : t.behind ≡ [] = no_words t.behind t.rest_is in record {
+      statement = Summarize t.first None;
+      parsed = ap (statement_behind verbs.Summarize) (t.is ∙ ap (λ (ws : List PlacedWord). t.first ∷ ws) none);
+      said_is = ap (λ (n : List ℕ). Summarize n None) t.text_is;
+    }
+behind_read (Summarize index (Some block)) words is e =
+    let t = begins words index (block ∷ []) e in
+    let b = begins t.behind block [] t.rest_is in record {
+      statement = Summarize t.first (Some b.first);
+      parsed = ap (statement_behind verbs.Summarize) (t.is ∙ ap (λ (ws : List PlacedWord). t.first ∷ ws) b.is);
+      said_is = ap (λ (n : List ℕ). Summarize n (Some b.first.text)) t.text_is ∙ ap (λ (n : List ℕ). Summarize index (Some n)) b.text_is;
+    }
+behind_read (Desummarize index block) words is e =
+    let t = begins words index (block ∷ []) e in
+    let b = begins t.behind block [] t.rest_is in record {
+      statement = Desummarize t.first b.first;
+      parsed = ap (statement_behind verbs.Desummarize) (t.is ∙ ap (λ (ws : List PlacedWord). t.first ∷ ws) b.is);
+      said_is = ap (λ (n : List ℕ). Desummarize n b.first.text) t.text_is ∙ ap (λ (n : List ℕ). Desummarize index n) b.text_is;
+    }
+behind_read (Vacuum table) words is e =
+    let t = begins words table [] e in record {
+      statement = Vacuum t.first;
+      parsed = ap (statement_behind verbs.Vacuum) t.is;
+      said_is = ap (λ (n : List ℕ). Vacuum n) t.text_is;
+    }
+
+-- a statement's verb leads to the statement as a whole
+whole_behind : (language : List Verb) (said : SaidStatement (List ℕ)) (words : List PlacedWord)
+    → order_behind language (verb_said said) words ≡ option_map Whole (statement_behind (verb_said said) words)
+whole_behind language Begin words = refl
+whole_behind language Commit words = refl
+whole_behind language Rollback words = refl
+whole_behind language (Insert table values) words = refl
+whole_behind language (Select table conds) words = refl
+whole_behind language (Delete table conds) words = refl
+whole_behind language (Explain table conds) words = refl
+whole_behind language (Summarize index block) words = refl
+whole_behind language (Desummarize index block) words = refl
+whole_behind language (Vacuum table) words = refl
+whole_behind language Work words = refl
+
+-- the first word is the verb
+verb_first : (language : List Verb) (words behind : List PlacedWord) (first : PlacedWord) (v : Verb) → words ≡ first ∷ behind → first.text ≡ verb_text v → has_verb language v ≡ true
+    → order_of_words language words ≡ order_behind language v behind
+verb_first language words behind first v is text has =
+    ap (order_of_words language) is ∙ ap (λ (o : Option Verb). option_and_then (λ u. order_behind language u behind) o) (ap (verb_of language) text ∙ verb_back language v has)
+
+pub order_read : (language : List Verb) (said : SaidOrder (List ℕ)) (words : List PlacedWord) → IsSaidOrder language said → texts_of words ≡ words_of_order said → OrderRead language words said
+order_read language (Whole said) words is e =
+    let b = begins words (verb_text (verb_said said)) (words_behind said) e in
+    let r = behind_read said b.behind is.1 b.rest_is in record {
+      order = Whole r.statement;
+      parsed = verb_first language words b.behind b.first (verb_said said) b.is b.text_is is.0 ∙ whole_behind language said b.behind
+          ∙ ap (λ (o : Option (SaidStatement PlacedWord)). option_map Whole o) r.parsed;
+      said_is = ap Whole r.said_is;
+    }
+order_read language (Start said) words is e =
+    let b = begins words (verb_text verbs.Start) (words_of_statement said) e in
+    let d = begins b.behind (verb_text (verb_said said)) (words_behind said) b.rest_is in
+    let r = behind_read said d.behind is.1.1 d.rest_is in
+    let inner : statement_of_words language b.behind ≡ Some r.statement =
+    ap (statement_of_words language) d.is
+    ∙ ap (λ (o : Option Verb). option_and_then (λ u. statement_behind u d.behind) o) (ap (verb_of language) d.text_is ∙ verb_back language (verb_said said) is.1.0)
+    ∙ r.parsed in
+    record {
+      order = Start r.statement;
+      parsed = verb_first language words b.behind b.first verbs.Start b.is b.text_is is.0 ∙ ap (λ (o : Option (SaidStatement PlacedWord)). option_map Start o) inner;
+      said_is = ap Start r.said_is;
+    }
+order_read language Step words is e =
+    let b = begins words (verb_text verbs.Step) [] e in
+    record { order = Step; parsed = verb_first language words b.behind b.first verbs.Step b.is b.text_is is; said_is = refl }
+order_read language Finish words is e =
+    let b = begins words (verb_text verbs.Finish) [] e in
+    record { order = Finish; parsed = verb_first language words b.behind b.first verbs.Finish b.is b.text_is is; said_is = refl }

@@ -49,7 +49,7 @@ digits_plain n h =
     (λ m low. ap (λ t. t && true) (past_space (48 + m) (omega arith)))
     (λ m ds low ih. list_all-append no_space ds ((48 + m % 10) ∷ []) ∙ ap (λ t. t && (no_space (48 + m % 10) && true)) ih ∙ ap (λ t. t && true) (past_space (48 + m % 10) (omega arith))) n h
 
-decimal_plain : (k n : ℕ) → 0 < k → n < 10 ^ k → n < 2 ^ 64 → IsPlain k (decimal n)
+pub decimal_plain : (k n : ℕ) → 0 < k → n < 10 ^ k → n < 2 ^ 64 → IsPlain k (decimal n)
 decimal_plain k n some low fits = record { no_spaces = digits_plain n fits; short = length-decimal-le k n some low fits }
 
 signed_plain : (z : ℤ) → is_int8 z ≡ true → IsPlain 20 (signed_decimal z)

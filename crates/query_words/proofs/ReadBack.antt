@@ -17,6 +17,7 @@ use Rattle.block_model.specs.declared.schema.Schema.{Schema}
 use Rattle.block_model.specs.declared.schema.Sizes.{Sizes}
 use Rattle.block_model.specs.declared.schema.Table.{Table}
 use Rattle.block_model.specs.declared.schema.Column.{Column}
+use Rattle.block_model.specs.declared.schema.Index.{Index}
 use Rattle.store_layout.specs.FirstBrokenRule.{KeepsLimits}
 use Rattle.store_layout.specs.Limits.{are_distinct, has_name, relation_names, columns_are_lawful, parts_are_lawful}
 use Rattle.value_text.specs.CanonicalTexts.{canonical_text}
@@ -30,9 +31,9 @@ use Rattle.query_words.specs.Operators.{op_text, op_of}
 use Rattle.statements.specs.OperatorKinds.{takes_operator}
 use Rattle.query_words.specs.Grammar.{SaidCond, Compared, Null, NotNull, words_of_cond, words_of_more}
 use Rattle.query_words.specs.Grammar.{IsNameWord, IsValueWord, IsSaidCond, AreSaidConds, cond_texts}
-use Rattle.query_words.specs.Statements.{◌>>=◌, or_fault, table_from, column_from, op_in, op_said, value_said, cond_on, test_said, cond_said, conds_said}
+use Rattle.query_words.specs.Statements.{◌>>=◌, or_fault, table_from, index_from, column_from, op_in, op_said, value_said, cond_on, test_said, cond_said, conds_said}
 use Rattle.statements.specs.StatementFits.{HasKeyFor, IsCondFor}
-use Rattle.query_words.specs.LineTexts.{table_name, columns_at, column_name, test_of, cond_of}
+use Rattle.query_words.specs.LineTexts.{table_name, index_name, columns_at, column_name, test_of, cond_of}
 use Rattle.query_words.specs.LineLaws.{IsNamedTable, HasNames}
 use Rattle.query_words.proofs.Accepting.{text_same}
 use Rattle.query_words.proofs.PrintedValues.{no_space, past_space, IsPrinted, value_printed}
@@ -162,14 +163,14 @@ declared schema sizes n t keeps names e =
     let lawful : columns_are_lawful t ≡ true = at_place (λ (x : Table). columns_are_lawful x ≡ true) schema.tables n t (all_lawful schema.tables rule2.0) e in
     let parts = and_parts (nat_le 1 (length t.columns) && nat_le (length t.columns) 8) (are_distinct same_name t.columns) lawful in
     let few = and_parts (nat_le 1 (length t.columns)) (nat_le (length t.columns) 8) parts.0 in
-    let named : IsNamedTable t = at_place IsNamedTable schema.tables n t (recursion_from_All IsNamedTable schema.tables names) e in
+    let named : IsNamedTable t = at_place IsNamedTable schema.tables n t (recursion_from_All IsNamedTable schema.tables names.tables) e in
     record {
       table = e;
-      named = named.0;
+      named = named.name;
       found = table_back 0 schema.tables _ n t distinct.1 e ∙ ap (λ (m : ℕ). Some (m, t.columns)) (let z : 0 + n ≡ n = omega arith in z);
       few = leb-true (length t.columns) 8 few.1;
       distinct = parts.1;
-      columns_named = recursion_from_All (λ (c : Column). IsNameWord c.name) t.columns named.1;
+      columns_named = recursion_from_All (λ (c : Column). IsNameWord c.name) t.columns named.columns;
     }
 
 pub table_name_is : (schema : Schema) (n : ℕ) (t : Table) → slice_get schema.tables n ≡ Some t → table_name schema n ≡ t.name
@@ -344,3 +345,47 @@ conds_back knows columns (c ∷ cs) there all =
       count = omega (arith, length-append (words_of_cond (cond_of columns c)) (words_of_more (map (cond_of columns) cs)));
       back = λ done said e. conds_step columns c cs done said one rest e;
     }
+
+-- names that are distinct find their index
+other_index : (test : List ℕ → Bool) (indexes : List Index) (n : ℕ) (i : Index) → not (list_any test (map (λ (x : Index). x.name) indexes)) ≡ true
+    → slice_get indexes n ≡ Some i → test i.name ≡ false
+other_index test [] n i h e = cc
+other_index test (x ∷ xs) zero i h e =
+    let same : x ≡ i = cc in ap (λ (y : Index). test y.name) (sym same) ∙ (neither (test x.name) (list_any test (map (λ (y : Index). y.name) xs)) h).0
+other_index test (x ∷ xs) (suc n) i h e = other_index test xs n i (neither (test x.name) (list_any test (map (λ (y : Index). y.name) xs)) h).1 e
+
+index_back : (k : ℕ) (indexes : List Index) (n : ℕ) (i : Index) → are_distinct bytes_eq (map (λ (x : Index). x.name) indexes) ≡ true → slice_get indexes n ≡ Some i
+    → index_from k indexes i.name ≡ Some (k + n)
+index_back k [] n i h e = cc
+index_back k (x ∷ xs) zero i h e =
+    let same : x ≡ i = cc in
+    ap (λ b. cond b (Some k) (index_from (k + 1) xs i.name)) (text_same x.name i.name (ap (λ (y : Index). y.name) same)) ∙ ap (λ (m : ℕ). Some m) (let z : k ≡ k + 0 = omega arith in z)
+index_back k (x ∷ xs) (suc n) i h e =
+    let rest : List (List ℕ) = map (λ (y : Index). y.name) xs in
+    let b = and_parts (not (list_any (bytes_eq x.name) rest)) (are_distinct bytes_eq rest) h in
+    ap (λ c. cond c (Some k) (index_from (k + 1) xs i.name)) (other_index (bytes_eq x.name) xs n i b.0 e)
+    ∙ index_back (k + 1) xs n i b.1 e ∙ ap (λ (m : ℕ). Some m) (let z : k + 1 + n ≡ k + suc n = omega arith in z)
+
+-- the last of distinct names are distinct
+distinct_last : (first last : List (List ℕ)) → are_distinct bytes_eq (first ++ last) ≡ true → are_distinct bytes_eq last ≡ true
+distinct_last [] last h = h
+distinct_last (x ∷ xs) last h = distinct_last xs last (and_parts (not (list_any (bytes_eq x) (xs ++ last))) (are_distinct bytes_eq (xs ++ last)) h).1
+
+-- what is known of a declared index
+pub record IsDeclaredIndex (schema : Schema) (n : ℕ) (i : Index) : Type 0 where
+  pub named : is_name i.name ≡ true
+  pub found : index_from 0 schema.indexes i.name ≡ Some n
+
+pub declared_index : (schema : Schema) (sizes : Sizes) (n : ℕ) (i : Index) → KeepsLimits schema sizes → HasNames schema → slice_get schema.indexes n ≡ Some i → IsDeclaredIndex schema n i
+declared_index schema sizes n i keeps names e =
+    let size : ℕ = length schema.tables in
+    let rule1 = and_parts ((nat_le 1 size && nat_le size 8) && are_distinct bytes_eq (relation_names schema)) (not (has_name (codes "status") (relation_names schema))) (keeps 1) in
+    let distinct = and_parts (nat_le 1 size && nat_le size 8) (are_distinct bytes_eq (relation_names schema)) rule1.0 in
+    let last = distinct_last (map (λ (x : Table). x.name) schema.tables) (map (λ (x : Index). x.name) schema.indexes) distinct.1 in
+    record {
+      named = at_place (λ (x : Index). IsNameWord x.name) schema.indexes n i (recursion_from_All (λ (x : Index). IsNameWord x.name) schema.indexes names.indexes) e;
+      found = index_back 0 schema.indexes n i last e ∙ ap (λ (m : ℕ). Some m) (let z : 0 + n ≡ n = omega arith in z);
+    }
+
+pub index_name_is : (schema : Schema) (n : ℕ) (i : Index) → slice_get schema.indexes n ≡ Some i → index_name schema n ≡ i.name
+index_name_is schema n i e = ap (λ (o : Option Index). unwrap_or (option_map (λ (x : Index). x.name) o) []) e

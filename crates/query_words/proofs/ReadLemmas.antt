@@ -1,5 +1,6 @@
 -- What words say of declared tables is told without a fault of syntax, and never for want of memory.
-use Rattle.std.proofs.Common.{◌≡◌, ℕ, ◌++◌, List, [], ◌∷◌, Option, None, Some, Result, Ok, Err, refl, sym, subst}
+use Rattle.std.proofs.Common.{◌≡◌, ℕ, ◌++◌, List, [], ◌∷◌, Option, None, Some, Result, Ok, Err}
+use Rattle.std.specs.Option.{option_map}
 use Rattle.block_model.specs.declared.value.Value.{Value}
 use Rattle.block_model.specs.declared.value.Value.TheVariants as values
 use Rattle.block_model.specs.declared.value.Op.{Op}
@@ -15,10 +16,10 @@ use Rattle.query_words.specs.declared.line.Order.TheVariants as orders
 use Rattle.query_words.specs.declared.line.LineFault.{LineFault}
 use Rattle.query_words.specs.declared.line.LineFault.TheVariants as faults
 use Rattle.query_words.specs.Words.{PlacedWord}
-use Rattle.query_words.specs.Grammar.{SaidCond, Compared, Null, NotNull, SaidStatement, Begin, Commit, Rollback, Insert, Select, Delete, Explain, SaidLine, Nothing, Say}
-use Rattle.query_words.specs.Lines.{ReadsAs, line_said}
-use Rattle.query_words.specs.Parsed.{insert_of_words}
-use Rattle.query_words.specs.Statements.{◌>>=◌, or_fault, table_from, table_said, column_from, column_said, op_in, op_said, value_said, cond_on, test_said, cond_said, conds_said, values_said, query_said, insert_said, statement_said, statement_judged}
+use Rattle.query_words.specs.Grammar.{SaidCond, Compared, Null, NotNull, SaidStatement, Begin, Commit, Rollback, Insert, Select, Delete, Explain, Summarize, Desummarize, Vacuum, Work, SaidOrder, Whole, Start, Step, Finish, SaidLine, Nothing, Say}
+use Rattle.query_words.specs.Blocks.{block_of}
+use Rattle.query_words.specs.Lines.{line_said}
+use Rattle.query_words.specs.Statements.{◌>>=◌, or_fault, table_from, table_said, column_from, column_said, op_in, op_said, value_said, cond_on, test_said, cond_said, conds_said, values_said, query_said, insert_said, index_from, index_said, statement_said, order_said}
 
 -- the fault is one of names and values
 abbrev pub IsResolved : {T : Type 0} → Result T LineFault → Type 0
@@ -73,15 +74,22 @@ conds_resolved columns done [] = tt
 conds_resolved columns done (cond ∷ conds) =
     then_resolved (cond_said columns cond) (λ c. conds_said columns (done ++ c ∷ []) conds) (cond_resolved columns cond) (λ c. conds_resolved columns (done ++ c ∷ []) conds)
 
-query_resolved : (schema : Schema) (table : PlacedWord) (conds : List (SaidCond PlacedWord)) → IsResolved (query_said schema table conds)
+pub query_resolved : (schema : Schema) (table : PlacedWord) (conds : List (SaidCond PlacedWord)) → IsResolved (query_said schema table conds)
 query_resolved schema table conds =
     then_resolved (table_said schema table) (λ t. conds_said t.1 [] conds >>= λ cs. Ok (record { table = t.0; conds = cs })) (no_table table.at (table_from 0 schema.tables table.text)) (λ t.
     then_resolved (conds_said t.1 [] conds) (λ cs. Ok (record { table = t.0; conds = cs })) (conds_resolved t.1 [] conds) (λ cs. tt))
 
-insert_resolved : (schema : Schema) (len : ℕ) (table : PlacedWord) (words : List PlacedWord) → IsResolved (insert_said schema len table words)
+pub insert_resolved : (schema : Schema) (len : ℕ) (table : PlacedWord) (words : List PlacedWord) → IsResolved (insert_said schema len table words)
 insert_resolved schema len table words =
     then_resolved (table_said schema table) (λ t. values_said len [] t.1 words >>= λ vs. Ok (statements.Insert t.0 vs)) (no_table table.at (table_from 0 schema.tables table.text)) (λ t.
     then_resolved (values_said len [] t.1 words) (λ vs. Ok (statements.Insert t.0 vs)) (values_resolved len [] t.1 words) (λ vs. tt))
+
+no_index : {A : Type 0} (at : ℕ) (o : Option A) → IsResolved (or_fault (faults.NoIndex at) o)
+no_index at None = tt
+no_index at (Some x) = tt
+
+index_resolved : (schema : Schema) (index : PlacedWord) (next : ℕ → Result Statement LineFault) → ((i : ℕ) → IsResolved (next i)) → IsResolved (index_said schema index >>= next)
+index_resolved schema index next more = then_resolved (index_said schema index) next (no_index index.at (index_from 0 schema.indexes index.text)) more
 
 statement_resolved : (schema : Schema) (len : ℕ) (said : SaidStatement PlacedWord) → IsResolved (statement_said schema len said)
 statement_resolved schema len Begin = tt
@@ -90,28 +98,20 @@ statement_resolved schema len Rollback = tt
 statement_resolved schema len (Insert table words) = insert_resolved schema len table words
 statement_resolved schema len (Select table conds) = then_resolved (query_said schema table conds) (λ q. Ok (statements.Select q)) (query_resolved schema table conds) (λ q. tt)
 statement_resolved schema len (Delete table conds) = then_resolved (query_said schema table conds) (λ q. Ok (statements.Delete q)) (query_resolved schema table conds) (λ q. tt)
+statement_resolved schema len (Summarize index block) = index_resolved schema index (λ i. Ok (statements.Summarize i (option_map (λ b. block_of b.text) block))) (λ i. tt)
+statement_resolved schema len (Desummarize index block) = index_resolved schema index (λ i. Ok (statements.Desummarize i (block_of block.text))) (λ i. tt)
+statement_resolved schema len (Vacuum table) = then_resolved (table_said schema table) (λ t. Ok (statements.Vacuum t.0)) (no_table table.at (table_from 0 schema.tables table.text)) (λ t. tt)
+statement_resolved schema len Work = tt
 statement_resolved schema len (Explain table conds) = then_resolved (query_said schema table conds) (λ q. Ok (statements.Explain q)) (query_resolved schema table conds) (λ q. tt)
+
+order_resolved : (schema : Schema) (len : ℕ) (said : SaidOrder PlacedWord) → IsResolved (order_said schema len said)
+order_resolved schema len (Whole said) = then_resolved (statement_said schema len said) (λ s. Ok (orders.Whole s)) (statement_resolved schema len said) (λ s. tt)
+order_resolved schema len (Start said) = then_resolved (statement_said schema len said) (λ s. Ok (orders.Start s)) (statement_resolved schema len said) (λ s. tt)
+order_resolved schema len Step = tt
+order_resolved schema len Finish = tt
 
 -- no line that is said has a fault of syntax
 pub line_resolved : (schema : Schema) (len : ℕ) (said : SaidLine PlacedWord) → IsResolved (line_said schema len said)
 line_resolved schema len (Nothing words) = tt
 line_resolved schema len (Say session said) =
-    then_resolved (statement_said schema len said) (λ s. Ok (lines.Say session.text (orders.Whole s))) (statement_resolved schema len said) (λ s. tt)
-
-reads_itself : {T : Type 0} (said : Result T LineFault) → IsResolved said → ReadsAs said said
-reads_itself (Ok x) h = refl
-reads_itself (Err (faults.Syntax at)) h = refl
-reads_itself (Err (faults.NoTable at)) h = refl
-reads_itself (Err (faults.NoIndex at)) h = refl
-reads_itself (Err (faults.NoColumn at)) h = refl
-reads_itself (Err (faults.Kind at)) h = refl
-reads_itself (Err faults.Memory) h = absurd h
-
-insert_read : (schema : Schema) (len : ℕ) (words : List PlacedWord) → ReadsAs (statement_judged schema len (insert_of_words words)) (statement_judged schema len (insert_of_words words))
-insert_read schema len [] = refl
-insert_read schema len (table ∷ words) = reads_itself (insert_said schema len table words) (insert_resolved schema len table words)
-
-pub insert_reads : (schema : Schema) (len : ℕ) (words : List PlacedWord) (answer : Result Statement LineFault)
-    → answer ≡ statement_judged schema len (insert_of_words words) → ReadsAs answer (statement_judged schema len (insert_of_words words))
-insert_reads schema len words answer e =
-    subst (λ (r : Result Statement LineFault). ReadsAs r (statement_judged schema len (insert_of_words words))) (sym e) (insert_read schema len words)
+    then_resolved (order_said schema len said) (λ o. Ok (lines.Say session.text o)) (order_resolved schema len said) (λ o. tt)

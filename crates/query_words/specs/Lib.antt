@@ -2,6 +2,7 @@ pub mod Words
 pub mod Written
 pub mod Operators
 pub mod Verbs
+pub mod Blocks
 pub mod ValueWords
 pub mod Grammar
 pub mod Syntax
@@ -14,3 +15,4 @@ pub mod LineFits
 pub mod LineTexts
 pub mod LineLaws
 pub mod LineRefusals
+pub mod RefusalPlaces

@@ -1,19 +1,95 @@
--- the lines that fit a schema
-use Rattle.std.specs.Prelude.{◌≡◌, true}
-use Rattle.block_model.specs.Names.{is_name}
+-- the lines that fit a schema, and those of a language
+use Rattle.std.specs.Prelude.{◌≡◌, ℕ, Bool, true, ◌&&◌, List, slice_get, Some}
 use Rattle.block_model.specs.declared.schema.Schema.{Schema}
+use Rattle.block_model.specs.declared.schema.Table.{Table}
+use Rattle.block_model.specs.declared.schema.Index.{Index}
 use Rattle.statements.specs.StatementFits.{IsStatementFor}
+use Rattle.statements.specs.declared.statement.Statement.{Statement}
+use Rattle.statements.specs.declared.statement.Statement.TheVariants as statements
 use Rattle.query_words.specs.declared.line.Line.{Line}
 use Rattle.query_words.specs.declared.line.Line.TheVariants as lines
 use Rattle.query_words.specs.declared.line.Order.{Order}
 use Rattle.query_words.specs.declared.line.Order.TheVariants as orders
+use Rattle.query_words.specs.declared.verb.Verb.{Verb}
+use Rattle.query_words.specs.declared.verb.Verb.TheVariants as verbs
+use Rattle.query_words.specs.Verbs.{answered, has_verb}
+use Rattle.std.proofs.lemmas.Bool.{false≢true}
 
--- a statement as a whole; it isn't stepped through yet
+-- a table of that number is declared
+abbrev pub IsTableOf : Schema → ℕ → Type 0
+IsTableOf schema n = (table : Table) × (slice_get schema.tables n ≡ Some table)
+
+-- an index of that number is
+abbrev pub IsIndexOf : Schema → ℕ → Type 0
+IsIndexOf schema n = (index : Index) × (slice_get schema.indexes n ≡ Some index)
+
+-- maintenance of what is declared, or a statement of a transaction or an explain that fits
+abbrev pub FitsStatement : Schema → Statement → Type 0
+FitsStatement schema (statements.Summarize index block) = IsIndexOf schema index
+FitsStatement schema (statements.Desummarize index block) = IsIndexOf schema index
+FitsStatement schema (statements.Vacuum table) = IsTableOf schema table
+FitsStatement schema statements.Work = Unit {0}
+FitsStatement schema statement = IsStatementFor schema statement
+
+abbrev pub FitsOrder : Schema → Order → Type 0
+FitsOrder schema (orders.Whole statement) = FitsStatement schema statement
+FitsOrder schema (orders.Start statement) = FitsStatement schema statement
+FitsOrder schema orders.Step = Unit {0}
+FitsOrder schema orders.Finish = Unit {0}
+
+-- a line that says nothing, or an order whose statement fits the schema
+abbrev pub FitsLine : Schema → Line → Type 0
+FitsLine schema lines.Nothing = Unit {0}
+FitsLine schema (lines.Say session order) = FitsOrder schema order
+
+abbrev pub statement_verb : Statement → Verb
+statement_verb statements.Begin = verbs.Begin
+statement_verb statements.Commit = verbs.Commit
+statement_verb statements.Rollback = verbs.Rollback
+statement_verb (statements.Insert table values) = verbs.Insert
+statement_verb (statements.Select query) = verbs.Select
+statement_verb (statements.Delete query) = verbs.Delete
+statement_verb (statements.Explain query) = verbs.Explain
+statement_verb (statements.Summarize index block) = verbs.Summarize
+statement_verb (statements.Desummarize index block) = verbs.Desummarize
+statement_verb (statements.Vacuum table) = verbs.Vacuum
+statement_verb statements.Work = verbs.Work
+
+-- its verbs are the language's
+abbrev pub is_order_in : List Verb → Order → Bool
+is_order_in language (orders.Whole statement) = has_verb language (statement_verb statement)
+is_order_in language (orders.Start statement) = has_verb language verbs.Start && has_verb language (statement_verb statement)
+is_order_in language orders.Step = has_verb language verbs.Step
+is_order_in language orders.Finish = has_verb language verbs.Finish
+
+abbrev pub is_line_in : List Verb → Line → Bool
+is_line_in language lines.Nothing = true
+is_line_in language (lines.Say session order) = is_order_in language order
+
+-- the orders that the engine answers today: an explain or a statement of a transaction, as a whole
 abbrev pub IsOrderFor : Schema → Order → Type 0
 IsOrderFor schema (orders.Whole statement) = IsStatementFor schema statement
 IsOrderFor schema order = ⊥
 
--- a line that says nothing, or an order of a named session
+-- a line that the engine answers today, and that fits
 abbrev pub IsLineFor : Schema → Line → Type 0
 IsLineFor schema lines.Nothing = Unit {0}
-IsLineFor schema (lines.Say session order) = (is_name session ≡ true) × IsOrderFor schema order
+IsLineFor schema (lines.Say session order) = IsOrderFor schema order
+
+-- a line of the engine's language is one
+pub answered_fits : (schema : Schema) (line : Line) → FitsLine schema line → is_line_in answered line ≡ true → IsLineFor schema line
+answered_fits schema lines.Nothing fits within = tt
+answered_fits schema (lines.Say session (orders.Whole statements.Begin)) fits within = tt
+answered_fits schema (lines.Say session (orders.Whole statements.Commit)) fits within = tt
+answered_fits schema (lines.Say session (orders.Whole statements.Rollback)) fits within = tt
+answered_fits schema (lines.Say session (orders.Whole (statements.Insert table values))) fits within = fits
+answered_fits schema (lines.Say session (orders.Whole (statements.Select query))) fits within = fits
+answered_fits schema (lines.Say session (orders.Whole (statements.Delete query))) fits within = fits
+answered_fits schema (lines.Say session (orders.Whole (statements.Explain query))) fits within = fits
+answered_fits schema (lines.Say session (orders.Whole (statements.Summarize index block))) fits within = absurd (false≢true within)
+answered_fits schema (lines.Say session (orders.Whole (statements.Desummarize index block))) fits within = absurd (false≢true within)
+answered_fits schema (lines.Say session (orders.Whole (statements.Vacuum table))) fits within = absurd (false≢true within)
+answered_fits schema (lines.Say session (orders.Whole statements.Work)) fits within = absurd (false≢true within)
+answered_fits schema (lines.Say session (orders.Start statement)) fits within = absurd (false≢true within)
+answered_fits schema (lines.Say session orders.Step) fits within = absurd (false≢true within)
+answered_fits schema (lines.Say session orders.Finish) fits within = absurd (false≢true within)

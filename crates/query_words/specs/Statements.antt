@@ -1,6 +1,6 @@
 -- what a statement means where tables are declared: names become numbers, and words become values
 use Rattle.std.specs.Prelude.{ℕ, ◌+◌, List, [], ◌∷◌, ◌++◌, Option, None, Some, Result, Ok, Err, if◌then◌else◌}
-use Rattle.std.specs.Option.{option_and_then}
+use Rattle.std.specs.Option.{option_map, option_and_then}
 use Rattle.std.specs.Str.{bytes_eq}
 use Rattle.block_model.specs.declared.value.Kind.{Kind}
 use Rattle.block_model.specs.declared.value.Value.{Value}
@@ -12,22 +12,30 @@ use Rattle.block_model.specs.declared.row.Query.{Query}
 use Rattle.block_model.specs.declared.schema.Schema.{Schema}
 use Rattle.block_model.specs.declared.schema.Table.{Table}
 use Rattle.block_model.specs.declared.schema.Column.{Column}
+use Rattle.block_model.specs.declared.schema.Index.{Index}
 use Rattle.value_text.specs.ValueOf.{value_of}
 use Rattle.statements.specs.declared.statement.Statement.{Statement}
 use Rattle.statements.specs.declared.statement.Statement.TheVariants as statements
+use Rattle.query_words.specs.declared.line.Order.{Order}
+use Rattle.query_words.specs.declared.line.Order.TheVariants as orders
 use Rattle.query_words.specs.declared.line.LineFault.{LineFault}
 use Rattle.query_words.specs.declared.line.LineFault.TheVariants as faults
 use Rattle.query_words.specs.Words.{PlacedWord}
 use Rattle.query_words.specs.Operators.{op_of}
+use Rattle.query_words.specs.Blocks.{block_of}
 use Rattle.statements.specs.OperatorKinds.{takes_operator}
 use Rattle.query_words.specs.Parsed.{conds_from}
-use Rattle.query_words.specs.Grammar.{SaidCond, Compared, Null, NotNull, SaidStatement, Begin, Commit, Rollback, Insert, Select, Delete, Explain}
+use Rattle.query_words.specs.Grammar.{SaidCond, Compared, Null, NotNull, SaidStatement, Begin, Commit, Rollback, Insert, Select, Delete, Explain, Summarize, Desummarize, Vacuum, Work, SaidOrder, Whole, Start, Step, Finish}
 
 -- what was found is handed on, and a fault ends it
 infixl 10 ◌>>=◌
 abbrev pub ◌>>=◌ : {A B : Type 0} → Result A LineFault → (A → Result B LineFault) → Result B LineFault
 (Ok x) >>= f = f x
 (Err fault) >>= f = Err fault
+
+-- what is made of what is said
+abbrev pub made_of : {A B : Type 0} → (A → B) → Result A LineFault → Result B LineFault
+made_of make said = said >>= λ x. Ok (make x)
 
 -- what is there, or the fault
 abbrev pub or_fault : {A : Type 0} → LineFault → Option A → Result A LineFault
@@ -42,6 +50,15 @@ table_from n (table ∷ tables) name = if bytes_eq table.name name then Some (n,
 -- the declared table, or 2 at its word
 abbrev pub table_said : Schema → PlacedWord → Result (ℕ × List Column) LineFault
 table_said schema word = or_fault (faults.NoTable word.at) (table_from 0 schema.tables word.text)
+
+-- the number of the index of that name, where the first has number n
+abbrev pub index_from : ℕ → List Index → List ℕ → Option ℕ
+index_from n [] name = None
+index_from n (index ∷ indexes) name = if bytes_eq index.name name then Some n else index_from (n + 1) indexes name
+
+-- the declared index, or 9 at its word
+abbrev pub index_said : Schema → PlacedWord → Result ℕ LineFault
+index_said schema word = or_fault (faults.NoIndex word.at) (index_from 0 schema.indexes word.text)
 
 -- the number and the kind of the column of that name, where the first has number n
 abbrev pub column_from : ℕ → List Column → List ℕ → Option (ℕ × Kind)
@@ -108,6 +125,19 @@ abbrev pub insert_said : Schema → ℕ → PlacedWord → List PlacedWord → R
 insert_said schema length table values =
     table_said schema table >>= λ t. values_said length [] t.1 values >>= λ vs. Ok (statements.Insert t.0 vs)
 
+-- the index alone, or with a block
+abbrev pub summarize_said : Schema → PlacedWord → Option PlacedWord → Result Statement LineFault
+summarize_said schema index block =
+    index_said schema index >>= λ i. Ok (statements.Summarize i (option_map (λ b. block_of b.text) block))
+
+-- the index and a block
+abbrev pub desummarize_said : Schema → PlacedWord → PlacedWord → Result Statement LineFault
+desummarize_said schema index block = index_said schema index >>= λ i. Ok (statements.Desummarize i (block_of block.text))
+
+-- the table
+abbrev pub vacuum_said : Schema → PlacedWord → Result Statement LineFault
+vacuum_said schema table = table_said schema table >>= λ t. Ok (statements.Vacuum t.0)
+
 -- the statement, or the fault of the first word that has one, in a line of that length
 abbrev pub statement_said : Schema → ℕ → SaidStatement PlacedWord → Result Statement LineFault
 statement_said schema length Begin = Ok statements.Begin
@@ -117,8 +147,24 @@ statement_said schema length (Insert table values) = insert_said schema length t
 statement_said schema length (Select table conds) = query_said schema table conds >>= λ q. Ok (statements.Select q)
 statement_said schema length (Delete table conds) = query_said schema table conds >>= λ q. Ok (statements.Delete q)
 statement_said schema length (Explain table conds) = query_said schema table conds >>= λ q. Ok (statements.Explain q)
+statement_said schema length (Summarize index block) = summarize_said schema index block
+statement_said schema length (Desummarize index block) = desummarize_said schema index block
+statement_said schema length (Vacuum table) = vacuum_said schema table
+statement_said schema length Work = Ok statements.Work
 
 -- the statement of words, where none is missing
 abbrev pub statement_judged : Schema → ℕ → Option (SaidStatement PlacedWord) → Result Statement LineFault
 statement_judged schema length None = Err (faults.Syntax length)
 statement_judged schema length (Some said) = statement_said schema length said
+
+-- the order, or the fault of its statement
+abbrev pub order_said : Schema → ℕ → SaidOrder PlacedWord → Result Order LineFault
+order_said schema length (Whole statement) = statement_said schema length statement >>= λ s. Ok (orders.Whole s)
+order_said schema length (Start statement) = statement_said schema length statement >>= λ s. Ok (orders.Start s)
+order_said schema length Step = Ok orders.Step
+order_said schema length Finish = Ok orders.Finish
+
+-- the order of words, where none is missing
+abbrev pub order_judged : Schema → ℕ → Option (SaidOrder PlacedWord) → Result Order LineFault
+order_judged schema length None = Err (faults.Syntax length)
+order_judged schema length (Some said) = order_said schema length said

@@ -1,5 +1,6 @@
--- the verbs of statements
-use Rattle.std.specs.Prelude.{ℕ, List, [], ◌∷◌, codes, Option}
+-- the verbs of lines
+use Rattle.std.specs.Prelude.{ℕ, Bool, false, ◌||◌, List, [], ◌∷◌, codes, Option}
+use Rattle.std.specs.Str.{bytes_eq}
 use Rattle.query_words.specs.declared.verb.Verb.{Verb}
 use Rattle.query_words.specs.declared.verb.Verb.TheVariants as verbs
 use Rattle.query_words.specs.Written.{first_written}
@@ -13,11 +14,30 @@ verb_text verbs.Insert = codes "insert"
 verb_text verbs.Select = codes "select"
 verb_text verbs.Delete = codes "delete"
 verb_text verbs.Explain = codes "explain"
+verb_text verbs.Summarize = codes "summarize"
+verb_text verbs.Desummarize = codes "desummarize"
+verb_text verbs.Vacuum = codes "vacuum"
+verb_text verbs.Work = codes "work"
+verb_text verbs.Start = codes "start"
+verb_text verbs.Step = codes "step"
+verb_text verbs.Finish = codes "finish"
 
-abbrev pub all_verbs : List Verb
-all_verbs =
+-- all of them
+abbrev pub every_verb : List Verb
+every_verb =
+    verbs.Begin ∷ verbs.Commit ∷ verbs.Rollback ∷ verbs.Insert ∷ verbs.Select ∷ verbs.Delete ∷ verbs.Explain ∷ verbs.Summarize
+    ∷ verbs.Desummarize ∷ verbs.Vacuum ∷ verbs.Work ∷ verbs.Start ∷ verbs.Step ∷ verbs.Finish ∷ []
+
+-- the verbs that the engine answers today
+abbrev pub answered : List Verb
+answered =
     verbs.Begin ∷ verbs.Commit ∷ verbs.Rollback ∷ verbs.Insert ∷ verbs.Select ∷ verbs.Delete ∷ verbs.Explain ∷ []
 
--- the verb that the word is
-abbrev pub verb_of : List ℕ → Option Verb
-verb_of word = first_written verb_text all_verbs word
+-- the verb is one of the language's
+abbrev pub has_verb : List Verb → Verb → Bool
+has_verb [] verb = false
+has_verb (one ∷ rest) verb = bytes_eq (verb_text verb) (verb_text one) || has_verb rest verb
+
+-- the verb of the language that the word is
+abbrev pub verb_of : List Verb → List ℕ → Option Verb
+verb_of language word = first_written verb_text language word

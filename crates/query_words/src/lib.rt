@@ -5,12 +5,16 @@
 //! `line_text`, and of faults as `refusal_of`.
 #![tactic(auto)]
 
+mod block;
 mod limits;
 mod line;
 mod line_laws;
+mod maintenance;
 mod operator;
+mod order;
 mod print;
 mod query;
+mod refusal_laws;
 mod statement;
 mod syntax;
 mod value_word;
@@ -19,7 +23,9 @@ mod word;
 mod written;
 
 pub use limits::MAX_LINE;
-pub use line::{Line, LineFault, Order, read_line};
-pub use line_laws::{fault_is_stop, grammar_is_read, printed_lines_read_back, read_is_grammar};
+pub use line::{Line, LineFault, Order, read_line, read_line_in};
+pub use line_laws::{fault_is_stop, grammar_is_read, printed_line_reads_back, read_is_grammar};
 pub use print::print_line;
+pub use refusal_laws::{places_of_refusals, words_stand_in_order};
 pub use schema_words::{DeclFault, read_declarations};
+pub use verb::{ANSWERED, Verb};

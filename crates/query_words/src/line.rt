@@ -1,16 +1,18 @@
 //! What a line of a script says.
 
-ghost use Rattle.std.specs.Prelude.{◌≡◌, ◌≤◌, length, None, IfOk};
-ghost use Rattle.query_words.specs.LineFits.{IsLineFor};
+ghost use Rattle.std.specs.Prelude.{◌≡◌, ◌≤◌, length, true, None, IfOk};
+ghost use Rattle.query_words.specs.LineFits.{FitsLine, IsLineFor, is_line_in};
 ghost use Rattle.query_words.specs.LineParts.{words_left};
-ghost use Rattle.query_words.specs.Lines.{ReadsAs, line_of, line_judged};
+ghost use Rattle.query_words.specs.Lines.{ReadsAs, ReadsOnce, line_in, line_of, line_judged};
 ghost use Rattle.query_words.specs.Parsed.{said_of};
 ghost use Rattle.query_words.specs.SmallSchemas.{IsSmallSchema};
 ghost use Rattle.query_words.specs.Syntax.{stop_of};
+ghost use Rattle.query_words.specs.Verbs.{answered};
 
 use crate::limits::MAX_LINE;
-use crate::statement::read_statement;
+use crate::order::read_order;
 use crate::syntax::{is_comment, stop_of};
+use crate::verb::{ANSWERED, Verb};
 use crate::word::{Rest, next_word};
 use block_model::{Name, Refusal, Schema};
 use statements::Statement;
@@ -71,12 +73,28 @@ impl LineFault {
     }
 }
 
-/// ReadsAs a line: what it says, or the first fault. Syntax is judged over the whole line, then the table, then columns,
-/// operators and values in the order of the line. Takes memory for conditions alone.
-#[tactic(auto, unfolding(crate::specs::Lines::line_of))]
+/// Reads a line: what it says, or the first fault. Syntax is judged over the whole line, then the table or the index, then
+/// columns, operators and values in the order of the line. Takes memory for conditions alone. The line's verbs are those that
+/// the engine answers today.
 pub fn read_line(alloc: Global, line: &[u8], layout: &Layout) -> Result<Line, LineFault>
     ensures reads { ReadsAs result (line_of layout.now.schema line.now) }
     ensures fits { IfOk result (IsLineFor layout.now.schema) }
+    ensures answered { IfOk result (λ read. is_line_in answered read ≡ true) }
+{
+    read_line_in(alloc, &ANSWERED, line, layout)
+}
+
+/// The same in any language: a word that isn't one of its verbs is none.
+#[tactic(auto, unfolding(crate::specs::Lines::line_in))]
+pub fn read_line_in(
+    alloc: Global,
+    language: &[Verb],
+    line: &[u8],
+    layout: &Layout,
+) -> Result<Line, LineFault>
+    ensures reads { ReadsAs result (line_in language.now layout.now.schema line.now) }
+    ensures fits { IfOk result (FitsLine layout.now.schema) }
+    ensures language { IfOk result (λ read. is_line_in language.now read ≡ true) }
 {
     value_of_is_denoted();
     denoted_is_of_kind();
@@ -85,24 +103,26 @@ pub fn read_line(alloc: Global, line: &[u8], layout: &Layout) -> Result<Line, Li
         return Err(LineFault::Syntax { at: MAX_LINE });
     }
     let rest = Rest { bytes: line, at: 0 };
-    if let Some(at) = stop_of(rest, line.len()) {
-        return Err(LineFault::Syntax { at });
+    match read_words(alloc, language, rest, layout.schema(), line.len()) {
+        Ok(read) => Ok(read),
+        Err(found) => match stop_of(language, rest, line.len()) {
+            Some(at) => Err(LineFault::Syntax { at }),
+            None => Err(found),
+        },
     }
-    read_words(alloc, rest, layout.schema(), line.len())
 }
 
-/// The line that the words are, which stop nowhere, in a line of that length.
+/// The line that the words are, or a fault of theirs, in a line of that length.
 fn read_words(
     alloc: Global,
+    language: &[Verb],
     rest: Rest<'_>,
     schema: &Schema,
     line_len: usize,
 ) -> Result<Line, LineFault>
-    requires schema { IsSmallSchema schema.now }
-    requires syntax { stop_of line_len (words_left rest) ≡ None }
-    ensures { ReadsAs result (line_judged schema.now line_len None (said_of (words_left rest.entry))) }
+    requires { IsSmallSchema schema.now }
+    ensures { ReadsOnce result (stop_of language.now line_len (words_left rest.entry)) (line_judged schema.now line_len None (said_of language.now (words_left rest.entry))) }
 {
-    value_of_is_denoted();
     let Some((word, behind)) = next_word(rest) else {
         return Ok(Line::Nothing);
     };
@@ -112,6 +132,8 @@ fn read_words(
     let Some(session) = Name::new(word.text) else {
         return Err(LineFault::Syntax { at: word.at });
     };
-    let order = Order::Whole(read_statement(alloc, behind, schema, line_len)?);
-    Ok(Line::Say { session, order })
+    match read_order(alloc, language, behind, schema, line_len) {
+        Ok(order) => Ok(Line::Say { session, order }),
+        Err(fault) => Err(fault),
+    }
 }

@@ -1,19 +1,18 @@
 //! Lines printed as texts.
 #![tactic(auto, using(value_text::specs::Appended::longer_before))]
 
-ghost use Rattle.std.specs.Prelude.{◌≡◌, ◌∷◌, ◌++◌, map, codes, OnOk, OnErr};
+ghost use Rattle.std.specs.Prelude.{◌≡◌, [], ◌∷◌, ◌++◌, map, codes, decimal, OnOk, OnErr};
 ghost use Rattle.value_text.specs.CanonicalTexts.{canonical_text};
 ghost use Rattle.value_text.specs.Appended.{IsLonger};
-ghost use Rattle.query_words.specs.Grammar.{words_of_cond, words_of_conds, words_of_more};
-ghost use Rattle.query_words.specs.LineFits.{IsLineFor, IsOrderFor};
-ghost use Rattle.statements.specs.StatementFits.{IsStatementFor};
-ghost use Rattle.query_words.specs.Verbs.{verb_text};
-ghost use Rattle.query_words.specs.LineTexts.{line_text, spaced, table_name, columns_at, column_name, cond_of, conds_of, statement_of, words_behind, order_of, test_of};
+ghost use Rattle.query_words.specs.Grammar.{words_of_cond, words_of_conds, words_of_more, words_of_statement, words_of_order};
+ghost use Rattle.query_words.specs.LineFits.{FitsLine};
+ghost use Rattle.query_words.specs.LineTexts.{line_text, spaced, table_name, index_name, columns_at, column_name, cond_of, conds_of, statement_of, order_of, test_of};
 
 use crate::line::{Line, Order};
 use crate::operator::op_text;
-use crate::verb::{Verb, verb_text};
+use crate::verb::{Verb, statement_verb, verb_text};
 use block_model::{Column, Cond, NoMemory, Op, Query, Schema, Value};
+use itoa::Buffer;
 use statements::Statement;
 use store_layout::Layout;
 use value_text::{append, write_value, write_values};
@@ -22,7 +21,7 @@ use value_text::{append, write_value, write_values};
 /// the layout, and its values and operators of their columns' kinds. What is printed reads as the same line. After a refusal
 /// nothing is changed.
 pub fn print_line(line: &Line, layout: &Layout, out: &mut Vec<u8>) -> Result<(), NoMemory>
-    requires { IsLineFor layout.now.schema line.now }
+    requires { FitsLine layout.now.schema line.now }
     ensures ok { OnOk result (out.new.items ≡ out.old.items ++ line_text layout.now.schema line.now) }
     ensures err { OnErr result (out.new.items ≡ out.old.items) }
 {
@@ -35,54 +34,56 @@ pub fn print_line(line: &Line, layout: &Layout, out: &mut Vec<u8>) -> Result<(),
 }
 
 fn add_line(out: &mut Vec<u8>, line: &Line, schema: &Schema) -> Result<(), NoMemory>
-    requires { IsLineFor schema.now line.now }
     ensures ok { OnOk result (out.new.items ≡ out.old.items ++ line_text schema.now line.now) }
     ensures longer { IsLonger out.old.items out.new.items }
 {
     match line {
         Line::Nothing => Ok(()),
-        Line::Say { session, order } => add_order(out, session.as_bytes(), order, schema),
+        Line::Say { session, order } => {
+            append(out, session.as_bytes())?;
+            add_order(out, order, schema)
+        }
     }
 }
 
-fn add_order(
-    out: &mut Vec<u8>,
-    session: &[u8],
-    order: &Order,
-    schema: &Schema,
-) -> Result<(), NoMemory>
-    requires { IsOrderFor schema.now order.now }
-    ensures ok { OnOk result (out.new.items ≡ out.old.items ++ session.now ++ spaced (words_behind (order_of schema.now order.now))) }
+fn add_order(out: &mut Vec<u8>, order: &Order, schema: &Schema) -> Result<(), NoMemory>
+    ensures ok { OnOk result (out.new.items ≡ out.old.items ++ spaced (words_of_order (order_of schema.now order.now))) }
     ensures longer { IsLonger out.old.items out.new.items }
 {
     match order {
-        Order::Whole(statement) => {
-            append(out, session)?;
+        Order::Whole(statement) => add_statement(out, statement, schema),
+        Order::Start(statement) => {
+            add_word(out, verb_text(Verb::Start))?;
             add_statement(out, statement, schema)
         }
-        // The grammar has no such orders yet.
-        Order::Start(_) | Order::Step | Order::Finish => unreachable!(),
+        Order::Step => add_word(out, verb_text(Verb::Step)),
+        Order::Finish => add_word(out, verb_text(Verb::Finish)),
     }
 }
 
 fn add_statement(out: &mut Vec<u8>, statement: &Statement, schema: &Schema) -> Result<(), NoMemory>
-    requires { IsStatementFor schema.now statement.now }
-    ensures ok { OnOk result (out.new.items ≡ out.old.items ++ spaced (words_behind (statement_of schema.now statement.now))) }
+    ensures ok { OnOk result (out.new.items ≡ out.old.items ++ spaced (words_of_statement (statement_of schema.now statement.now))) }
     ensures longer { IsLonger out.old.items out.new.items }
 {
+    add_word(out, verb_text(statement_verb(statement)))?;
     match statement {
-        Statement::Begin => add_word(out, verb_text(Verb::Begin)),
-        Statement::Commit => add_word(out, verb_text(Verb::Commit)),
-        Statement::Rollback => add_word(out, verb_text(Verb::Rollback)),
+        Statement::Begin | Statement::Commit | Statement::Rollback | Statement::Work => Ok(()),
         Statement::Insert { table, values } => add_insert(out, *table, values.as_slice(), schema),
-        Statement::Select(query) => add_query(out, Verb::Select, query, schema),
-        Statement::Delete(query) => add_query(out, Verb::Delete, query, schema),
-        Statement::Explain(query) => add_query(out, Verb::Explain, query, schema),
-        // The grammar has no maintenance yet.
-        Statement::Summarize { .. }
-        | Statement::Desummarize { .. }
-        | Statement::Vacuum { .. }
-        | Statement::Work => unreachable!(),
+        Statement::Select(query) | Statement::Delete(query) | Statement::Explain(query) => {
+            add_query(out, query, schema)
+        }
+        Statement::Summarize { index, block } => {
+            add_word(out, index_name(schema, *index))?;
+            match block {
+                None => Ok(()),
+                Some(block) => add_block(out, *block),
+            }
+        }
+        Statement::Desummarize { index, block } => {
+            add_word(out, index_name(schema, *index))?;
+            add_block(out, *block)
+        }
+        Statement::Vacuum { table } => add_word(out, table_name(schema, *table)),
     }
 }
 
@@ -92,19 +93,25 @@ fn add_insert(
     values: &[Value],
     schema: &Schema,
 ) -> Result<(), NoMemory>
-    ensures ok { OnOk result (out.new.items ≡ out.old.items ++ spaced (codes "insert" ∷ table_name schema.now table ∷ map canonical_text values.now)) }
+    ensures ok { OnOk result (out.new.items ≡ out.old.items ++ spaced (table_name schema.now table ∷ map canonical_text values.now)) }
     ensures longer { IsLonger out.old.items out.new.items }
 {
-    add_word(out, verb_text(Verb::Insert))?;
     add_word(out, table_name(schema, table))?;
     write_values(values, out)
 }
 
-fn add_query(out: &mut Vec<u8>, verb: Verb, query: &Query, schema: &Schema) -> Result<(), NoMemory>
-    ensures ok { OnOk result (out.new.items ≡ out.old.items ++ spaced (verb_text verb ∷ table_name schema.now query.now.table ∷ words_of_conds (conds_of schema.now query.now))) }
+fn add_block(out: &mut Vec<u8>, block: u32) -> Result<(), NoMemory>
+    ensures ok { OnOk result (out.new.items ≡ out.old.items ++ spaced (decimal block ∷ [])) }
     ensures longer { IsLonger out.old.items out.new.items }
 {
-    add_word(out, verb_text(verb))?;
+    let mut buffer = Buffer::new();
+    add_word(out, buffer.format(block).as_bytes())
+}
+
+fn add_query(out: &mut Vec<u8>, query: &Query, schema: &Schema) -> Result<(), NoMemory>
+    ensures ok { OnOk result (out.new.items ≡ out.old.items ++ spaced (table_name schema.now query.now.table ∷ words_of_conds (conds_of schema.now query.now))) }
+    ensures longer { IsLonger out.old.items out.new.items }
+{
     add_word(out, table_name(schema, query.table))?;
     add_conds(out, columns_at(schema, query.table), query.conds.as_slice())
 }
@@ -168,6 +175,16 @@ fn table_name(schema: &Schema, table: u8) -> &[u8]
 {
     match schema.tables.as_slice().get(usize::from(table)) {
         Some(table) => table.name.as_bytes(),
+        None => b"",
+    }
+}
+
+/// The name of the index of that number.
+fn index_name(schema: &Schema, index: u8) -> &[u8]
+    ensures { result.now ≡ index_name schema.now index }
+{
+    match schema.indexes.as_slice().get(usize::from(index)) {
+        Some(index) => index.name.as_bytes(),
         None => b"",
     }
 }

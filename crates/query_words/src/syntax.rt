@@ -1,11 +1,12 @@
-//! How far the words of a line go on as one: the grammar, one word after the other.
+//! How far the words of a line go on as one of a language: the grammar, one word after the other.
 
-ghost use Rattle.std.specs.Prelude.{◌≡◌, ◌≤◌, length};
-ghost use Rattle.query_words.specs.Syntax.{where_so, after_verb, after_word, after_column, after_is, may_end, stop_from, stop_of};
+ghost use Rattle.std.specs.Prelude.{◌≡◌, ◌≤◌, [], length};
+ghost use Rattle.query_words.specs.Syntax.{where_so, after_verb, after_started, after_word, after_column, after_is, may_end, stop_from, stop_of};
 ghost use Rattle.block_model.specs.Names.{is_name};
 ghost use Rattle.query_words.specs.Grammar.{is_comment};
 ghost use Rattle.query_words.specs.LineParts.{words_left};
 
+use crate::block::is_block;
 use crate::limits::MORE_CONDITIONS;
 use crate::operator::read_op;
 use crate::value_word::is_value_word;
@@ -19,6 +20,8 @@ pub enum Expected {
     /// The session's name.
     Session,
     Verb,
+    /// The verb of a statement that is started.
+    Statement,
     /// No word.
     End,
     /// The table of an insert.
@@ -39,17 +42,26 @@ pub enum Expected {
     Null(u8),
     /// `null` behind `not`.
     NotNull(u8),
+    /// The index of a `summarize`.
+    SummarizedIndex,
+    /// A block, or the end.
+    MayHaveBlock,
+    /// The index of a `desummarize`.
+    DesummarizedIndex,
+    Block,
+    /// The table of a `vacuum`.
+    VacuumedTable,
 }
 
 /// The place of the first word at which the words stop being those of a line, or the line's length where a word is
 /// missing; none for a line of the grammar.
-pub fn stop_of(rest: Rest<'_>, line_len: usize) -> Option<usize>
-    ensures { result ≡ stop_of line_len (words_left rest.entry) }
+pub fn stop_of(language: &[Verb], rest: Rest<'_>, line_len: usize) -> Option<usize>
+    ensures { result ≡ stop_of language.now line_len (words_left rest.entry) }
 {
     match next_word(rest) {
         None => None,
         Some((word, _)) if is_comment(word.text) => None,
-        Some(_) => stop_from(rest, line_len),
+        Some(_) => stop_from(language, rest, line_len),
     }
 }
 
@@ -63,13 +75,13 @@ pub fn is_comment(word: &[u8]) -> bool
     }
 }
 
-fn stop_from(rest: Rest<'_>, line_len: usize) -> Option<usize>
-    ensures { result ≡ stop_from line_len Expected.Session (words_left rest.entry) }
+fn stop_from(language: &[Verb], rest: Rest<'_>, line_len: usize) -> Option<usize>
+    ensures { result ≡ stop_from language.now line_len Expected.Session (words_left rest.entry) }
 {
     let mut expected = Expected::Session;
     let mut rest = rest;
     'words: while let Some((word, behind)) = next_word(rest) {
-        match after_word(expected, word.text) {
+        match after_word(language, expected, word.text) {
             None => return Some(word.at),
             Some(next) => expected = next,
         }
@@ -87,17 +99,22 @@ fn may_end(expected: Expected) -> bool
 {
     matches!(
         expected,
-        Expected::End | Expected::Values | Expected::Where | Expected::And(_)
+        Expected::End
+            | Expected::Values
+            | Expected::Where
+            | Expected::And(_)
+            | Expected::MayHaveBlock
     )
 }
 
 /// What may stand behind the word, where it may stand.
-fn after_word(expected: Expected, word: &[u8]) -> Option<Expected>
-    ensures { result ≡ after_word expected word.now }
+fn after_word(language: &[Verb], expected: Expected, word: &[u8]) -> Option<Expected>
+    ensures { result ≡ after_word language.now expected word.now }
 {
     match expected {
         Expected::Session => where_so(is_name(word), Expected::Verb),
-        Expected::Verb => read_verb(word).map(after_verb),
+        Expected::Verb => read_verb(language, word).map(after_verb),
+        Expected::Statement => read_verb(language, word).and_then(after_started),
         Expected::End => None,
         Expected::InsertTable => where_so(is_name(word), Expected::Values),
         Expected::Values => where_so(is_value_word(word), Expected::Values),
@@ -109,6 +126,10 @@ fn after_word(expected: Expected, word: &[u8]) -> Option<Expected>
         Expected::Value(left) => where_so(is_value_word(word), Expected::And(left)),
         Expected::Null(left) => after_is(left, word),
         Expected::NotNull(left) => where_so(is_word(word, b"null"), Expected::And(left)),
+        Expected::SummarizedIndex => where_so(is_name(word), Expected::MayHaveBlock),
+        Expected::DesummarizedIndex => where_so(is_name(word), Expected::Block),
+        Expected::MayHaveBlock | Expected::Block => where_so(is_block(word), Expected::End),
+        Expected::VacuumedTable => where_so(is_name(word), Expected::End),
     }
 }
 
@@ -128,14 +149,29 @@ fn after_verb(verb: Verb) -> Expected
     ensures { result ≡ after_verb verb }
 {
     match verb {
-        Verb::Begin | Verb::Commit | Verb::Rollback => Expected::End,
+        Verb::Begin | Verb::Commit | Verb::Rollback | Verb::Work => Expected::End,
+        Verb::Step | Verb::Finish => Expected::End,
         Verb::Insert => Expected::InsertTable,
         Verb::Select | Verb::Delete | Verb::Explain => Expected::QueryTable,
+        Verb::Summarize => Expected::SummarizedIndex,
+        Verb::Desummarize => Expected::DesummarizedIndex,
+        Verb::Vacuum => Expected::VacuumedTable,
+        Verb::Start => Expected::Statement,
+    }
+}
+
+/// What may stand behind the verb of a statement that is started; none for a verb that isn't a statement's.
+fn after_started(verb: Verb) -> Option<Expected>
+    ensures { result ≡ after_started verb }
+{
+    match verb {
+        Verb::Start | Verb::Step | Verb::Finish => None,
+        _ => Some(after_verb(verb)),
     }
 }
 
 fn after_condition(left: u8, word: &[u8]) -> Option<Expected>
-    ensures { result ≡ after_word (Expected.And left) word.now }
+    ensures { result ≡ after_word [] (Expected.And left) word.now }
 {
     if left == 0 {
         return None;

@@ -1,11 +1,13 @@
-//! The verbs of statements.
+//! The verbs of lines.
 
 ghost use Rattle.std.specs.Prelude.{◌≡◌};
+ghost use Rattle.query_words.specs.LineFits.{statement_verb};
 ghost use Rattle.query_words.specs.Verbs.{verb_text, verb_of};
 
 use crate::written::{Written, first_written};
+use statements::Statement;
 
-/// What a statement does: the word behind the session's name.
+/// What a line says: the word behind the session's name. A language is the verbs that it has.
 #[derive(Clone, Copy, Debug, PartialEq, Eq)]
 pub enum Verb {
     Begin,
@@ -15,9 +17,17 @@ pub enum Verb {
     Select,
     Delete,
     Explain,
+    Summarize,
+    Desummarize,
+    Vacuum,
+    Work,
+    Start,
+    Step,
+    Finish,
 }
 
-const VERBS: [Verb; 7] = [
+/// The language of the engine: the verbs that it answers today. Another verb is refused as a word that no line has.
+pub const ANSWERED: [Verb; 7] = [
     Verb::Begin,
     Verb::Commit,
     Verb::Rollback,
@@ -39,6 +49,13 @@ pub fn verb_text(verb: Verb) -> &'static [u8]
         Verb::Select => b"select",
         Verb::Delete => b"delete",
         Verb::Explain => b"explain",
+        Verb::Summarize => b"summarize",
+        Verb::Desummarize => b"desummarize",
+        Verb::Vacuum => b"vacuum",
+        Verb::Work => b"work",
+        Verb::Start => b"start",
+        Verb::Step => b"step",
+        Verb::Finish => b"finish",
     }
 }
 
@@ -52,9 +69,28 @@ impl Written for Verb {
     }
 }
 
-/// The verb that is written so.
-pub fn read_verb(word: &[u8]) -> Option<Verb>
-    ensures { result ≡ verb_of word.now }
+/// The verb of the language that is written so.
+pub fn read_verb(language: &[Verb], word: &[u8]) -> Option<Verb>
+    ensures { result ≡ verb_of language.now word.now }
 {
-    first_written(&VERBS, word)
+    first_written(language, word)
+}
+
+/// The verb of a statement.
+pub fn statement_verb(statement: &Statement) -> Verb
+    ensures { result ≡ statement_verb statement.now }
+{
+    match statement {
+        Statement::Begin => Verb::Begin,
+        Statement::Commit => Verb::Commit,
+        Statement::Rollback => Verb::Rollback,
+        Statement::Insert { .. } => Verb::Insert,
+        Statement::Select(_) => Verb::Select,
+        Statement::Delete(_) => Verb::Delete,
+        Statement::Explain(_) => Verb::Explain,
+        Statement::Summarize { .. } => Verb::Summarize,
+        Statement::Desummarize { .. } => Verb::Desummarize,
+        Statement::Vacuum { .. } => Verb::Vacuum,
+        Statement::Work => Verb::Work,
+    }
 }

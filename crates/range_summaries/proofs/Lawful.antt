@@ -4,6 +4,7 @@ use Rattle.std.specs.Prelude.{nat_le, nat_lt}
 use Rattle.std.specs.List.{list_all}
 use Rattle.std.proofs.lemmas.Bool.{and_parts, leb-true, ltb-true}
 use Rattle.std.proofs.lemmas.List.Elements.{All-nil, All-cons}
+use Rattle.block_model.specs.declared.limits.TheConstants.{MAX_TUPLE}
 use Rattle.block_model.specs.declared.schema.Index.{Index}
 use Rattle.block_model.specs.declared.schema.Schema.{Schema}
 use Rattle.block_model.specs.declared.schema.Sizes.{Sizes}
@@ -19,7 +20,7 @@ within_low : (low high n : ℕ) → is_within low high n ≡ true → low ≤ n
 within_low low high n e = leb-true low n (and_parts (nat_le low n) (nat_le n high) e).0
 
 one_index : (schema : Schema) (index : Index) → parts_are_lawful index ≡ true → is_on_a_table schema index ≡ true → is_within 1 131072 index.pages_per_range ≡ true
-    → list_all (class_is_lawful (columns_of schema index)) index.parts ≡ true → nat_le (tuple_size (columns_of schema index) index.parts) 8156 ≡ true → IsLawfulIndex schema index
+    → list_all (class_is_lawful (columns_of schema index)) index.parts ≡ true → nat_le (tuple_size (columns_of schema index) index.parts) MAX_TUPLE ≡ true → IsLawfulIndex schema index
 one_index schema index parts on pages classes size =
     let table = and_parts (nat_lt index.table (length schema.tables)) _ on in
     record {
@@ -27,12 +28,12 @@ one_index schema index parts on pages classes size =
       some_columns = within_low 1 8 (length index.parts) (and_parts _ _ parts).0;
       columns = table.1;
       classes = classes;
-      size = leb-true (tuple_size (columns_of schema index) index.parts) 8156 size;
+      size = leb-true (tuple_size (columns_of schema index) index.parts) MAX_TUPLE size;
       some_pages = within_low 1 131072 index.pages_per_range pages;
     }
 
 each_index : (schema : Schema) (indexes : List Index) → list_all parts_are_lawful indexes ≡ true → list_all (is_on_a_table schema) indexes ≡ true → list_all (λ (i : Index). is_within 1 131072 i.pages_per_range) indexes ≡ true
-    → list_all (λ (i : Index). list_all (class_is_lawful (columns_of schema i)) i.parts) indexes ≡ true → list_all (λ (i : Index). nat_le (tuple_size (columns_of schema i) i.parts) 8156) indexes ≡ true → All (IsLawfulIndex schema) indexes
+    → list_all (λ (i : Index). list_all (class_is_lawful (columns_of schema i)) i.parts) indexes ≡ true → list_all (λ (i : Index). nat_le (tuple_size (columns_of schema i) i.parts) MAX_TUPLE) indexes ≡ true → All (IsLawfulIndex schema) indexes
 each_index schema [] parts on pages classes sizes = All-nil (IsLawfulIndex schema)
 each_index schema (i ∷ is) parts on pages classes sizes =
     All-cons (IsLawfulIndex schema) i is (one_index schema i (and_parts _ _ parts).0 (and_parts _ _ on).0 (and_parts _ _ pages).0 (and_parts _ _ classes).0 (and_parts _ _ sizes).0)

@@ -8,13 +8,11 @@ use Rattle.block_model.specs.declared.schema.Table.{Table}
 use Rattle.block_model.specs.declared.schema.Index.{Index}
 use Rattle.block_model.specs.declared.schema.Schema.{Schema}
 use Rattle.block_model.specs.IndexedColumns.{columns_of}
+use Rattle.store_layout.specs.DiskLayout.{DiskLayout}
+use Rattle.statements.specs.RowsPut.{rows_of_table}
 use Rattle.bitmap_scan.specs.CandidateBlocks.{blocks_where, is_candidate}
 use Rattle.range_tuple.specs.Tuples.{Tuple, empty_column, tuple_of, with_row}
 use Rattle.row_versions.specs.Chunks.{chunk, extent_of}
-
--- the rows of the table of that number, in the order in which they were put
-abbrev pub rows_of_table : ℕ → List Row → List Row
-rows_of_table table rows = filter (λ r. r.table == table) rows
 
 -- the indexes of the table of that number
 abbrev pub indexes_of : Schema → ℕ → List Index
@@ -54,5 +52,5 @@ blocks_kept schema table rows conds =
     blocks_where (λ block. list_all (index_keeps schema rows conds block) (indexes_of schema table)) (extent_of (rows_per_page_at schema table) rows)
 
 -- the blocks that an explain of the query names, where rows were put in this order
-abbrev pub explained : Schema → List Row → Query → List ℕ
-explained schema rows q = blocks_kept schema q.table (rows_of_table q.table rows) q.conds
+abbrev pub explained : DiskLayout → List Row → Query → List ℕ
+explained layout rows q = blocks_kept layout.schema q.table (rows_of_table q.table rows) q.conds

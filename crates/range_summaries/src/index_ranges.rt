@@ -2,7 +2,6 @@
 
 ghost use Rattle.std.specs.Prelude.{◌≡◌, ◌^◌, ◌<◌, ◌≤◌, ◌++◌, ◌∷◌, [], List, OnOk, OnErr, IfOk, replicate, length};
 ghost use Rattle.block_model.specs.declared.row.Row.{Row};
-ghost use Rattle.block_model.specs.declared.limits.TheConstants.{MAX_CONDITIONS};
 ghost use Rattle.range_tuple.specs.TupleIncludes.{TupleTakesRow};
 ghost use Rattle.row_versions.specs.VersionsState.{rows_at};
 ghost use Rattle.range_summaries.specs.ExplainedBlocks.{empty_tuple};
@@ -11,8 +10,8 @@ ghost use Rattle.range_summaries.specs.Judged.{Covers, IsRunOf};
 ghost use Rattle.range_summaries.specs.LawfulIndexes.{HasLawfulIndexes, IsLawfulIndex};
 ghost use Rattle.range_summaries.specs.Widened.{IsWidened, TakesRowAt, TookIfOf};
 
-use block_model::{Cond, Index, NoMemory, Schema, Value};
-use range_tuple::ListedTuple;
+use block_model::{Index, NoMemory, Schema, Value};
+use range_tuple::{ListedTuple, ScanKeys};
 use std::alloc::Global;
 
 /// An index of a table: how large its ranges are, and their tuples in order from the first range.
@@ -89,33 +88,31 @@ impl IndexRanges {
 
     /// The run from a block on: where it ends, and whether its blocks may hold a match of the conditions. It is the known
     /// run if the block is in that one.
-    pub(crate) fn run(&self, known: Run, conds: &[Cond], from: u32, extent: u32) -> Run
+    pub(crate) fn run(&self, known: Run, keys: &ScanKeys<'_>, from: u32, extent: u32) -> Run
         requires below { from < extent }
         requires covered { Covers extent (contents_of self.now) }
-        requires few { length conds.now ≤ MAX_CONDITIONS }
-        requires known { IsRunOf conds.now from extent self.now known }
+        requires known { IsRunOf keys.now from extent self.now known }
         ensures further { from < result.end }
-        ensures run { IsRunOf conds.now from extent self.now result }
+        ensures run { IsRunOf keys.now from extent self.now result }
     {
         if from < known.end {
             return known;
         }
-        self.judged(conds, from, extent)
+        self.judged(keys, from, extent)
     }
 
     /// The run from a block on, by the tuple of the block's range.
-    fn judged(&self, conds: &[Cond], from: u32, extent: u32) -> Run
+    fn judged(&self, keys: &ScanKeys<'_>, from: u32, extent: u32) -> Run
         requires below { from < extent }
         requires covered { Covers extent (contents_of self.now) }
-        requires few { length conds.now ≤ MAX_CONDITIONS }
         ensures further { from < result.end }
-        ensures run { IsRunOf conds.now from extent self.now result }
+        ensures run { IsRunOf keys.now from extent self.now result }
     {
         let range = from / self.pages_per_range;
         let left = self.pages_per_range - from % self.pages_per_range;
         Run {
             end: from + left.min(extent - from),
-            kept: self.ranges[range as usize].keeps(conds),
+            kept: self.ranges[range as usize].keeps_by(keys),
         }
     }
 }

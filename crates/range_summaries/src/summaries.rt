@@ -17,7 +17,7 @@ use crate::index_ranges::{IndexRanges, Run, ranges_of};
 use crate::limits::MAX_INDEXES;
 use bitmap_scan::append;
 use block_model::{Blocks, NoMemory, Query, Schema, Value};
-use range_tuple::values_of_a_kind_are_taken;
+use range_tuple::{ScanKeys, values_of_a_kind_are_taken};
 use std::alloc::Global;
 use store_layout::Layout;
 
@@ -82,7 +82,7 @@ impl Summaries {
 
     /// Appends the blocks that a scan for the query must read, in ascending order, where the query's table has as many rows as
     /// said, and each of its pages takes as many as said. No row of another block matches the query. Each range is
-    /// judged at most once in each index.
+    /// judged at most once in each index, by conditions that are gathered once.
     pub fn candidates(
         &self,
         query: &Query,
@@ -98,10 +98,12 @@ impl Summaries {
             → OnOk result (CoversMatches (rows_at tables query.now.table) query.now rows_per_page (blocks_kept schema query.now.table (rows_at tables query.now.table) query.now.conds)) }
     {
         let extent = (rows as u32).div_ceil(u32::from(rows_per_page));
+        let of_indexes = self.of_indexes.as_slice();
+        let keys = ScanKeys::new(query.conds.as_slice());
         let mut known = [NO_BLOCKS; MAX_INDEXES];
         let mut block = 0;
         'runs: while block < extent {
-            let run = next_run(self.of_indexes.as_slice(), &mut known, query, block, extent);
+            let run = next_run(of_indexes, &mut known, query, &keys, block, extent);
             if run.kept {
                 append(block, run.end, out)?;
             }
@@ -142,18 +144,20 @@ fn lawful(layout: &Layout)
 }
 
 /// The blocks from one below the extent on that each index of the query's table keeps, or that one of them leaves out: no row
-/// that the tuples include there matches the query's conditions then. `known` has the run of each index that was judged last,
-/// so that no range is judged twice.
+/// that the tuples include there matches the query's conditions then, which are gathered. `known` has the run of each index
+/// that was judged last, so that no range is judged twice.
 fn next_run(
     of_indexes: &[IndexRanges],
     known: &mut [Run],
     query: &Query,
+    keys: &ScanKeys<'_>,
     from: u32,
     extent: u32,
 ) -> Run
     requires below { from < extent }
     requires covered { All (λ r. r.table ≡ query.now.table → Covers extent (contents_of r)) of_indexes.now }
     requires places { length of_indexes.now ≤ length known.old }
+    requires keys { keys.now ≡ query.now.conds }
     requires known { AreRunsOf query.now.conds from extent of_indexes.now known.old }
     ensures places { length known.new ≡ length known.old }
     ensures known { AreRunsOf query.now.conds from extent of_indexes.now known.new }
@@ -165,7 +169,7 @@ fn next_run(
     'indexes: for at in 0..of_indexes.len() {
         let ranges = &of_indexes[at];
         if ranges.table == query.table {
-            let run = ranges.run(known[at], query.conds.as_slice(), from, extent);
+            let run = ranges.run(known[at], keys, from, extent);
             known[at] = run;
             if !run.kept {
                 return run;

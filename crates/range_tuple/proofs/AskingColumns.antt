@@ -1,8 +1,7 @@
 -- a column that is asked misses no row that it includes
-use Rattle.std.proofs.Common.{◌≡◌, ℕ, ◌+◌, Bool, true, false, not, cond, ◌&&◌, ◌||◌, ◌==◌, Option, None, Some, List, [], ◌∷◌, ◌++◌, take, drop, slice_get, get_or, refl, sym, ap, ◌∙◌, eqb-true}
+use Rattle.std.proofs.Common.{◌≡◌, ℕ, suc, Bool, true, false, not, cond, ◌&&◌, ◌||◌, ◌==◌, Option, None, Some, List, [], ◌∷◌, slice_get, get_or, length, refl, sym, ap, ◌∙◌, eqb-true, arith}
 use Rattle.std.specs.List.{list_all, list_any, AllPass}
-use Rattle.std.proofs.lemmas.List.{append-nil, drop-drop, take-append-drop}
-use Rattle.std.proofs.lemmas.List.Elements.{filter-append}
+use Rattle.std.proofs.Math.Bool.{or-true}
 use Rattle.std.proofs.lemmas.Bool.{false≢true, and_parts, and_from, or_parts, false_from_ne_true, true_from_ne_false}
 use Rattle.std.proofs.lemmas.List.Sums.{AllPass-from_list_all, list_all-from_AllPass}
 use Rattle.block_model.specs.declared.row.Cond.{Cond}
@@ -13,9 +12,10 @@ use Rattle.block_model.specs.declared.value.Value.TheVariants.{Null, Int, Span, 
 use Rattle.block_model.specs.Matches.{matches}
 use Rattle.block_model.specs.RowMatches.{column_matches, value_there_matches}
 use Rattle.opclass_api.specs.Conditions.{compares, AllCompare, meets, meets_all}
-use Rattle.opclass_any.specs.AnyClass.{includes}
-use Rattle.range_tuple.specs.Keeps.{comparisons, allows_op, allows_cond}
-use Rattle.range_tuple.specs.NullStates.{has_values}
+use Rattle.opclass_any.specs.AnyClass.{consistent, includes}
+use Rattle.range_tuple.specs.GatheredKeys.{IsAsked, asks_for_nulls, asks_for_values, has_asked, is_not_null, is_null}
+use Rattle.range_tuple.specs.Keeps.{comparisons, allows_op, allows_cond, column_allows, may_meet}
+use Rattle.range_tuple.specs.NullStates.{has_nulls, has_values}
 use Rattle.range_tuple.specs.TupleIncludes.{IncludesValue, IncludesThere, ColumnIncludes}
 use Rattle.range_tuple.specs.Tuples.{IndexedColumn}
 
@@ -85,11 +85,56 @@ none_asked column m (c ∷ conds) none =
     let parts = or_parts (c.column == column.place) (list_any (λ cond. cond.column == column.place) conds) none in
     and_from (allows_cond column m c) (list_all (allows_cond column m) conds) (ap (λ (b : Bool). not b || allows_op column.state m c.op) parts.0) (none_asked column m conds parts.1)
 
--- comparisons that stand in a row, and no other before or behind
-pub in_row : (place : ℕ) (conds : List Cond) (first size : ℕ) → comparisons place (take first conds) ≡ [] → comparisons place (take size (drop first conds)) ≡ take size (drop first conds) → comparisons place (drop (first + size) conds) ≡ [] → take size (drop first conds) ≡ comparisons place conds
-in_row place conds first size before row past =
-    let p : Cond → Bool = λ cond. (cond.column == place) && compares cond.op in
-    let rest = drop first conds in
-    let behind : comparisons place (drop size rest) ≡ [] = ap (comparisons place) (drop-drop size first conds) ∙ past in
-    let last : comparisons place rest ≡ take size rest = ap (comparisons place) (sym (take-append-drop size rest)) ∙ filter-append p (take size rest) (drop size rest) ∙ (λ i. row i ++ behind i) ∙ append-nil (take size rest) in
-    sym (ap (comparisons place) (sym (take-append-drop first conds)) ∙ filter-append p (take first conds) rest ∙ (λ i. before i ++ last i))
+null_first : (h n x y : Bool) → (h && (x && ((not n || h) && y))) ≡ (x && (h && y))
+null_first false n false y = refl
+null_first false n true y = refl
+null_first true n x y = ap (λ (b : Bool). x && (b && y)) (or-true (not n))
+
+values_first : (h n x y : Bool) → (h && (x && (y && (not n || h)))) ≡ (x && (y && h))
+values_first false n false y = refl
+values_first false n true false = refl
+values_first false n true true = refl
+values_first true n x y = ap (λ (b : Bool). x && (y && b)) (or-true (not n))
+
+compared_first : (m x y : Bool) → (m && ((x || m) && y)) ≡ (m && y)
+compared_first false x y = refl
+compared_first true x y = ap (λ (b : Bool). b && y) (or-true x)
+
+-- what is asked of a column, gathered
+abbrev pub allows_gathered : IndexedColumn → Bool → List Cond → Bool → Bool → Bool
+allows_gathered column m asked nulls values = ((length asked == 0) || m) && has_asked column.state nulls values
+
+not_empty : (n : ℕ) → (suc n == 0) ≡ false
+not_empty n = false_from_ne_true (suc n == 0) (λ same. omega (arith, eqb-true (suc n) 0 same))
+
+one_more : (column : IndexedColumn) (m : Bool) (c : Cond) (asked : List Cond) (n v on : Bool) (op : Op) → ((not on || allows_op column.state m op) && allows_gathered column m asked n v) ≡ allows_gathered column m (cond (on && compares op) (c ∷ asked) asked) ((on && is_null op) || n) ((on && is_not_null op) || v)
+one_more column m c asked n v false op = refl
+one_more column m c asked n v true IsNull = null_first (has_nulls column.state) n ((length asked == 0) || m) (not v || has_values column.state)
+one_more column m c asked n v true NotNull = values_first (has_values column.state) v ((length asked == 0) || m) (not n || has_nulls column.state)
+one_more column m c asked n v true op = compared_first m (length asked == 0) (has_asked column.state n v) ∙ ap (λ (b : Bool). (b || m) && has_asked column.state n v) (sym (not_empty (length asked)))
+
+-- a column allows conditions where it allows what is gathered of them
+pub gathered_allows : (column : IndexedColumn) (m : Bool) (conds : List Cond) → list_all (allows_cond column m) conds ≡ allows_gathered column m (comparisons column.place conds) (asks_for_nulls column.place conds) (asks_for_values column.place conds)
+gathered_allows column m [] = refl
+gathered_allows column m (c ∷ conds) =
+    ap (λ (b : Bool). allows_cond column m c && b) (gathered_allows column m conds)
+    ∙ one_more column m c (comparisons column.place conds) (asks_for_nulls column.place conds) (asks_for_values column.place conds) (c.column == column.place) c.op
+
+-- so it does where it allows what is asked of it
+pub allows_asked : (column : IndexedColumn) (conds asked : List Cond) (nulls values : Bool) → IsAsked column.place conds asked nulls values → column_allows conds column ≡ (((length asked == 0) || (has_values column.state && consistent column.class column.summary asked)) && has_asked column.state nulls values)
+allows_asked column conds asked nulls values is =
+    gathered_allows column (may_meet conds column) conds
+    ∙ (λ i. ((length (sym is.comparisons_on i) == 0) || (has_values column.state && consistent column.class column.summary (sym is.comparisons_on i))) && has_asked column.state (sym is.nulls_asked i) (sym is.values_asked i))
+
+-- it doesn't where nulls or values are asked for that aren't there
+pub none_there : (column : IndexedColumn) (conds asked : List Cond) (nulls values : Bool) → IsAsked column.place conds asked nulls values → has_asked column.state nulls values ≡ false → list_all (allows_cond column true) conds ≡ false
+none_there column conds asked nulls values is none =
+    gathered_allows column true conds
+    ∙ (λ i. or-true (length (comparisons column.place conds) == 0) i && has_asked column.state (sym is.nulls_asked i) (sym is.values_asked i))
+    ∙ none
+
+-- and where comparisons are asked that no value may meet
+pub none_may_match : (column : IndexedColumn) (conds asked : List Cond) (nulls values : Bool) → IsAsked column.place conds asked nulls values → (length asked == 0) ≡ false → list_all (allows_cond column false) conds ≡ false
+none_may_match column conds asked nulls values is some =
+    gathered_allows column false conds
+    ∙ ap (λ (b : Bool). (b || false) && has_asked column.state (asks_for_nulls column.place conds) (asks_for_values column.place conds)) (ap (λ (cs : List Cond). length cs == 0) (sym is.comparisons_on) ∙ some)

@@ -3,6 +3,7 @@ pub mod ByPlace
 pub mod ColumnBytes
 pub mod EachColumn
 pub mod Exactness
+pub mod Gathering
 pub mod HeadFaults
 pub mod InPlace
 pub mod ReadBack

@@ -1,5 +1,6 @@
 -- how columns are kept
 use Rattle.std.specs.Prelude.{◌≡◌, ℕ, ◌<◌, ◌≤◌, ◌^◌, List, length, Ok}
+use Rattle.block_model.specs.declared.limits.TheConstants.{MAX_TUPLE}
 use Rattle.opclass_any.specs.AnyClass.{is_of, empty, bytes_of, read_of, greatest_size}
 use Rattle.range_tuple.specs.Tuples.{IndexedColumn, IsSummaryIn, Tuple, parts_of, tuple_room}
 use Rattle.opclass_any.specs.declared.classes.AnyClass.{AnyClass}
@@ -20,7 +21,7 @@ pub record IsBlankOf (class : AnyClass) (blank : List ℕ) : Type 0 where
 pub record AreKept (range : ℕ) (columns : List IndexedColumn) : Type 0 where
   pub range_fits : range < 2 ^ 32
   pub some : 0 < length columns
-  pub fits : tuple_room columns ≤ 8156
+  pub fits : tuple_room columns ≤ MAX_TUPLE
 
 -- beside a tuple: columns of the same index to be read, and room for its bytes
 pub record CanBeRead (t : Tuple) (spare : List IndexedColumn) (scratch : List ℕ) : Type 0 where

@@ -1,4 +1,5 @@
 pub mod ExactTuples
+pub mod GatheredKeys
 pub mod IncludedRows
 pub mod Keeps
 pub mod KeptColumns

@@ -48,6 +48,10 @@ columns_in count bytes (part ∷ parts) k at =
     read_on at (summary_in part.1 (state_in (state_at bytes k)) (length_at count bytes k) (drop at bytes))
     (λ s. behind (record { place = part.0; class = part.1; state = state_in (state_at bytes k); summary = s } ∷ []) (columns_in count bytes parts (k + 1) (at + length_at count bytes k)))
 
+-- the columns of a tuple with so many, behind the fields before the summaries
+abbrev pub columns_read : ℕ → List (ℕ × AnyClass) → List ℕ → Result (List IndexedColumn) ℕ
+columns_read count parts bytes = columns_in count bytes parts 0 (5 + 3 * count)
+
 -- bit 0 of the flags
 abbrev pub says_placeholder : List ℕ → Bool
 says_placeholder bytes = (slice_index bytes 4 == 1) || (slice_index bytes 4 == 3)
@@ -59,7 +63,7 @@ tuple_behind bytes None (Ok columns) = Ok (tuple_of (number_of (field_at bytes 0
 
 -- the fields before the summaries first, then the summaries in turn
 unfoldable pub read_of : List (ℕ × AnyClass) → List ℕ → Result Tuple ℕ
-read_of parts bytes = tuple_behind bytes (head_fault (length parts) bytes) (columns_in (length parts) bytes parts 0 (5 + 3 * length parts))
+read_of parts bytes = tuple_behind bytes (head_fault (length parts) bytes) (columns_read (length parts) parts bytes)
 
 abbrev pub is_there : Result Tuple ℕ → Option Tuple
 is_there (Ok t) = Some t

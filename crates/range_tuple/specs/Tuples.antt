@@ -44,9 +44,12 @@ empty_column columns part = record {
   summary = empty (class_of part.class (kind_at columns part.column));
 }
 
--- the placeholder of a range to which no row was added
+-- the tuple of a range to which no row was added, and the placeholder
+abbrev pub empty_tuple : ℕ → Bool → List TableColumn → List Part → Tuple
+empty_tuple range placeholder columns parts = tuple_of range placeholder (map (empty_column columns) parts)
+
 abbrev pub empty_placeholder : ℕ → List TableColumn → List Part → Tuple
-empty_placeholder range columns parts = tuple_of range true (map (empty_column columns) parts)
+empty_placeholder range columns parts = empty_tuple range true columns parts
 
 -- the same column of another range, in which nothing was added
 abbrev pub emptied : IndexedColumn → IndexedColumn

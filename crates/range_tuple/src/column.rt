@@ -1,13 +1,13 @@
 //! An indexed column of a tuple.
 
-ghost use Rattle.std.specs.Prelude.{◌≡◌, ◌≢◌, ◌<◌, ◌≤◌, ◌++◌, ◌==◌, true, false, List, length, drop, IfOk, Ok, Err, IfErr, OnOk, MatchResult};
-ghost use Rattle.block_model.specs.declared.limits.TheConstants.{MAX_CONDITIONS};
-ghost use Rattle.std.specs.List.{list_all, list_any};
+ghost use Rattle.std.specs.Prelude.{◌≡◌, ◌≢◌, ◌<◌, ◌≤◌, ◌++◌, ◌==◌, ◌&&◌, ◌||◌, true, false, List, length, drop, IfOk, Ok, Err, IfErr, OnOk, MatchResult};
+ghost use Rattle.std.specs.List.{list_all};
 ghost use Rattle.block_model.specs.declared.value.Value.{Value};
 ghost use Rattle.block_model.specs.RowMatches.{column_matches};
-ghost use Rattle.opclass_api.specs.Conditions.{meets_all};
+ghost use Rattle.opclass_api.specs.Conditions.{AllCompare, meets_all};
 ghost use Rattle.opclass_any.specs.AnyClass.{takes, is_of, includes, empty, add, consistent, bytes_of, read_of, greatest_size};
-ghost use Rattle.range_tuple.specs.Keeps.{column_allows, allows_cond, allows_op, comparisons};
+ghost use Rattle.range_tuple.specs.GatheredKeys.{has_asked};
+ghost use Rattle.range_tuple.specs.Keeps.{column_allows};
 ghost use Rattle.range_tuple.specs.KeptColumns.{IsBlankOf, IsReadAgain};
 ghost use Rattle.range_tuple.specs.NullStates.{state_of, has_nulls, has_values};
 ghost use Rattle.range_tuple.specs.TupleBytes.{state_number, summary_bytes};
@@ -16,9 +16,9 @@ ghost use Rattle.opclass_any.specs.declared.classes.AnySummary.{AnySummary};
 ghost use Rattle.range_tuple.specs.declared.state.NullState.{NullState};
 ghost use Rattle.range_tuple.specs.Tuples.{IndexedColumn, IsColumn, emptied, part_of, with_value, with_row_at, united_column, column_room, has_nothing};
 
-use crate::asked::{Asked, in_a_row};
+use crate::scan_keys::ScanKeys;
 use crate::state::NullState;
-use block_model::{Cond, NoMemory, Op, Value};
+use block_model::{Cond, NoMemory, Value};
 use opclass_any::{AnyClass, AnySummary};
 use opclass_api::{Malformed, OpClass};
 use std::alloc::Global;
@@ -185,54 +185,31 @@ impl TupleColumn {
 
     /// Whether the column allows each condition on it. One that doesn't includes no row that matches them. Where none is on
     /// the column, the class isn't asked.
-    pub(crate) fn allows(&self, conds: &[Cond]) -> bool
-        requires { length conds.now ≤ MAX_CONDITIONS }
-        ensures answer { result ≡ column_allows conds.now self.now }
-        ensures misses_no_match { result ≡ false → (row : List Value) → ColumnIncludes row self.now → list_all (column_matches row) conds.now ≡ false }
+    pub(crate) fn allows(&self, keys: &ScanKeys<'_>) -> bool
+        ensures answer { result ≡ column_allows keys.now self.now }
+        ensures misses_no_match { result ≡ false → (row : List Value) → ColumnIncludes row self.now → list_all (column_matches row) keys.now ≡ false }
     {
-        if !self.is_asked(conds) {
+        let Some(asked) = keys.of(self.place) else {
             return true;
-        }
-        let may_match = self.state.has_values() && self.may_hold(conds);
-        self.allow_each(may_match, conds)
+        };
+        let may_match = self.may_match(asked.comparisons);
+        may_match && self.has_asked(asked.nulls, asked.values)
     }
 
-    /// Whether a condition is on the column.
-    fn is_asked(&self, conds: &[Cond]) -> bool
-        ensures { result ≡ list_any (λ cond. cond.column == self.now.place) conds.now }
+    /// Whether no comparison is asked, or the summary may include a value that meets each.
+    fn may_match(&self, asked: &[Cond]) -> bool
+        requires { AllCompare asked.now }
+        ensures answer { result ≡ ((length asked.now == 0) || (has_values self.now.state && consistent self.now.class self.now.summary asked.now)) }
+        ensures misses_no_match { result ≡ false → has_values self.now.state ≡ true → (v : Value) → includes self.now.class self.now.summary v → meets_all asked.now v ≡ false }
     {
-        conds.iter().any(|cond| cond.column == self.place)
+        asked.is_empty() || (self.state.has_values() && self.class.consistent(&self.summary, asked))
     }
 
-    /// Whether the summary may include a value that meets each comparison on the column.
-    fn may_hold(&self, conds: &[Cond]) -> bool
-        requires { length conds.now ≤ MAX_CONDITIONS }
-        ensures answer { result ≡ consistent self.now.class self.now.summary (comparisons self.now.place conds.now) }
-        ensures misses_no_match { result ≡ false → (v : Value) → includes self.now.class self.now.summary v → meets_all (comparisons self.now.place conds.now) v ≡ false }
+    /// Whether nulls and values were added, each where it is asked for.
+    fn has_asked(&self, nulls: bool, values: bool) -> bool
+        ensures { result ≡ has_asked self.now.state nulls values }
     {
-        match in_a_row(self.place, conds) {
-            Some((first, end)) => self.class.consistent(&self.summary, &conds[first..end]),
-            None => {
-                let asked = Asked::of(self.place, conds);
-                self.class.consistent(&self.summary, asked.as_slice())
-            }
-        }
-    }
-
-    fn allow_each(&self, may_match: bool, conds: &[Cond]) -> bool
-        ensures { result ≡ list_all (allows_cond self.now may_match) conds.now }
-    {
-        conds.iter().all(|cond| cond.column != self.place || self.allows_op(may_match, cond.op))
-    }
-
-    fn allows_op(&self, may_match: bool, op: Op) -> bool
-        ensures { result ≡ allows_op self.now.state may_match op }
-    {
-        match op {
-            Op::IsNull => self.state.has_nulls(),
-            Op::NotNull => self.state.has_values(),
-            _ => may_match,
-        }
+        (!nulls || self.state.has_nulls()) && (!values || self.state.has_values())
     }
 
     /// How many bytes the column has at most.

@@ -1,7 +1,8 @@
 //! The columns of a tuple, one after the other.
 
 ghost use Rattle.std.specs.Prelude.{◌≡◌, ◌≢◌, ◌<◌, ◌≤◌, ◌+◌, ◌*◌, ◌++◌, true, false, All, List, length, map, drop, sum_by, Ok, Err, IfOk, OnOk, IfErr, MatchResult};
-ghost use Rattle.block_model.specs.declared.limits.TheConstants.{MAX_CONDITIONS};
+ghost use Rattle.block_model.specs.declared.limits.TheConstants.{MAX_TUPLE};
+ghost use Rattle.std.specs.Box.{boxed_slice_items};
 ghost use Rattle.std.specs.List.{list_all};
 ghost use Rattle.block_model.specs.declared.value.Value.{Value};
 ghost use Rattle.block_model.specs.IndexedColumns.{columns_of, kind_at};
@@ -12,37 +13,39 @@ ghost use Rattle.range_tuple.specs.Keeps.{column_allows};
 ghost use Rattle.range_tuple.specs.KeptColumns.{ReadsAgain};
 ghost use Rattle.range_tuple.specs.TupleBytes.{columns_bytes, lengths_bytes, states_bytes, summaries_bytes};
 ghost use Rattle.range_tuple.specs.TupleFaults.{head_fault};
-ghost use Rattle.range_tuple.specs.TupleReading.{columns_in};
+ghost use Rattle.range_tuple.specs.TupleReading.{columns_read};
 ghost use Rattle.range_tuple.specs.TupleIncludes.{ColumnIncludes, ColumnTakes};
 ghost use Rattle.range_tuple.specs.Tuples.{IndexedColumn, IsColumn, empty_column, emptied, has_nothing, with_row_at, united_columns, parts_of, column_room};
 
 use crate::column::{COLUMN_HEADER, TupleColumn};
 use crate::head::HEADER;
+use crate::scan_keys::ScanKeys;
 use crate::spare::SpareColumn;
 use crate::state::NullState;
-use block_model::{Column, Cond, Index, NoMemory, Part, Schema, Value, columns_of, kind_at};
+use block_model::{Column, Index, NoMemory, Part, Schema, Value, columns_of, kind_at};
 use byte_fields::{get_u16, put_u16};
 use opclass_any::AnyClass;
 use opclass_api::Malformed;
 use std::alloc::Global;
+use std::boxed::BoxedSlice;
 
 /// The columns of an index, in which nothing was added. Takes the memory of their summaries.
 pub(crate) fn new_columns(
     alloc: Global,
     index: &Index,
     schema: &Schema,
-) -> Result<Vec<TupleColumn>, NoMemory>
+) -> Result<BoxedSlice<TupleColumn>, NoMemory>
     requires classes { list_all (class_is_lawful (columns_of schema.now index.now)) index.now.parts ≡ true }
     requires sizes { All (λ part. part_size (columns_of schema.now index.now) part < 65536) index.now.parts }
-    ensures columns { IfOk result (λ columns. columns.items ≡ map (empty_column (columns_of schema.now index.now)) index.now.parts) }
-    ensures rooms { IfOk result (λ columns. map column_room columns.items ≡ map (part_size (columns_of schema.now index.now)) index.now.parts) }
+    ensures columns { IfOk result (λ columns. boxed_slice_items columns ≡ map (empty_column (columns_of schema.now index.now)) index.now.parts) }
+    ensures rooms { IfOk result (λ columns. map column_room (boxed_slice_items columns) ≡ map (part_size (columns_of schema.now index.now)) index.now.parts) }
 {
     let mut columns = Vec::with_capacity(alloc, index.parts.len())?;
     'parts: for part in index.parts.as_slice() {
         let column = new_column(alloc, part, columns_of(schema, index))?;
         columns.push(column)?;
     }
-    Ok(columns)
+    Ok(columns.into_boxed_slice())
 }
 
 fn new_column(alloc: Global, part: &Part, columns: &[Column]) -> Result<TupleColumn, NoMemory>
@@ -59,14 +62,14 @@ fn new_column(alloc: Global, part: &Part, columns: &[Column]) -> Result<TupleCol
 pub(crate) fn new_spare(
     alloc: Global,
     columns: &[TupleColumn],
-) -> Result<Vec<SpareColumn>, NoMemory>
-    ensures { IfOk result (λ spare. spare.items ≡ map emptied columns.now) }
+) -> Result<BoxedSlice<SpareColumn>, NoMemory>
+    ensures { IfOk result (λ spare. boxed_slice_items spare ≡ map emptied columns.now) }
 {
     let mut spare = Vec::with_capacity(alloc, columns.len())?;
     'columns: for column in columns {
         spare.push(SpareColumn::of(alloc, column)?)?;
     }
-    Ok(spare)
+    Ok(spare.into_boxed_slice())
 }
 
 /// Every column is one.
@@ -129,13 +132,12 @@ pub(crate) fn have_nothing(columns: &[TupleColumn]) -> bool
 }
 
 /// Whether each column allows the conditions. Where one doesn't, they include no row that matches them.
-pub(crate) fn all_allow(columns: &[TupleColumn], conds: &[Cond]) -> bool
-    requires { length conds.now ≤ MAX_CONDITIONS }
-    ensures answer { result ≡ list_all (column_allows conds.now) columns.now }
-    ensures misses_no_match { result ≡ false → (row : List Value) → All (ColumnIncludes row) columns.now → list_all (column_matches row) conds.now ≡ false }
+pub(crate) fn all_allow(columns: &[TupleColumn], keys: &ScanKeys<'_>) -> bool
+    ensures answer { result ≡ list_all (column_allows keys.now) columns.now }
+    ensures misses_no_match { result ≡ false → (row : List Value) → All (ColumnIncludes row) columns.now → list_all (column_matches row) keys.now ≡ false }
 {
     'columns: for column in columns {
-        if !column.allows(conds) {
+        if !column.allows(keys) {
             return false;
         }
     }
@@ -144,7 +146,7 @@ pub(crate) fn all_allow(columns: &[TupleColumn], conds: &[Cond]) -> bool
 
 /// How many bytes the columns have at most.
 pub(crate) fn room_of(columns: &[TupleColumn]) -> usize
-    requires { sum_by column_room columns.now ≤ 8156 }
+    requires { sum_by column_room columns.now ≤ MAX_TUPLE }
     ensures { result ≡ sum_by column_room columns.now }
 {
     let mut room = 0;
@@ -203,7 +205,7 @@ pub(crate) fn read_each(spare: &mut [SpareColumn], bytes: &[u8]) -> Result<(), M
     requires { head_fault (length spare.old) bytes.now ≡ None }
     ensures same_index { parts_of spare.new ≡ parts_of spare.old }
     ensures found { OnOk result (drop 5 bytes.now ≡ columns_bytes spare.new) }
-    ensures read { MatchResult result (λ ok. columns_in (length spare.old) bytes.now (parts_of spare.old) 0 (5 + 3 * length spare.old) ≡ Ok spare.new) (λ fault. columns_in (length spare.old) bytes.now (parts_of spare.old) 0 (5 + 3 * length spare.old) ≡ Err fault.at) }
+    ensures read { let read = columns_read (length spare.old) (parts_of spare.old) bytes.now in MatchResult result (λ ok. read ≡ Ok spare.new) (λ fault. read ≡ Err fault.at) }
     ensures within { IfErr result (λ fault. fault.at ≤ length bytes.now) }
 {
     let count = spare.len();

@@ -1,6 +1,6 @@
 //! Laws of tuples: what their bytes tell, what rows leave in them, and which rows they take.
 
-ghost use Rattle.std.specs.Prelude.{◌≡◌, ◌↔◌, ℕ, Bool, true, List, map};
+ghost use Rattle.std.specs.Prelude.{◌≡◌, ◌↔◌, ℕ, Bool, true, List};
 ghost use Rattle.block_model.specs.declared.schema.Class.{Class};
 ghost use Rattle.block_model.specs.declared.schema.Column.{Column};
 ghost use Rattle.block_model.specs.declared.schema.Part.{Part};
@@ -14,7 +14,7 @@ ghost use Rattle.range_tuple.specs.IncludedRows.{tuple_includes};
 ghost use Rattle.range_tuple.specs.KindValues.{IsOfKind};
 ghost use Rattle.range_tuple.specs.TupleBytes.{tuple_bytes};
 ghost use Rattle.range_tuple.specs.TupleIncludes.{TakesValue, TupleIncludes};
-ghost use Rattle.range_tuple.specs.Tuples.{IsTuple, Tuple, empty_column, parts_of, tuple_of, united_tuple};
+ghost use Rattle.range_tuple.specs.Tuples.{IsTuple, Tuple, empty_tuple, parts_of, united_tuple};
 
 /// The first four bytes of a tuple spell the number of its range.
 pub fn bytes_begin_with_the_range()
@@ -24,7 +24,7 @@ pub fn bytes_begin_with_the_range()
 /// Rows added one after the other to a tuple in which nothing was added leave exactly which of nulls and values they had in
 /// each column, and the summary of the values in their order.
 pub fn rows_leave_exact_summaries()
-    ensures { (range : ℕ) (placeholder : Bool) (columns : List Column) (parts : List Part) (rows : List (List Value)) → IsExactTuple rows (with_rows rows (tuple_of range placeholder (map (empty_column columns) parts))) }
+    ensures { (range : ℕ) (held : Bool) (columns : List Column) (parts : List Part) (rows : List (List Value)) → IsExactTuple rows (with_rows rows (empty_tuple range held columns parts)) }
 {}
 
 /// A union with a tuple of the index adds exactly what that one had.

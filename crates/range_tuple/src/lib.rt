@@ -2,15 +2,15 @@
 //! rows had there, and a summary of the values; it is a placeholder or final. No call loses a row, and a final tuple that
 //! doesn't keep conditions has no row that matches them. It stands on block_model, byte_fields, opclass_api and opclass_any, and
 //! names no class. The layers above use `RangeTuple`, which is made once an index and read from
-//! bytes, `ListedTuple` in lists, the laws, and the words in specs/.
+//! bytes, `ListedTuple` in lists, `ScanKeys` for the conditions of a scan, the laws, and the words in specs/.
 #![tactic(auto)]
 
-mod asked;
 mod column;
 mod columns;
 mod head;
 mod laws;
 mod listed;
+mod scan_keys;
 mod spare;
 mod state;
 mod tuple;
@@ -20,5 +20,6 @@ pub use laws::{
     rows_leave_exact_summaries, values_of_a_kind_are_taken,
 };
 pub use listed::ListedTuple;
+pub use scan_keys::ScanKeys;
 pub use state::NullState;
 pub use tuple::RangeTuple;

@@ -1,7 +1,8 @@
 //! Range tuples in a list.
 
 ghost use Rattle.std.specs.Prelude.{◌≡◌, ◌≢◌, ◌<◌, ◌≤◌, ◌++◌, true, false, All, List, length, drop, IfOk};
-ghost use Rattle.block_model.specs.declared.limits.TheConstants.{MAX_CONDITIONS};
+ghost use Rattle.block_model.specs.declared.limits.TheConstants.{MAX_TUPLE};
+ghost use Rattle.std.specs.Box.{boxed_slice_items};
 ghost use Rattle.std.specs.List.{list_all};
 ghost use Rattle.block_model.specs.declared.value.Value.{Value};
 ghost use Rattle.block_model.specs.IndexedColumns.{columns_of};
@@ -20,19 +21,21 @@ use crate::columns::{
     new_columns, new_spare, room_of, unite_each, write_each,
 };
 use crate::head::HEADER;
+use crate::scan_keys::ScanKeys;
 use crate::spare::SpareColumn;
-use block_model::{Cond, Index, NoMemory, Schema, Value};
+use block_model::{Index, NoMemory, Schema, Value};
 use byte_fields::put_u32;
 use std::alloc::Global;
+use std::boxed::BoxedSlice;
 use std::marker::Model;
 
 /// What an index keeps of a range of blocks ("BRIN Indexes"), in a list of ranges: it takes the memory of its summaries and
-/// no more, so it isn't read from bytes. Seen as a `RangeTuple` is.
+/// no more, so it isn't read from bytes. Seen as a `RangeTuple` is. Its columns stand in a box that can't grow.
 #[derive(Debug, Drop)]
 pub struct ListedTuple {
     range: u32,
     placeholder: bool,
-    columns: Vec<TupleColumn>,
+    columns: BoxedSlice<TupleColumn>,
 }
 
 impl Model for ListedTuple {
@@ -41,10 +44,11 @@ impl Model for ListedTuple {
     ghost Value = { Tuple };
 
     ghost use Rattle.range_tuple.specs.KeptColumns.{AreKept};
+    ghost use Rattle.std.specs.Box.{boxed_slice_items};
 
-    ghost view = { λ a. tuple_of a.range a.placeholder a.columns.items };
+    ghost view = { λ a. tuple_of a.range a.placeholder (boxed_slice_items a.columns) };
 
-    ghost invariant = { λ a. AreKept a.range a.columns.items };
+    ghost invariant = { λ a. AreKept a.range (boxed_slice_items a.columns) };
 }
 
 impl ListedTuple {
@@ -58,7 +62,7 @@ impl ListedTuple {
     ) -> Result<ListedTuple, NoMemory>
         requires columns { 0 < length index.now.parts }
         requires classes { list_all (class_is_lawful (columns_of schema.now index.now)) index.now.parts ≡ true }
-        requires size { tuple_size (columns_of schema.now index.now) index.now.parts ≤ 8156 }
+        requires size { tuple_size (columns_of schema.now index.now) index.now.parts ≤ MAX_TUPLE }
         ensures placeholder { IfOk result (λ t. t ≡ empty_placeholder range (columns_of schema.now index.now) index.now.parts) }
         ensures room { IfOk result (λ t. tuple_room t.columns ≡ tuple_size (columns_of schema.now index.now) index.now.parts) }
     {
@@ -74,7 +78,7 @@ impl ListedTuple {
     pub fn known(&self)
         ensures tuple { IsTuple self.now }
         ensures some { 0 < length self.now.columns }
-        ensures fits { tuple_room self.now.columns ≤ 8156 }
+        ensures fits { tuple_room self.now.columns ≤ MAX_TUPLE }
     {
         known(&self.columns);
     }
@@ -134,17 +138,16 @@ impl ListedTuple {
         self.placeholder = false;
     }
 
-    /// Whether the range may hold a row that matches the conditions, which are at most sixteen. A tuple that doesn't keep
-    /// them is final, and includes no row that matches them all. Takes no memory.
-    pub fn keeps(&self, conds: &[Cond]) -> bool
-        requires { length conds.now ≤ MAX_CONDITIONS }
-        ensures answer { result ≡ keeps self.now conds.now }
-        ensures misses_no_match { result ≡ false → (row : List Value) → TupleIncludes self.now row → list_all (column_matches row) conds.now ≡ false }
+    /// Whether the range may hold a row that matches the conditions of a scan. A tuple that doesn't keep them is final, and
+    /// includes no row that matches them all. Takes no memory.
+    pub fn keeps_by(&self, keys: &ScanKeys<'_>) -> bool
+        ensures answer { result ≡ keeps self.now keys.now }
+        ensures misses_no_match { result ≡ false → (row : List Value) → TupleIncludes self.now row → list_all (column_matches row) keys.now ≡ false }
     {
         if self.placeholder {
             return true;
         }
-        !have_nothing(&self.columns) && all_allow(&self.columns, conds)
+        !have_nothing(&self.columns) && all_allow(&self.columns, keys)
     }
 
     /// Writes the bytes of the tuple to the front of `out`, and answers how many they are. Takes no memory.
@@ -163,14 +166,14 @@ impl ListedTuple {
     /// How many bytes the tuple has at most.
     pub fn greatest_size(&self) -> usize
         ensures size { result ≡ tuple_room self.now.columns }
-        ensures fits { result ≤ 8156 }
+        ensures fits { result ≤ MAX_TUPLE }
     {
         HEADER + room_of(&self.columns)
     }
 
     /// Columns of its index to be read. Takes the memory of their summaries.
-    pub(crate) fn new_spare(&self, alloc: Global) -> Result<Vec<SpareColumn>, NoMemory>
-        ensures { IfOk result (λ spare. parts_of spare.items ≡ parts_of self.now.columns) }
+    pub(crate) fn new_spare(&self, alloc: Global) -> Result<BoxedSlice<SpareColumn>, NoMemory>
+        ensures { IfOk result (λ spare. parts_of (boxed_slice_items spare) ≡ parts_of self.now.columns) }
     {
         let spare = new_spare(alloc, &self.columns)?;
         Ok(spare)

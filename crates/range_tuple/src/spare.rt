@@ -13,6 +13,7 @@ use crate::state::NullState;
 use block_model::NoMemory;
 use opclass_api::Malformed;
 use std::alloc::Global;
+use std::boxed::BoxedSlice;
 use std::marker::Model;
 use std::mem;
 
@@ -21,7 +22,7 @@ use std::mem;
 #[derive(Debug, Drop)]
 pub(crate) struct SpareColumn {
     column: TupleColumn,
-    blank: Vec<u8>,
+    blank: BoxedSlice<u8>,
 }
 
 impl Model for SpareColumn {
@@ -30,10 +31,11 @@ impl Model for SpareColumn {
     ghost Value = { IndexedColumn };
 
     ghost use Rattle.range_tuple.specs.KeptColumns.{IsBlankOf};
+    ghost use Rattle.std.specs.Box.{boxed_slice_items};
 
     ghost view = { λ a. a.column };
 
-    ghost invariant = { λ a. IsBlankOf a.column.class a.blank.items };
+    ghost invariant = { λ a. IsBlankOf a.column.class (boxed_slice_items a.blank) };
 }
 
 impl SpareColumn {
@@ -43,7 +45,10 @@ impl SpareColumn {
     {
         let column = column.another(alloc)?;
         let blank = column.encoded(alloc)?;
-        Ok(SpareColumn { column, blank })
+        Ok(SpareColumn {
+            column,
+            blank: blank.into_boxed_slice(),
+        })
     }
 
     /// Does nothing; tells its caller that every column is one, and what its class knows of bytes.

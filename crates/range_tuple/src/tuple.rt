@@ -1,7 +1,7 @@
 //! Range tuples.
 
 ghost use Rattle.std.specs.Prelude.{◌≡◌, ◌≢◌, ◌<◌, ◌≤◌, ◌++◌, true, false, List, length, drop, Some, Ok, Err, IfOk, IsOk, OnOk, OnErr, IfErr, MatchResult};
-ghost use Rattle.block_model.specs.declared.limits.TheConstants.{MAX_CONDITIONS};
+ghost use Rattle.block_model.specs.declared.limits.TheConstants.{MAX_CONDITIONS, MAX_TUPLE};
 ghost use Rattle.std.specs.List.{list_all};
 ghost use Rattle.block_model.specs.declared.value.Value.{Value};
 ghost use Rattle.block_model.specs.IndexedColumns.{columns_of};
@@ -17,22 +17,25 @@ ghost use Rattle.range_tuple.specs.Tuples.{Tuple, IsTuple, empty_placeholder, re
 use crate::columns::read_each;
 use crate::head::head_fault;
 use crate::listed::ListedTuple;
+use crate::scan_keys::ScanKeys;
 use crate::spare::SpareColumn;
 use block_model::{Cond, Index, NoMemory, Schema, Value};
 use byte_fields::get_u32;
 use opclass_api::Malformed;
 use std::alloc::Global;
+use std::boxed::BoxedSlice;
 use std::marker::Model;
 
 /// What an index keeps of a range of blocks ("BRIN Indexes"). Seen as the number of the range, whether it is a placeholder,
 /// whether no row was added, and the indexed columns: of each its number in the table, its class, which of nulls and
 /// values rows had there, and the summary of the values. It is made once an index and then read from the bytes of one
-/// tuple after the other: `spare` has the columns that are read, `scratch` room for the bytes of a tuple.
+/// tuple after the other: `spare` has the columns that are read, `scratch` room for the bytes of a tuple. All of it stands in
+/// boxes that can't grow: no call but `new` takes memory.
 #[derive(Debug, Drop)]
 pub struct RangeTuple {
     tuple: ListedTuple,
-    spare: Vec<SpareColumn>,
-    scratch: Vec<u8>,
+    spare: BoxedSlice<SpareColumn>,
+    scratch: BoxedSlice<u8>,
 }
 
 impl Model for RangeTuple {
@@ -41,10 +44,11 @@ impl Model for RangeTuple {
     ghost Value = { Tuple };
 
     ghost use Rattle.range_tuple.specs.KeptColumns.{CanBeRead};
+    ghost use Rattle.std.specs.Box.{boxed_slice_items};
 
     ghost view = { λ a. a.tuple };
 
-    ghost invariant = { λ a. CanBeRead a.tuple a.spare.items a.scratch.items };
+    ghost invariant = { λ a. CanBeRead a.tuple (boxed_slice_items a.spare) (boxed_slice_items a.scratch) };
 }
 
 impl RangeTuple {
@@ -58,7 +62,7 @@ impl RangeTuple {
     ) -> Result<RangeTuple, NoMemory>
         requires columns { 0 < length index.now.parts }
         requires classes { list_all (class_is_lawful (columns_of schema.now index.now)) index.now.parts ≡ true }
-        requires size { tuple_size (columns_of schema.now index.now) index.now.parts ≤ 8156 }
+        requires size { tuple_size (columns_of schema.now index.now) index.now.parts ≤ MAX_TUPLE }
         ensures placeholder { IfOk result (λ t. t ≡ empty_placeholder range (columns_of schema.now index.now) index.now.parts) }
         ensures room { IfOk result (λ t. tuple_room t.columns ≡ tuple_size (columns_of schema.now index.now) index.now.parts) }
     {
@@ -68,7 +72,7 @@ impl RangeTuple {
         Ok(RangeTuple {
             tuple,
             spare,
-            scratch,
+            scratch: scratch.into_boxed_slice(),
         })
     }
 
@@ -76,7 +80,7 @@ impl RangeTuple {
     pub fn known(&self)
         ensures tuple { IsTuple self.now }
         ensures some { 0 < length self.now.columns }
-        ensures fits { tuple_room self.now.columns ≤ 8156 }
+        ensures fits { tuple_room self.now.columns ≤ MAX_TUPLE }
     {
         self.tuple.known();
     }
@@ -171,7 +175,15 @@ impl RangeTuple {
         ensures answer { result ≡ keeps self.now conds.now }
         ensures misses_no_match { result ≡ false → (row : List Value) → TupleIncludes self.now row → list_all (column_matches row) conds.now ≡ false }
     {
-        self.tuple.keeps(conds)
+        self.keeps_by(&ScanKeys::new(conds))
+    }
+
+    /// The same by the conditions of a scan, which were gathered once for all tuples. Takes no memory.
+    pub fn keeps_by(&self, keys: &ScanKeys<'_>) -> bool
+        ensures answer { result ≡ keeps self.now keys.now }
+        ensures misses_no_match { result ≡ false → (row : List Value) → TupleIncludes self.now row → list_all (column_matches row) keys.now ≡ false }
+    {
+        self.tuple.keeps_by(keys)
     }
 
     /// Writes the bytes of the tuple to the front of `out`, and answers how many they are. Takes no memory.
@@ -201,7 +213,7 @@ impl RangeTuple {
     /// How many bytes the tuple has at most.
     pub fn greatest_size(&self) -> usize
         ensures size { result ≡ tuple_room self.now.columns }
-        ensures fits { result ≤ 8156 }
+        ensures fits { result ≤ MAX_TUPLE }
     {
         self.tuple.greatest_size()
     }

@@ -1,2 +1,3 @@
 pub mod DroppedTexts
+pub mod StepTexts
 pub mod Texts

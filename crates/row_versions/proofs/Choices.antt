@@ -1,9 +1,9 @@
 -- choices by tests
 use Rattle.std.proofs.Common.{◌≡◌, ◌≢◌, Bool, true, false, cond, ◌&&◌, ℕ, Option, None, Some, Ordering, refl, sym, ap, ◌∙◌, ◌⊎◌, inl, inr, T, eqb, eq-eqb}
 use Rattle.std.specs.declared.cmp.Ordering.TheVariants.{Less, Equal, Greater}
-use Rattle.std.specs.Ordering.{nat_cmp, eq_by_cmp, is_eq}
-use Rattle.std.specs.Cmp.{nat_cmp_total, eq_by_cmp_equiv}
-use Rattle.std.proofs.lemmas.Bool.{false≢true, true≢false}
+use Rattle.std.specs.Ordering.{nat_cmp, eq_by_cmp, is_eq, is_lt}
+use Rattle.std.specs.Cmp.{Equal-is, nat_cmp_total, eq_by_cmp_equiv}
+use Rattle.std.proofs.lemmas.Bool.{true≢false}
 use Rattle.std.proofs.lemmas.Map.Entries.{option_filter}
 use Rattle.std.proofs.lemmas.Map.Lookups.{exact_unsigned}
 use Rattle.block_model.specs.declared.row.RowId.{RowId}
@@ -27,16 +27,17 @@ pub same_filtered : {X : Type 0} (p p' : X → Bool) (o : Option X) → ((x : X)
 same_filtered p p' None h = refl
 same_filtered p p' (Some x) h = ap (λ b. cond b (Some x) None) (h x refl)
 
-equal_of : (o : Ordering) → is_eq o ≡ true → o ≡ Equal
-equal_of Less e = absurd (false≢true e)
-equal_of Equal e = refl
-equal_of Greater e = absurd (false≢true e)
+-- a lesser one isn't equal
+pub lesser_apart : (o : Ordering) → T (is_lt o) → is_eq o ≡ false
+lesser_apart Less h = refl
+lesser_apart Equal h = absurd h
+lesser_apart Greater h = refl
 
 pub same_id : (a b : RowId) → eq_by_cmp id_cmp a b ≡ true → a ≡ b
-same_id a b e = ids_exact a b (equal_of (id_cmp a b) e)
+same_id a b e = ids_exact a b ((Equal-is (id_cmp a b)).0 e)
 
 pub same_number : (a b : ℕ) → eq_by_cmp nat_cmp a b ≡ true → a ≡ b
-same_number a b e = exact_unsigned a b (equal_of (nat_cmp a b) e)
+same_number a b e = exact_unsigned a b ((Equal-is (nat_cmp a b)).0 e)
 
 -- numbers that the test tells apart differ
 pub other_number : (a b : ℕ) → eq_by_cmp nat_cmp a b ≡ false → a ≢ b

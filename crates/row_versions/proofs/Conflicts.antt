@@ -1,14 +1,13 @@
 -- when a row conflicts
 use Rattle.std.proofs.Common.{◌≡◌, ◌≢◌, Bool, true, false, cond, not, ◌&&◌, ◌||◌, T, ℕ, List, [], ◌∷◌, Option, None, Some, refl, sym, ap, ◌∙◌, inl, inr, eqb, eq-eqb, ne_eqb}
+use Rattle.std.proofs.Math.Bool.{and-false}
 use Rattle.std.specs.List.{list_any}
 use Rattle.std.specs.Option.{is_some, option_map}
-use Rattle.std.specs.Ordering.{nat_cmp, eq_by_cmp, is_lt, is_eq}
+use Rattle.std.specs.Ordering.{nat_cmp, eq_by_cmp, is_lt}
 use Rattle.std.specs.Cmp.{nat_cmp_total, eq_by_cmp_equiv}
 use Rattle.std.specs.FinMap.{FinMap, get, entries, find, is_sorted, contains_key, get-entries, entries_sorted}
 use Rattle.std.specs.FinMap.Entries.{below_all}
 use Rattle.std.specs.FinSet as set
-use Rattle.std.specs.declared.cmp.Ordering.{Ordering}
-use Rattle.std.specs.declared.cmp.Ordering.TheVariants.{Less, Equal, Greater}
 use Rattle.std.proofs.lemmas.Bool.{false≢true, true≢false, cases_eq}
 use Rattle.std.proofs.lemmas.Map.Entries.{option_filter}
 use Rattle.block_model.specs.DatabaseState.{OpenTransaction}
@@ -21,7 +20,7 @@ use Rattle.row_versions.specs.declared.sessions.Open.{Open}
 use Rattle.row_versions.specs.VisibleState.{status_of, is_of_commit, is_seen, is_marked, visible_transaction, visible_sessions, visible_state}
 use Rattle.row_versions.specs.StoredVersions.{stored, transaction_of, IsStored}
 use Rattle.row_versions.specs.Marks.{holds, conflicts}
-use Rattle.row_versions.proofs.Choices.{chosen, same_number, other_number_eqb, first_of_both, second_of_both}
+use Rattle.row_versions.proofs.Choices.{chosen, same_number, other_number_eqb, lesser_apart, first_of_both, second_of_both}
 use Rattle.row_versions.proofs.Stored.{row_of, get-table_of, contains-ids_of}
 use Rattle.row_versions.proofs.Sights.{done, done_own}
 use Rattle.row_versions.proofs.Copies.{get_visible, same_numbers}
@@ -40,17 +39,12 @@ any_found f (e ∷ es) k x h passes =
     or_true true = refl
     or_true false = refl
 
-apart : (o : Ordering) → T (is_lt o) → is_eq o ≡ false
-apart Less h = refl
-apart Equal h = absurd h
-apart Greater h = refl
-
 -- what is found behind lower keys isn't found at them
 found_above : {X : Type 0} (y : ℕ) (es : List (ℕ × X)) (k : ℕ) (x : X) → T (below_all nat_cmp y es) → find nat_cmp k es ≡ Some x → eq_by_cmp nat_cmp k y ≡ false
 found_above y [] k x h there = absurd (cc)
 found_above y (e ∷ es) k x h there =
     elim (chosen (eq_by_cmp nat_cmp k e.0) e.1 x (find nat_cmp k es) there) [
-      | inl a ↦ ap (λ m. eq_by_cmp nat_cmp m y) (same_number k e.0 a.0) ∙ (eq_by_cmp_equiv nat_cmp_total).symm e.0 y ∙ apart (nat_cmp y e.0) (first_of_both (is_lt (nat_cmp y e.0)) (below_all nat_cmp y es) h)
+      | inl a ↦ ap (λ m. eq_by_cmp nat_cmp m y) (same_number k e.0 a.0) ∙ (eq_by_cmp_equiv nat_cmp_total).symm e.0 y ∙ lesser_apart (nat_cmp y e.0) (first_of_both (is_lt (nat_cmp y e.0)) (below_all nat_cmp y es) h)
       | inr b ↦ found_above y es k x (second_of_both (is_lt (nat_cmp y e.0)) (below_all nat_cmp y es) h) b.1
     ]
 
@@ -124,16 +118,12 @@ marks_have vs ss os p v whole there = contains-ids_of (is_marked p) vs v.row.id 
     test true = refl
     test false = refl
 
-and_false : (b : Bool) → (b && false) ≡ false
-and_false true = refl
-and_false false = refl
-
 nobody_marked : (vs : List Version) (ss : List Status) (os : List (Option Open)) (n : ℕ) (v : Version) → IsStored vs ss os → stored vs v.row.id ≡ Some v → holds (status_of ss v.deleter) ≡ false
     → model.marked_elsewhere (visible_state vs ss os) n v.row.id ≡ false
 nobody_marked vs ss os n v whole there quiet = no_entry (λ e. not (eqb e.0 n) && set.contains e.1.marks v.row.id) (visible_sessions ss vs os) (λ m x has.
     let p = its_open ss vs (transaction_of os m) x (sym (get_visible ss vs os m) ∙ has) in
     let unmarked : is_marked p.0 v ≡ false = ap (λ b. b && not (eqb v.row.id.t p.0.t)) (ne_eqb v.deleter p.0.t (not_open ss p.0 v.deleter (whole.under_way m p.0 p.1).begun quiet)) in
-    ap (λ b. not (eqb m n) && b) (ap (λ (x : OpenTransaction). set.contains x.marks v.row.id) (sym p.2) ∙ marks_have vs ss os p.0 v whole there ∙ unmarked) ∙ and_false (not (eqb m n)))
+    ap (λ b. not (eqb m n) && b) (ap (λ (x : OpenTransaction). set.contains x.marks v.row.id) (sym p.2) ∙ marks_have vs ss os p.0 v whole there ∙ unmarked) ∙ and-false (not (eqb m n)))
 
 somebody_marked : (vs : List Version) (ss : List Status) (os : List (Option Open)) (n : ℕ) (o : Open) (v : Version) → IsStored vs ss os → transaction_of os n ≡ Some o → stored vs v.row.id ≡ Some v → is_committed (status_of ss v.row.id.t) ≡ true → v.deleter ≢ o.t
     → status_of ss v.deleter ≡ Begun → model.marked_elsewhere (visible_state vs ss os) n v.row.id ≡ true

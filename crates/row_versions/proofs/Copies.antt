@@ -6,6 +6,7 @@ use Rattle.std.specs.Cmp.{nat_cmp_total, eq_by_cmp_equiv}
 use Rattle.std.specs.FinMap.{get, insert, remove, find, get-from_entries, get-insert, get-remove, same_map, nat_cmp-IsAntisymmetric}
 use Rattle.std.proofs.lemmas.Bool.{false≢true, cases_lt}
 use Rattle.std.proofs.lemmas.List.{get_or-set_same, get_or-set_other, get_or_past, length-set}
+use Rattle.block_model.specs.NumberMaps.{numbers_apart}
 use Rattle.block_model.specs.DatabaseState.{DatabaseState, OpenTransaction}
 use Rattle.statements.specs.declared.limits.TheConstants.{MAX_SESSIONS}
 use Rattle.snapshot_core.specs.declared.statuses.Status.{Status}
@@ -21,9 +22,6 @@ use Rattle.row_versions.proofs.Choices.{chosen, same_number, other_number}
 abbrev copies : List Status → List Version → ℕ → List (Option Open) → List (ℕ × OpenTransaction)
 copies ss vs k places = map (λ (e : ℕ × Open). (e.0, visible_transaction ss vs e.1)) (open_from k places)
 
-apart_numbers : (a b : ℕ) → (a ≡ b → ⊥) → eq_by_cmp nat_cmp a b ≡ false
-apart_numbers a b ne = elim (eq_by_cmp nat_cmp a b) as (λ c. eq_by_cmp nat_cmp a b ≡ c → c ≡ false) [ true ↦ λ e. absurd (ne (same_number a b e)) | false ↦ λ e. refl ] refl
-
 pub same_numbers : (a : ℕ) → eq_by_cmp nat_cmp a a ≡ true
 same_numbers a = (eq_by_cmp_equiv nat_cmp_total).refl a
 
@@ -31,7 +29,7 @@ find_below : (ss : List Status) (vs : List Version) (k m : ℕ) (places : List (
 find_below ss vs k m [] h = refl
 find_below ss vs k m (None ∷ os) h = find_below ss vs (k + 1) m os (omega arith)
 find_below ss vs k m (Some o ∷ os) h =
-    ap (λ b. cond b (Some (visible_transaction ss vs o)) (find nat_cmp m (copies ss vs (k + 1) os))) (apart_numbers m k (λ e. omega arith)) ∙ find_below ss vs (k + 1) m os (omega arith)
+    ap (λ b. cond b (Some (visible_transaction ss vs o)) (find nat_cmp m (copies ss vs (k + 1) os))) (numbers_apart m k (λ e. omega arith)) ∙ find_below ss vs (k + 1) m os (omega arith)
 
 find_at : (ss : List Status) (vs : List Version) (k j : ℕ) (places : List (Option Open)) → find nat_cmp (k + j) (copies ss vs k places) ≡ option_map (visible_transaction ss vs) (get_or places j None)
 find_at ss vs k j [] = refl
@@ -41,7 +39,7 @@ find_at ss vs k zero (Some o ∷ os) =
     ap (λ b. cond b (Some (visible_transaction ss vs o)) (find nat_cmp (k + 0) (copies ss vs (k + 1) os)))
     (ap (λ m. eq_by_cmp nat_cmp m k) (let e : k + 0 ≡ k = omega arith in e) ∙ same_numbers k)
 find_at ss vs k (suc i) (Some o ∷ os) =
-    ap (λ b. cond b (Some (visible_transaction ss vs o)) (find nat_cmp (k + suc i) (copies ss vs (k + 1) os))) (apart_numbers (k + suc i) k (λ e. omega arith))
+    ap (λ b. cond b (Some (visible_transaction ss vs o)) (find nat_cmp (k + suc i) (copies ss vs (k + 1) os))) (numbers_apart (k + suc i) k (λ e. omega arith))
     ∙ ap (λ m. find nat_cmp m (copies ss vs (k + 1) os)) (let e : k + suc i ≡ (k + 1) + i = omega arith in e) ∙ find_at ss vs (k + 1) i os
 
 pub get_visible : (ss : List Status) (vs : List Version) (os : List (Option Open)) (n : ℕ) → get (visible_sessions ss vs os) n ≡ option_map (visible_transaction ss vs) (transaction_of os n)

@@ -1,5 +1,6 @@
 -- what the end of a transaction makes of the visible state
 use Rattle.std.proofs.Common.{◌≡◌, ◌≢◌, Bool, true, false, cond, not, ◌&&◌, ℕ, List, [], ◌∷◌, length, set, Option, None, Some, refl, sym, ap, ◌∙◌, inl, inr, arith, eqb, eqb-true, length-set}
+use Rattle.std.proofs.Math.Bool.{and-false}
 use Rattle.std.specs.declared.cmp.Ordering.TheVariants.{Equal}
 use Rattle.std.specs.Option.{is_some}
 use Rattle.std.specs.Ordering.{nat_cmp, eq_by_cmp}
@@ -85,10 +86,6 @@ get-merged table x q =
     kept : get (retain_keys table (λ id. not (marks.contains x.marks id))) q ≡ cond (not (marks.contains x.marks q)) (get table q) None
     kept = get-retain_keys table (λ id. not (marks.contains x.marks id)) q (λ y e. same_test (λ id. not (marks.contains x.marks id)) q y e)
 
-and_false : (b : Bool) → (b && false) ≡ false
-and_false true = refl
-and_false false = refl
-
 -- the row where the test says so
 abbrev shown : Version → Bool → Option Row
 shown v b = row_of (cond b (Some v) None)
@@ -100,9 +97,9 @@ merged_version : (v : Version) (own gone c d c' d' seen : Bool)
     → (own ≡ false → gone ≡ true → d' ≡ true)
     → (own ≡ false → gone ≡ false → (c' ≡ c) × (d' ≡ d))
     → shown v (c' && not d') ≡ over (cond own (shown v seen) None) (cond (not (is_some (cond (gone && not own) (Some v) None))) (shown v (c && not d)) None)
-merged_version v true true c d c' d' seen f g h k = let s = f refl refl in (λ i. shown v (c' && not (s.1 i))) ∙ ap (shown v) (and_false c') ∙ sym (λ i. over (shown v (s.2 i)) (shown v (s.0 i && not d)))
+merged_version v true true c d c' d' seen f g h k = let s = f refl refl in (λ i. shown v (c' && not (s.1 i))) ∙ ap (shown v) (and-false c') ∙ sym (λ i. over (shown v (s.2 i)) (shown v (s.0 i && not d)))
 merged_version v true false c d c' d' seen f g h k = let s = g refl refl in (λ i. shown v (s.0 i && not (s.1 i))) ∙ sym (λ i. over (shown v (s.2 i)) (shown v (c && not d)))
-merged_version v false true c d c' d' seen f g h k = (λ i. shown v (c' && not (h refl refl i))) ∙ ap (shown v) (and_false c')
+merged_version v false true c d c' d' seen f g h k = (λ i. shown v (c' && not (h refl refl i))) ∙ ap (shown v) (and-false c')
 merged_version v false false c d c' d' seen f g h k = let s = k refl refl in λ i. shown v (s.0 i && not (s.1 i))
 
 committed_table : (vs : List Version) (ss : List Status) (os : List (Option Open)) (n : ℕ) (o : Open) → IsStored vs ss os → transaction_of os n ≡ Some o

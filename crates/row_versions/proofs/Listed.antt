@@ -23,7 +23,7 @@ use Rattle.row_versions.specs.declared.versions.Hit.{Hit}
 use Rattle.row_versions.specs.VisibleState.{table_of}
 use Rattle.row_versions.specs.StoredVersions.{stored}
 use Rattle.row_versions.specs.Places.{places}
-use Rattle.row_versions.proofs.Choices.{same_id, both, first_of_both, second_of_both}
+use Rattle.row_versions.proofs.Choices.{same_id, lesser_apart, both, first_of_both, second_of_both}
 use Rattle.row_versions.proofs.Stored.{by_id, ids, AreDistinct, row_of, keys_by_id, find_row, stored-filter, distinct-filter, get-table_of}
 
 abbrev pub rows_of : List Version → List Row
@@ -74,15 +74,10 @@ in_order-filter m (v ∷ vs) h =
       | false ↦ rest
     ]
 
-apart : (o : Ordering) → T (is_lt o) → is_eq o ≡ false
-apart Less h = refl
-apart Equal h = absurd h
-apart Greater h = refl
-
 all_apart : (x : RowId) (vs : List Version) → T (below_all id_cmp x (rows_by_id vs)) → AllByRecursion (λ y. eq_by_cmp id_cmp x y ≡ false) (ids vs)
 all_apart x [] h = tt
 all_apart x (v ∷ vs) h =
-    (apart (id_cmp x v.row.id) (first_of_both (is_lt (id_cmp x v.row.id)) (below_all id_cmp x (rows_by_id vs)) h), all_apart x vs (second_of_both (is_lt (id_cmp x v.row.id)) (below_all id_cmp x (rows_by_id vs)) h))
+    (lesser_apart (id_cmp x v.row.id) (first_of_both (is_lt (id_cmp x v.row.id)) (below_all id_cmp x (rows_by_id vs)) h), all_apart x vs (second_of_both (is_lt (id_cmp x v.row.id)) (below_all id_cmp x (rows_by_id vs)) h))
 
 in_order_distinct : (vs : List Version) → AreInOrder vs → AreDistinct vs
 unfolding IsDistinct

@@ -89,7 +89,7 @@ ended_by (Some id) s n x = model.after_failure s n x
 pub record Runs (ts : List (List Version)) (ss : List Status) (os : List (Option Open)) (n i : ℕ) (o : Open) (rows : List Row) (hits : List Hit) (r : List Version × Option RowId) : Type 0 where
   pub state : serial_run (visible_state (all_versions ts) ss os) (mark_entries (visible_state (all_versions ts) ss os) n i rows)
       ≡ ended_by r.1 (visible_state (all_versions (set ts i r.0)) ss os) n (visible_transaction ss (all_versions (set ts i r.0)) o)
-  pub reply : (count : ℕ) → marks_reply count (replies_to (visible_state (all_versions ts) ss os) (mark_entries (visible_state (all_versions ts) ss os) n i rows)) ≡ delete_reply (count + length hits) r.1
+  pub reply : (count : ℕ) → marks_reply count (replies_to (visible_state (all_versions ts) ss os) (mark_entries (visible_state (all_versions ts) ss os) n i rows)) ≡ Some (delete_reply (count + length hits) r.1)
   pub entries : mark_entries (visible_state (all_versions ts) ss os) n i rows ≡ map (mark_of n i) (take (count_marks ss o.t (versions_at ts i) hits) hits)
   pub whole : AreVersions (set ts i r.0) ss os
   pub rows_stay : stored_rows (set ts i r.0) ≡ stored_rows ts
@@ -97,7 +97,7 @@ pub record Runs (ts : List (List Version)) (ss : List Status) (os : List (Option
 run_none : (ts : List (List Version)) (ss : List Status) (os : List (Option Open)) (n i : ℕ) (o : Open) → AreVersions ts ss os → Runs ts ss os n i o [] [] (versions_at ts i, None)
 run_none ts ss os n i o whole = record {
   state = ap (λ (ts : List (List Version)). visible_state (all_versions ts) ss os) (sym (set-get_or ts i []));
-  reply = λ count. ap (λ k. delete_reply k None) (let e : count ≡ count + 0 = omega arith in e);
+  reply = λ count. ap (λ k. Some (delete_reply k None)) (let e : count ≡ count + 0 = omega arith in e);
   entries = refl;
   whole = subst (λ (ts : List (List Version)). AreVersions ts ss os) (sym (set-get_or ts i [])) whole;
   rows_stay = ap stored_rows (set-get_or ts i []);
@@ -152,7 +152,7 @@ run_free ts ss os n i o r rs h hs v to whole was same there its seen free apart 
           ap (λ (es : List Entry). marks_reply count (replies_to s es)) more
           ∙ ap (λ (p : DatabaseState × model.Answer). marks_reply count (p.1 ∷ replies_to p.0 (mark_entries s' n i rs))) effect
           ∙ rest.reply (count + 1)
-          ∙ ap (λ k. delete_reply k to.1) (let e : count + 1 + length hs ≡ count + suc (length hs) = omega arith in e);
+          ∙ ap (λ k. Some (delete_reply k to.1)) (let e : count + 1 + length hs ≡ count + suc (length hs) = omega arith in e);
       entries = more
           ∙ (λ j. request_entry n i (requests.Mark (sym same j)) ∷ (rest.entries ∙ ap (λ k. map (mark_of n i) (take k hs)) same_count) j)
           ∙ ap (λ k. map (mark_of n i) (take k (h ∷ hs))) (sym counted);
@@ -290,8 +290,8 @@ failed_database ts ss os os' n q o s hits t (Some id) some view was runs at =
 -- the reply
 pub marks_replied : (ts : List (List Version)) (ss : List Status) (os : List (Option Open)) (n : ℕ) (q : Query) (o : Open) (s : DatabaseState) (hits : List Hit) (t : List Version) (conflict : Option RowId)
     → visible_state (all_versions ts) ss os ≡ s → transaction_of os n ≡ Some o → Runs ts ss os n q.table o (model.rows_found (visible_transaction ss (all_versions ts) o) q) hits (t, conflict)
-    → IfSome (get s.sessions n) (λ x. marks_reply 0 (replies_to s (mark_entries s n q.table (model.rows_found x q))) ≡ delete_reply (length hits) conflict)
+    → IfSome (get s.sessions n) (λ x. marks_reply 0 (replies_to s (mark_entries s n q.table (model.rows_found x q))) ≡ Some (delete_reply (length hits) conflict))
 marks_replied ts ss os n q o s hits t conflict view was runs =
-    subst (λ (x : Option OpenTransaction). IfSome x (λ x. marks_reply 0 (replies_to s (mark_entries s n q.table (model.rows_found x q))) ≡ delete_reply (length hits) conflict)) (sym (get_open (all_versions ts) ss os n o s view was))
+    subst (λ (x : Option OpenTransaction). IfSome x (λ x. marks_reply 0 (replies_to s (mark_entries s n q.table (model.rows_found x q))) ≡ Some (delete_reply (length hits) conflict))) (sym (get_open (all_versions ts) ss os n o s view was))
     (ap (λ (s : DatabaseState). marks_reply 0 (replies_to s (mark_entries s n q.table (model.rows_found (visible_transaction ss (all_versions ts) o) q)))) (sym view)
-    ∙ runs.reply 0 ∙ ap (λ k. delete_reply k conflict) (let e : 0 + length hits ≡ length hits = omega arith in e))
+    ∙ runs.reply 0 ∙ ap (λ k. Some (delete_reply k conflict)) (let e : 0 + length hits ≡ length hits = omega arith in e))

@@ -1,5 +1,6 @@
 -- what has happened for an open transaction while statuses change
 use Rattle.std.proofs.Common.{◌≡◌, ◌≢◌, Bool, true, false, not, ◌&&◌, ◌||◌, ltb, ℕ, ◌<◌, ◌≤◌, List, [], ◌∷◌, ◌++◌, length, set, refl, sym, ap, ◌∙◌, inl, inr, arith, lt-ltb, le-ltb, eqb, eq-eqb, ne_eqb}
+use Rattle.std.proofs.Math.Bool.{and-false}
 use Rattle.std.proofs.lemmas.Bool.{false≢true, cases_lt}
 use Rattle.std.proofs.lemmas.List.{get_or_append_left, get_or_push, get_or_past, get_or-set_same, get_or-set_other}
 use Rattle.snapshot_core.specs.declared.statuses.Status.{Status}
@@ -34,10 +35,6 @@ status_other ss t u s ne = get_or-set_other ss t u s Unused ne
 abbrev pub done : List Status → Open → ℕ → Bool
 done ss o t = has_done o.snapshot o.t t (status_of ss t)
 
-and_false : (b : Bool) → (b && false) ≡ false
-and_false true = refl
-and_false false = refl
-
 -- only whether it has committed matters
 pub done_same : (ss ss' : List Status) (o : Open) (t : ℕ) → is_committed (status_of ss t) ≡ is_committed (status_of ss' t) → done ss o t ≡ done ss' o t
 done_same ss ss' o t e = ap (λ c. eqb t o.t || (c && had_ended o.snapshot t)) e
@@ -50,7 +47,7 @@ pub done_not : (ss : List Status) (o : Open) (t : ℕ) → t ≢ o.t → had_end
 done_not ss o t ne e =
     ap (λ b. b || (is_committed (status_of ss t) && had_ended o.snapshot t)) (ne_eqb t o.t ne)
     ∙ ap (λ b. is_committed (status_of ss t) && b) e
-    ∙ and_false (is_committed (status_of ss t))
+    ∙ and-false (is_committed (status_of ss t))
 
 -- nor of one that hasn't committed
 pub done_uncommitted : (ss : List Status) (o : Open) (t : ℕ) → t ≢ o.t → is_committed (status_of ss t) ≡ false → done ss o t ≡ false
@@ -75,7 +72,7 @@ not_begun s t h = ap (λ b. b && not (was_active s t)) (le-ltb t s.next h)
 
 -- nor one that was under way
 pub still_active : (s : Snapshot) (t : ℕ) → was_active s t ≡ true → had_ended s t ≡ false
-still_active s t e = ap (λ b. ltb t s.next && not b) e ∙ and_false (ltb t s.next)
+still_active s t e = ap (λ b. ltb t s.next && not b) e ∙ and-false (ltb t s.next)
 
 -- ---- what is seen
 
@@ -91,4 +88,4 @@ unseen ss o v put = ap (λ b. b && not (done ss o v.deleter)) put
 
 -- nor is one whose deleter has done it
 pub deleted : (ss : List Status) (o : Open) (v : Version) → done ss o v.deleter ≡ true → is_seen ss o v ≡ false
-deleted ss o v gone = ap (λ b. done ss o v.row.id.t && not b) gone ∙ and_false (done ss o v.row.id.t)
+deleted ss o v gone = ap (λ b. done ss o v.row.id.t && not b) gone ∙ and-false (done ss o v.row.id.t)

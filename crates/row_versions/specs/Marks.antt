@@ -1,6 +1,11 @@
 -- marks of hits, one after the other
 use Rattle.std.specs.Prelude.{ℕ, ◌+◌, Bool, true, false, not, ◌&&◌, ◌==◌, List, [], ◌∷◌, slice_get, slice_set, Option, None, Some, if◌then◌else◌}
+use Rattle.block_model.specs.declared.request.Entry.{Entry}
+use Rattle.block_model.specs.declared.row.Query.{Query}
 use Rattle.block_model.specs.declared.row.RowId.{RowId}
+use Rattle.block_model.specs.DatabaseState.{DatabaseState, OpenTransaction}
+use Rattle.block_model.specs.RequestEffect.{rows_found}
+use Rattle.statements.specs.StatementRequests.{mark_entries}
 use Rattle.snapshot_core.specs.declared.statuses.Status.{Status}
 use Rattle.snapshot_core.specs.declared.statuses.Status.TheVariants.{Unused, Begun, Committed, RolledBack}
 use Rattle.row_versions.specs.declared.table.Version.{Version}
@@ -38,6 +43,10 @@ after_marks statuses own versions [] = (versions, None)
 after_marks statuses own versions (h ∷ hs) =
     if conflicts_at statuses own (slice_get versions h.place) then (versions, Some h.id)
     else after_marks statuses own (deleted_at own versions h.place (slice_get versions h.place)) hs
+
+-- the marks of a delete: of the rows that the session's copy has by the query, up to and with the first that conflicts
+abbrev pub delete_marks : DatabaseState → ℕ → Query → OpenTransaction → List Entry
+delete_marks database session query copy = mark_entries database session query.table (rows_found copy query)
 
 -- how many marks these are: one for each hit, up to and with the first that conflicts
 abbrev pub count_marks : List Status → ℕ → List Version → List Hit → ℕ

@@ -1,17 +1,18 @@
 //! Row versions, statuses and open transactions.
 
-ghost use Rattle.std.specs.Prelude.{◌≡◌, ◌+◌, ◌<◌, ◌≤◌, None, [], ◌∷◌, ◌++◌, length, take, map, OnOk, OnErr, IfOk, IfSome, MatchOption, if◌then◌else◌, slice_set, replicate, vec_capacity};
+ghost use Rattle.std.specs.Prelude.{◌≡◌, ◌+◌, ◌<◌, ◌≤◌, None, Some, [], ◌∷◌, ◌++◌, length, take, map, OnOk, OnErr, IfOk, IfSome, MatchOption, if◌then◌else◌, slice_set, replicate, vec_capacity};
 ghost use Rattle.std.specs.FinMap as map_of;
 ghost use Rattle.block_model.specs.declared.request.Request.TheVariants as requests;
 ghost use Rattle.block_model.specs.DatabaseState.{initial_state};
-ghost use Rattle.block_model.specs.RequestEffect.{effect, after_failure, rows_found, Begun, Inserted, Found, Committed, RolledBack};
+ghost use Rattle.block_model.specs.RequestEffect.{effect, after_failure, Begun, Inserted, Found, Committed, RolledBack};
 ghost use Rattle.block_model.specs.SerialRun.{serial_run, replies_to};
 ghost use Rattle.statements.specs.declared.limits.TheConstants.{MAX_SESSIONS};
 ghost use Rattle.statements.specs.RowsPut.{row_put};
-ghost use Rattle.statements.specs.StatementRequests.{request_entry, mark_entries, marks_reply};
+ghost use Rattle.statements.specs.StatementRequests.{request_entry, marks_reply};
 ghost use Rattle.row_versions.specs.VersionsState.{HasTransaction, StandAtTheirIds, rows_at, standing_of};
 ghost use Rattle.row_versions.specs.CoversMatches.{CoversMatches};
 ghost use Rattle.row_versions.specs.Hits.{AreHits, mark_of, delete_reply};
+ghost use Rattle.row_versions.specs.Marks.{delete_marks};
 
 use crate::finding::{find_hits, rows_at_hits};
 use crate::marking::{count_marks, mark_hits};
@@ -230,7 +231,7 @@ impl Versions {
     pub fn marks(&self, session: u32, query: &Query, hits: &[Hit]) -> usize
         requires { AreHits self.now session query.now hits.now }
         ensures within { result ≤ length hits.now }
-        ensures marks { IfSome (map_of.get self.now.database.sessions session) (λ x. mark_entries self.now.database session query.now.table (rows_found x query.now) ≡ map (mark_of session query.now.table) (take result hits.now)) }
+        ensures marks { IfSome (map_of.get self.now.database.sessions session) (λ x. delete_marks self.now.database session query.now x ≡ map (mark_of session query.now.table) (take result hits.now)) }
     {
         if hits.is_empty() {
             return 0;
@@ -247,8 +248,8 @@ impl Versions {
     /// no memory.
     pub fn mark(&mut self, session: u32, query: &Query, hits: &[Hit]) -> Option<RowId>
         requires { AreHits self.old session query.now hits.now }
-        ensures database { IfSome (map_of.get self.old.database.sessions session) (λ x. self.new.database ≡ serial_run self.old.database (mark_entries self.old.database session query.now.table (rows_found x query.now))) }
-        ensures reply { IfSome (map_of.get self.old.database.sessions session) (λ x. marks_reply 0 (replies_to self.old.database (mark_entries self.old.database session query.now.table (rows_found x query.now))) ≡ delete_reply (length hits.now) result) }
+        ensures database { IfSome (map_of.get self.old.database.sessions session) (λ x. self.new.database ≡ serial_run self.old.database (delete_marks self.old.database session query.now x)) }
+        ensures reply { IfSome (map_of.get self.old.database.sessions session) (λ x. marks_reply 0 (replies_to self.old.database (delete_marks self.old.database session query.now x)) ≡ Some (delete_reply (length hits.now) result)) }
         ensures tables { self.new.tables ≡ self.old.tables }
         ensures room { self.new.room ≡ self.old.room }
     {

@@ -1,14 +1,16 @@
 -- Columns are what is read as them.
-use Rattle.std.proofs.Common.{◌≡◌, ℕ, Bool, false, ◌==◌, List, [], ◌∷◌, ◌++◌, codes, Ok, refl, ap, ◌∙◌, append_assoc, arith}
+use Rattle.std.proofs.Common.{◌≡◌, ℕ, Bool, false, ◌==◌, ◌≤◌, List, [], ◌∷◌, ◌++◌, length, codes, Ok, refl, ap, ◌∙◌, append_assoc}
 use Rattle.block_model.specs.declared.value.Kind.{Kind}
 use Rattle.block_model.specs.declared.value.Kind.TheVariants as kinds
 use Rattle.block_model.specs.declared.schema.Column.{Column}
 use Rattle.text_reading.specs.Reading.{mapped, both, begins, choice, nothing, byte_at, word_at}
-use Rattle.text_reading.proofs.Lawful.{Lawful, both_lawful, mapped_lawful, choice_lawful, nothing_lawful, same_lawful, byte_lawful, word_lawful, weaker_lawful, both_read, mapped_read, choice_second}
+use Rattle.text_reading.proofs.Lawful.{left, Lawful, both_lawful, mapped_lawful, choice_lawful, nothing_lawful, same_lawful, byte_lawful, word_lawful, weaker_lawful, both_read, mapped_read, choice_second}
 use Rattle.schema_words.specs.DeclarationTexts.{kind_word, column_bytes, listed_bytes, IsNamed, IsColumn, AreListed}
 use Rattle.schema_words.specs.DeclarationReading.{name_at, number_kind_at, kind_at, column_at, columns_at}
 use Rattle.schema_words.proofs.NameReading.{one_letter, name_lawful, name_complete}
-use Rattle.schema_words.proofs.ListReading.{is_comma, listed_lawful, listed_complete}
+use Rattle.schema_words.proofs.FrontReading.{lawful_leaves}
+use Rattle.schema_words.proofs.MoreItems.{is_comma}
+use Rattle.schema_words.proofs.ListReading.{listed_lawful, listed_complete}
 
 abbrev is_r : ℕ → Bool
 is_r c = c == 114
@@ -101,7 +103,11 @@ abbrev pub some_column : Column
 some_column = record { name = 97 ∷ []; kind = kinds.Int }
 
 pub is_some : AreListed IsColumn (some_column ∷ [])
-is_some = (one_letter, tt, omega arith)
+is_some = (one_letter, tt)
+
+-- a column that is read leaves no more than there is
+pub column_leaves : (bytes : List ℕ) → length (left (column_at bytes)) ≤ length bytes
+column_leaves = lawful_leaves column_at column_bytes IsColumn column_lawful
 
 pub columns_lawful : Lawful columns_at (listed_bytes column_bytes) (AreListed IsColumn)
 columns_lawful = listed_lawful column_at column_bytes IsColumn some_column one_letter column_lawful
@@ -143,4 +149,4 @@ EndsKind rest = begins is_r rest ≡ false
 
 -- columns behind which neither a comma nor more of a kind stands are read
 pub columns_complete : (cs : List Column) (rest : List ℕ) → AreListed IsColumn cs → begins is_comma rest ≡ false → EndsKind rest → columns_at (listed_bytes column_bytes cs ++ rest) ≡ Ok (cs, rest)
-columns_complete cs rest h e f = listed_complete column_at column_bytes IsColumn EndsKind (λ bytes. refl) column_complete cs rest h e f
+columns_complete cs rest h e f = listed_complete column_at column_bytes IsColumn EndsKind column_leaves (λ bytes. refl) column_complete cs rest h e f

@@ -13,7 +13,7 @@ use Rattle.block_model.specs.declared.schema.Index.{Index}
 use Rattle.block_model.specs.declared.schema.Schema.{Schema}
 use Rattle.text_reading.proofs.Whole.{one_text}
 use Rattle.schema_words.specs.DeclarationTexts.{TableText, DeclarationText, OfTable, OfIndex, IndexText, bytes_of, IsDeclaration}
-use Rattle.schema_words.specs.DeclaredSchema.{table_of, table_named, on_table, on_parts, parts_among, index_among, with_table, with_index, declared_behind, Declares, DeclareBehind, nothing_declared, Denotes}
+use Rattle.schema_words.specs.DeclaredSchema.{table_of, table_named, on_table, on_parts, parts_among, index_among, with_table, with_index, declared_behind, Declares, DeclareBehind, nothing_declared, DenotesWith}
 use Rattle.schema_words.specs.FirstFault.{IsFaulty, IsFirstFault, Answers}
 use Rattle.schema_words.specs.declared.declarations.DeclFault.{DeclFault}
 use Rattle.schema_words.specs.declared.declarations.DeclFault.TheVariants as faults
@@ -25,53 +25,53 @@ abbrev Made : Type 0
 Made = Result Schema ℕ
 
 -- a word declares one thing
-pub declares_one : (bytes : List ℕ) (s : Schema) (a b : Made) → Declares bytes s a → Declares bytes s b → a ≡ b
-declares_one bytes s a b p q =
-    let same : p.text ≡ q.text = one_text declaration_at bytes_of IsDeclaration declaration_lawful declaration_complete p.text q.text p.of_grammar q.of_grammar (sym p.bytes_are ∙ q.bytes_are) in
+pub declares_one : (autos : Bool) (bytes : List ℕ) (s : Schema) (a b : Made) → Declares autos bytes s a → Declares autos bytes s b → a ≡ b
+declares_one autos bytes s a b p q =
+    let same : p.text ≡ q.text = one_text (declaration_at autos) bytes_of (IsDeclaration autos) (declaration_lawful autos) (declaration_complete autos) p.text q.text p.of_grammar q.of_grammar (sym p.bytes_are ∙ q.bytes_are) in
     sym p.makes ∙ ap (declared_behind s) same ∙ q.makes
 
 -- and so do words one after another
-pub words_one : (words : List (List ℕ)) (s a b : Schema) → DeclareBehind s words a → DeclareBehind s words b → a ≡ b
-words_one [] s a b h k = sym h ∙ k
-words_one (w ∷ ws) s a b h k =
-    let made : Ok h.0 ≡ Ok k.0 = declares_one w s (Ok h.0) (Ok k.0) h.1 k.1 in
+pub words_one : (autos : Bool) (words : List (List ℕ)) (s a b : Schema) → DeclareBehind autos s words a → DeclareBehind autos s words b → a ≡ b
+words_one autos [] s a b h k = sym h ∙ k
+words_one autos (w ∷ ws) s a b h k =
+    let made : Ok h.0 ≡ Ok k.0 = declares_one autos w s (Ok h.0) (Ok k.0) h.1 k.1 in
     let same : h.0 ≡ k.0 = cc in
-    words_one ws k.0 a b (subst (λ (x : Schema). DeclareBehind x ws a) same h.2) k.2
+    words_one autos ws k.0 a b (subst (λ (x : Schema). DeclareBehind autos x ws a) same h.2) k.2
 
 -- one word more
-pub behind_push : (words : List (List ℕ)) (s m t : Schema) (w : List ℕ) → DeclareBehind s words m → Declares w m (Ok t) → DeclareBehind s (words ++ w ∷ []) t
-behind_push [] s m t w h d = (t, subst (λ (x : Schema). Declares w x (Ok t)) (sym h) d, refl)
-behind_push (x ∷ xs) s m t w h d = (h.0, h.1, behind_push xs h.0 m t w h.2 d)
+pub behind_push : (autos : Bool) (words : List (List ℕ)) (s m t : Schema) (w : List ℕ) → DeclareBehind autos s words m → Declares autos w m (Ok t) → DeclareBehind autos s (words ++ w ∷ []) t
+behind_push autos [] s m t w h d = (t, subst (λ (x : Schema). Declares autos w x (Ok t)) (sym h) d, refl)
+behind_push autos (x ∷ xs) s m t w h d = (h.0, h.1, behind_push autos xs h.0 m t w h.2 d)
 
 -- the words up to one, and it
-pub record Split (s : Schema) (words : List (List ℕ)) (n : ℕ) (t : Schema) : Type 0 where
+pub record Split (autos : Bool) (s : Schema) (words : List (List ℕ)) (n : ℕ) (t : Schema) : Type 0 where
   pub before : Schema
   pub after : Schema
-  pub front : DeclareBehind s (take n words) before
-  pub here : Declares (get_or words n []) before (Ok after)
+  pub front : DeclareBehind autos s (take n words) before
+  pub here : Declares autos (get_or words n []) before (Ok after)
   pub rest : List (List ℕ)
-  pub back : DeclareBehind after rest t
+  pub back : DeclareBehind autos after rest t
 
-pub split : (n : ℕ) (words : List (List ℕ)) (s t : Schema) → n < length words → DeclareBehind s words t → Split s words n t
-split n [] s t k h = absurd (omega arith)
-split zero (w ∷ ws) s t k h = record { before = s; after = h.0; front = refl; here = h.1; rest = ws; back = h.2 }
-split (suc n) (w ∷ ws) s t k h =
-    let r = split n ws h.0 t (omega arith) h.2 in
+pub split : (autos : Bool) (n : ℕ) (words : List (List ℕ)) (s t : Schema) → n < length words → DeclareBehind autos s words t → Split autos s words n t
+split autos n [] s t k h = absurd (omega arith)
+split autos zero (w ∷ ws) s t k h = record { before = s; after = h.0; front = refl; here = h.1; rest = ws; back = h.2 }
+split autos (suc n) (w ∷ ws) s t k h =
+    let r = split autos n ws h.0 t (omega arith) h.2 in
     record { before = r.before; after = r.after; front = (h.0, h.1, r.front); here = r.here; rest = r.rest; back = r.back }
 
 -- a word at fault declares nothing
-pub faulty_declares_nothing : (s : Schema) (bytes : List ℕ) (at : ℕ) → IsFaulty s bytes at → (t : Schema) → Declares bytes s (Ok t) → ⊥
-faulty_declares_nothing s bytes at (inl stops) t d = stops.refused d.text d.of_grammar d.bytes_are
-faulty_declares_nothing s bytes at (inr fault) t d =
-    let k : Err at ≡ Ok t = declares_one bytes s (Err at) (Ok t) fault d in
+pub faulty_declares_nothing : (autos : Bool) (s : Schema) (bytes : List ℕ) (at : ℕ) → IsFaulty autos s bytes at → (t : Schema) → Declares autos bytes s (Ok t) → ⊥
+faulty_declares_nothing autos s bytes at (inl stops) t d = stops.refused d.text d.of_grammar d.bytes_are
+faulty_declares_nothing autos s bytes at (inr fault) t d =
+    let k : Err at ≡ Ok t = declares_one autos bytes s (Err at) (Ok t) fault d in
     false≢true (ap is_ok k)
 
 -- words with a fault denote no schema
-pub fault_denotes_nothing : (words : List (List ℕ)) (word at : ℕ) → IsFirstFault words word at → (schema : Schema) → Denotes words schema → ⊥
-fault_denotes_nothing words word at f schema h =
-    let r = split word words nothing_declared schema f.within h in
-    let same : r.before ≡ f.before = words_one (take word words) nothing_declared r.before f.before r.front f.declared in
-    faulty_declares_nothing f.before (get_or words word []) at f.faulty r.after (subst (λ (x : Schema). Declares (get_or words word []) x (Ok r.after)) same r.here)
+pub fault_denotes_nothing : (autos : Bool) (words : List (List ℕ)) (word at : ℕ) → IsFirstFault autos words word at → (schema : Schema) → DenotesWith autos words schema → ⊥
+fault_denotes_nothing autos words word at f schema h =
+    let r = split autos word words nothing_declared schema f.within h in
+    let same : r.before ≡ f.before = words_one autos (take word words) nothing_declared r.before f.before r.front f.declared in
+    faulty_declares_nothing autos f.before (get_or words word []) at f.faulty r.after (subst (λ (x : Schema). Declares autos (get_or words word []) x (Ok r.after)) same r.here)
 
 abbrev pub is_table : List ℕ → Table → Bool
 is_table name t = bytes_eq name t.name
@@ -135,36 +135,43 @@ declaration_grows s t (OfTable x) e = (table_of x ∷ [], (let k : with_table s 
 declaration_grows s t (OfIndex i) e = ([], sym (append-nil s.tables ∙ with_index_grows s t (index_among s.tables i) e))
 
 -- words one after another keep the tables in front
-pub words_grow : (words : List (List ℕ)) (s t : Schema) → DeclareBehind s words t → Grows s t
-words_grow [] s t h = ([], sym (append-nil s.tables ∙ ap (λ (x : Schema). x.tables) h))
-words_grow (w ∷ ws) s t h =
+pub words_grow : (autos : Bool) (words : List (List ℕ)) (s t : Schema) → DeclareBehind autos s words t → Grows s t
+words_grow autos [] s t h = ([], sym (append-nil s.tables ∙ ap (λ (x : Schema). x.tables) h))
+words_grow autos (w ∷ ws) s t h =
     let first = declaration_grows s h.0 h.1.text h.1.makes in
-    let more = words_grow ws h.0 t h.2 in
+    let more = words_grow autos ws h.0 t h.2 in
     (first.0 ++ more.0, more.1 ∙ ap (λ l. l ++ more.0) first.1 ∙ append_assoc s.tables first.0 more.0)
 
 -- and a table declared behind tables stands behind them
-pub split_table : (s t : Schema) (words : List (List ℕ)) (n : ℕ) (r : Split s words n t) (x : TableText) → r.here.text ≡ OfTable x → (more : List Table) × (t.tables ≡ r.before.tables ++ table_of x ∷ more)
-split_table s t words n r x e =
+pub split_table : (autos : Bool) (s t : Schema) (words : List (List ℕ)) (n : ℕ) (r : Split autos s words n t) (x : TableText) → r.here.text ≡ OfTable x → (more : List Table) × (t.tables ≡ r.before.tables ++ table_of x ∷ more)
+split_table autos s t words n r x e =
     let made : Ok (with_table r.before (table_of x)) ≡ Ok r.after = sym (ap (declared_behind r.before) e) ∙ r.here.makes in
     let same : with_table r.before (table_of x) ≡ r.after = cc in
-    let more = words_grow r.rest r.after t r.back in
+    let more = words_grow autos r.rest r.after t r.back in
     (more.0, more.1 ∙ ap (λ (u : Schema). u.tables ++ more.0) (sym same) ∙ append_assoc r.before.tables (table_of x ∷ []) more.0)
 
 -- one word more that is a declaration
-pub denotes_push : (words : List (List ℕ)) (n : ℕ) (m t : Schema) (bytes : List ℕ) → n < length words → bytes ≡ get_or words n [] → Denotes (take n words) m → Declares bytes m (Ok t) → Denotes (take (n + 1) words) t
-denotes_push words n m t bytes below same h d =
-    subst (λ (l : List (List ℕ)). Denotes l t) (sym (take_more words n [] below))
-    (behind_push (take n words) nothing_declared m t (get_or words n []) h (subst (λ (b : List ℕ). Declares b m (Ok t)) same d))
+pub denotes_push : (autos : Bool) (words : List (List ℕ)) (n : ℕ) (m t : Schema) (bytes : List ℕ) → n < length words → bytes ≡ get_or words n [] → DenotesWith autos (take n words) m → Declares autos bytes m (Ok t) → DenotesWith autos (take (n + 1) words) t
+denotes_push autos words n m t bytes below same h d =
+    subst (λ (l : List (List ℕ)). DenotesWith autos l t) (sym (take_more words n [] below))
+    (behind_push autos (take n words) nothing_declared m t (get_or words n []) h (subst (λ (b : List ℕ). Declares autos b m (Ok t)) same d))
 
 -- all words
-pub denotes_all : (words : List (List ℕ)) (n : ℕ) (s : Schema) → length words ≤ n → Denotes (take n words) s → Denotes words s
-denotes_all words n s h d = subst (λ (l : List (List ℕ)). Denotes l s) (take_all n words h) d
+pub denotes_all : (autos : Bool) (words : List (List ℕ)) (n : ℕ) (s : Schema) → length words ≤ n → DenotesWith autos (take n words) s → DenotesWith autos words s
+denotes_all autos words n s h d = subst (λ (l : List (List ℕ)). DenotesWith autos l s) (take_all n words h) d
 
 -- the first word that is at fault
-pub first-fault : (words : List (List ℕ)) (n at : ℕ) (s : Schema) (bytes : List ℕ) → n < length words → bytes ≡ get_or words n [] → Denotes (take n words) s → IsFaulty s bytes at → IsFirstFault words n at
-first-fault words n at s bytes below same h f = record { before = s; declared = h; within = below; faulty = subst (λ (b : List ℕ). IsFaulty s b at) same f }
+pub first-fault : (autos : Bool) (words : List (List ℕ)) (n at : ℕ) (s : Schema) (bytes : List ℕ) → n < length words → bytes ≡ get_or words n [] → DenotesWith autos (take n words) s → IsFaulty autos s bytes at → IsFirstFault autos words n at
+first-fault autos words n at s bytes below same h f = record { before = s; declared = h; within = below; faulty = subst (λ (b : List ℕ). IsFaulty autos s b at) same f }
+
+-- a first fault that is told is the one that was found
+pub told_fault : (autos : Bool) (words : List (List ℕ)) (n at : ℕ) → IsFirstFault autos words n at → (word place : ℕ) → faults.Form n at ≡ faults.Form word place → IsFirstFault autos words word place
+told_fault autos words n at f word place e =
+    let same : n ≡ word = cc in
+    let here : at ≡ place = cc in
+    subst (λ k. IsFirstFault autos words word k) here (subst (λ k. IsFirstFault autos words k at) same f)
 
 -- a first fault, or want of memory, is answered rightly
-pub answers_fault : (words : List (List ℕ)) (fault : DeclFault) → ((word at : ℕ) → fault ≡ faults.Form word at → IsFirstFault words word at) → (schema : Schema) → Denotes words schema → Answers schema (Err fault)
-answers_fault words (faults.Form word at) f schema h = fault_denotes_nothing words word at (f word at refl) schema h
-answers_fault words faults.Memory f schema h = tt
+pub answers_fault : (autos : Bool) (words : List (List ℕ)) (fault : DeclFault) → ((word at : ℕ) → fault ≡ faults.Form word at → IsFirstFault autos words word at) → (schema : Schema) → DenotesWith autos words schema → Answers schema (Err fault)
+answers_fault autos words (faults.Form word at) f schema h = fault_denotes_nothing autos words word at (f word at refl) schema h
+answers_fault autos words faults.Memory f schema h = tt

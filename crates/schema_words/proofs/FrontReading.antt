@@ -1,9 +1,9 @@
 -- What a lawful reading gives stands at the front of the bytes.
-use Rattle.std.proofs.Common.{◌≡◌, ℕ, List, ◌++◌, Result, Ok, Err, sym, ap, subst, ◌∙◌}
+use Rattle.std.proofs.Common.{◌≡◌, ℕ, ◌+◌, ◌≤◌, List, ◌++◌, length, Result, Ok, Err, sym, ap, subst, ◌∙◌, length-append, arith}
 use Rattle.std.specs.Result.{is_ok}
 use Rattle.std.proofs.lemmas.Bool.{false≢true}
 use Rattle.text_reading.specs.Reading.{Reading}
-use Rattle.text_reading.proofs.Lawful.{Obeys, Lawful}
+use Rattle.text_reading.proofs.Lawful.{left, Obeys, Lawful}
 
 -- what is read isn't refused
 pub apart : {A : Type 0} (o : Result (A × List ℕ) (List ℕ)) (rest : List ℕ) (x : A × List ℕ) → o ≡ Err rest → o ≡ Ok x → ⊥
@@ -25,3 +25,13 @@ module _ {A : Type 0} (read : Reading A) (written : A → List ℕ) (Is : A → 
 
   pub read_front : Lawful read written Is → (bytes : List ℕ) (a : A) (rest : List ℕ) → read bytes ≡ Ok (a, rest) → IsFront written Is bytes a rest
   read_front l bytes a rest e = let h = l bytes in front_step bytes a rest h.0 h.1 e
+
+  leaves_step : (bytes : List ℕ) (o : Result (A × List ℕ) (List ℕ)) → Obeys read written Is bytes o → length (left (read bytes)) ≤ length bytes
+  leaves_step bytes o h =
+      let same : length (left (read bytes)) ≡ length (left o) = ap (λ (x : Result (A × List ℕ) (List ℕ)). length (left x)) h.is in
+      let size : length bytes ≡ length h.front + length (left o) = ap length h.whole ∙ length-append h.front (left o) in
+      omega arith
+
+  -- and no more is left than there is
+  pub lawful_leaves : Lawful read written Is → (bytes : List ℕ) → length (left (read bytes)) ≤ length bytes
+  lawful_leaves l bytes = let h = l bytes in leaves_step bytes h.0 h.1

@@ -1,13 +1,16 @@
 pub mod FrontReading
 pub mod NameReading
 pub mod SettingReading
+pub mod MoreItems
 pub mod ListReading
 pub mod ListLoop
 pub mod ColumnReading
 pub mod ColumnsLoop
 pub mod PartReading
 pub mod PartsLoop
+pub mod OptionReading
 pub mod WordReading
 pub mod WordLemmas
 pub mod DeclaredLemmas
+pub mod FirstFaults
 pub mod Judging

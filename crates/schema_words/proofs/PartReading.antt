@@ -1,14 +1,16 @@
 -- Indexed columns and their classes are what is read as them.
-use Rattle.std.proofs.Common.{◌≡◌, ℕ, Bool, false, ◌==◌, List, [], ◌∷◌, ◌++◌, codes, None, Ok, refl, ap, ◌∙◌, append_assoc, arith}
+use Rattle.std.proofs.Common.{◌≡◌, ℕ, Bool, false, ◌==◌, ◌≤◌, List, [], ◌∷◌, ◌++◌, length, codes, None, Ok, refl, ap, ◌∙◌, append_assoc}
 use Rattle.text_reading.specs.Digits.{AreDigits}
 use Rattle.text_reading.specs.Reading.{mapped, both, begins, choice, byte_at, word_at, digits_at}
-use Rattle.text_reading.proofs.Lawful.{Lawful, both_lawful, mapped_lawful, choice_lawful, same_lawful, byte_lawful, word_lawful, word_complete, both_read, mapped_read}
+use Rattle.text_reading.proofs.Lawful.{left, Lawful, both_lawful, mapped_lawful, choice_lawful, same_lawful, byte_lawful, word_lawful, word_complete, both_read, mapped_read}
 use Rattle.text_reading.proofs.DigitReading.{one_digit, digits_lawful, digits_complete}
 use Rattle.schema_words.specs.DeclarationTexts.{setting_bytes, ClassText, MinMax, Multi, Inclusion, Bloom, class_bytes, PartText, part_bytes, parts_bytes, IsNamed, IsSetting, IsClass, IsPart, AreListed}
 use Rattle.schema_words.specs.DeclarationReading.{name_at, setting_at, m_class_at, bloom_at, other_class_at, class_at, part_at, parts_at}
 use Rattle.schema_words.proofs.NameReading.{one_letter, name_lawful, name_complete}
 use Rattle.schema_words.proofs.SettingReading.{Setting, setting_lawful, EndsSetting, comma_ends, setting_complete}
-use Rattle.schema_words.proofs.ListReading.{is_comma, listed_lawful, listed_complete}
+use Rattle.schema_words.proofs.FrontReading.{lawful_leaves}
+use Rattle.schema_words.proofs.MoreItems.{is_comma}
+use Rattle.schema_words.proofs.ListReading.{listed_lawful, listed_complete}
 
 abbrev is_u : ℕ → Bool
 is_u c = c == 117
@@ -114,7 +116,11 @@ is_part : IsPart some_part
 is_part = record { named = one_letter; class = tt }
 
 pub are_some : AreListed IsPart (some_part ∷ [])
-are_some = (is_part, tt, omega arith)
+are_some = (is_part, tt)
+
+-- a part that is read leaves no more than there is
+pub part_leaves : (bytes : List ℕ) → length (left (part_at bytes)) ≤ length bytes
+part_leaves = lawful_leaves part_at part_bytes IsPart part_lawful
 
 pub parts_lawful : Lawful parts_at parts_bytes (AreListed IsPart)
 parts_lawful = listed_lawful part_at part_bytes IsPart some_part is_part part_lawful
@@ -168,4 +174,4 @@ part_complete p rest i e =
 
 -- indexed columns behind which no comma stands are read
 pub parts_complete : (ps : List PartText) (rest : List ℕ) → AreListed IsPart ps → begins is_comma rest ≡ false → EndsSetting rest → parts_at (parts_bytes ps ++ rest) ≡ Ok (ps, rest)
-parts_complete ps rest h e f = listed_complete part_at part_bytes IsPart EndsSetting comma_ends part_complete ps rest h e f
+parts_complete ps rest h e f = listed_complete part_at part_bytes IsPart EndsSetting part_leaves comma_ends part_complete ps rest h e f

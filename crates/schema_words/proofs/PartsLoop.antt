@@ -12,7 +12,7 @@ use Rattle.schema_words.specs.DeclarationReading.{name_at, part_at, parts_at}
 use Rattle.schema_words.specs.DeclaredSchema.{column_named, part_on, with_part, parts_on, parts_among}
 use Rattle.schema_words.specs.Words.{part_text, parts_said, parts_read, AreParts, IsFirstOf}
 use Rattle.schema_words.proofs.FrontReading.{apart, IsFront, read_front}
-use Rattle.schema_words.proofs.ListReading.{is_comma}
+use Rattle.schema_words.proofs.MoreItems.{is_comma}
 use Rattle.schema_words.proofs.SettingReading.{EndsSetting, nothing_ends, comma_ends}
 use Rattle.schema_words.proofs.PartReading.{part_lawful, parts_lawful, part_complete, parts_complete}
 

@@ -1,5 +1,5 @@
 -- How a declaration is read from its front, part by part.
-use Rattle.std.specs.Prelude.{ℕ, zero, suc, ◌==◌, if◌then◌else◌, List, [], ◌∷◌, codes, Option, None, Some, Ok, Err}
+use Rattle.std.specs.Prelude.{ℕ, zero, suc, ◌+◌, ◌==◌, ◌&&◌, Bool, true, false, if◌then◌else◌, List, [], ◌∷◌, length, codes, Option, None, Some, Ok, Err}
 use Rattle.block_model.specs.Names.{is_lower, is_more}
 use Rattle.block_model.specs.declared.value.Kind.{Kind}
 use Rattle.block_model.specs.declared.value.Kind.TheVariants as kinds
@@ -35,9 +35,13 @@ unfoldable pub more_at : {A : Type 0} → Reading A → ℕ → Reading (List A)
 more_at item zero bytes = nothing [] bytes
 more_at item (suc n) bytes = choice (λ c. c == 44) (mapped (λ x. x.1.0 ∷ x.1.1) (both (byte_at 44) (both item (more_at item n)))) (nothing []) bytes
 
+-- all further items: bytes hold no more of them than there are bytes
+unfoldable pub others_at : {A : Type 0} → Reading A → Reading (List A)
+others_at item bytes = more_at item (length bytes + 1) bytes
+
 -- items with a comma between two
 unfoldable pub listed_at : {A : Type 0} → Reading A → Reading (List A)
-listed_at item bytes = mapped (λ x. x.0 ∷ x.1) (both item (more_at item 255)) bytes
+listed_at item bytes = mapped (λ x. x.0 ∷ x.1) (both item (others_at item)) bytes
 
 -- columns
 abbrev pub columns_at : Reading (List Column)
@@ -91,10 +95,27 @@ part_at bytes = mapped (λ x. record { column = x.0; class = x.1.1 }) (both name
 abbrev pub parts_at : Reading (List PartText)
 parts_at bytes = listed_at part_at bytes
 
+-- ` autosummarize` where it is answered, or nothing
+unfoldable pub auto_at : Bool → Reading Bool
+auto_at autos bytes = choice (λ c. autos && c == 32) (mapped (λ x. true) (word_at (codes " autosummarize"))) (nothing false) bytes
+
+-- pages per range with their digits, and perhaps ` autosummarize`
+unfoldable pub pages_at : Bool → Reading (Option (List ℕ) × Bool)
+pages_at autos bytes = mapped (λ x. (Some x.1.0, x.1.1)) (both (word_at (codes "pages_per_range ")) (both digits_at (auto_at autos))) bytes
+
+-- `autosummarize` where it is answered, or pages per range, behind the space that both begin with
+unfoldable pub option_at : Bool → Reading (Option (List ℕ) × Bool)
+option_at autos bytes = choice (λ c. autos && c == 97) (mapped (λ x. (None, true)) (word_at (codes "autosummarize"))) (pages_at autos) bytes
+
+-- what stands behind the columns of an index
+unfoldable pub options_at : Bool → Reading (Option (List ℕ) × Bool)
+options_at autos bytes = choice (λ c. c == 32) (mapped (λ x. x.1) (both (byte_at 32) (option_at autos))) (nothing (None, false)) bytes
+
 -- an index
-unfoldable pub index_at : Reading IndexText
-index_at bytes = mapped (λ x. record { name = x.0; table = x.1.0; parts = x.1.1.0; pages = x.1.1.1 }) (both index_head_at (both on_at (both parts_at (ending_at (codes " pages_per_range "))))) bytes
+unfoldable pub index_at : Bool → Reading IndexText
+index_at autos bytes =
+    mapped (λ x. record { name = x.0; table = x.1.0; parts = x.1.1.0; pages = x.1.1.1.1.0; auto = x.1.1.1.1.1 }) (both index_head_at (both on_at (both parts_at (both (byte_at 41) (options_at autos))))) bytes
 
 -- a table or an index
-unfoldable pub declaration_at : Reading DeclarationText
-declaration_at bytes = choice (λ c. c == 116) (mapped OfTable table_at) (mapped OfIndex index_at) bytes
+unfoldable pub declaration_at : Bool → Reading DeclarationText
+declaration_at autos bytes = choice (λ c. c == 116) (mapped OfTable table_at) (mapped OfIndex (index_at autos)) bytes

@@ -1,5 +1,5 @@
 -- which bytes declare a table or an index
-use Rattle.std.specs.Prelude.{◌≡◌, ℕ, ◌≤◌, true, List, [], ◌∷◌, ◌++◌, length, codes, Option, None, Some, IfSome}
+use Rattle.std.specs.Prelude.{◌≡◌, ℕ, Bool, true, false, List, [], ◌∷◌, ◌++◌, codes, Option, None, Some, IfSome}
 use Rattle.std.specs.List.{AllByRecursion}
 use Rattle.block_model.specs.Names.{is_name}
 use Rattle.block_model.specs.declared.value.Kind.{Kind}
@@ -69,12 +69,19 @@ part_bytes p = p.column ++ codes " " ++ class_bytes p.class
 abbrev pub parts_bytes : List PartText → List ℕ
 parts_bytes parts = listed_bytes part_bytes parts
 
--- an index as it is written, with the digits of its pages per range where they are said
+-- ` autosummarize`, or nothing
+abbrev pub auto_bytes : Bool → List ℕ
+auto_bytes true = codes " autosummarize"
+auto_bytes false = []
+
+-- an index as it is written, with the digits of its pages per range where they are said, and whether it is to be summarised as
+-- it grows
 pub record IndexText : Type 0 where
   pub name : List ℕ
   pub table : List ℕ
   pub parts : List PartText
   pub pages : Option (List ℕ)
+  pub auto : Bool
 
 -- the bytes before the name of its table
 abbrev pub before_table : IndexText → List ℕ
@@ -86,7 +93,7 @@ before_parts i = before_table i ++ i.table ++ codes "("
 
 -- the bytes that write it
 abbrev pub index_bytes : IndexText → List ℕ
-index_bytes i = before_parts i ++ parts_bytes i.parts ++ codes ")" ++ setting_bytes (codes " pages_per_range ") i.pages
+index_bytes i = before_parts i ++ parts_bytes i.parts ++ codes ")" ++ setting_bytes (codes " pages_per_range ") i.pages ++ auto_bytes i.auto
 
 -- a declaration as it is written
 pub data DeclarationText : Type 0 where
@@ -102,10 +109,10 @@ bytes_of (OfIndex i) = index_bytes i
 abbrev pub IsNamed : List ℕ → Type 0
 IsNamed name = is_name name ≡ true
 
--- one item or more, up to the 256 that a byte numbers, and each is one
+-- one item or more, and each is one
 abbrev pub AreListed : {A : Type 0} → (A → Type 0) → List A → Type 0
 AreListed Is [] = ⊥
-AreListed Is (x ∷ xs) = Is x × AllByRecursion Is xs × (length xs ≤ 255)
+AreListed Is (x ∷ xs) = Is x × AllByRecursion Is xs
 
 -- a column's name is one
 abbrev pub IsColumn : Column → Type 0
@@ -140,7 +147,12 @@ pub record IsIndex (i : IndexText) : Type 0 where
   pub parts : AreListed IsPart i.parts
   pub pages : IsSetting i.pages
 
--- the text is of the grammar
-abbrev pub IsDeclaration : DeclarationText → Type 0
-IsDeclaration (OfTable t) = IsTable t
-IsDeclaration (OfIndex i) = IsIndex i
+-- ` autosummarize` stands only where it is answered
+abbrev pub IsAnswered : Bool → Bool → Type 0
+IsAnswered autos true = autos ≡ true
+IsAnswered autos false = Unit {0}
+
+-- the text is of the grammar, in which `autos` says whether ` autosummarize` is answered
+abbrev pub IsDeclaration : Bool → DeclarationText → Type 0
+IsDeclaration autos (OfTable t) = IsTable t
+IsDeclaration autos (OfIndex i) = IsIndex i × IsAnswered autos i.auto

@@ -1,5 +1,5 @@
 -- which schema a list of declarations denotes
-use Rattle.std.specs.Prelude.{◌≡◌, ℕ, ◌+◌, ◌^◌, ◌-◌, ◌/◌, min, false, List, [], ◌∷◌, ◌++◌, length, codes, map, slice_get, Option, None, Some, Result, Ok, Err}
+use Rattle.std.specs.Prelude.{◌≡◌, ℕ, ◌+◌, ◌^◌, ◌-◌, ◌/◌, min, Bool, List, [], ◌∷◌, ◌++◌, length, codes, map, slice_get, Option, None, Some, Result, Ok, Err}
 use Rattle.std.specs.List.{position_from}
 use Rattle.std.specs.Str.{bytes_eq}
 use Rattle.block_model.specs.IndexedColumns.{columns_in}
@@ -13,6 +13,7 @@ use Rattle.block_model.specs.declared.schema.Part.{Part}
 use Rattle.block_model.specs.declared.schema.Index.{Index}
 use Rattle.block_model.specs.declared.schema.Schema.{Schema}
 use Rattle.text_reading.specs.Digits.{digits_from}
+use Rattle.schema_words.specs.declared.answered.TheConstants.{ANSWERS_AUTOSUMMARIZE}
 use Rattle.schema_words.specs.DeclarationTexts.{TableText, ClassText, MinMax, Multi, Inclusion, Bloom, PartText, part_bytes, IndexText, before_table, before_parts, DeclarationText, OfTable, OfIndex, bytes_of, IsDeclaration}
 
 -- the number of the digits, or where it doesn't fit so many bits the greatest that does, which no limit allows: limits are
@@ -74,7 +75,7 @@ index_on i table parts = record {
   name = i.name;
   table = min table 255;
   pages_per_range = number_said 32 128 i.pages;
-  auto = false;
+  auto = i.auto;
   parts = parts;
 }
 
@@ -106,22 +107,26 @@ abbrev pub declared_behind : Schema → DeclarationText → Result Schema ℕ
 declared_behind s (OfTable t) = Ok (with_table s (table_of t))
 declared_behind s (OfIndex i) = with_index s (index_among s.tables i)
 
--- the bytes are that declaration, which makes this of the schema
-pub record Declares (bytes : List ℕ) (before : Schema) (made : Result Schema ℕ) : Type 0 where
+-- the bytes are that declaration, which makes this of the schema; `autos` says whether ` autosummarize` is answered
+pub record Declares (autos : Bool) (bytes : List ℕ) (before : Schema) (made : Result Schema ℕ) : Type 0 where
   pub text : DeclarationText
-  pub of_grammar : IsDeclaration text
+  pub of_grammar : IsDeclaration autos text
   pub bytes_are : bytes ≡ bytes_of text
   pub makes : declared_behind before text ≡ made
 
 -- the words are declarations which, one after another, make one schema of the other
-abbrev pub DeclareBehind : Schema → List (List ℕ) → Schema → Type 0
-DeclareBehind before [] after = before ≡ after
-DeclareBehind before (word ∷ words) after = (between : Schema) × Declares word before (Ok between) × DeclareBehind between words after
+abbrev pub DeclareBehind : Bool → Schema → List (List ℕ) → Schema → Type 0
+DeclareBehind autos before [] after = before ≡ after
+DeclareBehind autos before (word ∷ words) after = (between : Schema) × Declares autos word before (Ok between) × DeclareBehind autos between words after
 
 -- the schema of nothing
 abbrev pub nothing_declared : Schema
 nothing_declared = record { tables = []; indexes = [] }
 
--- the words are a list of declarations, which denotes the schema
+-- the words are a list of declarations, which denotes the schema, where ` autosummarize` is answered or where it isn't
+abbrev pub DenotesWith : Bool → List (List ℕ) → Schema → Type 0
+DenotesWith autos words schema = DeclareBehind autos nothing_declared words schema
+
+-- the words are a list of declarations that the program answers, which denotes the schema
 abbrev pub Denotes : List (List ℕ) → Schema → Type 0
-Denotes words schema = DeclareBehind nothing_declared words schema
+Denotes words schema = DenotesWith ANSWERS_AUTOSUMMARIZE words schema

@@ -90,7 +90,7 @@ IsFirstOf (p ∷ ps) (Some x) = (part_text x.0 ≡ p) × (x.1.now ≡ parts_byte
 
 -- the index's parts
 abbrev pub index_text : IndexWord → IndexText
-index_text i = record { name = i.name.now; table = i.table.now; parts = parts_said i.parts.now; pages = said i.pages }
+index_text i = record { name = i.name.now; table = i.table.now; parts = parts_said i.parts.now; pages = said i.pages; auto = i.auto }
 
 -- the index's parts are of the grammar
 pub record IsIndexWord (i : IndexWord) : Type 0 where
@@ -104,9 +104,9 @@ IsRead kept wanted (code.Index word) (OfIndex text) = (index_text word ≡ text)
 IsRead kept wanted word text = ⊥
 
 -- the bytes are a declaration, of which the word has the parts
-pub record ReadsDeclaration (kept : Option (List Column)) (wanted bytes : List ℕ) (word : Declaration) : Type 0 where
+pub record ReadsDeclaration (autos : Bool) (kept : Option (List Column)) (wanted bytes : List ℕ) (word : Declaration) : Type 0 where
   pub text : DeclarationText
-  pub of_grammar : IsDeclaration text
+  pub of_grammar : IsDeclaration autos text
   pub bytes_are : bytes ≡ bytes_of text
   pub parts : IsRead kept wanted word text
 

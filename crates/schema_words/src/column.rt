@@ -7,7 +7,7 @@ ghost use Rattle.schema_words.specs.DeclarationTexts.{IsNamed};
 ghost use Rattle.schema_words.specs.DeclarationReading.{number_kind_at, kind_at, column_at, columns_at};
 ghost use Rattle.schema_words.specs.Words.{GivesAs, KeepsMore, AreRead, column_of};
 
-use crate::list::{MORE_ITEMS, behind_comma};
+use crate::list::behind_comma;
 use crate::name::{known_name, name};
 use block_model::{Column, Columns, Kind};
 use text_reading::{Reading, byte, word};
@@ -36,10 +36,7 @@ pub fn columns<'a>(kept: Option<Columns>, wanted: &[u8], text: &'a [u8]) -> Read
     let (first, behind) = column(text)?;
     let mut rest = behind;
     let mut columns = ColumnsWord { kept, found: false }.with(wanted, &first);
-    'more: for _ in 0..MORE_ITEMS {
-        let Some(behind) = behind_comma(rest) else {
-            return Ok((columns, rest));
-        };
+    'more: while let Some(behind) = behind_comma(rest) {
         let (next, behind) = column(behind)?;
         columns = columns.with(wanted, &next);
         rest = behind;

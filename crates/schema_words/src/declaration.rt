@@ -19,36 +19,48 @@ pub enum Declaration<'a> {
     Index(IndexWord<'a>),
 }
 
-/// The parts of a declaration, a table's columns read as `columns` reads them, or the first byte where no declaration goes on.
+/// The parts of a declaration, a table's columns read as `columns` reads them, or the first byte where no declaration goes on;
+/// `autos` says whether ` autosummarize` is answered.
 pub fn read_declaration<'a>(
+    autos: bool,
     kept: Option<Columns>,
     wanted: &[u8],
     text: &'a [u8],
 ) -> Result<Declaration<'a>, usize>
-    ensures { MatchResult result (ReadsDeclaration kept wanted.now text.now) (StopsAt bytes_of IsDeclaration text.now) }
+    ensures { MatchResult result (ReadsDeclaration autos kept wanted.now text.now) (StopsAt bytes_of (IsDeclaration autos) text.now) }
 {
-    match all_of(kept, wanted, text) {
+    match all_of(autos, kept, wanted, text) {
         Ok((declaration, _)) => Ok(declaration),
         Err(left) => Err(text.len() - left.len()),
     }
 }
 
-fn all_of<'a>(kept: Option<Columns>, wanted: &[u8], text: &'a [u8]) -> Reading<'a, Declaration<'a>>
-    ensures { GivesAs (IsRead kept wanted.now) result (whole declaration_at text.now) }
+fn all_of<'a>(
+    autos: bool,
+    kept: Option<Columns>,
+    wanted: &[u8],
+    text: &'a [u8],
+) -> Reading<'a, Declaration<'a>>
+    ensures { GivesAs (IsRead kept wanted.now) result (whole (declaration_at autos) text.now) }
 {
-    let (declaration, rest) = front(kept, wanted, text)?;
+    let (declaration, rest) = front(autos, kept, wanted, text)?;
     end(rest)?;
     Ok((declaration, rest))
 }
 
-fn front<'a>(kept: Option<Columns>, wanted: &[u8], text: &'a [u8]) -> Reading<'a, Declaration<'a>>
-    ensures { GivesAs (IsRead kept wanted.now) result (declaration_at text.now) }
+fn front<'a>(
+    autos: bool,
+    kept: Option<Columns>,
+    wanted: &[u8],
+    text: &'a [u8],
+) -> Reading<'a, Declaration<'a>>
+    ensures { GivesAs (IsRead kept wanted.now) result (declaration_at autos text.now) }
 {
     if begins_table(text) {
         let (table, rest) = table(kept, wanted, text)?;
         return Ok((Declaration::Table(table), rest));
     }
-    let (index, rest) = index(text)?;
+    let (index, rest) = index(text, autos)?;
     Ok((Declaration::Index(index), rest))
 }
 

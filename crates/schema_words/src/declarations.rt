@@ -1,9 +1,11 @@
 //! The declarations of a command line.
 
 ghost use Rattle.std.specs.Prelude.{◌≡◌, ℕ, Err, IfOk};
-ghost use Rattle.schema_words.specs.DeclaredSchema.{Denotes};
+ghost use Rattle.schema_words.specs.DeclaredSchema.{Denotes, DenotesWith};
+ghost use Rattle.schema_words.specs.declared.answered.TheConstants.{ANSWERS_AUTOSUMMARIZE};
 ghost use Rattle.schema_words.specs.FirstFault.{IsFirstFault, Answers};
 
+use crate::answered::ANSWERS_AUTOSUMMARIZE;
 use crate::declare::{WordFault, declare};
 use crate::judge::first_fault;
 use block_model::{Indexes, Schema, Tables, Words};
@@ -23,25 +25,43 @@ pub enum DeclFault {
     Memory,
 }
 
-/// ReadsDeclaration words, each a declaration, as the schema that they denote. Takes memory for the schema.
+/// Reads words, each a declaration that the program answers, as the schema that they denote. Takes memory for the schema.
 pub fn read_declarations(alloc: Global, words: &Words) -> Result<Schema, DeclFault>
     // A list of declarations is read as the schema that it denotes, unless memory is wanting, and nothing else is.
     ensures read { IfOk result (λ schema. Denotes words.now schema) }
     ensures only { (schema : Schema) → Denotes words.now schema → Answers schema result }
     // What is none is refused at its first fault.
-    ensures form { (word at : ℕ) → result ≡ Err (DeclFault.Form word at) → IsFirstFault words.now word at }
+    ensures form { (word at : ℕ) → result ≡ Err (DeclFault.Form word at) → IsFirstFault ANSWERS_AUTOSUMMARIZE words.now word at }
     // Want of memory is told only of a list of declarations.
     ensures memory { result ≡ Err DeclFault.Memory → (schema : Schema) × Denotes words.now schema }
+{
+    read_declarations_with(alloc, ANSWERS_AUTOSUMMARIZE, words)
+}
+
+/// Reads words, each a declaration, as the schema that they denote; `autos` says whether ` autosummarize` is answered. Takes
+/// memory for the schema.
+pub fn read_declarations_with(
+    alloc: Global,
+    autos: bool,
+    words: &Words,
+) -> Result<Schema, DeclFault>
+    // A list of declarations is read as the schema that it denotes, unless memory is wanting, and nothing else is.
+    ensures read { IfOk result (λ schema. DenotesWith autos words.now schema) }
+    ensures only { (schema : Schema) → DenotesWith autos words.now schema → Answers schema result }
+    // What is none is refused at its first fault.
+    ensures form { (word at : ℕ) → result ≡ Err (DeclFault.Form word at) → IsFirstFault autos words.now word at }
+    // Want of memory is told only of a list of declarations.
+    ensures memory { result ≡ Err DeclFault.Memory → (schema : Schema) × DenotesWith autos words.now schema }
 {
     let mut schema = Schema {
         tables: Tables::new(alloc),
         indexes: Indexes::new(alloc),
     };
     'words: for word in 0..words.len() {
-        match declare(alloc, &mut schema, words.word(word)) {
+        match declare(alloc, autos, &mut schema, words.word(word)) {
             Ok(()) => {}
             Err(WordFault::Form { at }) => return Err(DeclFault::Form { word, at }),
-            Err(WordFault::Memory) => return Err(first_fault(words)),
+            Err(WordFault::Memory) => return Err(first_fault(autos, words)),
         }
     }
     Ok(schema)

@@ -21,12 +21,17 @@ pub enum WordFault {
     Memory,
 }
 
-/// Adds what the word declares to the schema.
-pub fn declare(alloc: Global, schema: &mut Schema, word: &[u8]) -> Result<(), WordFault>
-    ensures ok { OnOk result (Declares word.now schema.old (Ok schema.new)) }
-    ensures form { (at : ℕ) → result ≡ Err (WordFault.Form at) → IsFaulty schema.old word.now at }
+/// Adds what the word declares to the schema; `autos` says whether ` autosummarize` is answered.
+pub fn declare(
+    alloc: Global,
+    autos: bool,
+    schema: &mut Schema,
+    word: &[u8],
+) -> Result<(), WordFault>
+    ensures ok { OnOk result (Declares autos word.now schema.old (Ok schema.new)) }
+    ensures form { (at : ℕ) → result ≡ Err (WordFault.Form at) → IsFaulty autos schema.old word.now at }
 {
-    match read_declaration(Some(Columns::new(alloc)), b"", word) {
+    match read_declaration(autos, Some(Columns::new(alloc)), b"", word) {
         Ok(Declaration::Table(table)) => add_table(&mut schema.tables, table),
         Ok(Declaration::Index(index)) => {
             let Schema { tables, indexes } = schema;
@@ -37,8 +42,7 @@ pub fn declare(alloc: Global, schema: &mut Schema, word: &[u8]) -> Result<(), Wo
 }
 
 fn add_table(tables: &mut Tables, table: TableWord<'_>) -> Result<(), WordFault>
-    requires named { IsNamed table.name.now }
-    requires few { IfSome table.columns.kept (λ columns. length columns ≤ 256) }
+    requires { IsNamed table.name.now }
     ensures ok { OnOk result (MatchOption table.entry.columns.kept ⊥ (λ columns. tables.new ≡ tables.old ++ table_with table.entry columns ∷ [])) }
     ensures memory { OnErr result (result ≡ Err WordFault.Memory) }
 {
@@ -133,7 +137,7 @@ fn index_on(index: &IndexWord<'_>, table: usize, parts: Parts) -> Index
         name: known_name(index.name),
         table: table.min(usize::from(u8::MAX)) as u8,
         pages_per_range: index.pages_per_range(),
-        auto: false,
+        auto: index.auto,
         parts,
     }
 }

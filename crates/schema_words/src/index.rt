@@ -3,42 +3,46 @@
 ghost use Rattle.std.specs.Prelude.{◌≡◌, ◌+◌, ◌-◌, ◌≤◌, length, IfOk};
 ghost use Rattle.text_reading.specs.Reading.{Gives};
 ghost use Rattle.schema_words.specs.DeclarationTexts.{before_table, before_parts};
-ghost use Rattle.schema_words.specs.DeclarationReading.{index_head_at, on_at, index_at};
+ghost use Rattle.schema_words.specs.DeclarationReading.{index_head_at, on_at, auto_at, pages_at, option_at, options_at, index_at};
 ghost use Rattle.schema_words.specs.DeclaredSchema.{number_said};
 ghost use Rattle.schema_words.specs.Words.{AreParts, index_text, IsIndexWord, said};
 
 use crate::name::name;
 use crate::part::parts;
-use crate::setting::{ending, number_u32};
-use text_reading::{Reading, byte, word};
+use crate::setting::number_u32;
+use text_reading::{Reading, byte, digits, word};
 
-/// An index as it is written, with the bytes of its indexed columns and the digits of its pages per range.
+/// An index as it is written, with the bytes of its indexed columns, the digits of its pages per range, and whether it is to be
+/// summarised as it grows.
 #[derive(Clone, Copy)]
 pub struct IndexWord<'a> {
     pub name: &'a [u8],
     pub table: &'a [u8],
     pub parts: &'a [u8],
     pub pages: Option<&'a [u8]>,
+    pub auto: bool,
 }
 
 /// How many pages a range has where it isn't said.
 const USUAL_PAGES: u32 = 128;
 
-/// An index.
+/// An index; `autos` says whether ` autosummarize` is answered.
 #[tactic(auto, unfolding(crate::specs::DeclarationReading::index_at))]
-pub fn index(text: &[u8]) -> Reading<'_, IndexWord<'_>>
-    ensures read { Gives (λ x. (index_text x.0, x.1.now)) result (index_at text.now) }
+pub fn index(text: &[u8], autos: bool) -> Reading<'_, IndexWord<'_>>
+    ensures read { Gives (λ x. (index_text x.0, x.1.now)) result (index_at autos text.now) }
     ensures parts { IfOk result (λ x. AreParts x.0.parts.now) }
 {
     let (name, rest) = index_head(text)?;
     let (table, rest) = on(rest)?;
     let (parts, rest) = parts(rest)?;
-    let (pages, rest) = ending(rest, b" pages_per_range ")?;
+    let rest = byte(rest, b')')?;
+    let (options, rest) = options(rest, autos)?;
     let index = IndexWord {
         name,
         table,
         parts,
-        pages,
+        pages: options.pages,
+        auto: options.auto,
     };
     Ok((index, rest))
 }
@@ -59,6 +63,75 @@ fn on(text: &[u8]) -> Reading<'_, &[u8]>
     let (name, rest) = name(rest)?;
     let rest = byte(rest, b'(')?;
     Ok((name, rest))
+}
+
+/// What stands behind the columns of an index: the digits of its pages per range, and whether it has ` autosummarize`.
+#[derive(Clone, Copy)]
+struct IndexOptions<'a> {
+    pages: Option<&'a [u8]>,
+    auto: bool,
+}
+
+#[tactic(auto, unfolding(crate::specs::DeclarationReading::options_at))]
+fn options(text: &[u8], autos: bool) -> Reading<'_, IndexOptions<'_>>
+    ensures { Gives (λ x. ((said x.0.pages, x.0.auto), x.1.now)) result (options_at autos text.now) }
+{
+    match text {
+        [b' ', rest @ ..] => option(rest, autos),
+        _ => Ok((
+            IndexOptions {
+                pages: None,
+                auto: false,
+            },
+            text,
+        )),
+    }
+}
+
+/// `autosummarize`, or pages per range, behind the space that both begin with.
+#[tactic(auto, unfolding(crate::specs::DeclarationReading::option_at))]
+fn option(text: &[u8], autos: bool) -> Reading<'_, IndexOptions<'_>>
+    ensures { Gives (λ x. ((said x.0.pages, x.0.auto), x.1.now)) result (option_at autos text.now) }
+{
+    match text {
+        [b'a', ..] if autos => {
+            let rest = word(text, b"autosummarize")?;
+            let options = IndexOptions {
+                pages: None,
+                auto: true,
+            };
+            Ok((options, rest))
+        }
+        _ => pages(text, autos),
+    }
+}
+
+#[tactic(auto, unfolding(crate::specs::DeclarationReading::pages_at))]
+fn pages(text: &[u8], autos: bool) -> Reading<'_, IndexOptions<'_>>
+    ensures { Gives (λ x. ((said x.0.pages, x.0.auto), x.1.now)) result (pages_at autos text.now) }
+{
+    let rest = word(text, b"pages_per_range ")?;
+    let (digits, rest) = digits(rest)?;
+    let (auto, rest) = auto_word(rest, autos)?;
+    let options = IndexOptions {
+        pages: Some(digits),
+        auto,
+    };
+    Ok((options, rest))
+}
+
+/// Whether ` autosummarize` stands there.
+#[tactic(auto, unfolding(crate::specs::DeclarationReading::auto_at))]
+fn auto_word(text: &[u8], autos: bool) -> Reading<'_, bool>
+    ensures { Gives (λ x. (x.0, x.1.now)) result (auto_at autos text.now) }
+{
+    match text {
+        [b' ', ..] if autos => {
+            let rest = word(text, b" autosummarize")?;
+            Ok((true, rest))
+        }
+        _ => Ok((false, text)),
+    }
 }
 
 impl IndexWord<'_> {

@@ -5,6 +5,7 @@
 //! and `IsFirstFault`.
 #![tactic(auto)]
 
+mod answered;
 mod class;
 mod column;
 mod declaration;
@@ -19,5 +20,9 @@ mod part;
 mod setting;
 mod table;
 
-pub use declarations::{DeclFault, read_declarations};
-pub use laws::{bytes_are_one_declaration, faulty_words_denote_nothing, words_denote_one_schema};
+pub use answered::ANSWERS_AUTOSUMMARIZE;
+pub use declarations::{DeclFault, read_declarations, read_declarations_with};
+pub use laws::{
+    bytes_are_one_declaration, faulty_words_denote_nothing, first_fault_is_one,
+    words_denote_one_schema,
+};

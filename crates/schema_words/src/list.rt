@@ -3,9 +3,6 @@
 ghost use Rattle.std.specs.Prelude.{◌≡◌, ◌∷◌, ◌==◌, false, MatchOption};
 ghost use Rattle.text_reading.specs.Reading.{begins};
 
-/// How many items may stand behind the first: a byte numbers 256.
-pub const MORE_ITEMS: usize = 255;
-
 /// What is behind a comma, where there is one.
 pub fn behind_comma(text: &[u8]) -> Option<&[u8]>
     ensures { MatchOption result (begins (λ c. c == 44) text.now ≡ false) (λ behind. text.now ≡ 44 ∷ behind.now) }

@@ -8,7 +8,7 @@ ghost use Rattle.schema_words.specs.DeclarationReading.{part_at, parts_at};
 ghost use Rattle.schema_words.specs.Words.{part_text, parts_said, AreParts, IsFirstOf};
 
 use crate::class::{ClassWord, class};
-use crate::list::{MORE_ITEMS, behind_comma};
+use crate::list::behind_comma;
 use crate::name::name;
 use text_reading::{Reading, byte};
 
@@ -35,10 +35,7 @@ fn behind_parts(text: &[u8]) -> Result<&[u8], &[u8]>
 {
     let (_first, behind) = part(text)?;
     let mut rest = behind;
-    'more: for _ in 0..MORE_ITEMS {
-        let Some(behind) = behind_comma(rest) else {
-            return Ok(rest);
-        };
+    'more: while let Some(behind) = behind_comma(rest) {
         let (_next, behind) = part(behind)?;
         rest = behind;
     }

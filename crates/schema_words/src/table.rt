@@ -1,8 +1,7 @@
 //! The declaration of a table.
 
-ghost use Rattle.std.specs.Prelude.{◌≡◌, ◌≤◌, length, map, sum_by, None, Some, IfSome, MatchOption};
+ghost use Rattle.std.specs.Prelude.{◌≡◌, None, Some, MatchOption};
 ghost use Rattle.text_reading.specs.Reading.{Gives};
-ghost use Rattle.block_model.specs.RowSize.{value_size, row_size};
 ghost use Rattle.schema_words.specs.DeclarationTexts.{IsNamed};
 ghost use Rattle.schema_words.specs.DeclarationReading.{table_head_at, table_at};
 ghost use Rattle.schema_words.specs.DeclaredSchema.{number_said, most_rows};
@@ -11,7 +10,7 @@ ghost use Rattle.schema_words.specs.Words.{GivesAs, IsTableRead, table_with, sai
 use crate::column::{ColumnsWord, columns};
 use crate::name::{known_name, name};
 use crate::setting::{ending, number_u16};
-use block_model::{Column, Columns, Kind, PAGE_ROOM, Table};
+use block_model::{Column, Columns, Table, most_rows};
 use text_reading::{Reading, byte, word};
 
 /// A table as it is written, with the digits of its rows per page.
@@ -21,9 +20,6 @@ pub struct TableWord<'a> {
     pub columns: ColumnsWord,
     pub rows: Option<&'a [u8]>,
 }
-
-/// The bytes of a row without its values.
-const ROW_HEADER: u64 = 22;
 
 /// A table, its columns read as `columns` reads them.
 pub fn table<'a>(kept: Option<Columns>, wanted: &[u8], text: &'a [u8]) -> Reading<'a, TableWord<'a>>
@@ -53,8 +49,7 @@ fn table_head(text: &[u8]) -> Reading<'_, &[u8]>
 impl TableWord<'_> {
     /// The table with the columns that were kept, None where they weren't.
     pub fn kept(self) -> Option<Table>
-        requires named { IsNamed self.name.now }
-        requires few { IfSome self.columns.kept (λ columns. length columns ≤ 256) }
+        requires { IsNamed self.name.now }
         ensures { MatchOption self.entry.columns.kept (result ≡ None) (λ columns. result ≡ Some (table_with self.entry columns)) }
     {
         let TableWord {
@@ -74,37 +69,10 @@ impl TableWord<'_> {
 
 /// The rows per page of a table: what the digits say, or as many as fit.
 fn rows_per_page(rows: Option<&[u8]>, columns: &[Column]) -> u16
-    requires { length columns.now ≤ 256 }
     ensures { result ≡ number_said 16 (most_rows columns.now) (said rows.entry) }
 {
     match rows {
         Some(digits) => number_u16(digits),
         None => most_rows(columns),
-    }
-}
-
-/// As many rows as fit. `row_size` of block_model wants the columns of a lawful table, and these may be more.
-fn most_rows(columns: &[Column]) -> u16
-    requires { length columns.now ≤ 256 }
-    ensures { result ≡ most_rows columns.now }
-{
-    (PAGE_ROOM as u64 / (ROW_HEADER + u64::from(values_size(columns)))) as u16
-}
-
-fn values_size(columns: &[Column]) -> u32
-    requires { length columns.now ≤ 256 }
-    ensures { result ≡ sum_by value_size (map (λ c. c.kind) columns.now) }
-{
-    columns.iter().map(|column| value_size(column.kind)).sum()
-}
-
-fn value_size(kind: Kind) -> u32
-    ensures size { result ≡ value_size kind }
-    ensures small { result ≤ 17 }
-{
-    match kind {
-        Kind::Int => 8,
-        Kind::Span => 17,
-        Kind::Net => 6,
     }
 }

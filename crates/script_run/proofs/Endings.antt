@@ -12,7 +12,8 @@ use Rattle.script_lines.specs.declared.end.LinesEnd.{LinesEnd}
 use Rattle.script_lines.specs.declared.end.LinesEnd.TheVariants as stops
 use Rattle.script_lines.specs.Script.{script_lines, ended_lines, ended_from, rest_from, ended_append}
 use Rattle.script_lines.specs.Reading.{LineReading, HasRead, ReadsOn, Next, SeesEnd, lines_at, beyond}
-use Rattle.script_run.specs.declared.engine.AnswerFault.TheVariants.{Memory, Full}
+use Rattle.script_run.specs.declared.engine.AnswerFault.{AnswerFault}
+use Rattle.script_run.specs.declared.engine.AnswerFault.TheVariants.{Memory}
 use Rattle.script_run.specs.declared.fault.RunFault.{RunFault}
 use Rattle.script_run.specs.declared.fault.RunFault.TheVariants as faults
 use Rattle.script_run.specs.Faults.{fault_of}
@@ -46,8 +47,8 @@ all_handed stage stage' script done ready e none at =
 bounded : (a b : LineReading) (limit : ℕ) (script came : List ℕ) (done lines : List (List ℕ)) → HasRead a script done → ReadsOn a b came lines → a.limit ≡ limit → b.taken ≤ b.limit → length (script ++ came) ≤ limit
 bounded a b limit script came done lines read on same within = omega (arith, (on.reads script done read).taken, on.limit)
 
-pub ran_nothing : {S : Type 0} (R : S → List ℕ → List ℕ → S → Type 0) (L : S → List ℕ → Type 0) (start : S) (limit : ℕ) (l k : Option (List ℕ)) → Ran R L start start limit (Err (faults.Unanswered Memory)) l l k k
-ran_nothing R L start limit l k = (
+pub ran_nothing : {S : Type 0} (R : S → List ℕ → List ℕ → S → Type 0) (U : S → List ℕ → AnswerFault → S → Type 0) (start : S) (limit : ℕ) (l k : Option (List ℕ)) → Ran R U start start limit (Err (faults.Unanswered Memory)) l l k k
+ran_nothing R U start limit l k = (
   [],
   [],
   [],
@@ -59,13 +60,12 @@ ran_nothing R L start limit l k = (
     lines = inl (ended_lines [], refl);
     answers = refl;
     front = ([], refl);
-    state = λ _ _. refl;
+    state = λ _. refl;
     within = λ _. omega arith;
     whole = λ e. absurd (cc);
     faulty = λ e. absurd (cc);
     spent = λ e. absurd (cc);
-    full = λ e. absurd (cc);
-    unwritten = λ _. refl;
+    stopped = λ fault e. (inr (cc, refl, refl), refl);
     cut = λ e. absurd (cc);
   },
 )
@@ -92,9 +92,9 @@ before_more texts text = take_at texts (text ∷ []) (length (texts ++ text ∷ 
 
 -- ---- a run that has come so far, by how its next line goes
 
-module _ {S : Type 0} {R : S → List ℕ → List ℕ → S → Type 0} {L : S → List ℕ → Type 0} {start now : S} {limit : ℕ} {a b : LineReading} {l l' l'' k k' : Option (List ℕ)} {script : List ℕ} {done texts : List (List ℕ)}
+module _ {S : Type 0} {R : S → List ℕ → List ℕ → S → Type 0} {U : S → List ℕ → AnswerFault → S → Type 0} {start now : S} {limit : ℕ} {a b : LineReading} {l l' l'' k k' : Option (List ℕ)} {script : List ℕ} {done texts : List (List ℕ)}
     (far : SoFar R start now limit a l l' k k' script done texts) where
-  pub ran_done : Next a b l' l'' (Ok None) → Ran R L start now limit (Ok tt) l l'' k k'
+  pub ran_done : Next a b l' l'' (Ok None) → Ran R U start now limit (Ok tt) l l'' k k'
   ran_done call =
       let came = call.answers.0 in
       let on = call.answers.2 in
@@ -111,18 +111,17 @@ module _ {S : Type 0} {R : S → List ℕ → List ℕ → S → Type 0} {L : S 
           lines = inr (call.end far.end call.answers.4, subst (IsFront done) all (front_self done));
           answers = far.answers;
           front = front_self (concat texts);
-          state = λ _ _. refl;
+          state = λ _. refl;
           within = λ _. bounded a b limit script came done [] far.read on far.same_limit call.within;
           whole = λ _. (all, refl, call.end far.end call.answers.4);
           faulty = λ e. absurd (cc);
           spent = λ e. absurd (cc);
-          full = λ e. absurd (cc);
-          unwritten = λ e. absurd (cc);
+          stopped = λ fault e. absurd (cc);
           cut = λ e. absurd (cc);
         },
       )
 
-  ran_faulty : Next a b l' l'' (Err stops.Read) → Ran R L start now limit (Err faults.Read) l l'' k k'
+  ran_faulty : Next a b l' l'' (Err stops.Read) → Ran R U start now limit (Err faults.Read) l l'' k k'
   ran_faulty call =
       let came = call.answers.0 in
       let on = call.answers.2 in
@@ -139,18 +138,17 @@ module _ {S : Type 0} {R : S → List ℕ → List ℕ → S → Type 0} {L : S 
           lines = inl (subst (IsFront done) all (front_self done));
           answers = far.answers;
           front = front_self (concat texts);
-          state = λ _ _. refl;
+          state = λ _. refl;
           within = λ _. bounded a b limit script came done [] far.read on far.same_limit call.within;
           whole = λ e. absurd (cc);
           faulty = λ _. (all, refl);
           spent = λ e. absurd (cc);
-          full = λ e. absurd (cc);
-          unwritten = λ e. absurd (cc);
+          stopped = λ fault e. absurd (cc);
           cut = λ e. absurd (cc);
         },
       )
 
-  ran_spent : {told : ℕ} → Next a b l' l'' (Err (stops.Spent told)) → a.stage ≢ stages.Ended → Ran R L start now limit (Err faults.Spent) l l'' k k'
+  ran_spent : {told : ℕ} → Next a b l' l'' (Err (stops.Spent told)) → a.stage ≢ stages.Ended → Ran R U start now limit (Err faults.Spent) l l'' k k'
   ran_spent call unended =
       let going : a.stage ≡ stages.Open = still_going a.stage unended far.unspent in
       let came = call.answers.0 in
@@ -174,46 +172,19 @@ module _ {S : Type 0} {R : S → List ℕ → List ℕ → S → Type 0} {L : S 
           lines = inl (ended_from (rest_from [] (script ++ came)) past, sym more);
           answers = far.answers;
           front = front_self (concat texts);
-          state = λ _ _. refl;
+          state = λ _. refl;
           within = λ e. absurd (e refl);
           whole = λ e. absurd (cc);
           faulty = λ e. absurd (cc);
           spent = λ _. (many.1, all ∙ ap ended_lines (sym front), refl);
-          full = λ e. absurd (cc);
-          unwritten = λ e. absurd (cc);
+          stopped = λ fault e. absurd (cc);
           cut = λ e. absurd (cc);
         },
       )
 
-  ran_starved : {after : S} (k'' : Option (List ℕ)) {line : Bor (List ℕ)} → Next a b l' l'' (Ok (Some line)) → Keeps k' k'' → Ran R L start after limit (Err (faults.Unanswered Memory)) l l'' k k''
-  ran_starved {after} k'' {line} call kept =
-      let came = call.answers.0 in
-      let on = call.answers.2 in
-      let first = handed a b script came done line.now l'' far.read on (call.end far.end) in (
-        script ++ came,
-        concat texts,
-        done,
-        texts,
-        now,
-        Consumes-trans l l' l'' script came far.came call.answers.1,
-        Appends-kept k k' k'' (concat texts) far.written kept,
-        record {
-          lines = first_less done (line.now ∷ []) (script ++ came) l'' first;
-          answers = far.answers;
-          front = front_self (concat texts);
-          state = λ e _. absurd (e refl);
-          within = λ _. bounded a b limit script came done (line.now ∷ []) far.read on far.same_limit call.within;
-          whole = λ e. absurd (cc);
-          faulty = λ e. absurd (cc);
-          spent = λ e. absurd (cc);
-          full = λ e. absurd (cc);
-          unwritten = λ _. refl;
-          cut = λ e. absurd (cc);
-        },
-      )
-
-  ran_full : {after : S} (k'' : Option (List ℕ)) {line : Bor (List ℕ)} → Next a b l' l'' (Ok (Some line)) → L now line.now × Keeps k' k'' → Ran R L start after limit (Err (faults.Unanswered Full)) l l'' k k''
-  ran_full {after} k'' {line} call told =
+  ran_unanswered : {after : S} (k'' : Option (List ℕ)) {line : Bor (List ℕ)} (fault : AnswerFault) → Next a b l' l'' (Ok (Some line)) → U now line.now fault after × Keeps k' k''
+      → Ran R U start after limit (Err (faults.Unanswered fault)) l l'' k k''
+  ran_unanswered {after} k'' {line} fault call told =
       let came = call.answers.0 in
       let on = call.answers.2 in
       let first = handed a b script came done line.now l'' far.read on (call.end far.end) in (
@@ -228,18 +199,17 @@ module _ {S : Type 0} {R : S → List ℕ → List ℕ → S → Type 0} {L : S 
           lines = first_less done (line.now ∷ []) (script ++ came) l'' first;
           answers = far.answers;
           front = front_self (concat texts);
-          state = λ _ e. absurd (e refl);
+          state = λ e. absurd (e fault refl);
           within = λ _. bounded a b limit script came done (line.now ∷ []) far.read on far.same_limit call.within;
           whole = λ e. absurd (cc);
           faulty = λ e. absurd (cc);
           spent = λ e. absurd (cc);
-          full = λ _. (line.now, first, told.0, refl);
-          unwritten = λ e. absurd (cc);
+          stopped = λ other e. (inl (record { line = line.now; first = first; stops = subst (λ f. U now line.now f after) (cc) told.0 }), refl);
           cut = λ e. absurd (cc);
         },
       )
 
-  ran_unwritten : {next : S} (k'' : Option (List ℕ)) {line : Bor (List ℕ)} → Next a b l' l'' (Ok (Some line)) → (text : List ℕ) × R now line.now text next × AppendsPart k' k'' text → Ran R L start next limit (Err faults.Write) l l'' k k''
+  ran_unwritten : {next : S} (k'' : Option (List ℕ)) {line : Bor (List ℕ)} → Next a b l' l'' (Ok (Some line)) → (text : List ℕ) × R now line.now text next × AppendsPart k' k'' text → Ran R U start next limit (Err faults.Write) l l'' k k''
   ran_unwritten {next} k'' {line} call told =
       let came = call.answers.0 in
       let on = call.answers.2 in
@@ -256,24 +226,22 @@ module _ {S : Type 0} {R : S → List ℕ → List ℕ → S → Type 0} {L : S 
           lines = handed a b script came done line.now l'' far.read on (call.end far.end);
           answers = answers_more R start now next done texts line.now text far.answers told.1;
           front = (drop part.0 text, append_assoc (concat texts) (take part.0 text) (drop part.0 text) ∙ ap (λ t. concat texts ++ t) (take-append-drop part.0 text) ∙ sym (concat_more texts text));
-          state = λ _ _. refl;
+          state = λ _. refl;
           within = λ _. bounded a b limit script came done (line.now ∷ []) far.read on far.same_limit call.within;
           whole = λ e. absurd (cc);
           faulty = λ e. absurd (cc);
           spent = λ e. absurd (cc);
-          full = λ e. absurd (cc);
-          unwritten = λ e. absurd (cc);
+          stopped = λ fault e. absurd (cc);
           cut = λ _. (take part.0 text, ap (λ ts. concat ts ++ take part.0 text) (before_more texts text));
         },
       )
 
-  pub ran_unread : (end : LinesEnd) → Next a b l' l'' (Err end) → a.stage ≢ stages.Ended → Ran R L start now limit (Err (fault_of end)) l l'' k k'
+  pub ran_unread : (end : LinesEnd) → Next a b l' l'' (Err end) → a.stage ≢ stages.Ended → Ran R U start now limit (Err (fault_of end)) l l'' k k'
   ran_unread stops.Read call unended = ran_faulty call
   ran_unread (stops.Spent told) call unended = ran_spent call unended
 
-  pub ran_unserved : {next : S} (k'' : Option (List ℕ)) {line : Bor (List ℕ)} (fault : RunFault) → Next a b l' l'' (Ok (Some line)) → Serves {T = Unit {0}} R L now next k' k'' line.now (Err fault) → Ran R L start next limit (Err fault) l l'' k k''
+  pub ran_unserved : {next : S} (k'' : Option (List ℕ)) {line : Bor (List ℕ)} (fault : RunFault) → Next a b l' l'' (Ok (Some line)) → Serves {T = Unit {0}} R U now next k' k'' line.now (Err fault) → Ran R U start next limit (Err fault) l l'' k k''
   ran_unserved k'' faults.Read call serves = absurd serves
   ran_unserved k'' faults.Spent call serves = absurd serves
   ran_unserved k'' faults.Write call serves = ran_unwritten k'' call serves
-  ran_unserved k'' (faults.Unanswered Memory) call serves = ran_starved k'' call serves
-  ran_unserved k'' (faults.Unanswered Full) call serves = ran_full k'' call serves
+  ran_unserved k'' (faults.Unanswered fault) call serves = ran_unanswered k'' fault call serves

@@ -1,6 +1,6 @@
 //! What answers the lines of a script.
 
-ghost use Rattle.std.specs.Prelude.{◌≡◌, ◌++◌, ℕ, List, OnOk, IsErrOf};
+ghost use Rattle.std.specs.Prelude.{◌≡◌, ◌++◌, ℕ, List, OnOk, IfErr};
 
 use block_model::NoMemory;
 use std::alloc::AllocError;
@@ -39,14 +39,16 @@ impl From<AllocError> for AnswerFault {
 
 /// Answers the lines of a script, one after the other.
 pub trait Engine {
+    ghost use Rattle.script_run.specs.declared.engine.AnswerFault.{AnswerFault};
+
     /// Whether an engine that is the first answers a line with a text, and is the second then.
     ghost answers: { Self → List ℕ → List ℕ → Self → Type 0 };
 
-    /// Whether an engine has no room for what a line would have it keep.
-    ghost lacks_room: { Self → List ℕ → Type 0 };
+    /// Whether an engine that is the first doesn't answer a line for that reason, and is the second then.
+    ghost stops: { Self → List ℕ → AnswerFault → Self → Type 0 };
 
     /// Appends the text of a line. What was appended where it isn't answered is no text.
     fn answer(&mut self, line: &[u8], out: &mut Vec<u8>) -> Result<(), AnswerFault>
-        ensures full { IsErrOf result AnswerFault.Full → lacks_room self.old line.now }
-        ensures ok { OnOk result ((text : List ℕ) × (out.new.items ≡ out.old.items ++ text) × answers self.old line.now text self.new) };
+        ensures ok { OnOk result ((text : List ℕ) × (out.new.items ≡ out.old.items ++ text) × answers self.old line.now text self.new) }
+        ensures stops { IfErr result (λ fault. stops self.old line.now fault self.new) };
 }

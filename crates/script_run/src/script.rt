@@ -21,7 +21,7 @@ pub fn run<E: Engine, S: Source, K: Sink>(
     source: &mut S,
     sink: &mut K,
 ) -> Result<(), RunFault>
-    ensures ran { Ran E.answers E.lacks_room engine.old engine.new limit result (S.left source.old) (S.left source.new) (K.taken sink.old) (K.taken sink.new) }
+    ensures ran { Ran E.answers E.stops engine.old engine.new limit result (S.left source.old) (S.left source.new) (K.taken sink.old) (K.taken sink.new) }
 
     // A fault is answered only where its count rose.
     ensures read { IsErrOf result RunFault.Read → Rose (S.faults source.old) (S.faults source.new) }
@@ -46,7 +46,7 @@ fn serve<E: Engine, K: Sink>(
     reply: &mut Vec<u8>,
     sink: &mut K,
 ) -> Result<(), RunFault>
-    ensures serves { Serves E.answers E.lacks_room engine.old engine.new (K.taken sink.old) (K.taken sink.new) line.now result }
+    ensures serves { Serves E.answers E.stops engine.old engine.new (K.taken sink.old) (K.taken sink.new) line.now result }
     ensures later { K.faults sink.old ≤ K.faults sink.new }
     ensures cause { IsErrOf result RunFault.Write → Rose (K.faults sink.old) (K.faults sink.new) }
 {

@@ -14,7 +14,7 @@ struct Echo;
 impl Engine for Echo {
     ghost answers = { λ _ line text _. text ≡ line };
 
-    ghost lacks_room = { λ _ line. line ≡ codes "?" };
+    ghost stops = { λ _ _ _ _. Unit {0} };
 
     fn answer(&mut self, line: &[u8], out: &mut Vec<u8>) -> Result<(), AnswerFault> {
         if line == b"!".as_slice() {

@@ -14,21 +14,22 @@ use Rattle.block_model.specs.declared.reply.Reply.{Reply}
 use Rattle.block_model.specs.declared.reply.Reply.TheVariants as replies
 use Rattle.block_model.specs.declared.reply.Refusal.TheVariants as refusals
 use Rattle.block_model.specs.DatabaseState.{DatabaseState, OpenTransaction}
-use Rattle.block_model.specs.RequestEffect.{Answer, Begun, Inserted, Found, Committed, RolledBack, NoMemory, effect, effect_at, effect_is, after_failure, failed_transaction, rows_found}
+use Rattle.block_model.specs.RequestEffect.{Answer, Begun, Inserted, Found, Committed, RolledBack, Full, NoMemory, effect, effect_at, effect_is, after_failure, failed_transaction, rows_found}
 use Rattle.block_model.specs.SerialRun.{serial_run, replies_to}
 use Rattle.statements.specs.declared.statement.Statement.{Statement}
 use Rattle.statements.specs.declared.statement.Statement.TheVariants as statements
 use Rattle.statements.specs.RowsPut.{row_of_entry, row_put, rows_put}
 use Rattle.statements.specs.declared.limits.TheConstants.{MAX_ENTRIES}
-use Rattle.statements.specs.StatementRequests.{submission_refusal, request_entry, tagged_entry, look_entry, mark_entries, found_in, marks_reply, deleted_reply, reply_to_statement}
+use Rattle.statements.specs.StatementRequests.{submission_refusal, request_entry, tagged_entry, look_entry, mark_entries, found_in, put_tag, end_reply, marks_reply, deleted_reply, reply_to_statement, want_of_memory}
+use Rattle.statements.specs.HeapRoom.{is_full_with, full_table}
 use Rattle.row_versions.specs.declared.versions.Hit.{Hit}
 use Rattle.row_versions.specs.VersionsState.{VersionsState, rows_at}
 use Rattle.range_summaries.specs.Summarised.{AreSummaries}
 use Rattle.row_versions.specs.Hits.{mark_of, delete_reply}
-use Rattle.range_summaries.specs.ExplainedBlocks.{rows_of_table}
+use Rattle.statements.specs.RowsPut.{rows_of_table}
 use Rattle.session_core.specs.declared.limits.TheConstants.{ENTRIES_A_SESSION, MAX_PROMISED}
 use Rattle.session_core.specs.declared.tables.Tables.{Tables}
-use Rattle.session_core.specs.Acts.{transaction_of, IsTaken, requests_in, blocks_for, reply_in, DoesStatement, IsPastJournal, FailsForMemory}
+use Rattle.session_core.specs.Acts.{transaction_of, IsTaken, requests_in, blocks_for, reply_in, DoesStatement, IsPastJournal, FailsAt}
 use Rattle.session_core.specs.JournalState.{JournalState}
 use Rattle.session_core.specs.Promises.{begins_in, promised_to, KeepsPromises}
 use Rattle.session_core.specs.TablesKept.{AreTables}
@@ -56,7 +57,7 @@ same_room room room' begins same = omega arith
 -- a statement of one request, whose reply is that request's
 pub record IsOne (t : Tables) (n : ℕ) (statement : Statement) (short : Bool) (e : Entry) : Type 0 where
   requests : requests_in t n short statement ≡ e ∷ []
-  reply : reply_in t n short statement ≡ reply_to_statement statement (replies_to t.versions.database (requests_in t n short statement))
+  reply : reply_in t n short statement ≡ reply_to_statement (full_table t.layout) statement (replies_to t.versions.database (requests_in t n short statement))
 
 -- the request is entered, for which there was room, and done
 pub record Went (t t' : Tables) (j j' : JournalState) (e : Entry) (answer : Answer) : Type 0 where
@@ -66,10 +67,11 @@ pub record Went (t t' : Tables) (j j' : JournalState) (e : Entry) (answer : Answ
   layout : t'.layout ≡ t.layout
   sound : AreTables t'
 
-module _ (t t' : Tables) (j j' : JournalState) (n : ℕ) (statement : Statement) (short : Bool) (e : Entry) (answer : Answer) (one : IsOne t n statement short e) (went : Went t t' j j' e answer) where
+module _ (t t' : Tables) (j j' : JournalState) (n : ℕ) (statement : Statement) (short : Bool) (e : Entry) (answer : Answer) (reply : Reply) (one : IsOne t n statement short e) (went : Went t t' j j' e answer)
+    (replied : reply_to_statement (full_table t.layout) statement (answer ∷ []) ≡ Some reply) where
   does_one : ((k : ℕ) → rows_at t'.versions.tables k ≡ rows_at t.versions.tables k ++ rows_of_table k (row_of_entry e answer))
       → KeepsPromises (promised_to (Some statement) (transaction_of t n)) j.room (promised_to None (transaction_of t' n)) j'.room
-      → t.versions.room ≤ t'.versions.room + begins_in (Some statement) → DoesStatement t j n statement t' j' (reply_to_statement statement (answer ∷ []))
+      → t.versions.room ≤ t'.versions.room + begins_in (Some statement) → DoesStatement t j n statement t' j' reply
   does_one rows promises begins =
       let db = t.versions.database in
       record {
@@ -78,7 +80,8 @@ module _ (t t' : Tables) (j j' : JournalState) (n : ℕ) (statement : Statement)
         fits = λ _. omega (arith, went.fits, ap length went.entered, length-append j.entries (e ∷ []));
         database = ap (λ (p : DatabaseState × Answer). p.0) (sym went.effect) ∙ ap (serial_run db) (sym one.requests);
         rows = λ k. rows k ∙ ap (λ rs. rows_at t.versions.tables k ++ rows_of_table k rs) (sym (one_put db t'.versions.database e answer went.effect) ∙ ap (rows_put db) (sym one.requests));
-        replied = ap (λ (p : DatabaseState × Answer). reply_to_statement statement (p.1 ∷ [])) (sym went.effect) ∙ ap (λ es. reply_to_statement statement (replies_to db es)) (sym one.requests) ∙ sym one.reply;
+        replied = sym replied ∙ ap (λ (p : DatabaseState × Answer). reply_to_statement (full_table t.layout) statement (p.1 ∷ [])) (sym went.effect)
+            ∙ ap (λ es. reply_to_statement (full_table t.layout) statement (replies_to db es)) (sym one.requests) ∙ sym one.reply;
         layout = went.layout;
         sound = went.sound;
         promises = promises;
@@ -87,13 +90,13 @@ module _ (t t' : Tables) (j j' : JournalState) (n : ℕ) (statement : Statement)
 
   -- a request that puts no row, and takes an entry that was promised
   spends : t'.versions.tables ≡ t.versions.tables → ((k : ℕ) → rows_of_table k (row_of_entry e answer) ≡ []) → promised_to None (transaction_of t' n) + 1 ≤ promised_to (Some statement) (transaction_of t n) → j.room ≤ j'.room + 1
-      → t.versions.room ≤ t'.versions.room + begins_in (Some statement) → DoesStatement t j n statement t' j' (reply_to_statement statement (answer ∷ []))
+      → t.versions.room ≤ t'.versions.room + begins_in (Some statement) → DoesStatement t j n statement t' j' reply
   spends rows none less spent begins =
       does_one (λ k. no_row t.versions.tables t'.versions.tables rows k ∙ ap (λ l. rows_at t.versions.tables k ++ l) (sym (none k))) (promises_spent _ _ _ _ less spent) begins
 
   -- a request with room for all that is promised behind it, of which nothing is spent
   ample : ((k : ℕ) → rows_at t'.versions.tables k ≡ rows_at t.versions.tables k ++ rows_of_table k (row_of_entry e answer)) → MAX_PROMISED ≤ j'.room → t'.versions.room ≡ t.versions.room
-      → DoesStatement t j n statement t' j' (reply_to_statement statement (answer ∷ []))
+      → DoesStatement t j n statement t' j' reply
   ample rows enough room = does_one rows (promises_ample _ _ _ _ (at_most_three None (transaction_of t' n)) enough) (same_room t.versions.room t'.versions.room (begins_in (Some statement)) room)
 
 -- ---- begins and ends of transactions
@@ -107,29 +110,33 @@ module _ (t : Tables) (v : VersionsState) (j j' : JournalState) (n : ℕ) (fits 
       → t.versions.room ≤ v.room + 1 → DoesStatement t j n statements.Begin now j' (replies.Begun a)
   does_begin a taken went entered begins =
       let before : promised_to (Some statements.Begin) (transaction_of t n) ≡ ENTRIES_A_SESSION = ap (promised_to (Some statements.Begin)) (idle (transaction_of t n) taken.taken) in
-      spends t now j j' n statements.Begin false (request_entry n 0 requests.Begin) (Begun a) (record { requests = refl; reply = refl })
-      (record { fits = fits; effect = went; entered = entered; layout = refl; sound = still_tables t v taken.sound rows }) rows (λ k. refl) (omega (arith, before, at_most_two (transaction_of now n))) spent begins
+      spends t now j j' n statements.Begin false (request_entry n 0 requests.Begin) (Begun a) (replies.Begun a) (record { requests = refl; reply = refl })
+      (record { fits = fits; effect = went; entered = entered; layout = refl; sound = still_tables t v taken.sound rows }) refl rows (λ k. refl) (omega (arith, before, at_most_two (transaction_of now n))) spent begins
 
   -- a statement that ends the transaction
-  does_end : (statement : Statement) (e : Entry) (answer : Answer) → IsTaken t j n statement → IsOne t n statement false e → ((k : ℕ) → rows_of_table k (row_of_entry e answer) ≡ []) → effect t.versions.database e ≡ (v.database, answer)
-      → IsUnderWay (transaction_of t n) → transaction_of now n ≡ None → j'.entries ≡ j.entries ++ e ∷ [] → v.room ≡ t.versions.room → DoesStatement t j n statement now j' (reply_to_statement statement (answer ∷ []))
-  does_end statement e answer taken one none went o gone entered room =
+  does_end : (statement : Statement) (e : Entry) (answer : Answer) (reply : Reply) → reply_to_statement (full_table t.layout) statement (answer ∷ []) ≡ Some reply → IsTaken t j n statement → IsOne t n statement false e → ((k : ℕ) → rows_of_table k (row_of_entry e answer) ≡ []) → effect t.versions.database e ≡ (v.database, answer)
+      → IsUnderWay (transaction_of t n) → transaction_of now n ≡ None → j'.entries ≡ j.entries ++ e ∷ [] → v.room ≡ t.versions.room → DoesStatement t j n statement now j' reply
+  does_end statement e answer reply replied taken one none went o gone entered room =
       let before : promised_to (Some statement) (transaction_of t n) ≡ promised_to (Some statement) (Some o.x) = ap (promised_to (Some statement)) o.got in
       let after : promised_to None (transaction_of now n) ≡ 0 = ap (promised_to None) gone in
-      spends t now j j' n statement false e answer one (record { fits = fits; effect = went; entered = entered; layout = refl; sound = still_tables t v taken.sound rows }) rows none
+      spends t now j j' n statement false e answer reply one (record { fits = fits; effect = went; entered = entered; layout = refl; sound = still_tables t v taken.sound rows }) replied rows none
       (omega (arith, before, after, some_promised o.x (Some statement))) spent (same_room t.versions.room v.room (begins_in (Some statement)) room)
 
   none_ended : (e : Entry) (b : Bool) (k : ℕ) → rows_of_table k (row_of_entry e (if b then Committed else RolledBack)) ≡ []
   none_ended e true k = refl
   none_ended e false k = refl
 
+  commit_reply : (b : Bool) → end_reply ((if b then Committed else RolledBack) ∷ []) ≡ Some (if b then replies.Committed else replies.RolledBack)
+  commit_reply true = refl
+  commit_reply false = refl
+
   pub does_commit : (b : Bool) → IsTaken t j n statements.Commit → effect t.versions.database (request_entry n 0 requests.Commit) ≡ (v.database, if b then Committed else RolledBack) → j'.entries ≡ j.entries ++ request_entry n 0 requests.Commit ∷ []
-      → v.room ≡ t.versions.room → DoesStatement t j n statements.Commit now j' (reply_to_statement statements.Commit ((if b then Committed else RolledBack) ∷ []))
+      → v.room ≡ t.versions.room → DoesStatement t j n statements.Commit now j' (if b then replies.Committed else replies.RolledBack)
   does_commit b taken went entered room =
       let e = request_entry n 0 requests.Commit in
       let answer = if b then Committed else RolledBack in
       let o = under_way (λ (o : Option OpenTransaction). submission_refusal o statements.Commit) refl (transaction_of t n) taken.taken in
-      does_end statements.Commit e answer taken (record { requests = refl; reply = refl }) (none_ended e b) went o
+      does_end statements.Commit e answer (if b then replies.Committed else replies.RolledBack) (commit_reply b) taken (record { requests = refl; reply = refl }) (none_ended e b) went o
       (own_after t.versions.database v.database e answer (Some o.x) o.got went ∙ get_removed_here nat_cmp_total t.versions.database.sessions n) entered room
 
   pub does_rollback : IsTaken t j n statements.Rollback → effect t.versions.database (request_entry n 0 requests.Rollback) ≡ (v.database, RolledBack) → j'.entries ≡ j.entries ++ request_entry n 0 requests.Rollback ∷ []
@@ -137,28 +144,40 @@ module _ (t : Tables) (v : VersionsState) (j j' : JournalState) (n : ℕ) (fits 
   does_rollback taken went entered room =
       let e = request_entry n 0 requests.Rollback in
       let o = under_way (λ (o : Option OpenTransaction). submission_refusal o statements.Rollback) refl (transaction_of t n) taken.taken in
-      does_end statements.Rollback e RolledBack taken (record { requests = refl; reply = refl }) (λ k. refl) went o
+      does_end statements.Rollback e RolledBack replies.RolledBack refl taken (record { requests = refl; reply = refl }) (λ k. refl) went o
       (own_after t.versions.database v.database e RolledBack (Some o.x) o.got went ∙ get_removed_here nat_cmp_total t.versions.database.sessions n) entered room
 
--- ---- statements for which memory is short
+-- ---- statements for which memory is short, or a table full
 
--- a put or a look that may want memory, of a transaction that may go on
-pub record MayWant (t : Tables) (n : ℕ) (statement : Statement) (e : Entry) : Type 0 where
-  one : IsOne t n statement true e
+-- a put or a look that may be refused so, of a transaction that may go on
+pub record MayFail (t : Tables) (n : ℕ) (statement : Statement) (short : Bool) (e : Entry) (answer : Answer) (reply : Reply) : Type 0 where
+  one : IsOne t n statement short e
   its : e.session ≡ n
-  refused : reply_to_statement statement (NoMemory ∷ []) ≡ replies.Refused refusals.Memory
-  none : (k : ℕ) → rows_of_table k (row_of_entry e NoMemory) ≡ []
-  fails : (x : OpenTransaction) → effect_at (Some x) t.versions.database e ≡ (after_failure t.versions.database n x, NoMemory)
+  refused : reply_to_statement (full_table t.layout) statement (answer ∷ []) ≡ Some reply
+  none : (k : ℕ) → rows_of_table k (row_of_entry e answer) ≡ []
+  fails : (x : OpenTransaction) → effect_at (Some x) t.versions.database e ≡ (after_failure t.versions.database n x, answer)
   whole : IsWhole (transaction_of t n)
 
-pub insert_may_want : (t : Tables) (j : JournalState) (n table : ℕ) (values : List Value) → IsTaken t j n (statements.Insert table values) → MayWant t n (statements.Insert table values) (tagged_entry n table (requests.Put values) tags.NoMemory)
+pub insert_may_want : (t : Tables) (j : JournalState) (n table : ℕ) (values : List Value) → IsTaken t j n (statements.Insert table values) → MayFail t n (statements.Insert table values) true (tagged_entry n table (requests.Put values) tags.NoMemory) NoMemory (replies.Refused refusals.Memory)
 insert_may_want t j n table values h = record { one = record { requests = refl; reply = refl }; its = refl; refused = refl; none = λ k. refl; fails = λ x. refl; whole = whole (λ (o : Option OpenTransaction). submission_refusal o (statements.Insert table values)) refl (λ x. refl) (transaction_of t n) h.taken }
 
-pub select_may_want : (t : Tables) (j : JournalState) (n : ℕ) (q : Query) → IsTaken t j n (statements.Select q) → MayWant t n (statements.Select q) (tagged_entry n q.table (requests.Look q) tags.NoMemory)
+pub select_may_want : (t : Tables) (j : JournalState) (n : ℕ) (q : Query) → IsTaken t j n (statements.Select q) → MayFail t n (statements.Select q) true (tagged_entry n q.table (requests.Look q) tags.NoMemory) NoMemory (replies.Refused refusals.Memory)
 select_may_want t j n q h = record { one = record { requests = refl; reply = refl }; its = refl; refused = refl; none = λ k. refl; fails = λ x. refl; whole = whole (λ (o : Option OpenTransaction). submission_refusal o (statements.Select q)) refl (λ x. refl) (transaction_of t n) h.taken }
 
-pub delete_may_want : (t : Tables) (j : JournalState) (n : ℕ) (q : Query) → IsTaken t j n (statements.Delete q) → MayWant t n (statements.Delete q) (tagged_entry n q.table (requests.Look q) tags.NoMemory)
+pub delete_may_want : (t : Tables) (j : JournalState) (n : ℕ) (q : Query) → IsTaken t j n (statements.Delete q) → MayFail t n (statements.Delete q) true (tagged_entry n q.table (requests.Look q) tags.NoMemory) NoMemory (replies.Refused refusals.Memory)
 delete_may_want t j n q h = record { one = record { requests = refl; reply = refl }; its = refl; refused = refl; none = λ k. refl; fails = λ x. refl; whole = whole (λ (o : Option OpenTransaction). submission_refusal o (statements.Delete q)) refl (λ x. refl) (transaction_of t n) h.taken }
+
+-- an insert into a full table
+pub insert_may_find_full : (t : Tables) (j : JournalState) (n table : ℕ) (values : List Value) → IsTaken t j n (statements.Insert table values) → is_full_with t.layout table (length (rows_at t.versions.tables table)) ≡ true
+    → MayFail t n (statements.Insert table values) false (tagged_entry n table (requests.Put values) tags.Full) Full (replies.Refused (full_table t.layout table))
+insert_may_find_full t j n table values h full = record {
+  one = record { requests = ap (λ b. tagged_entry n table (requests.Put values) (put_tag false b) ∷ []) full; reply = refl };
+  its = refl;
+  refused = refl;
+  none = λ k. refl;
+  fails = λ x. refl;
+  whole = whole (λ (o : Option OpenTransaction). submission_refusal o (statements.Insert table values)) refl (λ x. refl) (transaction_of t n) h.taken;
+}
 
 -- room may have been made before
 pub record Before (t t₁ : Tables) (j j₁ : JournalState) : Type 0 where
@@ -168,9 +187,9 @@ pub record Before (t t₁ : Tables) (j j₁ : JournalState) : Type 0 where
   pub entries : j₁.entries ≡ j.entries
   pub room : j.room ≤ j₁.room
 
-pub does_failing : (t t₁ : Tables) (v : VersionsState) (j j₁ j' : JournalState) (n : ℕ) (statement : Statement) (e : Entry) (reply : Reply) → MayWant t n statement e → Before t t₁ j j₁ → length j.entries < MAX_ENTRIES
-    → FailsForMemory t₁.versions j₁ e v j' → reply ≡ replies.Refused refusals.Memory → DoesStatement t j n statement (record t₁ { versions = v }) j' reply
-does_failing t t₁ v j j₁ j' n statement e reply want before fits failing replied =
+pub does_failing : (t t₁ : Tables) (v : VersionsState) (j j₁ j' : JournalState) (n : ℕ) (statement : Statement) (short : Bool) (e : Entry) (answer : Answer) (refused reply : Reply) → MayFail t n statement short e answer refused → Before t t₁ j j₁ → length j.entries < MAX_ENTRIES
+    → FailsAt t₁.versions j₁ e v j' → reply ≡ refused → DoesStatement t j n statement (record t₁ { versions = v }) j' reply
+does_failing t t₁ v j j₁ j' n statement short e answer refused reply want before fits failing replied =
     let db = t.versions.database in
     let o = want.whole in
     let rows : v.tables ≡ t.versions.tables = failing.rows ∙ ap (λ (v : VersionsState). v.tables) before.versions in
@@ -178,14 +197,14 @@ does_failing t t₁ v j j₁ j' n statement e reply want before fits failing rep
     let failed : IfSome (get db.sessions n) (λ x. v.database ≡ after_failure db n x) =
     subst (λ (p : VersionsState × ℕ). IfSome (get p.0.database.sessions p.1) (λ x. v.database ≡ after_failure p.0.database p.1 x)) (λ i. (before.versions i, want.its i)) failing.failed in
     let now : v.database ≡ after_failure db n o.x = subst (λ (w : Option OpenTransaction). IfSome w (λ x. v.database ≡ after_failure db n x)) o.got failed in
-    let went : effect db e ≡ (v.database, NoMemory) =
-    effect_is db e ∙ ap (λ m. effect_at (get db.sessions m) db e) want.its ∙ ap (λ (w : Option OpenTransaction). effect_at w db e) o.got ∙ want.fails o.x ∙ ap (λ (s : DatabaseState). (s, NoMemory)) (sym now) in
+    let went : effect db e ≡ (v.database, answer) =
+    effect_is db e ∙ ap (λ m. effect_at (get db.sessions m) db e) want.its ∙ ap (λ (w : Option OpenTransaction). effect_at w db e) o.got ∙ want.fails o.x ∙ ap (λ (s : DatabaseState). (s, answer)) (sym now) in
     let had : promised_to (Some statement) (transaction_of t n) ≡ 2 = ap (promised_to (Some statement)) o.got ∙ ap (λ b. if b then 1 else 2) o.unfailed in
     let has : promised_to None (get v.database.sessions n) ≡ 1 = ap (promised_to None) (ap (λ (s : DatabaseState). get s.sessions n) now ∙ get_put_here nat_cmp_total db.sessions n (failed_transaction o.x)) in
-    subst (λ (r : Reply). DoesStatement t j n statement (record t₁ { versions = v }) j' r) (want.refused ∙ sym replied)
-    (spends t (record t₁ { versions = v }) j j' n statement true e NoMemory want.one
+    subst (λ (r : Reply). DoesStatement t j n statement (record t₁ { versions = v }) j' r) (sym replied)
+    (spends t (record t₁ { versions = v }) j j' n statement short e answer refused want.one
     (record { fits = fits; effect = went; entered = failing.entries ∙ ap (λ es. es ++ e ∷ []) before.entries; layout = before.layout; sound = still_tables t₁ v before.sound failing.rows })
-    rows want.none (omega (arith, had, has)) (omega (arith, failing.spent, before.room)) (same_room t.versions.room v.room (begins_in (Some statement)) room))
+    want.refused rows want.none (omega (arith, had, has)) (omega (arith, failing.spent, before.room)) (same_room t.versions.room v.room (begins_in (Some statement)) room))
 
 -- ---- statements that go well
 
@@ -205,22 +224,22 @@ does_from t t' j j₁ j' n statement reply same more does = record {
 }
 
 -- an insert for which there is memory
-pub does_insert : (t t' : Tables) (j j₁ j' : JournalState) (n table : ℕ) (values : List Value) (id : RowId) → t'.layout ≡ t.layout → AreTables t' → length j.entries < MAX_ENTRIES → table < length t.versions.tables
+pub does_insert : (t t' : Tables) (j j₁ j' : JournalState) (n table : ℕ) (values : List Value) (id : RowId) → is_full_with t.layout table (length (rows_at t.versions.tables table)) ≡ false → t'.layout ≡ t.layout → AreTables t' → length j.entries < MAX_ENTRIES → table < length t.versions.tables
     → effect t.versions.database (request_entry n table (requests.Put values)) ≡ (t'.versions.database, Inserted id) → t'.versions.tables ≡ set t.versions.tables table (rows_at t.versions.tables table ++ row_put table id values ∷ [])
     → t'.versions.room ≡ t.versions.room → j₁.entries ≡ j.entries → MAX_PROMISED + 1 ≤ j₁.room → j'.entries ≡ j₁.entries ++ request_entry n table (requests.Put values) ∷ [] → j₁.room ≤ j'.room + 1
     → DoesStatement t j n (statements.Insert table values) t' j' (replies.Inserted id)
-does_insert t t' j j₁ j' n table values id layout sound fits below went rows room entries enough entered spent =
+does_insert t t' j j₁ j' n table values id free layout sound fits below went rows room entries enough entered spent =
     let e = request_entry n table (requests.Put values) in
-    ample t t' j j' n (statements.Insert table values) false e (Inserted id) (record { requests = refl; reply = refl })
-    (record { fits = fits; effect = went; entered = entered ∙ ap (λ es. es ++ e ∷ []) entries; layout = layout; sound = sound })
+    ample t t' j j' n (statements.Insert table values) false e (Inserted id) (replies.Inserted id) (record { requests = ap (λ b. tagged_entry n table (requests.Put values) (put_tag false b) ∷ []) free; reply = refl })
+    (record { fits = fits; effect = went; entered = entered ∙ ap (λ es. es ++ e ∷ []) entries; layout = layout; sound = sound }) refl
     (λ k. ap (λ (l : List (List Row)). rows_at l k) rows ∙ row_gained t.versions.tables table (row_put table id values) below refl k) (omega arith) room
 
 -- a select for which there is memory
 pub does_select : (t : Tables) (j j₁ j' : JournalState) (n : ℕ) (q : Query) (rows : List Row) → IsTaken t j n (statements.Select q) → length j.entries < MAX_ENTRIES → effect t.versions.database (look_entry n q) ≡ (t.versions.database, Found rows)
     → j₁.entries ≡ j.entries → MAX_PROMISED + 1 ≤ j₁.room → j'.entries ≡ j₁.entries ++ look_entry n q ∷ [] → j₁.room ≤ j'.room + 1 → DoesStatement t j n (statements.Select q) t j' (replies.Found rows)
 does_select t j j₁ j' n q rows taken fits went entries enough entered spent =
-    ample t t j j' n (statements.Select q) false (look_entry n q) (Found rows) (record { requests = refl; reply = refl })
-    (record { fits = fits; effect = went; entered = entered ∙ ap (λ es. es ++ look_entry n q ∷ []) entries; layout = refl; sound = taken.sound })
+    ample t t j j' n (statements.Select q) false (look_entry n q) (Found rows) (replies.Found rows) (record { requests = refl; reply = refl })
+    (record { fits = fits; effect = went; entered = entered ∙ ap (λ es. es ++ look_entry n q ∷ []) entries; layout = refl; sound = taken.sound }) refl
     (no_row t.versions.tables t.versions.tables refl) (omega arith) refl
 
 -- an explain
@@ -231,7 +250,7 @@ does_explain t j n q reply short sound is = record {
   fits = λ h. h;
   database = refl;
   rows = λ k. sym (append-nil (rows_at t.versions.tables k));
-  replied = is;
+  replied = ap Some is ∙ explain_reply short;
   layout = refl;
   sound = sound;
   promises = promises_alike _ _ _ _ (alike (transaction_of t n)) (omega arith);
@@ -241,6 +260,10 @@ does_explain t j n q reply short sound is = record {
     alike : (o : Option OpenTransaction) → promised_to None o ≤ promised_to (Some (statements.Explain q)) o
     alike None = omega arith
     alike (Some x) = omega arith
+
+    explain_reply : (short : Bool) → Some (if short then replies.Refused refusals.Memory else replies.Kept (blocks_for t q)) ≡ (if short then want_of_memory else Some (replies.Kept (blocks_for t q)))
+    explain_reply true = refl
+    explain_reply false = refl
 
 -- ---- a delete
 
@@ -271,7 +294,7 @@ module _ (t : Tables) (n : ℕ) (q : Query) (x : OpenTransaction) (got : transac
     delete_is_past j past = record { short = false; past = omega (arith, past, ap length delete_requests, marks_count) }
 
     pub does_delete : (v : VersionsState) (j j₁ j' : JournalState) (conflict : Option RowId) → AreTables t
-        → v.database ≡ serial_run t.versions.database marks_made → marks_reply 0 (replies_to t.versions.database marks_made) ≡ delete_reply (length hits) conflict
+        → v.database ≡ serial_run t.versions.database marks_made → marks_reply 0 (replies_to t.versions.database marks_made) ≡ Some (delete_reply (length hits) conflict)
         → j₁.entries ≡ j.entries ++ look_entry n q ∷ [] → j'.entries ≡ j₁.entries ++ map (mark_of n q.table) (take marks hits) → length j.entries + 1 + marks ≤ MAX_ENTRIES
         → MAX_PROMISED + 1 + marks ≤ j.room → j.room ≤ j₁.room + 1 → j₁.room ≤ j'.room + length (take marks hits)
         → v.tables ≡ t.versions.tables → v.room ≡ t.versions.room → DoesStatement t j n (statements.Delete q) (record t { versions = v }) j' (delete_reply (length hits) conflict)

@@ -1,42 +1,52 @@
 -- what a step shows, from what a statement's requests do
-use Rattle.std.proofs.Common.{◌≡◌, ℕ, ◌+◌, ◌<◌, Bool, if◌then◌else◌, List, ◌++◌, length, get_or, set, sym, ap, ◌∙◌, subst, Option, None, Some}
+use Rattle.std.proofs.Common.{◌≡◌, ℕ, ◌+◌, ◌<◌, Bool, if◌then◌else◌, List, ◌++◌, length, get_or, set, refl, sym, ap, ◌∙◌, subst, Option, None, Some}
 use Rattle.block_model.specs.declared.row.Row.{Row}
 use Rattle.block_model.specs.declared.request.Entry.{Entry}
 use Rattle.block_model.specs.declared.reply.Reply.{Reply}
 use Rattle.block_model.specs.declared.reply.Reply.TheVariants as replies
-use Rattle.block_model.specs.declared.reply.Refusal.{Refusal}
-use Rattle.block_model.specs.declared.reply.Refusal.TheVariants as refusals
-use Rattle.block_model.specs.DatabaseState.{DatabaseState}
 use Rattle.block_model.specs.SerialRun.{replies_to}
 use Rattle.statements.specs.declared.statement.Statement.{Statement}
 use Rattle.statements.specs.declared.statement.Statement.TheVariants as statements
-use Rattle.statements.specs.JournalAnswers.{database_of, reply_behind, requests_behind}
+use Rattle.statements.specs.JournalAnswers.{new_opening, database_of, rows_of, reply_behind, requests_behind}
+use Rattle.statements.specs.HeapRoom.{finds_full, full_table, is_full_with}
+use Rattle.statements.specs.TakenStatements.{taken_requests, taken_reply}
 use Rattle.statements.specs.declared.limits.TheConstants.{MAX_ENTRIES}
-use Rattle.statements.specs.StatementRequests.{refusal_at, requests_of, statement_requests, statement_reply, unless_refused, reply_unless_refused, reply_to_statement}
+use Rattle.statements.specs.StatementRequests.{refusal_at, statement_requests, statement_reply, reply_to_statement, want_of_memory}
 use Rattle.range_summaries.specs.ExplainedBlocks.{explained, blocks_kept}
 use Rattle.session_core.specs.declared.tables.Tables.{Tables}
-use Rattle.session_core.specs.Acts.{requests_in, reply_in, DoesStatement, IsPastJournal}
+use Rattle.session_core.specs.Acts.{finds_full_in, requests_in, reply_in, DoesStatement, IsPastJournal}
 use Rattle.session_core.specs.JournalState.{JournalState}
 use Rattle.session_core.specs.Steps.{Ends, JournalLacksRoom}
 use Rattle.session_core.specs.StoreInvariant.{store_with, IsStoreKept}
 
--- a statement that is taken makes its requests, and is answered their reply
-taken_requests : (s : DatabaseState) (n : ℕ) (short : Bool) (statement : Statement) → refusal_at s n statement ≡ None → statement_requests s n short statement ≡ requests_of s n short statement
-unfolding statement_requests
-taken_requests s n short statement taken = ap (λ (o : Option Refusal). unless_refused o (requests_of s n short statement)) taken
-
-taken_reply : (s : DatabaseState) (n : ℕ) (short : Bool) (statement : Statement) → refusal_at s n statement ≡ None → statement_reply s n short statement ≡ reply_to_statement statement (replies_to s (requests_of s n short statement))
-unfolding statement_reply
-taken_reply s n short statement taken = ap (λ (o : Option Refusal). reply_unless_refused o statement (replies_to s (requests_of s n short statement))) taken
-
 module _ (t : Tables) (j : JournalState) (names : List (List ℕ)) (hands : List (Option Statement)) (n : ℕ) (h : IsStoreKept t j (store_with t j names hands)) where
-  requests_are : (short : Bool) (statement : Statement) → refusal_at t.versions.database n statement ≡ None → requests_in t n short statement ≡ requests_behind j.entries n short statement
-  requests_are short statement taken = sym (taken_requests t.versions.database n short statement taken) ∙ ap (λ (s : DatabaseState). statement_requests s n short statement) h.refines.shown
+  -- the rows that the journal puts into a table are the table's
+  finds_full_is : (statement : Statement) → finds_full_in t statement ≡ finds_full t.layout (rows_of (new_opening t.layout) j.entries) statement
+  finds_full_is statements.Begin = refl
+  finds_full_is statements.Commit = refl
+  finds_full_is statements.Rollback = refl
+  finds_full_is (statements.Insert table values) = ap (λ (rows : List Row). is_full_with t.layout table (length rows)) (h.rows table)
+  finds_full_is (statements.Select q) = refl
+  finds_full_is (statements.Delete q) = refl
+  finds_full_is (statements.Explain q) = refl
+  finds_full_is (statements.Summarize index block) = refl
+  finds_full_is (statements.Desummarize index block) = refl
+  finds_full_is (statements.Vacuum table) = refl
+  finds_full_is statements.Work = refl
 
-  own_reply : (short : Bool) (statement : Statement) → refusal_at t.versions.database n statement ≡ None → reply_to_statement statement (replies_to t.versions.database (requests_in t n short statement)) ≡ statement_reply (database_of j.entries) n short statement
-  own_reply short statement taken = sym (taken_reply t.versions.database n short statement taken) ∙ ap (λ (s : DatabaseState). statement_reply s n short statement) h.refines.shown
+  requests_are : (short : Bool) (statement : Statement) → refusal_at t.versions.database n statement ≡ None → requests_in t n short statement ≡ requests_behind (new_opening t.layout) j.entries n short statement
+  requests_are short statement taken =
+      sym (taken_requests t.versions.database n short (finds_full_in t statement) statement taken)
+      ∙ (λ i. statement_requests (h.refines.shown i) n short (finds_full_is statement i) statement)
 
-  replies_are : (short : Bool) (statement : Statement) → refusal_at t.versions.database n statement ≡ None → reply_in t n short statement ≡ reply_behind (explained t.layout.schema) j.entries n short statement
+  own_reply : (short : Bool) (statement : Statement) → refusal_at t.versions.database n statement ≡ None
+      → reply_to_statement (full_table t.layout) statement (replies_to t.versions.database (requests_in t n short statement))
+      ≡ statement_reply (full_table t.layout) (database_of (new_opening t.layout) j.entries) n short (finds_full t.layout (rows_of (new_opening t.layout) j.entries) statement) statement
+  own_reply short statement taken =
+      sym (taken_reply (full_table t.layout) t.versions.database n short (finds_full_in t statement) statement taken)
+      ∙ (λ i. statement_reply (full_table t.layout) (h.refines.shown i) n short (finds_full_is statement i) statement)
+
+  replies_are : (short : Bool) (statement : Statement) → refusal_at t.versions.database n statement ≡ None → reply_in t n short statement ≡ reply_behind explained (new_opening t.layout) j.entries n short statement
   replies_are short statements.Begin taken = own_reply short statements.Begin taken
   replies_are short statements.Commit taken = own_reply short statements.Commit taken
   replies_are short statements.Rollback taken = own_reply short statements.Rollback taken
@@ -44,7 +54,7 @@ module _ (t : Tables) (j : JournalState) (names : List (List ℕ)) (hands : List
   replies_are short (statements.Select q) taken = own_reply short (statements.Select q) taken
   replies_are short (statements.Delete q) taken = own_reply short (statements.Delete q) taken
   replies_are short (statements.Explain q) taken =
-      ap (λ (rows : List Row). if short then replies.Refused refusals.Memory else replies.Kept (blocks_kept t.layout.schema q.table rows q.conds)) (h.rows q.table)
+      ap (λ (rows : List Row). if short then want_of_memory else Some (replies.Kept (blocks_kept t.layout.schema q.table rows q.conds))) (h.rows q.table)
   replies_are short (statements.Summarize index block) taken = own_reply short (statements.Summarize index block) taken
   replies_are short (statements.Desummarize index block) taken = own_reply short (statements.Desummarize index block) taken
   replies_are short (statements.Vacuum table) taken = own_reply short (statements.Vacuum table) taken
@@ -64,7 +74,7 @@ module _ (t : Tables) (j : JournalState) (names : List (List ℕ)) (hands : List
           fits = acts.fits h.refines.fits;
           hands = changed;
           names = same_names;
-          layout = acts.layout;
+          opening = ap new_opening acts.layout;
         }
 
     pub lacks_room : (entries : ℕ) → IsPastJournal t j n statement → entries ≡ length j.entries → JournalLacksRoom (store_with t j names hands) n entries

@@ -18,13 +18,13 @@ use Rattle.statements.specs.declared.statement.Statement.TheVariants as statemen
 use Rattle.statements.specs.declared.limits.TheConstants.{MAX_SESSIONS}
 use Rattle.statements.specs.StatementFits.{IsStatementFor}
 use Rattle.statements.specs.RowsPut.{rows_put, rows_put-append}
-use Rattle.statements.specs.JournalAnswers.{database_of, rows_of}
+use Rattle.statements.specs.JournalAnswers.{new_opening, database_of, rows_of}
 use Rattle.statements.specs.StatementRequests.{submission_refusal, refusal_at}
 use Rattle.row_versions.specs.VersionsState.{VersionsState, StandAtTheirIds, rows_at}
-use Rattle.range_summaries.specs.ExplainedBlocks.{rows_of_table}
+use Rattle.statements.specs.RowsPut.{rows_of_table}
 use Rattle.session_core.specs.declared.limits.TheConstants.{ENTRIES_A_SESSION, MAX_PROMISED}
 use Rattle.session_core.specs.declared.tables.Tables.{Tables}
-use Rattle.session_core.specs.Acts.{IsTaken, requests_in, DoesStatement}
+use Rattle.session_core.specs.Acts.{IsTaken, finds_full_in, requests_in, DoesStatement}
 use Rattle.session_core.specs.JournalState.{JournalState}
 use Rattle.session_core.specs.Promises.{begins_in, begins, promised_to, promised}
 use Rattle.session_core.specs.StoreInvariant.{store_with, IsStoreKept}
@@ -48,14 +48,14 @@ pub kept_new : (t : Tables) (j : JournalState) (n : ℕ) → AreTables t → t.v
 kept_new t j n sound database rows entries = record {
   refines = record {
     legal = ap (is_legal initial_state) entries;
-    shown = database ∙ sym (ap database_of entries);
+    shown = database ∙ sym (ap (serial_run initial_state) entries);
     fits = omega (arith, ap length entries);
     few_sessions = omega arith;
     a_hand_each = refl;
     taken = λ m statement e. absurd (none_Some statement e);
     fitting = λ m statement e. absurd (none_Some statement e);
   };
-  rows = λ k. ap (λ (l : List (List Row)). rows_at l k) rows ∙ no_rows n k ∙ sym (ap (λ es. rows_of_table k (rows_of es)) entries);
+  rows = λ k. ap (λ (l : List (List Row)). rows_at l k) rows ∙ no_rows n k ∙ sym (ap (λ es. rows_of_table k (rows_put initial_state es)) entries);
   sound = sound;
   none_further = λ m past. ap (λ (s : DatabaseState). get s.sessions m) database ∙ get-empty nat_cmp m;
   promises = omega arith;
@@ -182,7 +182,7 @@ module _ (t : Tables) (v : VersionsState) (j j' : JournalState) (names : List (L
 
   pub kept_in_hand : (names' : List (List ℕ)) (hands' : List (Option Statement)) → names' ≡ names → hands' ≡ with_it → IsStoreKept roomy j' (store_with roomy j' names' hands')
   kept_in_hand names' hands' same_names changed =
-      let store : store_with t j names with_it ≡ store_with roomy j' names' hands' = λ i. record { layout = t.layout; names = sym same_names i; hands = sym changed i; journal = sym made.entries i; database = sym made.database i } in
+      let store : store_with t j names with_it ≡ store_with roomy j' names' hands' = λ i. record { opening = new_opening t.layout; names = sym same_names i; hands = sym changed i; journal = sym made.entries i; database = sym made.database i } in
       subst (λ (s : StoreState). IsStoreKept roomy j' s) store in_hand
 
 -- ---- a statement that is done
@@ -215,23 +215,23 @@ module _ (t : Tables) (j : JournalState) (names : List (List ℕ)) (hands : List
     made = requests_in t n acts.short statement
 
     elsewhere : (m : ℕ) → (m ≡ n → ⊥) → get t'.versions.database.sessions m ≡ get t.versions.database.sessions m
-    elsewhere m apart = ap (λ (s : DatabaseState). get s.sessions m) acts.database ∙ statement_elsewhere t.versions.database n m acts.short statement apart
+    elsewhere m apart = ap (λ (s : DatabaseState). get s.sessions m) acts.database ∙ statement_elsewhere t.versions.database n m acts.short (finds_full_in t statement) statement apart
 
     legal_after : is_legal initial_state j'.entries ≡ true
     legal_after =
         ap (is_legal initial_state) acts.entries ∙ is_legal-append initial_state j.entries (requests_in t n acts.short statement)
-        ∙ (λ i. h.refines.legal i && (ap (λ (s : DatabaseState). is_legal s (requests_in t n acts.short statement)) (sym h.refines.shown) ∙ requests_are_legal t.versions.database n own acts.short statement (h.refines.taken n statement held)) i)
+        ∙ (λ i. h.refines.legal i && (ap (λ (s : DatabaseState). is_legal s (requests_in t n acts.short statement)) (sym h.refines.shown) ∙ requests_are_legal t.versions.database n own acts.short (finds_full_in t statement) statement (h.refines.taken n statement held)) i)
 
-    shown_after : t'.versions.database ≡ database_of j'.entries
+    shown_after : t'.versions.database ≡ database_of (new_opening t.layout) j'.entries
     shown_after =
         acts.database ∙ ap (λ (s : DatabaseState). serial_run s (requests_in t n acts.short statement)) h.refines.shown
         ∙ sym (ap (serial_run initial_state) acts.entries ∙ serial_run-append initial_state j.entries (requests_in t n acts.short statement))
 
-    rows_after : (k : ℕ) → rows_at t'.versions.tables k ≡ rows_of_table k (rows_of j'.entries)
+    rows_after : (k : ℕ) → rows_at t'.versions.tables k ≡ rows_of_table k (rows_put initial_state j'.entries)
     rows_after k =
         acts.rows k ∙ (λ i. h.rows k i ++ rows_of_table k (rows_put (h.refines.shown i) (requests_in t n acts.short statement)))
-        ∙ sym (rows_of_table-append k (rows_of j.entries) (rows_put (database_of j.entries) (requests_in t n acts.short statement)))
-        ∙ ap (rows_of_table k) (sym (ap rows_of acts.entries ∙ rows_put-append initial_state j.entries (requests_in t n acts.short statement)))
+        ∙ sym (rows_of_table-append k (rows_put initial_state j.entries) (rows_put (serial_run initial_state j.entries) (requests_in t n acts.short statement)))
+        ∙ ap (rows_of_table k) (sym (ap (rows_put initial_state) acts.entries ∙ rows_put-append initial_state j.entries (requests_in t n acts.short statement)))
 
     of_others : (P : ℕ → Statement → Type 0) → ((m : ℕ) (s : Statement) → (m ≡ n → ⊥) → get_or hands m None ≡ Some s → P m s) → (m : ℕ) (s : Statement) → get_or (set hands n None) m None ≡ Some s → P m s
     of_others P others m s e = elim (cases_eq m n) [

@@ -23,7 +23,7 @@ use Rattle.block_model.specs.RequestLaws.{mark_effect}
 use Rattle.block_model.specs.SerialRun.{is_legal}
 use Rattle.statements.specs.declared.statement.Statement.{Statement}
 use Rattle.statements.specs.declared.statement.Statement.TheVariants as statements
-use Rattle.statements.specs.StatementRequests.{submission_refusal, refusal_at, requests_of, begin_entries, tagged_entry, tag_where, look_entry, mark_entry, mark_entries, unless_conflict, found_in}
+use Rattle.statements.specs.StatementRequests.{submission_refusal, refusal_at, requests_of, begin_entries, tagged_entry, look_tag, put_tag, look_entry, mark_entry, mark_entries, unless_conflict, found_in}
 use Rattle.row_versions.specs.VersionsState.{StandAtTheirIds}
 use Rattle.session_core.proofs.Transactions.{idle, under_way, whole}
 
@@ -159,9 +159,9 @@ marks_are_legal n table (r ∷ rows) s x got whole h =
 
 -- ---- the requests of a statement
 
-look_tag : (short : Bool) → is_look_tag (tag_where short) ≡ true
-look_tag true = refl
-look_tag false = refl
+look_tagged : (short : Bool) → is_look_tag (look_tag short) ≡ true
+look_tagged true = refl
+look_tagged false = refl
 
 module _ (s : DatabaseState) (n : ℕ) (own : StandAtTheirIds s) where
   begin_is_legal : (short : Bool) → get s.sessions n ≡ None → is_legal s (begin_entries n short) ≡ true
@@ -174,31 +174,31 @@ module _ (s : DatabaseState) (n : ℕ) (own : StandAtTheirIds s) where
   looked : (x : OpenTransaction) (q : Query) → get s.sessions n ≡ Some x → effect s (look_entry n q) ≡ (s, Found (rows_found x q))
   looked x q got = effect_is s (look_entry n q) ∙ ap (λ (o : Option OpenTransaction). effect_at o s (look_entry n q)) got
 
-  delete_is_legal : (short : Bool) (q : Query) (x : OpenTransaction) → get s.sessions n ≡ Some x → x.failed ≡ false → is_legal s (requests_of s n short (statements.Delete q)) ≡ true
-  delete_is_legal true q x got unfailed = and_true _ true (look_is_legal x q tags.NoMemory got unfailed refl) refl
-  delete_is_legal false q x got unfailed = and_true _ _ (look_is_legal x q tags.Ok got unfailed refl)
+  delete_is_legal : (short full : Bool) (q : Query) (x : OpenTransaction) → get s.sessions n ≡ Some x → x.failed ≡ false → is_legal s (requests_of s n short full (statements.Delete q)) ≡ true
+  delete_is_legal true full q x got unfailed = and_true _ true (look_is_legal x q tags.NoMemory got unfailed refl) refl
+  delete_is_legal false full q x got unfailed = and_true _ _ (look_is_legal x q tags.Ok got unfailed refl)
       (subst (λ (p : DatabaseState × Answer). is_legal p.0 (mark_entries s n q.table (found_in p.1)) ≡ true) (sym (looked x q got))
       (marks_are_legal n q.table (rows_found x q) s x got unfailed (found_markable x q (λ id r found. own n x id r got found))))
 
-  pub requests_are_legal : (short : Bool) (statement : Statement) → refusal_at s n statement ≡ None → is_legal s (requests_of s n short statement) ≡ true
-  requests_are_legal short statements.Begin taken = begin_is_legal short (idle (get s.sessions n) taken)
-  requests_are_legal short statements.Commit taken =
+  pub requests_are_legal : (short full : Bool) (statement : Statement) → refusal_at s n statement ≡ None → is_legal s (requests_of s n short full statement) ≡ true
+  requests_are_legal short full statements.Begin taken = begin_is_legal short (idle (get s.sessions n) taken)
+  requests_are_legal short full statements.Commit taken =
       let own = under_way (λ (o : Option OpenTransaction). submission_refusal o statements.Commit) refl (get s.sessions n) taken in
       ap (λ (o : Option OpenTransaction). is_legal_at o requests.Commit tags.Ok && true) own.got
-  requests_are_legal short statements.Rollback taken =
+  requests_are_legal short full statements.Rollback taken =
       let own = under_way (λ (o : Option OpenTransaction). submission_refusal o statements.Rollback) refl (get s.sessions n) taken in
       ap (λ (o : Option OpenTransaction). is_legal_at o requests.Rollback tags.Ok && true) own.got
-  requests_are_legal short (statements.Insert table values) taken =
+  requests_are_legal short full (statements.Insert table values) taken =
       let own = whole (λ (o : Option OpenTransaction). submission_refusal o (statements.Insert table values)) refl (λ x. refl) (get s.sessions n) taken in
-      ap (λ (o : Option OpenTransaction). is_legal_at o (requests.Put values) (tag_where short) && true) own.got ∙ (λ i. not (own.unfailed i) && true)
-  requests_are_legal short (statements.Select q) taken =
+      ap (λ (o : Option OpenTransaction). is_legal_at o (requests.Put values) (put_tag short full) && true) own.got ∙ (λ i. not (own.unfailed i) && true)
+  requests_are_legal short full (statements.Select q) taken =
       let own = whole (λ (o : Option OpenTransaction). submission_refusal o (statements.Select q)) refl (λ x. refl) (get s.sessions n) taken in
-      and_true _ true (look_is_legal own.x q (tag_where short) own.got own.unfailed (look_tag short)) refl
-  requests_are_legal short (statements.Delete q) taken =
+      and_true _ true (look_is_legal own.x q (look_tag short) own.got own.unfailed (look_tagged short)) refl
+  requests_are_legal short full (statements.Delete q) taken =
       let own = whole (λ (o : Option OpenTransaction). submission_refusal o (statements.Delete q)) refl (λ x. refl) (get s.sessions n) taken in
-      delete_is_legal short q own.x own.got own.unfailed
-  requests_are_legal short (statements.Explain q) taken = refl
-  requests_are_legal short (statements.Summarize index block) taken = refl
-  requests_are_legal short (statements.Desummarize index block) taken = refl
-  requests_are_legal short (statements.Vacuum table) taken = refl
-  requests_are_legal short statements.Work taken = refl
+      delete_is_legal short full q own.x own.got own.unfailed
+  requests_are_legal short full (statements.Explain q) taken = refl
+  requests_are_legal short full (statements.Summarize index block) taken = refl
+  requests_are_legal short full (statements.Desummarize index block) taken = refl
+  requests_are_legal short full (statements.Vacuum table) taken = refl
+  requests_are_legal short full statements.Work taken = refl

@@ -42,26 +42,26 @@ begins_are_of : (n : ℕ) (short : Bool) → AreOf n (begin_entries n short)
 begins_are_of n true = tt
 begins_are_of n false = (refl, tt)
 
-deletes_are_of : (s : DatabaseState) (n : ℕ) (short : Bool) (q : Query) → AreOf n (requests_of s n short (statements.Delete q))
-deletes_are_of s n true q = (refl, tt)
-deletes_are_of s n false q = (refl, marks_are_of s n q.table (found_in (reply_to s (look_entry n q))))
+deletes_are_of : (s : DatabaseState) (n : ℕ) (short full : Bool) (q : Query) → AreOf n (requests_of s n short full (statements.Delete q))
+deletes_are_of s n true full q = (refl, tt)
+deletes_are_of s n false full q = (refl, marks_are_of s n q.table (found_in (reply_to s (look_entry n q))))
 
-requests_are_of : (s : DatabaseState) (n : ℕ) (short : Bool) (statement : Statement) → AreOf n (requests_of s n short statement)
-requests_are_of s n short statements.Begin = begins_are_of n short
-requests_are_of s n short statements.Commit = (refl, tt)
-requests_are_of s n short statements.Rollback = (refl, tt)
-requests_are_of s n short (statements.Insert table values) = (refl, tt)
-requests_are_of s n short (statements.Select q) = (refl, tt)
-requests_are_of s n short (statements.Delete q) = deletes_are_of s n short q
-requests_are_of s n short (statements.Explain q) = tt
-requests_are_of s n short (statements.Summarize index block) = tt
-requests_are_of s n short (statements.Desummarize index block) = tt
-requests_are_of s n short (statements.Vacuum table) = tt
-requests_are_of s n short statements.Work = tt
+requests_are_of : (s : DatabaseState) (n : ℕ) (short full : Bool) (statement : Statement) → AreOf n (requests_of s n short full statement)
+requests_are_of s n short full statements.Begin = begins_are_of n short
+requests_are_of s n short full statements.Commit = (refl, tt)
+requests_are_of s n short full statements.Rollback = (refl, tt)
+requests_are_of s n short full (statements.Insert table values) = (refl, tt)
+requests_are_of s n short full (statements.Select q) = (refl, tt)
+requests_are_of s n short full (statements.Delete q) = deletes_are_of s n short full q
+requests_are_of s n short full (statements.Explain q) = tt
+requests_are_of s n short full (statements.Summarize index block) = tt
+requests_are_of s n short full (statements.Desummarize index block) = tt
+requests_are_of s n short full (statements.Vacuum table) = tt
+requests_are_of s n short full statements.Work = tt
 
 -- a statement of session n changes no other session's transaction
-pub statement_elsewhere : (s : DatabaseState) (n m : ℕ) (short : Bool) (statement : Statement) → (m ≡ n → ⊥) → get (serial_run s (requests_of s n short statement)).sessions m ≡ get s.sessions m
-statement_elsewhere s n m short statement apart = run_elsewhere s (requests_of s n short statement) n m apart (requests_are_of s n short statement)
+pub statement_elsewhere : (s : DatabaseState) (n m : ℕ) (short full : Bool) (statement : Statement) → (m ≡ n → ⊥) → get (serial_run s (requests_of s n short full statement)).sessions m ≡ get s.sessions m
+statement_elsewhere s n m short full statement apart = run_elsewhere s (requests_of s n short full statement) n m apart (requests_are_of s n short full statement)
 
 -- the session's own transaction after a request of it, by what it had
 pub own_after : (s s' : DatabaseState) (e : Entry) (answer : Answer) (o : Option OpenTransaction) → get s.sessions e.session ≡ o → effect s e ≡ (s', answer)

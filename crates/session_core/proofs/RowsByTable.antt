@@ -10,7 +10,7 @@ use Rattle.block_model.specs.RequestEffect.{Answer, Begun, Inserted, Found, Mark
 use Rattle.statements.specs.RowsPut.{row_of_entry, rows_put}
 use Rattle.statements.specs.StatementRequests.{mark_entry, mark_entries, unless_conflict}
 use Rattle.row_versions.specs.VersionsState.{rows_at}
-use Rattle.range_summaries.specs.ExplainedBlocks.{rows_of_table}
+use Rattle.statements.specs.RowsPut.{rows_of_table}
 
 pub rows_of_table-append : (table : ℕ) (xs ys : List Row) → rows_of_table table (xs ++ ys) ≡ rows_of_table table xs ++ rows_of_table table ys
 rows_of_table-append table xs ys = filter-append (λ (r : Row). r.table == table) xs ys

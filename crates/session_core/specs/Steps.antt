@@ -17,19 +17,19 @@ pub record Ends (s : StoreState) (n : ℕ) (s' : StoreState) (reply : Reply) : T
   pub statement : Statement
   pub short : Bool
   pub in_hand : hand_of s n ≡ Some statement
-  pub replied : reply ≡ reply_behind (explained s.layout.schema) s.journal n short statement
-  pub journal : s'.journal ≡ s.journal ++ requests_behind s.journal n short statement
+  pub replied : Some reply ≡ reply_behind explained s.opening s.journal n short statement
+  pub journal : s'.journal ≡ s.journal ++ requests_behind s.opening s.journal n short statement
   pub fits : length s'.journal ≤ MAX_ENTRIES
   pub hands : s'.hands ≡ slice_set s.hands n None
   pub names : s'.names ≡ s.names
-  pub layout : s'.layout ≡ s.layout
+  pub opening : s'.opening ≡ s.opening
 
 -- the requests of the statement in hand don't all fit into the journal, which has that many entries
 pub record JournalLacksRoom (s : StoreState) (n : ℕ) (entries : ℕ) : Type 0 where
   pub statement : Statement
   pub short : Bool
   pub in_hand : hand_of s n ≡ Some statement
-  pub past : MAX_ENTRIES < length s.journal + length (requests_behind s.journal n short statement)
+  pub past : MAX_ENTRIES < length s.journal + length (requests_behind s.opening s.journal n short statement)
   pub so_many : entries ≡ length s.journal
 
 -- each statement takes one step; where its requests don't fit nothing is changed

@@ -4,30 +4,31 @@ use Rattle.std.specs.Coded.{Coded, code_by, coded×, coded_list, coded_option, c
 use Rattle.store_layout.specs.DiskLayout.{DiskLayout}
 use Rattle.block_model.specs.contracts.schema.Schema as schema_contract
 use Rattle.block_model.specs.contracts.schema.Sizes as sizes_contract
+use Rattle.block_model.specs.contracts.row.Row as row_contract
 use Rattle.block_model.specs.declared.request.Entry.{Entry}
 use Rattle.block_model.specs.contracts.request.Entry as entry_contract
-use Rattle.block_model.specs.DatabaseState.{DatabaseState, initial_state, coded_database}
+use Rattle.block_model.specs.DatabaseState.{DatabaseState, coded_database}
 use Rattle.block_model.specs.SerialRun.{IsLegal}
 use Rattle.statements.specs.declared.statement.Statement.{Statement}
 use Rattle.statements.specs.contracts.statement.Statement as statement_contract
 use Rattle.statements.specs.StatementFits.{IsStatementFor}
 use Rattle.statements.specs.StatementRequests.{refusal_at}
 use Rattle.statements.specs.SessionNumbers.{session_number, with_session}
-use Rattle.statements.specs.JournalAnswers.{database_of}
+use Rattle.statements.specs.JournalAnswers.{Opening, new_opening, database_of}
 use Rattle.statements.specs.declared.limits.TheConstants.{MAX_ENTRIES, MAX_SESSIONS}
 
--- the tables, indexes and sizes; the sessions' names by their numbers, and the statement that each has in hand; the journal of all
--- requests since the store was made; and the database that the stored row versions show
+-- what the store was opened with; the sessions' names by their numbers, and the statement that each has in hand; the journal of all
+-- requests since then; and the database that the stored row versions show
 pub record StoreState : Type 0 where
-  pub layout : DiskLayout
+  pub opening : Opening
   pub names : List (List ℕ)
   pub hands : List (Option Statement)
   pub journal : List Entry
   pub database : DatabaseState
 
--- a store of this layout without sessions and rows
-abbrev pub empty_store : DiskLayout → StoreState
-empty_store layout = record { layout = layout; names = []; hands = []; journal = []; database = initial_state }
+-- a store as it was opened
+abbrev pub opened_store : Opening → StoreState
+opened_store opening = record { opening = opening; names = []; hands = []; journal = []; database = opening.database }
 
 -- the statement that session n has in hand
 abbrev pub hand_of : StoreState → ℕ → Option Statement
@@ -44,22 +45,27 @@ with_name s name = record s {
   hands = if nat_lt (session_number s.names name) (length s.names) then s.hands else s.hands ++ None ∷ [];
 }
 
--- What holds of every store: its journal is legal from a new database on, and makes the database that the versions show; each
+-- What holds of every store: its journal is legal from the opening on, and makes the database that the versions show; each
 -- session has a place for a statement; and a statement in hand is one that was taken.
 pub record IsRefinement (s : StoreState) : Type 0 where
-  pub legal : IsLegal initial_state s.journal
-  pub shown : s.database ≡ database_of s.journal
+  pub legal : IsLegal s.opening.database s.journal
+  pub shown : s.database ≡ database_of s.opening s.journal
   pub fits : length s.journal ≤ MAX_ENTRIES
   pub few_sessions : length s.names ≤ MAX_SESSIONS
   pub a_hand_each : length s.hands ≡ length s.names
   pub taken : (n : ℕ) (statement : Statement) → hand_of s n ≡ Some statement → refusal_at s.database n statement ≡ None
-  pub fitting : (n : ℕ) (statement : Statement) → hand_of s n ≡ Some statement → IsStatementFor s.layout.schema statement
+  pub fitting : (n : ℕ) (statement : Statement) → hand_of s n ≡ Some statement → IsStatementFor s.opening.layout.schema statement
 
 abbrev pub coded_layout : Coded DiskLayout
 coded_layout = code_by _ (coded× schema_contract.the_row.coded sizes_contract.the_row.coded) (λ (d : DiskLayout). (d.schema, d.sizes)) (λ p. record { schema = p.0; sizes = p.1 }) (λ _. refl)
 
+abbrev pub coded_opening : Coded Opening
+coded_opening =
+    code_by _ (coded× coded_layout (coded× coded_database (coded_list row_contract.the_row.coded))) (λ (o : Opening). (o.layout, (o.database, o.rows)))
+    (λ p. record { layout = p.0; database = p.1.0; rows = p.1.1 }) (λ _. refl)
+
 abbrev pub coded_store : Coded StoreState
 coded_store =
-    code_by _ (coded× coded_layout (coded× (coded_list (coded_list coded_ℕ)) (coded× (coded_list (coded_option statement_contract.the_row.coded)) (coded× (coded_list entry_contract.the_row.coded) coded_database))))
-    (λ (s : StoreState). (s.layout, (s.names, (s.hands, (s.journal, s.database)))))
-    (λ p. record { layout = p.0; names = p.1.0; hands = p.1.1.0; journal = p.1.1.1.0; database = p.1.1.1.1 }) (λ _. refl)
+    code_by _ (coded× coded_opening (coded× (coded_list (coded_list coded_ℕ)) (coded× (coded_list (coded_option statement_contract.the_row.coded)) (coded× (coded_list entry_contract.the_row.coded) coded_database))))
+    (λ (s : StoreState). (s.opening, (s.names, (s.hands, (s.journal, s.database)))))
+    (λ p. record { opening = p.0; names = p.1.0; hands = p.1.1.0; journal = p.1.1.1.0; database = p.1.1.1.1 }) (λ _. refl)

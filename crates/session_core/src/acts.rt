@@ -1,20 +1,21 @@
 //! What each statement does, in one step: its memory is taken first, and then its requests are entered and done.
 
-ghost use Rattle.std.specs.Prelude.{◌≡◌, ◌+◌, ◌<◌, ◌≤◌, Bool, [], length, map, take, vec_capacity, IfOk, OnOk, IfErr, OnErr, IfSome, if◌then◌else◌};
+ghost use Rattle.std.specs.Prelude.{◌≡◌, ◌+◌, ◌<◌, ◌≤◌, Bool, [], length, map, take, slice_get, vec_capacity, IfOk, OnOk, IfErr, OnErr, IfSome, IsSome, if◌then◌else◌};
 ghost use Rattle.block_model.specs.RequestEffect.{rows_found};
 ghost use Rattle.statements.specs.StatementFits.{IsQueryFor};
 ghost use Rattle.statements.specs.declared.limits.TheConstants.{MAX_ENTRIES, MAX_SESSIONS};
 ghost use Rattle.statements.specs.StatementRequests.{tagged_entry, mark_entries};
+ghost use Rattle.statements.specs.HeapRoom.{full_table};
 ghost use Rattle.row_versions.specs.VersionsState.{HasTransaction};
 ghost use Rattle.row_versions.specs.Hits.{AreHits, mark_of};
 ghost use Rattle.session_core.specs.declared.limits.TheConstants.{MAX_PROMISED};
-ghost use Rattle.session_core.specs.Acts.{transaction_of, blocks_for, IsTaken, DoesStatement, IsPastJournal, FailsForMemory};
+ghost use Rattle.session_core.specs.Acts.{transaction_of, blocks_for, IsTaken, DoesStatement, IsPastJournal, FailsAt};
 ghost use Rattle.session_core.specs.TablesKept.{AreTables};
 
 use crate::hand::Hand;
 use crate::journal::Journal;
 use crate::limits::MAX_PROMISED;
-use crate::tables::Tables;
+use crate::tables::{PutFault, Tables};
 use block_model::{Query, Refusal, Reply, Request, Tag, Values};
 use row_versions::{Hit, Versions};
 use statements::Statement;
@@ -136,17 +137,20 @@ fn insert(
             Request::Put(values),
         );
     };
-    let Ok(id) = tables.put(session, table, values) else {
-        return want_of_memory(
+    match tables.put(session, table, values) {
+        Ok(id) => {
+            journal.enter(session, table, Request::Put(values), Tag::Ok);
+            Reply::Inserted { id }
+        }
+        Err(PutFault::Memory) => want_of_memory(
             &mut tables.versions,
             journal,
             session,
             table,
             Request::Put(values),
-        );
-    };
-    journal.enter(session, table, Request::Put(values), Tag::Ok);
-    Reply::Inserted { id }
+        ),
+        Err(PutFault::Full) => full(tables, journal, session, table, values),
+    }
 }
 
 fn select(tables: &mut Tables, journal: &mut Journal, session: u32, query: Query) -> Reply
@@ -270,10 +274,30 @@ fn want_of_memory(
 ) -> Reply
     requires under_way { HasTransaction versions.old.database session }
     requires room { 0 < journal.old.room }
-    ensures fails { FailsForMemory versions.old journal.old (tagged_entry session table request Tag.NoMemory) versions.new journal.new }
+    ensures fails { FailsAt versions.old journal.old (tagged_entry session table request Tag.NoMemory) versions.new journal.new }
     ensures reply { result ≡ Reply.Refused Refusal.Memory }
 {
     journal.enter(session, table, request, Tag::NoMemory);
     versions.fail(session);
     Reply::Refused(Refusal::Memory)
+}
+
+/// The table is full: the put is entered so, and the session's transaction fails. Takes no memory.
+fn full(
+    tables: &mut Tables,
+    journal: &mut Journal,
+    session: u32,
+    table: u8,
+    values: Values,
+) -> Reply
+    requires under_way { HasTransaction tables.old.versions.database session }
+    requires table { IsSome (slice_get tables.old.layout.schema.tables table) }
+    requires room { 0 < journal.old.room }
+    ensures fails { FailsAt tables.old.versions journal.old (tagged_entry session table (Request.Put values) Tag.Full) tables.new.versions journal.new }
+    ensures rest { tables.new ≡ record tables.old { versions = tables.new.versions } }
+    ensures reply { result ≡ Reply.Refused (full_table tables.old.layout table) }
+{
+    journal.enter(session, table, Request::Put(values), Tag::Full);
+    tables.versions.fail(session);
+    Reply::Refused(tables.full_table(table))
 }

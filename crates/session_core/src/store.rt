@@ -4,12 +4,13 @@ ghost use Rattle.std.specs.Prelude.{◌≡◌, ◌+◌, ◌<◌, ◌≤◌, leng
 ghost use Rattle.std.specs.Option.{is_some};
 ghost use Rattle.block_model.specs.DatabaseState.{OpenTransaction};
 ghost use Rattle.statements.specs.declared.limits.TheConstants.{MAX_SESSIONS};
+ghost use Rattle.statements.specs.JournalAnswers.{new_opening};
 ghost use Rattle.statements.specs.StatementFits.{IsStatementFor};
 ghost use Rattle.statements.specs.StatementRequests.{submission_refusal};
 ghost use Rattle.row_versions.specs.VersionsState.{standing_of};
 ghost use Rattle.session_core.specs.declared.limits.TheConstants.{MAX_PROMISED};
 ghost use Rattle.session_core.specs.TablesKept.{MakesRoom};
-ghost use Rattle.session_core.specs.StoreState.{empty_store, hand_of, IsRefinement};
+ghost use Rattle.session_core.specs.StoreState.{opened_store, hand_of, IsRefinement};
 ghost use Rattle.session_core.specs.Submits.{HasSession, Submits, submit_refusal, may_want_memory};
 ghost use Rattle.session_core.specs.Steps.{Steps};
 
@@ -53,7 +54,7 @@ impl Model for Store {
 impl Store {
     /// A store of this layout, without sessions and rows.
     pub fn new(alloc: Global, layout: Layout) -> Result<Store, NoMemory>
-        ensures { IfOk result (λ store. store ≡ empty_store layout) }
+        ensures { IfOk result (λ store. store ≡ opened_store (new_opening layout)) }
     {
         let tables = Tables::new(alloc, layout)?;
         let sessions = Vec::new(alloc);
@@ -76,7 +77,7 @@ impl Store {
 
     /// The tables, indexes and sizes.
     pub fn layout(&self) -> &Layout
-        ensures { result.now ≡ self.now.layout }
+        ensures { result.now ≡ self.now.opening.layout }
     {
         &self.tables.layout
     }
@@ -104,7 +105,7 @@ impl Store {
     /// doesn't allow it; a begin and an explain also for want of memory. Nothing is changed then.
     pub fn submit(&mut self, session: u32, statement: Statement) -> Result<(), Refusal>
         requires session { session < length self.old.names }
-        requires statement { IsStatementFor self.old.layout.schema statement }
+        requires statement { IsStatementFor self.old.opening.layout.schema statement }
         ensures { Submits self.old session statement self.new result }
     {
         if let Some(refusal) = self.refusal(session, &statement) {

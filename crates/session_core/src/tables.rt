@@ -1,25 +1,48 @@
 //! The tables: their row versions, and the summaries of their ranges, by which a look reads only the blocks that it must.
 
-ghost use Rattle.std.specs.Prelude.{◌≡◌, ◌<◌, [], ◌∷◌, ◌++◌, length, OnOk, OnErr, IfOk, slice_set, replicate};
+ghost use Rattle.std.specs.Prelude.{◌≡◌, ◌<◌, [], ◌∷◌, ◌++◌, length, true, false, OnOk, OnErr, IfOk, IsSome, Err, slice_get, slice_set, replicate};
 ghost use Rattle.block_model.specs.declared.request.Request.TheVariants as requests;
 ghost use Rattle.block_model.specs.DatabaseState.{initial_state};
 ghost use Rattle.block_model.specs.RequestEffect.{effect, Inserted, Found};
 ghost use Rattle.statements.specs.StatementFits.{IsQueryFor, IsInsertFor};
 ghost use Rattle.statements.specs.RowsPut.{row_put};
+ghost use Rattle.statements.specs.HeapRoom.{full_table, is_full_with, table_slots};
 ghost use Rattle.statements.specs.StatementRequests.{request_entry};
 ghost use Rattle.row_versions.specs.VersionsState.{HasTransaction, rows_at};
 ghost use Rattle.row_versions.specs.Hits.{AreHits};
 ghost use Rattle.row_versions.specs.CoversMatches.{CoversMatches};
 ghost use Rattle.range_summaries.specs.ExplainedBlocks.{rows_per_page_at};
 
-use block_model::{Blocks, NoMemory, Query, RowId, Rows, Schema, Values};
+use block_model::{Blocks, NoMemory, Query, Refusal, RowId, Rows, Schema, Values};
 use range_summaries::Summaries;
 use row_versions::{Hit, Versions};
 use std::alloc::Global;
 use store_layout::Layout;
+use thiserror::Error;
 
 /// How many rows a table takes, since its blocks are numbered by a `u32`. Want of memory is answered there.
 const MAX_ROWS: usize = u32::MAX as usize;
+
+/// Why a row isn't put into a table.
+#[derive(Clone, Copy, Debug, Error, PartialEq, Eq)]
+pub enum PutFault {
+    /// Each slot of each block that the table may have is in use.
+    #[error("the table is full")]
+    Full,
+    /// Memory ran out.
+    #[error("out of memory")]
+    Memory,
+}
+
+impl From<NoMemory> for PutFault {
+    ghost use Rattle.session_core.specs.declared.tables.PutFault.TheVariants.{Memory};
+
+    ghost from_gives = { λ _ fault. fault ≡ Memory };
+
+    fn from(_error: NoMemory) -> PutFault {
+        PutFault::Memory
+    }
+}
 
 /// Row versions with the summaries of their ranges.
 #[derive(Drop)]
@@ -51,9 +74,9 @@ impl Tables {
         })
     }
 
-    /// Puts a row of the session's transaction into the table, widens the summaries of its range, and answers its id. After
-    /// a refusal no row is put.
-    pub(crate) fn put(&mut self, session: u32, table: u8, values: Values) -> Result<RowId, NoMemory>
+    /// Puts a row of the session's transaction into the table, widens the summaries of its range, and answers its id. `Full`
+    /// comes exactly where the table has a row in each of its slots. After a refusal no row is put.
+    pub(crate) fn put(&mut self, session: u32, table: u8, values: Values) -> Result<RowId, PutFault>
         requires sound { AreTables self.old }
         requires under_way { HasTransaction self.old.versions.database session }
         requires row { IsInsertFor self.old.layout.schema table values }
@@ -64,16 +87,43 @@ impl Tables {
         ensures layout { self.new.layout ≡ self.old.layout }
         ensures room { self.new.versions.room ≡ self.old.versions.room }
         ensures err { OnErr result (self.new.versions ≡ self.old.versions) }
+        ensures room_left { OnOk result (is_full_with self.old.layout table (length (rows_at self.old.versions.tables table)) ≡ false) }
+        ensures full { result ≡ Err PutFault.Full → is_full_with self.old.layout table (length (rows_at self.old.versions.tables table)) ≡ true }
     {
         let place = self.versions.rows_in(table);
+        if self.slots(table) <= place as u64 {
+            return Err(PutFault::Full);
+        }
         if place == MAX_ROWS {
-            return Err(NoMemory);
+            return Err(PutFault::Memory);
         }
         self.summaries
             .make_room(self.layout.schema(), table, place)?;
         let id = self.versions.put(session, table, values)?;
         self.summaries.widen(table, place, values.as_slice());
         Ok(id)
+    }
+
+    /// How many rows the table may have.
+    fn slots(&self, table: u8) -> u64
+        ensures { result ≡ table_slots self.now.layout table }
+    {
+        let schema = self.layout.schema();
+        match schema.tables.as_slice().get(usize::from(table)) {
+            None => 0,
+            Some(of) => u64::from(self.layout.sizes().heap_blocks) * u64::from(of.rows_per_page),
+        }
+    }
+
+    /// What a session is answered whose row finds the table full.
+    pub(crate) fn full_table(&self, table: u8) -> Refusal
+        requires { IsSome (slice_get self.now.layout.schema.tables table) }
+        ensures { result ≡ full_table self.now.layout table }
+    {
+        Refusal::Full {
+            relation: self.layout.schema().tables.as_slice()[usize::from(table)].name,
+            number: self.slots(table),
+        }
     }
 
     /// The blocks that a scan for the query must read, in ascending order. No row of another block matches it.

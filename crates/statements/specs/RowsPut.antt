@@ -1,5 +1,6 @@
 -- the rows that a journal puts, in their order, whatever becomes of their transactions
-use Rattle.std.specs.Prelude.{◌≡◌, ℕ, List, [], ◌∷◌, ◌++◌, refl}
+use Rattle.std.specs.Prelude.{◌≡◌, ℕ, ◌==◌, List, [], ◌∷◌, ◌++◌, refl}
+use Rattle.std.specs.List.{filter}
 use Rattle.std.proofs.Common.{ap, sym, ◌∙◌}
 use Rattle.std.proofs.lemmas.List.{append_assoc}
 use Rattle.block_model.specs.declared.value.Value.{Value}
@@ -30,6 +31,10 @@ row_of_entry e answer = []
 abbrev pub rows_put : DatabaseState → List Entry → List Row
 rows_put s [] = []
 rows_put s (e ∷ es) = row_of_entry e (reply_to s e) ++ rows_put (after_request s e) es
+
+-- the rows of the table of that number, in their order
+abbrev pub rows_of_table : ℕ → List Row → List Row
+rows_of_table table rows = filter (λ r. r.table == table) rows
 
 -- a journal may be put in two parts
 pub rows_put-append : (s : DatabaseState) (first second : List Entry) → rows_put s (first ++ second) ≡ rows_put s first ++ rows_put (serial_run s first) second

@@ -13,7 +13,7 @@ use Rattle.block_model.specs.declared.reply.Reply.TheVariants as replies
 use Rattle.block_model.specs.declared.reply.Refusal.{Refusal}
 use Rattle.block_model.specs.declared.reply.Refusal.TheVariants as refusals
 use Rattle.block_model.specs.DatabaseState.{DatabaseState, OpenTransaction}
-use Rattle.block_model.specs.RequestEffect.{Answer, Begun, Inserted, Found, Conflict, Committed, RolledBack, NoMemory, after_request, reply_to}
+use Rattle.block_model.specs.RequestEffect.{Answer, Begun, Inserted, Found, Marked, Conflict, Committed, RolledBack, Full, NoMemory, after_request, reply_to}
 use Rattle.block_model.specs.SerialRun.{replies_to}
 use Rattle.statements.specs.declared.statement.Statement.{Statement}
 use Rattle.statements.specs.declared.statement.Statement.TheVariants as statements
@@ -48,9 +48,13 @@ abbrev pub found_in : Answer → List Row
 found_in (Found rows) = rows
 found_in answer = []
 
--- a put or a look goes well, or memory is short for it
-abbrev pub tag_where : Bool → Tag
-tag_where short = if short then tags.NoMemory else tags.Ok
+-- a look goes well, or memory is short for it
+abbrev pub look_tag : Bool → Tag
+look_tag short = if short then tags.NoMemory else tags.Ok
+
+-- a put goes well, or memory is short for it, or its table is full
+abbrev pub put_tag : Bool → Bool → Tag
+put_tag short full = if short then tags.NoMemory else (if full then tags.Full else tags.Ok)
 
 -- a begin for which memory is short is no request
 abbrev pub begin_entries : ℕ → Bool → List Entry
@@ -61,44 +65,71 @@ abbrev pub delete_entries : DatabaseState → ℕ → Bool → Query → List En
 delete_entries s n true q = tagged_entry n q.table (requests.Look q) tags.NoMemory ∷ []
 delete_entries s n false q = look_entry n q ∷ mark_entries s n q.table (found_in (reply_to s (look_entry n q)))
 
--- The requests that a statement of session n is, from state s on, where memory is short or isn't: one each, but a delete has
--- one for each row too. A commit and a rollback take no memory. Explain and maintenance aren't requests of a transaction.
-abbrev pub requests_of : DatabaseState → ℕ → Bool → Statement → List Entry
-requests_of s n short statements.Begin = begin_entries n short
-requests_of s n short statements.Commit = request_entry n 0 requests.Commit ∷ []
-requests_of s n short statements.Rollback = request_entry n 0 requests.Rollback ∷ []
-requests_of s n short (statements.Insert table values) = tagged_entry n table (requests.Put values) (tag_where short) ∷ []
-requests_of s n short (statements.Select q) = tagged_entry n q.table (requests.Look q) (tag_where short) ∷ []
-requests_of s n short (statements.Delete q) = delete_entries s n short q
-requests_of s n short statement = []
+-- The requests that a statement of session n is, from state s on, where memory is short or isn't, and the table that it would put a row
+-- into is full or isn't: one each, but a delete has one for each row too. A commit and a rollback take no memory. Explain and
+-- maintenance aren't requests of a transaction.
+abbrev pub requests_of : DatabaseState → ℕ → Bool → Bool → Statement → List Entry
+requests_of s n short full statements.Begin = begin_entries n short
+requests_of s n short full statements.Commit = request_entry n 0 requests.Commit ∷ []
+requests_of s n short full statements.Rollback = request_entry n 0 requests.Rollback ∷ []
+requests_of s n short full (statements.Insert table values) = tagged_entry n table (requests.Put values) (put_tag short full) ∷ []
+requests_of s n short full (statements.Select q) = tagged_entry n q.table (requests.Look q) (look_tag short) ∷ []
+requests_of s n short full (statements.Delete q) = delete_entries s n short q
+requests_of s n short full statement = []
+
+-- Memory was short.
+abbrev pub want_of_memory : Option Reply
+want_of_memory = Some (replies.Refused refusals.Memory)
+
+-- The replies to what the requests of each statement are answered, one after the other; no other answers come.
+
+-- a begin for which memory is short is no request
+abbrev pub begin_reply : List Answer → Option Reply
+begin_reply [] = want_of_memory
+begin_reply (Begun t ∷ []) = Some (replies.Begun t)
+begin_reply answers = None
+
+-- a commit, and a rollback
+abbrev pub end_reply : List Answer → Option Reply
+end_reply (Committed ∷ []) = Some replies.Committed
+end_reply (RolledBack ∷ []) = Some replies.RolledBack
+end_reply answers = None
+
+-- an insert, where that is what a full table is answered
+abbrev pub insert_reply : Refusal → List Answer → Option Reply
+insert_reply full (Inserted id ∷ []) = Some (replies.Inserted id)
+insert_reply full (Full ∷ []) = Some (replies.Refused full)
+insert_reply full (NoMemory ∷ []) = want_of_memory
+insert_reply full answers = None
+
+abbrev pub select_reply : List Answer → Option Reply
+select_reply (Found rows ∷ []) = Some (replies.Found rows)
+select_reply (NoMemory ∷ []) = want_of_memory
+select_reply answers = None
 
 -- how many rows were marked, or the conflict that ended it
-abbrev pub marks_reply : ℕ → List Answer → Reply
-marks_reply count [] = replies.Deleted count
-marks_reply count (Conflict id ∷ answers) = replies.Refused (refusals.Conflict id)
-marks_reply count (answer ∷ answers) = marks_reply (count + 1) answers
-
--- The reply for what one request was answered. Where there was no request, or memory was short for it, want of memory is
--- the reply; the last case is for what no request that finds room is answered.
-abbrev pub reply_of : List Answer → Reply
-reply_of [] = replies.Refused refusals.Memory
-reply_of (NoMemory ∷ []) = replies.Refused refusals.Memory
-reply_of (Begun t ∷ []) = replies.Begun t
-reply_of (Inserted id ∷ []) = replies.Inserted id
-reply_of (Found rows ∷ []) = replies.Found rows
-reply_of (Committed ∷ []) = replies.Committed
-reply_of (RolledBack ∷ []) = replies.RolledBack
-reply_of answers = replies.Refused refusals.Memory
+abbrev pub marks_reply : ℕ → List Answer → Option Reply
+marks_reply count [] = Some (replies.Deleted count)
+marks_reply count (Marked ∷ answers) = marks_reply (count + 1) answers
+marks_reply count (Conflict id ∷ []) = Some (replies.Refused (refusals.Conflict id))
+marks_reply count answers = None
 
 -- a delete is answered the rows that it found and then its marks
-abbrev pub deleted_reply : List Answer → Reply
+abbrev pub deleted_reply : List Answer → Option Reply
 deleted_reply (Found rows ∷ answers) = marks_reply 0 answers
-deleted_reply answers = reply_of answers
+deleted_reply (NoMemory ∷ []) = want_of_memory
+deleted_reply answers = None
 
--- the reply to a statement whose requests got these answers
-abbrev pub reply_to_statement : Statement → List Answer → Reply
-reply_to_statement (statements.Delete q) answers = deleted_reply answers
-reply_to_statement statement answers = reply_of answers
+-- The reply to a statement of a transaction whose requests got these answers. What explain and maintenance are answered isn't said
+-- here.
+abbrev pub reply_to_statement : (ℕ → Refusal) → Statement → List Answer → Option Reply
+reply_to_statement full statements.Begin answers = begin_reply answers
+reply_to_statement full statements.Commit answers = end_reply answers
+reply_to_statement full statements.Rollback answers = end_reply answers
+reply_to_statement full (statements.Insert table values) answers = insert_reply (full table) answers
+reply_to_statement full (statements.Select q) answers = select_reply answers
+reply_to_statement full (statements.Delete q) answers = deleted_reply answers
+reply_to_statement full statement answers = None
 
 -- Why a session's statement of a transaction isn't taken: there is no transaction under way, or one already, or it has failed. Ending a
 -- failed transaction is taken, and so is what isn't a request of a transaction.
@@ -120,20 +151,19 @@ abbrev pub unless_refused : Option Refusal → List Entry → List Entry
 unless_refused None entries = entries
 unless_refused (Some refusal) entries = []
 
-abbrev pub reply_unless_refused : Option Refusal → Statement → List Answer → Reply
-reply_unless_refused None statement answers = reply_to_statement statement answers
-reply_unless_refused (Some refusal) statement answers = replies.Refused refusal
+abbrev pub reply_unless_refused : Option Refusal → Option Reply → Option Reply
+reply_unless_refused None reply = reply
+reply_unless_refused (Some refusal) reply = Some (replies.Refused refusal)
 
 -- why the statement of session n isn't taken in state s
 abbrev pub refusal_at : DatabaseState → ℕ → Statement → Option Refusal
 refusal_at s n statement = submission_refusal (map.get s.sessions n) statement
 
 -- the requests that a statement of session n makes in state s
-unfoldable pub statement_requests : DatabaseState → ℕ → Bool → Statement → List Entry
-statement_requests s n short statement = unless_refused (refusal_at s n statement) (requests_of s n short statement)
+unfoldable pub statement_requests : DatabaseState → ℕ → Bool → Bool → Statement → List Entry
+statement_requests s n short full statement = unless_refused (refusal_at s n statement) (requests_of s n short full statement)
 
--- The reply to a statement of a transaction: why it isn't taken, or what its requests were answered, one after the other.
--- Explain and maintenance make no requests, and what they are answered isn't said here.
-unfoldable pub statement_reply : DatabaseState → ℕ → Bool → Statement → Reply
-statement_reply s n short statement =
-    reply_unless_refused (refusal_at s n statement) statement (replies_to s (requests_of s n short statement))
+-- The reply to a statement of a transaction: why it isn't taken, or the one to what its requests were answered.
+unfoldable pub statement_reply : (ℕ → Refusal) → DatabaseState → ℕ → Bool → Bool → Statement → Option Reply
+statement_reply of_full s n short full statement =
+    reply_unless_refused (refusal_at s n statement) (reply_to_statement of_full statement (replies_to s (requests_of s n short full statement)))

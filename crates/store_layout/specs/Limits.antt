@@ -2,7 +2,7 @@
 use Rattle.std.specs.Prelude.{ℕ, ◌/◌, ◌==◌, nat_lt, nat_le, Bool, true, not, ◌&&◌, List, [], ◌∷◌, ◌++◌, length, map, codes}
 use Rattle.std.specs.List.{list_all, list_any}
 use Rattle.std.specs.Str.{bytes_eq}
-use Rattle.block_model.specs.declared.limits.TheConstants.{PAGE_ROOM}
+use Rattle.block_model.specs.declared.limits.TheConstants.{MAX_TUPLE, PAGE_ROOM}
 use Rattle.block_model.specs.declared.schema.Table.{Table}
 use Rattle.block_model.specs.declared.schema.Index.{Index}
 use Rattle.block_model.specs.declared.schema.Schema.{Schema}
@@ -69,7 +69,7 @@ has_lawful_classes schema = list_all (λ i. list_all (class_is_lawful (columns_o
 
 -- Rule 7: the greatest tuple of an index has at most 8156 bytes.
 abbrev pub has_lawful_tuples : Schema → Bool
-has_lawful_tuples schema = list_all (λ i. nat_le (tuple_size (columns_of schema i) i.parts) 8156) schema.indexes
+has_lawful_tuples schema = list_all (λ i. nat_le (tuple_size (columns_of schema i) i.parts) MAX_TUPLE) schema.indexes
 
 -- Rule 8: 1 to 131072 blocks of a table.
 abbrev pub has_lawful_heap_blocks : Sizes → Bool

@@ -17,3 +17,16 @@ pub mod TableOnePoint
 pub mod RangesExact
 pub mod NothingSkipped
 pub mod VacuumRun
+pub mod Leaves
+pub mod ScanComes
+pub mod ScanFinds
+pub mod InTable
+pub mod RowsInOrder
+pub mod AccountsExact
+pub mod RefusalsCause
+pub mod OnThisView
+pub mod FoundListed
+pub mod InIndexStep
+pub mod StatementsGoOn
+pub mod InsertsEndAlone
+pub mod AskRun

@@ -1,11 +1,11 @@
 -- A maintenance statement goes from a range to the next one, and a vacuum from a block of the heap, or an index page, to the next one.
-use Rattle.std.proofs.Common.{◌≡◌, ◌⊎◌, inl, inr, ℕ, ◌≤◌, sym, ap, subst, arith, suc}
+use Rattle.std.proofs.Common.{◌≡◌, ◌⊎◌, inl, inr, ℕ, ◌≤◌, ◌∷◌, sym, ap, subst, arith, suc}
 use Rattle.coverage.specs.Statements.{Empty, Phase, NotBuilding}
 use Rattle.table_coverage.specs.Table.{Job, Task, Resting, Asks, Inserts, Considers, Maintains, Prunes, SweepsFrom, Sweeps}
-use Rattle.table_coverage.specs.Table.{Restarts, Scans, TableState}
-use Rattle.table_coverage.specs.TableSteps.{TaskTurns, Does, PutsRow, AsksSummary, InsertGoes, InsertCompletes, RefusesInsert, TakesLock, MaintainGoes}
+use Rattle.table_coverage.specs.Table.{Restarts, Scans, Marks, TableState}
+use Rattle.table_coverage.specs.TableSteps.{TaskTurns, Does, PutsRow, RefusesRow, AsksSummary, InsertGoes, InsertCompletes, RefusesInsert, TakesLock, MaintainGoes}
 use Rattle.table_coverage.specs.TableSteps.{MaintainCompletes, RefusesMaintain, RefusesVacuum, PrunesBlock, SweepsPage, RestartsIndex, BeginsScan, Judges}
-use Rattle.table_coverage.specs.TableSteps.{ReadsBlock, RefusesScan, Blocked, Transacts, Onward, Stays, ToRange, NextIndex, Pruned}
+use Rattle.table_coverage.specs.TableSteps.{ReadsBlock, RefusesScan, MarksRow, Conflicts, Blocked, Transacts, Onward, Stays, ToRange, NextIndex, Pruned}
 use Rattle.table_coverage.specs.TableSteps.{ToPage, Swept, Settles, GoesOn, GivesLock, TableStep}
 use Rattle.table_coverage.specs.NextTasks.{AfterRange, AfterBlock, AfterPage}
 
@@ -32,6 +32,7 @@ module _ (s : ℕ) (w u : TableState) where
 
   does_leads : Does s w u → Leads (w.task s) (u.task s)
   does_leads (PutsRow b k r place turns takes) = lead _ _ turns (Others Resting _ tt)
+  does_leads (RefusesRow t refused turns fails) = lead _ _ turns (Rests Resting)
   does_leads (AsksSummary b k r at turns only) = lead _ _ turns (Others (Asks b k r at) _ tt)
   does_leads (InsertGoes b k r at old new turns stepped step) = lead _ _ turns (Others (Inserts b k r at old) _ tt)
   does_leads (InsertCompletes b k r at old turns stepped step) = lead _ _ turns (Others (Inserts b k r at old) _ tt)
@@ -48,6 +49,8 @@ module _ (s : ℕ) (w u : TableState) where
   does_leads (Judges old new inside low step turns only) = lead _ _ turns (Others (Scans old) _ tt)
   does_leads (ReadsBlock scan next found reads turns only) = lead _ _ turns (Others (Scans scan) _ tt)
   does_leads (RefusesScan scan t turns how) = lead _ _ turns (Rests (Scans scan))
+  does_leads (MarksRow scan id rest turns only) = lead _ _ turns (Others (Marks scan (id ∷ rest)) _ tt)
+  does_leads (Conflicts scan id rest t turns fails) = lead _ _ turns (Rests (Marks scan (id ∷ rest)))
   does_leads (Blocked task blocked turns only) = lead _ _ turns (Same task)
   does_leads (Transacts counts resting few same) = subst (Leads (w.task s)) (sym (ap (λ (x : TableState). x.task s) same)) (Same (w.task s))
 

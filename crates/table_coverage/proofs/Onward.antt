@@ -1,11 +1,14 @@
 -- Where a statement comes by its step is one thing.
-use Rattle.std.proofs.Common.{◌≡◌, ◌⊎◌, inl, inr, ⊎_elim, ℕ, ◌*◌, ◌≤◌, ◌<◌, true, false, sym, ◌∙◌, subst, arith, suc}
+use Rattle.std.proofs.Common.{◌≡◌, ◌⊎◌, inl, inr, ⊎_elim, ℕ, ◌*◌, ◌≤◌, ◌<◌, true, false, List, [], ◌∷◌, sym, ◌∙◌, ap, subst, arith, suc}
 use Rattle.std.specs.Prelude.{refl, IsTrue}
 use Rattle.std.proofs.lemmas.Bool.{false≢true}
 use Rattle.table_coverage.specs.Table.{Index, TableScan, Task, Resting, Reaches, Asks, Inserts, Considers, Maintains, Prunes, SweepsFrom, Sweeps, Restarts}
-use Rattle.table_coverage.specs.Table.{Scans, TableState}
+use Rattle.block_model.specs.declared.row.RowId.{RowId}
+use Rattle.table_coverage.specs.RowOrder.{IsAmong}
+use Rattle.table_coverage.proofs.RowsInOrder.{one_order}
+use Rattle.table_coverage.specs.Table.{Scans, Marks, TableState}
 use Rattle.table_coverage.specs.TableSteps.{first_block, IsFrom, ScanHasStep, HasStep, Onward, Stays, ToAsk, ToIndex, Inserted, ToRange, NextIndex, Pruned}
-use Rattle.table_coverage.specs.TableSteps.{ToPage, Swept, JudgesNext, Scanned, IsMaintained, RangesDone, NothingToSweep, OnlyTurns, Settles, GoesOn, GivesLock}
+use Rattle.table_coverage.specs.TableSteps.{ToPage, Swept, JudgesNext, Scanned, ToMarks, Marked, HasNothingToMark, ListsFound, IsMaintained, RangesDone, NothingToSweep, OnlyTurns, Settles, GoesOn, GivesLock}
 use Rattle.table_coverage.specs.TableSteps.{TableStep}
 
 less_not_equal : (n m : ℕ) → n < m → n ≡ m → ⊥
@@ -52,6 +55,26 @@ scan_reads w scan has all done = ⊎_elim
     done)
     has
 
+-- what a delete found is nothing, or some rows
+nothing_or_some : (w : TableState) (scan : TableScan) (id : RowId) (rest : List RowId) → HasNothingToMark scan → scan.explains ≡ false → scan.deletes ≡ true
+    → ListsFound w scan (id ∷ rest) → ⊥
+nothing_or_some w scan id rest nothing reads deletes lists = ⊎_elim
+    (λ (explains : scan.explains ≡ true). false≢true (sym reads ∙ explains))
+    (λ (other : (scan.deletes ≡ false) ⊎ ((b k : ℕ) → scan.found b k ≡ false)). ⊎_elim
+    (λ (keeps : scan.deletes ≡ false). false≢true (sym keeps ∙ deletes))
+    (λ (none : (b k : ℕ) → scan.found b k ≡ false).
+    let first = lists.only id (inl refl) in false≢true (sym (none first.0 first.1) ∙ first.3))
+    other)
+    nothing
+
+-- the rows that a scan found are one list
+one_list : (w : TableState) (scan : TableScan) (l m : List RowId) → ListsFound w scan l → ListsFound w scan m → l ≡ m
+one_list w scan l m one two = one_order l m one.ordered two.ordered (in_other l m one two) (in_other m l two one)
+  where
+    in_other : (l m : List RowId) → ListsFound w scan l → ListsFound w scan m → (id : RowId) → IsAmong l id → IsAmong m id
+    in_other l m one two id among =
+        let row = one.only id among in subst (IsAmong m) row.5 (two.all row.0 row.1 row.2 row.3 row.4)
+
 module _ (w : TableState) where
   -- a statement whose next step is there stays at it
   stays : (old q : Task) → HasStep w old → Onward w old q → q ≡ old
@@ -65,7 +88,9 @@ module _ (w : TableState) where
   stays _ _ has (ToPage at from m p next) = absurd has
   stays _ _ has (Swept at from none some) = absurd has
   stays _ _ has (JudgesNext scan new inside all empty more) = absurd (scan_stays w scan has inside all)
-  stays _ _ has (Scanned scan all done) = absurd (scan_reads w scan has all done)
+  stays _ _ has (Scanned scan read nothing) = absurd (scan_reads w scan has read.0 read.1)
+  stays _ _ has (ToMarks scan id rest read reads deletes lists) = absurd (scan_reads w scan has read.0 read.1)
+  stays _ _ has (Marked scan) = absurd has
 
   pub onward_once : (old p q : Task) → Onward w old p → Onward w old q → p ≡ q
   onward_once _ _ q (Stays task has) other = sym (stays task q has other)
@@ -92,9 +117,21 @@ module _ (w : TableState) where
   onward_once _ _ _ (Swept at from none some) (Swept at' from' none' some') = refl
   onward_once _ p q (JudgesNext scan new inside all empty more) (JudgesNext scan' new' inside' all' empty' more') =
       onward_once (Scans (record scan { at = suc scan.at; range = 0 })) p q more more'
-  onward_once _ _ _ (JudgesNext scan new inside all empty more) (Scanned scan' all' done) = absurd (less_not_equal scan.at w.indexes inside all')
-  onward_once _ _ _ (Scanned scan all done) (JudgesNext scan' new inside all' empty more) = absurd (less_not_equal scan.at w.indexes inside all)
-  onward_once _ _ _ (Scanned scan all done) (Scanned scan' all' done') = refl
+  onward_once _ _ _ (JudgesNext scan new inside all empty more) (Scanned scan' read nothing) = absurd (less_not_equal scan.at w.indexes inside read.0)
+  onward_once _ _ _ (JudgesNext scan new inside all empty more) (ToMarks scan' id rest read reads deletes lists) =
+      absurd (less_not_equal scan.at w.indexes inside read.0)
+  onward_once _ _ _ (Scanned scan read nothing) (JudgesNext scan' new inside all' empty more) =
+      absurd (less_not_equal scan.at w.indexes inside read.0)
+  onward_once _ _ _ (Scanned scan read nothing) (Scanned scan' read' nothing') = refl
+  onward_once _ _ _ (Scanned scan read nothing) (ToMarks scan' id rest read' reads deletes lists) =
+      absurd (nothing_or_some w scan id rest nothing reads deletes lists)
+  onward_once _ _ _ (ToMarks scan id rest read reads deletes lists) (JudgesNext scan' new inside all' empty more) =
+      absurd (less_not_equal scan.at w.indexes inside read.0)
+  onward_once _ _ _ (ToMarks scan id rest read reads deletes lists) (Scanned scan' read' nothing) =
+      absurd (nothing_or_some w scan id rest nothing reads deletes lists)
+  onward_once _ _ _ (ToMarks scan id rest read reads deletes lists) (ToMarks scan' id' rest' read' reads' deletes' lists') =
+      ap (Marks scan) (one_list w scan (id ∷ rest) (id' ∷ rest') lists lists')
+  onward_once _ _ _ (Marked scan) (Marked scan') = refl
 
   -- nothing is swept in a table without indexes
   none_swept : (q : Task) → w.indexes ≡ 0 → Onward w (SweepsFrom 0 0) q → ⊥
@@ -127,7 +164,9 @@ lands w _ _ (Pruned extent next new all more) = lands w (SweepsFrom 0 0) new mor
 lands w _ _ (ToPage at from m p next) = tt
 lands w _ _ (Swept at from none some) = tt
 lands w _ _ (JudgesNext scan new inside all empty more) = lands w (Scans (record scan { at = suc scan.at; range = 0 })) new more
-lands w _ _ (Scanned scan all done) = tt
+lands w _ _ (Scanned scan read nothing) = tt
+lands w _ _ (ToMarks scan id rest read reads deletes lists) = tt
+lands w _ _ (Marked scan) = tt
 
 scan_step_on : (w v : TableState) → OnlyTurns w v → (scan : TableScan) → ScanHasStep w scan → ScanHasStep v scan
 scan_step_on w v only scan has = ⊎_elim
@@ -151,6 +190,8 @@ step_on w v only (SweepsFrom at from) has = has
 step_on w v only (Sweeps at page) has = has
 step_on w v only (Restarts at) has = has
 step_on w v only (Scans scan) has = scan_step_on w v only scan has
+step_on w v only (Marks scan []) has = has
+step_on w v only (Marks scan (id ∷ rest)) has = has
 
 settles_at_step : (s : ℕ) (w v : TableState) → Settles s w v → HasStep v (v.task s)
 settles_at_step s w v (GoesOn old new onward turns only) = subst (HasStep v) (sym turns.now) (step_on w v only new (lands w old new onward))

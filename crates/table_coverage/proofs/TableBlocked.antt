@@ -1,17 +1,18 @@
 -- A blocked statement of a table stays where it is, and changes nothing.
-use Rattle.std.proofs.Common.{◌≡◌, ◌≢◌, ◌⊎◌, inl, inr, ℕ, None, sym, ◌∙◌, ap, subst}
+use Rattle.std.proofs.Common.{◌≡◌, ◌≢◌, ◌⊎◌, inl, inr, ℕ, None, List, ◌∷◌, sym, ◌∙◌, ap, subst}
 use Rattle.std.specs.Prelude.{refl}
 use Rattle.block_model.specs.declared.row.Row.{Row}
+use Rattle.block_model.specs.declared.row.RowId.{RowId}
 use Rattle.coverage.specs.IndexView.{TuplePlace, IndexView}
 use Rattle.coverage.specs.Statements.{OnIndex, Held, Phase, NotBuilding, Statement}
 use Rattle.coverage.specs.Verdicts.{Waits}
 use Rattle.coverage.specs.Steps.{SweepsTuples, InsertStep, DesummariseStep, IsUnnamed}
 use Rattle.table_coverage.specs.Table.{Job, EachRange, OneRange, WholeRanges, Desummarising, TableScan, Task, Resting, Asks, Inserts, Maintains, Prunes, Sweeps}
-use Rattle.table_coverage.specs.Table.{Restarts, Scans, TableState, index_view_at}
+use Rattle.table_coverage.specs.Table.{Restarts, Scans, Marks, TableState, index_view_at}
 use Rattle.table_coverage.specs.TableSteps.{range_in, OnlyTurns, JobStep, IsBlocked, SummariseLockHeld, InsertWaits, SummariseWaits, DesummariseWaits, SweepWaits, Does, PutsRow}
 use Rattle.table_coverage.specs.TableSteps.{AsksSummary, InsertGoes, InsertCompletes, RefusesInsert, TakesLock, MaintainGoes, MaintainCompletes}
 use Rattle.table_coverage.specs.TableSteps.{RefusesMaintain, RefusesVacuum, PrunesBlock, SweepsPage, RestartsIndex, BeginsScan, Judges, ReadsBlock, RefusesScan}
-use Rattle.table_coverage.specs.TableSteps.{Blocked, Transacts}
+use Rattle.table_coverage.specs.TableSteps.{RefusesRow, MarksRow, Conflicts, Blocked, Transacts}
 use Rattle.coverage.specs.Waiting.{IsPhaseWaiting, FinalWaits, PlaceWaits, GrowWaits, CountWaits, FlagWaits, EvacuateWaits, EvacuatePutWaits, TurnWaits}
 use Rattle.coverage.proofs.Verdicts.{free_not_locked, swap_once, clear_once, swap_waits, clear_waits}
 use Rattle.coverage.proofs.WaitsOnce.{waits_same, phase_wait_once, phase_wait_locked}
@@ -62,6 +63,9 @@ module _ (s : ℕ) (w : TableState) where
   never_scans : (scan : TableScan) → IsBlocked w s (Scans scan) → ⊥
   never_scans scan blocked = elim blocked [ ]
 
+  never_marks : (scan : TableScan) (ids : List RowId) → IsBlocked w s (Marks scan ids) → ⊥
+  never_marks scan ids blocked = elim blocked [ ]
+
   pub blocked_waits : (v : TableState) → IsBlocked w s (w.task s) → (w.task s ≡ Resting → ⊥) → Does s w v
       → ((v.task s ≡ w.task s) × OnlyTurns w v) ⊎ (v.task s ≡ Resting)
   blocked_waits v blocked busy does = by_case does
@@ -71,6 +75,7 @@ module _ (s : ℕ) (w : TableState) where
 
       by_case : Does s w v → ((v.task s ≡ w.task s) × OnlyTurns w v) ⊎ (v.task s ≡ Resting)
       by_case (PutsRow b k r place turns takes) = absurd (busy turns.was)
+      by_case (RefusesRow t refused turns fails) = absurd (busy turns.was)
       by_case (AsksSummary b k r m turns only) = absurd (never_asks b k r m (at (Asks b k r m) turns.was))
       by_case (InsertGoes b k r m old new turns stepped step) = absurd (insert_case b k r m old (index_view_at m v) _ (at (Inserts b k r m old) turns.was) step)
       by_case (InsertCompletes b k r m old turns stepped step) =
@@ -91,6 +96,8 @@ module _ (s : ℕ) (w : TableState) where
       by_case (Judges old new inside low step turns only) = absurd (never_scans old (at (Scans old) turns.was))
       by_case (ReadsBlock scan next found reads turns only) = absurd (never_scans scan (at (Scans scan) turns.was))
       by_case (RefusesScan scan t turns how) = inr turns.now
+      by_case (MarksRow scan id rest turns only) = absurd (never_marks scan (id ∷ rest) (at (Marks scan (id ∷ rest)) turns.was))
+      by_case (Conflicts scan id rest t turns fails) = inr turns.now
       by_case (Blocked task is turns only) = inl (turns.now ∙ sym turns.was, only)
       by_case (Transacts counts resting few same) = absurd (busy resting)
 
@@ -103,6 +110,7 @@ module _ (s : ℕ) (w : TableState) where
 
       by_case : (does : Does s w v) → does_point s w v does ≡ None
       by_case (PutsRow b k r place turns takes) = absurd (busy turns.was)
+      by_case (RefusesRow t refused turns fails) = absurd (busy turns.was)
       by_case (AsksSummary b k r m turns only) = absurd (never_asks b k r m (at (Asks b k r m) turns.was))
       by_case (InsertGoes b k r m old new turns stepped step) = absurd (insert_case b k r m old (index_view_at m v) _ (at (Inserts b k r m old) turns.was) step)
       by_case (InsertCompletes b k r m old turns stepped step) =
@@ -123,6 +131,8 @@ module _ (s : ℕ) (w : TableState) where
       by_case (Judges old new inside low step turns only) = absurd (never_scans old (at (Scans old) turns.was))
       by_case (ReadsBlock scan next found reads turns only) = absurd (never_scans scan (at (Scans scan) turns.was))
       by_case (RefusesScan scan t turns how) = refl
+      by_case (MarksRow scan id rest turns only) = absurd (never_marks scan (id ∷ rest) (at (Marks scan (id ∷ rest)) turns.was))
+      by_case (Conflicts scan id rest t turns fails) = refl
       by_case (Blocked task is turns only) = refl
       by_case (Transacts counts resting few same) = absurd (busy resting)
 

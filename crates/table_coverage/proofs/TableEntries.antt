@@ -1,5 +1,5 @@
 -- Which ranges of an index have an entry is the matter of the session alone that holds the summarise lock.
-use Rattle.std.proofs.Common.{◌≡◌, ◌≢◌, ◌⊎◌, ⊎_elim, ℕ, ◌<◌, Option, Some, None, sym, ◌∙◌, ap, subst}
+use Rattle.std.proofs.Common.{◌≡◌, ◌≢◌, ◌⊎◌, ⊎_elim, ℕ, ◌<◌, Option, Some, None, true, false, sym, ◌∙◌, ap, subst}
 use Rattle.std.specs.Prelude.{refl, ◌↔◌}
 use Rattle.std.proofs.lemmas.Option.{none-some}
 use Rattle.block_model.specs.declared.row.Row.{Row}
@@ -9,9 +9,9 @@ use Rattle.coverage.specs.Steps.{InsertStep}
 use Rattle.coverage.proofs.PagesGoOn.{Quiet}
 use Rattle.coverage.proofs.PagesKept.{insert_after}
 use Rattle.table_coverage.specs.Table.{Index, Task, Inserts, TableState, index_view_at}
-use Rattle.table_coverage.specs.TableSteps.{OnlyTurns, Fails, Does, PutsRow, AsksSummary, InsertGoes, InsertCompletes, RefusesInsert}
+use Rattle.table_coverage.specs.TableSteps.{OnlyTurns, Fails, Does, PutsRow, RefusesRow, AsksSummary, InsertGoes, InsertCompletes, RefusesInsert}
 use Rattle.table_coverage.specs.TableSteps.{TakesLock, MaintainGoes, MaintainCompletes, RefusesMaintain, RefusesVacuum, PrunesBlock, SweepsPage, RestartsIndex}
-use Rattle.table_coverage.specs.TableSteps.{BeginsScan, Judges, ReadsBlock, RefusesScan, Blocked, Transacts, Settles, GoesOn, GivesLock, TableStep}
+use Rattle.table_coverage.specs.TableSteps.{BeginsScan, Judges, ReadsBlock, RefusesScan, MarksRow, Conflicts, Blocked, Transacts, Settles, GoesOn, GivesLock, TableStep}
 use Rattle.table_coverage.specs.TableCovered.{IsMaintenance, IsTableKept}
 use Rattle.table_coverage.proofs.MachinesIn.{insert_knows}
 
@@ -52,6 +52,7 @@ module _ (s : ℕ) (w v : TableState) (kept : IsTableKept w) (free : w.summarise
 
   pub does_entry : Does s w v → SameEntry w v i range
   does_entry (PutsRow b k r place turns takes) = same_entry w v i range (takes.indexes.index i)
+  does_entry (RefusesRow t refused turns fails) = same_entry w v i range (fails.indexes.index i)
   does_entry (AsksSummary b k r at turns only) = same_entry w v i range (only.indexes.index i)
   does_entry (InsertGoes b k r at old new turns stepped step) =
       in_one at stepped.others (inserts b k r at old (Inserting b k r new) turns.was stepped.below step)
@@ -69,9 +70,11 @@ module _ (s : ℕ) (w v : TableState) (kept : IsTableKept w) (free : w.summarise
   does_entry (Judges old new inside low step turns only) = same_entry w v i range (only.indexes.index i)
   does_entry (ReadsBlock scan next found reads turns only) = same_entry w v i range (only.indexes.index i)
   does_entry (RefusesScan scan t turns how) = ⊎_elim
-      (λ (fails : Fails w v t). same_entry w v i range (fails.indexes.index i))
-      (λ (only : OnlyTurns w v). same_entry w v i range (only.indexes.index i))
+      (λ (fails : (scan.explains ≡ false) × Fails w v t). same_entry w v i range (fails.1.indexes.index i))
+      (λ (only : (scan.explains ≡ true) × OnlyTurns w v). same_entry w v i range (only.1.indexes.index i))
       how
+  does_entry (MarksRow scan id rest turns only) = same_entry w v i range (only.indexes.index i)
+  does_entry (Conflicts scan id rest t turns fails) = same_entry w v i range (fails.indexes.index i)
   does_entry (Blocked task blocked turns only) = same_entry w v i range (only.indexes.index i)
   does_entry (Transacts counts resting few same) = same_entry w v i range (ap (λ (u : TableState). u.index i) same)
 

@@ -1,5 +1,5 @@
 -- What scans have judged, and how, is what their candidates say.
-use Rattle.std.proofs.Common.{◌≡◌, ◌≢◌, ◌⊎◌, inl, inr, ⊎_elim, ℕ, ◌+◌, ◌*◌, ◌/◌, ◌≤◌, ◌<◌, Option, Some, None, Bool, true, false, sym, ◌∙◌, ap, subst, arith, zero, suc}
+use Rattle.std.proofs.Common.{◌≡◌, ◌≢◌, ◌⊎◌, inl, inr, ⊎_elim, ℕ, ◌*◌, ◌/◌, ◌≤◌, ◌<◌, Option, Some, None, Bool, true, false, sym, ◌∙◌, ap, subst, arith, zero, suc}
 use Rattle.std.specs.Prelude.{refl, IsTrue, ◌↔◌}
 use Rattle.std.proofs.Math.Nat.{lt_of_mul-lt-mul_right, div-mul-le_self}
 use Rattle.std.proofs.lemmas.Option.{same_Some, none-some}
@@ -8,21 +8,23 @@ use Rattle.coverage.specs.IndexView.{range_of_block}
 use Rattle.coverage.specs.Statements.{Idle, Inserting, Maintaining, Holding}
 use Rattle.coverage.proofs.Runs.{insert_keeps}
 use Rattle.coverage.proofs.Numbers.{last_or_below}
-use Rattle.table_coverage.specs.Table.{Index, TableScan, Task, Resting, SweepsFrom, Scans, TableState, pick, judged_with, index_view_at}
+use Rattle.table_coverage.specs.Table.{Index, TableScan, Resting, Scans, TableState, pick, judged_with, index_view_at}
 use Rattle.table_coverage.specs.TableSteps.{SameIndexes, OnlyTurns, StepsIn, range_in, first_block, JudgeStep, JudgeMap, JudgeNoEntry, JudgeGone}
 use Rattle.table_coverage.specs.TableSteps.{JudgeKeeps, JudgeDrops, Fails, ScanBegins, Does, PutsRow, AsksSummary, InsertGoes, InsertCompletes, RefusesInsert}
 use Rattle.table_coverage.specs.TableSteps.{TakesLock, MaintainGoes, MaintainCompletes, RefusesMaintain, RefusesVacuum, PrunesBlock, SweepsPage, RestartsIndex}
-use Rattle.table_coverage.specs.TableSteps.{BeginsScan, Judges, ReadsBlock, RefusesScan, Blocked, Transacts, Onward, Stays, ToAsk, ToIndex, Inserted, ToRange}
-use Rattle.table_coverage.specs.TableSteps.{NextIndex, Pruned, ToPage, Swept, JudgesNext, Scanned, Settles, GoesOn, GivesLock}
+use Rattle.table_coverage.specs.TableSteps.{RefusesRow, MarksRow, Conflicts, BeginsScan, Judges, ReadsBlock, RefusesScan, Blocked, Transacts, Onward}
+use Rattle.table_coverage.specs.TableSteps.{JudgesNext, Scanned, Settles}
 use Rattle.table_coverage.specs.TableCovered.{IsBehind, JudgesExactly, IsGiven, IsUnjudged}
-use Rattle.table_coverage.proofs.Views.{pick_same, pick_other, pick_both, scan_of, begins_no_scan}
-use Rattle.table_coverage.proofs.TableSettled.{does_layout, settles_layout, job_heap_kept}
+use Rattle.table_coverage.proofs.Views.{pick_same, pick_other, pick_both}
+use Rattle.table_coverage.proofs.Leaves.{does_leaves}
+use Rattle.table_coverage.proofs.ScanComes.{ScanComes, ScanBegan, ScanJudged, ScanRead, ScanStayed, scan_comes, OfScans, scans_after, scans_settled}
+use Rattle.table_coverage.proofs.TableSettled.{does_layout, job_heap_kept}
 
 -- the indexes are as many as before, and their ranges as long
-abbrev SameRanges : TableState → TableState → Type 0
+abbrev pub SameRanges : TableState → TableState → Type 0
 SameRanges w v = (v.indexes ≡ w.indexes) × ((i : ℕ) → (v.index i).pages_per_range ≡ (w.index i).pages_per_range)
 
-indexes_ranges : (w v : TableState) → SameIndexes w v → (i : ℕ) → (v.index i).pages_per_range ≡ (w.index i).pages_per_range
+pub indexes_ranges : (w v : TableState) → SameIndexes w v → (i : ℕ) → (v.index i).pages_per_range ≡ (w.index i).pages_per_range
 indexes_ranges w v same i = ap (λ (x : Index). x.pages_per_range) (same.index i)
 
 stepped_ranges : (at : ℕ) (w v : TableState) → StepsIn at w v → (v.index at).pages_per_range ≡ (w.index at).pages_per_range → (i : ℕ)
@@ -32,8 +34,9 @@ stepped_ranges at w v stepped here i = ⊎_elim
     (λ (e : v.index i ≡ w.index i). ap (λ (x : Index). x.pages_per_range) e)
     (stepped.others i)
 
-does_ranges : (s : ℕ) (w v : TableState) → Does s w v → (i : ℕ) → (v.index i).pages_per_range ≡ (w.index i).pages_per_range
+pub does_ranges : (s : ℕ) (w v : TableState) → Does s w v → (i : ℕ) → (v.index i).pages_per_range ≡ (w.index i).pages_per_range
 does_ranges s w v (PutsRow b k r place turns takes) = indexes_ranges w v takes.indexes
+does_ranges s w v (RefusesRow t refused turns fails) = indexes_ranges w v fails.indexes
 does_ranges s w v (AsksSummary b k r at turns only) = indexes_ranges w v only.indexes
 does_ranges s w v (InsertGoes b k r at old new turns stepped step) =
     stepped_ranges at w v stepped (insert_keeps s b k r (index_view_at at w) (index_view_at at v) old (Inserting b k r new) step).0.pages_per_range
@@ -54,7 +57,12 @@ does_ranges s w v (BeginsScan scan begins turns only) = indexes_ranges w v only.
 does_ranges s w v (Judges old new inside low step turns only) = indexes_ranges w v only.indexes
 does_ranges s w v (ReadsBlock scan next found reads turns only) = indexes_ranges w v only.indexes
 does_ranges s w v (RefusesScan scan t turns how) =
-    ⊎_elim (λ (fails : Fails w v t). indexes_ranges w v fails.indexes) (λ (only : OnlyTurns w v). indexes_ranges w v only.indexes) how
+    ⊎_elim
+    (λ (fails : (scan.explains ≡ false) × Fails w v t). indexes_ranges w v fails.1.indexes)
+    (λ (only : (scan.explains ≡ true) × OnlyTurns w v). indexes_ranges w v only.1.indexes)
+    how
+does_ranges s w v (MarksRow scan id rest turns only) = indexes_ranges w v only.indexes
+does_ranges s w v (Conflicts scan id rest t turns fails) = indexes_ranges w v fails.indexes
 does_ranges s w v (Blocked task blocked turns only) = indexes_ranges w v only.indexes
 does_ranges s w v (Transacts counts resting few same) = λ i. ap (λ (u : TableState). (u.index i).pages_per_range) same
 
@@ -273,82 +281,25 @@ begin_exact w scan begins = record {
     none : (m : ℕ) → m < 0 → ⊥
     none m less = omega arith
 
--- where a scan goes on, its judgements are exact as before
-onward_exact : (w : TableState) (old new : Task) → Onward w old new → ((q : TableScan) → old ≡ Scans q → JudgesExactly w q) → (q : TableScan) → new ≡ Scans q
-    → JudgesExactly w q
-onward_exact w _ _ (Stays task has) before q is = before q is
-onward_exact w _ _ (ToAsk b k r at inside asks) before q is = absurd (none-some _ (ap scan_of is))
-onward_exact w _ _ (ToIndex b k r at inside not) before q is = absurd (none-some _ (ap scan_of is))
-onward_exact w _ _ (Inserted b k r at all) before q is = absurd (none-some _ (ap scan_of is))
-onward_exact w _ _ (ToRange job at range has) before q is = absurd (none-some _ (ap scan_of is))
-onward_exact w _ _ (NextIndex extent at range done inside) before q is = absurd (none-some _ (ap scan_of is))
-onward_exact w _ _ (Pruned extent next new all more) before q is = onward_exact w (SweepsFrom 0 0) new more (λ p e. absurd (none-some _ (ap scan_of e))) q is
-onward_exact w _ _ (ToPage at from m p next) before q is = absurd (none-some _ (ap scan_of is))
-onward_exact w _ _ (Swept at from none some) before q is = absurd (none-some _ (ap scan_of is))
-onward_exact w _ _ (JudgesNext scan new inside all empty more) before q is =
-    onward_exact w (Scans (record scan { at = suc scan.at; range = 0 })) new more
-    (λ p e. subst (JudgesExactly w) (same_Some _ _ (ap scan_of e)) (next_exact w scan (before scan refl) all)) q is
-onward_exact w _ _ (Scanned scan all done) before q is = absurd (none-some _ (ap scan_of is))
+module _ (s : ℕ) (w v : TableState) (kept : OfScans JudgesExactly w) where
+  own_exact : (scan : TableScan) → ScanComes s w v scan → JudgesExactly w scan
+  own_exact _ (ScanBegan scan begins only) = begin_exact w scan begins
+  own_exact _ (ScanJudged old new was inside step only) = judge_exact w old new (kept s old was) inside step
+  own_exact _ (ScanRead scan next found was reads only) =
+      let exact = kept s scan was in record { candidate = exact.candidate; judged = exact.judged; behind = exact.behind }
+  own_exact _ (ScanStayed scan was only) = kept s scan was
 
-abbrev AllExact : TableState → Type 0
-AllExact w = (n : ℕ) (scan : TableScan) → w.task n ≡ Scans scan → JudgesExactly w scan
+  pub does_exact : Does s w v → OfScans JudgesExactly v
+  does_exact does =
+      let same : SameRanges w v = (does_layout s w v does, does_ranges s w v does) in
+      scans_after JudgesExactly s w v kept (does_leaves s w v does).others (λ n scan apart was exact. exact_on w v same scan exact)
+      (λ scan is. exact_on w v same scan (own_exact scan (scan_comes s w v does scan is)))
 
-module _ (s : ℕ) (w v : TableState) (kept : AllExact w) (same : SameRanges w v) where
-  -- the other sessions' scans go on as they were
-  all_exact : ((n : ℕ) → (n ≡ s) ⊎ (v.task n ≡ w.task n)) → ((scan : TableScan) → v.task s ≡ Scans scan → JudgesExactly v scan) → AllExact v
-  all_exact others mine n scan is = ⊎_elim
-      (λ (at : n ≡ s). mine scan (ap v.task (sym at) ∙ is))
-      (λ (e : v.task n ≡ w.task n). exact_on w v same scan (kept n scan (sym e ∙ is)))
-      (others n)
-
-  own : (new : Task) → v.task s ≡ new → scan_of new ≡ None → (scan : TableScan) → v.task s ≡ Scans scan → JudgesExactly v scan
-  own new now none scan is = absurd (none-some _ (sym none ∙ ap scan_of (sym now ∙ is)))
-
-  own_is : (q : TableScan) → v.task s ≡ Scans q → JudgesExactly w q → (scan : TableScan) → v.task s ≡ Scans scan → JudgesExactly v scan
-  own_is q now exact scan is = subst (JudgesExactly v) (same_Some _ _ (ap scan_of (sym now ∙ is))) (exact_on w v same q exact)
-
-  does_own : Does s w v → AllExact v
-  does_own (PutsRow b k r place turns takes) = all_exact turns.others (own _ turns.now refl)
-  does_own (AsksSummary b k r at turns only) = all_exact turns.others (own _ turns.now refl)
-  does_own (InsertGoes b k r at old new turns stepped step) = all_exact turns.others (own _ turns.now refl)
-  does_own (InsertCompletes b k r at old turns stepped step) = all_exact turns.others (own _ turns.now refl)
-  does_own (RefusesInsert b k r old refused turns fails) = all_exact turns.others (own _ turns.now refl)
-  does_own (TakesLock first begins turns free held rows indexes) = all_exact turns.others (own first turns.now (begins_no_scan w first begins))
-  does_own (MaintainGoes job at range old new turns stepped step) = all_exact turns.others (own _ turns.now refl)
-  does_own (MaintainCompletes job at range old turns stepped step) = all_exact turns.others (own _ turns.now refl)
-  does_own (RefusesMaintain job at range phase refused turns stepped passes) = all_exact turns.others (own _ turns.now refl)
-  does_own (RefusesVacuum old vacuuming turns given rows indexes) = all_exact turns.others (own _ turns.now refl)
-  does_own (PrunesBlock extent next dropped inside spared turns drops) = all_exact turns.others (own _ turns.now refl)
-  does_own (SweepsPage at page turns stepped sweeps) = all_exact turns.others (own _ turns.now refl)
-  does_own (RestartsIndex at turns only) = all_exact turns.others (own _ turns.now refl)
-  does_own (BeginsScan scan begins turns only) = all_exact turns.others (own_is scan turns.now (begin_exact w scan begins))
-  does_own (Judges old new inside low step turns only) =
-      all_exact turns.others (own_is new turns.now (judge_exact w old new (kept s old turns.was) inside step))
-  does_own (ReadsBlock scan next found reads turns only) =
-      let exact = kept s scan turns.was in
-      all_exact turns.others (own_is (record scan { read = next + 1; found = found }) turns.now
-      (record { candidate = exact.candidate; judged = exact.judged; behind = exact.behind }))
-  does_own (RefusesScan scan t turns how) = all_exact turns.others (own _ turns.now refl)
-  does_own (Blocked task blocked turns only) =
-      all_exact turns.others (λ scan is. exact_on w v same scan (kept s scan (turns.was ∙ sym turns.now ∙ is)))
-  does_own (Transacts counts resting few same') =
-      all_exact (λ n. inr (ap (λ (u : TableState). u.task n) same')) (own Resting (ap (λ (u : TableState). u.task s) same' ∙ resting) refl)
-
-  settles_own : Settles s w v → AllExact v
-  settles_own (GoesOn old new onward turns only) =
-      all_exact turns.others (λ scan is.
-      exact_on w v same scan (onward_exact w old new onward (λ q e. kept s q (turns.was ∙ e)) scan (sym turns.now ∙ is)))
-  settles_own (GivesLock old done turns given rows indexes) = all_exact turns.others (own _ turns.now refl)
-
-pub does_exact : (s : ℕ) (w v : TableState) → AllExact w → Does s w v → AllExact v
-does_exact s w v kept does = does_own s w v kept (does_layout s w v does, does_ranges s w v does) does
-
-pub settles_exact : (s : ℕ) (w v : TableState) → AllExact w → Settles s w v → AllExact v
-settles_exact s w v kept settles = settles_own s w v kept (settles_layout s w v settles, settled_ranges settles) settles
-  where
-    settled_ranges : Settles s w v → (i : ℕ) → (v.index i).pages_per_range ≡ (w.index i).pages_per_range
-    settled_ranges (GoesOn old new onward turns only) = indexes_ranges w v only.indexes
-    settled_ranges (GivesLock old done turns given rows indexes) = indexes_ranges w v indexes
+  pub settles_exact : Settles s w v → OfScans JudgesExactly v
+  settles_exact settles =
+      scans_settled JudgesExactly s w v kept
+      (λ scan rows indexes. exact_on w v (rows.layout.indexes, indexes_ranges w v indexes) scan)
+      (λ scan inside all exact. next_exact w scan exact all) settles
 
 -- a block that isn't left out is given, or lies in a range that isn't judged
 kept_or_not : (o : Option Bool) → o ≢ Some false → (o ≡ Some true) ⊎ (o ≡ None)
@@ -408,5 +359,5 @@ replied_given w scan exact onward b = (
     all_judged : (q : TableScan) → JudgesExactly w q → Onward w (Scans q) Resting → (i : ℕ) → i < w.indexes → b < q.extent → q.judged i (range_in w i b) ≢ None
     all_judged _ exact (JudgesNext q _ inside all empty more) i below low =
         all_judged (record q { at = suc q.at; range = 0 }) (next_exact w q exact all) more i below low
-    all_judged _ exact (Scanned q all done) i below low =
-        exact.judged i (range_in w i b) below (inl (subst (λ n. i < n) (sym all) below)) (starts i q low)
+    all_judged _ exact (Scanned q read nothing) i below low =
+        exact.judged i (range_in w i b) below (inl (subst (λ n. i < n) (sym read.0) below)) (starts i q low)

@@ -1,22 +1,23 @@
 -- The summarise lock is held for maintenance, and for nothing else.
-use Rattle.std.proofs.Common.{◌≡◌, ◌⊎◌, inr, ⊎_elim, ℕ, Some, None, sym, ◌∙◌, ap, subst, suc}
+use Rattle.std.proofs.Common.{◌≡◌, ◌⊎◌, inr, ⊎_elim, ℕ, Some, None, true, false, sym, ◌∙◌, ap, subst, suc}
 use Rattle.std.proofs.lemmas.Option.{same_Some, none-some}
 use Rattle.block_model.specs.declared.row.Row.{Row}
 use Rattle.coverage.specs.Statements.{Idle, Inserting, Maintaining, Holding}
 use Rattle.coverage.proofs.Runs.{insert_keeps}
-use Rattle.table_coverage.specs.Table.{Task, Resting, Reaches, Asks, Inserts, Considers, Maintains, Prunes, SweepsFrom, Sweeps, Restarts, Scans}
+use Rattle.table_coverage.specs.Table.{Task, Resting, Reaches, Asks, Inserts, Considers, Maintains, Prunes, SweepsFrom, Sweeps, Restarts, Scans, Marks}
 use Rattle.table_coverage.specs.Table.{TableState, index_view_at}
-use Rattle.table_coverage.specs.TableSteps.{OnlyTurns, BeginsWith, Summarize, SummarizeOne, Desummarize, Vacuum, IsInsertRefused, AskRefused, MemoryShort}
-use Rattle.table_coverage.specs.TableSteps.{IndexFull, IsVacuuming, Fails, Does, PutsRow, AsksSummary, InsertGoes, InsertCompletes, RefusesInsert, TakesLock}
+use Rattle.table_coverage.specs.TableSteps.{OnlyTurns, BeginsWith, Summarize, SummarizeOne, Work, Desummarize, Vacuum, IsInsertRefused}
+use Rattle.table_coverage.specs.TableSteps.{IndexFull, IsVacuuming, Fails, Does, PutsRow, RefusesRow, AsksSummary, InsertGoes, InsertCompletes, RefusesInsert, TakesLock}
 use Rattle.table_coverage.specs.TableSteps.{MaintainGoes, MaintainCompletes, RefusesMaintain, RefusesVacuum, PrunesBlock, SweepsPage, RestartsIndex, BeginsScan}
-use Rattle.table_coverage.specs.TableSteps.{Judges, ReadsBlock, RefusesScan, Blocked, Transacts, Onward, Stays, ToAsk, ToIndex, Inserted, ToRange, NextIndex}
-use Rattle.table_coverage.specs.TableSteps.{Pruned, ToPage, Swept, JudgesNext, Scanned, IsMaintained, RangesDone, NothingToSweep, Settles, GoesOn, GivesLock}
+use Rattle.table_coverage.specs.TableSteps.{Judges, ReadsBlock, RefusesScan, MarksRow, Conflicts, Blocked, Transacts, Onward, Stays, ToAsk, ToIndex, Inserted, ToRange, NextIndex}
+use Rattle.table_coverage.specs.TableSteps.{Pruned, ToPage, Swept, JudgesNext, Scanned, ToMarks, Marked, IsMaintained, RangesDone, NothingToSweep, Settles, GoesOn, GivesLock}
 use Rattle.table_coverage.specs.TableCovered.{IsMaintenance, IsHeldForMaintenance}
 use Rattle.table_coverage.proofs.TableSettled.{job_lock_kept}
 
 begins_maintenance : (w : TableState) (first : Task) → BeginsWith w first → IsMaintenance first
 begins_maintenance w _ (Summarize at below) = tt
 begins_maintenance w _ (SummarizeOne at only below) = tt
+begins_maintenance w _ (Work at only below) = tt
 begins_maintenance w _ (Desummarize at only below) = tt
 begins_maintenance w _ Vacuum = tt
 
@@ -32,11 +33,10 @@ vacuuming_maintenance (SweepsFrom at from) is = tt
 vacuuming_maintenance (Sweeps at page) is = tt
 vacuuming_maintenance (Restarts at) is = tt
 vacuuming_maintenance (Scans scan) is = absurd is
+vacuuming_maintenance (Marks scan ids) is = absurd is
 
 refused_no_maintenance : (w : TableState) (s b k : ℕ) (r : Row) (old : Task) → IsInsertRefused w s b k r old → IsMaintenance old → ⊥
-refused_no_maintenance w s b k r _ (AskRefused at) maintains = maintains
-refused_no_maintenance w s b k r _ (MemoryShort at on_index none) maintains = maintains
-refused_no_maintenance w s b k r _ (IndexFull at x old new verdict) maintains = maintains
+refused_no_maintenance w s b k r _ (IndexFull number at x old new verdict) maintains = maintains
 
 maintained_maintenance : (w : TableState) (task : Task) → IsMaintained w task → IsMaintenance task
 maintained_maintenance w _ (RangesDone job at range done last) = tt
@@ -58,7 +58,9 @@ onward_maintenance w _ _ (ToPage at from m p next) = ((λ m. tt), λ m. tt)
 onward_maintenance w _ _ (Swept at from none some) = ((λ m. tt), λ m. tt)
 onward_maintenance w _ _ (JudgesNext scan new inside all empty more) =
     let same = onward_maintenance w (Scans (record scan { at = suc scan.at; range = 0 })) new more in ((λ m. absurd m), λ m. same.1 m)
-onward_maintenance w _ _ (Scanned scan all done) = ((λ m. m), λ m. m)
+onward_maintenance w _ _ (Scanned scan read nothing) = ((λ m. m), λ m. m)
+onward_maintenance w _ _ (ToMarks scan id rest read reads deletes lists) = ((λ m. m), λ m. m)
+onward_maintenance w _ _ (Marked scan) = ((λ m. m), λ m. m)
 
 module _ (s : ℕ) (w v : TableState) (others : (n : ℕ) → (n ≡ s) ⊎ (v.task n ≡ w.task n)) (kept : IsHeldForMaintenance w) where
   -- the lock stays, and the session's statement is maintenance as before, or none as before
@@ -103,6 +105,7 @@ module _ (s : ℕ) (w v : TableState) (others : (n : ℕ) → (n ≡ s) ⊎ (v.t
 
 pub does_lock : (s : ℕ) (w v : TableState) → IsHeldForMaintenance w → Does s w v → IsHeldForMaintenance v
 does_lock s w v kept (PutsRow b k r place turns takes) = stays s w v turns.others kept _ _ turns.was turns.now ((λ m. m), λ m. m) takes.summarise_lock
+does_lock s w v kept (RefusesRow t refused turns fails) = stays s w v turns.others kept _ _ turns.was turns.now ((λ m. m), λ m. m) fails.summarise_lock
 does_lock s w v kept (AsksSummary b k r at turns only) = stays s w v turns.others kept _ _ turns.was turns.now ((λ m. m), λ m. m) only.summarise_lock
 does_lock s w v kept (InsertGoes b k r at old new turns stepped step) =
     stays s w v turns.others kept _ _ turns.was turns.now ((λ m. m), λ m. m)
@@ -137,7 +140,14 @@ does_lock s w v kept (ReadsBlock scan next found reads turns only) =
     stays s w v turns.others kept _ _ turns.was turns.now ((λ m. m), λ m. m) only.summarise_lock
 does_lock s w v kept (RefusesScan scan t turns how) =
     stays s w v turns.others kept _ _ turns.was turns.now ((λ m. m), λ m. m)
-    (⊎_elim (λ (fails : Fails w v t). fails.summarise_lock) (λ (only : OnlyTurns w v). only.summarise_lock) how)
+    (⊎_elim
+    (λ (fails : (scan.explains ≡ false) × Fails w v t). fails.1.summarise_lock)
+    (λ (only : (scan.explains ≡ true) × OnlyTurns w v). only.1.summarise_lock)
+    how)
+does_lock s w v kept (MarksRow scan id rest turns only) =
+    stays s w v turns.others kept _ _ turns.was turns.now ((λ m. m), λ m. m) only.summarise_lock
+does_lock s w v kept (Conflicts scan id rest t turns fails) =
+    stays s w v turns.others kept _ _ turns.was turns.now ((λ m. m), λ m. m) fails.summarise_lock
 does_lock s w v kept (Blocked task blocked turns only) = stays s w v turns.others kept task task turns.was turns.now ((λ m. m), λ m. m) only.summarise_lock
 does_lock s w v kept (Transacts counts resting few same) =
     stays s w v (λ n. inr (ap (λ (u : TableState). u.task n) same)) kept Resting Resting resting (ap (λ (u : TableState). u.task s) same ∙ resting)

@@ -1,8 +1,9 @@
 -- Of the steps that a running statement of a table could take at a moment there is one point alone.
-use Rattle.std.proofs.Common.{◌≡◌, ℕ, ◌+◌, ◌<◌, Option, Some, None, Bool, sym, ◌∙◌, ap, subst, arith, suc}
+use Rattle.std.proofs.Common.{◌≡◌, ℕ, ◌+◌, ◌<◌, Option, Some, None, Bool, List, ◌∷◌, sym, ◌∙◌, ap, subst, arith, suc}
 use Rattle.std.specs.Prelude.{refl}
 use Rattle.std.proofs.lemmas.Option.{same_Some, none-some}
 use Rattle.block_model.specs.declared.row.Row.{Row}
+use Rattle.block_model.specs.declared.row.RowId.{RowId}
 use Rattle.coverage.specs.IndexView.{TuplePlace, IndexView}
 use Rattle.coverage.specs.Statements.{OnIndex, Empty, Phase, Statement, Idle, Inserting, Maintaining, Holding}
 use Rattle.coverage.specs.Steps.{InsertStep}
@@ -11,11 +12,11 @@ use Rattle.coverage.proofs.NextSteps.{insert_one_point, summarise_one_point, des
 use Rattle.coverage.proofs.OneOutcome.{insert_one_outcome, summarise_one_outcome, desummarise_one_outcome}
 use Rattle.table_coverage.proofs.TableScans.{judge_once, reads_once}
 use Rattle.table_coverage.specs.Table.{Job, EachRange, OneRange, WholeRanges, Desummarising, TableScan, Task, Resting, Reaches, Asks, Inserts, Considers, Maintains, Prunes}
-use Rattle.table_coverage.specs.Table.{SweepsFrom, Sweeps, Restarts, Scans, TableState, index_view_at}
-use Rattle.table_coverage.specs.TableSteps.{TaskTurns, ReadsPage, JobStep, JudgeStep, JudgeMap, JudgeNoEntry, JudgeGone, JudgeKeeps, JudgeDrops, Does, PutsRow, AsksSummary, InsertGoes}
+use Rattle.table_coverage.specs.Table.{SweepsFrom, Sweeps, Restarts, Scans, Marks, TableState, index_view_at}
+use Rattle.table_coverage.specs.TableSteps.{TaskTurns, ReadsPage, JobStep, JudgeStep, JudgeMap, JudgeNoEntry, JudgeGone, JudgeKeeps, JudgeDrops, Does, PutsRow, RefusesRow, AsksSummary, InsertGoes}
 use Rattle.table_coverage.specs.TableSteps.{InsertCompletes, RefusesInsert, TakesLock, MaintainGoes, MaintainCompletes, RefusesMaintain, RefusesVacuum}
-use Rattle.table_coverage.specs.TableSteps.{PrunesBlock, SweepsPage, RestartsIndex, BeginsScan, Judges, ReadsBlock, RefusesScan, Blocked, Transacts}
-use Rattle.table_coverage.specs.TablePoints.{TablePoint, OfIndex, AtAsk, AtRight, AtPrune, AtSweep, AtPage, job_point, judge_point, does_point}
+use Rattle.table_coverage.specs.TableSteps.{PrunesBlock, SweepsPage, RestartsIndex, BeginsScan, Judges, ReadsBlock, RefusesScan, MarksRow, Conflicts, Blocked, Transacts}
+use Rattle.table_coverage.specs.TablePoints.{TablePoint, OfIndex, AtAsk, AtRight, AtPrune, AtSweep, AtPage, AtMark, job_point, judge_point, does_point}
 
 -- what an insert and a maintenance statement are at after a step in an index
 abbrev after_insert : (b k : ℕ) → Row → (at : ℕ) → Statement → Task
@@ -40,6 +41,7 @@ data NextTask (w : TableState) (s : ℕ) : Task → TablePoint → Task → Type
       → NextTask w s (Scans old) (OfIndex (judge_point step)) (Scans new)
   ToRead : (scan : TableScan) (next : ℕ) (found : ℕ → ℕ → Bool) → ReadsPage w scan next found
       → NextTask w s (Scans scan) AtPage (Scans (record scan { read = next + 1; found = found }))
+  ToMark : (scan : TableScan) (id : RowId) (rest : List RowId) → NextTask w s (Marks scan (id ∷ rest)) AtMark (Marks scan rest)
 
 job_one_outcome : (job : Job) (s range : ℕ) (w v u : IndexView) (phase : Phase) (e f : Statement) → JobStep job s range w v phase e
     → JobStep job s range w u phase f → e ≡ f
@@ -96,6 +98,7 @@ task_once w s _ _ _ _ _ (ToRead scan next found reads) (ToJudge _ new inside two
 task_once w s _ _ _ _ _ (ToRead scan next found reads) (ToRead _ next' found' reads') =
     let same = reads_once w scan next next' found found' reads reads' in
     (refl, λ i. Scans (record scan { read = same.0 i + 1; found = λ b k. same.1 b k i }))
+task_once w s _ _ _ _ _ (ToMark scan id rest) (ToMark scan' id' rest') = (refl, refl)
 
 -- a session with a statement in hand
 abbrev IsBusy : Task → Type 0
@@ -114,6 +117,7 @@ module _ (w v : TableState) (s : ℕ) (p : TablePoint) (busy : IsBusy (w.task s)
 
   does_task : (does : Does s w v) → does_point s w v does ≡ Some p → NextTask w s (w.task s) p (v.task s)
   does_task (PutsRow b k r place turns takes) is = rests turns.was
+  does_task (RefusesRow t refused turns fails) is = rests turns.was
   does_task (AsksSummary b k r at turns only) is = at_task _ _ _ turns (ToAsk b k r at) is
   does_task (InsertGoes b k r at old new turns stepped step) is =
       at_task _ _ _ turns (ToInsert b k r at old (index_view_at at v) (Inserting b k r new) step) is
@@ -133,6 +137,8 @@ module _ (w v : TableState) (s : ℕ) (p : TablePoint) (busy : IsBusy (w.task s)
   does_task (Judges old new inside low step turns only) is = at_task _ _ _ turns (ToJudge old new inside step) is
   does_task (ReadsBlock scan next found reads turns only) is = at_task _ _ _ turns (ToRead scan next found reads) is
   does_task (RefusesScan scan t turns how) is = absurd (none-some _ is)
+  does_task (MarksRow scan id rest turns only) is = at_task _ _ _ turns (ToMark scan id rest) is
+  does_task (Conflicts scan id rest t turns fails) is = absurd (none-some _ is)
   does_task (Blocked task blocked turns only) is = absurd (none-some _ is)
   does_task (Transacts counts resting few same) is = absurd (none-some _ is)
 
@@ -148,6 +154,7 @@ busy_task (SweepsFrom at from) not = tt
 busy_task (Sweeps at page) not = tt
 busy_task (Restarts at) not = tt
 busy_task (Scans scan) not = tt
+busy_task (Marks scan ids) not = tt
 
 pub table_one_next : (s : ℕ) (w v u : TableState) (p q : TablePoint) → (w.task s ≡ Resting → ⊥) → (one : Does s w v) → (two : Does s w u)
     → does_point s w v one ≡ Some p → does_point s w u two ≡ Some q → (p ≡ q) × (v.task s ≡ u.task s)

@@ -6,10 +6,11 @@ use Rattle.coverage.specs.IndexView.{Progress, IsBuilding}
 use Rattle.coverage.specs.Statements.{building_of}
 use Rattle.coverage.specs.IsCovered.{IsAtRest, IsIndexKept}
 use Rattle.table_coverage.specs.Table.{TableScan, Task, Resting, Scans, TableState, seen_by, index_state, index_view_at}
-use Rattle.table_coverage.specs.TableCovered.{IsMaintenance, IsHeldForMaintenance, IsTableCovered, IsTableKept, IsTableAtRest, IsNewTable, TableStops}
+use Rattle.table_coverage.specs.TableCovered.{IsMaintenance, IsHeldForMaintenance, IsTableCovered, IsInTable, IsTableKept, IsTableAtRest, IsNewTable, TableStops}
 use Rattle.coverage.proofs.Covered.{kept_covered}
 use Rattle.coverage.proofs.Opening.{rest_kept, stopped_kept}
 use Rattle.coverage.proofs.PagesOrdered.{order_new}
+use Rattle.table_coverage.proofs.ScanComes.{marks_differ}
 
 -- who rests has no scan
 abbrev IsResting : Task → Type 0
@@ -38,6 +39,9 @@ table_opened w covered rest = record {
   rows_below = rest.rows_below;
   scans = λ s scan is. absurd (resting_scan scan (sym (rest.resting s) ∙ is));
   exact = λ s scan is. absurd (resting_scan scan (sym (rest.resting s) ∙ is));
+  finds = λ s scan is. absurd (resting_scan scan (sym (rest.resting s) ∙ is));
+  marks = λ s scan ids is. absurd (marks_differ scan ids (sym (rest.resting s) ∙ is));
+  inside = λ s. subst (IsInTable w) (sym (rest.resting s)) tt;
 }
 
 pub table_stopped : (w v : TableState) → IsTableKept w → TableStops w v → IsTableKept v
@@ -49,6 +53,9 @@ table_stopped w v kept stops = record {
   rows_below = λ b k r there. within b w.blocks v.blocks (kept.rows_below b k r (sym (stops.row b k) ∙ there)) stops.blocks;
   scans = λ s scan is. absurd (resting_scan scan (sym (stops.resting s) ∙ is));
   exact = λ s scan is. absurd (resting_scan scan (sym (stops.resting s) ∙ is));
+  finds = λ s scan is. absurd (resting_scan scan (sym (stops.resting s) ∙ is));
+  marks = λ s scan ids is. absurd (marks_differ scan ids (sym (stops.resting s) ∙ is));
+  inside = λ s. subst (IsInTable v) (sym (stops.resting s)) tt;
 }
   where
     within : (b n m : ℕ) → b < n → n ≤ m → b < m
@@ -79,4 +86,7 @@ new_table_kept w new = record {
   rows_below = λ b k r is. absurd (none-some _ (sym (new.row b k) ∙ is));
   scans = λ s scan is. absurd (resting_scan scan (sym (new.resting s) ∙ is));
   exact = λ s scan is. absurd (resting_scan scan (sym (new.resting s) ∙ is));
+  finds = λ s scan is. absurd (resting_scan scan (sym (new.resting s) ∙ is));
+  marks = λ s scan ids is. absurd (marks_differ scan ids (sym (new.resting s) ∙ is));
+  inside = λ s. subst (IsInTable w) (sym (new.resting s)) tt;
 }

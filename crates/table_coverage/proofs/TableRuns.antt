@@ -1,31 +1,32 @@
 -- Every step of a table's statements keeps what each of its indexes rests on.
-use Rattle.std.proofs.Common.{◌≡◌, ◌≢◌, ◌⊎◌, inl, inr, ⊎_elim, ℕ, ◌+◌, ◌≤◌, ◌<◌, Option, Some, None, Bool, true, false, sym, ◌∙◌, ap, subst, arith, suc}
+use Rattle.std.proofs.Common.{◌≡◌, ◌≢◌, ◌⊎◌, inl, inr, ⊎_elim, ℕ, ◌+◌, ◌≤◌, ◌<◌, Some, None, Bool, true, false, sym, ◌∙◌, ap, subst, arith, suc}
 use Rattle.std.specs.Prelude.{refl, IsTrue, max}
 use Rattle.std.proofs.lemmas.Option.{none-some}
 use Rattle.std.proofs.lemmas.Bool.{cases_eq}
 use Rattle.block_model.specs.declared.row.Row.{Row}
 use Rattle.coverage.specs.IndexView.{TuplePlace, IndexTuple, IndexView, range_of_block}
 use Rattle.coverage.specs.Statements.{OnIndex, Empty, Held, Copied, Moving, Dropping, IsAdded, Phase, Scan, Statement, Idle, Inserting, Maintaining, Holding}
-use Rattle.coverage.specs.Statements.{Scanning, loose_in, loose_at}
+use Rattle.coverage.specs.Statements.{Scanning, loose_in}
 use Rattle.coverage.specs.Knowing.{LocksNone, KnowsOnIndex, Knows}
 use Rattle.coverage.specs.IsCovered.{IsIndexKept}
 use Rattle.coverage.specs.Steps.{IsUnnamed, SweepsTuples, Excludes, InsertStep, MaintainStep, Summarises, Desummarises, ScanStep, ScanMap, ScanGone, ScanKeeps}
 use Rattle.coverage.specs.Steps.{ScanDrops, ScanElsewhere, ScanPage, SummariseLockPasses, Step, PutRow, Insert, Refused, TakeSummariseLock, Maintain, Prune}
 use Rattle.coverage.specs.Steps.{Sweep, GiveSummariseLock, Abandon, BeginScan, Scans as StepScans, EndScan, Elsewhere, Counts}
-use Rattle.coverage.specs.Waiting.{IsPhaseFull, FinalFull, PlaceFull, MapFull, EvacuateFull}
+use Rattle.coverage.specs.Waiting.{IsPhaseFull, IsInsertEnded, EndsBefore, EndsFull}
 use Rattle.table_coverage.specs.Table.{Index, Job, EachRange, OneRange, WholeRanges, Desummarising, TableScan, Task, Resting, Reaches, Asks, Inserts, Considers}
-use Rattle.table_coverage.specs.Table.{Maintains, Prunes, SweepsFrom, Sweeps, Restarts, Scans, TableState, pick, judged_with, on_index_by, inserting_of, held_at, scan_at}
+use Rattle.table_coverage.specs.Table.{Maintains, Prunes, SweepsFrom, Sweeps, Restarts, Scans, Marks, TableState, pick, judged_with, on_index_by, inserting_of, held_at, scan_at}
 use Rattle.table_coverage.specs.Table.{seen_by, index_state, index_view_at}
-use Rattle.table_coverage.specs.TableSteps.{TaskTurns, SameRows, SameIndexes, OnlyTurns, StepsIn, IsFirstPlace, TableTakesRow, IsInsertRefused, AskRefused}
-use Rattle.table_coverage.specs.TableSteps.{MemoryShort, IndexFull, BeginsWith, Summarize, SummarizeOne, Desummarize, Vacuum, JobStep, IsMaintainRefused}
-use Rattle.table_coverage.specs.TableSteps.{NoMemory, NoPage, HasPut, SeesPlace, IsVacuuming, DropsRows, ScanBegins}
+use Rattle.table_coverage.specs.TableSteps.{TaskTurns, SameRows, SameIndexes, OnlyTurns, StepsIn, IsFirstPlace, TableTakesRow, IsInsertRefused}
+use Rattle.table_coverage.specs.TableSteps.{IndexFull, BeginsWith, Summarize, SummarizeOne, Work, Desummarize, Vacuum, JobStep}
+use Rattle.table_coverage.specs.TableSteps.{HasPut, SeesPlace, IsVacuuming, DropsRows, ScanBegins}
 use Rattle.table_coverage.specs.TableSteps.{JudgeStep, JudgeMap, JudgeNoEntry, JudgeGone, JudgeKeeps, JudgeDrops, ReadsPage, Fails, IsMaintained, RangesDone}
 use Rattle.table_coverage.specs.TableSteps.{NothingToSweep}
 use Rattle.table_coverage.specs.TableCovered.{AreIndexesKept}
 use Rattle.coverage.proofs.Opening.{scan_excludes}
 use Rattle.coverage.proofs.Runs.{step_kept}
+use Rattle.coverage.proofs.FullApart.{ended_loose}
 use Rattle.table_coverage.proofs.Views.{pick_same, pick_other, held_none, on_index_first, on_index_here, on_index_below, on_index_other, on_index_next}
-use Rattle.table_coverage.proofs.Views.{on_index_view, seen_put, seen_spares, none_at, rows_frame, reads_by, turned_at, rests_at, reads_at, passes_at}
+use Rattle.table_coverage.proofs.Views.{on_index_apart, seen_put, seen_spares, none_at, rows_frame, reads_by, turned_at, rests_at, reads_at, passes_at}
 
 -- the step of a maintenance statement in its index
 job_step : (job : Job) (s range : ℕ) (w v : IndexView) (old : Phase) (new : Statement) → JobStep job s range w v old new → MaintainStep s range w v old new
@@ -37,18 +38,9 @@ job_step (Desummarising only) s range w v old new step = Desummarises step
 begins_holding : (i : ℕ) (w : TableState) (first : Task) → BeginsWith w first → seen_by i first ≡ Holding
 begins_holding i w _ (Summarize at below) = refl
 begins_holding i w _ (SummarizeOne at only below) = refl
+begins_holding i w _ (Work at only below) = refl
 begins_holding i w _ (Desummarize at only below) = refl
 begins_holding i w _ Vacuum = refl
-
-pub refused_loose : (w : IndexView) (s range : ℕ) (phase : Phase) → IsMaintainRefused w s range phase → loose_at phase ≡ None
-refused_loose w s range _ (NoMemory phase none) = none
-refused_loose w s range phase (NoPage _ full) = full_loose phase full
-  where
-    full_loose : (phase : Phase) → IsPhaseFull w s range phase → loose_at phase ≡ None
-    full_loose _ (FinalFull p x old new verdict) = refl
-    full_loose _ (PlaceFull long verdict) = refl
-    full_loose _ (MapFull past limit) = refl
-    full_loose _ (EvacuateFull x t grows next named free verdict) = refl
 
 pub vacuuming_holds : (i : ℕ) (task : Task) → IsVacuuming task → seen_by i task ≡ Holding
 vacuuming_holds i Resting is = absurd is
@@ -62,27 +54,26 @@ vacuuming_holds i (SweepsFrom at from) is = absurd is
 vacuuming_holds i (Sweeps at page) is = refl
 vacuuming_holds i (Restarts at) is = refl
 vacuuming_holds i (Scans scan) is = absurd is
+vacuuming_holds i (Marks scan ids) is = absurd is
 
 pub maintained_holds : (i : ℕ) (w : TableState) (task : Task) → IsMaintained w task → seen_by i task ≡ Holding
 maintained_holds i w _ (RangesDone job at range done last) = refl
 maintained_holds i w _ (NothingToSweep extent next all none) = refl
 
+-- an index sees nothing of an insert that is refused, or that it ends here or before this index
 refused_view : (i : ℕ) (w : TableState) (s b k : ℕ) (r : Row) (old : Task) → IsInsertRefused w s b k r old
-    → (seen_by i old ≡ Idle) ⊎ ((on_index : OnIndex) × (seen_by i old ≡ Inserting b k r on_index) × (loose_in on_index ≡ None))
-refused_view i w s b k r old refused = by_on_index old refused
-  where
-    from_on_index : (o : Option OnIndex) → (o ≡ None) ⊎ ((g : OnIndex) × (o ≡ Some g) × (loose_in g ≡ None))
-        → (inserting_of b k r o ≡ Idle) ⊎ ((on_index : OnIndex) × (inserting_of b k r o ≡ Inserting b k r on_index) × (loose_in on_index ≡ None))
-    from_on_index o view = ⊎_elim
-        (λ (none : o ≡ None). inl (ap (inserting_of b k r) none))
-        (λ (some : (g : OnIndex) × (o ≡ Some g) × (loose_in g ≡ None)). inr (some.0, ap (inserting_of b k r) some.1, some.2))
-        view
-
-    by_on_index : (old : Task) → IsInsertRefused w s b k r old
-        → (seen_by i old ≡ Idle) ⊎ ((on_index : OnIndex) × (seen_by i old ≡ Inserting b k r on_index) × (loose_in on_index ≡ None))
-    by_on_index _ (AskRefused at) = from_on_index (on_index_by i at Empty) (on_index_view i at Empty refl)
-    by_on_index _ (MemoryShort at on_index none) = from_on_index (on_index_by i at on_index) (on_index_view i at on_index none)
-    by_on_index _ (IndexFull at x t u verdict) = from_on_index (on_index_by i at (Copied x t u)) (on_index_view i at (Copied x t u) refl)
+    → (seen_by i old ≡ Idle) ⊎ ((on_index : OnIndex) × (seen_by i old ≡ Inserting b k r on_index) × IsInsertEnded (index_view_at i w) s b on_index)
+refused_view i w s b k r _ (IndexFull number at x t u verdict) = ⊎_elim
+    (λ (is : i ≡ at). inr (
+      Copied x t u,
+      ap (λ m. inserting_of b k r (on_index_by m at (Copied x t u))) is ∙ ap (inserting_of b k r) (on_index_here at (Copied x t u)),
+      subst (λ m. IsInsertEnded (index_view_at m w) s b (Copied x t u)) (sym is) (EndsFull number x t u verdict),
+    ))
+    (λ (apart : i ≢ at). ⊎_elim
+    (λ (none : on_index_by i at (Copied x t u) ≡ None). inl (ap (inserting_of b k r) none))
+    (λ (some : on_index_by i at (Copied x t u) ≡ Some Empty). inr (Empty, ap (inserting_of b k r) some, EndsBefore))
+    (on_index_apart i at (Copied x t u) apart))
+    (cases_eq i at)
 
 -- with nothing loose in hand a session locks no page
 on_index_locks_none : (w : IndexView) (s range : ℕ) (Makes : IndexTuple → IndexTuple → Type 0) (on_index : OnIndex) → loose_in on_index ≡ None
@@ -196,16 +187,20 @@ module _ (s : ℕ) (w v : TableState) (kept : AreIndexesKept w) (i : ℕ) (below
       → IsIndexKept (index_state i v)
   refuses_insert b k r old refused turns fails = ⊎_elim
       (λ (idle : seen_by i old ≡ Idle). counts_less r.id.t fails (same_views old Resting turns (sym idle)))
-      (λ (at : (on_index : OnIndex) × (seen_by i old ≡ Inserting b k r on_index) × (loose_in on_index ≡ None)).
+      (λ (at : (on_index : OnIndex) × (seen_by i old ≡ Inserting b k r on_index) × IsInsertEnded (index_view_at i w) s b on_index).
       let index : v.index i ≡ w.index i = fails.indexes.index i in
       let none : LocksNone (index_view_at i w) s =
-      on_index_locks_none (index_view_at i w) s (range_of_block (index_view_at i w) b) (IsAdded r) at.0 at.2
+      on_index_locks_none (index_view_at i w) s (range_of_block (index_view_at i w) b) (IsAdded r) at.0 (ended_loose (index_view_at i w) s b at.0 at.2)
       (known old (Inserting b k r at.0) turns.was at.1).2 in
       steps (Refused b k r at.0 at.2 (turned_at i s w v old Resting turns (Inserting b k r at.0) Idle at.1 refl)
       (reads_by i s w v index (record { pages_per_range = ap (λ (x : Index). x.pages_per_range) index; blocks = fails.blocks; row = fails.row })
       fails.summarise_lock none)
       fails.failed fails.fewer))
       (refused_view i w s b k r old refused)
+
+  -- a transaction fails by a step that the index doesn't see
+  pub fails_unseen : (old : Task) (t : ℕ) → TaskTurns s w v old Resting → Fails w v t → seen_by i old ≡ Idle → IsIndexKept (index_state i v)
+  fails_unseen old t turns fails idle = counts_less t fails (same_views old Resting turns (sym idle))
 
   pub takes_lock : (first : Task) → BeginsWith w first → TaskTurns s w v Resting first → w.summarise_lock ≡ None → v.summarise_lock ≡ Some s → SameRows w v
       → SameIndexes w v → IsIndexKept (index_state i v)
@@ -230,12 +225,12 @@ module _ (s : ℕ) (w v : TableState) (kept : AreIndexesKept w) (i : ℕ) (below
       (stepped.others i))
       (cases_eq i at)
 
-  pub refuses_maintain : (job : Job) (at range : ℕ) (phase : Phase) → loose_at phase ≡ None → TaskTurns s w v (Maintains job at range phase) Resting
+  pub refuses_maintain : (job : Job) (at range number : ℕ) (phase : Phase) → IsPhaseFull (index_view_at at w) s range phase number → TaskTurns s w v (Maintains job at range phase) Resting
       → StepsIn at w v
       → SummariseLockPasses s (index_view_at at w) (index_view_at at v) (Some s) None → IsIndexKept (index_state i v)
-  refuses_maintain job at range phase none turns stepped passes = ⊎_elim
+  refuses_maintain job at range number phase full turns stepped passes = ⊎_elim
       (λ (is : i ≡ at). steps (subst (λ m. Step s (index_state m w) (index_state m v)) (sym is)
-      (Abandon range phase none
+      (Abandon range number phase full
       (turned_at at s w v (Maintains job at range phase) Resting turns (Maintaining range phase) Idle (pick_same at (Maintaining range phase) Holding) refl)
       passes (record { counts = stepped.rows.counts }))))
       (λ (apart : i ≢ at). ⊎_elim

@@ -1,15 +1,19 @@
 -- What a scan of a table still has before it.
-use Rattle.std.proofs.Common.{◌≡◌, ◌≢◌, ◌⊎◌, inl, inr, ⊎_elim, ℕ, ◌≤◌, ◌<◌, Option, Some, None, Bool, true, false, sym, ◌∙◌, ap, subst, arith, suc}
+use Rattle.std.proofs.Common.{◌≡◌, ◌≢◌, ◌⊎◌, inl, inr, ⊎_elim, ℕ, ◌≤◌, ◌<◌, Option, Some, None, Bool, true, false, List, sym, ◌∙◌, ap, subst, arith, suc}
 use Rattle.std.specs.Prelude.{refl, IsTrue}
 use Rattle.std.proofs.lemmas.Option.{same_Some, none-some}
 use Rattle.std.proofs.lemmas.Bool.{false≢true}
 use Rattle.block_model.specs.declared.row.Row.{Row}
-use Rattle.table_coverage.specs.Table.{TableScan, Resting, Scans, TableState, judged_with}
+use Rattle.block_model.specs.declared.row.RowId.{RowId}
+use Rattle.table_coverage.specs.RowOrder.{IsAmong}
+use Rattle.table_coverage.specs.Table.{TableScan, Resting, Scans, Marks, TableState, judged_with}
 use Rattle.coverage.specs.IndexView.{TuplePlace, IndexTuple, IndexView, range_of_block}
 use Rattle.coverage.specs.Steps.{IsGone}
 use Rattle.table_coverage.specs.TableSteps.{JudgeStep, JudgeMap, JudgeNoEntry, JudgeGone, JudgeKeeps, JudgeDrops, ReadsPage, Onward, JudgesNext}
-use Rattle.table_coverage.specs.TableSteps.{Scanned}
+use Rattle.table_coverage.specs.TableSteps.{Scanned, IsScanRead, ListsFound}
 use Rattle.table_coverage.specs.TableCovered.{IsTableKept, IsGiven, IsUnjudged}
+use Rattle.table_coverage.proofs.Views.{scan_of}
+use Rattle.table_coverage.proofs.ScanComes.{marks_of, onward_marks}
 use Rattle.table_coverage.proofs.TableJudged.{given_or_unjudged}
 
 pub table_scan_finds : (w : TableState) (s b k : ℕ) (scan : TableScan) → IsTableKept w → w.task s ≡ Scans scan → IsTrue (scan.sees b k)
@@ -128,10 +132,10 @@ replied_reads : (w : TableState) (scan : TableScan) → Onward w (Scans scan) Re
     → b < scan.read
 replied_reads w _ (JudgesNext scan _ inside all empty more) reads b candidate =
     replied_reads w (record scan { at = suc scan.at; range = 0 }) more reads b candidate
-replied_reads w _ (Scanned scan all done) reads b candidate = ⊎_elim
+replied_reads w _ (Scanned scan read nothing) reads b candidate = ⊎_elim
     (λ (explains : scan.explains ≡ true). absurd (false≢true (sym reads ∙ explains)))
-    (λ (read : (c : ℕ) → IsTrue (scan.candidate c) → c < scan.read). read b candidate)
-    done
+    (λ (all : (c : ℕ) → IsTrue (scan.candidate c) → c < scan.read). all b candidate)
+    read.1
 
 pub replied_finds : (w : TableState) (s b k : ℕ) (scan : TableScan) → IsTableKept w → w.task s ≡ Scans scan → Onward w (Scans scan) Resting
     → scan.explains ≡ false → IsTrue (scan.sees b k)
@@ -148,3 +152,36 @@ replied_finds w s b k scan kept is onward reads sees =
   where
     apart : (n m : ℕ) → n ≤ m → m < n → ⊥
     apart n m le less = omega arith
+
+-- a delete that comes to its marks has found each matching row that it sees, and lists it
+module _ (v : TableState) (b k : ℕ) (scan : TableScan) where
+  abbrev IsOnItsWay : TableScan → Type 0
+  IsOnItsWay q = (r : Row) × (v.row b k ≡ Some r) × (IsTrue (scan.matches r) → IsTrue (q.found b k) ⊎ (IsTrue (q.candidate b) × (q.read ≤ b)))
+
+  abbrev IsListed : TableScan → List RowId → Type 0
+  IsListed q ids = (r : Row) × (v.row b k ≡ Some r) × (IsTrue (scan.matches r) → IsAmong ids r.id)
+
+  listed : (q : TableScan) (ids : List RowId) → IsOnItsWay q → IsScanRead v q → q.explains ≡ false → ListsFound v q ids → IsListed q ids
+  listed q ids way read reads lists = (
+    way.0,
+    way.1,
+    λ matches. lists.all b k way.0
+        (⊎_elim
+        (λ (found : IsTrue (q.found b k)). found)
+        (λ (left : IsTrue (q.candidate b) × (q.read ≤ b)). absurd (⊎_elim
+        (λ (explains : q.explains ≡ true). false≢true (sym reads ∙ explains))
+        (λ (all : (c : ℕ) → IsTrue (q.candidate c) → c < q.read). apart q.read b left.1 (all b left.0))
+        read.1))
+        (way.2 matches))
+        way.1,
+  )
+    where
+      apart : (n m : ℕ) → n ≤ m → m < n → ⊥
+      apart n m le less = omega arith
+
+  pub marked_finds : (s : ℕ) (marking : TableScan) (ids : List RowId) → IsTableKept v → v.task s ≡ Scans scan → Onward v (Scans scan) (Marks marking ids)
+      → IsTrue (scan.sees b k) → IsListed marking ids
+  marked_finds s marking ids kept is onward sees =
+      onward_marks IsOnItsWay IsListed v (λ q inside all way. way) listed (Scans scan) (Marks marking ids) onward
+      (λ q e. subst IsOnItsWay (same_Some _ _ (ap scan_of e)) (kept.scans s scan is b k sees))
+      (λ q l e. absurd (none-some _ (ap marks_of e))) marking ids refl

@@ -1,5 +1,5 @@
 -- Where a table's statement comes by its step, and whole runs of them.
-use Rattle.std.proofs.Common.{◌≡◌, ◌≢◌, ◌⊎◌, inl, inr, ⊎_elim, ℕ, ◌<◌, sym, ◌∙◌, ap, subst, suc}
+use Rattle.std.proofs.Common.{◌≡◌, ◌≢◌, ◌⊎◌, inl, inr, ⊎_elim, ℕ, ◌<◌, true, false, ◌∷◌, sym, ◌∙◌, ap, subst, suc}
 use Rattle.std.specs.Prelude.{refl}
 use Rattle.std.proofs.lemmas.Bool.{cases_eq}
 use Rattle.coverage.specs.IndexView.{IndexView}
@@ -8,16 +8,16 @@ use Rattle.coverage.specs.Statements.{Empty, Phase, NotBuilding, Statement, Idle
 use Rattle.coverage.specs.IsCovered.{IsIndexKept}
 use Rattle.coverage.specs.Steps.{BeginRange, EndScan, Counts}
 use Rattle.table_coverage.specs.Table.{Job, EachRange, OneRange, WholeRanges, Desummarising, TableScan, Task, Resting, Asks, Inserts, Considers, Maintains}
-use Rattle.table_coverage.specs.Table.{SweepsFrom, Restarts, Scans, TableState, pick, inserting_of, scan_at, seen_by, index_state, index_view_at}
-use Rattle.table_coverage.specs.TableSteps.{TaskTurns, OnlyTurns, JobStep, Fails, Does, PutsRow, AsksSummary, InsertGoes, InsertCompletes, RefusesInsert}
+use Rattle.table_coverage.specs.Table.{SweepsFrom, Restarts, Scans, Marks, TableState, pick, inserting_of, scan_at, seen_by, index_state, index_view_at}
+use Rattle.table_coverage.specs.TableSteps.{TaskTurns, OnlyTurns, JobStep, Fails, Does, PutsRow, RefusesRow, AsksSummary, InsertGoes, InsertCompletes, RefusesInsert}
 use Rattle.table_coverage.specs.TableSteps.{TakesLock, MaintainGoes, MaintainCompletes, RefusesMaintain, RefusesVacuum, PrunesBlock, SweepsPage, RestartsIndex}
-use Rattle.table_coverage.specs.TableSteps.{BeginsScan, Judges, ReadsBlock, RefusesScan, Blocked, Transacts, Onward, Stays, ToAsk, ToIndex, Inserted, ToRange}
-use Rattle.table_coverage.specs.TableSteps.{NextIndex, Pruned, ToPage, Swept, JudgesNext, Scanned, Settles, GoesOn, GivesLock, TableStep}
+use Rattle.table_coverage.specs.TableSteps.{BeginsScan, Judges, ReadsBlock, RefusesScan, MarksRow, Conflicts, Blocked, Transacts, Onward, Stays, ToAsk, ToIndex, Inserted, ToRange}
+use Rattle.table_coverage.specs.TableSteps.{NoPage, NextIndex, Pruned, ToPage, Swept, JudgesNext, Scanned, ToMarks, Marked, Settles, GoesOn, GivesLock, TableStep}
 use Rattle.table_coverage.specs.TableCovered.{AreIndexesKept}
 use Rattle.coverage.proofs.Runs.{step_kept, insert_keeps, summarise_keeps, desummarise_keeps}
 use Rattle.table_coverage.proofs.Views.{pick_same, pick_other, held_none, on_index_below, turned_at, reads_at}
-use Rattle.table_coverage.proofs.TableRuns.{vacuuming_holds, maintained_holds, refused_loose, known, steps, only_rests, puts_row, insert_goes, insert_completes}
-use Rattle.table_coverage.proofs.TableRuns.{refuses_insert, takes_lock, maintains, refuses_maintain, gives_lock, prunes, sweeps_page, begins_scan, ends_scan}
+use Rattle.table_coverage.proofs.TableRuns.{vacuuming_holds, maintained_holds, known, steps, only_rests, puts_row, insert_goes, insert_completes}
+use Rattle.table_coverage.proofs.TableRuns.{refuses_insert, fails_unseen, takes_lock, maintains, refuses_maintain, gives_lock, prunes, sweeps_page, begins_scan, ends_scan}
 use Rattle.table_coverage.proofs.TableRuns.{judges, reads_block}
 
 pub job_lock_kept : (job : Job) (s range : ℕ) (w v : IndexView) (old : Phase) (new : Statement) → JobStep job s range w v old new
@@ -54,6 +54,7 @@ module _ (s : ℕ) (w v : TableState) (kept : AreIndexesKept w) (i : ℕ) (below
 
   pub does_kept : Does s w v → IsIndexKept (index_state i v)
   does_kept (PutsRow b k r place turns takes) = puts_row s w v kept i below b k r place turns takes
+  does_kept (RefusesRow t refused turns fails) = fails_unseen s w v kept i below Resting t turns fails refl
   does_kept (AsksSummary b k r at turns only) = only_rests s w v kept i below (Asks b k r at) (Inserts b k r at Empty) turns only refl
   does_kept (InsertGoes b k r at old new turns stepped step) =
       insert_goes s w v kept i below b k r at old new turns stepped step
@@ -71,8 +72,8 @@ module _ (s : ℕ) (w v : TableState) (kept : AreIndexesKept w) (i : ℕ) (below
   does_kept (MaintainCompletes job at range old turns stepped step) =
       maintains s w v kept i below job at range old (Considers job at (suc range)) Holding turns stepped step refl (λ j apart. refl)
       (job_lock_kept job s range (index_view_at at w) (index_view_at at v) old Holding step)
-  does_kept (RefusesMaintain job at range phase refused turns stepped passes) =
-      refuses_maintain s w v kept i below job at range phase (refused_loose (index_view_at at w) s range phase refused) turns stepped passes
+  does_kept (RefusesMaintain job at range _ (NoPage number phase full) turns stepped passes) =
+      refuses_maintain s w v kept i below job at range number phase full turns stepped passes
   does_kept (RefusesVacuum old vacuuming turns given rows indexes) =
       gives_lock s w v kept i below old (vacuuming_holds i old vacuuming) turns given rows indexes
   does_kept (PrunesBlock extent next dropped inside spared turns drops) = prunes s w v kept i below extent next dropped spared turns drops
@@ -82,15 +83,18 @@ module _ (s : ℕ) (w v : TableState) (kept : AreIndexesKept w) (i : ℕ) (below
   does_kept (Judges old new inside low step turns only) = judges s w v kept i below old new inside step turns only
   does_kept (ReadsBlock scan next found reads turns only) = reads_block s w v kept i below scan next found reads turns only
   does_kept (RefusesScan scan t turns how) = ⊎_elim
-      (λ (fails : Fails w v t). scan_fails scan t turns fails)
-      (λ (only : OnlyTurns w v). ends_scan s w v kept i below scan turns only)
+      (λ (fails : (scan.explains ≡ false) × Fails w v t). scan_fails scan t turns fails.1)
+      (λ (only : (scan.explains ≡ true) × OnlyTurns w v). ends_scan s w v kept i below scan turns only.1)
       how
+  does_kept (MarksRow scan id rest turns only) = only_rests s w v kept i below (Marks scan (id ∷ rest)) (Marks scan rest) turns only refl
+  does_kept (Conflicts scan id rest t turns fails) = fails_unseen s w v kept i below (Marks scan (id ∷ rest)) t turns fails refl
   does_kept (Blocked task blocked turns only) = only_rests s w v kept i below task task turns only refl
   does_kept (Transacts counts resting few same) = steps s w v kept i below (Counts counts few (ap (index_state i) same))
 
 -- the table keeps its indexes
 pub does_layout : (s : ℕ) (w v : TableState) → Does s w v → v.indexes ≡ w.indexes
 does_layout s w v (PutsRow b k r place turns takes) = takes.layout.indexes
+does_layout s w v (RefusesRow t refused turns fails) = fails.layout.indexes
 does_layout s w v (AsksSummary b k r at turns only) = only.rows.layout.indexes
 does_layout s w v (InsertGoes b k r at old new turns stepped step) = stepped.rows.layout.indexes
 does_layout s w v (InsertCompletes b k r at old turns stepped step) = stepped.rows.layout.indexes
@@ -107,7 +111,12 @@ does_layout s w v (BeginsScan scan begins turns only) = only.rows.layout.indexes
 does_layout s w v (Judges old new inside low step turns only) = only.rows.layout.indexes
 does_layout s w v (ReadsBlock scan next found reads turns only) = only.rows.layout.indexes
 does_layout s w v (RefusesScan scan t turns how) =
-    ⊎_elim (λ (fails : Fails w v t). fails.layout.indexes) (λ (only : OnlyTurns w v). only.rows.layout.indexes) how
+    ⊎_elim
+    (λ (fails : (scan.explains ≡ false) × Fails w v t). fails.1.layout.indexes)
+    (λ (only : (scan.explains ≡ true) × OnlyTurns w v). only.1.rows.layout.indexes)
+    how
+does_layout s w v (MarksRow scan id rest turns only) = only.rows.layout.indexes
+does_layout s w v (Conflicts scan id rest t turns fails) = fails.layout.indexes
 does_layout s w v (Blocked task blocked turns only) = only.rows.layout.indexes
 does_layout s w v (Transacts counts resting few same) = ap (λ (u : TableState). u.indexes) same
 
@@ -157,7 +166,9 @@ module _ (i : ℕ) (w : TableState) (below : i < w.indexes) where
           inr (inr (ends.0, sym view ∙ ends.1, ends.2)))
           other)
           sees
-  onward_view _ _ (Scanned scan all read) = inr (inr (scan, refl, refl))
+  onward_view _ _ (Scanned scan read nothing) = inr (inr (scan, refl, refl))
+  onward_view _ _ (ToMarks scan id rest read reads deletes lists) = inr (inr (scan, refl, refl))
+  onward_view _ _ (Marked scan) = inl refl
 
 module _ (s : ℕ) (w v : TableState) (kept : AreIndexesKept w) (i : ℕ) (below : i < w.indexes) where
   goes_on : (old new : Task) → Onward w old new → TaskTurns s w v old new → OnlyTurns w v → IsIndexKept (index_state i v)

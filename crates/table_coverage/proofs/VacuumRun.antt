@@ -4,12 +4,14 @@ use Rattle.std.specs.Prelude.{refl, ◌≢◌}
 use Rattle.std.proofs.lemmas.Option.{none-some}
 use Rattle.std.proofs.lemmas.Bool.{false≢true}
 use Rattle.block_model.specs.declared.row.Row.{Row}
-use Rattle.coverage.specs.IndexView.{TuplePlace, IndexTuple, Regular, Emptying}
+use Rattle.coverage.specs.IndexView.{TuplePlace, IndexTuple, Regular, Emptying, IndexView}
+use Rattle.coverage.specs.Steps.{SweepsTuples, IsUnnamed}
 use Rattle.coverage.specs.Statements.{Scan, Statement, Idle, Scanning}
 use Rattle.coverage.specs.PageOrder.{AreOrdered}
 use Rattle.coverage.specs.IsCovered.{IsCovered, IsAtRest}
-use Rattle.coverage.proofs.RangeSummarised.{at_number, at_other, grown_kind, kind_number, differ, pages, place, contents, lawful, final_tuple, one_tuple, no_locks}
-use Rattle.coverage.proofs.MapGrown.{summarised_kept}
+use Rattle.coverage.proofs.SmallIndex.{at_number, at_other, grown_kind, kind_number, differ, pages, place, one_tuple, no_locks}
+use Rattle.coverage.proofs.ExampleTuples.{contents, lawful, final_tuple}
+use Rattle.coverage.proofs.RangeSummarised.{summarised_kept}
 use Rattle.table_coverage.specs.Table.{Index, WholeRanges, Task, Resting, Considers, Prunes, SweepsFrom, Sweeps, Restarts, TableState, index_state, index_view_at}
 use Rattle.table_coverage.specs.TableSteps.{TaskTurns, SameRows, OnlyTurns, HasPut, SeesPlace, Vacuum, TakesLock, PrunesBlock, SweepsPage, RestartsIndex}
 use Rattle.table_coverage.specs.TableSteps.{HasTuples, IsFrom, Stays, NextIndex, Pruned, ToPage, Swept, RangesDone, GoesOn, GivesLock, TableStep, TableRun}
@@ -301,35 +303,44 @@ sweep_places x = ⊎_elim
         let block : x.block ≡ 2 = ap (λ (y : TuplePlace). y.block) is in
         inr (block, (block, (final_tuple, ap (one_tuple (Some final_tuple)) is, λ named. none-some _ named)))
 
+-- an index with its tuple left, and without
+abbrev left_view : ℕ → IndexView
+left_view at = index_view_at at (table (λ i. full) no_row (Some 0) (task_at (Sweeps at 2)))
+
+abbrev swept_view : ℕ → IndexView
+swept_view at = index_view_at at (table (λ i. swept) no_row (Some 0) (task_at (SweepsFrom at 3)))
+
+page_swept : (at : ℕ) → SweepsTuples 0 (left_view at) (swept_view at) 2 (λ x. (x.block ≡ 2) × IsUnnamed (left_view at) x)
+page_swept at = record {
+  free = λ n is. absurd (none-some _ is);
+  gone = λ x is. (same_place None x, same_place false x);
+  places = sweep_places;
+  page = record {
+    now = refl;
+    kinds = λ p. inr refl;
+    rooms = λ p. inr refl;
+    places = λ x. inr refl;
+    map_pages = refl;
+    limit = refl;
+  };
+  frame = record {
+    heap = record { pages_per_range = refl; blocks = refl; row = λ b k. refl };
+    map = record { entry = λ m. refl };
+    tuples = tt;
+    unnamed_tuples = tt;
+    summarise_lock = refl;
+    locks = record { others = λ p n is other. is; taken = λ p n is other. is };
+    contents = refl;
+  };
+  none = λ p is. none-some _ is;
+}
+
 sweep_first : TableStep 0 (block_pruned (Sweeps 0 2)) (first_index_swept (Sweeps 1 2))
 sweep_first = record {
   between = first_index_swept (SweepsFrom 0 3);
   does = SweepsPage 0 2 (turned _ _ _ _ _ _ _ _)
       (record { below = omega arith; rows = same_rows _ _ _ _ _ _ _; others = first_others; autosummarize = refl })
-      (record {
-        free = λ n is. absurd (none-some _ is);
-        gone = λ x is. (same_place None x, same_place false x);
-        places = sweep_places;
-        page = record {
-          now = refl;
-          kinds = λ p. inr refl;
-          rooms = λ p. inr refl;
-          places = λ x. inr refl;
-          placeholder = refl;
-          map_pages = refl;
-          limit = refl;
-        };
-        frame = record {
-          heap = record { pages_per_range = refl; blocks = refl; row = λ b k. refl };
-          map = record { entry = λ m. refl };
-          tuples = tt;
-          unnamed_tuples = tt;
-          summarise_lock = refl;
-          locks = record { others = λ p n is other. is; taken = λ p n is other. is };
-          contents = refl;
-        };
-        none = λ p is. none-some _ is;
-      });
+      (page_swept 0);
   settles = GoesOn _ _ (ToPage 0 3 1 2 (record {
     has = (omega arith, inl refl);
     after = inl (omega arith);
@@ -350,30 +361,7 @@ sweep_second = record {
   between = both_indexes_swept (SweepsFrom 1 3);
   does = SweepsPage 1 2 (turned _ _ _ _ _ _ _ _)
       (record { below = omega arith; rows = same_rows _ _ _ _ _ _ _; others = both_others; autosummarize = refl })
-      (record {
-        free = λ n is. absurd (none-some _ is);
-        gone = λ x is. (same_place None x, same_place false x);
-        places = sweep_places;
-        page = record {
-          now = refl;
-          kinds = λ p. inr refl;
-          rooms = λ p. inr refl;
-          places = λ x. inr refl;
-          placeholder = refl;
-          map_pages = refl;
-          limit = refl;
-        };
-        frame = record {
-          heap = record { pages_per_range = refl; blocks = refl; row = λ b k. refl };
-          map = record { entry = λ m. refl };
-          tuples = tt;
-          unnamed_tuples = tt;
-          summarise_lock = refl;
-          locks = record { others = λ p n is other. is; taken = λ p n is other. is };
-          contents = refl;
-        };
-        none = λ p is. none-some _ is;
-      });
+      (page_swept 1);
   settles = GoesOn _ _ (Swept 1 3 none_left (omega arith)) (turned _ _ _ _ _ _ _ _) (only_turns _ _ _ _ _);
 }
   where

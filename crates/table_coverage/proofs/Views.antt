@@ -5,12 +5,12 @@ use Rattle.std.proofs.lemmas.Bool.{cases_eq}
 use Rattle.block_model.specs.declared.row.Row.{Row}
 use Rattle.coverage.specs.IndexView.{TuplePlace}
 use Rattle.coverage.specs.Changes.{SameHeap, SameMap, SameTuples, SameUnnamed, OwnLocks, TouchesRows, Frame}
-use Rattle.coverage.specs.Statements.{OnIndex, Empty, Phase, Statement, Idle, Inserting, Maintaining, Holding, Scanning, loose_in}
+use Rattle.coverage.specs.Statements.{OnIndex, Empty, Phase, Statement, Idle, Inserting, Maintaining, Holding, Scanning}
 use Rattle.coverage.specs.Knowing.{LocksNone, Spares}
 use Rattle.coverage.specs.Steps.{ReadsIndex, SummariseLockPasses, Rests, Turned}
 use Rattle.table_coverage.specs.Table.{Index, TableScan, Task, Resting, Reaches, Asks, Inserts, Considers, Maintains, Prunes, SweepsFrom, Sweeps, Restarts, Scans}
-use Rattle.table_coverage.specs.Table.{TableState, pick, on_index_by, inserting_of, held_at, scan_at, seen_by, index_state, index_view_at}
-use Rattle.table_coverage.specs.TableSteps.{TaskTurns, SameRows, BeginsWith, Summarize, SummarizeOne, Desummarize, Vacuum, HasPut, SeesPlace}
+use Rattle.table_coverage.specs.Table.{Marks, TableState, pick, on_index_by, inserting_of, held_at, scan_at, seen_by, index_state, index_view_at}
+use Rattle.table_coverage.specs.TableSteps.{TaskTurns, SameRows, BeginsWith, Summarize, SummarizeOne, Work, Desummarize, Vacuum, HasPut, SeesPlace}
 
 pub pick_same : (i : ℕ) → {A : Type 0} → (a b : A) → pick i i a b ≡ a
 pick_same zero a b = refl
@@ -62,13 +62,12 @@ on_index_next (suc zero) zero old apart = refl
 on_index_next (suc (suc i)) zero old apart = refl
 on_index_next (suc i) (suc at) old apart = on_index_next i at old (λ e. apart (ap suc e))
 
--- an index sees nothing of an insert, or a state on it with nothing loose where the insert has nothing loose
-pub on_index_view : (i at : ℕ) (on_index : OnIndex) → loose_in on_index ≡ None
-    → (on_index_by i at on_index ≡ None) ⊎ ((g : OnIndex) × (on_index_by i at on_index ≡ Some g) × (loose_in g ≡ None))
-on_index_view zero zero on_index none = inr (on_index, refl, none)
-on_index_view zero (suc at) on_index none = inl refl
-on_index_view (suc i) zero on_index none = inr (Empty, refl, refl)
-on_index_view (suc i) (suc at) on_index none = on_index_view i at on_index none
+-- the indexes that an insert isn't at are those that are complete, and those that it hasn't begun
+pub on_index_apart : (i at : ℕ) (on_index : OnIndex) → i ≢ at → (on_index_by i at on_index ≡ None) ⊎ (on_index_by i at on_index ≡ Some Empty)
+on_index_apart zero zero on_index apart = absurd (apart refl)
+on_index_apart zero (suc at) on_index apart = inl refl
+on_index_apart (suc i) zero on_index apart = inr refl
+on_index_apart (suc i) (suc at) on_index apart = on_index_apart i at on_index (λ e. apart (ap suc e))
 
 -- what an index sees as an insert is one
 inserting_put : (b k c j : ℕ) (r q : Row) (o : Option OnIndex) (on_index : OnIndex) → inserting_of c j q o ≡ Inserting b k r on_index → (c ≡ b) × (j ≡ k)
@@ -128,6 +127,7 @@ seen_put i b k r on_index (SweepsFrom at from) e = absurd (is_inserting b k r on
 seen_put i b k r on_index (Sweeps at page) e = absurd (is_inserting b k r on_index Holding e)
 seen_put i b k r on_index (Restarts at) e = absurd (is_inserting b k r on_index Holding e)
 seen_put i b k r on_index (Scans scan) e = absurd (is_inserting b k r on_index (Scanning (scan_at i scan)) e)
+seen_put i b k r on_index (Marks scan ids) e = absurd (is_inserting b k r on_index Idle e)
 
 -- rows that no statement of the table has put or sees are spared in each index
 spares_on_index : (dropped : ℕ → ℕ → Bool) (b k : ℕ) (r : Row) (o : Option OnIndex) → (IsTrue (dropped b k) → ⊥) → Spares dropped (inserting_of b k r o)
@@ -153,6 +153,7 @@ seen_spares dropped i (SweepsFrom at from) alive = tt
 seen_spares dropped i (Sweeps at page) alive = tt
 seen_spares dropped i (Restarts at) alive = tt
 seen_spares dropped i (Scans scan) alive = λ b k sees dead. alive b k dead (inr sees)
+seen_spares dropped i (Marks scan ids) alive = tt
 
 -- where index i is the same
 module _ (i s : ℕ) (w v : TableState) (index : v.index i ≡ w.index i) where
@@ -256,5 +257,6 @@ scan_of task = None
 pub begins_no_scan : (w : TableState) (first : Task) → BeginsWith w first → scan_of first ≡ None
 begins_no_scan w _ (Summarize at below) = refl
 begins_no_scan w _ (SummarizeOne at only below) = refl
+begins_no_scan w _ (Work at only below) = refl
 begins_no_scan w _ (Desummarize at only below) = refl
 begins_no_scan w _ Vacuum = refl

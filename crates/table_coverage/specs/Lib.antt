@@ -1,6 +1,10 @@
+pub mod RowOrder
 pub mod Table
 pub mod TableSteps
 pub mod TableCovered
 pub mod NextTasks
 pub mod TablePoints
+pub mod Accounts
+pub mod Refusals
 pub mod Machines
+pub mod GoingOn

@@ -1,6 +1,7 @@
 -- A table with several indexes: what its statements are at, and how each index sees it.
-use Rattle.std.specs.Prelude.{ℕ, zero, suc, Bool, Option, None, Some}
+use Rattle.std.specs.Prelude.{ℕ, zero, suc, Bool, Option, None, Some, List}
 use Rattle.block_model.specs.declared.row.Row.{Row}
+use Rattle.block_model.specs.declared.row.RowId.{RowId}
 use Rattle.coverage.specs.IndexView.{TuplePlace, IndexTuple, Contents, Pages, IndexView}
 use Rattle.coverage.specs.Statements.{OnIndex, Empty, Phase, Scan, Statement, Idle, Inserting, Maintaining, Holding, Scanning}
 use Rattle.coverage.specs.IsCovered.{IndexState, index_view}
@@ -27,12 +28,13 @@ pub data Job : Type 0 where
 -- A scan of the table: the rows that its session sees; the test of its query, and which tuples of each index keep it; the
 -- extent that it read; the index and range that it judges next, and the place that the map named there; which ranges of which
 -- index it has judged, and whether it kept their blocks; its candidate blocks, and up to where they are read; the rows found. An
--- explain reads none.
+-- explain reads none; a delete marks the rows that it found.
 pub record TableScan : Type 0 where
   pub sees : ℕ → ℕ → Bool
   pub matches : Row → Bool
   pub keeps : ℕ → IndexTuple → Bool
   pub explains : Bool
+  pub deletes : Bool
   pub extent : ℕ
   pub at : ℕ
   pub range : ℕ
@@ -58,6 +60,8 @@ pub data Task : Type 0 where
   Sweeps : (at page : ℕ) → Task
   Restarts : (at : ℕ) → Task
   Scans : TableScan → Task
+  -- a delete, with the rows that it found and has still to mark
+  Marks : TableScan → List RowId → Task
 
 -- heap: its rows by block and slot, the slots of a block, the blocks that are started and those that it has at most
 pub record TableState : Type 0 where
@@ -121,6 +125,7 @@ seen_by i (SweepsFrom at from) = Holding
 seen_by i (Sweeps at page) = Holding
 seen_by i (Restarts at) = Holding
 seen_by i (Scans scan) = Scanning (scan_at i scan)
+seen_by i (Marks scan ids) = Idle
 
 -- the table as its index i sees it
 abbrev pub index_state : ℕ → TableState → IndexState

@@ -1,14 +1,16 @@
 -- When a table is covered in all of its indexes, and what a scan of it still has before it.
-use Rattle.std.specs.Prelude.{◌≡◌, ◌≢◌, ◌⊎◌, ℕ, ◌≤◌, ◌<◌, IsTrue, ◌↔◌, true, false, None, Some}
+use Rattle.std.specs.Prelude.{◌≡◌, ◌≢◌, ◌⊎◌, ℕ, ◌≤◌, ◌<◌, IsTrue, ◌↔◌, true, false, None, Some, List}
 use Rattle.block_model.specs.declared.row.Row.{Row}
+use Rattle.block_model.specs.declared.row.RowId.{RowId}
 use Rattle.coverage.specs.IndexView.{TuplePlace, Progress, IsBuilding}
-use Rattle.coverage.specs.Statements.{AreLawful}
+use Rattle.coverage.specs.Statements.{AreLawful, Phase, NotBuilding}
 use Rattle.coverage.specs.IsCovered.{IsCovered, IsAtRest, IsIndexKept}
 use Rattle.coverage.specs.PageOrder.{AreOrdered, AreNewPages}
 use Rattle.coverage.specs.Steps.{Stops}
-use Rattle.table_coverage.specs.Table.{TableScan, Task, Resting, Considers, Maintains, Prunes, SweepsFrom, Sweeps, Restarts, Scans, TableState, index_state}
-use Rattle.table_coverage.specs.Table.{index_view_at}
-use Rattle.table_coverage.specs.TableSteps.{range_in, first_block}
+use Rattle.table_coverage.specs.RowOrder.{IsAmong}
+use Rattle.table_coverage.specs.Table.{Job, EachRange, OneRange, WholeRanges, Desummarising, TableScan, Task, Resting, Reaches, Asks, Inserts, Considers}
+use Rattle.table_coverage.specs.Table.{Maintains, Prunes, SweepsFrom, Sweeps, Restarts, Scans, Marks, TableState, index_state, index_view_at}
+use Rattle.table_coverage.specs.TableSteps.{range_in, first_block, HasRange}
 
 -- every index of the table is covered, and one statement of the table builds at a time
 pub record IsTableCovered (w : TableState) : Type 0 where
@@ -20,6 +22,42 @@ pub record IsTableCovered (w : TableState) : Type 0 where
 abbrev pub SeesRows : TableState → TableScan → Type 0
 SeesRows w scan = (b k : ℕ) → IsTrue (scan.sees b k)
     → (r : Row) × (w.row b k ≡ Some r) × (IsTrue (scan.matches r) → IsTrue (scan.found b k) ⊎ (IsTrue (scan.candidate b) × (scan.read ≤ b)))
+
+-- what a scan found stands there, its session sees it, and it matches
+abbrev pub FindsOnly : TableState → TableScan → Type 0
+FindsOnly w scan = (b k : ℕ) → IsTrue (scan.found b k) → (r : Row) × (w.row b k ≡ Some r) × IsTrue (scan.sees b k) × IsTrue (scan.matches r)
+
+-- a row that a delete has still to mark stands there, its session sees it, and it matches
+abbrev pub AreToMark : TableState → TableScan → List RowId → Type 0
+AreToMark w scan ids = (id : RowId) → IsAmong ids id
+    → (b : ℕ) × (k : ℕ) × (r : Row) × (w.row b k ≡ Some r) × (r.id ≡ id) × IsTrue (scan.sees b k) × IsTrue (scan.matches r)
+
+-- the extent of a maintenance statement lies in the table
+abbrev pub IsExtentWithin : TableState → Job → Type 0
+IsExtentWithin w (EachRange extent) = extent ≤ w.blocks
+IsExtentWithin w (OneRange extent only) = extent ≤ w.blocks
+IsExtentWithin w (WholeRanges extent) = extent ≤ w.blocks
+IsExtentWithin w (Desummarising only) = Unit
+
+-- a desummarise builds nothing
+abbrev pub IsPhaseOf : Job → Phase → Type 0
+IsPhaseOf (Desummarising only) (NotBuilding on_index) = Unit
+IsPhaseOf (Desummarising only) phase = ⊥
+IsPhaseOf job phase = Unit
+
+-- The index that a statement is at is one of the table's; the range that a maintenance statement is at is one of those that it goes
+-- over; and what it goes over lies in the table.
+abbrev pub IsInTable : TableState → Task → Type 0
+IsInTable w (Reaches b k r at) = at ≤ w.indexes
+IsInTable w (Asks b k r at) = at < w.indexes
+IsInTable w (Inserts b k r at on_index) = at < w.indexes
+IsInTable w (Considers job at range) = (at < w.indexes) × IsExtentWithin w job
+IsInTable w (Maintains job at range phase) = (at < w.indexes) × IsExtentWithin w job × HasRange w job at range × IsPhaseOf job phase
+IsInTable w (Prunes extent next) = extent ≤ w.blocks
+IsInTable w (Sweeps at page) = at < w.indexes
+IsInTable w (Restarts at) = at < w.indexes
+IsInTable w (Scans scan) = scan.at ≤ w.indexes
+IsInTable w task = Unit
 
 abbrev pub AreIndexesKept : TableState → Type 0
 AreIndexesKept w = (i : ℕ) → i < w.indexes → IsIndexKept (index_state i w)
@@ -57,6 +95,9 @@ pub record IsTableKept (w : TableState) : Type 0 where
   pub rows_below : (b k : ℕ) (r : Row) → w.row b k ≡ Some r → b < w.blocks
   pub scans : (s : ℕ) (scan : TableScan) → w.task s ≡ Scans scan → SeesRows w scan
   pub exact : (s : ℕ) (scan : TableScan) → w.task s ≡ Scans scan → JudgesExactly w scan
+  pub finds : (s : ℕ) (scan : TableScan) → w.task s ≡ Scans scan → FindsOnly w scan
+  pub marks : (s : ℕ) (scan : TableScan) (ids : List RowId) → w.task s ≡ Marks scan ids → AreToMark w scan ids
+  pub inside : (s : ℕ) → IsInTable w (w.task s)
 
 -- every index gives the block: its range there is judged and kept
 abbrev pub IsGiven : TableState → TableScan → ℕ → Type 0

@@ -5,12 +5,12 @@ use Rattle.coverage.specs.Statements.{Phase, Statement, Maintaining, Holding}
 use Rattle.coverage.specs.Points.{Point, AtMap, AtTuple, AtExtent, insert_point, summarise_point, desummarise_point}
 use Rattle.table_coverage.specs.Table.{Job, EachRange, OneRange, WholeRanges, Desummarising, TableScan, Task, TableState, index_view_at}
 use Rattle.table_coverage.specs.TableSteps.{JobStep, JudgeStep, JudgeMap, JudgeNoEntry, JudgeGone, JudgeKeeps, JudgeDrops, Does, PutsRow, AsksSummary, InsertGoes}
-use Rattle.table_coverage.specs.TableSteps.{InsertCompletes, RefusesInsert, TakesLock, MaintainGoes, MaintainCompletes, RefusesMaintain, RefusesVacuum}
+use Rattle.table_coverage.specs.TableSteps.{RefusesRow, MarksRow, Conflicts, InsertCompletes, RefusesInsert, TakesLock, MaintainGoes, MaintainCompletes, RefusesMaintain, RefusesVacuum}
 use Rattle.table_coverage.specs.TableSteps.{PrunesBlock, SweepsPage, RestartsIndex, BeginsScan, Judges, ReadsBlock, RefusesScan, Blocked, Transacts, IsBlocked}
-use Rattle.table_coverage.specs.TableSteps.{SummariseLockHeld, InsertWaits, SummariseWaits, DesummariseWaits, SweepWaits}
+use Rattle.table_coverage.specs.TableSteps.{SummariseLockHeld, InsertWaits, SummariseWaits, DesummariseWaits, SweepWaits, TableStep}
 
 -- a point of an index, or one of the table: a row is put, a summary asked for, the summarise lock taken or found held, a heap block
--- pruned, an index page swept, a heap block read
+-- pruned, an index page swept, a heap block read, a row marked
 pub data TablePoint : Type 0 where
   OfIndex : Point → TablePoint
   AtRow : TablePoint
@@ -19,6 +19,7 @@ pub data TablePoint : Type 0 where
   AtPrune : TablePoint
   AtSweep : TablePoint
   AtPage : TablePoint
+  AtMark : TablePoint
 
 abbrev pub job_point : (job : Job) (s range : ℕ) (w v : IndexView) (old : Phase) (new : Statement) → JobStep job s range w v old new → Point
 job_point (EachRange extent) s range w v old new step = summarise_point step
@@ -36,6 +37,7 @@ judge_point (JudgeDrops x t candidate held stands drops excludes others) = AtTup
 -- a refusal, a wait, and what a transaction alone does have none
 abbrev pub does_point : (s : ℕ) (w v : TableState) → Does s w v → Option TablePoint
 does_point s w v (PutsRow b k r place turns takes) = Some AtRow
+does_point s w v (RefusesRow t refused turns fails) = None
 does_point s w v (AsksSummary b k r at turns only) = Some AtAsk
 does_point s w v (InsertGoes b k r at old new turns stepped step) = Some (OfIndex (insert_point step))
 does_point s w v (InsertCompletes b k r at old turns stepped step) = Some (OfIndex (insert_point step))
@@ -54,6 +56,8 @@ does_point s w v (BeginsScan scan begins turns only) = Some (OfIndex AtExtent)
 does_point s w v (Judges old new inside low step turns only) = Some (OfIndex (judge_point step))
 does_point s w v (ReadsBlock scan next found reads turns only) = Some AtPage
 does_point s w v (RefusesScan scan t turns how) = None
+does_point s w v (MarksRow scan id rest turns only) = Some AtMark
+does_point s w v (Conflicts scan id rest t turns fails) = None
 does_point s w v (Blocked task blocked turns only) = None
 does_point s w v (Transacts counts resting few same) = None
 
@@ -72,3 +76,7 @@ waits_for w s _ (SweepWaits at page locked) = PageLock at page
 abbrev pub IsHeldBy : TableState → WaitedFor → ℕ → Type 0
 IsHeldBy w SummariseLock n = w.summarise_lock ≡ Some n
 IsHeldBy w (PageLock at page) n = (w.index at).lock page ≡ Some n
+
+-- the session has no step that has a point: none but to wait, or to be refused
+abbrev pub IsTableStuck : TableState → ℕ → Type 0
+IsTableStuck w s = (v : TableState) (step : TableStep s w v) (p : TablePoint) → does_point s w step.between step.does ≡ Some p → ⊥

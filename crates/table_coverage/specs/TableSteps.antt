@@ -1,15 +1,16 @@
 -- The steps of the statements of a table with several indexes: which comes next, and what it waits for.
 use Rattle.std.specs.Prelude.{◌≡◌, ◌≢◌, ◌⊎◌, ℕ, suc, ◌+◌, ◌*◌, ◌/◌, ◌≤◌, ◌<◌, max, Bool, true, false, IsTrue, ◌↔◌, None, Some, List, [], ◌∷◌}
 use Rattle.block_model.specs.declared.row.Row.{Row}
+use Rattle.block_model.specs.declared.row.RowId.{RowId}
 use Rattle.coverage.specs.IndexView.{TuplePlace, IndexTuple, Regular, Emptying, IndexView, range_of_block}
 use Rattle.coverage.specs.Verdicts.{IsLocked, Waits, Full, SwapVerdict, ClearVerdict}
 use Rattle.coverage.specs.Statements.{OnIndex, Empty, Held, Copied, Phase, NotBuilding, Statement, Idle, Inserting, Maintaining, Holding}
-use Rattle.coverage.specs.Statements.{loose_in, loose_at}
 use Rattle.coverage.specs.Waiting.{IsPhaseWaiting, IsPhaseFull}
 use Rattle.coverage.specs.Steps.{IsUnnamed, IsGone, Stands, SweepsTuples, Excludes, InsertStep, SummariseStep}
 use Rattle.coverage.specs.Steps.{DesummariseStep, SummariseLockPasses}
 use Rattle.table_coverage.specs.Table.{Job, EachRange, OneRange, WholeRanges, Desummarising, TableScan, Task, Resting, Reaches, Asks, Inserts, Considers}
-use Rattle.table_coverage.specs.Table.{Maintains, Prunes, SweepsFrom, Sweeps, Restarts, Scans, TableState, judged_with, index_view_at}
+use Rattle.table_coverage.specs.Table.{Maintains, Prunes, SweepsFrom, Sweeps, Restarts, Scans, Marks, TableState, judged_with, index_view_at}
+use Rattle.table_coverage.specs.RowOrder.{IsAmong, AreInOrder}
 
 -- the session's statement turns from one into the other
 pub record TaskTurns (s : ℕ) (w v : TableState) (old new : Task) : Type 0 where
@@ -62,6 +63,10 @@ pub record IsFirstPlace (w : TableState) (b k : ℕ) : Type 0 where
   pub below : b < w.heap_limit
   pub first : (c j : ℕ) → IsVacantPlace w c j → (b < c) ⊎ ((b ≡ c) × (k ≤ j))
 
+-- no place is left below the limit
+abbrev pub IsHeapFull : TableState → Type 0
+IsHeapFull w = (b k : ℕ) → IsVacantPlace w b k → w.heap_limit ≤ b
+
 pub record TableTakesRow (w v : TableState) (b k : ℕ) (r : Row) : Type 0 where
   pub layout : SameLayout w v
   pub now : v.row b k ≡ Some r
@@ -75,11 +80,9 @@ pub record TableTakesRow (w v : TableState) (b k : ℕ) (r : Row) : Type 0 where
 abbrev pub AsksFor : TableState → ℕ → ℕ → ℕ → Type 0
 AsksFor w b k at = IsTrue (w.index at).autosummarize × (k ≡ 0) × (first_block w at (range_in w at b) ≡ b) × (0 < range_in w at b)
 
--- An insert is refused: memory is short while nothing of it is loose; or its index is full.
+-- An insert is refused: no page is left in its index for the tuple, of so many that there may be.
 pub data IsInsertRefused (w : TableState) (s b k : ℕ) (r : Row) : Task → Type 0 where
-  AskRefused : (at : ℕ) → IsInsertRefused w s b k r (Asks b k r at)
-  MemoryShort : (at : ℕ) (on_index : OnIndex) → loose_in on_index ≡ None → IsInsertRefused w s b k r (Inserts b k r at on_index)
-  IndexFull : (at : ℕ) (x : TuplePlace) (old new : IndexTuple) → SwapVerdict (index_view_at at w) s (range_in w at b) x old new Full
+  IndexFull : (number at : ℕ) (x : TuplePlace) (old new : IndexTuple) → SwapVerdict (index_view_at at w) s (range_in w at b) x old new (Full number)
       → IsInsertRefused w s b k r (Inserts b k r at (Copied x old new))
 
 -- the statement goes over this range
@@ -89,10 +92,12 @@ HasRange w (OneRange extent only) at range = (range ≡ only) × (first_block w 
 HasRange w (WholeRanges extent) at range = first_block w at (range + 1) ≤ extent
 HasRange w (Desummarising only) at range = range ≡ only
 
--- what a maintenance statement begins with: summarize, of the whole table or of one range, as a queued request too; desummarize; vacuum
+-- what a maintenance statement begins with: summarize, of the whole table or of one range; work, with the range that was asked for first;
+-- desummarize; vacuum
 pub data BeginsWith (w : TableState) : Task → Type 0 where
   Summarize : (at : ℕ) → at < w.indexes → BeginsWith w (Considers (EachRange w.blocks) at 0)
   SummarizeOne : (at only : ℕ) → at < w.indexes → BeginsWith w (Considers (OneRange w.blocks only) at only)
+  Work : (at only : ℕ) → at < w.indexes → BeginsWith w (Considers (OneRange w.blocks only) at only)
   Desummarize : (at only : ℕ) → at < w.indexes → BeginsWith w (Considers (Desummarising only) at only)
   Vacuum : BeginsWith w (Prunes w.blocks 0)
 
@@ -103,10 +108,9 @@ JobStep (OneRange extent only) s range w v old new = SummariseStep s range w v o
 JobStep (WholeRanges extent) s range w v old new = SummariseStep s range w v old new
 JobStep (Desummarising only) s range w v old new = DesummariseStep s range w v old new
 
--- A maintenance statement is refused: memory is short while nothing of it is loose; or no page is left for a tuple or for the map.
+-- A maintenance statement is refused: no page is left for a tuple or for the map, of so many that there may be.
 pub data IsMaintainRefused (w : IndexView) (s range : ℕ) : Phase → Type 0 where
-  NoMemory : (phase : Phase) → loose_at phase ≡ None → IsMaintainRefused w s range phase
-  NoPage : (phase : Phase) → IsPhaseFull w s range phase → IsMaintainRefused w s range phase
+  NoPage : (number : ℕ) (phase : Phase) → IsPhaseFull w s range phase number → IsMaintainRefused w s range phase
 
 -- A step is blocked: another session holds the summarise lock, or the lock of the page that is needed first.
 pub data IsBlocked (w : TableState) (s : ℕ) : Task → Type 0 where
@@ -129,6 +133,7 @@ HasPut b k task = ⊥
 
 abbrev pub SeesPlace : ℕ → ℕ → Task → Type 0
 SeesPlace b k (Scans scan) = IsTrue (scan.sees b k)
+SeesPlace b k (Marks scan ids) = IsTrue (scan.sees b k)
 SeesPlace b k task = ⊥
 
 -- a vacuum between two indexes' ranges, which want of memory may end
@@ -198,9 +203,16 @@ pub record Fails (w v : TableState) (t : ℕ) : Type 0 where
   pub failed : v.counts t ≡ false
   pub fewer : (n : ℕ) → IsTrue (v.counts n) → IsTrue (w.counts n)
 
+-- Why an insert has no row: the heap is full; or memory is short, which the step that puts the row takes for all of its insert.
+pub data IsRowRefused (w : TableState) : Type 0 where
+  HeapFull : IsHeapFull w → IsRowRefused w
+  RowLacksMemory : IsRowRefused w
+
 -- What a step of session s does, with the page that it reads or changes.
 pub data Does (s : ℕ) (w v : TableState) : Type 0 where
   PutsRow : (b k : ℕ) (r : Row) → IsFirstPlace w b k → TaskTurns s w v Resting (Reaches b k r 0) → TableTakesRow w v b k r → Does s w v
+  -- an insert has no row, and its transaction fails
+  RefusesRow : (t : ℕ) → IsRowRefused w → TaskTurns s w v Resting Resting → Fails w v t → Does s w v
   AsksSummary : (b k : ℕ) (r : Row) (at : ℕ) → TaskTurns s w v (Asks b k r at) (Inserts b k r at Empty) → OnlyTurns w v → Does s w v
   InsertGoes : (b k : ℕ) (r : Row) (at : ℕ) (old new : OnIndex) → TaskTurns s w v (Inserts b k r at old) (Inserts b k r at new) → StepsIn at w v
       → InsertStep s b k r (index_view_at at w) (index_view_at at v) old (Inserting b k r new) → Does s w v
@@ -230,7 +242,11 @@ pub data Does (s : ℕ) (w v : TableState) : Type 0 where
   ReadsBlock : (scan : TableScan) (next : ℕ) (found : ℕ → ℕ → Bool) → ReadsPage w scan next found
       → TaskTurns s w v (Scans scan) (Scans (record scan { read = next + 1; found = found })) → OnlyTurns w v → Does s w v
   -- want of memory ends a scan; the transaction of a select or a delete fails by it
-  RefusesScan : (scan : TableScan) (t : ℕ) → TaskTurns s w v (Scans scan) Resting → Fails w v t ⊎ OnlyTurns w v → Does s w v
+  RefusesScan : (scan : TableScan) (t : ℕ) → TaskTurns s w v (Scans scan) Resting
+      → ((scan.explains ≡ false) × Fails w v t) ⊎ ((scan.explains ≡ true) × OnlyTurns w v) → Does s w v
+  -- a delete marks the next row that it found; a conflict there ends it, and its transaction fails
+  MarksRow : (scan : TableScan) (id : RowId) (rest : List RowId) → TaskTurns s w v (Marks scan (id ∷ rest)) (Marks scan rest) → OnlyTurns w v → Does s w v
+  Conflicts : (scan : TableScan) (id : RowId) (rest : List RowId) (t : ℕ) → TaskTurns s w v (Marks scan (id ∷ rest)) Resting → Fails w v t → Does s w v
   Blocked : (task : Task) → IsBlocked w s task → TaskTurns s w v task task → OnlyTurns w v → Does s w v
   -- a transaction begins, commits or ends: rows come to count only where there are none
   Transacts : (counts : ℕ → Bool) → w.task s ≡ Resting
@@ -260,7 +276,22 @@ HasStep w (Considers job at range) = ⊥
 HasStep w (SweepsFrom at from) = ⊥
 HasStep w (Prunes extent next) = next < extent
 HasStep w (Scans scan) = ScanHasStep w scan
+HasStep w (Marks scan []) = ⊥
 HasStep w task = Unit
+
+-- a scan has judged every range, and an explain or one that has read each given block is through
+abbrev pub IsScanRead : TableState → TableScan → Type 0
+IsScanRead w scan = (scan.at ≡ w.indexes) × ((scan.explains ≡ true) ⊎ ((b : ℕ) → IsTrue (scan.candidate b) → b < scan.read))
+
+-- it marks nothing: it is no delete, or found nothing
+abbrev pub HasNothingToMark : TableScan → Type 0
+HasNothingToMark scan = (scan.explains ≡ true) ⊎ (scan.deletes ≡ false) ⊎ ((b k : ℕ) → scan.found b k ≡ false)
+
+-- these are the rows that a scan found, in their order
+pub record ListsFound (w : TableState) (scan : TableScan) (ids : List RowId) : Type 0 where
+  pub ordered : AreInOrder ids
+  pub all : (b k : ℕ) (r : Row) → IsTrue (scan.found b k) → w.row b k ≡ Some r → IsAmong ids r.id
+  pub only : (id : RowId) → IsAmong ids id → (b : ℕ) × (k : ℕ) × (r : Row) × IsTrue (scan.found b k) × (w.row b k ≡ Some r) × (r.id ≡ id)
 
 -- Where a statement comes by its step: to what its next step is, or to its reply. No step is left that would do nothing.
 pub data Onward (w : TableState) : Task → Task → Type 0 where
@@ -276,8 +307,10 @@ pub data Onward (w : TableState) : Task → Task → Type 0 where
   Swept : (at from : ℕ) → ((m p : ℕ) → HasTuples w m p → IsFrom at from m p → ⊥) → 0 < w.indexes → Onward w (SweepsFrom at from) (Restarts 0)
   JudgesNext : (scan : TableScan) (new : Task) → scan.at < w.indexes → scan.extent ≤ first_block w scan.at scan.range → scan.held ≡ None
       → Onward w (Scans (record scan { at = suc scan.at; range = 0 })) new → Onward w (Scans scan) new
-  Scanned : (scan : TableScan) → scan.at ≡ w.indexes → (scan.explains ≡ true) ⊎ ((b : ℕ) → IsTrue (scan.candidate b) → b < scan.read)
-      → Onward w (Scans scan) Resting
+  Scanned : (scan : TableScan) → IsScanRead w scan → HasNothingToMark scan → Onward w (Scans scan) Resting
+  ToMarks : (scan : TableScan) (id : RowId) (rest : List RowId) → IsScanRead w scan → scan.explains ≡ false → scan.deletes ≡ true
+      → ListsFound w scan (id ∷ rest) → Onward w (Scans scan) (Marks scan (id ∷ rest))
+  Marked : (scan : TableScan) → Onward w (Marks scan []) Resting
 
 abbrev pub IsLastIndex : TableState → Job → ℕ → Type 0
 IsLastIndex w (WholeRanges extent) at = suc at ≡ w.indexes
@@ -298,10 +331,6 @@ pub record TableStep (s : ℕ) (w v : TableState) : Type 0 where
   pub between : TableState
   pub does : Does s w between
   pub settles : Settles s between v
-
--- the session has no step
-abbrev pub IsTableStuck : TableState → ℕ → Type 0
-IsTableStuck w s = (v : TableState) → TableStep s w v → ⊥
 
 -- these sessions step, one after the other
 pub data TableRun : List ℕ → TableState → TableState → Type 0 where

@@ -5,18 +5,23 @@
 //! of each of its steps which one of specs/TableSteps it is, and has coverage and the completeness of scans from here.
 #![tactic(auto)]
 
-ghost use Rattle.std.specs.Prelude.{◌≡◌, ◌≢◌, ◌⊎◌, ◌↔◌, ◌≤◌, ◌<◌, ℕ, Bool, false, IsTrue, None, Some, List};
+ghost use Rattle.std.specs.Prelude.{◌≡◌, ◌≢◌, ◌⊎◌, ◌↔◌, ◌≤◌, ◌<◌, ℕ, suc, ◌+◌, ◌*◌, Bool, false, IsTrue, None, Some, List, [], ◌∷◌, ◌++◌, length};
 ghost use Rattle.block_model.specs.declared.row.Row.{Row};
 ghost use Rattle.coverage.specs.IndexView.{TuplePlace, IndexTuple};
 ghost use Rattle.coverage.specs.Steps.{Excludes};
-ghost use Rattle.table_coverage.specs.Table.{Job, EachRange, WholeRanges, TableScan, Task, Resting, Inserts, Maintains, Prunes, Sweeps, Restarts, Scans, TableState, index_view_at};
-ghost use Rattle.table_coverage.specs.TableSteps.{range_in, AsksFor, HasRange, OnlyTurns, JudgeStep, ReadsPage, IsBlocked, Does, HasStep, Onward, IsMaintained, TableStep, IsTableStuck, TableRun};
+ghost use Rattle.table_coverage.specs.Table.{Job, EachRange, OneRange, WholeRanges, TableScan, Task, Resting, Inserts, Maintains, Prunes, Sweeps, Restarts, Scans, Marks, TableState, index_view_at};
+ghost use Rattle.table_coverage.specs.GoingOn.{CanGoOn, IsScanHonest, IsInserting, StepsAlone};
+ghost use Rattle.table_coverage.specs.TableSteps.{range_in, AsksFor, HasRange, OnlyTurns, JudgeStep, ReadsPage, IsBlocked, Does, HasStep, Onward, IsMaintained, TableStep, TableRun, IsFirstPlace, IsHeapFull};
 ghost use Rattle.coverage.specs.Changes.{IsFree};
 ghost use Rattle.table_coverage.specs.NextTasks.{AfterRange, AfterBlock, AfterPage};
-ghost use Rattle.table_coverage.specs.TablePoints.{TablePoint, does_point, waits_for, IsHeldBy};
+ghost use Rattle.table_coverage.specs.TablePoints.{TablePoint, does_point, waits_for, IsHeldBy, IsTableStuck};
+ghost use Rattle.table_coverage.specs.Accounts.{Asked, Accounts, AccountsStep, AccountsRun, queue_limit};
+ghost use Rattle.table_coverage.specs.Refusals.{Heap, IndexNumber, LacksMemory, IsFull, does_refusal, MayLackMemory, IsTaskFull};
+ghost use Rattle.table_coverage.specs.RowOrder.{IsAmong};
+ghost use Rattle.block_model.specs.declared.row.RowId.{RowId};
 ghost use Rattle.table_coverage.specs.Machines.{ShownTable, Unseen, table_state, task_turned, IsFewer, MachineSteps, MachineEnds, MachineWaits, ScanReplies, ScanSteps, ChangesIndex, InsertStepsIn};
 ghost use Rattle.table_coverage.specs.Machines.{MaintainStepsIn};
-ghost use Rattle.coverage.specs.Statements.{OnIndex, Phase, Inserting, Maintaining};
+ghost use Rattle.coverage.specs.Statements.{OnIndex, Empty, Phase, NotBuilding, Inserting, Maintaining};
 ghost use Rattle.coverage.specs.Knowing.{Knows};
 ghost use Rattle.coverage.specs.PageOrder.{KnowsPages};
 ghost use Rattle.table_coverage.specs.TableCovered.{IsTableCovered, IsTableKept, IsTableAtRest, IsNewTable, TableStops, IsGiven, IsUnjudged};
@@ -76,7 +81,8 @@ pub fn scans_are_exact()
 /// Each matching row that a scan's session sees is found, or lies in a given block that isn't read yet, or in a range that
 /// isn't judged yet; and when the scan replies, it is found: `replies` says it of the scan's last step, after which no step of it
 /// is left. A block is given where every index of the table gives it, as each judged range was kept or not by what its step read;
-/// the candidates of a scan or an explain that replies are exactly the given blocks.
+/// the candidates of a scan or an explain that replies are exactly the given blocks. A scan finds nothing else; and a delete that has
+/// found its rows has all of them to mark, and each stands there until then.
 pub fn table_scans_miss_nothing()
     ensures found { (w : TableState) (s b k : ℕ) (scan : TableScan) → IsTableKept w → w.task s ≡ Scans scan → IsTrue (scan.sees b k)
         → (r : Row) × (w.row b k ≡ Some r) × (IsTrue (scan.matches r) → IsTrue (scan.found b k) ⊎ (IsGiven w scan b × (scan.read ≤ b)) ⊎ IsUnjudged w scan b) }
@@ -84,17 +90,50 @@ pub fn table_scans_miss_nothing()
         → scan.explains ≡ false → IsTrue (scan.sees b k) → (r : Row) × (w.row b k ≡ Some r) × (IsTrue (scan.matches r) → IsTrue (scan.found b k)) }
     ensures replies { (s b k : ℕ) (w v : TableState) (scan : TableScan) → IsTableKept w → Does s w v → v.task s ≡ Scans scan → Onward v (Scans scan) Resting
         → scan.explains ≡ false → IsTrue (scan.sees b k) → (r : Row) × (v.row b k ≡ Some r) × (IsTrue (scan.matches r) → IsTrue (scan.found b k)) }
+    ensures finds_only { (w : TableState) (s b k : ℕ) (scan : TableScan) → IsTableKept w → w.task s ≡ Scans scan → IsTrue (scan.found b k)
+        → (r : Row) × (w.row b k ≡ Some r) × IsTrue (scan.sees b k) × IsTrue (scan.matches r) }
+    ensures to_mark { (s b k : ℕ) (w v : TableState) (scan marking : TableScan) (ids : List RowId) → IsTableKept w → Does s w v → v.task s ≡ Scans scan
+        → Onward v (Scans scan) (Marks marking ids) → IsTrue (scan.sees b k)
+        → (r : Row) × (v.row b k ≡ Some r) × (IsTrue (scan.matches r) → IsAmong ids r.id) }
+    ensures marks { (w : TableState) (s : ℕ) (scan : TableScan) (ids : List RowId) (id : RowId) → IsTableKept w → w.task s ≡ Marks scan ids → IsAmong ids id
+        → (b : ℕ) × (k : ℕ) × (r : Row) × (w.row b k ≡ Some r) × (r.id ≡ id) × IsTrue (scan.sees b k) × IsTrue (scan.matches r) }
     ensures given { (s : ℕ) (w v : TableState) (scan : TableScan) → IsTableKept w → Does s w v → v.task s ≡ Scans scan → Onward v (Scans scan) Resting
         → (b : ℕ) → IsTrue (scan.candidate b) ↔ IsGiven v scan b }
 {}
 
-/// A vacuum is never stuck beside its ranges: at a block of the heap and before an index it has a step, and at an index page it has
-/// one unless another session locks the page.
-pub fn vacuums_go_on()
-    ensures prunes { (w : TableState) (s extent next : ℕ) → w.task s ≡ Prunes extent next → next < extent → IsTableStuck w s → ⊥ }
-    ensures sweeps { (w : TableState) (s at page : ℕ) → w.task s ≡ Sweeps at page → at < w.indexes → IsFree (index_view_at at w) s page
-        → IsTableStuck w s → ⊥ }
-    ensures restarts { (w : TableState) (s at : ℕ) → w.task s ≡ Restarts at → at < w.indexes → IsTableStuck w s → ⊥ }
+/// What a step adds to the account of its session, and does to the queue of the summaries that are asked for, is one thing. In the queue
+/// the order stays: a request joins at the end, or the first one is taken; and it never holds more than 64.
+pub fn accounts_are_exact()
+    ensures one { (s : ℕ) (w v : TableState) (does : Does s w v) (p : TablePoint) (a b c : Accounts) → does_point s w v does ≡ Some p
+        → AccountsStep s w v does a b → AccountsStep s w v does a c → (b.queue ≡ c.queue) × (b.of s ≡ c.of s) }
+    ensures in_order { (s : ℕ) (w v : TableState) (does : Does s w v) (a b : Accounts) → AccountsStep s w v does a b
+        → (b.queue ≡ a.queue) ⊎ ((asked : Asked) × (b.queue ≡ a.queue ++ (asked ∷ []))) ⊎ ((asked : Asked) × (a.queue ≡ asked ∷ b.queue)) }
+    ensures within { (s : ℕ) (w v : TableState) (does : Does s w v) (a b : Accounts) → AccountsStep s w v does a b → length a.queue ≤ queue_limit
+        → length b.queue ≤ queue_limit }
+{}
+
+/// A statement ends without its reply only for a cause. Want of memory ends an insert before it has a row, a scan, and a vacuum that is at
+/// no range, and nothing else. A heap is told as full where no place is left below its limit, with the number of its slots; an index
+/// where no page is left for what the statement has to put, with the number of its pages.
+pub fn refusals_have_their_cause()
+    ensures memory { (s : ℕ) (w v : TableState) (does : Does s w v) → does_refusal s w v does ≡ Some LacksMemory → MayLackMemory (w.task s) }
+    ensures heap_full { (s : ℕ) (w v : TableState) (does : Does s w v) (number : ℕ) → does_refusal s w v does ≡ Some (IsFull Heap number)
+        → IsHeapFull w × (number ≡ w.heap_limit * w.rows_per_page) }
+    ensures index_full { (s : ℕ) (w v : TableState) (does : Does s w v) (at number : ℕ) → does_refusal s w v does ≡ Some (IsFull (IndexNumber at) number)
+        → IsTaskFull w s (w.task s) at number × (number ≡ (w.index at).pages.limit) }
+    ensures no_place { (w : TableState) → ((b k : ℕ) → IsFirstPlace w b k → ⊥) ↔ IsHeapFull w }
+    ensures ends { (s : ℕ) (w v : TableState) (does : Does s w v) → (w.task s ≡ Resting → ⊥) → v.task s ≡ Resting → does_refusal s w v does ≢ None }
+{}
+
+/// A statement of a table is never stuck: before a step it has that step, with its point, or waits for a page that another session locks,
+/// or no page is left for what it has to put. An insert whose session steps alone ends, or waits, within six steps an index, and so within
+/// 1 + 6n steps with the one that puts its row.
+pub fn statements_go_on()
+    ensures goes_on { (w : TableState) (s : ℕ) → IsTableKept w → CanGoOn w → IsScanHonest w s → (w.task s ≡ Resting → ⊥) → HasStep w (w.task s)
+        → IsTableStuck w s → (IsBlocked w s (w.task s) → ⊥) → ((at number : ℕ) → IsTaskFull w s (w.task s) at number → ⊥) → ⊥ }
+    ensures inserts_end { (s n : ℕ) (w : TableState) → IsTableKept w → IsInserting (w.task s) → StepsAlone s n w → n ≤ 6 * w.indexes }
+    ensures begun_insert_ends { (s n : ℕ) (w v : TableState) → TableStep s w v → IsTableKept w → IsInserting (v.task s) → StepsAlone s n v
+        → suc n ≤ 1 + 6 * w.indexes }
 {}
 
 /// What a machine promises over the pages and page locks that it sees, the table takes up: a step of it, whatever it doesn't see,
@@ -156,4 +195,14 @@ pub fn a_vacuum_ends()
         × (w.row 0 0 ≡ Some r) × (v.row 0 0 ≡ None)
         × ((x : TuplePlace) × ((i : ℕ) → i < 2 → ((w.index i).tuple x ≢ None) × ((v.index i).tuple x ≡ None)))
         × (v.task 0 ≡ Resting) × (v.summarise_lock ≡ None) }
+{}
+
+/// A run in which an insert asks for a summary and work takes it up, from a new table with any two rows: the second row is at the first
+/// place of a range, and so its insert asks for the range before, which has no entry; the request stands in the queue until another
+/// session begins its work, which is at that range then.
+pub fn an_ask_is_taken_up()
+    ensures { (q r : Row) → (w : TableState) × (u : TableState) × (v : TableState) × (a : Accounts) × (b : Accounts) × (c : Accounts) × IsTableKept w
+        × AccountsRun (0 ∷ 0 ∷ 0 ∷ 0 ∷ 0 ∷ []) w u a b × AccountsRun (1 ∷ []) u v b c × (u.row 1 0 ≡ Some r) × (a.queue ≡ [])
+        × (b.queue ≡ record { table = b.table; at = 0; range = 0 } ∷ []) × ((u.index 0).entry 0 ≡ None) × (c.queue ≡ [])
+        × (v.task 1 ≡ Maintains (OneRange u.blocks 0) 0 0 (NotBuilding Empty)) }
 {}

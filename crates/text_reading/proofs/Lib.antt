@@ -2,3 +2,4 @@ pub mod Lawful
 pub mod Whole
 pub mod DigitLemmas
 pub mod DigitReading
+pub mod Stopping

@@ -1,18 +1,27 @@
 //! Lists of declarations that are read, and faults with their places.
 
-use block_model::{Class, Column, Kind, Part, Schema, Words};
-use schema_words::{DeclFault, read_declarations};
+use block_model::{Class, Column, Index, Kind, Part, Schema, Words};
+use schema_words::{DeclFault, read_declarations, read_declarations_with};
 use std::alloc::Global;
 use std::test::Fail;
 
-fn declared(alloc: Global, declarations: &[&str]) -> Result<Schema, DeclFault> {
+fn words_of(alloc: Global, declarations: &[&str]) -> Result<Words, DeclFault> {
     let mut words = Words::new(alloc);
     for word in declarations {
         if words.push(word.as_bytes()).is_err() {
             return Err(DeclFault::Memory);
         }
     }
-    read_declarations(alloc, &words)
+    Ok(words)
+}
+
+fn declared(alloc: Global, declarations: &[&str]) -> Result<Schema, DeclFault> {
+    read_declarations(alloc, &words_of(alloc, declarations)?)
+}
+
+/// The same where ` autosummarize` is answered.
+fn declared_with_autos(alloc: Global, declarations: &[&str]) -> Result<Schema, DeclFault> {
+    read_declarations_with(alloc, true, &words_of(alloc, declarations)?)
 }
 
 fn is_table(
@@ -220,4 +229,67 @@ fn faults_name_their_word_and_byte(rt: HostRuntime) {
         let read = declared(rt.alloc(), &["table t(a int8)", word, "table u(a int8)"]);
         assert_eq!(rt; read.err(), Some(DeclFault::Form { word: 1, at }));
     }
+}
+
+#[test]
+fn summarised_indexes_say_so_last(rt: HostRuntime) -> Result<(), Fail> {
+    let cases = [
+        ("index i on t(a minmax)", 128, false),
+        ("index i on t(a minmax) autosummarize", 128, true),
+        ("index i on t(a minmax) pages_per_range 4", 4, false),
+        (
+            "index i on t(a minmax) pages_per_range 4 autosummarize",
+            4,
+            true,
+        ),
+    ];
+    for (word, pages_per_range, auto) in cases {
+        let schema = declared_with_autos(rt.alloc(), &["table t(a int8)", word])?;
+        let found = schema.indexes.as_slice().first();
+        let same = |index: &Index| index.pages_per_range == pages_per_range && index.auto == auto;
+        assert!(rt; found.is_some_and(same));
+    }
+    Ok(())
+}
+
+#[test]
+fn faults_behind_the_columns_name_their_byte(rt: HostRuntime) {
+    let cases = [
+        ("index i on t(a minmax)  autosummarize", 23),
+        ("index i on t(a minmax) autosummarise", 34),
+        ("index i on t(a minmax) auto", 27),
+        ("index i on t(a minmax) autosummarize ", 36),
+        ("index i on t(a minmax) autosummarize pages_per_range 4", 36),
+        ("index i on t(a minmax) pages_per_range 4autosummarize", 40),
+        ("index i on t(a minmax) pages_per_range 4 pages", 41),
+        ("table t(a int8) autosummarize", 16),
+    ];
+    for (word, at) in cases {
+        let read = declared_with_autos(rt.alloc(), &["table t(a int8)", word]);
+        assert_eq!(rt; read.err(), Some(DeclFault::Form { word: 1, at }));
+    }
+    let unanswered = "index i on t(a minmax) pages_per_range 4 autosummarize";
+    let read = declared(rt.alloc(), &["table t(a int8)", unanswered]);
+    assert_eq!(rt; read.err(), Some(DeclFault::Form { word: 1, at: 40 }));
+}
+
+#[test]
+fn columns_have_no_bound(rt: HostRuntime) -> Result<(), Fail> {
+    let alloc = rt.alloc();
+    let mut table = String::from_str(alloc, "table t(a0 inet")?;
+    for n in 1..1400 {
+        table.push_str(&format!(in alloc; ",a{n} inet")?)?;
+    }
+    table.push(')')?;
+    let index = "index i on t(a255 minmax,a256 minmax,a1399 minmax)";
+    let schema = declared(alloc, &[&table, index])?;
+    let found = schema.tables.as_slice().first();
+    assert!(rt; found.is_some_and(|table| table.columns.len() == 1400 && table.rows_per_page == 0));
+    let parts = [
+        part(255, Class::MinMax),
+        part(255, Class::MinMax),
+        part(255, Class::MinMax),
+    ];
+    assert!(rt; is_index(&schema, 0, b"i", 0, 128, &parts));
+    Ok(())
 }

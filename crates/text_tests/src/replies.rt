@@ -1,9 +1,10 @@
 //! Replies.
 
 use block_model::{
-    Blocks, Name, Net, NoMemory, Refusal, Reply, Row, RowId, Rows, Span8, Value, Values, What,
+    Blocks, Name, Net, NoMemory, Point, Refusal, Reply, Row, RowId, Rows, Span8, Value, Values,
+    What,
 };
-use reply_texts::{Dropped, render, render_dropped, render_refusal};
+use reply_texts::{Dropped, render, render_dropped, render_moved, render_refusal, render_started};
 use std::alloc::Global;
 use std::test::Fail;
 
@@ -151,5 +152,56 @@ fn dropped_requests_have_a_line_each(rt: HostRuntime) -> Result<(), Fail> {
         out.as_slice(),
         b"m - dropped i 0\n- dropped i 70\n".as_slice()
     );
+    Ok(())
+}
+
+#[test]
+fn statements_that_go_on_have_a_line_each(rt: HostRuntime) -> Result<(), Fail> {
+    let mut out = Vec::from_slice(rt.alloc(), b"- ")?;
+    let session = name_of(b"s1")?;
+    render_started(&session, &mut out)?;
+    for point in [Point::Row, Point::Again, Point::Extent, Point::Turn] {
+        render_moved(&session, point, &mut out)?;
+    }
+    let expected = b"- s1 started\ns1 moved row\ns1 moved again\ns1 moved extent\ns1 moved turn\n";
+    assert_eq!(rt; out.as_slice(), expected.as_slice());
+    Ok(())
+}
+
+/// Each point, and its word.
+const POINTS: [(Point, &str); 22] = [
+    (Point::Row, "row"),
+    (Point::Ask, "ask"),
+    (Point::Map, "map"),
+    (Point::Copy, "copy"),
+    (Point::Again, "again"),
+    (Point::Swap, "swap"),
+    (Point::Put, "put"),
+    (Point::Set, "set"),
+    (Point::Drop, "drop"),
+    (Point::Extent, "extent"),
+    (Point::Tuple, "tuple"),
+    (Point::Page, "page"),
+    (Point::Mark, "mark"),
+    (Point::Right, "right"),
+    (Point::Pass, "pass"),
+    (Point::Clear, "clear"),
+    (Point::Prune, "prune"),
+    (Point::Sweep, "sweep"),
+    (Point::Grow, "grow"),
+    (Point::Meta, "meta"),
+    (Point::Flag, "flag"),
+    (Point::Turn, "turn"),
+];
+
+#[test]
+fn each_point_has_its_word(rt: HostRuntime) -> Result<(), Fail> {
+    let session = name_of(b"m")?;
+    for (point, word) in POINTS {
+        let mut out = Vec::new(rt.alloc());
+        render_moved(&session, point, &mut out)?;
+        let expected = format!(in rt.alloc(); "m moved {word}\n")?;
+        assert_eq!(rt; out.as_slice(), expected.as_bytes());
+    }
     Ok(())
 }

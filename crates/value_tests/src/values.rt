@@ -1,8 +1,8 @@
 //! Values, rows and queries.
 
 use block_model::{
-    Cond, Conds, Kind, Kinds, Name, Net, Op, Query, Row, RowId, Rows, Span8, SpanFault, Value,
-    Values, Words, matches, row_matches,
+    Column, Cond, Conds, Kind, Kinds, Name, Net, Op, Query, Row, RowId, Rows, Span8, SpanFault,
+    Value, Values, Words, matches, row_matches,
 };
 use std::test::Fail;
 
@@ -244,6 +244,22 @@ fn a_query_finds_rows_of_its_table_that_meet_each_condition(rt: HostRuntime) -> 
 }
 
 #[test]
+fn kinds_are_those_of_the_columns(rt: HostRuntime) -> Result<(), Fail> {
+    let name = Name::new(b"a").expect(&rt, "a name");
+    let first = Column {
+        name,
+        kind: Kind::Net,
+    };
+    let second = Column {
+        name,
+        kind: Kind::Int,
+    };
+    let kinds = Kinds::of(&[first, second]);
+    assert_eq!(rt; kinds.as_slice(), [Kind::Net, Kind::Int].as_slice());
+    Ok(())
+}
+
+#[test]
 fn lists_keep_their_order(rt: HostRuntime) -> Result<(), Fail> {
     let mut rows = Rows::new(rt.alloc());
     for k in 0..2 {
@@ -256,9 +272,6 @@ fn lists_keep_their_order(rt: HostRuntime) -> Result<(), Fail> {
     }
     let kept = Rows::from_vec(rows.into_vec());
     assert_eq!(rt; kept.as_slice().iter().map(|row| row.id.k).max(), Some(1));
-    let mut kinds = Kinds::new();
-    kinds.push(Kind::Net);
-    assert_eq!(rt; kinds.as_slice(), [Kind::Net].as_slice());
     let mut words = Words::new(rt.alloc());
     words.push(b"run")?;
     words.push(b"table")?;

@@ -7,3 +7,4 @@ pub mod ValueReading
 pub mod Canonical
 pub mod OfKind
 pub mod ValueOfLemmas
+pub mod Spaces

@@ -1,5 +1,6 @@
 -- what texts and values are to one another
-use Rattle.std.specs.Prelude.{◌≡◌, ℕ, List, Ok}
+use Rattle.std.specs.Prelude.{◌≡◌, ℕ, ◌==◌, Bool, true, not, List, Ok}
+use Rattle.std.specs.List.{list_all}
 use Rattle.block_model.specs.declared.value.Kind.{Kind}
 use Rattle.block_model.specs.declared.value.Value.{Value}
 use Rattle.value_text.specs.ValueTexts.{ValueText, IsTextOf, bytes_of, Denotes}
@@ -21,3 +22,11 @@ CanonicalTextIsOwn = (kind : Kind) (a b : Value) → IsValueOf kind a → IsValu
 -- a value that a text denotes is one of the text's kind
 abbrev pub DenotedIsOfKind : Type 0
 DenotedIsOfKind = (kind : Kind) (bytes : List ℕ) (value : Value) → Denotes kind bytes (Ok value) → IsValueOf kind value
+
+-- a space
+abbrev pub is_space : ℕ → Bool
+is_space c = c == 32
+
+-- no text has a space, so spaces part the values of a line
+abbrev pub TextHasNoSpace : Type 0
+TextHasNoSpace = (kind : Kind) (text : ValueText) → IsTextOf kind text → list_all (λ c. not (is_space c)) (bytes_of text) ≡ true

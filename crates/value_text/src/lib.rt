@@ -1,8 +1,8 @@
 //! Values as texts, both ways: `read_value` answers Ok exactly on the texts of a kind whose value is representable, with the
 //! value that the text denotes, and else where the text goes wrong or which number doesn't fit; `write_value` appends the one
-//! canonical text, which reads as the same value; `append` and `write_values` serve the printers above. The texts are specs/ValueTexts.antt, apart from reader and printer. It
-//! stands on block_model, on text_reading for what is read, and on itoa for printed numbers. Reading takes no memory, and
-//! writing takes none but `out`'s.
+//! canonical text, which reads as the same value (`written_value_denotes`); `append` and `write_values` serve the printers
+//! above. The texts are specs/ValueTexts.antt, apart from reader and printer. It stands on block_model, on text_reading for
+//! what is read, and on itoa for printed numbers. Reading takes no memory, and writing takes none but `out`'s.
 #![tactic(auto)]
 
 mod laws;
@@ -15,7 +15,7 @@ mod write;
 
 pub use laws::{
     bytes_are_one_text, canonical_text_denotes, canonical_text_is_own, denoted_is_of_kind,
-    value_of_is_denoted,
+    text_has_no_space, value_of_is_denoted, written_value_denotes,
 };
 pub use read::{TextFault, read_value};
 pub use write::{append, write_value, write_values};

@@ -2,4 +2,3 @@ pub mod Lawful
 pub mod Fields
 pub mod Changes
 pub mod Fault
-pub mod Written

@@ -8,7 +8,7 @@ use io_traits::{MemorySink, MemorySource};
 use std::alloc::Global;
 use std::test::Fail;
 
-/// How many bytes of output there is room for.
+/// How many bytes of output a row has room for.
 const ROOM: usize = 4096;
 
 /// The words of a command line with `|` between them, a script, and what is written for it.
@@ -68,4 +68,18 @@ pub fn ran(
     let mut sink = MemorySink::new(alloc, ROOM, piece, writes)?;
     let status = brin_main(alloc, words, &mut source, &mut sink);
     Ok(status == row.status && sink.bytes() == row.output)
+}
+
+/// The status of a script, and what is written for it, with room for so many bytes.
+pub fn written(
+    alloc: Global,
+    words: &str,
+    script: Vec<u8>,
+    room: usize,
+) -> Result<(u8, MemorySink), Fail> {
+    let words = words_of(alloc, words)?;
+    let mut source = MemorySource::new(script, 65536, Vec::new(alloc));
+    let mut sink = MemorySink::new(alloc, room, 65536, Vec::new(alloc))?;
+    let status = brin_main(alloc, &words, &mut source, &mut sink);
+    Ok((status, sink))
 }

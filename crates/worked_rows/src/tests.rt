@@ -1,4 +1,4 @@
-use crate::runs::{Faults, NO_FAULTS, Row, holds, ran};
+use crate::runs::{Faults, NO_FAULTS, Row, holds, ran, written};
 use block_model::Words;
 use std::process::Abort;
 use std::test::Fail;
@@ -427,6 +427,47 @@ fn rows_of_interleaved_transactions_come_in_order(rt: HostRuntime) -> Result<(),
         b"a begin\nb begin\nb insert t 3\na insert t 1\nb insert t -4\na insert t 2\na commit\nb commit\nc begin\nc select t where a >= 1\nc select t where a < 1\n",
         b"a begun 1\nb begun 2\nb inserted 2.0\na inserted 1.0\nb inserted 2.1\na inserted 1.1\na committed\nb committed\nc begun 3\nc row 1.0 1\nc row 1.1 2\nc row 2.0 3\nc rows 3\nc row 2.1 -4\nc rows 1\n",
     )
+}
+
+#[test]
+fn full_heap_is_refused(rt: HostRuntime) -> Result<(), Fail> {
+    check(
+        &rt,
+        "run|--heap-blocks|1|--index-blocks|4|--status-blocks|1|--log-pages|16|table t(a int8) rows_per_page 2|index i on t(a minmax) pages_per_range 1",
+        b"s1 begin\ns1 insert t 1\ns1 insert t 2\ns1 commit\ns1 begin\ns1 insert t 3\ns1 insert t 4\ns1 rollback\ns2 begin\ns2 select t\n",
+        b"s1 begun 1\ns1 inserted 1.0\ns1 inserted 1.1\ns1 committed\ns1 begun 2\ns1 error 8 t 2\ns1 error 6\ns1 rolled back\ns2 begun 3\ns2 row 1.0 1\ns2 row 1.1 2\ns2 rows 2\n",
+    )
+}
+
+#[test]
+fn a_rolled_back_row_keeps_its_slot(rt: HostRuntime) -> Result<(), Fail> {
+    check(
+        &rt,
+        "run|--heap-blocks|1|table t(a int8) rows_per_page 1|table u(a int8) rows_per_page 1",
+        b"s1 begin\ns1 insert t 1\ns1 rollback\ns1 begin\ns1 insert u 1\ns1 insert t 2\ns1 commit\n",
+        b"s1 begun 1\ns1 inserted 1.0\ns1 rolled back\ns1 begun 2\ns1 inserted 2.0\ns1 error 8 t 1\ns1 rolled back\n",
+    )
+}
+
+#[test]
+fn full_journal_ends_the_run(rt: HostRuntime) -> Result<(), Fail> {
+    // The first 1002 of the 1048576 requests that there may be put 1000 rows. Each of 1044 rounds behind them makes 1003: a
+    // begin, a look, 1000 marks and a rollback. Of the 442 that are left the next begin takes one, and the next delete wants 1001.
+    let mut script = Vec::new(rt.alloc());
+    script.extend_from_slice(b"s begin\n")?;
+    for _ in 0..1000 {
+        script.extend_from_slice(b"s insert t 1\n")?;
+    }
+    script.extend_from_slice(b"s commit\n")?;
+    for _ in 0..1045 {
+        script.extend_from_slice(b"s begin\ns delete t\ns rollback\n")?;
+    }
+    let (status, sink) = written(rt.alloc(), WORDS, script, 65536)?;
+    assert_eq!(rt; status, 8);
+    assert!(rt;
+        sink.bytes().ends_with(b"\ns begun 1045\ns deleted 1000\ns rolled back\ns begun 1046\n")
+    );
+    Ok(())
 }
 
 #[test]

@@ -1,6 +1,7 @@
 use Rattle.std.specs.Prelude.{refl, [], ◌∷◌}
-use Rattle.coverage.proofs.RangeSummarised.{place, final_tuple}
-use Rattle.coverage.proofs.TupleMoved.{row_put, tuple_moved, put_kept, moved_run, moved_place, wide_tuple, places_differ}
+use Rattle.coverage.proofs.SmallIndex.{place}
+use Rattle.coverage.proofs.ExampleTuples.{final_tuple, wide_tuple}
+use Rattle.coverage.proofs.TupleMoved.{row_put, tuple_moved, put_kept, moved_run, moved_place, places_differ}
 use Rattle.coverage.proofs.an_insert_moves_a_tuple.Goals as goal
 
 pub returns : goal.returns

@@ -2,7 +2,7 @@
 
 ghost use Rattle.std.specs.Prelude.{◌≡◌, ◌≤◌, nat_lt, nat_le, All, length};
 ghost use Rattle.std.specs.List.{list_all};
-ghost use Rattle.block_model.specs.declared.limits.TheConstants.{MAX_COLUMNS};
+ghost use Rattle.block_model.specs.declared.limits.TheConstants.{MAX_COLUMNS, MAX_TUPLE};
 ghost use Rattle.block_model.specs.IndexedColumns.{columns_of};
 ghost use Rattle.block_model.specs.TupleSize.{tuple_size};
 ghost use Rattle.store_layout.specs.FirstBrokenRule.{first_broken_rule};
@@ -15,8 +15,8 @@ use super::names::{
     columns_are_distinct, has_relation, names_are_distinct, relations_are_distinct,
 };
 use block_model::{
-    Class, Column, Index, Kind, PAGE_ROOM, Part, Schema, Sizes, Table, columns_of, kind_at,
-    row_size, tuple_size,
+    Class, Column, Index, Kind, MAX_TUPLE, Part, Schema, Sizes, Table, columns_of, kind_at,
+    most_rows, tuple_size,
 };
 
 /// The number of the first rule that doesn't hold, where there is one.
@@ -123,7 +123,6 @@ fn are_columns(parts: &[Part], count: usize) -> bool
 }
 
 fn has_lawful_rows_per_page(schema: &Schema) -> bool
-    requires { All (λ t. length t.columns ≤ MAX_COLUMNS) schema.now.tables }
     ensures { result ≡ has_lawful_rows_per_page schema.now }
 {
     let tables = schema.tables.as_slice();
@@ -131,13 +130,12 @@ fn has_lawful_rows_per_page(schema: &Schema) -> bool
 }
 
 fn rows_fit(table: &Table) -> bool
-    requires { length table.now.columns ≤ MAX_COLUMNS }
     ensures { result ≡ rows_fit table.now }
 {
     let columns = table.columns.as_slice();
     is_within(
         1,
-        PAGE_ROOM as u64 / row_size(columns),
+        u64::from(most_rows(columns)),
         u64::from(table.rows_per_page),
     )
 }
@@ -203,9 +201,9 @@ fn has_lawful_tuples(schema: &Schema) -> bool
 
 fn tuple_fits(columns: &[Column], parts: &[Part]) -> bool
     requires { length parts.now ≤ MAX_COLUMNS }
-    ensures { result ≡ nat_le (tuple_size columns.now parts.now) 8156 }
+    ensures { result ≡ nat_le (tuple_size columns.now parts.now) MAX_TUPLE }
 {
-    tuple_size(columns, parts) <= 8156
+    tuple_size(columns, parts) <= MAX_TUPLE
 }
 
 fn has_lawful_heap_blocks(sizes: Sizes) -> bool

@@ -1,5 +1,5 @@
 use Rattle.std.specs.Prelude.{refl, [], ◌∷◌}
-use Rattle.coverage.proofs.RangeSummarised.{place}
+use Rattle.coverage.proofs.SmallIndex.{place}
 use Rattle.table_coverage.proofs.VacuumRun.{at_rest, vacuum_ended, vacuum_kept, vacuum_run, tuples_went}
 use Rattle.table_coverage.proofs.a_vacuum_ends.Goals as goal
 

@@ -13,7 +13,7 @@ pub returns-in-Ok-clause-full : goal.returns-in-Ok-clause-full
 returns-in-Ok-clause-full c = λ idle full.
     let put = subst (Submits c.args.store.now c.args.session c.args.statement c.submit.new.self) c.in-Ok.is c.submit.ensures in
     let within : c.args.session < length c.args.store.now.hands = omega (arith, c.requires.session, c.known.ensures.a_hand_each) in
-    taken_past c.args.store.now c.submit.new.self c.args.session c.args.statement within put.1 (c.step.ensures.full full)
+    taken_past c.args.store.now c.submit.new.self c.step.new.store c.args.session c.args.statement within put.1 (c.step.ensures.full full)
 
 pub returns-in-Err-clause-ok : goal.returns-in-Err-clause-ok
 returns-in-Err-clause-ok c = λ idle.

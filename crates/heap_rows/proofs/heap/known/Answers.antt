@@ -1,5 +1,6 @@
 use Rattle.heap_rows.specs.Heaps.{no_table}
-use Rattle.heap_rows.proofs.Heaps.{form_found, small_row, some_row}
+use Rattle.heap_rows.proofs.Heaps.{form_found, some_row}
+use Rattle.page_layout.specs.RowSizes.{small_row}
 use Rattle.heap_rows.proofs.heap.known.Goals as goal
 
 pub returns-clause-found : goal.returns-clause-found

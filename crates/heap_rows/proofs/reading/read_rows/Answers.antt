@@ -1,8 +1,7 @@
 use Rattle.std.proofs.Common.{◌≡◌, ◌<◌, ◌∙◌, List, [], ◌∷◌, ◌++◌, length, ap, sym, arith, length-append}
 use Rattle.page_layout.specs.PageContents.{Slot, HasSlots}
-use Rattle.page_layout.specs.SlotLaws.{free_read, length-has}
+use Rattle.page_layout.specs.SlotLaws.{free_read, free_slot, length-has}
 use Rattle.heap_rows.specs.StoredRows.{RowsInRoom, stored_from}
-use Rattle.heap_rows.proofs.Places.{free_slot}
 use Rattle.heap_rows.proofs.SlotRows.{read_row, stored-add, stored-skip}
 use Rattle.heap_rows.proofs.reading.read_rows.Goals as goal
 use Rattle.heap_rows.proofs.reading.read_rows.Goals.{in-Some, in_default}

@@ -3,8 +3,8 @@ use Rattle.opclass_multi.specs.Elements.{AreApart, count_of}
 use Rattle.opclass_multi.specs.Reduced.{reduced}
 use Rattle.opclass_multi.proofs.reduce.reduce.Given as goal
 
-abbrev pub invariant-mergers : goal.invariant-mergers
-invariant-mergers l = record {
+abbrev pub invariant-rounds : goal.invariant-rounds
+invariant-rounds l = record {
   apart : AreApart l.elements.items;
   counted : l.counted ≡ count_of l.elements.items;
   size : vec_len l.elements ≤ vec_len l.fn.elements;
@@ -12,5 +12,5 @@ invariant-mergers l = record {
   so_far : reduced l.limit l.elements.items ≡ reduced l.limit l.fn.elements.items;
 }
 
-abbrev pub decreases-mergers : goal.decreases-mergers
-decreases-mergers l = vec_len l.elements
+abbrev pub decreases-rounds : goal.decreases-rounds
+decreases-rounds l = vec_len l.elements

@@ -17,8 +17,11 @@ returns-then-hold_all-clause-widened c =
     ap (λ (es : List Element). list_all (λ (f : Element). holds es f.least f.greatest) others) (sym c.as_slice.ensures.value) ∙ sym c.hold_all.ensures ∙ c.if-hold_all.true in
     sym (united_same c.args.limit items others c.requires.apart c.requires.others_apart c.requires.within held)
 
-pub join-requires : goal.join-requires
-join-requires c = omega (arith, c.args.elements.now.ok, count_least c.args.elements.now.items, count_least c.args.others.now)
+pub hold_all-requires-clause-apart : goal.hold_all-requires-clause-apart
+hold_all-requires-clause-apart c = subst AreApart (sym c.as_slice.ensures.value) c.requires.apart
+
+pub join-requires-clause-room : goal.join-requires-clause-room
+join-requires-clause-room c = omega (arith, c.args.elements.now.ok, count_least c.args.elements.now.items, count_least c.args.others.now)
 
 pub reduce-requires-clause-few : goal.reduce-requires-clause-few
 reduce-requires-clause-few c = omega (arith, c.args.elements.now.ok, c.join.ensures.size, count_least c.args.elements.now.items, count_least c.args.others.now)

@@ -17,7 +17,7 @@ read_row-requires-clause-sound c =
 
 pub returns : goal.returns
 returns c = record {
-  row = λ row is e.
-      let all : row_in c.as_slice.result.now c.args.bytes.now ≡ row = ap (λ (ks : List Kind). row_in ks c.args.bytes.now) (c.as_slice.ensures.kinds ∙ c.kinds_of-kinds.ensures) ∙ ap (row_in _) e ∙ row_again _ row is in
+  row = λ row has.
+      let all : row_in c.as_slice.result.now c.args.bytes.now ≡ row = ap (λ (ks : List Kind). row_in ks c.args.bytes.now) (c.as_slice.ensures.kinds ∙ c.kinds_of-kinds.ensures) ∙ ap (row_in _) has.1 ∙ row_again _ row has.0 in
       (c.read_row.ensures.id ∙ ap (λ (r : StoredRow). (r.id, r.deleter)) all, c.read_row.ensures.values ∙ ap (λ (r : StoredRow). r.values) all);
 }

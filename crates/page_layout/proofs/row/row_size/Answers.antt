@@ -1,5 +1,5 @@
 use Rattle.std.proofs.Common.{arith}
-use Rattle.page_layout.proofs.Columns.{sizes_small}
+use Rattle.page_layout.specs.RowSizes.{sizes_small}
 use Rattle.page_layout.proofs.row.row_size.Goals as goal
 
 pub overflow_add-result : goal.overflow_add-result

@@ -1,10 +1,11 @@
-use Rattle.std.proofs.Common.{sym, ap, ◌∙◌}
+use Rattle.std.proofs.Common.{Err, sym, ◌∙◌}
+use Rattle.query_words.specs.declared.line.Line.TheVariants as lines
 use Rattle.query_words.specs.LineParts.{words_left, word_here}
-use Rattle.query_words.specs.Syntax.{stop_of}
-use Rattle.query_words.proofs.SmallSchemaLemmas.{begins_well}
+use Rattle.query_words.proofs.OnePass.{once_through_err, say_once}
 use Rattle.query_words.proofs.line.read_words.Goals as goal
 
-pub read_statement-requires-clause-conds : goal.read_statement-requires-clause-conds
-read_statement-requires-clause-conds c =
-    (begins_well c.value_of_is_denoted.ensures c.args.line_len (word_here c.in-Some.word) (words_left c.in-Some.behind) (sym c.is_comment.ensures ∙ c.if-is_comment.false)
-    (sym (ap (stop_of c.args.line_len) c.in-Some.ensures.word) ∙ c.requires.syntax)).few
+pub returns-in-Err : goal.returns-in-Err
+returns-in-Err c =
+    say_once c.args.language.now c.args.schema.now c.args.line_len (words_left c.args.rest) (words_left c.in-Some.behind) (word_here c.in-Some.word) (Err c.in-Err.fault)
+    c.in-Some.ensures.word (sym c.is_comment.ensures ∙ c.if-is_comment.false) c.in-Some-new.ensures.1
+    (once_through_err c.in-Err.fault _ _ (λ x. lines.Say c.in-Some.word.text.now x) c.in-Err.ensures)

@@ -11,5 +11,5 @@ returns-clause-ok c =
     let e : spaced (map canonical_text c.args.values.now) ≡ values_text c.args.values.now =
     flat_map-map (λ (word : List ℕ). codes " " ++ word) canonical_text c.args.values.now in
     let name : List ℕ = table_name c.args.schema.now c.args.table in
-    let here : OnOk c.write_values.result (c.write_values.new.out.items ≡ c.args.out.now.items ++ (codes " insert " ++ (name ++ values_text c.args.values.now))) = grind (arith, common_steps) in
-    subst (λ (text : List ℕ). OnOk c.write_values.result (c.write_values.new.out.items ≡ c.args.out.now.items ++ (codes " insert " ++ (name ++ text)))) (sym e) here
+    let here : OnOk c.write_values.result (c.write_values.new.out.items ≡ c.args.out.now.items ++ (codes " " ++ (name ++ values_text c.args.values.now))) = grind (arith, common_steps) in
+    subst (λ (text : List ℕ). OnOk c.write_values.result (c.write_values.new.out.items ≡ c.args.out.now.items ++ (codes " " ++ (name ++ text)))) (sym e) here

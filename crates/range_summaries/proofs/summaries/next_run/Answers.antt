@@ -15,20 +15,20 @@ run-run-requires-clause-known c =
     let r = c.index-of_indexes-at.result in
     let d : Run = record { end = 0; kept = false } in
     subst (λ (p : List Cond × IndexRanges). IsRunOf p.0 c.args.from c.args.extent p.1 (get_or c.indexes.known at d))
-    (λ i. (sym c.as_slice.ensures.conds i, sym c.index-of_indexes-at.is i)) (c.indexes.invariant.known at r d (omega arith))
+    (λ i. (sym c.requires.keys i, sym c.index-of_indexes-at.is i)) (c.indexes.invariant.known at r d (omega arith))
 
 pub returns-then-not-run-clause-known : goal.returns-then-not-run-clause-known
 returns-then-not-run-clause-known c =
     let conds = c.args.query.now.conds in
     let r = c.index-of_indexes-at.result in
     changed_runs conds c.args.from c.args.extent c.args.of_indexes.now c.indexes.known c.indexes.at r c.run-run.result c.indexes.invariant.known (omega (arith, c.requires.places, c.indexes.invariant.places)) (omega arith) c.index-of_indexes-at.is
-    (subst (λ (cs : List Cond). IsRunOf cs c.args.from c.args.extent r c.run-run.result) c.as_slice.ensures.conds c.run-run.ensures.run)
+    (subst (λ (cs : List Cond). IsRunOf cs c.args.from c.args.extent r c.run-run.result) c.requires.keys c.run-run.ensures.run)
 
 pub returns-then-not-run-clause-left_out : goal.returns-then-not-run-clause-left_out
 returns-then-not-run-clause-left_out c = λ out block low high row all.
     let r = c.index-of_indexes-at.result in
     let run : IsRunOf c.args.query.now.conds c.args.from c.args.extent r c.run-run.result =
-    subst (λ (cs : List Cond). IsRunOf cs c.args.from c.args.extent r c.run-run.result) c.as_slice.ensures.conds c.run-run.ensures.run in
+    subst (λ (cs : List Cond). IsRunOf cs c.args.from c.args.extent r c.run-run.result) c.requires.keys c.run-run.ensures.run in
     run.left_out out block low high row
     (subst (λ (q : IndexRanges). q.table ≡ c.args.query.now.table → TupleIncludes (tuple_at_block block q) row) (sym c.index-of_indexes-at.is) (all c.indexes.at r (omega arith)) c.if-ranges-query.true)
 
@@ -44,7 +44,7 @@ indexes-preserved c =
     let before = c.indexes.invariant in
     elim c.if-ranges-query.branch [
       | then-ranges-query+else-not-run w ↦
-          let run : IsRunOf conds from extent r w.run-run.result = subst (λ (cs : List Cond). IsRunOf cs from extent r w.run-run.result) w.as_slice.ensures.conds w.run-run.ensures.run in
+          let run : IsRunOf conds from extent r w.run-run.result = subst (λ (cs : List Cond). IsRunOf cs from extent r w.run-run.result) c.requires.keys w.run-run.ensures.run in
           let end = w.run-run.result.end in
           record {
             places = ap length w.known-is ∙ length-set c.indexes.known i w.run-run.result ∙ before.places;

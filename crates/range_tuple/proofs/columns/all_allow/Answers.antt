@@ -6,10 +6,10 @@ use Rattle.range_tuple.proofs.columns.all_allow.Goals as goal
 
 pub returns-then-not-allows-clause-answer : goal.returns-then-not-allows-clause-answer
 returns-then-not-allows-clause-answer c =
-    let p = column_allows c.args.conds.now in
+    let p = column_allows c.args.keys.now in
     sym (list_all_at p c.args.columns.now c.columns.column-index c.column-item.result c.columns-test.true (ap p (sym c.column-item.is) ∙ sym c.if-not-allows.ensures.answer))
 
 pub columns-preserved : goal.columns-preserved
 columns-preserved c =
-    let p = column_allows c.args.conds.now in
+    let p = column_allows c.args.keys.now in
     list_all_more p c.args.columns.now c.columns.column-index c.column-item.result c.columns-test.true ∙ and_from _ _ c.columns.invariant (ap p (sym c.column-item.is) ∙ sym c.if-not-allows.ensures.answer)

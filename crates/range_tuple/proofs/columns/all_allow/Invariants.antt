@@ -4,4 +4,4 @@ use Rattle.range_tuple.specs.Keeps.{column_allows}
 use Rattle.range_tuple.proofs.columns.all_allow.Given as goal
 
 abbrev pub invariant-columns : goal.invariant-columns
-invariant-columns l = list_all (column_allows l.conds) (take l.column-index l.columns) ≡ true
+invariant-columns l = list_all (column_allows l.keys) (take l.column-index l.columns) ≡ true

@@ -5,4 +5,4 @@ use Rattle.schema_words.proofs.WordReading.{declaration_lawful, declaration_comp
 use Rattle.schema_words.proofs.laws.bytes_are_one_declaration.Goals as goal
 
 pub returns : goal.returns
-returns c = one_text declaration_at bytes_of IsDeclaration declaration_lawful declaration_complete
+returns c autos = one_text (declaration_at autos) bytes_of (IsDeclaration autos) (declaration_lawful autos) (declaration_complete autos)

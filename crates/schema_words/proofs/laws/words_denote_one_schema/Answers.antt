@@ -3,4 +3,4 @@ use Rattle.schema_words.proofs.DeclaredLemmas.{words_one}
 use Rattle.schema_words.proofs.laws.words_denote_one_schema.Goals as goal
 
 pub returns : goal.returns
-returns c words a b h k = words_one words nothing_declared a b h k
+returns c autos words a b h k = words_one autos words nothing_declared a b h k

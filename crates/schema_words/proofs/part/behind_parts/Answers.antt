@@ -1,41 +1,31 @@
-use Rattle.std.proofs.Common.{◌≡◌, ◌-◌, ◌+◌, suc, arith, ◌∷◌, [], ◌++◌, ap, ◌∙◌}
+use Rattle.std.proofs.Common.{◌∷◌, [], ◌++◌}
 use Rattle.std.proofs.lemmas.Result.{err_from_is_err_and}
-use Rattle.schema_words.specs.DeclarationReading.{part_at, more_at}
+use Rattle.schema_words.specs.DeclarationReading.{part_at}
 use Rattle.schema_words.specs.Words.{part_text}
-use Rattle.schema_words.proofs.ListLoop.{more_none, more_full, listed_first, goes_on_next, goes_on_stops, goes_on_ends}
+use Rattle.schema_words.proofs.PartReading.{part_leaves}
+use Rattle.schema_words.proofs.ListLoop.{listed_first, next_shrinks, goes_on_next, goes_on_stops, goes_on_ends}
 use Rattle.schema_words.proofs.part.behind_parts.Goals as goal
 
 pub more-init : goal.more-init
 more-init c =
     let first = part_text c.in_ok-_first._first in
-    (first ∷ [], listed_first part_at c.args.text.now first c.in_ok-_first.behind.now c.in_ok-_first.ensures)
+    (first ∷ [], listed_first part_at part_leaves c.args.text.now first c.in_ok-_first.behind.now c.in_ok-_first.ensures)
 
 pub returns : goal.returns
-returns c =
-    let none : 255 - c.more.counter ≡ 0 = omega arith in (
-      c.more.invariant.0,
-      goes_on_ends part_at c.args.text.now c.more.invariant.0 (255 - c.more.counter) c.more.rest.now c.more.invariant.1
-          (ap (λ n. more_at part_at n c.more.rest.now) none ∙ more_full part_at c.more.rest.now),
-    )
-
-pub returns-in_default : goal.returns-in_default
-returns-in_default c = (
-  c.more.invariant.0,
-  goes_on_ends part_at c.args.text.now c.more.invariant.0 (255 - c.more.counter) c.more.rest.now c.more.invariant.1
-      (more_none part_at (255 - c.more.counter) c.more.rest.now c.in_default.ensures),
-)
+returns c = (c.more.invariant.0, goes_on_ends part_at part_leaves c.args.text.now c.more.invariant.0 c.more.rest.now c.more.invariant.1 c.in_default.ensures)
 
 pub returns-in_err-_next : goal.returns-in_err-_next
 returns-in_err-_next c =
-    let left : 255 - c.more.counter ≡ suc (255 - (c.more.counter + 1)) = omega arith in
-    let stops = goes_on_stops part_at c.args.text.now c.more.rest.now c.more.invariant.0 (255 - c.more.counter) (255 - (c.more.counter + 1)) c.in-Some.behind.now c.in_err-_next.field-0.0.now c.more.invariant.1 c.in-Some.ensures left c.in_err-_next.ensures in
+    let stops = goes_on_stops part_at part_leaves c.args.text.now c.more.rest.now c.more.invariant.0 c.in-Some.behind.now c.in_err-_next.field-0.0.now c.more.invariant.1 c.in-Some.ensures c.in_err-_next.ensures in
     let p = err_from_is_err_and c.from_residual-in_err-_next.result c.from_residual-in_err-_next.ensures.1 in
     rw (p.1, p.2) stops
 
+pub more-smaller : goal.more-smaller
+more-smaller c = next_shrinks part_at part_leaves c.more.rest.now c.in-Some.behind.now (part_text c.in_ok-_next._next) c.in_ok-_next.behind.now c.in-Some.ensures c.in_ok-_next.ensures
+
 pub more-preserved : goal.more-preserved
 more-preserved c =
-    let next = part_text c.in_ok-_next._next in
-    let left : 255 - c.more.counter ≡ suc (255 - (c.more.counter + 1)) = omega arith in (
+    let next = part_text c.in_ok-_next._next in (
       c.more.invariant.0 ++ next ∷ [],
-      goes_on_next part_at c.args.text.now c.more.rest.now c.more.invariant.0 (255 - c.more.counter) (255 - (c.more.counter + 1)) c.in-Some.behind.now next c.in_ok-_next.behind.now c.more.invariant.1 c.in-Some.ensures left c.in_ok-_next.ensures,
+      goes_on_next part_at part_leaves c.args.text.now c.more.rest.now c.more.invariant.0 c.in-Some.behind.now next c.in_ok-_next.behind.now c.more.invariant.1 c.in-Some.ensures c.in_ok-_next.ensures,
     )

@@ -16,7 +16,7 @@ lines-init g c = record {
 pub returns-in_err-lines-clause-ran : goal.returns-in_err-lines-clause-ran
 returns-in_err-lines-clause-ran g c =
     let p = err_from_is_err_and c.from_residual.result c.from_residual.ensures.1 in
-    rw (p.1, p.2) (ran_nothing g.E.Engine.answers g.E.Engine.lacks_room c.args.engine.now c.args.limit (g.S.Source.left c.args.source.now) (g.K.Sink.taken c.args.sink.now))
+    rw (p.1, p.2) (ran_nothing g.E.Engine.answers g.E.Engine.stops c.args.engine.now c.args.limit (g.S.Source.left c.args.source.now) (g.K.Sink.taken c.args.sink.now))
 
 pub lines-preserved : goal.lines-preserved
 lines-preserved g c =

@@ -1,8 +1,11 @@
-use Rattle.std.proofs.Common.{◌≡◌, ◌+◌, ◌≤◌, refl, arith, subst, ◌∙◌, ap, map, take, length, List, IfSome, Option}
+use Rattle.std.proofs.Common.{true, ◌≡◌, ◌+◌, ◌≤◌, refl, arith, subst, ◌∙◌, ap, map, take, length, List, IfSome, Option}
 use Rattle.block_model.specs.declared.request.Request.TheVariants.{Look}
 use Rattle.block_model.specs.declared.request.Tag.TheVariants.{NoMemory}
 use Rattle.block_model.specs.DatabaseState.{OpenTransaction}
 use Rattle.block_model.specs.RequestEffect.{rows_found}
+use Rattle.block_model.specs.declared.reply.Reply.TheVariants as replies
+use Rattle.block_model.specs.declared.reply.Refusal.TheVariants as refusals
+use Rattle.block_model.specs.RequestEffect as answers
 use Rattle.statements.specs.declared.statement.Statement.TheVariants.{Delete}
 use Rattle.statements.specs.declared.limits.TheConstants.{MAX_ENTRIES}
 use Rattle.statements.specs.StatementRequests.{tagged_entry, mark_entries}
@@ -15,14 +18,14 @@ pub returns-in_default-clause-ok : goal.returns-in_default-clause-ok
 returns-in_default-clause-ok c =
     let want = c.want_of_memory in
     does_failing c.args.tables.now c.args.tables.now want.new.versions c.args.journal.now c.args.journal.now want.new.journal c.args.session (Delete c.args.query)
-    (tagged_entry c.args.session c.args.query.table (Look c.args.query) NoMemory) want.result (delete_may_want c.args.tables.now c.args.journal.now c.args.session c.args.query c.requires.taken)
+    true (tagged_entry c.args.session c.args.query.table (Look c.args.query) NoMemory) answers.NoMemory (replies.Refused refusals.Memory) want.result (delete_may_want c.args.tables.now c.args.journal.now c.args.session c.args.query c.requires.taken)
     (record { versions = refl; layout = refl; sound = c.requires.taken.sound; entries = refl; room = omega arith }) c.requires.fits want.ensures.fails want.ensures.reply
 
 pub returns-in_default-make_room-clause-ok : goal.returns-in_default-make_room-clause-ok
 returns-in_default-make_room-clause-ok c =
     let want = c.want_of_memory-in_default-make_room in
     does_failing c.args.tables.now c.args.tables.now want.new.versions c.args.journal.now c.make_room.new.self want.new.journal c.args.session (Delete c.args.query)
-    (tagged_entry c.args.session c.args.query.table (Look c.args.query) NoMemory) want.result (delete_may_want c.args.tables.now c.args.journal.now c.args.session c.args.query c.requires.taken)
+    true (tagged_entry c.args.session c.args.query.table (Look c.args.query) NoMemory) answers.NoMemory (replies.Refused refusals.Memory) want.result (delete_may_want c.args.tables.now c.args.journal.now c.args.session c.args.query c.requires.taken)
     (record { versions = refl; layout = refl; sound = c.requires.taken.sound; entries = c.make_room.ensures.entries; room = c.make_room.ensures.kept }) c.requires.fits want.ensures.fails want.ensures.reply
 
 pub returns-then-not-fits-clause-past : goal.returns-then-not-fits-clause-past

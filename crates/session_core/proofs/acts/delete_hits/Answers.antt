@@ -20,7 +20,7 @@ returns-in-None c =
     (found (λ x. mark_entries t.versions.database n q.table (rows_found x q) ≡ map (mark_of n q.table) (take c.args.marks c.args.hits.now)) c.requires.marks)
     c.mark-conflict.new.self c.args.journal.now c.enter.new.self c.enter_marks.new.self None c.requires.taken.sound
     (found (λ x. c.mark-conflict.new.self.database ≡ serial_run t.versions.database (mark_entries t.versions.database n q.table (rows_found x q))) c.in-None.ensures.database)
-    (found (λ x. marks_reply 0 (replies_to t.versions.database (mark_entries t.versions.database n q.table (rows_found x q))) ≡ delete_reply (length c.args.hits.now) None) c.in-None.ensures.reply)
+    (found (λ x. marks_reply 0 (replies_to t.versions.database (mark_entries t.versions.database n q.table (rows_found x q))) ≡ Some (delete_reply (length c.args.hits.now) None)) c.in-None.ensures.reply)
     c.enter.ensures.entries c.enter_marks.ensures.entries c.requires.fits c.requires.room c.enter.ensures.room c.enter_marks.ensures.room
     c.mark-conflict.ensures.tables c.mark-conflict.ensures.room
 
@@ -36,6 +36,6 @@ returns-in-Some c =
     (found (λ x. mark_entries t.versions.database n q.table (rows_found x q) ≡ map (mark_of n q.table) (take c.args.marks c.args.hits.now)) c.requires.marks)
     c.mark-conflict.new.self c.args.journal.now c.enter.new.self c.enter_marks.new.self (Some c.in-Some.id) c.requires.taken.sound
     (found (λ x. c.mark-conflict.new.self.database ≡ serial_run t.versions.database (mark_entries t.versions.database n q.table (rows_found x q))) c.in-Some.ensures.database)
-    (found (λ x. marks_reply 0 (replies_to t.versions.database (mark_entries t.versions.database n q.table (rows_found x q))) ≡ delete_reply (length c.args.hits.now) (Some c.in-Some.id)) c.in-Some.ensures.reply)
+    (found (λ x. marks_reply 0 (replies_to t.versions.database (mark_entries t.versions.database n q.table (rows_found x q))) ≡ Some (delete_reply (length c.args.hits.now) (Some c.in-Some.id))) c.in-Some.ensures.reply)
     c.enter.ensures.entries c.enter_marks.ensures.entries c.requires.fits c.requires.room c.enter.ensures.room c.enter_marks.ensures.room
     c.mark-conflict.ensures.tables c.mark-conflict.ensures.room

@@ -1,6 +1,9 @@
-use Rattle.std.proofs.Common.{refl}
+use Rattle.std.proofs.Common.{true, refl}
 use Rattle.block_model.specs.declared.request.Request.TheVariants.{Look}
 use Rattle.block_model.specs.declared.request.Tag.TheVariants.{NoMemory}
+use Rattle.block_model.specs.declared.reply.Reply.TheVariants as replies
+use Rattle.block_model.specs.declared.reply.Refusal.TheVariants as refusals
+use Rattle.block_model.specs.RequestEffect as answers
 use Rattle.statements.specs.declared.statement.Statement.TheVariants.{Select}
 use Rattle.statements.specs.StatementRequests.{tagged_entry}
 use Rattle.session_core.proofs.Acting.{does_failing, does_select, select_may_want}
@@ -10,14 +13,14 @@ pub returns-in_default : goal.returns-in_default
 returns-in_default c =
     let want = c.want_of_memory in
     does_failing c.args.tables.now c.args.tables.now want.new.versions c.args.journal.now c.make_room.new.self want.new.journal c.args.session (Select c.args.query)
-    (tagged_entry c.args.session c.args.query.table (Look c.args.query) NoMemory) want.result (select_may_want c.args.tables.now c.args.journal.now c.args.session c.args.query c.requires.taken)
+    true (tagged_entry c.args.session c.args.query.table (Look c.args.query) NoMemory) answers.NoMemory (replies.Refused refusals.Memory) want.result (select_may_want c.args.tables.now c.args.journal.now c.args.session c.args.query c.requires.taken)
     (record { versions = refl; layout = refl; sound = c.requires.taken.sound; entries = c.make_room.ensures.entries; room = c.make_room.ensures.kept }) c.requires.fits want.ensures.fails want.ensures.reply
 
 pub returns-in_default-look : goal.returns-in_default-look
 returns-in_default-look c =
     let want = c.want_of_memory-in_default-look in
     does_failing c.args.tables.now c.args.tables.now want.new.versions c.args.journal.now c.make_room.new.self want.new.journal c.args.session (Select c.args.query)
-    (tagged_entry c.args.session c.args.query.table (Look c.args.query) NoMemory) want.result (select_may_want c.args.tables.now c.args.journal.now c.args.session c.args.query c.requires.taken)
+    true (tagged_entry c.args.session c.args.query.table (Look c.args.query) NoMemory) answers.NoMemory (replies.Refused refusals.Memory) want.result (select_may_want c.args.tables.now c.args.journal.now c.args.session c.args.query c.requires.taken)
     (record { versions = refl; layout = refl; sound = c.requires.taken.sound; entries = c.make_room.ensures.entries; room = c.make_room.ensures.kept }) c.requires.fits want.ensures.fails want.ensures.reply
 
 pub returns : goal.returns

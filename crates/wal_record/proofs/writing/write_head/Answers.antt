@@ -1,5 +1,5 @@
 use Rattle.std.proofs.Common.{[], ◌∷◌, refl, arith}
-use Rattle.wal_record.proofs.Written.{set-next, put-next}
+use Rattle.byte_fields.specs.Written.{set-next, put-next}
 use Rattle.wal_record.proofs.writing.write_head.Goals as goal
 
 pub returns-clause-written : goal.returns-clause-written

@@ -1,7 +1,7 @@
 use Rattle.std.proofs.Common.{[], refl}
 use Rattle.std.specs.Int.{bytes_high_first}
 use Rattle.wal_record.specs.ChangeBytes.{tagged}
-use Rattle.wal_record.proofs.Written.{put-next}
+use Rattle.byte_fields.specs.Written.{put-next}
 use Rattle.wal_record.proofs.writing.write_mark.Goals as goal
 
 pub returns-clause-written : goal.returns-clause-written

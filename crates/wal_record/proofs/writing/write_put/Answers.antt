@@ -2,7 +2,7 @@ use Rattle.std.proofs.Common.{◌≡◌, ℕ, ◌+◌, ◌-◌, [], length, drop
 use Rattle.std.specs.Int.{bytes_high_first}
 use Rattle.wal_record.specs.ChangeBytes.{put_bytes, tagged}
 use borrow.Rule.Slice.PartMut.{put_mid}
-use Rattle.wal_record.proofs.Written.{put-next, part_next}
+use Rattle.byte_fields.specs.Written.{put-next, part_next}
 use Rattle.wal_record.proofs.writing.write_put.Goals as goal
 
 pub returns-clause-written : goal.returns-clause-written

@@ -18,6 +18,6 @@ returns-clause-run c =
     λ block low high. same_tuple ranges pages from block c.index.result.now c.requires.covered.some_pages low (omega (arith, high, c.min.ensures)) there c.index.ensures in
     record {
       within = omega arith;
-      alike = λ block low high. ap (λ (t : Tuple). keeps t c.args.conds.now) (same block low high) ∙ sym c.keeps.ensures.answer;
-      left_out = λ out block low high row has. c.keeps.ensures.misses_no_match out row (subst (λ (t : Tuple). TupleIncludes t row) (same block low high) has);
+      alike = λ block low high. ap (λ (t : Tuple). keeps t c.args.keys.now) (same block low high) ∙ sym c.keeps_by.ensures.answer;
+      left_out = λ out block low high row has. c.keeps_by.ensures.misses_no_match out row (subst (λ (t : Tuple). TupleIncludes t row) (same block low high) has);
     }

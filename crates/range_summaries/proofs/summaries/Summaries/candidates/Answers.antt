@@ -21,18 +21,21 @@ next_run-run-requires-clause-covered c =
     let r = c.requires.rows in
     let table = c.args.query.now.table in
     subst (λ (p : List IndexRanges × ℕ). All (λ r. r.table ≡ table → Covers p.1 (contents_of r)) p.0)
-    (λ i. (sym c.as_slice.ensures.value i, sym (c.div_ceil-extent.ensures ∙ ap (div_ceil c.args.rows) c.from.ensures) i))
+    (λ i. (sym c.as_slice-of_indexes.ensures.value i, sym (c.div_ceil-extent.ensures ∙ ap (div_ceil c.args.rows) c.from.ensures) i))
     (each_covers r.0 r.1 c.args.self.now table c.args.rows c.args.rows_per_page r.2.summarised r.2.as_many r.2.a_page)
 
 pub next_run-run-requires-clause-places : goal.next_run-run-requires-clause-places
 next_run-run-requires-clause-places c =
     let r = c.requires.rows in
-    let many : length c.as_slice.result.now ≤ MAX_INDEXES = subst (λ (l : List IndexRanges). length l ≤ MAX_INDEXES) (sym c.as_slice.ensures.value) (few_ranges r.0 r.1 c.args.self.now r.2.summarised) in
+    let many : length c.as_slice-of_indexes.result.now ≤ MAX_INDEXES = subst (λ (l : List IndexRanges). length l ≤ MAX_INDEXES) (sym c.as_slice-of_indexes.ensures.value) (few_ranges r.0 r.1 c.args.self.now r.2.summarised) in
     omega (arith, many, c.runs.invariant.places)
 
 pub next_run-run-requires-clause-known : goal.next_run-run-requires-clause-known
 next_run-run-requires-clause-known c =
-    subst (λ (l : List IndexRanges). AreRunsOf c.args.query.now.conds c.runs.block c.div_ceil-extent.result l c.runs.known) (sym c.as_slice.ensures.value) c.runs.invariant.known
+    subst (λ (l : List IndexRanges). AreRunsOf c.args.query.now.conds c.runs.block c.div_ceil-extent.result l c.runs.known) (sym c.as_slice-of_indexes.ensures.value) c.runs.invariant.known
+
+pub next_run-run-requires-clause-keys : goal.next_run-run-requires-clause-keys
+next_run-run-requires-clause-keys c = c.new-keys.ensures ∙ c.as_slice.ensures.conds
 
 pub runs-init : goal.runs-init
 runs-init c =
@@ -54,16 +57,16 @@ runs-preserved-in_ok-append c =
     let e = c.next_run-run.result.end in
     let kept : filter p (range_with_len 0 e) ≡ filter p (range_with_len 0 a) ++ range_with_len a (e - a) =
     filter-to p true a e (omega arith)
-    (λ b from below. (λ i. passes (sym c.as_slice.ensures.value i) table conds b) ∙ c.next_run-run.ensures.alike b from below ∙ c.if-run.true) in
+    (λ b from below. (λ i. passes (sym c.as_slice-of_indexes.ensures.value i) table conds b) ∙ c.next_run-run.ensures.alike b from below ∙ c.if-run.true) in
     record {
       within = omega arith;
       places = c.next_run-run.ensures.places ∙ c.runs.invariant.places;
       known = later_runs conds a e c.div_ceil-extent.result c.args.self.now.of_indexes.items c.next_run-run.new.known (omega arith)
-          (subst (λ (l : List IndexRanges). AreRunsOf conds a c.div_ceil-extent.result l c.next_run-run.new.known) c.as_slice.ensures.value c.next_run-run.ensures.known);
+          (subst (λ (l : List IndexRanges). AreRunsOf conds a c.div_ceil-extent.result l c.next_run-run.new.known) c.as_slice-of_indexes.ensures.value c.next_run-run.ensures.known);
       appended =
           c.in_ok-append.ensures.ok ∙ ap (λ (l : List ℕ). l ++ range_with_len a (e - a)) c.runs.invariant.appended
           ∙ append_assoc c.args.out.now (filter p (range_with_len 0 a)) (range_with_len a (e - a)) ∙ ap (λ (l : List ℕ). c.args.out.now ++ l) (sym kept);
-      left_out = left_out_more c.args.self.now.of_indexes.items c.as_slice.result.now table conds a e c.next_run-run.result.kept c.as_slice.ensures.value c.runs.invariant.left_out c.next_run-run.ensures.alike c.next_run-run.ensures.left_out;
+      left_out = left_out_more c.args.self.now.of_indexes.items c.as_slice-of_indexes.result.now table conds a e c.next_run-run.result.kept c.as_slice-of_indexes.ensures.value c.runs.invariant.left_out c.next_run-run.ensures.alike c.next_run-run.ensures.left_out;
     }
 
 pub runs-preserved : goal.runs-preserved
@@ -75,14 +78,14 @@ runs-preserved c =
     let e = c.next_run-run.result.end in
     let kept : filter p (range_with_len 0 e) ≡ filter p (range_with_len 0 a) ++ [] =
     filter-to p false a e (omega arith)
-    (λ b from below. (λ i. passes (sym c.as_slice.ensures.value i) table conds b) ∙ c.next_run-run.ensures.alike b from below ∙ c.if-run.false) in
+    (λ b from below. (λ i. passes (sym c.as_slice-of_indexes.ensures.value i) table conds b) ∙ c.next_run-run.ensures.alike b from below ∙ c.if-run.false) in
     record {
       within = omega arith;
       places = c.next_run-run.ensures.places ∙ c.runs.invariant.places;
       known = later_runs conds a e c.div_ceil-extent.result c.args.self.now.of_indexes.items c.next_run-run.new.known (omega arith)
-          (subst (λ (l : List IndexRanges). AreRunsOf conds a c.div_ceil-extent.result l c.next_run-run.new.known) c.as_slice.ensures.value c.next_run-run.ensures.known);
+          (subst (λ (l : List IndexRanges). AreRunsOf conds a c.div_ceil-extent.result l c.next_run-run.new.known) c.as_slice-of_indexes.ensures.value c.next_run-run.ensures.known);
       appended = c.runs.invariant.appended ∙ ap (λ (l : List ℕ). c.args.out.now ++ l) (sym (kept ∙ append-nil (filter p (range_with_len 0 a))));
-      left_out = left_out_more c.args.self.now.of_indexes.items c.as_slice.result.now table conds a e c.next_run-run.result.kept c.as_slice.ensures.value c.runs.invariant.left_out c.next_run-run.ensures.alike c.next_run-run.ensures.left_out;
+      left_out = left_out_more c.args.self.now.of_indexes.items c.as_slice-of_indexes.result.now table conds a e c.next_run-run.result.kept c.as_slice-of_indexes.ensures.value c.runs.invariant.left_out c.next_run-run.ensures.alike c.next_run-run.ensures.left_out;
     }
 
 pub returns-clause-blocks : goal.returns-clause-blocks

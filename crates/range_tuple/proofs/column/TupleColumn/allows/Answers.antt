@@ -1,28 +1,59 @@
-use Rattle.std.proofs.Common.{◌≡◌, true, false, sym, ap, ◌∙◌}
-use Rattle.std.proofs.lemmas.Bool.{false≢true}
-use Rattle.block_model.specs.declared.value.Value.{Value}
-use Rattle.opclass_api.specs.Conditions.{meets_all}
-use Rattle.opclass_any.specs.AnyClass.{includes}
-use Rattle.range_tuple.specs.Keeps.{comparisons, may_meet}
-use Rattle.range_tuple.specs.NullStates.{has_values}
+use Rattle.std.proofs.Common.{◌≡◌, ◌&&◌, ◌==◌, ℕ, Bool, true, false, List, refl, sym, ap, ◌∙◌, subst}
+use Rattle.std.specs.List.{list_any}
+use Rattle.std.proofs.lemmas.Bool.{or_parts, true≢false}
+use Rattle.block_model.specs.declared.row.Cond.{Cond}
+use Rattle.opclass_api.specs.Conditions.{AllCompare, meets_all}
+use Rattle.range_tuple.specs.GatheredKeys.{IsAsked, has_asked}
+use Rattle.range_tuple.specs.Keeps.{may_meet}
 use Rattle.range_tuple.specs.Tuples.{IndexedColumn}
-use Rattle.range_tuple.proofs.AskingColumns.{misses, none_asked}
-use Rattle.range_tuple.proofs.column.TupleColumn.allows.Goals.{then-has_values, else-has_values}
+use Rattle.range_tuple.proofs.AskingColumns.{all_compare, allows_asked, misses, none_asked, none_may_match, none_there}
 use Rattle.range_tuple.proofs.column.TupleColumn.allows.Goals as goal
 
-pub returns-then-not-is_asked-clause-answer : goal.returns-then-not-is_asked-clause-answer
-returns-then-not-is_asked-clause-answer c =
+pub returns-in_default-clause-answer : goal.returns-in_default-clause-answer
+returns-in_default-clause-answer c =
     let column = c.args.self.now in
-    let conds = c.args.conds.now in
-    sym (none_asked column (may_meet conds column) conds (sym c.if-not-is_asked.ensures))
+    let conds = c.args.keys.now in
+    let place = ap (λ (it : IndexedColumn). it.place) c.self.view_is in
+    let none = subst (λ (n : ℕ). list_any (λ (cond : Cond). cond.column == n) conds ≡ false) place (c.in_default.ensures.not_asked refl) in
+    sym (none_asked column (may_meet conds column) conds none)
 
--- where the summary can't hold a match, no value that it includes is one
-may : (c : goal.After-allow_each) → c.if-has_values.may_match ≡ false → has_values c.args.self.now.state ≡ true → (v : Value) → includes c.args.self.now.class c.args.self.now.summary v → meets_all (comparisons c.args.self.now.place c.args.conds.now) v ≡ false
-may c = elim c.if-has_values.branch [
-  | then-has_values w ↦ λ none some v within. w.may_hold-may_match.ensures.misses_no_match (sym w.may_match-is ∙ none) v within
-  | else-has_values w ↦ λ none some v within. absurd (false≢true (sym w.if-has_values.false ∙ c.has_values.ensures ∙ ap (λ (column : IndexedColumn). has_values column.state) c.self.view_is ∙ some))
-]
+pub may_match-may_match-requires : goal.may_match-may_match-requires
+may_match-may_match-requires c = subst AllCompare (sym c.in-Some.ensures.asked.comparisons_on) (all_compare c.self.inside.place c.args.keys.now)
 
-pub returns-clause-misses_no_match : goal.returns-clause-misses_no_match
-returns-clause-misses_no_match c = λ none row within.
-    misses c.args.self.now c.if-has_values.may_match c.args.conds.now (may c) (sym c.allow_each.ensures ∙ none) row within
+-- what is asked by the number that the column keeps
+is_asked : (conds asked : List Cond) (nulls values : Bool) (kept seen : IndexedColumn) → kept ≡ seen → IsAsked kept.place conds asked nulls values → IsAsked seen.place conds asked nulls values
+is_asked conds asked nulls values kept seen same is = subst (λ (it : IndexedColumn). IsAsked it.place conds asked nulls values) same is
+
+pub returns-then-may_match-clause-answer : goal.returns-then-may_match-clause-answer
+returns-then-may_match-clause-answer c =
+    let asked = c.in-Some.asked in
+    let column = c.args.self.now in
+    c.has_asked.ensures ∙ ap (λ (b : Bool). b && has_asked column.state asked.nulls asked.values) (sym c.if-may_match.true ∙ c.may_match-may_match.ensures.answer)
+    ∙ sym (allows_asked column c.args.keys.now asked.comparisons.now asked.nulls asked.values (is_asked c.args.keys.now asked.comparisons.now asked.nulls asked.values _ column c.self.view_is c.in-Some.ensures.asked))
+
+pub returns-then-may_match-clause-misses_no_match :
+    goal.returns-then-may_match-clause-misses_no_match
+returns-then-may_match-clause-misses_no_match c = λ none row within.
+    let asked = c.in-Some.asked in
+    let column = c.args.self.now in
+    let out = none_there column c.args.keys.now asked.comparisons.now asked.nulls asked.values (is_asked c.args.keys.now asked.comparisons.now asked.nulls asked.values _ column c.self.view_is c.in-Some.ensures.asked) (sym c.has_asked.ensures ∙ none) in
+    misses column true c.args.keys.now (λ never some v has. absurd (true≢false never)) out row within
+
+pub returns-else-may_match-clause-answer : goal.returns-else-may_match-clause-answer
+returns-else-may_match-clause-answer c =
+    let asked = c.in-Some.asked in
+    let column = c.args.self.now in
+    c.if-may_match.false ∙ ap (λ (b : Bool). b && has_asked column.state asked.nulls asked.values) (sym c.if-may_match.false ∙ c.may_match-may_match.ensures.answer)
+    ∙ sym (allows_asked column c.args.keys.now asked.comparisons.now asked.nulls asked.values (is_asked c.args.keys.now asked.comparisons.now asked.nulls asked.values _ column c.self.view_is c.in-Some.ensures.asked))
+
+pub returns-else-may_match-clause-misses_no_match :
+    goal.returns-else-may_match-clause-misses_no_match
+returns-else-may_match-clause-misses_no_match c = λ none row within.
+    let asked = c.in-Some.asked in
+    let column = c.args.self.now in
+    let is = is_asked c.args.keys.now asked.comparisons.now asked.nulls asked.values _ column c.self.view_is c.in-Some.ensures.asked in
+    let some = (or_parts _ _ (sym c.may_match-may_match.ensures.answer ∙ none)).0 in
+    misses column false c.args.keys.now
+    (λ never there v has. subst (λ (cs : List Cond). meets_all cs v ≡ false) is.comparisons_on (c.may_match-may_match.ensures.misses_no_match none there v has))
+    (none_may_match column c.args.keys.now asked.comparisons.now asked.nulls asked.values is some)
+    row within

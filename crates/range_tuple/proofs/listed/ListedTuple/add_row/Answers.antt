@@ -9,7 +9,7 @@ use Rattle.range_tuple.proofs.listed.ListedTuple.add_row.Goals as goal
 
 pub invariant_of-self : goal.invariant_of-self
 invariant_of-self c =
-    let v = c.self.inside.columns in
+    let v = c.self.inside.columns.items in
     let new = c.add_to_each.new.columns in
     let widened : new ≡ map (with_row_at c.args.values.now) v.items = c.add_to_each.ensures.widened ∙ ap (map (with_row_at c.args.values.now)) c.deref_mut.ensures.value in
     let long : length new ≡ v.len = ap length widened ∙ length-map v.items (with_row_at c.args.values.now) ∙ sym v.ok.0 in
@@ -17,7 +17,7 @@ invariant_of-self c =
 
 pub returns-clause-keeps_what_it_included : goal.returns-clause-keeps_what_it_included
 returns-clause-keeps_what_it_included c = λ row all.
-    let v = c.self.inside.columns in
+    let v = c.self.inside.columns.items in
     let new = c.add_to_each.new.columns in
     let long : length new ≡ v.len = ap length c.add_to_each.ensures.widened ∙ length-map c.deref_mut.result.now (with_row_at c.args.values.now) ∙ ap length c.deref_mut.ensures.value ∙ sym v.ok.0 in
     let columns : v.items ≡ c.args.self.now.columns = ap (λ (t : Tuple). t.columns) c.self.view_is in
@@ -25,7 +25,7 @@ returns-clause-keeps_what_it_included c = λ row all.
 
 pub returns-clause-changed : goal.returns-clause-changed
 returns-clause-changed c = λ yes same.
-    let v = c.self.inside.columns in
+    let v = c.self.inside.columns.items in
     let new = c.add_to_each.new.columns in
     let long : length new ≡ v.len = ap length c.add_to_each.ensures.widened ∙ length-map c.deref_mut.result.now (with_row_at c.args.values.now) ∙ ap length c.deref_mut.ensures.value ∙ sym v.ok.0 in
     let columns : v.items ≡ c.args.self.now.columns = ap (λ (t : Tuple). t.columns) c.self.view_is in
@@ -33,7 +33,7 @@ returns-clause-changed c = λ yes same.
 
 pub returns-clause-same_index : goal.returns-clause-same_index
 returns-clause-same_index c =
-    let v = c.self.inside.columns in
+    let v = c.self.inside.columns.items in
     let new = c.add_to_each.new.columns in
     let long : length new ≡ v.len = ap length c.add_to_each.ensures.widened ∙ length-map c.deref_mut.result.now (with_row_at c.args.values.now) ∙ ap length c.deref_mut.ensures.value ∙ sym v.ok.0 in
     let columns : v.items ≡ c.args.self.now.columns = ap (λ (t : Tuple). t.columns) c.self.view_is in

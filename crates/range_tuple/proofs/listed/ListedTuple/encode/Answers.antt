@@ -11,7 +11,7 @@ use Rattle.range_tuple.proofs.listed.ListedTuple.encode.Goals as goal
 pub returns-clause-size : goal.returns-clause-size
 unfolding tuple_bytes
 returns-clause-size c =
-    let t = tuple_of c.self.inside.range c.self.inside.placeholder c.self.inside.columns.items in
+    let t = tuple_of c.self.inside.range c.self.inside.placeholder c.self.inside.columns.items.items in
     let flags = flags_of t.placeholder t.empty in
     let whole = length-append (bytes_high_first 4 t.range) (flags ∷ columns_bytes t.columns) in
     rw (← c.self.view_is) (omega (arith, c.write_each-size.ensures.size, ap (λ columns. length (columns_bytes columns)) c.deref.ensures.value, whole, length-number 4 t.range))
@@ -19,7 +19,7 @@ returns-clause-size c =
 pub returns-clause-written : goal.returns-clause-written
 unfolding tuple_bytes
 returns-clause-written c =
-    let t = tuple_of c.self.inside.range c.self.inside.placeholder c.self.inside.columns.items in
+    let t = tuple_of c.self.inside.range c.self.inside.placeholder c.self.inside.columns.items.items in
     let out = c.args.out.now in
     let n = c.write_each-size.result in
     let columns = columns_bytes t.columns in

@@ -7,7 +7,7 @@ use Rattle.range_tuple.proofs.listed.ListedTuple.exchange.Goals as goal
 
 pub invariant_of-self : goal.invariant_of-self
 invariant_of-self c =
-    let v = c.self.inside.columns in
+    let v = c.self.inside.columns.items in
     let new = c.exchange_each.new.columns in
     let same : parts_of new ≡ parts_of v.items = ap parts_of c.exchange_each.ensures.taken ∙ sym c.requires ∙ ap (λ (t : Tuple). parts_of t.columns) (sym c.self.view_is) in
     let long : length new ≡ v.len = length-parts new v.items same ∙ sym v.ok.0 in

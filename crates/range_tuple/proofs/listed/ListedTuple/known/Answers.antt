@@ -1,4 +1,5 @@
 use Rattle.std.proofs.Common.{◌≤◌, ◌<◌, All, length, refl, subst}
+use Rattle.block_model.specs.declared.limits.TheConstants.{MAX_TUPLE}
 use Rattle.range_tuple.specs.Tuples.{IsColumn, IsTuple, Tuple, tuple_room}
 use Rattle.range_tuple.proofs.listed.ListedTuple.known.Goals as goal
 
@@ -13,4 +14,4 @@ pub returns-clause-some : goal.returns-clause-some
 returns-clause-some c = subst (λ (t : Tuple). 0 < length t.columns) c.self.view_is c.self.invariant.some
 
 pub returns-clause-fits : goal.returns-clause-fits
-returns-clause-fits c = subst (λ (t : Tuple). tuple_room t.columns ≤ 8156) c.self.view_is c.self.invariant.fits
+returns-clause-fits c = subst (λ (t : Tuple). tuple_room t.columns ≤ MAX_TUPLE) c.self.view_is c.self.invariant.fits

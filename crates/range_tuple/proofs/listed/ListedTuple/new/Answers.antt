@@ -6,8 +6,8 @@ use Rattle.range_tuple.specs.Tuples.{column_room, empty_column, tuple_room}
 use Rattle.range_tuple.proofs.ByPlace.{same_sums}
 use Rattle.range_tuple.proofs.listed.ListedTuple.new.Goals as goal
 
-room : (c : goal.In_ok-columns) → tuple_room c.in_ok-columns.columns.items ≡ tuple_size (columns_of c.args.schema.now c.args.index.now) c.args.index.now.parts
-room c = ap (λ (n : ℕ). 4 + 1 + n) (same_sums column_room (part_size (columns_of c.args.schema.now c.args.index.now)) c.in_ok-columns.columns.items c.args.index.now.parts c.in_ok-columns.ensures.rooms)
+room : (c : goal.In_ok-columns) → tuple_room c.in_ok-columns.columns.items.items ≡ tuple_size (columns_of c.args.schema.now c.args.index.now) c.args.index.now.parts
+room c = ap (λ (n : ℕ). 4 + 1 + n) (same_sums column_room (part_size (columns_of c.args.schema.now c.args.index.now)) c.in_ok-columns.columns.items.items c.args.index.now.parts c.in_ok-columns.ensures.rooms)
 
 pub invariant_of-result : goal.invariant_of-result
 invariant_of-result c = record {

@@ -6,7 +6,7 @@ use Rattle.range_tuple.proofs.listed.ListedTuple.restart.Goals as goal
 
 pub returns-clause-same_index : goal.returns-clause-same_index
 returns-clause-same_index c =
-    let v = c.self.inside.columns in
+    let v = c.self.inside.columns.items in
     let old = c.deref_mut.result.now in
     let new = c.empty_out_each.new.columns in
     let long : length new ≡ v.len = ap length c.empty_out_each.ensures ∙ length-map old emptied ∙ ap length c.deref_mut.ensures.value ∙ sym v.ok.0 in

@@ -8,7 +8,7 @@ use Rattle.range_tuple.proofs.listed.ListedTuple.unite.Goals as goal
 
 pub invariant_of-self : goal.invariant_of-self
 invariant_of-self c =
-    let v = c.self.inside.columns in
+    let v = c.self.inside.columns.items in
     let new = c.unite_each.new.columns in
     let widened : new ≡ united_columns v.items c.deref.result.now = c.unite_each.ensures.widened ∙ ap (λ (columns : List IndexedColumn). united_columns columns c.deref.result.now) c.deref_mut.ensures.value in
     let long : length new ≡ v.len = ap length widened ∙ length-united v.items c.deref.result.now ∙ sym v.ok.0 in
@@ -16,7 +16,7 @@ invariant_of-self c =
 
 pub returns-clause-keeps_what_it_included : goal.returns-clause-keeps_what_it_included
 returns-clause-keeps_what_it_included c = λ row all.
-    let v = c.self.inside.columns in
+    let v = c.self.inside.columns.items in
     let new = c.unite_each.new.columns in
     let long : length new ≡ v.len = ap length c.unite_each.ensures.widened ∙ length-united c.deref_mut.result.now c.deref.result.now ∙ ap length c.deref_mut.ensures.value ∙ sym v.ok.0 in
     let columns : v.items ≡ c.args.self.now.columns = ap (λ (t : Tuple). t.columns) c.self.view_is in
@@ -24,7 +24,7 @@ returns-clause-keeps_what_it_included c = λ row all.
 
 pub returns-clause-same_index : goal.returns-clause-same_index
 returns-clause-same_index c =
-    let v = c.self.inside.columns in
+    let v = c.self.inside.columns.items in
     let new = c.unite_each.new.columns in
     let long : length new ≡ v.len = ap length c.unite_each.ensures.widened ∙ length-united c.deref_mut.result.now c.deref.result.now ∙ ap length c.deref_mut.ensures.value ∙ sym v.ok.0 in
     let columns : v.items ≡ c.args.self.now.columns = ap (λ (t : Tuple). t.columns) c.self.view_is in

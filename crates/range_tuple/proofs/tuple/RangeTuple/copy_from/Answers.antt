@@ -12,8 +12,8 @@ encode-size-requires c =
 
 pub invariant_of-self : goal.invariant_of-self
 invariant_of-self c =
-    let v = c.self.inside.spare in
-    let scratch = c.self.inside.scratch in
+    let v = c.self.inside.spare.items in
+    let scratch = c.self.inside.scratch.items in
     let new = c.read.new.spare in
     let out = c.encode-size.new.out in
     let long : length new ≡ v.len = length-parts new c.deref_mut-2.result.now c.read.ensures.same_spare ∙ ap length c.deref_mut-2.ensures.value ∙ sym v.ok.0 in

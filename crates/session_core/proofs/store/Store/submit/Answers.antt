@@ -17,7 +17,7 @@ invariant_of-self-2 c =
     let below : c.args.session < length (hands_of c.self.inside.sessions.items) = omega (arith, c.requires.session, ap (λ (s : StoreState). length s.names) c.self.view_is, c.self.invariant.refines.a_hand_each) in
     let done = c.in-Ok.ensures in
     kept_in_hand c.self.inside.tables c.hand_for.new.versions c.self.inside.journal c.hand_for.new.journal (names_of c.self.inside.sessions.items) (hands_of c.self.inside.sessions.items) c.args.session c.args.statement
-    c.self.invariant below free.0 free.1 (subst (λ (s : StoreState). IsStatementFor s.layout.schema c.args.statement) (sym c.self.view_is) c.requires.statement)
+    c.self.invariant below free.0 free.1 (subst (λ (s : StoreState). IsStatementFor s.opening.layout.schema c.args.statement) (sym c.self.view_is) c.requires.statement)
     done.kept done.begins_more done.room_more
     (names_of c.put_hand.new.sessions.items) (hands_of c.put_hand.new.sessions.items) c.put_hand.ensures.names
     (c.put_hand.ensures.hands ∙ ap (λ (statement : Statement). set (hands_of c.self.inside.sessions.items) c.args.session (Some statement)) done.ok)

@@ -1,0 +1,94 @@
+//! What the words behind a session's name mean where tables are declared.
+
+ghost use Rattle.std.specs.Prelude.{ℕ, Option, Result, Ok};
+ghost use Rattle.query_words.specs.LineParts.{words_left};
+ghost use Rattle.query_words.specs.Lines.{ReadsOnce};
+ghost use Rattle.query_words.specs.Parsed.{order_of_words, statement_of_words};
+ghost use Rattle.query_words.specs.SmallSchemas.{IsSmallSchema};
+ghost use Rattle.query_words.specs.Statements.{made_of, order_judged, statement_judged};
+ghost use Rattle.query_words.specs.Syntax.{stop_from, stop_after};
+ghost use Rattle.query_words.specs.declared.syntax.Expected.TheVariants as expected;
+ghost use Rattle.query_words.specs.declared.line.Order.TheVariants as orders;
+ghost use Rattle.query_words.specs.declared.line.LineFault.{LineFault as OneFault};
+ghost use Rattle.statements.specs.declared.statement.Statement.{Statement as OneStatement};
+
+use crate::line::{LineFault, Order};
+use crate::statement::{read_end, read_statement};
+use crate::verb::{Verb, read_verb};
+use crate::word::{Rest, next_word};
+use block_model::Schema;
+use statements::Statement;
+use std::alloc::Global;
+
+/// The order that the words are, or a fault of theirs, in a line of that length.
+pub fn read_order(
+    alloc: Global,
+    language: &[Verb],
+    rest: Rest<'_>,
+    schema: &Schema,
+    line_len: usize,
+) -> Result<Order, LineFault>
+    requires { IsSmallSchema schema.now }
+    ensures { ReadsOnce result (stop_from language.now line_len expected.Verb (words_left rest.entry)) (order_judged schema.now line_len (order_of_words language.now (words_left rest.entry))) }
+{
+    let Some((word, rest)) = next_word(rest) else {
+        return Err(LineFault::Syntax { at: line_len });
+    };
+    let Some(verb) = read_verb(language, word.text) else {
+        return Err(LineFault::Syntax { at: word.at });
+    };
+    match verb {
+        Verb::Start => started(read_started(alloc, language, rest, schema, line_len)),
+        Verb::Step => stepped(rest, Order::Step),
+        Verb::Finish => stepped(rest, Order::Finish),
+        _ => whole(read_statement(alloc, verb, rest, schema, line_len)),
+    }
+}
+
+/// The statement as a whole.
+fn whole(read: Result<Statement, LineFault>) -> Result<Order, LineFault>
+    ensures { (stop : Option ℕ) (said : Result OneStatement OneFault) → ReadsOnce read stop said → ReadsOnce result stop (made_of orders.Whole said) }
+{
+    match read {
+        Ok(statement) => Ok(Order::Whole(statement)),
+        Err(fault) => Err(fault),
+    }
+}
+
+/// The statement, started.
+fn started(read: Result<Statement, LineFault>) -> Result<Order, LineFault>
+    ensures { (stop : Option ℕ) (said : Result OneStatement OneFault) → ReadsOnce read stop said → ReadsOnce result stop (made_of orders.Start said) }
+{
+    match read {
+        Ok(statement) => Ok(Order::Start(statement)),
+        Err(fault) => Err(fault),
+    }
+}
+
+/// The order, where no word is left.
+fn stepped(rest: Rest<'_>, order: Order) -> Result<Order, LineFault>
+    ensures { (length : ℕ) → ReadsOnce result (stop_after length expected.End (words_left rest.entry)) (Ok order) }
+{
+    read_end(rest)?;
+    Ok(order)
+}
+
+/// The statement that the words behind `start` are.
+fn read_started(
+    alloc: Global,
+    language: &[Verb],
+    rest: Rest<'_>,
+    schema: &Schema,
+    line_len: usize,
+) -> Result<Statement, LineFault>
+    requires { IsSmallSchema schema.now }
+    ensures { ReadsOnce result (stop_from language.now line_len expected.Statement (words_left rest.entry)) (statement_judged schema.now line_len (statement_of_words language.now (words_left rest.entry))) }
+{
+    let Some((word, rest)) = next_word(rest) else {
+        return Err(LineFault::Syntax { at: line_len });
+    };
+    match read_verb(language, word.text) {
+        Some(verb) => read_statement(alloc, verb, rest, schema, line_len),
+        None => Err(LineFault::Syntax { at: word.at }),
+    }
+}

@@ -1,0 +1,199 @@
+-- A step in an index depends on what it shows of its map, tuples, pages and locks alone: it is one to any view that shows the same.
+use Rattle.std.proofs.Common.{ℕ, Option, List}
+use Rattle.std.specs.Prelude.{refl}
+use Rattle.block_model.specs.declared.row.Row.{Row}
+use Rattle.coverage.specs.IndexView.{TuplePlace, IndexTuple, Building, PageKind, IndexView, range_of_block}
+use Rattle.coverage.specs.Changes.{Touched, TouchesNothing, TouchesRows, TouchesEntries, TouchesTuples}
+use Rattle.coverage.specs.Changes.{TouchesUnnamed, TouchesSummariseLock, KeepsHeap, KeepsMap, KeepsTuples, KeepsUnnamed, KeepsSummariseLock, Frame}
+use Rattle.coverage.specs.Statements.{OnIndex, Phase, Statement}
+use Rattle.coverage.specs.Knowing.{LocksThese}
+use Rattle.coverage.specs.Steps.{ReadsIndex, TurnsPage, PutsTuple, ReplacesTuple, SetsEntry, SameLocks, ClearsEntry, DropsTuple, SweepsTuples, TurnsKind, CountsPage}
+use Rattle.coverage.specs.Steps.{OnIndexStep, Maps, Gone, Again, MovePut, InsertStep, InsertOnIndex, InsertNoEntry, InsertCopies, InsertUnchanged, InsertSwap}
+use Rattle.coverage.specs.Steps.{InsertSet, InsertDrop, GrowthStep, Grow, CountLeftOver, Count, Flag, EvacuatePut, EvacuateSet, EvacuateDrop, EvacuateSweep}
+use Rattle.coverage.specs.Steps.{Turn, SummariseStep, LookMap, LookGone, IsFinal, Found, ReadNoEntry, GrowMap, Put, Set, Extent, Pass, Unite, UniteCopies}
+use Rattle.coverage.specs.Steps.{SwapFinal, SetFinal, DropOld, DesummariseStep, ClearMap, ClearNone, Clear, ClearAgain, DropCleared}
+
+-- the heap and the summarise lock of one view, with the map, tuples, pages and locks of another
+abbrev pub shown_on : IndexView → IndexView → (building : ℕ → Option Building) → (loose : ℕ → Option TuplePlace) → IndexView
+shown_on w v building loose = record w {
+  entry = v.entry;
+  tuple = v.tuple;
+  pages = v.pages;
+  lock = v.lock;
+  unnamed = v.unnamed;
+  building = building;
+  loose = loose;
+}
+
+module _ (s : ℕ) (w v : IndexView) (building : ℕ → Option Building) (loose : ℕ → Option TuplePlace) where
+  abbrev u : IndexView
+  u = shown_on w v building loose
+
+  heap_on : (touched : Touched) → KeepsHeap touched w u
+  heap_on TouchesNothing = record { pages_per_range = refl; blocks = refl; row = λ b k. refl }
+  heap_on TouchesRows = tt
+  heap_on TouchesEntries = record { pages_per_range = refl; blocks = refl; row = λ b k. refl }
+  heap_on TouchesTuples = record { pages_per_range = refl; blocks = refl; row = λ b k. refl }
+  heap_on TouchesUnnamed = record { pages_per_range = refl; blocks = refl; row = λ b k. refl }
+  heap_on TouchesSummariseLock = record { pages_per_range = refl; blocks = refl; row = λ b k. refl }
+
+  map_on : (touched : Touched) → KeepsMap touched w v → KeepsMap touched w u
+  map_on TouchesNothing same = record { entry = same.entry }
+  map_on TouchesRows same = record { entry = same.entry }
+  map_on TouchesEntries same = tt
+  map_on TouchesTuples same = record { entry = same.entry }
+  map_on TouchesUnnamed same = record { entry = same.entry }
+  map_on TouchesSummariseLock same = record { entry = same.entry }
+
+  tuples_on : (touched : Touched) → KeepsTuples touched w v → KeepsTuples touched w u
+  tuples_on TouchesNothing same = record { tuple = same.tuple }
+  tuples_on TouchesRows same = record { tuple = same.tuple }
+  tuples_on TouchesEntries same = record { tuple = same.tuple }
+  tuples_on TouchesTuples same = tt
+  tuples_on TouchesUnnamed same = tt
+  tuples_on TouchesSummariseLock same = record { tuple = same.tuple }
+
+  unnamed_on : (touched : Touched) → KeepsUnnamed touched w v → KeepsUnnamed touched w u
+  unnamed_on TouchesNothing same = record { unnamed = same.unnamed }
+  unnamed_on TouchesRows same = record { unnamed = same.unnamed }
+  unnamed_on TouchesEntries same = record { unnamed = same.unnamed }
+  unnamed_on TouchesTuples same = record { unnamed = same.unnamed }
+  unnamed_on TouchesUnnamed same = tt
+  unnamed_on TouchesSummariseLock same = record { unnamed = same.unnamed }
+
+  lock_on : (touched : Touched) → KeepsSummariseLock touched w u
+  lock_on TouchesNothing = refl
+  lock_on TouchesRows = refl
+  lock_on TouchesEntries = refl
+  lock_on TouchesTuples = refl
+  lock_on TouchesUnnamed = refl
+  lock_on TouchesSummariseLock = tt
+
+  frame_on : (touched : Touched) → Frame s touched w v → Frame s touched w u
+  frame_on touched frame = record {
+    heap = heap_on touched;
+    map = map_on touched frame.map;
+    tuples = tuples_on touched frame.tuples;
+    unnamed_tuples = unnamed_on touched frame.unnamed_tuples;
+    summarise_lock = lock_on touched;
+    locks = record { others = frame.locks.others; taken = frame.locks.taken };
+    contents = refl;
+  }
+
+  reads_on : ReadsIndex s w v → ReadsIndex s w u
+  reads_on reads = record { frame = frame_on TouchesNothing reads.frame; pages = reads.pages; none = reads.none }
+
+  page_on : (page : ℕ) (kind : PageKind) → TurnsPage w v page kind → TurnsPage w u page kind
+  page_on page kind turns = record {
+    now = turns.now;
+    kinds = turns.kinds;
+    rooms = turns.rooms;
+    places = turns.places;
+    map_pages = turns.map_pages;
+    limit = turns.limit;
+  }
+
+  these_on : (these : List ℕ) → LocksThese v s these → LocksThese u s these
+  these_on these locks = record { locked = locks.locked; only = locks.only }
+
+  puts_on : (y : TuplePlace) (t : IndexTuple) → PutsTuple s w v y t → PutsTuple s w u y t
+  puts_on y t puts = record { tuple = puts.tuple; free = puts.free; page = page_on _ _ puts.page; frame = frame_on TouchesTuples puts.frame }
+
+  replaces_on : (x : TuplePlace) (old new : IndexTuple) → ReplacesTuple s w v x old new → ReplacesTuple s w u x old new
+  replaces_on x old new swap = record {
+    tuple = swap.tuple;
+    free = swap.free;
+    page = page_on _ _ swap.page;
+    frame = frame_on TouchesTuples swap.frame;
+    none = swap.none;
+  }
+
+  sets_on : (range : ℕ) (x : TuplePlace) → SetsEntry s w v range x → SetsEntry s w u range x
+  sets_on range x sets = record { now = sets.now; others = sets.others; pages = sets.pages; frame = frame_on TouchesEntries sets.frame }
+
+  same_on : SameLocks w v → SameLocks w u
+  same_on same = record { lock = same.lock }
+
+  clears_on : (range : ℕ) (x : TuplePlace) → ClearsEntry s w v range x → ClearsEntry s w u range x
+  clears_on range x clears = record { entry = clears.entry; free = clears.free; pages = clears.pages; frame = frame_on TouchesEntries clears.frame }
+
+  drops_on : (x : TuplePlace) → DropsTuple s w v x → DropsTuple s w u x
+  drops_on x drops = record {
+    now = drops.now;
+    others = drops.others;
+    page = page_on _ _ drops.page;
+    frame = frame_on TouchesTuples drops.frame;
+    none = drops.none;
+  }
+
+  sweeps_on : (page : ℕ) (Sweeping : TuplePlace → Type 0) → SweepsTuples s w v page Sweeping → SweepsTuples s w u page Sweeping
+  sweeps_on page Sweeping sweeps = record {
+    free = sweeps.free;
+    gone = sweeps.gone;
+    places = sweeps.places;
+    page = page_on _ _ sweeps.page;
+    frame = frame_on TouchesUnnamed sweeps.frame;
+    none = sweeps.none;
+  }
+
+  turns_on : (kind : PageKind) (these : List ℕ) → TurnsKind s w v kind these → TurnsKind s w u kind these
+  turns_on kind these turns = record {
+    frame = frame_on TouchesNothing turns.frame;
+    page = page_on _ _ turns.page;
+    locks = these_on these turns.locks;
+  }
+
+  counts_on : CountsPage s w v → CountsPage s w u
+  counts_on counts = record { frame = frame_on TouchesNothing counts.frame; pages = counts.pages; none = counts.none }
+
+  on_index_on : (range : ℕ) (old new : OnIndex) → OnIndexStep s range w v old new → OnIndexStep s range w u old new
+  on_index_on range _ _ (Maps x named reads) = Maps x named (reads_on reads)
+  on_index_on range _ _ (Gone x gone reads) = Gone x gone (reads_on reads)
+  on_index_on range _ _ (Again x old new verdict reads) = Again x old new verdict (reads_on reads)
+  on_index_on range _ _ (MovePut x y old new verdict puts these) = MovePut x y old new verdict (puts_on y new puts) (these_on _ these)
+
+  pub insert_on : (b k : ℕ) (r : Row) (old : OnIndex) (new : Statement) → InsertStep s b k r w v old new → InsertStep s b k r w u old new
+  insert_on b k r _ _ (InsertOnIndex old new step) = InsertOnIndex old new (on_index_on (range_of_block w b) old new step)
+  insert_on b k r _ _ (InsertNoEntry none reads) = InsertNoEntry none (reads_on reads)
+  insert_on b k r _ _ (InsertCopies x old new stands added changes reads) = InsertCopies x old new stands added changes (reads_on reads)
+  insert_on b k r _ _ (InsertUnchanged x t stands added free reads) = InsertUnchanged x t stands added free (reads_on reads)
+  insert_on b k r _ _ (InsertSwap x old new verdict swap) = InsertSwap x old new verdict (replaces_on x old new swap)
+  insert_on b k r _ _ (InsertSet x y old new sets same) = InsertSet x y old new (sets_on _ y sets) (same_on same)
+  insert_on b k r _ _ (InsertDrop x drops) = InsertDrop x (drops_on x drops)
+
+  growth_on : (range : ℕ) (old new : Phase) → GrowthStep s range w v old new → GrowthStep s range w u old new
+  growth_on range _ _ (Grow grows free meta turns) = Grow grows free meta (turns_on _ _ turns)
+  growth_on range _ _ (CountLeftOver grows meta counts) = CountLeftOver grows meta (counts_on counts)
+  growth_on range _ _ (Count counts) = Count (counts_on counts)
+  growth_on range _ _ (Flag grows free turns) = Flag grows free (turns_on _ _ turns)
+  growth_on range _ _ (EvacuatePut x y t grows next named free verdict puts these) =
+      EvacuatePut x y t grows next named free verdict (puts_on y t puts) (these_on _ these)
+  growth_on range _ _ (EvacuateSet m x y t old sets same) = EvacuateSet m x y t old (sets_on m y sets) (same_on same)
+  growth_on range _ _ (EvacuateDrop m x drops) = EvacuateDrop m x (drops_on x drops)
+  growth_on range _ _ (EvacuateSweep x t grows next unnamed sweeps) = EvacuateSweep x t grows next unnamed (sweeps_on _ _ sweeps)
+  growth_on range _ _ (Turn grows empty free meta turns) = Turn grows empty free meta (turns_on _ _ turns)
+
+  pub summarise_on : (range : ℕ) (old : Phase) (new : Statement) → SummariseStep s range w v old new → SummariseStep s range w u old new
+  summarise_on range _ _ (LookMap x named reads) = LookMap x named (reads_on reads)
+  summarise_on range _ _ (LookGone x gone reads) = LookGone x gone (reads_on reads)
+  summarise_on range _ _ (IsFinal x t stands final reads) = IsFinal x t stands final (reads_on reads)
+  summarise_on range _ _ (Found x t stands flag reads) = Found x t stands flag (reads_on reads)
+  summarise_on range _ _ (ReadNoEntry none of reads) = ReadNoEntry none of (reads_on reads)
+  summarise_on range _ _ (GrowMap old new step) = GrowMap old new (growth_on range old new step)
+  summarise_on range _ _ (Put x t is long verdict puts these) = Put x t is long verdict (puts_on x t puts) (these_on _ these)
+  summarise_on range _ _ (Set x sets none) = Set x (sets_on range x sets) none
+  summarise_on range _ _ (Extent extent result start is reads) = Extent extent result start is (reads_on reads)
+  summarise_on range _ _ (Pass extent next slots result wider below none made reads) = Pass extent next slots result wider below none made (reads_on reads)
+  summarise_on range _ _ (Unite extent next result old new all step) = Unite extent next result old new all (on_index_on range old new step)
+  summarise_on range _ _ (UniteCopies extent next result x old new all stands united reads) =
+      UniteCopies extent next result x old new all stands united (reads_on reads)
+  summarise_on range _ _ (SwapFinal p x old new verdict swap) = SwapFinal p x old new verdict (replaces_on x old new swap)
+  summarise_on range _ _ (SetFinal p x y old new sets same) = SetFinal p x y old new (sets_on range y sets) (same_on same)
+  summarise_on range _ _ (DropOld x drops) = DropOld x (drops_on x drops)
+
+  pub desummarise_on : (range : ℕ) (old : Phase) (new : Statement) → DesummariseStep s range w v old new → DesummariseStep s range w u old new
+  desummarise_on range _ _ (ClearMap x named reads) = ClearMap x named (reads_on reads)
+  desummarise_on range _ _ (ClearNone none reads) = ClearNone none (reads_on reads)
+  desummarise_on range _ _ (Clear x verdict clears these) = Clear x verdict (clears_on range x clears) (these_on _ these)
+  desummarise_on range _ _ (ClearAgain x verdict reads) = ClearAgain x verdict (reads_on reads)
+  desummarise_on range _ _ (DropCleared x drops) = DropCleared x (drops_on x drops)
