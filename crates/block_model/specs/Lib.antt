@@ -7,6 +7,7 @@ pub mod Spans
 pub mod Networks
 pub mod Nets
 pub mod Matches
+pub mod OperatorLaws
 pub mod ValuesOfKind
 pub mod KindLists
 pub mod RowMatches

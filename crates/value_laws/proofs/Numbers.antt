@@ -1,13 +1,11 @@
 -- the order of numbers
 use Rattle.std.specs.Prelude.{◌≡◌, ◌⊎◌, ℤ, pos, ◌+ℤ◌, int_lt, int_le, true, false}
 use Rattle.std.specs.Ordering.{int_eq}
-use Rattle.std.proofs.Common.{arith, inl, inr}
-use Rattle.std.proofs.lemmas.Bool.{cases_Bool}
+use Rattle.std.proofs.Common.{arith, inl, inr, sym, ◌∙◌}
+use Rattle.std.proofs.lemmas.Bool.{cases_Bool, false≢true}
 use Rattle.std.proofs.lemmas.Int.{ints}
+use Rattle.block_model.specs.OperatorLaws.{no_number_precedes_itself}
 use Rattle.value_laws.specs.NumbersAreOrdered.{NumbersAreOrdered}
-
-not_itself : (v : ℤ) → int_lt v v ≡ true → ⊥
-not_itself v e = grind (arith, ints)
 
 less_than_next : (v : ℤ) → int_lt v (v +ℤ pos 1) ≡ true
 less_than_next v = grind (arith, ints)
@@ -50,7 +48,7 @@ turned_back v k h = elim h [ inl less ↦ inl less | inr same ↦ inr (equal_tur
 
 pub numbers_are_ordered : NumbersAreOrdered
 numbers_are_ordered = record {
-  irreflexive = not_itself;
+  irreflexive = λ v e. absurd (false≢true (sym (no_number_precedes_itself v) ∙ e));
   next = less_than_next;
   transitive = through;
   total = some_case;
