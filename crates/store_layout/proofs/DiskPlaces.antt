@@ -131,6 +131,7 @@ filled d n from to =
 
 pub pages_fill : (d : DiskLayout) → PagesFillDisk d
 pages_fill d = record {
+  areas = omega arith;
   disjoint = apart d;
   aligned = λ p _. aligned d p;
   begins = λ p _. begins d p;

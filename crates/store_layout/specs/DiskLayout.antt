@@ -21,6 +21,14 @@ disk_size d =
 abbrev pub first_offset : DiskLayout → ℕ
 first_offset d = PAGE_SIZE * (1 + 2 * d.sizes.log_pages)
 
+-- the bytes of each of the two areas of the log, and the byte at which an area begins: one behind the other behind the control
+-- page
+abbrev pub area_size : DiskLayout → ℕ
+area_size d = PAGE_SIZE * d.sizes.log_pages
+
+abbrev pub area_offset : DiskLayout → ℕ → ℕ
+area_offset d area = PAGE_SIZE + area_size d * area
+
 -- how many blocks each relation may have: the statuses, then tables and then indexes in order of declaration
 unfoldable pub relation_blocks : DiskLayout → List ℕ
 relation_blocks d =

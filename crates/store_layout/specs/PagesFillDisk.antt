@@ -2,7 +2,7 @@
 use Rattle.std.specs.Prelude.{◌≡◌, ◌≢◌, ℕ, ◌+◌, ◌*◌, ◌≤◌, ◌⊎◌}
 use Rattle.block_model.specs.declared.place.Place.{Place}
 use Rattle.block_model.specs.declared.limits.TheConstants.{PAGE_SIZE}
-use Rattle.store_layout.specs.DiskLayout.{DiskLayout, IsPlace, page_offset, disk_size, first_offset}
+use Rattle.store_layout.specs.DiskLayout.{DiskLayout, IsPlace, page_offset, disk_size, first_offset, area_offset, area_size}
 
 -- one page ends before the other begins
 abbrev pub AreApart : DiskLayout → Place → Place → Type 0
@@ -10,6 +10,8 @@ AreApart d p q = (page_offset d p + PAGE_SIZE ≤ page_offset d q) ⊎ (page_off
 
 -- every page has its own place on the disk, and none is left over
 pub record PagesFillDisk (d : DiskLayout) : Type 0 where
+  -- the areas of the log end where the first page begins
+  pub areas : area_offset d 1 + area_size d ≡ first_offset d
   -- the pages of two places share no byte
   pub disjoint : (p q : Place) → IsPlace d p → IsPlace d q → p ≢ q → AreApart d p q
   -- a page begins at a multiple of a page's bytes

@@ -3,7 +3,7 @@
 ghost use Rattle.std.specs.Prelude.{◌≡◌, ◌*◌, ◌^◌, ◌<◌, ◌≤◌, length, sum, take, None, Some, IfOk, IfErr};
 ghost use Rattle.store_layout.specs.declared.layout.TheConstants.{FORMAT};
 ghost use Rattle.store_layout.specs.FirstBrokenRule.{first_broken_rule, KeepsLimits, IsLeastBroken};
-ghost use Rattle.store_layout.specs.DiskLayout.{disk_size, relation_blocks, page_offset, IsPlace, HasBoundedSizes, HasSmallPlaces};
+ghost use Rattle.store_layout.specs.DiskLayout.{disk_size, relation_blocks, page_offset, area_offset, area_size, IsPlace, HasBoundedSizes, HasSmallPlaces};
 ghost use Rattle.store_layout.specs.PagesFillDisk.{PagesFillDisk};
 
 mod limits;
@@ -97,6 +97,23 @@ impl Layout {
         let indexes = blocks_of(schema.indexes.len(), sizes.index_blocks);
         let log_pages = 2 * u64::from(sizes.log_pages);
         PAGE_SIZE as u64 * (1 + log_pages + u64::from(sizes.status_blocks) + heaps + indexes)
+    }
+
+    /// The bytes of each of the two areas of the log.
+    pub fn area_size(&self) -> u64
+        ensures exact { result ≡ area_size self.now }
+        ensures small { result ≤ 2 ^ 25 }
+    {
+        self.known();
+        PAGE_SIZE as u64 * u64::from(self.sizes().log_pages)
+    }
+
+    /// The byte of the disk at which an area of the log begins: area 0 behind the control page, and area 1 behind it.
+    pub fn area_at(&self, area: u8) -> u64
+        requires { area < 2 }
+        ensures { result ≡ area_offset self.now area }
+    {
+        PAGE_SIZE as u64 + self.area_size() * u64::from(area)
     }
 
     /// The byte of the disk at which the page of a place begins. The place is of the layout: its relation is the
