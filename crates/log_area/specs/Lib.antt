@@ -1,0 +1,10 @@
+pub mod Frames
+pub mod Log
+pub mod Published
+pub mod Kept
+pub mod Appended
+pub mod Switched
+pub mod Started
+pub mod Opened
+pub mod Reading
+pub mod OpensInOneWay
