@@ -4,22 +4,23 @@ use Rattle.std.specs.Prelude.{IsTrue, slice_index}
 use Rattle.std.proofs.lemmas.Bool.{cases_eq}
 use Rattle.disk_trait.specs.Told.{Told}
 use Rattle.disk_trait.specs.Torn.{Torn}
+use Rattle.disk_trait.specs.TornLaws.{torn_same, torn_wider}
 use Rattle.disk_trait.specs.Follows.{Follows}
 use Rattle.disk_trait.specs.Throughout.{Throughout}
 use Rattle.disk_trait.specs.ThroughoutLaws.{started, weaker}
 use Rattle.log_area.specs.Frames.{LogFrame, FitsFields, frame_bytes}
-use Rattle.log_area.specs.Log.{Log, Stands, SameBeside, ComesBy, area_start, areas_end}
+use Rattle.log_area.specs.Log.{Log, Stands, SameBeside, ComesBy, area_start, areas_end, gate_of}
 use Rattle.log_area.specs.Published.{StandsBehind, Published, PublishedOrTorn, closed_frame}
 use Rattle.log_area.specs.Appended.{Appended, KeptOrAppended, grown}
 use Rattle.log_area.proofs.Rows.{length-frame_bytes}
-use Rattle.log_area.proofs.Standing.{gate_of, Standing, IsInside, standing_of, stands_of, kept, torn_behind, opened, area_low, area_high, beside_torn, beside_same}
+use Rattle.log_area.proofs.Standing.{Standing, IsInside, standing_of, stands_of, kept, torn_behind, opened, area_low, area_high, beside_torn, beside_same}
 
 pub width : (f : LogFrame) → length (closed_frame f) ≡ length f.changes + 7
 width f = omega (arith, length-append (frame_bytes f) (0 ∷ []), length-frame_bytes f)
 
 -- nothing was done
 pub same : (log : Log) (f : LogFrame) (c : List ℕ) → KeptOrAppended log f c c
-same log f c = record { beside = beside_same log.room c; stands = λ fs s. inl s }
+same log f c = record { within = torn_same (gate_of log) (7 + length f.changes + 1) c; beside = beside_same log.room c; stands = λ fs s. inl s }
 
 pub all_same : (log : Log) (f : LogFrame) (old : Told) → ((c : List ℕ) → IsTrue (old.since old.moment c) → IsTrue (old.now c)) → Throughout old old (ComesBy (KeptOrAppended log f) old)
 all_same log f old only = started old (ComesBy (KeptOrAppended log f) old) (λ c since. (c, only c since, same log f c))
@@ -40,20 +41,26 @@ module _ (log : Log) (f : LogFrame) (fits : FitsFields f) (room : log.used + 8 +
   beside_behind : (d c : List ℕ) → StandsBehind (gate_of log) (closed_frame f) d c → SameBeside log.room d c
   beside_behind d c b = beside_torn log.room (gate_of log) (1 + length (closed_frame f)) d c (omega (arith, area_low log)) (omega (arith, reach, width f)) b.torn
 
+  within_behind : (d c : List ℕ) → StandsBehind (gate_of log) (closed_frame f) d c → Torn (gate_of log) (7 + length f.changes + 1) d c
+  within_behind d c b = torn_wider (gate_of log) (1 + length (closed_frame f)) (gate_of log) (7 + length f.changes + 1) d c (omega arith) (omega (arith, width f)) b.torn
+
   pub has_appended : (d c : List ℕ) → areas_end log.room ≤ length d → Published (gate_of log) (closed_frame f) d c → Appended log f d c
   has_appended d c long p = record {
+    within = within_behind d c p.behind;
     beside = beside_behind d c p.behind;
     stands = λ fs s. grown_stands fs d c long p.behind p.opened (standing_of log fs d s).0;
   }
 
   pub may_have_appended : (d c : List ℕ) → areas_end log.room ≤ length d → PublishedOrTorn (gate_of log) (closed_frame f) d c → KeptOrAppended log f d c
   may_have_appended d c long (inl torn) = record {
+    within = torn_wider (gate_of log + 1) (length (closed_frame f)) (gate_of log) (7 + length f.changes + 1) d c (omega arith) (omega (arith, width f)) torn;
     beside = beside_torn log.room (gate_of log + 1) (length (closed_frame f)) d c (omega (arith, area_low log)) (omega (arith, reach, width f)) torn;
     stands = λ fs s.
         let known = standing_of log fs d s in
         inl (stands_of log fs c (torn_behind log fs (length (closed_frame f)) d c torn known.0) (still_inside d c torn.length known.1));
   }
   may_have_appended d c long (inr b) = record {
+    within = within_behind d c b;
     beside = beside_behind d c b;
     stands = λ fs s.
         let known = standing_of log fs d s in
@@ -71,6 +78,6 @@ module _ (log : Log) (f : LogFrame) (fits : FitsFields f) (room : log.used + 8 +
 
   pub now_appended : (old new : Told) → areas_end log.room ≤ old.size → ((c : List ℕ) → IsTrue (old.now c) → length c ≡ old.size)
       → Follows (Published (gate_of log) (closed_frame f)) old new → Follows (Appended log f) old new
-  now_appended old new size fit all c now =
+  now_appended old new size fit all = λ c now.
       let from = all c now in
       (from.0, from.1, has_appended from.0 c (omega (arith, size, fit from.0 from.1)) from.2)

@@ -6,3 +6,4 @@ mod Appending
 mod Switching
 mod Reading
 mod Pieces
+mod Lookups

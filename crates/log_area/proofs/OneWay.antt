@@ -8,12 +8,15 @@ use Rattle.log_area.specs.Opened.{frame_at}
 use Rattle.log_area.specs.OpensInOneWay.{OpensInOneWay}
 use Rattle.log_area.proofs.Rows.{length-frame_bytes, length_back, frame_back}
 
-with_front : LogFrame → Result (List LogFrame) ℕ → Result (List LogFrame) ℕ
+abbrev with_front : LogFrame → Result (List LogFrame) ℕ → Result (List LogFrame) ℕ
 with_front f (Ok fs) = Ok (f ∷ fs)
 with_front f (Err k) = Err k
 
+abbrev passed : ℕ → Result (List LogFrame) ℕ
+passed k = Err k
+
 -- the frames from an offset on, behind so many bytes that belong to the frame of the gate; or that gate, where the area ends
-walk : ℕ → ℕ → ℕ → List ℕ → Result (List LogFrame) ℕ
+abbrev walk : ℕ → ℕ → ℕ → List ℕ → Result (List LogFrame) ℕ
 walk gate at skip [] = Err gate
 walk gate at zero (b ∷ bytes) = cond (b == 1) (with_front (frame_at bytes) (walk at (suc at) (6 + length_at bytes) bytes)) (Ok [])
 walk gate at (suc n) (b ∷ bytes) = walk gate (suc at) n bytes
@@ -51,18 +54,18 @@ walk_holds gate at (f ∷ fs) g rest fits shut =
     over_frame gate at f (row_of fs) (g ∷ rest) fits.0 ∙ ap (with_front f) (walk_holds at (at + 7 + length f.changes) fs g rest fits.1 shut)
 
 walk_passes : (gate at : ℕ) (fs : List LogFrame) (rest : List ℕ) → AllByRecursion FitsFields fs → length rest ≤ 6 + length_at rest → walk gate at 0 (row_of fs ++ 1 ∷ rest) ≡ Err (at + length (row_of fs))
-walk_passes gate at [] rest fits passes = ap (with_front (frame_at rest)) (skip_past at (suc at) (6 + length_at rest) rest passes) ∙ ap Err (omega arith)
+walk_passes gate at [] rest fits passes = ap (with_front (frame_at rest)) (skip_past at (suc at) (6 + length_at rest) rest passes) ∙ ap passed (omega arith)
 walk_passes gate at (f ∷ fs) rest fits passes =
     over_frame gate at f (row_of fs) (1 ∷ rest) fits.0
     ∙ ap (with_front f) (walk_passes at (at + 7 + length f.changes) fs rest fits.1 passes)
-    ∙ ap Err (omega (arith, length-append (frame_bytes f) (row_of fs), length-frame_bytes f))
+    ∙ ap passed (omega (arith, length-append (frame_bytes f) (row_of fs), length-frame_bytes f))
 
 -- what a walk found
-found : Result (List LogFrame) ℕ → List LogFrame
+abbrev found : Result (List LogFrame) ℕ → List LogFrame
 found (Ok fs) = fs
 found (Err k) = []
 
-stopped : Result (List LogFrame) ℕ → ℕ
+abbrev stopped : Result (List LogFrame) ℕ → ℕ
 stopped (Ok fs) = 0
 stopped (Err k) = suc k
 
@@ -70,7 +73,7 @@ holds_one : (area : List ℕ) (fs : List LogFrame) → HoldsFrames area fs → w
 holds_one area fs h = ap (walk 0 0 0) h.bytes ∙ walk_holds 0 0 fs h.gate h.rest h.fields h.closed
 
 passes_one : (area : List ℕ) (k : ℕ) → HasFrameThatPasses area k → walk 0 0 0 area ≡ Err k
-passes_one area k h = ap (walk 0 0 0) h.bytes ∙ walk_passes 0 0 h.frames h.rest h.fields h.passes ∙ ap Err (omega (arith, h.stands))
+passes_one area k h = ap (walk 0 0 0) h.bytes ∙ walk_passes 0 0 h.frames h.rest h.fields h.passes ∙ ap passed (omega (arith, h.stands))
 
 pub one_way : (area : List ℕ) → OpensInOneWay area
 one_way area = record {

@@ -34,7 +34,7 @@ spliced_twice old at a b fits =
     let front : take (at + length a) mid ≡ take at old ++ a =
     take_at (take at old ++ a) (drop (at + length a) old) (at + length a) (omega (arith, length-append (take at old) a, length-take-le at old (omega (arith, fits)))) in
     let back : drop (at + length a + length b) mid ≡ drop (at + length (a ++ b)) old =
-    ap (λ (k : ℕ). drop k mid) (omega arith) ∙ sym (drop-drop (length b) (at + length a) mid) ∙ ap (drop (length b)) (behind-spliced old at a (omega (arith, fits)))
+    sym (drop-drop (length b) (at + length a) mid) ∙ ap (drop (length b)) (behind-spliced old at a (omega (arith, fits)))
     ∙ drop-drop (length b) (at + length a) old ∙ ap (λ (k : ℕ). drop k old) (omega (arith, length-append a b)) in
     ap (λ (x : List ℕ). x ++ b ++ drop (at + length a + length b) mid) front
     ∙ ap (λ (x : List ℕ). (take at old ++ a) ++ b ++ x) back

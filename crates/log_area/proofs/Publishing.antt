@@ -70,7 +70,7 @@ module _ (old mid : Told) (gate n : ℕ) (bytes : List ℕ) (width : length byte
             (d.0, d.1, inr (torn_gate gate bytes d.0 image.0 c d.2 d.3 image.2))))
 
     pub now_published : (new : Told) → Lawful new → Throughout mid new (IsTornImage mid gate 1) → (IsTrue mid.tells_contents → new.contents ≡ spliced mid.contents gate (1 ∷ [])) → IsStable new → Follows (Published gate bytes) old new
-    now_published new last second opened stable_new c now =
+    now_published new last second opened stable_new = λ c now.
         let image = second.each c (last.counts mid.moment c second.later now) in
         let tells : IsTrue mid.tells_contents = after.told image.0 image.1 in
         let d = between image.0 image.1 in

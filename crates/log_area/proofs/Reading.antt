@@ -14,7 +14,7 @@ use Rattle.log_area.proofs.Standing.{same_at, same_part}
 pub front_more : (start count : ℕ) (old part contents : List ℕ) → IsFrontOf start old contents → part ≡ take count (drop (start + length old) contents) → length part ≡ count → IsFrontOf start (old ++ part) contents
 front_more start count old part contents front is long =
     ap (λ (x : List ℕ). x ++ part) front
-    ∙ ap (λ (x : List ℕ). take (length old) (drop start contents) ++ x) (is ∙ ap (take count) (sym (drop-drop (length old) start contents ∙ ap (λ (k : ℕ). drop k contents) (omega arith))))
+    ∙ ap (λ (x : List ℕ). take (length old) (drop start contents) ++ x) (is ∙ ap (take count) (sym (drop-drop (length old) start contents)))
     ∙ sym (take_more_part (length old) count (drop start contents))
     ∙ ap (λ (k : ℕ). take k (drop start contents)) (omega (arith, long, length-append old part))
 
@@ -75,9 +75,9 @@ unfolding frame_at length_at
 front_frame bytes more le =
     let n = number_of (field_at bytes 0 4) in
     let len : number_of (field_at (bytes ++ more) 0 4) ≡ n = ap number_of (take_front 4 bytes more (omega (arith, le))) in
-    let count : field_at (bytes ++ more) 4 2 ≡ field_at bytes 4 2 = same_part 4 2 (bytes ++ more) bytes (take_front (4 + 2) bytes more (omega (arith, le))) in
-    let changes : field_at (bytes ++ more) 6 n ≡ field_at bytes 6 n = same_part 6 n (bytes ++ more) bytes (take_front (6 + n) bytes more le) in
-    λ i. record { changes = (ap (λ (k : ℕ). field_at (bytes ++ more) 6 k) len ∙ changes) i; count = number_of (count i) }
+    let counted : field_at (bytes ++ more) 4 2 ≡ field_at bytes 4 2 = same_part 4 2 (bytes ++ more) bytes (take_front (4 + 2) bytes more (omega (arith, le))) in
+    let changed : field_at (bytes ++ more) 6 n ≡ field_at bytes 6 n = same_part 6 n (bytes ++ more) bytes (take_front (6 + n) bytes more le) in
+    λ i. record { changes = (ap (λ (k : ℕ). field_at (bytes ++ more) 6 k) len ∙ changed) i; count = number_of (counted i) }
 
 frame_more : (bytes more : List ℕ) (gate : ℕ) → IsWhole bytes gate → frame_in (bytes ++ more) gate ≡ frame_in bytes gate
 frame_more bytes more gate whole =
@@ -115,7 +115,9 @@ read_more bytes more gates at next small r one is inside =
     let e : next ≡ at + (1 + (6 + n)) = omega (arith, is) in
     let gate_here : slice_index all at ≡ 1 = same_at (at + 1) all bytes at (omega arith) (take_front (at + 1) bytes more (omega (arith, r.inside))) ∙ one in
     let split : drop at all ≡ 1 ∷ behind = drop_more all at 0 (omega (arith, is, inside)) ∙ ap (λ (g : ℕ). g ∷ behind) gate_here in
-    let part : take (1 + (6 + n)) (drop at all) ≡ 1 ∷ frame_bytes f = ap (take (1 + (6 + n))) split ∙ ap (λ (x : List ℕ). 1 ∷ x) (sym (read_back behind small_behind within)) in
+    let one_more : 1 + (6 + n) ≡ suc (6 + n) = omega arith in
+    let part : take (1 + (6 + n)) (drop at all) ≡ 1 ∷ frame_bytes f =
+    ap (take (1 + (6 + n))) split ∙ ap (λ (k : ℕ). take k (1 ∷ behind)) one_more ∙ ap (λ (x : List ℕ). 1 ∷ x) (sym (read_back behind small_behind within)) in
     record {
       inside = inside;
       row =

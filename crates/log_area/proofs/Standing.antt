@@ -4,18 +4,13 @@ use Rattle.std.specs.Prelude.{slice_index}
 use Rattle.std.specs.List.{AllByRecursion}
 use Rattle.std.proofs.lemmas.Bool.{cases_eq}
 use Rattle.std.proofs.lemmas.List.{take_at, drop_more, take_more, take-take, drop-drop, drop-take, get_or-take, get_or-drop, get_or_at, length-take, length-take-le, length-drop}
-use Rattle.std.proofs.Math.Nat.{mul-le-mul_right}
 use Rattle.byte_fields.specs.Fields.{field_at}
 use Rattle.disk_trait.specs.Torn.{Torn}
 use Rattle.log_area.specs.Frames.{LogFrame, FitsFields, frame_bytes, row_of}
-use Rattle.log_area.specs.Log.{Log, Stands, SameBeside, area_start, areas_end, chosen_area}
+use Rattle.log_area.specs.Log.{Log, Stands, SameBeside, area_start, areas_end, chosen_area, gate_of}
 use Rattle.log_area.specs.Appended.{grown}
 use Rattle.log_area.specs.Kept.{IsLog}
 use Rattle.log_area.proofs.Rows.{length-frame_bytes, row-push, length-row-push, fits_push}
-
--- the byte of the disk at which the log's closed gate stands
-abbrev pub gate_of : Log → ℕ
-gate_of log = area_start log.room log.byte + log.used
 
 -- the image chooses the log's area, whose used part is the row of these frames, with a closed gate behind it
 pub record Standing (log : Log) (frames : List LogFrame) (c : List ℕ) : Type 0 where
@@ -32,10 +27,10 @@ area_low log = omega arith
 
 pub area_high : (log : Log) → area_start log.room log.byte + log.room ≤ areas_end log.room
 unfolding area_start
-area_high log =
-    let some : log.byte % 2 * log.room ≤ 1 * log.room = mul-le-mul_right log.room (omega arith) in
-    let turned : log.room * (log.byte % 2) ≡ log.byte % 2 * log.room = grind arith in
-    omega (arith, some, turned)
+area_high log = elim (cases_eq (log.byte % 2) 0) [
+  | inl even ↦ let none : log.room * (log.byte % 2) ≡ log.room * 0 = ap (λ (k : ℕ). log.room * k) even in omega (arith, none)
+  | inr odd ↦ let one : log.byte % 2 ≡ 1 = omega (arith, odd) in let once : log.room * (log.byte % 2) ≡ log.room * 1 = ap (λ (k : ℕ). log.room * k) one in omega (arith, once)
+]
 
 same_start : (log : Log) (b : ℕ) → b % 2 ≡ log.byte % 2 → area_start log.room b ≡ area_start log.room log.byte
 unfolding area_start
@@ -51,7 +46,7 @@ pub record IsInside (log : Log) (c : List ℕ) : Type 0 where
   pub gate : gate_of log < length c
 
 module _ (log : Log) (fs : List LogFrame) (c : List ℕ) where
-  at : ℕ
+  abbrev at : ℕ
   at = area_start log.room log.byte
 
   pub standing_of : Stands log fs c → Standing log fs c × IsInside log c
@@ -59,7 +54,7 @@ module _ (log : Log) (fs : List LogFrame) (c : List ℕ) where
       let area = take log.room (drop at c) in
       let gate = s.holds.gate in
       let whole : area ≡ row_of fs ++ gate ∷ s.holds.rest = sym (chosen_is log c s.side) ∙ s.holds.bytes in
-      let long : length area ≡ log.used + (1 + length s.holds.rest) = ap (length {A = ℕ}) whole ∙ length-append (row_of fs) (gate ∷ s.holds.rest) ∙ ap (λ (k : ℕ). k + (1 + length s.holds.rest)) s.used in
+      let long : length area ≡ log.used + (1 + length s.holds.rest) = omega (arith, ap (length {A = ℕ}) whole, length-append (row_of fs) (gate ∷ s.holds.rest), s.used) in
       let room : log.used < log.room = omega (arith, long, length-take log.room (drop at c)) in
       let behind : at + log.used < length c = omega (arith, long, length-take log.room (drop at c), length-drop at c) in
       let found : get_or c (at + log.used) 0 ≡ gate =

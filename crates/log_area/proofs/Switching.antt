@@ -13,11 +13,11 @@ use Rattle.disk_trait.specs.IsStable.{IsStable}
 use Rattle.disk_trait.specs.Spliced.{spliced}
 use Rattle.disk_trait.specs.RangeLaws.{AreApart, torn_apart}
 use Rattle.log_area.specs.Frames.{LogFrame}
-use Rattle.log_area.specs.Log.{Log, Stands, SameBeside, ComesBy, area_start, areas_end}
+use Rattle.log_area.specs.Log.{Log, Stands, SameBeside, ComesBy, area_start, areas_end, gate_of}
 use Rattle.log_area.specs.Kept.{IsLog}
 use Rattle.log_area.specs.Switched.{Switched, KeptOrSwitched, switched}
 use Rattle.log_area.proofs.Publishing.{Lawful, spliced_byte}
-use Rattle.log_area.proofs.Standing.{gate_of, Standing, IsInside, standing_of, stands_of, same_at, same_less, area_low, area_high, beside_torn, beside_all}
+use Rattle.log_area.proofs.Standing.{Standing, IsInside, standing_of, stands_of, same_at, same_less, area_low, area_high, beside_torn, beside_all}
 
 -- the same side, and the same bytes in the used part with its gate
 kept_in : (log : Log) (fs : List LogFrame) (d c : List ℕ) → slice_index c 1 % 2 ≡ log.byte % 2
@@ -124,6 +124,7 @@ module _ (log : Log) (is : IsLog log) where
     pub has_switched : slice_index c 1 ≡ (log.byte + 1) % 256 → Switched log d c
     has_switched byte = record {
       beside = both_beside;
+      byte = byte;
       stands = chosen_now c (omega (arith, long, one.length, two.length)) (ap (λ (b : ℕ). b % 2) byte) (behind_same e c other (omega (arith, other_low)) two ∙ shut);
     }
 
@@ -156,7 +157,7 @@ module _ (log : Log) (is : IsLog log) where
             (d.0, d.1, byte_written d.0 image.0 c (long_image d.0 d.1) d.2 d.3 image.2)))
 
     pub now_switched : (new : Told) → Lawful new → Throughout mid new (IsTornImage mid 1 1) → (IsTrue mid.tells_contents → new.contents ≡ spliced mid.contents 1 ((log.byte + 1) % 256 ∷ [])) → IsStable new → Follows (Switched log) old new
-    now_switched new last second written_new stable_new c now =
+    now_switched new last second written_new stable_new = λ c now.
         let image = second.each c (last.counts mid.moment c second.later now) in
         let d = between image.0 image.1 in
         let tells : IsTrue mid.tells_contents = after.told image.0 image.1 in

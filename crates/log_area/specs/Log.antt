@@ -19,6 +19,10 @@ area_start room byte = PAGE_SIZE + room * (byte % 2)
 abbrev pub areas_end : ℕ → ℕ
 areas_end room = PAGE_SIZE + 2 * room
 
+-- the byte of the disk at which the log's closed gate stands
+abbrev pub gate_of : Log → ℕ
+gate_of log = area_start log.room log.byte + log.used
+
 -- the bytes of the area that an image chooses
 abbrev pub chosen_area : ℕ → List ℕ → List ℕ
 chosen_area room image = field_at image (area_start room (slice_index image 1)) room

@@ -1,6 +1,6 @@
 //! The two areas of a log, and the frames of the chosen one.
 
-ghost use Rattle.std.specs.Prelude.{◌≡◌, ◌×◌, ◌≤◌, ◌+◌, ◌*◌, ◌^◌, ◌<◌, IsTrue, IfOk, IfErr, OnOk, OnErr, length};
+ghost use Rattle.std.specs.Prelude.{◌≡◌, ◌≤◌, ◌+◌, ◌*◌, ◌^◌, ◌<◌, IsTrue, IfOk, IfErr, OnOk, OnErr, length, slice_index};
 ghost use Rattle.block_model.specs.Causes.{HasCause};
 ghost use Rattle.disk_trait.specs.Throughout.{Throughout};
 ghost use Rattle.disk_trait.specs.Follows.{Follows};
@@ -54,6 +54,7 @@ impl Model for LogArea {
 }
 
 /// The byte of the disk at which the area begins that an area byte chooses.
+#[tactic(auto, unfolding(crate::specs::Log::area_start))]
 fn start_of_area(room: u64, byte: u8) -> u64
     requires { room ≤ 2 ^ 25 }
     ensures { result ≡ area_start room byte }
@@ -68,6 +69,7 @@ impl LogArea {
     pub fn start<D: Disk>(alloc: Global, disk: &mut D, layout: &Layout) -> Result<(LogArea, Frames), LogFault>
         requires size { disk_size layout.now ≤ (D.told disk.old).size }
         ensures areas { IfOk result (λ r. (r.0.room ≡ area_size layout.now) × (areas_end r.0.room ≤ disk_size layout.now)) }
+        ensures byte { IfOk result (λ r. IsTrue (D.told disk.old).tells_contents → r.0.byte ≡ slice_index (D.told disk.old).contents 1) }
         ensures stands { IfOk result (λ r. IsTrue (D.told disk.old).tells_contents → Stands r.0 r.1 (D.told disk.old).contents) }
         ensures refused { IfErr result (StartCause (area_size layout.now) (D.told disk.old) (D.told disk.new)) }
         // Only the disk's count of faults may change.

@@ -1,8 +1,8 @@
 //! The frames that were read from an area.
 
-ghost use Rattle.std.specs.Prelude.{◌≡◌, ◌<◌, ◌≤◌, ◌+◌, Some, length, drop, slice_get};
-ghost use Rattle.log_area.specs.Frames.{length_at};
-ghost use Rattle.log_area.specs.Opened.{IsWhole, frame_at, frame_in};
+ghost use Rattle.std.specs.Prelude.{◌≡◌, ◌<◌, Some, length, slice_get};
+ghost use Rattle.log_area.specs.Opened.{IsWhole, frame_in, frames_in};
+ghost use Rattle.std.specs.List.{AllByRecursion};
 
 use byte_fields::{get_u16, get_u32};
 use std::marker::Model;
@@ -10,8 +10,8 @@ use std::marker::Model;
 /// The opened frames of an area, in their order. Their bytes stand in one piece, and an offset of 4 bytes for each gate.
 #[derive(Debug, Drop)]
 pub struct Frames {
-    pub(crate) bytes: Vec<u8>,
-    pub(crate) gates: Vec<u32>,
+    bytes: Vec<u8>,
+    gates: Vec<u32>,
 }
 
 impl Model for Frames {
@@ -28,6 +28,14 @@ impl Model for Frames {
 }
 
 impl Frames {
+    /// The frames of these bytes whose gates stand at these offsets.
+    pub(crate) fn of(bytes: Vec<u8>, gates: Vec<u32>) -> Frames
+        requires { AllByRecursion (IsWhole bytes.items) gates.items }
+        ensures { result ≡ frames_in bytes.items gates.items }
+    {
+        Frames { bytes, gates }
+    }
+
     /// How many frames there are.
     pub fn len(&self) -> usize
         ensures { result ≡ length self.now }

@@ -1,6 +1,6 @@
 //! The chosen area of a disk, read frame by frame.
 
-ghost use Rattle.std.specs.Prelude.{◌≡◌, ◌≤◌, ◌<◌, ◌+◌, ◌*◌, ◌^◌, ◌++◌, ◌⊎◌, ◌×◌, ℕ, List, IsTrue, length, take, drop, IfOk, IfErr, OnOk, slice_index};
+ghost use Rattle.std.specs.Prelude.{◌≡◌, ◌≤◌, ◌<◌, ◌+◌, ◌*◌, ◌^◌, ◌++◌, ◌⊎◌, ℕ, List, IsTrue, length, take, drop, IfOk, IfErr, OnOk, slice_index};
 ghost use Rattle.block_model.specs.Causes.{HasCause};
 ghost use Rattle.byte_fields.specs.Fields.{field_at};
 ghost use Rattle.block_model.specs.declared.limits.TheConstants.{PAGE_SIZE};
@@ -154,5 +154,5 @@ pub fn read_frames<D: Disk>(alloc: Global, disk: &mut D, area: Area) -> Result<(
         };
         at = next;
     }
-    Ok((Frames { bytes, gates }, at))
+    Ok((Frames::of(bytes, gates), at))
 }
