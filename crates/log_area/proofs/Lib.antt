@@ -7,3 +7,5 @@ mod Switching
 mod Reading
 mod Pieces
 mod Lookups
+mod Causes
+mod Starting

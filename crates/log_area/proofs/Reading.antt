@@ -18,6 +18,15 @@ front_more start count old part contents front is long =
     ∙ sym (take_more_part (length old) count (drop start contents))
     ∙ ap (λ (k : ℕ). take k (drop start contents)) (omega (arith, long, length-append old part))
 
+pub front_read : (start at count : ℕ) (old new contents : List ℕ) → IsFrontOf start old contents → at ≡ start + length old → new ≡ old ++ take count (drop at contents) → IsFrontOf start new contents
+front_read start at count old new contents front place is =
+    let rest = drop at contents in
+    let part = take count rest in
+    let n = length part in
+    let whole : take n rest ≡ part = ap (take n) (sym (take-append-drop count rest)) ∙ take_at part (drop count rest) n refl in
+    subst (λ (x : List ℕ). IsFrontOf start x contents) (sym is)
+    (front_more start n old part contents front (sym whole ∙ ap (λ (k : ℕ). take n (drop k contents)) place) refl)
+
 pub extends_all : (a b c : List ℕ) → Extends a b → Extends b c → Extends a c
 extends_all a b c one two = (one.0 ++ two.0, two.1 ∙ ap (λ (x : List ℕ). x ++ two.0) one.1 ∙ append_assoc a one.0 two.0)
 
@@ -130,6 +139,12 @@ read_more bytes more gates at next small r one is inside =
       fields = subst (AllByRecursion FitsFields) (sym frames) (fits_push fs f r.fields (fits_read behind small_behind within));
       whole = all_whole_push all gates at (all_whole_more bytes more gates r.whole) (omega (arith, is, inside));
     }
+
+pub read_on : (bytes all gates : List ℕ) (at next : ℕ) → Extends bytes all → AreBytes all → IsRead bytes gates at → slice_index bytes at ≡ 1
+    → next ≡ at + 7 + length_at (drop (at + 1) all) → next < length all → IsRead all (gates ++ at ∷ []) next
+read_on bytes all gates at next extends small r one is inside =
+    subst (λ (b : List ℕ). AreBytes b → next ≡ at + 7 + length_at (drop (at + 1) b) → next < length b → IsRead b (gates ++ at ∷ []) next) (sym extends.1)
+    (λ s i n. read_more bytes extends.0 gates at next s r one i n) small is inside
 
 -- the area, cut at the gate
 cut : (start room at : ℕ) (bytes gates contents : List ℕ) → IsRead bytes gates at → length bytes ≤ room → IsFrontOf start bytes contents

@@ -37,7 +37,7 @@ unfolding area_start
 same_start log b side = ap (λ (k : ℕ). 8192 + log.room * k) side
 
 chosen_is : (log : Log) (c : List ℕ) → slice_index c 1 % 2 ≡ log.byte % 2 → chosen_area log.room c ≡ take log.room (drop (area_start log.room log.byte) c)
-unfolding chosen_area
+
 chosen_is log c side = ap (λ (k : ℕ). field_at c k log.room) (same_start log (slice_index c 1) side)
 
 -- where the gate of a log that stands lies

@@ -1,5 +1,5 @@
 -- what the start of a log answers
-use Rattle.std.specs.Prelude.{◌≡◌, ℕ, ◌+◌, IsTrue, slice_index}
+use Rattle.std.specs.Prelude.{◌≡◌, ℕ, ◌+◌, List, IsTrue, slice_index}
 use Rattle.block_model.specs.Causes.{Rose}
 use Rattle.disk_trait.specs.Told.{Told}
 use Rattle.log_area.specs.Frames.{HasFrameThatPasses}

@@ -76,6 +76,8 @@ impl LogArea {
         ensures same { D.told disk.new ≡ record (D.told disk.old) { faults = (D.told disk.new).faults } }
         ensures later { (D.told disk.old).faults ≤ (D.told disk.new).faults }
     {
+        layout.known();
+        let _size = disk.size();
         let room = layout.area_size();
         let Ok(byte) = area_byte(disk) else {
             return Err(LogFault::Disk);

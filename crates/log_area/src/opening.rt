@@ -49,6 +49,24 @@ pub fn area_byte<D: Disk>(disk: &mut D) -> Result<u8, DiskFault>
     Ok(byte[0])
 }
 
+/// Reads a piece of the disk from an offset on, and puts it behind the bytes.
+fn read_piece<D: Disk>(disk: &mut D, at: u64, piece: &mut [u8], bytes: &mut Vec<u8>) -> Result<(), LogFault>
+    requires { at + length piece.old ≤ (D.told disk.old).size }
+    ensures read { OnOk result (IsTrue (D.told disk.old).tells_contents → bytes.new.items ≡ bytes.old.items ++ take (length piece.old) (drop at (D.told disk.old).contents)) }
+    ensures longer { OnOk result (length bytes.new.items ≡ length bytes.old.items + length piece.old) }
+    ensures extends { OnOk result (Extends bytes.old.items bytes.new.items) }
+    ensures same { D.told disk.new ≡ record (D.told disk.old) { faults = (D.told disk.new).faults } }
+    ensures cause { ReadCause (D.told disk.old).faults (D.told disk.new).faults result }
+{
+    let Ok(()) = disk.read(at, piece) else {
+        return Err(LogFault::Disk);
+    };
+    let Ok(()) = bytes.extend_from_slice(piece) else {
+        return Err(LogFault::Memory);
+    };
+    Ok(())
+}
+
 /// Reads the next bytes of the area, a page of them or the rest.
 fn read_more<D: Disk>(disk: &mut D, area: Area, bytes: &mut Vec<u8>) -> Result<(), LogFault>
     requires more { length bytes.old.items < area.room }
@@ -60,16 +78,14 @@ fn read_more<D: Disk>(disk: &mut D, area: Area, bytes: &mut Vec<u8>) -> Result<(
     ensures same { D.told disk.new ≡ record (D.told disk.old) { faults = (D.told disk.new).faults } }
     ensures cause { ReadCause (D.told disk.old).faults (D.told disk.new).faults result }
 {
+    let _size = disk.size();
     let mut page = [0u8; PAGE_SIZE];
     let count = (area.room - bytes.len()).min(PAGE_SIZE);
     let from = area.start + bytes.len() as u64;
-    let Ok(()) = disk.read(from, &mut page[..count]) else {
-        return Err(LogFault::Disk);
-    };
-    let Ok(()) = bytes.extend_from_slice(&page[..count]) else {
-        return Err(LogFault::Memory);
-    };
-    Ok(())
+    match read_piece(disk, from, &mut page[..count], bytes) {
+        Ok(()) => Ok(()),
+        Err(fault) => Err(fault),
+    }
 }
 
 /// Reads on until so many bytes of the area are there.
@@ -107,6 +123,7 @@ fn read_frame<D: Disk>(disk: &mut D, area: Area, bytes: &mut Vec<u8>, gate: usiz
     ensures same { D.told disk.new ≡ record (D.told disk.old) { faults = (D.told disk.new).faults } }
     ensures cause { FrameCause area.start area.room gate (D.told disk.old) (D.told disk.new) result }
 {
+    let _size = disk.size();
     let damaged = LogFault::Damaged {
         at: area.start + gate as u64,
     };
