@@ -14,5 +14,5 @@ pub area_cause : (T U : Type 0) (start room gate : ℕ) (old new : Told) (faults
     → (IsTrue old.tells_contents → PassesAt (field_at old.contents start room) gate → HasFrameThatPasses (field_at old.contents start room) gate)
     → FrameCause {T = T} start room gate (record old { faults = faults }) new (Err fault) → AreaCause {T = U} start room old new (Err fault)
 area_cause T U start room gate old new faults (Damaged at) later found cause = (omega (arith, later, cause.1), λ tells. (gate, cause.0, found tells (cause.2 tells)))
-area_cause T U start room gate old new faults Disk later found cause = rose_earlier old.faults faults new.faults later cause
+area_cause T U start room gate old new faults Disk later found cause = (omega (arith, later, cause.0), rose_earlier old.faults faults new.faults later cause.1)
 area_cause T U start room gate old new faults Memory later found cause = omega (arith, later, cause)

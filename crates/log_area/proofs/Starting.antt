@@ -30,5 +30,10 @@ pub started_cause : (U : Type 0) (room byte : ℕ) (old new : Told) (faults : �
 started_cause U room byte old new faults (Damaged at) is later cause = λ tells.
     let found = cause.1 tells in
     (found.0, found.1 ∙ ap (λ (b : ℕ). area_start room b + found.0) (is tells), subst (λ (b : ℕ). HasFrameThatPasses (field_at old.contents (area_start room b) room) found.0) (is tells) found.2)
-started_cause U room byte old new faults Disk is later cause = rose_earlier old.faults faults new.faults later cause
+started_cause U room byte old new faults Disk is later cause = rose_earlier old.faults faults new.faults later cause.1
 started_cause U room byte old new faults Memory is later cause = tt
+
+pub cause_later : (U : Type 0) (start room : ℕ) (old new : Told) (fault : LogFault) → AreaCause {T = U} start room old new (Err fault) → old.faults ≤ new.faults
+cause_later U start room old new (Damaged at) cause = cause.0
+cause_later U start room old new Disk cause = cause.0
+cause_later U start room old new Memory cause = cause

@@ -13,7 +13,7 @@ returns-in-Err-read_frame-clause-cause g c =
     let old = g.D.Disk.told c.args.disk.now in
     let new = g.D.Disk.told c.read_frame.new.disk in
     let one : slice_index c.frames.bytes.items c.frames.at ≡ 1 = omega (arith, c.frames-test.true) in
-    area_cause _ _ c.args.area.start c.args.area.room c.frames.at old new _ c.in-Err-read_frame.field-0 c.frames.invariant.later
+    area_cause _ _ c.args.area.start c.args.area.room c.frames.at old new _ _ c.frames.invariant.later
     (λ tells passes. passes_read c.args.area.start c.args.area.room c.frames.at c.frames.bytes.items c.frames.gates.items old.contents c.frames.invariant.read c.frames.invariant.within (c.frames.invariant.known tells) one passes)
     (subst (λ (d : Told). FrameCause c.args.area.start c.args.area.room c.frames.at d new _) c.frames.invariant.same c.in-Err-read_frame.ensures.cause)
 
@@ -23,7 +23,7 @@ frames-preserved g c =
     let new = g.D.Disk.told c.read_frame.new.disk in
     let all = c.read_frame.new.bytes.items in
     let one : slice_index c.frames.bytes.items c.frames.at ≡ 1 = omega (arith, c.frames-test.true) in
-    let next = c.in-Ok-read_frame.field-0 in
+    let next = c.in-Ok-read_frame.next in
     let small : AreBytes all = c.read_frame.type_inv.bytes in
     record {
       known = subst (λ (d : Told). IsTrue d.tells_contents → IsFrontOf c.args.area.start all d.contents) c.frames.invariant.same c.in-Ok-read_frame.ensures.known;
