@@ -17,3 +17,9 @@ pub all_at : (P : ℕ → Type 0) (gates : List ℕ) (i : ℕ) → i < length ga
 all_at P [] i lt all = absurd (omega (arith, lt))
 all_at P (g ∷ gates) zero lt all = all.0
 all_at P (g ∷ gates) (suc i) lt all = all_at P gates i (omega (arith, lt)) all.1
+
+-- what stands at a place is no default
+pub same_default : (xs : List ℕ) (i d e : ℕ) → i < length xs → get_or xs i d ≡ get_or xs i e
+same_default [] i d e lt = absurd (omega (arith, lt))
+same_default (x ∷ xs) zero d e lt = refl
+same_default (x ∷ xs) (suc i) d e lt = same_default xs i d e (omega (arith, lt))

@@ -2,7 +2,7 @@
 
 ghost use Rattle.std.specs.Prelude.{◌≡◌, ◌≤◌, ◌<◌, ◌+◌, ◌*◌, ◌^◌, ◌++◌, ◌⊎◌, ℕ, List, IsTrue, length, take, drop, IfOk, IfErr, OnOk, slice_index};
 ghost use Rattle.block_model.specs.Causes.{HasCause};
-ghost use Rattle.byte_fields.specs.Fields.{field_at};
+ghost use Rattle.byte_fields.specs.Fields.{AreBytes, field_at};
 ghost use Rattle.block_model.specs.declared.limits.TheConstants.{PAGE_SIZE};
 ghost use Rattle.log_area.specs.Frames.{HoldsFrames, length_at, row_of};
 ghost use Rattle.log_area.specs.Reading.{Extends, IsFrontOf, ReadCause, FrameCause, AreaCause};
@@ -166,10 +166,18 @@ pub fn read_frames<D: Disk>(alloc: Global, disk: &mut D, area: Area) -> Result<(
             Ok(next) => next,
             Err(fault) => return Err(fault),
         };
+        bytes_known(&bytes);
         let Ok(()) = gates.push(at as u32) else {
             return Err(LogFault::Memory);
         };
         at = next;
     }
     Ok((Frames::of(bytes, gates), at))
+}
+
+/// What a slice's type says of its numbers: they are bytes.
+fn bytes_known(bytes: &[u8])
+    ensures { AreBytes bytes.now }
+{
+    let _ = bytes;
 }

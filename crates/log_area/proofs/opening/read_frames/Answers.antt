@@ -1,10 +1,11 @@
-use Rattle.std.proofs.Common.{◌≡◌, ◌+◌, ◌≤◌, ◌<◌, ◌++◌, ◌∷◌, [], ℕ, List, length, sym, ◌∙◌, ap, subst, arith}
-use Rattle.std.specs.Prelude.{IsTrue, slice_index}
+use Rattle.std.proofs.Common.{◌≡◌, ◌≢◌, ◌+◌, ◌≤◌, ◌<◌, ◌++◌, ◌∷◌, [], ℕ, List, length, sym, ◌∙◌, ap, subst, arith}
+use Rattle.std.specs.Prelude.{IsTrue, slice_index, Err}
 use Rattle.byte_fields.specs.Fields.{field_at, AreBytes}
 use Rattle.disk_trait.specs.Told.{Told}
 use Rattle.log_area.specs.Frames.{HoldsFrames, HasFrameThatPasses}
 use Rattle.log_area.specs.Reading.{IsFrontOf, FrameCause, PassesAt}
 use Rattle.log_area.proofs.Reading.{IsRead, read_on, holds_read, passes_read}
+use Rattle.log_area.proofs.Lookups.{same_default}
 use Rattle.log_area.proofs.Causes.{area_cause}
 use Rattle.log_area.proofs.opening.read_frames.Goals as goal
 
@@ -12,19 +13,19 @@ pub returns-in-Err-read_frame-clause-cause : goal.returns-in-Err-read_frame-clau
 returns-in-Err-read_frame-clause-cause g c =
     let old = g.D.Disk.told c.args.disk.now in
     let new = g.D.Disk.told c.read_frame.new.disk in
-    let one : slice_index c.frames.bytes.items c.frames.at ≡ 1 = omega (arith, c.frames-test.true) in
-    area_cause _ _ c.args.area.start c.args.area.room c.frames.at old new _ _ c.frames.invariant.later
+    let one : slice_index c.frames.bytes.items c.frames.at ≡ 1 = omega (arith, same_default c.frames.bytes.items c.frames.at c.index.result.now 0 c.frames.invariant.read.inside, c.index.ensures, c.frames-test.true) in
+    area_cause ℕ ℕ c.args.area.start c.args.area.room c.frames.at old new (g.D.Disk.told c.frames.disk).faults c.in-Err-read_frame.fault c.frames.invariant.later
     (λ tells passes. passes_read c.args.area.start c.args.area.room c.frames.at c.frames.bytes.items c.frames.gates.items old.contents c.frames.invariant.read c.frames.invariant.within (c.frames.invariant.known tells) one passes)
-    (subst (λ (d : Told). FrameCause c.args.area.start c.args.area.room c.frames.at d new _) c.frames.invariant.same c.in-Err-read_frame.ensures.cause)
+    (subst (λ (d : Told). FrameCause {T = ℕ} c.args.area.start c.args.area.room c.frames.at d new (Err c.in-Err-read_frame.fault)) c.frames.invariant.same c.in-Err-read_frame.ensures.cause)
 
 pub frames-preserved : goal.frames-preserved
 frames-preserved g c =
     let old = g.D.Disk.told c.args.disk.now in
     let new = g.D.Disk.told c.read_frame.new.disk in
     let all = c.read_frame.new.bytes.items in
-    let one : slice_index c.frames.bytes.items c.frames.at ≡ 1 = omega (arith, c.frames-test.true) in
+    let one : slice_index c.frames.bytes.items c.frames.at ≡ 1 = omega (arith, same_default c.frames.bytes.items c.frames.at c.index.result.now 0 c.frames.invariant.read.inside, c.index.ensures, c.frames-test.true) in
     let next = c.in-Ok-read_frame.next in
-    let small : AreBytes all = c.read_frame.type_inv.bytes in
+    let small : AreBytes all = subst AreBytes c.deref.ensures.value c.bytes_known.ensures in
     record {
       known = subst (λ (d : Told). IsTrue d.tells_contents → IsFrontOf c.args.area.start all d.contents) c.frames.invariant.same c.in-Ok-read_frame.ensures.known;
       within = c.in-Ok-read_frame.ensures.enough.1;
@@ -38,5 +39,6 @@ frames-preserved g c =
 pub returns-clause-holds : goal.returns-clause-holds
 returns-clause-holds g c tells =
     let old = g.D.Disk.told c.args.disk.now in
-    let shut = λ one. c.frames-test.false one in
+    let shut : slice_index c.frames.bytes.items c.frames.at ≢ 1 =
+    λ one. absurd (omega (arith, same_default c.frames.bytes.items c.frames.at c.index.result.now 0 c.frames.invariant.read.inside, c.index.ensures, c.frames-test.false, one)) in
     holds_read c.args.area.start c.args.area.room c.frames.at c.frames.bytes.items c.frames.gates.items old.contents c.frames.invariant.read c.frames.invariant.within (c.frames.invariant.known tells) shut
