@@ -41,4 +41,5 @@ returns-clause-holds g c tells =
     let old = g.D.Disk.told c.args.disk.now in
     let shut : slice_index c.frames.bytes.items c.frames.at ≢ 1 =
     λ one. absurd (omega (arith, same_default c.frames.bytes.items c.frames.at c.index.result.now 0 c.frames.invariant.read.inside, c.index.ensures, c.frames-test.false, one)) in
-    holds_read c.args.area.start c.args.area.room c.frames.at c.frames.bytes.items c.frames.gates.items old.contents c.frames.invariant.read c.frames.invariant.within (c.frames.invariant.known tells) shut
+    subst (HoldsFrames (field_at old.contents c.args.area.start c.args.area.room)) (sym c.of.ensures)
+    (holds_read c.args.area.start c.args.area.room c.frames.at c.frames.bytes.items c.frames.gates.items old.contents c.frames.invariant.read c.frames.invariant.within (c.frames.invariant.known tells) shut)
