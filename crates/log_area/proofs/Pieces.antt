@@ -49,9 +49,9 @@ pub one_torn_more : (from m at n : ℕ) (old mid new : Told) → from ≤ at →
 one_torn_more from m at n old mid new low high after so_far images moments =
     goes_on old mid new (IsTornImage old from m) so_far moments
     (λ c now.
-        let e = images c now in
-        let d = so_far.each e.0 (after.counts old.moment e.0 so_far.later e.1) in
-        (d.0, d.1, torn_twice from m d.0 e.0 c d.2 (torn_wider at n from m e.0 c low high e.2)))
+    let e = images c now in
+    let d = so_far.each e.0 (after.counts old.moment e.0 so_far.later e.1) in
+    (d.0, d.1, torn_twice from m d.0 e.0 c d.2 (torn_wider at n from m e.0 c low high e.2)))
 
 -- a write within the range that was made sure
 pub last_torn : (from m at n : ℕ) (old mid new : Told) → from ≤ at → at + n ≤ from + m → Lawful mid → Throughout old mid (IsTornImage old from m) → Throughout mid new (IsTornImage mid at n) → Throughout old new (IsTornImage old from m)
@@ -59,5 +59,5 @@ last_torn from m at n old mid new low high after so_far all =
     joined old mid new (IsTornImage old from m) so_far
     (weaker mid new (IsTornImage mid at n) (IsTornImage old from m) all
     (λ (c : List ℕ) (e : IsTornImage mid at n c).
-        let d = so_far.each e.0 (after.counts old.moment e.0 so_far.later e.1) in
-        (d.0, d.1, torn_twice from m d.0 e.0 c d.2 (torn_wider at n from m e.0 c low high e.2))))
+    let d = so_far.each e.0 (after.counts old.moment e.0 so_far.later e.1) in
+    (d.0, d.1, torn_twice from m d.0 e.0 c d.2 (torn_wider at n from m e.0 c low high e.2))))

@@ -66,18 +66,21 @@ module _ (old mid : Told) (gate n : ℕ) (bytes : List ℕ) (width : length byte
         joined old mid new (ComesBy (PublishedOrTorn gate bytes) old) first_published
         (weaker mid new (IsTornImage mid gate 1) (ComesBy (PublishedOrTorn gate bytes) old) second
         (λ (c : List ℕ) (image : IsTornImage mid gate 1 c).
-            let d = between image.0 image.1 in
-            (d.0, d.1, inr (torn_gate gate bytes d.0 image.0 c d.2 d.3 image.2))))
+        let d = between image.0 image.1 in
+        (d.0, d.1, inr (torn_gate gate bytes d.0 image.0 c d.2 d.3 image.2))))
 
     pub now_published : (new : Told) → Lawful new → Throughout mid new (IsTornImage mid gate 1) → (IsTrue mid.tells_contents → new.contents ≡ spliced mid.contents gate (1 ∷ [])) → IsStable new → Follows (Published gate bytes) old new
     now_published new last second opened stable_new = λ c now.
         let image = second.each c (last.counts mid.moment c second.later now) in
         let tells : IsTrue mid.tells_contents = after.told image.0 image.1 in
-        let d = between image.0 image.1 in
-        (d.0, d.1, record {
-          behind = torn_gate gate bytes d.0 image.0 c d.2 d.3 image.2;
-          opened = ap (λ (l : List ℕ). slice_index l gate) (stable_new c now ∙ opened tells) ∙ spliced_byte mid.contents gate 1 (omega (arith, after.fit tells, first.size, room));
-        })
+        let d = between image.0 image.1 in (
+          d.0,
+          d.1,
+          record {
+            behind = torn_gate gate bytes d.0 image.0 c d.2 d.3 image.2;
+            opened = ap (λ (l : List ℕ). slice_index l gate) (stable_new c now ∙ opened tells) ∙ spliced_byte mid.contents gate 1 (omega (arith, after.fit tells, first.size, room));
+          },
+        )
 
     -- the same of the contents
     pub told_published : (new : Told) → IsTrue old.tells_contents → Torn (gate + 1) n old.contents mid.contents → Torn gate 1 mid.contents new.contents → StandsBehind gate bytes old.contents new.contents

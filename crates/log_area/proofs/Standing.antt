@@ -37,7 +37,6 @@ unfolding area_start
 same_start log b side = ap (λ (k : ℕ). 8192 + log.room * k) side
 
 chosen_is : (log : Log) (c : List ℕ) → slice_index c 1 % 2 ≡ log.byte % 2 → chosen_area log.room c ≡ take log.room (drop (area_start log.room log.byte) c)
-
 chosen_is log c side = ap (λ (k : ℕ). field_at c k log.room) (same_start log (slice_index c 1) side)
 
 -- where the gate of a log that stands lies
@@ -58,14 +57,16 @@ module _ (log : Log) (fs : List LogFrame) (c : List ℕ) where
       let room : log.used < log.room = omega (arith, long, length-take log.room (drop at c)) in
       let behind : at + log.used < length c = omega (arith, long, length-take log.room (drop at c), length-drop at c) in
       let found : get_or c (at + log.used) 0 ≡ gate =
-      sym (get_or-drop at c log.used 0) ∙ sym (get_or-take log.room (drop at c) log.used 0 room) ∙ ap (λ (l : List ℕ). get_or l log.used 0) whole ∙ get_or_at (row_of fs) gate s.holds.rest 0 log.used s.used in
-      (record {
-        side = s.side;
-        row = sym (take-take log.used log.room (drop at c) (omega (arith, room))) ∙ ap (take log.used) whole ∙ take_at (row_of fs) (gate ∷ s.holds.rest) log.used s.used;
-        closed = λ one. s.holds.closed (sym found ∙ one);
-        used = s.used;
-        fields = s.holds.fields;
-      }, record { room = room; gate = behind })
+      sym (get_or-drop at c log.used 0) ∙ sym (get_or-take log.room (drop at c) log.used 0 room) ∙ ap (λ (l : List ℕ). get_or l log.used 0) whole ∙ get_or_at (row_of fs) gate s.holds.rest 0 log.used s.used in (
+        record {
+          side = s.side;
+          row = sym (take-take log.used log.room (drop at c) (omega (arith, room))) ∙ ap (take log.used) whole ∙ take_at (row_of fs) (gate ∷ s.holds.rest) log.used s.used;
+          closed = λ one. s.holds.closed (sym found ∙ one);
+          used = s.used;
+          fields = s.holds.fields;
+        },
+        record { room = room; gate = behind },
+      )
 
   pub stands_of : Standing log fs c → IsInside log c → Stands log fs c
   stands_of s inside =

@@ -51,16 +51,16 @@ module _ (log : Log) (is : IsLog log) where
   unfolding area_start
   apart = elim (cases_eq (log.byte % 2) 0) [
     | inl even ↦
-      let one : ((log.byte + 1) % 256) % 2 ≡ 1 = omega (arith, is.byte, even) in
-      let a : log.room * (log.byte % 2) ≡ log.room * 0 = ap (λ (k : ℕ). log.room * k) even in
-      let b : log.room * (((log.byte + 1) % 256) % 2) ≡ log.room * 1 = ap (λ (k : ℕ). log.room * k) one in
-      inl (omega (arith, is.closed, a, b))
+        let one : ((log.byte + 1) % 256) % 2 ≡ 1 = omega (arith, is.byte, even) in
+        let a : log.room * (log.byte % 2) ≡ log.room * 0 = ap (λ (k : ℕ). log.room * k) even in
+        let b : log.room * (((log.byte + 1) % 256) % 2) ≡ log.room * 1 = ap (λ (k : ℕ). log.room * k) one in
+        inl (omega (arith, is.closed, a, b))
     | inr odd ↦
-      let one : log.byte % 2 ≡ 1 = omega (arith, odd) in
-      let none : ((log.byte + 1) % 256) % 2 ≡ 0 = omega (arith, is.byte, one) in
-      let a : log.room * (log.byte % 2) ≡ log.room * 1 = ap (λ (k : ℕ). log.room * k) one in
-      let b : log.room * (((log.byte + 1) % 256) % 2) ≡ log.room * 0 = ap (λ (k : ℕ). log.room * k) none in
-      inr (omega (arith, is.closed, a, b))
+        let one : log.byte % 2 ≡ 1 = omega (arith, odd) in
+        let none : ((log.byte + 1) % 256) % 2 ≡ 0 = omega (arith, is.byte, one) in
+        let a : log.room * (log.byte % 2) ≡ log.room * 1 = ap (λ (k : ℕ). log.room * k) one in
+        let b : log.room * (((log.byte + 1) % 256) % 2) ≡ log.room * 0 = ap (λ (k : ℕ). log.room * k) none in
+        inr (omega (arith, is.closed, a, b))
   ]
 
   -- that gate is torn
@@ -153,8 +153,8 @@ module _ (log : Log) (is : IsLog log) where
         joined old mid new (ComesBy (KeptOrSwitched log) old) (first_kept old mid first)
         (weaker mid new (IsTornImage mid 1 1) (ComesBy (KeptOrSwitched log) old) second
         (λ (c : List ℕ) (image : IsTornImage mid 1 1 c).
-            let d = between image.0 image.1 in
-            (d.0, d.1, byte_written d.0 image.0 c (long_image d.0 d.1) d.2 d.3 image.2)))
+        let d = between image.0 image.1 in
+        (d.0, d.1, byte_written d.0 image.0 c (long_image d.0 d.1) d.2 d.3 image.2)))
 
     pub now_switched : (new : Told) → Lawful new → Throughout mid new (IsTornImage mid 1 1) → (IsTrue mid.tells_contents → new.contents ≡ spliced mid.contents 1 ((log.byte + 1) % 256 ∷ [])) → IsStable new → Follows (Switched log) old new
     now_switched new last second written_new stable_new = λ c now.

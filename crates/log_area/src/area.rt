@@ -66,7 +66,11 @@ impl LogArea {
     /// Opens the area that the disk chooses: its frames in order, and the log that goes on behind them. Takes memory for the
     /// frames and for one buffer. `Damaged` where an opened frame leaves the area no byte for the next gate, `Disk` where
     /// the disk failed in this call, `Memory` is want of memory.
-    pub fn start<D: Disk>(alloc: Global, disk: &mut D, layout: &Layout) -> Result<(LogArea, Frames), LogFault>
+    pub fn start<D: Disk>(
+        alloc: Global,
+        disk: &mut D,
+        layout: &Layout,
+    ) -> Result<(LogArea, Frames), LogFault>
         requires size { disk_size layout.now ≤ (D.told disk.old).size }
         ensures areas { IfOk result (λ r. (r.0.room ≡ area_size layout.now) × (areas_end r.0.room ≤ disk_size layout.now)) }
         ensures byte { IfOk result (λ r. IsTrue (D.told disk.old).tells_contents → r.0.byte ≡ slice_index (D.told disk.old).contents 1) }
@@ -105,7 +109,12 @@ impl LogArea {
     /// Appends a frame of these changes: writes it behind the closed gate with a closed gate behind it, syncs, opens the gate
     /// and syncs. Takes no memory. `NoRoom` exactly where it needs more than is left, and then nothing is done; `Disk` where
     /// the disk failed in this call.
-    pub fn append<D: Disk>(&mut self, disk: &mut D, changes: &[u8], count: u16) -> Result<(), AppendFault>
+    pub fn append<D: Disk>(
+        &mut self,
+        disk: &mut D,
+        changes: &[u8],
+        count: u16,
+    ) -> Result<(), AppendFault>
         requires { areas_end self.old.room ≤ (D.told disk.old).size }
         ensures grown { OnOk result (self.new ≡ grown self.old (record { changes = changes.now; count = count })) }
         ensures kept { OnErr result (self.new ≡ self.old) }

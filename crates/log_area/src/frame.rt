@@ -72,7 +72,13 @@ fn write_pieces<D: Disk>(disk: &mut D, at: u64, changes: &[u8], count: u16) -> R
 
 /// Writes what stands behind the gate of a frame from an offset on, a closed gate behind it, and makes them sure. Up to 65536
 /// bytes of changes are copied into the buffer and written as one piece.
-fn write_frame<D: Disk>(disk: &mut D, buffer: &mut [u8], at: u64, changes: &[u8], count: u16) -> Result<(), DiskFault>
+fn write_frame<D: Disk>(
+    disk: &mut D,
+    buffer: &mut [u8],
+    at: u64,
+    changes: &[u8],
+    count: u16,
+) -> Result<(), DiskFault>
     requires room { at + (length changes.now + 7) ≤ (D.told disk.old).size }
     requires buffer { length buffer.old ≡ 65543 }
     requires small { length changes.now < 256 ^ 4 }
@@ -91,7 +97,13 @@ fn write_frame<D: Disk>(disk: &mut D, buffer: &mut [u8], at: u64, changes: &[u8]
 }
 
 /// Writes a frame behind a closed gate, makes it sure, and opens the gate.
-pub fn publish<D: Disk>(disk: &mut D, buffer: &mut [u8], gate: u64, changes: &[u8], count: u16) -> Result<(), DiskFault>
+pub fn publish<D: Disk>(
+    disk: &mut D,
+    buffer: &mut [u8],
+    gate: u64,
+    changes: &[u8],
+    count: u16,
+) -> Result<(), DiskFault>
     requires room { gate + 1 + (length changes.now + 7) ≤ (D.told disk.old).size }
     requires buffer { length buffer.old ≡ 65543 }
     requires small { length changes.now < 256 ^ 4 }

@@ -50,7 +50,12 @@ pub fn area_byte<D: Disk>(disk: &mut D) -> Result<u8, DiskFault>
 }
 
 /// Reads a piece of the disk from an offset on, and puts it behind the bytes.
-fn read_piece<D: Disk>(disk: &mut D, at: u64, piece: &mut [u8], bytes: &mut Vec<u8>) -> Result<(), LogFault>
+fn read_piece<D: Disk>(
+    disk: &mut D,
+    at: u64,
+    piece: &mut [u8],
+    bytes: &mut Vec<u8>,
+) -> Result<(), LogFault>
     requires { at + length piece.old ≤ (D.told disk.old).size }
     ensures read { OnOk result (IsTrue (D.told disk.old).tells_contents → bytes.new.items ≡ bytes.old.items ++ take (length piece.old) (drop at (D.told disk.old).contents)) }
     ensures longer { OnOk result (length bytes.new.items ≡ length bytes.old.items + length piece.old) }
@@ -89,7 +94,12 @@ fn read_more<D: Disk>(disk: &mut D, area: Area, bytes: &mut Vec<u8>) -> Result<(
 }
 
 /// Reads on until so many bytes of the area are there.
-fn read_up_to<D: Disk>(disk: &mut D, area: Area, bytes: &mut Vec<u8>, count: usize) -> Result<(), LogFault>
+fn read_up_to<D: Disk>(
+    disk: &mut D,
+    area: Area,
+    bytes: &mut Vec<u8>,
+    count: usize,
+) -> Result<(), LogFault>
     requires within { count ≤ area.room }
     requires read { length bytes.old.items ≤ area.room }
     requires size { area.start + area.room ≤ (D.told disk.old).size }
@@ -110,7 +120,12 @@ fn read_up_to<D: Disk>(disk: &mut D, area: Area, bytes: &mut Vec<u8>, count: usi
 }
 
 /// Reads the frame behind an open gate, and the next gate, and answers where that one stands in the area.
-fn read_frame<D: Disk>(disk: &mut D, area: Area, bytes: &mut Vec<u8>, gate: usize) -> Result<usize, LogFault>
+fn read_frame<D: Disk>(
+    disk: &mut D,
+    area: Area,
+    bytes: &mut Vec<u8>,
+    gate: usize,
+) -> Result<usize, LogFault>
     requires gate { gate < length bytes.old.items }
     requires read { length bytes.old.items ≤ area.room }
     requires small { area.room < 2 ^ 32 }
@@ -145,7 +160,11 @@ fn read_frame<D: Disk>(disk: &mut D, area: Area, bytes: &mut Vec<u8>, gate: usiz
 }
 
 /// The opened frames of the area, and how many bytes they take.
-pub fn read_frames<D: Disk>(alloc: Global, disk: &mut D, area: Area) -> Result<(Frames, usize), LogFault>
+pub fn read_frames<D: Disk>(
+    alloc: Global,
+    disk: &mut D,
+    area: Area,
+) -> Result<(Frames, usize), LogFault>
     requires some { 0 < area.room }
     requires small { area.room < 2 ^ 32 }
     requires size { area.start + area.room ≤ (D.told disk.old).size }

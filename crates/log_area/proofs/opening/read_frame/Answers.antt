@@ -9,9 +9,12 @@ unfolding length_at
 returns-then-next-area-clause-cause g c =
     let gate = c.args.gate in
     let bytes = c.read_up_to.new.bytes.items in
-    let len : c.get_u32.result ≡ length_at (drop (gate + 1) bytes) = c.get_u32.ensures.got ∙ ap (λ (b : List ℕ). number_of (field_at b (gate + 1) 4)) c.deref.ensures.value in
-    (refl, c.in-Ok.ensures.cause, λ tells.
-        passes_long c.args.area.start c.args.area.room gate c.get_u32.result bytes (g.D.Disk.told c.args.disk.now).contents (c.in-Ok.ensures.known tells) c.in-Ok.ensures.enough.0 c.in-Ok.ensures.enough.1 len (omega (arith, c.if-next-area.true)))
+    let len : c.get_u32.result ≡ length_at (drop (gate + 1) bytes) = c.get_u32.ensures.got ∙ ap (λ (b : List ℕ). number_of (field_at b (gate + 1) 4)) c.deref.ensures.value in (
+      refl,
+      c.in-Ok.ensures.cause,
+      λ tells.
+          passes_long c.args.area.start c.args.area.room gate c.get_u32.result bytes (g.D.Disk.told c.args.disk.now).contents (c.in-Ok.ensures.known tells) c.in-Ok.ensures.enough.0 c.in-Ok.ensures.enough.1 len (omega (arith, c.if-next-area.true)),
+    )
 
 pub returns-in-Ok-read_up_to-clause-next : goal.returns-in-Ok-read_up_to-clause-next
 unfolding length_at
