@@ -1,5 +1,5 @@
 -- what an append tells of a log, from what the disk went through
-use Rattle.std.proofs.Common.{◌≡◌, ◌≢◌, ◌⊎◌, inl, inr, ℕ, ◌+◌, ◌-◌, ◌≤◌, ◌<◌, ◌^◌, List, [], ◌∷◌, ◌++◌, length, take, drop, sym, ◌∙◌, ap, subst, arith, length-append}
+use Rattle.std.proofs.Common.{◌≡◌, inl, inr, ℕ, ◌+◌, ◌≤◌, List, [], ◌∷◌, ◌++◌, length, take, drop, sym, ◌∙◌, ap, arith, length-append}
 use Rattle.std.specs.Prelude.{IsTrue, slice_index}
 use Rattle.std.proofs.lemmas.Bool.{cases_eq}
 use Rattle.disk_trait.specs.Told.{Told}
@@ -9,7 +9,7 @@ use Rattle.disk_trait.specs.Follows.{Follows}
 use Rattle.disk_trait.specs.Throughout.{Throughout}
 use Rattle.disk_trait.specs.ThroughoutLaws.{started, weaker}
 use Rattle.log_area.specs.Frames.{LogFrame, FitsFields, frame_bytes}
-use Rattle.log_area.specs.Log.{Log, Stands, SameBeside, ComesBy, area_start, areas_end, gate_of}
+use Rattle.log_area.specs.Log.{Log, Stands, SameBeside, ComesBy, areas_end, gate_of}
 use Rattle.log_area.specs.Published.{StandsBehind, Published, PublishedOrTorn, closed_frame}
 use Rattle.log_area.specs.Appended.{Appended, KeptOrAppended, grown}
 use Rattle.log_area.proofs.Rows.{length-frame_bytes}

@@ -1,7 +1,7 @@
 -- why the frames of an area aren't read
-use Rattle.std.proofs.Common.{◌≡◌, ℕ, ◌+◌, ◌≤◌, arith}
+use Rattle.std.proofs.Common.{ℕ, ◌≤◌, arith}
 use Rattle.std.specs.Prelude.{IsTrue, Err}
-use Rattle.block_model.specs.Causes.{Rose, rose_earlier}
+use Rattle.block_model.specs.Causes.{rose_earlier}
 use Rattle.byte_fields.specs.Fields.{field_at}
 use Rattle.disk_trait.specs.Told.{Told}
 use Rattle.log_area.specs.Frames.{HasFrameThatPasses}

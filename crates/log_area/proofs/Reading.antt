@@ -1,13 +1,13 @@
 -- an area that is read piece by piece, and the frames that are found in it
-use Rattle.std.proofs.Common.{◌≡◌, ◌≢◌, ◌⊎◌, inl, inr, ℕ, zero, suc, ◌+◌, ◌-◌, ◌*◌, ◌<◌, ◌≤◌, List, [], ◌∷◌, ◌++◌, length, take, drop, map, get_or, refl, sym, ◌∙◌, ap, subst, arith, append_assoc, length-append, take-append-drop}
+use Rattle.std.proofs.Common.{◌≡◌, ◌≢◌, ℕ, suc, ◌+◌, ◌<◌, ◌≤◌, List, [], ◌∷◌, ◌++◌, length, take, drop, get_or, refl, sym, ◌∙◌, ap, subst, arith, append_assoc, length-append, take-append-drop}
 use Rattle.std.specs.Prelude.{slice_index}
 use Rattle.std.specs.List.{AllByRecursion}
-use Rattle.std.proofs.lemmas.List.{append-nil, take_at, drop_at, drop_more, take-take, drop-drop, drop-take, get_or-take, get_or-drop, length-take, length-take-le, length-drop, map-append}
+use Rattle.std.proofs.lemmas.List.{take_at, drop_at, drop_more, take-take, drop-drop, get_or-take, length-take, length-take-le, length-drop, map-append}
 use Rattle.byte_fields.specs.Fields.{field_at, number_of, AreBytes, AreBytes-drop}
 use Rattle.log_area.specs.Frames.{LogFrame, FitsFields, HoldsFrames, HasFrameThatPasses, frame_bytes, row_of, length_at}
 use Rattle.log_area.specs.Opened.{IsWhole, frame_at, frame_in, frames_in}
 use Rattle.log_area.specs.Reading.{Extends, IsFrontOf, PassesAt}
-use Rattle.log_area.proofs.Rows.{row-push, fits_push, fits_read, read_back, take_more_part, length-changes_at}
+use Rattle.log_area.proofs.Rows.{row-push, fits_push, fits_read, read_back, take_more_part}
 use Rattle.log_area.proofs.Standing.{same_at, same_part}
 
 -- the next piece behind a front

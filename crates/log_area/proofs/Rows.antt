@@ -1,8 +1,8 @@
 -- what a row of frames reads as, and the frames that are read from one
-use Rattle.std.proofs.Common.{◌≡◌, ◌≢◌, inl, inr, ℕ, zero, suc, ◌+◌, ◌*◌, ◌^◌, ◌<◌, ◌≤◌, List, [], ◌∷◌, ◌++◌, length, take, drop, refl, sym, ◌∙◌, ap, subst, arith, append_assoc, length-append, take-append-drop}
+use Rattle.std.proofs.Common.{◌≡◌, ℕ, ◌+◌, ◌^◌, ◌<◌, ◌≤◌, List, [], ◌∷◌, ◌++◌, length, take, drop, refl, sym, ◌∙◌, ap, subst, arith, append_assoc, length-append, take-append-drop}
 use Rattle.std.specs.Int.{bytes_high_first}
 use Rattle.std.specs.List.{AllByRecursion}
-use Rattle.std.proofs.lemmas.List.{append-nil, take_at, take-take, drop-take, length-drop, length-take-le}
+use Rattle.std.proofs.lemmas.List.{append-nil, take_at, take-take, drop-take}
 use Rattle.byte_fields.specs.Fields.{field_at, number_of, number-bytes, bytes-number, length-field, number-fits, AreBytes, AreBytes-drop, AreBytes-take}
 use Rattle.log_area.specs.Frames.{LogFrame, FitsFields, frame_bytes, row_of, length_at}
 use Rattle.log_area.specs.Opened.{frame_at}

@@ -1,5 +1,5 @@
 -- an image on which a log stands, by its bytes
-use Rattle.std.proofs.Common.{◌≡◌, ◌≢◌, ◌⊎◌, inl, inr, ℕ, ◌+◌, ◌-◌, ◌*◌, ◌%◌, ◌^◌, ◌<◌, ◌≤◌, List, [], ◌∷◌, ◌++◌, length, take, drop, get_or, refl, sym, ◌∙◌, ap, subst, arith, append_assoc, length-append, take-append-drop}
+use Rattle.std.proofs.Common.{◌≡◌, ◌≢◌, inl, inr, ℕ, ◌+◌, ◌-◌, ◌*◌, ◌%◌, ◌<◌, ◌≤◌, List, [], ◌∷◌, ◌++◌, length, take, drop, get_or, refl, sym, ◌∙◌, ap, arith, append_assoc, length-append, take-append-drop}
 use Rattle.std.specs.Prelude.{slice_index}
 use Rattle.std.specs.List.{AllByRecursion}
 use Rattle.std.proofs.lemmas.Bool.{cases_eq}
@@ -9,7 +9,6 @@ use Rattle.disk_trait.specs.Torn.{Torn}
 use Rattle.log_area.specs.Frames.{LogFrame, FitsFields, frame_bytes, row_of}
 use Rattle.log_area.specs.Log.{Log, Stands, SameBeside, area_start, areas_end, chosen_area, gate_of}
 use Rattle.log_area.specs.Appended.{grown}
-use Rattle.log_area.specs.Kept.{IsLog}
 use Rattle.log_area.proofs.Rows.{length-frame_bytes, row-push, length-row-push, fits_push}
 
 -- the image chooses the log's area, whose used part is the row of these frames, with a closed gate behind it

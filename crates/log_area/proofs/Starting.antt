@@ -1,12 +1,12 @@
 -- a log that is started on what was read
-use Rattle.std.proofs.Common.{◌≡◌, ℕ, ◌+◌, ◌*◌, ◌%◌, ◌≤◌, List, length, sym, ◌∙◌, ap, subst, arith}
+use Rattle.std.proofs.Common.{◌≡◌, ℕ, ◌+◌, ◌%◌, ◌≤◌, List, length, sym, ◌∙◌, ap, subst, arith}
 use Rattle.std.specs.Prelude.{IsTrue, Err, slice_index}
 use Rattle.block_model.specs.Causes.{rose_earlier}
 use Rattle.byte_fields.specs.Fields.{field_at}
 use Rattle.store_layout.specs.DiskLayout.{DiskLayout, area_size, disk_size}
 use Rattle.disk_trait.specs.Told.{Told}
 use Rattle.log_area.specs.Frames.{LogFrame, HoldsFrames, HasFrameThatPasses, row_of}
-use Rattle.log_area.specs.Log.{Log, Stands, area_start, areas_end}
+use Rattle.log_area.specs.Log.{Stands, area_start, areas_end}
 use Rattle.log_area.specs.Reading.{AreaCause}
 use Rattle.log_area.specs.Started.{StartCause}
 use Rattle.log_area.specs.declared.opening.LogFault.{LogFault}

@@ -1,5 +1,5 @@
 -- what a switch tells of a log, from what the disk went through
-use Rattle.std.proofs.Common.{◌≡◌, ◌≢◌, ◌⊎◌, inl, inr, ℕ, ◌+◌, ◌-◌, ◌*◌, ◌%◌, ◌≤◌, ◌<◌, ◌^◌, List, [], ◌∷◌, ◌++◌, length, take, drop, get_or, refl, sym, ◌∙◌, ap, subst, arith}
+use Rattle.std.proofs.Common.{◌≡◌, ◌⊎◌, inl, inr, ℕ, ◌+◌, ◌-◌, ◌*◌, ◌%◌, ◌≤◌, List, [], ◌∷◌, length, take, drop, get_or, refl, sym, ◌∙◌, ap, arith}
 use Rattle.std.specs.Prelude.{IsTrue, slice_index}
 use Rattle.std.proofs.lemmas.Bool.{cases_eq}
 use Rattle.std.proofs.lemmas.List.{get_or-drop, drop-drop}
@@ -13,11 +13,11 @@ use Rattle.disk_trait.specs.IsStable.{IsStable}
 use Rattle.disk_trait.specs.Spliced.{spliced}
 use Rattle.disk_trait.specs.RangeLaws.{AreApart, torn_apart}
 use Rattle.log_area.specs.Frames.{LogFrame}
-use Rattle.log_area.specs.Log.{Log, Stands, SameBeside, ComesBy, area_start, areas_end, gate_of}
+use Rattle.log_area.specs.Log.{Log, Stands, SameBeside, ComesBy, area_start, areas_end}
 use Rattle.log_area.specs.Kept.{IsLog}
 use Rattle.log_area.specs.Switched.{Switched, KeptOrSwitched, switched}
 use Rattle.log_area.proofs.Publishing.{Lawful, spliced_byte}
-use Rattle.log_area.proofs.Standing.{Standing, IsInside, standing_of, stands_of, same_at, same_less, area_low, area_high, beside_torn, beside_all}
+use Rattle.log_area.proofs.Standing.{standing_of, stands_of, same_at, same_less, area_low, area_high, beside_torn, beside_all}
 
 -- the same side, and the same bytes in the used part with its gate
 kept_in : (log : Log) (fs : List LogFrame) (d c : List ℕ) → slice_index c 1 % 2 ≡ log.byte % 2

@@ -1,5 +1,5 @@
 -- the log of a disk: two areas behind the control page, one of which byte 1 of that page chooses
-use Rattle.std.specs.Prelude.{◌≡◌, ◌⊎◌, ℕ, ◌+◌, ◌-◌, ◌*◌, ◌%◌, IsTrue, List, [], ◌∷◌, ◌++◌, length, take, drop, slice_index}
+use Rattle.std.specs.Prelude.{◌≡◌, ℕ, ◌+◌, ◌-◌, ◌*◌, ◌%◌, IsTrue, List, length, take, drop, slice_index}
 use Rattle.block_model.specs.declared.limits.TheConstants.{PAGE_SIZE}
 use Rattle.byte_fields.specs.Fields.{field_at}
 use Rattle.disk_trait.specs.Told.{Told}

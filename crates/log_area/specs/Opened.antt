@@ -1,9 +1,7 @@
 -- the frames that were read from an area
-use Rattle.std.specs.Prelude.{◌≡◌, ℕ, suc, ◌+◌, ◌≤◌, ◌<◌, List, map, length, drop}
-use Rattle.std.specs.List.{AllByRecursion}
+use Rattle.std.specs.Prelude.{ℕ, ◌+◌, ◌≤◌, List, map, length, drop}
 use Rattle.byte_fields.specs.Fields.{field_at, number_of}
 use Rattle.log_area.specs.Frames.{LogFrame, length_at}
-use Rattle.log_area.specs.declared.frames.Frames.TheInside.{Inside}
 
 -- the frame behind a gate
 unfoldable pub frame_at : List ℕ → LogFrame

@@ -1,4 +1,4 @@
-use Rattle.std.proofs.Common.{◌≡◌, List, ℕ, take, drop, ◌+◌, ◌-◌, ◌≤◌, ◌++◌, ◌∷◌, [], length, refl, sym, ◌∙◌, ap, arith, set, length-append, length-drop}
+use Rattle.std.proofs.Common.{◌≡◌, List, ℕ, take, drop, ◌+◌, ◌-◌, ◌≤◌, ◌++◌, length, refl, ◌∙◌, ap, arith, set, length-append, length-drop}
 use borrow.Rule.Slice.PartMut.{put_mid}
 use Rattle.log_area.specs.Frames.{frame_bytes, numbers_of}
 use Rattle.log_area.proofs.Pieces.{filled}

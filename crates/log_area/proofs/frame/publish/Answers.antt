@@ -1,4 +1,4 @@
-use Rattle.std.proofs.Common.{◌≡◌, inl, inr, ◌+◌, ◌≤◌, ℕ, length, sym, ◌∙◌, ap, subst, arith}
+use Rattle.std.proofs.Common.{inl, inr, ◌+◌, ℕ, length, sym, ◌∙◌, subst}
 use Rattle.disk_trait.specs.Torn.{Torn}
 use Rattle.log_area.specs.Frames.{LogFrame}
 use Rattle.log_area.specs.Published.{closed_frame}

@@ -1,4 +1,4 @@
-use Rattle.std.proofs.Common.{◌≡◌, List, ℕ, take, drop, ◌+◌, ◌-◌, ◌≤◌, ◌++◌, ◌∷◌, [], length, refl, sym, ◌∙◌, ap, arith, length-append}
+use Rattle.std.proofs.Common.{◌≡◌, List, ℕ, ◌+◌, ◌≤◌, ◌++◌, ◌∷◌, [], length, ◌∙◌, ap, arith, length-append}
 use Rattle.disk_trait.specs.Spliced.{spliced}
 use Rattle.disk_trait.specs.TornLaws.{torn_wider, torn_twice}
 use Rattle.log_area.specs.Frames.{frame_bytes, numbers_of}

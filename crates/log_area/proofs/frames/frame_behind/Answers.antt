@@ -1,4 +1,4 @@
-use Rattle.std.proofs.Common.{◌≡◌, ◌+◌, ◌-◌, ◌≤◌, ℕ, List, take, drop, sym, ◌∙◌, ap, arith}
+use Rattle.std.proofs.Common.{◌≡◌, ◌+◌, ◌-◌, ℕ, List, take, drop, sym, ◌∙◌, ap, arith}
 use Rattle.std.proofs.lemmas.List.{drop-drop}
 use Rattle.byte_fields.specs.Fields.{field_at, number_of}
 use Rattle.log_area.specs.Frames.{length_at}

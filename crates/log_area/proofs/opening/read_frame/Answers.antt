@@ -1,4 +1,4 @@
-use Rattle.std.proofs.Common.{◌≡◌, ◌+◌, ◌≤◌, ℕ, List, length, drop, refl, sym, ◌∙◌, ap, arith}
+use Rattle.std.proofs.Common.{◌≡◌, ◌+◌, ℕ, List, drop, refl, sym, ◌∙◌, ap, arith}
 use Rattle.byte_fields.specs.Fields.{field_at, number_of}
 use Rattle.log_area.specs.Frames.{length_at}
 use Rattle.log_area.proofs.Reading.{passes_long, length_in_front}

@@ -1,9 +1,9 @@
-use Rattle.std.proofs.Common.{◌≡◌, ◌≢◌, ◌+◌, ◌≤◌, ◌<◌, ◌++◌, ◌∷◌, [], ℕ, List, length, sym, ◌∙◌, ap, subst, arith}
+use Rattle.std.proofs.Common.{◌≡◌, ◌≢◌, ℕ, List, sym, ◌∙◌, ap, subst, arith}
 use Rattle.std.specs.Prelude.{IsTrue, slice_index, Err}
 use Rattle.byte_fields.specs.Fields.{field_at, AreBytes}
 use Rattle.disk_trait.specs.Told.{Told}
-use Rattle.log_area.specs.Frames.{HoldsFrames, HasFrameThatPasses}
-use Rattle.log_area.specs.Reading.{IsFrontOf, FrameCause, PassesAt}
+use Rattle.log_area.specs.Frames.{HoldsFrames}
+use Rattle.log_area.specs.Reading.{IsFrontOf, FrameCause}
 use Rattle.log_area.proofs.Reading.{IsRead, read_on, holds_read, passes_read}
 use Rattle.log_area.proofs.Lookups.{same_default}
 use Rattle.log_area.proofs.Causes.{area_cause}

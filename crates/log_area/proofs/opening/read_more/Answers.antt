@@ -1,4 +1,4 @@
-use Rattle.std.proofs.Common.{◌≡◌, ◌+◌, ℕ, length, sym, ◌∙◌, ap, arith}
+use Rattle.std.proofs.Common.{◌+◌, arith}
 use Rattle.log_area.proofs.Reading.{front_read}
 use Rattle.log_area.proofs.opening.read_more.Goals as goal
 

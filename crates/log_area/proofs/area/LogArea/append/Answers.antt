@@ -1,14 +1,12 @@
-use Rattle.std.proofs.Common.{◌≡◌, ◌+◌, ◌-◌, ◌*◌, ◌^◌, ◌<◌, ◌≤◌, ◌∷◌, [], ◌++◌, ℕ, List, length, take, sym, ◌∙◌, ap, subst, arith}
-use Rattle.std.specs.Prelude.{IsTrue, refl}
-use Rattle.disk_trait.specs.Told.{Told}
+use Rattle.std.proofs.Common.{◌+◌, ◌≤◌, ℕ, length, sym, ◌∙◌, ap, subst, arith}
 use Rattle.disk_trait.specs.Follows.{Follows}
 use Rattle.disk_trait.specs.Throughout.{Throughout}
 use Rattle.log_area.specs.Frames.{LogFrame, FitsFields}
 use Rattle.log_area.specs.Log.{Log, ComesBy, areas_end, gate_of}
 use Rattle.log_area.specs.Published.{Published, PublishedOrTorn, closed_frame}
 use Rattle.log_area.specs.Appended.{Appended, KeptOrAppended}
-use Rattle.log_area.proofs.Standing.{area_low, area_high}
-use Rattle.log_area.proofs.Appending.{same, all_same, has_appended, may_have_appended, all_kept_or_appended, now_appended}
+use Rattle.log_area.proofs.Standing.{area_high}
+use Rattle.log_area.proofs.Appending.{has_appended, may_have_appended, all_kept_or_appended, now_appended}
 use Rattle.log_area.proofs.area.LogArea.append.Goals as goal
 
 pub overflow_add-gate : goal.overflow_add-gate

@@ -1,12 +1,12 @@
-use Rattle.std.proofs.Common.{◌≡◌, ◌+◌, ◌*◌, ◌≤◌, ℕ, List, length, sym, ◌∙◌, ap, subst, arith}
+use Rattle.std.proofs.Common.{◌≤◌, ℕ, sym, ap, subst, arith}
 use Rattle.std.specs.Prelude.{IsTrue}
 use Rattle.byte_fields.specs.Fields.{field_at}
-use Rattle.store_layout.specs.DiskLayout.{area_size, disk_size}
+use Rattle.store_layout.specs.DiskLayout.{disk_size}
 use Rattle.disk_trait.specs.Told.{Told}
 use Rattle.log_area.specs.Frames.{HoldsFrames}
-use Rattle.log_area.specs.Log.{Log, area_start, areas_end}
+use Rattle.log_area.specs.Log.{Log, areas_end}
 use Rattle.log_area.proofs.Standing.{area_high}
-use Rattle.log_area.proofs.Starting.{areas_on_disk, started_stands, cause_later}
+use Rattle.log_area.proofs.Starting.{areas_on_disk, started_stands}
 use Rattle.log_area.proofs.area.LogArea.start.Goals as goal
 
 pub area_byte-requires : goal.area_byte-requires

@@ -1,13 +1,12 @@
-use Rattle.std.proofs.Common.{◌≡◌, ◌+◌, ◌-◌, ◌*◌, ◌^◌, ◌%◌, ◌<◌, ◌≤◌, ◌∷◌, [], ◌++◌, ℕ, List, length, take, sym, ◌∙◌, ap, subst, arith}
-use Rattle.std.specs.Prelude.{IsTrue, refl}
-use Rattle.disk_trait.specs.Told.{Told}
+use Rattle.std.proofs.Common.{◌≡◌, ◌≤◌, ◌∷◌, [], ℕ, sym, ◌∙◌, subst, arith}
+use Rattle.std.specs.Prelude.{IsTrue}
 use Rattle.disk_trait.specs.Follows.{Follows}
 use Rattle.disk_trait.specs.Throughout.{Throughout}
 use Rattle.disk_trait.specs.Torn.{Torn}
 use Rattle.disk_trait.specs.TornImage.{IsTornImage}
 use Rattle.disk_trait.specs.Spliced.{spliced}
 use Rattle.log_area.specs.Log.{Log, ComesBy, areas_end}
-use Rattle.log_area.specs.Switched.{Switched, KeptOrSwitched, switched}
+use Rattle.log_area.specs.Switched.{Switched, KeptOrSwitched}
 use Rattle.log_area.proofs.Publishing.{Lawful}
 use Rattle.log_area.proofs.Switching.{other, other_high, first_kept, all_kept_or_switched, now_switched, gate_written, told_kept, told_switched}
 use Rattle.log_area.proofs.area.LogArea.switch.Goals as goal
