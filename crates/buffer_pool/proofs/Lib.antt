@@ -1,0 +1,5 @@
+pub mod Filled
+pub mod Links
+pub mod Entries
+pub mod Puts
+pub mod Counts
