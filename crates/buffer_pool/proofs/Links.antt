@@ -4,11 +4,11 @@ use Rattle.std.proofs.lemmas.Bool.{cases_eq, cases_lt}
 use Rattle.buffer_pool.specs.Linked.{IsNext, IsLinked, AreLinkedAbove}
 
 -- the same, said with equal numbers
-as_next : (of : List ℕ) (b b' j c c' : ℕ) → b' ≡ b → c' ≡ c → IsNext of b j c → IsNext of b' j c'
+pub as_next : (of : List ℕ) (b b' j c c' : ℕ) → b' ≡ b → c' ≡ c → IsNext of b j c → IsNext of b' j c'
 as_next of b b' j c c' eb ec it = subst (λ (x : ℕ). IsNext of x j c') (sym eb) (subst (λ (x : ℕ). IsNext of b j x) (sym ec) it)
 
 -- what is said of one node holds of an equal one
-as_node : (of below : List ℕ) (j i : ℕ) → j ≡ i → IsNext of (get_or of i 0) i (get_or below i 0) → IsNext of (get_or of j 0) j (get_or below j 0)
+pub as_node : (of below : List ℕ) (j i : ℕ) → j ≡ i → IsNext of (get_or of i 0) i (get_or below i 0) → IsNext of (get_or of j 0) j (get_or below j 0)
 as_node of below j i e it = subst (λ (x : ℕ). IsNext of (get_or of x 0) x (get_or below x 0)) (sym e) it
 
 -- The frame f leaves its bucket for one that no node has. The node i above it in its bucket then names what f named.
@@ -210,3 +210,22 @@ module _ (frames : ℕ) (of below : List ℕ) (f i j b : ℕ) (linked : IsLinked
         ];
         next = λ k within. moved_next k (omega (arith, within, long));
       }))
+
+-- what the head of a bucket names
+pub first_is : (frames : ℕ) (of below : List ℕ) (b : ℕ) → IsLinked frames of below → frames + b < length of → IsNext of b frames (get_or below (frames + b) 0)
+first_is frames of below b linked inside =
+    let r = get_or below (frames + b) 0 in
+    let n = linked.next (frames + b) inside in
+    let own = linked.heads b inside in
+    record {
+      within = elim (cases_lt frames r) [
+        | inl more ↦
+          let at : frames + (r - 1 - frames) ≡ r - 1 = omega (arith, more) in
+          let low : frames + (r - 1 - frames) < length of = omega (arith, at, n.within, inside, more) in
+          let same : r - 1 - frames ≡ b = sym (linked.heads (r - 1 - frames) low) ∙ ap (λ (x : ℕ). get_or of x 0) at ∙ n.same (omega (arith, more)) ∙ own in
+          absurd (omega (arith, same, at, n.within, more))
+        | inr less ↦ less
+      ];
+      same = λ some. n.same some ∙ own;
+      none_between = λ k low high e. n.none_between k low (omega (arith, high)) (e ∙ sym own);
+    }

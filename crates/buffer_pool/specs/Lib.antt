@@ -5,3 +5,5 @@ pub mod Slots
 pub mod Linked
 pub mod Table
 pub mod Frames
+pub mod LowestDirty
+pub mod NextDirty

@@ -21,8 +21,8 @@ pub record AreInBuckets (slots : List (Option Held)) (placed : Placed) (mask : �
   pub own : (k : ℕ) → k < length slots → slice_index placed.bucket_of k ≡ bucket_of_slot mask (page_at slots k)
 
 -- no page is held twice, each frame stands in its bucket, and the dirty ones are counted
-pub record IsTable (slots : List (Option Held)) (placed : Placed) (mask dirty : ℕ) : Type 0 where
+pub record IsTable (slots : List (Option Held)) (placed : Placed) (mask count : ℕ) : Type 0 where
   pub apart : AreApart slots
   pub buckets : AreInBuckets slots placed mask
-  pub dirty : dirty ≡ count_by is_dirty slots
+  pub dirty : count ≡ count_by is_dirty slots
   pub small : length slots < 2 ^ 32

@@ -18,11 +18,11 @@ abbrev pub LieWithin : PoolState → ℕ → Told → Type 0
 LieWithin pool at disk = (page : ℕ) (held : HeldPage) → held_at pool page ≡ Some held → place_of at page + PAGE_SIZE ≤ disk.size
 
 -- a dirty page whose log is durable
-pub record IsCleanable (pool : PoolState) (durable page : ℕ) (held : HeldPage) : Type 0 where
-  pub held : held_at pool page ≡ Some held
+pub record IsCleanable (pool : PoolState) (durable page : ℕ) (it : HeldPage) : Type 0 where
+  pub held : held_at pool page ≡ Some it
   pub log : ℕ
-  pub dirty : held.log ≡ Some log
-  pub durable : log ≤ durable
+  pub dirty : it.log ≡ Some log
+  pub within : log ≤ durable
 
 -- only the bytes of one page are written, whether they all come or not; a crash may leave any bytes there
 pub record WritesAt (place : ℕ) (old new : Told) : Type 0 where
@@ -51,7 +51,7 @@ pub record Fails (old new : PoolState) (at durable : ℕ) (disk after : Told) : 
 pub record FindsNone (old new : PoolState) (durable : ℕ) (disk after : Told) : Type 0 where
   pub none : (page log : ℕ) → IsDirty old page log → durable < log
   pub same : new ≡ old
-  pub disk : after ≡ disk
+  pub untouched : after ≡ disk
 
 abbrev pub CleansOne : PoolState → PoolState → ℕ → ℕ → Told → Told → Result Bool DiskFault → Type 0
 CleansOne old new at durable disk after (Ok true) = Cleans old new at durable disk after

@@ -1,7 +1,7 @@
 //! What a frame holds.
 
 ghost use Rattle.std.specs.Prelude.{◌≡◌, ◌↔◌, Some, IsTrue};
-ghost use Rattle.buffer_pool.specs.Slots.{is_dirty, page_of, suits};
+ghost use Rattle.buffer_pool.specs.Slots.{is_dirty, is_durable, log_suits, page_of, suits};
 
 /// A page in a frame: its number, and where it is dirty the number of the log change that it waits for.
 #[derive(Clone, Copy, Debug)]

@@ -4,6 +4,7 @@ ghost use Rattle.std.specs.Prelude.{◌≡◌, ◌≢◌, ◌<◌, ◌≤◌, �
 ghost use Rattle.buffer_pool.specs.Linked.{Placed};
 ghost use Rattle.buffer_pool.specs.Slots.{AreApart, IsAbsent, is_dirty, page_at, slot_at};
 ghost use Rattle.buffer_pool.specs.Table.{AreInBuckets, bucket_of_page};
+ghost use Rattle.buffer_pool.specs.LowestDirty.{IsLowestDirty, dirty_page, logged_page, lower};
 
 use crate::buckets::Buckets;
 use crate::held::{Held, holds, is_dirty};
@@ -100,6 +101,13 @@ impl PageTable {
         self.dirty as usize == self.slots.len()
     }
 
+    /// The lowest dirty page from that number on. Looks at every frame.
+    pub fn next_dirty(&self, from: u64) -> Option<u64>
+        ensures { IsLowestDirty self.now from (length self.now) result }
+    {
+        next_dirty(self.slots.as_slice(), from)
+    }
+
     /// The frame holds this page, in place of what it held.
     pub fn put(&mut self, frame: u32, held: Held)
         requires frame { frame < length self.old }
@@ -111,6 +119,53 @@ impl PageTable {
         self.dirty = recount(self.dirty, was_dirty, held.log.is_some());
         self.buckets.put(frame, bucket(held.page, self.mask));
         self.slots[at] = Some(held);
+    }
+}
+
+/// The lowest dirty page from that number on.
+fn next_dirty(slots: &[Option<Held>], from: u64) -> Option<u64>
+    ensures { IsLowestDirty slots.now from (length slots.now) result }
+{
+    let mut lowest = None;
+    'frames: for frame in 0..slots.len() {
+        lowest = lower(lowest, dirty_page(&slots[frame], from));
+    }
+    lowest
+}
+
+/// The page that the frame holds, where it is dirty and has that number or a higher one.
+fn dirty_page(slot: &Option<Held>, from: u64) -> Option<u64>
+    ensures { result ≡ dirty_page from slot.now }
+{
+    match slot {
+        Some(held) => logged_page(held.log, held.page, from),
+        None => None,
+    }
+}
+
+fn logged_page(log: Option<u64>, page: u64, from: u64) -> Option<u64>
+    ensures { result ≡ logged_page from log page }
+{
+    match log {
+        Some(_) => {
+            if from <= page {
+                Some(page)
+            } else {
+                None
+            }
+        }
+        None => None,
+    }
+}
+
+/// The lower one of two numbers, or the one that there is.
+fn lower(page: Option<u64>, other: Option<u64>) -> Option<u64>
+    ensures { result ≡ lower page other }
+{
+    match (page, other) {
+        (Some(page), Some(other)) => Some(page.min(other)),
+        (None, other) => other,
+        (page, None) => page,
     }
 }
 

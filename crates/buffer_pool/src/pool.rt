@@ -8,6 +8,7 @@ ghost use Rattle.buffer_pool.specs.SetsPage.{IsAllDirty, SetsPage};
 ghost use Rattle.buffer_pool.specs.Frames.{HasNoFrame, IsFrameFor};
 ghost use Rattle.std.specs.Box.{boxed_slice_items};
 ghost use Rattle.buffer_pool.specs.WritesPage.{CleansOne, LieWithin};
+ghost use Rattle.buffer_pool.specs.NextDirty.{IsNextDirty};
 
 use crate::clock::Clock;
 use crate::held::{Held, Wanted};
@@ -119,6 +120,14 @@ impl Pool {
         let clean = Held { page: held.page, log: None };
         self.table.put(frame, clean);
         Ok(true)
+    }
+
+    /// The lowest dirty page from that number on, or nothing where there is none: for a checkpoint, which writes pages in order
+    /// of their places. Looks at every frame, and at no page.
+    pub fn next_dirty(&self, from: u64) -> Option<u64>
+        ensures { IsNextDirty self.now from result }
+    {
+        self.table.next_dirty(from)
     }
 }
 
