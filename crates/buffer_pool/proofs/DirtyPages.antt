@@ -24,8 +24,8 @@ more slots from n None next is it = record {
   below = λ k page less e. elim (cases_lt k n) [
     | inl before ↦ absurd (none_Some (it.below k page before e).0 (it.below k page before e).1)
     | inr last ↦
-      let same : k ≡ n = omega (arith, less, last) in
-      (page, sym is ∙ ap (λ (x : ℕ). dirty_page from (slot_at slots x)) (sym same) ∙ e, omega arith)
+        let same : k ≡ n = omega (arith, less, last) in
+        (page, sym is ∙ ap (λ (x : ℕ). dirty_page from (slot_at slots x)) (sym same) ∙ e, omega arith)
   ];
 }
 more slots from n (Some low) None is it = record {
@@ -33,26 +33,26 @@ more slots from n (Some low) None is it = record {
   below = λ k page less e. elim (cases_lt k n) [
     | inl before ↦ it.below k page before e
     | inr last ↦
-      let same : k ≡ n = omega (arith, less, last) in
-      absurd (none_Some page (sym is ∙ ap (λ (x : ℕ). dirty_page from (slot_at slots x)) (sym same) ∙ e))
+        let same : k ≡ n = omega (arith, less, last) in
+        absurd (none_Some page (sym is ∙ ap (λ (x : ℕ). dirty_page from (slot_at slots x)) (sym same) ∙ e))
   ];
 }
 more slots from n (Some low) (Some next) is it = record {
   one = λ page e.
-    let same : min low next ≡ page = same_Some (min low next) page e in
-    elim (cases_lt low next) [
-      | inl less ↦ it.one page (ap Some (omega (arith, same, less)))
-      | inr rest ↦ (n, is ∙ ap Some (omega (arith, same, rest)))
-    ];
+      let same : min low next ≡ page = same_Some (min low next) page e in
+      elim (cases_lt low next) [
+        | inl less ↦ it.one page (ap Some (omega (arith, same, less)))
+        | inr rest ↦ (n, is ∙ ap Some (omega (arith, same, rest)))
+      ];
   below = λ k page less e. elim (cases_lt k n) [
     | inl before ↦
-      let w = it.below k page before e in
-      let same : low ≡ w.0 = same_Some low w.0 w.1 in
-      (min low next, refl, omega (arith, same, w.2))
+        let w = it.below k page before e in
+        let same : low ≡ w.0 = same_Some low w.0 w.1 in
+        (min low next, refl, omega (arith, same, w.2))
     | inr last ↦
-      let at : k ≡ n = omega (arith, less, last) in
-      let same : next ≡ page = same_Some next page (sym is ∙ ap (λ (x : ℕ). dirty_page from (slot_at slots x)) (sym at) ∙ e) in
-      (min low next, refl, omega (arith, same))
+        let at : k ≡ n = omega (arith, less, last) in
+        let same : next ≡ page = same_Some next page (sym is ∙ ap (λ (x : ℕ). dirty_page from (slot_at slots x)) (sym at) ∙ e) in
+        (min low next, refl, omega (arith, same))
   ];
 }
 
@@ -99,10 +99,11 @@ module _ (slots : List (Option Held)) (pages : List (List ℕ)) (from : ℕ) (lo
   next_dirty_is (Some next) it =
       let one = it.one next refl in
       let d = in_slot slots from one.0 next (slot_at slots one.0) refl one.1 in
-      let inside : one.0 < length slots = is_inside slots one.0 d.held.page (ap page_of d.is) in
-      (d.low,
-       (d.log, (entry d.held (get_or pages one.0 []), ap (λ (x : ℕ). held_at (shown slots pages) x) (sym d.number) ∙ held_is slots pages one.0 d.held inside long apart d.is, d.waits)),
-       λ page log le dirty.
-         let w = seen (Some next) it page log le dirty in
-         let same : next ≡ w.0 = same_Some next w.0 w.1 in
-         omega (arith, same, w.2))
+      let inside : one.0 < length slots = is_inside slots one.0 d.held.page (ap page_of d.is) in (
+        d.low,
+        (d.log, (entry d.held (get_or pages one.0 []), ap (λ (x : ℕ). held_at (shown slots pages) x) (sym d.number) ∙ held_is slots pages one.0 d.held inside long apart d.is, d.waits)),
+        λ page log le dirty.
+            let w = seen (Some next) it page log le dirty in
+            let same : next ≡ w.0 = same_Some next w.0 w.1 in
+            omega (arith, same, w.2),
+      )

@@ -81,8 +81,8 @@ found_in (slot ∷ slots) [] q it got = absurd (none_Some it got)
 found_in (None ∷ slots) (page ∷ pages) q it got = later None slots q it (found_in slots pages q it got)
 found_in (Some h ∷ slots) (page ∷ pages) q it got = elim (cases_eq q h.page) [
   | inl is ↦
-    let same : entry h page ≡ it = same_Some (entry h page) it (sym (here (Some h) page slots pages h refl) ∙ ap (λ (x : ℕ). found (Some h ∷ slots) (page ∷ pages) x) (sym is) ∙ got) in
-    record { frame = 0; held = h; inside = omega arith; is = refl; page = sym is; log = ap (λ (x : HeldPage). x.log) same }
+      let same : entry h page ≡ it = same_Some (entry h page) it (sym (here (Some h) page slots pages h refl) ∙ ap (λ (x : ℕ). found (Some h ∷ slots) (page ∷ pages) x) (sym is) ∙ got) in
+      record { frame = 0; held = h; inside = omega arith; is = refl; page = sym is; log = ap (λ (x : HeldPage). x.log) same }
   | inr apart ↦ later (Some h) slots q it (found_in slots pages q it (sym (skip (Some h) page slots pages q (λ e. apart (sym (same_Some h.page q e)))) ∙ got))
 ]
 

@@ -17,7 +17,6 @@ module _ (of below : List ℕ) (f i none : ℕ)
     (whole : length below ≡ length of)
     (above : f < i) (inside_i : i < length of) (alike : get_or of i 0 ≡ get_or of f 0) (lowest : get_or below i 0 ≤ f + 1)
     (unused : (k : ℕ) → k < length of → get_or of k 0 ≢ none) where
-
   inside_f : f < length of
   inside_f = omega (arith, above, inside_i)
 
@@ -73,10 +72,10 @@ module _ (of below : List ℕ) (f i none : ℕ)
   pub left : (j : ℕ) → j < length of → j ≢ f → IsNext (set of f none) (get_or (set of f none) j 0) j (get_or (set below i (get_or below f 0)) j 0)
   left j inside apart = elim (cases_eq j i) [
     | inl is ↦ as_node (set of f none) (set below i (get_or below f 0)) j i is
-      (as_next (set of f none) (get_or of i 0) (get_or (set of f none) i 0) i (get_or below f 0) (get_or (set below i (get_or below f 0)) i 0)
-      (moved i (omega (arith, above))) (get_or-set_same below i (get_or below f 0) 0 (omega (arith, whole, inside_i))) left_i)
+        (as_next (set of f none) (get_or of i 0) (get_or (set of f none) i 0) i (get_or below f 0) (get_or (set below i (get_or below f 0)) i 0)
+        (moved i (omega (arith, above))) (get_or-set_same below i (get_or below f 0) 0 (omega (arith, whole, inside_i))) left_i)
     | inr other ↦ as_next (set of f none) (get_or of j 0) (get_or (set of f none) j 0) j (get_or below j 0) (get_or (set below i (get_or below f 0)) j 0)
-      (moved j apart) (get_or-set_other below i j (get_or below f 0) 0 other) (left_other j inside other)
+        (moved j apart) (get_or-set_other below i j (get_or below f 0) 0 other) (left_other j inside other)
   ]
 
 -- The frame f, alone in its bucket, joins the bucket b below the node i.
@@ -86,15 +85,14 @@ module _ (of of' below : List ℕ) (f i b : ℕ)
     (above : f < i) (inside_i : i < length of) (alike : get_or of i 0 ≡ b) (lowest : get_or below i 0 ≤ f + 1)
     (alone : (k : ℕ) → k < length of → k ≢ f → get_or of k 0 ≢ get_or of f 0)
     (moved : (k : ℕ) → k ≢ f → get_or of' k 0 ≡ get_or of k 0) (here : get_or of' f 0 ≡ b) where
-
   not_i : i ≢ f
   not_i = omega (arith, above)
 
   passes_f : get_or below i 0 ≤ f
   passes_f = elim (cases_lt f (get_or below i 0)) [
     | inl less ↦
-      let is : get_or below i 0 - 1 ≡ f = omega (arith, less, lowest) in
-      absurd (alone i inside_i not_i (sym ((next i inside_i not_i).same (omega (arith, less))) ∙ ap (λ (x : ℕ). get_or of x 0) is))
+        let is : get_or below i 0 - 1 ≡ f = omega (arith, less, lowest) in
+        absurd (alone i inside_i not_i (sym ((next i inside_i not_i).same (omega (arith, less))) ∙ ap (λ (x : ℕ). get_or of x 0) is))
     | inr more ↦ more
   ]
 
@@ -126,11 +124,11 @@ module _ (of of' below : List ℕ) (f i b : ℕ)
         same = λ some. moved (get_or below j 0 - 1) (λ is. alone j inside apart (sym (nj.same some) ∙ ap (λ (x : ℕ). get_or of x 0) is)) ∙ nj.same some;
         none_between = λ k low high e. elim (cases_eq k f) [
           | inl is ↦
-            let same : b ≡ get_or of j 0 = sym here ∙ ap (λ (x : ℕ). get_or of' x 0) (sym is) ∙ e in
-            elim (cases_lt i j) [
-              | inl less ↦ nj.none_between i (omega (arith, low, is, above)) less (alike ∙ same)
-              | inr more ↦ ni.none_between j (omega (arith, passes_f, is, high)) (omega (arith, more, other)) (sym (alike ∙ same))
-            ]
+              let same : b ≡ get_or of j 0 = sym here ∙ ap (λ (x : ℕ). get_or of' x 0) (sym is) ∙ e in
+              elim (cases_lt i j) [
+                | inl less ↦ nj.none_between i (omega (arith, low, is, above)) less (alike ∙ same)
+                | inr more ↦ ni.none_between j (omega (arith, passes_f, is, high)) (omega (arith, more, other)) (sym (alike ∙ same))
+              ]
           | inr apart_k ↦ nj.none_between k low high (sym (moved k apart_k) ∙ e)
         ];
       }
@@ -141,14 +139,14 @@ module _ (of of' below : List ℕ) (f i b : ℕ)
       let made = set (set below f c) i (f + 1) in
       elim (cases_eq j i) [
         | inl is ↦ as_node of' made j i is
-          (as_next of' b (get_or of' i 0) i (f + 1) (get_or made i 0) (moved i not_i ∙ alike)
-          (get_or-set_same (set below f c) i (f + 1) 0 (omega (arith, length-set below f c, whole, inside_i))) joined_i)
+            (as_next of' b (get_or of' i 0) i (f + 1) (get_or made i 0) (moved i not_i ∙ alike)
+            (get_or-set_same (set below f c) i (f + 1) 0 (omega (arith, length-set below f c, whole, inside_i))) joined_i)
         | inr other ↦ elim (cases_eq j f) [
           | inl is ↦ as_node of' made j f is
-            (as_next of' b (get_or of' f 0) f c (get_or made f 0) here
-            (get_or-set_other (set below f c) i f (f + 1) 0 (omega (arith, above)) ∙ get_or-set_same below f c 0 (omega (arith, whole, above, inside_i))) joined_f)
+              (as_next of' b (get_or of' f 0) f c (get_or made f 0) here
+              (get_or-set_other (set below f c) i f (f + 1) 0 (omega (arith, above)) ∙ get_or-set_same below f c 0 (omega (arith, whole, above, inside_i))) joined_f)
           | inr apart ↦ as_next of' (get_or of j 0) (get_or of' j 0) j (get_or below j 0) (get_or made j 0) (moved j apart)
-            (get_or-set_other (set below f c) i j (f + 1) 0 other ∙ get_or-set_other below f j c 0 apart) (joined_other j inside apart other)
+              (get_or-set_other (set below f c) i j (f + 1) 0 other ∙ get_or-set_other below f j c 0 apart) (joined_other j inside apart other)
         ]
       ]
 
@@ -161,16 +159,15 @@ pub linked_above_changed : (of below : List ℕ) (f i x : ℕ) → AreLinkedAbov
 linked_above_changed of below f i x linked low inside k within more = elim (cases_eq k i) [
   | inl is ↦ absurd (omega (arith, more, low, ap (λ (y : ℕ). get_or (set below i x) y 0) is, get_or-set_same below i x 0 inside))
   | inr other ↦
-    let stays = get_or-set_other below i k x 0 other in
-    let it = linked k within (omega (arith, more, stays)) in
-    (omega (arith, it.0, stays), ap (λ (y : ℕ). get_or of (y - 1) 0) stays ∙ it.1)
+      let stays = get_or-set_other below i k x 0 other in
+      let it = linked k within (omega (arith, more, stays)) in
+      (omega (arith, it.0, stays), ap (λ (y : ℕ). get_or of (y - 1) 0) stays ∙ it.1)
 ]
 
 -- the frame f leaves its bucket, above which the node i stands in it, and joins the bucket b below the node j
 module _ (frames : ℕ) (of below : List ℕ) (f i j b : ℕ) (linked : IsLinked frames of below) (frame : f < frames) (bucket : frames + b < length of)
     (above_i : f < i) (inside_i : i < length of) (alike_i : get_or of i 0 ≡ get_or of f 0) (lowest_i : get_or below i 0 ≤ f + 1)
     (above_j : f < j) (inside_j : j < length of) (alike_j : get_or of j 0 ≡ b) (lowest_j : get_or (set below i (get_or below f 0)) j 0 ≤ f + 1) where
-
   unused : (k : ℕ) → k < length of → get_or of k 0 ≢ length of
   unused k inside e = absurd (omega (arith, linked.small k inside, e))
 
@@ -220,10 +217,10 @@ first_is frames of below b linked inside =
     record {
       within = elim (cases_lt frames r) [
         | inl more ↦
-          let at : frames + (r - 1 - frames) ≡ r - 1 = omega (arith, more) in
-          let low : frames + (r - 1 - frames) < length of = omega (arith, at, n.within, inside, more) in
-          let same : r - 1 - frames ≡ b = sym (linked.heads (r - 1 - frames) low) ∙ ap (λ (x : ℕ). get_or of x 0) at ∙ n.same (omega (arith, more)) ∙ own in
-          absurd (omega (arith, same, at, n.within, more))
+            let at : frames + (r - 1 - frames) ≡ r - 1 = omega (arith, more) in
+            let low : frames + (r - 1 - frames) < length of = omega (arith, at, n.within, inside, more) in
+            let same : r - 1 - frames ≡ b = sym (linked.heads (r - 1 - frames) low) ∙ ap (λ (x : ℕ). get_or of x 0) at ∙ n.same (omega (arith, more)) ∙ own in
+            absurd (omega (arith, same, at, n.within, more))
         | inr less ↦ less
       ];
       same = λ some. n.same some ∙ own;

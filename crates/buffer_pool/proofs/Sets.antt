@@ -72,8 +72,8 @@ all_dirty slots pages page long apart it = record {
   absent = absent_is slots pages page it.0;
   full = count_full slots pages long apart it.1;
   dirty = λ q held e.
-    let w = where_held slots pages q held e in
-    sym (ap is_some w.log) ∙ sym (ap is_dirty w.is) ∙ it.2 w.frame w.inside;
+      let w = where_held slots pages q held e in
+      sym (ap is_some w.log) ∙ sym (ap is_dirty w.is) ∙ it.2 w.frame w.inside;
 }
 
 no_some : (o : Option HeldPage) → is_some o ≡ true → o ≡ None → ⊥

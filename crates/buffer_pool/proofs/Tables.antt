@@ -52,7 +52,6 @@ behind_is_empty mask (Some p) is = absurd (omega (arith, and_le_r p mask, is))
 
 module _ (slots : List (Option Held)) (placed : Placed) (mask count : ℕ) (table : IsTable slots placed mask count) (f : ℕ) (h : Held) (inside : f < length slots)
     (own : (k : ℕ) → page_at slots k ≡ Some h.page → k ≡ f) where
-
   as_long : length (set slots f (Some h)) ≡ length slots
   as_long = length-set slots f (Some h)
 
@@ -99,13 +98,13 @@ module _ (slots : List (Option Held)) (placed : Placed) (mask count : ℕ) (tabl
       heads = omega (arith, length-set placed.bucket_of f (bucket_of_page mask h.page), table.buckets.heads, as_long);
       own = λ k within. elim (cases_eq k f) [
         | inl is ↦
-          ap (λ (x : ℕ). get_or (set placed.bucket_of f (bucket_of_page mask h.page)) x 0) is
-          ∙ get_or-set_same placed.bucket_of f (bucket_of_page mask h.page) 0 (omega (arith, table.buckets.heads, inside))
-          ∙ ap (bucket_of_slot mask) (sym (same k is))
+            ap (λ (x : ℕ). get_or (set placed.bucket_of f (bucket_of_page mask h.page)) x 0) is
+            ∙ get_or-set_same placed.bucket_of f (bucket_of_page mask h.page) 0 (omega (arith, table.buckets.heads, inside))
+            ∙ ap (bucket_of_slot mask) (sym (same k is))
         | inr apart ↦
-          get_or-set_other placed.bucket_of f k (bucket_of_page mask h.page) 0 apart
-          ∙ table.buckets.own k (omega (arith, within, as_long))
-          ∙ ap (bucket_of_slot mask) (sym (other k apart))
+            get_or-set_other placed.bucket_of f k (bucket_of_page mask h.page) 0 apart
+            ∙ table.buckets.own k (omega (arith, within, as_long))
+            ∙ ap (bucket_of_slot mask) (sym (other k apart))
       ];
     };
     dirty = omega (arith, counted, counts);

@@ -7,3 +7,5 @@ pub mod Table
 pub mod Frames
 pub mod LowestDirty
 pub mod NextDirty
+pub mod SetLaws
+pub mod LendsPage

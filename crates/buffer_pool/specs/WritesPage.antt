@@ -13,9 +13,9 @@ use Rattle.buffer_pool.specs.PoolState.{HeldPage, PoolState, IsDirty, held_at, w
 abbrev pub place_of : ℕ → ℕ → ℕ
 place_of at page = at + PAGE_SIZE * page
 
--- each page that is held lies within the disk
-abbrev pub LieWithin : PoolState → ℕ → Told → Type 0
-LieWithin pool at disk = (page : ℕ) (held : HeldPage) → held_at pool page ≡ Some held → place_of at page + PAGE_SIZE ≤ disk.size
+-- each page that is held lies within a disk of that size
+abbrev pub LieWithin : PoolState → ℕ → ℕ → Type 0
+LieWithin pool at size = (page : ℕ) (held : HeldPage) → held_at pool page ≡ Some held → place_of at page + PAGE_SIZE ≤ size
 
 -- a dirty page whose log is durable
 pub record IsCleanable (pool : PoolState) (durable page : ℕ) (it : HeldPage) : Type 0 where

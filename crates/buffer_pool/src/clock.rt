@@ -65,12 +65,7 @@ impl Clock {
 }
 
 /// One round from the hand on, and where each frame that suits was used, the next one.
-fn sweep(
-    recent: &mut [bool],
-    slots: &[Option<Held>],
-    wanted: Wanted,
-    hand: u32,
-) -> Option<u32>
+fn sweep(recent: &mut [bool], slots: &[Option<Held>], wanted: Wanted, hand: u32) -> Option<u32>
     requires whole { length slots.now ≡ length recent.old }
     requires hand { hand ≤ length slots.now }
     requires small { length slots.now < 2 ^ 32 }

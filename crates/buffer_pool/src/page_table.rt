@@ -147,13 +147,7 @@ fn logged_page(log: Option<u64>, page: u64, from: u64) -> Option<u64>
     ensures { result ≡ logged_page from log page }
 {
     match log {
-        Some(_) => {
-            if from <= page {
-                Some(page)
-            } else {
-                None
-            }
-        }
+        Some(_) => { if from <= page { Some(page) } else { None } }
         None => None,
     }
 }

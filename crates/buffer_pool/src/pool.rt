@@ -1,6 +1,7 @@
 //! The pool.
 
 ghost use Rattle.std.specs.Prelude.{◌≡◌, ◌↔◌, ◌<◌, ◌≤◌, ◌⊎◌, ℕ, None, Some, true, length, option_map, option_copied, replicate, slice_index_or, IfOk, IfSome, IfErr, OnOk, OnErr, IfNone, IsErr};
+ghost use Rattle.std.specs.Option.{option_copied_mut};
 ghost use Rattle.std.specs.FinMap as map;
 ghost use Rattle.block_model.specs.Causes.{HasCause};
 ghost use Rattle.buffer_pool.specs.PoolState.{held_at};
@@ -55,6 +56,7 @@ impl Pool {
     ghost use Rattle.buffer_pool.specs.contracts.pool.Pool.{the_row};
     ghost use Rattle.std.specs.Io.BufRead.{Rests};
     ghost use Rattle.std.specs.Borrow.{sem};
+    ghost use Rattle.buffer_pool.specs.LendsPage.{LendsPage};
 
     /// So many frames, which hold nothing. All memory is taken here. `Err` is want of memory.
     pub fn new(alloc: Global, frames: u32) -> Result<Pool, NoMemory>
@@ -63,7 +65,11 @@ impl Pool {
         let table = PageTable::new(alloc, frames)?;
         let pages = zeroed_pages(alloc, frames)?;
         let clock = Clock::new(alloc, frames)?;
-        Ok(Pool { table, pages, clock })
+        Ok(Pool {
+            table,
+            pages,
+            clock,
+        })
     }
 
     /// The page of that number, or nothing where it isn't held.
@@ -76,6 +82,22 @@ impl Pool {
         };
         self.clock.touch(frame);
         Some(&self.pages[frame as usize])
+    }
+
+    /// The page of that number, to be changed in place, or nothing where it isn't held. It is dirty from then on, and waits for
+    /// the log change of that number.
+    pub fn change(&mut self, page: u64, log: u64) -> Option<&mut Page>
+        ensures page { option_copied_mut result ≡ option_map (λ held. held.content) (held_at self.old page) }
+        ensures* changes { sem 𝓛 (LendsPage self.entry page log result) }
+    {
+        let Some(frame) = self.table.frame_of(page) else {
+            return None;
+        };
+        self.table.known();
+        self.clock.touch(frame);
+        let log = Some(log);
+        self.table.put(frame, Held { page, log });
+        Some(&mut self.pages[frame as usize])
     }
 
     /// Holds the page with that content: as a dirty one that waits for the log change of that number, or without a number as
@@ -102,8 +124,13 @@ impl Pool {
     /// Writes one dirty page whose log change's number is at most `durable`, page p to the byte `at` + 8192 · p, and holds it
     /// on as a clean one. `Ok(false)` comes exactly where there is none. After a fault the pool is as it was, and the bytes of
     /// the page's place are any.
-    pub fn clean_one<D: Disk>(&mut self, disk: &mut D, at: u64, durable: u64) -> Result<bool, DiskFault>
-        requires { LieWithin self.old at (D.told disk.old) }
+    pub fn clean_one<D: Disk>(
+        &mut self,
+        disk: &mut D,
+        at: u64,
+        durable: u64,
+    ) -> Result<bool, DiskFault>
+        requires { LieWithin self.old at (D.told disk.old).size }
         ensures cleans { CleansOne self.old self.new at durable (D.told disk.old) (D.told disk.new) result }
         ensures cause { HasCause (D.told disk.old).faults (D.told disk.new).faults result }
     {
@@ -117,7 +144,10 @@ impl Pool {
         let bytes = self.pages[frame as usize].as_bytes();
         disk.write(at + PAGE_SIZE as u64 * held.page, bytes)?;
         self.table.known();
-        let clean = Held { page: held.page, log: None };
+        let clean = Held {
+            page: held.page,
+            log: None,
+        };
         self.table.put(frame, clean);
         Ok(true)
     }

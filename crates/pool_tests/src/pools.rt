@@ -1,7 +1,12 @@
 //! Pages in a pool.
 
+ghost use Rattle.std.specs.Prelude.{◌≡◌, ◌<◌};
+ghost use Rattle.buffer_pool.specs.PoolState.{PoolState};
+ghost use Rattle.buffer_pool.specs.WritesPage.{LieWithin};
+
 use block_model::PAGE_SIZE;
 use buffer_pool::{AllDirty, Pool};
+use disk_trait::{Disk, DiskFault, MemoryDisk};
 use page_layout::Page;
 
 /// A page full of one byte.
@@ -34,4 +39,53 @@ fn clean_pages_go_and_dirty_ones_stay(rt: HostRuntime) {
     assert!(rt; pool.set(8, &page_of(80), None) == Ok(()));
     assert!(rt; first_byte(&mut pool, 9) == None);
     assert!(rt; first_byte(&mut pool, 8) == Some(80));
+}
+
+#[test]
+fn dirty_pages_are_told_in_order(rt: HostRuntime) {
+    let mut pool = Pool::new(rt.alloc(), 3).unwrap();
+    assert!(rt; pool.next_dirty(0) == None);
+    assert!(rt; pool.set(6, &page_of(1), Some(3)) == Ok(()));
+    assert!(rt; pool.set(2, &page_of(2), Some(9)) == Ok(()));
+    assert!(rt; pool.set(4, &page_of(3), None) == Ok(()));
+    assert!(rt; pool.next_dirty(0) == Some(2));
+    assert!(rt; pool.next_dirty(3) == Some(6));
+    assert!(rt; pool.next_dirty(7) == None);
+    match pool.change(4, 10) {
+        Some(page) => page.replace(page_of(44).as_bytes()),
+        None => {}
+    }
+    assert!(rt; first_byte(&mut pool, 4) == Some(44));
+    assert!(rt; pool.next_dirty(3) == Some(4));
+    assert!(rt; pool.change(5, 11).is_none());
+}
+
+/// A pool of pages that lie on a disk of four pages.
+fn set(pool: &mut Pool, page: u64, byte: u8, log: u64) -> bool
+    requires page { page < 4 }
+    requires within { LieWithin pool.old 0 32768 }
+    ensures { LieWithin pool.new 0 32768 }
+{
+    pool.set(page, &page_of(byte), Some(log)).is_ok()
+}
+
+#[test]
+fn dirty_pages_are_written_to_their_places(rt: HostRuntime) {
+    let mut pool = Pool::new(rt.alloc(), 2).unwrap();
+    let mut disk = MemoryDisk::new(rt.alloc(), 32768).unwrap();
+    assert!(rt; set(&mut pool, 3, 33, 5));
+    assert!(rt; set(&mut pool, 1, 11, 9));
+    assert!(rt; pool.clean_one(&mut disk, 0, 4) == Ok(false));
+    assert!(rt; pool.clean_one(&mut disk, 0, 5) == Err(DiskFault));
+    assert!(rt; disk.room(2, 16384).is_ok());
+    assert!(rt; pool.next_dirty(2) == Some(3));
+    assert!(rt; pool.clean_one(&mut disk, 0, 5) == Ok(true));
+    assert!(rt; pool.next_dirty(2) == None);
+    assert!(rt; pool.clean_one(&mut disk, 0, 5) == Ok(false));
+    assert!(rt; pool.clean_one(&mut disk, 0, 9) == Ok(true));
+    let read = &mut [0; 1];
+    assert!(rt; disk.read(24576, read) == Ok(()));
+    assert!(rt; read[0] == 33);
+    assert!(rt; disk.read(8192, read) == Ok(()));
+    assert!(rt; read[0] == 11);
 }
