@@ -1,13 +1,18 @@
 -- what the choice of a dirty frame means for the map of pages
-use Rattle.std.proofs.Common.{◌≡◌, ◌≢◌, ℕ, ◌<◌, ◌≤◌, Bool, true, false, List, [], Option, Some, None, length, set, get_or, refl, sym, ◌∙◌, ap, arith, inl, inr}
-use Rattle.std.specs.Prelude.{nat_le}
+use Rattle.std.proofs.Common.{◌≡◌, ◌≢◌, ℕ, ◌<◌, ◌≤◌, Bool, true, false, List, [], Option, Some, None, length, set, get_or, refl, sym, ◌∙◌, ap, subst, arith, inl, inr}
+use Rattle.std.specs.Prelude.{nat_le, IsTrue}
 use Rattle.std.proofs.lemmas.Bool.{false≢true, leb-true, leb-false}
 use Rattle.std.proofs.lemmas.List.{set-get_or}
 use Rattle.block_model.specs.NumberMaps.{same_Some, none_Some}
 use Rattle.buffer_pool.specs.declared.held.Held.{Held}
 use Rattle.buffer_pool.specs.declared.held.Wanted.TheVariants as wanted
 use Rattle.buffer_pool.specs.PoolState.{HeldPage, PoolState, IsDirty, held_at, with_page}
-use Rattle.buffer_pool.specs.WritesPage.{IsCleanable}
+use Rattle.disk_trait.specs.Told.{Told}
+use Rattle.disk_trait.specs.Torn.{Torn}
+use Rattle.disk_trait.specs.Follows.{Follows}
+use Rattle.disk_trait.specs.GoesOn.{GoesOn}
+use Rattle.block_model.specs.declared.limits.TheConstants.{PAGE_SIZE}
+use Rattle.buffer_pool.specs.WritesPage.{IsCleanable, WritesAt}
 use Rattle.buffer_pool.specs.Slots.{AreApart, page_of, page_at, slot_at, suits, log_suits}
 use Rattle.buffer_pool.specs.Frames.{shown}
 use Rattle.buffer_pool.proofs.Entries.{entry}
@@ -41,3 +46,11 @@ pub none_cleanable : (slots : List (Option Held)) (pages : List (List ℕ)) (dur
 none_cleanable slots pages durable none page log it =
     let w = where_held slots pages page it.0 it.1 in
     leb-false log durable (sym (ap (log_suits (wanted.Cleanable durable)) (w.log ∙ it.2)) ∙ sym (ap (suits (wanted.Cleanable durable)) w.is) ∙ none w.frame w.inside)
+
+-- a write of so many bytes at an equal place
+pub writes_at : (place at n : ℕ) (old new : Told) → at ≡ place → n ≡ PAGE_SIZE → (IsTrue old.tells_contents → Torn at n old.contents new.contents) → Follows (Torn at n) old new → GoesOn old new → WritesAt place old new
+writes_at place at n old new ea en others images moments = record {
+  others = subst (λ (p : ℕ). IsTrue old.tells_contents → Torn p PAGE_SIZE old.contents new.contents) ea (subst (λ (m : ℕ). IsTrue old.tells_contents → Torn at m old.contents new.contents) en others);
+  images = subst (λ (p : ℕ). Follows (Torn p PAGE_SIZE) old new) ea (subst (λ (m : ℕ). Follows (Torn at m) old new) en images);
+  moments = moments;
+}

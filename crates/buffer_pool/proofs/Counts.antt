@@ -5,6 +5,10 @@ use Rattle.std.proofs.lemmas.List.Sums.{count_by-le-length, sum_by-set, sum_by-c
 use Rattle.buffer_pool.specs.declared.held.Held.{Held}
 use Rattle.buffer_pool.specs.Slots.{slot_at}
 
+-- 1 for what passes
+abbrev pub one : Bool → ℕ
+one b = cond b 1 0
+
 -- after one was given another page
 pub count-set : (p : Option Held → Bool) (slots : List (Option Held)) (f : ℕ) (slot : Option Held) → f < length slots
     → count_by p (set slots f slot) + cond (p (slot_at slots f)) 1 0 ≡ count_by p slots + cond (p slot) 1 0

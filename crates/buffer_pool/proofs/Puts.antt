@@ -90,4 +90,4 @@ entries_none (suc n) [] = refl
 entries_none (suc n) (page ∷ pages) = entries_none n pages
 
 pub shown_none : (n : ℕ) (pages : List (List ℕ)) → shown (replicate n None) pages ≡ record { frames = n; pages = empty }
-shown_none n pages = λ i. record { frames = length-replicate {A = Option Held} n None i; pages = ap (from_entries {R = nat_cmp} {X = HeldPage}) (entries_none n pages) i }
+shown_none n pages = λ i. record { frames = length-replicate {A = Option Held} n None i; pages = ap (λ (es : List (ℕ × HeldPage)). from_entries {R = nat_cmp} es) (entries_none n pages) i }

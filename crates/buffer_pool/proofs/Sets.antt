@@ -1,6 +1,6 @@
 -- what the choice of a frame means for the map of pages
 use Rattle.std.proofs.Common.{◌≡◌, ◌≢◌, ℕ, zero, suc, ◌+◌, ◌<◌, ◌≤◌, Bool, true, false, List, [], ◌∷◌, Option, Some, None, length, set, get_or, refl, sym, ◌∙◌, ap, subst, arith, inl, inr, ⊎_elim}
-use Rattle.std.specs.Prelude.{is_some, IsSome}
+use Rattle.std.specs.Prelude.{is_some, option_map, IsSome}
 use Rattle.std.proofs.lemmas.Bool.{cases_eq, false≢true}
 use Rattle.block_model.specs.NumberMaps.{same_Some, none_Some}
 use Rattle.buffer_pool.specs.declared.held.Held.{Held}
@@ -84,3 +84,21 @@ pub not_all_dirty : (old new : PoolState) (page : ℕ) (held : HeldPage) → Set
 not_all_dirty old new page held (inl (inl own, is)) dirty = no_some (held_at old page) own dirty.absent
 not_all_dirty old new page held (inl (inr free, is)) dirty = omega (arith, free, dirty.full)
 not_all_dirty old new page held (inr it) dirty = false≢true (sym (ap is_some it.3.2) ∙ dirty.dirty it.0 it.3.0 it.3.1)
+
+-- only the chosen frame may hold the page
+pub own_of : (slots : List (Option Held)) (page f : ℕ) → AreApart slots → IsFrameFor slots page f → (k : ℕ) → page_at slots k ≡ Some page → k ≡ f
+own_of slots page f apart (inl own) k e = apart k f page e own
+own_of slots page f apart (inr (inl it)) k e = absurd (it.0 k e)
+own_of slots page f apart (inr (inr it)) k e = absurd (it.0 k e)
+
+-- the same, said of equal states
+pub on_states : (old old' : PoolState) (page : ℕ) (held : HeldPage) (new new' : PoolState) → old ≡ old' → new' ≡ new → SetsPage old page held new → SetsPage old' page held new'
+on_states old old' page held new new' eo en it = subst (λ (o : PoolState). SetsPage o page held new') eo (subst (λ (n : PoolState). SetsPage old page held n) (sym en) it)
+
+-- the bytes of a page that a frame holds
+pub content_is : (slots : List (Option Held)) (pages : List (List ℕ)) (f page : ℕ) → f < length slots → length pages ≡ length slots → AreApart slots → page_at slots f ≡ Some page
+    → option_map (λ (held : HeldPage). held.content) (held_at (shown slots pages) page) ≡ Some (get_or pages f [])
+content_is slots pages f page inside long apart own =
+    let w = holds slots f page own in
+    ap (option_map (λ (held : HeldPage). held.content))
+    (ap (λ (p : ℕ). held_at (shown slots pages) p) (sym w.number) ∙ held_is slots pages f w.held inside long apart w.is)

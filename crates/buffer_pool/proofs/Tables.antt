@@ -11,7 +11,7 @@ use Rattle.buffer_pool.specs.declared.held.Held.{Held}
 use Rattle.buffer_pool.specs.Linked.{IsNext, Placed}
 use Rattle.buffer_pool.specs.Slots.{AreApart, IsAbsent, is_dirty, page_of, page_at, slot_at}
 use Rattle.buffer_pool.specs.Table.{AreInBuckets, IsTable, bucket_of_page, bucket_of_slot}
-use Rattle.buffer_pool.proofs.Counts.{count-set}
+use Rattle.buffer_pool.proofs.Counts.{count-set, one}
 
 -- ---- nothing is held
 
@@ -25,9 +25,9 @@ none_dirty zero = refl
 none_dirty (suc n) = omega (arith, sum_by-cons (λ (x : Option Held). cond (is_dirty x) 1 0) None (replicate n None), none_dirty n)
 
 -- a table whose frames all stand behind the buckets of pages
-pub empty_table : (n mask : ℕ) (placed : Placed) → placed.frames ≡ n → length placed.bucket_of ≡ n + (mask + 1) + 1 → ((k : ℕ) → k < n → get_or placed.bucket_of k 0 ≡ mask + 1) → n < 2 ^ 32
+pub empty_table : (n mask : ℕ) (placed : Placed) → placed.frames ≡ n → length placed.bucket_of ≡ n + (mask + 1) + 1 → ((k : ℕ) → k < n → get_or placed.bucket_of k 0 ≡ mask + 1) → n < 2 ^ 32 → mask < 2 ^ 31
     → IsTable (replicate n None) placed mask 0
-empty_table n mask placed frames heads own small = record {
+empty_table n mask placed frames heads own small masked = record {
   apart = λ j k page held _. absurd (none_Some page (sym (ap page_of (empty_slot n j)) ∙ held));
   buckets = record {
     frames = frames ∙ sym long;
@@ -36,6 +36,7 @@ empty_table n mask placed frames heads own small = record {
   };
   dirty = sym (none_dirty n);
   small = omega (arith, small, long);
+  masked = masked;
 }
   where
     long : length {A = Option Held} (replicate n None) ≡ n
@@ -86,8 +87,8 @@ module _ (slots : List (Option Held)) (placed : Placed) (mask count : ℕ) (tabl
 
   pub some_dirty : is_dirty (slot_at slots f) ≡ true → 0 < count
   some_dirty was =
-      let one : cond (is_dirty (slot_at slots f)) 1 0 ≡ 1 = ap (λ (b : Bool). cond b 1 0) was in
-      omega (arith, count-set is_dirty slots f None inside, one, table.dirty)
+      let some : one (is_dirty (slot_at slots f)) ≡ one true = ap one was in
+      omega (arith, count-set is_dirty slots f None inside, some, table.dirty)
 
   pub table_after : (count' : ℕ) → count' + cond (is_dirty (slot_at slots f)) 1 0 ≡ count + cond (is_dirty (Some h)) 1 0
       → IsTable (set slots f (Some h)) (record placed { bucket_of = set placed.bucket_of f (bucket_of_page mask h.page) }) mask count'
@@ -109,4 +110,5 @@ module _ (slots : List (Option Held)) (placed : Placed) (mask count : ℕ) (tabl
     };
     dirty = omega (arith, counted, counts);
     small = omega (arith, table.small, as_long);
+    masked = table.masked;
   }

@@ -26,3 +26,4 @@ pub record IsTable (slots : List (Option Held)) (placed : Placed) (mask count : 
   pub buckets : AreInBuckets slots placed mask
   pub dirty : count ≡ count_by is_dirty slots
   pub small : length slots < 2 ^ 32
+  pub masked : mask < 2 ^ 31

@@ -1,6 +1,6 @@
 //! Which page stands in which frame.
 
-ghost use Rattle.std.specs.Prelude.{◌≡◌, ◌≢◌, ◌<◌, ◌≤◌, ◌+◌, ◌^◌, ℕ, true, None, Some, length, replicate, set, IfOk, IfSome, IfNone, if◌then◌else◌};
+ghost use Rattle.std.specs.Prelude.{◌≡◌, ◌≢◌, ◌<◌, ◌≤◌, ◌+◌, ◌^◌, ℕ, true, None, Some, count_by, length, replicate, set, IfOk, IfSome, IfNone, if◌then◌else◌};
 ghost use Rattle.buffer_pool.specs.Linked.{Placed};
 ghost use Rattle.buffer_pool.specs.Slots.{AreApart, IsAbsent, is_dirty, page_at, slot_at};
 ghost use Rattle.buffer_pool.specs.Table.{AreInBuckets, bucket_of_page};
@@ -70,7 +70,7 @@ impl PageTable {
         ensures small { length self.now < 2 ^ 32 }
     {
         // Reads a field, so that the table is opened.
-        let _ = self.mask;
+        let _ = &self.slots;
     }
 
     /// The frame that holds the page.
@@ -98,7 +98,15 @@ impl PageTable {
     pub fn is_all_dirty(&self) -> bool
         ensures { result ≡ true → (k : ℕ) → k < length self.now → is_dirty (slot_at self.now k) ≡ true }
     {
-        self.dirty as usize == self.slots.len()
+        are_all(self.dirty, self.slots.as_slice())
+    }
+
+    /// What the frame holds.
+    pub fn slot(&self, frame: u32) -> Option<Held>
+        requires { frame < length self.now }
+        ensures { result ≡ slot_at self.now frame }
+    {
+        self.slots[frame as usize]
     }
 
     /// The lowest dirty page from that number on. Looks at every frame.
@@ -115,7 +123,7 @@ impl PageTable {
         ensures { self.new ≡ set self.old frame (Some held) }
     {
         let at = frame as usize;
-        let was_dirty = is_dirty(&self.slots[at]);
+        let was_dirty = is_dirty(&self.slot(frame));
         self.dirty = recount(self.dirty, was_dirty, held.log.is_some());
         self.buckets.put(frame, bucket(held.page, self.mask));
         self.slots[at] = Some(held);
@@ -179,6 +187,14 @@ fn frame_of(buckets: &Buckets, slots: &[Option<Held>], mask: u32, page: u64) -> 
         next = buckets.next(frame);
     }
     None
+}
+
+/// Whether as many frames are dirty as there are.
+fn are_all(dirty: u32, slots: &[Option<Held>]) -> bool
+    requires { dirty ≡ count_by is_dirty slots.now }
+    ensures { result ≡ true → (k : ℕ) → k < length slots.now → is_dirty (slot_at slots.now k) ≡ true }
+{
+    dirty as usize == slots.len()
 }
 
 /// The number of dirty frames after a frame was given another page.

@@ -1,6 +1,6 @@
 //! The pool.
 
-ghost use Rattle.std.specs.Prelude.{◌≡◌, ◌↔◌, ◌<◌, ◌≤◌, ◌⊎◌, ℕ, None, Some, true, length, option_map, option_copied, replicate, slice_index_or, IfOk, IfSome, IfErr, OnOk, OnErr, IfNone, IsErr};
+ghost use Rattle.std.specs.Prelude.{◌≡◌, ◌<◌, ◌≤◌, ◌+◌, None, Some, IsTrue, length, option_map, option_copied, IfOk, IfSome, IfErr, OnOk, OnErr, IfNone};
 ghost use Rattle.std.specs.Option.{option_copied_mut};
 ghost use Rattle.std.specs.FinMap as map;
 ghost use Rattle.block_model.specs.Causes.{HasCause};
@@ -8,7 +8,9 @@ ghost use Rattle.buffer_pool.specs.PoolState.{held_at};
 ghost use Rattle.buffer_pool.specs.SetsPage.{IsAllDirty, SetsPage};
 ghost use Rattle.buffer_pool.specs.Frames.{HasNoFrame, IsFrameFor};
 ghost use Rattle.std.specs.Box.{boxed_slice_items};
-ghost use Rattle.buffer_pool.specs.WritesPage.{CleansOne, LieWithin};
+ghost use Rattle.block_model.specs.declared.limits.TheConstants.{PAGE_SIZE};
+ghost use Rattle.disk_trait.specs.Spliced.{spliced};
+ghost use Rattle.buffer_pool.specs.WritesPage.{CleansOne, LieWithin, WritesAt, place_of};
 ghost use Rattle.buffer_pool.specs.NextDirty.{IsNextDirty};
 
 use crate::clock::Clock;
@@ -110,6 +112,7 @@ impl Pool {
         ensures refused { OnErr result (IsAllDirty self.old page) }
         ensures accepted { OnOk result (IsAllDirty self.old page → ⊥) }
     {
+        self.table.known();
         let Some(frame) = frame_for(&self.table, &mut self.clock, page) else {
             return Err(AllDirty {
                 frames: self.table.slots().len() as u32,
@@ -134,21 +137,18 @@ impl Pool {
         ensures cleans { CleansOne self.old self.new at durable (D.told disk.old) (D.told disk.new) result }
         ensures cause { HasCause (D.told disk.old).faults (D.told disk.new).faults result }
     {
+        self.table.known();
         let wanted = Wanted::Cleanable { durable };
         let Some(frame) = self.clock.choose(self.table.slots(), wanted) else {
             return Ok(false);
         };
-        let Some(held) = self.table.slots()[frame as usize] else {
+        let Some(held) = self.table.slot(frame) else {
             unreachable!()
         };
         let bytes = self.pages[frame as usize].as_bytes();
-        disk.write(at + PAGE_SIZE as u64 * held.page, bytes)?;
-        self.table.known();
-        let clean = Held {
-            page: held.page,
-            log: None,
-        };
-        self.table.put(frame, clean);
+        write_page(disk, at, held.page, bytes)?;
+        let page = held.page;
+        self.table.put(frame, Held { page, log: None });
         Ok(true)
     }
 
@@ -157,8 +157,29 @@ impl Pool {
     pub fn next_dirty(&self, from: u64) -> Option<u64>
         ensures { IsNextDirty self.now from result }
     {
+        self.table.known();
         self.table.next_dirty(from)
     }
+}
+
+/// Writes the page to its place, which lies within the disk. After a fault that place holds any bytes.
+fn write_page<D: Disk>(disk: &mut D, at: u64, page: u64, bytes: &[u8]) -> Result<(), DiskFault>
+    requires within { place_of at page + PAGE_SIZE ≤ (D.told disk.old).size }
+    requires whole { length bytes.now ≡ PAGE_SIZE }
+    ensures written { OnOk result (IsTrue (D.told disk.old).tells_contents → (D.told disk.new).contents ≡ spliced (D.told disk.old).contents (place_of at page) bytes.now) }
+    ensures writes { WritesAt (place_of at page) (D.told disk.old) (D.told disk.new) }
+    ensures cause { HasCause (D.told disk.old).faults (D.told disk.new).faults result }
+{
+    let place = place_on(disk.size(), at, page);
+    disk.write(place, bytes)
+}
+
+/// The first byte of a page that lies within a disk of that size.
+fn place_on(size: u64, at: u64, page: u64) -> u64
+    requires { place_of at page + PAGE_SIZE ≤ size }
+    ensures { result ≡ place_of at page }
+{
+    at + PAGE_SIZE as u64 * page
 }
 
 /// The frame for the page: its own, or an empty one, or one whose page is clean and goes.
