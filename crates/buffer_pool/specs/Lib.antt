@@ -9,3 +9,4 @@ pub mod LowestDirty
 pub mod NextDirty
 pub mod SetLaws
 pub mod LendsPage
+pub mod CleanLaws

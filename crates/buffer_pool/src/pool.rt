@@ -82,6 +82,7 @@ impl Pool {
         let Some(frame) = self.table.frame_of(page) else {
             return None;
         };
+        self.table.known();
         self.clock.touch(frame);
         Some(&self.pages[frame as usize])
     }
