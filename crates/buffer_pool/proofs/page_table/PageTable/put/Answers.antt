@@ -9,7 +9,7 @@ use Rattle.buffer_pool.proofs.Tables.{counts_fit, some_dirty, table_after}
 use Rattle.buffer_pool.proofs.page_table.PageTable.put.Goals as goal
 
 pub recount-self-inside-requires-clause-some : goal.recount-self-inside-requires-clause-some
-recount-self-inside-requires-clause-some c was =
+recount-self-inside-requires-clause-some c = λ was.
     let slots = boxed_slice_items c.self.inside.slots in
     let view = c.self.view_is in
     let inside : c.args.frame < length slots = subst (λ (s : List (Option Held)). c.args.frame < length s) (sym view) c.requires.frame in

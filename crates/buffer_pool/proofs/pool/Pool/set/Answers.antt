@@ -25,7 +25,7 @@ returns-clause-set c =
     (sets table pages c.in-Some.frame c.args.page c.args.log c.args.content.now c.in-Some.ensures.within c.self.invariant.0 c.known.ensures.apart c.in-Some.ensures.found)
 
 pub returns-clause-accepted : goal.returns-clause-accepted
-returns-clause-accepted c dirty =
+returns-clause-accepted c = λ dirty.
     let table = c.self.inside.table in
     let pages = boxed_slice_items c.self.inside.pages in
     not_all_dirty (shown table pages) _ c.args.page _
