@@ -1,6 +1,7 @@
 -- what the choice of a dirty frame means for the map of pages
 use Rattle.std.proofs.Common.{◌≡◌, ◌≢◌, ℕ, ◌<◌, ◌≤◌, Bool, true, false, List, [], Option, Some, None, length, set, get_or, refl, sym, ◌∙◌, ap, subst, arith, inl, inr}
-use Rattle.std.specs.Prelude.{nat_le, IsTrue}
+use Rattle.std.specs.Prelude.{nat_le, IsTrue, Result, Err}
+use Rattle.disk_trait.specs.declared.disk.DiskFault.{DiskFault}
 use Rattle.std.proofs.lemmas.Bool.{false≢true, leb-true, leb-false}
 use Rattle.std.proofs.lemmas.List.{set-get_or}
 use Rattle.block_model.specs.NumberMaps.{same_Some, none_Some}
@@ -12,7 +13,7 @@ use Rattle.disk_trait.specs.Torn.{Torn}
 use Rattle.disk_trait.specs.Follows.{Follows}
 use Rattle.disk_trait.specs.GoesOn.{GoesOn}
 use Rattle.block_model.specs.declared.limits.TheConstants.{PAGE_SIZE}
-use Rattle.buffer_pool.specs.WritesPage.{IsCleanable, WritesAt}
+use Rattle.buffer_pool.specs.WritesPage.{CleansOne, Fails, IsCleanable, WritesAt}
 use Rattle.buffer_pool.specs.Slots.{AreApart, page_of, page_at, slot_at, suits, log_suits}
 use Rattle.buffer_pool.specs.Frames.{shown}
 use Rattle.buffer_pool.proofs.Entries.{entry}
@@ -54,3 +55,7 @@ writes_at place at n old new ea en others images moments = record {
   images = subst (λ (p : ℕ). Follows (Torn p PAGE_SIZE) old new) ea (subst (λ (m : ℕ). Follows (Torn at m) old new) en images);
   moments = moments;
 }
+
+-- what a fault answers
+pub fails : (old new : PoolState) (at durable : ℕ) (disk after : Told) (result : Result Bool DiskFault) (fault : DiskFault) → result ≡ Err fault → Fails old new at durable disk after → CleansOne old new at durable disk after result
+fails old new at durable disk after result fault is it = subst (λ (r : Result Bool DiskFault). CleansOne old new at durable disk after r) (sym is) it

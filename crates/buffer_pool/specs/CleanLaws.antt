@@ -15,8 +15,8 @@ lie_within_cleaned old new at durable size disk after (Ok true) it before q x go
     ⊎_elim (λ (own : (q ≡ it.page) × (record it.held { log = None } ≡ x)). subst (λ (p : ℕ). place_of at p + PAGE_SIZE ≤ size) (sym own.0) (before it.page it.held it.cleanable.held))
     (λ (other : (q ≡ it.page → ⊥) × (map.get old.pages q ≡ Some x)). before q x other.1)
     (found_after_put old.pages it.page q (record it.held { log = None }) x (ap (λ (p : PoolState). held_at p q) (sym it.clean) ∙ got))
-lie_within_cleaned old new at durable size disk after (Ok false) it before = subst (λ (p : PoolState). LieWithin p at size) (sym it.same) before
-lie_within_cleaned old new at durable size disk after (Err fault) it before = subst (λ (p : PoolState). LieWithin p at size) (sym it.same) before
+lie_within_cleaned old new at durable size disk after (Ok false) it before q x got = subst (λ (p : PoolState). LieWithin p at size) (sym it.same) before q x got
+lie_within_cleaned old new at durable size disk after (Err fault) it before q x got = subst (λ (p : PoolState). LieWithin p at size) (sym it.same) before q x got
 
 -- the disk has the size that it had
 pub same_size_cleaned : (old new : PoolState) (at durable : ℕ) (disk after : Told) (result : Result Bool DiskFault) → CleansOne old new at durable disk after result → after.size ≡ disk.size

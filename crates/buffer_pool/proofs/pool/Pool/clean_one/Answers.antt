@@ -1,6 +1,7 @@
 use Rattle.std.proofs.Common.{◌≡◌, ℕ, ◌<◌, true, List, [], Option, Some, None, length, get_or, refl, sym, ◌∙◌, ap, subst, arith}
 use Rattle.std.specs.Box.{boxed_slice_items}
 use Rattle.std.proofs.lemmas.List.{get_or_read}
+use Rattle.std.proofs.lemmas.Result.{err_from_is_err_and}
 use Rattle.disk_trait.specs.Spliced.{spliced}
 use Rattle.buffer_pool.specs.declared.held.Held.{Held}
 use Rattle.buffer_pool.specs.declared.held.Wanted.TheVariants as wanted
@@ -9,7 +10,7 @@ use Rattle.buffer_pool.specs.WritesPage.{IsCleanable, place_of}
 use Rattle.buffer_pool.specs.Slots.{page_of, slot_at, suits}
 use Rattle.buffer_pool.specs.Frames.{shown}
 use Rattle.buffer_pool.proofs.Entries.{entry}
-use Rattle.buffer_pool.proofs.Cleaning.{cleanable, cleaned, none_cleanable}
+use Rattle.buffer_pool.proofs.Cleaning.{cleanable, cleaned, fails, none_cleanable}
 use Rattle.buffer_pool.proofs.pool.Pool.clean_one.Goals as goal
 
 pub returns-in_default-clause-cleans : goal.returns-in_default-clause-cleans
@@ -45,14 +46,15 @@ returns-in_err-write_page-clause-cleans g c =
     let held = c.in-Some-slot.held in
     let inside : frame < length table = omega (arith, c.in-Some.ensures.found, c.self.invariant.1) in
     let suited : suits (wanted.Cleanable c.args.durable) (slot_at table frame) ≡ true = ap (λ (s : List (Option Held)). suits (wanted.Cleanable c.args.durable) (slot_at s frame)) (sym c.slots.ensures.slots) ∙ c.in-Some.ensures.suits in
-    record {
+    let p = err_from_is_err_and c.from_residual.result c.from_residual.ensures.1 in
+    fails _ _ _ _ _ _ c.from_residual.result p.0 p.1 (record {
       page = held.page;
       held = entry held (get_or pages frame []);
       cleanable = subst (λ (p : PoolState). IsCleanable p c.args.durable held.page (entry held (get_or pages frame []))) c.self.view_is
           (cleanable table pages frame c.args.durable held inside c.self.invariant.0 c.known.ensures.apart (sym c.in-Some-slot.ensures) suited);
       same = c.self.view_is;
       writes = c.in_err-write_page.ensures.writes;
-    }
+    })
 
 pub put-requires-clause-apart : goal.put-requires-clause-apart
 put-requires-clause-apart g c = λ k e. c.known.ensures.apart k c.in-Some.frame c.in-Some-slot.held.page e (ap page_of (sym c.in-Some-slot.ensures))
