@@ -1,20 +1,20 @@
 -- what the choice of a dirty frame means for the map of pages
-use Rattle.std.proofs.Common.{◌≡◌, ◌≢◌, ℕ, ◌<◌, ◌≤◌, Bool, true, false, List, [], Option, Some, None, length, set, get_or, refl, sym, ◌∙◌, ap, subst, arith, inl, inr}
-use Rattle.std.specs.Prelude.{nat_le, IsTrue, Result, Err}
+use Rattle.std.proofs.Common.{◌≡◌, ℕ, ◌<◌, ◌≤◌, Bool, true, false, List, [], Option, Some, None, length, set, get_or, refl, sym, ◌∙◌, ap, subst}
+use Rattle.std.specs.Prelude.{IsTrue, Result, Err}
 use Rattle.disk_trait.specs.declared.disk.DiskFault.{DiskFault}
 use Rattle.std.proofs.lemmas.Bool.{false≢true, leb-true, leb-false}
 use Rattle.std.proofs.lemmas.List.{set-get_or}
-use Rattle.block_model.specs.NumberMaps.{same_Some, none_Some}
+use Rattle.block_model.specs.NumberMaps.{same_Some}
 use Rattle.buffer_pool.specs.declared.held.Held.{Held}
 use Rattle.buffer_pool.specs.declared.held.Wanted.TheVariants as wanted
-use Rattle.buffer_pool.specs.PoolState.{HeldPage, PoolState, IsDirty, held_at, with_page}
+use Rattle.buffer_pool.specs.PoolState.{PoolState, IsDirty, with_page}
 use Rattle.disk_trait.specs.Told.{Told}
 use Rattle.disk_trait.specs.Torn.{Torn}
 use Rattle.disk_trait.specs.Follows.{Follows}
 use Rattle.disk_trait.specs.GoesOn.{GoesOn}
 use Rattle.block_model.specs.declared.limits.TheConstants.{PAGE_SIZE}
 use Rattle.buffer_pool.specs.WritesPage.{CleansOne, Fails, IsCleanable, WritesAt}
-use Rattle.buffer_pool.specs.Slots.{AreApart, page_of, page_at, slot_at, suits, log_suits}
+use Rattle.buffer_pool.specs.Slots.{AreApart, page_of, slot_at, suits, log_suits}
 use Rattle.buffer_pool.specs.Frames.{shown}
 use Rattle.buffer_pool.proofs.Entries.{entry}
 use Rattle.buffer_pool.proofs.Puts.{shown_own}

@@ -1,14 +1,14 @@
 -- the lowest dirty page, frame by frame
-use Rattle.std.proofs.Common.{◌≡◌, ◌≢◌, ℕ, zero, suc, ◌+◌, ◌<◌, ◌≤◌, Bool, true, false, cond, List, [], ◌∷◌, Option, Some, None, length, get_or, refl, sym, ◌∙◌, ap, arith, inl, inr}
+use Rattle.std.proofs.Common.{◌≡◌, ℕ, ◌+◌, ◌<◌, ◌≤◌, List, [], Option, Some, None, length, get_or, refl, sym, ◌∙◌, ap, arith, inl, inr}
 use Rattle.std.specs.Prelude.{min, nat_le}
-use Rattle.std.proofs.lemmas.Bool.{false≢true, cases_lt, cond-true, leb-true, le-leb}
+use Rattle.std.proofs.lemmas.Bool.{cases_lt, cond-true, leb-true, le-leb}
 use Rattle.std.proofs.lemmas.Option.{cond_some}
 use Rattle.block_model.specs.NumberMaps.{same_Some, none_Some}
 use Rattle.buffer_pool.specs.declared.held.Held.{Held}
-use Rattle.buffer_pool.specs.PoolState.{HeldPage, IsDirty, held_at}
+use Rattle.buffer_pool.specs.PoolState.{IsDirty, held_at}
 use Rattle.buffer_pool.specs.NextDirty.{IsNextDirty}
 use Rattle.buffer_pool.specs.LowestDirty.{IsLowestDirty, dirty_page, logged_page, lower}
-use Rattle.buffer_pool.specs.Slots.{AreApart, page_of, page_at, slot_at}
+use Rattle.buffer_pool.specs.Slots.{AreApart, page_of, slot_at}
 use Rattle.buffer_pool.specs.Frames.{shown}
 use Rattle.buffer_pool.proofs.Entries.{entry}
 use Rattle.buffer_pool.proofs.Sets.{held_is, is_inside, where_held}

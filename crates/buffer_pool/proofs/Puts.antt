@@ -1,13 +1,13 @@
 -- the map of pages after a frame was given one
-use Rattle.std.proofs.Common.{◌≡◌, ◌≢◌, ℕ, zero, suc, ◌<◌, List, [], ◌∷◌, replicate, Option, Some, None, length, set, get_or, refl, sym, ◌∙◌, ap, subst, arith, inl, inr, get_or-set_same, get_or-set_other, length-set}
+use Rattle.std.proofs.Common.{◌≡◌, ◌≢◌, ℕ, zero, suc, ◌<◌, List, [], ◌∷◌, replicate, Option, Some, None, length, set, refl, sym, ◌∙◌, ap, subst, arith, inl, inr, get_or-set_same, get_or-set_other, length-set}
 use Rattle.std.specs.Ordering.{nat_cmp}
 use Rattle.std.proofs.lemmas.List.{length-replicate}
 use Rattle.std.specs.FinMap.{FinMap, from_entries, empty, get, insert, remove, get-from_entries, same_map, nat_cmp-IsAntisymmetric}
 use Rattle.std.proofs.lemmas.Cmp.{nat_cmp_total}
 use Rattle.std.proofs.lemmas.Bool.{cases_eq}
-use Rattle.block_model.specs.NumberMaps.{get_put_here, get_put_apart, get_removed_here, get_removed_apart, numbers_apart, same_Some, none_Some}
+use Rattle.block_model.specs.NumberMaps.{get_put_here, get_put_apart, get_removed_here, get_removed_apart, numbers_apart, same_Some}
 use Rattle.buffer_pool.specs.declared.held.Held.{Held}
-use Rattle.buffer_pool.specs.PoolState.{HeldPage, PoolState, with_page, without_page}
+use Rattle.buffer_pool.specs.PoolState.{HeldPage, with_page, without_page}
 use Rattle.buffer_pool.specs.Slots.{AreApart, IsAbsent, page_of, page_at, slot_at}
 use Rattle.buffer_pool.specs.Frames.{entries_of, shown}
 use Rattle.buffer_pool.proofs.Entries.{entry, found, found_at, found_other, not_found}

@@ -1,14 +1,14 @@
 -- what the choice of a frame means for the map of pages
-use Rattle.std.proofs.Common.{◌≡◌, ◌≢◌, ℕ, zero, suc, ◌+◌, ◌<◌, ◌≤◌, Bool, true, false, List, [], ◌∷◌, Option, Some, None, length, set, get_or, refl, sym, ◌∙◌, ap, subst, arith, inl, inr, ⊎_elim}
-use Rattle.std.specs.Prelude.{is_some, option_map, IsSome}
-use Rattle.std.proofs.lemmas.Bool.{cases_eq, false≢true}
+use Rattle.std.proofs.Common.{◌≡◌, ℕ, zero, suc, ◌<◌, true, List, [], ◌∷◌, Option, Some, None, length, set, get_or, refl, sym, ◌∙◌, ap, subst, arith, inl, inr}
+use Rattle.std.specs.Prelude.{is_some, option_map}
+use Rattle.std.proofs.lemmas.Bool.{false≢true}
 use Rattle.block_model.specs.NumberMaps.{same_Some, none_Some}
 use Rattle.buffer_pool.specs.declared.held.Held.{Held}
 use Rattle.buffer_pool.specs.declared.held.Wanted.TheVariants as wanted
-use Rattle.buffer_pool.specs.PoolState.{HeldPage, PoolState, IsClean, IsFull, held_at, with_page, without_page}
-use Rattle.buffer_pool.specs.SetsPage.{HasPlace, IsAllDirty, SetsPage}
+use Rattle.buffer_pool.specs.PoolState.{HeldPage, PoolState, held_at}
+use Rattle.buffer_pool.specs.SetsPage.{IsAllDirty, SetsPage}
 use Rattle.buffer_pool.specs.Slots.{AreApart, IsAbsent, is_dirty, page_of, page_at, slot_at, suits, log_suits}
-use Rattle.buffer_pool.specs.Frames.{AreFilled, HasNoFrame, IsFrameFor, shown}
+use Rattle.buffer_pool.specs.Frames.{HasNoFrame, IsFrameFor, shown}
 use Rattle.buffer_pool.proofs.Entries.{entry, found_at, found_in, not_found, count_below, count_full, FoundIn}
 use Rattle.buffer_pool.proofs.Puts.{got, shown_own, shown_for}
 

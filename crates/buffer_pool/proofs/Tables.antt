@@ -1,16 +1,15 @@
 -- what holds of tables of pages
-use Rattle.std.proofs.Common.{◌≡◌, ◌≢◌, ℕ, zero, suc, ◌+◌, ◌-◌, ◌<◌, ◌≤◌, ◌^◌, Bool, true, false, cond, List, [], ◌∷◌, Option, Some, None, length, set, replicate, get_or, refl, sym, ◌∙◌, ap, subst, arith, inl, inr, get_or-set_same, get_or-set_other, length-set}
+use Rattle.std.proofs.Common.{◌≡◌, ◌≢◌, ℕ, zero, suc, ◌+◌, ◌<◌, ◌^◌, true, cond, List, Option, Some, None, length, set, replicate, get_or, refl, sym, ◌∙◌, ap, arith, inl, inr, get_or-set_same, get_or-set_other, length-set}
 use Rattle.std.proofs.lemmas.List.{length-replicate}
 use Rattle.std.specs.List.{count_by}
-use Rattle.std.specs.Int.Bits.{bit_and}
 use Rattle.std.proofs.lemmas.Nat.{and_le_r}
 use Rattle.std.proofs.lemmas.Bool.{cases_eq}
 use Rattle.std.proofs.lemmas.List.Sums.{count_by-le-length, sum_by-cons}
-use Rattle.block_model.specs.NumberMaps.{same_Some, none_Some}
+use Rattle.block_model.specs.NumberMaps.{none_Some}
 use Rattle.buffer_pool.specs.declared.held.Held.{Held}
-use Rattle.buffer_pool.specs.Linked.{IsNext, Placed}
-use Rattle.buffer_pool.specs.Slots.{AreApart, IsAbsent, is_dirty, page_of, page_at, slot_at}
-use Rattle.buffer_pool.specs.Table.{AreInBuckets, IsTable, bucket_of_page, bucket_of_slot}
+use Rattle.buffer_pool.specs.Linked.{Placed}
+use Rattle.buffer_pool.specs.Slots.{AreApart, is_dirty, page_of, page_at, slot_at}
+use Rattle.buffer_pool.specs.Table.{IsTable, bucket_of_page, bucket_of_slot}
 use Rattle.buffer_pool.proofs.Counts.{count-set, one}
 
 -- ---- nothing is held

@@ -1,12 +1,12 @@
 -- laws of a page that was cleaned
-use Rattle.std.specs.Prelude.{◌≡◌, ◌⊎◌, ℕ, ◌+◌, ◌≤◌, Some, None, Result, Ok, Err, Bool, true, false}
+use Rattle.std.specs.Prelude.{◌≡◌, ℕ, ◌+◌, ◌≤◌, Some, None, Result, Ok, Err, Bool, true, false}
 use Rattle.std.proofs.Common.{sym, ◌∙◌, ap, subst, ⊎_elim}
 use Rattle.std.specs.FinMap as map
 use Rattle.block_model.specs.declared.limits.TheConstants.{PAGE_SIZE}
 use Rattle.block_model.specs.NumberMaps.{found_after_put}
 use Rattle.disk_trait.specs.Told.{Told}
 use Rattle.disk_trait.specs.declared.disk.DiskFault.{DiskFault}
-use Rattle.buffer_pool.specs.PoolState.{HeldPage, PoolState, held_at}
+use Rattle.buffer_pool.specs.PoolState.{PoolState, held_at}
 use Rattle.buffer_pool.specs.WritesPage.{CleansOne, LieWithin, place_of}
 
 -- pages that lie within the disk still do

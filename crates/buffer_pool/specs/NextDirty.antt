@@ -1,5 +1,5 @@
 -- dirty pages in order of their places
-use Rattle.std.specs.Prelude.{◌≡◌, ℕ, ◌≤◌, ◌<◌, Option, Some, None}
+use Rattle.std.specs.Prelude.{ℕ, ◌≤◌, Option, Some, None}
 use Rattle.buffer_pool.specs.PoolState.{PoolState, IsDirty}
 
 -- the page is the lowest dirty one from that number on; where there is none, no page from it on is dirty

@@ -1,5 +1,5 @@
 -- what the frames of a pool hold
-use Rattle.std.specs.Prelude.{◌≡◌, ◌≢◌, ℕ, ◌<◌, Bool, true, false, List, Option, Some, None, length, nat_le, is_some, slice_index_or}
+use Rattle.std.specs.Prelude.{◌≡◌, ◌≢◌, ℕ, Bool, true, false, List, Option, Some, None, nat_le, is_some, slice_index_or}
 use Rattle.buffer_pool.specs.declared.held.Held.{Held}
 use Rattle.buffer_pool.specs.declared.held.Wanted.{Wanted}
 use Rattle.buffer_pool.specs.declared.held.Wanted.TheVariants as wanted

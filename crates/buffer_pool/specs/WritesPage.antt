@@ -1,5 +1,5 @@
 -- what `clean_one` does
-use Rattle.std.specs.Prelude.{◌≡◌, ◌≢◌, ℕ, ◌+◌, ◌*◌, ◌≤◌, ◌<◌, Option, Some, None, Result, Ok, Err, Bool, true, false, IsTrue}
+use Rattle.std.specs.Prelude.{◌≡◌, ℕ, ◌+◌, ◌*◌, ◌≤◌, ◌<◌, Some, None, Result, Ok, Err, Bool, true, false, IsTrue}
 use Rattle.block_model.specs.declared.limits.TheConstants.{PAGE_SIZE}
 use Rattle.disk_trait.specs.Told.{Told}
 use Rattle.disk_trait.specs.Spliced.{spliced}

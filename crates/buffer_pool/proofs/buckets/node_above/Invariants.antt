@@ -1,4 +1,4 @@
-use Rattle.std.proofs.Common.{◌≡◌, ℕ, ◌<◌, length, get_or}
+use Rattle.std.proofs.Common.{◌≡◌, ◌<◌, length, get_or}
 use Rattle.buffer_pool.proofs.buckets.node_above.Given as goal
 
 abbrev pub invariant-nodes : goal.invariant-nodes

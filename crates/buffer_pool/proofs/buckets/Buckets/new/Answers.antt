@@ -1,4 +1,4 @@
-use Rattle.std.proofs.Common.{◌≡◌, ℕ, List, [], ◌∷◌, ◌++◌, ◌∙◌, subst, arith}
+use Rattle.std.proofs.Common.{◌≡◌, ℕ, [], ◌∷◌, ◌++◌, ◌∙◌, subst, arith}
 use Rattle.buffer_pool.specs.Linked.{IsLinked}
 use Rattle.buffer_pool.proofs.Filled.{AreHeadsFilled, filled_linked, on_lists}
 use Rattle.buffer_pool.proofs.buckets.Buckets.new.Goals as goal

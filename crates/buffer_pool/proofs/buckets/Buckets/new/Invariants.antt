@@ -1,4 +1,3 @@
-use Rattle.std.proofs.Common.{◌≡◌, ℕ, ◌+◌, ◌<◌, length, get_or}
 use Rattle.buffer_pool.proofs.Filled.{AreFramesFilled, AreHeadsFilled}
 use Rattle.buffer_pool.proofs.buckets.Buckets.new.Given as goal
 

@@ -1,4 +1,4 @@
-use Rattle.std.proofs.Common.{◌≡◌, ◌<◌, List, Option, None, length, sym, ◌∙◌, ap, subst}
+use Rattle.std.proofs.Common.{◌<◌, List, Option, None, length, sym, ◌∙◌, ap, subst}
 use Rattle.std.specs.Box.{boxed_slice_items}
 use Rattle.std.proofs.lemmas.List.{get_or_read}
 use Rattle.buffer_pool.specs.declared.held.Held.{Held}

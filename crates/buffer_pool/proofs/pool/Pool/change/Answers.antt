@@ -1,4 +1,4 @@
-use Rattle.std.proofs.Common.{◌≡◌, ℕ, ◌≢◌, List, [], Option, Some, None, get_or, set, sym, ◌∙◌, ap, arith, inl, inr}
+use Rattle.std.proofs.Common.{◌≡◌, ℕ, List, [], Some, set, sym, ◌∙◌, ap, arith, inl, inr}
 use Rattle.std.specs.Prelude.{option_map}
 use Rattle.std.specs.Box.{boxed_slice_items}
 use Rattle.std.proofs.lemmas.List.{get_or_read}
@@ -32,7 +32,10 @@ returns c =
     (λ q other e. other (sym (same_Some page q (sym c.in-Some.ensures.found ∙ e))))
     ∙ ap (λ (p : PoolState). with_page p page (record { content = w; log = Some c.args.log })) c.self.view_is in (
       (λ i. inl (c.index_mut.result.ghost_name, λ w. lent w i)),
-      record { page = ap Some (get_or_read pages frame c.index_mut.result.now (omega (arith, c.in-Some.ensures.within, c.self.invariant.0)) c.index_mut.ensures.value [])
-        ∙ sym (content_is table pages frame page c.in-Some.ensures.within c.self.invariant.0 c.known.ensures.apart c.in-Some.ensures.found)
-        ∙ ap (λ (p : PoolState). option_map (λ (held : HeldPage). held.content) (held_at p page)) c.self.view_is; changes = tt },
+      record {
+        page = ap Some (get_or_read pages frame c.index_mut.result.now (omega (arith, c.in-Some.ensures.within, c.self.invariant.0)) c.index_mut.ensures.value [])
+            ∙ sym (content_is table pages frame page c.in-Some.ensures.within c.self.invariant.0 c.known.ensures.apart c.in-Some.ensures.found)
+            ∙ ap (λ (p : PoolState). option_map (λ (held : HeldPage). held.content) (held_at p page)) c.self.view_is;
+        changes = tt;
+      },
     )

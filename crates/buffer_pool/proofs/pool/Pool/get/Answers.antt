@@ -1,4 +1,4 @@
-use Rattle.std.proofs.Common.{◌≡◌, List, [], Option, Some, None, get_or, refl, sym, ◌∙◌, ap, arith}
+use Rattle.std.proofs.Common.{[], Some, refl, sym, ◌∙◌, ap, arith}
 use Rattle.std.specs.Prelude.{option_map}
 use Rattle.std.specs.Box.{boxed_slice_items}
 use Rattle.std.proofs.lemmas.List.{get_or_read}
@@ -19,6 +19,6 @@ returns c =
     let frame = c.in-Some.frame in
     let page = c.args.page in
     let is = ap Some (get_or_read pages frame c.index.result.now (omega (arith, c.in-Some.ensures.within, c.self.invariant.0)) c.index.ensures [])
-        ∙ sym (content_is table pages frame page c.in-Some.ensures.within c.self.invariant.0 c.known.ensures.apart c.in-Some.ensures.found)
-        ∙ ap (λ (p : PoolState). option_map (λ (held : HeldPage). held.content) (held_at p page)) c.self.view_is in
+    ∙ sym (content_is table pages frame page c.in-Some.ensures.within c.self.invariant.0 c.known.ensures.apart c.in-Some.ensures.found)
+    ∙ ap (λ (p : PoolState). option_map (λ (held : HeldPage). held.content) (held_at p page)) c.self.view_is in
     ((refl, λ _. tt, c.self.view_is), record { page = is; rests = tt })

@@ -1,6 +1,5 @@
-use Rattle.std.proofs.Common.{◌≡◌, List, Option, Some, set, sym, ◌∙◌, subst}
+use Rattle.std.proofs.Common.{set, sym, ◌∙◌, subst}
 use Rattle.std.specs.Box.{boxed_slice_items}
-use Rattle.buffer_pool.specs.declared.held.Held.{Held}
 use Rattle.buffer_pool.specs.PoolState.{PoolState}
 use Rattle.buffer_pool.specs.SetsPage.{IsAllDirty}
 use Rattle.buffer_pool.specs.Frames.{shown}
