@@ -23,7 +23,7 @@ fn first_byte(pool: &mut Pool, page: u64) -> Option<u8> {
 
 #[test]
 fn clean_pages_go_and_dirty_ones_stay(rt: HostRuntime) {
-    let mut pool = Pool::new(rt.alloc(), 2).unwrap();
+    let mut pool = Pool::new(rt.alloc(), 2).expect(&rt, "memory");
     assert!(rt; first_byte(&mut pool, 7) == None);
     assert!(rt; pool.set(7, &page_of(70), Some(3)) == Ok(()));
     assert!(rt; pool.set(1_000_007, &page_of(71), None) == Ok(()));
@@ -42,7 +42,7 @@ fn clean_pages_go_and_dirty_ones_stay(rt: HostRuntime) {
 
 #[test]
 fn dirty_pages_are_told_in_order(rt: HostRuntime) {
-    let mut pool = Pool::new(rt.alloc(), 3).unwrap();
+    let mut pool = Pool::new(rt.alloc(), 3).expect(&rt, "memory");
     assert!(rt; pool.next_dirty(0) == None);
     assert!(rt; pool.set(6, &page_of(1), Some(3)) == Ok(()));
     assert!(rt; pool.set(2, &page_of(2), Some(9)) == Ok(()));
@@ -83,8 +83,8 @@ fn clean(pool: &mut Pool, disk: &mut MemoryDisk, durable: u64) -> Result<bool, D
 
 #[test]
 fn dirty_pages_are_written_once_their_log_is_durable(rt: HostRuntime) {
-    let mut pool = Pool::new(rt.alloc(), 2).unwrap();
-    let mut disk = MemoryDisk::new(rt.alloc(), 32768).unwrap();
+    let mut pool = Pool::new(rt.alloc(), 2).expect(&rt, "memory");
+    let mut disk = MemoryDisk::new(rt.alloc(), 32768).expect(&rt, "memory");
     assert!(rt; set(&mut pool, 3, 33, 5));
     assert!(rt; set(&mut pool, 1, 11, 9));
     assert!(rt; clean(&mut pool, &mut disk, 4) == Ok(false));
