@@ -1,0 +1,153 @@
+#!/usr/bin/env python3
+"""Times hits of the pool of pages at 256 and 65536 frames: pool_hits.py. No part of the gate.
+
+Builds a small program over buffer_pool in a copy of the crates, with `rt run`, and runs it five times. Tells the best time
+of a hit at a page chosen at random, without a look at the page and with a look at its first byte, and of a page that is set
+in place of a clean one. The larger pool takes 512 MiB.
+"""
+import os
+import shutil
+import subprocess
+import sys
+import tempfile
+
+TOP = os.path.dirname(os.path.dirname(os.path.abspath(__file__)))
+HITS = 5_000_000
+NEEDED = "pool_bench: block_model page_layout buffer_pool\n"
+
+MAIN = """//! Times hits of a pool.
+#![tactic(auto)]
+
+use buffer_pool::Pool;
+use page_layout::Page;
+use std::alloc::Global;
+use std::io;
+use std::time::Instant;
+
+/// How many hits are made.
+const HITS: u32 = 5_000_000;
+
+/// The next number of a series that looks random.
+fn next(state: u64) -> u64 {
+    state.wrapping_mul(6364136223846793005).wrapping_add(1442695040888963407)
+}
+
+/// A pool whose frames hold the pages from 0 on, all of them clean.
+fn filled(alloc: Global, frames: u32) -> Option<Pool> {
+    let mut pool = Pool::new(alloc, frames).ok()?;
+    let content = Page::zeroed();
+    'pages: for page in 0..frames {
+        if pool.set(u64::from(page), &content, None).is_err() {
+            return None;
+        }
+    }
+    Some(pool)
+}
+
+/// How many of the pages were held.
+fn hits(pool: &mut Pool, mask: u64) -> u32 {
+    let mut state: u64 = 1;
+    let mut held: u32 = 0;
+    'hits: for _ in 0..HITS {
+        state = next(state);
+        if pool.get((state >> 33) & mask).is_some() {
+            held = held.wrapping_add(1);
+        }
+    }
+    held
+}
+
+/// Reads the first byte of each, and tells how many were 0.
+fn looks(pool: &mut Pool, mask: u64) -> u32 {
+    let mut state: u64 = 1;
+    let mut zeros: u32 = 0;
+    'looks: for _ in 0..HITS {
+        state = next(state);
+        if first_byte(pool, (state >> 33) & mask) == 0 {
+            zeros = zeros.wrapping_add(1);
+        }
+    }
+    zeros
+}
+
+fn first_byte(pool: &mut Pool, page: u64) -> u8 {
+    match pool.get(page) {
+        Some(found) => found.as_bytes()[0],
+        None => 1,
+    }
+}
+
+/// Sets as many other pages as there are frames, and tells how many were set.
+fn misses(pool: &mut Pool, frames: u32) -> u32 {
+    let content = Page::zeroed();
+    let mut count: u32 = 0;
+    'misses: for page in 0..frames {
+        if pool.set(u64::from(frames) + u64::from(page), &content, None).is_ok() {
+            count = count.wrapping_add(1);
+        }
+    }
+    count
+}
+
+fn measure(rt: &HostRuntime, alloc: Global, frames: u32, mask: u64) -> io::Result<()> {
+    let Some(mut pool) = filled(alloc, frames) else {
+        return Ok(());
+    };
+    let start = Instant::now(rt)?;
+    let held = hits(&mut pool, mask);
+    let hit = start.elapsed(rt)?;
+    let start = Instant::now(rt)?;
+    let zeros = looks(&mut pool, mask);
+    let look = start.elapsed(rt)?;
+    let start = Instant::now(rt)?;
+    let count = misses(&mut pool, frames);
+    let miss = start.elapsed(rt)?;
+    println!(*rt; "{} {} {} {} {} {} {}", frames, held, zeros, count, hit.as_nanos(), look.as_nanos(), miss.as_nanos())
+}
+
+fn main(rt: HostRuntime) -> io::Result<()> {
+    measure(&rt, rt.alloc(), 256, 255)?;
+    measure(&rt, rt.alloc(), 65536, 65535)
+}
+"""
+
+
+def put_files(folder):
+    """A copy of the crates, and the program over them."""
+    shutil.copytree(os.path.join(TOP, "crates"), os.path.join(folder, "crates"), ignore=shutil.ignore_patterns("out"))
+    shutil.copy(os.path.join(TOP, "HANDLES"), folder)
+    with open(os.path.join(TOP, "crates.txt")) as lines, open(os.path.join(folder, "crates.txt"), "w") as out:
+        out.write(lines.read() + NEEDED)
+    crate = os.path.join(folder, "crates", "pool_bench")
+    for name, text in {"src/main.rt": MAIN, "proofs/Lib.antt": ""}.items():
+        path = os.path.join(crate, name)
+        os.makedirs(os.path.dirname(path), exist_ok=True)
+        with open(path, "w") as file:
+            file.write(text)
+    return crate
+
+
+def run(program):
+    """For each number of frames, nanoseconds of a hit, of a look and of a miss."""
+    times = {}
+    for line in subprocess.run([program], capture_output=True, text=True, check=True).stdout.splitlines():
+        frames, held, zeros, count, hit, look, miss = map(int, line.split())
+        if (held, zeros, count) != (HITS, HITS, frames):
+            sys.exit(f"not every page was held and set: {line}")
+        times[frames] = (hit / HITS, look / HITS, miss / frames)
+    return times
+
+
+def main():
+    with tempfile.TemporaryDirectory() as folder:
+        crate = put_files(folder)
+        subprocess.run(["rt", "run"], cwd=crate, check=True, stdout=subprocess.DEVNULL)
+        program = os.path.join(crate, "out", "pool_bench")
+        runs = [run(program) for _ in range(5)]
+    for frames in runs[0]:
+        hit, look, miss = (min(times[frames][k] for times in runs) for k in range(3))
+        print(f"{frames} frames: a hit {hit:.1f} ns, with its first byte {look:.1f} ns, a page set in place of another {miss:.1f} ns")
+
+
+if __name__ == "__main__":
+    main()

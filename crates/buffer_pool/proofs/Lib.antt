@@ -1,0 +1,9 @@
+pub mod Links
+pub mod Filled
+pub mod Entries
+pub mod Puts
+pub mod Counts
+pub mod Tables
+pub mod Sets
+pub mod Cleaning
+pub mod DirtyPages

@@ -1,0 +1,12 @@
+pub mod PoolState
+pub mod SetsPage
+pub mod WritesPage
+pub mod Slots
+pub mod Linked
+pub mod Table
+pub mod Frames
+pub mod LowestDirty
+pub mod NextDirty
+pub mod SetLaws
+pub mod LendsPage
+pub mod CleanLaws
