@@ -29,4 +29,9 @@ pub mod FoundListed
 pub mod InIndexStep
 pub mod StatementsGoOn
 pub mod InsertsEndAlone
+pub mod StepDid
+pub mod Sums
+pub mod ScansEndAlone
+pub mod DesummariseEnds
+pub mod SweepsEnd
 pub mod AskRun

@@ -9,8 +9,9 @@ ghost use Rattle.std.specs.Prelude.{◌≡◌, ◌≢◌, ◌⊎◌, ◌↔◌, 
 ghost use Rattle.block_model.specs.declared.row.Row.{Row};
 ghost use Rattle.coverage.specs.IndexView.{TuplePlace, IndexTuple};
 ghost use Rattle.coverage.specs.Steps.{Excludes};
-ghost use Rattle.table_coverage.specs.Table.{Job, EachRange, OneRange, WholeRanges, TableScan, Task, Resting, Inserts, Maintains, Prunes, Sweeps, Restarts, Scans, Marks, TableState, index_view_at};
+ghost use Rattle.table_coverage.specs.Table.{Job, EachRange, OneRange, WholeRanges, Desummarising, TableScan, Task, Resting, Inserts, Maintains, Prunes, Sweeps, Restarts, Scans, Marks, TableState, index_view_at};
 ghost use Rattle.table_coverage.specs.GoingOn.{CanGoOn, IsScanHonest, IsInserting, StepsAlone};
+ghost use Rattle.table_coverage.specs.StepsLeft.{scan_steps, HasAtMostToMark, desummarise_steps, IsCleaning, cleaning_steps};
 ghost use Rattle.table_coverage.specs.TableSteps.{range_in, AsksFor, HasRange, OnlyTurns, JudgeStep, ReadsPage, IsBlocked, Does, HasStep, Onward, IsMaintained, TableStep, TableRun, IsFirstPlace, IsHeapFull};
 ghost use Rattle.coverage.specs.Changes.{IsFree};
 ghost use Rattle.table_coverage.specs.NextTasks.{AfterRange, AfterBlock, AfterPage};
@@ -134,6 +135,22 @@ pub fn statements_go_on()
     ensures inserts_end { (s n : ℕ) (w : TableState) → IsTableKept w → IsInserting (w.task s) → StepsAlone s n w → n ≤ 6 * w.indexes }
     ensures begun_insert_ends { (s n : ℕ) (w v : TableState) → TableStep s w v → IsTableKept w → IsInserting (v.task s) → StepsAlone s n v
         → suc n ≤ 1 + 6 * w.indexes }
+{}
+
+/// A statement whose session steps alone ends, or waits, within so many steps as the state tells. A scan takes two for each range that it
+/// hasn't judged, of each index, one more where it holds a place, and one for each block below its extent that it hasn't read; an explain
+/// reads no block, and a delete takes one more for each row that it has to mark. A desummarise takes three from where it reads the map,
+/// and one more where it came to a place that its tuple has left. A vacuum comes to its first index after at most one step for each block of
+/// the heap and one for each page of each index: every step there leaves fewer.
+pub fn statements_end()
+    ensures scans { (s n rows : ℕ) (w : TableState) (scan : TableScan) → IsTableKept w → w.task s ≡ Scans scan → HasAtMostToMark w scan rows
+        → StepsAlone s n w → n ≤ scan_steps w scan + rows }
+    ensures marks { (s n : ℕ) (w : TableState) (scan : TableScan) (ids : List RowId) → IsTableKept w → w.task s ≡ Marks scan ids → StepsAlone s n w
+        → n ≤ length ids }
+    ensures desummarises { (s n only at range : ℕ) (w : TableState) (phase : Phase) → IsTableKept w → w.task s ≡ Maintains (Desummarising only) at range phase
+        → StepsAlone s n w → n ≤ desummarise_steps phase }
+    ensures cleans { (s : ℕ) (w v : TableState) (step : TableStep s w v) (p : TablePoint) → IsTableKept w → does_point s w step.between step.does ≡ Some p
+        → IsCleaning (w.task s) → IsCleaning (v.task s) → cleaning_steps v (v.task s) < cleaning_steps w (w.task s) }
 {}
 
 /// What a machine promises over the pages and page locks that it sees, the table takes up: a step of it, whatever it doesn't see,

@@ -1,0 +1,61 @@
+-- How many steps a statement takes at most from where it is, while no other session steps.
+use Rattle.std.specs.Prelude.{◌≡◌, ℕ, zero, suc, ◌+◌, ◌-◌, ◌*◌, ◌/◌, ◌≤◌, Bool, true, false, Option, None, Some, List, length}
+use Rattle.block_model.specs.declared.row.RowId.{RowId}
+use Rattle.coverage.specs.IndexView.{TuplePlace}
+use Rattle.coverage.specs.Statements.{Empty, Held, Phase, NotBuilding}
+use Rattle.table_coverage.specs.RowOrder.{AreInOrder}
+use Rattle.table_coverage.specs.Table.{TableScan, Task, Prunes, Sweeps, TableState}
+use Rattle.table_coverage.specs.TableCovered.{AreToMark}
+
+-- the sum over the numbers below this one
+abbrev pub sum_below : ℕ → (ℕ → ℕ) → ℕ
+sum_below zero f = 0
+sum_below (suc n) f = sum_below n f + f n
+
+-- so many ranges of an index begin below an extent
+abbrev pub ranges_below : TableState → (extent at : ℕ) → ℕ
+ranges_below w extent at = (extent + (w.index at).pages_per_range - 1) / (w.index at).pages_per_range
+
+-- the ranges that a scan has still to judge, of all indexes
+abbrev pub unjudged_ranges : TableState → TableScan → ℕ
+unjudged_ranges w scan = sum_below w.indexes (ranges_below w scan.extent) - (sum_below scan.at (ranges_below w scan.extent) + scan.range)
+
+-- no tuple of the range may stand any more at a place that is held
+abbrev pub held_steps : Option TuplePlace → ℕ
+held_steps None = 0
+held_steps (Some x) = 1
+
+-- an explain reads no block
+abbrev pub unread_blocks : (explains : Bool) → (extent read : ℕ) → ℕ
+unread_blocks true extent read = 0
+unread_blocks false extent read = extent - read
+
+-- two for each range, one for each block
+abbrev pub scan_steps : TableState → TableScan → ℕ
+scan_steps w scan = held_steps scan.held + 2 * unjudged_ranges w scan + unread_blocks scan.explains scan.extent scan.read
+
+-- A delete has no more rows to mark than so many: each list of rows that match and that its session sees is as short. Any other scan has none.
+abbrev pub HasAtMostToMark : TableState → TableScan → (rows : ℕ) → Type 0
+HasAtMostToMark w scan rows = scan.explains ≡ false → scan.deletes ≡ true → (ids : List RowId) → AreInOrder ids → AreToMark w scan ids → length ids ≤ rows
+
+-- a desummarise reads the map, clears the entry and drops the tuple; or it reads the map once more before that
+abbrev pub desummarise_steps : Phase → ℕ
+desummarise_steps (NotBuilding Empty) = 3
+desummarise_steps (NotBuilding (Held x)) = 4
+desummarise_steps phase = 1
+
+-- a vacuum that prunes or sweeps, and isn't before its first index yet
+abbrev pub IsCleaning : Task → Type 0
+IsCleaning (Prunes extent next) = Unit
+IsCleaning (Sweeps at page) = Unit
+IsCleaning task = ⊥
+
+-- how many pages an index may have
+abbrev pub page_limit : TableState → (at : ℕ) → ℕ
+page_limit w at = (w.index at).pages.limit
+
+-- one for each block of the heap, and one for each page of each index
+abbrev pub cleaning_steps : TableState → Task → ℕ
+cleaning_steps w (Prunes extent next) = (extent - next) + sum_below w.indexes (page_limit w)
+cleaning_steps w (Sweeps at page) = (sum_below w.indexes (page_limit w) - sum_below (suc at) (page_limit w)) + (page_limit w at - page)
+cleaning_steps w task = 0
