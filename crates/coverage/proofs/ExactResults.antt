@@ -88,8 +88,8 @@ exact_after s range w v _ _ (SwapFinal p x old new verdict swap) is = tt
 exact_after s range w v _ _ (SetFinal p x y old new sets same) is = tt
 exact_after s range w v _ _ (DropOld x drops) is = tt
 
-not_counted : 0 ≡ 1 → ⊥
-not_counted is = omega arith
+not_counted : (count : ℕ) → count ≡ 0 → count ≡ 1 → ⊥
+not_counted count none one = omega arith
 
 module _ (s range : ℕ) (w v : IndexState) (kept : IsIndexKept w) where
   abbrev view : IndexView
@@ -143,16 +143,16 @@ module _ (s range : ℕ) (w v : IndexState) (kept : IsIndexKept w) where
       → IsExact view range old → summarise_count step ≡ 1 → NamesExactFinal view (index_view v) range
   exact_final _ _ (SwapFinal p x old new verdict swap) was is one = swap_final p x old new was swap is
   exact_final _ _ (SetFinal p x y old new sets same) was is one = set_final p x y old new was sets is
-  exact_final _ _ (LookMap x named reads) was is one = absurd (not_counted one)
-  exact_final _ _ (LookGone x gone reads) was is one = absurd (not_counted one)
-  exact_final _ _ (IsFinal x t stands final reads) was is one = absurd (not_counted one)
-  exact_final _ _ (Found x t stands flag reads) was is one = absurd (not_counted one)
-  exact_final _ _ (ReadNoEntry none of reads) was is one = absurd (not_counted one)
-  exact_final _ _ (GrowMap old new step) was is one = absurd (not_counted one)
-  exact_final _ _ (Put x t made long verdict puts these) was is one = absurd (not_counted one)
-  exact_final _ _ (Set x sets none) was is one = absurd (not_counted one)
-  exact_final _ _ (Extent extent result start read reads) was is one = absurd (not_counted one)
-  exact_final _ _ (Pass extent next slots result wider below none made reads) was is one = absurd (not_counted one)
-  exact_final _ _ (Unite extent next result old new all step) was is one = absurd (not_counted one)
-  exact_final _ _ (UniteCopies extent next result x old new all stands united reads) was is one = absurd (not_counted one)
-  exact_final _ _ (DropOld x drops) was is one = absurd (not_counted one)
+  exact_final _ _ (LookMap x named reads) was is one = absurd (not_counted 0 refl one)
+  exact_final _ _ (LookGone x gone reads) was is one = absurd (not_counted 0 refl one)
+  exact_final _ _ (IsFinal x t stands final reads) was is one = absurd (not_counted 0 refl one)
+  exact_final _ _ (Found x t stands flag reads) was is one = absurd (not_counted 0 refl one)
+  exact_final _ _ (ReadNoEntry none of reads) was is one = absurd (not_counted 0 refl one)
+  exact_final _ _ (GrowMap old new step) was is one = absurd (not_counted 0 refl one)
+  exact_final _ _ (Put x t made long verdict puts these) was is one = absurd (not_counted 0 refl one)
+  exact_final _ _ (Set x sets none) was is one = absurd (not_counted 0 refl one)
+  exact_final _ _ (Extent extent result start read reads) was is one = absurd (not_counted 0 refl one)
+  exact_final _ _ (Pass extent next slots result wider below none made reads) was is one = absurd (not_counted 0 refl one)
+  exact_final _ _ (Unite extent next result old new all step) was is one = absurd (not_counted 0 refl one)
+  exact_final _ _ (UniteCopies extent next result x old new all stands united reads) was is one = absurd (not_counted 0 refl one)
+  exact_final _ _ (DropOld x drops) was is one = absurd (not_counted 0 refl one)

@@ -10,7 +10,6 @@ use Rattle.coverage.proofs.InsertsEnd.{insert_bound, begun_bound}
 use Rattle.table_coverage.specs.Table.{Index, Task, Resting, Reaches, Asks, Inserts, Considers, Maintains, Prunes, SweepsFrom, Sweeps, Restarts, Scans, Marks}
 use Rattle.table_coverage.specs.Table.{TableState, seen_by, index_view_at}
 use Rattle.table_coverage.specs.TableSteps.{OnlyTurns, Onward, Stays, ToAsk, ToIndex, Inserted, IsMaintained, Settles, GoesOn, GivesLock, TableStep}
-use Rattle.table_coverage.specs.TablePoints.{TablePoint, does_point}
 use Rattle.table_coverage.specs.GoingOn.{IsInserting, StepsAlone, LastAlone, OneMoreAlone}
 use Rattle.table_coverage.specs.TableCovered.{IsInTable, IsTableKept}
 use Rattle.table_coverage.proofs.TableSettled.{does_layout, settles_layout}
@@ -35,7 +34,7 @@ module _ (u : TableState) (b k : ℕ) (r : Row) (at : ℕ) where
   reach_unmaintained done = elim done [ ]
 
 -- where nothing but tasks may have changed, and those haven't, an index shows the same
-same_view : (at : ℕ) (u v : TableState) → OnlyTurns u v → ((n : ℕ) → v.task n ≡ u.task n) → index_view_at at v ≡ index_view_at at u
+pub same_view : (at : ℕ) (u v : TableState) → OnlyTurns u v → ((n : ℕ) → v.task n ≡ u.task n) → index_view_at at v ≡ index_view_at at u
 same_view at u v only tasks = λ j. record {
   contents = ap (λ (x : Index). x.contents) (only.indexes.index at) j;
   pages_per_range = ap (λ (x : Index). x.pages_per_range) (only.indexes.index at) j;

@@ -34,4 +34,7 @@ pub mod Sums
 pub mod ScansEndAlone
 pub mod DesummariseEnds
 pub mod SweepsEnd
+pub mod PlacesCounted
+pub mod SummariseLeft
+pub mod SummariseEnds
 pub mod AskRun

@@ -42,7 +42,7 @@ same_table w v only = λ j. record {
 
 -- a range that begins below the extent is one of them, and no other is
 module _ (per extent range : ℕ) (ranged : 0 < per) where
-  one_of_ranges : range * per < extent → range < (extent + per - 1) / per
+  pub one_of_ranges : range * per < extent → range < (extent + per - 1) / per
   one_of_ranges low = le-div (suc range) (extent + per - 1) per ranged (subst (λ n. n ≤ extent + per - 1) (sym (suc-mul range per)) (fits (range * per) low))
     where
       fits : (n : ℕ) → n < extent → n + per ≤ extent + per - 1

@@ -1,6 +1,7 @@
 -- What a step that has a point did to the statement of its session, by what the statement was at; and where the statement came by it.
 use Rattle.std.proofs.Common.{◌≡◌, ◌⊎◌, inl, inr, ℕ, ◌+◌, ◌<◌, Bool, Some, List, ◌∷◌, sym, ◌∙◌, subst, suc}
 use Rattle.std.proofs.lemmas.Option.{none-some}
+use Rattle.block_model.specs.declared.reply.Point.{Point}
 use Rattle.block_model.specs.declared.row.Row.{Row}
 use Rattle.block_model.specs.declared.row.RowId.{RowId}
 use Rattle.coverage.specs.Statements.{OnIndex, Empty, Phase, Idle, Inserting, Maintaining, Holding}
@@ -11,7 +12,7 @@ use Rattle.table_coverage.specs.TableSteps.{first_block, OnlyTurns, StepsIn, Tas
 use Rattle.table_coverage.specs.TableSteps.{AsksSummary, InsertGoes, InsertCompletes, RefusesInsert, TakesLock, MaintainGoes, MaintainCompletes}
 use Rattle.table_coverage.specs.TableSteps.{RefusesMaintain, RefusesVacuum, PrunesBlock, SweepsPage, RestartsIndex, BeginsScan, Judges, ReadsBlock, RefusesScan}
 use Rattle.table_coverage.specs.TableSteps.{MarksRow, Conflicts, Blocked, Transacts, Onward, IsMaintained, Settles, GoesOn, GivesLock}
-use Rattle.table_coverage.specs.TablePoints.{TablePoint, does_point}
+use Rattle.table_coverage.specs.TablePoints.{does_point}
 
 pub data Did (s : ℕ) (w u : TableState) : Task → Task → Type 0 where
   DidBegin : (new : Task) → Did s w u Resting new
@@ -36,7 +37,7 @@ pub data Did (s : ℕ) (w u : TableState) : Task → Task → Type 0 where
       → Did s w u (Scans scan) (Scans (record scan { read = next + 1; found = found }))
   DidMark : (scan : TableScan) (id : RowId) (rest : List RowId) → OnlyTurns w u → Did s w u (Marks scan (id ∷ rest)) (Marks scan rest)
 
-module _ (s : ℕ) (w u : TableState) (p : TablePoint) where
+module _ (s : ℕ) (w u : TableState) (p : Point) where
   did : (old new : Task) → TaskTurns s w u old new → Did s w u old new → Did s w u (w.task s) (u.task s)
   did old new turns it = subst (λ t. Did s w u t (u.task s)) (sym turns.was) (subst (Did s w u old) (sym turns.now) it)
 

@@ -1,10 +1,11 @@
 -- Each step of a vacuum that prunes or sweeps leaves it fewer steps to go.
 use Rattle.std.proofs.Common.{◌≡◌, ◌⊎◌, inl, inr, ⊎_elim, ℕ, ◌+◌, ◌-◌, ◌≤◌, ◌<◌, Some, sym, ◌∙◌, ap, subst, arith, zero, suc}
 use Rattle.std.specs.Prelude.{refl}
+use Rattle.block_model.specs.declared.reply.Point.{Point}
 use Rattle.coverage.specs.IndexView.{PageKind, Unstarted, Mapping, Regular, Emptying}
 use Rattle.table_coverage.specs.Table.{Index, Task, Resting, Prunes, SweepsFrom, Sweeps, Restarts, TableState}
 use Rattle.table_coverage.specs.TableSteps.{OnlyTurns, StepsIn, HasTuples, IsFrom, Onward, Stays, Pruned, ToPage, Swept, IsMaintained, TableStep}
-use Rattle.table_coverage.specs.TablePoints.{TablePoint, does_point}
+use Rattle.table_coverage.specs.TablePoints.{does_point}
 use Rattle.table_coverage.specs.StepsLeft.{sum_below, IsCleaning, page_limit, cleaning_steps}
 use Rattle.table_coverage.specs.TableCovered.{IsTableKept}
 use Rattle.table_coverage.proofs.Sums.{sum_same, sum_grows}
@@ -152,6 +153,6 @@ module _ (s : ℕ) (w v : TableState) (step : TableStep s w v) (kept : IsTableKe
   step_fewer _ _ (DidRead scan next found reads only) now was cleaning = absurd was
   step_fewer _ _ (DidMark scan id rest only) now was cleaning = absurd was
 
-  pub cleaning_fewer : (p : TablePoint) → does_point s w u step.does ≡ Some p → IsCleaning (w.task s) → IsCleaning (v.task s)
+  pub cleaning_fewer : (p : Point) → does_point s w u step.does ≡ Some p → IsCleaning (w.task s) → IsCleaning (v.task s)
       → cleaning_steps v (v.task s) < cleaning_steps w (w.task s)
   cleaning_fewer p point was cleaning = step_fewer (w.task s) (u.task s) (step_did s w u p step.does point) refl was cleaning

@@ -1,10 +1,10 @@
 -- How many steps a statement takes at most from where it is, while no other session steps.
-use Rattle.std.specs.Prelude.{◌≡◌, ℕ, zero, suc, ◌+◌, ◌-◌, ◌*◌, ◌/◌, ◌≤◌, Bool, true, false, Option, None, Some, List, length}
+use Rattle.std.specs.Prelude.{◌≡◌, ◌≢◌, ◌⊎◌, ℕ, zero, suc, ◌+◌, ◌-◌, ◌*◌, ◌/◌, ◌≤◌, Bool, true, false, Option, None, Some, List, [], ◌∷◌, length}
 use Rattle.block_model.specs.declared.row.RowId.{RowId}
-use Rattle.coverage.specs.IndexView.{TuplePlace}
-use Rattle.coverage.specs.Statements.{Empty, Held, Phase, NotBuilding}
+use Rattle.coverage.specs.IndexView.{TuplePlace, Passing}
+use Rattle.coverage.specs.Statements.{Empty, Held, Phase, NotBuilding, IsAt}
 use Rattle.table_coverage.specs.RowOrder.{AreInOrder}
-use Rattle.table_coverage.specs.Table.{TableScan, Task, Prunes, Sweeps, TableState}
+use Rattle.table_coverage.specs.Table.{Job, EachRange, OneRange, TableScan, Task, Prunes, Sweeps, TableState}
 use Rattle.table_coverage.specs.TableCovered.{AreToMark}
 
 -- the sum over the numbers below this one
@@ -59,3 +59,42 @@ abbrev pub cleaning_steps : TableState → Task → ℕ
 cleaning_steps w (Prunes extent next) = (extent - next) + sum_below w.indexes (page_limit w)
 cleaning_steps w (Sweeps at page) = (sum_below w.indexes (page_limit w) - sum_below (suc at) (page_limit w)) + (page_limit w at - page)
 cleaning_steps w task = 0
+
+abbrev pub IsIn : List TuplePlace → TuplePlace → Type 0
+IsIn [] x = ⊥
+IsIn (y ∷ more) x = (x ≡ y) ⊎ IsIn more x
+
+abbrev pub AreApart : List TuplePlace → Type 0
+AreApart [] = Unit
+AreApart (x ∷ more) = (IsIn more x → ⊥) × AreApart more
+
+-- no more than so many places are so: each list of such places, apart from each other, is as short
+abbrev pub AreAtMost : (TuplePlace → Type 0) → (count : ℕ) → Type 0
+AreAtMost Is count = (xs : List TuplePlace) → AreApart xs → ((x : TuplePlace) → IsIn xs x → Is x) → length xs ≤ count
+
+-- no more than so many tuples stand in an index
+abbrev pub HasAtMostTuples : TableState → (at tuples : ℕ) → Type 0
+HasAtMostTuples w at tuples = AreAtMost (λ x. (w.index at).tuple x ≢ None) tuples
+
+-- a summarise, of the table or of one range, also where work took it from the queue
+abbrev pub IsSummarise : Job → Type 0
+IsSummarise (EachRange extent) = Unit
+IsSummarise (OneRange extent only) = Unit
+IsSummarise job = ⊥
+
+-- the ranges that it goes over behind this one
+abbrev pub later_ranges : TableState → Job → (at range : ℕ) → ℕ
+later_ranges w (EachRange extent) at range = ranges_below w extent at - suc range
+later_ranges w job at range = 0
+
+-- what it takes at most for its range, but for growth of the map: one for each block, and ten
+abbrev pub range_steps : (per : ℕ) → Phase → ℕ
+range_steps per (IsAt (Passing extent next result) on_index) = (extent - next) + 6
+range_steps per phase = per + 10
+
+-- The same for each range behind it, and for each page by which the map may grow three steps a tuple, of those that there are and of one for
+-- each range, and three more.
+abbrev pub summarise_steps : TableState → Job → (at range : ℕ) → Phase → (tuples : ℕ) → ℕ
+summarise_steps w job at range phase tuples = range_steps (w.index at).pages_per_range phase
+    + ((w.index at).pages.limit - (w.index at).pages.map_pages) * (3 * (tuples + suc (later_ranges w job at range)) + 3)
+    + later_ranges w job at range * ((w.index at).pages_per_range + 9)
