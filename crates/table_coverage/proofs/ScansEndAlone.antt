@@ -1,6 +1,7 @@
 -- A scan whose session steps alone ends within two steps a range and one a block, and a delete with one more for each row that it marks.
-use Rattle.std.proofs.Common.{◌≡◌, ◌⊎◌, inl, inr, ⊎_elim, ℕ, ◌+◌, ◌-◌, ◌*◌, ◌/◌, ◌≤◌, ◌<◌, Option, Some, None, Bool, true, false, List, [], ◌∷◌, length, sym, ◌∙◌, ap, subst, arith, zero, suc, le-div, div-lt_iff_lt-mul, suc-mul}
+use Rattle.std.proofs.Common.{◌≡◌, ◌⊎◌, inl, inr, ⊎_elim, ℕ, ◌+◌, ◌-◌, ◌*◌, ◌/◌, ◌≤◌, ◌<◌, Option, Some, None, Bool, true, false, List, [], ◌∷◌, length, sym, ◌∙◌, ap, subst, arith, suc, div-lt_iff_lt-mul, suc-mul}
 use Rattle.std.specs.Prelude.{refl, IsTrue, ◌↔◌}
+use Rattle.std.proofs.lemmas.Nat.{le-div}
 use Rattle.std.proofs.lemmas.Option.{same_Some, none-some}
 use Rattle.block_model.specs.declared.row.Row.{Row}
 use Rattle.block_model.specs.declared.row.RowId.{RowId}
@@ -135,7 +136,7 @@ module _ (rows n : ℕ) (w : TableState) (old new : TableScan) (inside : old.at 
   judge_within (JudgeMap x empty names) left = (
     (λ _ holds. absurd (none-some _ (sym empty ∙ holds.2))),
     subst (λ h. steps_held (held_steps h) (suc n)) (sym empty)
-        (read_map all before old.range (unread old) rows n one_more (left.0 inside (x, (named old.range x names).0, refl, (named old.range x names).1, (named old.range x names).2))),
+        (read_map all before old.range (unread old) rows n one_more (left.0 inside (x, (named old.range x names).0, refl, ((named old.range x names).1, (named old.range x names).2)))),
   )
   judge_within (JudgeNoEntry empty none) left = (
     (λ _ holds. absurd (none-some _ (sym empty ∙ holds.2))),
@@ -164,14 +165,11 @@ module _ (rows n : ℕ) (z w : TableState) (scan : TableScan) (next : ℕ) (foun
   read_within : Within rows n z (Scans (record scan { read = next + 1; found = found })) → Within rows (suc n) z (Scans scan)
   read_within left = (
     (λ inside holds. absurd (crosses scan.at z.indexes inside all)),
-    subst (λ e. suc n ≤ rest + unread_blocks e scan.extent scan.read + rows) (sym reads.reads)
-        (fewer rest scan.extent scan.read rows reads.unread below
-        (subst (λ e. n ≤ rest + unread_blocks e scan.extent (next + 1) + rows) reads.reads left.1)),
+    subst (λ e. suc n ≤ held_steps scan.held + 2 * unjudged_ranges z scan + unread_blocks e scan.extent scan.read + rows) (sym reads.reads)
+        (fewer (held_steps scan.held + 2 * unjudged_ranges z scan) scan.extent scan.read rows reads.unread below
+        (subst (λ e. n ≤ held_steps scan.held + 2 * unjudged_ranges z scan + unread_blocks e scan.extent (next + 1) + rows) reads.reads left.1)),
   )
     where
-      rest : ℕ
-      rest = held_steps scan.held + 2 * unjudged_ranges z scan
-
       crosses : (a b : ℕ) → a < b → a ≡ b → ⊥
       crosses a b less is = omega arith
 

@@ -215,6 +215,23 @@ module _ (s range per most later tail : ℕ) (w v : IndexView) where
       same : (a b : ℕ) → suc a ≡ suc b → a ≡ b
       same a b is = omega arith
 
+abbrev IsOfEmptying : PageKind → Type 0
+IsOfEmptying Emptying = Unit
+IsOfEmptying kind = ⊥
+
+-- what is left where the next page is being emptied
+record EmptyLeft (w : IndexView) (range per most later tail n : ℕ) : Type 0 where
+  pub g : ℕ
+  pub tuples : ℕ
+  pub on : ℕ
+  pub page : ℕ
+  pub base : Base w per most later g tuples false true
+  pub emptying : EmptyingPage w range page most on (λ z. Unit)
+  pub enough : (per + 8) + (3 * on + 2) + (g - 1) * (3 * most + 3) + tail ≤ n
+
+no_growing : (w : IndexView) (range per own : ℕ) (moving unput : Bool) → Own w range per Growing own moving unput → ⊥
+no_growing w range per own moving unput is = elim is [ ]
+
 -- one step of the map's growth
 module _ (s range per most later tail n : ℕ) (w v : IndexView) where
   abbrev c : ℕ
@@ -222,10 +239,6 @@ module _ (s range per most later tail n : ℕ) (w v : IndexView) where
 
   not_both : (p : ℕ) (Is : PageKind → Type 0) (a b : PageKind) → w.pages.kind p ≡ a → w.pages.kind p ≡ b → Is a → (Is b → ⊥) → ⊥
   not_both p Is a b one two is other = other (subst Is (sym one ∙ two) is)
-
-  abbrev IsOfEmptying : PageKind → Type 0
-  IsOfEmptying Emptying = Unit
-  IsOfEmptying kind = ⊥
 
   -- where the next page is being emptied already
   begun : (g tuples : ℕ) → Base w per most later g tuples false true → Grows w range Emptying
@@ -241,20 +254,10 @@ module _ (s range per most later tail n : ℕ) (w v : IndexView) where
       few : suc tuples + later ≤ most → tuples ≤ most
       few le = omega arith
 
-  -- all that is known of a page that is being emptied
-  record EmptyLeft : Type 0 where
-    pub g : ℕ
-    pub tuples : ℕ
-    pub on : ℕ
-    pub page : ℕ
-    pub base : Base w per most later g tuples false true
-    pub emptying : EmptyingPage w range page most on (λ z. Unit)
-    pub enough : (per + 8) + (3 * on + 2) + (g - 1) * c + tail ≤ n
-
   room_for : (tuples : ℕ) → suc tuples + later ≤ most → (per + 8) + (3 * tuples + 2) < (per + 8) + c
   room_for tuples le = omega arith
 
-  empties : Left w range per most later tail n Vacant → Grows w range Emptying → EmptyLeft
+  empties : Left w range per most later tail n Vacant → Grows w range Emptying → EmptyLeft w range per most later tail n
   empties (Works _ _ g tuples _ _ OwnVacant base enough) grows = record {
     g = g;
     tuples = tuples;
@@ -327,6 +330,7 @@ module _ (s range per most later tail n : ℕ) (w v : IndexView) where
     where
       next : (per : ℕ) → per + 8 < per + 9
       next per = omega arith
+  growth_left _ _ (Count counts) (Works _ own _ _ moving unput is base enough) = absurd (no_growing w range per own moving unput is)
   growth_left _ _ (Flag grows free turns) left =
       let known = works_vacant Regular (λ is. is) grows left in
       let all = one_page known.0 c (pages_some w.pages.limit w.pages.map_pages known.0 grows.below known.2.pages) in
@@ -345,7 +349,7 @@ module _ (s range per most later tail n : ℕ) (w v : IndexView) where
   growth_left _ _ (EvacuatePut x y t grows next names free verdict puts these) left =
       let known = empties left grows in
       let taken : IsTaken w x = (λ none. none-some _ (sym none ∙ next.stands)) in
-      let apart = emptying_target known.page known.emptying in
+      let apart = emptying_target known.page known.on known.emptying in
       let on = one_less (λ z. (z.block ≡ known.page) × IsTaken w z × Unit) (λ z. (z.block ≡ known.page) × IsTaken v z × (z ≢ x)) x known.on
               (next.on ∙ known.emptying.is, taken, tt) (λ z is. ((is.0, was_taken known.page apart z is.0 is.1, tt), is.2)) known.emptying.tuples_are in
       let step = lower tail n ((per + 8) + (3 * known.on + 2)) ((per + 8) + (3 * on.0 + 4)) ((known.g - 1) * c) (one_put on.0 known.on on.1) known.enough in (
@@ -366,8 +370,8 @@ module _ (s range per most later tail n : ℕ) (w v : IndexView) where
       still : (a b : ℕ) → b ≡ suc a → b ≤ most → a ≤ most
       still a b is le = omega arith
 
-      emptying_target : (page : ℕ) → EmptyingPage w range page most _ (λ z. Unit) → y.block ≢ page
-      emptying_target page emptying here = ⊎_elim
+      emptying_target : (page on : ℕ) → EmptyingPage w range page most on (λ z. Unit) → y.block ≢ page
+      emptying_target page on emptying here = ⊎_elim
           (λ (started : (w.pages.map_pages < y.block) × (w.pages.kind y.block ≡ Regular) × (length t.bytes ≤ w.pages.room y.block)).
           not_both page IsOfEmptying Emptying Regular emptying.kind (ap w.pages.kind (sym here) ∙ started.1) tt (λ is. is))
           (λ (new : (w.pages.kind y.block ≡ Unstarted) × (y.block < w.pages.limit)).
@@ -543,11 +547,8 @@ module _ (s range per most later tail n : ℕ) (w v : IndexView) (named : AreNam
   step_left _ _ (LookGone x gone reads) (Works _ _ g tuples _ _ (OwnTupleGone _) base enough) =
       go (per + 10) (per + 9) g tuples false true (NotBuilding Empty) (less_per 9 10 (omega arith)) enough OwnMap (on_base g tuples false true reads base)
   step_left _ _ (IsFinal x t stands final reads) (Works _ _ g tuples _ _ (OwnTuple _ _ here of) base enough) =
-      done s range per most later tail w v n (per + 7) g tuples (less_of 7) enough
+      done s range per most later tail w v n (per + 7) g tuples (omega arith) enough
       (put_done s range per most later tail w v g tuples false true (on_base g tuples false true reads base))
-    where
-      less_of : (a : ℕ) → 0 < per + suc a
-      less_of a = omega arith
   step_left _ _ (IsFinal x t stands final reads) (Works _ _ g tuples _ _ (OwnTupleGone _) base enough) =
       done s range per most later tail w v n (per + 10) g tuples (omega arith) enough
       (put_done s range per most later tail w v g tuples false true (on_base g tuples false true reads base))
