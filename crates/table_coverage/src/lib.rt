@@ -154,7 +154,9 @@ pub fn statements_end()
         → IsCleaning (w.task s) → IsCleaning (v.task s) → cleaning_steps v (v.task s) < cleaning_steps w (w.task s) }
 {}
 
-/// XX
+/// A summarise, also one that work took from the queue, ends, waits or lacks a page within so many steps, while no other session steps: for
+/// each range one for each block and ten, and for each page by which the map may grow three for each tuple and three more. The tuples are
+/// those that stand in the index and one for each range.
 pub fn summarises_end()
     ensures summarises { (s n at range tuples : ℕ) (w : TableState) (job : Job) (phase : Phase) → IsTableKept w → w.task s ≡ Maintains job at range phase
         → IsSummarise job → HasAtMostTuples w at tuples → StepsAlone s n w → n ≤ summarise_steps w job at range phase tuples }
