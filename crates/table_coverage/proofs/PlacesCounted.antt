@@ -14,8 +14,12 @@ one_less P Q x zero is sub most = absurd (none (most (x ∷ []) ((λ among. amon
   where
     none : 1 ≤ zero → ⊥
     none le = omega arith
-one_less P Q x (suc m) is sub most = (m, refl, λ xs apart all. lower (length xs) (most (x ∷ xs) ((λ among. (sub x (all x among)).1 refl), apart)
-    (λ y among. ⊎_elim (λ (same : y ≡ x). subst P (sym same) is) (λ (in_rest : IsIn xs y). (sub y (all y in_rest)).0) among)))
+one_less P Q x (suc m) is sub most = (
+  m,
+  refl,
+  λ xs apart all. lower (length xs) (most (x ∷ xs) ((λ among. (sub x (all x among)).1 refl), apart)
+      (λ y among. ⊎_elim (λ (same : y ≡ x). subst P (sym same) is) (λ (in_rest : IsIn xs y). (sub y (all y in_rest)).0) among)),
+)
   where
     lower : (k : ℕ) → suc k ≤ suc m → k ≤ m
     lower k le = omega arith
@@ -32,10 +36,13 @@ module _ (P : TuplePlace → Type 0) (x : TuplePlace) where
       (λ (here : z ≡ x). (
         zs,
         apart.1,
-        (λ y among. (⊎_elim
-            (λ (same : y ≡ x). absurd (apart.0 (subst (IsIn zs) (same ∙ sym here) among)))
-            (λ (is : P y). is)
-            (all y (inr among)), inr among)),
+        (λ y among. (
+          ⊎_elim
+              (λ (same : y ≡ x). absurd (apart.0 (subst (IsIn zs) (same ∙ sym here) among)))
+              (λ (is : P y). is)
+              (all y (inr among)),
+          inr among,
+        )),
         self (suc (length zs)),
       ))
       (λ (is : P z).

@@ -109,7 +109,7 @@ module _ (all before range un rows n : ℕ) where
   read_again : n ≤ 0 + 2 * (all - (before + range)) + un + rows → suc n ≤ 1 + 2 * (all - (before + range)) + un + rows
   read_again le = omega arith
 
-module _ (rows n : ℕ) (w : TableState) (old new : TableScan) (inside : old.at < w.indexes) (low : first_block w old.at old.range < old.extent)
+module _ (rows n : ℕ) (w : TableState) (old : TableScan) (inside : old.at < w.indexes) (low : first_block w old.at old.range < old.extent)
     (ranged : 0 < (w.index old.at).pages_per_range)
     (named : (range : ℕ) (x : TuplePlace) → (w.index old.at).entry range ≡ Some x → (t : IndexTuple) × ((w.index old.at).tuple x ≡ Some t) × (t.range ≡ range)) where
   abbrev all : ℕ
@@ -132,26 +132,26 @@ module _ (rows n : ℕ) (w : TableState) (old new : TableScan) (inside : old.at 
   abbrev steps_held : ℕ → ℕ → Type 0
   steps_held held m = m ≤ held + 2 * (all - (before + old.range)) + unread old + rows
 
-  judge_within : JudgeStep (index_view_at old.at w) old new → Within rows n (table_of w) (Scans new) → Within rows (suc n) (table_of w) (Scans old)
-  judge_within (JudgeMap x empty names) left = (
+  judge_within : (new : TableScan) → JudgeStep (index_view_at old.at w) old new → Within rows n (table_of w) (Scans new) → Within rows (suc n) (table_of w) (Scans old)
+  judge_within _ (JudgeMap x empty names) left = (
     (λ _ holds. absurd (none-some _ (sym empty ∙ holds.2))),
     subst (λ h. steps_held (held_steps h) (suc n)) (sym empty)
         (read_map all before old.range (unread old) rows n one_more (left.0 inside (x, (named old.range x names).0, refl, ((named old.range x names).1, (named old.range x names).2)))),
   )
-  judge_within (JudgeNoEntry empty none) left = (
+  judge_within _ (JudgeNoEntry empty none) left = (
     (λ _ holds. absurd (none-some _ (sym empty ∙ holds.2))),
     range_done all before old.range (unread old) rows n (held_steps old.held) one_more
         (subst (λ h. n ≤ held_steps h + 2 * (all - (before + suc old.range)) + unread old + rows) empty left.1),
   )
-  judge_within (JudgeGone x held gone) left = (
+  judge_within _ (JudgeGone x held gone) left = (
     (λ _ holds. absurd (gone holds.1 (ap (w.index old.at).tuple (same_Some _ _ (sym held ∙ holds.2)) ∙ holds.3.0) holds.3.1)),
     subst (λ h. steps_held (held_steps h) (suc n)) (sym held) (read_again all before old.range (unread old) rows n left.1),
   )
-  judge_within (JudgeKeeps x t held stands keeps) left = (
+  judge_within _ (JudgeKeeps x t held stands keeps) left = (
     (λ _ holds. tuple_read all before old.range (unread old) rows n one_more left.1),
     range_done all before old.range (unread old) rows n (held_steps old.held) one_more left.1,
   )
-  judge_within (JudgeDrops x t candidate held stands drops excludes others) left = (
+  judge_within _ (JudgeDrops x t candidate held stands drops excludes others) left = (
     (λ _ holds. tuple_read all before old.range (unread old) rows n one_more left.1),
     range_done all before old.range (unread old) rows n (held_steps old.held) one_more left.1,
   )
@@ -212,8 +212,7 @@ module _ (rows n : ℕ) (u : TableState) (ranged : (i : ℕ) → i < u.indexes �
       let on = onward_within next t more (λ _. least (ranges_below u scan.extent (suc scan.at))) finds few ends left in
       let f = ranges_below u scan.extent in
       let is = no_range_left scan.range (f scan.at) (low inside)
-          (none_of_ranges (u.index scan.at).pages_per_range scan.extent scan.range (ranged scan.at inside) all) in
-      (
+      (none_of_ranges (u.index scan.at).pages_per_range scan.extent scan.range (ranged scan.at inside) all) in (
         (λ _ holds. absurd (none-some _ (sym empty ∙ holds.2))),
         subst (λ m. n ≤ held_steps scan.held + 2 * (sum_below u.indexes f - m) + unread scan + rows)
             (sums (sum_below scan.at f) scan.range (f scan.at) is) on.1,
@@ -293,7 +292,7 @@ module _ (s rows : ℕ) where
     step_within _ _ (DidJudge old new inside low judge only) was now few =
         let sound = (kept.indexes old.at inside).sound in
         let lower = one_of_ranges (w.index old.at).pages_per_range old.extent old.range sound.ranged low in
-        judge_within rows n w old new inside low sound.ranged sound.entries_name_tuples judge
+        judge_within rows n w old inside low sound.ranged sound.entries_name_tuples new judge
         (scan_left new now only
         (λ _. subst (λ z. new.range ≤ ranges_below z new.extent new.at) (sym (same_table w u only))
         (judge_range (λ e a r. r ≤ ranges_below w e a) w old new judge

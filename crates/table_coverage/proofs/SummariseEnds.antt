@@ -1,5 +1,5 @@
 -- A summarise whose session steps alone ends, or waits, or lacks a page, within a number of steps.
-use Rattle.std.proofs.Common.{◌≡◌, ◌≢◌, ◌⊎◌, ⊎_elim, ℕ, ◌+◌, ◌-◌, ◌*◌, ◌≤◌, ◌<◌, Bool, true, false, Some, None, sym, ◌∙◌, ap, subst, arith, zero, suc}
+use Rattle.std.proofs.Common.{◌≡◌, ◌≢◌, ◌⊎◌, ⊎_elim, ℕ, ◌+◌, ◌-◌, ◌*◌, ◌/◌, ◌≤◌, ◌<◌, Bool, true, false, Some, None, length, sym, ◌∙◌, ap, subst, arith, zero, suc, suc-mul}
 use Rattle.std.specs.Prelude.{refl}
 use Rattle.std.proofs.lemmas.Option.{none-some}
 use Rattle.coverage.specs.IndexView.{TuplePlace, IndexTuple, Progress, ExtentUnread, Passing, IndexView}
@@ -38,7 +38,7 @@ module _ (w : IndexView) (s range most later tail tuples : ℕ) (has : AreAtMost
 
   counted : (moving : Bool) → AreAtMost (IsTaken w) (with_one moving tuples)
   counted false = has
-  counted true xs apart all = wider _ (has xs apart all)
+  counted true = λ xs apart all. wider (length xs) (has xs apart all)
     where
       wider : (n : ℕ) → n ≤ tuples → n ≤ suc tuples
       wider n le = omega arith
@@ -143,6 +143,8 @@ job_summarises : (job : Job) → IsSummarise job → (s range : ℕ) (w v : Inde
     → SummariseStep s range w v old e
 job_summarises (EachRange extent) is s range w v old e step = step
 job_summarises (OneRange extent only) is s range w v old e step = step
+job_summarises (WholeRanges extent) is s range w v old e step = absurd is
+job_summarises (Desummarising only) is s range w v old e step = absurd is
 
 -- where it comes by its step
 module _ (u : TableState) (job : Job) (is : IsSummarise job) (at range : ℕ) where
@@ -172,9 +174,11 @@ only_of w (Desummarising only) at range has = tt
 -- where there is a next range, one fewer comes behind it
 one_later : (w : TableState) (job : Job) (at range later : ℕ) → IsSummarise job → 0 < (w.index at).pages_per_range → IsOnly job range → HasRange w job at (suc range)
     → later ≡ later_ranges w job at range → (rest : ℕ) × (later ≡ suc rest) × (rest ≡ later_ranges w job at (suc range))
-one_later w (EachRange extent) at range later is ranged only has same =
-    (ranges_below w extent at - suc (suc range),
-    counts (ranges_below w extent at) same (one_of_ranges (w.index at).pages_per_range extent (suc range) ranged has), refl)
+one_later w (EachRange extent) at range later is ranged only has same = (
+  ranges_below w extent at - suc (suc range),
+  counts (ranges_below w extent at) same (one_of_ranges (w.index at).pages_per_range extent (suc range) ranged has),
+  refl,
+)
   where
     counts : (n : ℕ) → later ≡ n - suc range → suc range < n → later ≡ suc (n - suc (suc range))
     counts n same below = omega arith
@@ -182,6 +186,8 @@ one_later w (OneRange extent only) at range later is ranged here has same = absu
   where
     apart : (a b : ℕ) → a ≡ b → suc a ≡ b → ⊥
     apart a b one two = omega arith
+one_later w (WholeRanges extent) at range later is ranged only has same = absurd is
+one_later w (Desummarising _) at range later is ranged only has same = absurd is
 
 later_on : (w v : TableState) (job : Job) (at range : ℕ) → (v.index at).pages_per_range ≡ (w.index at).pages_per_range
     → later_ranges v job at range ≡ later_ranges w job at range
@@ -246,7 +252,7 @@ module _ (s : ℕ) (job : Job) (is : IsSummarise job) (at per most : ℕ) where
         → LeftOf w n range later phase → suc k ≤ n
     next n range later _ _ (DidMaintain _ _ _ old new stepped does) now same inside left =
         let one = step_left s range per most later (later * (per + 9)) n (index_view_at at w) (index_view_at at u) (named inside.0) old (Maintaining range new)
-                (job_summarises job is s range (index_view_at at w) (index_view_at at u) old (Maintaining range new) does) left in
+        (job_summarises job is s range (index_view_at at w) (index_view_at at u) old (Maintaining range new) does) left in
         ⊎_elim
         (λ (on : Onward u (Maintains job at range new) (v.task s) × OnlyTurns u v).
         let stays = phase_onward u job is at range new (v.task s) on.0 in
@@ -257,7 +263,7 @@ module _ (s : ℕ) (job : Job) (is : IsSummarise job) (at per most : ℕ) where
         (step_settles s u v step.settles (Maintains job at range new) now)
     next n range later _ _ (DidRange _ _ _ old stepped does) now same inside left =
         let one = step_left s range per most later (later * (per + 9)) n (index_view_at at w) (index_view_at at u) (named inside.0) old Holding
-                (job_summarises job is s range (index_view_at at w) (index_view_at at u) old Holding does) left in
+        (job_summarises job is s range (index_view_at at w) (index_view_at at u) old Holding does) left in
         ⊎_elim
         (λ (on : Onward u (Considers job at (suc range)) (v.task s) × OnlyTurns u v).
         let begins = considers_onward u job is at (suc range) (v.task s) on.0 in

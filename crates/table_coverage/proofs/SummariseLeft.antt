@@ -108,7 +108,7 @@ module _ (tail n : ℕ) where
   to_page own own' a b c is le enough = omega arith
 
 -- the cost of one page of so many
-one_page : (g c : ℕ) → 1 ≤ g → g * c ≡ (g - 1) * c + c
+pub one_page : (g c : ℕ) → 1 ≤ g → g * c ≡ (g - 1) * c + c
 one_page g c some = ap (λ k. k * c) (is g some) ∙ suc-mul (g - 1) c
   where
     is : (g : ℕ) → 1 ≤ g → g ≡ suc (g - 1)
@@ -170,7 +170,10 @@ module _ (s range per most later tail : ℕ) (w v : IndexView) where
       → (m : ℕ) × (n ≡ suc m) × DoneLeft v per most later tail m
   done n own g tuples some enough base =
       let left = lower tail n own 0 (g * cost) some enough in
-      (left.0, left.1, record { g = g; tuples = tuples; base = base; enough = left.2 })
+      (left.0, left.1, record { g = g; tuples = tuples; base = base; enough = plain (g * cost) tail left.0 left.2 })
+    where
+      plain : (a b m : ℕ) → 0 + a + b ≤ m → a + b ≤ m
+      plain a b m le = omega arith
 
   -- after a put one tuple more stands
   put_taken : (y : TuplePlace) (t : IndexTuple) → PutsTuple s w v y t → (z : TuplePlace) → IsTaken v z → (z ≡ y) ⊎ IsTaken w z
@@ -272,7 +275,13 @@ module _ (s range per most later tail n : ℕ) (w v : IndexView) where
       weaker : (a b : ℕ) → a < b → a ≤ b
       weaker a b less = omega arith
   empties (Empties g tuples on page base emptying enough) grows = record {
-    g = g; tuples = tuples; on = on; page = page; base = base; emptying = emptying; enough = enough;
+    g = g;
+    tuples = tuples;
+    on = on;
+    page = page;
+    base = base;
+    emptying = emptying;
+    enough = enough;
   }
 
   -- of a page of another kind nothing is known
@@ -334,15 +343,18 @@ module _ (s range per most later tail n : ℕ) (w v : IndexView) where
   growth_left _ _ (Flag grows free turns) left =
       let known = works_vacant Regular (λ is. is) grows left in
       let all = one_page known.0 c (pages_some w.pages.limit w.pages.map_pages known.0 grows.below known.2.pages) in
-      let step = lower_page tail n (per + 8) ((per + 8) + (3 * known.1 + 2)) (known.0 * c) ((known.0 - 1) * c) c all (room_for known.1 known.2.room) known.3 in
-      (step.0, step.1, Empties known.0 known.1 known.1 (next_map_page w) (turns_base known.0 known.1 Emptying [] turns known.2) (record {
-        is = λ j. turns.page.map_pages j + 1;
-        kind = turns.page.now;
-        past = subst (λ k. k < map_page_of range) (sym turns.page.map_pages) grows.short;
-        tuples_are = fewer (IsTaken w) (λ z. (z.block ≡ next_map_page w) × IsTaken v z × Unit) known.1
-            (λ z is. same_taken s range per most later tail w v turns.frame.tuples.tuple z is.1) known.2.tuples_are;
-        few = few known.1 known.2.room;
-      }) step.2)
+      let step = lower_page tail n (per + 8) ((per + 8) + (3 * known.1 + 2)) (known.0 * c) ((known.0 - 1) * c) c all (room_for known.1 known.2.room) known.3 in (
+        step.0,
+        step.1,
+        Empties known.0 known.1 known.1 (next_map_page w) (turns_base known.0 known.1 Emptying [] turns known.2) (record {
+          is = λ j. turns.page.map_pages j + 1;
+          kind = turns.page.now;
+          past = subst (λ k. k < map_page_of range) (sym turns.page.map_pages) grows.short;
+          tuples_are = fewer (IsTaken w) (λ z. (z.block ≡ next_map_page w) × IsTaken v z × Unit) known.1
+              (λ z is. same_taken s range per most later tail w v turns.frame.tuples.tuple z is.1) known.2.tuples_are;
+          few = few known.1 known.2.room;
+        }) step.2,
+      )
     where
       few : (tuples : ℕ) → suc tuples + later ≤ most → tuples ≤ most
       few tuples le = omega arith
@@ -351,7 +363,7 @@ module _ (s range per most later tail n : ℕ) (w v : IndexView) where
       let taken : IsTaken w x = (λ none. none-some _ (sym none ∙ next.stands)) in
       let apart = emptying_target known.page known.on known.emptying in
       let on = one_less (λ z. (z.block ≡ known.page) × IsTaken w z × Unit) (λ z. (z.block ≡ known.page) × IsTaken v z × (z ≢ x)) x known.on
-              (next.on ∙ known.emptying.is, taken, tt) (λ z is. ((is.0, was_taken known.page apart z is.0 is.1, tt), is.2)) known.emptying.tuples_are in
+      (next.on ∙ known.emptying.is, taken, tt) (λ z is. ((is.0, was_taken known.page apart z is.0 is.1, tt), is.2)) known.emptying.tuples_are in
       let step = lower tail n ((per + 8) + (3 * known.on + 2)) ((per + 8) + (3 * on.0 + 4)) ((known.g - 1) * c) (one_put on.0 known.on on.1) known.enough in (
         step.0,
         step.1,
@@ -438,8 +450,8 @@ module _ (s range per most later tail n : ℕ) (w v : IndexView) where
       let known = empties left grows in
       let taken : IsTaken w x = (λ none. none-some _ (sym none ∙ next.stands)) in
       let on = one_less (λ z. (z.block ≡ known.page) × IsTaken w z × Unit) (λ z. (z.block ≡ known.page) × IsTaken v z × Unit) x known.on
-              (next.on ∙ known.emptying.is, taken, tt)
-              (λ z is. ((is.0, sub z is.1, tt), λ here. is.1 (ap v.tuple here ∙ (sweeps.gone x refl).0))) known.emptying.tuples_are in
+      (next.on ∙ known.emptying.is, taken, tt)
+      (λ z is. ((is.0, sub z is.1, tt), λ here. is.1 (ap v.tuple here ∙ (sweeps.gone x refl).0))) known.emptying.tuples_are in
       let step = lower tail n ((per + 8) + (3 * known.on + 2)) ((per + 8) + (3 * on.0 + 2)) ((known.g - 1) * c) (one_gone on.0 known.on on.1) known.enough in (
         step.0,
         step.1,
@@ -534,9 +546,9 @@ module _ (s range per most later tail n : ℕ) (w v : IndexView) (named : AreNam
       → Base v per most later g tuples false false
   swap_base g tuples x old new swap base = base_on s range per most later tail w v g tuples false false swap.frame.heap.pages_per_range swap.page.map_pages
       swap.page.limit (λ z taken none. ⊎_elim
-          (λ (here : z ≡ x). none-some _ (sym none ∙ ap w.tuple here ∙ swap.tuple.was))
-          (λ (same : v.tuple z ≡ w.tuple z). taken (same ∙ none))
-          (swap.tuple.others z)) base
+      (λ (here : z ≡ x). none-some _ (sym none ∙ ap w.tuple here ∙ swap.tuple.was))
+      (λ (same : v.tuple z ≡ w.tuple z). taken (same ∙ none))
+      (swap.tuple.others z)) base
 
   pub step_left : (old : Phase) (e : Statement) → SummariseStep s range w v old e → Left w range per most later tail n old → IsStepTo e
   step_left _ _ (LookMap x names reads) (Works _ _ g tuples _ _ OwnMap base enough) =

@@ -26,8 +26,7 @@ for_tuples u m p kind none has is = ⊎_elim
 -- a page with tuples lies past the first one, and below the limit
 page_within : (u : TableState) (m p : ℕ) → IsTableKept u → HasTuples u m p → (0 < p) × (p < page_limit u m)
 page_within u m p kept has =
-    let ordered = (kept.indexes m has.0).ordered in
-    (
+    let ordered = (kept.indexes m has.0).ordered in (
       past p (λ zeroth. for_tuples u m p Mapping tt has (ordered.map p (first p (u.index m).pages.map_pages zeroth))),
       ordered.below p (λ is. for_tuples u m p Unstarted tt has is),
     )
