@@ -1,14 +1,14 @@
 -- A summariser's final tuple is exactly what the rows of its range, and the placeholder, make.
-use Rattle.std.proofs.Common.{◌≡◌, ◌⊎◌, inl, inr, ⊎_elim, ℕ, ◌+◌, ◌*◌, ◌≤◌, ◌<◌, min, Option, Some, sym, ◌∙◌, ap, subst, arith, add-one, suc-mul}
+use Rattle.std.proofs.Common.{◌≡◌, ◌⊎◌, inl, inr, ℕ, ◌+◌, ◌*◌, ◌≤◌, ◌<◌, min, Option, Some, sym, ◌∙◌, ap, subst, arith, add-one, suc-mul}
 use Rattle.std.specs.Prelude.{refl}
 use Rattle.block_model.specs.declared.row.Row.{Row}
-use Rattle.coverage.specs.IndexView.{TuplePlace, IndexTuple, Contents, Progress, ExtentUnread, Passing, IndexView, NamesTuple, IsRangeOf}
+use Rattle.coverage.specs.IndexView.{TuplePlace, IndexTuple, Contents, Progress, ExtentUnread, Passing, IndexView, IsRangeOf}
 use Rattle.coverage.specs.Changes.{SameHeap}
-use Rattle.coverage.specs.Statements.{OnIndex, Empty, Copied, Moving, Phase, IsAt, Statement, Maintaining, Holding, NotBuilding}
+use Rattle.coverage.specs.Statements.{OnIndex, Empty, Copied, Moving, Phase, IsAt, Statement, Maintaining}
 use Rattle.coverage.specs.Knowing.{KnowsPhase, Knows}
 use Rattle.coverage.specs.PageOrder.{IsPassWithin, KnowsPagesOfPhase, KnowsPages}
 use Rattle.coverage.specs.IsCovered.{IndexState, index_view, IsIndexKept}
-use Rattle.coverage.specs.Steps.{ReadsIndex, ReplacesTuple, SetsEntry, OnIndexStep, Maps, Gone, Again, MovePut, SummariseStep, LookMap, LookGone, IsFinal, Found, ReadNoEntry, GrowMap, Put, Set}
+use Rattle.coverage.specs.Steps.{ReplacesTuple, SetsEntry, OnIndexStep, Maps, Gone, Again, MovePut, SummariseStep, LookMap, LookGone, IsFinal, Found, ReadNoEntry, GrowMap, Put, Set}
 use Rattle.coverage.specs.Steps.{Extent, Pass, Unite, UniteCopies, SwapFinal, SetFinal, DropOld}
 use Rattle.coverage.specs.Steps.{GrowthStep, Grow, CountLeftOver, Count, Flag, EvacuatePut, EvacuateSet, EvacuateDrop, EvacuateSweep, Turn}
 use Rattle.coverage.specs.Counts.{summarise_count}

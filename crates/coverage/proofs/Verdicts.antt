@@ -93,10 +93,13 @@ pub put_past_map : (w : IndexView) (s range need : ℕ) (y : TuplePlace) → Are
 put_past_map w s range need y ordered verdict = ⊎_elim
     (λ (started : (w.pages.map_pages < y.block) × (w.pages.kind y.block ≡ Regular) × (need ≤ w.pages.room y.block)).
     (started.0, ordered.below y.block (λ is. subst IsNotStarted (sym is ∙ started.1) tt)))
-    (λ (next : (w.pages.kind y.block ≡ Unstarted) × (y.block < w.pages.limit)). (⊎_elim
-        (λ (past : w.pages.map_pages < y.block). past)
-        (λ (inside : y.block ≤ w.pages.map_pages). absurd (subst IsNotStarted (sym next.0 ∙ ordered.map y.block inside) tt))
-        (lt_or_ge w.pages.map_pages y.block), next.1))
+    (λ (next : (w.pages.kind y.block ≡ Unstarted) × (y.block < w.pages.limit)). (
+      ⊎_elim
+          (λ (past : w.pages.map_pages < y.block). past)
+          (λ (inside : y.block ≤ w.pages.map_pages). absurd (subst IsNotStarted (sym next.0 ∙ ordered.map y.block inside) tt))
+          (lt_or_ge w.pages.map_pages y.block),
+      next.1,
+    ))
     (put_place w s range need y verdict).1
 
 -- what fits in its place needn't move

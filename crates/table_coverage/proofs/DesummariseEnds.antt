@@ -1,13 +1,13 @@
 -- A desummarise whose session steps alone ends within three steps from where it reads the map.
-use Rattle.std.proofs.Common.{◌≡◌, ◌⊎◌, ⊎_elim, ℕ, ◌≤◌, Option, Some, sym, ◌∙◌, ap, subst, arith, suc}
+use Rattle.std.proofs.Common.{◌≡◌, ◌⊎◌, ⊎_elim, ℕ, ◌≤◌, Option, Some, ◌∙◌, ap, subst, arith, suc}
 use Rattle.std.specs.Prelude.{refl}
 use Rattle.coverage.specs.IndexView.{TuplePlace, IndexView}
-use Rattle.coverage.specs.Statements.{Empty, Held, Phase, NotBuilding, Statement, Maintaining, Holding}
+use Rattle.coverage.specs.Statements.{Held, Phase, NotBuilding, Statement, Maintaining, Holding}
 use Rattle.coverage.specs.Steps.{DesummariseStep, ClearMap, ClearNone, Clear, ClearAgain, DropCleared}
 use Rattle.coverage.proofs.Verdicts.{clear_differs}
-use Rattle.table_coverage.specs.Table.{Job, EachRange, OneRange, WholeRanges, Desummarising, Index, Task, Resting, Reaches, Asks, Inserts, Considers, Maintains}
-use Rattle.table_coverage.specs.Table.{Prunes, SweepsFrom, Sweeps, Restarts, Scans, Marks, TableState, index_view_at}
-use Rattle.table_coverage.specs.TableSteps.{OnlyTurns, JobStep, HasRange, Onward, Stays, ToRange, IsMaintained, RangesDone, TableStep}
+use Rattle.table_coverage.specs.Table.{Job, EachRange, OneRange, WholeRanges, Desummarising, Index, Task, Resting, Considers, Maintains}
+use Rattle.table_coverage.specs.Table.{TableState, index_view_at}
+use Rattle.table_coverage.specs.TableSteps.{OnlyTurns, JobStep, Onward, Stays, ToRange, IsMaintained, TableStep}
 use Rattle.table_coverage.specs.GoingOn.{StepsAlone, LastAlone, OneMoreAlone}
 use Rattle.table_coverage.specs.StepsLeft.{desummarise_steps}
 use Rattle.table_coverage.specs.TableCovered.{IsInTable, IsTableKept}

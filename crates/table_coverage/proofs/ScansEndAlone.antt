@@ -1,6 +1,6 @@
 -- A scan whose session steps alone ends within two steps a range and one a block, and a delete with one more for each row that it marks.
-use Rattle.std.proofs.Common.{◌≡◌, ◌⊎◌, inl, inr, ⊎_elim, ℕ, ◌+◌, ◌-◌, ◌*◌, ◌/◌, ◌≤◌, ◌<◌, Option, Some, None, Bool, true, false, List, [], ◌∷◌, length, sym, ◌∙◌, ap, subst, arith, suc, div-lt_iff_lt-mul, suc-mul}
-use Rattle.std.specs.Prelude.{refl, IsTrue, ◌↔◌}
+use Rattle.std.proofs.Common.{◌≡◌, ◌⊎◌, ⊎_elim, ℕ, ◌+◌, ◌-◌, ◌*◌, ◌/◌, ◌≤◌, ◌<◌, Some, Bool, List, ◌∷◌, length, sym, ◌∙◌, ap, subst, arith, suc, div-lt_iff_lt-mul, suc-mul}
+use Rattle.std.specs.Prelude.{refl}
 use Rattle.std.proofs.lemmas.Nat.{le-div}
 use Rattle.std.proofs.lemmas.Option.{same_Some, none-some}
 use Rattle.block_model.specs.declared.row.Row.{Row}
@@ -236,7 +236,7 @@ onward_marks : (rows : ℕ) (u : TableState) (scan : TableScan) (t : Task) → O
 onward_marks rows u scan _ (Stays _ has) few = few
 onward_marks rows u scan _ (Scanned _ read nothing) few = tt
 onward_marks rows u scan _ (ToMarks _ id rest read reads deletes lists) few = tt
-onward_marks rows u scan t (JudgesNext _ _ inside all empty more) few = onward_marks rows u (record scan { at = suc scan.at; range = 0 }) t more few
+onward_marks rows u scan t (JudgesNext _ _ inside _ empty more) few = onward_marks rows u (record scan { at = suc scan.at; range = 0 }) t more few
 
 -- a judgement leaves a scan at its range, or at the next one
 judge_range : (Is : (extent at range : ℕ) → Type 0) (w : TableState) (old new : TableScan) → JudgeStep (index_view_at old.at w) old new
@@ -249,7 +249,7 @@ judge_range Is w old _ (JudgeDrops x t candidate held stands drops excludes othe
 
 unmaintained : (u : TableState) (task : Task) → IsMaintained u task → IsScanning task → ⊥
 unmaintained u _ (RangesDone job at range done last) is = is
-unmaintained u _ (NothingToSweep extent next all none) is = is
+unmaintained u _ (NothingToSweep extent next _ none) is = is
 
 scan_settles : (s : ℕ) (u v : TableState) → Settles s u v → (task : Task) → IsScanning task → u.task s ≡ task
     → Onward u task (v.task s) × OnlyTurns u v

@@ -1,16 +1,16 @@
 -- A summarise whose session steps alone ends, or waits, or lacks a page, within a number of steps.
-use Rattle.std.proofs.Common.{◌≡◌, ◌≢◌, ◌⊎◌, ⊎_elim, ℕ, ◌+◌, ◌-◌, ◌*◌, ◌/◌, ◌≤◌, ◌<◌, Bool, true, false, Some, None, length, sym, ◌∙◌, ap, subst, arith, zero, suc, suc-mul}
+use Rattle.std.proofs.Common.{◌≡◌, ◌⊎◌, ⊎_elim, ℕ, ◌+◌, ◌-◌, ◌*◌, ◌/◌, ◌≤◌, ◌<◌, Bool, true, false, Some, length, sym, ◌∙◌, ap, subst, arith, suc, suc-mul}
 use Rattle.std.specs.Prelude.{refl}
 use Rattle.std.proofs.lemmas.Option.{none-some}
 use Rattle.coverage.specs.IndexView.{TuplePlace, IndexTuple, Progress, ExtentUnread, Passing, IndexView}
 use Rattle.coverage.specs.Statements.{OnIndex, Empty, Held, Copied, Moving, Dropping, Phase, NotBuilding, Vacant, Growing, Evacuating, Placing, IsAt, Statement, Maintaining, Holding}
-use Rattle.coverage.specs.Knowing.{KnowsPhase, Knows}
-use Rattle.coverage.specs.PageOrder.{KnowsPagesOfPhase, KnowsPages}
+use Rattle.coverage.specs.Knowing.{KnowsPhase}
+use Rattle.coverage.specs.PageOrder.{KnowsPagesOfPhase}
 use Rattle.coverage.specs.Steps.{SummariseStep}
 use Rattle.coverage.specs.Stuck.{AreNamed}
 use Rattle.coverage.proofs.Numbers.{lt_or_ge}
 use Rattle.table_coverage.specs.Table.{Job, EachRange, OneRange, WholeRanges, Desummarising, Index, Task, Resting, Considers, Maintains, TableState, index_view_at}
-use Rattle.table_coverage.specs.TableSteps.{first_block, HasRange, OnlyTurns, JobStep, Onward, Stays, ToRange, NextIndex, IsMaintained, TableStep}
+use Rattle.table_coverage.specs.TableSteps.{HasRange, OnlyTurns, JobStep, Onward, Stays, ToRange, NextIndex, IsMaintained, TableStep}
 use Rattle.table_coverage.specs.GoingOn.{StepsAlone, LastAlone, OneMoreAlone}
 use Rattle.table_coverage.specs.StepsLeft.{AreAtMost, HasAtMostTuples, ranges_below, IsSummarise, later_ranges, range_steps, summarise_steps}
 use Rattle.table_coverage.specs.TableCovered.{IsInTable, IsTableKept}

@@ -1,9 +1,9 @@
 -- Each step of a vacuum that prunes or sweeps leaves it fewer steps to go.
-use Rattle.std.proofs.Common.{◌≡◌, ◌⊎◌, inl, inr, ⊎_elim, ℕ, ◌+◌, ◌-◌, ◌≤◌, ◌<◌, Some, sym, ◌∙◌, ap, subst, arith, zero, suc}
+use Rattle.std.proofs.Common.{◌≡◌, ◌⊎◌, ⊎_elim, ℕ, ◌+◌, ◌-◌, ◌≤◌, ◌<◌, Some, sym, ◌∙◌, ap, subst, arith, suc}
 use Rattle.std.specs.Prelude.{refl}
 use Rattle.block_model.specs.declared.reply.Point.{Point}
 use Rattle.coverage.specs.IndexView.{PageKind, Unstarted, Mapping, Regular, Emptying}
-use Rattle.table_coverage.specs.Table.{Index, Task, Resting, Prunes, SweepsFrom, Sweeps, Restarts, TableState}
+use Rattle.table_coverage.specs.Table.{Index, Task, Resting, Prunes, SweepsFrom, Sweeps, TableState}
 use Rattle.table_coverage.specs.TableSteps.{OnlyTurns, StepsIn, HasTuples, IsFrom, Onward, Stays, Pruned, ToPage, Swept, IsMaintained, TableStep}
 use Rattle.table_coverage.specs.TablePoints.{does_point}
 use Rattle.table_coverage.specs.StepsLeft.{sum_below, IsCleaning, page_limit, cleaning_steps}
