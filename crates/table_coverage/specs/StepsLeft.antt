@@ -54,7 +54,7 @@ IsCleaning task = ⊥
 abbrev pub page_limit : TableState → (at : ℕ) → ℕ
 page_limit w at = (w.index at).pages.limit
 
--- one for each block of the heap, and one for each page of each index
+-- one for each block of the heap, and one for each page that each index may have
 abbrev pub cleaning_steps : TableState → Task → ℕ
 cleaning_steps w (Prunes extent next) = (extent - next) + sum_below w.indexes (page_limit w)
 cleaning_steps w (Sweeps at page) = (sum_below w.indexes (page_limit w) - sum_below (suc at) (page_limit w)) + (page_limit w at - page)

@@ -142,7 +142,7 @@ pub fn statements_go_on()
 /// hasn't judged, of each index, one more where it holds a place, and one for each block below its extent that it hasn't read; an explain
 /// reads no block, and a delete takes one more for each row that it has to mark. A desummarise takes three from where it reads the map,
 /// and one more where it came to a place that its tuple has left. A vacuum comes to its first index after at most one step for each block of
-/// the heap and one for each page of each index: every step there leaves fewer.
+/// the heap and one for each page that each index may have: every step there leaves fewer.
 pub fn statements_end()
     ensures scans { (s n rows : ℕ) (w : TableState) (scan : TableScan) → IsTableKept w → w.task s ≡ Scans scan → HasAtMostToMark w scan rows
         → StepsAlone s n w → n ≤ scan_steps w scan + rows }
