@@ -1,13 +1,14 @@
 -- A count is one number, and so is what a step counts.
 use Rattle.std.proofs.Common.{◌≡◌, ⊎_elim, ℕ, ◌≤◌, ◌<◌, sym, ◌∙◌, ap, subst, arith, suc}
 use Rattle.std.specs.Prelude.{refl}
+use Rattle.block_model.specs.declared.reply.Point.{Point}
+use Rattle.block_model.specs.declared.reply.Point.TheVariants as points
 use Rattle.coverage.specs.IndexView.{IndexView}
 use Rattle.coverage.specs.Statements.{OnIndex, Phase, IsAt, Statement}
 use Rattle.coverage.specs.Steps.{OnIndexStep, Maps, Gone, Again, MovePut, GrowthStep, Grow, CountLeftOver, Count, Flag, EvacuatePut, EvacuateSet, EvacuateDrop}
 use Rattle.coverage.specs.IndexView.{Progress, Passing}
 use Rattle.coverage.specs.Steps.{EvacuateSweep, Turn, SummariseStep, LookMap, LookGone, IsFinal, Found, ReadNoEntry, GrowMap, Put, Set, Extent, Pass, Unite}
 use Rattle.coverage.specs.Steps.{UniteCopies, SwapFinal, SetFinal, DropOld, DesummariseStep, ClearMap, ClearNone, Clear, ClearAgain, DropCleared}
-use Rattle.coverage.specs.Points.{Point, AtSwap, AtSet, AtClear}
 use Rattle.coverage.specs.Points.{on_index_point, growth_point, summarise_point, desummarise_point}
 use Rattle.coverage.specs.Counts.{IsCountBelow, NoneBelow, OneMoreBelow, NotThisOne, IsCountOf, summarise_count, desummarise_count}
 use Rattle.coverage.proofs.NextSteps.{summarise_one_point, desummarise_one_point}
@@ -55,8 +56,8 @@ module _ (Is : ℕ → Type 0) where
 
 -- what a summariser's step counts, by its phase and its point
 abbrev count_at : Phase → Point → ℕ
-count_at phase AtSwap = 1
-count_at (IsAt p on_index) AtSet = 1
+count_at phase points.Swap = 1
+count_at (IsAt p on_index) points.Set = 1
 count_at phase point = 0
 
 on_index_counts_none : (s range : ℕ) (w v : IndexView) (p : Progress) (old new : OnIndex) (step : OnIndexStep s range w v old new)
@@ -104,7 +105,7 @@ summarise_one_count s range w v u phase e f one two =
 
 -- what a desummarise's step counts, by its point
 abbrev clear_count : Point → ℕ
-clear_count AtClear = 1
+clear_count points.Clear = 1
 clear_count point = 0
 
 desummarise_counts : (s range : ℕ) (w v : IndexView) (phase : Phase) (e : Statement) (step : DesummariseStep s range w v phase e)

@@ -31,3 +31,4 @@ pub mod SummariseExists
 pub mod InsertsEnd
 pub mod Counted
 pub mod CountsExact
+pub mod ExactResults

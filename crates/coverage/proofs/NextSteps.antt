@@ -3,6 +3,8 @@
 use Rattle.std.proofs.Common.{◌≡◌, ℕ, ◌≤◌, ◌<◌, Some, sym, ◌∙◌, ap, subst, arith}
 use Rattle.std.specs.Prelude.{refl, length}
 use Rattle.std.proofs.lemmas.Option.{same_Some}
+use Rattle.block_model.specs.declared.reply.Point.{Point}
+use Rattle.block_model.specs.declared.reply.Point.TheVariants as points
 use Rattle.block_model.specs.declared.row.Row.{Row}
 use Rattle.coverage.specs.IndexView.{TuplePlace, IndexTuple, Progress, ExtentUnread, Passing, PageKind, Unstarted, Mapping, Regular, Emptying, IndexView, placeholder_length}
 use Rattle.coverage.specs.IndexView.{range_of_block, next_map_page, IsPastMap}
@@ -16,8 +18,6 @@ use Rattle.coverage.specs.Steps.{GrowthStep, Grow, CountLeftOver, Count, Flag, E
 use Rattle.coverage.specs.Steps.{SummariseStep, LookMap, LookGone, IsFinal, Found, ReadNoEntry, GrowMap, Put, Set, Extent, Pass, Unite, UniteCopies, SwapFinal}
 use Rattle.coverage.specs.Steps.{SetFinal, DropOld}
 use Rattle.coverage.specs.Steps.{DesummariseStep, ClearMap, ClearNone, Clear, ClearAgain, DropCleared}
-use Rattle.coverage.specs.Points.{Point, AtMap, AtTuple, AtCopy, AtAgain, AtSwap, AtPut, AtSet, AtDrop, AtExtent, AtPass, AtClear, AtGrow, AtMeta, AtFlag}
-use Rattle.coverage.specs.Points.{AtTurn}
 use Rattle.coverage.specs.Points.{on_index_point, insert_point, growth_point, summarise_point, desummarise_point}
 use Rattle.coverage.specs.Waiting.{IsPhaseWaiting, FinalWaits, PlaceWaits, GrowWaits, CountWaits, FlagWaits, EvacuateWaits, EvacuatePutWaits, TurnWaits}
 use Rattle.coverage.proofs.Verdicts.{free_not_locked, both_free, put_once, swap_once, clear_once}
@@ -28,13 +28,13 @@ IsUnblocked (Waits p) = ⊥
 IsUnblocked verdict = Unit
 
 abbrev swap_point : Verdict → Point
-swap_point Differs = AtAgain
-swap_point (Puts y) = AtPut
-swap_point verdict = AtSwap
+swap_point Differs = points.Again
+swap_point (Puts y) = points.Put
+swap_point verdict = points.Swap
 
 abbrev clear_point : Verdict → Point
-clear_point Differs = AtAgain
-clear_point verdict = AtClear
+clear_point Differs = points.Again
+clear_point verdict = points.Clear
 
 -- the next tuple of a page is one
 pub next_once : (w : IndexView) (page : ℕ) (x y : TuplePlace) (t u : IndexTuple) → IsNextTuple w page x t → IsNextTuple w page y u → (x ≡ y) × (t ≡ u)
@@ -62,12 +62,12 @@ named_or_not w page x y t u one two named unnamed =
 
 -- the points of an insert, by its state on the index
 data OnIndexPoint (w : IndexView) (s range : ℕ) : OnIndex → Point → Type 0 where
-  ToMap : OnIndexPoint w s range Empty AtMap
-  ToCopy : (x : TuplePlace) → OnIndexPoint w s range (Held x) AtCopy
+  ToMap : OnIndexPoint w s range Empty points.Map
+  ToCopy : (x : TuplePlace) → OnIndexPoint w s range (Held x) points.Copy
   ToJudge : (x : TuplePlace) (old new : IndexTuple) (verdict : Verdict) → IsUnblocked verdict → SwapVerdict w s range x old new verdict
       → OnIndexPoint w s range (Copied x old new) (swap_point verdict)
-  ToSet : (x y : TuplePlace) (old new : IndexTuple) → OnIndexPoint w s range (Moving x y old new) AtSet
-  ToDrop : (x : TuplePlace) → OnIndexPoint w s range (Dropping x) AtDrop
+  ToSet : (x y : TuplePlace) (old new : IndexTuple) → OnIndexPoint w s range (Moving x y old new) points.Set
+  ToDrop : (x : TuplePlace) → OnIndexPoint w s range (Dropping x) points.Drop
 
 on_index_once : (w : IndexView) (s range : ℕ) (on_index : OnIndex) (p q : Point) → OnIndexPoint w s range on_index p → OnIndexPoint w s range on_index q → p ≡ q
 on_index_once w s range _ _ _ ToMap ToMap = refl
@@ -108,11 +108,11 @@ insert_blocked s b k p r w v x old new e waits step = on_index_blocked w s (rang
 -- the points of a page that is emptied for the map
 data EmptyingPoint (w : IndexView) (s : ℕ) : Point → Type 0 where
   NamedNext : (x y : TuplePlace) (t : IndexTuple) → IsNextTuple w (next_map_page w) x t → w.entry t.range ≡ Some x → IsFree w s x.block
-      → PutVerdict w s t.range (length t.bytes) (Puts y) → EmptyingPoint w s AtPut
+      → PutVerdict w s t.range (length t.bytes) (Puts y) → EmptyingPoint w s points.Put
   UnnamedNext : (x : TuplePlace) (t : IndexTuple) → IsNextTuple w (next_map_page w) x t → IsUnnamed w x → IsFree w s (next_map_page w)
-      → EmptyingPoint w s AtDrop
+      → EmptyingPoint w s points.Drop
   NoneNext : ((x : TuplePlace) (t : IndexTuple) → IsNextTuple w (next_map_page w) x t → ⊥) → IsFree w s (next_map_page w) → IsFree w s 0
-      → EmptyingPoint w s AtTurn
+      → EmptyingPoint w s points.Turn
 
 emptying_once : (w : IndexView) (s : ℕ) (p q : Point) → EmptyingPoint w s p → EmptyingPoint w s q → p ≡ q
 emptying_once w s _ _ (NamedNext x y t next named free verdict) (NamedNext x' y' t' next' named' free' verdict') = refl
@@ -129,9 +129,9 @@ emptying_once w s _ _ (NoneNext none free meta) (NoneNext none' free' meta') = r
 
 -- the points of the map's growth, by the kind of its next page
 abbrev KindPoint : IndexView → ℕ → PageKind → Point → Type 0
-KindPoint w s Unstarted p = (p ≡ AtGrow) × IsFree w s (next_map_page w) × IsFree w s 0
-KindPoint w s Mapping p = (p ≡ AtMeta) × IsFree w s 0
-KindPoint w s Regular p = (p ≡ AtFlag) × IsFree w s (next_map_page w)
+KindPoint w s Unstarted p = (p ≡ points.Grow) × IsFree w s (next_map_page w) × IsFree w s 0
+KindPoint w s Mapping p = (p ≡ points.Meta) × IsFree w s 0
+KindPoint w s Regular p = (p ≡ points.Flag) × IsFree w s (next_map_page w)
 KindPoint w s Emptying p = EmptyingPoint w s p
 
 kind_once : (w : IndexView) (s : ℕ) (kind : PageKind) (p q : Point) → KindPoint w s kind p → KindPoint w s kind q → p ≡ q
@@ -142,7 +142,7 @@ kind_once w s Emptying p q one two = emptying_once w s p q one two
 
 -- the points of a summariser that read that the map has no entry
 data VacantPoint (w : IndexView) (s range : ℕ) : Point → Type 0 where
-  MapSuffices : (x : TuplePlace) → (IsPastMap w range → ⊥) → PutVerdict w s range (placeholder_length w range) (Puts x) → VacantPoint w s range AtPut
+  MapSuffices : (x : TuplePlace) → (IsPastMap w range → ⊥) → PutVerdict w s range (placeholder_length w range) (Puts x) → VacantPoint w s range points.Put
   MapGrows : (kind : PageKind) (p : Point) → Grows w range kind → KindPoint w s kind p → VacantPoint w s range p
 
 vacant_once : (w : IndexView) (s range : ℕ) (p q : Point) → VacantPoint w s range p → VacantPoint w s range q → p ≡ q
@@ -160,15 +160,15 @@ IsUniting on_index progress = Unit
 
 -- the points of a summariser, by its phase
 data SummarisePoint (w : IndexView) (s range : ℕ) : Phase → Point → Type 0 where
-  LooksAtMap : SummarisePoint w s range (NotBuilding Empty) AtMap
-  LooksAtTuple : (x : TuplePlace) → SummarisePoint w s range (NotBuilding (Held x)) AtTuple
-  DropsOld : (x : TuplePlace) → SummarisePoint w s range (NotBuilding (Dropping x)) AtDrop
+  LooksAtMap : SummarisePoint w s range (NotBuilding Empty) points.Map
+  LooksAtTuple : (x : TuplePlace) → SummarisePoint w s range (NotBuilding (Held x)) points.Tuple
+  DropsOld : (x : TuplePlace) → SummarisePoint w s range (NotBuilding (Dropping x)) points.Drop
   WantsEntry : (p : Point) → VacantPoint w s range p → SummarisePoint w s range Vacant p
-  ToCount : SummarisePoint w s range Growing AtMeta
+  ToCount : SummarisePoint w s range Growing points.Meta
   MovesOther : (m : ℕ) (on_index : OnIndex) (p : Point) → OnIndexPoint w s m on_index p → SummarisePoint w s range (Evacuating m on_index) p
-  SetsPlaceholder : (x : TuplePlace) → SummarisePoint w s range (Placing x) AtSet
-  ToExtent : SummarisePoint w s range (IsAt ExtentUnread Empty) AtExtent
-  PassesNext : (extent next : ℕ) (result : IndexTuple) → next < extent → SummarisePoint w s range (IsAt (Passing extent next result) Empty) AtPass
+  SetsPlaceholder : (x : TuplePlace) → SummarisePoint w s range (Placing x) points.Set
+  ToExtent : SummarisePoint w s range (IsAt ExtentUnread Empty) points.Extent
+  PassesNext : (extent next : ℕ) (result : IndexTuple) → next < extent → SummarisePoint w s range (IsAt (Passing extent next result) Empty) points.Pass
   MakesFinal : (progress : Progress) (on_index : OnIndex) (p : Point) → IsUniting on_index progress → OnIndexPoint w s range on_index p
       → SummarisePoint w s range (IsAt progress on_index) p
 
@@ -193,17 +193,17 @@ summarise_once w s range _ _ _ (MakesFinal progress on_index p all one) (MakesFi
     on_index_once w s range on_index p q one two
 
 growth_fact : (s range : ℕ) (w v : IndexView) (old new : Phase) (step : GrowthStep s range w v old new) → SummarisePoint w s range old (growth_point step)
-growth_fact s range w v _ _ (Grow grows free meta turns) = WantsEntry AtGrow (MapGrows Unstarted AtGrow grows (refl, free, meta))
-growth_fact s range w v _ _ (CountLeftOver grows meta counts) = WantsEntry AtMeta (MapGrows Mapping AtMeta grows (refl, meta))
+growth_fact s range w v _ _ (Grow grows free meta turns) = WantsEntry points.Grow (MapGrows Unstarted points.Grow grows (refl, free, meta))
+growth_fact s range w v _ _ (CountLeftOver grows meta counts) = WantsEntry points.Meta (MapGrows Mapping points.Meta grows (refl, meta))
 growth_fact s range w v _ _ (Count counts) = ToCount
-growth_fact s range w v _ _ (Flag grows free turns) = WantsEntry AtFlag (MapGrows Regular AtFlag grows (refl, free))
+growth_fact s range w v _ _ (Flag grows free turns) = WantsEntry points.Flag (MapGrows Regular points.Flag grows (refl, free))
 growth_fact s range w v _ _ (EvacuatePut x y t grows next named free verdict puts these) =
-    WantsEntry AtPut (MapGrows Emptying AtPut grows (NamedNext x y t next named free verdict))
-growth_fact s range w v _ _ (EvacuateSet m x y t u sets same) = MovesOther m (Moving x y t u) AtSet (ToSet x y t u)
-growth_fact s range w v _ _ (EvacuateDrop m x drops) = MovesOther m (Dropping x) AtDrop (ToDrop x)
+    WantsEntry points.Put (MapGrows Emptying points.Put grows (NamedNext x y t next named free verdict))
+growth_fact s range w v _ _ (EvacuateSet m x y t u sets same) = MovesOther m (Moving x y t u) points.Set (ToSet x y t u)
+growth_fact s range w v _ _ (EvacuateDrop m x drops) = MovesOther m (Dropping x) points.Drop (ToDrop x)
 growth_fact s range w v _ _ (EvacuateSweep x t grows next unnamed sweeps) =
-    WantsEntry AtDrop (MapGrows Emptying AtDrop grows (UnnamedNext x t next unnamed sweeps.free))
-growth_fact s range w v _ _ (Turn grows empty free meta turns) = WantsEntry AtTurn (MapGrows Emptying AtTurn grows (NoneNext empty free meta))
+    WantsEntry points.Drop (MapGrows Emptying points.Drop grows (UnnamedNext x t next unnamed sweeps.free))
+growth_fact s range w v _ _ (Turn grows empty free meta turns) = WantsEntry points.Turn (MapGrows Emptying points.Turn grows (NoneNext empty free meta))
 
 uniting : (on_index : OnIndex) (extent next : ℕ) (result : IndexTuple) → extent ≤ next → IsUniting on_index (Passing extent next result)
 uniting Empty extent next result all = all
@@ -220,16 +220,16 @@ summarise_fact s range w v _ _ (IsFinal x t stands final reads) = LooksAtTuple x
 summarise_fact s range w v _ _ (Found x t stands flag reads) = LooksAtTuple x
 summarise_fact s range w v _ _ (ReadNoEntry none of reads) = LooksAtMap
 summarise_fact s range w v _ _ (GrowMap old new step) = growth_fact s range w v old new step
-summarise_fact s range w v _ _ (Put x t is long verdict puts these) = WantsEntry AtPut (MapSuffices x long verdict)
+summarise_fact s range w v _ _ (Put x t is long verdict puts these) = WantsEntry points.Put (MapSuffices x long verdict)
 summarise_fact s range w v _ _ (Set x sets none) = SetsPlaceholder x
 summarise_fact s range w v _ _ (Extent extent result start is reads) = ToExtent
 summarise_fact s range w v _ _ (Pass extent next slots result wider below none made reads) = PassesNext extent next result below
 summarise_fact s range w v _ _ (Unite extent next result old new all step) =
     MakesFinal (Passing extent next result) old (on_index_point step) (uniting old extent next result all) (on_index_fact s range w v old new step)
 summarise_fact s range w v _ _ (UniteCopies extent next result x old new all stands united reads) =
-    MakesFinal (Passing extent next result) (Held x) AtCopy tt (ToCopy x)
-summarise_fact s range w v _ _ (SwapFinal p x old new verdict swap) = MakesFinal p (Copied x old new) AtSwap tt (ToJudge x old new Fits tt verdict)
-summarise_fact s range w v _ _ (SetFinal p x y old new sets same) = MakesFinal p (Moving x y old new) AtSet tt (ToSet x y old new)
+    MakesFinal (Passing extent next result) (Held x) points.Copy tt (ToCopy x)
+summarise_fact s range w v _ _ (SwapFinal p x old new verdict swap) = MakesFinal p (Copied x old new) points.Swap tt (ToJudge x old new Fits tt verdict)
+summarise_fact s range w v _ _ (SetFinal p x y old new sets same) = MakesFinal p (Moving x y old new) points.Set tt (ToSet x y old new)
 summarise_fact s range w v _ _ (DropOld x drops) = DropsOld x
 
 pub summarise_one_point : (s range : ℕ) (w v u : IndexView) (phase : Phase) (e f : Statement)
@@ -290,10 +290,10 @@ summarise_blocked s range w v p phase e waits step = phase_blocked w s range p p
 
 -- the points of a desummarise, by its phase
 data DesummarisePoint (w : IndexView) (s range : ℕ) : Phase → Point → Type 0 where
-  ToEntry : DesummarisePoint w s range (NotBuilding Empty) AtMap
+  ToEntry : DesummarisePoint w s range (NotBuilding Empty) points.Map
   ToClear : (x : TuplePlace) (verdict : Verdict) → IsUnblocked verdict → ClearVerdict w s range x verdict
       → DesummarisePoint w s range (NotBuilding (Held x)) (clear_point verdict)
-  ToDropCleared : (x : TuplePlace) → DesummarisePoint w s range (NotBuilding (Dropping x)) AtDrop
+  ToDropCleared : (x : TuplePlace) → DesummarisePoint w s range (NotBuilding (Dropping x)) points.Drop
 
 desummarise_once : (w : IndexView) (s range : ℕ) (phase : Phase) (p q : Point) → DesummarisePoint w s range phase p → DesummarisePoint w s range phase q → p ≡ q
 desummarise_once w s range _ _ _ ToEntry ToEntry = refl

@@ -3,11 +3,12 @@ use Rattle.std.proofs.Common.{◌≡◌, ◌≢◌, ◌⊎◌, inl, inr, ⊎_eli
 use Rattle.std.proofs.lemmas.Option.{same_Some, none-some}
 use Rattle.std.proofs.lemmas.Bool.{cases_eq}
 use Rattle.std.specs.Prelude.{refl, List, [], ◌∷◌, length}
-use Rattle.coverage.specs.IndexView.{TuplePlace, IndexTuple, Regular, IndexView, map_page_of}
+use Rattle.coverage.specs.IndexView.{TuplePlace, IndexTuple, PageKind, Unstarted, Regular, IndexView, map_page_of}
 use Rattle.coverage.specs.Changes.{IsFree}
 use Rattle.coverage.specs.Verdicts.{IsLocked, IsFirstLocked, First, Later, IsLowestNumber, PageHasRoom, IsPageUnstarted, IsTarget, OnStarted, OnNew, IsFreeSlot}
 use Rattle.coverage.specs.Verdicts.{HasFreeSlots, IsTargetPlace, Verdict, Waits, Differs, Fits, Puts, Full, PutVerdict, NoTarget, PutWaits, PutGoes, MustMove}
 use Rattle.coverage.specs.Verdicts.{SwapVerdict, SwapWaits, SwapDiffers, SwapFits, SwapMoves, ClearVerdict, ClearWaits, ClearDiffers, ClearFits}
+use Rattle.coverage.specs.PageOrder.{AreOrdered}
 use Rattle.coverage.proofs.Numbers.{lt_or_ge, lowest_below}
 
 pub free_not_locked : (w : IndexView) (s p : ℕ) → IsFree w s p → IsLocked w s p → ⊥
@@ -70,6 +71,36 @@ put_once w s range need _ _ (PutGoes y target free map) (PutWaits p q target' lo
     absurd (both_free w s y.block (map_page_of range) q free map
     (subst (λ m. IsFirstLocked w s (m ∷ map_page_of range ∷ []) q) (target_once w need p y.block target' target.0) locked))
 put_once w s range need _ _ (PutGoes y target free map) (PutGoes z target' free' map') = ap Puts (place_once w need y z target target')
+
+abbrev IsNotStarted : PageKind → Type 0
+IsNotStarted Unstarted = Unit
+IsNotStarted kind = ⊥
+
+-- a tuple is put at a free place of a page past the map that has room and isn't being emptied, or of one that isn't started
+pub put_place : (w : IndexView) (s range need : ℕ) (y : TuplePlace) → PutVerdict w s range need (Puts y) → (w.tuple y ≡ None)
+    × (((w.pages.map_pages < y.block) × (w.pages.kind y.block ≡ Regular) × (need ≤ w.pages.room y.block))
+    ⊎ ((w.pages.kind y.block ≡ Unstarted) × (y.block < w.pages.limit)))
+put_place w s range need y (PutGoes _ place free map) = (place.1.0, by place.0)
+  where
+    by : IsTarget w need y.block → ((w.pages.map_pages < y.block) × (w.pages.kind y.block ≡ Regular) × (need ≤ w.pages.room y.block))
+        ⊎ ((w.pages.kind y.block ≡ Unstarted) × (y.block < w.pages.limit))
+    by (OnStarted lowest) = inl lowest.0
+    by (OnNew none lowest below) = inr (lowest.0, below)
+
+-- where the pages are in order, that place lies past the map and below the limit
+pub put_past_map : (w : IndexView) (s range need : ℕ) (y : TuplePlace) → AreOrdered w → PutVerdict w s range need (Puts y)
+    → (w.pages.map_pages < y.block) × (y.block < w.pages.limit)
+put_past_map w s range need y ordered verdict = ⊎_elim
+    (λ (started : (w.pages.map_pages < y.block) × (w.pages.kind y.block ≡ Regular) × (need ≤ w.pages.room y.block)).
+    (started.0, ordered.below y.block (λ is. subst IsNotStarted (sym is ∙ started.1) tt)))
+    (λ (next : (w.pages.kind y.block ≡ Unstarted) × (y.block < w.pages.limit)). (
+      ⊎_elim
+          (λ (past : w.pages.map_pages < y.block). past)
+          (λ (inside : y.block ≤ w.pages.map_pages). absurd (subst IsNotStarted (sym next.0 ∙ ordered.map y.block inside) tt))
+          (lt_or_ge w.pages.map_pages y.block),
+      next.1,
+    ))
+    (put_place w s range need y verdict).1
 
 -- what fits in its place needn't move
 fits_or_moves : (w : IndexView) (x : TuplePlace) (new : IndexTuple) → w.pages.kind x.block ≡ Regular → length new.bytes ≤ w.pages.room_at x → MustMove w x new

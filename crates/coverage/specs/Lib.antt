@@ -13,3 +13,4 @@ pub mod Points
 pub mod Waiting
 pub mod Counts
 pub mod Stuck
+pub mod ExactResults

@@ -8,12 +8,12 @@
 
 ghost use Rattle.std.specs.Prelude.{◌≡◌, ◌≢◌, ◌⊎◌, ◌↔◌, ◌≤◌, ◌<◌, ℕ, suc, Bool, false, IsTrue, Option, None, Some, List};
 ghost use Rattle.block_model.specs.declared.row.Row.{Row};
-ghost use Rattle.coverage.specs.IndexView.{IndexView, Contents, Pages, TuplePlace, IndexTuple, Progress, ExtentUnread, Mapping};
+ghost use Rattle.coverage.specs.IndexView.{IndexView, Contents, Pages, TuplePlace, IndexTuple, Progress, ExtentUnread, Unstarted, Mapping, Regular};
 ghost use Rattle.coverage.specs.IndexView.{IsFormed, IsRangeOf, IsTupleOf, range_of_block, next_map_page, IsPastMap, NamesPlaceholder};
 ghost use Rattle.coverage.specs.IsSettled.{IsSettled, IsAccounted};
 ghost use Rattle.coverage.specs.IsSound.{IsSound};
 ghost use Rattle.coverage.specs.GoesOn.{GoesOn, IsHeld};
-ghost use Rattle.coverage.specs.Changes.{PutsRow, Places, Names, Turn, IsFree, Swaps, MovePuts, MoveSets, DropsLoose};
+ghost use Rattle.coverage.specs.Changes.{SameHeap, PutsRow, Places, Names, Turn, IsFree, Swaps, MovePuts, MoveSets, DropsLoose};
 ghost use Rattle.coverage.specs.Changes.{Clears, Sweeps, Prunes, Takes, Ends, TurnsLocks};
 ghost use Rattle.coverage.specs.Statements.{OnIndex, Empty, Held, Copied, Phase, NotBuilding, IsAt, Scan, Statement, Inserting, Maintaining, Scanning, AreLawful};
 ghost use Rattle.coverage.specs.IsCovered.{IndexState, index_view, new_index, AreRowsBelow, IsFoundOrUnread, StatementHolds, IsCovered, IsAtRest, IsIndexKept};
@@ -21,8 +21,9 @@ ghost use Rattle.coverage.specs.Steps.{IsUnnamed, SweepsTuples, InsertStep, Summ
 ghost use Rattle.coverage.specs.PageOrder.{AreOrdered, AreNewPages, KnowsPages};
 ghost use Rattle.coverage.specs.Points.{insert_point, summarise_point, desummarise_point};
 ghost use Rattle.coverage.specs.Counts.{HasGone, AreRowsGone, AreTuplesGone, NamesFinal, summarise_count, desummarise_count};
+ghost use Rattle.coverage.specs.ExactResults.{IsExact, IsExactAfter, NamesExactFinal};
 ghost use Rattle.coverage.specs.Knowing.{LocksNone, Knows, Spares};
-ghost use Rattle.coverage.specs.Verdicts.{Verdict, Waits, Differs, Full, IsLocked, HasFreeSlots, PutVerdict, SwapVerdict, ClearVerdict};
+ghost use Rattle.coverage.specs.Verdicts.{Verdict, Waits, Differs, Puts, Full, IsLocked, HasFreeSlots, PutVerdict, SwapVerdict, ClearVerdict};
 ghost use Rattle.coverage.specs.Waiting.{IsPhaseWaiting, IsPhaseFull};
 ghost use Rattle.coverage.specs.Stuck.{IsSummariseStuck, IsPhaseFree, HasBlocksOfRows, InsertsAlone, AreNamed, IsInsertStuck, IsSwapFree, IsDesummariseStuck, IsClearFree};
 
@@ -122,7 +123,8 @@ pub fn scans_miss_nothing()
 
 /// A step that would change pages comes out in one way: it waits, finds a difference, goes on in place or elsewhere, or is
 /// full. It waits only for a page that another session locks, and for one alone, and finds a difference only where there is one:
-/// tuples of one index with the same bytes are one. Where it is full, it tells how many pages there may be.
+/// tuples of one index with the same bytes are one. Where it is full, it tells how many pages there may be. A tuple is put at a free place
+/// of a page past the map that has room and isn't being emptied, or of the next page that isn't started, below the limit.
 pub fn verdicts_are_exact()
     ensures one_put { (w : IndexView) (s range need : ℕ) (p q : Verdict) → PutVerdict w s range need p → PutVerdict w s range need q → p ≡ q }
     ensures one_swap { (w : IndexView) (s range : ℕ) (x : TuplePlace) (old new : IndexTuple) (p q : Verdict) → SwapVerdict w s range x old new p
@@ -137,6 +139,11 @@ pub fn verdicts_are_exact()
     ensures phase_waits { (w : IndexView) (s range p : ℕ) (phase : Phase) → IsPhaseWaiting w s range phase p → IsLocked w s p }
     ensures one_phase_wait { (w : IndexView) (s range p q : ℕ) (phase : Phase) → IsPhaseWaiting w s range phase p → IsPhaseWaiting w s range phase q → p ≡ q }
     ensures same_bytes { (contents : Contents) (t u : IndexTuple) → IsFormed contents t → IsFormed contents u → t.bytes ≡ u.bytes → t ≡ u }
+    ensures put_place { (w : IndexView) (s range need : ℕ) (y : TuplePlace) → PutVerdict w s range need (Puts y) → (w.tuple y ≡ None)
+        × (((w.pages.map_pages < y.block) × (w.pages.kind y.block ≡ Regular) × (need ≤ w.pages.room y.block))
+        ⊎ ((w.pages.kind y.block ≡ Unstarted) × (y.block < w.pages.limit))) }
+    ensures put_past_map { (w : IndexView) (s range need : ℕ) (y : TuplePlace) → AreOrdered w → PutVerdict w s range need (Puts y)
+        → (w.pages.map_pages < y.block) × (y.block < w.pages.limit) }
     ensures full_put { (w : IndexView) (s range need number : ℕ) → PutVerdict w s range need (Full number) → number ≡ w.pages.limit }
     ensures full_swap { (w : IndexView) (s range number : ℕ) (x : TuplePlace) (old new : IndexTuple) → SwapVerdict w s range x old new (Full number)
         → number ≡ w.pages.limit }
@@ -209,6 +216,18 @@ pub fn counts_are_exact()
         → (desummarise_count step ≡ 1) ↔ ((w.entry range ≢ None) × (v.entry range ≡ None)) }
     ensures swept { (s page : ℕ) (w v : IndexView) → SweepsTuples s w v page (λ x. (x.block ≡ page) × IsUnnamed w x) → (x : TuplePlace) → x.block ≡ page
         → HasGone (w.tuple x) (v.tuple x) ↔ IsUnnamed w x }
+{}
+
+/// While the rows of the table stay, what a summariser has made of a range is exact after each of its steps, and stays so at the steps of
+/// others: its result is what the rows of the passed blocks make of the empty placeholder, in order of block and slot. So where it counts
+/// the range, the map comes to name the placeholder that it named, united with what all rows of the range make.
+pub fn results_are_exact()
+    ensures steps { (s range : ℕ) (w v : IndexView) (old : Phase) (new : Statement) → SummariseStep s range w v old new → IsExact w range old
+        → IsExactAfter v range new }
+    ensures stays { (w v : IndexView) (range : ℕ) (phase : Phase) → SameHeap w v → v.contents ≡ w.contents → IsExact w range phase → IsExact v range phase }
+    ensures named { (w v : IndexState) (s range : ℕ) (old : Phase) (new : Statement) (step : SummariseStep s range (index_view w) (index_view v) old new)
+        → IsIndexKept w → w.statement s ≡ Maintaining range old → IsExact (index_view w) range old → summarise_count step ≡ 1
+        → NamesExactFinal (index_view w) (index_view v) range }
 {}
 
 /// A run of these steps takes a range of a new index, with a lawful way to make tuples, from no entry to a final tuple: the

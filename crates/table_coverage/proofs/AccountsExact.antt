@@ -1,6 +1,7 @@
 -- What a step adds to accounts and queue is one thing, and the queue keeps its order and its limit.
 use Rattle.std.proofs.Common.{◌≡◌, ◌⊎◌, inl, inr, ℕ, ◌+◌, ◌≤◌, ◌<◌, Option, Some, List, [], ◌∷◌, ◌++◌, length, sym, ◌∙◌, ap, subst, arith, suc, length-append}
 use Rattle.std.proofs.lemmas.Option.{none-some}
+use Rattle.block_model.specs.declared.reply.Point.{Point}
 use Rattle.coverage.specs.IndexView.{TuplePlace}
 use Rattle.coverage.specs.Counts.{HasGone}
 use Rattle.coverage.proofs.Counted.{count_once}
@@ -9,7 +10,7 @@ use Rattle.table_coverage.specs.TableSteps.{BeginsWith, Summarize, SummarizeOne,
 use Rattle.table_coverage.specs.TableSteps.{InsertCompletes, RefusesInsert, TakesLock, MaintainGoes, MaintainCompletes, RefusesMaintain, RefusesVacuum}
 use Rattle.table_coverage.specs.TableSteps.{PrunesBlock, SweepsPage, RestartsIndex, BeginsScan, Judges, ReadsBlock, RefusesScan, MarksRow, Conflicts, Blocked}
 use Rattle.table_coverage.specs.TableSteps.{Transacts, range_in}
-use Rattle.table_coverage.specs.TablePoints.{TablePoint, does_point}
+use Rattle.table_coverage.specs.TablePoints.{does_point}
 use Rattle.table_coverage.specs.Accounts.{Asked, queue_limit, Account, no_account, Accounts, AccountIs, Asking, HasEntry, Joins, IsDropped, Begins}
 use Rattle.table_coverage.specs.Accounts.{AsksElsewhere, QueueStays, JoinsElsewhere, TakenElsewhere, Adds, AccountsStep}
 
@@ -51,7 +52,7 @@ module _ (s : ℕ) (a b c : Accounts) where
   before_once : (n m k : ℕ) → k ≡ n + 1 → k ≡ m + 1 → n ≡ m
   before_once n m k one two = omega arith
 
-  adds_once : (w v : TableState) (does : Does s w v) (p : TablePoint) → does_point s w v does ≡ Some p → Adds s w v does a b → Adds s w v does a c → SameOwn s b c
+  adds_once : (w v : TableState) (does : Does s w v) (p : Point) → does_point s w v does ≡ Some p → Adds s w v does a b → Adds s w v does a c → SameOwn s b c
   adds_once w v (PutsRow b' k r place turns takes) p is one two = is_once _ one two
   adds_once w v (RefusesRow t refused turns fails) p is one two = is_once _ one two
   adds_once w v (AsksSummary d k r at turns only) p is one two =
@@ -83,7 +84,7 @@ module _ (s : ℕ) (a b c : Accounts) where
   adds_once w v (Blocked task blocked turns only) p is one two = is_once _ one two
   adds_once w v (Transacts counts resting few same) p is one two = absurd (none-some _ is)
 
-pub accounts_once : (s : ℕ) (w v : TableState) (does : Does s w v) (p : TablePoint) (a b c : Accounts) → does_point s w v does ≡ Some p
+pub accounts_once : (s : ℕ) (w v : TableState) (does : Does s w v) (p : Point) (a b c : Accounts) → does_point s w v does ≡ Some p
     → AccountsStep s w v does a b → AccountsStep s w v does a c → SameOwn s b c
 accounts_once s w v does p a b c is one two = adds_once s a b c w v does p is one.adds two.adds
 

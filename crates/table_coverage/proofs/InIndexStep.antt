@@ -13,7 +13,7 @@ use Rattle.table_coverage.specs.Table.{Index, Job, EachRange, OneRange, WholeRan
 use Rattle.table_coverage.specs.Table.{Restarts, TableState, pick, seen_by, index_view_at}
 use Rattle.table_coverage.specs.TableSteps.{TaskTurns, StepsIn, JobStep, InsertGoes, InsertCompletes, MaintainGoes, MaintainCompletes, Onward}
 use Rattle.table_coverage.specs.TableSteps.{Stays, ToAsk, ToIndex, Inserted, ToRange, NextIndex, IsMaintained, RangesDone}
-use Rattle.table_coverage.specs.TablePoints.{OfIndex, job_point, IsTableStuck}
+use Rattle.table_coverage.specs.TablePoints.{job_point, IsTableStuck}
 use Rattle.table_coverage.proofs.Views.{pick_same, pick_there}
 use Rattle.table_coverage.proofs.VacuumGoesOn.{no_onward, no_end}
 use Rattle.table_coverage.proofs.OnThisView.{insert_on, summarise_on, desummarise_on}
@@ -152,7 +152,7 @@ module _ (w : TableState) (s : ℕ) (stuck : IsTableStuck w s) (at : ℕ) (below
         (no_onward w s stuck (in_index w s at x (Reaches b k r (suc at))) (Reaches b k r (suc at)) (now w s at x (Reaches b k r (suc at)))
         (InsertCompletes b k r at g (turns_in w s at x (Reaches b k r (suc at)) (Inserts b k r at g) was)
         (steps_in w s at x (Reaches b k r (suc at)) below same) step)
-        (OfIndex (insert_point step)) refl)
+        (insert_point step) refl)
 
     insert_goes : (x : Index) → x.autosummarize ≡ (w.index at).autosummarize → (h : OnIndex)
         → InsertStep s b k r view (index_view_at at (in_index w s at x (Inserts b k r at h))) g (Inserting b k r h) → ⊥
@@ -160,7 +160,7 @@ module _ (w : TableState) (s : ℕ) (stuck : IsTableStuck w s) (at : ℕ) (below
         no_onward w s stuck (in_index w s at x (Inserts b k r at h)) (Inserts b k r at h) (now w s at x (Inserts b k r at h))
         (InsertGoes b k r at g h (turns_in w s at x (Inserts b k r at h) (Inserts b k r at g) was)
         (steps_in w s at x (Inserts b k r at h) below same) step)
-        (OfIndex (insert_point step)) refl (Inserts b k r at h) (Stays (Inserts b k r at h) tt)
+        (insert_point step) refl (Inserts b k r at h) (Stays (Inserts b k r at h) tt)
 
     pub insert_no_step : (e : Statement) (v : IndexView) → InsertStep s b k r view v g e → ⊥
     insert_no_step e v step = ⊎_elim
@@ -188,7 +188,7 @@ module _ (w : TableState) (s : ℕ) (stuck : IsTableStuck w s) (at : ℕ) (below
         let new = Considers job at (suc range) in
         let u = in_index w s at x new in
         let does = MaintainCompletes job at range g (turns_in w s at x new (Maintains job at range g) was) (steps_in w s at x new below same) step in
-        let p = OfIndex (job_point job s range view (index_view_at at u) g Holding step) in
+        let p = job_point job s range view (index_view_at at u) g Holding step in
         considers_on u job at (suc range) below (no_onward w s stuck u new (now w s at x new) does p refl)
         (no_end w s stuck u new (now w s at x new) does p refl)
 
@@ -199,7 +199,7 @@ module _ (w : TableState) (s : ℕ) (stuck : IsTableStuck w s) (at : ℕ) (below
         let u = in_index w s at x new in
         no_onward w s stuck u new (now w s at x new)
         (MaintainGoes job at range g h (turns_in w s at x new (Maintains job at range g) was) (steps_in w s at x new below same) step)
-        (OfIndex (job_point job s range view (index_view_at at u) g (Maintaining range h) step)) refl new (Stays new tt)
+        (job_point job s range view (index_view_at at u) g (Maintaining range h) step) refl new (Stays new tt)
 
     job_on : (j : Job) (v : IndexView) (building : ℕ → Option Building) (loose : ℕ → Option TuplePlace) (e : Statement) → JobStep j s range view v g e
         → JobStep j s range view (record view {

@@ -1,60 +1,18 @@
 -- An insert whose session steps alone ends, or waits, within six steps an index.
-use Rattle.std.proofs.Common.{◌≡◌, ◌⊎◌, inl, inr, ⊎_elim, ℕ, ◌+◌, ◌*◌, ◌≤◌, ◌<◌, Some, ◌∷◌, sym, ◌∙◌, ap, subst, arith, suc}
+use Rattle.std.proofs.Common.{◌≡◌, ◌⊎◌, inl, inr, ⊎_elim, ℕ, ◌+◌, ◌*◌, ◌≤◌, ◌<◌, sym, ◌∙◌, ap, subst, arith, suc}
 use Rattle.std.specs.Prelude.{refl}
-use Rattle.std.proofs.lemmas.Option.{none-some}
 use Rattle.block_model.specs.declared.row.Row.{Row}
 use Rattle.coverage.specs.Statements.{OnIndex, Empty, Idle, Inserting, building_of, loose_of}
-use Rattle.coverage.specs.Steps.{InsertStep}
 use Rattle.coverage.specs.Stuck.{InsertsAlone, LastStep, OneMore, AreNamed}
 use Rattle.coverage.proofs.InsertsEnd.{insert_bound, begun_bound}
 use Rattle.table_coverage.specs.Table.{Index, Task, Resting, Reaches, Asks, Inserts, Considers, Maintains, Prunes, SweepsFrom, Sweeps, Restarts, Scans, Marks}
 use Rattle.table_coverage.specs.Table.{TableState, seen_by, index_view_at}
-use Rattle.table_coverage.specs.TableSteps.{OnlyTurns, Does, PutsRow, RefusesRow, AsksSummary, InsertGoes, InsertCompletes, RefusesInsert, TakesLock}
-use Rattle.table_coverage.specs.TableSteps.{MaintainGoes, MaintainCompletes, RefusesMaintain, RefusesVacuum, PrunesBlock, SweepsPage, RestartsIndex}
-use Rattle.table_coverage.specs.TableSteps.{BeginsScan, Judges, ReadsBlock, RefusesScan, MarksRow, Conflicts, Blocked, Transacts, Onward, Stays, ToAsk, ToIndex}
-use Rattle.table_coverage.specs.TableSteps.{Inserted, IsMaintained, Settles, GoesOn, GivesLock, TableStep}
-use Rattle.table_coverage.specs.TablePoints.{TablePoint, does_point}
+use Rattle.table_coverage.specs.TableSteps.{OnlyTurns, Onward, Stays, ToAsk, ToIndex, Inserted, IsMaintained, Settles, GoesOn, GivesLock, TableStep}
 use Rattle.table_coverage.specs.GoingOn.{IsInserting, StepsAlone, LastAlone, OneMoreAlone}
 use Rattle.table_coverage.specs.TableCovered.{IsInTable, IsTableKept}
 use Rattle.table_coverage.proofs.TableSettled.{does_layout, settles_layout}
+use Rattle.table_coverage.proofs.StepDid.{Did, DidBegin, DidAsk, DidInsert, DidComplete, DidMaintain, DidRange, DidPrune, DidSweep, DidRestart, DidJudge, DidRead, DidMark, step_did}
 use Rattle.table_coverage.proofs.TableSeen.{table_step_kept}
-
--- what an insert's step did
-data InsertDid (s : ℕ) (w u : TableState) : Task → Type 0 where
-  DidAsk : (b k : ℕ) (r : Row) (at : ℕ) → u.task s ≡ Inserts b k r at Empty → InsertDid s w u (Asks b k r at)
-  DidGo : (b k : ℕ) (r : Row) (at : ℕ) (g h : OnIndex) → u.task s ≡ Inserts b k r at h
-      → InsertStep s b k r (index_view_at at w) (index_view_at at u) g (Inserting b k r h) → InsertDid s w u (Inserts b k r at g)
-  DidComplete : (b k : ℕ) (r : Row) (at : ℕ) (g : OnIndex) → u.task s ≡ Reaches b k r (suc at)
-      → InsertStep s b k r (index_view_at at w) (index_view_at at u) g Idle → InsertDid s w u (Inserts b k r at g)
-  DidOther : (task : Task) → (IsInserting task → ⊥) → InsertDid s w u task
-
-module _ (s : ℕ) (w u : TableState) (p : TablePoint) where
-  did : (task : Task) → w.task s ≡ task → InsertDid s w u task → InsertDid s w u (w.task s)
-  did task was it = subst (InsertDid s w u) (sym was) it
-
-  insert_did : (does : Does s w u) → does_point s w u does ≡ Some p → InsertDid s w u (w.task s)
-  insert_did (PutsRow b k r place turns takes) is = did _ turns.was (DidOther Resting (λ i. i))
-  insert_did (RefusesRow t refused turns fails) is = absurd (none-some _ is)
-  insert_did (AsksSummary b k r at turns only) is = did _ turns.was (DidAsk b k r at turns.now)
-  insert_did (InsertGoes b k r at old new turns stepped step) is = did _ turns.was (DidGo b k r at old new turns.now step)
-  insert_did (InsertCompletes b k r at old turns stepped step) is = did _ turns.was (DidComplete b k r at old turns.now step)
-  insert_did (RefusesInsert b k r old refused turns fails) is = absurd (none-some _ is)
-  insert_did (TakesLock first begins turns free held rows indexes) is = did _ turns.was (DidOther Resting (λ i. i))
-  insert_did (MaintainGoes job at range old new turns stepped step) is = did _ turns.was (DidOther (Maintains job at range old) (λ i. i))
-  insert_did (MaintainCompletes job at range old turns stepped step) is = did _ turns.was (DidOther (Maintains job at range old) (λ i. i))
-  insert_did (RefusesMaintain job at range phase refused turns stepped passes) is = absurd (none-some _ is)
-  insert_did (RefusesVacuum old vacuuming turns given rows indexes) is = absurd (none-some _ is)
-  insert_did (PrunesBlock extent next dropped inside spared turns drops) is = did _ turns.was (DidOther (Prunes extent next) (λ i. i))
-  insert_did (SweepsPage at page turns stepped sweeps) is = did _ turns.was (DidOther (Sweeps at page) (λ i. i))
-  insert_did (RestartsIndex at turns only) is = did _ turns.was (DidOther (Restarts at) (λ i. i))
-  insert_did (BeginsScan scan begins turns only) is = did _ turns.was (DidOther Resting (λ i. i))
-  insert_did (Judges old new inside low step turns only) is = did _ turns.was (DidOther (Scans old) (λ i. i))
-  insert_did (ReadsBlock scan next found reads turns only) is = did _ turns.was (DidOther (Scans scan) (λ i. i))
-  insert_did (RefusesScan scan t turns how) is = absurd (none-some _ is)
-  insert_did (MarksRow scan id rest turns only) is = did _ turns.was (DidOther (Marks scan (id ∷ rest)) (λ i. i))
-  insert_did (Conflicts scan id rest t turns fails) is = absurd (none-some _ is)
-  insert_did (Blocked task blocked turns only) is = absurd (none-some _ is)
-  insert_did (Transacts counts resting few same) is = absurd (none-some _ is)
 
 -- where it comes by that
 module _ (u : TableState) (b k : ℕ) (r : Row) (at : ℕ) where
@@ -74,7 +32,7 @@ module _ (u : TableState) (b k : ℕ) (r : Row) (at : ℕ) where
   reach_unmaintained done = elim done [ ]
 
 -- where nothing but tasks may have changed, and those haven't, an index shows the same
-same_view : (at : ℕ) (u v : TableState) → OnlyTurns u v → ((n : ℕ) → v.task n ≡ u.task n) → index_view_at at v ≡ index_view_at at u
+pub same_view : (at : ℕ) (u v : TableState) → OnlyTurns u v → ((n : ℕ) → v.task n ≡ u.task n) → index_view_at at v ≡ index_view_at at u
 same_view at u v only tasks = λ j. record {
   contents = ap (λ (x : Index). x.contents) (only.indexes.index at) j;
   pages_per_range = ap (λ (x : Index). x.pages_per_range) (only.indexes.index at) j;
@@ -127,20 +85,6 @@ Within s n w (Asks b k r at) = n + 6 * at ≤ 6 * w.indexes
 Within s n w (Inserts b k r at g) = (m : ℕ) × (j : ℕ) × InsertsAlone s b k r m (index_view_at at w) g × (n ≡ m + j) × (j + 6 * suc at ≤ 6 * w.indexes)
 Within s n w task = Unit
 
-within_other : (s n : ℕ) (w : TableState) (task : Task) → (IsInserting task → ⊥) → Within s n w task
-within_other s n w Resting not = tt
-within_other s n w (Reaches b k r at) not = tt
-within_other s n w (Asks b k r at) not = absurd (not tt)
-within_other s n w (Inserts b k r at on_index) not = absurd (not tt)
-within_other s n w (Considers job at range) not = tt
-within_other s n w (Maintains job at range phase) not = tt
-within_other s n w (Prunes extent next) not = tt
-within_other s n w (SweepsFrom at from) not = tt
-within_other s n w (Sweeps at page) not = tt
-within_other s n w (Restarts at) not = tt
-within_other s n w (Scans scan) not = tt
-within_other s n w (Marks scan ids) not = tt
-
 one_left : (a n : ℕ) → a < n → 1 + 6 * a ≤ 6 * n
 one_left a n less = omega arith
 
@@ -155,13 +99,21 @@ module _ (s : ℕ) where
     abbrev u : TableState
     u = step.between
 
-    last_within : (task : Task) → InsertDid s w u task → IsInTable w task → Within s 1 w task
-    last_within _ (DidAsk b k r at is) below = one_left at w.indexes below
-    last_within _ (DidGo b k r at g h is done) below =
+    last_within : (task new : Task) → Did s w u task new → IsInTable w task → Within s 1 w task
+    last_within _ _ (DidAsk b k r at) below = one_left at w.indexes below
+    last_within _ _ (DidInsert b k r at g h done) below =
         (1, 0, LastStep (index_view_at at w) (index_view_at at u) g (Inserting b k r h) done, refl, none_left at w.indexes below)
-    last_within _ (DidComplete b k r at g is done) below =
+    last_within _ _ (DidComplete b k r at g done) below =
         (1, 0, LastStep (index_view_at at w) (index_view_at at u) g Idle done, refl, none_left at w.indexes below)
-    last_within task (DidOther _ not) below = within_other s 1 w task not
+    last_within _ _ (DidBegin new) below = tt
+    last_within _ _ (DidMaintain job at range old new stepped done) below = tt
+    last_within _ _ (DidRange job at range old stepped done) below = tt
+    last_within _ _ (DidPrune extent next dropped inside drops) below = tt
+    last_within _ _ (DidSweep at page stepped sweeps) below = tt
+    last_within _ _ (DidRestart at only) below = tt
+    last_within _ _ (DidJudge old new inside low judge only) below = tt
+    last_within _ _ (DidRead scan next found reads only) below = tt
+    last_within _ _ (DidMark scan id rest only) below = tt
 
     same_indexes : v.indexes ≡ w.indexes
     same_indexes = settles_layout s u v step.settles ∙ does_layout s w u step.does
@@ -181,15 +133,15 @@ module _ (s : ℕ) where
     one_more : (n : ℕ) → suc n ≡ 1 + n
     one_more n = omega arith
 
-    next_within : (n : ℕ) → IsTableKept v → (v.task s ≡ Resting → ⊥) → Within s n v (v.task s) → (task : Task) → InsertDid s w u task → IsInTable w task
-        → Within s (suc n) w task
-    next_within n kept_v going more _ (DidAsk b k r at is) below =
+    next_within : (n : ℕ) → IsTableKept v → (v.task s ≡ Resting → ⊥) → Within s n v (v.task s) → (task new : Task) → Did s w u task new → u.task s ≡ new
+        → IsInTable w task → Within s (suc n) w task
+    next_within n kept_v going more _ _ (DidAsk b k r at) is below =
         let stays = settle_stays s u v b k r at Empty step.settles is in
         let left = subst (Within s n v) stays.0 more in
         ask_left n left.0 left.1 at w.indexes left.3
         (begun_bound s b k r left.0 (index_view_at at v) (named_at v at kept_v (below_on at below)) left.2)
         (subst (λ i. left.1 + 6 * suc at ≤ 6 * i) same_indexes left.4)
-    next_within n kept_v going more _ (DidGo b k r at g h is done) below =
+    next_within n kept_v going more _ _ (DidInsert b k r at g h done) is below =
         let stays = settle_stays s u v b k r at h step.settles is in
         let left = subst (Within s n v) stays.0 more in (
           suc left.0,
@@ -198,7 +150,7 @@ module _ (s : ℕ) where
           go_left n left.0 left.1 left.3,
           subst (λ i. left.1 + 6 * suc at ≤ 6 * i) same_indexes left.4,
         )
-    next_within n kept_v going more _ (DidComplete b k r at g is done) below = (
+    next_within n kept_v going more _ _ (DidComplete b k r at g done) is below = (
       1,
       n,
       LastStep (index_view_at at w) (index_view_at at u) g Idle done,
@@ -217,14 +169,23 @@ module _ (s : ℕ) where
           other)
           (settle_reaches s u v b k r (suc at) step.settles is),
     )
-    next_within n kept_v going more task (DidOther _ not) below = within_other s (suc n) w task not
+    next_within n kept_v going more _ _ (DidBegin new) is below = tt
+    next_within n kept_v going more _ _ (DidMaintain job at range old new stepped done) is below = tt
+    next_within n kept_v going more _ _ (DidRange job at range old stepped done) is below = tt
+    next_within n kept_v going more _ _ (DidPrune extent next dropped inside drops) is below = tt
+    next_within n kept_v going more _ _ (DidSweep at page stepped sweeps) is below = tt
+    next_within n kept_v going more _ _ (DidRestart at only) is below = tt
+    next_within n kept_v going more _ _ (DidJudge old new inside low judge only) is below = tt
+    next_within n kept_v going more _ _ (DidRead scan next found reads only) is below = tt
+    next_within n kept_v going more _ _ (DidMark scan id rest only) is below = tt
 
   within : (n : ℕ) (w : TableState) → StepsAlone s n w → IsTableKept w → Within s n w (w.task s)
   within _ _ (LastAlone w v step p point) kept =
-      last_within w v step kept (w.task s) (insert_did s w step.between p step.does point) (kept.inside s)
+      last_within w v step kept (w.task s) (step.between.task s) (step_did s w step.between p step.does point) (kept.inside s)
   within _ _ (OneMoreAlone n w v step p point going more) kept =
       let kept_v = table_step_kept s w v kept step in
-      next_within w v step kept n kept_v going (within n v more kept_v) (w.task s) (insert_did s w step.between p step.does point) (kept.inside s)
+      next_within w v step kept n kept_v going (within n v more kept_v) (w.task s) (step.between.task s)
+      (step_did s w step.between p step.does point) refl (kept.inside s)
 
   pub insert_within : (n : ℕ) (w : TableState) → IsTableKept w → IsInserting (w.task s) → StepsAlone s n w → n ≤ 6 * w.indexes
   insert_within n w kept inserting alone = by (w.task s) refl inserting (within n w alone kept)

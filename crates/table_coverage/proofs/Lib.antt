@@ -29,4 +29,12 @@ pub mod FoundListed
 pub mod InIndexStep
 pub mod StatementsGoOn
 pub mod InsertsEndAlone
+pub mod StepDid
+pub mod Sums
+pub mod ScansEndAlone
+pub mod DesummariseEnds
+pub mod SweepsEnd
+pub mod PlacesCounted
+pub mod SummariseLeft
+pub mod SummariseEnds
 pub mod AskRun

@@ -3,6 +3,7 @@ use Rattle.std.proofs.Common.{◌≡◌, ◌≢◌, ◌⊎◌, inl, inr, ⊎_eli
 use Rattle.std.specs.Prelude.{refl, IsTrue}
 use Rattle.std.proofs.lemmas.Option.{none-some}
 use Rattle.std.proofs.lemmas.Bool.{cases_eq}
+use Rattle.block_model.specs.declared.reply.Point.TheVariants as points
 use Rattle.block_model.specs.declared.row.Row.{Row}
 use Rattle.block_model.specs.declared.row.RowId.{RowId}
 use Rattle.coverage.specs.IndexView.{IndexView}
@@ -17,7 +18,7 @@ use Rattle.table_coverage.specs.Table.{Maintains, Prunes, SweepsFrom, Sweeps, Re
 use Rattle.table_coverage.specs.TableSteps.{first_block, HasRange, IsBlocked, InsertWaits, SummariseWaits, DesummariseWaits, SweepWaits, JudgeStep, JudgeMap}
 use Rattle.table_coverage.specs.TableSteps.{JudgeNoEntry, JudgeGone, JudgeKeeps, JudgeDrops, IndexFull, NoPage, ListsFound, Does, AsksSummary, Judges, ReadsBlock}
 use Rattle.table_coverage.specs.TableSteps.{MarksRow, HasStep, ScanHasStep, Onward, Stays, JudgesNext, Scanned, ToMarks, Marked}
-use Rattle.table_coverage.specs.TablePoints.{OfIndex, AtAsk, AtPage, AtMark, judge_point, IsTableStuck}
+use Rattle.table_coverage.specs.TablePoints.{judge_point, IsTableStuck}
 use Rattle.table_coverage.specs.Refusals.{IsTaskFull, InsertFull, MaintainFull}
 use Rattle.table_coverage.specs.GoingOn.{CanGoOn, IsScanHonest}
 use Rattle.table_coverage.specs.TableCovered.{IsExtentWithin, IsPhaseOf, IsInTable, FindsOnly, IsTableKept}
@@ -136,7 +137,7 @@ module _ (w : TableState) (s : ℕ) (kept : IsTableKept w) (can : CanGoOn w) (ho
       judged scan was inside low q step =
           scan_goes q (Judges scan q inside low step (turns_here w s (Scans scan) (Scans q) was) (only_here w s (Scans q)))
           (no_onward w s stuck (turned w s (Scans q)) (Scans q) (pick_same s (Scans q) (w.task s))
-          (Judges scan q inside low step (turns_here w s (Scans scan) (Scans q) was) (only_here w s (Scans q))) (OfIndex (judge_point step)) refl)
+          (Judges scan q inside low step (turns_here w s (Scans scan) (Scans q) was) (only_here w s (Scans q))) (judge_point step) refl)
           (judged_next (λ at range extent. first_block w at range < extent) (index_view_at scan.at w) scan q low step)
           (subst (λ n. n ≤ w.indexes) (sym (judge_at (index_view_at scan.at w) scan q step)) (weaker scan.at w.indexes inside))
 
@@ -148,7 +149,7 @@ module _ (w : TableState) (s : ℕ) (kept : IsTableKept w) (can : CanGoOn w) (ho
       scan_over scan one.0 one.1 all
       (ReadsBlock scan one.0 one.1 one.2 (turns_here w s (Scans scan) (Scans q) was) (only_here w s (Scans q)))
       (no_onward w s stuck (turned w s (Scans q)) (Scans q) (pick_same s (Scans q) (w.task s))
-      (ReadsBlock scan one.0 one.1 one.2 (turns_here w s (Scans scan) (Scans q) was) (only_here w s (Scans q))) AtPage refl)
+      (ReadsBlock scan one.0 one.1 one.2 (turns_here w s (Scans scan) (Scans q) was) (only_here w s (Scans q))) points.Page refl)
     where
       scan_over : (scan : TableScan) (next : ℕ) (found : ℕ → ℕ → Bool) → scan.at ≡ w.indexes
           → Does s w (turned w s (Scans (record scan { read = next + 1; found = found })))
@@ -178,13 +179,13 @@ module _ (w : TableState) (s : ℕ) (kept : IsTableKept w) (can : CanGoOn w) (ho
   mark_goes_on scan (id ∷ rest) was has =
       mark_onward scan rest
       (no_onward w s stuck (turned w s (Marks scan rest)) (Marks scan rest) (pick_same s (Marks scan rest) (w.task s))
-      (MarksRow scan id rest (turns_here w s (Marks scan (id ∷ rest)) (Marks scan rest) was) (only_here w s (Marks scan rest))) AtMark refl)
+      (MarksRow scan id rest (turns_here w s (Marks scan (id ∷ rest)) (Marks scan rest) was) (only_here w s (Marks scan rest))) points.Mark refl)
 
   ask_goes_on : (b k : ℕ) (r : Row) (at : ℕ) → w.task s ≡ Asks b k r at → ⊥
   ask_goes_on b k r at was =
       let new = Inserts b k r at Empty in
       no_onward w s stuck (turned w s new) new (pick_same s new (w.task s))
-      (AsksSummary b k r at (turns_here w s (Asks b k r at) new was) (only_here w s new)) AtAsk refl new (Stays new tt)
+      (AsksSummary b k r at (turns_here w s (Asks b k r at) new was) (only_here w s new)) points.Ask refl new (Stays new tt)
 
   insert_goes_on : (b k : ℕ) (r : Row) (at : ℕ) (g : OnIndex) → w.task s ≡ Inserts b k r at g → ⊥
   insert_goes_on b k r at g was =

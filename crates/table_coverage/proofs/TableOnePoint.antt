@@ -2,12 +2,14 @@
 use Rattle.std.proofs.Common.{◌≡◌, ℕ, ◌+◌, ◌<◌, Option, Some, None, Bool, List, ◌∷◌, sym, ◌∙◌, ap, subst, arith, suc}
 use Rattle.std.specs.Prelude.{refl}
 use Rattle.std.proofs.lemmas.Option.{same_Some, none-some}
+use Rattle.block_model.specs.declared.reply.Point.{Point}
+use Rattle.block_model.specs.declared.reply.Point.TheVariants as points
 use Rattle.block_model.specs.declared.row.Row.{Row}
 use Rattle.block_model.specs.declared.row.RowId.{RowId}
 use Rattle.coverage.specs.IndexView.{TuplePlace, IndexView}
 use Rattle.coverage.specs.Statements.{OnIndex, Empty, Phase, Statement, Idle, Inserting, Maintaining, Holding}
 use Rattle.coverage.specs.Steps.{InsertStep}
-use Rattle.coverage.specs.Points.{Point, AtMap, AtTuple, insert_point}
+use Rattle.coverage.specs.Points.{insert_point}
 use Rattle.coverage.proofs.NextSteps.{insert_one_point, summarise_one_point, desummarise_one_point}
 use Rattle.coverage.proofs.OneOutcome.{insert_one_outcome, summarise_one_outcome, desummarise_one_outcome}
 use Rattle.table_coverage.proofs.TableScans.{judge_once, reads_once}
@@ -16,7 +18,7 @@ use Rattle.table_coverage.specs.Table.{SweepsFrom, Sweeps, Restarts, Scans, Mark
 use Rattle.table_coverage.specs.TableSteps.{TaskTurns, ReadsPage, JobStep, JudgeStep, JudgeMap, JudgeNoEntry, JudgeGone, JudgeKeeps, JudgeDrops, Does, PutsRow, RefusesRow, AsksSummary, InsertGoes}
 use Rattle.table_coverage.specs.TableSteps.{InsertCompletes, RefusesInsert, TakesLock, MaintainGoes, MaintainCompletes, RefusesMaintain, RefusesVacuum}
 use Rattle.table_coverage.specs.TableSteps.{PrunesBlock, SweepsPage, RestartsIndex, BeginsScan, Judges, ReadsBlock, RefusesScan, MarksRow, Conflicts, Blocked, Transacts}
-use Rattle.table_coverage.specs.TablePoints.{TablePoint, OfIndex, AtAsk, AtRight, AtPrune, AtSweep, AtPage, AtMark, job_point, judge_point, does_point}
+use Rattle.table_coverage.specs.TablePoints.{job_point, judge_point, does_point}
 
 -- what an insert and a maintenance statement are at after a step in an index
 abbrev after_insert : (b k : ℕ) → Row → (at : ℕ) → Statement → Task
@@ -28,20 +30,20 @@ after_maintain job at range (Maintaining m phase) = Maintains job at range phase
 after_maintain job at range statement = Considers job at (suc range)
 
 -- the point of a statement, by its task, and where its step takes it
-data NextTask (w : TableState) (s : ℕ) : Task → TablePoint → Task → Type 0 where
-  ToAsk : (b k : ℕ) (r : Row) (at : ℕ) → NextTask w s (Asks b k r at) AtAsk (Inserts b k r at Empty)
+data NextTask (w : TableState) (s : ℕ) : Task → Point → Task → Type 0 where
+  ToAsk : (b k : ℕ) (r : Row) (at : ℕ) → NextTask w s (Asks b k r at) points.Ask (Inserts b k r at Empty)
   ToInsert : (b k : ℕ) (r : Row) (at : ℕ) (old : OnIndex) (v : IndexView) (e : Statement) (step : InsertStep s b k r (index_view_at at w) v old e)
-      → NextTask w s (Inserts b k r at old) (OfIndex (insert_point step)) (after_insert b k r at e)
+      → NextTask w s (Inserts b k r at old) (insert_point step) (after_insert b k r at e)
   ToMaintain : (job : Job) (at range : ℕ) (old : Phase) (v : IndexView) (e : Statement) (step : JobStep job s range (index_view_at at w) v old e)
-      → NextTask w s (Maintains job at range old) (OfIndex (job_point job s range (index_view_at at w) v old e step)) (after_maintain job at range e)
-  ToPrune : (extent next : ℕ) → NextTask w s (Prunes extent next) AtPrune (Prunes extent (suc next))
-  ToSweep : (at page : ℕ) → NextTask w s (Sweeps at page) AtSweep (SweepsFrom at (suc page))
-  ToRestart : (at : ℕ) → NextTask w s (Restarts at) AtRight (Considers (WholeRanges w.blocks) at 0)
+      → NextTask w s (Maintains job at range old) (job_point job s range (index_view_at at w) v old e step) (after_maintain job at range e)
+  ToPrune : (extent next : ℕ) → NextTask w s (Prunes extent next) points.Prune (Prunes extent (suc next))
+  ToSweep : (at page : ℕ) → NextTask w s (Sweeps at page) points.Sweep (SweepsFrom at (suc page))
+  ToRestart : (at : ℕ) → NextTask w s (Restarts at) points.Right (Considers (WholeRanges w.blocks) at 0)
   ToJudge : (old new : TableScan) → old.at < w.indexes → (step : JudgeStep (index_view_at old.at w) old new)
-      → NextTask w s (Scans old) (OfIndex (judge_point step)) (Scans new)
+      → NextTask w s (Scans old) (judge_point step) (Scans new)
   ToRead : (scan : TableScan) (next : ℕ) (found : ℕ → ℕ → Bool) → ReadsPage w scan next found
-      → NextTask w s (Scans scan) AtPage (Scans (record scan { read = next + 1; found = found }))
-  ToMark : (scan : TableScan) (id : RowId) (rest : List RowId) → NextTask w s (Marks scan (id ∷ rest)) AtMark (Marks scan rest)
+      → NextTask w s (Scans scan) points.Page (Scans (record scan { read = next + 1; found = found }))
+  ToMark : (scan : TableScan) (id : RowId) (rest : List RowId) → NextTask w s (Marks scan (id ∷ rest)) points.Mark (Marks scan rest)
 
 job_one_outcome : (job : Job) (s range : ℕ) (w v u : IndexView) (phase : Phase) (e f : Statement) → JobStep job s range w v phase e
     → JobStep job s range w u phase f → e ≡ f
@@ -59,8 +61,8 @@ job_one_point (Desummarising only) s range w v u phase e f one two = desummarise
 
 -- a scan reads the map where it holds no place, else the tuple there
 abbrev point_of_held : Option TuplePlace → Point
-point_of_held None = AtMap
-point_of_held (Some x) = AtTuple
+point_of_held None = points.Map
+point_of_held (Some x) = points.Tuple
 
 judge_held : (w : IndexView) (old new : TableScan) (step : JudgeStep w old new) → judge_point step ≡ point_of_held old.held
 judge_held w old _ (JudgeMap x empty named) = ap point_of_held (sym empty)
@@ -73,24 +75,24 @@ less_not_equal : (n m : ℕ) → n < m → n ≡ m → ⊥
 less_not_equal n m less is = omega arith
 
 -- one point, and one task afterwards
-abbrev SameNext : (p q : TablePoint) (t u : Task) → Type 0
+abbrev SameNext : (p q : Point) (t u : Task) → Type 0
 SameNext p q t u = (p ≡ q) × (t ≡ u)
 
-task_once : (w : TableState) (s : ℕ) (task : Task) (p q : TablePoint) (t u : Task) → NextTask w s task p t → NextTask w s task q u → SameNext p q t u
+task_once : (w : TableState) (s : ℕ) (task : Task) (p q : Point) (t u : Task) → NextTask w s task p t → NextTask w s task q u → SameNext p q t u
 task_once w s _ _ _ _ _ (ToAsk b k r at) (ToAsk b' k' r' at') = (refl, refl)
 task_once w s _ _ _ _ _ (ToInsert b k r at old v e one) (ToInsert _ _ _ _ _ u f two) = (
-  ap OfIndex (insert_one_point s b k r (index_view_at at w) v u old e f one two),
+  insert_one_point s b k r (index_view_at at w) v u old e f one two,
   ap (after_insert b k r at) (insert_one_outcome s b k r (index_view_at at w) v u old e f one two),
 )
 task_once w s _ _ _ _ _ (ToMaintain job at range old v e one) (ToMaintain _ _ _ _ u f two) = (
-  ap OfIndex (job_one_point job s range (index_view_at at w) v u old e f one two),
+  job_one_point job s range (index_view_at at w) v u old e f one two,
   ap (after_maintain job at range) (job_one_outcome job s range (index_view_at at w) v u old e f one two),
 )
 task_once w s _ _ _ _ _ (ToPrune extent next) (ToPrune extent' next') = (refl, refl)
 task_once w s _ _ _ _ _ (ToSweep at page) (ToSweep at' page') = (refl, refl)
 task_once w s _ _ _ _ _ (ToRestart at) (ToRestart at') = (refl, refl)
 task_once w s _ _ _ _ _ (ToJudge old new inside one) (ToJudge _ new' inside' two) = (
-  ap OfIndex (judge_held (index_view_at old.at w) old new one ∙ sym (judge_held (index_view_at old.at w) old new' two)),
+  judge_held (index_view_at old.at w) old new one ∙ sym (judge_held (index_view_at old.at w) old new' two),
   ap Scans (judge_once (index_view_at old.at w) old new new' one two),
 )
 task_once w s _ _ _ _ _ (ToJudge old new inside one) (ToRead _ next found reads) = absurd (less_not_equal old.at w.indexes inside reads.judged)
@@ -106,8 +108,8 @@ IsBusy Resting = ⊥
 IsBusy task = Unit
 
 -- each step of a running statement that has a point has that of its task
-module _ (w v : TableState) (s : ℕ) (p : TablePoint) (busy : IsBusy (w.task s)) where
-  at_task : (task new : Task) (q : TablePoint) → TaskTurns s w v task new → NextTask w s task q new → Some q ≡ Some p → NextTask w s (w.task s) p (v.task s)
+module _ (w v : TableState) (s : ℕ) (p : Point) (busy : IsBusy (w.task s)) where
+  at_task : (task new : Task) (q : Point) → TaskTurns s w v task new → NextTask w s task q new → Some q ≡ Some p → NextTask w s (w.task s) p (v.task s)
   at_task task new q turns point same =
       subst (λ t. NextTask w s t p (v.task s)) (sym turns.was)
       (subst (λ t. NextTask w s task p t) (sym turns.now) (subst (λ r. NextTask w s task r new) (same_Some _ _ same) point))
@@ -156,7 +158,7 @@ busy_task (Restarts at) not = tt
 busy_task (Scans scan) not = tt
 busy_task (Marks scan ids) not = tt
 
-pub table_one_next : (s : ℕ) (w v u : TableState) (p q : TablePoint) → (w.task s ≡ Resting → ⊥) → (one : Does s w v) → (two : Does s w u)
+pub table_one_next : (s : ℕ) (w v u : TableState) (p q : Point) → (w.task s ≡ Resting → ⊥) → (one : Does s w v) → (two : Does s w u)
     → does_point s w v one ≡ Some p → does_point s w u two ≡ Some q → (p ≡ q) × (v.task s ≡ u.task s)
 table_one_next s w v u p q busy one two is is' =
     let at = busy_task (w.task s) busy in

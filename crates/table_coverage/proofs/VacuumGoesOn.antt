@@ -3,6 +3,8 @@ use Rattle.std.proofs.Common.{◌≡◌, ◌≢◌, ◌⊎◌, inl, inr, ⊎_eli
 use Rattle.std.specs.Prelude.{refl}
 use Rattle.std.proofs.lemmas.Option.{same_Some, none-some}
 use Rattle.std.proofs.lemmas.Bool.{cases_eq, false≢true}
+use Rattle.block_model.specs.declared.reply.Point.{Point}
+use Rattle.block_model.specs.declared.reply.Point.TheVariants as points
 use Rattle.coverage.specs.IndexView.{TuplePlace, IndexTuple, IndexView}
 use Rattle.coverage.specs.Changes.{IsFree}
 use Rattle.coverage.specs.Statements.{building_of, loose_of}
@@ -14,7 +16,7 @@ use Rattle.table_coverage.specs.Table.{index_view_at}
 use Rattle.table_coverage.specs.TableSteps.{TaskTurns, SameRows, OnlyTurns, first_block, Does, PrunesBlock, SweepsPage, RestartsIndex, HasTuples, IsFrom}
 use Rattle.table_coverage.specs.TableSteps.{Onward, Stays, ToRange, NextIndex, Pruned, ToPage, Swept, IsMaintained, RangesDone, NothingToSweep}
 use Rattle.table_coverage.specs.TableSteps.{GoesOn, GivesLock}
-use Rattle.table_coverage.specs.TablePoints.{TablePoint, AtPrune, AtRight, AtSweep, does_point, IsTableStuck}
+use Rattle.table_coverage.specs.TablePoints.{does_point, IsTableStuck}
 use Rattle.table_coverage.proofs.Views.{pick_same, pick_there}
 
 -- the session's statement is at this task, and all else is as before
@@ -38,7 +40,7 @@ module _ (w : TableState) (s : ℕ) where
 
 -- where a session has no step, what it could do leads nowhere
 module _ (w : TableState) (s : ℕ) (stuck : IsTableStuck w s) (u : TableState) (task : Task) (is : u.task s ≡ task) (does : Does s w u)
-    (p : TablePoint) (point : does_point s w u does ≡ Some p) where
+    (p : Point) (point : does_point s w u does ≡ Some p) where
   pub no_onward : (new : Task) → Onward u task new → ⊥
   no_onward new onward =
       stuck (turned u s new) (record { between = u; does = does; settles = GoesOn task new onward (turns_here u s task new is) (only_here u s new) }) p point
@@ -108,11 +110,11 @@ module _ (u : TableState) (at from : ℕ) (stuck : (new : Task) → Onward u (Sw
 
 pub prune_goes_on : (w : TableState) (s extent next : ℕ) → w.task s ≡ Prunes extent next → next < extent → IsTableStuck w s → ⊥
 prune_goes_on w s extent next was below stuck = ⊎_elim
-    (λ (less : suc next < extent). no_onward w s stuck u task now does AtPrune refl task (Stays task less))
+    (λ (less : suc next < extent). no_onward w s stuck u task now does points.Prune refl task (Stays task less))
     (λ (all : extent ≤ suc next). ⊎_elim
-    (λ (none : w.indexes ≡ 0). no_end w s stuck u task now does AtPrune refl (NothingToSweep extent (suc next) all none))
+    (λ (none : w.indexes ≡ 0). no_end w s stuck u task now does points.Prune refl (NothingToSweep extent (suc next) all none))
     (λ (some : w.indexes ≢ 0).
-    sweep_onward u 0 0 (λ new onward. no_onward w s stuck u task now does AtPrune refl new (Pruned extent (suc next) new all onward)) (positive w.indexes some))
+    sweep_onward u 0 0 (λ new onward. no_onward w s stuck u task now does points.Prune refl new (Pruned extent (suc next) new all onward)) (positive w.indexes some))
     (cases_eq w.indexes 0))
     (lt_or_ge (suc next) extent)
   where
@@ -144,12 +146,12 @@ pub restart_goes_on : (w : TableState) (s at : ℕ) → w.task s ≡ Restarts at
 restart_goes_on w s at was inside stuck = ⊎_elim
     (λ (less : w.blocks < first_block w at (0 + 1)). ⊎_elim
     (λ (more : suc at < w.indexes).
-    no_onward w s stuck u task now does AtRight refl (Restarts (suc at)) (NextIndex w.blocks at 0 (cross (first_block w at (0 + 1)) w.blocks less) more))
+    no_onward w s stuck u task now does points.Right refl (Restarts (suc at)) (NextIndex w.blocks at 0 (cross (first_block w at (0 + 1)) w.blocks less) more))
     (λ (last : w.indexes ≤ suc at).
-    no_end w s stuck u task now does AtRight refl
+    no_end w s stuck u task now does points.Right refl
     (RangesDone (WholeRanges w.blocks) at 0 (cross (first_block w at (0 + 1)) w.blocks less) (same (suc at) w.indexes inside last)))
     (lt_or_ge (suc at) w.indexes))
-    (λ (le : first_block w at (0 + 1) ≤ w.blocks). no_onward w s stuck u task now does AtRight refl _ (ToRange (WholeRanges w.blocks) at 0 le))
+    (λ (le : first_block w at (0 + 1) ≤ w.blocks). no_onward w s stuck u task now does points.Right refl _ (ToRange (WholeRanges w.blocks) at 0 le))
     (lt_or_ge w.blocks (first_block w at (0 + 1)))
   where
     task : Task
@@ -254,7 +256,7 @@ module _ (w : TableState) (s at page : ℕ) where
 
   pub sweep_goes_on : w.task s ≡ Sweeps at page → at < w.indexes → IsFree view s page → IsTableStuck w s → ⊥
   sweep_goes_on was inside free stuck =
-      sweep_onward swept_state at (suc page) (no_onward w s stuck swept_state after (pick_same s after (w.task s)) does AtSweep refl) (positive at w.indexes inside)
+      sweep_onward swept_state at (suc page) (no_onward w s stuck swept_state after (pick_same s after (w.task s)) does points.Sweep refl) (positive at w.indexes inside)
     where
       positive : (a n : ℕ) → a < n → 0 < n
       positive a n less = omega arith

@@ -1,12 +1,13 @@
 -- What a table has so that its statements go on, and steps that a session takes alone.
 use Rattle.std.specs.Prelude.{◌≡◌, ℕ, suc, ◌<◌, false, Some}
+use Rattle.block_model.specs.declared.reply.Point.{Point}
 use Rattle.coverage.specs.IndexView.{TuplePlace, IndexTuple}
 use Rattle.coverage.specs.Verdicts.{HasFreeSlots}
 use Rattle.coverage.specs.Statements.{HasNoMoreRows}
 use Rattle.coverage.specs.Steps.{Excludes}
 use Rattle.table_coverage.specs.Table.{Task, Resting, Asks, Inserts, Scans, TableScan, TableState, index_view_at}
 use Rattle.table_coverage.specs.TableSteps.{first_block, TableStep}
-use Rattle.table_coverage.specs.TablePoints.{TablePoint, does_point}
+use Rattle.table_coverage.specs.TablePoints.{does_point}
 
 -- each page of an index has a free slot, tuples can be made of each range of the table, and the rows of a block end at some slot
 pub record CanGoOn (w : TableState) : Type 0 where
@@ -27,6 +28,6 @@ IsInserting task = ⊥
 
 -- The session's statement takes so many steps, each with its point, one right after the other, while no other session steps.
 pub data StepsAlone (s : ℕ) : (steps : ℕ) → TableState → Type 0 where
-  LastAlone : (w v : TableState) (step : TableStep s w v) (p : TablePoint) → does_point s w step.between step.does ≡ Some p → StepsAlone s 1 w
-  OneMoreAlone : (steps : ℕ) (w v : TableState) (step : TableStep s w v) (p : TablePoint) → does_point s w step.between step.does ≡ Some p
+  LastAlone : (w v : TableState) (step : TableStep s w v) (p : Point) → does_point s w step.between step.does ≡ Some p → StepsAlone s 1 w
+  OneMoreAlone : (steps : ℕ) (w v : TableState) (step : TableStep s w v) (p : Point) → does_point s w step.between step.does ≡ Some p
       → (v.task s ≡ Resting → ⊥) → StepsAlone s steps v → StepsAlone s (suc steps) w

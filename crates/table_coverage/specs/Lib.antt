@@ -8,3 +8,4 @@ pub mod Accounts
 pub mod Refusals
 pub mod Machines
 pub mod GoingOn
+pub mod StepsLeft

@@ -6,15 +6,17 @@
 #![tactic(auto)]
 
 ghost use Rattle.std.specs.Prelude.{◌≡◌, ◌≢◌, ◌⊎◌, ◌↔◌, ◌≤◌, ◌<◌, ℕ, suc, ◌+◌, ◌*◌, Bool, false, IsTrue, None, Some, List, [], ◌∷◌, ◌++◌, length};
+ghost use Rattle.block_model.specs.declared.reply.Point.{Point};
 ghost use Rattle.block_model.specs.declared.row.Row.{Row};
 ghost use Rattle.coverage.specs.IndexView.{TuplePlace, IndexTuple};
 ghost use Rattle.coverage.specs.Steps.{Excludes};
-ghost use Rattle.table_coverage.specs.Table.{Job, EachRange, OneRange, WholeRanges, TableScan, Task, Resting, Inserts, Maintains, Prunes, Sweeps, Restarts, Scans, Marks, TableState, index_view_at};
+ghost use Rattle.table_coverage.specs.Table.{Job, EachRange, OneRange, WholeRanges, Desummarising, TableScan, Task, Resting, Inserts, Maintains, Prunes, Sweeps, Restarts, Scans, Marks, TableState, index_view_at};
 ghost use Rattle.table_coverage.specs.GoingOn.{CanGoOn, IsScanHonest, IsInserting, StepsAlone};
+ghost use Rattle.table_coverage.specs.StepsLeft.{scan_steps, HasAtMostToMark, desummarise_steps, IsCleaning, cleaning_steps, HasAtMostTuples, IsSummarise, summarise_steps};
 ghost use Rattle.table_coverage.specs.TableSteps.{range_in, AsksFor, HasRange, OnlyTurns, JudgeStep, ReadsPage, IsBlocked, Does, HasStep, Onward, IsMaintained, TableStep, TableRun, IsFirstPlace, IsHeapFull};
 ghost use Rattle.coverage.specs.Changes.{IsFree};
 ghost use Rattle.table_coverage.specs.NextTasks.{AfterRange, AfterBlock, AfterPage};
-ghost use Rattle.table_coverage.specs.TablePoints.{TablePoint, does_point, waits_for, IsHeldBy, IsTableStuck};
+ghost use Rattle.table_coverage.specs.TablePoints.{does_point, waits_for, IsHeldBy, IsTableStuck};
 ghost use Rattle.table_coverage.specs.Accounts.{Asked, Accounts, AccountsStep, AccountsRun, queue_limit};
 ghost use Rattle.table_coverage.specs.Refusals.{Heap, IndexNumber, LacksMemory, IsFull, does_refusal, MayLackMemory, IsTaskFull};
 ghost use Rattle.table_coverage.specs.RowOrder.{IsAmong};
@@ -44,9 +46,9 @@ pub fn statements_go_on_in_one_way()
     ensures one_way { (w : TableState) (old p q : Task) → Onward w old p → Onward w old q → p ≡ q }
     ensures or_reply { (w : TableState) (old q : Task) → IsMaintained w old → Onward w old q → ⊥ }
     ensures at_a_step { (s : ℕ) (w v : TableState) → TableStep s w v → HasStep v (v.task s) }
-    ensures one_point { (s : ℕ) (w v u : TableState) (p q : TablePoint) → (w.task s ≡ Resting → ⊥) → (one : Does s w v) (two : Does s w u)
+    ensures one_point { (s : ℕ) (w v u : TableState) (p q : Point) → (w.task s ≡ Resting → ⊥) → (one : Does s w v) (two : Does s w u)
         → does_point s w v one ≡ Some p → does_point s w u two ≡ Some q → p ≡ q }
-    ensures one_outcome { (s : ℕ) (w v u : TableState) (p q : TablePoint) → (w.task s ≡ Resting → ⊥) → (one : Does s w v) (two : Does s w u)
+    ensures one_outcome { (s : ℕ) (w v u : TableState) (p q : Point) → (w.task s ≡ Resting → ⊥) → (one : Does s w v) (two : Does s w u)
         → does_point s w v one ≡ Some p → does_point s w u two ≡ Some q → v.task s ≡ u.task s }
 {}
 
@@ -104,7 +106,7 @@ pub fn table_scans_miss_nothing()
 /// What a step adds to the account of its session, and does to the queue of the summaries that are asked for, is one thing. In the queue
 /// the order stays: a request joins at the end, or the first one is taken; and it never holds more than 64.
 pub fn accounts_are_exact()
-    ensures one { (s : ℕ) (w v : TableState) (does : Does s w v) (p : TablePoint) (a b c : Accounts) → does_point s w v does ≡ Some p
+    ensures one { (s : ℕ) (w v : TableState) (does : Does s w v) (p : Point) (a b c : Accounts) → does_point s w v does ≡ Some p
         → AccountsStep s w v does a b → AccountsStep s w v does a c → (b.queue ≡ c.queue) × (b.of s ≡ c.of s) }
     ensures in_order { (s : ℕ) (w v : TableState) (does : Does s w v) (a b : Accounts) → AccountsStep s w v does a b
         → (b.queue ≡ a.queue) ⊎ ((asked : Asked) × (b.queue ≡ a.queue ++ (asked ∷ []))) ⊎ ((asked : Asked) × (a.queue ≡ asked ∷ b.queue)) }
@@ -134,6 +136,30 @@ pub fn statements_go_on()
     ensures inserts_end { (s n : ℕ) (w : TableState) → IsTableKept w → IsInserting (w.task s) → StepsAlone s n w → n ≤ 6 * w.indexes }
     ensures begun_insert_ends { (s n : ℕ) (w v : TableState) → TableStep s w v → IsTableKept w → IsInserting (v.task s) → StepsAlone s n v
         → suc n ≤ 1 + 6 * w.indexes }
+{}
+
+/// A statement whose session steps alone ends, or waits, within so many steps as the state tells. A scan takes two for each range that it
+/// hasn't judged, of each index, one more where it holds a place, and one for each block below its extent that it hasn't read; an explain
+/// reads no block, and a delete takes one more for each row that it has to mark. A desummarise takes three from where it reads the map,
+/// and one more where it came to a place that its tuple has left. A vacuum comes to its first index after at most one step for each block of
+/// the heap and one for each page that each index may have: every step there leaves fewer.
+pub fn statements_end()
+    ensures scans { (s n rows : ℕ) (w : TableState) (scan : TableScan) → IsTableKept w → w.task s ≡ Scans scan → HasAtMostToMark w scan rows
+        → StepsAlone s n w → n ≤ scan_steps w scan + rows }
+    ensures marks { (s n : ℕ) (w : TableState) (scan : TableScan) (ids : List RowId) → IsTableKept w → w.task s ≡ Marks scan ids → StepsAlone s n w
+        → n ≤ length ids }
+    ensures desummarises { (s n only at range : ℕ) (w : TableState) (phase : Phase) → IsTableKept w → w.task s ≡ Maintains (Desummarising only) at range phase
+        → StepsAlone s n w → n ≤ desummarise_steps phase }
+    ensures cleans { (s : ℕ) (w v : TableState) (step : TableStep s w v) (p : Point) → IsTableKept w → does_point s w step.between step.does ≡ Some p
+        → IsCleaning (w.task s) → IsCleaning (v.task s) → cleaning_steps v (v.task s) < cleaning_steps w (w.task s) }
+{}
+
+/// A summarise, also one that work took from the queue, ends, waits or lacks a page within so many steps, while no other session steps: for
+/// each range one for each block and ten, and for each page by which the map may grow three for each tuple and three more. The tuples are
+/// those that stand in the index and one for each range.
+pub fn summarises_end()
+    ensures summarises { (s n at range tuples : ℕ) (w : TableState) (job : Job) (phase : Phase) → IsTableKept w → w.task s ≡ Maintains job at range phase
+        → IsSummarise job → HasAtMostTuples w at tuples → StepsAlone s n w → n ≤ summarise_steps w job at range phase tuples }
 {}
 
 /// What a machine promises over the pages and page locks that it sees, the table takes up: a step of it, whatever it doesn't see,

@@ -1,4 +1,4 @@
-use Rattle.coverage.proofs.Verdicts.{put_once, swap_once, clear_once, put_waits, swap_waits, swap_differs, clear_waits, clear_differs, some_put, some_swap}
+use Rattle.coverage.proofs.Verdicts.{put_place, put_past_map, put_once, swap_once, clear_once, put_waits, swap_waits, swap_differs, clear_waits, clear_differs, some_put, some_swap}
 use Rattle.coverage.proofs.Verdicts.{some_clear}
 use Rattle.coverage.proofs.WaitsOnce.{phase_wait_once, phase_wait_locked}
 use Rattle.coverage.proofs.Formed.{same_bytes}
@@ -18,6 +18,8 @@ returns c = record {
   phase_waits = λ w s range p phase waits. phase_wait_locked w s range phase p waits;
   one_phase_wait = λ w s range p q phase one two. phase_wait_once w s range phase p q one two;
   same_bytes = same_bytes;
+  put_place = put_place;
+  put_past_map = put_past_map;
   full_put = full_put;
   full_swap = full_swap;
   full_phase = full_phase;

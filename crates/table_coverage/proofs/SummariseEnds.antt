@@ -1,0 +1,302 @@
+-- A summarise whose session steps alone ends, or waits, or lacks a page, within a number of steps.
+use Rattle.std.proofs.Common.{◌≡◌, ◌⊎◌, ⊎_elim, ℕ, ◌+◌, ◌-◌, ◌*◌, ◌/◌, ◌≤◌, ◌<◌, Bool, true, false, Some, length, sym, ◌∙◌, ap, subst, arith, suc, suc-mul}
+use Rattle.std.specs.Prelude.{refl}
+use Rattle.std.proofs.lemmas.Option.{none-some}
+use Rattle.coverage.specs.IndexView.{TuplePlace, IndexTuple, Progress, ExtentUnread, Passing, IndexView}
+use Rattle.coverage.specs.Statements.{OnIndex, Empty, Held, Copied, Moving, Dropping, Phase, NotBuilding, Vacant, Growing, Evacuating, Placing, IsAt, Statement, Maintaining, Holding}
+use Rattle.coverage.specs.Knowing.{KnowsPhase}
+use Rattle.coverage.specs.PageOrder.{KnowsPagesOfPhase}
+use Rattle.coverage.specs.Steps.{SummariseStep}
+use Rattle.coverage.specs.Stuck.{AreNamed}
+use Rattle.coverage.proofs.Numbers.{lt_or_ge}
+use Rattle.table_coverage.specs.Table.{Job, EachRange, OneRange, WholeRanges, Desummarising, Index, Task, Resting, Considers, Maintains, TableState, index_view_at}
+use Rattle.table_coverage.specs.TableSteps.{HasRange, OnlyTurns, JobStep, Onward, Stays, ToRange, NextIndex, IsMaintained, TableStep}
+use Rattle.table_coverage.specs.GoingOn.{StepsAlone, LastAlone, OneMoreAlone}
+use Rattle.table_coverage.specs.StepsLeft.{AreAtMost, HasAtMostTuples, ranges_below, IsSummarise, later_ranges, range_steps, summarise_steps}
+use Rattle.table_coverage.specs.TableCovered.{IsInTable, IsTableKept}
+use Rattle.table_coverage.proofs.PlacesCounted.{fewer}
+use Rattle.table_coverage.proofs.SummariseLeft.{IsTaken, Own, OwnMap, OwnTupleGone, OwnVacant, OwnEvacuates, OwnVacates, OwnPlacing, OwnExtent, OwnPass, OwnHeldGone}
+use Rattle.table_coverage.proofs.SummariseLeft.{OwnCopiedGone, OwnMoving, OwnDropping, with_one, Base, Left, Works, Grows', DoneLeft, one_page, step_left}
+use Rattle.table_coverage.proofs.ScansEndAlone.{one_of_ranges}
+use Rattle.table_coverage.proofs.InsertsEndAlone.{same_view}
+use Rattle.table_coverage.proofs.Leaves.{settles_leaves}
+use Rattle.table_coverage.proofs.MachinesIn.{maintain_knows}
+use Rattle.table_coverage.proofs.TableJudged.{does_ranges}
+use Rattle.table_coverage.proofs.StepDid.{Did, DidMaintain, DidRange, step_did, step_settles}
+use Rattle.table_coverage.proofs.TableSeen.{table_step_kept}
+
+-- at any moment the bound is enough
+module _ (w : IndexView) (s range most later tail tuples : ℕ) (has : AreAtMost (IsTaken w) tuples) (room : suc tuples + later ≤ most) where
+  abbrev per : ℕ
+  per = w.pages_per_range
+
+  abbrev g : ℕ
+  g = w.pages.limit - w.pages.map_pages
+
+  abbrev Starts : Phase → Type 0
+  Starts phase = Left w range per most later tail (range_steps per phase + g * (3 * most + 3) + tail) phase
+
+  counted : (moving : Bool) → AreAtMost (IsTaken w) (with_one moving tuples)
+  counted false = has
+  counted true = λ xs apart all. wider (length xs) (has xs apart all)
+    where
+      wider : (n : ℕ) → n ≤ tuples → n ≤ suc tuples
+      wider n le = omega arith
+
+  fits : (unput : Bool) → with_one unput tuples + later ≤ most
+  fits true = room
+  fits false = lower room
+    where
+      lower : suc tuples + later ≤ most → tuples + later ≤ most
+      lower le = omega arith
+
+  base_of : (moving unput : Bool) → Base w per most later g tuples moving unput
+  base_of moving unput = record { per_is = refl; tuples_are = counted moving; room = fits unput; pages = refl }
+
+  starts : (phase : Phase) (own : ℕ) (moving unput : Bool) → own ≤ range_steps per phase → Own w range per phase own moving unput → Starts phase
+  starts phase own moving unput le own_is =
+      Works phase own g tuples moving unput own_is (base_of moving unput) (enough own (range_steps per phase) (g * (3 * most + 3)) le)
+    where
+      enough : (a b c : ℕ) → a ≤ b → a + c + tail ≤ b + c + tail
+      enough a b c le = omega arith
+
+  within : (a b : ℕ) → a ≤ b → per + a ≤ per + b
+  within a b le = omega arith
+
+  small : (a b : ℕ) → a ≤ b → a ≤ per + b
+  small a b le = omega arith
+
+  taken_of : (x : TuplePlace) → ((t : IndexTuple) × (w.tuple x ≡ Some t)) → IsTaken w x
+  taken_of x there none = none-some _ (sym none ∙ there.1)
+
+  start_not_building : (on_index : OnIndex) → KnowsPhase w s range (NotBuilding on_index) → Starts (NotBuilding on_index)
+  start_not_building Empty known = starts (NotBuilding Empty) (per + 9) false true (within 9 10 (omega arith)) OwnMap
+  start_not_building (Held x) known = starts (NotBuilding (Held x)) (per + 10) false true (within 10 10 (omega arith)) (OwnTupleGone x)
+  start_not_building (Copied x old new) known = absurd known.3
+  start_not_building (Moving x y old new) known = absurd known.6
+  start_not_building (Dropping x) known = starts (NotBuilding (Dropping x)) 1 true false (small 1 10 (omega arith)) (OwnDropping x (taken_of x known.2))
+
+  start_evacuating : (m : ℕ) (on_index : OnIndex) → KnowsPhase w s range (Evacuating m on_index) → KnowsPagesOfPhase w s range (Evacuating m on_index)
+      → Starts (Evacuating m on_index)
+  start_evacuating m Empty known pages = absurd pages.1
+  start_evacuating m (Held x) known pages = absurd pages.1
+  start_evacuating m (Copied x old new) known pages = absurd pages.1
+  start_evacuating m (Moving x y old new) known pages =
+      starts (Evacuating m (Moving x y old new)) (per + 10) true true (within 10 10 (omega arith)) (OwnEvacuates m x y old new (taken_of x (old, known.1.3)))
+  start_evacuating m (Dropping x) known pages =
+      starts (Evacuating m (Dropping x)) (per + 9) true true (within 9 10 (omega arith)) (OwnVacates m x (taken_of x known.1.2))
+
+  start_at : (p : Progress) (on_index : OnIndex) → 6 ≤ range_steps per (IsAt p on_index) → KnowsPhase w s range (IsAt p on_index)
+      → KnowsPagesOfPhase w s range (IsAt p on_index) → Starts (IsAt p on_index)
+  start_at ExtentUnread Empty six known pages = starts (IsAt ExtentUnread Empty) (per + 6) false false (within 6 10 (omega arith)) OwnExtent
+  start_at (Passing extent next result) Empty six known pages =
+      starts (IsAt (Passing extent next result) Empty) ((extent - next) + 5) false false (five (extent - next)) (OwnPass extent next result)
+    where
+      five : (a : ℕ) → a + 5 ≤ a + 6
+      five a = omega arith
+  start_at p (Held x) six known pages = starts (IsAt p (Held x)) 6 false false six (OwnHeldGone p x)
+  start_at p (Copied x old new) six known pages = starts (IsAt p (Copied x old new)) 6 false false six (OwnCopiedGone p x old new)
+  start_at p (Moving x y old new) six known pages =
+      starts (IsAt p (Moving x y old new)) 2 true false (two (range_steps per (IsAt p (Moving x y old new))) six)
+      (OwnMoving p x y old new (taken_of x (old, known.0.3)))
+    where
+      two : (a : ℕ) → 6 ≤ a → 2 ≤ a
+      two a six = omega arith
+  start_at ExtentUnread (Dropping x) six known pages = absurd pages.3
+  start_at (Passing extent next result) (Dropping x) six known pages = absurd pages.3
+
+  six_of : (p : Progress) (on_index : OnIndex) → 6 ≤ range_steps per (IsAt p on_index)
+  six_of ExtentUnread on_index = omega arith
+  six_of (Passing extent next result) on_index = more (extent - next)
+    where
+      more : (a : ℕ) → 6 ≤ a + 6
+      more a = omega arith
+
+  start : (phase : Phase) → KnowsPhase w s range phase → KnowsPagesOfPhase w s range phase → Starts phase
+  start (NotBuilding on_index) known pages = start_not_building on_index known
+  start Vacant known pages = starts Vacant (per + 8) false true (within 8 10 (omega arith)) OwnVacant
+  start Growing known pages = Grows' g tuples (base_of false true) (enough ((g - 1) * (3 * most + 3)) (g * (3 * most + 3)) (fewer_pages g (3 * most + 3)))
+    where
+      fewer_pages : (g c : ℕ) → (g - 1) * c ≤ g * c
+      fewer_pages g c = ⊎_elim
+          (λ (some : 0 < g). below ((g - 1) * c) (g * c) c (one_page g c some))
+          (λ (none : g ≤ 0). subst (λ k. k * c ≤ g * c) (zeroth g none) (self (g * c)))
+          (lt_or_ge 0 g)
+        where
+          below : (a b c : ℕ) → b ≡ a + c → a ≤ b
+          below a b c is = omega arith
+
+          zeroth : (g : ℕ) → g ≤ 0 → g ≡ g - 1
+          zeroth g none = omega arith
+
+          self : (n : ℕ) → n ≤ n
+          self n = omega arith
+
+      enough : (a b : ℕ) → a ≤ b → (per + 9) + a + tail ≤ (per + 10) + b + tail
+      enough a b le = omega arith
+  start (Evacuating m on_index) known pages = start_evacuating m on_index known pages
+  start (Placing x) known pages = starts (Placing x) (per + 7) false false (within 7 10 (omega arith)) (OwnPlacing x)
+  start (IsAt p on_index) known pages = start_at p on_index (six_of p on_index) known pages
+
+-- a summarise's step is a summariser's
+job_summarises : (job : Job) → IsSummarise job → (s range : ℕ) (w v : IndexView) (old : Phase) (e : Statement) → JobStep job s range w v old e
+    → SummariseStep s range w v old e
+job_summarises (EachRange extent) is s range w v old e step = step
+job_summarises (OneRange extent only) is s range w v old e step = step
+job_summarises (WholeRanges extent) is s range w v old e step = absurd is
+job_summarises (Desummarising only) is s range w v old e step = absurd is
+
+-- where it comes by its step
+module _ (u : TableState) (job : Job) (is : IsSummarise job) (at range : ℕ) where
+  phase_onward : (phase : Phase) (t : Task) → Onward u (Maintains job at range phase) t → t ≡ Maintains job at range phase
+  phase_onward phase _ (Stays _ has) = refl
+
+  not_maintained : (phase : Phase) → IsMaintained u (Maintains job at range phase) → ⊥
+  not_maintained phase done = elim done [ ]
+
+considers_onward : (u : TableState) (job : Job) → IsSummarise job → (at range : ℕ) (t : Task) → Onward u (Considers job at range) t
+    → HasRange u job at range × (t ≡ Maintains job at range (NotBuilding Empty))
+considers_onward u job is at range _ (Stays _ has) = absurd has
+considers_onward u job is at range _ (ToRange _ _ _ has) = (has, refl)
+considers_onward u _ is at range _ (NextIndex extent _ _ none more) = absurd is
+
+-- the one range of a summarise of one
+abbrev IsOnly : Job → ℕ → Type 0
+IsOnly (OneRange extent only) range = range ≡ only
+IsOnly job range = Unit
+
+only_of : (w : TableState) (job : Job) (at range : ℕ) → HasRange w job at range → IsOnly job range
+only_of w (EachRange extent) at range has = tt
+only_of w (OneRange extent only) at range has = has.0
+only_of w (WholeRanges extent) at range has = tt
+only_of w (Desummarising only) at range has = tt
+
+-- where there is a next range, one fewer comes behind it
+one_later : (w : TableState) (job : Job) (at range later : ℕ) → IsSummarise job → 0 < (w.index at).pages_per_range → IsOnly job range → HasRange w job at (suc range)
+    → later ≡ later_ranges w job at range → (rest : ℕ) × (later ≡ suc rest) × (rest ≡ later_ranges w job at (suc range))
+one_later w (EachRange extent) at range later is ranged only has same = (
+  ranges_below w extent at - suc (suc range),
+  counts (ranges_below w extent at) same (one_of_ranges (w.index at).pages_per_range extent (suc range) ranged has),
+  refl,
+)
+  where
+    counts : (n : ℕ) → later ≡ n - suc range → suc range < n → later ≡ suc (n - suc (suc range))
+    counts n same below = omega arith
+one_later w (OneRange extent only) at range later is ranged here has same = absurd (apart range only here has.0)
+  where
+    apart : (a b : ℕ) → a ≡ b → suc a ≡ b → ⊥
+    apart a b one two = omega arith
+one_later w (WholeRanges extent) at range later is ranged only has same = absurd is
+one_later w (Desummarising _) at range later is ranged only has same = absurd is
+
+later_on : (w v : TableState) (job : Job) (at range : ℕ) → (v.index at).pages_per_range ≡ (w.index at).pages_per_range
+    → later_ranges v job at range ≡ later_ranges w job at range
+later_on w v (EachRange extent) at range same = ap (λ m. (extent + m - 1) / m - suc range) same
+later_on w v (OneRange extent only) at range same = refl
+later_on w v (WholeRanges extent) at range same = refl
+later_on w v (Desummarising only) at range same = refl
+
+module _ (s : ℕ) (job : Job) (is : IsSummarise job) (at per most : ℕ) where
+  abbrev LeftOf : (w : TableState) (n range later : ℕ) → Phase → Type 0
+  LeftOf w n range later phase = Left (index_view_at at w) range per most later (later * (per + 9)) n phase
+
+  module _ (k : ℕ) (w v : TableState) (step : TableStep s w v) (kept : IsTableKept w) (ends : v.task s ≡ Resting → k ≡ 0)
+      (more : (n range later : ℕ) (phase : Phase) → v.task s ≡ Maintains job at range phase → later ≡ later_ranges v job at range
+      → LeftOf v n range later phase → k ≤ n) where
+    abbrev u : TableState
+    u = step.between
+
+    through : (n m : ℕ) → n ≡ suc m → k ≤ m → suc k ≤ n
+    through n m same le = omega arith
+
+    last : (n m : ℕ) → n ≡ suc m → k ≡ 0 → suc k ≤ n
+    last n m same none = omega arith
+
+    same_per : OnlyTurns u v → (v.index at).pages_per_range ≡ (u.index at).pages_per_range
+    same_per only = ap (λ (x : Index). x.pages_per_range) (only.indexes.index at)
+
+    all_tasks : (task : Task) → u.task s ≡ task → v.task s ≡ task → (n : ℕ) → v.task n ≡ u.task n
+    all_tasks task was now n = ⊎_elim
+        (λ (here : n ≡ s). ap v.task here ∙ now ∙ sym was ∙ ap u.task (sym here))
+        (λ (e : v.task n ≡ u.task n). e)
+        ((settles_leaves s u v step.settles).others n)
+
+    -- the next range begins with what is left
+    next_range : (n range later rest : ℕ) → OnlyTurns u v → later ≡ suc rest → DoneLeft (index_view_at at u) per most later (later * (per + 9)) n
+        → LeftOf v n (suc range) rest (NotBuilding Empty)
+    next_range n range later rest only same left = Works (NotBuilding Empty) (per + 9) left.g left.tuples false true OwnMap (record {
+      per_is = same_per only ∙ left.base.per_is;
+      tuples_are = fewer (IsTaken (index_view_at at u)) (IsTaken (index_view_at at v)) left.tuples
+          (λ x taken none. taken (ap (λ (i : Index). i.tuple x) (only.indexes.index at) ∙ none)) left.base.tuples_are;
+      room = fits left.tuples same left.base.room;
+      pages = ap (λ (i : Index). i.pages.limit - i.pages.map_pages) (only.indexes.index at) ∙ left.base.pages;
+    }) (enough (left.g * (3 * most + 3)) (later * (per + 9)) (rest * (per + 9)) (ap (λ j. j * (per + 9)) same ∙ suc-mul rest (per + 9)) left.enough)
+      where
+        fits : (tuples : ℕ) → later ≡ suc rest → tuples + later ≤ most → suc tuples + rest ≤ most
+        fits tuples same le = omega arith
+
+        enough : (a b c : ℕ) → b ≡ c + (per + 9) → a + b ≤ n → (per + 9) + a + c ≤ n
+        enough a b c is le = omega arith
+
+    per_u : (u.index at).pages_per_range ≡ (w.index at).pages_per_range
+    per_u = does_ranges s w u step.does at
+
+    ranged : at < w.indexes → 0 < (u.index at).pages_per_range
+    ranged below = subst (λ m. 0 < m) (sym per_u) (kept.indexes at below).sound.ranged
+
+    named : at < w.indexes → AreNamed (index_view_at at w)
+    named below range x names = (kept.indexes at below).sound.entries_name_tuples range x names
+
+    next : (n range later : ℕ) (phase : Phase) (new : Task) → Did s w u (Maintains job at range phase) new → u.task s ≡ new
+        → later ≡ later_ranges w job at range → IsInTable w (Maintains job at range phase)
+        → LeftOf w n range later phase → suc k ≤ n
+    next n range later _ _ (DidMaintain _ _ _ old new stepped does) now same inside left =
+        let one = step_left s range per most later (later * (per + 9)) n (index_view_at at w) (index_view_at at u) (named inside.0) old (Maintaining range new)
+        (job_summarises job is s range (index_view_at at w) (index_view_at at u) old (Maintaining range new) does) left in
+        ⊎_elim
+        (λ (on : Onward u (Maintains job at range new) (v.task s) × OnlyTurns u v).
+        let stays = phase_onward u job is at range new (v.task s) on.0 in
+        through n one.0 one.1 (more one.0 range later new stays (same ∙ sym (later_on w u job at range per_u) ∙ sym (later_on u v job at range (same_per on.1)))
+        (subst (λ z. Left z range per most later (later * (per + 9)) one.0 new)
+        (sym (same_view at u v on.1 (all_tasks (Maintains job at range new) now stays))) one.2)))
+        (λ (done : IsMaintained u (Maintains job at range new) × (v.task s ≡ Resting)). absurd (not_maintained u job is at range new done.0))
+        (step_settles s u v step.settles (Maintains job at range new) now)
+    next n range later _ _ (DidRange _ _ _ old stepped does) now same inside left =
+        let one = step_left s range per most later (later * (per + 9)) n (index_view_at at w) (index_view_at at u) (named inside.0) old Holding
+        (job_summarises job is s range (index_view_at at w) (index_view_at at u) old Holding does) left in
+        ⊎_elim
+        (λ (on : Onward u (Considers job at (suc range)) (v.task s) × OnlyTurns u v).
+        let begins = considers_onward u job is at (suc range) (v.task s) on.0 in
+        let rest = one_later u job at range later is (ranged inside.0) (only_of w job at range inside.2) begins.0 (same ∙ sym (later_on w u job at range per_u)) in
+        through n one.0 one.1 (more one.0 (suc range) rest.0 (NotBuilding Empty) begins.1 (rest.2 ∙ sym (later_on u v job at (suc range) (same_per on.1)))
+        (next_range one.0 range later rest.0 on.1 rest.1 one.2)))
+        (λ (done : IsMaintained u (Considers job at (suc range)) × (v.task s ≡ Resting)). last n one.0 one.1 (ends done.1))
+        (step_settles s u v step.settles (Considers job at (suc range)) now)
+
+  alone_left : (k : ℕ) (w : TableState) → StepsAlone s k w → IsTableKept w → (n range later : ℕ) (phase : Phase) → w.task s ≡ Maintains job at range phase
+      → later ≡ later_ranges w job at range → LeftOf w n range later phase → k ≤ n
+  alone_left _ _ (LastAlone w v step p point) kept n range later phase was same left =
+      next 0 w v step kept (λ _. refl) (λ m _ _ _ _ _ _. least m) n range later phase (step.between.task s)
+      (subst (λ t. Did s w step.between t (step.between.task s)) was (step_did s w step.between p step.does point)) refl same
+      (subst (IsInTable w) was (kept.inside s)) left
+    where
+      least : (m : ℕ) → 0 ≤ m
+      least m = omega arith
+  alone_left _ _ (OneMoreAlone k w v step p point going more) kept n range later phase was same left =
+      next k w v step kept (λ rests. absurd (going rests))
+      (λ m range' later' phase' now same' left'. alone_left k v more (table_step_kept s w v kept step) m range' later' phase' now same' left')
+      n range later phase (step.between.task s)
+      (subst (λ t. Did s w step.between t (step.between.task s)) was (step_did s w step.between p step.does point)) refl same
+      (subst (IsInTable w) was (kept.inside s)) left
+
+pub summarise_within : (s n at range tuples : ℕ) (w : TableState) (job : Job) (phase : Phase) → IsTableKept w → w.task s ≡ Maintains job at range phase
+    → IsSummarise job → HasAtMostTuples w at tuples → StepsAlone s n w → n ≤ summarise_steps w job at range phase tuples
+summarise_within s n at range tuples w job phase kept was is has alone =
+    let inside = subst (IsInTable w) was (kept.inside s) in
+    let known = maintain_knows s job at range w phase kept inside.0 was in
+    let later = later_ranges w job at range in
+    alone_left s job is at (w.index at).pages_per_range (tuples + suc later) n w alone kept (summarise_steps w job at range phase tuples) range later phase was refl
+    (start (index_view_at at w) s range (tuples + suc later) later (later * ((w.index at).pages_per_range + 9)) tuples has (room tuples later) phase known.0.1 known.1)
+  where
+    room : (tuples later : ℕ) → suc tuples + later ≤ tuples + suc later
+    room tuples later = omega arith
