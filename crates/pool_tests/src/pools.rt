@@ -1,12 +1,13 @@
 //! Pages in a pool.
 
-ghost use Rattle.std.specs.Prelude.{◌≡◌, ◌<◌, length};
+ghost use Rattle.std.specs.Prelude.{◌≡◌, ◌<◌, length, IfOk};
 ghost use Rattle.buffer_pool.specs.WritesPage.{LieWithin};
 
-use block_model::PAGE_SIZE;
+use block_model::{NoMemory, PAGE_SIZE};
 use buffer_pool::{AllDirty, Pool};
 use disk_trait::{DiskFault, MemoryDisk};
 use page_layout::Page;
+use std::alloc::Global;
 
 /// A page full of one byte.
 fn page_of(byte: u8) -> Page {
@@ -59,6 +60,14 @@ fn dirty_pages_are_told_in_order(rt: HostRuntime) {
     assert!(rt; pool.change(5, 11).is_none());
 }
 
+/// A pool of two frames that holds no page.
+fn empty_pool(alloc: Global) -> Result<Pool, NoMemory>
+    ensures { IfOk result (λ pool. LieWithin pool 0 32768) }
+{
+    let pool = Pool::new(alloc, 2)?;
+    Ok(pool)
+}
+
 /// Sets a page of a pool whose pages lie on a disk of four pages.
 fn set(pool: &mut Pool, page: u64, byte: u8, log: u64) -> bool
     requires page { page < 4 }
@@ -83,7 +92,7 @@ fn clean(pool: &mut Pool, disk: &mut MemoryDisk, durable: u64) -> Result<bool, D
 
 #[test]
 fn dirty_pages_are_written_once_their_log_is_durable(rt: HostRuntime) {
-    let mut pool = Pool::new(rt.alloc(), 2).expect(&rt, "memory");
+    let mut pool = empty_pool(rt.alloc()).expect(&rt, "memory");
     let mut disk = MemoryDisk::new(rt.alloc(), 32768).expect(&rt, "memory");
     assert!(rt; set(&mut pool, 3, 33, 5));
     assert!(rt; set(&mut pool, 1, 11, 9));
