@@ -1,5 +1,5 @@
 -- a pool of pages as a finite map
-use Rattle.std.specs.Prelude.{◌≡◌, ℕ, List, Option, Some, None, refl}
+use Rattle.std.specs.Prelude.{◌≡◌, ℕ, ◌≤◌, List, Option, Some, None, refl}
 use Rattle.std.specs.Coded.{Coded, code_by, coded×, coded_ℕ, coded_list, coded_option}
 use Rattle.std.specs.Ordering.{nat_cmp}
 use Rattle.std.specs.FinMap as map
@@ -31,6 +31,10 @@ with_page pool page held = record pool { pages = map.insert pool.pages page held
 
 abbrev pub without_page : PoolState → ℕ → PoolState
 without_page pool page = record pool { pages = map.remove pool.pages page }
+
+-- no more pages are held than there are frames
+abbrev pub IsBounded : PoolState → Type 0
+IsBounded pool = map.len pool.pages ≤ pool.frames
 
 -- each frame holds a page
 abbrev pub IsFull : PoolState → Type 0

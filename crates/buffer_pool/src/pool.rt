@@ -4,7 +4,7 @@ ghost use Rattle.std.specs.Prelude.{◌≡◌, ◌<◌, ◌≤◌, ◌+◌, None
 ghost use Rattle.std.specs.Option.{option_copied_mut};
 ghost use Rattle.std.specs.FinMap as map;
 ghost use Rattle.block_model.specs.Causes.{HasCause};
-ghost use Rattle.buffer_pool.specs.PoolState.{held_at};
+ghost use Rattle.buffer_pool.specs.PoolState.{IsBounded, held_at};
 ghost use Rattle.buffer_pool.specs.SetsPage.{IsAllDirty, SetsPage};
 ghost use Rattle.buffer_pool.specs.Frames.{HasNoFrame, IsFrameFor};
 ghost use Rattle.std.specs.Box.{boxed_slice_items};
@@ -72,6 +72,14 @@ impl Pool {
             pages,
             clock,
         })
+    }
+
+    /// Does nothing; tells its caller that no more pages are held than there are frames.
+    pub fn known(&self)
+        ensures { IsBounded self.now }
+    {
+        // Reads a field, so that the pool is opened.
+        let _ = &self.table;
     }
 
     /// The page of that number, or nothing where it isn't held.
