@@ -1,5 +1,5 @@
 -- A desummarise whose session steps alone ends within three steps from where it reads the map.
-use Rattle.std.proofs.Common.{◌≡◌, ◌⊎◌, ⊎_elim, ℕ, ◌≤◌, Option, Some, ◌∙◌, ap, subst, arith, suc}
+use Rattle.std.proofs.Common.{◌≡◌, ⊎_elim, ℕ, ◌≤◌, Option, Some, ◌∙◌, ap, subst, arith, suc}
 use Rattle.std.specs.Prelude.{refl}
 use Rattle.coverage.specs.IndexView.{TuplePlace, IndexView}
 use Rattle.coverage.specs.Statements.{Held, Phase, NotBuilding, Statement, Maintaining, Holding}

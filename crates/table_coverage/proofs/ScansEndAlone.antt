@@ -1,5 +1,5 @@
 -- A scan whose session steps alone ends within two steps a range and one a block, and a delete with one more for each row that it marks.
-use Rattle.std.proofs.Common.{◌≡◌, ◌⊎◌, ⊎_elim, ℕ, ◌+◌, ◌-◌, ◌*◌, ◌/◌, ◌≤◌, ◌<◌, Some, Bool, List, ◌∷◌, length, sym, ◌∙◌, ap, subst, arith, suc, div-lt_iff_lt-mul, suc-mul}
+use Rattle.std.proofs.Common.{◌≡◌, ⊎_elim, ℕ, ◌+◌, ◌-◌, ◌*◌, ◌/◌, ◌≤◌, ◌<◌, Some, Bool, List, ◌∷◌, length, sym, ◌∙◌, ap, subst, arith, suc, div-lt_iff_lt-mul, suc-mul}
 use Rattle.std.specs.Prelude.{refl}
 use Rattle.std.proofs.lemmas.Nat.{le-div}
 use Rattle.std.proofs.lemmas.Option.{same_Some, none-some}

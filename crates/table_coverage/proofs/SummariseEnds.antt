@@ -1,5 +1,5 @@
 -- A summarise whose session steps alone ends, or waits, or lacks a page, within a number of steps.
-use Rattle.std.proofs.Common.{◌≡◌, ◌⊎◌, ⊎_elim, ℕ, ◌+◌, ◌-◌, ◌*◌, ◌/◌, ◌≤◌, ◌<◌, Bool, true, false, Some, length, sym, ◌∙◌, ap, subst, arith, suc, suc-mul}
+use Rattle.std.proofs.Common.{◌≡◌, ⊎_elim, ℕ, ◌+◌, ◌-◌, ◌*◌, ◌/◌, ◌≤◌, ◌<◌, Bool, true, false, Some, length, sym, ◌∙◌, ap, subst, arith, suc, suc-mul}
 use Rattle.std.specs.Prelude.{refl}
 use Rattle.std.proofs.lemmas.Option.{none-some}
 use Rattle.coverage.specs.IndexView.{TuplePlace, IndexTuple, Progress, ExtentUnread, Passing, IndexView}

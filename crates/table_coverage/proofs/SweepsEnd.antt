@@ -1,5 +1,5 @@
 -- Each step of a vacuum that prunes or sweeps leaves it fewer steps to go.
-use Rattle.std.proofs.Common.{◌≡◌, ◌⊎◌, ⊎_elim, ℕ, ◌+◌, ◌-◌, ◌≤◌, ◌<◌, Some, sym, ◌∙◌, ap, subst, arith, suc}
+use Rattle.std.proofs.Common.{◌≡◌, ⊎_elim, ℕ, ◌+◌, ◌-◌, ◌≤◌, ◌<◌, Some, sym, ◌∙◌, ap, subst, arith, suc}
 use Rattle.std.specs.Prelude.{refl}
 use Rattle.block_model.specs.declared.reply.Point.{Point}
 use Rattle.coverage.specs.IndexView.{PageKind, Unstarted, Mapping, Regular, Emptying}
