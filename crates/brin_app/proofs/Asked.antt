@@ -1,5 +1,5 @@
 -- what words ask for
-use Rattle.std.proofs.Common.{◌≡◌, ℕ, List, None, Some, Option, refl, sym, ap, ◌∙◌, subst}
+use Rattle.std.proofs.Common.{◌≡◌, ℕ, List, None, Some, Option, refl, sym, ap, ◌∙◌, subst, inl, inr}
 use Rattle.std.specs.Prelude.{IfOk, IsSome, Result, Ok, Err}
 use Rattle.std.proofs.lemmas.Bool.{false≢true}
 use Rattle.store_layout.specs.DiskLayout.{DiskLayout}
@@ -18,7 +18,7 @@ use Rattle.schema_words.specs.FirstFault.{Answers}
 use Rattle.brin_app.specs.declared.top.WordsFault.{WordsFault}
 use Rattle.brin_app.specs.declared.top.WordsFault.TheVariants.{Usage, Memory}
 use Rattle.brin_app.specs.WordsFaults.{of_command, of_declarations}
-use Rattle.brin_app.specs.ScriptOutput.{IsLayoutFor, AsksFor, AsksForNothing}
+use Rattle.brin_app.specs.ScriptOutput.{IsLayoutFor, AsksFor, HasNoLayout, IsUsage, IsWrong}
 
 -- a layout that was made of a declared schema
 pub ok_made : {E : Type 0} (declared : List (List ℕ)) (schema : Schema) (sizes : Sizes) (result : Result DiskLayout E) → Denotes declared schema
@@ -59,19 +59,32 @@ ok_only words declared sizes (Ok layout) makes alone only = λ other asks.
     (asks.makes.sizes_are ∙ same_sizes sizes asks.sizes declared asks.declared (only.alone (Run asks.sizes asks.declared) asks.command) ∙ sym makes.sizes_are)
 ok_only words declared sizes (Err e) makes alone only = tt
 
--- a command for which there is no layout asks for nothing
-pub none_asked : (words declared : List (List ℕ)) (sizes : Sizes) → ((schema : Schema) → Denotes declared schema → IsSome (first_broken_rule schema sizes)) → IsOnlyCommand words (Run sizes declared) → AsksForNothing words
+lacks : (o : Option ℕ) → o ≡ None → IsSome o → ⊥
+lacks None e h = false≢true h
+lacks (Some n) e h = cc
+
+-- a command for which there is no layout is wrong, and asks for none
+pub run_is_wrong : (words declared : List (List ℕ)) (sizes : Sizes) → HasNoLayout sizes declared → IsOnlyCommand words (Run sizes declared) → IsUsage words
+run_is_wrong words declared sizes broken only = inr (Run sizes declared, only.is, broken)
+
+pub none_asked : (words declared : List (List ℕ)) (sizes : Sizes) → HasNoLayout sizes declared → IsOnlyCommand words (Run sizes declared) → (layout : DiskLayout) → ¬ (AsksFor words layout)
 none_asked words declared sizes broken only layout asks =
     let denoted : Denotes declared layout.schema = subst (λ (l : List (List ℕ)). Denotes l layout.schema) (same_declared sizes asks.sizes declared asks.declared (only.alone (Run asks.sizes asks.declared) asks.command)) asks.makes.schema in
     let within : first_broken_rule layout.schema sizes ≡ None = subst (λ (z : Sizes). first_broken_rule layout.schema z ≡ None) (same_sizes sizes asks.sizes declared asks.declared (only.alone (Run asks.sizes asks.declared) asks.command)) asks.makes.within in
     lacks (first_broken_rule layout.schema sizes) within (broken layout.schema denoted)
-  where
-    lacks : (o : Option ℕ) → o ≡ None → IsSome o → ⊥
-    lacks None e h = false≢true h
-    lacks (Some n) e h = cc
 
--- and neither do words that are no command
-pub no_command : (words : List (List ℕ)) → ((command : Command) → IsCommand words command → ⊥) → AsksForNothing words
+-- one for which there is a layout isn't wrong
+pub ok_right : {E : Type 0} (words declared : List (List ℕ)) (sizes : Sizes) (result : Result DiskLayout E) → IsOnlyCommand words (Run sizes declared) → IfOk result (IsLayoutFor sizes declared) → IfOk result (λ layout. ¬ (IsUsage words))
+ok_right words declared sizes (Ok layout) only makes = λ usage. elim usage [
+  | inl none ↦ none (Run sizes declared) only.is
+  | inr wrong ↦
+    let right : IsWrong (Run sizes declared) = subst IsWrong (only.alone wrong.0 wrong.1) wrong.2 in
+    lacks (first_broken_rule layout.schema sizes) makes.within (right layout.schema makes.schema)
+]
+ok_right words declared sizes (Err e) only makes = tt
+
+-- words that are no command ask for nothing
+pub no_command : (words : List (List ℕ)) → ((command : Command) → ¬ (IsCommand words command)) → (layout : DiskLayout) → ¬ (AsksFor words layout)
 no_command words none layout asks = none (Run asks.sizes asks.declared) asks.command
 
 -- ---- faults that go up

@@ -1,10 +1,12 @@
 -- what the program writes for a script, and when each status comes
-use Rattle.std.specs.Prelude.{◌≡◌, ◌⊎◌, ℕ, ◌+◌, ◌≤◌, List, [], ◌∷◌, ◌++◌, length, Option, None, Some, Ok, Err, IsSomeAnd}
+use Rattle.std.specs.Prelude.{◌≡◌, ◌⊎◌, ℕ, ◌+◌, ◌≤◌, List, [], ◌∷◌, ◌++◌, length, Option, None, Some, Ok, Err, IsSome, IsSomeAnd}
 use Rattle.std.specs.Io.KnownBytes.{Consumes}
 use Rattle.store_layout.specs.DiskLayout.{DiskLayout}
 use Rattle.store_layout.specs.FirstBrokenRule.{first_broken_rule}
+use Rattle.block_model.specs.declared.schema.Schema.{Schema}
 use Rattle.block_model.specs.declared.schema.Sizes.{Sizes}
 use Rattle.brin_app.specs.ScriptTexts.{ScriptPlace, script_start, IsLineText, IsLineStopped}
+use Rattle.command_words.specs.declared.command.Command.{Command}
 use Rattle.command_words.specs.declared.command.Command.TheVariants.{Run}
 use Rattle.command_words.specs.CommandWords.{IsCommand}
 use Rattle.schema_words.specs.DeclaredSchema.{Denotes}
@@ -30,9 +32,17 @@ pub record AsksFor (words : List (List ℕ)) (layout : DiskLayout) : Type 0 wher
   pub command : IsCommand words (Run sizes declared)
   pub makes : IsLayoutFor sizes declared layout
 
--- they are no command, or a limit is passed
-abbrev pub AsksForNothing : List (List ℕ) → Type 0
-AsksForNothing words = (layout : DiskLayout) → AsksFor words layout → ⊥
+-- what is declared is no schema, or it passes a limit with these sizes
+abbrev pub HasNoLayout : Sizes → List (List ℕ) → Type 0
+HasNoLayout sizes declared = (schema : Schema) → Denotes declared schema → IsSome (first_broken_rule schema sizes)
+
+-- why a command can't be begun
+abbrev pub IsWrong : Command → Type 0
+IsWrong (Run sizes declared) = HasNoLayout sizes declared
+
+-- the words are no command, or one that can't be begun
+abbrev pub IsUsage : List (List ℕ) → Type 0
+IsUsage words = ((command : Command) → ¬ (IsCommand words command)) ⊎ ((command : Command) × IsCommand words command × IsWrong command)
 
 -- the status of each way in which a run ends: too long a script and a full journal have one
 abbrev pub exit_status : RunEnd → ℕ

@@ -7,7 +7,7 @@ ghost use Rattle.store_layout.specs.FirstBrokenRule.{first_broken_rule};
 ghost use Rattle.block_model.specs.declared.schema.Schema.{Schema};
 ghost use Rattle.statements.specs.JournalAnswers.{new_opening};
 ghost use Rattle.schema_words.specs.DeclaredSchema.{Denotes};
-ghost use Rattle.brin_app.specs.ScriptOutput.{IsLayoutFor, AsksFor, AsksForNothing, IsScriptOutput, HasSpentCauses, IsComplete, exit_status};
+ghost use Rattle.brin_app.specs.ScriptOutput.{IsLayoutFor, AsksFor, HasNoLayout, IsUsage, IsScriptOutput, HasSpentCauses, IsComplete, exit_status};
 
 use crate::sessions::Sessions;
 use crate::status::{DONE, LIMIT, MEMORY, READ_FAULT, SCRIPT_LIMIT, USAGE, WRITE_FAULT};
@@ -33,9 +33,9 @@ pub fn brin_main<S: Source, K: Sink>(
     ensures script_output { (layout : DiskLayout) → AsksFor words.now layout → IsScriptOutput result (new_opening layout) (S.left source.old) (S.left source.new) (K.taken sink.old) (K.taken sink.new) }
 
     // When each status comes. Want of memory, 7, is free.
-    ensures usage { result ≡ 2 → AsksForNothing words.now }
-    ensures nothing_asked { AsksForNothing words.now → (result ≡ 2) ⊎ (result ≡ 7) }
-    ensures untouched { AsksForNothing words.now → (source.new ≡ source.old) × (sink.new ≡ sink.old) }
+    ensures usage { result ≡ 2 → IsUsage words.now }
+    ensures refused { IsUsage words.now → (result ≡ 2) ⊎ (result ≡ 7) }
+    ensures untouched { IsUsage words.now → (source.new ≡ source.old) × (sink.new ≡ sink.old) }
     ensures read_fault { result ≡ 4 → Rose (S.faults source.old) (S.faults source.new) }
     ensures write_fault { result ≡ 5 → Rose (K.faults sink.old) (K.faults sink.new) }
     ensures spent { (layout : DiskLayout) → AsksFor words.now layout → HasSpentCauses result (new_opening layout) (S.left source.old) (S.left source.new) }
@@ -82,11 +82,13 @@ impl From<DeclFault> for WordsFault {
 }
 
 /// The layout of the store that the words ask for.
-#[tactic(auto, using(crate::proofs::Asked::ok_asked, crate::proofs::Asked::ok_only, crate::proofs::Asked::none_asked, crate::proofs::Asked::no_command))]
+#[tactic(auto, using(crate::proofs::Asked::ok_asked, crate::proofs::Asked::ok_only, crate::proofs::Asked::ok_right, crate::proofs::Asked::run_is_wrong, crate::proofs::Asked::none_asked, crate::proofs::Asked::no_command))]
 fn read_words(alloc: Global, words: &Words) -> Result<Layout, WordsFault>
     ensures asked { IfOk result (AsksFor words.now) }
     ensures alone { IfOk result (λ layout. (other : DiskLayout) → AsksFor words.now other → other ≡ layout) }
-    ensures usage { result ≡ Err WordsFault.Usage → AsksForNothing words.now }
+    ensures right { IfOk result (λ layout. ¬ (IsUsage words.now)) }
+    ensures usage { result ≡ Err WordsFault.Usage → IsUsage words.now }
+    ensures nothing { result ≡ Err WordsFault.Usage → (layout : DiskLayout) → ¬ (AsksFor words.now layout) }
 {
     match read_command(alloc, words)? {
         Command::Run {
@@ -100,7 +102,7 @@ fn read_words(alloc: Global, words: &Words) -> Result<Layout, WordsFault>
 fn layout_for(alloc: Global, sizes: Sizes, declarations: &Words) -> Result<Layout, WordsFault>
     ensures made { IfOk result (IsLayoutFor sizes declarations.now) }
     ensures alone { IfOk result (λ layout. (schema : Schema) → Denotes declarations.now schema → schema ≡ layout.schema) }
-    ensures usage { result ≡ Err WordsFault.Usage → (schema : Schema) → Denotes declarations.now schema → IsSome (first_broken_rule schema sizes) }
+    ensures usage { result ≡ Err WordsFault.Usage → HasNoLayout sizes declarations.now }
 {
     let schema = read_declarations(alloc, declarations)?;
     layout_of(schema, sizes)

@@ -24,7 +24,7 @@ returns-in-Ok-clause-complete g c = λ layout asked.
     (complete c.run_script.result (new_opening c.in-Ok.layout) _ _ _ _ _ _ c.run_script.ensures.script_output c.run_script.ensures.read_fault c.run_script.ensures.write_fault)
 
 pub returns-in-Err-Usage-clause-script_output : goal.returns-in-Err-Usage-clause-script_output
-returns-in-Err-Usage-clause-script_output g c = λ layout asked. absurd (c.in-Err-Usage.ensures.usage (ap Err c.in-Err-Usage.field-0-is) layout asked)
+returns-in-Err-Usage-clause-script_output g c = λ layout asked. absurd (c.in-Err-Usage.ensures.nothing (ap Err c.in-Err-Usage.field-0-is) layout asked)
 
 pub returns-in-Err-Memory-clause-script_output : goal.returns-in-Err-Memory-clause-script_output
 returns-in-Err-Memory-clause-script_output g c = λ layout asked. nothing_written (new_opening layout) _ _
@@ -33,4 +33,4 @@ pub returns-in-Err-Usage-clause-usage : goal.returns-in-Err-Usage-clause-usage
 returns-in-Err-Usage-clause-usage g c = λ _. c.in-Err-Usage.ensures.usage (ap Err c.in-Err-Usage.field-0-is)
 
 pub returns-in-Err-Usage-clause-complete : goal.returns-in-Err-Usage-clause-complete
-returns-in-Err-Usage-clause-complete g c = λ layout asked. absurd (c.in-Err-Usage.ensures.usage (ap Err c.in-Err-Usage.field-0-is) layout asked)
+returns-in-Err-Usage-clause-complete g c = λ layout asked. absurd (c.in-Err-Usage.ensures.nothing (ap Err c.in-Err-Usage.field-0-is) layout asked)
