@@ -78,8 +78,8 @@ pub ok_right : {E : Type 0} (words declared : List (List ℕ)) (sizes : Sizes) (
 ok_right words declared sizes (Ok layout) only makes = λ usage. elim usage [
   | inl none ↦ none (Run sizes declared) only.is
   | inr wrong ↦
-    let right : IsWrong (Run sizes declared) = subst IsWrong (only.alone wrong.0 wrong.1) wrong.2 in
-    lacks (first_broken_rule layout.schema sizes) makes.within (right layout.schema makes.schema)
+      let right : IsWrong (Run sizes declared) = subst IsWrong (only.alone wrong.0 wrong.1) wrong.2 in
+      lacks (first_broken_rule layout.schema sizes) makes.within (right layout.schema makes.schema)
 ]
 ok_right words declared sizes (Err e) only makes = tt
 
