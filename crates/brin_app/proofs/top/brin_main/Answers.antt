@@ -34,3 +34,6 @@ returns-in-Err-Usage-clause-usage g c = λ _. c.in-Err-Usage.ensures.usage (ap E
 
 pub returns-in-Err-Usage-clause-complete : goal.returns-in-Err-Usage-clause-complete
 returns-in-Err-Usage-clause-complete g c = λ layout asked. absurd (c.in-Err-Usage.ensures.nothing (ap Err c.in-Err-Usage.field-0-is) layout asked)
+
+pub returns-in-Ok-clause-untouched : goal.returns-in-Ok-clause-untouched
+returns-in-Ok-clause-untouched g c = λ usage. absurd (c.in-Ok.ensures.right usage)
