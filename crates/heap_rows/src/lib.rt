@@ -1,9 +1,9 @@
-//! Rows in the slots of a table's heap pages. `put` takes the lowest free slot of the lowest block that has one, else the
-//! first slot of the next block; it is full exactly where each slot of each block that the table may have is in use.
-//! `mark` sets the deleter of a row, `rows_of` reads the rows of a block without taking memory, and `blocks` says how many
-//! there are. A call that answers an error leaves every page as it was. It stands on page_store. The layer above uses
-//! these four, with a `PageRows` that it makes once, and sees a table as its blocks, each a list of slots
-//! (specs/HeapBlocks.antt).
+//! Keeps the rows of tables in the slots of heap pages. The layer above uses four calls, with a `PageRows` that it makes
+//! once, and sees a table as its blocks, each a list of slots (specs/HeapBlocks.antt). `put` takes the lowest free slot of
+//! the lowest block that has one, else the first slot of the next block; it is full exactly where each slot of each block
+//! that the table may have is in use. `mark` sets the deleter of a row, `rows_of` reads the rows of a block without taking
+//! memory, and `blocks` says how many there are. A call that answers an error leaves every page as it was. The crate stands
+//! on page_store.
 #![tactic(auto)]
 
 mod heap;

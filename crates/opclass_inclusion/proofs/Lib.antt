@@ -3,6 +3,7 @@ pub mod NetBits
 pub mod NetExactness
 pub mod NetHullLaws
 pub mod NetReading
+pub mod Reading
 pub mod SpanAsking
 pub mod SpanBounds
 pub mod SpanExactness

@@ -86,15 +86,6 @@ no_fault bytes s lawful is =
     ∙ ap (λ (f : NetFields). placed 7 7 field_end (field_fault f)) (fields_read s lawful)
     ∙ ap (placed 7 7 field_end) (in_form s lawful)
 
-is_none : Option ℕ → Type 0
-is_none None = Unit {0}
-is_none (Some at) = ⊥
-
--- so bytes with a fault are those of no summary
-pub faulty : (bytes : List ℕ) (at : ℕ) → fault_in bytes ≡ Some at → (s : NetSummary) → IsSummary s → bytes ≡ bytes_of s → ⊥
-unfolding is_none
-faulty bytes at fault s lawful is = subst is_none (sym (no_fault bytes s lawful is) ∙ fault) tt
-
 -- the summary of its own fields
 from_its_fields : (s : NetSummary) → from_fields (fields_of s) ≡ s
 from_its_fields NothingYet = refl
@@ -107,9 +98,3 @@ read_again s lawful =
     ap (λ (fault : Option ℕ). read_unless fault (from_fields (fields_in (bytes_of s)))) (no_fault (bytes_of s) s lawful refl)
     ∙ ap (λ (f : NetFields). Ok (from_fields f)) (fields_read s lawful)
     ∙ ap Ok (from_its_fields s)
-
--- no two summaries have the same bytes
-pub one_meaning : (s t : NetSummary) (bytes : List ℕ) → IsSummary s → IsSummary t → bytes ≡ bytes_of s → bytes ≡ bytes_of t → s ≡ t
-one_meaning s t bytes first second is was =
-    let same : fields_of s ≡ fields_of t = sym (fields_read s first) ∙ ap fields_in (sym is ∙ was) ∙ fields_read t second in
-    sym (from_its_fields s) ∙ ap from_fields same ∙ from_its_fields t

@@ -110,15 +110,6 @@ no_fault bytes s lawful is =
     sized : (s : SpanSummary) → length (bytes_of s) ≡ 18
     sized s = length-fields (fields_of s)
 
-is_none : Option ℕ → Type 0
-is_none None = Unit {0}
-is_none (Some at) = ⊥
-
--- so bytes with a fault are those of no summary
-pub faulty : (bytes : List ℕ) (at : ℕ) → fault_in bytes ≡ Some at → (s : SpanSummary) → IsSummary s → bytes ≡ bytes_of s → ⊥
-unfolding is_none
-faulty bytes at fault s lawful is = subst is_none (sym (no_fault bytes s lawful is) ∙ fault) tt
-
 -- the summary of its own fields
 from_its_fields : (e : Bool) (u : Range) → from_fields (fields_of (record { empty_added = e; hull = u })) ≡ record { empty_added = e; hull = u }
 from_its_fields true Empty = refl
@@ -138,9 +129,3 @@ read_again s lawful =
     ap (λ (fault : Option ℕ). read_unless fault (from_fields (fields_in (bytes_of s)))) (no_fault (bytes_of s) s lawful refl)
     ∙ ap (λ (f : SpanFields). Ok (from_fields f)) (fields_read s lawful)
     ∙ ap Ok (from_its_fields s.empty_added s.hull)
-
--- no two summaries have the same bytes
-pub one_meaning : (s t : SpanSummary) (bytes : List ℕ) → IsSummary s → IsSummary t → bytes ≡ bytes_of s → bytes ≡ bytes_of t → s ≡ t
-one_meaning s t bytes first second is was =
-    let same : fields_of s ≡ fields_of t = sym (fields_read s first) ∙ ap fields_in (sym is ∙ was) ∙ fields_read t second in
-    sym (from_its_fields s.empty_added s.hull) ∙ ap from_fields same ∙ from_its_fields t.empty_added t.hull

@@ -1,13 +1,14 @@
 //! Summaries of networks as bytes.
 
-ghost use Rattle.std.specs.Prelude.{◌≡◌, ◌<◌, ◌≤◌, ◌-◌, ◌%◌, ◌^◌, ◌==◌, ◌++◌, if◌then◌else◌, nat_lt, not, None, Some, Ok, Err, IfErr, IfOk, MatchResult, length, drop};
+ghost use Rattle.std.specs.Prelude.{◌≡◌, ◌<◌, ◌≤◌, ◌-◌, ◌%◌, ◌^◌, ◌==◌, ◌++◌, if◌then◌else◌, nat_lt, not, Ok, Err, IfErr, IfOk, MatchResult, length, drop};
 ghost use Rattle.byte_fields.specs.Fields.{field_at, number_of, put_at};
 ghost use Rattle.opclass_inclusion.specs.NetEncoding.{bytes_of, field_bytes, fields_of};
-ghost use Rattle.opclass_inclusion.specs.NetFaults.{fault_in, field_end, field_fault, fields_in};
+ghost use Rattle.opclass_inclusion.specs.Faults.{IsFirstFault};
+ghost use Rattle.opclass_inclusion.specs.NetFaults.{field_end, field_fault, fields_in};
 ghost use Rattle.opclass_inclusion.specs.NetHulls.{IsSummary};
 ghost use Rattle.opclass_inclusion.specs.NetReading.{read_of};
 
-use crate::fields::{byte_at, field_fault};
+use crate::fields::{Field, byte_at, refuse_unless, whole};
 use crate::net_summary::{NetSummary, V4_BITS, v4_address};
 use block_model::Net;
 use byte_fields::{get_u32, put_u32};
@@ -24,13 +25,13 @@ const HAS_NETWORK: u8 = 2;
 
 const V4: u8 = 4;
 
-const FLAGS_AT: usize = 0;
+const FLAGS: Field = Field { at: 0, end: 1 };
 
-const FAMILY_AT: usize = 1;
+const FAMILY: Field = Field { at: 1, end: 2 };
 
-const PREFIX_AT: usize = 2;
+const PREFIX: Field = Field { at: 2, end: 3 };
 
-const ADDRESS_AT: usize = 3;
+const ADDRESS: Field = Field { at: 3, end: SIZE };
 
 /// The fields of the bytes. Those of the network are 0 where there is none.
 #[derive(Clone, Copy, Debug, PartialEq, Eq)]
@@ -48,10 +49,10 @@ pub(crate) fn write(s: &NetSummary, out: &mut [u8])
     ensures written { out.new ≡ bytes_of s.now ++ drop 7 out.old }
 {
     let fields = fields_of(s);
-    out[FLAGS_AT] = fields.flags;
-    out[FAMILY_AT] = fields.family;
-    out[PREFIX_AT] = fields.prefix;
-    put_u32(out, ADDRESS_AT, fields.address);
+    out[FLAGS.at] = fields.flags;
+    out[FAMILY.at] = fields.family;
+    out[PREFIX.at] = fields.prefix;
+    put_u32(out, ADDRESS.at, fields.address);
 }
 
 fn fields_of(s: &NetSummary) -> NetFields
@@ -83,28 +84,10 @@ fn without_network(flags: u8) -> NetFields
 /// The summary that the bytes encode. `Err` exactly where they encode none.
 pub(crate) fn read(bytes: &[u8]) -> Result<NetSummary, Malformed>
     ensures found { IfOk result (λ s. IsSummary s × (bytes.now ≡ bytes_of s)) }
-    ensures fault { MatchResult result (λ s. fault_in bytes.now ≡ None) (λ e. fault_in bytes.now ≡ Some e.at) }
     ensures read { MatchResult result (λ s. read_of bytes.now ≡ Ok s) (λ e. read_of bytes.now ≡ Err e.at) }
     ensures within { IfErr result (λ e. e.at ≤ length bytes.now) }
 {
-    let summary = match summary_in(&fields_in(bytes)) {
-        Ok(summary) => summary,
-        Err(fault) => return Err(field_fault(fault.at, field_end(fault.at), bytes.len())),
-    };
-    if bytes.len() != SIZE {
-        return Err(Malformed {
-            at: bytes.len().min(SIZE),
-        });
-    }
-    Ok(summary)
-}
-
-fn field_end(at: usize) -> usize
-    requires { at ≤ 3 }
-    ensures end { result ≡ field_end at }
-    ensures later { at < result }
-{
-    if at == ADDRESS_AT { SIZE } else { at + 1 }
+    whole(summary_in(&fields_in(bytes)), bytes.len(), SIZE)
 }
 
 /// The fields; one that isn't whole counts as 0.
@@ -113,9 +96,9 @@ fn fields_in(bytes: &[u8]) -> NetFields
     ensures whole { length bytes.now ≡ 7 → bytes.now ≡ field_bytes result }
 {
     NetFields {
-        flags: byte_at(bytes, FLAGS_AT),
-        family: byte_at(bytes, FAMILY_AT),
-        prefix: byte_at(bytes, PREFIX_AT),
+        flags: byte_at(bytes, FLAGS.at),
+        family: byte_at(bytes, FAMILY.at),
+        prefix: byte_at(bytes, PREFIX.at),
         address: address_in(bytes),
     }
 }
@@ -127,14 +110,13 @@ fn address_in(bytes: &[u8]) -> u32
     if bytes.len() < SIZE {
         0
     } else {
-        get_u32(bytes, ADDRESS_AT)
+        get_u32(bytes, ADDRESS.at)
     }
 }
 
-fn summary_in(fields: &NetFields) -> Result<NetSummary, Malformed>
+fn summary_in(fields: &NetFields) -> Result<NetSummary, Field>
     ensures found { IfOk result (λ s. IsSummary s × (fields_of s ≡ fields.now)) }
-    ensures place { MatchResult result (λ s. field_fault fields.now ≡ None) (λ e. field_fault fields.now ≡ Some e.at) }
-    ensures early { IfErr result (λ e. e.at ≤ 3) }
+    ensures fault { IsFirstFault (field_fault fields.now) field_end result }
 {
     match fields.flags {
         NOTHING_YET => {
@@ -146,45 +128,33 @@ fn summary_in(fields: &NetFields) -> Result<NetSummary, Malformed>
             Ok(NetSummary::Unmergeable)
         }
         HAS_NETWORK => network_in(fields),
-        _ => Err(Malformed { at: FLAGS_AT }),
+        _ => Err(FLAGS),
     }
 }
 
-fn refuse_network(fields: &NetFields) -> Result<(), Malformed>
+fn refuse_network(fields: &NetFields) -> Result<(), Field>
     requires { fields.now.flags ≤ 1 }
     ensures family { IfOk result (λ ok. fields.now.family ≡ 0) }
     ensures prefix { IfOk result (λ ok. fields.now.prefix ≡ 0) }
     ensures address { IfOk result (λ ok. fields.now.address ≡ 0) }
-    ensures place { MatchResult result (λ ok. field_fault fields.now ≡ None) (λ e. field_fault fields.now ≡ Some e.at) }
-    ensures early { IfErr result (λ e. e.at ≤ 3) }
+    ensures fault { IsFirstFault (field_fault fields.now) field_end result }
 {
-    if fields.family != 0 {
-        return Err(Malformed { at: FAMILY_AT });
-    }
-    if fields.prefix != 0 {
-        return Err(Malformed { at: PREFIX_AT });
-    }
-    if fields.address != 0 {
-        return Err(Malformed { at: ADDRESS_AT });
-    }
+    refuse_unless(fields.family == 0, FAMILY)?;
+    refuse_unless(fields.prefix == 0, PREFIX)?;
+    refuse_unless(fields.address == 0, ADDRESS)?;
     Ok(())
 }
 
-fn network_in(fields: &NetFields) -> Result<NetSummary, Malformed>
+fn network_in(fields: &NetFields) -> Result<NetSummary, Field>
     requires { fields.now.flags ≡ 2 }
     ensures found { IfOk result (λ s. IsSummary s × (fields_of s ≡ fields.now)) }
-    ensures place { MatchResult result (λ s. field_fault fields.now ≡ None) (λ e. field_fault fields.now ≡ Some e.at) }
-    ensures early { IfErr result (λ e. e.at ≤ 3) }
+    ensures fault { IsFirstFault (field_fault fields.now) field_end result }
 {
-    if fields.family != V4 {
-        return Err(Malformed { at: FAMILY_AT });
-    }
+    refuse_unless(fields.family == V4, FAMILY)?;
     let Some(network) = Net::v4(fields.address, fields.prefix) else {
-        return Err(Malformed { at: PREFIX_AT });
+        return Err(PREFIX);
     };
-    if has_host(fields.address, fields.prefix) {
-        return Err(Malformed { at: ADDRESS_AT });
-    }
+    refuse_unless(!has_host(fields.address, fields.prefix), ADDRESS)?;
     network.known();
     Ok(NetSummary::Hull(network))
 }

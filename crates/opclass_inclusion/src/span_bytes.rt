@@ -1,15 +1,16 @@
 //! Summaries of ranges as bytes.
 
-ghost use Rattle.std.specs.Prelude.{◌≡◌, ◌<◌, ◌≤◌, ◌+◌, ◌++◌, if◌then◌else◌, nat_lt, pos, None, Some, Ok, Err, IfErr, IfOk, MatchResult, length, drop};
+ghost use Rattle.std.specs.Prelude.{◌≡◌, ◌<◌, ◌≤◌, ◌+◌, ◌++◌, if◌then◌else◌, nat_lt, pos, Ok, Err, IfErr, IfOk, MatchResult, length, drop};
 ghost use Rattle.std.specs.Int.{w64, cast_unsigned};
 ghost use Rattle.byte_fields.specs.Fields.{put_at};
 ghost use Rattle.byte_fields.specs.Int8.{int8_at};
 ghost use Rattle.opclass_inclusion.specs.SpanEncoding.{bit, bytes_of, field_bytes, fields_of, shape_of};
-ghost use Rattle.opclass_inclusion.specs.SpanFaults.{IsHullIn, fault_in, field_end, field_fault, fields_in};
+ghost use Rattle.opclass_inclusion.specs.Faults.{IsFirstFault};
+ghost use Rattle.opclass_inclusion.specs.SpanFaults.{IsHullIn, field_end, field_fault, fields_in};
 ghost use Rattle.opclass_inclusion.specs.SpanHulls.{IsSummary};
 ghost use Rattle.opclass_inclusion.specs.SpanReading.{read_of};
 
-use crate::fields::{byte_at, field_fault};
+use crate::fields::{Field, byte_at, refuse_unless, whole};
 use crate::span_summary::{SpanSummary, between};
 use block_model::Span8;
 use byte_fields::{get_i64, put_i64};
@@ -26,13 +27,13 @@ const UPPER_INFINITE: u8 = 4;
 
 const BOTH_INFINITE: u8 = 6;
 
-const FLAGS_AT: usize = 0;
+const FLAGS: Field = Field { at: 0, end: 1 };
 
-const SHAPE_AT: usize = 1;
+const SHAPE: Field = Field { at: 1, end: 2 };
 
-const LOWER_AT: usize = 2;
+const LOWER: Field = Field { at: 2, end: 10 };
 
-const UPPER_AT: usize = 10;
+const UPPER: Field = Field { at: 10, end: SIZE };
 
 const INT8_SIZE: usize = 8;
 
@@ -52,10 +53,10 @@ pub(crate) fn write(s: &SpanSummary, out: &mut [u8])
     ensures written { out.new ≡ bytes_of s.now ++ drop 18 out.old }
 {
     let fields = fields_of(s);
-    out[FLAGS_AT] = fields.flags;
-    out[SHAPE_AT] = fields.shape;
-    put_i64(out, LOWER_AT, fields.lower);
-    put_i64(out, UPPER_AT, fields.upper);
+    out[FLAGS.at] = fields.flags;
+    out[SHAPE.at] = fields.shape;
+    put_i64(out, LOWER.at, fields.lower);
+    put_i64(out, UPPER.at, fields.upper);
 }
 
 fn fields_of(s: &SpanSummary) -> SpanFields
@@ -97,32 +98,10 @@ fn shape_of(hull: &Span8) -> u8
 /// The summary that the bytes encode. `Err` exactly where they encode none.
 pub(crate) fn read(bytes: &[u8]) -> Result<SpanSummary, Malformed>
     ensures found { IfOk result (λ s. IsSummary s × (bytes.now ≡ bytes_of s)) }
-    ensures fault { MatchResult result (λ s. fault_in bytes.now ≡ None) (λ e. fault_in bytes.now ≡ Some e.at) }
     ensures read { MatchResult result (λ s. read_of bytes.now ≡ Ok s) (λ e. read_of bytes.now ≡ Err e.at) }
     ensures within { IfErr result (λ e. e.at ≤ length bytes.now) }
 {
-    let summary = match summary_in(&fields_in(bytes)) {
-        Ok(summary) => summary,
-        Err(fault) => return Err(field_fault(fault.at, field_end(fault.at), bytes.len())),
-    };
-    if bytes.len() != SIZE {
-        return Err(Malformed {
-            at: bytes.len().min(SIZE),
-        });
-    }
-    Ok(summary)
-}
-
-fn field_end(at: usize) -> usize
-    requires { at ≤ 10 }
-    ensures end { result ≡ field_end at }
-    ensures later { at < result }
-{
-    match at {
-        LOWER_AT => UPPER_AT,
-        UPPER_AT => SIZE,
-        _ => at + 1,
-    }
+    whole(summary_in(&fields_in(bytes)), bytes.len(), SIZE)
 }
 
 /// The fields; one that isn't whole counts as 0.
@@ -131,10 +110,10 @@ fn fields_in(bytes: &[u8]) -> SpanFields
     ensures whole { length bytes.now ≡ 18 → bytes.now ≡ field_bytes result }
 {
     SpanFields {
-        flags: byte_at(bytes, FLAGS_AT),
-        shape: byte_at(bytes, SHAPE_AT),
-        lower: number_at(bytes, LOWER_AT),
-        upper: number_at(bytes, UPPER_AT),
+        flags: byte_at(bytes, FLAGS.at),
+        shape: byte_at(bytes, SHAPE.at),
+        lower: number_at(bytes, LOWER.at),
+        upper: number_at(bytes, UPPER.at),
     }
 }
 
@@ -150,46 +129,37 @@ fn number_at(bytes: &[u8], at: usize) -> i64
     }
 }
 
-fn summary_in(fields: &SpanFields) -> Result<SpanSummary, Malformed>
+fn summary_in(fields: &SpanFields) -> Result<SpanSummary, Field>
     ensures found { IfOk result (λ s. IsSummary s × (fields_of s ≡ fields.now)) }
-    ensures place { MatchResult result (λ s. field_fault fields.now ≡ None) (λ e. field_fault fields.now ≡ Some e.at) }
-    ensures early { IfErr result (λ e. e.at ≤ 10) }
+    ensures fault { IsFirstFault (field_fault fields.now) field_end result }
 {
     match fields.flags {
         0 => without_hull(fields, false),
         1 => without_hull(fields, true),
         2 => with_hull(fields, false),
         3 => with_hull(fields, true),
-        _ => Err(Malformed { at: FLAGS_AT }),
+        _ => Err(FLAGS),
     }
 }
 
-fn without_hull(fields: &SpanFields, empty_added: bool) -> Result<SpanSummary, Malformed>
+fn without_hull(fields: &SpanFields, empty_added: bool) -> Result<SpanSummary, Field>
     requires { fields.now.flags ≡ bit empty_added 1 }
     ensures found { IfOk result (λ s. IsSummary s × (fields_of s ≡ fields.now)) }
-    ensures place { MatchResult result (λ s. field_fault fields.now ≡ None) (λ e. field_fault fields.now ≡ Some e.at) }
-    ensures early { IfErr result (λ e. e.at ≤ 10) }
+    ensures fault { IsFirstFault (field_fault fields.now) field_end result }
 {
-    if fields.shape != 0 {
-        return Err(Malformed { at: SHAPE_AT });
-    }
-    if fields.lower != 0 {
-        return Err(Malformed { at: LOWER_AT });
-    }
-    if fields.upper != 0 {
-        return Err(Malformed { at: UPPER_AT });
-    }
+    refuse_unless(fields.shape == 0, SHAPE)?;
+    refuse_unless(fields.lower == 0, LOWER)?;
+    refuse_unless(fields.upper == 0, UPPER)?;
     Ok(SpanSummary {
         empty_added,
         hull: Span8::empty(),
     })
 }
 
-fn with_hull(fields: &SpanFields, empty_added: bool) -> Result<SpanSummary, Malformed>
+fn with_hull(fields: &SpanFields, empty_added: bool) -> Result<SpanSummary, Field>
     requires { fields.now.flags ≡ bit empty_added 1 + 2 }
     ensures found { IfOk result (λ s. IsSummary s × (fields_of s ≡ fields.now)) }
-    ensures place { MatchResult result (λ s. field_fault fields.now ≡ None) (λ e. field_fault fields.now ≡ Some e.at) }
-    ensures early { IfErr result (λ e. e.at ≤ 10) }
+    ensures fault { IsFirstFault (field_fault fields.now) field_end result }
 {
     let hull = hull_in(fields)?;
     let summary = SpanSummary::of(&hull);
@@ -199,41 +169,30 @@ fn with_hull(fields: &SpanFields, empty_added: bool) -> Result<SpanSummary, Malf
     })
 }
 
-fn hull_in(fields: &SpanFields) -> Result<Span8, Malformed>
+fn hull_in(fields: &SpanFields) -> Result<Span8, Field>
     requires at_least { 2 ≤ fields.now.flags }
     requires at_most { fields.now.flags ≤ 3 }
     ensures found { IfOk result (IsHullIn fields.now) }
-    ensures place { MatchResult result (λ s. field_fault fields.now ≡ None) (λ e. field_fault fields.now ≡ Some e.at) }
-    ensures early { IfErr result (λ e. e.at ≤ 10) }
+    ensures fault { IsFirstFault (field_fault fields.now) field_end result }
 {
     match fields.shape {
         BOTH_FINITE => {
-            if fields.upper <= fields.lower {
-                return Err(Malformed { at: UPPER_AT });
-            }
+            refuse_unless(fields.lower < fields.upper, UPPER)?;
             Ok(between(Some(fields.lower), Some(fields.upper)))
         }
         LOWER_INFINITE => {
-            if fields.lower != 0 {
-                return Err(Malformed { at: LOWER_AT });
-            }
+            refuse_unless(fields.lower == 0, LOWER)?;
             Ok(between(None, Some(fields.upper)))
         }
         UPPER_INFINITE => {
-            if fields.upper != 0 {
-                return Err(Malformed { at: UPPER_AT });
-            }
+            refuse_unless(fields.upper == 0, UPPER)?;
             Ok(between(Some(fields.lower), None))
         }
         BOTH_INFINITE => {
-            if fields.lower != 0 {
-                return Err(Malformed { at: LOWER_AT });
-            }
-            if fields.upper != 0 {
-                return Err(Malformed { at: UPPER_AT });
-            }
+            refuse_unless(fields.lower == 0, LOWER)?;
+            refuse_unless(fields.upper == 0, UPPER)?;
             Ok(between(None, None))
         }
-        _ => Err(Malformed { at: SHAPE_AT }),
+        _ => Err(SHAPE),
     }
 }

@@ -2,7 +2,8 @@
 
 use thiserror::Error;
 
-/// Why a call of the page store isn't done. Nothing is changed then.
+/// Why a call of the page store isn't done. Nothing is changed then. Later: `Disk` and `Reopen`, from a store that writes to
+/// its disk.
 #[derive(Clone, Copy, Debug, Error, PartialEq, Eq)]
 pub enum StoreError {
     /// The disk failed in this call.
@@ -16,7 +17,7 @@ pub enum StoreError {
     Damaged { at: u64 },
 }
 
-/// Why a step of a machine over pages isn't done. `Memory` comes from no call yet: the steps that read a whole table will answer it.
+/// Why a step of a machine over pages isn't done. Later: `Memory`, from the steps that read a whole table.
 #[derive(Clone, Copy, Debug, Error, PartialEq, Eq)]
 pub enum MachineFault {
     /// The relation has no room; it has that many slots or blocks.

@@ -1,8 +1,9 @@
-//! A map of places to pages over a disk: `read` gives what the changes made, in order, and a call that answers an error
-//! leaves the map as it was. Every page passes the check of its relation's form. The pages stand in memory, all of which
-//! is taken when the store is made; what is known of each page stands apart from it. It stands on page_layout, page_redo
-//! and a disk. The layer above reads pages by `read`, changes them by `change` and `start_with`, and finds room by
-//! `first_room` and `room_at`. It sees the store as the record of specs/PageMap.antt, and each page as its slots.
+//! Keeps the pages of all relations over a disk, so that the layers above speak of pages by their places and of no bytes of
+//! the disk. The layer above makes a store with all the memory that it ever takes, reads pages by `read`, changes them by
+//! `change` and `start_with`, and finds room by `first_room` and `room_at`. It sees the store as a map of places to pages,
+//! the record of specs/PageMap.antt, and each page as its slots. A read gives what the changes made, in order, and a call
+//! that answers an error leaves the map as it was. Every page passes the check of its relation's form. The pages stand in
+//! memory, and what is known of each page stands apart from it. The crate stands on page_layout, page_redo and a disk.
 #![tactic(auto)]
 
 mod fact_list;

@@ -14,6 +14,7 @@ pub(crate) enum Sought {
     Unstarted,
 }
 
+/// Whether a block with these facts is one that is looked for.
 pub(crate) fn is_sought(facts: PageFacts, sought: Sought) -> bool
     ensures { result ≡ is_sought sought facts }
 {

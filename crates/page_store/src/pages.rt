@@ -15,6 +15,7 @@ use page_layout::{Form, Page};
 use page_redo::{Misfit, redo_checked};
 use wal_record::Change;
 
+/// A page that isn't started: zeros alone.
 #[tactic(auto, unfolding(crate::specs::PageMap::unstarted_page))]
 pub(crate) fn unstarted_page() -> Page
     ensures { result ≡ unstarted_page }

@@ -52,7 +52,7 @@ impl<D: Disk + Drop> Model for PageStore<D> {
 
 impl<D: Disk + Drop> PageStore<D> {
     /// A store of this layout over the disk, which is untouched. No page is started. The memory of all pages is taken here, and no
-    /// other call takes any. No crate calls it yet: the store of tables will.
+    /// other call takes any. Later: the store of tables makes one.
     pub fn plain(alloc: Global, disk: D, layout: Layout) -> Result<PageStore<D>, NoMemory>
         ensures disk { IfOk result (λ store. store.disk ≡ disk) }
         ensures layout { IfOk result (λ store. store.layout ≡ layout) }
@@ -126,13 +126,12 @@ impl<D: Disk + Drop> PageStore<D> {
         Ok(())
     }
 
-    /// Makes every change so far durable. Does nothing while the pages stand in memory alone. No crate calls it yet: a commit
-    /// will.
+    /// Makes every change so far durable. Does nothing while the pages stand in memory alone. Later: a commit calls it.
     pub fn flush(&mut self) -> Result<(), StoreError>
         ensures kept { Keeps D.told self.old self.new }
         ensures outcome { Outcome D.told (Untold D.told self.old) self.old self.new result }
     {
-        // Reads a field, so that the store is opened and no fault is known to be kept.
+        // No fault is ever kept while the pages stand in memory: the proof knows it once a field is read.
         let _ = &self.relations;
         Ok(())
     }
@@ -142,7 +141,7 @@ impl<D: Disk + Drop> PageStore<D> {
         ensures reopen { IfErr result IsReopen }
         ensures outcome { Outcome D.told (Untold D.told self.now) self.now self.now result }
     {
-        // Reads a field, so that the store is opened and no fault is known to be kept.
+        // No fault is ever kept while the pages stand in memory: the proof knows it once a field is read.
         let _ = &self.layout;
         Ok(())
     }
@@ -151,7 +150,7 @@ impl<D: Disk + Drop> PageStore<D> {
     pub fn known(&self)
         ensures whole { IsWhole self.now.layout self.now.pages }
     {
-        // Reads a field, so that the store is opened.
+        // The proof knows what holds of the fields once one of them is read.
         let _ = &self.layout;
     }
 
@@ -173,14 +172,14 @@ impl<D: Disk + Drop> PageStore<D> {
     }
 
     /// The lowest block of the relation that has room, else the lowest one that isn't started, else none. Of a table a block has
-    /// room where a slot is free, and neither `need`, in bytes, nor `past`, the number of map pages, is looked at. No page of an
-    /// index is started yet, so no crate gives them a value: those of indexes will.
+    /// room where a slot is free, and neither `need`, in bytes, nor `past`, the number of map pages, is looked at: a table passes
+    /// 0 for both. Later: an index, once its pages are started, passes both.
     pub fn first_room(&self, relation: u8, need: u16, past: u32) -> Option<u32>
         requires relation { relation < length (relation_blocks self.now.layout) }
         ensures within { IfSome result (λ block. block < block_limit self.now.layout relation) }
         ensures room { Tells D.told self.now → IsFirstRoomOf self.now.layout self.now.pages relation need past result }
     {
-        // Where no page of an index is started they decide nothing.
+        // They decide nothing of a table, and no page of an index is started.
         let _ = (need, past);
         self.relation_at(relation).first_room()
     }
@@ -203,7 +202,7 @@ impl<D: Disk + Drop> PageStore<D> {
         self.relation_at(relation).form()
     }
 
-    /// The disk, as it is. No crate calls it yet: a store that is closed will.
+    /// The disk, as it is. Later: a store that is closed gives it back.
     pub fn into_disk(self) -> D
         ensures { result ≡ self.disk }
     {

@@ -32,7 +32,7 @@ use Rattle.query_words.specs.Verbs.{verb_of}
 use Rattle.query_words.specs.Grammar.{SaidCond, SaidStatement, SaidOrder, Whole, Start, Nothing, Say, IsSaidCond, cond_texts, words_of_cond, is_comment}
 use Rattle.query_words.specs.Syntax.{where_so, after_verb, after_started, after_word, stop_behind, stop_from, stop_of, stop_after, behind_conds, BeginsNoCond}
 use Rattle.query_words.specs.Parsed.{conds_from, insert_of_words, summarize_of_words, desummarize_of_words, statement_behind, statement_of_words, order_behind, order_of_words, said_of, BeginsWith}
-use Rattle.query_words.specs.Statements.{◌>>=◌, table_said, value_said, cond_said, conds_said, values_said, insert_said, index_said, statement_judged, order_judged}
+use Rattle.query_words.specs.Statements.{◌>>=◌, made_of, table_said, value_said, cond_said, conds_said, values_said, insert_said, index_said, statement_judged, order_judged}
 use Rattle.query_words.specs.Lines.{ReadsAs, ReadsOnce, line_judged}
 use Rattle.query_words.proofs.Accepting.{accepts_behind, accepts, passes, stops_nowhere, accepted_stops_nowhere}
 use Rattle.query_words.proofs.Completeness.{cond_accepts}
@@ -336,36 +336,62 @@ whole_order language verbs.Start rest a b d = absurd (a refl)
 whole_order language verbs.Step rest a b d = absurd (b refl)
 whole_order language verbs.Finish rest a b d = absurd (d refl)
 
+-- the verb, and what the words behind it are
+pub verb_once : {T : Type 0} (language : List Verb) (schema : Schema) (len : ℕ) (words rest : List PlacedWord) (word : PlacedWord) (v : Verb) (make : Order → T) (r : Result T LineFault)
+    → words ≡ word ∷ rest → verb_of language word.text ≡ Some v
+    → ReadsOnce r (stop_from language len (after_verb v) rest) (made_of make (order_judged schema len (order_behind language v rest)))
+    → ReadsOnce r (stop_from language len expected.Verb words) (made_of make (order_judged schema len (order_of_words language words)))
+verb_once language schema len words rest word v make r is verb h =
+    once_same r (stop_from language len (after_verb v) rest) (stop_from language len expected.Verb words) (made_of make (order_judged schema len (order_behind language v rest)))
+    (made_of make (order_judged schema len (order_of_words language words))) (verb_stop language len words rest word v is verb)
+    (ap (λ (o : Result Order LineFault). made_of make o) (verb_order language schema len words rest word v is verb)) h
+
+made_twice : {A B C : Type 0} (f : B → C) (g : A → B) (said : Result A LineFault) → made_of f (made_of g said) ≡ made_of (λ a. f (g a)) said
+made_twice f g (Ok x) = refl
+made_twice f g (Err fault) = refl
+
+-- an insert as a whole, for what is made of its order
+pub insert_once : {T : Type 0} (language : List Verb) (schema : Schema) (len : ℕ) (rest : List PlacedWord) (make : Order → T) (r : Result T LineFault)
+    → ReadsOnce r (stop_after len expected.InsertTable rest) (made_of (λ s. make (orders.Whole s)) (statement_judged schema len (insert_of_words rest)))
+    → ReadsOnce r (stop_from language len expected.InsertTable rest) (made_of make (order_judged schema len (order_behind language verbs.Insert rest)))
+insert_once language schema len rest make r h =
+    once_same r (stop_after len expected.InsertTable rest) (stop_from language len expected.InsertTable rest) (made_of (λ s. make (orders.Whole s)) (statement_judged schema len (insert_of_words rest)))
+    (made_of make (order_judged schema len (order_behind language verbs.Insert rest))) (same_behind language len expected.InsertTable rest tt)
+    (ap (λ (o : Result Order LineFault). made_of make o) (judged_whole schema len (insert_of_words rest)) ∙ made_twice make (λ s. orders.Whole s) (statement_judged schema len (insert_of_words rest))) h
+
+-- what the words behind a verb are found to be
+abbrev pub FindsBehind : List Verb → Schema → ℕ → List PlacedWord → Result Order LineFault → Verb → Type 0
+FindsBehind language schema len rest r v = ReadsOnce r (stop_from language len (after_verb v) rest) (order_judged schema len (order_behind language v rest))
+
 -- a statement as a whole
-pub whole_once : (language : List Verb) (schema : Schema) (len : ℕ) (words rest : List PlacedWord) (word : PlacedWord) (v : Verb) (r : Result Order LineFault) → words ≡ word ∷ rest
-    → verb_of language word.text ≡ Some v → (v ≡ verbs.Start → ⊥) → (v ≡ verbs.Step → ⊥) → (v ≡ verbs.Finish → ⊥)
-    → ReadsOnce r (stop_after len (after_verb v) rest) (statement_judged schema len (statement_behind v rest) >>= λ s. Ok (orders.Whole s))
-    → ReadsOnce r (stop_from language len expected.Verb words) (order_judged schema len (order_of_words language words))
-whole_once language schema len words rest word v r is verb a b d h =
-    once_same r (stop_after len (after_verb v) rest) (stop_from language len expected.Verb words) (statement_judged schema len (statement_behind v rest) >>= λ s. Ok (orders.Whole s))
-    (order_judged schema len (order_of_words language words))
-    (verb_stop language len words rest word v is verb ∙ same_behind language len (after_verb v) rest (after_past v a))
-    (verb_order language schema len words rest word v is verb ∙ ap (order_judged schema len) (whole_order language v rest a b d) ∙ judged_whole schema len (statement_behind v rest)) h
+pub whole_once : (language : List Verb) (schema : Schema) (len : ℕ) (rest : List PlacedWord) (v : Verb) (r : Result Order LineFault)
+    → (v ≡ verbs.Start → ⊥) → (v ≡ verbs.Step → ⊥) → (v ≡ verbs.Finish → ⊥)
+    → ReadsOnce r (stop_after len (after_verb v) rest) (statement_judged schema len (statement_behind v rest) >>= λ s. Ok (orders.Whole s)) → FindsBehind language schema len rest r v
+whole_once language schema len rest v r a b d h =
+    once_same r (stop_after len (after_verb v) rest) (stop_from language len (after_verb v) rest) (statement_judged schema len (statement_behind v rest) >>= λ s. Ok (orders.Whole s))
+    (order_judged schema len (order_behind language v rest)) (same_behind language len (after_verb v) rest (after_past v a))
+    (ap (order_judged schema len) (whole_order language v rest a b d) ∙ judged_whole schema len (statement_behind v rest)) h
 
 -- a statement that is started
-pub start_once : (language : List Verb) (schema : Schema) (len : ℕ) (words rest : List PlacedWord) (word : PlacedWord) (r : Result Order LineFault) → words ≡ word ∷ rest
-    → verb_of language word.text ≡ Some verbs.Start
-    → ReadsOnce r (stop_from language len expected.Statement rest) (statement_judged schema len (statement_of_words language rest) >>= λ s. Ok (orders.Start s))
-    → ReadsOnce r (stop_from language len expected.Verb words) (order_judged schema len (order_of_words language words))
-start_once language schema len words rest word r is verb h =
-    once_same r (stop_from language len expected.Statement rest) (stop_from language len expected.Verb words) (statement_judged schema len (statement_of_words language rest) >>= λ s. Ok (orders.Start s))
-    (order_judged schema len (order_of_words language words)) (verb_stop language len words rest word verbs.Start is verb)
-    (verb_order language schema len words rest word verbs.Start is verb ∙ judged_start schema len (statement_of_words language rest)) h
+pub start_once : (language : List Verb) (schema : Schema) (len : ℕ) (rest : List PlacedWord) (v : Verb) (r : Result Order LineFault) → v ≡ verbs.Start
+    → ReadsOnce r (stop_from language len expected.Statement rest) (statement_judged schema len (statement_of_words language rest) >>= λ s. Ok (orders.Start s)) → FindsBehind language schema len rest r v
+start_once language schema len rest v r is h =
+    subst (FindsBehind language schema len rest r) (sym is)
+    (once_same r (stop_from language len expected.Statement rest) (stop_from language len expected.Statement rest) (statement_judged schema len (statement_of_words language rest) >>= λ s. Ok (orders.Start s))
+    (order_judged schema len (order_behind language verbs.Start rest)) refl (judged_start schema len (statement_of_words language rest)) h)
 
 -- a step, or all that are left
-pub step_once : (language : List Verb) (schema : Schema) (len : ℕ) (words rest : List PlacedWord) (word : PlacedWord) (v : Verb) (order : Order) (r : Result Order LineFault) → words ≡ word ∷ rest
-    → verb_of language word.text ≡ Some v → after_verb v ≡ expected.End → order_judged schema len (order_behind language v rest) ≡ Ok order
-    → ReadsOnce r (stop_after len expected.End rest) (Ok order)
-    → ReadsOnce r (stop_from language len expected.Verb words) (order_judged schema len (order_of_words language words))
-step_once language schema len words rest word v order r is verb ends judged h =
-    once_same r (stop_after len expected.End rest) (stop_from language len expected.Verb words) (Ok order) (order_judged schema len (order_of_words language words))
-    (verb_stop language len words rest word v is verb ∙ ap (λ (e : Expected). stop_from language len e rest) ends ∙ same_behind language len expected.End rest tt)
-    (verb_order language schema len words rest word v is verb ∙ judged) h
+pub step_once : (language : List Verb) (schema : Schema) (len : ℕ) (rest : List PlacedWord) (v : Verb) (r : Result Order LineFault) → v ≡ verbs.Step
+    → ReadsOnce r (stop_after len expected.End rest) (Ok orders.Step) → FindsBehind language schema len rest r v
+step_once language schema len rest v r is h =
+    subst (FindsBehind language schema len rest r) (sym is)
+    (once_same r (stop_after len expected.End rest) (stop_from language len expected.End rest) (Ok orders.Step) (Ok orders.Step) (same_behind language len expected.End rest tt) refl h)
+
+pub finish_once : (language : List Verb) (schema : Schema) (len : ℕ) (rest : List PlacedWord) (v : Verb) (r : Result Order LineFault) → v ≡ verbs.Finish
+    → ReadsOnce r (stop_after len expected.End rest) (Ok orders.Finish) → FindsBehind language schema len rest r v
+finish_once language schema len rest v r is h =
+    subst (FindsBehind language schema len rest r) (sym is)
+    (once_same r (stop_after len expected.End rest) (stop_from language len expected.End rest) (Ok orders.Finish) (Ok orders.Finish) (same_behind language len expected.End rest tt) refl h)
 
 statement_stop : (language : List Verb) (len : ℕ) (words rest : List PlacedWord) (word : PlacedWord) (v : Verb) → words ≡ word ∷ rest → verb_of language word.text ≡ Some v
     → stop_from language len expected.Statement words ≡ stop_behind (after_started v) word.at (λ behind. stop_from language len behind rest)

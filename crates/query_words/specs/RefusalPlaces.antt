@@ -14,10 +14,11 @@ use Rattle.statements.specs.declared.statement.Statement.{Statement}
 use Rattle.query_words.specs.declared.line.LineFault.{LineFault}
 use Rattle.query_words.specs.declared.line.LineFault.TheVariants as faults
 use Rattle.query_words.specs.Words.{PlacedWord, words_of}
-use Rattle.query_words.specs.Parsed.{conds_from}
+use Rattle.query_words.specs.Parsed.{conds_from, said_of}
 use Rattle.query_words.specs.Operators.{op_of}
-use Rattle.query_words.specs.Grammar.{SaidCond, Compared, Null, NotNull, SaidStatement, Begin, Commit, Rollback, Insert, Select, Delete, Explain, Summarize, Desummarize, Vacuum, Work}
+use Rattle.query_words.specs.Grammar.{SaidCond, Compared, Null, NotNull, SaidStatement, Begin, Commit, Rollback, Insert, Select, Delete, Explain, Summarize, Desummarize, Vacuum, Work, SaidOrder, Whole, Start, Say}
 use Rattle.query_words.specs.Statements.{statement_said}
+use Rattle.query_words.specs.declared.verb.Verb.{Verb}
 
 -- the first of some things that has the name
 abbrev pub IsFirstNamed : {A : Type 0} → (A → List ℕ) → List ℕ → List A → A → Type 0
@@ -144,3 +145,9 @@ WordsAscend = (line : List ℕ) → Ascends 0 (map (λ w. w.at) (words_of line) 
 -- and so do those of the conditions that are read from words that do
 abbrev pub CondsAscend : Type 0
 CondsAscend = (words : List PlacedWord) (bound : ℕ) → Ascends bound (map (λ w. w.at) words) → Ascends bound (flat_map places_of (conds_from [] words))
+
+-- and so do those behind the table of the statement that a line says, as a whole or started: a line meets what the places of refusals need
+abbrev pub StatementAscends : Type 0
+StatementAscends =
+    (language : List Verb) (line : List ℕ) (session : PlacedWord) (order : SaidOrder PlacedWord) (statement : SaidStatement PlacedWord)
+    → said_of language (words_of line) ≡ Some (Say session order) → (order ≡ Whole statement) ⊎ (order ≡ Start statement) → Ascends 0 (places_behind (length line) statement)

@@ -132,8 +132,5 @@ fn read_words(
     let Some(session) = Name::new(word.text) else {
         return Err(LineFault::Syntax { at: word.at });
     };
-    match read_order(alloc, language, behind, schema, line_len) {
-        Ok(order) => Ok(Line::Say { session, order }),
-        Err(fault) => Err(fault),
-    }
+    read_order(alloc, language, session, behind, schema, line_len)
 }

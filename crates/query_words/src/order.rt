@@ -3,33 +3,35 @@
 ghost use Rattle.std.specs.Prelude.{ℕ, Option, Result, Ok};
 ghost use Rattle.query_words.specs.LineParts.{words_left};
 ghost use Rattle.query_words.specs.Lines.{ReadsOnce};
-ghost use Rattle.query_words.specs.Parsed.{order_of_words, statement_of_words};
+ghost use Rattle.query_words.specs.Parsed.{order_behind, order_of_words, insert_of_words, statement_of_words};
 ghost use Rattle.query_words.specs.SmallSchemas.{IsSmallSchema};
 ghost use Rattle.query_words.specs.Statements.{made_of, order_judged, statement_judged};
-ghost use Rattle.query_words.specs.Syntax.{stop_from, stop_after};
+ghost use Rattle.query_words.specs.Syntax.{after_verb, stop_from, stop_after};
 ghost use Rattle.query_words.specs.declared.syntax.Expected.TheVariants as expected;
+ghost use Rattle.query_words.specs.declared.line.Line.TheVariants as lines;
 ghost use Rattle.query_words.specs.declared.line.Order.TheVariants as orders;
 ghost use Rattle.query_words.specs.declared.line.LineFault.{LineFault as OneFault};
 ghost use Rattle.statements.specs.declared.statement.Statement.{Statement as OneStatement};
 
-use crate::line::{LineFault, Order};
-use crate::statement::{read_end, read_statement};
+use crate::line::{Line, LineFault, Order};
+use crate::statement::{read_end, read_row, read_statement};
 use crate::verb::{Verb, read_verb};
 use crate::word::{Rest, next_word};
-use block_model::Schema;
+use block_model::{Name, Schema, Values};
 use statements::Statement;
 use std::alloc::Global;
 
-/// The order that the words are, or a fault of theirs, in a line of that length.
+/// The line of the session that the words are, or a fault of theirs, in a line of that length.
 pub fn read_order(
     alloc: Global,
     language: &[Verb],
+    session: Name,
     rest: Rest<'_>,
     schema: &Schema,
     line_len: usize,
-) -> Result<Order, LineFault>
+) -> Result<Line, LineFault>
     requires { IsSmallSchema schema.now }
-    ensures { ReadsOnce result (stop_from language.now line_len expected.Verb (words_left rest.entry)) (order_judged schema.now line_len (order_of_words language.now (words_left rest.entry))) }
+    ensures { ReadsOnce result (stop_from language.now line_len expected.Verb (words_left rest.entry)) (made_of (λ order. lines.Say session order) (order_judged schema.now line_len (order_of_words language.now (words_left rest.entry)))) }
 {
     let Some((word, rest)) = next_word(rest) else {
         return Err(LineFault::Syntax { at: line_len });
@@ -37,6 +39,66 @@ pub fn read_order(
     let Some(verb) = read_verb(language, word.text) else {
         return Err(LineFault::Syntax { at: word.at });
     };
+    match verb {
+        Verb::Insert => read_insert(session, rest, schema, line_len),
+        _ => read_say(alloc, language, session, verb, rest, schema, line_len),
+    }
+}
+
+/// The line of an insert. It holds its values, and is written once, where it is answered.
+#[inline(always)]
+fn read_insert(
+    session: Name,
+    rest: Rest<'_>,
+    schema: &Schema,
+    line_len: usize,
+) -> Result<Line, LineFault>
+    requires { IsSmallSchema schema.now }
+    ensures { ReadsOnce result (stop_after line_len expected.InsertTable (words_left rest.entry)) (made_of (λ statement. lines.Say session (orders.Whole statement)) (statement_judged schema.now line_len (insert_of_words (words_left rest.entry)))) }
+{
+    let mut values = Values::new();
+    let table = match read_row(rest, schema, line_len, &mut values) {
+        Ok(table) => table,
+        Err(fault) => return Err(fault),
+    };
+    Ok(Line::Say {
+        session,
+        order: Order::Whole(Statement::Insert { table, values }),
+    })
+}
+
+/// The line of any verb. It stands apart from the inserts, which don't pay for the room of its statements.
+#[inline(never)]
+fn read_say(
+    alloc: Global,
+    language: &[Verb],
+    session: Name,
+    verb: Verb,
+    rest: Rest<'_>,
+    schema: &Schema,
+    line_len: usize,
+) -> Result<Line, LineFault>
+    requires { IsSmallSchema schema.now }
+    ensures { ReadsOnce result (stop_from language.now line_len (after_verb verb) (words_left rest.entry)) (made_of (λ order. lines.Say session order) (order_judged schema.now line_len (order_behind language.now verb (words_left rest.entry)))) }
+{
+    match read_behind(alloc, language, verb, rest, schema, line_len) {
+        Ok(order) => Ok(Line::Say { session, order }),
+        Err(fault) => Err(fault),
+    }
+}
+
+/// The order that the verb and the words behind it are.
+fn read_behind(
+    alloc: Global,
+    language: &[Verb],
+    verb: Verb,
+    rest: Rest<'_>,
+    schema: &Schema,
+    line_len: usize,
+) -> Result<Order, LineFault>
+    requires { IsSmallSchema schema.now }
+    ensures { ReadsOnce result (stop_from language.now line_len (after_verb verb) (words_left rest.entry)) (order_judged schema.now line_len (order_behind language.now verb (words_left rest.entry))) }
+{
     match verb {
         Verb::Start => started(read_started(alloc, language, rest, schema, line_len)),
         Verb::Step => stepped(rest, Order::Step),

@@ -1,6 +1,6 @@
 //! Where statements are refused.
 
-ghost use Rattle.query_words.specs.RefusalPlaces.{PlacesOfRefusals, WordsAscend, CondsAscend};
+ghost use Rattle.query_words.specs.RefusalPlaces.{PlacesOfRefusals, WordsAscend, CondsAscend, StatementAscends};
 
 use value_text::value_of_is_denoted;
 
@@ -12,8 +12,10 @@ pub fn places_of_refusals()
     value_of_is_denoted();
 }
 
-/// The words of a line stand one behind another, and so do those of the conditions that are read from them.
+/// The words of a line stand one behind another, and so do those of the conditions that are read from them. So any statement
+/// of a line meets what `places_of_refusals` needs.
 pub fn words_stand_in_order()
     ensures words { WordsAscend }
     ensures conds { CondsAscend }
+    ensures statement { StatementAscends }
 {}

@@ -7,9 +7,10 @@ ghost use Rattle.query_words.specs.LineParts.{words_left, word_here};
 ghost use Rattle.query_words.specs.Lines.{ReadsOnce};
 ghost use Rattle.query_words.specs.Parsed.{insert_of_words, statement_behind};
 ghost use Rattle.query_words.specs.SmallSchemas.{IsSmallSchema};
-ghost use Rattle.query_words.specs.Statements.{table_from, table_said, values_said, query_judged, statement_judged};
+ghost use Rattle.query_words.specs.Statements.{made_of, table_from, table_said, values_said, query_judged, statement_judged};
 ghost use Rattle.query_words.specs.Syntax.{after_verb, stop_after};
 ghost use Rattle.query_words.specs.declared.syntax.Expected.TheVariants as expected;
+ghost use Rattle.statements.specs.declared.statement.Statement.TheVariants as asked;
 
 use crate::line::LineFault;
 use crate::maintenance::{read_desummarize, read_summarize, read_vacuum};
@@ -88,22 +89,45 @@ fn read_insert(rest: Rest<'_>, schema: &Schema, line_len: usize) -> Result<State
     requires { IsSmallSchema schema.now }
     ensures { ReadsOnce result (stop_after line_len expected.InsertTable (words_left rest.entry)) (statement_judged schema.now line_len (insert_of_words (words_left rest.entry))) }
 {
+    let mut values = Values::new();
+    match read_row(rest, schema, line_len, &mut values) {
+        Ok(table) => Ok(Statement::Insert { table, values }),
+        Err(fault) => Err(fault),
+    }
+}
+
+/// The table of an insert; its values come to those that are handed in, where none stand yet.
+pub fn read_row(
+    rest: Rest<'_>,
+    schema: &Schema,
+    line_len: usize,
+    values: &mut Values,
+) -> Result<u8, LineFault>
+    requires schema { IsSmallSchema schema.now }
+    requires empty { values.old ≡ [] }
+    ensures { ReadsOnce (made_of (λ table. asked.Insert table values.new) result) (stop_after line_len expected.InsertTable (words_left rest.entry)) (statement_judged schema.now line_len (insert_of_words (words_left rest.entry))) }
+{
     let Some((word, rest)) = next_word(rest) else {
         return Err(LineFault::Syntax { at: line_len });
     };
     let (table, columns) = read_table(schema, &word)?;
-    match read_values(rest, columns, line_len) {
-        Ok(values) => Ok(Statement::Insert { table, values }),
+    match read_values(rest, columns, line_len, values) {
+        Ok(()) => Ok(table),
         Err(fault) => Err(fault),
     }
 }
 
 /// A value for each column, and no word behind them.
-fn read_values(rest: Rest<'_>, columns: &[Column], line_len: usize) -> Result<Values, LineFault>
-    requires { length columns.now ≤ MAX_COLUMNS }
-    ensures { result ≡ values_said line_len [] columns.now (words_left rest.entry) }
+fn read_values(
+    rest: Rest<'_>,
+    columns: &[Column],
+    line_len: usize,
+    values: &mut Values,
+) -> Result<(), LineFault>
+    requires few { length columns.now ≤ MAX_COLUMNS }
+    requires empty { values.old ≡ [] }
+    ensures { made_of (λ _. values.new) result ≡ values_said line_len [] columns.now (words_left rest.entry) }
 {
-    let mut values = Values::new();
     let mut rest = rest;
     'columns: for column in columns {
         let Some((word, behind)) = next_word(rest) else {
@@ -113,7 +137,7 @@ fn read_values(rest: Rest<'_>, columns: &[Column], line_len: usize) -> Result<Va
         rest = behind;
     }
     match next_word(rest) {
-        None => Ok(values),
+        None => Ok(()),
         Some((word, _)) => Err(LineFault::NoColumn { at: word.at }),
     }
 }

@@ -39,10 +39,9 @@ pub(crate) struct TupleColumn {
 
 impl Model for TupleColumn {
     ghost use Rattle.range_tuple.specs.Tuples.{IndexedColumn};
+    ghost use Rattle.range_tuple.specs.KeptColumns.{IsColumnKept};
 
     ghost Value = { IndexedColumn };
-
-    ghost use Rattle.range_tuple.specs.KeptColumns.{IsColumnKept};
 
     ghost view = { λ a. record { place = a.place; class = a.class; state = a.state; summary = a.summary } };
 
@@ -94,13 +93,6 @@ impl TupleColumn {
         ensures { result ≡ state_number self.now }
     {
         self.state.number()
-    }
-
-    /// The number of the column in the table.
-    pub(crate) fn place(&self) -> usize
-        ensures { result ≡ self.now.place }
-    {
-        usize::from(self.place)
     }
 
     /// Whether nothing was added.
@@ -159,7 +151,7 @@ impl TupleColumn {
         ensures same { result ≡ false → self.new ≡ self.old }
         ensures changed { result ≡ true → self.new ≢ self.old }
     {
-        match values.get(self.place()) {
+        match values.get(usize::from(self.place)) {
             Some(value) => self.add(value),
             None => false,
         }

@@ -72,18 +72,10 @@ pub(crate) fn new_spare(
     Ok(spare.into_boxed_slice())
 }
 
-/// Every column is one.
+/// Does nothing; tells its caller that every column is one, and what its class knows of bytes.
 pub(crate) fn known(columns: &[TupleColumn])
-    ensures { All IsColumn columns.now }
-{
-    'columns: for column in columns {
-        column.known();
-    }
-}
-
-/// Does nothing; tells its caller what each class knows of bytes.
-pub(crate) fn known_classes(columns: &[TupleColumn])
-    ensures { All ReadsAgain columns.now }
+    ensures columns { All IsColumn columns.now }
+    ensures classes { All ReadsAgain columns.now }
 {
     'columns: for column in columns {
         column.known();

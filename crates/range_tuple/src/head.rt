@@ -48,8 +48,8 @@ fn wrong_state(bytes: &[u8], count: usize) -> Option<usize>
     let mut nothing = true;
     'states: for k in 0..count.min(bytes.len() - HEADER) {
         let state = bytes[HEADER + k];
-        nothing = nothing && state == 0;
-        if is_wrong(state, says_empty, nothing && k + 1 == count) {
+        nothing &= state == 0;
+        if is_wrong(state, says_empty, nothing & (k + 1 == count)) {
             return Some(HEADER + k);
         }
     }

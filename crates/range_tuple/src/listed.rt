@@ -17,8 +17,8 @@ ghost use Rattle.range_tuple.specs.Tuples.{IsTuple, empty_placeholder, restarted
 
 use crate::column::TupleColumn;
 use crate::columns::{
-    add_to_each, all_allow, empty_out_each, exchange_each, have_nothing, known, known_classes,
-    new_columns, new_spare, room_of, unite_each, write_each,
+    add_to_each, all_allow, empty_out_each, exchange_each, have_nothing, known, new_columns,
+    new_spare, room_of, unite_each, write_each,
 };
 use crate::head::HEADER;
 use crate::scan_keys::ScanKeys;
@@ -40,11 +40,10 @@ pub struct ListedTuple {
 
 impl Model for ListedTuple {
     ghost use Rattle.range_tuple.specs.Tuples.{Tuple, tuple_of};
-
-    ghost Value = { Tuple };
-
     ghost use Rattle.range_tuple.specs.KeptColumns.{AreKept};
     ghost use Rattle.std.specs.Box.{boxed_slice_items};
+
+    ghost Value = { Tuple };
 
     ghost view = { λ a. tuple_of a.range a.placeholder (boxed_slice_items a.columns) };
 
@@ -87,7 +86,7 @@ impl ListedTuple {
     pub(crate) fn known_classes(&self)
         ensures { All ReadsAgain self.now.columns }
     {
-        known_classes(&self.columns);
+        known(&self.columns);
     }
 
     /// The number of its range.

@@ -27,11 +27,10 @@ pub(crate) struct SpareColumn {
 
 impl Model for SpareColumn {
     ghost use Rattle.range_tuple.specs.Tuples.{IndexedColumn};
-
-    ghost Value = { IndexedColumn };
-
     ghost use Rattle.range_tuple.specs.KeptColumns.{IsBlankOf};
     ghost use Rattle.std.specs.Box.{boxed_slice_items};
+
+    ghost Value = { IndexedColumn };
 
     ghost view = { λ a. a.column };
 

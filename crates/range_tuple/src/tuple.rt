@@ -11,7 +11,7 @@ ghost use Rattle.block_model.specs.TupleSize.{tuple_size};
 ghost use Rattle.range_tuple.specs.Keeps.{keeps};
 ghost use Rattle.range_tuple.specs.TupleBytes.{tuple_bytes};
 ghost use Rattle.range_tuple.specs.TupleIncludes.{TupleIncludes, TupleTakesRow};
-ghost use Rattle.range_tuple.specs.TupleReading.{read_of, says_placeholder, tuple_in};
+ghost use Rattle.range_tuple.specs.TupleReading.{read_of, tuple_in};
 ghost use Rattle.range_tuple.specs.Tuples.{Tuple, IsTuple, empty_placeholder, restarted, with_row, united_tuple, parts_of, tuple_room};
 
 use crate::columns::read_each;
@@ -40,11 +40,10 @@ pub struct RangeTuple {
 
 impl Model for RangeTuple {
     ghost use Rattle.range_tuple.specs.Tuples.{Tuple};
-
-    ghost Value = { Tuple };
-
     ghost use Rattle.range_tuple.specs.KeptColumns.{CanBeRead};
     ghost use Rattle.std.specs.Box.{boxed_slice_items};
+
+    ghost Value = { Tuple };
 
     ghost view = { λ a. a.tuple };
 
@@ -236,14 +235,7 @@ fn read(tuple: &mut ListedTuple, spare: &mut [SpareColumn], bytes: &[u8]) -> Res
         return Err(Malformed { at });
     }
     read_each(spare, bytes)?;
-    tuple.exchange(get_u32(bytes, 0), says_placeholder(bytes), spare);
+    let flags = bytes[4];
+    tuple.exchange(get_u32(bytes, 0), (flags == 1) | (flags == 3), spare);
     Ok(())
-}
-
-/// Whether the flags in a tuple's bytes say placeholder.
-fn says_placeholder(bytes: &[u8]) -> bool
-    requires { 4 < length bytes.now }
-    ensures { result ≡ says_placeholder bytes.now }
-{
-    bytes[4] == 1 || bytes[4] == 3
 }

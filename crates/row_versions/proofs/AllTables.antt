@@ -61,14 +61,14 @@ mid_is_alone xs ys v d = apart_none (xs ++ ys) v.row.id (IsDistinct-head (eq_by_
     (IsDistinct-IsPermutation (eq_by_cmp id_cmp) (eq_by_cmp_equiv ids_total).symm (ids (xs ++ v ∷ ys)) (ids (v ∷ (xs ++ ys)))
     (IsPermutation-map (λ (v : Version). v.row.id) (xs ++ v ∷ ys) (v ∷ (xs ++ ys)) (IsPermutation-middle xs v ys)) d))
 
-puts_new : (xs ys : List Version) (v : Version) → AreDistinct (xs ++ ys) → stored (xs ++ ys) v.row.id ≡ None → Puts (xs ++ ys) (xs ++ v ∷ ys) v
+pub puts_new : (xs ys : List Version) (v : Version) → AreDistinct (xs ++ ys) → stored (xs ++ ys) v.row.id ≡ None → Puts (xs ++ ys) (xs ++ v ∷ ys) v
 puts_new xs ys v d none = record { before = d; after = distinct_mid xs ys v d none; at = λ q. stored_mid xs ys v q (none_in_front xs ys v.row.id none) }
 
 -- the version is found by its id
-found_mid : (xs ys : List Version) (v : Version) → AreDistinct (xs ++ v ∷ ys) → stored (xs ++ v ∷ ys) v.row.id ≡ Some v
+pub found_mid : (xs ys : List Version) (v : Version) → AreDistinct (xs ++ v ∷ ys) → stored (xs ++ v ∷ ys) v.row.id ≡ Some v
 found_mid xs ys v d = stored_mid xs ys v v.row.id (none_in_front xs ys v.row.id (mid_is_alone xs ys v d)) ∙ ap (λ b. cond b (Some v) (stored (xs ++ ys) v.row.id)) (id_ties_itself v.row.id)
 
-puts_deleter : (xs ys : List Version) (v : Version) (t : ℕ) → AreDistinct (xs ++ v ∷ ys) → Puts (xs ++ v ∷ ys) (xs ++ with_deleter v t ∷ ys) (with_deleter v t)
+pub puts_deleter : (xs ys : List Version) (v : Version) (t : ℕ) → AreDistinct (xs ++ v ∷ ys) → Puts (xs ++ v ∷ ys) (xs ++ with_deleter v t ∷ ys) (with_deleter v t)
 puts_deleter xs ys v t d = record {
   before = d;
   after = subst (IsDistinct (eq_by_cmp id_cmp)) (map-append (λ (v : Version). v.row.id) xs (v ∷ ys) ∙ sym (map-append (λ (v : Version). v.row.id) xs (with_deleter v t ∷ ys))) d;

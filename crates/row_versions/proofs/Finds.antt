@@ -34,7 +34,7 @@ use Rattle.row_versions.proofs.Listed.{rows_of, ids_of_rows, found_rows, Stands,
 
 -- ---- only the query's table has matches
 
-filter_none : (p : Version → Bool) (vs : List Version) → All (λ v. p v ≡ false) vs → filter p vs ≡ []
+pub filter_none : (p : Version → Bool) (vs : List Version) → All (λ v. p v ≡ false) vs → filter p vs ≡ []
 filter_none p [] h = refl
 filter_none p (v ∷ vs) h = ap (λ b. cond b (v ∷ filter p vs) (filter p vs)) (All-head (λ v. p v ≡ false) v vs h) ∙ filter_none p vs (All-tail (λ v. p v ≡ false) v vs h)
 
@@ -49,7 +49,7 @@ one_table p (t ∷ ts) zero h =
 one_table p (t ∷ ts) (suc i) h =
     filter-append p t (all_versions ts) ∙ (λ k. filter_none p t (h 0 (λ e. omega (arith, e))) k ++ one_table p ts i (λ j ne. h (suc j) (λ e. ne (omega (arith, e)))) k)
 
-own_matches : (ss : List Status) (o : Open) (q : Query) (ts : List (List Version)) → ((table : ℕ) → All (λ v. v.row.table ≡ table) (versions_at ts table)) → filter (answers ss o q) (all_versions ts) ≡ filter (answers ss o q) (versions_at ts q.table)
+pub own_matches : (ss : List Status) (o : Open) (q : Query) (ts : List (List Version)) → ((table : ℕ) → All (λ v. v.row.table ≡ table) (versions_at ts table)) → filter (answers ss o q) (all_versions ts) ≡ filter (answers ss o q) (versions_at ts q.table)
 own_matches ss o q ts own = one_table (answers ss o q) ts q.table (λ j ne.
     All-weaker (λ (v : Version). v.row.table ≡ j) (λ (v : Version). answers ss o q v ≡ false) (λ v e. other v (λ d. ne (sym e ∙ d))) (versions_at ts j) (own j))
   where
@@ -102,7 +102,7 @@ hits_found ts ss os q o hits whole perm sorted =
     found_rows (is_seen ss o) (row_matches q) vs (versions_at_hits (versions_at ts q.table) hits) whole.stored.ids_differ
     (subst (λ (l : List Version). IsPermutation l (versions_at_hits (versions_at ts q.table) hits)) (sym own) placed.0) placed.1
 
-rows_at_hits : (vs : List Version) (hits : List Hit) → rows_of (versions_at_hits vs hits) ≡ map (λ (h : Hit). (get_or vs h.place nobody).row) hits
+pub rows_at_hits : (vs : List Version) (hits : List Hit) → rows_of (versions_at_hits vs hits) ≡ map (λ (h : Hit). (get_or vs h.place nobody).row) hits
 rows_at_hits vs [] = refl
 rows_at_hits vs (h ∷ hs) = ap (λ l. (get_or vs h.place nobody).row ∷ l) (rows_at_hits vs hs)
 

@@ -25,7 +25,7 @@ use Rattle.row_versions.proofs.Copies.{Becomes, OthersStay, sessions_put, which,
 
 -- ---- a session's transaction changes, but for its number and its snapshot
 
-changed_stored : (vs ws : List Version) (ss : List Status) (os os' : List (Option Open)) (n : ℕ) (o o' : Open) → IsStored vs ss os → transaction_of os n ≡ Some o → Becomes os os' n (Some o')
+pub changed_stored : (vs ws : List Version) (ss : List Status) (os os' : List (Option Open)) (n : ℕ) (o o' : Open) → IsStored vs ss os → transaction_of os n ≡ Some o → Becomes os os' n (Some o')
     → AreDistinct ws → ((q : RowId) (v : Version) → stored ws q ≡ Some v → IsKnown ss v) → o'.t ≡ o.t → o'.snapshot ≡ o.snapshot → IsUnderWay ws ss o'
     → ((m : ℕ) (p : Open) → transaction_of os m ≡ Some p → AreApart o p → IsUnderWay ws ss p) → IsStored ws ss os'
 changed_stored vs ws ss os os' n o o' whole was at distinct known same_t same_snapshot under_way others = record {

@@ -201,7 +201,7 @@ unmapped_get [] k r e = absurd (cc)
 unmapped_get (v ∷ vs) zero r e = (v, refl, cc)
 unmapped_get (v ∷ vs) (suc k) r e = unmapped_get vs k r e
 
-passes_there : (p : Version → Bool) (v : Version) (o : Option Version) → o ≡ Some v → is_some (row_of (option_filter p o)) ≡ true → p v ≡ true
+pub passes_there : (p : Version → Bool) (v : Version) (o : Option Version) → o ≡ Some v → is_some (row_of (option_filter p o)) ≡ true → p v ≡ true
 passes_there p v o there e = test (p v) (sym (ap (λ (o : Option Version). is_some (row_of (option_filter p o))) there) ∙ e)
   where
     test : (b : Bool) → is_some (row_of (cond b (Some v) None)) ≡ true → b ≡ true

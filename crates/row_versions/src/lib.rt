@@ -12,5 +12,11 @@ mod standing;
 mod table;
 mod versions;
 
+pub use judging::{is_seen, sees_at, status_of};
+pub use sessions::{
+    Open, count_row, ended, fail_open, no_transactions, numbers_of, open_of, set_open, take_open,
+    transaction_of,
+};
 pub use standing::Standing;
+pub use table::Version;
 pub use versions::{Hit, Versions};

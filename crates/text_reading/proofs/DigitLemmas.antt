@@ -1,7 +1,7 @@
 -- The digits at the front of bytes, and the number of digits up to a limit.
-use Rattle.std.proofs.Common.{◌≡◌, ℕ, ◌+◌, ◌*◌, ◌-◌, ◌<◌, ◌≤◌, min, Bool, true, false, cond, List, [], ◌∷◌, take, drop, length, get_or, Ok, Err, refl, sym, ap, ◌∙◌, arith, one-add, add-one, inl, inr}
+use Rattle.std.proofs.Common.{◌≡◌, ℕ, ◌+◌, ◌*◌, ◌-◌, ◌<◌, ◌≤◌, min, Bool, true, false, cond, List, [], ◌∷◌, ◌++◌, take, drop, length, get_or, Ok, Err, refl, sym, ap, ◌∙◌, arith, one-add, add-one, inl, inr}
 use Rattle.std.specs.List.{prefix_len}
-use Rattle.std.proofs.Math.Seq.{drop-cons}
+use Rattle.std.proofs.Math.Seq.{drop-cons, take-suc}
 use Rattle.std.proofs.lemmas.Bool.Decides.{leb_tells}
 use Rattle.block_model.specs.Names.{is_digit}
 use Rattle.text_reading.specs.Digits.{digits_from}
@@ -27,6 +27,21 @@ capped_next limit n next i ds h e =
     ap (λ m. min (digits_from m (drop (i + 1) ds)) limit) e
     ∙ digits_from_capped limit (10 * n + (get_or ds i 0 - 48)) (drop (i + 1) ds)
     ∙ sym (ap (λ l. min (digits_from n l) limit) split)
+
+-- one digit more behind others
+digits_from_more : (n : ℕ) (ds : List ℕ) (c : ℕ) → digits_from n (ds ++ c ∷ []) ≡ 10 * digits_from n ds + (c - 48)
+digits_from_more n [] c = refl
+digits_from_more n (d ∷ ds) c = digits_from_more (10 * n + (d - 48)) ds c
+
+-- one digit more of a number up to the limit, from the front
+pub counted_next : (limit number next i : ℕ) (text : List ℕ) → i < length text → number ≡ min (digits_from 0 (take i text)) limit
+    → next ≡ min (10 * number + (get_or text i 0 - 48)) limit → next ≡ min (digits_from 0 (take (i + 1) text)) limit
+counted_next limit number next i text h counted e =
+    let split : take (i + 1) text ≡ take i text ++ get_or text i 0 ∷ [] = ap (λ k. take k text) (add-one i) ∙ take-suc text i 0 h in
+    let grown : digits_from 0 (take (i + 1) text) ≡ 10 * digits_from 0 (take i text) + (get_or text i 0 - 48) =
+    ap (digits_from 0) split ∙ digits_from_more 0 (take i text) (get_or text i 0) in
+    let here : next ≡ min (10 * digits_from 0 (take i text) + (get_or text i 0 - 48)) limit = omega (arith, counted, e) in
+    here ∙ ap (λ n. min n limit) (sym grown)
 
 abbrev cut : ℕ → List ℕ → List ℕ × List ℕ
 cut n bytes = (take n bytes, drop n bytes)

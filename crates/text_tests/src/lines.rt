@@ -8,7 +8,7 @@ use std::process::Abort;
 use std::test::Fail;
 use store_layout::Layout;
 
-const SIZES: Sizes = Sizes {
+pub const SIZES: Sizes = Sizes {
     heap_blocks: 8,
     index_blocks: 4,
     status_blocks: 1,
@@ -56,7 +56,7 @@ fn layout_of(alloc: Global, columns: &[OneColumn]) -> Result<Layout, Fail> {
 }
 
 /// The number of the refusal and its place; 0 for a line that is read.
-fn refusal(read: &Result<Line, LineFault>) -> (u8, usize) {
+pub fn refusal(read: &Result<Line, LineFault>) -> (u8, usize) {
     let Err(fault) = read else {
         return (0, 0);
     };
@@ -64,12 +64,13 @@ fn refusal(read: &Result<Line, LineFault>) -> (u8, usize) {
         Some(Refusal::Syntax { at }) => (1, at),
         Some(Refusal::NoTable { at }) => (2, at),
         Some(Refusal::NoColumn { at }) => (3, at),
+        Some(Refusal::NoIndex { at }) => (9, at),
         _ => (13, 0),
     }
 }
 
 /// A line, and the number of its refusal with the place.
-type Case = (&'static str, (u8, usize));
+pub type Case = (&'static str, (u8, usize));
 
 fn assert_refusals(rt: &impl Abort, alloc: Global, layout: &Layout, cases: &[Case]) {
     for (line, expected) in cases {
@@ -92,8 +93,6 @@ fn lines_stop_at_the_first_impossible_word(rt: HostRuntime) -> Result<(), Fail> 
         ("s1 select t where a == 1", (1, 20)),
         ("s1 select t where a is 5", (1, 23)),
         ("s1 select t where a = 1 and", (1, 27)),
-        ("m summarize i", (1, 2)),
-        ("s1 start begin", (1, 3)),
     ];
     assert_refusals(&rt, rt.alloc(), &layout, &cases);
     Ok(())

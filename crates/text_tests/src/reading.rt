@@ -1,6 +1,6 @@
 //! Texts read part by part.
 
-use text_reading::{byte, digits, end, number_up_to, word};
+use text_reading::{byte, digits, end, number_up_to, word, written_number};
 
 #[test]
 fn parts_stand_one_behind_another(rt: HostRuntime) {
@@ -30,4 +30,17 @@ fn numbers_stay_within_their_limit(rt: HostRuntime) {
         number_up_to(b"99999999999999999999999999999999", u64::MAX),
         u64::MAX
     );
+}
+
+#[test]
+fn written_numbers_have_their_number(rt: HostRuntime) {
+    for (text, number) in [
+        (b"007,".as_slice(), 7),
+        (b"18446744073709551615", u64::MAX),
+        (b"18446744073709551616", u64::MAX),
+    ] {
+        let read = written_number(text);
+        assert!(rt; matches!(read, Ok((found, _)) if found.number == number));
+    }
+    assert!(rt; written_number(b"x7").is_err());
 }

@@ -12,7 +12,7 @@ use Rattle.value_text.specs.ValueTexts.{ValueText, Null, Number as WrittenNumber
 
 -- a number
 abbrev pub number_text : Number → NumberText
-number_text n = record { negative = n.negative; digits = n.digits.now }
+number_text n = record { negative = n.negative; digits = n.numeral.digits.now }
 
 -- a number, or none
 abbrev pub side_text : Option Number → Option NumberText

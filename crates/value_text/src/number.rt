@@ -9,17 +9,14 @@ ghost use Rattle.value_text.specs.Parts.{number_text};
 ghost use Rattle.text_reading.specs.Reading.{Gives, digits_at};
 ghost use Rattle.value_text.specs.Reading.{signed_at};
 
-use text_reading::{Reading, digits, number_up_to};
+use text_reading::{Numeral, Reading, written_number};
 
 /// A number as it is written.
 #[derive(Clone, Copy)]
 pub struct Number<'a> {
     pub negative: bool,
-    pub digits: &'a [u8],
+    pub numeral: Numeral<'a>,
 }
-
-/// The first number past int8 on both sides of zero.
-const PAST: u64 = (1 << 63) + 1;
 
 /// An optional `-` and one or more digits.
 #[tactic(auto, unfolding(crate::specs::Reading::signed_at))]
@@ -28,14 +25,14 @@ pub fn read_number(text: &[u8]) -> Reading<'_, Number<'_>>
 {
     match text {
         [b'-', rest @ ..] => {
-            let (digits, rest) = digits(rest)?;
+            let (numeral, rest) = written_number(rest)?;
             let negative = true;
-            Ok((Number { negative, digits }, rest))
+            Ok((Number { negative, numeral }, rest))
         }
         _ => {
-            let (digits, rest) = digits(text)?;
+            let (numeral, rest) = written_number(text)?;
             let negative = false;
-            Ok((Number { negative, digits }, rest))
+            Ok((Number { negative, numeral }, rest))
         }
     }
 }
@@ -46,14 +43,14 @@ impl Number<'_> {
         ensures bytes { result ≡ length (number_bytes (number_text self.now)) }
         ensures short { result ≤ 2 ^ 63 }
     {
-        self.digits.len() + usize::from(self.negative)
+        self.numeral.digits.len() + usize::from(self.negative)
     }
 
     /// Its value, where it is one of int8.
     pub fn value(&self) -> Option<i64>
         ensures { result ≡ int8_of (number_text self.now) }
     {
-        match number_up_to(self.digits, PAST) {
+        match self.numeral.number {
             n if n < 1 << 63 => {
                 let n = n as i64;
                 Some(if self.negative { -n } else { n })

@@ -5,7 +5,7 @@ use Rattle.std.proofs.lemmas.Result.{err_from_is_err_and}
 use Rattle.opclass_api.specs.declared.class.Malformed.{Malformed}
 use Rattle.range_tuple.specs.TupleBytes.{tuple_bytes}
 use Rattle.range_tuple.specs.TupleFaults.{head_fault}
-use Rattle.range_tuple.specs.TupleReading.{columns_in, read_of}
+use Rattle.range_tuple.specs.TupleReading.{columns_in, read_of, says_placeholder}
 use Rattle.range_tuple.specs.Tuples.{IndexedColumn, Tuple, part_of, parts_of, tuple_of}
 use Rattle.opclass_any.specs.declared.classes.AnyClass.{AnyClass}
 use Rattle.range_tuple.proofs.ByPlace.{heads_fit, length-parts}
@@ -55,8 +55,8 @@ get_u32-requires c =
     let form = in_form (length c.args.spare.now) c.args.bytes.now (sym c.head_fault.ensures.fault ∙ c.in_default.is) in
     record { within = omega (arith, form.long) }
 
-pub says_placeholder-requires : goal.says_placeholder-requires
-says_placeholder-requires c =
+pub bounds-bytes-4 : goal.bounds-bytes-4
+bounds-bytes-4 c =
     let form = in_form (length c.args.spare.now) c.args.bytes.now (sym c.head_fault.ensures.fault ∙ c.in_default.is) in
     omega (arith, form.long)
 
@@ -67,7 +67,7 @@ returns-clause-found c =
     let long : length read ≡ length c.args.spare.now = length-parts read c.args.spare.now c.read_each.ensures.same_index in
     let some : 0 < length read = omega (arith, long, length-parts c.args.spare.now c.args.tuple.now.columns c.requires, c.known.ensures.some) in
     let none : head_fault (length read) bytes ≡ None = ap (λ (n : ℕ). head_fault n bytes) long ∙ sym c.head_fault.ensures.fault ∙ c.in_default.is in
-    bytes_found bytes read c.get_u32.result c.says_placeholder.result some none c.get_u32.ensures.again c.says_placeholder.ensures c.in_ok-read_each.ensures.found ∙ ap tuple_bytes (sym c.exchange.ensures.taken)
+    bytes_found bytes read c.get_u32.result (says_placeholder bytes) some none c.get_u32.ensures.again refl c.in_ok-read_each.ensures.found ∙ ap tuple_bytes (sym c.exchange.ensures.taken)
 
 pub returns-clause-again : goal.returns-clause-again
 returns-clause-again c = λ t lawful parts is.
@@ -79,7 +79,7 @@ returns-clause-again c = λ t lawful parts is.
     in
     let new : read_of (parts_of old.columns) c.args.bytes.now ≡ Ok c.exchange.new.self =
     read_tuple (parts_of old.columns) c.args.bytes.now (length spare) read (counted spare old c.requires) (sym c.head_fault.ensures.fault ∙ c.in_default.is) columns
-    ∙ (λ i. Ok (tuple_of (sym c.get_u32.ensures.got i) (sym c.says_placeholder.ensures i) read))
+    ∙ (λ i. Ok (tuple_of (sym c.get_u32.ensures.got i) (says_placeholder c.args.bytes.now) read))
     ∙ ap Ok (sym c.exchange.ensures.taken)
     in
     let right = read_back old t c.args.bytes.now c.known_classes.ensures lawful parts is in
@@ -95,5 +95,5 @@ returns-clause-read c =
     ap (λ (ps : List (ℕ × AnyClass)). columns_in (length spare) c.args.bytes.now ps 0 (5 + 3 * length spare)) (sym c.requires) ∙ c.in_ok-read_each.ensures.read
     in
     read_tuple (parts_of old.columns) c.args.bytes.now (length spare) read (counted spare old c.requires) (sym c.head_fault.ensures.fault ∙ c.in_default.is) columns
-    ∙ (λ i. Ok (tuple_of (sym c.get_u32.ensures.got i) (sym c.says_placeholder.ensures i) read))
+    ∙ (λ i. Ok (tuple_of (sym c.get_u32.ensures.got i) (says_placeholder c.args.bytes.now) read))
     ∙ ap Ok (sym c.exchange.ensures.taken)

@@ -7,7 +7,7 @@ pub returns-clause-tuple : goal.returns-clause-tuple
 returns-clause-tuple c = subst IsTuple c.self.view_is (record {
   range_fits = c.self.invariant.range_fits;
   empty_flag = refl;
-  columns = subst (All IsColumn) c.deref.ensures.value c.known.ensures;
+  columns = subst (All IsColumn) c.deref.ensures.value c.known.ensures.columns;
 })
 
 pub returns-clause-some : goal.returns-clause-some

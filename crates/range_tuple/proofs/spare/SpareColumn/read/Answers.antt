@@ -1,4 +1,4 @@
-use Rattle.std.proofs.Common.{◌≡◌, ℕ, ◌<◌, true, false, Result, Ok, Err, length, take, sym, ap, ◌∙◌, subst, arith}
+use Rattle.std.proofs.Common.{◌≡◌, ℕ, ◌<◌, true, false, min, List, Result, Ok, Err, length, take, sym, ap, ◌∙◌, subst, arith}
 use Rattle.std.specs.Prelude.{MatchResult}
 use Rattle.std.proofs.lemmas.Bool.Decides.{nat_tests}
 use Rattle.std.proofs.lemmas.List.{take_min}
@@ -9,6 +9,8 @@ use Rattle.range_tuple.specs.NullStates.{has_values}
 use Rattle.range_tuple.specs.TupleReading.{summary_in}
 use Rattle.range_tuple.specs.Tuples.{IndexedColumn}
 use Rattle.opclass_any.specs.declared.classes.AnyClass.{AnyClass}
+use Rattle.opclass_any.specs.declared.classes.AnySummary.{AnySummary}
+use Rattle.range_tuple.specs.declared.state.NullState.{NullState}
 use Rattle.range_tuple.proofs.ColumnBytes.{summary_of_none, summary_of_values}
 use Rattle.range_tuple.proofs.ReadBack.{read_fault, read_no_bytes, read_none, read_short, read_whole}
 use Rattle.range_tuple.proofs.spare.SpareColumn.read.Goals as goal
@@ -45,17 +47,21 @@ returns-in_err-read_values-clause-read c =
     in
     subst (λ (r : Result (Unit {0}) Malformed). MatchResult r (λ ok. summary_in c.args.self.now.class c.args.state size bytes ≡ Ok c.read_values.new.self.summary) (λ fault. summary_in c.args.self.now.class c.args.state size bytes ≡ Err fault.at)) (sym p.1) fails
 
+-- what the class reads of the bytes that are there is judged by the size
+by_size : (class seen : AnyClass) (state : NullState) (size there : ℕ) (bytes : List ℕ) (s : AnySummary) (r : Result AnySummary ℕ) → class ≡ seen → there ≡ min size (length bytes) → read_of class (take there bytes) ≡ Ok s
+    → (read_of class (take size bytes) ≡ Ok s → summary_in class state size bytes ≡ r) → summary_in seen state size bytes ≡ r
+by_size class seen state size there bytes s r same is read judged =
+    let cut : take there bytes ≡ take size bytes = ap (λ (n : ℕ). take n bytes) is ∙ take_min size bytes in
+    ap (λ (a : AnyClass). summary_in a state size bytes) (sym same) ∙ judged (ap (read_of class) (sym cut) ∙ read)
+
 pub returns-then-bytes-size-clause-read : goal.returns-then-bytes-size-clause-read
 returns-then-bytes-size-clause-read c =
     let bytes = c.args.bytes.now in
-    let size = c.args.size in
     let class = c.self.inside.column.class in
+    let new = c.read_values.new.self.summary in
     let there : 0 < length bytes = grind (arith, nat_tests) in
-    let some : has_values c.args.state ≡ true = sym c.if-not-has_values.ensures in
-    let cut : take (c.min.result) bytes ≡ take size bytes = ap (λ (n : ℕ). take n bytes) c.min.ensures ∙ take_min size bytes in
-    let same : class ≡ c.args.self.now.class = ap (λ (column : IndexedColumn). column.class) c.self.view_is in
-    ap (λ (a : AnyClass). summary_in a c.args.state size bytes) (sym same)
-    ∙ read_short class c.args.state size bytes c.read_values.new.self.summary some there (ap (read_of class) (sym cut) ∙ c.in_ok-read_values.ensures.read) c.if-bytes-size.true
+    by_size class c.args.self.now.class c.args.state c.args.size c.min.result bytes new _ (ap (λ (column : IndexedColumn). column.class) c.self.view_is) c.min.ensures c.in_ok-read_values.ensures.read
+    (λ read. read_short class c.args.state c.args.size bytes new (sym c.if-not-has_values.ensures) there read c.if-bytes-size.true)
 
 pub returns-clause-found : goal.returns-clause-found
 returns-clause-found c =
@@ -67,11 +73,8 @@ returns-clause-found c =
 pub returns-clause-read : goal.returns-clause-read
 returns-clause-read c =
     let bytes = c.args.bytes.now in
-    let size = c.args.size in
     let class = c.self.inside.column.class in
+    let new = c.read_values.new.self.summary in
     let there : 0 < length bytes = grind (arith, nat_tests) in
-    let some : has_values c.args.state ≡ true = sym c.if-not-has_values.ensures in
-    let cut : take (c.min.result) bytes ≡ take size bytes = ap (λ (n : ℕ). take n bytes) c.min.ensures ∙ take_min size bytes in
-    let same : class ≡ c.args.self.now.class = ap (λ (column : IndexedColumn). column.class) c.self.view_is in
-    ap (λ (a : AnyClass). summary_in a c.args.state size bytes) (sym same)
-    ∙ read_whole class c.args.state size bytes c.read_values.new.self.summary some there (ap (read_of class) (sym cut) ∙ c.in_ok-read_values.ensures.read) c.if-bytes-size.false
+    by_size class c.args.self.now.class c.args.state c.args.size c.min.result bytes new _ (ap (λ (column : IndexedColumn). column.class) c.self.view_is) c.min.ensures c.in_ok-read_values.ensures.read
+    (λ read. read_whole class c.args.state c.args.size bytes new (sym c.if-not-has_values.ensures) there read c.if-bytes-size.false)

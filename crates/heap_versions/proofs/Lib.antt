@@ -1,0 +1,10 @@
+pub mod Swaps
+pub mod Tables
+pub mod Changes
+pub mod Kept
+pub mod Puts
+pub mod New
+pub mod Moves
+pub mod Marks
+pub mod Stays
+pub mod Finds

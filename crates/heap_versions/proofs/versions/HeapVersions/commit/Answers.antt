@@ -1,0 +1,45 @@
+use Rattle.std.proofs.Common.{cond, not, set, None, sym, ◌∙◌, subst, ap, arith}
+use Rattle.block_model.specs.RequestEffect as model
+use Rattle.snapshot_core.specs.declared.statuses.Status.{Status}
+use Rattle.row_versions.specs.VisibleState.{all_versions, visible_state}
+use Rattle.row_versions.specs.StoredVersions.{IsStored}
+use Rattle.row_versions.specs.SessionChanges.{ended}
+use Rattle.row_versions.proofs.Sights.{begun_known}
+use Rattle.row_versions.proofs.Ends.{ended_stored, ended_not_begun, committed_effect}
+use Rattle.row_versions.proofs.Copies.{rewritten, still_all, is_there}
+use Rattle.heap_versions.specs.ShownVersions.{shown_tables}
+use Rattle.heap_versions.specs.AreHeapVersions.{AreHeapVersions}
+use Rattle.heap_versions.proofs.Moves.{database_is, moved, tells_is}
+use Rattle.heap_versions.proofs.versions.HeapVersions.commit.Goals as goal
+
+pub take_open-open-requires : goal.take_open-open-requires
+take_open-open-requires g c = is_there _ _ _ c.args.session c.args.self.now.database (database_is c.self.view_is) c.requires
+
+pub index_mut-requires : goal.index_mut-requires
+index_mut-requires g c =
+    let low = begun_known c.self.inside.statuses.items c.take_open-open.result.t (c.self.invariant.transactions.under_way c.args.session c.take_open-open.result c.take_open-open.ensures.was).begun in
+    omega (arith, c.self.inside.statuses.ok)
+
+pub invariant_of-self : goal.invariant_of-self
+invariant_of-self g c =
+    let ss = c.self.inside.statuses.items in
+    let os = c.self.inside.sessions.items in
+    let now = c.take_open-open.new.sessions.items in
+    let o = c.take_open-open.result in
+    let was = c.take_open-open.ensures.was in
+    let at = rewritten os now c.args.session o None was c.take_open-open.ensures.gone in
+    subst (λ (e : Status). AreHeapVersions g.D.Disk.told c.self.inside.pages (set ss o.t e) now) (sym c.ended.ensures)
+    (moved g.D.Disk.told c.self.inside.pages ss (set ss o.t (ended o.failed)) os now c.self.invariant (still_all os now c.args.session None c.self.invariant.places c.take_open-open.ensures.gone)
+    (λ vs whole. ended_stored vs ss os now c.args.session o (ended o.failed) whole was at (ended_not_begun o.failed)))
+
+pub returns-clause-database : goal.returns-clause-database
+returns-clause-database g c = λ tells.
+    let store = c.self.inside.pages in
+    let vs = all_versions (shown_tables store.layout store.pages) in
+    let ss = c.self.inside.statuses.items in
+    let os = c.self.inside.sessions.items in
+    let now = c.take_open-open.new.sessions.items in
+    let o = c.take_open-open.result in
+    let was = c.take_open-open.ensures.was in
+    committed_effect vs ss os now c.args.session o c.args.self.now.database (database_is c.self.view_is) (c.self.invariant.on_pages (tells_is g.D.Disk.told c.self.view_is tells)).versions.stored was (rewritten os now c.args.session o None was c.take_open-open.ensures.gone)
+    ∙ ap (λ (e : Status). (visible_state vs (set ss o.t e) now, cond (not o.failed) model.Committed model.RolledBack)) (sym c.ended.ensures)

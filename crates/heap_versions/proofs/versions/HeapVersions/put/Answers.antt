@@ -1,0 +1,43 @@
+use Rattle.std.proofs.Common.{◌≡◌, ◌+◌, List, set, Option, Some, IfSome, ap, sym, ◌∙◌, subst}
+use Rattle.std.specs.Option.{IsSome}
+use Rattle.row_versions.specs.declared.sessions.Open.{Open}
+use Rattle.row_versions.specs.StoredVersions.{transaction_of}
+use Rattle.row_versions.specs.SessionChanges.{with_next_k}
+use Rattle.row_versions.proofs.Copies.{is_there}
+use Rattle.heap_versions.proofs.Moves.{database_is, table_is, tells_is}
+use Rattle.heap_versions.proofs.Puts.{memory_answer, put_heap, put_shown}
+use Rattle.heap_versions.proofs.versions.HeapVersions.put.Goals as goal
+
+pub open_of-open-requires : goal.open_of-open-requires
+open_of-open-requires g c =
+    subst (λ (os : List (Option Open)). IsSome (transaction_of os c.args.session)) (sym c.as_slice.ensures.value)
+    (is_there _ _ _ c.args.session c.args.self.now.database (database_is c.self.view_is) c.requires.under_way)
+
+pub returns-in-Ok-put-clause-database : goal.returns-in-Ok-put-clause-database
+returns-in-Ok-put-clause-database g c = λ tells.
+    let o = c.open_of-open.result.now in
+    let os = c.self.inside.sessions.items in
+    let now = c.count_row.new.sessions.items in
+    let was : transaction_of os c.args.session ≡ Some o = ap (λ (os : List (Option Open)). transaction_of os c.args.session) (sym c.as_slice.ensures.value) ∙ c.open_of-open.ensures in
+    let is = subst (λ (p : Option Open). IfSome p (λ o. now ≡ set os c.args.session (Some (with_next_k o (o.next_k + 1))))) was c.count_row.ensures in
+    put_shown g.D.Disk.told c.args.table c.in-Ok-put.spot c.self.inside.pages c.put.new.pages c.self.inside.statuses.items os now c.args.session c.args.values.now o c.args.self.now.database
+    (record { one = c.slots_are_read.ensures.one; unstarted = c.slots_are_read.ensures.unstarted })
+    (record { below = table_is c.args.table c.self.view_is c.requires.table; takes = c.in-Ok-put.ensures.put; fills = c.in-Ok-put.ensures.slots; others = c.put.ensures.others })
+    c.self.invariant was is (database_is c.self.view_is) (tells_is g.D.Disk.told c.self.view_is tells)
+
+pub invariant_of-self : goal.invariant_of-self
+invariant_of-self g c =
+    let o = c.open_of-open.result.now in
+    let os = c.self.inside.sessions.items in
+    let now = c.count_row.new.sessions.items in
+    let was : transaction_of os c.args.session ≡ Some o = ap (λ (os : List (Option Open)). transaction_of os c.args.session) (sym c.as_slice.ensures.value) ∙ c.open_of-open.ensures in
+    let is = subst (λ (p : Option Open). IfSome p (λ o. now ≡ set os c.args.session (Some (with_next_k o (o.next_k + 1))))) was c.count_row.ensures in
+    put_heap g.D.Disk.told c.args.table c.in-Ok-put.spot c.self.inside.pages c.put.new.pages c.self.inside.statuses.items os now c.args.session c.args.values.now o
+    (record { one = c.slots_are_read.ensures.one; unstarted = c.slots_are_read.ensures.unstarted })
+    (record { below = table_is c.args.table c.self.view_is c.requires.table; takes = c.in-Ok-put.ensures.put; fills = c.in-Ok-put.ensures.slots; others = c.put.ensures.others })
+    c.self.invariant was is
+
+pub returns-then-open-clause-outcome : goal.returns-then-open-clause-outcome
+returns-then-open-clause-outcome g c =
+    memory_answer g.D.Disk.told c.self.inside.pages c.self.inside.statuses.items c.self.inside.sessions.items _ c.args.self.now c.args.session c.open_of-open.result.now c.self.view_is c.in-Ok.ensures.outcome.0
+    (ap (λ (os : List (Option Open)). transaction_of os c.args.session) (sym c.as_slice.ensures.value) ∙ c.open_of-open.ensures) c.if-open.true

@@ -1,0 +1,320 @@
+//! Row versions over heap pages, with statuses and open transactions.
+
+ghost use Rattle.std.specs.Prelude.{◌≡◌, ◌≢◌, ◌+◌, ◌<◌, ◌≤◌, None, Some, [], length, OnOk, OnErr, IfOk, IfErr, IfSome, if◌then◌else◌, vec_capacity};
+ghost use Rattle.std.specs.FinMap as map_of;
+ghost use Rattle.block_model.specs.declared.place.Place.{Place as AnyPlace};
+ghost use Rattle.block_model.specs.declared.request.Request.TheVariants as requests;
+ghost use Rattle.block_model.specs.DatabaseState.{initial_state};
+ghost use Rattle.block_model.specs.RequestEffect.{effect, after_failure, Begun, Inserted, Committed, RolledBack};
+ghost use Rattle.statements.specs.declared.limits.TheConstants.{MAX_SESSIONS};
+ghost use Rattle.statements.specs.StatementRequests.{request_entry};
+ghost use Rattle.page_layout.specs.PageContents.{IsUnstarted};
+ghost use Rattle.page_layout.specs.RowBytes.{HaveKinds};
+ghost use Rattle.page_store.specs.Keeps.{Keeps, Tells, Untold};
+ghost use Rattle.page_store.specs.Outcome.{NamesPage, Outcome};
+ghost use Rattle.page_store.specs.PageMap.{page_at};
+ghost use Rattle.heap_rows.specs.Heaps.{kinds_at, relation_of, slots_a_page};
+ghost use Rattle.heap_rows.specs.HeapBlocks.{OfBlocks};
+ghost use Rattle.heap_rows.specs.IsTableFull.{IsTableFull};
+ghost use Rattle.heap_rows.specs.LeavesOthers.{LeavesOthers};
+ghost use Rattle.heap_rows.specs.PutAnswers.{NamesTable, SaysFull};
+ghost use Rattle.heap_rows.specs.RowPlaces.{FillsSlot, MarksRow, MarksSlot, TakesRowAt, new_row, place_for};
+ghost use Rattle.row_versions.specs.VersionsState.{HasTransaction, StandAtTheirIds, standing_of};
+ghost use Rattle.row_versions.specs.declared.table.Version.{Version};
+ghost use Rattle.row_versions.specs.Marks.{conflicts};
+ghost use Rattle.heap_versions.specs.declared.versions.Hit.{Hit as AnyHit};
+ghost use Rattle.heap_versions.specs.PutAnswers.{PutAnswer};
+ghost use Rattle.heap_versions.specs.Hits.{IsHit, mark_of, marking_answer};
+
+use block_model::{NoMemory, Numbers, RowId, Spot, Value};
+use disk_trait::Disk;
+use heap_rows::{blocks, blocks_of_a_table_are_one_list, unstarted_tables_have_no_blocks};
+use page_layout::slots_are_read;
+use page_store::{MachineFault, PageStore, StoreError};
+use row_versions::{
+    Open, Standing, count_row, ended, fail_open, no_transactions, numbers_of, open_of, set_open,
+    status_of, take_open, transaction_of,
+};
+use snapshot_core::{Snapshot, Status};
+use statements::MAX_SESSIONS;
+use std::alloc::Global;
+use std::marker::Model;
+use store_layout::Layout;
+
+/// How many rows a transaction puts at most, since their places are numbered by a `u32`. Want of memory is answered there.
+const MAX_PLACES: u32 = u32::MAX;
+
+/// A row by its id, and where it stands.
+#[derive(Clone, Copy, Debug, PartialEq, Eq)]
+pub struct Placed {
+    pub id: RowId,
+    pub spot: Spot,
+}
+
+/// A row that a delete found: its id, where it stands, and the transaction that deleted it, 0 for none.
+#[derive(Clone, Copy, Debug, PartialEq, Eq)]
+pub struct Hit {
+    pub id: RowId,
+    pub spot: Spot,
+    pub deleter: u64,
+}
+
+/// How a mark of a row went. At a conflict the transaction fails.
+#[derive(Clone, Copy, Debug, PartialEq, Eq)]
+pub enum Marking {
+    Marked,
+    Conflict,
+}
+
+/// The tables of a database on heap pages, with the open transaction of each session.
+#[derive(Drop)]
+pub struct HeapVersions<D: Disk + Drop> {
+    pages: PageStore<D>,
+    /// How each transaction stands, by its number. Number 0 is of none.
+    statuses: Vec<Status>,
+    /// Each session's open transaction.
+    sessions: Vec<Option<Open>>,
+}
+
+impl<D: Disk + Drop> Model for HeapVersions<D> {
+    ghost use Rattle.std.specs.Prelude.{◌-◌, length, vec_capacity};
+    ghost use Rattle.heap_versions.specs.HeapState.{HeapState, coded_heap};
+    ghost use Rattle.heap_versions.specs.ShownVersions.{shown_heap};
+    ghost use Rattle.heap_versions.specs.AreHeapVersions.{AreHeapVersions};
+
+    ghost Value = { HeapState D };
+
+    ghost coded = { coded_heap D.code };
+
+    ghost view = { λ a. shown_heap a.pages a.statuses.items a.sessions.items (vec_capacity a.statuses - length a.statuses.items) };
+
+    ghost invariant = { λ a. AreHeapVersions D.told a.pages a.statuses.items a.sessions.items };
+}
+
+impl<D: Disk + Drop> HeapVersions<D> {
+    /// No rows and no transactions, on the pages of this layout over the disk, which is untouched. No page is started.
+    pub fn plain(alloc: Global, disk: D, layout: Layout) -> Result<HeapVersions<D>, NoMemory>
+        ensures database { IfOk result (λ v. v.database ≡ initial_state) }
+        ensures disk { IfOk result (λ v. v.store.disk ≡ disk) }
+        ensures layout { IfOk result (λ v. v.store.layout ≡ layout) }
+        ensures unstarted { IfOk result (λ v. (place : AnyPlace) → IsUnstarted (page_at v.store.pages place)) }
+        ensures failed { IfOk result (λ v. v.store.failed ≡ None) }
+    {
+        slots_are_read();
+        unstarted_tables_have_no_blocks();
+        let sessions = no_transactions(alloc)?;
+        let mut statuses = Vec::new(alloc);
+        statuses.push(Status::Unused)?;
+        Ok(HeapVersions {
+            pages: PageStore::plain(alloc, disk, layout)?,
+            statuses,
+            sessions,
+        })
+    }
+
+    /// Does nothing; tells its caller that the rows of each session's copy stand at their ids.
+    pub fn known(&self)
+        ensures { Tells D.told self.now.store → StandAtTheirIds self.now.database }
+    {
+        // The toolchain opens the invariant where a field is read.
+        let _ = &self.sessions;
+    }
+
+    /// The tables, indexes and sizes.
+    pub fn layout(&self) -> &Layout
+        ensures { result.now ≡ self.now.store.layout }
+    {
+        self.pages.layout()
+    }
+
+    /// How many blocks the table has.
+    pub fn blocks(&self, table: u8) -> u32
+        requires { table < length self.now.store.layout.schema.tables }
+        ensures within { result ≤ self.now.store.layout.sizes.heap_blocks }
+        // As many as the blocks that the table has.
+        ensures count { OfBlocks D.told self.now.store table (λ blocks. result ≡ length blocks) }
+    {
+        blocks(&self.pages, table)
+    }
+
+    /// How the session stands.
+    pub fn standing(&self, session: u32) -> Standing
+        ensures { result ≡ standing_of (map_of.get self.now.database.sessions session) }
+    {
+        match transaction_of(self.sessions.as_slice(), session) {
+            Some(open) => {
+                if open.failed {
+                    Standing::Failed
+                } else {
+                    Standing::UnderWay
+                }
+            }
+            None => Standing::Idle,
+        }
+    }
+
+    /// Makes room for a begin of each session.
+    pub fn make_room(&mut self) -> Result<(), NoMemory>
+        ensures store { self.new.store ≡ self.old.store }
+        ensures database { self.new.database ≡ self.old.database }
+        ensures ok { OnOk result (MAX_SESSIONS ≤ self.new.room) }
+        ensures kept { self.old.room ≤ self.new.room }
+    {
+        self.statuses.reserve(MAX_SESSIONS)?;
+        Ok(())
+    }
+
+    /// Begins a transaction of the session, and answers its number. `active` is empty, with room for a number of
+    /// each session. Takes no memory.
+    pub fn begin(&mut self, session: u32, active: Vec<u64>) -> u64
+        requires session { session < MAX_SESSIONS }
+        requires idle { map_of.get self.old.database.sessions session ≡ None }
+        requires room { 0 < self.old.room }
+        requires empty { active.items ≡ [] }
+        requires numbers { MAX_SESSIONS ≤ vec_capacity active }
+        ensures database { Tells D.told self.old.store → effect self.old.database (request_entry session 0 requests.Begin) ≡ (self.new.database, Begun result) }
+        ensures store { self.new.store ≡ self.old.store }
+        ensures room { self.old.room ≤ self.new.room + 1 }
+    {
+        let t = self.statuses.len() as u64;
+        let numbers = numbers_of(self.sessions.as_slice(), active);
+        let open = Open {
+            t,
+            next_k: 0,
+            snapshot: Snapshot {
+                next: t,
+                active: Numbers::from_vec(numbers),
+            },
+            failed: false,
+        };
+        set_open(&mut self.sessions, session, open);
+        self.statuses.push_reserved(Status::Begun);
+        t
+    }
+
+    /// Puts a row of the session's transaction into the table, in the lowest free slot of the lowest block that has one, else in
+    /// the first slot of the next block, and answers its id and where it stands. Full exactly where each slot of each block
+    /// that the table may have is in use; Memory where the transaction has put as many rows as its numbers reach. After a
+    /// refusal nothing is changed, and the id is the next put's. Takes no memory.
+    pub fn put(&mut self, session: u32, table: u8, values: &[Value]) -> Result<Placed, MachineFault>
+        requires under_way { HasTransaction self.old.database session }
+        requires table { table < length self.old.store.layout.schema.tables }
+        requires kinds { HaveKinds (kinds_at self.old.store.layout table) values.now }
+        ensures database { IfOk result (λ placed. Tells D.told self.old.store → effect self.old.database (request_entry session table (requests.Put values.now)) ≡ (self.new.database, Inserted placed.id)) }
+        // By the blocks that the table has.
+        ensures place { IfOk result (λ placed. OfBlocks D.told self.old.store table (λ blocks. place_for self.old.store.layout.sizes.heap_blocks blocks ≡ Some placed.spot)) }
+        ensures put { IfOk result (λ placed. OfBlocks D.told self.old.store table (TakesRowAt self.old.store.layout self.new.store.pages table placed.spot (new_row placed.id values.now))) }
+        ensures slots { IfOk result (λ placed. OfBlocks D.told self.old.store table (FillsSlot (slots_a_page self.old.store.layout table) placed.spot (new_row placed.id values.now))) }
+        ensures full { IfErr result (λ fault. SaysFull fault → OfBlocks D.told self.old.store table (IsTableFull self.old.store.layout.sizes.heap_blocks)) }
+        ensures free { OnOk result (OfBlocks D.told self.old.store table (λ blocks. IsTableFull self.old.store.layout.sizes.heap_blocks blocks → ⊥)) }
+        ensures within { IfOk result (λ placed. (placed.spot.block < self.old.store.layout.sizes.heap_blocks) × (placed.spot.slot < slots_a_page self.old.store.layout table)) }
+        ensures others { LeavesOthers D.told table self.old.store self.new.store }
+        ensures room { self.new.room ≡ self.old.room }
+        ensures kept { OnErr result (Keeps D.told self.old.store self.new.store) }
+        ensures same { OnErr result (Tells D.told self.old.store → self.new.database ≡ self.old.database) }
+        ensures names { IfErr result (NamesTable self.old.store.layout table) }
+        ensures outcome { PutAnswer D.told self.old.store self.new.store (map_of.get self.old.database.sessions session) result }
+    {
+        match self.pages.ready() {
+            Ok(()) => {}
+            Err(error) => return Err(MachineFault::Store(error)),
+        }
+        slots_are_read();
+        let open = open_of(self.sessions.as_slice(), session);
+        if open.next_k == MAX_PLACES {
+            return Err(MachineFault::Memory);
+        }
+        let id = RowId {
+            t: open.t,
+            k: open.next_k,
+        };
+        match heap_rows::put(&mut self.pages, table, id, values) {
+            Ok(spot) => {
+                count_row(&mut self.sessions, session);
+                Ok(Placed { id, spot })
+            }
+            Err(fault) => Err(fault),
+        }
+    }
+
+    /// The session's transaction deletes the row of the hit. Where another transaction has deleted another's row, and hasn't
+    /// rolled back, that is a conflict: no row is changed, and the session's transaction fails. After an error nothing
+    /// is changed. Takes no memory.
+    pub fn mark(&mut self, session: u32, table: u8, hit: &Hit) -> Result<Marking, StoreError>
+        requires under_way { HasTransaction self.old.database session }
+        requires table { table < length self.old.store.layout.schema.tables }
+        requires block { hit.now.spot.block < self.old.store.layout.sizes.heap_blocks }
+        requires hit { Tells D.told self.old.store → IsHit self.old session table hit.now }
+        ensures database { IfOk result (λ marking. Tells D.told self.old.store → effect self.old.database (mark_of session table hit.now) ≡ (self.new.database, marking_answer hit.now.id marking)) }
+        // By the blocks that the table has.
+        ensures marked { IfOk result (λ marking. marking ≡ Marking.Marked → IfSome (map_of.get self.old.database.sessions session) (λ x. OfBlocks D.told self.old.store table (MarksRow self.old.store.layout self.new.store.pages table hit.now.spot x.t))) }
+        ensures slots { IfOk result (λ marking. marking ≡ Marking.Marked → IfSome (map_of.get self.old.database.sessions session) (λ x. OfBlocks D.told self.old.store table (MarksSlot hit.now.spot x.t))) }
+        ensures stays { IfOk result (λ marking. marking ≡ Marking.Marked → Tells D.told self.old.store → (other : AnyHit) → other.id ≢ hit.now.id → IsHit self.old session table other → IsHit self.new session table other) }
+        ensures conflict { IfOk result (λ marking. marking ≡ Marking.Conflict → self.new.store ≡ self.old.store) }
+        ensures others { LeavesOthers D.told table self.old.store self.new.store }
+        ensures room { self.new.room ≡ self.old.room }
+        ensures kept { OnErr result (Keeps D.told self.old.store self.new.store) }
+        ensures same { OnErr result (Tells D.told self.old.store → self.new.database ≡ self.old.database) }
+        ensures at { IfErr result (NamesPage self.old.store.layout (record { relation = relation_of table; block = hit.now.spot.block })) }
+        ensures outcome { Outcome D.told (Untold D.told self.old.store) self.old.store self.new.store result }
+    {
+        match self.pages.ready() {
+            Ok(()) => {}
+            Err(error) => return Err(error),
+        }
+        slots_are_read();
+        blocks_of_a_table_are_one_list();
+        let own = open_of(self.sessions.as_slice(), session).t;
+        if conflicts(hit, self.statuses.as_slice(), own) {
+            fail_open(&mut self.sessions, session);
+            return Ok(Marking::Conflict);
+        }
+        heap_rows::mark(&mut self.pages, table, hit.spot, own)?;
+        Ok(Marking::Marked)
+    }
+
+    /// The session's transaction fails. Takes no memory.
+    pub fn fail(&mut self, session: u32)
+        requires { HasTransaction self.old.database session }
+        ensures database { Tells D.told self.old.store → IfSome (map_of.get self.old.database.sessions session) (λ x. self.new.database ≡ after_failure self.old.database session x) }
+        ensures store { self.new.store ≡ self.old.store }
+        ensures room { self.new.room ≡ self.old.room }
+    {
+        fail_open(&mut self.sessions, session);
+    }
+
+    /// Commits the session's transaction, or rolls it back where it has failed; whether it was committed. Takes no memory.
+    pub fn commit(&mut self, session: u32) -> bool
+        requires { HasTransaction self.old.database session }
+        ensures database { Tells D.told self.old.store → effect self.old.database (request_entry session 0 requests.Commit) ≡ (self.new.database, if result then Committed else RolledBack) }
+        ensures store { self.new.store ≡ self.old.store }
+        ensures room { self.new.room ≡ self.old.room }
+    {
+        let open = take_open(&mut self.sessions, session);
+        self.statuses[open.t as usize] = ended(open.failed);
+        !open.failed
+    }
+
+    /// Rolls the session's transaction back. Takes no memory.
+    pub fn rollback(&mut self, session: u32)
+        requires { HasTransaction self.old.database session }
+        ensures database { Tells D.told self.old.store → effect self.old.database (request_entry session 0 requests.Rollback) ≡ (self.new.database, RolledBack) }
+        ensures store { self.new.store ≡ self.old.store }
+        ensures room { self.new.room ≡ self.old.room }
+    {
+        let open = take_open(&mut self.sessions, session);
+        self.statuses[open.t as usize] = Status::RolledBack;
+    }
+}
+
+/// Whether the transaction numbered `own` can't delete the row of the hit: it is another's, and a third one has deleted it.
+fn conflicts(hit: &Hit, statuses: &[Status], own: u64) -> bool
+    ensures { (v : Version) → v.row.id ≡ hit.now.id → v.deleter ≡ hit.now.deleter → result ≡ conflicts statuses.now own v }
+{
+    hit.id.t != own
+        && hit.deleter != own
+        && match status_of(statuses, hit.deleter) {
+            Status::Begun | Status::Committed => true,
+            Status::Unused | Status::RolledBack => false,
+        }
+}
