@@ -1,5 +1,5 @@
-//! Tests of sources, sinks, disks, changes of the log, pages and rows on pages, over the public calls of io_traits,
-//! disk_trait, wal_record, page_layout, page_redo, page_store and heap_rows. Nothing stands on it.
+//! Tests of disks, changes of the log, pages and rows on pages, over the public calls of disk_trait, wal_record, page_layout,
+//! page_redo, page_store and heap_rows. Nothing stands on it.
 #![tactic(auto)]
 
 #[cfg(test)]
@@ -18,5 +18,3 @@ mod pages;
 mod redos;
 #[cfg(test)]
 mod stores;
-#[cfg(test)]
-mod streams;

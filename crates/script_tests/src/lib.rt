@@ -1,5 +1,5 @@
-//! Tests of the words of a command line, the lines of a script and its run, over the public calls of command_words,
-//! script_lines and script_run. Expected values are worked out by hand. Nothing stands on it.
+//! Tests of the words of a command line, sources and sinks, the lines of a script and its run, over the public calls of
+//! command_words, io_traits, script_lines and script_run. Expected values are worked out by hand. Nothing stands on it.
 #![tactic(auto)]
 
 #[cfg(test)]
@@ -8,3 +8,5 @@ mod commands;
 mod lines;
 #[cfg(test)]
 mod runs;
+#[cfg(test)]
+mod streams;
