@@ -4,12 +4,18 @@
 //! of std's readers and writers, and a test the forms in memory, of which it knows which call fails.
 #![tactic(auto)]
 
+mod empty_job;
+mod gate;
 mod memory_sink;
 mod memory_source;
 mod sink;
 mod source;
+mod stepper;
 
+pub use empty_job::EmptyJob;
+pub use gate::{Gate, OpenGate};
 pub use memory_sink::MemorySink;
 pub use memory_source::MemorySource;
 pub use sink::{Sink, SinkFault, WriterSink, write_all};
 pub use source::{ReaderSource, Source, SourceFault};
+pub use stepper::{Stepper, Turn};

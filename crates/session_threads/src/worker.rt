@@ -1,0 +1,97 @@
+//! Workers, one a session.
+
+ghost use Rattle.std.specs.Prelude.{◌≡◌, ◌≤◌, ◌<◌, ◌+◌, ◌-◌, ◌^◌, min, ℕ, List, length, true, false, All, slice_index_or};
+ghost use Rattle.session_threads.specs.Workers.{one_if};
+
+use crate::step::answer;
+use block_model::Numbers;
+use io_traits::{Gate, Stepper};
+use std::sync::ledger::{Ledger, Share};
+use std::sync::{Condvar, Mutex, Wait};
+use std::thread;
+use std::thread::Threads;
+
+/// A worker: its session and the numbers of its lines, how many of them were answered, whether it was answered Ended, and its
+/// shares of the two books.
+#[derive(Drop)]
+pub struct WorkerEnd<L: Ledger, E: Ledger> {
+    pub session: u32,
+    pub lines: Numbers,
+    pub done: u64,
+    pub ended: bool,
+    pub share: Share<L>,
+    pub end: Share<E>,
+}
+
+/// Runs all workers, each in a thread of its own where one can be made. It takes no memory. It may wait: what is said holds if
+/// it returns.
+pub fn run_all<
+    L: Ledger + Send,
+    E: Ledger + Send,
+    R: Threads + Wait + Sync,
+    S: Stepper<L, E> + Send,
+    G: Gate + Sync,
+>(rt: &R, store: &Mutex<S>, bell: &Condvar, workers: &mut [WorkerEnd<L, E>], gate: &G)
+    requires parts { All (λ w. (0 < w.share.parts) × (0 < w.end.parts)) workers.old }
+    requires fresh { All (λ w. (w.done ≡ 0) × (w.ended ≡ false) × (w.share.amount ≡ 0) × (w.end.amount ≡ 0)) workers.old }
+    ensures done { All (λ w. w.share.amount ≡ w.done) workers.new }
+    ensures ended { All (λ w. w.end.amount ≡ one_if w.ended) workers.new }
+    ensures all { All (λ w. w.ended ≡ false → w.done ≡ length w.lines) workers.new }
+    ensures part { All (λ w. w.ended ≡ true → w.done < length w.lines) workers.new }
+    ensures same { (i : ℕ) (d : _) → i < length workers.old → ((slice_index_or workers.new i d).session ≡ (slice_index_or workers.old i d).session) × ((slice_index_or workers.new i d).lines ≡ (slice_index_or workers.old i d).lines) }
+    ensures same_parts { (i : ℕ) (d : _) → i < length workers.old → ((slice_index_or workers.new i d).share.parts ≡ (slice_index_or workers.old i d).share.parts) × ((slice_index_or workers.new i d).end.parts ≡ (slice_index_or workers.old i d).end.parts) }
+{
+    let threads = workers.len().max(1);
+    thread::for_each_mut(
+        rt,
+        workers,
+        threads,
+        &|_, worker: &mut WorkerEnd<L, E>| { work(rt, store, bell, gate, worker) },
+    );
+}
+
+/// Has the lines of a worker answered, in order, until all are or it is answered Ended.
+fn work<L: Ledger, E: Ledger, R: Wait, S: Stepper<L, E>, G: Gate>(
+    rt: &R,
+    store: &Mutex<S>,
+    bell: &Condvar,
+    gate: &G,
+    worker: &mut WorkerEnd<L, E>,
+)
+    requires parts { (0 < worker.old.share.parts) × (0 < worker.old.end.parts) }
+    requires fresh { (worker.old.done ≡ 0) × (worker.old.ended ≡ false) × (worker.old.share.amount ≡ 0) × (worker.old.end.amount ≡ 0) }
+    ensures done { worker.new.share.amount ≡ worker.new.done }
+    ensures ended { worker.new.end.amount ≡ one_if worker.new.ended }
+    ensures all { worker.new.ended ≡ false → worker.new.done ≡ length worker.old.lines }
+    ensures part { worker.new.ended ≡ true → worker.new.done < length worker.old.lines }
+    ensures same { (worker.new.session ≡ worker.old.session) × (worker.new.lines ≡ worker.old.lines) }
+    ensures same_parts { (worker.new.share.parts ≡ worker.old.share.parts) × (worker.new.end.parts ≡ worker.old.end.parts) }
+{
+    let mut steps = 0;
+    for at in 0..worker.lines.len() {
+        let line = line_number(worker.lines.as_slice()[at]);
+        let (share, end) = (&mut worker.share, &mut worker.end);
+        if !answer(
+            rt,
+            store,
+            bell,
+            gate,
+            worker.session,
+            line,
+            &mut steps,
+            share,
+            end,
+        ) {
+            worker.ended = true;
+            return;
+        }
+        worker.done += 1;
+    }
+}
+
+/// The number by which a line is submitted: a script has no line behind the greatest such number.
+fn line_number(line: u64) -> u32
+    ensures { result ≡ min line (2 ^ 32 - 1) }
+{
+    u32::try_from(line).unwrap_or(u32::MAX)
+}
