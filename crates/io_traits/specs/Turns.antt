@@ -1,6 +1,5 @@
 -- what the answers of a Stepper add to its two books
-use Rattle.std.specs.Prelude.{ℕ}
-use Rattle.std.specs.declared.option.Option.{Option, Some, None}
+use Rattle.std.specs.Prelude.{ℕ, Option, Some, None}
 use Rattle.io_traits.specs.declared.stepper.Turn.{Turn}
 use Rattle.io_traits.specs.declared.stepper.Turn.TheVariants.{Moved, Done, Blocked, Ended, Stale}
 
