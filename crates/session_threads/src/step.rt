@@ -26,14 +26,37 @@ pub fn answer<L: Ledger, E: Ledger, R: Wait, S: Stepper<L, E>, G: Gate>(
     ensures ended { OnFalse result ((share.new.amount ≡ share.old.amount) × (end.new.amount ≡ end.old.amount + 1)) }
     ensures parts { (share.new.parts ≡ share.old.parts) × (end.new.parts ≡ end.old.parts) }
 {
-    let mut turn = submit(rt, store, bell, session, line, share, end);
+    match submit(rt, store, bell, session, line, share, end) {
+        Turn::Done => true,
+        Turn::Ended => false,
+        Turn::Moved | Turn::Blocked | Turn::Stale => {
+            finish(rt, store, bell, gate, session, steps, share, end)
+        }
+    }
+}
+
+/// Makes steps until the line in hand is answered. It tells whether it is; else an Ended came.
+fn finish<L: Ledger, E: Ledger, R: Wait, S: Stepper<L, E>, G: Gate>(
+    rt: &R,
+    store: &Mutex<S>,
+    bell: &Condvar,
+    gate: &G,
+    session: u32,
+    steps: &mut u64,
+    share: &mut Share<L>,
+    end: &mut Share<E>,
+) -> bool
+    requires share { 0 < share.old.parts }
+    requires end { 0 < end.old.parts }
+    ensures answered { OnTrue result ((share.new.amount ≡ share.old.amount + 1) × (end.new.amount ≡ end.old.amount)) }
+    ensures ended { OnFalse result ((share.new.amount ≡ share.old.amount) × (end.new.amount ≡ end.old.amount + 1)) }
+    ensures parts { (share.new.parts ≡ share.old.parts) × (end.new.parts ≡ end.old.parts) }
+{
     for _ in rt.forever() {
-        match turn {
+        match step(rt, store, bell, gate, session, steps, share, end) {
             Turn::Done => return true,
             Turn::Ended => return false,
-            Turn::Moved | Turn::Blocked | Turn::Stale => {
-                turn = step(rt, store, bell, gate, session, steps, share, end);
-            }
+            Turn::Moved | Turn::Blocked | Turn::Stale => {}
         }
     }
     unreachable!()

@@ -70,7 +70,6 @@ fn work<L: Ledger, E: Ledger, R: Wait, S: Stepper<L, E>, G: Gate>(
     let mut steps = 0;
     for at in 0..worker.lines.len() {
         let line = line_number(worker.lines.as_slice()[at]);
-        let (share, end) = (&mut worker.share, &mut worker.end);
         if !answer(
             rt,
             store,
@@ -79,8 +78,8 @@ fn work<L: Ledger, E: Ledger, R: Wait, S: Stepper<L, E>, G: Gate>(
             worker.session,
             line,
             &mut steps,
-            share,
-            end,
+            &mut worker.share,
+            &mut worker.end,
         ) {
             worker.ended = true;
             return;
@@ -93,5 +92,5 @@ fn work<L: Ledger, E: Ledger, R: Wait, S: Stepper<L, E>, G: Gate>(
 fn line_number(line: u64) -> u32
     ensures { result ≡ min line (2 ^ 32 - 1) }
 {
-    u32::try_from(line).unwrap_or(u32::MAX)
+    line.min(u64::from(u32::MAX)) as u32
 }

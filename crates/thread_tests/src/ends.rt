@@ -2,7 +2,7 @@
 
 use crate::planned::{Answer, Plan};
 use crate::run::{numbers, run_plan};
-use crate::signal::{TURNS, count_one};
+use crate::signal::{STALE_TURNS, count_one};
 use io_traits::{Gate, OpenGate};
 use std::sync::atomic::{AtomicU64, Ordering};
 use std::test::Fail;
@@ -95,7 +95,7 @@ struct Waits {
 impl Waits {
     /// A turn of session 0 without a step.
     fn wait(&mut self) -> Answer {
-        if self.turns >= TURNS {
+        if self.turns >= STALE_TURNS {
             return Answer::Ended(7);
         }
         self.turns += 1;

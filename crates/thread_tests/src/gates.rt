@@ -2,7 +2,7 @@
 
 use crate::planned::{Answer, Plan};
 use crate::run::{numbers, run_plan};
-use crate::signal::{TURNS, await_count, count_one};
+use crate::signal::{STALE_TURNS, await_count, count_one};
 use io_traits::Gate;
 use std::sync::atomic::{AtomicU64, Ordering};
 use std::test::Fail;
@@ -137,7 +137,7 @@ impl<'a> Plan for InTurn<'a> {
                 Answer::Done
             };
         }
-        if self.turns >= TURNS {
+        if self.turns >= STALE_TURNS {
             return Answer::Ended(7);
         }
         self.turns += 1;
@@ -155,7 +155,7 @@ impl<'a> Gate for HoldsSecond<'a> {
     fn before(&self, session: u32, _step: u64) {
         if session == 1 {
             let came = count_one(&self.counts.came);
-            if !await_count(&self.counts.made, came, TURNS) {
+            if !await_count(&self.counts.made, came) {
                 count_one(&self.counts.late);
             }
         }

@@ -7,9 +7,6 @@ use io_traits::{Gate, OpenGate};
 use std::sync::atomic::{AtomicU64, Ordering};
 use std::test::Fail;
 
-/// The turns of each wait.
-const TURNS: u64 = 100_000_000;
-
 /// What the jobs share: a flag of session 0, one of session 1, and how many waits were too long.
 #[derive(Drop)]
 struct Flags {
@@ -29,7 +26,7 @@ impl Flags {
 
     /// Waits for a flag.
     fn await_flag(&self, flag: &AtomicU64) {
-        if !await_count(flag, 1, TURNS) {
+        if !await_count(flag, 1) {
             count_one(&self.late);
         }
     }

@@ -61,10 +61,9 @@ fn with_books<
 {
     let (answers, mut share) = answers.open::<L>();
     let (ends, mut end) = ends.open::<E>();
-    let mut workers = [
-        fresh(0, first, share.split_off(1, 0), end.split_off(1, 0)),
-        fresh(1, second, share, end),
-    ];
+    let first = fresh(0, first, share.split_off(1, 0), end.split_off(1, 0));
+    let second = fresh(1, second, share, end);
+    let mut workers = [first, second];
     let store = Mutex::new(Planned::new(plan, answers, ends));
     run_all(rt, &store, &Condvar::new(), &mut workers, gate);
     let [first, second] = workers;
