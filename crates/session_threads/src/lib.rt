@@ -5,7 +5,7 @@
 //! uses `run_all`.
 #![tactic(auto)]
 
-mod step;
+mod floor;
 mod worker;
 
 pub use worker::{WorkerEnd, run_all};

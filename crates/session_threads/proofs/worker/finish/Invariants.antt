@@ -1,5 +1,5 @@
 use Rattle.std.proofs.Common.{◌≡◌}
-use Rattle.session_threads.proofs.step.finish.Given as goal
+use Rattle.session_threads.proofs.worker.finish.Given as goal
 
 -- so far no step answered the line, and none ended it
 abbrev pub invariant-loop : goal.invariant-loop
