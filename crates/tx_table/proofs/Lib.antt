@@ -1,0 +1,5 @@
+pub mod Entries
+pub mod Lists
+pub mod Pages
+pub mod Openings
+pub mod Stores

@@ -1,0 +1,11 @@
+//! Tests of the table of transactions, over the public calls of tx_table and page_store. Nothing stands on it.
+#![tactic(auto)]
+
+#[cfg(test)]
+mod openings;
+#[cfg(test)]
+mod pages;
+#[cfg(test)]
+mod transactions;
+#[cfg(test)]
+mod trial;

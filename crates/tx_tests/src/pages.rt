@@ -1,0 +1,85 @@
+//! A store with pages of statuses.
+
+ghost use Rattle.std.specs.Prelude.{◌≡◌, ◌<◌, true, IfSome};
+ghost use Rattle.page_store.specs.Keeps.{Tells};
+ghost use Rattle.tx_table.specs.Statuses.{IsStartedBlock};
+
+use block_model::{Column, Kind, Name, PAGE_SIZE, Place, Schema, Sequence, Sizes, Table};
+use disk_trait::{Disk, SteadyDisk};
+use page_layout::{Form, Page, STATUS, check, kind_of};
+use page_store::PageStore;
+use std::alloc::Global;
+use store_layout::Layout;
+use wal_record::Change;
+
+/// The layout of the table `t(a int8)`, with so many blocks of statuses.
+fn layout(alloc: Global, status_blocks: u32) -> Option<Layout>
+    ensures { IfSome result (λ layout. layout.sizes.status_blocks ≡ status_blocks) }
+{
+    let mut columns = Sequence::new(alloc);
+    columns
+        .push(Column {
+            name: Name::new(b"a")?,
+            kind: Kind::Int,
+        })
+        .ok()?;
+    let mut tables = Sequence::new(alloc);
+    tables
+        .push(Table {
+            name: Name::new(b"t")?,
+            rows_per_page: 1,
+            columns,
+        })
+        .ok()?;
+    let schema = Schema {
+        tables,
+        indexes: Sequence::new(alloc),
+    };
+    let sizes = Sizes {
+        heap_blocks: 1,
+        index_blocks: 3,
+        status_blocks,
+        log_pages: 16,
+        frames: 16,
+    };
+    Layout::new(schema, sizes).ok()
+}
+
+/// A store with so many blocks of statuses, none of which is started.
+pub fn store(alloc: Global, status_blocks: u32) -> Option<PageStore<SteadyDisk>>
+    ensures { IfSome result (λ store. store.layout.sizes.status_blocks ≡ status_blocks) }
+{
+    let layout = layout(alloc, status_blocks)?;
+    let disk = SteadyDisk::new(alloc, 0).ok()?;
+    PageStore::plain(alloc, disk, layout).ok()
+}
+
+/// A page of statuses whose bytes are zeros but for one: that value stands in the byte.
+pub fn page_with(at: usize, value: u8) -> Page
+    requires { at < PAGE_SIZE }
+{
+    let mut bytes = [0; PAGE_SIZE];
+    bytes[at] = value;
+    bytes[0] = STATUS;
+    Page::from_bytes(&bytes)
+}
+
+/// The page of the block becomes that page, where it is one of statuses.
+pub fn put_page<D: Disk + Drop>(store: &mut PageStore<D>, block: u32, page: &Page) -> bool
+    requires block { block < store.old.layout.sizes.status_blocks }
+    ensures layout { store.new.layout ≡ store.old.layout }
+    ensures started { result ≡ true → Tells D.told store.new → IsStartedBlock store.new.pages block }
+{
+    if kind_of(page) != STATUS {
+        return false;
+    }
+    match check(page, Form::Status) {
+        Ok(()) => {}
+        Err(_) => return false,
+    }
+    let place = Place { relation: 0, block };
+    let bytes = page.as_bytes();
+    store
+        .change(place, &Change::FullPage { place, bytes })
+        .is_ok()
+}

@@ -1,0 +1,130 @@
+//! A table of transactions over a store of its own.
+
+ghost use Rattle.std.specs.Prelude.{◌≡◌, true};
+ghost use Rattle.page_store.specs.Keeps.{Keeps, Tells};
+ghost use Rattle.snapshot_core.specs.declared.statuses.Status.TheVariants.{Begun as BegunStatus};
+ghost use Rattle.tx_table.specs.LeavesRest.{AreStarted};
+ghost use Rattle.tx_table.specs.Statuses.{OfStatuses, status_of};
+ghost use Rattle.tx_table.specs.TxState.{IsOver, IsOwn};
+
+use crate::pages::{put_page, store};
+use block_model::Place;
+use disk_trait::{Disk, SteadyDisk};
+use page_layout::Page;
+use page_store::{PageStore, StoreError};
+use snapshot_core::Status;
+use std::alloc::Global;
+use std::marker::Model;
+use tx_table::{BeginFault, TxTable};
+
+/// The table and its store.
+#[derive(Drop)]
+pub struct Trial<D: Disk + Drop> {
+    store: PageStore<D>,
+    table: TxTable,
+}
+
+impl<D: Disk + Drop> Model for Trial<D> {
+    ghost use Rattle.std.specs.Prelude.{ℕ};
+    ghost use Rattle.page_store.specs.Keeps.{Tells};
+    ghost use Rattle.tx_table.specs.LeavesRest.{AreStarted};
+    ghost use Rattle.tx_table.specs.TxState.{IsOver};
+
+    ghost Value = { ℕ };
+
+    ghost view = { λ a. 0 };
+
+    ghost invariant = { λ a. IsOver D.told a.table a.store × (Tells D.told a.store → AreStarted a.store.layout a.store.pages) };
+}
+
+/// The table over a store of one page of statuses, which is that page.
+pub fn opened(alloc: Global, page: &Page) -> Option<Trial<SteadyDisk>> {
+    let mut store = store(alloc, 1)?;
+    if !put_page(&mut store, 0, page) {
+        return None;
+    }
+    let table = TxTable::start(&mut store).ok()?;
+    Some(Trial { store, table })
+}
+
+impl<D: Disk + Drop> Trial<D> {
+    /// Opens the same pages again.
+    pub fn opened_again(self) -> Option<Trial<D>> {
+        let mut store = self.store;
+        let table = TxTable::start(&mut store).ok()?;
+        Some(Trial { store, table })
+    }
+
+    pub fn begin(&mut self) -> Result<u64, BeginFault> {
+        self.table.begin(&mut self.store)
+    }
+
+    /// Commits a transaction that is begun, and says whether it did.
+    pub fn commit(&mut self, t: u64) -> bool {
+        if !is_begun(&self.table, &mut self.store, t) {
+            return false;
+        }
+        self.table.commit(&mut self.store, t).is_ok()
+    }
+
+    /// Commits two transactions of the first block that are begun, and says whether it did.
+    pub fn commit_two(&mut self, t: u64, u: u64) -> bool {
+        if t >= 32640 {
+            return false;
+        }
+        if u >= 32640 {
+            return false;
+        }
+        if !is_begun(&self.table, &mut self.store, t) {
+            return false;
+        }
+        if !is_begun(&self.table, &mut self.store, u) {
+            return false;
+        }
+        self.table.commit_all(&mut self.store, &[t, u]).is_ok()
+    }
+
+    /// Rolls a transaction back that is begun, and says whether it did.
+    pub fn rollback(&mut self, t: u64) -> bool {
+        if !is_begun(&self.table, &mut self.store, t) {
+            return false;
+        }
+        self.table.rollback(&mut self.store, t).is_ok()
+    }
+
+    pub fn status(&mut self, t: u64) -> Result<Status, StoreError> {
+        self.table.status(&mut self.store, t)
+    }
+
+    pub fn next(&self) -> u64 {
+        self.table.next()
+    }
+
+    /// The byte of the page of the first block.
+    pub fn byte(&mut self, at: usize) -> Option<u8> {
+        let place = Place {
+            relation: 0,
+            block: 0,
+        };
+        match self.store.read(place) {
+            Ok(page) => page.as_bytes().get(at).copied(),
+            Err(_) => None,
+        }
+    }
+}
+
+/// Whether the transaction began since the opening and hasn't ended.
+fn is_begun<D: Disk + Drop>(table: &TxTable, store: &mut PageStore<D>, t: u64) -> bool
+    requires over { IsOver D.told table.now store.old }
+    requires started { Tells D.told store.old → AreStarted store.old.layout store.old.pages }
+    ensures over { IsOver D.told table.now store.new }
+    ensures started { Tells D.told store.new → AreStarted store.new.layout store.new.pages }
+    ensures kept { Keeps D.told store.old store.new }
+    ensures own { result ≡ true → IsOwn table.now t }
+    ensures begun { result ≡ true → OfStatuses D.told store.new (λ statuses. status_of statuses t ≡ BegunStatus) }
+{
+    match table.status(store, t) {
+        Ok(Status::Begun) => t < table.next(),
+        _ => false,
+    }
+}
