@@ -1,15 +1,13 @@
 -- frames in the ring of what they hold
-use Rattle.std.proofs.Common.{◌≡◌, ◌≢◌, ℕ, ◌<◌, ◌≤◌, Bool, true, false, List, Option, Some, None, length, map, get_or, refl, sym, ◌∙◌, ap, subst, arith, inl, inr}
+use Rattle.std.proofs.Common.{◌≡◌, ◌≢◌, ℕ, ◌<◌, Bool, true, false, List, Option, Some, None, length, map, get_or, refl, sym, ◌∙◌, ap, arith, inl, inr}
 use Rattle.std.specs.Prelude.{is_some, IfNone}
 use Rattle.std.specs.List.{Contains}
 use Rattle.std.proofs.lemmas.Bool.{cases_lt, false≢true}
 use Rattle.std.proofs.lemmas.List.{get_or-map, get_or_past, length-map}
-use Rattle.block_model.specs.NumberMaps.{none_Some}
 use Rattle.buffer_pool.specs.declared.held.Held.{Held}
 use Rattle.buffer_pool.specs.declared.held.Wanted.TheVariants as wanted
 use Rattle.buffer_pool.specs.Rings.{IsIn, Standing, standing_of}
-use Rattle.buffer_pool.specs.Slots.{is_dirty, log_suits, page_at, page_of, slot_at, suits}
-use Rattle.buffer_pool.specs.Frames.{AreFilled}
+use Rattle.buffer_pool.specs.Slots.{is_dirty, log_suits, page_of, slot_at, suits}
 
 -- rings are as long as there are frames
 pub clean_long : (slots : List (Option Held)) (standing : Standing) → standing ≡ standing_of slots → length standing.clean ≡ length slots

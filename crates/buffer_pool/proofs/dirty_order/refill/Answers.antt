@@ -1,4 +1,4 @@
-use Rattle.std.proofs.Common.{ℕ, length, arith}
+use Rattle.std.proofs.Common.{length, arith}
 use Rattle.std.proofs.lemmas.List.{get_or_append_left, length-take-le}
 use Rattle.buffer_pool.proofs.Orders.{put_in}
 use Rattle.buffer_pool.proofs.dirty_order.refill.Goals as goal

@@ -1,7 +1,7 @@
 use Rattle.std.proofs.Common.{◌≡◌, ◌≢◌, ℕ, ◌<◌, ◌≤◌, List, Option, Some, length, get_or, sym, ◌∙◌, ap, subst}
 use Rattle.std.specs.Box.{boxed_slice_items}
 use Rattle.buffer_pool.specs.declared.held.Held.{Held}
-use Rattle.buffer_pool.specs.InOrder.{IsAhead, IsInOrder, Walk}
+use Rattle.buffer_pool.specs.InOrder.{IsInOrder, Walk}
 use Rattle.buffer_pool.specs.LowestDirty.{IsLowestDirty, dirty_page}
 use Rattle.buffer_pool.specs.Slots.{slot_at}
 use Rattle.buffer_pool.proofs.Orders.{in_order, lowest_at, lowest_none, skipped}

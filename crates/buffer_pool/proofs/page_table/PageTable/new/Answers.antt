@@ -1,4 +1,4 @@
-use Rattle.std.proofs.Common.{List, Option, rules, sym, subst, arith}
+use Rattle.std.proofs.Common.{List, Option, rules, sym, subst}
 use Rattle.buffer_pool.specs.declared.held.Held.{Held}
 use Rattle.buffer_pool.specs.Table.{IsTable}
 use Rattle.buffer_pool.proofs.Tables.{empty_table}
