@@ -1,9 +1,10 @@
 #!/usr/bin/env python3
-"""Times hits of the pool of pages at 256 and 65536 frames: pool_hits.py. No part of the gate.
+"""Times calls of the pool of pages at 256 and 65536 frames: pool_hits.py. No part of the gate.
 
 Builds a small program over buffer_pool in a copy of the crates, with `rt run`, and runs it five times. Tells the best time
-of a hit at a page chosen at random, without a look at the page and with a look at its first byte, and of a page that is set
-in place of a clean one. The larger pool takes 512 MiB.
+of a hit at a page chosen at random, without a look at the page and with a look at its first byte; of a page that is set in
+place of a clean one, where all frames hold clean pages and where all but one hold dirty ones; and of a walk over the dirty
+pages in order, where every frame holds one, for each page. The larger pool takes 512 MiB.
 """
 import os
 import shutil
@@ -13,6 +14,7 @@ import tempfile
 
 TOP = os.path.dirname(os.path.dirname(os.path.abspath(__file__)))
 HITS = 5_000_000
+CROWDED = 2_000
 NEEDED = "pool_bench: block_model page_layout buffer_pool\n"
 
 MAIN = """//! Times hits of a pool.
@@ -26,6 +28,9 @@ use std::time::Instant;
 
 /// How many hits are made.
 const HITS: u32 = 5_000_000;
+
+/// How many pages are set in place of the only clean one.
+const CROWDED: u32 = 2_000;
 
 /// The next number of a series that looks random.
 fn next(state: u64) -> u64 {
@@ -89,6 +94,43 @@ fn misses(pool: &mut Pool, frames: u32) -> u32 {
     count
 }
 
+/// Makes every page but the last one dirty, of those that were set last.
+fn crowd(pool: &mut Pool, frames: u32) -> bool {
+    let content = Page::zeroed();
+    'pages: for page in 1..frames {
+        if pool.set(u64::from(frames) + u64::from(page) - 1, &content, Some(1)).is_err() {
+            return false;
+        }
+    }
+    true
+}
+
+/// Sets other pages in place of the only clean one, and tells how many were set.
+fn crowded_misses(pool: &mut Pool, frames: u32) -> u32 {
+    let content = Page::zeroed();
+    let mut count: u32 = 0;
+    'misses: for page in 0..CROWDED {
+        if pool.set(2 * u64::from(frames) + u64::from(page), &content, None).is_ok() {
+            count = count.wrapping_add(1);
+        }
+    }
+    count
+}
+
+/// Goes through the dirty pages in order, and tells how many there are.
+fn walk(pool: &mut Pool, frames: u32) -> u32 {
+    let mut count: u32 = 0;
+    let mut from: u64 = 0;
+    'pages: for _ in 0..frames {
+        let Some(page) = pool.next_dirty(from) else {
+            return count;
+        };
+        count = count.wrapping_add(1);
+        from = page.wrapping_add(1);
+    }
+    count
+}
+
 fn measure(rt: &HostRuntime, alloc: Global, frames: u32, mask: u64) -> io::Result<()> {
     let Some(mut pool) = filled(alloc, frames) else {
         return Ok(());
@@ -102,7 +144,19 @@ fn measure(rt: &HostRuntime, alloc: Global, frames: u32, mask: u64) -> io::Resul
     let start = Instant::now(rt)?;
     let count = misses(&mut pool, frames);
     let miss = start.elapsed(rt)?;
-    println!(*rt; "{} {} {} {} {} {} {}", frames, held, zeros, count, hit.as_nanos(), look.as_nanos(), miss.as_nanos())
+    let is_crowded = crowd(&mut pool, frames);
+    let start = Instant::now(rt)?;
+    let crowded = crowded_misses(&mut pool, frames);
+    let crowded_miss = start.elapsed(rt)?;
+    let content = Page::zeroed();
+    let is_set = pool.set(2 * u64::from(frames) + u64::from(CROWDED) - 1, &content, Some(1)).is_ok();
+    let start = Instant::now(rt)?;
+    let dirty = walk(&mut pool, frames);
+    let walked = start.elapsed(rt)?;
+    println!(*rt; "{} {} {} {} {} {}", frames, held, zeros, count, is_crowded, is_set)?;
+    println!(*rt; "{} {}", crowded, dirty)?;
+    println!(*rt; "{} {} {}", hit.as_nanos(), look.as_nanos(), miss.as_nanos())?;
+    println!(*rt; "{} {}", crowded_miss.as_nanos(), walked.as_nanos())
 }
 
 fn main(rt: HostRuntime) -> io::Result<()> {
@@ -128,13 +182,15 @@ def put_files(folder):
 
 
 def run(program):
-    """For each number of frames, nanoseconds of a hit, of a look and of a miss."""
+    """For each number of frames, nanoseconds of a hit, a look, a miss, a miss where one frame is clean, and a page of a walk."""
+    lines = subprocess.run([program], capture_output=True, text=True, check=True).stdout.splitlines()
     times = {}
-    for line in subprocess.run([program], capture_output=True, text=True, check=True).stdout.splitlines():
-        frames, held, zeros, count, hit, look, miss = map(int, line.split())
-        if (held, zeros, count) != (HITS, HITS, frames):
-            sys.exit(f"not every page was held and set: {line}")
-        times[frames] = (hit / HITS, look / HITS, miss / frames)
+    for counts, states, plain, crowded in zip(*[iter(lines)] * 4):
+        frames = int(counts.split()[0])
+        if counts.split()[1:] != [str(HITS), str(HITS), str(frames), "true", "true"] or states.split() != [str(CROWDED), str(frames)]:
+            sys.exit(f"not every page was held and set: {counts} {states}")
+        parts = (HITS, HITS, frames, CROWDED, frames)
+        times[frames] = [int(time) / part for time, part in zip(plain.split() + crowded.split(), parts)]
     return times
 
 
@@ -145,8 +201,9 @@ def main():
         program = os.path.join(crate, "out", "pool_bench")
         runs = [run(program) for _ in range(5)]
     for frames in runs[0]:
-        hit, look, miss = (min(times[frames][k] for times in runs) for k in range(3))
-        print(f"{frames} frames: a hit {hit:.1f} ns, with its first byte {look:.1f} ns, a page set in place of another {miss:.1f} ns")
+        hit, look, miss, crowded, page = (min(times[frames][k] for times in runs) for k in range(5))
+        print(f"{frames} frames: a hit {hit:.1f} ns, with its first byte {look:.1f} ns, a page set in place of another {miss:.1f} ns,")
+        print(f"  of the only clean one {crowded:.1f} ns, a page of a walk over dirty ones {page:.1f} ns")
 
 
 if __name__ == "__main__":

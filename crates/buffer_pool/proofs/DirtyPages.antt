@@ -1,63 +1,17 @@
--- the lowest dirty page, frame by frame
-use Rattle.std.proofs.Common.{◌≡◌, ℕ, ◌+◌, ◌<◌, ◌≤◌, List, [], Option, Some, None, length, get_or, refl, sym, ◌∙◌, ap, arith, inl, inr}
-use Rattle.std.specs.Prelude.{min, nat_le}
-use Rattle.std.proofs.lemmas.Bool.{cases_lt, cond-true, leb-true, le-leb}
+-- the lowest dirty page of frames
+use Rattle.std.proofs.Common.{◌≡◌, ℕ, ◌<◌, ◌≤◌, List, [], Option, Some, None, length, get_or, refl, sym, ◌∙◌, ap, arith}
+use Rattle.std.specs.Prelude.{nat_le}
+use Rattle.std.proofs.lemmas.Bool.{cond-true, leb-true, le-leb}
 use Rattle.std.proofs.lemmas.Option.{cond_some}
 use Rattle.block_model.specs.NumberMaps.{same_Some, none_Some}
 use Rattle.buffer_pool.specs.declared.held.Held.{Held}
 use Rattle.buffer_pool.specs.PoolState.{IsDirty, held_at}
 use Rattle.buffer_pool.specs.NextDirty.{IsNextDirty}
-use Rattle.buffer_pool.specs.LowestDirty.{IsLowestDirty, dirty_page, logged_page, lower}
+use Rattle.buffer_pool.specs.LowestDirty.{IsLowestDirty, dirty_page, logged_page}
 use Rattle.buffer_pool.specs.Slots.{AreApart, page_of, slot_at}
 use Rattle.buffer_pool.specs.Frames.{shown}
 use Rattle.buffer_pool.proofs.Entries.{entry}
 use Rattle.buffer_pool.proofs.Sets.{held_is, is_inside, where_held}
-
--- in no frame
-pub lowest_none : (slots : List (Option Held)) (from : ℕ) → IsLowestDirty slots from 0 None
-lowest_none slots from = record { one = λ page e. absurd (none_Some page e); below = λ k page less e. absurd (omega (arith, less)) }
-
--- in one frame more
-more : (slots : List (Option Held)) (from n : ℕ) (low next : Option ℕ) → dirty_page from (slot_at slots n) ≡ next → IsLowestDirty slots from n low → IsLowestDirty slots from (n + 1) (lower low next)
-more slots from n None next is it = record {
-  one = λ page e. (n, is ∙ e);
-  below = λ k page less e. elim (cases_lt k n) [
-    | inl before ↦ absurd (none_Some (it.below k page before e).0 (it.below k page before e).1)
-    | inr last ↦
-        let same : k ≡ n = omega (arith, less, last) in
-        (page, sym is ∙ ap (λ (x : ℕ). dirty_page from (slot_at slots x)) (sym same) ∙ e, omega arith)
-  ];
-}
-more slots from n (Some low) None is it = record {
-  one = it.one;
-  below = λ k page less e. elim (cases_lt k n) [
-    | inl before ↦ it.below k page before e
-    | inr last ↦
-        let same : k ≡ n = omega (arith, less, last) in
-        absurd (none_Some page (sym is ∙ ap (λ (x : ℕ). dirty_page from (slot_at slots x)) (sym same) ∙ e))
-  ];
-}
-more slots from n (Some low) (Some next) is it = record {
-  one = λ page e.
-      let same : min low next ≡ page = same_Some (min low next) page e in
-      elim (cases_lt low next) [
-        | inl less ↦ it.one page (ap Some (omega (arith, same, less)))
-        | inr rest ↦ (n, is ∙ ap Some (omega (arith, same, rest)))
-      ];
-  below = λ k page less e. elim (cases_lt k n) [
-    | inl before ↦
-        let w = it.below k page before e in
-        let same : low ≡ w.0 = same_Some low w.0 w.1 in
-        (min low next, refl, omega (arith, same, w.2))
-    | inr last ↦
-        let at : k ≡ n = omega (arith, less, last) in
-        let same : next ≡ page = same_Some next page (sym is ∙ ap (λ (x : ℕ). dirty_page from (slot_at slots x)) (sym at) ∙ e) in
-        (min low next, refl, omega (arith, same))
-  ];
-}
-
-pub lowest_more : (slots : List (Option Held)) (from n : ℕ) (low : Option ℕ) → IsLowestDirty slots from n low → IsLowestDirty slots from (n + 1) (lower low (dirty_page from (slot_at slots n)))
-lowest_more slots from n low it = more slots from n low (dirty_page from (slot_at slots n)) refl it
 
 -- what a dirty page of a frame is
 record IsDirtyIn (slots : List (Option Held)) (from k page : ℕ) : Type 0 where
@@ -68,7 +22,7 @@ record IsDirtyIn (slots : List (Option Held)) (from k page : ℕ) : Type 0 where
   waits : held.log ≡ Some log
   low : from ≤ page
 
-in_log : (from page : ℕ) (log : Option ℕ) (own : ℕ) → logged_page from log own ≡ Some page → (number : ℕ) × (log ≡ Some number) × (own ≡ page) × (from ≤ own)
+pub in_log : (from page : ℕ) (log : Option ℕ) (own : ℕ) → logged_page from log own ≡ Some page → (number : ℕ) × (log ≡ Some number) × (own ≡ page) × (from ≤ own)
 in_log from page None own e = absurd (none_Some page e)
 in_log from page (Some number) own e =
     let both = cond_some (nat_le from own) own page e in
@@ -81,7 +35,7 @@ in_slot slots from k page (Some h) is e =
     record { held = h; is = is; number = w.2; log = w.0; waits = w.1; low = omega (arith, w.2, w.3) }
 
 -- a page that waits for a log change is found
-to_log : (from page log : ℕ) (h : Held) → h.page ≡ page → h.log ≡ Some log → from ≤ page → dirty_page from (Some h) ≡ Some page
+pub to_log : (from page log : ℕ) (h : Held) → h.page ≡ page → h.log ≡ Some log → from ≤ page → dirty_page from (Some h) ≡ Some page
 to_log from page log h number waits low =
     ap (λ (l : Option ℕ). logged_page from l h.page) waits
     ∙ ap (logged_page from (Some log)) number

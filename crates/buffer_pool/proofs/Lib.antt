@@ -2,7 +2,9 @@ pub mod Links
 pub mod Filled
 pub mod Entries
 pub mod Puts
-pub mod Counts
+pub mod Seats
+pub mod Orders
+pub mod Stands
 pub mod Tables
 pub mod Sets
 pub mod Cleaning

@@ -1,16 +1,18 @@
 -- what holds of tables of pages
-use Rattle.std.proofs.Common.{◌≡◌, ◌≢◌, ℕ, zero, suc, ◌+◌, ◌<◌, ◌^◌, true, cond, List, Option, Some, None, length, set, replicate, get_or, refl, sym, ◌∙◌, ap, arith, inl, inr, get_or-set_same, get_or-set_other, length-set}
-use Rattle.std.proofs.lemmas.List.{length-replicate}
-use Rattle.std.specs.List.{count_by}
+use Rattle.std.proofs.Common.{◌≡◌, ◌≢◌, ℕ, zero, suc, ◌+◌, ◌<◌, ◌^◌, Bool, false, cond, List, ◌∷◌, Option, Some, None, length, map, set, replicate, get_or, refl, sym, ◌∙◌, ap, subst, arith, inl, inr, get_or-set_same, get_or-set_other, length-set}
+use Rattle.std.specs.Prelude.{is_some}
+use Rattle.std.proofs.lemmas.List.{length-replicate, map-set}
 use Rattle.std.proofs.lemmas.Nat.{and_le_r}
 use Rattle.std.proofs.lemmas.Bool.{cases_eq}
-use Rattle.std.proofs.lemmas.List.Sums.{count_by-le-length, sum_by-cons}
 use Rattle.block_model.specs.NumberMaps.{none_Some}
 use Rattle.buffer_pool.specs.declared.held.Held.{Held}
+use Rattle.buffer_pool.specs.declared.held.Wanted.TheVariants as wanted
+use Rattle.buffer_pool.specs.InOrder.{Walk}
 use Rattle.buffer_pool.specs.Linked.{Placed}
-use Rattle.buffer_pool.specs.Slots.{AreApart, is_dirty, page_of, page_at, slot_at}
+use Rattle.buffer_pool.specs.Rings.{Standing, standing_of}
+use Rattle.buffer_pool.specs.Slots.{AreApart, is_dirty, log_suits, page_of, page_at, slot_at, suits}
 use Rattle.buffer_pool.specs.Table.{IsTable, bucket_of_page, bucket_of_slot}
-use Rattle.buffer_pool.proofs.Counts.{count-set, one}
+use Rattle.buffer_pool.proofs.Orders.{order_after}
 
 -- ---- nothing is held
 
@@ -19,21 +21,24 @@ empty_slot zero k = refl
 empty_slot (suc n) zero = refl
 empty_slot (suc n) (suc k) = empty_slot n k
 
-none_dirty : (n : ℕ) → count_by is_dirty (replicate n None) ≡ 0
-none_dirty zero = refl
-none_dirty (suc n) = omega (arith, sum_by-cons (λ (x : Option Held). cond (is_dirty x) 1 0) None (replicate n None), none_dirty n)
+map_none : (p : Option Held → Bool) (n : ℕ) → p None ≡ false → map p (replicate n None) ≡ replicate n false
+map_none p zero e = refl
+map_none p (suc n) e = λ i. e i ∷ map_none p n e i
 
 -- a table whose frames all stand behind the buckets of pages
-pub empty_table : (n mask : ℕ) (placed : Placed) → placed.frames ≡ n → length placed.bucket_of ≡ n + (mask + 1) + 1 → ((k : ℕ) → k < n → get_or placed.bucket_of k 0 ≡ mask + 1) → n < 2 ^ 32 → mask < 2 ^ 31
-    → IsTable (replicate n None) placed mask 0
-empty_table n mask placed frames heads own small masked = record {
+pub empty_table : (n mask : ℕ) (placed : Placed) (standing : Standing) (walk : Walk) → placed.frames ≡ n → length placed.bucket_of ≡ n + (mask + 1) + 1 → ((k : ℕ) → k < n → get_or placed.bucket_of k 0 ≡ mask + 1)
+    → standing ≡ record { clean = replicate n false; dirty = replicate n false } → walk ≡ record { pages = replicate n 0; count = 0; next = 0; from = None } → n < 2 ^ 32 → mask < 2 ^ 31
+    → IsTable (replicate n None) placed mask standing walk
+empty_table n mask placed standing walk frames heads own stands is small masked = record {
   apart = λ j k page held _. absurd (none_Some page (sym (ap page_of (empty_slot n j)) ∙ held));
   buckets = record {
     frames = frames ∙ sym long;
     heads = omega (arith, heads, long);
     own = λ k inside. own k (omega (arith, inside, long)) ∙ ap (bucket_of_slot mask) (sym (ap page_of (empty_slot n k)));
   };
-  dirty = sym (none_dirty n);
+  rings = stands ∙ (λ i. record { clean = sym (map_none (suits wanted.Clean) n refl) i; dirty = sym (map_none is_dirty n refl) i });
+  order = λ from e. absurd (none_Some from (sym (ap (λ (w : Walk). w.from) is) ∙ e));
+  room = ap (λ (w : Walk). length w.pages) is ∙ length-replicate n 0 ∙ sym long;
   small = omega (arith, small, long);
   masked = masked;
 }
@@ -50,7 +55,7 @@ behind_is_empty mask (Some p) is = absurd (omega (arith, and_le_r p mask, is))
 
 -- ---- after a frame was given a page
 
-module _ (slots : List (Option Held)) (placed : Placed) (mask count : ℕ) (table : IsTable slots placed mask count) (f : ℕ) (h : Held) (inside : f < length slots)
+module _ (slots : List (Option Held)) (placed : Placed) (mask : ℕ) (standing : Standing) (walk : Walk) (table : IsTable slots placed mask standing walk) (f : ℕ) (h : Held) (inside : f < length slots)
     (own : (k : ℕ) → page_at slots k ≡ Some h.page → k ≡ f) where
   as_long : length (set slots f (Some h)) ≡ length slots
   as_long = length-set slots f (Some h)
@@ -77,21 +82,15 @@ module _ (slots : List (Option Held)) (placed : Placed) (mask count : ℕ) (tabl
     ]
   ]
 
-  -- the number of dirty frames, and whether this one was and is one
-  pub counts : count_by is_dirty (set slots f (Some h)) + cond (is_dirty (slot_at slots f)) 1 0 ≡ count + cond (is_dirty (Some h)) 1 0
-  counts = omega (arith, count-set is_dirty slots f (Some h) inside, table.dirty)
+  rings_after : record { clean = set standing.clean f (log_suits wanted.Clean h.log); dirty = set standing.dirty f (is_some h.log) } ≡ standing_of (set slots f (Some h))
+  rings_after = λ i. record {
+    clean = (ap (λ (s : Standing). set s.clean f (log_suits wanted.Clean h.log)) table.rings ∙ sym (map-set (suits wanted.Clean) slots f (Some h))) i;
+    dirty = (ap (λ (s : Standing). set s.dirty f (is_some h.log)) table.rings ∙ sym (map-set is_dirty slots f (Some h))) i;
+  }
 
-  pub counts_fit : count + cond (is_dirty (Some h)) 1 0 < 2 ^ 32 + cond (is_dirty (slot_at slots f)) 1 0
-  counts_fit = omega (arith, counts, count_by-le-length is_dirty (set slots f (Some h)), as_long, table.small)
-
-  pub some_dirty : is_dirty (slot_at slots f) ≡ true → 0 < count
-  some_dirty was =
-      let some : one (is_dirty (slot_at slots f)) ≡ one true = ap one was in
-      omega (arith, count-set is_dirty slots f None inside, some, table.dirty)
-
-  pub table_after : (count' : ℕ) → count' + cond (is_dirty (slot_at slots f)) 1 0 ≡ count + cond (is_dirty (Some h)) 1 0
-      → IsTable (set slots f (Some h)) (record placed { bucket_of = set placed.bucket_of f (bucket_of_page mask h.page) }) mask count'
-  table_after count' counted = record {
+  pub table_after : IsTable (set slots f (Some h)) (record placed { bucket_of = set placed.bucket_of f (bucket_of_page mask h.page) }) mask
+      (record { clean = set standing.clean f (log_suits wanted.Clean h.log); dirty = set standing.dirty f (is_some h.log) }) (record walk { from = cond (is_some h.log) None walk.from })
+  table_after = record {
     apart = apart_after;
     buckets = record {
       frames = table.buckets.frames ∙ sym as_long;
@@ -107,7 +106,17 @@ module _ (slots : List (Option Held)) (placed : Placed) (mask count : ℕ) (tabl
             ∙ ap (bucket_of_slot mask) (sym (other k apart))
       ];
     };
-    dirty = omega (arith, counted, counts);
+    rings = rings_after;
+    order = order_after slots walk f h inside table.order;
+    room = table.room ∙ sym as_long;
     small = omega (arith, table.small, as_long);
     masked = table.masked;
   }
+
+-- the same, said of equal parts
+pub on_parts : (slots : List (Option Held)) (placed placed' : Placed) (mask : ℕ) (standing standing' : Standing) (walk walk' : Walk) → placed' ≡ placed → standing' ≡ standing → walk' ≡ walk
+    → IsTable slots placed mask standing walk → IsTable slots placed' mask standing' walk'
+on_parts slots placed placed' mask standing standing' walk walk' ep es ew it =
+    subst (λ (p : Placed). IsTable slots p mask standing' walk') (sym ep)
+    (subst (λ (s : Standing). IsTable slots placed mask s walk') (sym es)
+    (subst (λ (w : Walk). IsTable slots placed mask standing w) (sym ew) it))

@@ -10,3 +10,5 @@ pub mod NextDirty
 pub mod SetLaws
 pub mod LendsPage
 pub mod CleanLaws
+pub mod Rings
+pub mod InOrder

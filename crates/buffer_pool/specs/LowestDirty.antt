@@ -1,5 +1,5 @@
 -- the lowest dirty page in frames
-use Rattle.std.specs.Prelude.{◌≡◌, ℕ, ◌<◌, ◌≤◌, List, Option, Some, None, cond, min, nat_le}
+use Rattle.std.specs.Prelude.{◌≡◌, ℕ, ◌<◌, ◌≤◌, List, Option, Some, None, cond, nat_le}
 use Rattle.buffer_pool.specs.declared.held.Held.{Held}
 use Rattle.buffer_pool.specs.Slots.{slot_at}
 
@@ -12,12 +12,6 @@ logged_page from (Some log) page = cond (nat_le from page) (Some page) None
 abbrev pub dirty_page : ℕ → Option Held → Option ℕ
 dirty_page from None = None
 dirty_page from (Some held) = logged_page from held.log held.page
-
--- the lower one of two numbers, or the one that there is
-abbrev pub lower : Option ℕ → Option ℕ → Option ℕ
-lower None other = other
-lower (Some page) None = Some page
-lower (Some page) (Some other) = Some (min page other)
 
 -- the lowest dirty page from a number on in the first n frames
 pub record IsLowestDirty (slots : List (Option Held)) (from n : ℕ) (lowest : Option ℕ) : Type 0 where

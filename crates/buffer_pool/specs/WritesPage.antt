@@ -1,4 +1,4 @@
--- what `clean_one` does
+-- what a page that is cleaned does to pool and disk
 use Rattle.std.specs.Prelude.{◌≡◌, ℕ, ◌+◌, ◌*◌, ◌≤◌, ◌<◌, Some, None, Result, Ok, Err, Bool, true, false, IsTrue}
 use Rattle.block_model.specs.declared.limits.TheConstants.{PAGE_SIZE}
 use Rattle.disk_trait.specs.Told.{Told}
@@ -57,3 +57,15 @@ abbrev pub CleansOne : PoolState → PoolState → ℕ → ℕ → Told → Told
 CleansOne old new at durable disk after (Ok true) = Cleans old new at durable disk after
 CleansOne old new at durable disk after (Ok false) = FindsNone old new durable disk after
 CleansOne old new at durable disk after (Err fault) = Fails old new at durable disk after
+
+-- the page waits for a later log change, or isn't held as a dirty one, and nothing is changed
+pub record Leaves (old new : PoolState) (page durable : ℕ) (disk after : Told) : Type 0 where
+  pub waits : (log : ℕ) → IsDirty old page log → durable < log
+  pub same : new ≡ old
+  pub untouched : after ≡ disk
+
+-- the same of a page that is named
+abbrev pub CleansPage : PoolState → PoolState → ℕ → ℕ → ℕ → Told → Told → Result Bool DiskFault → Type 0
+CleansPage old new at page durable disk after (Ok true) = (it : Cleans old new at durable disk after) × (it.page ≡ page)
+CleansPage old new at page durable disk after (Ok false) = Leaves old new page durable disk after
+CleansPage old new at page durable disk after (Err fault) = (it : Fails old new at durable disk after) × (it.page ≡ page)

@@ -1,127 +1,84 @@
-//! The hand that chooses a frame.
+//! The hands that choose a frame.
 
-ghost use Rattle.std.specs.Prelude.{◌≡◌, ◌<◌, ◌≤◌, ◌^◌, ℕ, true, false, length, IfOk, IfSome, IfNone};
-ghost use Rattle.buffer_pool.specs.Slots.{slot_at, suits};
+ghost use Rattle.std.specs.Prelude.{◌≡◌, ◌<◌, ◌≤◌, ◌^◌, ℕ, Option, None, true, false, length, replicate, set, is_some, slice_index, IfOk, IfSome, IfNone};
+ghost use Rattle.std.specs.List.{Contains};
+ghost use Rattle.buffer_pool.specs.declared.held.Wanted.TheVariants as wanted;
+ghost use Rattle.buffer_pool.specs.Rings.{IsIn, Standing, standing_of};
+ghost use Rattle.buffer_pool.specs.Slots.{is_dirty, log_suits, slot_at, suits};
 
-use crate::held::{Held, Wanted, suits};
+use crate::held::{Held, Wanted};
+use crate::ring::Ring;
+use crate::uses::Uses;
 use block_model::NoMemory;
 use std::alloc::Global;
-use std::boxed::BoxedSlice;
 use std::marker::Model;
 
-/// A hand that goes round the frames, and whether each was used since the hand passed it. Seen as the number of the frames.
+/// A ring of the frames that hold a clean page, and one of those that hold a dirty one.
 #[derive(Debug, Drop)]
 pub(crate) struct Clock {
-    recent: BoxedSlice<bool>,
-    hand: u32,
+    clean: Ring,
+    dirty: Ring,
 }
 
 impl Model for Clock {
-    ghost use Rattle.std.specs.Prelude.{ℕ, ◌≤◌, length};
-    ghost use Rattle.std.specs.Box.{boxed_slice_items};
+    ghost use Rattle.buffer_pool.specs.Rings.{Standing};
 
-    ghost Value = { ℕ };
+    ghost Value = { Standing };
 
-    ghost view = { λ a. length (boxed_slice_items a.recent) };
-
-    ghost invariant = { λ a. a.hand ≤ length (boxed_slice_items a.recent) };
+    ghost view = { λ a. record { clean = a.clean; dirty = a.dirty } };
 }
 
 impl Clock {
-    /// No frame was used. `Err` is want of memory.
+    /// No frame holds a page. `Err` is want of memory.
     pub fn new(alloc: Global, frames: u32) -> Result<Clock, NoMemory>
-        ensures { IfOk result (λ clock. clock ≡ frames) }
+        ensures { IfOk result (λ clock. clock ≡ record { clean = replicate frames false; dirty = replicate frames false }) }
     {
-        let recent = vec![in alloc; false; frames as usize]?;
-        Ok(Clock {
-            recent: recent.into_boxed_slice(),
-            hand: 0,
-        })
+        let clean = Ring::new(alloc, frames)?;
+        let dirty = Ring::new(alloc, frames)?;
+        Ok(Clock { clean, dirty })
     }
 
-    /// The frame was used.
-    pub fn touch(&mut self, frame: u32)
-        requires { frame < self.old }
-        ensures { self.new ≡ self.old }
+    /// The frame holds a page that waits for the log change of that number, or a clean one.
+    pub fn place(&mut self, frame: u32, log: Option<u64>)
+        requires clean { frame < length self.old.clean }
+        requires dirty { frame < length self.old.dirty }
+        ensures { self.new ≡ record { clean = set self.old.clean frame (log_suits wanted.Clean log); dirty = set self.old.dirty frame (is_some log) } }
     {
-        self.recent[frame as usize] = true;
-    }
-
-    /// A frame whose page is wanted, or nothing where there is none. The hand goes round once and passes each such frame that
-    /// was used, which then counts as not used; where every one was, it takes the next one. It stays at the frame.
-    pub fn choose(&mut self, slots: &[Option<Held>], wanted: Wanted) -> Option<u32>
-        requires whole { length slots.now ≡ self.old }
-        requires small { length slots.now < 2 ^ 32 }
-        ensures frames { self.new ≡ self.old }
-        ensures found { IfSome result (λ frame. frame < self.old) }
-        ensures suits { IfSome result (λ frame. suits wanted (slot_at slots.now frame) ≡ true) }
-        ensures none { IfNone result ((k : ℕ) → k < self.old → suits wanted (slot_at slots.now k) ≡ false) }
-    {
-        let hand = self.hand;
-        let frame = sweep(self.recent.as_mut_slice(), slots, wanted, hand)?;
-        self.hand = frame;
-        Some(frame)
-    }
-}
-
-/// One round from the hand on, and where each frame that suits was used, the next one.
-fn sweep(recent: &mut [bool], slots: &[Option<Held>], wanted: Wanted, hand: u32) -> Option<u32>
-    requires whole { length slots.now ≡ length recent.old }
-    requires hand { hand ≤ length slots.now }
-    requires small { length slots.now < 2 ^ 32 }
-    ensures found { IfSome result (λ frame. frame < length slots.now) }
-    ensures suits { IfSome result (λ frame. suits wanted (slot_at slots.now frame) ≡ true) }
-    ensures none { IfNone result ((k : ℕ) → k < length slots.now → suits wanted (slot_at slots.now k) ≡ false) }
-{
-    let end = slots.len() as u32;
-    if let Some(frame) = unused(recent, slots, wanted, hand, end) {
-        return Some(frame);
-    }
-    if let Some(frame) = unused(recent, slots, wanted, 0, hand) {
-        return Some(frame);
-    }
-    if let Some(frame) = suitable(slots, wanted, hand, end) {
-        return Some(frame);
-    }
-    suitable(slots, wanted, 0, hand)
-}
-
-/// The first of the frames that suits and wasn't used. Those that suit and were used count as not used.
-fn unused(
-    recent: &mut [bool],
-    slots: &[Option<Held>],
-    wanted: Wanted,
-    from: u32,
-    to: u32,
-) -> Option<u32>
-    requires whole { length slots.now ≡ length recent.old }
-    requires within { to ≤ length slots.now }
-    ensures found { IfSome result (λ frame. frame < to) }
-    ensures suits { IfSome result (λ frame. suits wanted (slot_at slots.now frame) ≡ true) }
-{
-    'frames: for frame in from..to {
-        let at = frame as usize;
-        if suits(&slots[at], wanted) {
-            if !recent[at] {
-                return Some(frame);
+        match log {
+            Some(_) => {
+                self.clean.leave(frame);
+                self.dirty.join(frame);
             }
-            recent[at] = false;
+            None => {
+                self.dirty.leave(frame);
+                self.clean.join(frame);
+            }
         }
     }
-    None
-}
 
-/// The first of the frames that suits.
-fn suitable(slots: &[Option<Held>], wanted: Wanted, from: u32, to: u32) -> Option<u32>
-    requires within { to ≤ length slots.now }
-    ensures found { IfSome result (λ frame. frame < to) }
-    ensures suits { IfSome result (λ frame. suits wanted (slot_at slots.now frame) ≡ true) }
-    ensures none { IfNone result ((k : ℕ) → from ≤ k → k < to → suits wanted (slot_at slots.now k) ≡ false) }
-{
-    'frames: for frame in from..to {
-        if suits(&slots[frame as usize], wanted) {
-            return Some(frame);
+    /// A frame whose page is wanted, or nothing where there is none. Only frames of the one ring that may have such are looked
+    /// at.
+    pub fn choose(&mut self, uses: &mut Uses, slots: &[Option<Held>], wanted: Wanted) -> Option<u32>
+        requires rings { self.old ≡ standing_of slots.now }
+        requires uses { uses.old ≡ length slots.now }
+        ensures same { self.new ≡ self.old }
+        ensures uses { uses.new ≡ uses.old }
+        ensures found { IfSome result (λ frame. frame < length slots.now) }
+        ensures suits { IfSome result (λ frame. suits wanted (slot_at slots.now frame) ≡ true) }
+        ensures none { IfNone result ((k : ℕ) → k < length slots.now → suits wanted (slot_at slots.now k) ≡ false) }
+    {
+        match wanted {
+            Wanted::Clean => self.clean.choose(uses, slots, wanted),
+            Wanted::Cleanable { durable: _ } => self.dirty.choose(uses, slots, wanted),
         }
     }
-    None
+
+    /// The frames that hold a dirty page.
+    pub fn dirty_frames(&self) -> &[u32]
+        ensures within { length result.now ≤ length self.now.dirty }
+        ensures frames { (s : ℕ) → s < length result.now → slice_index result.now s < length self.now.dirty }
+        ensures all { (k : ℕ) → k < length self.now.dirty → IsIn self.now.dirty k → Contains result.now k }
+    {
+        self.dirty.members()
+    }
 }

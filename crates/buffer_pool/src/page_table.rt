@@ -1,20 +1,21 @@
 //! Which page stands in which frame.
 
-ghost use Rattle.std.specs.Prelude.{◌≡◌, ◌≢◌, ◌<◌, ◌≤◌, ◌+◌, ◌^◌, ℕ, true, None, Some, count_by, length, replicate, set, IfOk, IfSome, IfNone, if◌then◌else◌};
-ghost use Rattle.buffer_pool.specs.Linked.{Placed};
-ghost use Rattle.buffer_pool.specs.Slots.{AreApart, IsAbsent, is_dirty, page_at, slot_at};
-ghost use Rattle.buffer_pool.specs.Table.{AreInBuckets, bucket_of_page};
-ghost use Rattle.buffer_pool.specs.LowestDirty.{IsLowestDirty, dirty_page, logged_page, lower};
+ghost use Rattle.std.specs.Prelude.{◌≡◌, ◌≢◌, ◌<◌, ◌≤◌, ◌^◌, ℕ, true, false, None, Some, length, replicate, set, IfOk, IfSome, IfNone};
+ghost use Rattle.std.specs.Box.{boxed_slice_items};
+ghost use Rattle.buffer_pool.specs.declared.held.Wanted.TheVariants as wanted;
+ghost use Rattle.buffer_pool.specs.Slots.{AreApart, IsAbsent, page_at, slot_at, suits};
+ghost use Rattle.buffer_pool.specs.LowestDirty.{IsLowestDirty};
 
 use crate::buckets::Buckets;
-use crate::held::{Held, holds, is_dirty};
+use crate::clock::Clock;
+use crate::dirty_order::DirtyOrder;
+use crate::held::{Held, Wanted, suits};
+use crate::lookup::{bucket, frame_of, mask_for};
+use crate::uses::Uses;
 use block_model::NoMemory;
 use std::alloc::Global;
 use std::boxed::BoxedSlice;
 use std::marker::Model;
-
-/// The greatest number of buckets, less one.
-const GREATEST_MASK: u32 = 0x7fff_ffff;
 
 /// What each frame holds. A page is found through the bucket of its number.
 #[derive(Debug, Drop)]
@@ -23,8 +24,8 @@ pub(crate) struct PageTable {
     buckets: Buckets,
     /// One less than the number of buckets of pages, a power of two. Frames that hold nothing stand in a bucket of their own.
     mask: u32,
-    /// How many frames hold a dirty page.
-    dirty: u32,
+    clock: Clock,
+    order: DirtyOrder,
 }
 
 impl Model for PageTable {
@@ -37,7 +38,7 @@ impl Model for PageTable {
 
     ghost view = { λ a. boxed_slice_items a.slots };
 
-    ghost invariant = { λ a. IsTable (boxed_slice_items a.slots) a.buckets a.mask a.dirty };
+    ghost invariant = { λ a. IsTable (boxed_slice_items a.slots) a.buckets a.mask a.clock a.order };
 }
 
 impl PageTable {
@@ -46,22 +47,24 @@ impl PageTable {
         ensures { IfOk result (λ table. table ≡ replicate frames None) }
     {
         let mask = mask_for(frames);
-        let slots = vec![in alloc; None; frames as usize]?;
+        let slots = empty_slots(alloc, frames)?;
         let buckets = Buckets::new(alloc, frames, mask + 1)?;
+        let clock = Clock::new(alloc, frames)?;
+        let order = DirtyOrder::new(alloc, frames)?;
         Ok(PageTable {
-            slots: slots.into_boxed_slice(),
+            slots,
             buckets,
             mask,
-            dirty: 0,
+            clock,
+            order,
         })
     }
 
-    /// What the frames hold.
-    pub fn slots(&self) -> &[Option<Held>]
-        ensures slots { result.now ≡ self.now }
-        ensures small { length self.now < 2 ^ 32 }
+    /// How many frames there are.
+    pub fn frames(&self) -> u32
+        ensures { result ≡ length self.now }
     {
-        self.slots.as_slice()
+        self.slots.len() as u32
     }
 
     /// Does nothing; tells its caller that no page is held twice.
@@ -94,11 +97,30 @@ impl PageTable {
         }
     }
 
-    /// Whether every frame holds a dirty page.
-    pub fn is_all_dirty(&self) -> bool
-        ensures { result ≡ true → (k : ℕ) → k < length self.now → is_dirty (slot_at self.now k) ≡ true }
+    /// A frame whose page is wanted, or nothing where there is none.
+    pub fn choose(&mut self, uses: &mut Uses, wanted: Wanted) -> Option<u32>
+        requires { uses.old ≡ length self.old }
+        ensures same { self.new ≡ self.old }
+        ensures uses { uses.new ≡ uses.old }
+        ensures found { IfSome result (λ frame. frame < length self.old) }
+        ensures suits { IfSome result (λ frame. suits wanted (slot_at self.old frame) ≡ true) }
+        ensures none { IfNone result ((k : ℕ) → k < length self.old → suits wanted (slot_at self.old k) ≡ false) }
     {
-        are_all(self.dirty, self.slots.as_slice())
+        self.clock.choose(uses, self.slots.as_slice(), wanted)
+    }
+
+    /// The frame that holds the page, where it is dirty and its log change's number is at most `durable`.
+    pub fn cleanable(&self, page: u64, durable: u64) -> Option<u32>
+        ensures within { IfSome result (λ frame. frame < length self.now) }
+        ensures found { IfSome result (λ frame. page_at self.now frame ≡ Some page) }
+        ensures suits { IfSome result (λ frame. suits (wanted.Cleanable durable) (slot_at self.now frame) ≡ true) }
+        ensures none { IfNone result ((k : ℕ) → page_at self.now k ≡ Some page → suits (wanted.Cleanable durable) (slot_at self.now k) ≡ false) }
+    {
+        let frame = self.frame_of(page)?;
+        if suits(&self.slots[frame as usize], Wanted::Cleanable { durable }) {
+            return Some(frame);
+        }
+        None
     }
 
     /// What the frame holds.
@@ -109,11 +131,14 @@ impl PageTable {
         self.slots[frame as usize]
     }
 
-    /// The lowest dirty page from that number on. Looks at every frame.
-    pub fn next_dirty(&self, from: u64) -> Option<u64>
-        ensures { IsLowestDirty self.now from (length self.now) result }
+    /// The lowest dirty page from that number on.
+    pub fn next_dirty(&mut self, from: u64) -> Option<u64>
+        ensures same { self.new ≡ self.old }
+        ensures lowest { IsLowestDirty self.old from (length self.old) result }
     {
-        next_dirty(self.slots.as_slice(), from)
+        let slots = self.slots.as_slice();
+        self.order.prepare(slots, self.clock.dirty_frames(), from);
+        self.order.skip(slots, &self.buckets, self.mask, from)
     }
 
     /// The frame holds this page, in place of what it held.
@@ -122,106 +147,17 @@ impl PageTable {
         requires apart { (k : ℕ) → page_at self.old k ≡ Some held.page → k ≡ frame }
         ensures { self.new ≡ set self.old frame (Some held) }
     {
-        let at = frame as usize;
-        let was_dirty = is_dirty(&self.slot(frame));
-        self.dirty = recount(self.dirty, was_dirty, held.log.is_some());
         self.buckets.put(frame, bucket(held.page, self.mask));
-        self.slots[at] = Some(held);
+        self.clock.place(frame, held.log);
+        self.order.after_put(held.log);
+        self.slots[frame as usize] = Some(held);
     }
 }
 
-/// The lowest dirty page from that number on.
-fn next_dirty(slots: &[Option<Held>], from: u64) -> Option<u64>
-    ensures { IsLowestDirty slots.now from (length slots.now) result }
+/// So many frames that hold nothing. `Err` is want of memory.
+fn empty_slots(alloc: Global, frames: u32) -> Result<BoxedSlice<Option<Held>>, NoMemory>
+    ensures { IfOk result (λ slots. boxed_slice_items slots ≡ replicate frames None) }
 {
-    let mut lowest = None;
-    'frames: for frame in 0..slots.len() {
-        lowest = lower(lowest, dirty_page(&slots[frame], from));
-    }
-    lowest
-}
-
-/// The page that the frame holds, where it is dirty and has that number or a higher one.
-fn dirty_page(slot: &Option<Held>, from: u64) -> Option<u64>
-    ensures { result ≡ dirty_page from slot.now }
-{
-    match slot {
-        Some(held) => logged_page(held.log, held.page, from),
-        None => None,
-    }
-}
-
-fn logged_page(log: Option<u64>, page: u64, from: u64) -> Option<u64>
-    ensures { result ≡ logged_page from log page }
-{
-    match log {
-        Some(_) => { if from <= page { Some(page) } else { None } }
-        None => None,
-    }
-}
-
-/// The lower one of two numbers, or the one that there is.
-fn lower(page: Option<u64>, other: Option<u64>) -> Option<u64>
-    ensures { result ≡ lower page other }
-{
-    match (page, other) {
-        (Some(page), Some(other)) => Some(page.min(other)),
-        (None, other) => other,
-        (page, None) => page,
-    }
-}
-
-/// The frame that holds the page.
-fn frame_of(buckets: &Buckets, slots: &[Option<Held>], mask: u32, page: u64) -> Option<u32>
-    requires { AreInBuckets slots.now buckets.now mask }
-    ensures within { IfSome result (λ frame. frame < length slots.now) }
-    ensures found { IfSome result (λ frame. page_at slots.now frame ≡ Some page) }
-    ensures absent { IfNone result (IsAbsent slots.now page) }
-{
-    let mut next = buckets.first(bucket(page, mask));
-    'bucket: while next > 0 {
-        let frame = next - 1;
-        if holds(&slots[frame as usize], page) {
-            return Some(frame);
-        }
-        next = buckets.next(frame);
-    }
-    None
-}
-
-/// Whether as many frames are dirty as there are.
-fn are_all(dirty: u32, slots: &[Option<Held>]) -> bool
-    requires { dirty ≡ count_by is_dirty slots.now }
-    ensures { result ≡ true → (k : ℕ) → k < length slots.now → is_dirty (slot_at slots.now k) ≡ true }
-{
-    dirty as usize == slots.len()
-}
-
-/// The number of dirty frames after a frame was given another page.
-fn recount(dirty: u32, was_dirty: bool, is_dirty: bool) -> u32
-    requires some { was_dirty ≡ true → 0 < dirty }
-    requires fits { dirty + (if is_dirty then 1 else 0) < 2 ^ 32 + (if was_dirty then 1 else 0) }
-    ensures { result + (if was_dirty then 1 else 0) ≡ dirty + (if is_dirty then 1 else 0) }
-{
-    match (was_dirty, is_dirty) {
-        (true, false) => dirty - 1,
-        (false, true) => dirty + 1,
-        _ => dirty,
-    }
-}
-
-/// The bucket of the page.
-fn bucket(page: u64, mask: u32) -> u32
-    ensures bucket { result ≡ bucket_of_page mask page }
-    ensures within { result ≤ mask }
-{
-    (page & u64::from(mask)) as u32
-}
-
-/// One less than a number of buckets that serves so many frames.
-fn mask_for(frames: u32) -> u32
-    ensures { result ≤ GREATEST_MASK }
-{
-    let spare = frames.leading_zeros().min(31);
-    (u32::MAX >> spare).min(GREATEST_MASK)
+    let slots = vec![in alloc; None; frames as usize]?;
+    Ok(slots.into_boxed_slice())
 }

@@ -1,6 +1,6 @@
 //! The pool.
 
-ghost use Rattle.std.specs.Prelude.{◌≡◌, ◌<◌, ◌≤◌, ◌+◌, None, Some, IsTrue, length, option_map, option_copied, IfOk, IfSome, IfErr, OnOk, OnErr, IfNone};
+ghost use Rattle.std.specs.Prelude.{◌≡◌, ◌<◌, ◌≤◌, ◌+◌, None, Some, IsTrue, length, set, option_map, option_copied, IfOk, IfSome, IfErr, OnOk, OnErr, IfNone};
 ghost use Rattle.std.specs.Option.{option_copied_mut};
 ghost use Rattle.std.specs.FinMap as map;
 ghost use Rattle.block_model.specs.Causes.{HasCause};
@@ -10,12 +10,13 @@ ghost use Rattle.buffer_pool.specs.Frames.{HasNoFrame, IsFrameFor};
 ghost use Rattle.std.specs.Box.{boxed_slice_items};
 ghost use Rattle.block_model.specs.declared.limits.TheConstants.{PAGE_SIZE};
 ghost use Rattle.disk_trait.specs.Spliced.{spliced};
-ghost use Rattle.buffer_pool.specs.WritesPage.{CleansOne, LieWithin, WritesAt, place_of};
+ghost use Rattle.buffer_pool.specs.WritesPage.{CleansOne, CleansPage, LieWithin, WritesAt, place_of};
+ghost use Rattle.buffer_pool.specs.Slots.{slot_at};
 ghost use Rattle.buffer_pool.specs.NextDirty.{IsNextDirty};
 
-use crate::clock::Clock;
 use crate::held::{Held, Wanted};
 use crate::page_table::PageTable;
+use crate::uses::Uses;
 use block_model::{NoMemory, PAGE_SIZE};
 use disk_trait::{Disk, DiskFault};
 use page_layout::Page;
@@ -36,7 +37,7 @@ pub struct AllDirty {
 pub struct Pool {
     table: PageTable,
     pages: BoxedSlice<Page>,
-    clock: Clock,
+    uses: Uses,
 }
 
 impl Model for Pool {
@@ -51,7 +52,7 @@ impl Model for Pool {
 
     ghost view = { λ a. shown a.table (boxed_slice_items a.pages) };
 
-    ghost invariant = { λ a. (length (boxed_slice_items a.pages) ≡ length a.table) × (a.clock ≡ length a.table) };
+    ghost invariant = { λ a. (length (boxed_slice_items a.pages) ≡ length a.table) × (a.uses ≡ length a.table) };
 }
 
 impl Pool {
@@ -66,12 +67,8 @@ impl Pool {
     {
         let table = PageTable::new(alloc, frames)?;
         let pages = zeroed_pages(alloc, frames)?;
-        let clock = Clock::new(alloc, frames)?;
-        Ok(Pool {
-            table,
-            pages,
-            clock,
-        })
+        let uses = Uses::new(alloc, frames)?;
+        Ok(Pool { table, pages, uses })
     }
 
     /// Does nothing; tells its caller that no more pages are held than there are frames.
@@ -91,7 +88,7 @@ impl Pool {
             return None;
         };
         self.table.known();
-        self.clock.touch(frame);
+        self.uses.touch(frame);
         Some(&self.pages[frame as usize])
     }
 
@@ -105,7 +102,7 @@ impl Pool {
             return None;
         };
         self.table.known();
-        self.clock.touch(frame);
+        self.uses.touch(frame);
         let log = Some(log);
         self.table.put(frame, Held { page, log });
         Some(&mut self.pages[frame as usize])
@@ -122,14 +119,14 @@ impl Pool {
         ensures accepted { OnOk result (IsAllDirty self.old page → ⊥) }
     {
         self.table.known();
-        let Some(frame) = frame_for(&self.table, &mut self.clock, page) else {
+        let Some(frame) = frame_for(&mut self.table, &mut self.uses, page) else {
             return Err(AllDirty {
-                frames: self.table.slots().len() as u32,
+                frames: self.table.frames(),
             });
         };
         self.table.put(frame, Held { page, log });
         self.pages[frame as usize].replace(content.as_bytes());
-        self.clock.touch(frame);
+        self.uses.touch(frame);
         Ok(())
     }
 
@@ -148,27 +145,78 @@ impl Pool {
     {
         self.table.known();
         let wanted = Wanted::Cleanable { durable };
-        let Some(frame) = self.clock.choose(self.table.slots(), wanted) else {
+        let Some(frame) = self.table.choose(&mut self.uses, wanted) else {
             return Ok(false);
         };
         let Some(held) = self.table.slot(frame) else {
             unreachable!()
         };
         let bytes = self.pages[frame as usize].as_bytes();
-        write_page(disk, at, held.page, bytes)?;
-        let page = held.page;
-        self.table.put(frame, Held { page, log: None });
+        clean_frame(&mut self.table, disk, at, frame, held, bytes)?;
+        Ok(true)
+    }
+
+    /// Writes the page of that number like `clean_one`. `Ok(false)` comes exactly where it isn't held as a dirty page whose log
+    /// change's number is at most `durable`.
+    pub fn clean<D: Disk>(
+        &mut self,
+        disk: &mut D,
+        at: u64,
+        page: u64,
+        durable: u64,
+    ) -> Result<bool, DiskFault>
+        requires { LieWithin self.old at (D.told disk.old).size }
+        ensures cleans { CleansPage self.old self.new at page durable (D.told disk.old) (D.told disk.new) result }
+        ensures cause { HasCause (D.told disk.old).faults (D.told disk.new).faults result }
+    {
+        self.table.known();
+        let Some(frame) = self.table.cleanable(page, durable) else {
+            return Ok(false);
+        };
+        let Some(held) = self.table.slot(frame) else {
+            unreachable!()
+        };
+        let bytes = self.pages[frame as usize].as_bytes();
+        clean_frame(&mut self.table, disk, at, frame, held, bytes)?;
         Ok(true)
     }
 
     /// The lowest dirty page from that number on, or nothing where there is none: for a checkpoint, which writes pages in order
-    /// of their places. Looks at every frame, and at no page.
-    pub fn next_dirty(&self, from: u64) -> Option<u64>
-        ensures { IsNextDirty self.now from result }
+    /// of their places. The dirty pages are put in order where the walk doesn't go up, or another page got dirty; else the next
+    /// one is at hand.
+    pub fn next_dirty(&mut self, from: u64) -> Option<u64>
+        ensures same { self.new ≡ self.old }
+        ensures next { IsNextDirty self.old from result }
     {
         self.table.known();
         self.table.next_dirty(from)
     }
+}
+
+/// Writes the bytes of the page in the frame to its place, and holds it on as a clean one.
+fn clean_frame<D: Disk>(
+    table: &mut PageTable,
+    disk: &mut D,
+    at: u64,
+    frame: u32,
+    held: Held,
+    bytes: &[u8],
+) -> Result<(), DiskFault>
+    requires held { slot_at table.old frame ≡ Some held }
+    requires frame { frame < length table.old }
+    requires within { place_of at held.page + PAGE_SIZE ≤ (D.told disk.old).size }
+    requires whole { length bytes.now ≡ PAGE_SIZE }
+    ensures same { OnErr result (table.new ≡ table.old) }
+    ensures clean { OnOk result (table.new ≡ set table.old frame (Some (record { page = held.page; log = None }))) }
+    ensures written { OnOk result (IsTrue (D.told disk.old).tells_contents → (D.told disk.new).contents ≡ spliced (D.told disk.old).contents (place_of at held.page) bytes.now) }
+    ensures writes { WritesAt (place_of at held.page) (D.told disk.old) (D.told disk.new) }
+    ensures cause { HasCause (D.told disk.old).faults (D.told disk.new).faults result }
+{
+    table.known();
+    write_page(disk, at, held.page, bytes)?;
+    let page = held.page;
+    table.put(frame, Held { page, log: None });
+    Ok(())
 }
 
 /// Writes the page to its place, which lies within the disk. After a fault that place holds any bytes.
@@ -192,12 +240,13 @@ fn place_on(size: u64, at: u64, page: u64) -> u64
 }
 
 /// The frame for the page: its own, or an empty one, or one whose page is clean and goes.
-fn frame_for(table: &PageTable, clock: &mut Clock, page: u64) -> Option<u32>
-    requires { clock.old ≡ length table.now }
-    ensures clock { clock.new ≡ clock.old }
-    ensures within { IfSome result (λ frame. frame < length table.now) }
-    ensures found { IfSome result (IsFrameFor table.now page) }
-    ensures none { IfNone result (HasNoFrame table.now page) }
+fn frame_for(table: &mut PageTable, uses: &mut Uses, page: u64) -> Option<u32>
+    requires { uses.old ≡ length table.old }
+    ensures same { table.new ≡ table.old }
+    ensures uses { uses.new ≡ uses.old }
+    ensures within { IfSome result (λ frame. frame < length table.old) }
+    ensures found { IfSome result (IsFrameFor table.old page) }
+    ensures none { IfNone result (HasNoFrame table.old page) }
 {
     if let Some(frame) = table.frame_of(page) {
         return Some(frame);
@@ -205,10 +254,7 @@ fn frame_for(table: &PageTable, clock: &mut Clock, page: u64) -> Option<u32>
     if let Some(frame) = table.empty() {
         return Some(frame);
     }
-    if table.is_all_dirty() {
-        return None;
-    }
-    clock.choose(table.slots(), Wanted::Clean)
+    table.choose(uses, Wanted::Clean)
 }
 
 /// Pages of zeros. `Err` is want of memory.

@@ -90,6 +90,41 @@ fn clean(pool: &mut Pool, disk: &mut MemoryDisk, durable: u64) -> Result<bool, D
     pool.clean_one(disk, 0, durable)
 }
 
+/// Cleans that page of such a pool.
+fn clean_page(
+    pool: &mut Pool,
+    disk: &mut MemoryDisk,
+    page: u64,
+    durable: u64,
+) -> Result<bool, DiskFault>
+    requires within { LieWithin pool.old 0 32768 }
+    requires size { length disk.old.contents ≡ 32768 }
+    ensures within { LieWithin pool.new 0 32768 }
+    ensures size { length disk.new.contents ≡ 32768 }
+{
+    pool.clean(disk, 0, page, durable)
+}
+
+#[test]
+fn a_checkpoint_writes_dirty_pages_in_order(rt: HostRuntime) {
+    let mut pool = empty_pool(rt.alloc()).expect(&rt, "memory");
+    let mut disk = MemoryDisk::new(rt.alloc(), 32768).expect(&rt, "memory");
+    let Ok(()) = disk.room(2, 16384) else { return };
+    assert!(rt; set(&mut pool, 3, 33, 5));
+    assert!(rt; set(&mut pool, 1, 11, 9));
+    assert!(rt; clean_page(&mut pool, &mut disk, 2, 9) == Ok(false));
+    assert!(rt; clean_page(&mut pool, &mut disk, 1, 8) == Ok(false));
+    assert!(rt; pool.next_dirty(0) == Some(1));
+    assert!(rt; clean_page(&mut pool, &mut disk, 1, 9) == Ok(true));
+    assert!(rt; clean_page(&mut pool, &mut disk, 1, 9) == Ok(false));
+    assert!(rt; pool.next_dirty(2) == Some(3));
+    assert!(rt; set(&mut pool, 1, 12, 10));
+    assert!(rt; pool.next_dirty(1) == Some(1));
+    assert!(rt; clean_page(&mut pool, &mut disk, 3, 9) == Ok(true));
+    assert!(rt; pool.next_dirty(2) == None);
+    assert!(rt; pool.next_dirty(0) == Some(1));
+}
+
 #[test]
 fn dirty_pages_are_written_once_their_log_is_durable(rt: HostRuntime) {
     let mut pool = empty_pool(rt.alloc()).expect(&rt, "memory");

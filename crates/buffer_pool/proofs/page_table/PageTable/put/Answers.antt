@@ -1,30 +1,22 @@
 use Rattle.std.proofs.Common.{◌≡◌, ℕ, ◌<◌, List, Option, Some, length, set, sym, ◌∙◌, ap, subst, arith}
 use Rattle.std.specs.Box.{boxed_slice_items}
 use Rattle.buffer_pool.specs.declared.held.Held.{Held}
-use Rattle.buffer_pool.specs.Linked.{Placed}
-use Rattle.buffer_pool.specs.Slots.{is_dirty, page_at, slot_at}
-use Rattle.buffer_pool.specs.Table.{IsTable}
-use Rattle.buffer_pool.proofs.Counts.{one}
-use Rattle.buffer_pool.proofs.Tables.{counts_fit, some_dirty, table_after}
+use Rattle.buffer_pool.specs.Slots.{page_at}
+use Rattle.buffer_pool.proofs.Stands.{clean_long, dirty_long}
+use Rattle.buffer_pool.proofs.Tables.{on_parts, table_after}
 use Rattle.buffer_pool.proofs.page_table.PageTable.put.Goals as goal
 
-pub recount-self-inside-requires-clause-some : goal.recount-self-inside-requires-clause-some
-recount-self-inside-requires-clause-some c = λ was.
+pub place-requires-clause-clean : goal.place-requires-clause-clean
+place-requires-clause-clean c =
     let slots = boxed_slice_items c.self.inside.slots in
-    let view = c.self.view_is in
-    let inside : c.args.frame < length slots = subst (λ (s : List (Option Held)). c.args.frame < length s) (sym view) c.requires.frame in
-    let own : (k : ℕ) → page_at slots k ≡ Some c.args.held.page → k ≡ c.args.frame = subst (λ (s : List (Option Held)). (k : ℕ) → page_at s k ≡ Some c.args.held.page → k ≡ c.args.frame) (sym view) c.requires.apart in
-    some_dirty slots c.self.inside.buckets c.self.inside.mask c.self.inside.dirty c.self.invariant c.args.frame c.args.held inside own
-    (ap (λ (s : List (Option Held)). is_dirty (slot_at s c.args.frame)) view ∙ sym (c.is_dirty-was_dirty.ensures ∙ ap is_dirty c.slot.ensures) ∙ was)
+    let inside : c.args.frame < length slots = subst (λ (s : List (Option Held)). c.args.frame < length s) (sym c.self.view_is) c.requires.frame in
+    omega (arith, inside, clean_long slots c.self.inside.clock c.self.invariant.rings)
 
-pub recount-self-inside-requires-clause-fits : goal.recount-self-inside-requires-clause-fits
-recount-self-inside-requires-clause-fits c =
+pub place-requires-clause-dirty : goal.place-requires-clause-dirty
+place-requires-clause-dirty c =
     let slots = boxed_slice_items c.self.inside.slots in
-    let view = c.self.view_is in
-    let inside : c.args.frame < length slots = subst (λ (s : List (Option Held)). c.args.frame < length s) (sym view) c.requires.frame in
-    let own : (k : ℕ) → page_at slots k ≡ Some c.args.held.page → k ≡ c.args.frame = subst (λ (s : List (Option Held)). (k : ℕ) → page_at s k ≡ Some c.args.held.page → k ≡ c.args.frame) (sym view) c.requires.apart in
-    let was = c.is_dirty-was_dirty.ensures ∙ ap is_dirty (c.slot.ensures ∙ ap (λ (s : List (Option Held)). slot_at s c.args.frame) (sym view)) in
-    omega (arith, counts_fit slots c.self.inside.buckets c.self.inside.mask c.self.inside.dirty c.self.invariant c.args.frame c.args.held inside own, ap one was, ap one c.is_some.ensures)
+    let inside : c.args.frame < length slots = subst (λ (s : List (Option Held)). c.args.frame < length s) (sym c.self.view_is) c.requires.frame in
+    omega (arith, inside, dirty_long slots c.self.inside.clock c.self.invariant.rings)
 
 pub invariant_of-self : goal.invariant_of-self
 invariant_of-self c =
@@ -32,9 +24,8 @@ invariant_of-self c =
     let view = c.self.view_is in
     let inside : c.args.frame < length slots = subst (λ (s : List (Option Held)). c.args.frame < length s) (sym view) c.requires.frame in
     let own : (k : ℕ) → page_at slots k ≡ Some c.args.held.page → k ≡ c.args.frame = subst (λ (s : List (Option Held)). (k : ℕ) → page_at s k ≡ Some c.args.held.page → k ≡ c.args.frame) (sym view) c.requires.apart in
-    let was = c.is_dirty-was_dirty.ensures ∙ ap is_dirty (c.slot.ensures ∙ ap (λ (s : List (Option Held)). slot_at s c.args.frame) (sym view)) in
     let placed = c.self.inside.buckets in
-    subst (λ (p : Placed). IsTable (set slots c.args.frame (Some c.args.held)) p c.self.inside.mask c.recount-self-inside.result)
-    (sym (c.put.ensures ∙ ap (λ (b : ℕ). record placed { bucket_of = set placed.bucket_of c.args.frame b }) c.bucket.ensures.bucket))
-    (table_after slots placed c.self.inside.mask c.self.inside.dirty c.self.invariant c.args.frame c.args.held inside own c.recount-self-inside.result
-    (omega (arith, c.recount-self-inside.ensures, ap one was, ap one c.is_some.ensures)))
+    on_parts (set slots c.args.frame (Some c.args.held)) _ _ c.self.inside.mask _ _ _ _
+    (c.put.ensures ∙ ap (λ (b : ℕ). record placed { bucket_of = set placed.bucket_of c.args.frame b }) c.bucket.ensures.bucket)
+    c.place.ensures c.after_put.ensures
+    (table_after slots placed c.self.inside.mask c.self.inside.clock c.self.inside.order c.self.invariant c.args.frame c.args.held inside own)

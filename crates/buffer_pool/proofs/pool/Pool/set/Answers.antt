@@ -1,7 +1,9 @@
-use Rattle.std.proofs.Common.{set, sym, ◌∙◌, subst}
+use Rattle.std.proofs.Common.{◌≡◌, ℕ, List, Option, Some, set, sym, ◌∙◌, ap, subst}
 use Rattle.std.specs.Box.{boxed_slice_items}
 use Rattle.buffer_pool.specs.PoolState.{PoolState}
 use Rattle.buffer_pool.specs.SetsPage.{IsAllDirty}
+use Rattle.buffer_pool.specs.declared.held.Held.{Held}
+use Rattle.buffer_pool.specs.Slots.{page_at}
 use Rattle.buffer_pool.specs.Frames.{shown}
 use Rattle.buffer_pool.proofs.Sets.{all_dirty, not_all_dirty, on_states, own_of, sets}
 use Rattle.buffer_pool.proofs.pool.Pool.set.Goals as goal
@@ -12,7 +14,9 @@ returns-in_default-clause-refused c =
     (all_dirty c.self.inside.table (boxed_slice_items c.self.inside.pages) c.args.page c.self.invariant.0 c.known.ensures.apart c.in_default.ensures.none)
 
 pub put-requires-clause-apart : goal.put-requires-clause-apart
-put-requires-clause-apart c = own_of c.self.inside.table c.args.page c.in-Some.frame c.known.ensures.apart c.in-Some.ensures.found
+put-requires-clause-apart c =
+    subst (λ (t : List (Option Held)). (k : ℕ) → page_at t k ≡ Some c.args.page → k ≡ c.in-Some.frame) (sym c.frame_for.ensures.same)
+    (own_of c.self.inside.table c.args.page c.in-Some.frame c.known.ensures.apart c.in-Some.ensures.found)
 
 pub returns-clause-set : goal.returns-clause-set
 returns-clause-set c =
@@ -20,7 +24,7 @@ returns-clause-set c =
     let pages = boxed_slice_items c.self.inside.pages in
     let is = c.replace.ensures ∙ c.as_bytes.ensures.bytes in
     on_states (shown table pages) _ c.args.page _ _ _ c.self.view_is
-    (λ i. shown (c.put.ensures i) (set pages c.in-Some.frame (is i)))
+    (λ i. shown ((c.put.ensures ∙ ap (λ (t : List (Option Held)). set t c.in-Some.frame (Some (record { page = c.args.page; log = c.args.log }))) c.frame_for.ensures.same) i) (set pages c.in-Some.frame (is i)))
     (sets table pages c.in-Some.frame c.args.page c.args.log c.args.content.now c.in-Some.ensures.within c.self.invariant.0 c.known.ensures.apart c.in-Some.ensures.found)
 
 pub returns-clause-accepted : goal.returns-clause-accepted

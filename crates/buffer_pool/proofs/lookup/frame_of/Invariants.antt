@@ -1,7 +1,7 @@
 use Rattle.std.proofs.Common.{◌≡◌, ◌≢◌, ℕ, ◌-◌, ◌<◌, ◌≤◌, Some, length, get_or}
 use Rattle.buffer_pool.specs.Slots.{page_at}
 use Rattle.buffer_pool.specs.Table.{bucket_of_page}
-use Rattle.buffer_pool.proofs.page_table.frame_of.Given as goal
+use Rattle.buffer_pool.proofs.lookup.frame_of.Given as goal
 
 abbrev pub invariant-bucket : goal.invariant-bucket
 invariant-bucket l = record {
