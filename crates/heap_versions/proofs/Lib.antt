@@ -8,3 +8,8 @@ pub mod Moves
 pub mod Marks
 pub mod Stays
 pub mod Finds
+pub mod Looks
+pub mod Hits
+pub mod Answered
+pub mod MarkRuns
+pub mod Counts

@@ -55,11 +55,20 @@ puts_marked vs ws v t distinct s =
     (puts_deleter s.front s.back v t (subst AreDistinct s.was distinct)))
 
 -- the row at a spot of a table, among those of the table
-its_swap : AreRead → (layout : DiskLayout) (pages : PageMap) (table : ℕ) (spot : Spot) (row : StoredRow) (t : ℕ) (blocks : List (List Slot)) → HasBlocks layout pages table blocks → slot_at blocks spot ≡ Some row
+pub its_swap : AreRead → (layout : DiskLayout) (pages : PageMap) (table : ℕ) (spot : Spot) (row : StoredRow) (t : ℕ) (blocks : List (List Slot)) → HasBlocks layout pages table blocks → slot_at blocks spot ≡ Some row
     → Swaps (version_of table row ∷ []) (with_deleter (version_of table row) t ∷ []) (versions_of_table layout pages table) (flat_map (versions_on table) (with_slot blocks spot (Some (marked row t))))
 its_swap read layout pages table spot row t blocks has at =
     let now = flat_map (versions_on table) (with_slot blocks spot (Some (marked row t))) in
     subst (λ (vs : List Version). Swaps (version_of table row ∷ []) (with_deleter (version_of table row) t ∷ []) vs now) (sym (table_by_blocks read layout pages table blocks has)) (swaps_mark table blocks spot row t at)
+
+-- the row at a spot of a table is stored
+pub stored_there : AreRead → (layout : DiskLayout) (pages : PageMap) (table : ℕ) (spot : Spot) (row : StoredRow) (blocks : List (List Slot)) → AreDistinct (all_versions (shown_tables layout pages)) → table < length layout.schema.tables → HasBlocks layout pages table blocks → slot_at blocks spot ≡ Some row
+    → stored (all_versions (shown_tables layout pages)) row.id ≡ Some (version_of table row)
+stored_there read layout pages table spot row blocks distinct below has at =
+    let v : Version = version_of table row in
+    let now = flat_map (versions_on table) (with_slot blocks spot (Some (marked row 0))) in
+    found_swapped (all_versions (shown_tables layout pages)) (all_versions (set (shown_tables layout pages) table now)) v (with_deleter v 0) distinct
+    (swaps_shown layout pages table (v ∷ []) (with_deleter v 0 ∷ []) now below (its_swap read layout pages table spot row 0 blocks has at))
 
 -- ---- the hit of a session's transaction
 
@@ -69,13 +78,9 @@ module _ {D : Type 0} (read : AreRead) (told : D → Told) (old : View D) (ss : 
   distinct = (heap.on_pages tells).versions.stored.ids_differ
 
   found : stored (all_versions (shown_tables old.layout old.pages)) is_hit.row.id ≡ Some (version_of table is_hit.row)
-  found =
-      let v : Version = version_of table is_hit.row in
-      let now = flat_map (versions_on table) (with_slot is_hit.blocks hit.spot (Some (marked is_hit.row 0))) in
-      found_swapped (all_versions (shown_tables old.layout old.pages)) (all_versions (set (shown_tables old.layout old.pages) table now)) v (with_deleter v 0) distinct
-      (swaps_shown old.layout old.pages table (v ∷ []) (with_deleter v 0 ∷ []) now below (its_swap read old.layout old.pages table hit.spot is_hit.row 0 is_hit.blocks is_hit.has is_hit.there))
+  found = stored_there read old.layout old.pages table hit.spot is_hit.row is_hit.blocks distinct below is_hit.has is_hit.there
 
-  seen : is_seen ss o (version_of table is_hit.row) ≡ true
+  pub seen : is_seen ss o (version_of table is_hit.row) ≡ true
   seen =
       let vs = all_versions (shown_tables old.layout old.pages) in
       let x = is_hit.transaction in

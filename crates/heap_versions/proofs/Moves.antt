@@ -1,10 +1,11 @@
 -- What calls that change no page make of the whole.
-use Rattle.std.proofs.Common.{◌≡◌, ◌<◌, ℕ, List, [], length, Option, Some, IfSome, sym, subst}
+use Rattle.std.proofs.Common.{◌≡◌, ◌<◌, ℕ, List, [], length, cond, Option, Some, IfSome, refl, ap, sym, subst, ◌∙◌}
 use Rattle.std.specs.FinMap.{get}
+use Rattle.std.specs.Option.{IsSome}
 use Rattle.block_model.specs.DatabaseState.{OpenTransaction}
 use Rattle.page_store.specs.Keeps.{Tells}
 use Rattle.row_versions.specs.VisibleState.{all_versions}
-use Rattle.row_versions.proofs.Copies.{get_open}
+use Rattle.row_versions.proofs.Copies.{Becomes, get_open, same_numbers}
 use Rattle.heap_versions.specs.ShownVersions.{shown_heap, shown_tables}
 use Rattle.disk_trait.specs.Told.{Told}
 use Rattle.page_store.specs.PageMap.{View}
@@ -54,3 +55,12 @@ pub seen_of : {D : Type 0} (P : View D → ℕ → Type 0) (store : View D) (ss 
 seen_of P store ss os room n o s view was holds =
     let there = get_open (all_versions (shown_tables store.layout store.pages)) ss os n o s.database (database_is view) was in
     subst (λ (x : Option OpenTransaction). IfSome x (λ x. P s.store x.t)) (sym there) (subst (λ v. P v o.t) (store_is view) holds)
+
+-- an open transaction is one of its session, as they are seen
+pub has_one : {D : Type 0} (store : View D) (ss : List Status) (os : List (Option Open)) (room n : ℕ) (o : Open) (s : HeapState D) → shown_heap store ss os room ≡ s → transaction_of os n ≡ Some o → IsSome (get s.database.sessions n)
+has_one store ss os room n o s view was =
+    subst (λ (x : Option OpenTransaction). IsSome x) (sym (get_open (all_versions (shown_tables store.layout store.pages)) ss os n o s.database (database_is view) was)) refl
+
+-- a change of one session's transaction
+pub becomes_it : (os os' : List (Option Open)) (n : ℕ) (p : Option Open) → Becomes os os' n p → transaction_of os' n ≡ p
+becomes_it os os' n p at = at n ∙ ap (λ b. cond b p (transaction_of os n)) (same_numbers n)

@@ -8,7 +8,6 @@ use Rattle.std.proofs.lemmas.List.FromFn.{length-map-range_with_len}
 use Rattle.disk_trait.specs.Told.{Told}
 use Rattle.block_model.specs.declared.place.Place.{Place}
 use Rattle.block_model.specs.declared.place.Spot.{Spot}
-use Rattle.block_model.specs.declared.row.RowId.{RowId}
 use Rattle.block_model.specs.declared.value.Value.{Value}
 use Rattle.block_model.specs.declared.request.Request.TheVariants as requests
 use Rattle.block_model.specs.DatabaseState.{DatabaseState}
@@ -28,7 +27,7 @@ use Rattle.heap_rows.specs.RowPlaces.{FillsSlot, TakesRowAt, new_row, with_row}
 use Rattle.row_versions.specs.declared.table.Version.{Version}
 use Rattle.row_versions.specs.declared.sessions.Open.{Open}
 use Rattle.row_versions.specs.SessionChanges.{with_next_k}
-use Rattle.row_versions.specs.StoredVersions.{stored, transaction_of, IsStored, IsUnderWay}
+use Rattle.row_versions.specs.StoredVersions.{stored, transaction_of, IsStored}
 use Rattle.row_versions.specs.VisibleState.{all_versions, visible_state}
 use Rattle.row_versions.proofs.Stored.{AreDistinct, Puts}
 use Rattle.row_versions.proofs.AllTables.{puts_new}

@@ -1,9 +1,8 @@
 -- A hit stays one where another is marked.
-use Rattle.std.proofs.Common.{◌≡◌, ◌≢◌, Bool, true, false, cond, ℕ, ◌<◌, List, [], ◌∷◌, length, Option, None, Some, refl, sym, ap, subst, ◌∙◌}
+use Rattle.std.proofs.Common.{◌≡◌, ◌≢◌, Bool, true, false, cond, ℕ, ◌<◌, List, length, Option, None, Some, refl, sym, ap, subst, ◌∙◌}
 use Rattle.std.specs.Option.{is_some}
 use Rattle.std.specs.Ordering.{eq_by_cmp}
 use Rattle.std.specs.FinMap.{contains_key, get, remove, get-remove}
-use Rattle.std.proofs.lemmas.Bool.{true≢false}
 use Rattle.disk_trait.specs.Told.{Told}
 use Rattle.block_model.specs.declared.place.Spot.{Spot}
 use Rattle.block_model.specs.declared.row.RowId.{RowId}
@@ -15,7 +14,7 @@ use Rattle.page_layout.specs.PageContents.{Slot}
 use Rattle.page_layout.specs.PageWrites.{marked}
 use Rattle.page_layout.specs.RowBytes.{StoredRow}
 use Rattle.page_store.specs.Keeps.{Tells}
-use Rattle.page_store.specs.PageMap.{PageMap, View}
+use Rattle.page_store.specs.PageMap.{View}
 use Rattle.heap_rows.specs.HeapBlocks.{HasBlocks, OfBlocks}
 use Rattle.heap_rows.specs.LeavesOthers.{LeavesOthers}
 use Rattle.heap_rows.specs.RowPlaces.{MarksRow, MarksSlot, slot_at, with_slot}

@@ -5,3 +5,4 @@ pub mod PutAnswers
 pub mod Hits
 pub mod CoversMatches
 pub mod Finds
+pub mod HitMarks

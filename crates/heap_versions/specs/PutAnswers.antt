@@ -1,5 +1,5 @@
 -- when a put of a row is done, and when each refusal comes
-use Rattle.std.specs.Prelude.{◌≡◌, ℕ, ◌-◌, ◌^◌, Option, None, Some, Result, Ok, Err}
+use Rattle.std.specs.Prelude.{◌≡◌, ◌-◌, ◌^◌, Option, None, Result, Ok, Err}
 use Rattle.std.specs.Option.{IsSomeAnd}
 use Rattle.disk_trait.specs.Told.{Told}
 use Rattle.block_model.specs.DatabaseState.{OpenTransaction}

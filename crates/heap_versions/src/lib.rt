@@ -5,6 +5,7 @@
 //! and page_store. Nothing stands on it yet: the store of tables will.
 #![tactic(auto)]
 
+mod finding;
 mod versions;
 
-pub use versions::{HeapVersions, Hit, Marking, Placed};
+pub use versions::{HeapVersions, Hit, Marking, MarksFault, Placed};

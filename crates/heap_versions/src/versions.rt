@@ -1,17 +1,17 @@
 //! Row versions over heap pages, with statuses and open transactions.
 
-ghost use Rattle.std.specs.Prelude.{◌≡◌, ◌≢◌, ◌+◌, ◌<◌, ◌≤◌, None, Some, [], length, OnOk, OnErr, IfOk, IfErr, IfSome, if◌then◌else◌, vec_capacity};
+ghost use Rattle.std.specs.Prelude.{◌≡◌, ◌≢◌, ◌+◌, ◌<◌, ◌≤◌, None, Some, [], length, map, take, All, OnOk, OnErr, IfOk, IfErr, IfSome, if◌then◌else◌, vec_capacity};
 ghost use Rattle.std.specs.FinMap as map_of;
 ghost use Rattle.block_model.specs.declared.place.Place.{Place as AnyPlace};
 ghost use Rattle.block_model.specs.declared.request.Request.TheVariants as requests;
 ghost use Rattle.block_model.specs.DatabaseState.{initial_state};
-ghost use Rattle.block_model.specs.RequestEffect.{effect, after_failure, Begun, Inserted, Committed, RolledBack};
+ghost use Rattle.block_model.specs.RequestEffect.{effect, after_failure, Begun, Inserted, Found, Committed, RolledBack};
 ghost use Rattle.statements.specs.declared.limits.TheConstants.{MAX_SESSIONS};
 ghost use Rattle.statements.specs.StatementRequests.{request_entry};
 ghost use Rattle.page_layout.specs.PageContents.{IsUnstarted};
 ghost use Rattle.page_layout.specs.RowBytes.{HaveKinds};
 ghost use Rattle.page_store.specs.Keeps.{Keeps, Tells, Untold};
-ghost use Rattle.page_store.specs.Outcome.{NamesPage, Outcome};
+ghost use Rattle.page_store.specs.Outcome.{IsReopen, NamesPage, Outcome};
 ghost use Rattle.page_store.specs.PageMap.{page_at};
 ghost use Rattle.heap_rows.specs.Heaps.{kinds_at, relation_of, slots_a_page};
 ghost use Rattle.heap_rows.specs.HeapBlocks.{OfBlocks};
@@ -21,12 +21,16 @@ ghost use Rattle.heap_rows.specs.PutAnswers.{NamesTable, SaysFull};
 ghost use Rattle.heap_rows.specs.RowPlaces.{FillsSlot, MarksRow, MarksSlot, TakesRowAt, new_row, place_for};
 ghost use Rattle.row_versions.specs.VersionsState.{HasTransaction, StandAtTheirIds, standing_of};
 ghost use Rattle.row_versions.specs.declared.table.Version.{Version};
-ghost use Rattle.row_versions.specs.Marks.{conflicts};
+ghost use Rattle.row_versions.specs.Marks.{conflicts, delete_marks};
 ghost use Rattle.heap_versions.specs.declared.versions.Hit.{Hit as AnyHit};
+ghost use Rattle.heap_versions.specs.CoversMatches.{CoversMatches};
+ghost use Rattle.heap_versions.specs.Finds.{LookOutcome};
 ghost use Rattle.heap_versions.specs.PutAnswers.{PutAnswer};
-ghost use Rattle.heap_versions.specs.Hits.{IsHit, mark_of, marking_answer};
+ghost use Rattle.heap_versions.specs.HitMarks.{Ends, MarksFirst, MarksOutcome, count_marks};
+ghost use Rattle.heap_versions.specs.Hits.{AreHits, IsHit, mark_of, marking_answer};
 
-use block_model::{NoMemory, Numbers, RowId, Spot, Value};
+use crate::finding::{find_in_blocks, hits_in_order, rows_in_order};
+use block_model::{NoMemory, Numbers, Query, RowId, Rows, Spot, Value};
 use disk_trait::Disk;
 use heap_rows::{blocks, blocks_of_a_table_are_one_list, unstarted_tables_have_no_blocks};
 use page_layout::slots_are_read;
@@ -40,6 +44,7 @@ use statements::MAX_SESSIONS;
 use std::alloc::Global;
 use std::marker::Model;
 use store_layout::Layout;
+use thiserror::Error;
 
 /// How many rows a transaction puts at most, since their places are numbered by a `u32`. Want of memory is answered there.
 const MAX_PLACES: u32 = u32::MAX;
@@ -66,9 +71,18 @@ pub enum Marking {
     Conflict,
 }
 
+/// Why the marks of a delete ended early: the store refused one, and so many were made before it.
+#[derive(Clone, Copy, Debug, Error, PartialEq, Eq)]
+#[error("after {marked} marks: {error}")]
+pub struct MarksFault {
+    pub marked: usize,
+    pub error: StoreError,
+}
+
 /// The tables of a database on heap pages, with the open transaction of each session.
 #[derive(Drop)]
 pub struct HeapVersions<D: Disk + Drop> {
+    alloc: Global,
     pages: PageStore<D>,
     /// How each transaction stands, by its number. Number 0 is of none.
     statuses: Vec<Status>,
@@ -106,6 +120,7 @@ impl<D: Disk + Drop> HeapVersions<D> {
         let mut statuses = Vec::new(alloc);
         statuses.push(Status::Unused)?;
         Ok(HeapVersions {
+            alloc,
             pages: PageStore::plain(alloc, disk, layout)?,
             statuses,
             sessions,
@@ -237,6 +252,76 @@ impl<D: Disk + Drop> HeapVersions<D> {
         }
     }
 
+    /// The rows that the session's transaction sees and that meet the query, in order of their ids. Of the table only the given
+    /// blocks are read. Takes memory for the rows of a page, and for the rows that are found, their ids and places.
+    pub fn look(
+        &mut self,
+        session: u32,
+        query: &Query,
+        blocks: &[u32],
+    ) -> Result<Rows, MachineFault>
+        requires under_way { HasTransaction self.old.database session }
+        requires table { query.now.table < length self.old.store.layout.schema.tables }
+        requires blocks { All (λ block. block < self.old.store.layout.sizes.heap_blocks) blocks.now }
+        requires covered { Tells D.told self.old.store → CoversMatches self.old.store.layout self.old.store.pages query.now blocks.now }
+        ensures found { IfOk result (λ rows. Tells D.told self.old.store → effect self.old.database (request_entry session query.now.table (requests.Look query.now)) ≡ (self.old.database, Found rows)) }
+        ensures same { Tells D.told self.old.store → self.new.database ≡ self.old.database }
+        ensures kept { Keeps D.told self.old.store self.new.store }
+        ensures room { self.new.room ≡ self.old.room }
+        ensures names { IfErr result (NamesTable self.old.store.layout query.now.table) }
+        ensures outcome { LookOutcome D.told self.old.store self.new.store result }
+    {
+        slots_are_read();
+        let open = open_of(self.sessions.as_slice(), session);
+        let found = find_in_blocks(
+            self.alloc,
+            &mut self.pages,
+            self.statuses.as_slice(),
+            open,
+            query,
+            blocks,
+        )?;
+        match rows_in_order(self.alloc, found.as_slice()) {
+            Ok(rows) => Ok(rows),
+            Err(_) => Err(MachineFault::Memory),
+        }
+    }
+
+    /// The same rows by their ids, spots and deleters, for a delete.
+    pub fn find(
+        &mut self,
+        session: u32,
+        query: &Query,
+        blocks: &[u32],
+    ) -> Result<Vec<Hit>, MachineFault>
+        requires under_way { HasTransaction self.old.database session }
+        requires table { query.now.table < length self.old.store.layout.schema.tables }
+        requires blocks { All (λ block. block < self.old.store.layout.sizes.heap_blocks) blocks.now }
+        requires covered { Tells D.told self.old.store → CoversMatches self.old.store.layout self.old.store.pages query.now blocks.now }
+        ensures hits { IfOk result (λ hits. Tells D.told self.old.store → AreHits self.new session query.now hits.items) }
+        ensures within { IfOk result (λ hits. All (λ hit. hit.spot.block < self.old.store.layout.sizes.heap_blocks) hits.items) }
+        ensures same { Tells D.told self.old.store → self.new.database ≡ self.old.database }
+        ensures kept { Keeps D.told self.old.store self.new.store }
+        ensures room { self.new.room ≡ self.old.room }
+        ensures names { IfErr result (NamesTable self.old.store.layout query.now.table) }
+        ensures outcome { LookOutcome D.told self.old.store self.new.store result }
+    {
+        slots_are_read();
+        let open = open_of(self.sessions.as_slice(), session);
+        let found = find_in_blocks(
+            self.alloc,
+            &mut self.pages,
+            self.statuses.as_slice(),
+            open,
+            query,
+            blocks,
+        )?;
+        match hits_in_order(self.alloc, found.as_slice()) {
+            Ok(hits) => Ok(hits),
+            Err(_) => Err(MachineFault::Memory),
+        }
+    }
+
     /// The session's transaction deletes the row of the hit. Where another transaction has deleted another's row, and hasn't
     /// rolled back, that is a conflict: no row is changed, and the session's transaction fails. After an error nothing
     /// is changed. Takes no memory.
@@ -251,6 +336,7 @@ impl<D: Disk + Drop> HeapVersions<D> {
         ensures slots { IfOk result (λ marking. marking ≡ Marking.Marked → IfSome (map_of.get self.old.database.sessions session) (λ x. OfBlocks D.told self.old.store table (MarksSlot hit.now.spot x.t))) }
         ensures stays { IfOk result (λ marking. marking ≡ Marking.Marked → Tells D.told self.old.store → (other : AnyHit) → other.id ≢ hit.now.id → IsHit self.old session table other → IsHit self.new session table other) }
         ensures conflict { IfOk result (λ marking. marking ≡ Marking.Conflict → self.new.store ≡ self.old.store) }
+        ensures under_way { HasTransaction self.new.database session }
         ensures others { LeavesOthers D.told table self.old.store self.new.store }
         ensures room { self.new.room ≡ self.old.room }
         ensures kept { OnErr result (Keeps D.told self.old.store self.new.store) }
@@ -271,6 +357,64 @@ impl<D: Disk + Drop> HeapVersions<D> {
         }
         heap_rows::mark(&mut self.pages, table, hit.spot, own)?;
         Ok(Marking::Marked)
+    }
+
+    /// How many marks a delete of these hits makes: one for each, up to and with the first that conflicts. Reads no page.
+    pub fn marks(&self, session: u32, query: &Query, hits: &[Hit]) -> usize
+        requires under_way { HasTransaction self.now.database session }
+        requires table { query.now.table < length self.now.store.layout.schema.tables }
+        requires hits { Tells D.told self.now.store → AreHits self.now session query.now hits.now }
+        ensures within { result ≤ length hits.now }
+        ensures marks { Tells D.told self.now.store → IfSome (map_of.get self.now.database.sessions session) (λ x. delete_marks self.now.database session query.now x ≡ map (mark_of session query.now.table) (take result hits.now)) }
+    {
+        slots_are_read();
+        let own = open_of(self.sessions.as_slice(), session).t;
+        count_marks(hits, self.statuses.as_slice(), own)
+    }
+
+    /// Reopen where the disk failed in an earlier call.
+    fn ready(&self) -> Result<(), StoreError>
+        ensures reopen { IfErr result IsReopen }
+        ensures outcome { Outcome D.told (Untold D.told self.now.store) self.now.store self.now.store result }
+    {
+        self.pages.ready()
+    }
+
+    /// Marks the hits, in order, up to the first that conflicts: the transaction fails there, and its id is answered. Where the
+    /// store refuses, so many rows are marked as the fault says. Takes no memory.
+    pub fn mark_hits(
+        &mut self,
+        session: u32,
+        query: &Query,
+        hits: &[Hit],
+    ) -> Result<Option<RowId>, MarksFault>
+        requires under_way { HasTransaction self.old.database session }
+        requires table { query.now.table < length self.old.store.layout.schema.tables }
+        requires blocks { All (λ hit. hit.spot.block < self.old.store.layout.sizes.heap_blocks) hits.now }
+        requires hits { Tells D.told self.old.store → AreHits self.old session query.now hits.now }
+        ensures ends { IfOk result (λ conflict. Tells D.told self.old.store → IfSome (map_of.get self.old.database.sessions session) (Ends self.old self.new session query.now hits.now conflict)) }
+        ensures cut { IfErr result (λ fault. Tells D.told self.old.store → MarksFirst self.old.database self.new.database session query.now.table hits.now fault.marked) }
+        ensures before { IfErr result (λ fault. fault.marked ≤ length hits.now) }
+        ensures others { LeavesOthers D.told query.now.table self.old.store self.new.store }
+        ensures room { self.new.room ≡ self.old.room }
+        ensures names { IfErr result (λ fault. NamesTable self.old.store.layout query.now.table (MachineFault.Store fault.error)) }
+        ensures outcome { MarksOutcome D.told self.old.store self.new.store result }
+    {
+        match self.ready() {
+            Ok(()) => {}
+            Err(error) => return Err(MarksFault { marked: 0, error }),
+        }
+        let mut marked = 0;
+        'hits: for hit in hits {
+            match self.mark(session, query.table, hit) {
+                Ok(marking) => match marking {
+                    Marking::Conflict => return Ok(Some(hit.id)),
+                    Marking::Marked => marked += 1,
+                },
+                Err(error) => return Err(MarksFault { marked, error }),
+            }
+        }
+        Ok(None)
     }
 
     /// The session's transaction fails. Takes no memory.
@@ -317,4 +461,18 @@ fn conflicts(hit: &Hit, statuses: &[Status], own: u64) -> bool
             Status::Begun | Status::Committed => true,
             Status::Unused | Status::RolledBack => false,
         }
+}
+
+/// One mark for each hit, up to and with the first that conflicts.
+fn count_marks(hits: &[Hit], statuses: &[Status], own: u64) -> usize
+    ensures { result ≡ count_marks statuses.now own hits.now }
+{
+    let mut count = 0;
+    'hits: for hit in hits {
+        count += 1;
+        if conflicts(hit, statuses, own) {
+            return count;
+        }
+    }
+    count
 }

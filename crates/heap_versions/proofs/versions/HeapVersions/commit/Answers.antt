@@ -2,7 +2,6 @@ use Rattle.std.proofs.Common.{cond, not, set, None, sym, ◌∙◌, subst, ap, a
 use Rattle.block_model.specs.RequestEffect as model
 use Rattle.snapshot_core.specs.declared.statuses.Status.{Status}
 use Rattle.row_versions.specs.VisibleState.{all_versions, visible_state}
-use Rattle.row_versions.specs.StoredVersions.{IsStored}
 use Rattle.row_versions.specs.SessionChanges.{ended}
 use Rattle.row_versions.proofs.Sights.{begun_known}
 use Rattle.row_versions.proofs.Ends.{ended_stored, ended_not_begun, committed_effect}

@@ -1,4 +1,4 @@
-use Rattle.std.proofs.Common.{◌≡◌, List, set, Option, Some, IfSome, ap, sym, ◌∙◌, subst}
+use Rattle.std.proofs.Common.{◌≡◌, List, set, Option, Some, IfSome, refl, ap, sym, ◌∙◌, subst}
 use Rattle.std.specs.Option.{IsSome}
 use Rattle.snapshot_core.specs.declared.statuses.Status.{Status}
 use Rattle.heap_rows.specs.HeapBlocks.{OfBlocks}
@@ -12,7 +12,7 @@ use Rattle.row_versions.proofs.Puttings.{failed_stored}
 use Rattle.heap_versions.specs.ShownVersions.{version_of}
 use Rattle.heap_versions.proofs.Kept.{kept_shown, on_error}
 use Rattle.heap_versions.proofs.Marks.{conflict_shown, hit_is, mark_shown, marked_heap}
-use Rattle.heap_versions.proofs.Moves.{database_is, moved, seen_of, table_is, tells_is, tells_of}
+use Rattle.heap_versions.proofs.Moves.{becomes_it, database_is, has_one, moved, seen_of, table_is, tells_is, tells_of}
 use Rattle.heap_versions.proofs.Stays.{stays_hit}
 use Rattle.heap_versions.proofs.versions.HeapVersions.mark.Goals as goal
 
@@ -103,3 +103,27 @@ returns-clause-stays g c = λ _ tells other apart is_other.
 pub returns-in_err-mark-clause-same : goal.returns-in_err-mark-clause-same
 returns-in_err-mark-clause-same g c = on_error c.from_residual.result _ (λ tells.
     kept_shown g.D.Disk.told c.self.inside.pages c.mark.new.pages c.self.inside.statuses.items c.self.inside.sessions.items c.in_err-mark.ensures.kept (tells_is g.D.Disk.told c.self.view_is tells) ∙ database_is c.self.view_is)
+
+pub returns-then-conflicts-clause-under_way : goal.returns-then-conflicts-clause-under_way
+returns-then-conflicts-clause-under_way g c =
+    let o = c.open_of.result.now in
+    let os = c.self.inside.sessions.items in
+    let now = c.fail_open.new.sessions.items in
+    let n = c.args.session in
+    let was : transaction_of os n ≡ Some o = ap (λ (os : List (Option Open)). transaction_of os n) (sym c.as_slice.ensures.value) ∙ c.open_of.ensures in
+    let is = subst (λ (p : Option Open). IfSome p (λ o. now ≡ set os n (Some (failed_open o)))) was c.fail_open.ensures in
+    has_one c.self.inside.pages c.self.inside.statuses.items now 0 n (failed_open o) _ refl (becomes_it os now n (Some (failed_open o)) (rewritten os now n o (Some (failed_open o)) was is))
+
+pub returns-clause-under_way : goal.returns-clause-under_way
+returns-clause-under_way g c =
+    let os = c.self.inside.sessions.items in
+    let n = c.args.session in
+    let was : transaction_of os n ≡ Some c.open_of.result.now = ap (λ (os : List (Option Open)). transaction_of os n) (sym c.as_slice.ensures.value) ∙ c.open_of.ensures in
+    has_one c.mark.new.pages c.self.inside.statuses.items os 0 n c.open_of.result.now _ refl was
+
+pub returns-in_err-mark-clause-under_way : goal.returns-in_err-mark-clause-under_way
+returns-in_err-mark-clause-under_way g c =
+    let os = c.self.inside.sessions.items in
+    let n = c.args.session in
+    let was : transaction_of os n ≡ Some c.open_of.result.now = ap (λ (os : List (Option Open)). transaction_of os n) (sym c.as_slice.ensures.value) ∙ c.open_of.ensures in
+    has_one c.mark.new.pages c.self.inside.statuses.items os 0 n c.open_of.result.now _ refl was
