@@ -39,3 +39,4 @@ pub mod SummariseLeft
 pub mod SummariseEnds
 pub mod VacuumEnds
 pub mod AskRun
+pub mod RangesCounted

@@ -28,7 +28,7 @@ inside d a b is = omega arith
 nearer : (d a b : ℕ) → a + suc d ≡ b → suc a + d ≡ b
 nearer d a b is = omega arith
 
-module _ (w0 : TableState) (s : ℕ) (tuples : ℕ → ℕ) (has : (i : ℕ) → HasAtMostTuples w0 i (tuples i)) where
+module _ (w0 : TableState) (s : ℕ) (tuples : ℕ → ℕ) (has : (i : ℕ) → i < w0.indexes → HasAtMostTuples w0 i (tuples i)) where
   abbrev f : ℕ → ℕ
   f = index_steps w0 tuples
 
@@ -73,7 +73,7 @@ module _ (w0 : TableState) (s : ℕ) (tuples : ℕ → ℕ) (has : (i : ℕ) →
     begins_left w u v n kept was between stays has_one enough = Works (NotBuilding Empty) (per_of at + 9) (pages_of at) (tuples at) false true OwnMap (record {
       per_is = ap (λ (x : Index). x.pages_per_range) (here v stays);
       tuples_are = fewer (IsTaken (index_view_at at w0)) (IsTaken (index_view_at at v)) (tuples at)
-          (λ x taken none. taken (ap (λ (i : Index). i.tuple x) (here v stays) ∙ none)) (has at);
+          (λ x taken none. taken (ap (λ (i : Index). i.tuple x) (here v stays) ∙ none)) (has at below);
       room = fits (tuples at) (whole at) some;
       pages = ap (λ (x : Index). x.pages.limit - x.pages.map_pages) (here v stays);
     }) (within (per_of at + 9) (whole at * (per_of at + 9)) ((whole at - 1) * (per_of at + 9))
@@ -191,7 +191,7 @@ module _ (w0 : TableState) (s : ℕ) (tuples : ℕ → ℕ) (has : (i : ℕ) →
       (SomeBehind k going more)
 
 pub vacuum_within : (s n at : ℕ) (tuples : ℕ → ℕ) (w : TableState) → IsTableKept w → w.task s ≡ Restarts at
-    → ((i : ℕ) → HasAtMostTuples w i (tuples i)) → StepsAlone s n w → n ≤ vacuum_steps w at tuples
+    → ((i : ℕ) → i < w.indexes → HasAtMostTuples w i (tuples i)) → StepsAlone s n w → n ≤ vacuum_steps w at tuples
 vacuum_within s n at tuples w kept was has alone =
     from_index w s tuples has (w.indexes - at) at (counts at w.indexes (subst (IsInTable w) was (kept.inside s))) n (vacuum_steps w at tuples) w alone kept was
     (nothing_moved at w) (enough (sum_below w.indexes (index_steps w tuples)) (sum_below at (index_steps w tuples)))

@@ -17,7 +17,8 @@ ghost use Rattle.table_coverage.specs.TableSteps.{range_in, AsksFor, HasRange, O
 ghost use Rattle.coverage.specs.Changes.{IsFree};
 ghost use Rattle.table_coverage.specs.NextTasks.{AtFirst, AfterRange, AfterBlock, AfterPage, AfterRestart};
 ghost use Rattle.table_coverage.specs.TablePoints.{does_point, waits_for, IsHeldBy, IsTableStuck};
-ghost use Rattle.table_coverage.specs.Accounts.{Asked, Accounts, AccountsStep, AccountsRun, queue_limit};
+ghost use Rattle.table_coverage.specs.Accounts.{Asked, Accounts, AccountsStep, AccountsRun, AccountsNext, queue_limit};
+ghost use Rattle.table_coverage.specs.RangesMade.{GivesFinals, IsInHand, AreMadeFinal};
 ghost use Rattle.table_coverage.specs.Refusals.{Heap, IndexNumber, LacksMemory, IsFull, does_refusal, MayLackMemory, IsTaskFull};
 ghost use Rattle.table_coverage.specs.RowOrder.{IsAmong};
 ghost use Rattle.block_model.specs.declared.row.RowId.{RowId};
@@ -104,7 +105,9 @@ pub fn table_scans_miss_nothing()
 {}
 
 /// What a step adds to the account of its session, and does to the queue of the summaries that are asked for, is one thing. In the queue
-/// the order stays: a request joins at the end, or the first one is taken; and it never holds more than 64.
+/// the order stays: a request joins at the end, or the first one is taken; and it never holds more than 64. While a summarise, work or a
+/// vacuum is in hand, from its begin on, its count of ranges is at each moment the number of those to which it gave a final tuple in the run,
+/// whatever other sessions do between its steps, and however rows come and go.
 pub fn accounts_are_exact()
     ensures one { (s : ℕ) (w v : TableState) (does : Does s w v) (p : Point) (a b c : Accounts) → does_point s w v does ≡ Some p
         → AccountsStep s w v does a b → AccountsStep s w v does a c → (b.queue ≡ c.queue) × (b.of s ≡ c.of s) }
@@ -112,6 +115,10 @@ pub fn accounts_are_exact()
         → (b.queue ≡ a.queue) ⊎ ((asked : Asked) × (b.queue ≡ a.queue ++ (asked ∷ []))) ⊎ ((asked : Asked) × (a.queue ≡ asked ∷ b.queue)) }
     ensures within { (s : ℕ) (w v : TableState) (does : Does s w v) (a b : Accounts) → AccountsStep s w v does a b → length a.queue ≤ queue_limit
         → length b.queue ≤ queue_limit }
+    ensures replies { (s : ℕ) (rest : List ℕ) (w u v : TableState) (a b c : Accounts) (step : TableStep s w u)
+        (adds : AccountsStep s w step.between step.does a b) (run : AccountsRun rest u v b c) → IsTableKept w → w.task s ≡ Resting
+        → GivesFinals (step.between.task s) → IsInHand s run
+        → (made : List (ℕ × ℕ)) × AreMadeFinal s (AccountsNext s rest w u v a b c step adds run) made × (length made ≡ (c.of s).ranges) }
 {}
 
 /// A statement ends without its reply only for a cause. Want of memory ends an insert before it has a row, a scan, and a vacuum that is at
@@ -162,7 +169,7 @@ pub fn summarises_end()
     ensures summarises { (s n at range tuples : ℕ) (w : TableState) (job : Job) (phase : Phase) → IsTableKept w → w.task s ≡ Maintains job at range phase
         → IsSummarise job → HasAtMostTuples w at tuples → StepsAlone s n w → n ≤ summarise_steps w job at range phase tuples }
     ensures vacuums { (s n at : ℕ) (tuples : ℕ → ℕ) (w : TableState) → IsTableKept w → w.task s ≡ Restarts at
-        → ((i : ℕ) → HasAtMostTuples w i (tuples i)) → StepsAlone s n w → n ≤ vacuum_steps w at tuples }
+        → ((i : ℕ) → i < w.indexes → HasAtMostTuples w i (tuples i)) → StepsAlone s n w → n ≤ vacuum_steps w at tuples }
 {}
 
 /// What a machine promises over the pages and page locks that it sees, the table takes up: a step of it, whatever it doesn't see,
