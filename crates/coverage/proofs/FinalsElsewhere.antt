@@ -1,10 +1,10 @@
 -- A summariser gives no other range a final tuple, and a sweep gives none to any.
-use Rattle.std.proofs.Common.{◌≡◌, ◌≢◌, ◌⊎◌, ⊎_elim, ℕ, Some, sym, ◌∙◌, ap, subst}
+use Rattle.std.proofs.Common.{◌≡◌, ◌≢◌, ⊎_elim, ℕ, Some, sym, ◌∙◌, ap}
 use Rattle.std.proofs.lemmas.Option.{same_Some, none-some}
 use Rattle.std.proofs.lemmas.Bool.{cases_eq}
 use Rattle.coverage.specs.IndexView.{TuplePlace, IndexTuple, IndexView}
 use Rattle.coverage.specs.Changes.{SameMap, SameTuples, IsUntouched}
-use Rattle.coverage.specs.Statements.{OnIndex, Copied, Moving, Phase, Evacuating, IsAt, Statement}
+use Rattle.coverage.specs.Statements.{OnIndex, Phase, Statement}
 use Rattle.coverage.specs.Knowing.{KnowsPhase}
 use Rattle.coverage.specs.Steps.{ReadsIndex, PutsTuple, ReplacesTuple, SetsEntry, DropsTuple, SweepsTuples, OnIndexStep, Maps, Gone, Again, MovePut}
 use Rattle.coverage.specs.Steps.{SummariseStep, LookMap, LookGone, IsFinal, Found, ReadNoEntry, GrowMap, Put, Set, Extent, Pass, Unite, UniteCopies}
