@@ -31,4 +31,5 @@ pub mod SummariseExists
 pub mod InsertsEnd
 pub mod Counted
 pub mod CountsExact
+pub mod FinalsElsewhere
 pub mod ExactResults

@@ -200,7 +200,7 @@ pub fn some_step_comes()
 
 /// How many rows of a heap block, or tuples of an index page, went is one number; and of all steps that a statement could take on an index
 /// at a moment, each adds the same to the count that its reply tells: one where the map comes to name a final tuple of a summariser's
-/// range, or where a desummarise's range loses its entry. The tuples that a sweep drops are those that the map doesn't name.
+/// range, or where a desummarise's range loses its entry. It gives no other range a final tuple. The tuples that a sweep drops are those that the map doesn't name.
 pub fn counts_are_exact()
     ensures rows { (before after : ℕ → ℕ → Option Row) (block m n : ℕ) → AreRowsGone before after block m → AreRowsGone before after block n → m ≡ n }
     ensures tuples { (before after : TuplePlace → Option IndexTuple) (page m n : ℕ) → AreTuplesGone before after page m
@@ -212,6 +212,8 @@ pub fn counts_are_exact()
     ensures summarised { (w v : IndexState) (s range : ℕ) (old : Phase) (new : Statement) (step : SummariseStep s range (index_view w) (index_view v) old new)
         → IsIndexKept w → IsIndexKept v → w.statement s ≡ Maintaining range old → v.statement s ≡ new
         → (summarise_count step ≡ 1) ↔ (NamesFinal (index_view v) range × (NamesFinal (index_view w) range → ⊥)) }
+    ensures elsewhere { (w v : IndexState) (s range m : ℕ) (old : Phase) (new : Statement) → SummariseStep s range (index_view w) (index_view v) old new
+        → IsIndexKept w → w.statement s ≡ Maintaining range old → m ≢ range → NamesFinal (index_view v) m → NamesFinal (index_view w) m }
     ensures cleared { (w v : IndexState) (s range : ℕ) (old : Phase) (new : Statement) (step : DesummariseStep s range (index_view w) (index_view v) old new)
         → (desummarise_count step ≡ 1) ↔ ((w.entry range ≢ None) × (v.entry range ≡ None)) }
     ensures swept { (s page : ℕ) (w v : IndexView) → SweepsTuples s w v page (λ x. (x.block ≡ page) × IsUnnamed w x) → (x : TuplePlace) → x.block ≡ page

@@ -1,5 +1,5 @@
 -- A run in which an insert asks for a summary, and work takes that up.
-use Rattle.std.proofs.Common.{◌≡◌, ◌⊎◌, inl, inr, ℕ, ◌≤◌, ◌<◌, Option, Some, None, true, false, [], ◌∷◌, sym, arith, zero, suc}
+use Rattle.std.proofs.Common.{◌≡◌, ◌⊎◌, inl, inr, ℕ, ◌+◌, ◌≤◌, ◌<◌, max, Option, Some, None, true, false, [], ◌∷◌, sym, arith, zero, suc}
 use Rattle.std.specs.Prelude.{refl}
 use Rattle.std.proofs.lemmas.Option.{none-some}
 use Rattle.block_model.specs.declared.row.Row.{Row}
@@ -10,7 +10,7 @@ use Rattle.coverage.specs.Steps.{ReadsIndex, InsertNoEntry}
 use Rattle.coverage.proofs.SmallIndex.{at_number}
 use Rattle.coverage.proofs.ExampleTuples.{contents, lawful}
 use Rattle.table_coverage.specs.Table.{Index, OneRange, Task, Resting, Reaches, Asks, Inserts, Considers, Maintains, TableState, index_view_at}
-use Rattle.table_coverage.specs.TableSteps.{TaskTurns, SameRows, OnlyTurns, StepsIn, Work, PutsRow}
+use Rattle.table_coverage.specs.TableSteps.{TaskTurns, SameRows, OnlyTurns, StepsIn, TableTakesRow, Work, PutsRow}
 use Rattle.table_coverage.specs.TableSteps.{AsksSummary, InsertCompletes, TakesLock, Stays, ToAsk, ToIndex, Inserted, ToRange, GoesOn, TableStep}
 use Rattle.table_coverage.specs.TableCovered.{IsTableKept}
 use Rattle.table_coverage.specs.Accounts.{Asked, no_account, Accounts, Joins, AccountsRun, AccountsDone, AccountsNext}
@@ -79,6 +79,30 @@ second_begins new zero = inr refl
 second_begins new (suc zero) = inl refl
 second_begins new (suc (suc n)) = inr refl
 
+-- whatever the tasks, and whoever holds the summarise lock, the heap is the same
+rows_same : (blocks : ℕ) (row : ℕ → ℕ → Option Row) (lock other : Option ℕ) (task next : ℕ → Task)
+    → SameRows (state blocks row lock task) (state blocks row other next)
+rows_same blocks row lock other task next = record {
+  layout = record { indexes = refl; rows_per_page = refl; heap_limit = refl };
+  blocks = refl;
+  row = λ b k. refl;
+  counts = λ t. refl;
+}
+
+-- a row comes into a heap
+takes_row : (blocks grown b : ℕ) (row with_row : ℕ → ℕ → Option Row) (r : Row) (new : Task) → with_row b 0 ≡ Some r
+    → ((c j : ℕ) → ((c ≡ b) × (j ≡ 0)) ⊎ (with_row c j ≡ row c j)) → grown ≡ max blocks (b + 1)
+    → TableTakesRow (state blocks row None (first_at Resting)) (state grown with_row None (first_at new)) b 0 r
+takes_row blocks grown b row with_row r new there others more = record {
+  layout = record { indexes = refl; rows_per_page = refl; heap_limit = refl };
+  now = there;
+  others = others;
+  blocks = more;
+  counts = λ t. refl;
+  indexes = record { index = λ i. refl };
+  summarise_lock = refl;
+}
+
 module _ (blocks : ℕ) (row : ℕ → ℕ → Option Row) (old new : Task) where
   abbrev was : TableState
   was = state blocks row None (first_at old)
@@ -90,12 +114,7 @@ module _ (blocks : ℕ) (row : ℕ → ℕ → Option Row) (old new : Task) wher
   turns = record { was = refl; now = refl; others = others_rest old new }
 
   same_rows : SameRows was now
-  same_rows = record {
-    layout = record { indexes = refl; rows_per_page = refl; heap_limit = refl };
-    blocks = refl;
-    row = λ b k. refl;
-    counts = λ t. refl;
-  }
+  same_rows = rows_same blocks row None None (first_at old) (first_at new)
 
   only : OnlyTurns was now
   only = record { rows = same_rows; indexes = record { index = λ i. refl }; summarise_lock = refl }
@@ -166,15 +185,7 @@ module _ (r q : Row) where
     does = PutsRow 0 0 r
         (record { vacant = (omega arith, refl); below = omega arith; first = λ c j vacant. first_place c j })
         (record { was = refl; now = refl; others = others_rest Resting (Reaches 0 0 r 0) })
-        (record {
-          layout = record { indexes = refl; rows_per_page = refl; heap_limit = refl };
-          now = refl;
-          others = one_more;
-          blocks = refl;
-          counts = λ t. refl;
-          indexes = record { index = λ i. refl };
-          summarise_lock = refl;
-        });
+        (takes_row 0 1 0 no_row (one_row r) r (Reaches 0 0 r 0) refl one_more refl);
     settles = GoesOn (Reaches 0 0 r 0) (Inserts 0 0 r 0 Empty) (ToIndex 0 0 r 0 (omega arith) (λ asks. nothing asks.3))
         (turns 1 (one_row r) (Reaches 0 0 r 0) (Inserts 0 0 r 0 Empty)) (only 1 (one_row r) (Reaches 0 0 r 0) (Inserts 0 0 r 0 Empty));
   }
@@ -188,15 +199,7 @@ module _ (r q : Row) where
     does = PutsRow 1 0 q
         (record { vacant = (omega arith, refl); below = omega arith; first = λ c j vacant. second_place c j vacant.0 vacant.1 })
         (record { was = refl; now = refl; others = others_rest Resting (Reaches 1 0 q 0) })
-        (record {
-          layout = record { indexes = refl; rows_per_page = refl; heap_limit = refl };
-          now = refl;
-          others = two_more;
-          blocks = refl;
-          counts = λ t. refl;
-          indexes = record { index = λ i. refl };
-          summarise_lock = refl;
-        });
+        (takes_row 1 2 1 (one_row r) (two_rows r q) q (Reaches 1 0 q 0) refl two_more refl);
     settles = GoesOn (Reaches 1 0 q 0) (Asks 1 0 q 0) (ToAsk 1 0 q 0 (omega arith) (refl, refl, refl, omega arith))
         (turns 2 (two_rows r q) (Reaches 1 0 q 0) (Asks 1 0 q 0)) (only 2 (two_rows r q) (Reaches 1 0 q 0) (Asks 1 0 q 0));
   }
@@ -212,31 +215,19 @@ module _ (r q : Row) where
   abbrev chosen : TableState
   chosen = state 2 (two_rows r q) (Some 1) (second_at (Considers (OneRange 2 0) 0 0))
 
-  rows_kept : SameRows asked_for chosen
-  rows_kept = record {
-    layout = record { indexes = refl; rows_per_page = refl; heap_limit = refl };
-    blocks = refl;
-    row = λ b k. refl;
-    counts = λ t. refl;
-  }
-
-  rows_same : SameRows chosen taken_up
-  rows_same = record {
-    layout = record { indexes = refl; rows_per_page = refl; heap_limit = refl };
-    blocks = refl;
-    row = λ b k. refl;
-    counts = λ t. refl;
-  }
-
   work : TableStep 1 asked_for taken_up
   work = record {
     between = chosen;
     does = TakesLock (Considers (OneRange 2 0) 0 0) (Work 0 0 (omega arith))
         (record { was = refl; now = refl; others = second_begins (Considers (OneRange 2 0) 0 0) })
-        refl refl rows_kept (record { index = λ i. refl });
+        refl refl (rows_same 2 (two_rows r q) None (Some 1) (first_at Resting) (second_at (Considers (OneRange 2 0) 0 0))) (record { index = λ i. refl });
     settles = GoesOn (Considers (OneRange 2 0) 0 0) (Maintains (OneRange 2 0) 0 0 (NotBuilding Empty)) (ToRange (OneRange 2 0) 0 0 (refl, omega arith))
         (record { was = refl; now = refl; others = second_turns (Considers (OneRange 2 0) 0 0) (Maintains (OneRange 2 0) 0 0 (NotBuilding Empty)) })
-        (record { rows = rows_same; indexes = record { index = λ i. refl }; summarise_lock = refl });
+        (record {
+          rows = rows_same 2 (two_rows r q) (Some 1) (Some 1) (second_at (Considers (OneRange 2 0) 0 0)) (second_at (Maintains (OneRange 2 0) 0 0 (NotBuilding Empty)));
+          indexes = record { index = λ i. refl };
+          summarise_lock = refl;
+        });
   }
 
 abbrev pub asked : Asked

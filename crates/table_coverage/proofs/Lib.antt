@@ -37,4 +37,6 @@ pub mod SweepsEnd
 pub mod PlacesCounted
 pub mod SummariseLeft
 pub mod SummariseEnds
+pub mod VacuumEnds
 pub mod AskRun
+pub mod RangesCounted

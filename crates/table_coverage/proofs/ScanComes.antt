@@ -22,37 +22,77 @@ pub data ScanComes (s : ℕ) (w v : TableState) : TableScan → Type 0 where
       → ScanComes s w v (record scan { read = next + 1; found = found })
   ScanStayed : (scan : TableScan) → w.task s ≡ Scans scan → OnlyTurns w v → ScanComes s w v scan
 
-module _ (s : ℕ) (w v : TableState) where
-  no_scan : (new : Task) → v.task s ≡ new → scan_of new ≡ None → (scan : TableScan) → v.task s ≡ Scans scan → ScanComes s w v scan
-  no_scan new now sees_none scan is = absurd (none-some _ (sym sees_none ∙ ap scan_of (sym now ∙ is)))
+-- what a delete has to mark
+abbrev pub marks_of : Task → Option (TableScan × List RowId)
+marks_of (Marks scan ids) = Some (scan, ids)
+marks_of task = None
 
-  this : (q : TableScan) → v.task s ≡ Scans q → ScanComes s w v q → (scan : TableScan) → v.task s ≡ Scans scan → ScanComes s w v scan
-  this q now comes scan is = subst (ScanComes s w v) (same_Some _ _ (ap scan_of (sym now ∙ is))) comes
+begins_no_marks : (w : TableState) (first : Task) → BeginsWith w first → marks_of first ≡ None
+begins_no_marks w _ (Summarize at below) = refl
+begins_no_marks w _ (SummarizeOne at only below) = refl
+begins_no_marks w _ (Work at only below) = refl
+begins_no_marks w _ (Desummarize at only below) = refl
+begins_no_marks w _ Vacuum = refl
+
+-- how the rows that a delete which stepped has still to mark came about
+pub data MarksCome (s : ℕ) (w v : TableState) : TableScan → List RowId → Type 0 where
+  MarkedOne : (scan : TableScan) (id : RowId) (rest : List RowId) → w.task s ≡ Marks scan (id ∷ rest) → OnlyTurns w v → MarksCome s w v scan rest
+  MarksStayed : (scan : TableScan) (ids : List RowId) → w.task s ≡ Marks scan ids → OnlyTurns w v → MarksCome s w v scan ids
+
+-- what a session's statement comes to by what its step does: to no scan and no marks, to a scan, to marks, or to what it was
+data Comes (s : ℕ) (w v : TableState) : Task → Type 0 where
+  ComesToNone : (new : Task) → scan_of new ≡ None → marks_of new ≡ None → Comes s w v new
+  ComesToScan : (scan : TableScan) → ScanComes s w v scan → Comes s w v (Scans scan)
+  ComesToMarks : (scan : TableScan) (ids : List RowId) → MarksCome s w v scan ids → Comes s w v (Marks scan ids)
+  ComesToSame : (task : Task) → w.task s ≡ task → OnlyTurns w v → Comes s w v task
+
+module _ (s : ℕ) (w v : TableState) where
+  none : (new : Task) → v.task s ≡ new → scan_of new ≡ None → marks_of new ≡ None → Comes s w v (v.task s)
+  none new now no_scan no_marks = subst (Comes s w v) (sym now) (ComesToNone new no_scan no_marks)
+
+  comes : Does s w v → Comes s w v (v.task s)
+  comes (PutsRow b k r place turns takes) = none _ turns.now refl refl
+  comes (RefusesRow t refused turns fails) = none _ turns.now refl refl
+  comes (AsksSummary b k r at turns only) = none _ turns.now refl refl
+  comes (InsertGoes b k r at old new turns stepped step) = none _ turns.now refl refl
+  comes (InsertCompletes b k r at old turns stepped step) = none _ turns.now refl refl
+  comes (RefusesInsert b k r old refused turns fails) = none _ turns.now refl refl
+  comes (TakesLock first begins turns free held rows indexes) = none first turns.now (begins_no_scan w first begins) (begins_no_marks w first begins)
+  comes (MaintainGoes job at range old new turns stepped step) = none _ turns.now refl refl
+  comes (MaintainCompletes job at range old turns stepped step) = none _ turns.now refl refl
+  comes (RefusesMaintain job at range phase refused turns stepped passes) = none _ turns.now refl refl
+  comes (RefusesVacuum old vacuuming turns given rows indexes) = none _ turns.now refl refl
+  comes (PrunesBlock extent next dropped inside spared turns drops) = none _ turns.now refl refl
+  comes (SweepsPage at page turns stepped sweeps) = none _ turns.now refl refl
+  comes (RestartsIndex at turns only) = none _ turns.now refl refl
+  comes (BeginsScan scan begins turns only) = subst (Comes s w v) (sym turns.now) (ComesToScan scan (ScanBegan scan begins only))
+  comes (Judges old new inside low step turns only) = subst (Comes s w v) (sym turns.now) (ComesToScan new (ScanJudged old new turns.was inside step only))
+  comes (ReadsBlock scan next found reads turns only) =
+      subst (Comes s w v) (sym turns.now) (ComesToScan (record scan { read = next + 1; found = found }) (ScanRead scan next found turns.was reads only))
+  comes (RefusesScan scan t turns how) = none _ turns.now refl refl
+  comes (MarksRow scan id rest turns only) = subst (Comes s w v) (sym turns.now) (ComesToMarks scan rest (MarkedOne scan id rest turns.was only))
+  comes (Conflicts scan id rest t turns fails) = none _ turns.now refl refl
+  comes (Blocked task blocked turns only) = subst (Comes s w v) (sym turns.now) (ComesToSame task turns.was only)
+  comes (Transacts counts resting few same) = none Resting (ap (λ (u : TableState). u.task s) same ∙ resting) refl refl
+
+  to_scan : (t : Task) → Comes s w v t → (scan : TableScan) → t ≡ Scans scan → ScanComes s w v scan
+  to_scan _ (ComesToNone new no_scan no_marks) scan is = absurd (none-some _ (sym no_scan ∙ ap scan_of is))
+  to_scan _ (ComesToScan q how) scan is = subst (ScanComes s w v) (same_Some _ _ (ap scan_of is)) how
+  to_scan _ (ComesToMarks q ids how) scan is = absurd (none-some _ (ap scan_of is))
+  to_scan _ (ComesToSame task was only) scan is = ScanStayed scan (was ∙ is) only
+
+  to_marks : (t : Task) → Comes s w v t → (scan : TableScan) (ids : List RowId) → t ≡ Marks scan ids → MarksCome s w v scan ids
+  to_marks _ (ComesToNone new no_scan no_marks) scan ids is = absurd (none-some _ (sym no_marks ∙ ap marks_of is))
+  to_marks _ (ComesToScan q how) scan ids is = absurd (none-some _ (ap marks_of is))
+  to_marks _ (ComesToMarks q l how) scan ids is =
+      subst (λ (m : TableScan × List RowId). MarksCome s w v m.0 m.1) (same_Some _ _ (ap marks_of is)) how
+  to_marks _ (ComesToSame task was only) scan ids is = MarksStayed scan ids (was ∙ is) only
 
   pub scan_comes : Does s w v → (scan : TableScan) → v.task s ≡ Scans scan → ScanComes s w v scan
-  scan_comes (PutsRow b k r place turns takes) = no_scan _ turns.now refl
-  scan_comes (RefusesRow t refused turns fails) = no_scan _ turns.now refl
-  scan_comes (AsksSummary b k r at turns only) = no_scan _ turns.now refl
-  scan_comes (InsertGoes b k r at old new turns stepped step) = no_scan _ turns.now refl
-  scan_comes (InsertCompletes b k r at old turns stepped step) = no_scan _ turns.now refl
-  scan_comes (RefusesInsert b k r old refused turns fails) = no_scan _ turns.now refl
-  scan_comes (TakesLock first begins turns free held rows indexes) = no_scan first turns.now (begins_no_scan w first begins)
-  scan_comes (MaintainGoes job at range old new turns stepped step) = no_scan _ turns.now refl
-  scan_comes (MaintainCompletes job at range old turns stepped step) = no_scan _ turns.now refl
-  scan_comes (RefusesMaintain job at range phase refused turns stepped passes) = no_scan _ turns.now refl
-  scan_comes (RefusesVacuum old vacuuming turns given rows indexes) = no_scan _ turns.now refl
-  scan_comes (PrunesBlock extent next dropped inside spared turns drops) = no_scan _ turns.now refl
-  scan_comes (SweepsPage at page turns stepped sweeps) = no_scan _ turns.now refl
-  scan_comes (RestartsIndex at turns only) = no_scan _ turns.now refl
-  scan_comes (BeginsScan scan begins turns only) = this scan turns.now (ScanBegan scan begins only)
-  scan_comes (Judges old new inside low step turns only) = this new turns.now (ScanJudged old new turns.was inside step only)
-  scan_comes (ReadsBlock scan next found reads turns only) =
-      this (record scan { read = next + 1; found = found }) turns.now (ScanRead scan next found turns.was reads only)
-  scan_comes (RefusesScan scan t turns how) = no_scan _ turns.now refl
-  scan_comes (MarksRow scan id rest turns only) = no_scan _ turns.now refl
-  scan_comes (Conflicts scan id rest t turns fails) = no_scan _ turns.now refl
-  scan_comes (Blocked task blocked turns only) = λ scan is. ScanStayed scan (turns.was ∙ sym turns.now ∙ is) only
-  scan_comes (Transacts counts resting few same) = no_scan Resting (ap (λ (u : TableState). u.task s) same ∙ resting) refl
+  scan_comes does scan is = to_scan (v.task s) (comes does) scan is
+
+  pub marks_come : Does s w v → (scan : TableScan) (ids : List RowId) → v.task s ≡ Marks scan ids → MarksCome s w v scan ids
+  marks_come does scan ids is = to_marks (v.task s) (comes does) scan ids is
 
 -- a scan goes on to the next index, or as it is
 module _ (P : TableScan → Type 0) (w : TableState)
@@ -102,53 +142,6 @@ module _ (P : TableState → TableScan → Type 0) (s : ℕ) (w v : TableState) 
           (onward_scan (P w) w next old new onward (λ q e. kept s q (turns.was ∙ e)) scan (sym turns.now ∙ is)))
       by (GivesLock old done turns given rows indexes) = scans_after turns.others (λ n scan apart was p. on scan rows indexes p)
           (λ scan is. absurd (none-some _ (ap scan_of (sym turns.now ∙ is))))
-
--- what a delete has to mark
-abbrev pub marks_of : Task → Option (TableScan × List RowId)
-marks_of (Marks scan ids) = Some (scan, ids)
-marks_of task = None
-
-begins_no_marks : (w : TableState) (first : Task) → BeginsWith w first → marks_of first ≡ None
-begins_no_marks w _ (Summarize at below) = refl
-begins_no_marks w _ (SummarizeOne at only below) = refl
-begins_no_marks w _ (Work at only below) = refl
-begins_no_marks w _ (Desummarize at only below) = refl
-begins_no_marks w _ Vacuum = refl
-
--- how the rows that a delete which stepped has still to mark came about
-pub data MarksCome (s : ℕ) (w v : TableState) : TableScan → List RowId → Type 0 where
-  MarkedOne : (scan : TableScan) (id : RowId) (rest : List RowId) → w.task s ≡ Marks scan (id ∷ rest) → OnlyTurns w v → MarksCome s w v scan rest
-  MarksStayed : (scan : TableScan) (ids : List RowId) → w.task s ≡ Marks scan ids → OnlyTurns w v → MarksCome s w v scan ids
-
-module _ (s : ℕ) (w v : TableState) where
-  unmarked : (new : Task) → v.task s ≡ new → marks_of new ≡ None → (scan : TableScan) (ids : List RowId) → v.task s ≡ Marks scan ids → MarksCome s w v scan ids
-  unmarked new now has_none scan ids is = absurd (none-some _ (sym has_none ∙ ap marks_of (sym now ∙ is)))
-
-  pub marks_come : Does s w v → (scan : TableScan) (ids : List RowId) → v.task s ≡ Marks scan ids → MarksCome s w v scan ids
-  marks_come (PutsRow b k r place turns takes) = unmarked _ turns.now refl
-  marks_come (RefusesRow t refused turns fails) = unmarked _ turns.now refl
-  marks_come (AsksSummary b k r at turns only) = unmarked _ turns.now refl
-  marks_come (InsertGoes b k r at old new turns stepped step) = unmarked _ turns.now refl
-  marks_come (InsertCompletes b k r at old turns stepped step) = unmarked _ turns.now refl
-  marks_come (RefusesInsert b k r old refused turns fails) = unmarked _ turns.now refl
-  marks_come (TakesLock first begins turns free held rows indexes) = unmarked first turns.now (begins_no_marks w first begins)
-  marks_come (MaintainGoes job at range old new turns stepped step) = unmarked _ turns.now refl
-  marks_come (MaintainCompletes job at range old turns stepped step) = unmarked _ turns.now refl
-  marks_come (RefusesMaintain job at range phase refused turns stepped passes) = unmarked _ turns.now refl
-  marks_come (RefusesVacuum old vacuuming turns given rows indexes) = unmarked _ turns.now refl
-  marks_come (PrunesBlock extent next dropped inside spared turns drops) = unmarked _ turns.now refl
-  marks_come (SweepsPage at page turns stepped sweeps) = unmarked _ turns.now refl
-  marks_come (RestartsIndex at turns only) = unmarked _ turns.now refl
-  marks_come (BeginsScan scan begins turns only) = unmarked _ turns.now refl
-  marks_come (Judges old new inside low step turns only) = unmarked _ turns.now refl
-  marks_come (ReadsBlock scan next found reads turns only) = unmarked _ turns.now refl
-  marks_come (RefusesScan scan t turns how) = unmarked _ turns.now refl
-  marks_come (MarksRow scan id rest turns only) = λ q ids is.
-      let same = same_Some _ _ (ap marks_of (sym turns.now ∙ is)) in
-      subst (λ (m : TableScan × List RowId). MarksCome s w v m.0 m.1) same (MarkedOne scan id rest turns.was only)
-  marks_come (Conflicts scan id rest t turns fails) = unmarked _ turns.now refl
-  marks_come (Blocked task blocked turns only) = λ scan ids is. MarksStayed scan ids (turns.was ∙ sym turns.now ∙ is) only
-  marks_come (Transacts counts resting few same) = unmarked Resting (ap (λ (u : TableState). u.task s) same ∙ resting) refl
 
 -- a delete comes to its marks from a scan that is read, or is at them already
 module _ (P : TableScan → Type 0) (Q : TableScan → List RowId → Type 0) (w : TableState)

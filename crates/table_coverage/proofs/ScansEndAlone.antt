@@ -1,5 +1,5 @@
 -- A scan whose session steps alone ends within two steps a range and one a block, and a delete with one more for each row that it marks.
-use Rattle.std.proofs.Common.{◌≡◌, ⊎_elim, ℕ, ◌+◌, ◌-◌, ◌*◌, ◌/◌, ◌≤◌, ◌<◌, Some, Bool, List, ◌∷◌, length, sym, ◌∙◌, ap, subst, arith, suc, div-lt_iff_lt-mul, suc-mul}
+use Rattle.std.proofs.Common.{◌≡◌, ⊎_elim, ℕ, ◌+◌, ◌-◌, ◌*◌, ◌/◌, ◌≤◌, ◌<◌, Some, Bool, List, ◌∷◌, length, sym, ◌∙◌, ap, subst, arith, suc, div-lt_iff_lt-mul, suc-mul, add-one}
 use Rattle.std.specs.Prelude.{refl}
 use Rattle.std.proofs.lemmas.Nat.{le-div}
 use Rattle.std.proofs.lemmas.Option.{same_Some, none-some}
@@ -48,6 +48,10 @@ module _ (per extent range : ℕ) (ranged : 0 < per) where
     where
       fits : (n : ℕ) → n < extent → n + per ≤ extent + per - 1
       fits n low = omega arith
+
+  -- so it is for a range all of whose blocks lie below it
+  pub one_of_whole_ranges : (range + 1) * per ≤ extent → range < extent / per
+  one_of_whole_ranges low = le-div (suc range) extent per ranged (subst (λ n. n * per ≤ extent) (add-one range) low)
 
   none_of_ranges : extent ≤ range * per → (extent + per - 1) / per ≤ range
   none_of_ranges high = lower ((extent + per - 1) / per)

@@ -9,3 +9,4 @@ pub mod Refusals
 pub mod Machines
 pub mod GoingOn
 pub mod StepsLeft
+pub mod RangesMade

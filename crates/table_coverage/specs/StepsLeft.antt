@@ -4,7 +4,7 @@ use Rattle.block_model.specs.declared.row.RowId.{RowId}
 use Rattle.coverage.specs.IndexView.{TuplePlace, Passing}
 use Rattle.coverage.specs.Statements.{Empty, Held, Phase, NotBuilding, IsAt}
 use Rattle.table_coverage.specs.RowOrder.{AreInOrder}
-use Rattle.table_coverage.specs.Table.{Job, EachRange, OneRange, TableScan, Task, Prunes, Sweeps, TableState}
+use Rattle.table_coverage.specs.Table.{Job, EachRange, OneRange, WholeRanges, TableScan, Task, Prunes, Sweeps, TableState}
 use Rattle.table_coverage.specs.TableCovered.{AreToMark}
 
 -- the sum over the numbers below this one
@@ -15,6 +15,10 @@ sum_below (suc n) f = sum_below n f + f n
 -- so many ranges of an index begin below an extent
 abbrev pub ranges_below : TableState → (extent at : ℕ) → ℕ
 ranges_below w extent at = (extent + (w.index at).pages_per_range - 1) / (w.index at).pages_per_range
+
+-- so many ranges of an index end below an extent, or at it
+abbrev pub whole_ranges : TableState → (extent at : ℕ) → ℕ
+whole_ranges w extent at = extent / (w.index at).pages_per_range
 
 -- the ranges that a scan has still to judge, of all indexes
 abbrev pub unjudged_ranges : TableState → TableScan → ℕ
@@ -60,11 +64,11 @@ cleaning_steps w (Prunes extent next) = (extent - next) + sum_below w.indexes (p
 cleaning_steps w (Sweeps at page) = (sum_below w.indexes (page_limit w) - sum_below (suc at) (page_limit w)) + (page_limit w at - page)
 cleaning_steps w task = 0
 
-abbrev pub IsIn : List TuplePlace → TuplePlace → Type 0
+abbrev pub IsIn : {A : Type 0} → List A → A → Type 0
 IsIn [] x = ⊥
 IsIn (y ∷ more) x = (x ≡ y) ⊎ IsIn more x
 
-abbrev pub AreApart : List TuplePlace → Type 0
+abbrev pub AreApart : {A : Type 0} → List A → Type 0
 AreApart [] = Unit
 AreApart (x ∷ more) = (IsIn more x → ⊥) × AreApart more
 
@@ -85,6 +89,7 @@ IsSummarise job = ⊥
 -- the ranges that it goes over behind this one
 abbrev pub later_ranges : TableState → Job → (at range : ℕ) → ℕ
 later_ranges w (EachRange extent) at range = ranges_below w extent at - suc range
+later_ranges w (WholeRanges extent) at range = whole_ranges w extent at - suc range
 later_ranges w job at range = 0
 
 -- what it takes at most for its range, but for growth of the map: one for each block, and ten
@@ -98,3 +103,13 @@ abbrev pub summarise_steps : TableState → Job → (at range : ℕ) → Phase �
 summarise_steps w job at range phase tuples = range_steps (w.index at).pages_per_range phase
     + ((w.index at).pages.limit - (w.index at).pages.map_pages) * (3 * (tuples + suc (later_ranges w job at range)) + 3)
     + later_ranges w job at range * ((w.index at).pages_per_range + 9)
+
+-- What a vacuum takes at most in an index that it comes to: one step to begin; for each whole range one for each block and nine; and for the
+-- growth of the map what a summarise takes for it.
+abbrev pub index_steps : TableState → (tuples : ℕ → ℕ) → (at : ℕ) → ℕ
+index_steps w tuples at = 1 + whole_ranges w w.blocks at * ((w.index at).pages_per_range + 9)
+    + ((w.index at).pages.limit - (w.index at).pages.map_pages) * (3 * (tuples at + whole_ranges w w.blocks at) + 3)
+
+-- the same for each index from this one on
+abbrev pub vacuum_steps : TableState → (at : ℕ) → (tuples : ℕ → ℕ) → ℕ
+vacuum_steps w at tuples = sum_below w.indexes (index_steps w tuples) - sum_below at (index_steps w tuples)

@@ -12,12 +12,13 @@ ghost use Rattle.coverage.specs.IndexView.{TuplePlace, IndexTuple};
 ghost use Rattle.coverage.specs.Steps.{Excludes};
 ghost use Rattle.table_coverage.specs.Table.{Job, EachRange, OneRange, WholeRanges, Desummarising, TableScan, Task, Resting, Inserts, Maintains, Prunes, Sweeps, Restarts, Scans, Marks, TableState, index_view_at};
 ghost use Rattle.table_coverage.specs.GoingOn.{CanGoOn, IsScanHonest, IsInserting, StepsAlone};
-ghost use Rattle.table_coverage.specs.StepsLeft.{scan_steps, HasAtMostToMark, desummarise_steps, IsCleaning, cleaning_steps, HasAtMostTuples, IsSummarise, summarise_steps};
+ghost use Rattle.table_coverage.specs.StepsLeft.{scan_steps, HasAtMostToMark, desummarise_steps, IsCleaning, cleaning_steps, HasAtMostTuples, IsSummarise, summarise_steps, vacuum_steps};
 ghost use Rattle.table_coverage.specs.TableSteps.{range_in, AsksFor, HasRange, OnlyTurns, JudgeStep, ReadsPage, IsBlocked, Does, HasStep, Onward, IsMaintained, TableStep, TableRun, IsFirstPlace, IsHeapFull};
 ghost use Rattle.coverage.specs.Changes.{IsFree};
-ghost use Rattle.table_coverage.specs.NextTasks.{AfterRange, AfterBlock, AfterPage};
+ghost use Rattle.table_coverage.specs.NextTasks.{AtFirst, AfterRange, AfterBlock, AfterPage, AfterRestart};
 ghost use Rattle.table_coverage.specs.TablePoints.{does_point, waits_for, IsHeldBy, IsTableStuck};
-ghost use Rattle.table_coverage.specs.Accounts.{Asked, Accounts, AccountsStep, AccountsRun, queue_limit};
+ghost use Rattle.table_coverage.specs.Accounts.{Asked, Accounts, AccountsStep, AccountsRun, AccountsNext, queue_limit};
+ghost use Rattle.table_coverage.specs.RangesMade.{GivesFinals, IsInHand, AreMadeFinal};
 ghost use Rattle.table_coverage.specs.Refusals.{Heap, IndexNumber, LacksMemory, IsFull, does_refusal, MayLackMemory, IsTaskFull};
 ghost use Rattle.table_coverage.specs.RowOrder.{IsAmong};
 ghost use Rattle.block_model.specs.declared.row.RowId.{RowId};
@@ -104,7 +105,9 @@ pub fn table_scans_miss_nothing()
 {}
 
 /// What a step adds to the account of its session, and does to the queue of the summaries that are asked for, is one thing. In the queue
-/// the order stays: a request joins at the end, or the first one is taken; and it never holds more than 64.
+/// the order stays: a request joins at the end, or the first one is taken; and it never holds more than 64. While a summarise, work or a
+/// vacuum is in hand, from its begin on, its count of ranges is at each moment the number of those to which it gave a final tuple in the run,
+/// whatever other sessions do between its steps, and however rows come and go.
 pub fn accounts_are_exact()
     ensures one { (s : ℕ) (w v : TableState) (does : Does s w v) (p : Point) (a b c : Accounts) → does_point s w v does ≡ Some p
         → AccountsStep s w v does a b → AccountsStep s w v does a c → (b.queue ≡ c.queue) × (b.of s ≡ c.of s) }
@@ -112,6 +115,10 @@ pub fn accounts_are_exact()
         → (b.queue ≡ a.queue) ⊎ ((asked : Asked) × (b.queue ≡ a.queue ++ (asked ∷ []))) ⊎ ((asked : Asked) × (a.queue ≡ asked ∷ b.queue)) }
     ensures within { (s : ℕ) (w v : TableState) (does : Does s w v) (a b : Accounts) → AccountsStep s w v does a b → length a.queue ≤ queue_limit
         → length b.queue ≤ queue_limit }
+    ensures replies { (s : ℕ) (rest : List ℕ) (w u v : TableState) (a b c : Accounts) (step : TableStep s w u)
+        (adds : AccountsStep s w step.between step.does a b) (run : AccountsRun rest u v b c) → IsTableKept w → w.task s ≡ Resting
+        → GivesFinals (step.between.task s) → IsInHand s run
+        → (made : List (ℕ × ℕ)) × AreMadeFinal s (AccountsNext s rest w u v a b c step adds run) made × (length made ≡ (c.of s).ranges) }
 {}
 
 /// A statement ends without its reply only for a cause. Want of memory ends an insert before it has a row, a scan, and a vacuum that is at
@@ -156,10 +163,13 @@ pub fn statements_end()
 
 /// A summarise, also one that work took from the queue, ends, waits or lacks a page within so many steps, while no other session steps: for
 /// each range one for each block and ten, and for each page by which the map may grow three for each tuple and three more. The tuples are
-/// those that stand in the index and one for each range.
+/// those that stand in the index and one for each range. So does a vacuum that is before one of its indexes: within the sum, over this index
+/// and those behind it, of one step to begin there and what its whole ranges and the growth of the map take.
 pub fn summarises_end()
     ensures summarises { (s n at range tuples : ℕ) (w : TableState) (job : Job) (phase : Phase) → IsTableKept w → w.task s ≡ Maintains job at range phase
         → IsSummarise job → HasAtMostTuples w at tuples → StepsAlone s n w → n ≤ summarise_steps w job at range phase tuples }
+    ensures vacuums { (s n at : ℕ) (tuples : ℕ → ℕ) (w : TableState) → IsTableKept w → w.task s ≡ Restarts at
+        → ((i : ℕ) → i < w.indexes → HasAtMostTuples w i (tuples i)) → StepsAlone s n w → n ≤ vacuum_steps w at tuples }
 {}
 
 /// What a machine promises over the pages and page locks that it sees, the table takes up: a step of it, whatever it doesn't see,
@@ -206,12 +216,17 @@ pub fn ranges_are_exact()
         ↔ (IsTrue (w.index at).autosummarize × (0 < range_in w at b) × ((c j : ℕ) → range_in w at c ≡ range_in w at b → (b < c) ⊎ ((b ≡ c) × (k ≤ j)))) }
 {}
 
-/// No maintenance statement skips a range; and no vacuum skips a block of the heap, or an index page with tuples.
+/// No maintenance statement skips a range; and no vacuum skips a block of the heap, or an index page with tuples. It begins at the first of
+/// what it goes over, and so does a vacuum at each index.
 pub fn nothing_is_skipped()
     ensures ranges { (s : ℕ) (w v : TableState) (job : Job) (at range : ℕ) (old : Phase) → TableStep s w v → w.task s ≡ Maintains job at range old
         → AfterRange job at range (v.task s) }
-    ensures blocks { (s : ℕ) (w v : TableState) (extent next : ℕ) → TableStep s w v → w.task s ≡ Prunes extent next → AfterBlock extent next (v.task s) }
+    ensures blocks { (s : ℕ) (w v : TableState) (step : TableStep s w v) (extent next : ℕ) → w.task s ≡ Prunes extent next
+        → AfterBlock step.between extent next (v.task s) }
     ensures pages { (s : ℕ) (w v : TableState) (step : TableStep s w v) (at page : ℕ) → w.task s ≡ Sweeps at page → AfterPage step.between at page (v.task s) }
+    ensures begins { (s : ℕ) (w v : TableState) (step : TableStep s w v) → w.task s ≡ Resting → AtFirst step.between (v.task s) }
+    ensures restarts { (s : ℕ) (w v : TableState) (at : ℕ) → TableStep s w v → w.task s ≡ Restarts at
+        → (v.task s ≡ Restarts at) ⊎ AfterRestart w.blocks at (v.task s) }
 {}
 
 /// A run of a vacuum over two indexes, from a table that is kept, with any row that doesn't count: the row goes, the tuple that
