@@ -1,20 +1,18 @@
 //! What a line of a script says.
 
-ghost use Rattle.std.specs.Prelude.{◌≡◌, ◌≤◌, length, true, None, IfOk};
+ghost use Rattle.std.specs.Prelude.{◌≡◌, length, true, None, IfOk};
+ghost use Rattle.line_words.specs.LineParts.{words_left};
+ghost use Rattle.line_words.specs.Verbs.{answered};
 ghost use Rattle.query_words.specs.LineFits.{FitsLine, IsLineFor, is_line_in};
-ghost use Rattle.query_words.specs.LineParts.{words_left};
 ghost use Rattle.query_words.specs.Lines.{ReadsAs, ReadsOnce, line_in, line_of, line_judged};
 ghost use Rattle.query_words.specs.Parsed.{said_of};
 ghost use Rattle.query_words.specs.SmallSchemas.{IsSmallSchema};
 ghost use Rattle.query_words.specs.Syntax.{stop_of};
-ghost use Rattle.query_words.specs.Verbs.{answered};
 
-use crate::limits::MAX_LINE;
 use crate::order::read_order;
 use crate::syntax::{is_comment, stop_of};
-use crate::verb::{ANSWERED, Verb};
-use crate::word::{Rest, next_word};
 use block_model::{Name, Refusal, Schema};
+use line_words::{ANSWERED, MAX_LINE, Rest, Verb, next_word};
 use statements::Statement;
 use std::alloc::Global;
 use store_layout::Layout;

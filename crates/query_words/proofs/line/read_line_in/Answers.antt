@@ -2,7 +2,7 @@ use Rattle.std.proofs.Common.{length, subst, sym}
 use Rattle.block_model.specs.declared.schema.Schema.{Schema}
 use Rattle.query_words.specs.LineFits.{FitsLine}
 use Rattle.query_words.specs.SmallSchemas.{IsSmallSchema}
-use Rattle.query_words.specs.Words.{words_of}
+use Rattle.line_words.specs.Words.{words_of}
 use Rattle.query_words.proofs.FitLemmas.{KnowsValues, words_fit}
 use Rattle.query_words.proofs.SmallSchemaLemmas.{small_schema}
 use Rattle.query_words.proofs.line.read_line_in.Goals as goal
