@@ -8,16 +8,16 @@ use Rattle.std.proofs.Common.{inl, inr}
 use Rattle.block_model.specs.Names.{is_name, is_lower, is_more}
 use Rattle.block_model.specs.declared.schema.Schema.{Schema}
 use Rattle.value_text.specs.ValueOf.{ValueOfIsDenoted}
+use Rattle.line_words.specs.declared.verb.Verb.{Verb}
+use Rattle.line_words.specs.Words.{PlacedWord, placed, words_of, texts_of, place_or}
+use Rattle.line_words.specs.declared.limits.TheConstants.{MAX_LINE}
 use Rattle.query_words.specs.declared.syntax.Expected.TheVariants as expected
-use Rattle.query_words.specs.declared.verb.Verb.{Verb}
 use Rattle.query_words.specs.declared.line.Line.{Line}
 use Rattle.query_words.specs.declared.line.LineFault.{LineFault}
 use Rattle.query_words.specs.declared.line.LineFault.TheVariants as faults
-use Rattle.query_words.specs.Words.{PlacedWord, placed, words_of, texts_of, place_or}
 use Rattle.query_words.specs.Grammar.{SaidOrder, SaidLine, Nothing, Say, words_of_order, words_of_said, is_comment, IsSilent, IsSaid, order_texts, said_texts}
 use Rattle.query_words.specs.Syntax.{stop_from, stop_of}
 use Rattle.query_words.specs.Parsed.{order_of_words, said_of}
-use Rattle.query_words.specs.declared.limits.TheConstants.{MAX_LINE}
 use Rattle.query_words.specs.Lines.{line_said, line_judged, line_of_words, line_within, line_in}
 use Rattle.query_words.specs.LineLaws.{Spells, BeginsLine, LineStopsAt, HasStatements, GrammarIsRead, ReadIsGrammar, FaultIsStop}
 use Rattle.query_words.proofs.Accepting.{accepts, passed, stops_nowhere, accepted_stops_nowhere}

@@ -14,27 +14,27 @@ use Rattle.block_model.specs.declared.limits.TheConstants.{MAX_CONDITIONS}
 use Rattle.value_text.specs.ValueOf.{value_of, ValueOfIsDenoted}
 use Rattle.statements.specs.declared.statement.Statement.{Statement}
 use Rattle.statements.specs.declared.statement.Statement.TheVariants as statements
+use Rattle.line_words.specs.declared.verb.Verb.{Verb}
+use Rattle.line_words.specs.declared.verb.Verb.TheVariants as verbs
+use Rattle.line_words.specs.Words.{PlacedWord, texts_of}
+use Rattle.line_words.specs.ValueWords.{is_value_word}
+use Rattle.line_words.specs.Operators.{op_of}
+use Rattle.line_words.specs.Blocks.{is_block, block_of}
+use Rattle.line_words.specs.Verbs.{verb_of}
 use Rattle.query_words.specs.declared.line.Line.{Line}
 use Rattle.query_words.specs.declared.line.Line.TheVariants as lines
 use Rattle.query_words.specs.declared.line.Order.{Order}
 use Rattle.query_words.specs.declared.line.Order.TheVariants as orders
-use Rattle.query_words.specs.declared.verb.Verb.{Verb}
-use Rattle.query_words.specs.declared.verb.Verb.TheVariants as verbs
 use Rattle.query_words.specs.declared.line.LineFault.{LineFault}
 use Rattle.query_words.specs.declared.line.LineFault.TheVariants as faults
 use Rattle.query_words.specs.declared.syntax.Expected.{Expected}
 use Rattle.query_words.specs.declared.syntax.Expected.TheVariants as expected
-use Rattle.query_words.specs.Words.{PlacedWord, texts_of}
-use Rattle.query_words.specs.ValueWords.{is_value_word}
-use Rattle.query_words.specs.Operators.{op_of}
-use Rattle.query_words.specs.Blocks.{is_block, block_of}
-use Rattle.query_words.specs.Verbs.{verb_of}
-use Rattle.query_words.specs.Grammar.{SaidCond, SaidStatement, SaidOrder, Whole, Start, Nothing, Say, IsSaidCond, cond_texts, words_of_cond, is_comment}
+use Rattle.query_words.specs.Grammar.{SaidCond, SaidStatement, SaidOrder, Whole, Start, Nothing, Say, IsSaidCond, cond_texts, is_comment}
 use Rattle.query_words.specs.Syntax.{where_so, after_verb, after_started, after_word, stop_behind, stop_from, stop_of, stop_after, behind_conds, BeginsNoCond}
 use Rattle.query_words.specs.Parsed.{conds_from, insert_of_words, summarize_of_words, desummarize_of_words, statement_behind, statement_of_words, order_behind, order_of_words, said_of, BeginsWith}
 use Rattle.query_words.specs.Statements.{◌>>=◌, made_of, table_said, value_said, cond_said, conds_said, values_said, insert_said, index_said, statement_judged, order_judged}
 use Rattle.query_words.specs.Lines.{ReadsAs, ReadsOnce, line_judged}
-use Rattle.query_words.proofs.Accepting.{accepts_behind, accepts, passes, stops_nowhere, accepted_stops_nowhere}
+use Rattle.query_words.proofs.Accepting.{accepts_behind, accepts, stops_nowhere, accepted_stops_nowhere}
 use Rattle.query_words.proofs.Completeness.{cond_accepts}
 use Rattle.query_words.proofs.FitLemmas.{came, found_there}
 use Rattle.query_words.proofs.ReadLemmas.{IsResolved, insert_resolved}

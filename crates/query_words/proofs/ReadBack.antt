@@ -24,10 +24,10 @@ use Rattle.value_text.specs.CanonicalTexts.{canonical_text}
 use Rattle.block_model.specs.ValuesOfKind.{IsValueOf}
 use Rattle.value_text.specs.Laws.{CanonicalTextDenotes}
 use Rattle.value_text.specs.ValueOf.{value_of, ValueOfIsDenoted}
+use Rattle.line_words.specs.Words.{PlacedWord}
+use Rattle.line_words.specs.Operators.{op_text, op_of}
 use Rattle.query_words.specs.declared.line.LineFault.{LineFault}
 use Rattle.query_words.specs.declared.line.LineFault.TheVariants as faults
-use Rattle.query_words.specs.Words.{PlacedWord}
-use Rattle.query_words.specs.Operators.{op_text, op_of}
 use Rattle.statements.specs.OperatorKinds.{takes_operator}
 use Rattle.query_words.specs.Grammar.{SaidCond, Compared, Null, NotNull, words_of_cond, words_of_more}
 use Rattle.query_words.specs.Grammar.{IsNameWord, IsValueWord, IsSaidCond, AreSaidConds, cond_texts}

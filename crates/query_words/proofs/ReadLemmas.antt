@@ -1,5 +1,5 @@
 -- What words say of declared tables is told without a fault of syntax, and never for want of memory.
-use Rattle.std.proofs.Common.{◌≡◌, ℕ, ◌++◌, List, [], ◌∷◌, Option, None, Some, Result, Ok, Err}
+use Rattle.std.proofs.Common.{ℕ, ◌++◌, List, [], ◌∷◌, Option, None, Some, Result, Ok, Err}
 use Rattle.std.specs.Option.{option_map}
 use Rattle.block_model.specs.declared.value.Value.{Value}
 use Rattle.block_model.specs.declared.value.Value.TheVariants as values
@@ -11,13 +11,13 @@ use Rattle.block_model.specs.declared.schema.Column.{Column}
 use Rattle.value_text.specs.ValueOf.{value_of}
 use Rattle.statements.specs.declared.statement.Statement.{Statement}
 use Rattle.statements.specs.declared.statement.Statement.TheVariants as statements
+use Rattle.line_words.specs.Words.{PlacedWord}
+use Rattle.line_words.specs.Blocks.{block_of}
 use Rattle.query_words.specs.declared.line.Line.TheVariants as lines
 use Rattle.query_words.specs.declared.line.Order.TheVariants as orders
 use Rattle.query_words.specs.declared.line.LineFault.{LineFault}
 use Rattle.query_words.specs.declared.line.LineFault.TheVariants as faults
-use Rattle.query_words.specs.Words.{PlacedWord}
 use Rattle.query_words.specs.Grammar.{SaidCond, Compared, Null, NotNull, SaidStatement, Begin, Commit, Rollback, Insert, Select, Delete, Explain, Summarize, Desummarize, Vacuum, Work, SaidOrder, Whole, Start, Step, Finish, SaidLine, Nothing, Say}
-use Rattle.query_words.specs.Blocks.{block_of}
 use Rattle.query_words.specs.Lines.{line_said}
 use Rattle.query_words.specs.Statements.{◌>>=◌, or_fault, table_from, table_said, column_from, column_said, op_in, op_said, value_said, cond_on, test_said, cond_said, conds_said, values_said, query_said, insert_said, index_from, index_said, statement_said, order_said}
 

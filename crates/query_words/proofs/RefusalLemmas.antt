@@ -21,14 +21,14 @@ use Rattle.value_text.specs.ValueOf.{value_of, ValueOfIsDenoted}
 use Rattle.statements.specs.OperatorKinds.{takes_operator}
 use Rattle.statements.specs.declared.statement.Statement.{Statement}
 use Rattle.statements.specs.declared.statement.Statement.TheVariants as statements
+use Rattle.line_words.specs.Words.{PlacedWord}
+use Rattle.line_words.specs.Operators.{op_of}
+use Rattle.line_words.specs.Blocks.{block_of}
 use Rattle.query_words.specs.declared.line.LineFault.{LineFault}
 use Rattle.query_words.specs.declared.line.LineFault.TheVariants as faults
-use Rattle.query_words.specs.Words.{PlacedWord}
-use Rattle.query_words.specs.Operators.{op_of}
-use Rattle.query_words.specs.Blocks.{block_of}
 use Rattle.query_words.specs.Grammar.{SaidCond, Compared, Null, NotNull, SaidStatement, Begin, Commit, Rollback, Insert, Select, Delete, Explain, Summarize, Desummarize, Vacuum, Work}
-use Rattle.query_words.specs.Statements.{◌>>=◌, or_fault, table_from, table_said, index_from, index_said, column_from, column_said, op_in, op_said, value_said, cond_on, cond_said, conds_said, values_said, query_said, insert_said, statement_said}
-use Rattle.query_words.specs.RefusalPlaces.{IsFirstNamed, LacksTable, LacksIndex, LacksColumn, HasColumn, IsForeignOperator, IsForeignValue, IsCondOut, AreCondsOut, AreValuesOut, table_word, index_word, IsOut, places_of, places_behind, Ascends, IsLeast, IsAnswered, PlacesOfRefusals}
+use Rattle.query_words.specs.Statements.{◌>>=◌, or_fault, table_from, index_from, column_from, op_in, op_said, value_said, cond_on, conds_said, values_said, statement_said}
+use Rattle.query_words.specs.RefusalPlaces.{IsFirstNamed, LacksTable, LacksIndex, LacksColumn, HasColumn, IsCondOut, AreCondsOut, AreValuesOut, table_word, index_word, IsOut, places_of, places_behind, Ascends, IsAnswered, PlacesOfRefusals}
 
 told_step : (a b : List ℕ) (t : Bool) → bytes_eq a b ≡ t → (bytes_eq a b ≡ true) × (a ≡ b) ⊎ (bytes_eq a b ≡ false) × ¬ (a ≡ b)
 told_step a b true e = inl (e, (bytes_eq-Decides a b).0 e)

@@ -1,13 +1,7 @@
-pub mod Words
-pub mod Written
-pub mod Operators
-pub mod Verbs
-pub mod Blocks
-pub mod ValueWords
 pub mod Grammar
 pub mod Syntax
 pub mod Parsed
-pub mod LineParts
+pub mod CondParts
 pub mod SmallSchemas
 pub mod Statements
 pub mod Lines

@@ -6,13 +6,13 @@ use Rattle.block_model.specs.declared.schema.Index.{Index}
 use Rattle.statements.specs.StatementFits.{IsStatementFor}
 use Rattle.statements.specs.declared.statement.Statement.{Statement}
 use Rattle.statements.specs.declared.statement.Statement.TheVariants as statements
+use Rattle.line_words.specs.declared.verb.Verb.{Verb}
+use Rattle.line_words.specs.declared.verb.Verb.TheVariants as verbs
+use Rattle.line_words.specs.Verbs.{answered, has_verb, statement_verb}
 use Rattle.query_words.specs.declared.line.Line.{Line}
 use Rattle.query_words.specs.declared.line.Line.TheVariants as lines
 use Rattle.query_words.specs.declared.line.Order.{Order}
 use Rattle.query_words.specs.declared.line.Order.TheVariants as orders
-use Rattle.query_words.specs.declared.verb.Verb.{Verb}
-use Rattle.query_words.specs.declared.verb.Verb.TheVariants as verbs
-use Rattle.query_words.specs.Verbs.{answered, has_verb}
 use Rattle.std.proofs.lemmas.Bool.{false≢true}
 
 -- a table of that number is declared
@@ -41,19 +41,6 @@ FitsOrder schema orders.Finish = Unit {0}
 abbrev pub FitsLine : Schema → Line → Type 0
 FitsLine schema lines.Nothing = Unit {0}
 FitsLine schema (lines.Say session order) = FitsOrder schema order
-
-abbrev pub statement_verb : Statement → Verb
-statement_verb statements.Begin = verbs.Begin
-statement_verb statements.Commit = verbs.Commit
-statement_verb statements.Rollback = verbs.Rollback
-statement_verb (statements.Insert table values) = verbs.Insert
-statement_verb (statements.Select query) = verbs.Select
-statement_verb (statements.Delete query) = verbs.Delete
-statement_verb (statements.Explain query) = verbs.Explain
-statement_verb (statements.Summarize index block) = verbs.Summarize
-statement_verb (statements.Desummarize index block) = verbs.Desummarize
-statement_verb (statements.Vacuum table) = verbs.Vacuum
-statement_verb statements.Work = verbs.Work
 
 -- its verbs are the language's
 abbrev pub is_order_in : List Verb → Order → Bool

@@ -1,23 +1,20 @@
 -- what read and printed lines are to the grammar
-use Rattle.std.specs.Prelude.{◌≡◌, ℕ, ◌+◌, ◌<◌, ◌≤◌, true, List, ◌++◌, ◌^◌, length, take, All, Some, IfSome, Ok, Err}
+use Rattle.std.specs.Prelude.{◌≡◌, ℕ, ◌+◌, ◌<◌, ◌≤◌, List, ◌++◌, ◌^◌, length, take, All, Some, IfSome, Ok, Err}
 use Rattle.block_model.specs.declared.schema.Schema.{Schema}
-use Rattle.block_model.specs.declared.schema.Sizes.{Sizes}
 use Rattle.block_model.specs.declared.schema.Table.{Table}
-use Rattle.store_layout.specs.FirstBrokenRule.{KeepsLimits}
 use Rattle.statements.specs.declared.statement.Statement.{Statement}
 use Rattle.statements.specs.declared.statement.Statement.TheVariants as statements
+use Rattle.line_words.specs.declared.verb.Verb.{Verb}
+use Rattle.line_words.specs.Words.{PlacedWord, words_of, texts_of, place_of}
+use Rattle.line_words.specs.declared.limits.TheConstants.{MAX_LINE}
 use Rattle.query_words.specs.declared.line.Line.{Line}
 use Rattle.query_words.specs.declared.line.Line.TheVariants as lines
 use Rattle.query_words.specs.declared.line.Order.TheVariants as orders
 use Rattle.query_words.specs.declared.line.LineFault.TheVariants as faults
-use Rattle.query_words.specs.declared.verb.Verb.{Verb}
-use Rattle.query_words.specs.Words.{PlacedWord, words_of, texts_of, place_of}
 use Rattle.block_model.specs.declared.limits.TheConstants.{MAX_CONDITIONS}
 use Rattle.query_words.specs.Grammar.{SaidStatement, SaidLine, IsNameWord, IsSaidStatement, IsSaid, words_of_said, said_texts}
 use Rattle.query_words.specs.Parsed.{said_of}
-use Rattle.query_words.specs.declared.limits.TheConstants.{MAX_LINE}
 use Rattle.query_words.specs.Lines.{line_in, line_said}
-use Rattle.query_words.specs.LineFits.{FitsLine, is_line_in}
 use Rattle.query_words.specs.LineTexts.{line_text}
 
 -- the words of the line are those of something that is said in the language

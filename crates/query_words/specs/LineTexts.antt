@@ -14,11 +14,11 @@ use Rattle.block_model.specs.declared.schema.Index.{Index}
 use Rattle.value_text.specs.CanonicalTexts.{canonical_text}
 use Rattle.statements.specs.declared.statement.Statement.{Statement}
 use Rattle.statements.specs.declared.statement.Statement.TheVariants as statements
+use Rattle.line_words.specs.Operators.{op_text}
 use Rattle.query_words.specs.declared.line.Line.{Line}
 use Rattle.query_words.specs.declared.line.Line.TheVariants as lines
 use Rattle.query_words.specs.declared.line.Order.{Order}
 use Rattle.query_words.specs.declared.line.Order.TheVariants as orders
-use Rattle.query_words.specs.Operators.{op_text}
 use Rattle.query_words.specs.Grammar.{SaidCond, Compared, Null, NotNull, SaidStatement, Begin, Commit, Rollback, Insert, Select, Delete, Explain, Summarize, Desummarize, Vacuum, Work, SaidOrder, Whole, Start, Step, Finish, SaidLine, Nothing, Say, words_of_said}
 
 -- the name of the table of that number

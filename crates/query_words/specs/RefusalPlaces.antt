@@ -11,14 +11,14 @@ use Rattle.block_model.specs.declared.schema.Index.{Index}
 use Rattle.value_text.specs.ValueTexts.{Denotes}
 use Rattle.statements.specs.OperatorKinds.{takes_operator}
 use Rattle.statements.specs.declared.statement.Statement.{Statement}
+use Rattle.line_words.specs.Words.{PlacedWord, words_of}
+use Rattle.line_words.specs.Operators.{op_of}
+use Rattle.line_words.specs.declared.verb.Verb.{Verb}
 use Rattle.query_words.specs.declared.line.LineFault.{LineFault}
 use Rattle.query_words.specs.declared.line.LineFault.TheVariants as faults
-use Rattle.query_words.specs.Words.{PlacedWord, words_of}
 use Rattle.query_words.specs.Parsed.{conds_from, said_of}
-use Rattle.query_words.specs.Operators.{op_of}
-use Rattle.query_words.specs.Grammar.{SaidCond, Compared, Null, NotNull, SaidStatement, Begin, Commit, Rollback, Insert, Select, Delete, Explain, Summarize, Desummarize, Vacuum, Work, SaidOrder, Whole, Start, Say}
+use Rattle.query_words.specs.Grammar.{SaidCond, Compared, Null, NotNull, SaidStatement, Insert, Select, Delete, Explain, Summarize, Desummarize, Vacuum, SaidOrder, Whole, Start, Say}
 use Rattle.query_words.specs.Statements.{statement_said}
-use Rattle.query_words.specs.declared.verb.Verb.{Verb}
 
 -- the first of some things that has the name
 abbrev pub IsFirstNamed : {A : Type 0} → (A → List ℕ) → List ℕ → List A → A → Type 0

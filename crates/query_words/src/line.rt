@@ -1,20 +1,18 @@
 //! What a line of a script says.
 
-ghost use Rattle.std.specs.Prelude.{◌≡◌, ◌≤◌, length, true, None, IfOk};
+ghost use Rattle.std.specs.Prelude.{◌≡◌, length, true, None, IfOk, if◌then◌else◌};
+ghost use Rattle.line_words.specs.LineParts.{words_left};
+ghost use Rattle.line_words.specs.Verbs.{answered};
 ghost use Rattle.query_words.specs.LineFits.{FitsLine, IsLineFor, is_line_in};
-ghost use Rattle.query_words.specs.LineParts.{words_left};
 ghost use Rattle.query_words.specs.Lines.{ReadsAs, ReadsOnce, line_in, line_of, line_judged};
 ghost use Rattle.query_words.specs.Parsed.{said_of};
 ghost use Rattle.query_words.specs.SmallSchemas.{IsSmallSchema};
 ghost use Rattle.query_words.specs.Syntax.{stop_of};
-ghost use Rattle.query_words.specs.Verbs.{answered};
 
-use crate::limits::MAX_LINE;
 use crate::order::read_order;
 use crate::syntax::{is_comment, stop_of};
-use crate::verb::{ANSWERED, Verb};
-use crate::word::{Rest, next_word};
 use block_model::{Name, Refusal, Schema};
+use line_words::{ANSWERED, MAX_LINE, Rest, Verb, next_word};
 use statements::Statement;
 use std::alloc::Global;
 use store_layout::Layout;
@@ -103,12 +101,21 @@ pub fn read_line_in(
         return Err(LineFault::Syntax { at: MAX_LINE });
     }
     let rest = Rest { bytes: line, at: 0 };
-    match read_words(alloc, language, rest, layout.schema(), line.len()) {
-        Ok(read) => Ok(read),
-        Err(found) => match stop_of(language, rest, line.len()) {
-            Some(at) => Err(LineFault::Syntax { at }),
-            None => Err(found),
-        },
+    let read = read_words(alloc, language, rest, layout.schema(), line.len());
+    match stop_if(read.is_err(), language, rest, line.len()) {
+        Some(at) => Err(LineFault::Syntax { at }),
+        None => read,
+    }
+}
+
+/// Where the words stop being those of a line, if that is asked: the words of a line that was read aren't looked at again.
+fn stop_if(asked: bool, language: &[Verb], rest: Rest<'_>, line_len: usize) -> Option<usize>
+    ensures { result ≡ (if asked then stop_of language.now line_len (words_left rest.entry) else None) }
+{
+    if asked {
+        stop_of(language, rest, line_len)
+    } else {
+        None
     }
 }
 

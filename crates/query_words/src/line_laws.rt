@@ -6,8 +6,8 @@ ghost use Rattle.query_words.specs.LineFits.{FitsLine, is_line_in};
 ghost use Rattle.query_words.specs.LineLaws.{GrammarIsRead, ReadIsGrammar, FaultIsStop, HasNames, IsNamedTable, IsNamedLine, HasItsType, IsOfItsType, ReadsBack};
 
 use crate::line::{Line, Order};
-use crate::verb::Verb;
 use block_model::{Index, Schema, Table};
+use line_words::Verb;
 use statements::Statement;
 use store_layout::Layout;
 use value_text::{canonical_text_denotes, value_of_is_denoted};

@@ -1,9 +1,9 @@
 //! What the words of a maintenance statement mean where tables and indexes are declared.
 
-ghost use Rattle.std.specs.Prelude.{◌≡◌, ◌≤◌, ℕ, length, true, None, Some, Ok, Err, ◌∷◌, IfSome, IfOk};
+ghost use Rattle.std.specs.Prelude.{◌≡◌, ℕ, length, true, None, Some, Ok, Err, ◌∷◌, IfSome, IfOk};
 ghost use Rattle.block_model.specs.Names.{is_name};
-ghost use Rattle.query_words.specs.Blocks.{block_of};
-ghost use Rattle.query_words.specs.LineParts.{words_left, word_here};
+ghost use Rattle.line_words.specs.Blocks.{block_of};
+ghost use Rattle.line_words.specs.LineParts.{words_left, word_here};
 ghost use Rattle.query_words.specs.Lines.{ReadsOnce};
 ghost use Rattle.query_words.specs.Parsed.{summarize_of_words, desummarize_of_words, vacuum_of_words};
 ghost use Rattle.query_words.specs.SmallSchemas.{IsSmallSchema};
@@ -11,11 +11,10 @@ ghost use Rattle.query_words.specs.Statements.{index_from, index_said, statement
 ghost use Rattle.query_words.specs.Syntax.{stop_after};
 ghost use Rattle.query_words.specs.declared.syntax.Expected.TheVariants as expected;
 
-use crate::block::read_block;
 use crate::line::LineFault;
 use crate::statement::{read_end, read_table};
-use crate::word::{Rest, Word, is_word, next_word};
 use block_model::Schema;
+use line_words::{Rest, Word, is_word, next_word, read_block};
 use statements::Statement;
 
 /// An index, and perhaps a block.

@@ -1,7 +1,7 @@
 //! What the words behind a session's name mean where tables are declared.
 
 ghost use Rattle.std.specs.Prelude.{ℕ, Option, Result, Ok};
-ghost use Rattle.query_words.specs.LineParts.{words_left};
+ghost use Rattle.line_words.specs.LineParts.{words_left};
 ghost use Rattle.query_words.specs.Lines.{ReadsOnce};
 ghost use Rattle.query_words.specs.Parsed.{order_behind, order_of_words, insert_of_words, statement_of_words};
 ghost use Rattle.query_words.specs.SmallSchemas.{IsSmallSchema};
@@ -15,9 +15,8 @@ ghost use Rattle.statements.specs.declared.statement.Statement.{Statement as One
 
 use crate::line::{Line, LineFault, Order};
 use crate::statement::{read_end, read_row, read_statement};
-use crate::verb::{Verb, read_verb};
-use crate::word::{Rest, next_word};
 use block_model::{Name, Schema, Values};
+use line_words::{Rest, Verb, next_word, read_verb};
 use statements::Statement;
 use std::alloc::Global;
 

@@ -9,10 +9,9 @@ ghost use Rattle.query_words.specs.LineFits.{FitsLine};
 ghost use Rattle.query_words.specs.LineTexts.{line_text, spaced, table_name, index_name, columns_at, column_name, cond_of, conds_of, statement_of, order_of, test_of};
 
 use crate::line::{Line, Order};
-use crate::operator::op_text;
-use crate::verb::{Verb, statement_verb, verb_text};
 use block_model::{Column, Cond, NoMemory, Op, Query, Schema, Value};
 use itoa::Buffer;
+use line_words::{Verb, op_text, statement_verb, verb_text};
 use statements::Statement;
 use store_layout::Layout;
 use value_text::{append, write_value, write_values};

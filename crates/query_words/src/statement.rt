@@ -3,7 +3,7 @@
 ghost use Rattle.std.specs.Prelude.{◌≡◌, ◌≤◌, ℕ, length, true, None, Some, Ok, Err, [], MatchOption, MatchResult, IfSome, IfOk, IfErr};
 ghost use Rattle.block_model.specs.Names.{is_name};
 ghost use Rattle.block_model.specs.declared.limits.TheConstants.{MAX_COLUMNS};
-ghost use Rattle.query_words.specs.LineParts.{words_left, word_here};
+ghost use Rattle.line_words.specs.LineParts.{words_left, word_here};
 ghost use Rattle.query_words.specs.Lines.{ReadsOnce};
 ghost use Rattle.query_words.specs.Parsed.{insert_of_words, statement_behind};
 ghost use Rattle.query_words.specs.SmallSchemas.{IsSmallSchema};
@@ -15,9 +15,8 @@ ghost use Rattle.statements.specs.declared.statement.Statement.TheVariants as as
 use crate::line::LineFault;
 use crate::maintenance::{read_desummarize, read_summarize, read_vacuum};
 use crate::query::{read_conds, read_key};
-use crate::verb::Verb;
-use crate::word::{Rest, Word, is_word, next_word};
 use block_model::{Column, Query, Schema, Values};
+use line_words::{Rest, Verb, Word, is_word, next_word};
 use statements::Statement;
 use std::alloc::Global;
 

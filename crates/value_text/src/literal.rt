@@ -2,7 +2,7 @@
 
 ghost use Rattle.std.specs.Prelude.{◌≡◌};
 ghost use Rattle.value_text.specs.ValueTexts.{IsTextOf, meaning};
-ghost use Rattle.value_text.specs.Parts.{number_text, bound_text, net_text, value_text};
+ghost use Rattle.value_text.specs.Parts.{value_text};
 ghost use Rattle.text_reading.specs.Reading.{Gives};
 ghost use Rattle.value_text.specs.Reading.{bounds_at, range_at, kind_at, text_at, whole_at};
 

@@ -1,6 +1,6 @@
 //! The texts of inet.
 
-ghost use Rattle.std.specs.Prelude.{◌≡◌, ◌≤◌, ◌+◌, ◌*◌};
+ghost use Rattle.std.specs.Prelude.{◌≡◌, ◌+◌, ◌*◌};
 ghost use Rattle.value_text.specs.NetTexts.{IsNet, network_of};
 ghost use Rattle.value_text.specs.Parts.{net_text};
 ghost use Rattle.text_reading.specs.Reading.{Gives};

@@ -1,12 +1,9 @@
 //! The texts of int8.
 
-ghost use Rattle.std.specs.Prelude.{◌≡◌, ◌+◌, ◌^◌, ◌≤◌, min, length};
-ghost use Rattle.std.specs.List.{prefix_len};
-ghost use Rattle.block_model.specs.Names.{is_digit};
-ghost use Rattle.text_reading.specs.Digits.{digits_from};
+ghost use Rattle.std.specs.Prelude.{◌≡◌, ◌+◌, ◌^◌, ◌≤◌, length};
 ghost use Rattle.value_text.specs.IntTexts.{number_bytes, int8_of};
 ghost use Rattle.value_text.specs.Parts.{number_text};
-ghost use Rattle.text_reading.specs.Reading.{Gives, digits_at};
+ghost use Rattle.text_reading.specs.Reading.{Gives};
 ghost use Rattle.value_text.specs.Reading.{signed_at};
 
 use text_reading::{Numeral, Reading, written_number};

@@ -1,7 +1,7 @@
 //! The texts of int8range.
 
-ghost use Rattle.std.specs.Prelude.{◌≡◌, ◌+◌, length, Some, None};
-ghost use Rattle.value_text.specs.RangeTexts.{bound_of, written_range, upper_place, growth_place, lower_place};
+ghost use Rattle.std.specs.Prelude.{◌≡◌, ◌+◌, Some, None};
+ghost use Rattle.value_text.specs.RangeTexts.{bound_of, written_range, upper_place, growth_place};
 ghost use Rattle.value_text.specs.Parts.{side_text, bound_text};
 ghost use Rattle.text_reading.specs.Reading.{Gives};
 ghost use Rattle.value_text.specs.Reading.{bracket_at, side_at, lower_at, upper_at};

@@ -1,7 +1,7 @@
 use Rattle.std.proofs.Common.{ℕ, List, sym, ◌∙◌, subst}
+use Rattle.line_words.specs.LineParts.{words_left, word_here}
 use Rattle.query_words.specs.declared.line.Line.TheVariants as lines
 use Rattle.query_words.specs.declared.syntax.Expected.TheVariants as expected
-use Rattle.query_words.specs.LineParts.{words_left, word_here}
 use Rattle.query_words.specs.Lines.{ReadsOnce}
 use Rattle.query_words.specs.Parsed.{order_of_words}
 use Rattle.query_words.specs.Statements.{made_of, order_judged}

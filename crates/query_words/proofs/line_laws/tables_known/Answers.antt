@@ -1,9 +1,7 @@
-use Rattle.std.proofs.Common.{subst, sym, arith, rules, take, ap}
-use Rattle.std.specs.List.{slice_index_or}
+use Rattle.std.proofs.Common.{subst, rules}
 use Rattle.std.specs.Prelude.{All}
 use Rattle.std.proofs.lemmas.List.{take_all}
 use Rattle.std.proofs.lemmas.List.Elements.{All-more}
-use Rattle.block_model.specs.declared.schema.Table.{Table}
 use Rattle.query_words.specs.LineLaws.{IsNamedTable}
 use Rattle.query_words.proofs.line_laws.tables_known.Goals as goal
 

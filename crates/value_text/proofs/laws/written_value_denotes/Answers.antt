@@ -1,4 +1,3 @@
-use Rattle.value_text.specs.CanonicalTexts.{canonical_text}
 use Rattle.value_text.proofs.Canonical.{canonical_denotes}
 use Rattle.value_text.proofs.laws.written_value_denotes.Goals as goal
 

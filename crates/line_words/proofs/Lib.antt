@@ -1,0 +1,3 @@
+pub mod PlacedWords
+pub mod ValueLemmas
+pub mod CappedNumbers
