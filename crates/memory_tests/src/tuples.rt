@@ -1,0 +1,93 @@
+//! Each call of a range tuple but `new`, with memory and without.
+
+ghost use Rattle.std.specs.Prelude.{◌≡◌};
+ghost use Rattle.memory_tests.specs.FiveColumns.{five_parts};
+ghost use Rattle.range_tuple.specs.Tuples.{parts_of};
+
+use crate::all_memory::{AllMemory, Outcome};
+use crate::five_columns::{add_nulls, add_values, placeholder};
+use block_model::{Cond, Net, NoMemory, Op, Span8, Value};
+use range_tuple::{RangeTuple, ScanKeys};
+
+/// The most bytes of a tuple of the index: 5, and 3 for each column beside 16, 2306, 18, 7 and 2048.
+const ROOM: usize = 4415;
+
+/// What the calls of a tuple answer.
+#[derive(Clone, Copy, PartialEq, Eq)]
+struct Answers {
+    changes: [bool; 5],
+    keeps: [bool; 2],
+    size: usize,
+    bytes: [u8; ROOM],
+    is_read: bool,
+    is_one_refused: bool,
+    range: u32,
+    is_placeholder: bool,
+}
+
+/// Starts two tuples of other ranges, adds rows to each, unites and settles the first, asks and writes it, and reads its bytes
+/// into the second: all of them, and one alone. Copies the first at the end. None where tuples have more bytes than the room.
+fn call_each(tuple: &mut RangeTuple, other: &mut RangeTuple, net: Net) -> Option<Answers>
+    requires tuple { parts_of tuple.old.columns ≡ five_parts }
+    requires other { parts_of other.old.columns ≡ five_parts }
+{
+    if tuple.greatest_size() > ROOM {
+        return None;
+    }
+    let mut bytes = [0; ROOM];
+    tuple.restart(7);
+    other.restart(8);
+    let changes = [
+        add_values(tuple, 30, Span8::empty(), net),
+        add_values(tuple, 10, Span8::empty(), net),
+        add_values(other, 20, Span8::empty(), net),
+        add_nulls(other),
+        tuple.unite(other),
+    ];
+    tuple.settle();
+    let conds = [Cond {
+        column: 0,
+        op: Op::Gt,
+        key: Value::Int(30),
+    }];
+    let keeps = [
+        tuple.keeps(&conds),
+        tuple.keeps_by(&ScanKeys::new(&conds[..0])),
+    ];
+    let size = tuple.encode(&mut bytes);
+    let is_read = other.decode(&bytes[..size]).is_ok();
+    let is_one_refused = other.decode(&bytes[..1]).is_err();
+    other.restart(9);
+    other.copy_from(tuple);
+    Some(Answers {
+        changes,
+        keeps,
+        size,
+        bytes,
+        is_read,
+        is_one_refused,
+        range: other.range(),
+        is_placeholder: other.is_placeholder(),
+    })
+}
+
+#[test]
+fn range_tuples_take_no_memory(rt: HostRuntime) -> Result<(), NoMemory> {
+    let alloc = rt.alloc();
+    let net = Net::v4(10 << 24 | 1, 32).expect(&rt, "an address");
+    let (mut one, mut two) = (placeholder(&rt, alloc)?, placeholder(&rt, alloc)?);
+    let (mut three, mut four) = (placeholder(&rt, alloc)?, placeholder(&rt, alloc)?);
+    let (mut five, mut six) = (placeholder(&rt, alloc)?, placeholder(&rt, alloc)?);
+    let wanted = call_each(&mut one, &mut two, net);
+    let mut memory = AllMemory::take(alloc)?;
+    let was_left = memory.has_room(1);
+    let without = call_each(&mut three, &mut four, net);
+    let given_back = memory.give_back();
+    let again = call_each(&mut five, &mut six, net);
+    let are_same = wanted.is_some() && without == wanted && again == wanted;
+    assert_eq!(rt;
+        memory.outcome(was_left, are_same, given_back),
+        Outcome::NoMemoryIsTaken
+    );
+    Ok(())
+}
