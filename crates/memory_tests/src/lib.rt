@@ -1,6 +1,6 @@
 //! Tests that no call of a class but `empty`, and none of a range tuple but `new`, takes memory: with none left to take each
 //! answers what it answers else, and room that is given back before them is all there behind them. Over the public calls of
-//! the classes and of range_tuple. Nothing stands on it.
+//! the classes and of range_tuple. `rt try` can't run them: it has an allocator of its own. Nothing stands on it.
 #![tactic(auto)]
 
 #[cfg(test)]
