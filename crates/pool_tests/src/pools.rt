@@ -90,6 +90,14 @@ fn clean(pool: &mut Pool, disk: &mut MemoryDisk, durable: u64) -> Result<bool, D
     pool.clean_one(disk, 0, durable)
 }
 
+/// The next dirty page of such a pool.
+fn next_dirty(pool: &mut Pool, from: u64) -> Option<u64>
+    requires { LieWithin pool.old 0 32768 }
+    ensures { LieWithin pool.new 0 32768 }
+{
+    pool.next_dirty(from)
+}
+
 /// Cleans that page of such a pool.
 fn clean_page(
     pool: &mut Pool,
@@ -114,15 +122,15 @@ fn a_checkpoint_writes_dirty_pages_in_order(rt: HostRuntime) {
     assert!(rt; set(&mut pool, 1, 11, 9));
     assert!(rt; clean_page(&mut pool, &mut disk, 2, 9) == Ok(false));
     assert!(rt; clean_page(&mut pool, &mut disk, 1, 8) == Ok(false));
-    assert!(rt; pool.next_dirty(0) == Some(1));
+    assert!(rt; next_dirty(&mut pool, 0) == Some(1));
     assert!(rt; clean_page(&mut pool, &mut disk, 1, 9) == Ok(true));
     assert!(rt; clean_page(&mut pool, &mut disk, 1, 9) == Ok(false));
-    assert!(rt; pool.next_dirty(2) == Some(3));
+    assert!(rt; next_dirty(&mut pool, 2) == Some(3));
     assert!(rt; set(&mut pool, 1, 12, 10));
-    assert!(rt; pool.next_dirty(1) == Some(1));
+    assert!(rt; next_dirty(&mut pool, 1) == Some(1));
     assert!(rt; clean_page(&mut pool, &mut disk, 3, 9) == Ok(true));
-    assert!(rt; pool.next_dirty(2) == None);
-    assert!(rt; pool.next_dirty(0) == Some(1));
+    assert!(rt; next_dirty(&mut pool, 2) == None);
+    assert!(rt; next_dirty(&mut pool, 0) == Some(1));
 }
 
 #[test]
@@ -134,9 +142,9 @@ fn dirty_pages_are_written_once_their_log_is_durable(rt: HostRuntime) {
     assert!(rt; clean(&mut pool, &mut disk, 4) == Ok(false));
     assert!(rt; clean(&mut pool, &mut disk, 5) == Err(DiskFault));
     let Ok(()) = disk.room(1, 8192) else { return };
-    assert!(rt; pool.next_dirty(2) == Some(3));
+    assert!(rt; next_dirty(&mut pool, 2) == Some(3));
     assert!(rt; clean(&mut pool, &mut disk, 5) == Ok(true));
-    assert!(rt; pool.next_dirty(2) == None);
+    assert!(rt; next_dirty(&mut pool, 2) == None);
     assert!(rt; clean(&mut pool, &mut disk, 5) == Ok(false));
-    assert!(rt; pool.next_dirty(0) == Some(1));
+    assert!(rt; next_dirty(&mut pool, 0) == Some(1));
 }
