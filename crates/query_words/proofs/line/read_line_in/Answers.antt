@@ -12,8 +12,8 @@ use Rattle.query_words.proofs.FoundLines.{once_reads, stop_reads, once_fits}
 use Rattle.query_words.proofs.SmallSchemaLemmas.{small_schema}
 use Rattle.query_words.proofs.line.read_line_in.Goals as goal
 
-pub read_words-requires : goal.read_words-requires
-read_words-requires c =
+pub read_words-read-requires : goal.read_words-read-requires
+read_words-read-requires c =
     subst (λ (s : Schema). IsSmallSchema s) (sym c.schema.ensures) (small_schema c.args.layout.now.schema c.args.layout.now.sizes c.known.ensures.limits)
 
 pub returns-in-Some-clause-reads : goal.returns-in-Some-clause-reads
@@ -22,23 +22,23 @@ returns-in-Some-clause-reads c =
 
 pub returns-in-None-clause-reads : goal.returns-in-None-clause-reads
 returns-in-None-clause-reads c =
-    once_reads c.args.language.now c.args.layout.now.schema c.args.line.now c.read_words.result (omega (arith, c.if-line-gt-MAX_LINE.false))
+    once_reads c.args.language.now c.args.layout.now.schema c.args.line.now c.read_words-read.result (omega (arith, c.if-line-gt-MAX_LINE.false))
     (subst
     (λ (s : Schema).
-    ReadsOnce c.read_words.result (stop_of c.args.language.now (length c.args.line.now) (words_of c.args.line.now))
+    ReadsOnce c.read_words-read.result (stop_of c.args.language.now (length c.args.line.now) (words_of c.args.line.now))
     (line_judged s (length c.args.line.now) None (said_of c.args.language.now (words_of c.args.line.now))))
-    c.schema.ensures c.read_words.ensures)
+    c.schema.ensures c.read_words-read.ensures)
     (ap (λ (asked : Bool). cond asked (stop_of c.args.language.now (length c.args.line.now) (words_of c.args.line.now)) None) (sym c.is_err.ensures.value) ∙ sym c.in-None.ensures)
 
 pub returns-in-None-clause-fits : goal.returns-in-None-clause-fits
 returns-in-None-clause-fits c =
     let knows : KnowsValues = record { denoted = c.value_of_is_denoted.ensures; of_kind = c.denoted_is_of_kind.ensures } in
-    subst (λ (s : Schema). IfOk c.read_words.result (FitsLine s)) c.schema.ensures
-    (IfOk-weaker c.read_words.result (LineFitsBoth c.args.language.now c.schema.result.now) (FitsLine c.schema.result.now) (λ line both. both.fits)
-    (once_fits c.args.language.now knows c.schema.result.now (length c.args.line.now) (words_of c.args.line.now) c.read_words.result c.read_words.ensures))
+    subst (λ (s : Schema). IfOk c.read_words-read.result (FitsLine s)) c.schema.ensures
+    (IfOk-weaker c.read_words-read.result (LineFitsBoth c.args.language.now c.schema.result.now) (FitsLine c.schema.result.now) (λ line both. both.fits)
+    (once_fits c.args.language.now knows c.schema.result.now (length c.args.line.now) (words_of c.args.line.now) c.read_words-read.result c.read_words-read.ensures))
 
 pub returns-in-None-clause-language : goal.returns-in-None-clause-language
 returns-in-None-clause-language c =
     let knows : KnowsValues = record { denoted = c.value_of_is_denoted.ensures; of_kind = c.denoted_is_of_kind.ensures } in
-    IfOk-weaker c.read_words.result (LineFitsBoth c.args.language.now c.schema.result.now) (λ line. is_line_in c.args.language.now line ≡ true) (λ line both. both.spoken)
-    (once_fits c.args.language.now knows c.schema.result.now (length c.args.line.now) (words_of c.args.line.now) c.read_words.result c.read_words.ensures)
+    IfOk-weaker c.read_words-read.result (LineFitsBoth c.args.language.now c.schema.result.now) (λ line. is_line_in c.args.language.now line ≡ true) (λ line both. both.spoken)
+    (once_fits c.args.language.now knows c.schema.result.now (length c.args.line.now) (words_of c.args.line.now) c.read_words-read.result c.read_words-read.ensures)
