@@ -31,9 +31,6 @@ fn call_each(tuple: &mut RangeTuple, other: &mut RangeTuple, net: Net) -> Option
     requires tuple { parts_of tuple.old.columns ≡ five_parts }
     requires other { parts_of other.old.columns ≡ five_parts }
 {
-    if tuple.greatest_size() > ROOM {
-        return None;
-    }
     let mut bytes = [0; ROOM];
     tuple.restart(7);
     other.restart(8);
@@ -54,6 +51,9 @@ fn call_each(tuple: &mut RangeTuple, other: &mut RangeTuple, net: Net) -> Option
         tuple.keeps(&conds),
         tuple.keeps_by(&ScanKeys::new(&conds[..0])),
     ];
+    if tuple.greatest_size() > ROOM {
+        return None;
+    }
     let size = tuple.encode(&mut bytes);
     let is_read = other.decode(&bytes[..size]).is_ok();
     let is_one_refused = other.decode(&bytes[..1]).is_err();
