@@ -1,6 +1,6 @@
 //! A Stepper in memory.
 
-ghost use Rattle.std.specs.Prelude.{◌≡◌, ◌<◌, ◌+◌, ◌↔◌, true, false, IsSome};
+ghost use Rattle.std.specs.Prelude.{◌≡◌, ◌<◌, ◌+◌, ◌↔◌, true, false, IsSome, IsNone};
 ghost use Rattle.io_traits.specs.Turns.{count_done, count_ended, count_none};
 
 use io_traits::{Stepper, Turn};
@@ -85,47 +85,6 @@ impl<P: Plan, L: Ledger, E: Ledger> Planned<P, L, E> {
         } = self;
         plan
     }
-
-    /// Enters an answer into the books.
-    fn enter(&mut self, answer: Answer, share: &mut Share<L>, end: &mut Share<E>) -> Turn
-        requires share { 0 < share.old.parts }
-        requires end { 0 < end.old.parts }
-        ensures answers { self.new.answers ≡ self.old.answers + count_done result }
-        ensures share { share.new.amount ≡ share.old.amount + count_done result }
-        ensures ends { self.new.ends ≡ self.old.ends + count_ended result }
-        ensures end { end.new.amount ≡ end.old.amount + count_ended result }
-        ensures parts { (share.new.parts ≡ share.old.parts) × (end.new.parts ≡ end.old.parts) }
-        ensures status { IsSome self.old.status → self.new.status ≡ self.old.status }
-    {
-        match answer {
-            Answer::Moved => Turn::Moved,
-            Answer::Blocked => Turn::Blocked,
-            Answer::Stale => Turn::Stale,
-            Answer::Done => {
-                self.answers.add(share, 1);
-                Turn::Done
-            }
-            Answer::Ended(status) => {
-                self.end(status, end);
-                Turn::Ended
-            }
-        }
-    }
-
-    /// Enters an Ended into the books. The first one's status stays.
-    fn end(&mut self, status: u8, end: &mut Share<E>)
-        requires { 0 < end.old.parts }
-        ensures answers { self.new.answers ≡ self.old.answers }
-        ensures ends { self.new.ends ≡ self.old.ends + 1 }
-        ensures end { end.new.amount ≡ end.old.amount + 1 }
-        ensures parts { end.new.parts ≡ end.old.parts }
-        ensures status { IsSome self.old.status → self.new.status ≡ self.old.status }
-    {
-        self.ends.add(end, 1);
-        if self.status.is_none() {
-            self.status = Some(status);
-        }
-    }
 }
 
 impl<P: Plan, L: Ledger, E: Ledger> Stepper<L, E> for Planned<P, L, E> {
@@ -146,23 +105,30 @@ impl<P: Plan, L: Ledger, E: Ledger> Stepper<L, E> for Planned<P, L, E> {
         share: &mut Share<L>,
         end: &mut Share<E>,
     ) -> Turn {
-        if let Some(status) = self.status {
-            self.end(status, end);
+        if let Some(code) = self.status {
+            enter_end(&mut self.ends, &mut self.status, code, end);
             return Turn::Ended;
         }
         let answer = self.plan.submit(session, line);
-        self.enter(answer, share, end)
+        enter(
+            &mut self.answers,
+            &mut self.ends,
+            &mut self.status,
+            answer,
+            share,
+            end,
+        )
     }
 
     fn take(&mut self, session: u32, end: &mut Share<E>) -> Option<PlannedJob<P::Job>> {
-        if let Some(status) = self.status {
-            self.end(status, end);
+        if let Some(code) = self.status {
+            enter_end(&mut self.ends, &mut self.status, code, end);
             return None;
         }
         match self.plan.job(session) {
             Ok(job) => Some(PlannedJob { job, worked: false }),
-            Err(status) => {
-                self.end(status, end);
+            Err(code) => {
+                enter_end(&mut self.ends, &mut self.status, code, end);
                 None
             }
         }
@@ -181,15 +147,72 @@ impl<P: Plan, L: Ledger, E: Ledger> Stepper<L, E> for Planned<P, L, E> {
         end: &mut Share<E>,
     ) -> Turn {
         let PlannedJob { job, worked: _ } = job;
-        if let Some(status) = self.status {
-            self.end(status, end);
+        if let Some(code) = self.status {
+            enter_end(&mut self.ends, &mut self.status, code, end);
             return Turn::Ended;
         }
         let answer = self.plan.step(session, job);
-        self.enter(answer, share, end)
+        enter(
+            &mut self.answers,
+            &mut self.ends,
+            &mut self.status,
+            answer,
+            share,
+            end,
+        )
     }
 
     fn status(&self) -> Option<u8> {
         self.status
+    }
+}
+
+/// Enters an answer into the books.
+fn enter<L: Ledger, E: Ledger>(
+    answers: &mut Book<L>,
+    ends: &mut Book<E>,
+    status: &mut Option<u8>,
+    answer: Answer,
+    share: &mut Share<L>,
+    end: &mut Share<E>,
+) -> Turn
+    requires share { 0 < share.old.parts }
+    requires end { 0 < end.old.parts }
+    requires status { IsNone status.old ↔ (ends.old.total ≡ 0) }
+    ensures answers { answers.new.total ≡ answers.old.total + count_done result }
+    ensures share { share.new.amount ≡ share.old.amount + count_done result }
+    ensures ends { ends.new.total ≡ ends.old.total + count_ended result }
+    ensures end { end.new.amount ≡ end.old.amount + count_ended result }
+    ensures parts { (share.new.parts ≡ share.old.parts) × (end.new.parts ≡ end.old.parts) }
+    ensures status { IsSome status.old → status.new ≡ status.old }
+    ensures none { IsNone status.new ↔ (ends.new.total ≡ 0) }
+{
+    match answer {
+        Answer::Moved => Turn::Moved,
+        Answer::Blocked => Turn::Blocked,
+        Answer::Stale => Turn::Stale,
+        Answer::Done => {
+            answers.add(share, 1);
+            Turn::Done
+        }
+        Answer::Ended(code) => {
+            enter_end(ends, status, code, end);
+            Turn::Ended
+        }
+    }
+}
+
+/// Enters an Ended into its book. The first one's status stays.
+fn enter_end<E: Ledger>(ends: &mut Book<E>, status: &mut Option<u8>, code: u8, end: &mut Share<E>)
+    requires { 0 < end.old.parts }
+    ensures ends { ends.new.total ≡ ends.old.total + 1 }
+    ensures end { end.new.amount ≡ end.old.amount + 1 }
+    ensures parts { end.new.parts ≡ end.old.parts }
+    ensures status { IsSome status.old → status.new ≡ status.old }
+    ensures some { IsSome status.new }
+{
+    ends.add(end, 1);
+    if status.is_none() {
+        *status = Some(code);
     }
 }

@@ -66,13 +66,14 @@ fn with_books<
     let mut workers = [first, second];
     let store = Mutex::new(Planned::new(plan, answers, ends));
     run_all(rt, &store, &Condvar::new(), &mut workers, gate);
-    let [first, second] = workers;
+    let done = [workers[0].done, workers[1].done];
+    let ended = [workers[0].ended, workers[1].ended];
     let store = store.into_inner();
     let status = store.status();
     Outcome {
         plan: store.into_plan(),
-        done: [first.done, second.done],
-        ended: [first.ended, second.ended],
+        done,
+        ended,
         status,
     }
 }
