@@ -65,6 +65,7 @@ pub fn page_with(at: usize, value: u8) -> Page
 }
 
 /// The page of the block becomes that page, where it is one of statuses.
+#[tactic(auto, unfolding(store_layout::specs::DiskLayout::relation_blocks, page_store::specs::Forms::forms_of))]
 pub fn put_page<D: Disk + Drop>(store: &mut PageStore<D>, block: u32, page: &Page) -> bool
     requires block { block < store.old.layout.sizes.status_blocks }
     ensures layout { store.new.layout ≡ store.old.layout }
@@ -79,7 +80,8 @@ pub fn put_page<D: Disk + Drop>(store: &mut PageStore<D>, block: u32, page: &Pag
     }
     let place = Place { relation: 0, block };
     let bytes = page.as_bytes();
-    store
-        .change(place, &Change::FullPage { place, bytes })
-        .is_ok()
+    match store.change(place, &Change::FullPage { place, bytes }) {
+        Ok(()) => true,
+        Err(_) => false,
+    }
 }

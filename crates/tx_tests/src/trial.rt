@@ -1,10 +1,10 @@
 //! A table of transactions over a store of its own.
 
-ghost use Rattle.std.specs.Prelude.{◌≡◌, true};
+ghost use Rattle.std.specs.Prelude.{◌≡◌, ◌<◌, ◌≤◌, true, IfOk};
 ghost use Rattle.page_store.specs.Keeps.{Keeps, Tells};
 ghost use Rattle.snapshot_core.specs.declared.statuses.Status.TheVariants.{Begun as BegunStatus};
 ghost use Rattle.tx_table.specs.LeavesRest.{AreStarted};
-ghost use Rattle.tx_table.specs.Statuses.{OfStatuses, status_of};
+ghost use Rattle.tx_table.specs.Statuses.{IsStartedBlock, OfStatuses, status_of};
 ghost use Rattle.tx_table.specs.TxState.{IsOver, IsOwn};
 
 use crate::pages::{put_page, store};
@@ -43,16 +43,29 @@ pub fn opened(alloc: Global, page: &Page) -> Option<Trial<SteadyDisk>> {
     if !put_page(&mut store, 0, page) {
         return None;
     }
-    let table = TxTable::start(&mut store).ok()?;
-    Some(Trial { store, table })
+    over(store)
+}
+
+/// The table over a store of one page of statuses, which is started.
+fn over<D: Disk + Drop>(store: PageStore<D>) -> Option<Trial<D>>
+    requires one { store.layout.sizes.status_blocks ≡ 1 }
+    requires started { Tells D.told store → IsStartedBlock store.pages 0 }
+{
+    let mut store = store;
+    match TxTable::start(&mut store) {
+        Ok(table) => Some(Trial { store, table }),
+        Err(_) => None,
+    }
 }
 
 impl<D: Disk + Drop> Trial<D> {
     /// Opens the same pages again.
     pub fn opened_again(self) -> Option<Trial<D>> {
         let mut store = self.store;
-        let table = TxTable::start(&mut store).ok()?;
-        Some(Trial { store, table })
+        match TxTable::start(&mut store) {
+            Ok(table) => Some(Trial { store, table }),
+            Err(_) => None,
+        }
     }
 
     pub fn begin(&mut self) -> Result<u64, BeginFault> {
@@ -93,7 +106,7 @@ impl<D: Disk + Drop> Trial<D> {
     }
 
     pub fn status(&mut self, t: u64) -> Result<Status, StoreError> {
-        self.table.status(&mut self.store, t)
+        told_status(&self.table, &mut self.store, t)
     }
 
     pub fn next(&self) -> u64 {
@@ -102,15 +115,41 @@ impl<D: Disk + Drop> Trial<D> {
 
     /// The byte of the page of the first block.
     pub fn byte(&mut self, at: usize) -> Option<u8> {
-        let place = Place {
-            relation: 0,
-            block: 0,
-        };
-        match self.store.read(place) {
-            Ok(page) => page.as_bytes().get(at).copied(),
-            Err(_) => None,
-        }
+        first_byte(&mut self.store, at)
     }
+}
+
+/// The byte of the page of the first block.
+#[tactic(auto, unfolding(store_layout::specs::DiskLayout::relation_blocks))]
+fn first_byte<D: Disk + Drop>(store: &mut PageStore<D>, at: usize) -> Option<u8>
+    requires { 0 < store.old.layout.sizes.status_blocks }
+    ensures { Keeps D.told store.old store.new }
+{
+    let place = Place {
+        relation: 0,
+        block: 0,
+    };
+    match store.read(place) {
+        Ok(page) => page.as_bytes().get(at).copied(),
+        Err(_) => None,
+    }
+}
+
+/// How the transaction stands, as the table tells it.
+fn told_status<D: Disk + Drop>(
+    table: &TxTable,
+    store: &mut PageStore<D>,
+    t: u64,
+) -> Result<Status, StoreError>
+    requires over { IsOver D.told table.now store.old }
+    requires started { Tells D.told store.old → AreStarted store.old.layout store.old.pages }
+    ensures over { IsOver D.told table.now store.new }
+    ensures started { Tells D.told store.new → AreStarted store.new.layout store.new.pages }
+    ensures kept { Keeps D.told store.old store.new }
+    ensures own { IfOk result (λ status. status ≡ BegunStatus → table.now.first ≤ t) }
+    ensures begun { IfOk result (λ status. status ≡ BegunStatus → OfStatuses D.told store.new (λ statuses. status_of statuses t ≡ BegunStatus)) }
+{
+    table.status(store, t)
 }
 
 /// Whether the transaction began since the opening and hasn't ended.
@@ -123,7 +162,7 @@ fn is_begun<D: Disk + Drop>(table: &TxTable, store: &mut PageStore<D>, t: u64) -
     ensures own { result ≡ true → IsOwn table.now t }
     ensures begun { result ≡ true → OfStatuses D.told store.new (λ statuses. status_of statuses t ≡ BegunStatus) }
 {
-    match table.status(store, t) {
+    match told_status(table, store, t) {
         Ok(Status::Begun) => t < table.next(),
         _ => false,
     }
