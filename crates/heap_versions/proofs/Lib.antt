@@ -13,3 +13,4 @@ pub mod Hits
 pub mod Answered
 pub mod MarkRuns
 pub mod Counts
+pub mod Rooms

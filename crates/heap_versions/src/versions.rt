@@ -1,6 +1,6 @@
 //! Row versions over heap pages, with statuses and open transactions.
 
-ghost use Rattle.std.specs.Prelude.{◌≡◌, ◌≢◌, ◌+◌, ◌<◌, ◌≤◌, None, Some, [], length, map, take, All, OnOk, OnErr, IfOk, IfErr, IfSome, if◌then◌else◌, vec_capacity};
+ghost use Rattle.std.specs.Prelude.{◌≡◌, ◌≢◌, ◌+◌, ◌*◌, ◌<◌, ◌≤◌, None, Some, [], length, map, take, All, OnOk, OnErr, IfOk, IfErr, IfSome, if◌then◌else◌, vec_capacity};
 ghost use Rattle.std.specs.FinMap as map_of;
 ghost use Rattle.block_model.specs.declared.place.Place.{Place as AnyPlace};
 ghost use Rattle.block_model.specs.declared.request.Request.TheVariants as requests;
@@ -25,7 +25,8 @@ ghost use Rattle.row_versions.specs.Marks.{conflicts, delete_marks};
 ghost use Rattle.heap_versions.specs.declared.versions.Hit.{Hit as AnyHit};
 ghost use Rattle.heap_versions.specs.CoversMatches.{CoversMatches};
 ghost use Rattle.heap_versions.specs.Finds.{LookOutcome};
-ghost use Rattle.heap_versions.specs.PutAnswers.{PutAnswer};
+ghost use Rattle.heap_versions.specs.PutAnswers.{PutAnswer, TellsItsRows};
+ghost use Rattle.heap_versions.specs.ShownVersions.{versions_of_table};
 ghost use Rattle.heap_versions.specs.HitMarks.{Ends, MarksFirst, MarksOutcome, count_marks};
 ghost use Rattle.heap_versions.specs.Hits.{AreHits, IsHit, mark_of, marking_answer};
 
@@ -222,6 +223,8 @@ impl<D: Disk + Drop> HeapVersions<D> {
         ensures slots { IfOk result (λ placed. OfBlocks D.told self.old.store table (FillsSlot (slots_a_page self.old.store.layout table) placed.spot (new_row placed.id values.now))) }
         ensures full { IfErr result (λ fault. SaysFull fault → OfBlocks D.told self.old.store table (IsTableFull self.old.store.layout.sizes.heap_blocks)) }
         ensures free { OnOk result (OfBlocks D.told self.old.store table (λ blocks. IsTableFull self.old.store.layout.sizes.heap_blocks blocks → ⊥)) }
+        ensures counted { IfErr result (λ fault. Tells D.told self.old.store → TellsItsRows self.old.store.layout self.old.store.pages table fault) }
+        ensures room_left { OnOk result (Tells D.told self.old.store → length (versions_of_table self.old.store.layout self.old.store.pages table) < self.old.store.layout.sizes.heap_blocks * slots_a_page self.old.store.layout table) }
         ensures within { IfOk result (λ placed. (placed.spot.block < self.old.store.layout.sizes.heap_blocks) × (placed.spot.slot < slots_a_page self.old.store.layout table)) }
         ensures others { LeavesOthers D.told table self.old.store self.new.store }
         ensures room { self.new.room ≡ self.old.room }

@@ -6,6 +6,7 @@ use Rattle.row_versions.specs.SessionChanges.{with_next_k}
 use Rattle.row_versions.proofs.Copies.{is_there}
 use Rattle.heap_versions.proofs.Moves.{database_is, table_is, tells_is}
 use Rattle.heap_versions.proofs.Puts.{memory_answer, put_heap, put_shown}
+use Rattle.heap_versions.proofs.Rooms.{counted_fault, left_as_seen, room_counts, told_as_seen}
 use Rattle.heap_versions.proofs.versions.HeapVersions.put.Goals as goal
 
 pub open_of-open-requires : goal.open_of-open-requires
@@ -41,3 +42,22 @@ pub returns-then-open-clause-outcome : goal.returns-then-open-clause-outcome
 returns-then-open-clause-outcome g c =
     memory_answer g.D.Disk.told c.self.inside.pages c.self.inside.statuses.items c.self.inside.sessions.items _ c.args.self.now c.args.session c.open_of-open.result.now c.self.view_is c.in-Ok.ensures.outcome.0
     (ap (λ (os : List (Option Open)). transaction_of os c.args.session) (sym c.as_slice.ensures.value) ∙ c.open_of-open.ensures) c.if-open.true
+
+pub returns-in-Ok-put-clause-room_left : goal.returns-in-Ok-put-clause-room_left
+returns-in-Ok-put-clause-room_left g c = λ tells.
+    let here = tells_is g.D.Disk.told c.self.view_is tells in
+    let table = c.args.table in
+    let store = c.self.inside.pages in
+    let spot = c.in-Ok-put.spot in
+    let started = (c.self.invariant.on_pages here).blocks table (table_is table c.self.view_is c.requires.table) in
+    left_as_seen table c.self.view_is
+    (room_counts (record { one = c.slots_are_read.ensures.one; unstarted = c.slots_are_read.ensures.unstarted }) store.layout store.pages table started.0 spot started.1 c.in-Ok-put.ensures.within.0 c.in-Ok-put.ensures.within.1 (c.in-Ok-put.ensures.slots here started.0 started.1).0)
+
+pub returns-in-Err-put-clause-counted : goal.returns-in-Err-put-clause-counted
+returns-in-Err-put-clause-counted g c = λ tells.
+    let here = tells_is g.D.Disk.told c.self.view_is tells in
+    let table = c.args.table in
+    let store = c.self.inside.pages in
+    let started = (c.self.invariant.on_pages here).blocks table (table_is table c.self.view_is c.requires.table) in
+    told_as_seen table c.in-Err-put.fault c.self.view_is
+    (counted_fault g.D.Disk.told (record { one = c.slots_are_read.ensures.one; unstarted = c.slots_are_read.ensures.unstarted }) store table started.0 c.in-Err-put.fault here started.1 c.in-Err-put.ensures.full c.in-Err-put.ensures.names)
