@@ -1,5 +1,5 @@
 -- Pages of statuses that are started.
-use Rattle.std.proofs.Common.{◌≡◌, ◌<◌, ◌∙◌, ℕ, List, [], ◌∷◌, inl, inr, get_or, sym, ap, subst, arith}
+use Rattle.std.proofs.Common.{◌≡◌, ◌∙◌, ℕ, List, [], ◌∷◌, inl, inr, get_or, sym, ap, subst, arith}
 use Rattle.std.specs.Prelude.{Result, Ok, Err, IfOk, nat_lt}
 use Rattle.std.proofs.lemmas.List.{get_or-replicate}
 use Rattle.block_model.specs.declared.place.Place.{Place}
@@ -14,8 +14,8 @@ use Rattle.snapshot_core.specs.declared.statuses.Status.{Status}
 use Rattle.snapshot_core.specs.declared.statuses.Status.TheVariants.{Begun}
 use Rattle.store_layout.specs.DiskLayout.{DiskLayout}
 use Rattle.wal_record.specs.Changes.{FullPage}
-use Rattle.tx_table.specs.Kept.{begun_stored, of_statuses_kept, over_kept, started_after}
-use Rattle.tx_table.specs.LeavesRest.{AreStarted, LeavesRest}
+use Rattle.tx_table.specs.Kept.{begun_stored, of_statuses_kept, over_kept}
+use Rattle.tx_table.specs.LeavesRest.{AreStarted}
 use Rattle.tx_table.specs.Statuses.{IsStartedBlock, OfStatuses, shown_status, status_of}
 use Rattle.tx_table.specs.TxState.{IsOver, TxState}
 
@@ -55,7 +55,3 @@ pub told_begun : {D E : Type 0} (told : D → Told) (first t : ℕ) (old new : V
 told_begun told first t old new (Ok status) kept shown = λ begun. of_statuses_kept told old new (λ (statuses : List Status). status_of statuses t ≡ Begun) kept
     (λ tells statuses has. begun_stored (nat_lt t first) (status_of statuses t) (sym (shown tells statuses has) ∙ begun))
 told_begun told first t old new (Err error) kept shown = tt
-
--- a change of a status leaves the pages started
-pub trial_after : {D : Type 0} (told : D → Told) (table : TxState) (old new : View D) → IsOver told table new → LeavesRest told old new → (Tells told old → AreStarted old.layout old.pages) → IsOver told table new × (Tells told new → AreStarted new.layout new.pages)
-trial_after told table old new over rest started = (over, started_after told old new rest started)

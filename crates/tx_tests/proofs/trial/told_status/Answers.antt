@@ -1,6 +1,3 @@
-use Rattle.std.proofs.Common.{◌≡◌, ◌∙◌, ℕ, List, sym}
-use Rattle.snapshot_core.specs.declared.statuses.Status.{Status}
-use Rattle.snapshot_core.specs.declared.statuses.Status.TheVariants.{Begun}
 use Rattle.tx_tests.proofs.Started.{told_begun, trial_kept}
 use Rattle.tx_tests.proofs.trial.told_status.Goals as goal
 
