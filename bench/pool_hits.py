@@ -1,16 +1,20 @@
 #!/usr/bin/env python3
 """Times calls of the pool of pages at 256 and 65536 frames: pool_hits.py. No part of the gate.
 
-Builds a small program over buffer_pool in a copy of the crates, with `rt run`, and runs it five times. Tells the best time
-of a hit at a page chosen at random, without a look at the page and with a look at its first byte; of a page that is set in
+Builds a small program over buffer_pool in a copy of the crates by LLVM at -O2, and runs it five times. The program isn't proved, so
+it has the checks of `rt try` in it, and a proved one is somewhat faster. Tells the best time of a hit at a page chosen at random, without a look at the page and with a look at its first byte; of a page that is set in
 place of a clean one, where all frames hold clean pages and where all but one hold dirty ones; and of a walk over the dirty
 pages in order, where every frame holds one, for each page. The larger pool takes 512 MiB.
 """
 import os
+import pathlib
+import re
 import shutil
 import subprocess
 import sys
 import tempfile
+
+from range_tuples import KIT, TRY, toolchain
 
 TOP = os.path.dirname(os.path.dirname(os.path.abspath(__file__)))
 HITS = 5_000_000
@@ -181,9 +185,13 @@ def put_files(folder):
     return crate
 
 
-def run(program):
+def run(crate, tools):
     """For each number of frames, nanoseconds of a hit, a look, a miss, a miss where one frame is clean, and a page of a walk."""
-    lines = subprocess.run([program], capture_output=True, text=True, check=True).stdout.splitlines()
+    words = [sys.executable, "-c", TRY, str(tools), str(KIT / "bin")]
+    ran = subprocess.run(words, cwd=crate, capture_output=True, text=True)
+    lines = [line for line in ran.stdout.splitlines() if re.fullmatch(r"[0-9]+( ([0-9]+|true|false))*", line)]
+    if len(lines) != 8:
+        sys.exit(ran.stdout + ran.stderr)
     times = {}
     for counts, states, plain, crowded in zip(*[iter(lines)] * 4):
         frames = int(counts.split()[0])
@@ -196,10 +204,9 @@ def run(program):
 
 def main():
     with tempfile.TemporaryDirectory() as folder:
+        tools = toolchain(pathlib.Path(folder) / "toolchain")
         crate = put_files(folder)
-        subprocess.run(["rt", "run"], cwd=crate, check=True, stdout=subprocess.DEVNULL)
-        program = os.path.join(crate, "out", "pool_bench")
-        runs = [run(program) for _ in range(5)]
+        runs = [run(crate, tools) for _ in range(5)]
     for frames in runs[0]:
         hit, look, miss, crowded, page = (min(times[frames][k] for times in runs) for k in range(5))
         print(f"{frames} frames: a hit {hit:.1f} ns, with its first byte {look:.1f} ns, a page set in place of another {miss:.1f} ns,")
