@@ -85,7 +85,7 @@ impl TxTable {
         }
     }
 
-    /// Commits the transaction, which began since the opening and hasn't ended. Ok comes only once that is durable. After
+    /// Commits the transaction, which began since the opening and hasn't ended. Ok comes only behind a flush. After
     /// an error nothing is changed, but for a disk fault: it may come between the change and the end of the flush.
     pub fn commit<D: Disk + Drop>(
         &mut self,
@@ -109,7 +109,7 @@ impl TxTable {
     }
 
     /// Commits the transactions, each of which began since the opening and hasn't ended, and whose statuses stand on one
-    /// page. Ok comes only once all of that is durable. After an error nothing is changed, but for a disk fault: it may come
+    /// page. Ok comes only behind a flush. After an error nothing is changed, but for a disk fault: it may come
     /// between the changes and the end of the flush.
     pub fn commit_all<D: Disk + Drop>(
         &mut self,
