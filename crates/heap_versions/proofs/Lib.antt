@@ -14,3 +14,4 @@ pub mod Answered
 pub mod MarkRuns
 pub mod Counts
 pub mod Rooms
+pub mod Standings

@@ -1,4 +1,6 @@
 pub mod HeapState
+pub mod Standings
+pub mod RowsAlike
 pub mod ShownVersions
 pub mod AreHeapVersions
 pub mod PutAnswers

@@ -28,6 +28,11 @@ ghost use Rattle.heap_versions.specs.Finds.{LookOutcome};
 ghost use Rattle.heap_versions.specs.PutAnswers.{PutAnswer, TellsItsRows};
 ghost use Rattle.heap_versions.specs.ShownVersions.{versions_of_table};
 ghost use Rattle.heap_versions.specs.HitMarks.{Ends, MarksFirst, MarksOutcome, count_marks};
+ghost use Rattle.row_versions.specs.declared.standing.Standing.TheVariants as standings;
+ghost use Rattle.page_layout.specs.PageContents.{Slot};
+ghost use Rattle.heap_rows.specs.HeapBlocks.{HasBlocks};
+ghost use Rattle.heap_versions.specs.RowsAlike.{HaveRowsAlike};
+ghost use Rattle.heap_versions.specs.Standings.{OneStands, StandAlike};
 ghost use Rattle.heap_versions.specs.Hits.{AreHits, IsHit, mark_of, marking_answer};
 
 use crate::finding::{find_in_blocks, hits_in_order, rows_in_order};
@@ -189,6 +194,7 @@ impl<D: Disk + Drop> HeapVersions<D> {
         requires empty { active.items ≡ [] }
         requires numbers { MAX_SESSIONS ≤ vec_capacity active }
         ensures database { Tells D.told self.old.store → effect self.old.database (request_entry session 0 requests.Begin) ≡ (self.new.database, Begun result) }
+        ensures stand { OneStands self.old.database self.new.database session standings.UnderWay }
         ensures store { self.new.store ≡ self.old.store }
         ensures room { self.old.room ≤ self.new.room + 1 }
     {
@@ -223,6 +229,7 @@ impl<D: Disk + Drop> HeapVersions<D> {
         ensures slots { IfOk result (λ placed. OfBlocks D.told self.old.store table (FillsSlot (slots_a_page self.old.store.layout table) placed.spot (new_row placed.id values.now))) }
         ensures full { IfErr result (λ fault. SaysFull fault → OfBlocks D.told self.old.store table (IsTableFull self.old.store.layout.sizes.heap_blocks)) }
         ensures free { OnOk result (OfBlocks D.told self.old.store table (λ blocks. IsTableFull self.old.store.layout.sizes.heap_blocks blocks → ⊥)) }
+        ensures stand { StandAlike self.old.database self.new.database }
         ensures counted { IfErr result (λ fault. Tells D.told self.old.store → TellsItsRows self.old.store.layout self.old.store.pages table fault) }
         ensures room_left { OnOk result (Tells D.told self.old.store → length (versions_of_table self.old.store.layout self.old.store.pages table) < self.old.store.layout.sizes.heap_blocks * slots_a_page self.old.store.layout table) }
         ensures within { IfOk result (λ placed. (placed.spot.block < self.old.store.layout.sizes.heap_blocks) × (placed.spot.slot < slots_a_page self.old.store.layout table)) }
@@ -268,6 +275,7 @@ impl<D: Disk + Drop> HeapVersions<D> {
         requires blocks { All (λ block. block < self.old.store.layout.sizes.heap_blocks) blocks.now }
         requires covered { Tells D.told self.old.store → CoversMatches self.old.store.layout self.old.store.pages query.now blocks.now }
         ensures found { IfOk result (λ rows. Tells D.told self.old.store → effect self.old.database (request_entry session query.now.table (requests.Look query.now)) ≡ (self.old.database, Found rows)) }
+        ensures stand { StandAlike self.old.database self.new.database }
         ensures same { Tells D.told self.old.store → self.new.database ≡ self.old.database }
         ensures kept { Keeps D.told self.old.store self.new.store }
         ensures room { self.new.room ≡ self.old.room }
@@ -302,6 +310,7 @@ impl<D: Disk + Drop> HeapVersions<D> {
         requires blocks { All (λ block. block < self.old.store.layout.sizes.heap_blocks) blocks.now }
         requires covered { Tells D.told self.old.store → CoversMatches self.old.store.layout self.old.store.pages query.now blocks.now }
         ensures hits { IfOk result (λ hits. Tells D.told self.old.store → AreHits self.new session query.now hits.items) }
+        ensures stand { StandAlike self.old.database self.new.database }
         ensures within { IfOk result (λ hits. All (λ hit. hit.spot.block < self.old.store.layout.sizes.heap_blocks) hits.items) }
         ensures same { Tells D.told self.old.store → self.new.database ≡ self.old.database }
         ensures kept { Keeps D.told self.old.store self.new.store }
@@ -339,6 +348,10 @@ impl<D: Disk + Drop> HeapVersions<D> {
         ensures slots { IfOk result (λ marking. marking ≡ Marking.Marked → IfSome (map_of.get self.old.database.sessions session) (λ x. OfBlocks D.told self.old.store table (MarksSlot hit.now.spot x.t))) }
         ensures stays { IfOk result (λ marking. marking ≡ Marking.Marked → Tells D.told self.old.store → (other : AnyHit) → other.id ≢ hit.now.id → IsHit self.old session table other → IsHit self.new session table other) }
         ensures conflict { IfOk result (λ marking. marking ≡ Marking.Conflict → self.new.store ≡ self.old.store) }
+        ensures stand { IfOk result (λ marking. marking ≡ Marking.Marked → StandAlike self.old.database self.new.database) }
+        ensures stand_conflict { IfOk result (λ marking. marking ≡ Marking.Conflict → OneStands self.old.database self.new.database session standings.Failed) }
+        ensures stand_err { OnErr result (StandAlike self.old.database self.new.database) }
+        ensures rows { Tells D.told self.old.store → (blocks : List (List Slot)) → HasBlocks self.old.store.layout self.old.store.pages table blocks → (after : List (List Slot)) × HasBlocks self.old.store.layout self.new.store.pages table after × HaveRowsAlike blocks after }
         ensures under_way { HasTransaction self.new.database session }
         ensures others { LeavesOthers D.told table self.old.store self.new.store }
         ensures room { self.new.room ≡ self.old.room }
@@ -398,6 +411,10 @@ impl<D: Disk + Drop> HeapVersions<D> {
         ensures ends { IfOk result (λ conflict. Tells D.told self.old.store → IfSome (map_of.get self.old.database.sessions session) (Ends self.old self.new session query.now hits.now conflict)) }
         ensures cut { IfErr result (λ fault. Tells D.told self.old.store → MarksFirst self.old.database self.new.database session query.now.table hits.now fault.marked) }
         ensures before { IfErr result (λ fault. fault.marked ≤ length hits.now) }
+        ensures stand { IfOk result (λ conflict. conflict ≡ None → StandAlike self.old.database self.new.database) }
+        ensures stand_conflict { IfOk result (λ conflict. IsSome conflict → OneStands self.old.database self.new.database session standings.Failed) }
+        ensures stand_err { OnErr result (StandAlike self.old.database self.new.database) }
+        ensures rows { Tells D.told self.old.store → (blocks : List (List Slot)) → HasBlocks self.old.store.layout self.old.store.pages query.now.table blocks → (after : List (List Slot)) × HasBlocks self.old.store.layout self.new.store.pages query.now.table after × HaveRowsAlike blocks after }
         ensures others { LeavesOthers D.told query.now.table self.old.store self.new.store }
         ensures room { self.new.room ≡ self.old.room }
         ensures names { IfErr result (λ fault. NamesTable self.old.store.layout query.now.table (MachineFault.Store fault.error)) }
@@ -424,6 +441,7 @@ impl<D: Disk + Drop> HeapVersions<D> {
     pub fn fail(&mut self, session: u32)
         requires { HasTransaction self.old.database session }
         ensures database { Tells D.told self.old.store → IfSome (map_of.get self.old.database.sessions session) (λ x. self.new.database ≡ after_failure self.old.database session x) }
+        ensures stand { OneStands self.old.database self.new.database session standings.Failed }
         ensures store { self.new.store ≡ self.old.store }
         ensures room { self.new.room ≡ self.old.room }
     {
@@ -434,6 +452,7 @@ impl<D: Disk + Drop> HeapVersions<D> {
     pub fn commit(&mut self, session: u32) -> bool
         requires { HasTransaction self.old.database session }
         ensures database { Tells D.told self.old.store → effect self.old.database (request_entry session 0 requests.Commit) ≡ (self.new.database, if result then Committed else RolledBack) }
+        ensures stand { OneStands self.old.database self.new.database session standings.Idle }
         ensures store { self.new.store ≡ self.old.store }
         ensures room { self.new.room ≡ self.old.room }
     {
@@ -446,6 +465,7 @@ impl<D: Disk + Drop> HeapVersions<D> {
     pub fn rollback(&mut self, session: u32)
         requires { HasTransaction self.old.database session }
         ensures database { Tells D.told self.old.store → effect self.old.database (request_entry session 0 requests.Rollback) ≡ (self.new.database, RolledBack) }
+        ensures stand { OneStands self.old.database self.new.database session standings.Idle }
         ensures store { self.new.store ≡ self.old.store }
         ensures room { self.new.room ≡ self.old.room }
     {

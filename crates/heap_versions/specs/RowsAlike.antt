@@ -1,0 +1,16 @@
+-- blocks whose rows are alike but for their deleters
+use Rattle.std.specs.Prelude.{◌≡◌, List, length, None, Some}
+use Rattle.block_model.specs.declared.place.Spot.{Spot}
+use Rattle.page_layout.specs.PageContents.{Slot}
+use Rattle.heap_rows.specs.RowPlaces.{slot_at}
+
+-- both slots are free, or have rows of one id and the same values
+abbrev pub AreAlike : Slot → Slot → Type 0
+AreAlike None None = Unit {0}
+AreAlike (Some a) (Some b) = (b.id ≡ a.id) × (b.values ≡ a.values)
+AreAlike a b = ⊥
+
+-- so it is in each slot of as many blocks
+pub record HaveRowsAlike (old new : List (List Slot)) : Type 0 where
+  pub as_many : length new ≡ length old
+  pub each : (spot : Spot) → AreAlike (slot_at old spot) (slot_at new spot)
