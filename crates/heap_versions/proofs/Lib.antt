@@ -15,3 +15,4 @@ pub mod MarkRuns
 pub mod Counts
 pub mod Rooms
 pub mod Standings
+pub mod RowsAlike

@@ -1,6 +1,6 @@
 //! Row versions over heap pages, with statuses and open transactions.
 
-ghost use Rattle.std.specs.Prelude.{◌≡◌, ◌≢◌, ◌+◌, ◌*◌, ◌<◌, ◌≤◌, None, Some, [], length, map, take, All, OnOk, OnErr, IfOk, IfErr, IfSome, if◌then◌else◌, vec_capacity};
+ghost use Rattle.std.specs.Prelude.{◌≡◌, ◌≢◌, ◌+◌, ◌*◌, ◌<◌, ◌≤◌, None, Some, [], length, map, take, All, OnOk, OnErr, IfOk, IfErr, IfSome, IsSome, if◌then◌else◌, vec_capacity};
 ghost use Rattle.std.specs.FinMap as map_of;
 ghost use Rattle.block_model.specs.declared.place.Place.{Place as AnyPlace};
 ghost use Rattle.block_model.specs.declared.request.Request.TheVariants as requests;
@@ -20,6 +20,7 @@ ghost use Rattle.heap_rows.specs.LeavesOthers.{LeavesOthers};
 ghost use Rattle.heap_rows.specs.PutAnswers.{NamesTable, SaysFull};
 ghost use Rattle.heap_rows.specs.RowPlaces.{FillsSlot, MarksRow, MarksSlot, TakesRowAt, new_row, place_for};
 ghost use Rattle.row_versions.specs.VersionsState.{HasTransaction, StandAtTheirIds, standing_of};
+ghost use Rattle.row_versions.specs.declared.standing.Standing.TheVariants as standings;
 ghost use Rattle.row_versions.specs.declared.table.Version.{Version};
 ghost use Rattle.row_versions.specs.Marks.{conflicts, delete_marks};
 ghost use Rattle.heap_versions.specs.declared.versions.Hit.{Hit as AnyHit};
@@ -28,10 +29,7 @@ ghost use Rattle.heap_versions.specs.Finds.{LookOutcome};
 ghost use Rattle.heap_versions.specs.PutAnswers.{PutAnswer, TellsItsRows};
 ghost use Rattle.heap_versions.specs.ShownVersions.{versions_of_table};
 ghost use Rattle.heap_versions.specs.HitMarks.{Ends, MarksFirst, MarksOutcome, count_marks};
-ghost use Rattle.row_versions.specs.declared.standing.Standing.TheVariants as standings;
-ghost use Rattle.page_layout.specs.PageContents.{Slot};
-ghost use Rattle.heap_rows.specs.HeapBlocks.{HasBlocks};
-ghost use Rattle.heap_versions.specs.RowsAlike.{HaveRowsAlike};
+ghost use Rattle.heap_versions.specs.RowsAlike.{KeepsRows};
 ghost use Rattle.heap_versions.specs.Standings.{OneStands, StandAlike};
 ghost use Rattle.heap_versions.specs.Hits.{AreHits, IsHit, mark_of, marking_answer};
 
@@ -351,7 +349,7 @@ impl<D: Disk + Drop> HeapVersions<D> {
         ensures stand { IfOk result (λ marking. marking ≡ Marking.Marked → StandAlike self.old.database self.new.database) }
         ensures stand_conflict { IfOk result (λ marking. marking ≡ Marking.Conflict → OneStands self.old.database self.new.database session standings.Failed) }
         ensures stand_err { OnErr result (StandAlike self.old.database self.new.database) }
-        ensures rows { Tells D.told self.old.store → (blocks : List (List Slot)) → HasBlocks self.old.store.layout self.old.store.pages table blocks → (after : List (List Slot)) × HasBlocks self.old.store.layout self.new.store.pages table after × HaveRowsAlike blocks after }
+        ensures rows { Tells D.told self.old.store → KeepsRows self.old.store.layout self.old.store.pages self.new.store.pages table }
         ensures under_way { HasTransaction self.new.database session }
         ensures others { LeavesOthers D.told table self.old.store self.new.store }
         ensures room { self.new.room ≡ self.old.room }
@@ -414,7 +412,7 @@ impl<D: Disk + Drop> HeapVersions<D> {
         ensures stand { IfOk result (λ conflict. conflict ≡ None → StandAlike self.old.database self.new.database) }
         ensures stand_conflict { IfOk result (λ conflict. IsSome conflict → OneStands self.old.database self.new.database session standings.Failed) }
         ensures stand_err { OnErr result (StandAlike self.old.database self.new.database) }
-        ensures rows { Tells D.told self.old.store → (blocks : List (List Slot)) → HasBlocks self.old.store.layout self.old.store.pages query.now.table blocks → (after : List (List Slot)) × HasBlocks self.old.store.layout self.new.store.pages query.now.table after × HaveRowsAlike blocks after }
+        ensures rows { Tells D.told self.old.store → KeepsRows self.old.store.layout self.old.store.pages self.new.store.pages query.now.table }
         ensures others { LeavesOthers D.told query.now.table self.old.store self.new.store }
         ensures room { self.new.room ≡ self.old.room }
         ensures names { IfErr result (λ fault. NamesTable self.old.store.layout query.now.table (MachineFault.Store fault.error)) }

@@ -8,6 +8,7 @@ use Rattle.row_versions.proofs.Copies.{Becomes, becomes, still_all, is_idle}
 use Rattle.heap_versions.specs.ShownVersions.{shown_tables}
 use Rattle.heap_versions.specs.AreHeapVersions.{AreHeapVersions}
 use Rattle.heap_versions.proofs.Moves.{database_is, moved, tells_is}
+use Rattle.heap_versions.proofs.Standings.{one_changed}
 use Rattle.heap_versions.proofs.versions.HeapVersions.begin.Goals as goal
 
 -- the number is that of the statuses
@@ -41,3 +42,7 @@ returns-clause-database g c = λ tells.
     begun_effect vs c.self.inside.statuses.items c.self.inside.sessions.items c.set_open.new.sessions.items c.args.session c.args.self.now.database (database_is c.self.view_is) c.requires.idle
     (c.self.invariant.on_pages (tells_is g.D.Disk.told c.self.view_is tells)).versions.stored (begun g c)
     ∙ (λ i. (visible_state vs (sym c.push_reserved.ensures.items i) c.set_open.new.sessions.items, model.Begun (sym (number g c) i)))
+
+pub returns-clause-stand : goal.returns-clause-stand
+returns-clause-stand g c =
+    one_changed _ _ _ _ c.self.inside.sessions.items c.set_open.new.sessions.items c.args.session (Some (new_open (length c.self.inside.statuses.items) c.self.inside.sessions.items)) c.args.self.now.database (database_is c.self.view_is) (begun g c)

@@ -9,6 +9,7 @@ use Rattle.row_versions.proofs.Copies.{rewritten, still_all, is_there}
 use Rattle.heap_versions.specs.ShownVersions.{shown_tables}
 use Rattle.heap_versions.specs.AreHeapVersions.{AreHeapVersions}
 use Rattle.heap_versions.proofs.Moves.{database_is, moved, tells_is}
+use Rattle.heap_versions.proofs.Standings.{one_changed}
 use Rattle.heap_versions.proofs.versions.HeapVersions.commit.Goals as goal
 
 pub take_open-open-requires : goal.take_open-open-requires
@@ -42,3 +43,9 @@ returns-clause-database g c = λ tells.
     let was = c.take_open-open.ensures.was in
     committed_effect vs ss os now c.args.session o c.args.self.now.database (database_is c.self.view_is) (c.self.invariant.on_pages (tells_is g.D.Disk.told c.self.view_is tells)).versions.stored was (rewritten os now c.args.session o None was c.take_open-open.ensures.gone)
     ∙ ap (λ (e : Status). (visible_state vs (set ss o.t e) now, cond (not o.failed) model.Committed model.RolledBack)) (sym c.ended.ensures)
+
+pub returns-clause-stand : goal.returns-clause-stand
+returns-clause-stand g c =
+    let os = c.self.inside.sessions.items in
+    let now = c.take_open-open.new.sessions.items in
+    one_changed _ _ _ _ os now c.args.session None c.args.self.now.database (database_is c.self.view_is) (rewritten os now c.args.session c.take_open-open.result None c.take_open-open.ensures.was c.take_open-open.ensures.gone)

@@ -10,6 +10,7 @@ use Rattle.heap_versions.specs.Finds.{InOrder, found_in_block, row_found}
 use Rattle.heap_versions.proofs.Answered.{blocks_are, covers_are, look_answer, started_of}
 use Rattle.heap_versions.proofs.Kept.{kept_shown}
 use Rattle.heap_versions.proofs.Moves.{database_is, table_is, tells_is}
+use Rattle.heap_versions.proofs.Standings.{same_open}
 use Rattle.heap_versions.proofs.versions.HeapVersions.look.Goals as goal
 
 pub open_of-open-requires : goal.open_of-open-requires
@@ -52,3 +53,12 @@ returns-in-Ok-clause-same g c = λ tells.
 pub returns-in_err-found-clause-same : goal.returns-in_err-found-clause-same
 returns-in_err-found-clause-same g c = λ tells.
     kept_shown g.D.Disk.told c.self.inside.pages c.find_in_blocks.new.pages c.self.inside.statuses.items c.self.inside.sessions.items c.find_in_blocks.ensures.kept (tells_is g.D.Disk.told c.self.view_is tells) ∙ database_is c.self.view_is
+
+pub returns-in-Ok-clause-stand : goal.returns-in-Ok-clause-stand
+returns-in-Ok-clause-stand g c = same_open _ _ _ _ c.self.inside.sessions.items c.args.self.now.database (database_is c.self.view_is)
+
+pub returns-in-Err-clause-stand : goal.returns-in-Err-clause-stand
+returns-in-Err-clause-stand g c = same_open _ _ _ _ c.self.inside.sessions.items c.args.self.now.database (database_is c.self.view_is)
+
+pub returns-in_err-found-clause-stand : goal.returns-in_err-found-clause-stand
+returns-in_err-found-clause-stand g c = same_open _ _ _ _ c.self.inside.sessions.items c.args.self.now.database (database_is c.self.view_is)

@@ -14,6 +14,8 @@ use Rattle.heap_versions.proofs.Kept.{kept_shown, on_error}
 use Rattle.heap_versions.proofs.Marks.{conflict_shown, hit_is, mark_shown, marked_heap}
 use Rattle.heap_versions.proofs.Moves.{becomes_it, database_is, has_one, moved, seen_of, table_is, tells_is, tells_of}
 use Rattle.heap_versions.proofs.Stays.{stays_hit}
+use Rattle.heap_versions.proofs.Standings.{one_changed, same_open}
+use Rattle.heap_versions.proofs.RowsAlike.{kept_rows, marked_rows, seen_keeps, seen_rows}
 use Rattle.heap_versions.proofs.versions.HeapVersions.mark.Goals as goal
 
 pub open_of-requires : goal.open_of-requires
@@ -127,3 +129,36 @@ returns-in_err-mark-clause-under_way g c =
     let n = c.args.session in
     let was : transaction_of os n ≡ Some c.open_of.result.now = ap (λ (os : List (Option Open)). transaction_of os n) (sym c.as_slice.ensures.value) ∙ c.open_of.ensures in
     has_one c.mark.new.pages c.self.inside.statuses.items os 0 n c.open_of.result.now _ refl was
+
+pub returns-then-conflicts-clause-stand_conflict : goal.returns-then-conflicts-clause-stand_conflict
+returns-then-conflicts-clause-stand_conflict g c = λ _.
+    let o = c.open_of.result.now in
+    let os = c.self.inside.sessions.items in
+    let now = c.fail_open.new.sessions.items in
+    let n = c.args.session in
+    let was : transaction_of os n ≡ Some o = ap (λ (os : List (Option Open)). transaction_of os n) (sym c.as_slice.ensures.value) ∙ c.open_of.ensures in
+    let is = subst (λ (p : Option Open). IfSome p (λ o. now ≡ set os n (Some (failed_open o)))) was c.fail_open.ensures in
+    one_changed _ _ _ _ os now n (Some (failed_open o)) c.args.self.now.database (database_is c.self.view_is) (rewritten os now n o (Some (failed_open o)) was is)
+
+pub returns-then-conflicts-clause-rows : goal.returns-then-conflicts-clause-rows
+returns-then-conflicts-clause-rows g c = λ _. seen_keeps c.args.table c.self.view_is
+
+pub returns-clause-stand : goal.returns-clause-stand
+returns-clause-stand g c = λ _. same_open _ _ _ _ c.self.inside.sessions.items c.args.self.now.database (database_is c.self.view_is)
+
+pub returns-clause-rows : goal.returns-clause-rows
+returns-clause-rows g c = λ tells.
+    let here = tells_is g.D.Disk.told c.self.view_is tells in
+    let store = c.self.inside.pages in
+    let table = c.args.table in
+    let is_hit = hit_is c.args.session table c.args.hit.now c.self.view_is (c.requires.hit tells) in
+    seen_rows table c.mark.new.pages.pages c.self.view_is
+    (marked_rows store.layout store.pages c.mark.new.pages.pages table c.open_of.result.now.t c.args.hit.now.spot is_hit.row is_hit.blocks (c.blocks_of_a_table_are_one_list.ensures.one store.layout store.pages table) is_hit.has is_hit.there
+    (c.in_ok-mark.ensures.marked here) (c.in_ok-mark.ensures.slots here))
+
+pub returns-in_err-mark-clause-stand_err : goal.returns-in_err-mark-clause-stand_err
+returns-in_err-mark-clause-stand_err g c = on_error c.from_residual.result _ (same_open _ _ _ _ c.self.inside.sessions.items c.args.self.now.database (database_is c.self.view_is))
+
+pub returns-in_err-mark-clause-rows : goal.returns-in_err-mark-clause-rows
+returns-in_err-mark-clause-rows g c = λ tells.
+    seen_rows c.args.table c.mark.new.pages.pages c.self.view_is (kept_rows g.D.Disk.told c.self.inside.pages c.mark.new.pages c.args.table c.in_err-mark.ensures.kept (tells_is g.D.Disk.told c.self.view_is tells))

@@ -7,6 +7,8 @@ use Rattle.heap_versions.proofs.Counts.{no_hit}
 use Rattle.heap_versions.proofs.Kept.{told_before}
 use Rattle.heap_versions.proofs.Looks.{block_still, names_block, refused_behind, table_still}
 use Rattle.heap_versions.proofs.MarkRuns.{all_marked, ends_of, next_hit, one_conflicts, one_marked, others_on}
+use Rattle.heap_versions.proofs.RowsAlike.{keeps_all, keeps_rows_on}
+use Rattle.heap_versions.proofs.Standings.{alike_on, one_on}
 use Rattle.heap_versions.proofs.versions.HeapVersions.mark_hits.Goals as goal
 
 pub mark-requires-clause-table : goal.mark-requires-clause-table
@@ -36,6 +38,8 @@ hits-preserved g c =
       ready = c.in-Ok-mark.ensures.outcome.1;
       others = others_on g.D.Disk.told q.table first.store now.store new.store c.hits.invariant.others c.mark.ensures.others;
       room = c.mark.ensures.room ∙ c.hits.invariant.room;
+      alike = alike_on first.database now.database new.database c.hits.invariant.alike (c.in-Ok-mark.ensures.stand c.in-Marked.is);
+      rows = λ tells. keeps_rows_on g.D.Disk.told first.store now.store new.store q.table c.hits.invariant.others.leaves (c.hits.invariant.rows tells) (c.mark.ensures.rows (c.hits.invariant.others.leaves.tells ∙ tells));
       run = λ tells.
           let here = c.hits.invariant.others.leaves.tells ∙ tells in
           one_marked first now new c.args.session q hits i no_hit c.hits-test.true (c.requires.hits tells).apart (c.hits.invariant.run tells)
@@ -87,3 +91,23 @@ returns-clause-ends g c = λ tells.
     let past : length c.args.hits.now ≤ c.hits.hit-index = omega arith in
     ends_of c.args.self.now c.hits.self c.args.session c.args.query.now c.args.hits.now None are
     (all_marked c.args.self.now c.hits.self c.args.session c.args.query.now c.args.hits.now c.hits.hit-index past are (c.hits.invariant.run tells))
+
+pub returns-in-Conflict-clause-stand_conflict : goal.returns-in-Conflict-clause-stand_conflict
+returns-in-Conflict-clause-stand_conflict g c = λ _.
+    one_on c.args.self.now.database c.hits.self.database c.mark.new.self.database c.args.session _ c.hits.invariant.alike (c.in-Ok-mark.ensures.stand_conflict c.in-Conflict.is)
+
+pub returns-in-Conflict-clause-rows : goal.returns-in-Conflict-clause-rows
+returns-in-Conflict-clause-rows g c = λ tells.
+    let store = c.hits.self.store in
+    keeps_rows_on g.D.Disk.told c.args.self.now.store store c.mark.new.self.store c.args.query.now.table c.hits.invariant.others.leaves (c.hits.invariant.rows tells) (c.mark.ensures.rows (c.hits.invariant.others.leaves.tells ∙ tells))
+
+pub returns-in-Err-mark-clause-stand_err : goal.returns-in-Err-mark-clause-stand_err
+returns-in-Err-mark-clause-stand_err g c = alike_on c.args.self.now.database c.hits.self.database c.mark.new.self.database c.hits.invariant.alike c.in-Err-mark.ensures.stand_err
+
+pub returns-in-Err-mark-clause-rows : goal.returns-in-Err-mark-clause-rows
+returns-in-Err-mark-clause-rows g c = λ tells.
+    let store = c.hits.self.store in
+    keeps_rows_on g.D.Disk.told c.args.self.now.store store c.mark.new.self.store c.args.query.now.table c.hits.invariant.others.leaves (c.hits.invariant.rows tells) (c.mark.ensures.rows (c.hits.invariant.others.leaves.tells ∙ tells))
+
+pub returns-in-Err-clause-rows : goal.returns-in-Err-clause-rows
+returns-in-Err-clause-rows g c = λ _. keeps_all c.args.self.now.store.layout c.args.self.now.store.pages c.args.query.now.table

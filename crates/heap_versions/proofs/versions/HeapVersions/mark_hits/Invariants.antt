@@ -3,6 +3,8 @@ use Rattle.std.specs.Prelude.{None}
 use Rattle.heap_rows.specs.LeavesOthers.{LeavesOthers}
 use Rattle.page_store.specs.Keeps.{Tells}
 use Rattle.row_versions.specs.VersionsState.{HasTransaction}
+use Rattle.heap_versions.specs.RowsAlike.{KeepsRows}
+use Rattle.heap_versions.specs.Standings.{StandAlike}
 use Rattle.heap_versions.proofs.MarkRuns.{MarkedSoFar}
 use Rattle.heap_versions.proofs.versions.HeapVersions.mark_hits.Given as goal
 
@@ -14,5 +16,7 @@ invariant-hits g l = record {
   ready : l.self.store.failed ≡ None;
   others : LeavesOthers g.D.Disk.told l.query.table l.initial.self.store l.self.store;
   room : l.self.room ≡ l.initial.self.room;
+  alike : StandAlike l.initial.self.database l.self.database;
+  rows : Tells g.D.Disk.told l.initial.self.store → KeepsRows l.initial.self.store.layout l.initial.self.store.pages l.self.store.pages l.query.table;
   run : Tells g.D.Disk.told l.initial.self.store → MarkedSoFar l.initial.self l.self l.session l.query l.hits l.hit-index;
 }

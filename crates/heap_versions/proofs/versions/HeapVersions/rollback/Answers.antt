@@ -6,6 +6,7 @@ use Rattle.row_versions.proofs.Ends.{ended_stored, ended_not_begun, rolled_effec
 use Rattle.row_versions.proofs.Copies.{rewritten, still_all, is_there}
 use Rattle.heap_versions.specs.ShownVersions.{shown_tables}
 use Rattle.heap_versions.proofs.Moves.{database_is, moved, tells_is}
+use Rattle.heap_versions.proofs.Standings.{one_changed}
 use Rattle.heap_versions.proofs.versions.HeapVersions.rollback.Goals as goal
 
 pub take_open-open-requires : goal.take_open-open-requires
@@ -36,3 +37,9 @@ returns-clause-database g c = λ tells.
     let was = c.take_open-open.ensures.was in
     rolled_effect (all_versions (shown_tables store.layout store.pages)) c.self.inside.statuses.items os now c.args.session o c.args.self.now.database (database_is c.self.view_is)
     (c.self.invariant.on_pages (tells_is g.D.Disk.told c.self.view_is tells)).versions.stored was (rewritten os now c.args.session o None was c.take_open-open.ensures.gone)
+
+pub returns-clause-stand : goal.returns-clause-stand
+returns-clause-stand g c =
+    let os = c.self.inside.sessions.items in
+    let now = c.take_open-open.new.sessions.items in
+    one_changed _ _ _ _ os now c.args.session None c.args.self.now.database (database_is c.self.view_is) (rewritten os now c.args.session c.take_open-open.result None c.take_open-open.ensures.was c.take_open-open.ensures.gone)
