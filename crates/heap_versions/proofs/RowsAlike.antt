@@ -40,11 +40,11 @@ rows_on old mid new first second = record {
 cases_spot : (a b : Spot) → (a ≡ b) ⊎ (a ≢ b)
 cases_spot a b =
     elim (cases_eq a.block b.block) [
-      | inr apart ↦ inr (λ same. apart (ap (λ (s : Spot). s.block) same))
       | inl blocks ↦ elim (cases_eq a.slot b.slot) [
-          | inr apart ↦ inr (λ same. apart (ap (λ (s : Spot). s.slot) same))
           | inl slots ↦ inl (λ i. record { block = blocks i; slot = slots i })
+          | inr apart ↦ inr (λ same. apart (ap (λ (s : Spot). s.slot) same))
         ]
+      | inr apart ↦ inr (λ same. apart (ap (λ (s : Spot). s.block) same))
     ]
 
 -- a row with another deleter
