@@ -1,5 +1,5 @@
 -- Blocks whose rows are alike but for their deleters.
-use Rattle.std.proofs.Common.{◌≡◌, ◌≢◌, ◌⊎◌, inl, inr, ℕ, List, length, None, Some, refl, sym, ap, subst, ◌∙◌, length-set}
+use Rattle.std.proofs.Common.{◌≡◌, ◌≢◌, ◌⊎◌, inl, inr, ℕ, List, None, Some, refl, sym, ap, subst, ◌∙◌, length-set}
 use Rattle.std.specs.Prelude.{set}
 use Rattle.std.proofs.lemmas.Bool.{cases_eq}
 use Rattle.disk_trait.specs.Told.{Told}
@@ -10,7 +10,7 @@ use Rattle.page_layout.specs.PageWrites.{marked}
 use Rattle.page_layout.specs.RowBytes.{StoredRow}
 use Rattle.page_store.specs.Keeps.{Keeps, Leaves, Tells}
 use Rattle.page_store.specs.PageMap.{PageMap, View}
-use Rattle.heap_rows.specs.HeapBlocks.{HasBlocks, OfBlocks, slots_of}
+use Rattle.heap_rows.specs.HeapBlocks.{HasBlocks, slots_of}
 use Rattle.heap_rows.specs.RowPlaces.{ChangesSlot, MarksRow, MarksSlot, slot_at, with_slot}
 use Rattle.heap_versions.specs.HeapState.{HeapState}
 use Rattle.heap_versions.specs.RowsAlike.{AreAlike, HaveRowsAlike, KeepsRows}
@@ -41,9 +41,9 @@ cases_spot : (a b : Spot) → (a ≡ b) ⊎ (a ≢ b)
 cases_spot a b =
     elim (cases_eq a.block b.block) [
       | inl blocks ↦ elim (cases_eq a.slot b.slot) [
-          | inl slots ↦ inl (λ i. record { block = blocks i; slot = slots i })
-          | inr apart ↦ inr (λ same. apart (ap (λ (s : Spot). s.slot) same))
-        ]
+        | inl slots ↦ inl (λ i. record { block = blocks i; slot = slots i })
+        | inr apart ↦ inr (λ same. apart (ap (λ (s : Spot). s.slot) same))
+      ]
       | inr apart ↦ inr (λ same. apart (ap (λ (s : Spot). s.block) same))
     ]
 

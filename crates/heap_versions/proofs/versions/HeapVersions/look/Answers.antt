@@ -57,8 +57,8 @@ returns-in_err-found-clause-same g c = λ tells.
 pub returns-in-Ok-clause-stand : goal.returns-in-Ok-clause-stand
 returns-in-Ok-clause-stand g c = same_open _ _ _ _ c.self.inside.sessions.items c.args.self.now.database (database_is c.self.view_is)
 
-pub returns-in-Err-clause-stand : goal.returns-in-Err-clause-stand
-returns-in-Err-clause-stand g c = same_open _ _ _ _ c.self.inside.sessions.items c.args.self.now.database (database_is c.self.view_is)
+pub returns-clause-stand : goal.returns-clause-stand
+returns-clause-stand g c = same_open _ _ _ _ c.self.inside.sessions.items c.args.self.now.database (database_is c.self.view_is)
 
 pub returns-in_err-found-clause-stand : goal.returns-in_err-found-clause-stand
 returns-in_err-found-clause-stand g c = same_open _ _ _ _ c.self.inside.sessions.items c.args.self.now.database (database_is c.self.view_is)

@@ -75,6 +75,3 @@ returns-in-Ok-put-clause-stand g c =
 
 pub returns-in-Err-put-clause-stand : goal.returns-in-Err-put-clause-stand
 returns-in-Err-put-clause-stand g c = same_open _ _ _ _ c.self.inside.sessions.items c.args.self.now.database (database_is c.self.view_is)
-
-pub returns-then-open-clause-stand : goal.returns-then-open-clause-stand
-returns-then-open-clause-stand g c = same_open _ _ _ _ c.self.inside.sessions.items c.args.self.now.database (database_is c.self.view_is)
