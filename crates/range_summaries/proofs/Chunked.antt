@@ -1,4 +1,4 @@
--- rows by chunks
+-- rows by chunks, and blocks by ranges
 use Rattle.std.proofs.Common.{◌≡◌, ℕ, suc, zero, ◌+◌, ◌*◌, ◌-◌, ◌/◌, ◌%◌, ◌≤◌, ◌<◌, List, [], ◌∷◌, ◌++◌, take, drop, length, refl, sym, ap, ◌∙◌, arith, All, ◌⊎◌, inl, inr, subst}
 use Rattle.std.proofs.Math.Seq.{take-nil}
 use Rattle.std.proofs.Math.Nat.{mul_comm, mul_assoc, add-mul, mul-le-mul_right, div-mul-le_self, div-lt_iff_lt-mul, lt-div-mul-add}
@@ -7,6 +7,7 @@ use Rattle.std.proofs.lemmas.List.Elements.{All-take, All-drop}
 use Rattle.block_model.specs.declared.row.Row.{Row}
 use Rattle.row_versions.specs.Chunks.{chunk}
 use Rattle.bitmap_scan.proofs.Judging.{range-of}
+use Rattle.range_summaries.specs.IndexContents.{IndexContents}
 
 -- ---- a row more
 
@@ -100,3 +101,20 @@ same_range w from b some low high =
 -- which range it is
 pub less_by : (b m w : ℕ) → 1 ≤ w → b < m * w → b / w < m
 less_by b m w some below = (div-lt_iff_lt-mul some).1 below
+
+-- ranges of blocks of rows
+pub div-div : (n a b : ℕ) → 1 ≤ a → 1 ≤ b → n / (a * b) ≡ n / a / b
+div-div n a b some_a some_b =
+    let q = n / a / b in
+    let low : q * b * a ≤ n / a * a = mul-le-mul_right a (div-mul-le_self (n / a) b) in
+    let next : n / a < q * b + b = lt-div-mul-add some_b in
+    let high : (n / a + 1) * a ≤ (q * b + b) * a = mul-le-mul_right a (omega (arith, next)) in
+    let up : n < n / a * a + a = lt-div-mul-add some_a in
+    let size : q * b * a ≡ q * (a * b) = mul_assoc q b a ∙ ap (λ k. q * k) (mul_comm b a) in
+    let more : (q * b + b) * a ≡ q * (a * b) + a * b = add-mul (q * b) b a ∙ (λ i. size i + mul_comm b a i) in
+    range-of n q (a * b) (omega (arith, low, div-mul-le_self n a, size)) (omega (arith, high, up, add-mul (n / a) 1 a, more))
+
+-- each block below the extent is of a range that has a tuple
+pub record Covers (extent : ℕ) (c : IndexContents) : Type 0 where
+  pub some_pages : 1 ≤ c.pages_per_range
+  pub all_blocks : extent ≤ length c.ranges * c.pages_per_range

@@ -1,7 +1,7 @@
 -- no row of a block that is left out matches the query
-use Rattle.std.proofs.Common.{◌≡◌, false, ◌&&◌, Bool, ℕ, ◌*◌, ◌/◌, ◌<◌, ◌≤◌, All, List, [], ◌∷◌, map, length, get_or, refl, sym, ap, ◌∙◌, subst, arith, inl, inr}
+use Rattle.std.proofs.Common.{◌≡◌, false, ◌&&◌, Bool, ℕ, ◌*◌, ◌/◌, ◌<◌, ◌≤◌, All, List, [], ◌∷◌, map, length, get_or, sym, ap, ◌∙◌, subst, arith, inl, inr}
 use Rattle.std.specs.Prelude.{◌==◌}
-use Rattle.std.specs.List.{AllZip, list_all}
+use Rattle.std.specs.List.{AllZip}
 use Rattle.std.proofs.Math.Bool.{and-false}
 use Rattle.std.proofs.Math.Nat.{mul-le-mul_right}
 use Rattle.std.proofs.lemmas.Bool.{cases_lt}
@@ -16,16 +16,16 @@ use Rattle.block_model.specs.RowMatches.{row_matches}
 use Rattle.range_tuple.specs.TupleIncludes.{TupleIncludes}
 use Rattle.range_tuple.specs.Tuples.{Tuple}
 use Rattle.row_versions.specs.Chunks.{chunk, extent_of}
-use Rattle.row_versions.specs.CoversMatches.{CoversMatches}
 use Rattle.row_versions.specs.VersionsState.{rows_at}
 use Rattle.range_summaries.specs.declared.index_ranges.IndexRanges.{IndexRanges}
 use Rattle.range_summaries.specs.declared.summaries.Summaries.{Summaries}
-use Rattle.range_summaries.specs.ExplainedBlocks.{blocks_kept, index_keeps, indexes_of, rows_per_page_at}
+use Rattle.range_summaries.specs.ExplainedBlocks.{rows_per_page_at}
 use Rattle.range_summaries.specs.IndexContents.{AreRangesOf, contents_of}
-use Rattle.range_summaries.specs.Judged.{Covers, HasNoMatch, passes, tuple_at_block}
+use Rattle.range_summaries.specs.Judged.{HasNoMatch, passes, tuple_at_block}
 use Rattle.range_summaries.specs.LawfulIndexes.{IsLawfulIndex}
-use Rattle.range_summaries.specs.Summarised.{AreSummaries}
-use Rattle.range_summaries.proofs.Chunked.{block_in_range, chunk-past}
+use Rattle.range_summaries.specs.LeavesNoMatch.{LeavesNoMatch}
+use Rattle.range_summaries.specs.Summarised.{AreSummaries, blocks_filled}
+use Rattle.range_summaries.proofs.Chunked.{Covers, block_in_range, chunk-past}
 use Rattle.range_summaries.proofs.Indexed.{some_rows}
 use Rattle.range_summaries.proofs.Judging.{HaveTuples, have_tuples, passes_agree, tuple_agrees}
 
@@ -80,25 +80,19 @@ left_out_more rs rs' table conds a e kept same before alike left = λ block belo
           (left (sym (alike block from below) ∙ ap (λ (l : List IndexRanges). passes l table conds block) same ∙ out) block from below)
     ]
 
--- a select may read the blocks that are kept alone
+-- a scan may read the blocks that are kept alone
 pub covers : (schema : Schema) (tables : List (List Row)) (s : Summaries) (query : Query) (extent : ℕ) → AreSummaries schema tables s
-    → extent ≡ extent_of (rows_per_page_at schema query.table) (rows_at tables query.table) → All (λ r. r.table ≡ query.table → Covers extent (contents_of r)) s.of_indexes.items
+    → extent ≡ blocks_filled schema tables query.table → All (λ r. r.table ≡ query.table → Covers extent (contents_of r)) s.of_indexes.items
     → ((block : ℕ) → block < extent → passes s.of_indexes.items query.table query.conds block ≡ false → HasNoMatch s.of_indexes.items query.table query.conds block)
-    → CoversMatches (rows_at tables query.table) query (rows_per_page_at schema query.table) (blocks_kept schema query.table (rows_at tables query.table) query.conds)
-covers schema tables s query extent h ends cover left = record {
-  passes = λ block. list_all (index_keeps schema rows query.conds block) (indexes_of schema query.table);
-  extent = extent_of rpp rows;
-  blocks_are = refl;
-  all_rows = all;
-  left_out = λ block out. elim (cases_lt block extent) [
-    | inl below ↦
-        let there = have_tuples query.table extent block s.of_indexes.items cover below in
-        none_matches schema tables s query block h there (left block below (passes_agree schema tables query.table query.conds block schema.indexes s.of_indexes.items h.each there ∙ out))
-    | inr past ↦
-        let more : extent_of rpp rows * rpp ≤ block * rpp = mul-le-mul_right rpp (subst (λ n. n ≤ block) ends past) in
-        subst (All (λ row. row_matches query row ≡ false)) (sym (chunk-past rpp rows block (omega (arith, all, more)))) (All-nil (λ row. row_matches query row ≡ false))
-  ];
-}
+    → LeavesNoMatch schema (rows_at tables query.table) query
+covers schema tables s query extent h ends cover left = λ block out. elim (cases_lt block extent) [
+  | inl below ↦
+      let there = have_tuples query.table extent block s.of_indexes.items cover below in
+      none_matches schema tables s query block h there (left block below (passes_agree schema tables query.table query.conds block schema.indexes s.of_indexes.items h.each there ∙ out))
+  | inr past ↦
+      let more : extent_of rpp rows * rpp ≤ block * rpp = mul-le-mul_right rpp (subst (λ n. n ≤ block) ends past) in
+      subst (All (λ row. row_matches query row ≡ false)) (sym (chunk-past rpp rows block (omega (arith, all, more)))) (All-nil (λ row. row_matches query row ≡ false))
+]
   where
     rpp : ℕ
     rpp = rows_per_page_at schema query.table

@@ -3,7 +3,7 @@ use Rattle.std.proofs.Common.{◌≡◌, Bool, true, false, cond, not, ◌&&◌,
 use Rattle.std.specs.Prelude.{◌==◌}
 use Rattle.std.specs.List.{AllZip, filter, list_all, range_with_len}
 use Rattle.std.proofs.lemmas.List.{get_or_default}
-use Rattle.std.proofs.lemmas.List.Elements.{All-head, All-tail, All-weaker}
+use Rattle.std.proofs.lemmas.List.Elements.{All-cons, All-head, All-nil, All-tail, All-weaker}
 use Rattle.block_model.specs.declared.row.Cond.{Cond}
 use Rattle.block_model.specs.declared.row.Row.{Row}
 use Rattle.block_model.specs.declared.schema.Index.{Index}
@@ -16,9 +16,9 @@ use Rattle.range_summaries.specs.declared.index_ranges.IndexRanges.{IndexRanges}
 use Rattle.range_summaries.specs.declared.summaries.Summaries.{Summaries}
 use Rattle.range_summaries.specs.ExplainedBlocks.{blocks_kept, index_keeps, indexes_of, range_tuple, rows_per_page_at}
 use Rattle.range_summaries.specs.IndexContents.{AreRangesOf, contents_of, range_at}
-use Rattle.range_summaries.specs.Judged.{Covers, passes, tuple_at_block}
+use Rattle.range_summaries.specs.Judged.{passes, tuple_at_block}
 use Rattle.range_summaries.specs.Summarised.{AreSummaries}
-use Rattle.range_summaries.proofs.Chunked.{less_by, same_range}
+use Rattle.range_summaries.proofs.Chunked.{Covers, less_by, same_range}
 
 -- in each index of the table the range of the block has a tuple
 abbrev pub HaveTuples : ℕ → ℕ → List IndexRanges → Type 0
@@ -85,3 +85,13 @@ kept_agree schema tables s table extent conds h ends covers =
     filter_in_a_row (passes s.of_indexes.items table conds) (λ block. list_all (index_keeps schema (rows_at tables table) conds block) (indexes_of schema table)) 0 extent
     (λ block low high. passes_agree schema tables table conds block schema.indexes s.of_indexes.items h.each (have_tuples table extent block s.of_indexes.items covers (omega (arith, high))))
     ∙ ap (λ n. filter (λ block. list_all (index_keeps schema (rows_at tables table) conds block) (indexes_of schema table)) (range_with_len 0 n)) ends
+
+-- blocks in a row that pass are below the end
+pub below_all : (p : ℕ → Bool) (a n end : ℕ) → a + n ≤ end → All (λ block. block < end) (filter p (range_with_len a n))
+below_all p a zero end within = All-nil (λ block. block < end)
+below_all p a (suc n) end within =
+    let rest : All (λ block. block < end) (filter p (range_with_len (a + 1) n)) = below_all p (a + 1) n end (omega (arith, within)) in
+    elim (p a) as (λ b. All (λ block. block < end) (cond b (a ∷ filter p (range_with_len (a + 1) n)) (filter p (range_with_len (a + 1) n)))) [
+      | true ↦ All-cons (λ block. block < end) a (filter p (range_with_len (a + 1) n)) (omega (arith, within)) rest
+      | false ↦ rest
+    ]

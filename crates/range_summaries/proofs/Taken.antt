@@ -1,10 +1,9 @@
 -- the tuples of an index take the rows of its table
-use Rattle.std.proofs.Common.{◌≡◌, true, ℕ, zero, suc, ◌<◌, All, List, [], ◌∷◌, map, length, slice_get, Some, refl, sym, ◌∙◌, subst, arith}
+use Rattle.std.proofs.Common.{◌≡◌, true, ℕ, zero, suc, ◌<◌, All, List, [], ◌∷◌, map, length, slice_get, Some, refl, sym, subst, arith}
 use Rattle.std.specs.Prelude.{nat_lt}
 use Rattle.std.specs.List.{list_all}
 use Rattle.std.proofs.lemmas.Bool.{and_parts, ltb-true}
 use Rattle.std.proofs.lemmas.List.Elements.{All-nil, All-cons}
-use Rattle.block_model.specs.declared.row.Row.{Row}
 use Rattle.block_model.specs.declared.schema.Class.{Class}
 use Rattle.block_model.specs.declared.schema.Column.{Column}
 use Rattle.block_model.specs.declared.schema.Index.{Index}
@@ -21,12 +20,11 @@ use Rattle.statements.specs.StatementFits.{AreValuesFor}
 use Rattle.opclass_any.specs.AnyClass.{class_of}
 use Rattle.range_tuple.specs.KindValues.{IsOfKind}
 use Rattle.range_tuple.specs.TupleIncludes.{TupleTakesRow, TakesThere, TakesValue}
-use Rattle.range_tuple.specs.Tuples.{Tuple, empty_column, part_of, parts_of, with_row}
+use Rattle.range_tuple.specs.Tuples.{Tuple, empty_column, part_of, parts_of}
 use Rattle.opclass_any.specs.declared.classes.AnyClass.{AnyClass}
-use Rattle.range_tuple.specs.SameIndex.{parts-with_row, takes_by_parts}
-use Rattle.range_summaries.specs.ExplainedBlocks.{empty_tuple, range_tuple, rows_per_range, with_rows}
+use Rattle.range_tuple.specs.SameIndex.{takes_by_parts}
+use Rattle.range_summaries.specs.IndexContents.{parts_indexed}
 use Rattle.range_summaries.specs.LawfulIndexes.{IsLawfulIndex}
-use Rattle.row_versions.specs.Chunks.{chunk}
 
 -- classes take the values of the kinds that they take
 abbrev pub AreTaken : Type 0
@@ -63,14 +61,8 @@ each_taken taken columns values (part ∷ parts) h within lawful =
     (one_taken taken columns values part h (and_parts _ _ within).0 (and_parts _ _ lawful).0)
     (each_taken taken columns values parts h (and_parts _ _ within).1 (and_parts _ _ lawful).1)
 
--- rows leave the columns what they are
-parts-with_rows : (rows : List Row) (t : Tuple) → parts_of (with_rows rows t).columns ≡ parts_of t.columns
-parts-with_rows [] t = refl
-parts-with_rows (row ∷ rows) t = parts-with_rows rows (with_row row.values t) ∙ parts-with_row row.values t.columns
-
--- the tuple of a range takes a row of the table
-pub range_takes : AreTaken → (schema : Schema) (index : Index) (rows : List Row) (range : ℕ) (values : List Value) → IsLawfulIndex schema index → AreValuesFor (columns_of schema index) values → TupleTakesRow (range_tuple schema index rows range) values
-range_takes taken schema index rows range values of_index fits =
-    takes_by_parts (range_tuple schema index rows range).columns values
-    (subst (All (λ (p : ℕ × AnyClass). TakesThere p.1 (slice_get values p.0))) (sym (parts-with_rows (chunk (rows_per_range schema index) rows range) (empty_tuple schema index range)))
-    (each_taken taken (columns_of schema index) values index.parts fits of_index.columns of_index.classes))
+-- a tuple of the index takes a row of its table
+pub index_takes : AreTaken → (schema : Schema) (index : Index) (values : List Value) (t : Tuple) → IsLawfulIndex schema index → AreValuesFor (columns_of schema index) values → parts_of t.columns ≡ parts_indexed schema index → TupleTakesRow t values
+index_takes taken schema index values t of_index fits same =
+    takes_by_parts t.columns values
+    (subst (All (λ (p : ℕ × AnyClass). TakesThere p.1 (slice_get values p.0))) (sym same) (each_taken taken (columns_of schema index) values index.parts fits of_index.columns of_index.classes))

@@ -61,3 +61,9 @@ zip-set R [] (y ∷ ys) i a b h here = absurd h
 zip-set R (x ∷ xs) [] i a b h here = absurd h
 zip-set R (x ∷ xs) (y ∷ ys) zero a b h here = (here, h.1)
 zip-set R (x ∷ xs) (y ∷ ys) (suc i) a b h here = (h.0, zip-set R xs ys i a b h.1 here)
+
+-- a change of an element that a map doesn't see
+pub map-set_alike : {A B : Type 0} (f : A → B) (xs : List A) (i : ℕ) (y d : A) → i < length xs → f y ≡ f (get_or xs i d) → map f (set xs i y) ≡ map f xs
+map-set_alike f [] i y d within same = absurd (omega (arith, within))
+map-set_alike f (x ∷ xs) zero y d within same = ap (λ b. b ∷ map f xs) same
+map-set_alike f (x ∷ xs) (suc i) y d within same = ap (λ l. f x ∷ l) (map-set_alike f xs i y d (omega (arith, within)) same)

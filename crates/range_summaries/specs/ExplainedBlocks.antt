@@ -1,5 +1,5 @@
 -- which blocks an explain names: those that a scan must read ("Introduction" to BRIN indexes)
-use Rattle.std.specs.Prelude.{ℕ, ◌*◌, ◌/◌, ◌==◌, Bool, false, List, fold, map, slice_get, Option, None, Some}
+use Rattle.std.specs.Prelude.{ℕ, ◌*◌, ◌==◌, Bool, false, List, fold, map, slice_get, Option, None, Some}
 use Rattle.std.specs.List.{filter, list_all}
 use Rattle.block_model.specs.declared.row.Cond.{Cond}
 use Rattle.block_model.specs.declared.row.Row.{Row}
@@ -46,10 +46,13 @@ range_tuple schema index rows range = with_rows (chunk (rows_per_range schema in
 abbrev pub index_keeps : Schema → List Row → List Cond → ℕ → Index → Bool
 index_keeps schema rows conds block index = is_candidate (λ range. Some (range_tuple schema index rows range)) conds index.pages_per_range block
 
+-- by each index of the table of that number it may
+abbrev pub all_keep : Schema → ℕ → List Row → List Cond → ℕ → Bool
+all_keep schema table rows conds block = list_all (index_keeps schema rows conds block) (indexes_of schema table)
+
 -- the blocks of a table that its rows fill and that are candidates of each index, in ascending order
 abbrev pub blocks_kept : Schema → ℕ → List Row → List Cond → List ℕ
-blocks_kept schema table rows conds =
-    blocks_where (λ block. list_all (index_keeps schema rows conds block) (indexes_of schema table)) (extent_of (rows_per_page_at schema table) rows)
+blocks_kept schema table rows conds = blocks_where (all_keep schema table rows conds) (extent_of (rows_per_page_at schema table) rows)
 
 -- the blocks that an explain of the query names, where rows were put in this order
 abbrev pub explained : DiskLayout → List Row → Query → List ℕ

@@ -1,10 +1,12 @@
 -- the ranges of an index
-use Rattle.std.specs.Prelude.{◌≡◌, ℕ, ◌*◌, ◌/◌, ◌<◌, ◌≤◌, true, List, [], length, slice_index_or, All}
+use Rattle.std.specs.Prelude.{◌≡◌, ℕ, ◌*◌, ◌/◌, ◌<◌, ◌≤◌, true, List, [], length, map, slice_index_or, All}
 use Rattle.block_model.specs.declared.row.Row.{Row}
 use Rattle.block_model.specs.declared.schema.Index.{Index}
 use Rattle.block_model.specs.declared.schema.Schema.{Schema}
 use Rattle.range_tuple.specs.TupleIncludes.{TupleIncludes}
-use Rattle.range_tuple.specs.Tuples.{Tuple, tuple_of}
+use Rattle.block_model.specs.IndexedColumns.{columns_of}
+use Rattle.opclass_any.specs.declared.classes.AnyClass.{AnyClass}
+use Rattle.range_tuple.specs.Tuples.{Tuple, empty_column, parts_of, tuple_of}
 use Rattle.row_versions.specs.Chunks.{chunk}
 use Rattle.row_versions.specs.VersionsState.{rows_at}
 use Rattle.range_summaries.specs.declared.index_ranges.IndexRanges.{IndexRanges}
@@ -14,12 +16,11 @@ use Rattle.range_summaries.specs.ExplainedBlocks.{range_tuple, rows_per_range}
 pub record IndexContents : Type 0 where
   pub table : ℕ
   pub pages_per_range : ℕ
-  pub rows_per_range : ℕ
   pub ranges : List Tuple
 
 -- what the ranges are, whatever their room
 abbrev pub contents_of : IndexRanges → IndexContents
-contents_of r = record { table = r.table; pages_per_range = r.pages_per_range; rows_per_range = r.rows_per_range; ranges = r.ranges.items }
+contents_of r = record { table = r.table; pages_per_range = r.pages_per_range; ranges = r.ranges.items }
 
 -- the tuple of the range of that number, and a placeholder where it has none
 abbrev pub range_at : List Tuple → ℕ → Tuple
@@ -35,9 +36,18 @@ pub record AreTuplesOf (schema : Schema) (index : Index) (rows : List Row) (rang
 pub record AreRangesOf (schema : Schema) (tables : List (List Row)) (index : Index) (c : IndexContents) : Type 0 where
   pub of_table : c.table ≡ index.table
   pub pages : c.pages_per_range ≡ index.pages_per_range
-  pub size : c.rows_per_range ≡ rows_per_range schema index
   pub tuples : AreTuplesOf schema index (rows_at tables index.table) c.ranges
 
--- the range in which the row of that place stands has a tuple
+-- the columns that the index has, each with its class
+abbrev pub parts_indexed : Schema → Index → List (ℕ × AnyClass)
+parts_indexed schema index = parts_of (map (empty_column (columns_of schema index)) index.parts)
+
+-- they are ranges of this index, whatever rows they have
+pub record AreRangesFor (schema : Schema) (index : Index) (c : IndexContents) : Type 0 where
+  pub of_table : c.table ≡ index.table
+  pub pages : c.pages_per_range ≡ index.pages_per_range
+  pub columns : All (λ (t : Tuple). parts_of t.columns ≡ parts_indexed schema index) c.ranges
+
+-- the range of the block of that number has a tuple
 abbrev pub HasRangeOf : ℕ → IndexContents → Type 0
-HasRangeOf place c = place / c.rows_per_range < length c.ranges
+HasRangeOf block c = block / c.pages_per_range < length c.ranges

@@ -1,5 +1,5 @@
 -- which blocks the tuples keep
-use Rattle.std.specs.Prelude.{◌≡◌, ℕ, ◌*◌, ◌/◌, ◌<◌, ◌≤◌, ◌==◌, Bool, false, not, ◌||◌, List, length, All, slice_index_or}
+use Rattle.std.specs.Prelude.{◌≡◌, ℕ, ◌/◌, ◌<◌, ◌≤◌, ◌==◌, Bool, false, not, ◌||◌, List, length, All, slice_index_or}
 use Rattle.std.specs.List.{list_all}
 use Rattle.block_model.specs.declared.row.Cond.{Cond}
 use Rattle.block_model.specs.declared.value.Value.{Value}
@@ -9,7 +9,7 @@ use Rattle.range_tuple.specs.TupleIncludes.{TupleIncludes}
 use Rattle.range_tuple.specs.Tuples.{Tuple}
 use Rattle.range_summaries.specs.declared.index_ranges.IndexRanges.{IndexRanges}
 use Rattle.range_summaries.specs.declared.index_ranges.Run.{Run}
-use Rattle.range_summaries.specs.IndexContents.{IndexContents, range_at}
+use Rattle.range_summaries.specs.IndexContents.{range_at}
 
 -- the tuple of the block's range
 abbrev pub tuple_at_block : ℕ → IndexRanges → Tuple
@@ -38,8 +38,3 @@ IncludeAtBlock of_indexes table block row = All (λ r. r.table ≡ table → Tup
 -- no such row matches the conditions
 abbrev pub HasNoMatch : List IndexRanges → ℕ → List Cond → ℕ → Type 0
 HasNoMatch of_indexes table conds block = (row : List Value) → IncludeAtBlock of_indexes table block row → list_all (column_matches row) conds ≡ false
-
--- each block below the extent is of a range that has a tuple
-pub record Covers (extent : ℕ) (c : IndexContents) : Type 0 where
-  pub some_pages : 1 ≤ c.pages_per_range
-  pub all_blocks : extent ≤ length c.ranges * c.pages_per_range

@@ -1,17 +1,17 @@
 //! The summaries of a schema's indexes.
 
-ghost use Rattle.std.specs.Prelude.{◌≡◌, ◌^◌, ◌<◌, ◌≤◌, ℕ, List, [], ◌∷◌, ◌++◌, false, length, map, OnOk, IfOk, All, replicate, slice_set};
+ghost use Rattle.std.specs.Prelude.{◌≡◌, ◌<◌, ◌≤◌, ◌/◌, ℕ, List, [], ◌∷◌, ◌++◌, false, length, map, OnOk, IfOk, All, replicate, slice_set};
 ghost use Rattle.std.specs.List.{AllZip};
 ghost use Rattle.block_model.specs.declared.row.Row.{Row};
 ghost use Rattle.block_model.specs.declared.schema.Schema.{Schema};
 ghost use Rattle.statements.specs.StatementFits.{IsInsertFor};
-ghost use Rattle.row_versions.specs.CoversMatches.{CoversMatches};
 ghost use Rattle.row_versions.specs.VersionsState.{rows_at};
-ghost use Rattle.range_summaries.specs.ExplainedBlocks.{blocks_kept};
-ghost use Rattle.range_summaries.specs.IndexContents.{AreRangesOf, HasRangeOf, contents_of};
-ghost use Rattle.range_summaries.specs.Judged.{AreRunsOf, Covers, HasNoMatch, passes};
+ghost use Rattle.range_summaries.specs.ExplainedBlocks.{blocks_kept, rows_per_page_at};
+ghost use Rattle.range_summaries.specs.IndexContents.{AreRangesFor, AreRangesOf, HasRangeOf, contents_of};
+ghost use Rattle.range_summaries.specs.Judged.{AreRunsOf, HasNoMatch, passes};
 ghost use Rattle.range_summaries.specs.LawfulIndexes.{HasLawfulIndexes};
-ghost use Rattle.range_summaries.specs.Summarised.{AreFor, AreSummaries, HasRangesFor};
+ghost use Rattle.range_summaries.specs.LeavesNoMatch.{LeavesNoMatch};
+ghost use Rattle.range_summaries.specs.Summarised.{AreFor, AreOfSchema, AreSummaries, HasRangesFor, blocks_filled};
 
 use crate::index_ranges::{IndexRanges, Run, ranges_of};
 use crate::limits::MAX_INDEXES;
@@ -35,7 +35,8 @@ pub struct Summaries {
 impl Summaries {
     /// Those of the layout's indexes, for tables without rows.
     pub fn new(alloc: Global, layout: &Layout) -> Result<Summaries, NoMemory>
-        ensures { IfOk result (λ s. AreSummaries layout.now.schema (replicate (length layout.now.schema.tables) []) s) }
+        ensures fit { IfOk result (AreOfSchema layout.now.schema) }
+        ensures exact { IfOk result (λ s. AreSummaries layout.now.schema (replicate (length layout.now.schema.tables) []) s) }
     {
         lawful(layout);
         let summaries = Summaries::of_schema(alloc, layout.schema())?;
@@ -44,60 +45,55 @@ impl Summaries {
 
     fn of_schema(alloc: Global, schema: &Schema) -> Result<Summaries, NoMemory>
         requires { HasLawfulIndexes schema.now }
-        ensures { IfOk result (λ s. AreSummaries schema.now (replicate (length schema.now.tables) []) s) }
+        ensures fit { IfOk result (AreOfSchema schema.now) }
+        ensures exact { IfOk result (λ s. AreSummaries schema.now (replicate (length schema.now.tables) []) s) }
     {
         let mut of_indexes = Vec::new(alloc);
         'indexes: for index in schema.indexes.as_slice() {
-            of_indexes.push(ranges_of(alloc, schema, index))?;
+            of_indexes.push(ranges_of(alloc, index))?;
         }
         Ok(Summaries { alloc, of_indexes })
     }
 
-    /// Takes the memory that `widen` needs for the next row of the table, which stands at that place: in each index of the
-    /// table the tuple of a range that the row starts. After a refusal the summaries are still those of the rows.
-    pub fn make_room(&mut self, schema: &Schema, table: u8, place: usize) -> Result<(), NoMemory>
-        requires few { place < 2 ^ 32 }
-        requires row { (tables : List (List Row)) × AreSummaries schema.now tables self.old × (length (rows_at tables table) ≡ place) }
+    /// Takes the memory that `widen` needs for the next row of the table, up to that block, which is the one behind those that the
+    /// rows fill at most: in each index of the table the tuple of a range that the block starts. After a refusal the summaries
+    /// are still those of the rows.
+    pub fn make_room(&mut self, schema: &Schema, table: u8, block: u32) -> Result<(), NoMemory>
+        requires { AreOfSchema schema.now self.old }
+        ensures fit { AreOfSchema schema.now self.new }
         ensures kept { (tables : List (List Row)) → AreSummaries schema.now tables self.old → AreSummaries schema.now tables self.new }
-        ensures ok { OnOk result (HasRangesFor self.new table place) }
+        ensures ok { OnOk result ((tables : List (List Row)) → AreSummaries schema.now tables self.old → block ≤ blocks_filled schema.now tables table → HasRangesFor self.new table block) }
     {
         let alloc = self.alloc;
-        make_room_in_each(&mut self.of_indexes, alloc, schema, table, place)?;
+        make_room_in_each(&mut self.of_indexes, alloc, schema, table, block)?;
         Ok(())
     }
 
-    /// Adds the row's values to the tuple of the range in which the row of that place stands, in each index of the table. There
-    /// is room for it. Takes no memory.
-    pub fn widen(&mut self, table: u8, place: usize, values: &[Value])
-        requires room { HasRangesFor self.old table place }
-        requires row { (schema : Schema) × (tables : List (List Row)) × AreSummaries schema tables self.old × IsInsertFor schema table values.now × (length (rows_at tables table) ≡ place) }
-        ensures { (schema : Schema) (tables : List (List Row)) (row : Row) → AreSummaries schema tables self.old → IsInsertFor schema table values.now → length (rows_at tables table) ≡ place
-            → row.values ≡ values.now → AreSummaries schema (slice_set tables table (rows_at tables table ++ row ∷ [])) self.new }
+    /// Adds the values of the table's next row, which stands in that block, to the tuple of the block's range, in each index of the
+    /// table. Takes no memory.
+    pub fn widen(&mut self, table: u8, block: u32, values: &[Value])
+        requires { (schema : Schema) × AreOfSchema schema self.old × IsInsertFor schema table values.now }
+        ensures fit { (schema : Schema) → AreOfSchema schema self.old → AreOfSchema schema self.new }
+        ensures row { (schema : Schema) (tables : List (List Row)) (row : Row) → AreSummaries schema tables self.old → IsInsertFor schema table values.now → HasRangesFor self.old table block
+            → block ≡ length (rows_at tables table) / rows_per_page_at schema table → row.values ≡ values.now → AreSummaries schema (slice_set tables table (rows_at tables table ++ row ∷ [])) self.new }
     {
         values_of_a_kind_are_taken();
         'indexes: for ranges in self.of_indexes.iter_mut() {
-            ranges.widen(table, place, values);
+            ranges.widen(table, block, values);
         }
     }
 
-    /// Appends the blocks that a scan for the query must read, in ascending order, where the query's table has as many rows as
-    /// said, and each of its pages takes as many as said. No row of another block matches the query. Each range is
-    /// judged at most once in each index, by conditions that are gathered once.
-    pub fn candidates(
-        &self,
-        query: &Query,
-        rows: usize,
-        rows_per_page: u16,
-        out: &mut Blocks,
-    ) -> Result<(), NoMemory>
-        requires few { rows < 2 ^ 32 }
-        requires rows { (schema : Schema) × (tables : List (List Row)) × AreFor schema tables self.now query.now rows rows_per_page }
-        ensures blocks { (schema : Schema) (tables : List (List Row)) → AreFor schema tables self.now query.now rows rows_per_page
+    /// Appends the blocks that a scan for the query must read, in ascending order, where the rows of the query's table fill as
+    /// many blocks as said. No row of another block matches the query. Each range is judged at most once in each index, by
+    /// conditions that are gathered once; a range without a tuple is kept.
+    pub fn candidates(&self, query: &Query, extent: u32, out: &mut Blocks) -> Result<(), NoMemory>
+        requires { (schema : Schema) × AreOfSchema schema self.now }
+        ensures within { OnOk result ((kept : List ℕ) × (out.new ≡ out.old ++ kept) × All (λ block. block < extent) kept) }
+        ensures blocks { (schema : Schema) (tables : List (List Row)) → AreFor schema tables self.now query.now extent
             → OnOk result (out.new ≡ out.old ++ blocks_kept schema query.now.table (rows_at tables query.now.table) query.now.conds) }
-        ensures covers { (schema : Schema) (tables : List (List Row)) → AreFor schema tables self.now query.now rows rows_per_page
-            → OnOk result (CoversMatches (rows_at tables query.now.table) query.now rows_per_page (blocks_kept schema query.now.table (rows_at tables query.now.table) query.now.conds)) }
+        ensures covers { (schema : Schema) (tables : List (List Row)) → AreFor schema tables self.now query.now extent
+            → OnOk result (LeavesNoMatch schema (rows_at tables query.now.table) query.now) }
     {
-        let extent = (rows as u32).div_ceil(u32::from(rows_per_page));
         let of_indexes = self.of_indexes.as_slice();
         let keys = ScanKeys::new(query.conds.as_slice());
         let mut known = [NO_BLOCKS; MAX_INDEXES];
@@ -119,19 +115,20 @@ fn make_room_in_each(
     alloc: Global,
     schema: &Schema,
     table: u8,
-    place: usize,
+    block: u32,
 ) -> Result<(), NoMemory>
     requires lawful { HasLawfulIndexes schema.now }
-    requires few { place < 2 ^ 32 }
-    requires row { (tables : List (List Row)) × AllZip (AreRangesOf schema.now tables) schema.now.indexes (map contents_of of_indexes.old) × (length (rows_at tables table) ≡ place) }
+    requires fit { AllZip (AreRangesFor schema.now) schema.now.indexes (map contents_of of_indexes.old) }
     ensures as_many { length of_indexes.new ≡ length of_indexes.old }
+    ensures fit { AllZip (AreRangesFor schema.now) schema.now.indexes (map contents_of of_indexes.new) }
     ensures kept { (tables : List (List Row)) → AllZip (AreRangesOf schema.now tables) schema.now.indexes (map contents_of of_indexes.old) → AllZip (AreRangesOf schema.now tables) schema.now.indexes (map contents_of of_indexes.new) }
-    ensures ok { OnOk result (All (λ r. r.table ≡ table → HasRangeOf place (contents_of r)) of_indexes.new) }
+    ensures ok { OnOk result ((tables : List (List Row)) → AllZip (AreRangesOf schema.now tables) schema.now.indexes (map contents_of of_indexes.old) → block ≤ blocks_filled schema.now tables table
+        → All (λ r. r.table ≡ table → HasRangeOf block (contents_of r)) of_indexes.new) }
 {
     let indexes = schema.indexes.as_slice();
     'indexes: for at in 0..of_indexes.len() {
         let ranges = &mut of_indexes[at];
-        ranges.make_room(alloc, schema, &indexes[at], table, place)?;
+        ranges.make_room(alloc, schema, &indexes[at], table, block)?;
     }
     Ok(())
 }
@@ -155,7 +152,7 @@ fn next_run(
     extent: u32,
 ) -> Run
     requires below { from < extent }
-    requires covered { All (λ r. r.table ≡ query.now.table → Covers extent (contents_of r)) of_indexes.now }
+    requires some_pages { All (λ r. 1 ≤ r.pages_per_range) of_indexes.now }
     requires places { length of_indexes.now ≤ length known.old }
     requires keys { keys.now ≡ query.now.conds }
     requires known { AreRunsOf query.now.conds from extent of_indexes.now known.old }

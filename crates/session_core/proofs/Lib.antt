@@ -3,7 +3,13 @@ pub mod Transactions
 pub mod LegalRequests
 pub mod Promising
 pub mod RowsByTable
+pub mod Standing
+pub mod Ordered
+pub mod OnPages
+pub mod Covered
+pub mod Putting
 pub mod Acting
+pub mod Marking
 pub mod SessionLists
 pub mod Keeping
 pub mod Ending

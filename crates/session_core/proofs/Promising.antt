@@ -1,16 +1,16 @@
 -- what is promised to one session, and to the others
 use Rattle.std.proofs.Common.{◌≡◌, ℕ, zero, suc, ◌+◌, ◌*◌, ◌<◌, ◌≤◌, Bool, true, false, if◌then◌else◌, List, [], ◌∷◌, ◌++◌, length, get_or, set, refl, ap, ◌∙◌, arith, Option, None, Some}
-use Rattle.std.specs.Ordering.{nat_cmp}
-use Rattle.std.specs.FinMap.{FinMap, get}
-use Rattle.block_model.specs.DatabaseState.{OpenTransaction}
+use Rattle.row_versions.specs.declared.standing.Standing.{Standing}
+use Rattle.row_versions.specs.declared.standing.Standing.TheVariants as standings
 use Rattle.statements.specs.declared.statement.Statement.{Statement}
 use Rattle.statements.specs.declared.statement.Statement.TheVariants as statements
 use Rattle.statements.specs.declared.limits.TheConstants.{MAX_SESSIONS}
 use Rattle.session_core.specs.declared.limits.TheConstants.{ENTRIES_A_SESSION, MAX_PROMISED}
 use Rattle.session_core.specs.Promises.{begins_in, begins, promised_to, promised, KeepsPromises}
 
-abbrev Transactions : Type 0
-Transactions = FinMap nat_cmp OpenTransaction
+-- how each session stands
+abbrev Stands : Type 0
+Stands = ℕ → Standing
 
 few_begins : (hand : Option Statement) → begins_in hand ≤ 1
 few_begins None = omega arith
@@ -26,31 +26,21 @@ few_begins (Some (statements.Desummarize index block)) = omega arith
 few_begins (Some (statements.Vacuum table)) = omega arith
 few_begins (Some statements.Work) = omega arith
 
-few_promised : (b : Bool) → (if b then 1 else 2) ≤ 2
-few_promised true = omega arith
-few_promised false = omega arith
+pub at_most_three : (hand : Option Statement) (standing : Standing) → promised_to hand standing ≤ ENTRIES_A_SESSION
+at_most_three hand standings.Idle = omega (arith, few_begins hand)
+at_most_three hand standings.UnderWay = omega arith
+at_most_three hand standings.Failed = omega arith
 
-pub at_most_three : (hand : Option Statement) (o : Option OpenTransaction) → promised_to hand o ≤ ENTRIES_A_SESSION
-at_most_three hand None = omega (arith, few_begins hand)
-at_most_three hand (Some x) = omega (arith, few_promised x.failed)
+pub at_most_two : (standing : Standing) → promised_to None standing ≤ 2
+at_most_two standings.Idle = omega arith
+at_most_two standings.UnderWay = omega arith
+at_most_two standings.Failed = omega arith
 
-pub at_most_two : (o : Option OpenTransaction) → promised_to None o ≤ 2
-at_most_two None = omega arith
-at_most_two (Some x) = few_promised x.failed
-
--- a transaction under way is promised its end
-pub some_promised : (x : OpenTransaction) (hand : Option Statement) → 1 ≤ promised_to hand (Some x)
-some_promised x hand = some_of x.failed
-  where
-    some_of : (b : Bool) → 1 ≤ (if b then 1 else 2)
-    some_of true = omega arith
-    some_of false = omega arith
-
-promised_bound : (ss : Transactions) (k : ℕ) (hands : List (Option Statement)) → promised ss k hands ≤ ENTRIES_A_SESSION * length hands
+promised_bound : (ss : Stands) (k : ℕ) (hands : List (Option Statement)) → promised ss k hands ≤ ENTRIES_A_SESSION * length hands
 promised_bound ss k [] = omega arith
-promised_bound ss k (hand ∷ hands) = omega (arith, at_most_three hand (get ss k), promised_bound ss (k + 1) hands)
+promised_bound ss k (hand ∷ hands) = omega (arith, at_most_three hand (ss k), promised_bound ss (k + 1) hands)
 
-pub promised_to_all : (ss : Transactions) (hands : List (Option Statement)) → length hands ≤ MAX_SESSIONS → promised ss 0 hands ≤ MAX_PROMISED
+pub promised_to_all : (ss : Stands) (hands : List (Option Statement)) → length hands ≤ MAX_SESSIONS → promised ss 0 hands ≤ MAX_PROMISED
 promised_to_all ss hands h = omega (arith, promised_bound ss 0 hands)
 
 begins_bound : (hands : List (Option Statement)) → begins hands ≤ length hands
@@ -60,40 +50,40 @@ begins_bound (hand ∷ hands) = omega (arith, few_begins hand, begins_bound hand
 pub begins_of_all : (hands : List (Option Statement)) → length hands ≤ MAX_SESSIONS → begins hands ≤ MAX_SESSIONS
 begins_of_all hands h = omega (arith, begins_bound hands)
 
-promised_alike : (ss ss' : Transactions) (k : ℕ) (hands : List (Option Statement)) → ((m : ℕ) → k ≤ m → get ss' m ≡ get ss m) → promised ss' k hands ≡ promised ss k hands
+promised_alike : (ss ss' : Stands) (k : ℕ) (hands : List (Option Statement)) → ((m : ℕ) → k ≤ m → ss' m ≡ ss m) → promised ss' k hands ≡ promised ss k hands
 promised_alike ss ss' k [] same = refl
 promised_alike ss ss' k (hand ∷ hands) same = λ i. promised_to hand (same k (omega arith) i) + promised_alike ss ss' (k + 1) hands (λ m h. same m (omega arith)) i
 
 -- the promises to session n, of those from number k on, and to the others
-pub record IsShared (ss : Transactions) (k : ℕ) (hands : List (Option Statement)) (n p : ℕ) : Type 0 where
+pub record IsShared (ss : Stands) (k : ℕ) (hands : List (Option Statement)) (n p : ℕ) : Type 0 where
   pub others : ℕ
   pub few : others + ENTRIES_A_SESSION ≤ ENTRIES_A_SESSION * length hands
-  pub before : promised ss k hands ≡ others + promised_to (get_or hands n None) (get ss p)
-  pub after : (ss' : Transactions) (hand : Option Statement) → ((m : ℕ) → (m ≡ p → ⊥) → get ss' m ≡ get ss m) → promised ss' k (set hands n hand) ≡ others + promised_to hand (get ss' p)
+  pub before : promised ss k hands ≡ others + promised_to (get_or hands n None) (ss p)
+  pub after : (ss' : Stands) (hand : Option Statement) → ((m : ℕ) → (m ≡ p → ⊥) → ss' m ≡ ss m) → promised ss' k (set hands n hand) ≡ others + promised_to hand (ss' p)
 
 sum_swapped : (a b : ℕ) → a + b ≡ b + a
 sum_swapped a b = omega arith
 
-pub shared : (ss : Transactions) (k : ℕ) (hands : List (Option Statement)) (n p : ℕ) → n < length hands → p ≡ k + n → IsShared ss k hands n p
+pub shared : (ss : Stands) (k : ℕ) (hands : List (Option Statement)) (n p : ℕ) → n < length hands → p ≡ k + n → IsShared ss k hands n p
 shared ss k [] n p h e = absurd (omega arith)
 shared ss k (hand ∷ hands) zero p h e =
     let at : k ≡ p = omega arith in
     record {
       others = promised ss (k + 1) hands;
       few = omega (arith, promised_bound ss (k + 1) hands);
-      before = ap (λ i. promised_to hand (get ss i) + promised ss (k + 1) hands) at ∙ sum_swapped (promised_to hand (get ss p)) (promised ss (k + 1) hands);
+      before = ap (λ i. promised_to hand (ss i) + promised ss (k + 1) hands) at ∙ sum_swapped (promised_to hand (ss p)) (promised ss (k + 1) hands);
       after = λ ss' hand' same.
-          (λ i. promised_to hand' (get ss' (at i)) + promised_alike ss ss' (k + 1) hands (λ m later. same m (λ here. absurd (omega arith))) i)
-          ∙ sum_swapped (promised_to hand' (get ss' p)) (promised ss (k + 1) hands);
+          (λ i. promised_to hand' (ss' (at i)) + promised_alike ss ss' (k + 1) hands (λ m later. same m (λ here. absurd (omega arith))) i)
+          ∙ sum_swapped (promised_to hand' (ss' p)) (promised ss (k + 1) hands);
     }
 shared ss k (hand ∷ hands) (suc n) p h e =
     let rest = shared ss (k + 1) hands n p (omega arith) (omega arith) in
     record {
-      others = promised_to hand (get ss k) + rest.others;
-      few = omega (arith, rest.few, at_most_three hand (get ss k));
+      others = promised_to hand (ss k) + rest.others;
+      few = omega (arith, rest.few, at_most_three hand (ss k));
       before = omega (arith, rest.before);
       after = λ ss' hand' same.
-          let first : promised_to hand (get ss' k) ≡ promised_to hand (get ss k) = ap (promised_to hand) (same k (λ here. absurd (omega arith))) in
+          let first : promised_to hand (ss' k) ≡ promised_to hand (ss k) = ap (promised_to hand) (same k (λ here. absurd (omega arith))) in
           omega (arith, first, rest.after ss' hand' same);
     }
 
@@ -110,12 +100,12 @@ begins_at (x ∷ hands) (suc n) = omega (arith, begins_at hands n)
 
 -- ---- a session more, with nothing in hand and no transaction
 
-pub promised_appended : (ss : Transactions) (k : ℕ) (hands : List (Option Statement)) (p : ℕ) → p ≡ k + length hands → get ss p ≡ None → promised ss k (hands ++ None ∷ []) ≡ promised ss k hands
-promised_appended ss k [] p e none = omega (arith, ap (promised_to None) (ap (get ss) (there k p e) ∙ none))
+pub promised_appended : (ss : Stands) (k : ℕ) (hands : List (Option Statement)) (p : ℕ) → p ≡ k + length hands → ss p ≡ standings.Idle → promised ss k (hands ++ None ∷ []) ≡ promised ss k hands
+promised_appended ss k [] p e none = omega (arith, ap (promised_to None) (ap ss (there k p e) ∙ none))
   where
     there : (k p : ℕ) → p ≡ k + 0 → k ≡ p
     there k p e = omega arith
-promised_appended ss k (hand ∷ hands) p e none = ap (λ m. promised_to hand (get ss k) + m) (promised_appended ss (k + 1) hands p (omega arith) none)
+promised_appended ss k (hand ∷ hands) p e none = ap (λ m. promised_to hand (ss k) + m) (promised_appended ss (k + 1) hands p (omega arith) none)
 
 pub begins_appended : (hands : List (Option Statement)) → begins (hands ++ None ∷ []) ≡ begins hands
 begins_appended [] = refl

@@ -1,6 +1,7 @@
 pub mod StoreState
 pub mod Submits
 pub mod Steps
+pub mod StoreFaults
 pub mod JournalState
 pub mod TablesKept
 pub mod SessionList

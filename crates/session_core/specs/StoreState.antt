@@ -1,9 +1,8 @@
 -- what a store of sessions is seen as
 use Rattle.std.specs.Prelude.{◌≡◌, ℕ, ◌≤◌, List, [], ◌∷◌, ◌++◌, length, slice_set, slice_index_or, nat_lt, Option, None, Some, refl, if◌then◌else◌}
 use Rattle.std.specs.Coded.{Coded, code_by, coded×, coded_list, coded_option, coded_ℕ}
-use Rattle.store_layout.specs.DiskLayout.{DiskLayout}
-use Rattle.block_model.specs.contracts.schema.Schema as schema_contract
-use Rattle.block_model.specs.contracts.schema.Sizes as sizes_contract
+use Rattle.page_store.specs.PageMap.{View}
+use Rattle.heap_versions.specs.HeapState.{coded_layout, coded_view}
 use Rattle.block_model.specs.contracts.row.Row as row_contract
 use Rattle.block_model.specs.declared.request.Entry.{Entry}
 use Rattle.block_model.specs.contracts.request.Entry as entry_contract
@@ -45,19 +44,24 @@ with_name s name = record s {
   hands = if nat_lt (session_number s.names name) (length s.names) then s.hands else s.hands ++ None ∷ [];
 }
 
--- What holds of every store: its journal is legal from the opening on, and makes the database that the versions show; each
--- session has a place for a statement; and a statement in hand is one that was taken.
+-- What holds where the disk tells its contents: the journal is legal from the opening on, and makes the database that the
+-- versions show.
 pub record IsRefinement (s : StoreState) : Type 0 where
   pub legal : IsLegal s.opening.database s.journal
   pub shown : s.database ≡ database_of s.opening s.journal
+
+-- What holds of the sessions of every store: each has a place for a statement; and a statement in hand is one that was taken.
+pub record AreSessions (s : StoreState) : Type 0 where
   pub fits : length s.journal ≤ MAX_ENTRIES
   pub few_sessions : length s.names ≤ MAX_SESSIONS
   pub a_hand_each : length s.hands ≡ length s.names
   pub taken : (n : ℕ) (statement : Statement) → hand_of s n ≡ Some statement → refusal_at s.database n statement ≡ None
   pub fitting : (n : ℕ) (statement : Statement) → hand_of s n ≡ Some statement → IsStatementFor s.opening.layout.schema statement
 
-abbrev pub coded_layout : Coded DiskLayout
-coded_layout = code_by _ (coded× schema_contract.the_row.coded sizes_contract.the_row.coded) (λ (d : DiskLayout). (d.schema, d.sizes)) (λ p. record { schema = p.0; sizes = p.1 }) (λ _. refl)
+-- a store over pages: its sessions with their journal and database, and the pages with their disk
+pub record PagedStore (D : Type 0) : Type 0 where
+  pub state : StoreState
+  pub pages : View D
 
 abbrev pub coded_opening : Coded Opening
 coded_opening =
@@ -69,3 +73,6 @@ coded_store =
     code_by _ (coded× coded_opening (coded× (coded_list (coded_list coded_ℕ)) (coded× (coded_list (coded_option statement_contract.the_row.coded)) (coded× (coded_list entry_contract.the_row.coded) coded_database))))
     (λ (s : StoreState). (s.opening, (s.names, (s.hands, (s.journal, s.database)))))
     (λ p. record { opening = p.0; names = p.1.0; hands = p.1.1.0; journal = p.1.1.1.0; database = p.1.1.1.1 }) (λ _. refl)
+
+abbrev pub coded_paged : {D : Type 0} → Coded D → Coded (PagedStore D)
+coded_paged {D} code = code_by (StoreState × View D) (coded× coded_store (coded_view code)) (λ (s : PagedStore D). (s.state, s.pages)) (λ p. record { state = p.0; pages = p.1 }) (λ _. refl)

@@ -3,10 +3,10 @@
 ghost use Rattle.std.specs.Prelude.{◌≡◌, ◌+◌, ◌<◌, ◌≤◌, ◌↔◌, IsTrue, [], ◌∷◌, ◌++◌, length, map, OnOk};
 ghost use Rattle.statements.specs.StatementRequests.{tagged_entry};
 ghost use Rattle.statements.specs.declared.limits.TheConstants.{MAX_ENTRIES};
-ghost use Rattle.row_versions.specs.Hits.{mark_of};
+ghost use Rattle.heap_versions.specs.Hits.{mark_of};
 
 use block_model::{Entry, NoMemory, Request, Tag};
-use row_versions::Hit;
+use heap_versions::Hit;
 use statements::MAX_ENTRIES;
 use std::alloc::Global;
 use std::marker::Model;

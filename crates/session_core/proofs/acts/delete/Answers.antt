@@ -1,47 +1,90 @@
-use Rattle.std.proofs.Common.{true, ◌≡◌, ◌+◌, ◌≤◌, refl, arith, subst, ◌∙◌, ap, map, take, length, List, IfSome, Option}
-use Rattle.block_model.specs.declared.request.Request.TheVariants.{Look}
-use Rattle.block_model.specs.declared.request.Tag.TheVariants.{NoMemory}
-use Rattle.block_model.specs.DatabaseState.{OpenTransaction}
-use Rattle.block_model.specs.RequestEffect.{rows_found}
-use Rattle.block_model.specs.declared.reply.Reply.TheVariants as replies
-use Rattle.block_model.specs.declared.reply.Refusal.TheVariants as refusals
-use Rattle.block_model.specs.RequestEffect as answers
+use Rattle.std.proofs.Common.{◌≡◌, ◌∙◌, Err, Vec, List, Some, None, refl, sym, ap, subst, arith}
+use Rattle.page_store.specs.declared.faults.MachineFault.{MachineFault}
+use Rattle.heap_rows.specs.PutAnswers.{NamesTable, SaysFull}
+use Rattle.heap_versions.specs.declared.versions.Hit.{Hit}
+use Rattle.heap_versions.specs.Hits.{AreHits}
 use Rattle.statements.specs.declared.statement.Statement.TheVariants.{Delete}
-use Rattle.statements.specs.declared.limits.TheConstants.{MAX_ENTRIES}
-use Rattle.statements.specs.StatementRequests.{tagged_entry, mark_entries}
-use Rattle.row_versions.specs.declared.versions.Hit.{Hit}
-use Rattle.row_versions.specs.Hits.{mark_of}
-use Rattle.session_core.proofs.Acting.{does_failing, does_from, delete_may_want, delete_is_past, past_of}
+use Rattle.session_core.specs.Acts.{HasTableCause}
+use Rattle.session_core.proofs.Acting.{blocks_still, cause_behind, cause_of, delete_behind, keeps_back, keeps_behind, makes_none, only_reads, query_below, ready_on, still_tells, taken_still, told_before, undone_behind, undone_by}
 use Rattle.session_core.proofs.acts.delete.Goals as goal
 
-pub returns-in_default-clause-ok : goal.returns-in_default-clause-ok
-returns-in_default-clause-ok c =
-    let want = c.want_of_memory in
-    does_failing c.args.tables.now c.args.tables.now want.new.versions c.args.journal.now c.args.journal.now want.new.journal c.args.session (Delete c.args.query)
-    true (tagged_entry c.args.session c.args.query.table (Look c.args.query) NoMemory) answers.NoMemory (replies.Refused refusals.Memory) want.result (delete_may_want c.args.tables.now c.args.journal.now c.args.session c.args.query c.requires.taken)
-    (record { versions = refl; layout = refl; sound = c.requires.taken.sound; entries = refl; room = omega arith }) c.requires.fits want.ensures.fails want.ensures.reply
+pub delete_found-requires-clause-taken : goal.delete_found-requires-clause-taken
+delete_found-requires-clause-taken g c =
+    taken_still g.D.Disk.told c.args.tables.now c.find.new.self c.args.journal.now c.args.journal.now c.args.session (only_reads g.D.Disk.told c.args.tables.now c.find.new.self c.args.journal.now c.find.ensures.fit c.find.ensures.sound c.find.ensures.same c.find.ensures.stand c.find.ensures.kept.leaves c.find.ensures.room) (Delete c.args.query) c.requires.taken
 
-pub returns-in_default-make_room-clause-ok : goal.returns-in_default-make_room-clause-ok
-returns-in_default-make_room-clause-ok c =
-    let want = c.want_of_memory-in_default-make_room in
-    does_failing c.args.tables.now c.args.tables.now want.new.versions c.args.journal.now c.make_room.new.self want.new.journal c.args.session (Delete c.args.query)
-    true (tagged_entry c.args.session c.args.query.table (Look c.args.query) NoMemory) answers.NoMemory (replies.Refused refusals.Memory) want.result (delete_may_want c.args.tables.now c.args.journal.now c.args.session c.args.query c.requires.taken)
-    (record { versions = refl; layout = refl; sound = c.requires.taken.sound; entries = c.make_room.ensures.entries; room = c.make_room.ensures.kept }) c.requires.fits want.ensures.fails want.ensures.reply
+pub delete_found-requires-clause-sound : goal.delete_found-requires-clause-sound
+delete_found-requires-clause-sound g c = λ tells. c.find.ensures.sound (told_before g.D.Disk.told c.args.tables.now.versions.store c.find.new.self.versions.store c.find.ensures.kept.leaves tells)
 
-pub returns-then-not-fits-clause-past : goal.returns-then-not-fits-clause-past
-returns-then-not-fits-clause-past c =
-    let t = c.args.tables.now in
-    let q = c.args.query in
-    let n = c.args.session in
-    let found = c.in-Ok.ensures in
-    let marks = c.marks-marks.result in
-    let within : marks ≤ length c.in-Ok.hits.items = omega (arith, c.marks-marks.ensures.within, ap length c.as_slice.ensures.value) in
-    let are : mark_entries t.versions.database n q.table (rows_found found.transaction q) ≡ map (mark_of n q.table) (take marks c.in-Ok.hits.items) =
-    subst (λ (o : Option OpenTransaction). IfSome o (λ x. mark_entries t.versions.database n q.table (rows_found x q) ≡ map (mark_of n q.table) (take marks c.as_slice.result.now))) found.under_way c.marks-marks.ensures.marks
-    ∙ ap (λ (hits : List Hit). map (mark_of n q.table) (take marks hits)) c.as_slice.ensures.value in
-    delete_is_past t n q found.transaction found.under_way c.in-Ok.hits.items marks within are c.args.journal.now (past_of c.fits.result (length c.args.journal.now.entries + (1 + marks)) MAX_ENTRIES c.fits.ensures.1 c.if-not-fits.true)
+pub delete_found-requires-clause-hits : goal.delete_found-requires-clause-hits
+delete_found-requires-clause-hits g c = λ tells.
+    subst (λ (hits : List Hit). AreHits c.find.new.self.versions c.args.session c.args.query hits) (sym c.as_slice.ensures.value)
+    (c.in-Ok.ensures.hits (told_before g.D.Disk.told c.args.tables.now.versions.store c.find.new.self.versions.store c.find.ensures.kept.leaves tells))
 
-pub returns-clause-ok : goal.returns-clause-ok
-returns-clause-ok c =
-    does_from c.args.tables.now c.delete_hits.new.tables c.args.journal.now c.make_room.new.self c.delete_hits.new.journal c.args.session (Delete c.args.query) c.delete_hits.result
-    c.make_room.ensures.entries c.make_room.ensures.kept c.delete_hits.ensures
+pub delete_found-requires-clause-blocks : goal.delete_found-requires-clause-blocks
+delete_found-requires-clause-blocks g c =
+    blocks_still g.D.Disk.told c.args.tables.now.versions.store c.find.new.self.versions.store c.in-Ok.hits.items c.as_slice.result.now c.find.ensures.kept.leaves c.as_slice.ensures.value c.in-Ok.ensures.within
+
+-- the delete of what was found
+
+pub returns-in-Ok-delete_found-clause-ok : goal.returns-in-Ok-delete_found-clause-ok
+returns-in-Ok-delete_found-clause-ok g c = λ tells.
+    delete_behind g.D.Disk.told c.args.tables.now c.find.new.self c.args.journal.now c.args.journal.now c.args.session (only_reads g.D.Disk.told c.args.tables.now c.find.new.self c.args.journal.now c.find.ensures.fit c.find.ensures.sound c.find.ensures.same c.find.ensures.stand c.find.ensures.kept.leaves c.find.ensures.room) c.args.query tells c.delete_found.new.tables c.delete_found.new.journal c.in-Ok-delete_found.reply
+    (c.in-Ok-delete_found.ensures.ok (still_tells g.D.Disk.told c.args.tables.now.versions.store c.find.new.self.versions.store c.find.ensures.kept.leaves tells))
+
+pub returns-in-Ok-delete_found-clause-kept : goal.returns-in-Ok-delete_found-clause-kept
+returns-in-Ok-delete_found-clause-kept g c =
+    keeps_behind g.D.Disk.told c.args.tables.now c.find.new.self c.args.journal.now c.args.journal.now c.args.session (only_reads g.D.Disk.told c.args.tables.now c.find.new.self c.args.journal.now c.find.ensures.fit c.find.ensures.sound c.find.ensures.same c.find.ensures.stand c.find.ensures.kept.leaves c.find.ensures.room) (Some (Delete c.args.query)) None c.delete_found.new.tables c.delete_found.new.journal
+    c.in-Ok-delete_found.ensures.kept
+
+pub returns-in-Ok-delete_found-clause-ready : goal.returns-in-Ok-delete_found-clause-ready
+returns-in-Ok-delete_found-clause-ready g c = λ none. c.in-Ok-delete_found.ensures.ready c.in-Ok.ensures.cause.1
+
+pub returns-in-Ok-clause-undone : goal.returns-in-Ok-clause-undone
+returns-in-Ok-clause-undone g c = λ tells.
+    undone_behind g.D.Disk.told c.args.tables.now c.find.new.self c.args.journal.now c.args.journal.now c.args.session (only_reads g.D.Disk.told c.args.tables.now c.find.new.self c.args.journal.now c.find.ensures.fit c.find.ensures.sound c.find.ensures.same c.find.ensures.stand c.find.ensures.kept.leaves c.find.ensures.room) c.args.query tells c.delete_found.new.tables c.delete_found.new.journal c.in-Err.undone.fault
+    (c.in-Err.ensures.undone (still_tells g.D.Disk.told c.args.tables.now.versions.store c.find.new.self.versions.store c.find.ensures.kept.leaves tells))
+
+pub returns-in-Ok-clause-still : goal.returns-in-Ok-clause-still
+returns-in-Ok-clause-still g c =
+    keeps_behind g.D.Disk.told c.args.tables.now c.find.new.self c.args.journal.now c.args.journal.now c.args.session (only_reads g.D.Disk.told c.args.tables.now c.find.new.self c.args.journal.now c.find.ensures.fit c.find.ensures.sound c.find.ensures.same c.find.ensures.stand c.find.ensures.kept.leaves c.find.ensures.room) (Some (Delete c.args.query)) (Some (Delete c.args.query)) c.delete_found.new.tables c.delete_found.new.journal
+    c.in-Err.ensures.still
+
+pub returns-in-Ok-clause-stand : goal.returns-in-Ok-clause-stand
+returns-in-Ok-clause-stand g c = λ m. c.in-Err.ensures.stand m ∙ c.find.ensures.stand m
+
+pub returns-in-Ok-clause-cause : goal.returns-in-Ok-clause-cause
+returns-in-Ok-clause-cause g c =
+    cause_behind g.D.Disk.told c.args.tables.now.versions.store c.find.new.self.versions.store c.delete_found.new.tables.versions.store c.in-Err.undone.fault c.in-Ok.ensures.cause.0 c.in-Ok.ensures.cause.1 c.find.ensures.kept.leaves c.in-Err.ensures.cause
+
+-- memory is short for the look
+
+pub no_delete-requires-clause-taken : goal.no_delete-requires-clause-taken
+no_delete-requires-clause-taken g c =
+    taken_still g.D.Disk.told c.args.tables.now c.find.new.self c.args.journal.now c.args.journal.now c.args.session (only_reads g.D.Disk.told c.args.tables.now c.find.new.self c.args.journal.now c.find.ensures.fit c.find.ensures.sound c.find.ensures.same c.find.ensures.stand c.find.ensures.kept.leaves c.find.ensures.room) (Delete c.args.query) c.requires.taken
+
+pub no_delete-requires-clause-sound : goal.no_delete-requires-clause-sound
+no_delete-requires-clause-sound g c = λ tells. c.find.ensures.sound (told_before g.D.Disk.told c.args.tables.now.versions.store c.find.new.self.versions.store c.find.ensures.kept.leaves tells)
+
+pub returns-in-Err-Memory-clause-ok : goal.returns-in-Err-Memory-clause-ok
+returns-in-Err-Memory-clause-ok g c = λ tells.
+    delete_behind g.D.Disk.told c.args.tables.now c.find.new.self c.args.journal.now c.args.journal.now c.args.session (only_reads g.D.Disk.told c.args.tables.now c.find.new.self c.args.journal.now c.find.ensures.fit c.find.ensures.sound c.find.ensures.same c.find.ensures.stand c.find.ensures.kept.leaves c.find.ensures.room) c.args.query tells c.no_delete.new.tables c.no_delete.new.journal c.no_delete.result
+    (c.no_delete.ensures.does (still_tells g.D.Disk.told c.args.tables.now.versions.store c.find.new.self.versions.store c.find.ensures.kept.leaves tells))
+
+pub returns-in-Err-Memory-clause-kept : goal.returns-in-Err-Memory-clause-kept
+returns-in-Err-Memory-clause-kept g c =
+    keeps_behind g.D.Disk.told c.args.tables.now c.find.new.self c.args.journal.now c.args.journal.now c.args.session (only_reads g.D.Disk.told c.args.tables.now c.find.new.self c.args.journal.now c.find.ensures.fit c.find.ensures.sound c.find.ensures.same c.find.ensures.stand c.find.ensures.kept.leaves c.find.ensures.room) (Some (Delete c.args.query)) None c.no_delete.new.tables c.no_delete.new.journal c.no_delete.ensures.kept
+
+-- the page is refused
+
+pub returns-in-Err-Store-clause-undone : goal.returns-in-Err-Store-clause-undone
+returns-in-Err-Store-clause-undone g c = λ tells.
+    undone_by c.args.tables.now c.args.journal.now c.args.session (Delete c.args.query) c.find.new.self c.args.journal.now c.in-Err-Store.error c.fault_of.result c.fault_of.ensures
+    (makes_none g.D.Disk.told c.args.tables.now c.find.new.self c.args.journal.now c.args.journal.now c.args.session (only_reads g.D.Disk.told c.args.tables.now c.find.new.self c.args.journal.now c.find.ensures.fit c.find.ensures.sound c.find.ensures.same c.find.ensures.stand c.find.ensures.kept.leaves c.find.ensures.room) (Delete c.args.query) tells)
+
+pub returns-in-Err-Store-clause-cause : goal.returns-in-Err-Store-clause-cause
+returns-in-Err-Store-clause-cause g c =
+    let s = c.args.tables.now.versions.store in
+    let s' = c.find.new.self.versions.store in
+    cause_of g.D.Disk.told s s' c.args.query.table c.in-Err-Store.error c.fault_of.result (query_below s.layout.schema c.args.query c.requires.taken.fitting)
+    (subst (NamesTable s.layout c.args.query.table) c.in-Err-Store.field-0-is c.in-Err-Store.ensures.names)
+    (subst (λ (fault : MachineFault). HasTableCause {T = List Hit} g.D.Disk.told s s' (Err fault)) c.in-Err-Store.field-0-is c.in-Err-Store.ensures.cause) c.fault_of.ensures

@@ -1,5 +1,5 @@
 use Rattle.std.proofs.Common.{◌≡◌, ◌+◌, ◌≤◌, ◌++◌, map, take}
-use Rattle.row_versions.specs.Hits.{mark_of}
+use Rattle.heap_versions.specs.Hits.{mark_of}
 use Rattle.session_core.proofs.journal.Journal.enter_marks.Given as goal
 
 abbrev pub invariant-hits : goal.invariant-hits
