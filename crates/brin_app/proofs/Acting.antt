@@ -18,10 +18,15 @@ use Rattle.statements.specs.HeapRoom.{finds_full, full_table}
 use Rattle.statements.specs.JournalAnswers.{Opening, database_of, rows_of, reply_behind, requests_behind}
 use Rattle.statements.specs.declared.limits.TheConstants.{MAX_ENTRIES}
 use Rattle.range_summaries.specs.ExplainedBlocks.{explained}
-use Rattle.session_core.specs.StoreState.{StoreState, IsRefinement, hand_of, with_hand}
+use Rattle.session_core.specs.StoreState.{StoreState, AreSessions, IsRefinement, hand_of, with_hand}
 use Rattle.session_core.specs.Submits.{Submits, submit_refusal, refusal_behind, may_want_memory}
 use Rattle.session_core.specs.Steps.{Ends}
 use Rattle.brin_app.specs.Acting.{EndsStatement, StatementPastJournal, HandPastJournal}
+
+-- what is known of a store whose disk tells its contents
+pub record IsKnown (s : StoreState) : Type 0 where
+  pub sessions : AreSessions s
+  pub refines : IsRefinement s
 
 -- nothing speaks against an explain
 explain_taken : (o : Option OpenTransaction) (q : Query) (r : Refusal) → submission_refusal o (statements.Explain q) ≡ Some r → ⊥
@@ -47,22 +52,22 @@ refused_behind o j n (statements.Vacuum table) r h = refused o j n (statements.V
 refused_behind o j n statements.Work r h = refused o j n statements.Work r h
 
 -- nothing is done, and this is the reply
-unchanged : (s : StoreState) (n : ℕ) (statement : Statement) (short : Bool) (reply : Reply) → IsRefinement s → requests_behind s.opening s.journal n short statement ≡ [] → Some reply ≡ reply_behind explained s.opening s.journal n short statement
+unchanged : (s : StoreState) (n : ℕ) (statement : Statement) (short : Bool) (reply : Reply) → IsKnown s → requests_behind s.opening s.journal n short statement ≡ [] → Some reply ≡ reply_behind explained s.opening s.journal n short statement
     → EndsStatement s n statement s reply
 unchanged s n statement short reply known none replied = record {
   short = short;
   replied = replied;
   journal = sym (ap (λ l. s.journal ++ l) none ∙ append-nil s.journal);
-  fits = known.fits;
+  fits = known.sessions.fits;
   opening = refl;
   names = refl;
   hands = refl;
 }
 
 -- what speaks against a statement is what its reply says
-refused_acts : (s : StoreState) (n : ℕ) (statement : Statement) (r : Refusal) → IsRefinement s → refusal_at s.database n statement ≡ Some r → EndsStatement s n statement s (replies.Refused r)
+refused_acts : (s : StoreState) (n : ℕ) (statement : Statement) (r : Refusal) → IsKnown s → refusal_at s.database n statement ≡ Some r → EndsStatement s n statement s (replies.Refused r)
 refused_acts s n statement r known h =
-    let at : refusal_at (database_of s.opening s.journal) n statement ≡ Some r = subst (λ (d : DatabaseState). refusal_at d n statement ≡ Some r) known.shown h in
+    let at : refusal_at (database_of s.opening s.journal) n statement ≡ Some r = subst (λ (d : DatabaseState). refusal_at d n statement ≡ Some r) known.refines.shown h in
     unchanged s n statement false (replies.Refused r) known
     (refused_requests (database_of s.opening s.journal) n false (finds_full s.opening.layout (rows_of s.opening s.journal) statement) statement r at)
     (sym (refused_behind s.opening s.journal n statement r at))
@@ -94,13 +99,13 @@ short_reply o j n (statements.Desummarize index block) may h = absurd (cc)
 short_reply o j n (statements.Vacuum table) may h = absurd (cc)
 short_reply o j n statements.Work may h = absurd (cc)
 
-short_acts : (s : StoreState) (n : ℕ) (statement : Statement) → IsRefinement s → may_want_memory statement ≡ true → refusal_at s.database n statement ≡ None → EndsStatement s n statement s (replies.Refused refusals.Memory)
+short_acts : (s : StoreState) (n : ℕ) (statement : Statement) → IsKnown s → may_want_memory statement ≡ true → refusal_at s.database n statement ≡ None → EndsStatement s n statement s (replies.Refused refusals.Memory)
 short_acts s n statement known may h =
-    let at : refusal_at (database_of s.opening s.journal) n statement ≡ None = subst (λ (d : DatabaseState). refusal_at d n statement ≡ None) known.shown h in
+    let at : refusal_at (database_of s.opening s.journal) n statement ≡ None = subst (λ (d : DatabaseState). refusal_at d n statement ≡ None) known.refines.shown h in
     unchanged s n statement true (replies.Refused refusals.Memory) known (short_requests s.opening s.journal n statement may at) (sym (short_reply s.opening s.journal n statement may at))
 
 -- why a statement wasn't taken, where nothing is in hand
-because_of : (s : StoreState) (n : ℕ) (statement : Statement) (refusal : Refusal) (o : Option Refusal) → IsRefinement s → refusal_at s.database n statement ≡ o
+because_of : (s : StoreState) (n : ℕ) (statement : Statement) (refusal : Refusal) (o : Option Refusal) → IsKnown s → refusal_at s.database n statement ≡ o
     → MatchOption o ((refusal ≡ refusals.Memory) × (may_want_memory statement ≡ true)) (λ because. refusal ≡ because) → EndsStatement s n statement s (replies.Refused refusal)
 because_of s n statement refusal None known at m = subst (λ (r : Refusal). EndsStatement s n statement s (replies.Refused r)) (sym m.0) (short_acts s n statement known m.1 at)
 because_of s n statement refusal (Some because) known at m = subst (λ (r : Refusal). EndsStatement s n statement s (replies.Refused r)) (sym m) (refused_acts s n statement because known at)
@@ -109,7 +114,7 @@ because_of s n statement refusal (Some because) known at m = subst (λ (r : Refu
 judged : (s : StoreState) (n : ℕ) (statement : Statement) → hand_of s n ≡ None → submit_refusal s n statement ≡ refusal_at s.database n statement
 judged s n statement idle = ap (λ o. refusal_behind o (refusal_at s.database n statement)) idle
 
-pub not_taken : (T : Type 0) (s s' : StoreState) (n : ℕ) (statement : Statement) (refusal : Refusal) → IsRefinement s → hand_of s n ≡ None → Submits {T = T} s n statement s' (Err refusal) → EndsStatement s n statement s' (replies.Refused refusal)
+pub not_taken : (T : Type 0) (s s' : StoreState) (n : ℕ) (statement : Statement) (refusal : Refusal) → IsKnown s → hand_of s n ≡ None → Submits {T = T} s n statement s' (Err refusal) → EndsStatement s n statement s' (replies.Refused refusal)
 not_taken T s s' n statement refusal known idle sub =
     subst (λ (t : StoreState). EndsStatement s n statement t (replies.Refused refusal)) (sym sub.0)
     (because_of s n statement refusal (submit_refusal s n statement) known (sym (judged s n statement idle)) sub.1)

@@ -18,16 +18,16 @@ use Rattle.brin_app.specs.ScriptOutput.{exit_status, Texts, Stops, IsScriptOutpu
 
 -- what is known of sessions that have answered lines, with texts over this opening
 record Lifted (opening : Opening) (start : ScriptPlace) (b : Sessions) (lines texts : List (List ℕ)) : Type 0 where
-  idle : AreIdle b.store
-  same : b.store.opening ≡ opening
-  answers : AreAnswers (Texts opening) start lines texts (place_of b.store)
+  idle : AreIdle b.store.state
+  same : b.store.state.opening ≡ opening
+  answers : AreAnswers (Texts opening) start lines texts (place_of b.store.state)
 
 -- the answers of sessions are texts of the script
-lifted : (opening : Opening) (a b : Sessions) (lines texts : List (List ℕ)) → AreIdle a.store → a.store.opening ≡ opening → AreAnswers AnswersLine a lines texts b → Lifted opening (place_of a.store) b lines texts
+lifted : (opening : Opening) (a b : Sessions) (lines texts : List (List ℕ)) → AreIdle a.store.state → a.store.state.opening ≡ opening → AreAnswers AnswersLine a lines texts b → Lifted opening (place_of a.store.state) b lines texts
 lifted opening a b [] [] idle is e = record {
-  idle = subst (λ (s : Sessions). AreIdle s.store) (sym e) idle;
-  same = ap (λ (s : Sessions). s.store.opening) e ∙ is;
-  answers = ap (λ (s : Sessions). place_of s.store) e;
+  idle = subst (λ (s : Sessions). AreIdle s.store.state) (sym e) idle;
+  same = ap (λ (s : Sessions). s.store.state.opening) e ∙ is;
+  answers = ap (λ (s : Sessions). place_of s.store.state) e;
 }
 lifted opening a b [] (t ∷ ts) idle is e = absurd e
 lifted opening a b (l ∷ ls) [] idle is e = absurd e
@@ -38,41 +38,41 @@ lifted opening a b (l ∷ ls) (t ∷ ts) idle is e =
     record {
       idle = rest.idle;
       same = rest.same;
-      answers = (place_of middle.store, subst (λ (o : Opening). Texts o (place_of a.store) l t (place_of middle.store)) is said.said, rest.answers);
+      answers = (place_of middle.store.state, subst (λ (o : Opening). Texts o (place_of a.store.state) l t (place_of middle.store.state)) is said.said, rest.answers);
     }
 
 -- a line that sessions don't answer is one of the script
 stopped_script : {start : ScriptPlace} {texts : List (List ℕ)} (opening : Opening) (final after : Sessions) (script : List ℕ) (left : Option (List ℕ)) (done : List (List ℕ)) (fault : AnswerFault) → Lifted opening start final done texts
-    → Stopped StopsLine final after script left done fault → Stopped (Stops opening) (place_of final.store) (place_of after.store) script left done fault
+    → Stopped StopsLine final after script left done fault → Stopped (Stops opening) (place_of final.store.state) (place_of after.store.state) script left done fault
 stopped_script opening final after script left done fault far (inl at) =
     inl
     (record {
       line = at.line;
       first = at.first;
-      stops = subst (λ (o : Opening). Stops o (place_of final.store) at.line fault (place_of after.store)) far.same (at.stops far.idle);
+      stops = subst (λ (o : Opening). Stops o (place_of final.store.state) at.line fault (place_of after.store.state)) far.same (at.stops far.idle);
     })
-stopped_script opening final after script left done fault far (inr at) = inr (at.0, at.1, ap (λ (s : Sessions). place_of s.store) at.2)
+stopped_script opening final after script left done fault far (inr at) = inr (at.0, at.1, ap (λ (s : Sessions). place_of s.store.state) at.2)
 
-pub script_output : (a b : Sessions) (opening : Opening) (end : RunEnd) (status : ℕ) (l l' k k' : Option (List ℕ)) → place_of a.store ≡ script_start → AreIdle a.store → a.store.opening ≡ opening → status ≡ exit_status end
+pub script_output : (a b : Sessions) (opening : Opening) (end : RunEnd) (status : ℕ) (l l' k k' : Option (List ℕ)) → place_of a.store.state ≡ script_start → AreIdle a.store.state → a.store.state.opening ≡ opening → status ≡ exit_status end
     → Ran AnswersLine StopsLine a b SCRIPT_LIMIT end l l' k k' → IsScriptOutput status opening l l' k k'
 script_output a b opening end status l l' k k' start idle is said r =
     let far = lifted opening a r.4 r.2 r.3 idle is r.7.answers in (
       end,
-      place_of b.store,
+      place_of b.store.state,
       said,
       (
         r.0,
         r.1,
         r.2,
         r.3,
-        place_of r.4.store,
+        place_of r.4.store.state,
         r.5,
         r.6,
         record {
           lines = r.7.lines;
-          answers = subst (λ (p : ScriptPlace). AreAnswers (Texts opening) p r.2 r.3 (place_of r.4.store)) start far.answers;
+          answers = subst (λ (p : ScriptPlace). AreAnswers (Texts opening) p r.2 r.3 (place_of r.4.store.state)) start far.answers;
           front = r.7.front;
-          state = λ e. ap (λ (s : Sessions). place_of s.store) (r.7.state e);
+          state = λ e. ap (λ (s : Sessions). place_of s.store.state) (r.7.state e);
           within = r.7.within;
           whole = r.7.whole;
           faulty = r.7.faulty;

@@ -1,5 +1,5 @@
 -- what a line says, done by a store, has its text
-use Rattle.std.proofs.Common.{◌≡◌, ◌≢◌, ℕ, zero, suc, ◌+◌, ◌<◌, ◌≤◌, Bool, true, false, List, [], ◌∷◌, ◌++◌, length, Option, None, refl, sym, ap, ◌∙◌, subst, arith, length-append, ◌⊎◌, inl, inr}
+use Rattle.std.proofs.Common.{◌≡◌, ◌≢◌, ℕ, zero, suc, ◌+◌, ◌<◌, ◌≤◌, Bool, true, false, List, [], ◌∷◌, ◌++◌, length, Option, None, refl, sym, ap, ◌∙◌, subst, arith, length-append, inl, inr}
 use Rattle.std.specs.Prelude.{slice_index_or, nat_lt, OnOk, IfErr, IsErrOf, Result, Ok, Err, if◌then◌else◌}
 use Rattle.std.specs.Str.{bytes_eq}
 use Rattle.std.proofs.lemmas.List.{append-nil}
@@ -21,12 +21,12 @@ use Rattle.statements.specs.declared.limits.TheConstants.{MAX_SESSIONS, MAX_ENTR
 use Rattle.range_summaries.specs.ExplainedBlocks.{explained}
 use Rattle.script_run.specs.declared.engine.AnswerFault.{AnswerFault}
 use Rattle.script_run.specs.declared.engine.AnswerFault.TheVariants.{Memory, Full}
-use Rattle.session_core.specs.StoreState.{StoreState, IsRefinement, hand_of, with_name}
+use Rattle.session_core.specs.StoreState.{StoreState, AreSessions, hand_of, with_name}
 use Rattle.brin_app.specs.Acting.{EndsStatement, StatementPastJournal, AreIdle}
 use Rattle.brin_app.specs.SessionPlaces.{place_of, IsSaid, IsTooMuch, IsStopped, IsAnswered}
 
 -- a line without requests
-pub said_nothing : (s : StoreState) (said : Result Line LineFault) (text : List ℕ) → IsRefinement s → AreIdle s → said_answer explained s.opening (place_of s) false said ≡ without_request (place_of s) text → IsSaid s said text s
+pub said_nothing : (s : StoreState) (said : Result Line LineFault) (text : List ℕ) → AreSessions s → AreIdle s → said_answer explained s.opening (place_of s) false said ≡ without_request (place_of s) text → IsSaid s said text s
 said_nothing s said text known idle is = record {
   opening = refl;
   idle = idle;
@@ -105,7 +105,7 @@ said_by_session s s' name statement reply idle within acts =
     }
 
 -- a session more than there may be
-pub said_past : (s : StoreState) (name : List ℕ) (statement : Statement) (limit : ℕ) → IsRefinement s → AreIdle s → is_past_sessions s.names name ≡ true → limit ≡ MAX_SESSIONS
+pub said_past : (s : StoreState) (name : List ℕ) (statement : Statement) (limit : ℕ) → AreSessions s → AreIdle s → is_past_sessions s.names name ≡ true → limit ≡ MAX_SESSIONS
     → IsSaid s (Ok (lines.Say name (orders.Whole statement))) (reply_text name (replies.Refused (refusals.Limit limit))) s
 said_past s name statement limit known idle past at =
     subst (λ (l : ℕ). IsSaid s (Ok (lines.Say name (orders.Whole statement))) (reply_text name (replies.Refused (refusals.Limit l))) s) (sym at)
@@ -201,7 +201,7 @@ fault_said said (line_faults.NoColumn at) not r = r
 fault_said said (line_faults.Kind at) not r = r
 fault_said said line_faults.Memory not r = absurd (not refl)
 
-pub refused : {E : Type 0} (s : StoreState) (line before after : List ℕ) (fault : LineFault) (result : Result (Unit {0}) E) → IsRefinement s → ReadsAs {T = Line} (Err fault) (line_of s.opening.layout.schema line)
+pub refused : {E : Type 0} (s : StoreState) (line before after : List ℕ) (fault : LineFault) (result : Result (Unit {0}) E) → AreSessions s → ReadsAs {T = Line} (Err fault) (line_of s.opening.layout.schema line)
     → OnOk result (fault ≢ line_faults.Memory) → OnOk result (after ≡ before ++ fault_text fault) → OnOk result ((text : List ℕ) × (after ≡ before ++ text) × (AreIdle s → IsAnswered s line text s))
 refused s line before after fault (Ok u) known r not e = (
   fault_text fault,

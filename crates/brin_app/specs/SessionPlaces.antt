@@ -42,8 +42,8 @@ pub record IsAnswered (s : StoreState) (line text : List ℕ) (s' : StoreState) 
 
 -- the sessions answer a line of their script with its text
 abbrev pub AnswersLine : Sessions → List ℕ → List ℕ → Sessions → Type 0
-AnswersLine a line text b = AreIdle a.store → IsAnswered a.store line text b.store
+AnswersLine a line text b = AreIdle a.store.state → IsAnswered a.store.state line text b.store.state
 
 -- they don't answer it, and why
 abbrev pub StopsLine : Sessions → List ℕ → AnswerFault → Sessions → Type 0
-StopsLine a line fault b = AreIdle a.store → IsLineStopped explained a.store.opening (place_of a.store) line fault (place_of b.store)
+StopsLine a line fault b = AreIdle a.store.state → IsLineStopped explained a.store.state.opening (place_of a.store.state) line fault (place_of b.store.state)

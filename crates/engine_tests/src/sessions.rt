@@ -1,10 +1,15 @@
 //! Tests of session_core.
 
 ghost use Rattle.std.specs.Prelude.{◌∷◌, [], IfSome, ◌≡◌};
+ghost use Rattle.query_words.specs.LineFits.{IsLineFor};
+ghost use Rattle.statements.specs.StatementFits.{IsStatementFor};
 
 use block_model::{
-    Class, Column, Index, Kind, Name, Part, Refusal, Reply, Schema, Sequence, Sizes, Table,
+    Class, Column, Entry, Index, Kind, Name, Part, Refusal, Reply, Schema, Sequence, Sizes, Table,
+    Tag,
 };
+use disk_trait::SteadyDisk;
+use query_words::{Line, Order, read_line};
 use session_core::{SessionFault, Step, Store};
 use statements::{MAX_SESSIONS, Statement};
 use std::alloc::Global;
@@ -21,7 +26,7 @@ const SIZES: Sizes = Sizes {
 };
 
 /// A store of the table `t(a int8)` with an index on `a`.
-fn new_store(rt: &impl Abort, alloc: Global) -> Result<Store, Fail> {
+fn new_store(rt: &impl Abort, alloc: Global) -> Result<Store<SteadyDisk>, Fail> {
     let column = Column {
         name: Name::new(b"a").expect(rt, "a name"),
         kind: Kind::Int,
@@ -52,8 +57,68 @@ fn new_store(rt: &impl Abort, alloc: Global) -> Result<Store, Fail> {
     let layout = Layout::new(Schema { tables, indexes }, SIZES)
         .ok()
         .expect(rt, "a layout");
-    let store = Store::new(alloc, layout)?;
+    let disk = SteadyDisk::new(alloc, 0)?;
+    let store = Store::plain(alloc, disk, layout)?;
     Ok(store)
+}
+
+/// What the statement of the line is answered, which has a step of its own.
+fn answer(
+    rt: &impl Abort,
+    alloc: Global,
+    store: &mut Store<SteadyDisk>,
+    line: &[u8],
+) -> Option<Reply> {
+    match read_line(alloc, line, store.layout()) {
+        Ok(line) => answer_read(rt, store, line),
+        Err(_) => None,
+    }
+}
+
+fn answer_read(rt: &impl Abort, store: &mut Store<SteadyDisk>, line: Line) -> Option<Reply>
+    requires { IsLineFor store.old.state.opening.layout.schema line }
+{
+    match line {
+        Line::Nothing => None,
+        Line::Say { session, order } => match order {
+            Order::Whole(statement) => Some(act(rt, store, &session, statement)),
+            _ => None,
+        },
+    }
+}
+
+/// Submits the statement of the session of that name, and steps it.
+fn act(rt: &impl Abort, store: &mut Store<SteadyDisk>, name: &Name, statement: Statement) -> Reply
+    requires { IsStatementFor store.old.state.opening.layout.schema statement }
+{
+    let number = store.session(*name).ok().expect(rt, "memory");
+    store.known();
+    match store.submit(number, statement) {
+        Ok(()) => {
+            let Step::Done(reply) = store.step(number).ok().expect(rt, "a page");
+            reply
+        }
+        Err(refusal) => Reply::Refused(refusal),
+    }
+}
+
+#[test]
+fn a_full_heap_is_refused_and_entered(rt: HostRuntime) -> Result<(), Fail> {
+    let alloc = rt.alloc();
+    let mut store = new_store(&rt, alloc)?;
+    let begun = answer(&rt, alloc, &mut store, b"s begin");
+    assert!(rt; matches!(begun, Some(Reply::Begun { t: 1 })));
+    // Eight blocks of two rows.
+    for _ in 0..16u8 {
+        let put = answer(&rt, alloc, &mut store, b"s insert t 7");
+        assert!(rt; matches!(put, Some(Reply::Inserted { .. })));
+    }
+    let full = answer(&rt, alloc, &mut store, b"s insert t 7");
+    assert!(rt; matches!(full, Some(Reply::Refused(Refusal::Full { number: 16, .. }))));
+    assert!(rt; matches!(store.journal().last(), Some(Entry { tag: Tag::Full, .. })));
+    let ended = answer(&rt, alloc, &mut store, b"s commit");
+    assert!(rt; matches!(ended, Some(Reply::RolledBack)));
+    Ok(())
 }
 
 #[test]

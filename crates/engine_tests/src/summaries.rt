@@ -1,14 +1,9 @@
 //! Tests of range_summaries.
 
-ghost use Rattle.std.specs.Prelude.{◌≡◌, ◌+◌, ◌<◌, ◌≤◌, [], ◌∷◌, ℕ, true, All, List, IfOk, OnOk, Some, length, map, slice_get};
-ghost use Rattle.block_model.specs.declared.row.Row.{Row};
-ghost use Rattle.block_model.specs.declared.value.Kind.{Kind};
+ghost use Rattle.std.specs.Prelude.{◌≡◌, ◌≤◌, [], ◌∷◌, IfOk, OnOk, length, map};
 ghost use Rattle.block_model.specs.declared.value.Kind.TheVariants as kinds;
 ghost use Rattle.block_model.specs.ValuesOfKind.{IsValueOf};
-ghost use Rattle.statements.specs.StatementFits.{HasKeyFor};
-ghost use Rattle.statements.specs.OperatorKinds.{takes_operator};
-ghost use Rattle.row_versions.specs.VersionsState.{rows_at};
-ghost use Rattle.range_summaries.specs.Summarised.{AreSummaries};
+ghost use Rattle.range_summaries.specs.Summarised.{AreOfSchema};
 
 use block_model::{
     Blocks, Class, Column, Columns, Cond, Conds, Index, Indexes, Kind, Name, Net, Op, Part, Parts,
@@ -34,8 +29,7 @@ fn name(rt: &impl Abort, bytes: &[u8]) -> Name {
 
 /// The layout of one table of an int8 `a` and an inet `b`, with one row a page, and of these indexes.
 fn layout(rt: &impl Abort, alloc: Global, indexes: Indexes) -> Result<Layout, Fail>
-    ensures kinds { IfOk result (λ l. map (λ t. map (λ c. c.kind) t.columns) l.schema.tables ≡ (kinds.Int ∷ kinds.Net ∷ []) ∷ []) }
-    ensures rows { IfOk result (λ l. map (λ t. t.rows_per_page) l.schema.tables ≡ 1 ∷ []) }
+    ensures { IfOk result (λ l. map (λ t. map (λ c. c.kind) t.columns) l.schema.tables ≡ (kinds.Int ∷ kinds.Net ∷ []) ∷ []) }
 {
     let mut columns = Columns::new(alloc);
     columns.push(Column {
@@ -110,22 +104,21 @@ fn address(rt: &impl Abort, n: Option<u8>) -> Value
 /// A row: of its number and its address, each null where there is none.
 type Put = (Option<u8>, Option<u8>);
 
-/// Puts the table's next row.
+/// Puts a row in the table's block of that number.
 fn put(
     rt: &impl Abort,
     summaries: &mut Summaries,
     layout: &Layout,
-    place: usize,
+    block: u32,
     row: Put,
 ) -> Result<(), Fail>
-    requires few { place < 16 }
     requires kinds { map (λ t. map (λ c. c.kind) t.columns) layout.now.schema.tables ≡ (kinds.Int ∷ kinds.Net ∷ []) ∷ [] }
-    requires rows { (tables : List (List Row)) × AreSummaries layout.now.schema tables summaries.old × (length (rows_at tables 0) ≡ place) }
-    ensures { OnOk result ((tables : List (List Row)) × AreSummaries layout.now.schema tables summaries.new × (length (rows_at tables 0) ≡ place + 1)) }
+    requires summaries { AreOfSchema layout.now.schema summaries.old }
+    ensures { OnOk result (AreOfSchema layout.now.schema summaries.new) }
 {
     let values = [number(row.0), address(rt, row.1)];
-    summaries.make_room(layout.schema(), 0, place)?;
-    summaries.widen(0, place, &values);
+    summaries.make_room(layout.schema(), 0, block)?;
+    summaries.widen(0, block, &values);
     Ok(())
 }
 
@@ -138,11 +131,11 @@ fn summarised(
 ) -> Result<Summaries, Fail>
     requires few { length puts.now ≤ 16 }
     requires kinds { map (λ t. map (λ c. c.kind) t.columns) layout.now.schema.tables ≡ (kinds.Int ∷ kinds.Net ∷ []) ∷ [] }
-    ensures { IfOk result (λ s. (tables : List (List Row)) × AreSummaries layout.now.schema tables s × (length (rows_at tables 0) ≡ length puts.now)) }
+    ensures { IfOk result (AreOfSchema layout.now.schema) }
 {
     let mut summaries = Summaries::new(alloc, layout)?;
     'puts: for place in 0..puts.len() {
-        put(rt, &mut summaries, layout, place, puts[place])?;
+        put(rt, &mut summaries, layout, place as u32, puts[place])?;
     }
     Ok(summaries)
 }
@@ -156,9 +149,7 @@ enum Where {
     AddressIsNull,
 }
 
-fn cond(rt: &impl Abort, asked: Where) -> Cond
-    ensures { (kind : Kind) × (slice_get (kinds.Int ∷ kinds.Net ∷ []) result.column ≡ Some kind) × (takes_operator kind result.op ≡ true) × IsValueOf kind result.key × HasKeyFor result.op result.key }
-{
+fn cond(rt: &impl Abort, asked: Where) -> Cond {
     match asked {
         Where::NumberIs(n) => Cond {
             column: 0,
@@ -185,8 +176,6 @@ fn cond(rt: &impl Abort, asked: Where) -> Cond
 
 fn query(rt: &impl Abort, alloc: Global, asked: &[Where]) -> Result<Query, Fail>
     requires { length asked.now ≤ 16 }
-    ensures table { IfOk result (λ q. q.table ≡ 0) }
-    ensures conds { IfOk result (λ q. All (λ c. (kind : Kind) × (slice_get (kinds.Int ∷ kinds.Net ∷ []) c.column ≡ Some kind) × (takes_operator kind c.op ≡ true) × IsValueOf kind c.key × HasKeyFor c.op c.key) q.conds) }
 {
     let mut conds = Conds::new(alloc);
     'conds: for one in asked {
@@ -204,14 +193,13 @@ fn explained(
     asked: &[Where],
 ) -> Result<Blocks, Fail>
     requires kinds { map (λ t. map (λ c. c.kind) t.columns) layout.now.schema.tables ≡ (kinds.Int ∷ kinds.Net ∷ []) ∷ [] }
-    requires rows { map (λ t. t.rows_per_page) layout.now.schema.tables ≡ 1 ∷ [] }
     requires few_puts { length puts.now ≤ 16 }
     requires few_conds { length asked.now ≤ 16 }
 {
     let summaries = summarised(rt, alloc, layout, puts)?;
     let query = query(rt, alloc, asked)?;
     let mut out = Blocks::new(alloc);
-    summaries.candidates(&query, puts.len(), 1, &mut out)?;
+    summaries.candidates(&query, puts.len() as u32, &mut out)?;
     Ok(out)
 }
 

@@ -430,22 +430,38 @@ fn rows_of_interleaved_transactions_come_in_order(rt: HostRuntime) -> Result<(),
 }
 
 #[test]
-fn full_heap_is_refused(rt: HostRuntime) -> Result<(), Fail> {
+fn full_heap_is_refused_up_to_its_rollback(rt: HostRuntime) -> Result<(), Fail> {
     check(
         &rt,
         "run|--heap-blocks|1|--index-blocks|4|--status-blocks|1|--log-pages|16|table t(a int8) rows_per_page 2|index i on t(a minmax) pages_per_range 1",
-        b"s1 begin\ns1 insert t 1\ns1 insert t 2\ns1 commit\ns1 begin\ns1 insert t 3\ns1 insert t 4\ns1 rollback\ns2 begin\ns2 select t\n",
-        b"s1 begun 1\ns1 inserted 1.0\ns1 inserted 1.1\ns1 committed\ns1 begun 2\ns1 error 8 t 2\ns1 error 6\ns1 rolled back\ns2 begun 3\ns2 row 1.0 1\ns2 row 1.1 2\ns2 rows 2\n",
+        b"s1 begin\ns1 insert t 1\ns1 insert t 2\ns1 commit\ns1 begin\ns1 insert t 3\ns1 rollback\n",
+        b"s1 begun 1\ns1 inserted 1.0\ns1 inserted 1.1\ns1 committed\ns1 begun 2\ns1 error 8 t 2\ns1 rolled back\n",
     )
 }
 
 #[test]
-fn a_rolled_back_row_keeps_its_slot(rt: HostRuntime) -> Result<(), Fail> {
+fn a_full_table_is_named_with_all_its_slots(rt: HostRuntime) -> Result<(), Fail> {
+    check(
+        &rt,
+        "run|--heap-blocks|2|table t(a int8) rows_per_page 1|table u(a int8) rows_per_page 2|index i on u(a minmax) pages_per_range 1",
+        b"s begin\ns insert u 1\ns insert u 2\ns insert u 3\ns insert u 4\ns insert t 1\ns commit\ns begin\ns insert t 2\ns insert u 5\ns insert t 3\ns commit\ns begin\ns select t\ns select u where a > 3\ns explain u where a > 3\ns insert t 4\n",
+        b"s begun 1\ns inserted 1.0\ns inserted 1.1\ns inserted 1.2\ns inserted 1.3\ns inserted 1.4\ns committed\ns begun 2\ns inserted 2.0\ns error 8 u 4\ns error 6\ns rolled back\ns begun 3\ns row 1.4 1\ns rows 1\ns row 1.3 4\ns rows 1\ns blocks 1\ns error 8 t 2\n",
+    )
+}
+
+#[test]
+fn a_row_that_is_gone_keeps_its_slot(rt: HostRuntime) -> Result<(), Fail> {
     check(
         &rt,
         "run|--heap-blocks|1|table t(a int8) rows_per_page 1|table u(a int8) rows_per_page 1",
         b"s1 begin\ns1 insert t 1\ns1 rollback\ns1 begin\ns1 insert u 1\ns1 insert t 2\ns1 commit\n",
         b"s1 begun 1\ns1 inserted 1.0\ns1 rolled back\ns1 begun 2\ns1 inserted 2.0\ns1 error 8 t 1\ns1 rolled back\n",
+    )?;
+    check(
+        &rt,
+        "run|--heap-blocks|1|table t(a int8) rows_per_page 1",
+        b"s1 begin\ns1 insert t 1\ns1 commit\ns1 begin\ns1 delete t\ns1 commit\ns1 begin\ns1 select t\ns1 insert t 2\n",
+        b"s1 begun 1\ns1 inserted 1.0\ns1 committed\ns1 begun 2\ns1 deleted 1\ns1 committed\ns1 begun 3\ns1 rows 0\ns1 error 8 t 1\n",
     )
 }
 
