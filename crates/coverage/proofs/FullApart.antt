@@ -28,13 +28,13 @@ module _ (w : IndexView) (s range number : ℕ) where
   full_judged x old new _ full (Changed _ _ _ differs) = subst IsFull (swap_once w s range x old new (Full number) Differs full differs) tt
   full_judged x old new _ full (Moved _ y _ _ puts) = subst IsFull (swap_once w s range x old new (Full number) (Puts y) full puts) tt
 
-  full_grows : (x : TuplePlace) (t : IndexTuple) (new : Phase) → IsNextTuple w (next_map_page w) x t → w.entry t.range ≡ Some x
+  full_grows : (x : TuplePlace) (t : IndexTuple) (new : Phase) → IsNextTuple w.tuple (next_map_page w.pages) x t → w.entry t.range ≡ Some x
       → PutVerdict w s t.range (length t.bytes) (Full number) → NextGrowth w s Emptying new → ⊥
   full_grows x t _ next named full (MovesNext x' y t' next' named' verdict) =
-      let same = next_once w (next_map_page w) x x' t t' next next' in
+      let same = next_once w (next_map_page w.pages) x x' t t' next next' in
       subst IsFull (put_once w s t.range (length t.bytes) (Full number) (Puts y) full
       (subst (λ (u : IndexTuple). PutVerdict w s u.range (length u.bytes) (Puts y)) (sym same.1) verdict)) tt
-  full_grows x t _ next named full (SweepsNext x' t' next' unnamed) = named_or_not w (next_map_page w) x x' t t' next next' named unnamed
+  full_grows x t _ next named full (SweepsNext x' t' next' unnamed) = named_or_not w (next_map_page w.pages) x x' t t' next next' named unnamed
   full_grows x t _ next named full (Turns none) = none x t next
 
 phase_full : (w : IndexView) (s range number : ℕ) (phase : Phase) (e : Statement) → IsPhaseFull w s range phase number → NextPhase w s range phase e → ⊥
@@ -43,7 +43,7 @@ phase_full w s range number _ _ (FinalFull _ _ x old new full) (SwapsFinal _ _ _
 phase_full w s range number _ _ (PlaceFull _ long full) (Lengthens kind new grows growth) = long grows.short
 phase_full w s range number _ _ (PlaceFull _ long full) (Places y long' verdict) =
     subst IsFull (put_once w s range (placeholder_length w range) (Full number) (Puts y) full verdict) tt
-phase_full w s range _ _ _ (MapFull past limit) (Lengthens kind new grows growth) = crosses (next_map_page w) w.pages.limit grows.below limit
+phase_full w s range _ _ _ (MapFull past limit) (Lengthens kind new grows growth) = crosses (next_map_page w.pages) w.pages.limit grows.below limit
 phase_full w s range _ _ _ (MapFull past limit) (Places y long verdict) = long past
 phase_full w s range number _ _ (EvacuateFull _ x t grows next named free full) (Lengthens kind new grows' growth) =
     full_grows w s range number x t new next named full (subst (λ l. NextGrowth w s l new) (sym grows'.is ∙ grows.is) growth)

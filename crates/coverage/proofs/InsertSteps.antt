@@ -88,7 +88,7 @@ module _ (s b k : ℕ) (r : Row) (w v : IndexState) (sound : IsSound (index_view
     }
 
     -- the index is complete
-    ends : e ≡ Idle → Both s (index_view w) (index_view v) → v.summarise_lock ≡ w.summarise_lock → LocksNone (index_view v) s → IsAccounted (index_view v) b r
+    ends : e ≡ Idle → Both s (index_view w) (index_view v) → v.summarise_lock ≡ w.summarise_lock → LocksNone v.lock s → IsAccounted (index_view v) b r
         → Outcome s never w v (Inserting b k r on_index) e
     ends is both summarise_lock none settled = record {
       sound = both.0;

@@ -133,7 +133,7 @@ module _ (s range : ℕ) (w v : IndexState) (sound : IsSound (index_view w)) (su
       )
 
   set : (x : TuplePlace) → Turned s w v (Maintaining range (Placing x)) (Maintaining range (IsAt ExtentUnread Empty))
-      → SetsEntry s (index_view w) (index_view v) range x → LocksNone (index_view v) s
+      → SetsEntry s (index_view w) (index_view v) range x → LocksNone v.lock s
       → KnowsPhase (index_view w) s range (Placing x) → Left (Maintaining range (IsAt ExtentUnread Empty))
   set x turned sets none known =
       let t = known.1.1 in
@@ -184,7 +184,7 @@ module _ (s range : ℕ) (w v : IndexState) (sound : IsSound (index_view w)) (su
           (clears.entry.others m)
 
   -- the lock is held for no range, between two of them
-  holds : v.summarise_lock ≡ w.summarise_lock → LocksNone (index_view v) s → Knows (index_view v) s Holding
+  holds : v.summarise_lock ≡ w.summarise_lock → LocksNone v.lock s → Knows (index_view v) s Holding
   holds same none = (same ∙ summarise_lock, none)
 
   building_here : (p : Progress) (on_index : OnIndex) → w.statement s ≡ Maintaining range (IsAt p on_index) → IsBuilding (index_view w) s range p
@@ -250,7 +250,7 @@ module _ (s range : ℕ) (w v : IndexState) (sound : IsSound (index_view w)) (su
     (drops.frame.summarise_lock ∙ summarise_lock, (drops.none, drops.frame.map.entry range ∙ known.0, range_kept drops.frame.contents drops.frame.heap known.2)),
   )
   growth_left _ _ (EvacuateSweep x t grows next unnamed sweeps) turned known = (
-    sweep_both s w v (Maintaining range Vacant) (Maintaining range Vacant) turned sound (next_map_page (index_view w)) (λ y. y ≡ x)
+    sweep_both s w v (Maintaining range Vacant) (Maintaining range Vacant) turned sound (next_map_page w.pages) (λ y. y ≡ x)
         (λ y on is. subst (λ z. IsUnnamed (index_view w) z) (sym is) unnamed) refl refl refl sweeps,
     (sweeps.frame.summarise_lock ∙ summarise_lock, (sweeps.none, sweeps.frame.map.entry range ∙ known.1, range_kept sweeps.frame.contents sweeps.frame.heap known.2)),
   )

@@ -89,7 +89,7 @@ lowest (suc zero) is = absurd (differ 0 1 (sym (ap kind_number is)) (omega arith
 lowest (suc (suc zero)) is = absurd (differ 0 3 (sym (ap kind_number is)) (omega arith))
 lowest (suc (suc (suc q))) is = omega arith
 
-emptying : Grows (view no_rows page_flagged) 1020 Emptying
+emptying : Grows (view no_rows page_flagged).pages 1020 Emptying
 emptying = record { short = omega arith; below = omega arith; is = refl }
 
 copies : Step 0 (index_of no_rows page_flagged) (index_of no_rows copy_put)
@@ -160,7 +160,7 @@ growth_run = Next 0 _ _ _ _ takes (Next 0 _ _ _ _ begins (Next 0 _ _ _ _ looks (
     (Next 0 _ _ _ _ old_drop (Next 0 _ _ _ _ turns_page (Next 0 _ _ _ _ counts (Next 0 _ _ _ _ new_put (Next 0 _ _ _ _ new_set (Done map_grown)))))))))))
 
 -- the map was too short for the range's entry, and names a placeholder for it afterwards
-pub was_short : IsPastMap (view no_rows summarised) 1020
+pub was_short : IsPastMap (view no_rows summarised).pages 1020
 was_short = omega arith
 
 pub names_new : NamesPlaceholder (view no_rows placeholder_named) 1020

@@ -37,7 +37,7 @@ clear_point Differs = points.Again
 clear_point verdict = points.Clear
 
 -- the next tuple of a page is one
-pub next_once : (w : IndexView) (page : ℕ) (x y : TuplePlace) (t u : IndexTuple) → IsNextTuple w page x t → IsNextTuple w page y u → (x ≡ y) × (t ≡ u)
+pub next_once : (w : IndexView) (page : ℕ) (x y : TuplePlace) (t u : IndexTuple) → IsNextTuple w.tuple page x t → IsNextTuple w.tuple page y u → (x ≡ y) × (t ≡ u)
 next_once w page x y t u one two = (place, same_Some _ _ (sym one.stands ∙ ap w.tuple place ∙ two.stands))
   where
     both : (a b : ℕ) → a ≤ b → b ≤ a → a ≡ b
@@ -54,7 +54,7 @@ next_once w page x y t u one two = (place, same_Some _ _ (sym one.stands ∙ ap 
 
 -- the next tuple isn't named and unnamed at once
 pub named_or_not : (w : IndexView) (page : ℕ) (x y : TuplePlace) (t u : IndexTuple)
-    → IsNextTuple w page x t → IsNextTuple w page y u → w.entry t.range ≡ Some x → IsUnnamed w y → ⊥
+    → IsNextTuple w.tuple page x t → IsNextTuple w.tuple page y u → w.entry t.range ≡ Some x → IsUnnamed w y → ⊥
 named_or_not w page x y t u one two named unnamed =
     let same = next_once w page x y t u one two in
     let tuple : t ≡ unnamed.0 = same.1 ∙ same_Some _ _ (sym two.stands ∙ unnamed.1) in
@@ -107,20 +107,20 @@ insert_blocked s b k p r w v x old new e waits step = on_index_blocked w s (rang
 
 -- the points of a page that is emptied for the map
 data EmptyingPoint (w : IndexView) (s : ℕ) : Point → Type 0 where
-  NamedNext : (x y : TuplePlace) (t : IndexTuple) → IsNextTuple w (next_map_page w) x t → w.entry t.range ≡ Some x → IsFree w s x.block
+  NamedNext : (x y : TuplePlace) (t : IndexTuple) → IsNextTuple w.tuple (next_map_page w.pages) x t → w.entry t.range ≡ Some x → IsFree w.lock s x.block
       → PutVerdict w s t.range (length t.bytes) (Puts y) → EmptyingPoint w s points.Put
-  UnnamedNext : (x : TuplePlace) (t : IndexTuple) → IsNextTuple w (next_map_page w) x t → IsUnnamed w x → IsFree w s (next_map_page w)
+  UnnamedNext : (x : TuplePlace) (t : IndexTuple) → IsNextTuple w.tuple (next_map_page w.pages) x t → IsUnnamed w x → IsFree w.lock s (next_map_page w.pages)
       → EmptyingPoint w s points.Drop
-  NoneNext : ((x : TuplePlace) (t : IndexTuple) → IsNextTuple w (next_map_page w) x t → ⊥) → IsFree w s (next_map_page w) → IsFree w s 0
+  NoneNext : ((x : TuplePlace) (t : IndexTuple) → IsNextTuple w.tuple (next_map_page w.pages) x t → ⊥) → IsFree w.lock s (next_map_page w.pages) → IsFree w.lock s 0
       → EmptyingPoint w s points.Turn
 
 emptying_once : (w : IndexView) (s : ℕ) (p q : Point) → EmptyingPoint w s p → EmptyingPoint w s q → p ≡ q
 emptying_once w s _ _ (NamedNext x y t next named free verdict) (NamedNext x' y' t' next' named' free' verdict') = refl
 emptying_once w s _ _ (NamedNext x y t next named free verdict) (UnnamedNext x' t' next' unnamed free') =
-    absurd (named_or_not w (next_map_page w) x x' t t' next next' named unnamed)
+    absurd (named_or_not w (next_map_page w.pages) x x' t t' next next' named unnamed)
 emptying_once w s _ _ (NamedNext x y t next named free verdict) (NoneNext none free' meta) = absurd (none x t next)
 emptying_once w s _ _ (UnnamedNext x t next unnamed free) (NamedNext x' y t' next' named free' verdict) =
-    absurd (named_or_not w (next_map_page w) x' x t' t next' next named unnamed)
+    absurd (named_or_not w (next_map_page w.pages) x' x t' t next' next named unnamed)
 emptying_once w s _ _ (UnnamedNext x t next unnamed free) (UnnamedNext x' t' next' unnamed' free') = refl
 emptying_once w s _ _ (UnnamedNext x t next unnamed free) (NoneNext none free' meta) = absurd (none x t next)
 emptying_once w s _ _ (NoneNext none free meta) (NamedNext x y t next named free' verdict) = absurd (none x t next)
@@ -129,9 +129,9 @@ emptying_once w s _ _ (NoneNext none free meta) (NoneNext none' free' meta') = r
 
 -- the points of the map's growth, by the kind of its next page
 abbrev KindPoint : IndexView → ℕ → PageKind → Point → Type 0
-KindPoint w s Unstarted p = (p ≡ points.Grow) × IsFree w s (next_map_page w) × IsFree w s 0
-KindPoint w s Mapping p = (p ≡ points.Meta) × IsFree w s 0
-KindPoint w s Regular p = (p ≡ points.Flag) × IsFree w s (next_map_page w)
+KindPoint w s Unstarted p = (p ≡ points.Grow) × IsFree w.lock s (next_map_page w.pages) × IsFree w.lock s 0
+KindPoint w s Mapping p = (p ≡ points.Meta) × IsFree w.lock s 0
+KindPoint w s Regular p = (p ≡ points.Flag) × IsFree w.lock s (next_map_page w.pages)
 KindPoint w s Emptying p = EmptyingPoint w s p
 
 kind_once : (w : IndexView) (s : ℕ) (kind : PageKind) (p q : Point) → KindPoint w s kind p → KindPoint w s kind q → p ≡ q
@@ -142,8 +142,8 @@ kind_once w s Emptying p q one two = emptying_once w s p q one two
 
 -- the points of a summariser that read that the map has no entry
 data VacantPoint (w : IndexView) (s range : ℕ) : Point → Type 0 where
-  MapSuffices : (x : TuplePlace) → (IsPastMap w range → ⊥) → PutVerdict w s range (placeholder_length w range) (Puts x) → VacantPoint w s range points.Put
-  MapGrows : (kind : PageKind) (p : Point) → Grows w range kind → KindPoint w s kind p → VacantPoint w s range p
+  MapSuffices : (x : TuplePlace) → (IsPastMap w.pages range → ⊥) → PutVerdict w s range (placeholder_length w range) (Puts x) → VacantPoint w s range points.Put
+  MapGrows : (kind : PageKind) (p : Point) → Grows w.pages range kind → KindPoint w s kind p → VacantPoint w s range p
 
 vacant_once : (w : IndexView) (s range : ℕ) (p q : Point) → VacantPoint w s range p → VacantPoint w s range q → p ≡ q
 vacant_once w s range _ _ (MapSuffices x long verdict) (MapSuffices x' long' verdict') = refl
@@ -243,30 +243,30 @@ no_put w s range need q y waits goes = subst IsUnblocked (put_once w s range nee
 
 module _ (w : IndexView) (s range : ℕ) where
   -- where the map may grow onto a page of this kind, the facts are those of the kind
-  kind_at : (kind : PageKind) (p : Point) → Grows w range kind → SummarisePoint w s range Vacant p → KindPoint w s kind p
+  kind_at : (kind : PageKind) (p : Point) → Grows w.pages range kind → SummarisePoint w s range Vacant p → KindPoint w s kind p
   kind_at kind _ grows (WantsEntry p (MapSuffices x long verdict)) = absurd (long grows.short)
   kind_at kind _ grows (WantsEntry p (MapGrows kind' _ grows' at)) = subst (λ l. KindPoint w s l p) (sym grows'.is ∙ grows.is) at
 
-  place_waits : (q : ℕ) (p : Point) → (IsPastMap w range → ⊥) → PutVerdict w s range (placeholder_length w range) (Waits q) → SummarisePoint w s range Vacant p → ⊥
+  place_waits : (q : ℕ) (p : Point) → (IsPastMap w.pages range → ⊥) → PutVerdict w s range (placeholder_length w range) (Waits q) → SummarisePoint w s range Vacant p → ⊥
   place_waits q _ long waits (WantsEntry p (MapSuffices x long' verdict)) = no_put w s range (placeholder_length w range) q x waits verdict
   place_waits q _ long waits (WantsEntry p (MapGrows kind _ grows at)) = long grows.short
 
-  put_waits : (q : ℕ) (x : TuplePlace) (t : IndexTuple) (p : Point) → IsNextTuple w (next_map_page w) x t → w.entry t.range ≡ Some x
+  put_waits : (q : ℕ) (x : TuplePlace) (t : IndexTuple) (p : Point) → IsNextTuple w.tuple (next_map_page w.pages) x t → w.entry t.range ≡ Some x
       → PutVerdict w s t.range (length t.bytes) (Waits q) → EmptyingPoint w s p → ⊥
   put_waits q x t _ next named waits (NamedNext x' y t' next' named' free verdict) =
-      let same : t ≡ t' = (next_once w (next_map_page w) x x' t t' next next').1 in
+      let same : t ≡ t' = (next_once w (next_map_page w.pages) x x' t t' next next').1 in
       no_put w s t'.range (length t'.bytes) q y (subst (λ (z : IndexTuple). PutVerdict w s z.range (length z.bytes) (Waits q)) same waits) verdict
-  put_waits q x t _ next named waits (UnnamedNext x' t' next' unnamed free) = named_or_not w (next_map_page w) x x' t t' next next' named unnamed
+  put_waits q x t _ next named waits (UnnamedNext x' t' next' unnamed free) = named_or_not w (next_map_page w.pages) x x' t t' next next' named unnamed
   put_waits q x t _ next named waits (NoneNext none free meta) = none x t next
 
-  lock_waits : (x : TuplePlace) (t : IndexTuple) (p : Point) → IsNextTuple w (next_map_page w) x t → (IsFree w s (next_map_page w) → ⊥) → EmptyingPoint w s p
+  lock_waits : (x : TuplePlace) (t : IndexTuple) (p : Point) → IsNextTuple w.tuple (next_map_page w.pages) x t → (IsFree w.lock s (next_map_page w.pages) → ⊥) → EmptyingPoint w s p
       → ⊥
-  lock_waits x t _ next locked (NamedNext x' y t' next' named free verdict) = locked (subst (IsFree w s) next'.on free)
+  lock_waits x t _ next locked (NamedNext x' y t' next' named free verdict) = locked (subst (IsFree w.lock s) next'.on free)
   lock_waits x t _ next locked (UnnamedNext x' t' next' unnamed free) = locked free
   lock_waits x t _ next locked (NoneNext none free meta) = none x t next
 
-  turn_waits : (p : Point) → ((x : TuplePlace) (t : IndexTuple) → IsNextTuple w (next_map_page w) x t → ⊥)
-      → (IsFree w s (next_map_page w) → IsFree w s 0 → ⊥) → EmptyingPoint w s p → ⊥
+  turn_waits : (p : Point) → ((x : TuplePlace) (t : IndexTuple) → IsNextTuple w.tuple (next_map_page w.pages) x t → ⊥)
+      → (IsFree w.lock s (next_map_page w.pages) → IsFree w.lock s 0 → ⊥) → EmptyingPoint w s p → ⊥
   turn_waits _ none locked (NamedNext x y t next named free verdict) = none x t next
   turn_waits _ none locked (UnnamedNext x t next unnamed free) = none x t next
   turn_waits _ none locked (NoneNext none' free meta) = locked free meta
@@ -275,14 +275,14 @@ module _ (w : IndexView) (s range : ℕ) where
   phase_blocked _ _ p (FinalWaits q _ x old new waits) (MakesFinal _ _ _ all at) = on_index_blocked w s range q x old new p waits at
   phase_blocked _ _ p (PlaceWaits q long waits) at = place_waits q p long waits at
   phase_blocked _ _ p (GrowWaits q grows locked) at =
-      let free = kind_at Unstarted p grows at in both_free w s (next_map_page w) 0 q free.1 free.2 locked
+      let free = kind_at Unstarted p grows at in both_free w s (next_map_page w.pages) 0 q free.1 free.2 locked
   phase_blocked _ _ p (CountWaits grows locked) at = free_not_locked w s 0 (kind_at Mapping p grows at).1 locked
-  phase_blocked _ _ p (FlagWaits grows locked) at = free_not_locked w s (next_map_page w) (kind_at Regular p grows at).1 locked
+  phase_blocked _ _ p (FlagWaits grows locked) at = free_not_locked w s (next_map_page w.pages) (kind_at Regular p grows at).1 locked
   phase_blocked _ _ p (EvacuateWaits x t grows next locked) at =
-      lock_waits x t p next (λ free. free_not_locked w s (next_map_page w) free locked) (kind_at Emptying p grows at)
+      lock_waits x t p next (λ free. free_not_locked w s (next_map_page w.pages) free locked) (kind_at Emptying p grows at)
   phase_blocked _ _ p (EvacuatePutWaits q x t grows next named free waits) at = put_waits q x t p next named waits (kind_at Emptying p grows at)
   phase_blocked _ _ p (TurnWaits q grows none locked) at =
-      turn_waits p none (λ free meta. both_free w s (next_map_page w) 0 q free meta locked) (kind_at Emptying p grows at)
+      turn_waits p none (λ free meta. both_free w s (next_map_page w.pages) 0 q free meta locked) (kind_at Emptying p grows at)
 
 pub summarise_blocked : (s range : ℕ) (w v : IndexView) (p : ℕ) (phase : Phase) (e : Statement) → IsPhaseWaiting w s range phase p
     → SummariseStep s range w v phase e → ⊥

@@ -22,7 +22,7 @@ never b k = false
 
 -- where a move puts the new tuple, its page is free and the old one stands there
 pub move_compares : (w : IndexView) (s range : ℕ) (x y : TuplePlace) (old new : IndexTuple) → SwapVerdict w s range x old new (Puts y)
-    → IsFree w s x.block × (w.tuple x ≡ Some old)
+    → IsFree w.lock s x.block × (w.tuple x ≡ Some old)
 move_compares w s range x y old new (SwapMoves _ free here must puts) = (free, here)
 
 -- the view stays sound, and all others go on
@@ -109,7 +109,7 @@ module _ (s : ℕ) (w v : IndexState) (d e : Statement) (turned : Turned s w v d
         (makes : (old new : IndexTuple) → Makes old new → (new.range ≡ old.range) × Carries (index_view w) s range old new) where
       -- the compared tuple is the one that the map names
       pub copied_named : (x : TuplePlace) (old new : IndexTuple) → KnowsOnIndex (index_view w) s range Makes (Copied x old new) → w.tuple x ≡ Some old
-          → IsFree (index_view w) s x.block → w.entry range ≡ Some x
+          → IsFree w.lock s x.block → w.entry range ≡ Some x
       copied_named x old new known here free = held_named (index_view w) s range x old sound known.1 here known.2 free known.0
 
       pub swap_both : (x : TuplePlace) (old new : IndexTuple) → KnowsOnIndex (index_view w) s range Makes (Copied x old new) → loose_of d ≡ None
@@ -222,7 +222,7 @@ module _ (s : ℕ) (w v : IndexState) (d e : Statement) (turned : Turned s w v d
 
       -- the tuple is copied, and the new one made
       pub copy_knows : (x : TuplePlace) (old new : IndexTuple) → old.range ≡ range → Makes old new → IsFormed w.contents new → Both s (index_view w) (index_view v)
-          → LocksNone (index_view v) s → KnowsOnIndex (index_view w) s range Makes (Held x)
+          → LocksNone v.lock s → KnowsOnIndex (index_view w) s range Makes (Held x)
           → KnowsOnIndex (index_view v) s range Makes (Copied x old new)
       copy_knows x old new of how formed both none known =
           (none, both.1.held range x known.1, of, how, subst (λ c. IsFormed c new) (sym both.1.contents) formed)

@@ -83,8 +83,8 @@ pub data NextInsert (w : IndexView) (s b k : ℕ) (r : Row) : OnIndex → Statem
   GoesOn : (g h : OnIndex) → NextOnIndex w s (range_of_block w b) g h → NextInsert w s b k r g (Inserting b k r h)
   Unsummarised : w.entry (range_of_block w b) ≡ None → NextInsert w s b k r Empty Idle
   Copies : (x : TuplePlace) (old new : IndexTuple) → Stands w (range_of_block w b) x old → new ≡ w.contents.added r old
-      → (new ≢ old) ⊎ IsLocked w s x.block → NextInsert w s b k r (Held x) (Inserting b k r (Copied x old new))
-  Unchanged : (x : TuplePlace) (t : IndexTuple) → Stands w (range_of_block w b) x t → t ≡ w.contents.added r t → IsFree w s x.block
+      → (new ≢ old) ⊎ IsLocked w.lock s x.block → NextInsert w s b k r (Held x) (Inserting b k r (Copied x old new))
+  Unchanged : (x : TuplePlace) (t : IndexTuple) → Stands w (range_of_block w b) x t → t ≡ w.contents.added r t → IsFree w.lock s x.block
       → NextInsert w s b k r (Held x) Idle
   Swapped : (x : TuplePlace) (old new : IndexTuple) → SwapVerdict w s (range_of_block w b) x old new Fits → NextInsert w s b k r (Copied x old new) Idle
   SetNew : (x y : TuplePlace) (old new : IndexTuple) → NextInsert w s b k r (Moving x y old new) (Inserting b k r (Dropping x))
@@ -102,12 +102,12 @@ insert_next s b k r w v _ _ (InsertDrop x drops) = DropsOld x
 module _ (w : IndexView) (s b k : ℕ) (r : Row) where
   -- a copy goes on exactly where it isn't complete
   copies_or_not : (x : TuplePlace) (old new t : IndexTuple) → Stands w (range_of_block w b) x old → new ≡ w.contents.added r old
-      → (new ≢ old) ⊎ IsLocked w s x.block → Stands w (range_of_block w b) x t → t ≡ w.contents.added r t → IsFree w s x.block → ⊥
+      → (new ≢ old) ⊎ IsLocked w.lock s x.block → Stands w (range_of_block w b) x t → t ≡ w.contents.added r t → IsFree w.lock s x.block → ⊥
   copies_or_not x old new t stands added changes stands' same free =
       let one : old ≡ t = there_same w s (range_of_block w b) x old t stands stands' in
       ⊎_elim
       (λ (other : new ≢ old). other (added ∙ ap (w.contents.added r) one ∙ sym same ∙ sym one))
-      (λ (locked : IsLocked w s x.block). free_not_locked w s x.block free locked)
+      (λ (locked : IsLocked w.lock s x.block). free_not_locked w s x.block free locked)
       changes
 
   insert_same : (g : OnIndex) (e f : Statement) → NextInsert w s b k r g e → NextInsert w s b k r g f → e ≡ f
@@ -173,10 +173,10 @@ pub data NextGrowth (w : IndexView) (s : ℕ) : PageKind → Phase → Type 0 wh
   Starts : NextGrowth w s Unstarted Growing
   Counts : NextGrowth w s Mapping Vacant
   Flags : NextGrowth w s Regular Vacant
-  MovesNext : (x y : TuplePlace) (t : IndexTuple) → IsNextTuple w (next_map_page w) x t → w.entry t.range ≡ Some x
+  MovesNext : (x y : TuplePlace) (t : IndexTuple) → IsNextTuple w.tuple (next_map_page w.pages) x t → w.entry t.range ≡ Some x
       → PutVerdict w s t.range (length t.bytes) (Puts y) → NextGrowth w s Emptying (Evacuating t.range (Moving x y t t))
-  SweepsNext : (x : TuplePlace) (t : IndexTuple) → IsNextTuple w (next_map_page w) x t → IsUnnamed w x → NextGrowth w s Emptying Vacant
-  Turns : ((x : TuplePlace) (t : IndexTuple) → IsNextTuple w (next_map_page w) x t → ⊥) → NextGrowth w s Emptying Growing
+  SweepsNext : (x : TuplePlace) (t : IndexTuple) → IsNextTuple w.tuple (next_map_page w.pages) x t → IsUnnamed w x → NextGrowth w s Emptying Vacant
+  Turns : ((x : TuplePlace) (t : IndexTuple) → IsNextTuple w.tuple (next_map_page w.pages) x t → ⊥) → NextGrowth w s Emptying Growing
 
 pub data NextPhase (w : IndexView) (s range : ℕ) : Phase → Statement → Type 0 where
   LooksNamed : (x : TuplePlace) → w.entry range ≡ Some x → NextPhase w s range (NotBuilding Empty) (Maintaining range (NotBuilding (Held x)))
@@ -186,8 +186,8 @@ pub data NextPhase (w : IndexView) (s range : ℕ) : Phase → Statement → Typ
   LooksFound : (x : TuplePlace) (t : IndexTuple) → Stands w range x t → t.placeholder ≡ true
       → NextPhase w s range (NotBuilding (Held x)) (Maintaining range (IsAt ExtentUnread Empty))
   Drops : (x : TuplePlace) → NextPhase w s range (NotBuilding (Dropping x)) Holding
-  Lengthens : (kind : PageKind) (new : Phase) → Grows w range kind → NextGrowth w s kind new → NextPhase w s range Vacant (Maintaining range new)
-  Places : (y : TuplePlace) → (IsPastMap w range → ⊥) → PutVerdict w s range (placeholder_length w range) (Puts y)
+  Lengthens : (kind : PageKind) (new : Phase) → Grows w.pages range kind → NextGrowth w s kind new → NextPhase w s range Vacant (Maintaining range new)
+  Places : (y : TuplePlace) → (IsPastMap w.pages range → ⊥) → PutVerdict w s range (placeholder_length w range) (Puts y)
       → NextPhase w s range Vacant (Maintaining range (Placing y))
   CountsStarted : NextPhase w s range Growing (Maintaining range Vacant)
   SetsOther : (m : ℕ) (x y : TuplePlace) (t u : IndexTuple)
@@ -244,16 +244,16 @@ module _ (w : IndexView) (s range : ℕ) where
   growth_same _ _ _ Counts Counts = refl
   growth_same _ _ _ Flags Flags = refl
   growth_same _ _ _ (MovesNext x y t next named verdict) (MovesNext x' y' t' next' named' verdict') =
-      let same = next_once w (next_map_page w) x x' t t' next next' in
+      let same = next_once w (next_map_page w.pages) x x' t t' next next' in
       let target : y ≡ y' = ap (λ q. place_of q y)
       (put_once w s t.range (length t.bytes) (Puts y) (Puts y') verdict
       (subst (λ (u : IndexTuple). PutVerdict w s u.range (length u.bytes) (Puts y')) (sym same.1) verdict')) in
       λ i. Evacuating (same.1 i).range (Moving (same.0 i) (target i) (same.1 i) (same.1 i))
   growth_same _ _ _ (MovesNext x y t next named verdict) (SweepsNext x' t' next' unnamed) =
-      absurd (named_or_not w (next_map_page w) x x' t t' next next' named unnamed)
+      absurd (named_or_not w (next_map_page w.pages) x x' t t' next next' named unnamed)
   growth_same _ _ _ (MovesNext x y t next named verdict) (Turns none) = absurd (none x t next)
   growth_same _ _ _ (SweepsNext x t next unnamed) (MovesNext x' y' t' next' named verdict) =
-      absurd (named_or_not w (next_map_page w) x' x t' t next' next named unnamed)
+      absurd (named_or_not w (next_map_page w.pages) x' x t' t next' next named unnamed)
   growth_same _ _ _ (SweepsNext x t next unnamed) (SweepsNext x' t' next' unnamed') = refl
   growth_same _ _ _ (SweepsNext x t next unnamed) (Turns none) = absurd (none x t next)
   growth_same _ _ _ (Turns none) (MovesNext x y t next named verdict) = absurd (none x t next)

@@ -100,7 +100,7 @@ module _ (w v : IndexState) (kept : IsIndexKept w) (stops : Stops w v) where
       order_same (index_view w) (index_view v) kept.ordered (λ p. ap (λ (g : Pages). g.kind p) pages) (ap (λ (g : Pages). g.map_pages) pages)
       (ap (λ (g : Pages). g.limit) pages) (λ x t here. kept.ordered.tuples x t (came x t here))
       (entries_same (index_view w) (index_view v) kept.ordered stops.map))
-      (λ (starts : StartsPage (index_view w) (index_view v)).
+      (λ (starts : StartsPage w.pages v.pages).
       order_started (index_view w) (index_view v) kept.ordered starts.page starts.next starts.below starts.turns
       (λ x t here. inr (kept.ordered.tuples x t (came x t here))) (entries_same (index_view w) (index_view v) kept.ordered stops.map))
       stops.pages

@@ -26,7 +26,7 @@ pub record Quiet (w v : IndexView) : Type 0 where
 pub record PagesGoOn (s : ℕ) (w v : IndexView) : Type 0 where
   pub pages_per_range : v.pages_per_range ≡ w.pages_per_range
   pub blocks : w.blocks ≤ v.blocks
-  pub locks : OwnLocks s w v
+  pub locks : OwnLocks s w.lock v.lock
   pub kinds : (p n : ℕ) → w.lock p ≡ Some n → n ≢ s → v.pages.kind p ≡ w.pages.kind p
   pub quiet : (w.summarise_lock ≡ Some s) ⊎ Quiet w v
 
@@ -52,7 +52,7 @@ quiet_same w v map tuples map_pages = record {
 }
 
 -- a page that nobody else locks turns
-pub kinds_turned : (s : ℕ) (w v : IndexView) (page : ℕ) (kind : PageKind) → TurnsPage w v page kind → IsFree w s page → (p n : ℕ) → w.lock p ≡ Some n → n ≢ s
+pub kinds_turned : (s : ℕ) (w v : IndexView) (page : ℕ) (kind : PageKind) → TurnsPage w.pages v.pages page kind → IsFree w.lock s page → (p n : ℕ) → w.lock p ≡ Some n → n ≢ s
     → v.pages.kind p ≡ w.pages.kind p
 kinds_turned s w v page kind turns free p n is other = ⊎_elim
     (λ (at : p ≡ page). absurd (other (free n (subst (λ q. w.lock q ≡ Some n) at is))))
@@ -61,7 +61,7 @@ kinds_turned s w v page kind turns free p n is other = ⊎_elim
 
 -- entries, tuples and pages stay
 pub still_after : (s : ℕ) (w v : IndexView) (new : Statement) → v.pages_per_range ≡ w.pages_per_range → w.blocks ≤ v.blocks → SameMap w v → SameTuples w v
-    → v.pages ≡ w.pages → OwnLocks s w v → AreOrdered w → KnowsPages v s new → PagesAfter s w v new
+    → v.pages ≡ w.pages → OwnLocks s w.lock v.lock → AreOrdered w → KnowsPages v s new → PagesAfter s w v new
 still_after s w v new per blocks map tuples pages locks ordered knows = record {
   ordered = order_still w v ordered map tuples pages;
   on = record {
@@ -163,13 +163,13 @@ quiet_drop w v x unnamed gone others map map_pages = record {
 }
 
 module _ (s : ℕ) (d : ℕ → ℕ → Bool) (w v : IndexView) (sound : IsSound w) (on : GoesOn s d w v) (pages : PagesGoOn s w v) (n : ℕ) (other : n ≢ s) where
-  these_on : (these : List ℕ) → LocksThese w n these → LocksThese v n these
+  these_on : (these : List ℕ) → LocksThese w.lock n these → LocksThese v.lock n these
   these_on these locks = record {
     locked = λ p one. pages.locks.others p n (locks.locked p one) other;
     only = λ p is. locks.only p (pages.locks.taken p n is other);
   }
 
-  locks_on : (range : ℕ) (on_index : OnIndex) → LocksOnIndex w n range on_index → LocksOnIndex v n range on_index
+  locks_on : (range : ℕ) (on_index : OnIndex) → LocksOnIndex w.lock n range on_index → LocksOnIndex v.lock n range on_index
   locks_on range Empty locks = tt
   locks_on range (Held x) locks = tt
   locks_on range (Copied x old new) locks = tt
@@ -205,8 +205,8 @@ module _ (s : ℕ) (d : ℕ → ℕ → Bool) (w v : IndexView) (sound : IsSound
   phase_pages_on held range Vacant known = tt
   phase_pages_on held range Growing known =
       let same = (quiet_on held).map_pages in (
-        ap (λ m. v.pages.kind (m + 1)) same ∙ pages.kinds (next_map_page w) n (known.1.locked (next_map_page w) (inl refl)) other ∙ known.0,
-        subst (λ m. LocksThese v n ((m + 1) ∷ 0 ∷ [])) (sym same) (these_on (next_map_page w ∷ 0 ∷ []) known.1),
+        ap (λ m. v.pages.kind (m + 1)) same ∙ pages.kinds (next_map_page w.pages) n (known.1.locked (next_map_page w.pages) (inl refl)) other ∙ known.0,
+        subst (λ m. LocksThese v.lock n ((m + 1) ∷ 0 ∷ [])) (sym same) (these_on (next_map_page w.pages ∷ 0 ∷ []) known.1),
       )
   phase_pages_on held range (Evacuating m on_index) known = (locks_on m on_index known.0, known.1)
   phase_pages_on held range (Placing x) known = (
@@ -219,7 +219,7 @@ module _ (s : ℕ) (d : ℕ → ℕ → Bool) (w v : IndexView) (sound : IsSound
   pub pages_on : (e : Statement) → Knows w n e → KnowsPages w n e → KnowsPages v n e
   pages_on Idle known pages_known = tt
   pages_on (Inserting b k r on_index) known pages_known =
-      subst (λ m. LocksOnIndex v n (b / m) on_index) (sym pages.pages_per_range) (locks_on (range_of_block w b) on_index pages_known)
+      subst (λ m. LocksOnIndex v.lock n (b / m) on_index) (sym pages.pages_per_range) (locks_on (range_of_block w b) on_index pages_known)
   pages_on (Maintaining range phase) known pages_known = phase_pages_on known.0 range phase pages_known
   pages_on Holding known pages_known = tt
   pages_on (Scanning scan) known pages_known = tt

@@ -29,11 +29,11 @@ use Rattle.coverage.proofs.PagesOrdered.{order_counted}
 use Rattle.coverage.proofs.PagesGoOn.{Quiet, PagesGoOn, PagesAfter, same_blocks, quiet_same, kinds_turned, still_after, quiet_put, quiet_swap, quiet_set, quiet_drop}
 
 -- the page of a put is the target that was chosen
-pub put_target : (w : IndexView) (s range need : ℕ) (y : TuplePlace) → PutVerdict w s range need (Puts y) → IsTarget w need y.block
+pub put_target : (w : IndexView) (s range need : ℕ) (y : TuplePlace) → PutVerdict w s range need (Puts y) → IsTarget w.pages need y.block
 put_target w s range need y (PutGoes _ target free map) = target.0
 
 pub move_target : (w : IndexView) (s range : ℕ) (x y : TuplePlace) (old new : IndexTuple) → SwapVerdict w s range x old new (Puts y)
-    → IsTarget w (length new.bytes) y.block
+    → IsTarget w.pages (length new.bytes) y.block
 move_target w s range x y old new (SwapMoves _ free here must puts) = put_target w s range (length new.bytes) y puts
 
 swap_regular : (w : IndexView) (s range : ℕ) (x : TuplePlace) (old new : IndexTuple) → SwapVerdict w s range x old new Fits → w.pages.kind x.block ≡ Regular
@@ -44,7 +44,7 @@ swap_regular w s range x old new (SwapMoves _ free here must puts) = never puts
     never puts = elim puts [ ]
 
 module _ (s : ℕ) (w v : IndexView) where
-  goes_on : SameHeap w v → OwnLocks s w v → ((p n : ℕ) → w.lock p ≡ Some n → n ≢ s → v.pages.kind p ≡ w.pages.kind p)
+  goes_on : SameHeap w v → OwnLocks s w.lock v.lock → ((p n : ℕ) → w.lock p ≡ Some n → n ≢ s → v.pages.kind p ≡ w.pages.kind p)
       → (w.summarise_lock ≡ Some s) ⊎ Quiet w v → PagesGoOn s w v
   goes_on heap locks kinds quiet = record {
     pages_per_range = heap.pages_per_range;
@@ -57,7 +57,7 @@ module _ (s : ℕ) (w v : IndexView) where
   same_kinds : v.pages ≡ w.pages → (p n : ℕ) → w.lock p ≡ Some n → n ≢ s → v.pages.kind p ≡ w.pages.kind p
   same_kinds pages p n is other = ap (λ (g : Pages). g.kind p) pages
 
-  these_same : SameLocks w v → (these : List ℕ) → LocksThese w s these → LocksThese v s these
+  these_same : SameLocks w.lock v.lock → (these : List ℕ) → LocksThese w.lock s these → LocksThese v.lock s these
   these_same same these locks =
       record { locked = λ p one. same.lock p ∙ locks.locked p one; only = λ p is. locks.only p (sym (same.lock p) ∙ is) }
 
@@ -71,7 +71,7 @@ module _ (s : ℕ) (w v : IndexView) (ordered : AreOrdered w) where
   swap_ordered x old new swap kind =
       order_same w v ordered (turned_same w v x.block Regular swap.page kind) swap.page.map_pages swap.page.limit
       (λ z t here. ⊎_elim
-      (λ (at : z ≡ x). subst (λ (y : TuplePlace). IsForTuples w y.block) (sym at) (inl kind))
+      (λ (at : z ≡ x). subst (λ (y : TuplePlace). IsForTuples w.pages y.block) (sym at) (inl kind))
       (λ (e : v.tuple z ≡ w.tuple z). ordered.tuples z t (sym e ∙ here))
       (swap.tuple.others z))
       (entries_same w v ordered swap.frame.map)
@@ -122,7 +122,7 @@ module _ (s : ℕ) (w v : IndexView) (ordered : AreOrdered w) where
   }
 
   module _ (range : ℕ) (quiet : (w.summarise_lock ≡ Some s) ⊎ Quiet w v) where
-    on_index_after : (g h : OnIndex) → OnIndexStep s range w v g h → AreOrdered v × PagesGoOn s w v × LocksOnIndex v s range h
+    on_index_after : (g h : OnIndex) → OnIndexStep s range w v g h → AreOrdered v × PagesGoOn s w v × LocksOnIndex v.lock s range h
     on_index_after _ _ (Maps x named reads) = let after = read_after Idle reads tt in (after.ordered, after.on, tt)
     on_index_after _ _ (Gone x gone reads) = let after = read_after Idle reads tt in (after.ordered, after.on, tt)
     on_index_after _ _ (Again x old new verdict reads) = let after = read_after Idle reads tt in (after.ordered, after.on, tt)
@@ -145,13 +145,13 @@ module _ (s b k : ℕ) (r : Row) (w v : IndexView) (sound : IsSound w) (ordered 
       puts.page.map_pages
 
   pub insert_after : (g : OnIndex) (e : Statement) → InsertStep s b k r w v g e → KnowsOnIndex w s (range_of_block w b) (IsAdded r) g
-      → LocksOnIndex w s (range_of_block w b) g → PagesAfter s w v e
+      → LocksOnIndex w.lock s (range_of_block w b) g → PagesAfter s w v e
   insert_after _ _ (InsertOnIndex old new step) known locks =
       let after = on_index_after s w v ordered (range_of_block w b) (inr (on_index_quiet old new step known)) old new step in
       record {
         ordered = after.0;
         on = after.1;
-        knows = subst (λ m. LocksOnIndex v s (b / m) new) (sym after.1.pages_per_range) after.2;
+        knows = subst (λ m. LocksOnIndex v.lock s (b / m) new) (sym after.1.pages_per_range) after.2;
       }
   insert_after _ _ (InsertNoEntry none reads) known locks = read_after s w v ordered Idle reads tt
   insert_after _ _ (InsertCopies x old new stands added changes reads) known locks = read_after s w v ordered (Inserting b k r (Copied x old new)) reads tt
@@ -168,7 +168,7 @@ module _ (s b k : ℕ) (r : Row) (w v : IndexView) (sound : IsSound w) (ordered 
     ordered = set_ordered s w v ordered (range_of_block w b) y sets (ordered.entries (range_of_block w b) x known.2);
     on = goes_on s w v sets.frame.heap sets.frame.locks (same_kinds s w v sets.pages)
         (inr (quiet_set s w v (range_of_block w b) x y old new known.2 known.3 known.4 known.6.placeholder sets));
-    knows = subst (λ m. LocksOnIndex v s (b / m) (Dropping x)) (sym sets.frame.heap.pages_per_range)
+    knows = subst (λ m. LocksOnIndex v.lock s (b / m) (Dropping x)) (sym sets.frame.heap.pages_per_range)
         (y.block, these_same s w v same (x.block ∷ y.block ∷ map_page_of (range_of_block w b) ∷ []) locks);
   }
   insert_after _ _ (InsertDrop x drops) known locks = record {
@@ -178,7 +178,7 @@ module _ (s b k : ℕ) (r : Row) (w v : IndexView) (sound : IsSound w) (ordered 
   }
 
 -- a page without a next tuple has none
-module _ (w : IndexView) (page : ℕ) (none : (x : TuplePlace) (t : IndexTuple) → IsNextTuple w page x t → ⊥) where
+module _ (w : IndexView) (page : ℕ) (none : (x : TuplePlace) (t : IndexTuple) → IsNextTuple w.tuple page x t → ⊥) where
   abbrev pub place : ℕ → TuplePlace
   place k = record { block = page; slot = k }
 
@@ -245,16 +245,16 @@ uniting s range w v extent next result all _ _ (MovePut x y old new verdict puts
 
 module _ (s range : ℕ) (w v : IndexView) (ordered : AreOrdered w) (held : w.summarise_lock ≡ Some s) where
   -- the page after the map turns to another kind
-  turn_ordered : (kind : PageKind) (these : List ℕ) → TurnsKind s w v kind these → next_map_page w < w.pages.limit → (kind ≡ Unstarted → ⊥)
-      → ((x : TuplePlace) (t : IndexTuple) → x.block ≡ next_map_page w → w.tuple x ≡ Some t → (kind ≡ Regular) ⊎ (kind ≡ Emptying)) → AreOrdered v
+  turn_ordered : (kind : PageKind) (these : List ℕ) → TurnsKind s w v kind these → next_map_page w.pages < w.pages.limit → (kind ≡ Unstarted → ⊥)
+      → ((x : TuplePlace) (t : IndexTuple) → x.block ≡ next_map_page w.pages → w.tuple x ≡ Some t → (kind ≡ Regular) ⊎ (kind ≡ Emptying)) → AreOrdered v
   turn_ordered kind these turns low started holds =
-      order_turned w v ordered (next_map_page w) kind turns.page (past w.pages.map_pages) low started (λ is. self (next_map_page w)) first
+      order_turned w v ordered (next_map_page w.pages) kind turns.page (past w.pages.map_pages) low started (λ is. self (next_map_page w.pages)) first
       (λ x t here.
       let was : w.tuple x ≡ Some t = sym (turns.frame.tuples.tuple x) ∙ here in
       ⊎_elim
-      (λ (at : x.block ≡ next_map_page w). inl (at, holds x t at was))
-      (λ (other : x.block ≢ next_map_page w). inr (other, ordered.tuples x t was))
-      (cases_eq x.block (next_map_page w)))
+      (λ (at : x.block ≡ next_map_page w.pages). inl (at, holds x t at was))
+      (λ (other : x.block ≢ next_map_page w.pages). inr (other, ordered.tuples x t was))
+      (cases_eq x.block (next_map_page w.pages)))
       (entries_same w v ordered turns.frame.map)
     where
       past : (n : ℕ) → n < n + 1
@@ -266,16 +266,16 @@ module _ (s range : ℕ) (w v : IndexView) (ordered : AreOrdered w) (held : w.su
       before : (p n : ℕ) → p < n + 1 → p ≤ n
       before p n less = omega arith
 
-      first : (p : ℕ) → p < next_map_page w → w.pages.kind p ≢ Unstarted
+      first : (p : ℕ) → p < next_map_page w.pages → w.pages.kind p ≢ Unstarted
       first p less is = subst IsStarted (sym (ordered.map p (before p w.pages.map_pages less)) ∙ is) tt
 
-  grown : (these : List ℕ) (turns : TurnsKind s w v Mapping these) → these ≡ (next_map_page w ∷ 0 ∷ []) → KnowsPagesOfPhase v s range Growing
+  grown : (these : List ℕ) (turns : TurnsKind s w v Mapping these) → these ≡ (next_map_page w.pages ∷ 0 ∷ []) → KnowsPagesOfPhase v s range Growing
   grown these turns are = (
     ap (λ m. v.pages.kind (m + 1)) turns.page.map_pages ∙ turns.page.now,
-    subst (λ m. LocksThese v s ((m + 1) ∷ 0 ∷ [])) (sym turns.page.map_pages) (subst (LocksThese v s) are turns.locks),
+    subst (λ m. LocksThese v.lock s ((m + 1) ∷ 0 ∷ [])) (sym turns.page.map_pages) (subst (LocksThese v.lock s) are turns.locks),
   )
 
-  count_after : CountsPage s w v → w.pages.kind (next_map_page w) ≡ Mapping → PagesAfter s w v (Maintaining range Vacant)
+  count_after : CountsPage s w v → w.pages.kind (next_map_page w.pages) ≡ Mapping → PagesAfter s w v (Maintaining range Vacant)
   count_after counts next = record {
     ordered = order_counted w v ordered counts.pages next counts.frame.map counts.frame.tuples;
     on = goes_on s w v counts.frame.heap counts.frame.locks (λ p n is other. ap (λ (g : Pages). g.kind p) counts.pages) (inl held);
@@ -285,16 +285,16 @@ module _ (s range : ℕ) (w v : IndexView) (ordered : AreOrdered w) (held : w.su
   growth_after : (old new : Phase) → GrowthStep s range w v old new → KnowsPhase w s range old → KnowsPagesOfPhase w s range old
       → PagesAfter s w v (Maintaining range new)
   growth_after _ _ (Grow grows free meta turns) known pages = record {
-    ordered = turn_ordered Mapping (next_map_page w ∷ 0 ∷ []) turns grows.below (λ is. subst IsStarted is tt)
+    ordered = turn_ordered Mapping (next_map_page w.pages ∷ 0 ∷ []) turns grows.below (λ is. subst IsStarted is tt)
         (λ x t at here. absurd (subst IsStarted (ap w.pages.kind at ∙ grows.is) (for_tuples w x.block (ordered.tuples x t here)).0));
-    on = goes_on s w v turns.frame.heap turns.frame.locks (kinds_turned s w v (next_map_page w) Mapping turns.page free) (inl held);
-    knows = grown (next_map_page w ∷ 0 ∷ []) turns refl;
+    on = goes_on s w v turns.frame.heap turns.frame.locks (kinds_turned s w v (next_map_page w.pages) Mapping turns.page free) (inl held);
+    knows = grown (next_map_page w.pages ∷ 0 ∷ []) turns refl;
   }
   growth_after _ _ (CountLeftOver grows meta counts) known pages = count_after counts grows.is
   growth_after _ _ (Count counts) known pages = count_after counts pages.0
   growth_after _ _ (Flag grows free turns) known pages = record {
     ordered = turn_ordered Emptying [] turns grows.below (λ is. subst IsStarted is tt) (λ x t at here. inr refl);
-    on = goes_on s w v turns.frame.heap turns.frame.locks (kinds_turned s w v (next_map_page w) Emptying turns.page free) (inl held);
+    on = goes_on s w v turns.frame.heap turns.frame.locks (kinds_turned s w v (next_map_page w.pages) Emptying turns.page free) (inl held);
     knows = tt;
   }
   growth_after _ _ (EvacuatePut x y t grows next named free verdict puts these) known pages = record {
@@ -310,15 +310,15 @@ module _ (s range : ℕ) (w v : IndexView) (ordered : AreOrdered w) (held : w.su
   growth_after _ _ (EvacuateDrop m x drops) known pages =
       record { ordered = drop_ordered s w v ordered x drops; on = drop_on s w v ordered x drops (inl held); knows = tt }
   growth_after _ _ (EvacuateSweep x t grows next unnamed sweeps) known pages =
-      sweep_after s w v ordered (next_map_page w) (λ y. y ≡ x) (Maintaining range Vacant) sweeps held tt
+      sweep_after s w v ordered (next_map_page w.pages) (λ y. y ≡ x) (Maintaining range Vacant) sweeps held tt
   growth_after _ _ (Turn grows empty free meta turns) known pages = record {
-    ordered = turn_ordered Mapping (next_map_page w ∷ 0 ∷ []) turns grows.below (λ is. subst IsStarted is tt)
-        (λ x t at here. absurd (none_left w (next_map_page w) empty x t at here));
-    on = goes_on s w v turns.frame.heap turns.frame.locks (kinds_turned s w v (next_map_page w) Mapping turns.page free) (inl held);
-    knows = grown (next_map_page w ∷ 0 ∷ []) turns refl;
+    ordered = turn_ordered Mapping (next_map_page w.pages ∷ 0 ∷ []) turns grows.below (λ is. subst IsStarted is tt)
+        (λ x t at here. absurd (none_left w (next_map_page w.pages) empty x t at here));
+    on = goes_on s w v turns.frame.heap turns.frame.locks (kinds_turned s w v (next_map_page w.pages) Mapping turns.page free) (inl held);
+    knows = grown (next_map_page w.pages ∷ 0 ∷ []) turns refl;
   }
 
-  long_enough : (IsPastMap w range → ⊥) → map_page_of range ≤ w.pages.map_pages
+  long_enough : (IsPastMap w.pages range → ⊥) → map_page_of range ≤ w.pages.map_pages
   long_enough long = ⊎_elim
       (λ (past : w.pages.map_pages < map_page_of range). absurd (long past))
       (λ (le : map_page_of range ≤ w.pages.map_pages). le)

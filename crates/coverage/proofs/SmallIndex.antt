@@ -187,7 +187,7 @@ pub nobody : (locks : List ℕ) → locks ≡ [] → (p : ℕ) → locks_of lock
 nobody locks none p is = none-some _ (sym (ap (λ l. locks_of l p) none) ∙ is)
 
 module _ (row : ℕ → ℕ → Option Row) (w v : Small) where
-  own : OwnLocks 0 (view row w) (view row v)
+  own : OwnLocks 0 (view row w).lock (view row v).lock
   own = record {
     others = λ p n is other. absurd (other (own_locks w.locks p n is));
     taken = λ p n is other. absurd (other (own_locks v.locks p n is));
@@ -244,7 +244,7 @@ module _ (row : ℕ → ℕ → Option Row) (w v : Small) where
       Maintain range old new (turned (Maintaining range old) new was now) (Summarises step) (record { counts = λ t. refl })
 
 module _ (row : ℕ → ℕ → Option Row) (w : Small) where
-  pub locks_these : LocksThese (view row w) 0 w.locks
+  pub locks_these : LocksThese (view row w).lock 0 w.locks
   locks_these = record { locked = λ p one. locked_by w.locks p one; only = λ p is. only_by w.locks p is }
 
   pub free : (p n : ℕ) → locks_of w.locks p ≡ Some n → n ≡ 0

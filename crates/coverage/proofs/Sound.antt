@@ -11,7 +11,7 @@ use Rattle.coverage.proofs.Formed.{puts_row_formed, places_formed, names_formed,
 use Rattle.coverage.proofs.Formed.{drops_formed, clears_formed, sweeps_formed, prunes_formed, takes_formed, ends_formed, turns_locks_formed}
 
 -- a loose tuple's page stays locked
-lock_kept : (s : ℕ) (w v : IndexView) → IsSound w → OwnLocks s w v → IsLooseLocked s v → ((n : ℕ) → (n ≡ s) ⊎ (v.loose n ≡ w.loose n))
+lock_kept : (s : ℕ) (w v : IndexView) → IsSound w → OwnLocks s w.lock v.lock → IsLooseLocked s v → ((n : ℕ) → (n ≡ s) ⊎ (v.loose n ≡ w.loose n))
     → (n : ℕ) (x : TuplePlace) → v.loose n ≡ Some x → v.lock x.block ≡ Some n
 lock_kept s w v sound locks locked others n x is = ⊎_elim
     (λ (e : n ≡ s). subst (λ m. v.loose m ≡ Some x → v.lock x.block ≡ Some m) (sym e) (locked x) is)

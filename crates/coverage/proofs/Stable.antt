@@ -15,7 +15,7 @@ use Rattle.coverage.proofs.Formed.{formed_on, range_of_on}
 
 -- Where nobody else locks the page and the session locks none, a tuple of the range at a place that it holds is the one that the map names.
 pub held_named : (w : IndexView) (s range : ℕ) (x : TuplePlace) (t : IndexTuple) → IsSound w → IsHeld w range x → w.tuple x ≡ Some t → t.range ≡ range
-    → IsFree w s x.block → LocksNone w s → w.entry range ≡ Some x
+    → IsFree w.lock s x.block → LocksNone w.lock s → w.entry range ≡ Some x
 held_named w s range x t sound held here of free none = ⊎_elim
     (λ (named : w.entry range ≡ Some x). named)
     (λ (loose : (n : ℕ) × (w.loose n ≡ Some x)).
@@ -24,7 +24,7 @@ held_named w s range x t sound held here of free none = ⊎_elim
     (held t here of)
 
 module _ (a : ℕ) (d : ℕ → ℕ → Bool) (w v : IndexView) (sound : IsSound w) (on : GoesOn a d w v) (s : ℕ) (other : s ≢ a) where
-  none_on : LocksNone w s → LocksNone v s
+  none_on : LocksNone w.lock s → LocksNone v.lock s
   none_on none p is = none p (on.no_lock_given p s is other)
 
   nothing_on : HoldsNothing w s → HoldsNothing v s

@@ -47,7 +47,7 @@ one_of (q ∷ more) p = ⊎_elim
     (cases_eq p q)
 
 -- the session's locks become these, and those of others stay
-module _ (w : IndexView) (s : ℕ) (these : List ℕ) (free : (p : ℕ) → IsOneOf these p → IsFree w s p) where
+module _ (w : IndexView) (s : ℕ) (these : List ℕ) (free : (p : ℕ) → IsOneOf these p → IsFree w.lock s p) where
   abbrev given : (p : ℕ) (o : Option ℕ) → Option ℕ
   given p None = None
   given p (Some n) = chosen (cases_eq n s) None (Some n)
@@ -115,10 +115,10 @@ number_there f n a m = ⊎_elim (λ (is : m ≡ n). inl is) (λ (other : m ≢ n
 
 module _ (s : ℕ) (w : IndexView) where
   -- nothing changes, and the session locks no page
-  pub reads_here : LocksNone w s → ReadsIndex s w w
+  pub reads_here : LocksNone w.lock s → ReadsIndex s w w
   reads_here none = search rules
 
-  pub free_none : (p : ℕ) → IsOneOf [] p → IsFree w s p
+  pub free_none : (p : ℕ) → IsOneOf [] p → IsFree w.lock s p
   free_none p among = absurd among
 
   -- the tuple at a place goes, and the locks are given
@@ -129,26 +129,26 @@ module _ (s : ℕ) (w : IndexView) where
   drops_here x = search (rules, tuple_here, tuple_there, after_others, after_taken, after_only)
 
 module _ (s b k : ℕ) (r : Row) (w : IndexView) where
-  empty_steps : LocksNone w s → IsInsertStuck w s b k r Empty → ⊥
+  empty_steps : LocksNone w.lock s → IsInsertStuck w s b k r Empty → ⊥
   empty_steps none stuck = by (w.entry (range_of_block w b)) refl
     where
       by : (o : Option TuplePlace) → w.entry (range_of_block w b) ≡ o → ⊥
       by None is = stuck Idle w (InsertNoEntry is (reads_here s w none))
       by (Some x) is = stuck (Inserting b k r (Held x)) w (InsertOnIndex Empty (Held x) (Maps x is (reads_here s w none)))
 
-  held_steps : (x : TuplePlace) → LocksNone w s → IsInsertStuck w s b k r (Held x) → ⊥
+  held_steps : (x : TuplePlace) → LocksNone w.lock s → IsInsertStuck w s b k r (Held x) → ⊥
   held_steps x none stuck = by (w.tuple x) refl
     where
       -- with the row in the tuple already, another session's lock of its page decides
       unchanged : (t : IndexTuple) → w.tuple x ≡ Some t → t.range ≡ range_of_block w b → t ≡ w.contents.added r t → ⊥
       unchanged t is of same = by_lock (w.lock x.block) refl
         where
-          copies : IsLocked w s x.block → ⊥
+          copies : IsLocked w.lock s x.block → ⊥
           copies locked =
               stuck (Inserting b k r (Copied x t (w.contents.added r t))) w
               (InsertCopies x t (w.contents.added r t) (is, of) refl (inr locked) (reads_here s w none))
 
-          completes : IsFree w s x.block → ⊥
+          completes : IsFree w.lock s x.block → ⊥
           completes free = stuck Idle w (InsertUnchanged x t (is, of) same free (reads_here s w none))
 
           by_lock : (o : Option ℕ) → w.lock x.block ≡ o → ⊥
@@ -171,7 +171,7 @@ module _ (s b k : ℕ) (r : Row) (w : IndexView) where
           (cases_eq t.range (range_of_block w b))
 
   -- the copied tuple is judged again
-  copied_steps : HasFreeSlots w → (x : TuplePlace) (old new : IndexTuple) → LocksNone w s → IsInsertStuck w s b k r (Copied x old new)
+  copied_steps : HasFreeSlots w.tuple → (x : TuplePlace) (old new : IndexTuple) → LocksNone w.lock s → IsInsertStuck w s b k r (Copied x old new)
       → ((number : ℕ) → SwapVerdict w s (range_of_block w b) x old new (Full number) → ⊥) → ((p : ℕ) → SwapVerdict w s (range_of_block w b) x old new (Waits p) → ⊥) → ⊥
   copied_steps slots x old new none stuck room free = some_swap w slots s (range_of_block w b) x old new by
     where
@@ -188,14 +188,14 @@ module _ (s b k : ℕ) (r : Row) (w : IndexView) where
       moves : (y : TuplePlace) → SwapVerdict w s (range_of_block w b) x old new (Puts y) → ⊥
       moves y verdict = by_move verdict
         where
-          all_free : IsFree w s x.block → IsFree w s y.block → IsFree w s (map_page_of (range_of_block w b)) → (p : ℕ)
-              → IsOneOf (x.block ∷ y.block ∷ map_page_of (range_of_block w b) ∷ []) p → IsFree w s p
+          all_free : IsFree w.lock s x.block → IsFree w.lock s y.block → IsFree w.lock s (map_page_of (range_of_block w b)) → (p : ℕ)
+              → IsOneOf (x.block ∷ y.block ∷ map_page_of (range_of_block w b) ∷ []) p → IsFree w.lock s p
           all_free one two three p among = ⊎_elim
-              (λ (is : p ≡ x.block). subst (IsFree w s) (sym is) one)
+              (λ (is : p ≡ x.block). subst (IsFree w.lock s) (sym is) one)
               (λ (more : (p ≡ y.block) ⊎ ((p ≡ map_page_of (range_of_block w b)) ⊎ ⊥)). ⊎_elim
-              (λ (is : p ≡ y.block). subst (IsFree w s) (sym is) two)
+              (λ (is : p ≡ y.block). subst (IsFree w.lock s) (sym is) two)
               (λ (last : (p ≡ map_page_of (range_of_block w b)) ⊎ ⊥).
-              ⊎_elim (λ (is : p ≡ map_page_of (range_of_block w b)). subst (IsFree w s) (sym is) three) (λ (never : ⊥). absurd never) last)
+              ⊎_elim (λ (is : p ≡ map_page_of (range_of_block w b)). subst (IsFree w.lock s) (sym is) three) (λ (never : ⊥). absurd never) last)
               more)
               among
 
@@ -243,7 +243,7 @@ module _ (s b k : ℕ) (r : Row) (w : IndexView) where
   dropping_steps : (x : TuplePlace) → IsInsertStuck w s b k r (Dropping x) → ⊥
   dropping_steps x stuck = stuck Idle (drops_view s w x) (InsertDrop x (drops_here s w x))
 
-  pub insert_has_step : HasFreeSlots w → (on_index : OnIndex) → Knows w s (Inserting b k r on_index) → IsInsertStuck w s b k r on_index
+  pub insert_has_step : HasFreeSlots w.tuple → (on_index : OnIndex) → Knows w s (Inserting b k r on_index) → IsInsertStuck w s b k r on_index
       → IsSwapFree w s (range_of_block w b) on_index → ⊥
   insert_has_step slots Empty known stuck others = empty_steps known.2 stuck
   insert_has_step slots (Held x) known stuck others = held_steps x known.2.0 stuck
@@ -253,21 +253,21 @@ module _ (s b k : ℕ) (r : Row) (w : IndexView) where
   insert_has_step slots (Dropping x) known stuck others = dropping_steps x stuck
 
 module _ (s range : ℕ) (w : IndexView) where
-  clear_empty : LocksNone w s → IsDesummariseStuck w s range Empty → ⊥
+  clear_empty : LocksNone w.lock s → IsDesummariseStuck w s range Empty → ⊥
   clear_empty none stuck = by (w.entry range) refl
     where
       by : (o : Option TuplePlace) → w.entry range ≡ o → ⊥
       by None is = stuck Holding w (ClearNone is (reads_here s w none))
       by (Some x) is = stuck (Maintaining range (NotBuilding (Held x))) w (ClearMap x is (reads_here s w none))
 
-  clear_held : (x : TuplePlace) → LocksNone w s → IsDesummariseStuck w s range (Held x) → ((p : ℕ) → ClearVerdict w s range x (Waits p) → ⊥) → ⊥
+  clear_held : (x : TuplePlace) → LocksNone w.lock s → IsDesummariseStuck w s range (Held x) → ((p : ℕ) → ClearVerdict w s range x (Waits p) → ⊥) → ⊥
   clear_held x none stuck free = some_clear w s range x by
     where
       clears : ClearVerdict w s range x Fits → ⊥
       clears (ClearFits unlocked map names) =
-          let free_all : (p : ℕ) → IsOneOf (x.block ∷ map_page_of range ∷ []) p → IsFree w s p = λ p among. ⊎_elim
-          (λ (is : p ≡ x.block). subst (IsFree w s) (sym is) unlocked)
-          (λ (more : (p ≡ map_page_of range) ⊎ ⊥). ⊎_elim (λ (is : p ≡ map_page_of range). subst (IsFree w s) (sym is) map) (λ (never : ⊥). absurd never) more)
+          let free_all : (p : ℕ) → IsOneOf (x.block ∷ map_page_of range ∷ []) p → IsFree w.lock s p = λ p among. ⊎_elim
+          (λ (is : p ≡ x.block). subst (IsFree w.lock s) (sym is) unlocked)
+          (λ (more : (p ≡ map_page_of range) ⊎ ⊥). ⊎_elim (λ (is : p ≡ map_page_of range). subst (IsFree w.lock s) (sym is) map) (λ (never : ⊥). absurd never) more)
           among in
           stuck (Maintaining range (NotBuilding (Dropping x)))
           (record w { entry = number_with w.entry range None; lock = locks_after w s (x.block ∷ map_page_of range ∷ []) free_all })

@@ -30,9 +30,9 @@ pub record SameWork (w v : IndexView) : Type 0 where
   pub building : (s : ℕ) → v.building s ≡ w.building s
 
 -- the locks of other sessions stay, and none are given to them
-pub record OwnLocks (s : ℕ) (w v : IndexView) : Type 0 where
-  pub others : (p n : ℕ) → w.lock p ≡ Some n → n ≢ s → v.lock p ≡ Some n
-  pub taken : (p n : ℕ) → v.lock p ≡ Some n → n ≢ s → w.lock p ≡ Some n
+pub record OwnLocks (s : ℕ) (old new : ℕ → Option ℕ) : Type 0 where
+  pub others : (p n : ℕ) → old p ≡ Some n → n ≢ s → new p ≡ Some n
+  pub taken : (p n : ℕ) → new p ≡ Some n → n ≢ s → old p ≡ Some n
 
 -- what a step may change beside the page locks of its session: nothing; the heap's rows; the range map; the tuples; the tuples
 -- and which of them were unnamed at the opening; or who holds the summarise lock
@@ -72,7 +72,7 @@ pub record Frame (s : ℕ) (touched : Touched) (w v : IndexView) : Type 0 where
   pub tuples : KeepsTuples touched w v
   pub unnamed_tuples : KeepsUnnamed touched w v
   pub summarise_lock : KeepsSummariseLock touched w v
-  pub locks : OwnLocks s w v
+  pub locks : OwnLocks s w.lock v.lock
   pub contents : v.contents ≡ w.contents
 
 -- the page of the session's loose tuple is locked by it
@@ -80,8 +80,8 @@ abbrev pub IsLooseLocked : ℕ → IndexView → Type 0
 IsLooseLocked s v = (x : TuplePlace) → v.loose s ≡ Some x → v.lock x.block ≡ Some s
 
 -- nobody else locks this page
-abbrev pub IsFree : IndexView → ℕ → ℕ → Type 0
-IsFree w s p = (n : ℕ) → w.lock p ≡ Some n → n ≡ s
+abbrev pub IsFree : (ℕ → Option ℕ) → ℕ → ℕ → Type 0
+IsFree lock s p = (n : ℕ) → lock p ≡ Some n → n ≡ s
 
 -- all that one includes, the other includes
 abbrev pub IsWithin : (Row → Bool) → (Row → Bool) → Type 0
@@ -111,7 +111,7 @@ pub record PutsRow (s : ℕ) (w v : IndexView) (b k : ℕ) (r : Row) : Type 0 wh
 -- a placeholder is put, which the map doesn't name yet; from here on the session is building its range
 pub record Places (s : ℕ) (w v : IndexView) (x : TuplePlace) (t : IndexTuple) : Type 0 where
   pub tuple : ChangesAt w.tuple v.tuple x None (Some t)
-  pub free : IsFree w s x.block
+  pub free : IsFree w.lock s x.block
   pub placeholder : t.placeholder ≡ true
   pub vacant : w.entry t.range ≡ None
   pub formed : IsTupleOf w t
@@ -166,7 +166,7 @@ MayEnd s w v = (n : ℕ) → (v.building n ≡ w.building n) ⊎ ((n ≡ s) × (
 -- in its place, the tuple that the map names gives way to one that carries it
 pub record Swaps (s : ℕ) (w v : IndexView) (range : ℕ) (x : TuplePlace) (old new : IndexTuple) : Type 0 where
   pub tuple : ChangesAt w.tuple v.tuple x (Some old) (Some new)
-  pub free : IsFree w s x.block
+  pub free : IsFree w.lock s x.block
   pub entry : w.entry range ≡ Some x
   pub of : (old.range ≡ range) × (new.range ≡ range)
   pub formed : IsFormed w.contents new
@@ -179,7 +179,7 @@ pub record Swaps (s : ℕ) (w v : IndexView) (range : ℕ) (x : TuplePlace) (old
 -- a move puts the new tuple; the map still names the old one
 pub record MovePuts (s : ℕ) (w v : IndexView) (range : ℕ) (x y : TuplePlace) (old new : IndexTuple) : Type 0 where
   pub tuple : ChangesAt w.tuple v.tuple y None (Some new)
-  pub free : IsFree w s y.block
+  pub free : IsFree w.lock s y.block
   pub before : w.tuple x ≡ Some old
   pub entry : w.entry range ≡ Some x
   pub of : (old.range ≡ range) × (new.range ≡ range)
@@ -194,7 +194,7 @@ pub record MovePuts (s : ℕ) (w v : IndexView) (range : ℕ) (x y : TuplePlace)
 pub record MoveSets (s : ℕ) (w v : IndexView) (range : ℕ) (x y : TuplePlace) (old new : IndexTuple) : Type 0 where
   pub entry : ChangesAt w.entry v.entry range (Some x) (Some y)
   pub loose : ChangesAt w.loose v.loose s (Some y) (Some x)
-  pub free : IsFree w s x.block
+  pub free : IsFree w.lock s x.block
   pub before : w.tuple x ≡ Some old
   pub after : w.tuple y ≡ Some new
   pub of : (old.range ≡ range) × (new.range ≡ range)
@@ -208,7 +208,7 @@ pub record DropsLoose (s : ℕ) (w v : IndexView) (x : TuplePlace) (old : IndexT
   pub tuple : ChangesAt w.tuple v.tuple x (Some old) None
   pub loose : ChangesAt w.loose v.loose s (Some x) None
   pub unnamed : (range : ℕ) → w.entry range ≢ Some x
-  pub free : IsFree w s x.block
+  pub free : IsFree w.lock s x.block
   pub work : SameWork w v
   pub frame : Frame s TouchesTuples w v
   pub locked : IsLooseLocked s v
@@ -217,7 +217,7 @@ pub record DropsLoose (s : ℕ) (w v : IndexView) (x : TuplePlace) (old : IndexT
 pub record Clears (s : ℕ) (w v : IndexView) (range : ℕ) (x : TuplePlace) : Type 0 where
   pub entry : ChangesAt w.entry v.entry range (Some x) None
   pub loose : ChangesAt w.loose v.loose s None (Some x)
-  pub free : IsFree w s x.block
+  pub free : IsFree w.lock s x.block
   pub summarise_lock : w.summarise_lock ≡ Some s
   pub work : SameWork w v
   pub frame : Frame s TouchesEntries w v
@@ -237,7 +237,7 @@ IsUntouched w v x = (v.tuple x ≡ w.tuple x) × (v.unnamed x ≡ w.unnamed x)
 -- tuples of one page that the map doesn't name are dropped, under the page's lock
 pub record Sweeps (s : ℕ) (w v : IndexView) (page : ℕ) : Type 0 where
   pub places : (x : TuplePlace) → IsUntouched w v x ⊎ IsSwept w v page x
-  pub free : IsFree w s page
+  pub free : IsFree w.lock s page
   pub loose : SameLoose w v
   pub work : SameWork w v
   pub frame : Frame s TouchesUnnamed w v

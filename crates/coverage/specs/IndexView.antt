@@ -95,12 +95,12 @@ abbrev pub map_page_of : ℕ → ℕ
 map_page_of range = range / entries_a_page + 1
 
 -- the page that the map grows onto
-abbrev pub next_map_page : IndexView → ℕ
-next_map_page w = w.pages.map_pages + 1
+abbrev pub next_map_page : Pages → ℕ
+next_map_page pages = pages.map_pages + 1
 
 -- the map has no page for the range's entry yet
-abbrev pub IsPastMap : IndexView → ℕ → Type 0
-IsPastMap w range = w.pages.map_pages < map_page_of range
+abbrev pub IsPastMap : Pages → ℕ → Type 0
+IsPastMap pages range = pages.map_pages < map_page_of range
 
 -- a statement of this session is building the range's summary, and has come so far
 abbrev pub IsBuilding : IndexView → ℕ → ℕ → Progress → Type 0

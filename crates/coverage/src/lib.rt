@@ -83,7 +83,7 @@ pub fn knowledge_is_stable()
     ensures placeholder { (a : ℕ) (d : ℕ → ℕ → Bool) (w v : IndexView) (s range : ℕ) → IsSound w → GoesOn a d w v → s ≢ a → w.summarise_lock ≡ Some s
         → NamesPlaceholder w range → NamesPlaceholder v range }
     ensures compared { (w : IndexView) (s range : ℕ) (x : TuplePlace) (t : IndexTuple) → IsSound w → IsHeld w range x → w.tuple x ≡ Some t → t.range ≡ range
-        → IsFree w s x.block → LocksNone w s → w.entry range ≡ Some x }
+        → IsFree w.lock s x.block → LocksNone w.lock s → w.entry range ≡ Some x }
 {}
 
 /// Whatever the sessions do, in any interleaving: what an index rests on is kept, with the order of its pages and what each
@@ -130,13 +130,13 @@ pub fn verdicts_are_exact()
     ensures one_swap { (w : IndexView) (s range : ℕ) (x : TuplePlace) (old new : IndexTuple) (p q : Verdict) → SwapVerdict w s range x old new p
         → SwapVerdict w s range x old new q → p ≡ q }
     ensures one_clear { (w : IndexView) (s range : ℕ) (x : TuplePlace) (p q : Verdict) → ClearVerdict w s range x p → ClearVerdict w s range x q → p ≡ q }
-    ensures put_waits { (w : IndexView) (s range need p : ℕ) → PutVerdict w s range need (Waits p) → IsLocked w s p }
-    ensures swap_waits { (w : IndexView) (s range p : ℕ) (x : TuplePlace) (old new : IndexTuple) → SwapVerdict w s range x old new (Waits p) → IsLocked w s p }
+    ensures put_waits { (w : IndexView) (s range need p : ℕ) → PutVerdict w s range need (Waits p) → IsLocked w.lock s p }
+    ensures swap_waits { (w : IndexView) (s range p : ℕ) (x : TuplePlace) (old new : IndexTuple) → SwapVerdict w s range x old new (Waits p) → IsLocked w.lock s p }
     ensures swap_differs { (w : IndexView) (s range : ℕ) (x : TuplePlace) (old new : IndexTuple) → SwapVerdict w s range x old new Differs
         → w.tuple x ≢ Some old }
-    ensures clear_waits { (w : IndexView) (s range p : ℕ) (x : TuplePlace) → ClearVerdict w s range x (Waits p) → IsLocked w s p }
+    ensures clear_waits { (w : IndexView) (s range p : ℕ) (x : TuplePlace) → ClearVerdict w s range x (Waits p) → IsLocked w.lock s p }
     ensures clear_differs { (w : IndexView) (s range : ℕ) (x : TuplePlace) → ClearVerdict w s range x Differs → w.entry range ≢ Some x }
-    ensures phase_waits { (w : IndexView) (s range p : ℕ) (phase : Phase) → IsPhaseWaiting w s range phase p → IsLocked w s p }
+    ensures phase_waits { (w : IndexView) (s range p : ℕ) (phase : Phase) → IsPhaseWaiting w s range phase p → IsLocked w.lock s p }
     ensures one_phase_wait { (w : IndexView) (s range p q : ℕ) (phase : Phase) → IsPhaseWaiting w s range phase p → IsPhaseWaiting w s range phase q → p ≡ q }
     ensures same_bytes { (contents : Contents) (t u : IndexTuple) → IsFormed contents t → IsFormed contents u → t.bytes ≡ u.bytes → t ≡ u }
     ensures put_place { (w : IndexView) (s range need : ℕ) (y : TuplePlace) → PutVerdict w s range need (Puts y) → (w.tuple y ≡ None)
@@ -148,8 +148,8 @@ pub fn verdicts_are_exact()
     ensures full_swap { (w : IndexView) (s range number : ℕ) (x : TuplePlace) (old new : IndexTuple) → SwapVerdict w s range x old new (Full number)
         → number ≡ w.pages.limit }
     ensures full_phase { (w : IndexView) (s range number : ℕ) (phase : Phase) → IsPhaseFull w s range phase number → number ≡ w.pages.limit }
-    ensures some_put { (w : IndexView) → HasFreeSlots w → (s range need : ℕ) → ((p : Verdict) → PutVerdict w s range need p → ⊥) → ⊥ }
-    ensures some_swap { (w : IndexView) → HasFreeSlots w → (s range : ℕ) (x : TuplePlace) (old new : IndexTuple)
+    ensures some_put { (w : IndexView) → HasFreeSlots w.tuple → (s range need : ℕ) → ((p : Verdict) → PutVerdict w s range need p → ⊥) → ⊥ }
+    ensures some_swap { (w : IndexView) → HasFreeSlots w.tuple → (s range : ℕ) (x : TuplePlace) (old new : IndexTuple)
         → ((p : Verdict) → SwapVerdict w s range x old new p → ⊥) → ⊥ }
     ensures some_clear { (w : IndexView) (s range : ℕ) (x : TuplePlace) → ((p : Verdict) → ClearVerdict w s range x p → ⊥) → ⊥ }
 {}
@@ -188,11 +188,11 @@ pub fn each_step_is_the_next_one()
 /// for what the insert or the summariser has to put. While no other session steps an insert takes
 /// at most six steps in an index, and five from its first one on. The steps are those with the very tuples that the index's contents give.
 pub fn some_step_comes()
-    ensures insert { (w : IndexView) → HasFreeSlots w → (s b k : ℕ) (r : Row) (on_index : OnIndex) → Knows w s (Inserting b k r on_index)
+    ensures insert { (w : IndexView) → HasFreeSlots w.tuple → (s b k : ℕ) (r : Row) (on_index : OnIndex) → Knows w s (Inserting b k r on_index)
         → IsInsertStuck w s b k r on_index → IsSwapFree w s (range_of_block w b) on_index → ⊥ }
     ensures insert_ends_begun { (w : IndexView) (s b k steps : ℕ) (r : Row) → AreNamed w → InsertsAlone s b k r steps w Empty → steps ≤ 5 }
     ensures insert_ends { (w : IndexView) (s b k steps : ℕ) (r : Row) (on_index : OnIndex) → AreNamed w → InsertsAlone s b k r steps w on_index → steps ≤ 6 }
-    ensures summarise { (w : IndexView) → HasFreeSlots w → HasBlocksOfRows w → (s range : ℕ) (phase : Phase) → IsRangeOf w range
+    ensures summarise { (w : IndexView) → HasFreeSlots w.tuple → HasBlocksOfRows w → (s range : ℕ) (phase : Phase) → IsRangeOf w range
         → Knows w s (Maintaining range phase) → KnowsPages w s (Maintaining range phase) → IsSummariseStuck w s range phase → IsPhaseFree w s range phase → ⊥ }
     ensures desummarise { (w : IndexView) (s range : ℕ) (on_index : OnIndex) → Knows w s (Maintaining range (NotBuilding on_index))
         → IsDesummariseStuck w s range on_index → IsClearFree w s range on_index → ⊥ }
@@ -252,8 +252,8 @@ pub fn an_insert_moves_a_tuple()
 /// placeholder of the range for whose entry it was too short.
 pub fn a_map_grows()
     ensures { (w : IndexState) × (v : IndexState) × (steps : List ℕ) × IsIndexKept w × Run steps w v × (v.pages.map_pages ≡ suc w.pages.map_pages)
-        × ((x : TuplePlace) × (y : TuplePlace) × (t : IndexTuple) × (x.block ≡ next_map_page (index_view w)) × (v.pages.kind x.block ≡ Mapping)
+        × ((x : TuplePlace) × (y : TuplePlace) × (t : IndexTuple) × (x.block ≡ next_map_page w.pages) × (v.pages.kind x.block ≡ Mapping)
         × (x.block ≢ y.block) × (w.entry t.range ≡ Some x) × (w.tuple x ≡ Some t) × (v.entry t.range ≡ Some y) × (v.tuple y ≡ Some t) × (v.tuple x ≡ None))
-        × ((range : ℕ) × IsPastMap (index_view w) range × NamesPlaceholder (index_view v) range
+        × ((range : ℕ) × IsPastMap w.pages range × NamesPlaceholder (index_view v) range
         × (v.statement 0 ≡ Maintaining range (IsAt ExtentUnread Empty))) }
 {}

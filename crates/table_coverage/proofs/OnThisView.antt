@@ -83,7 +83,7 @@ module _ (s : ℕ) (w v : IndexView) (building : ℕ → Option Building) (loose
   reads_on : ReadsIndex s w v → ReadsIndex s w u
   reads_on reads = record { frame = frame_on TouchesNothing reads.frame; pages = reads.pages; none = reads.none }
 
-  page_on : (page : ℕ) (kind : PageKind) → TurnsPage w v page kind → TurnsPage w u page kind
+  page_on : (page : ℕ) (kind : PageKind) → TurnsPage w.pages v.pages page kind → TurnsPage w.pages u.pages page kind
   page_on page kind turns = record {
     now = turns.now;
     kinds = turns.kinds;
@@ -93,7 +93,7 @@ module _ (s : ℕ) (w v : IndexView) (building : ℕ → Option Building) (loose
     limit = turns.limit;
   }
 
-  these_on : (these : List ℕ) → LocksThese v s these → LocksThese u s these
+  these_on : (these : List ℕ) → LocksThese v.lock s these → LocksThese u.lock s these
   these_on these locks = record { locked = locks.locked; only = locks.only }
 
   puts_on : (y : TuplePlace) (t : IndexTuple) → PutsTuple s w v y t → PutsTuple s w u y t
@@ -111,7 +111,7 @@ module _ (s : ℕ) (w v : IndexView) (building : ℕ → Option Building) (loose
   sets_on : (range : ℕ) (x : TuplePlace) → SetsEntry s w v range x → SetsEntry s w u range x
   sets_on range x sets = record { now = sets.now; others = sets.others; pages = sets.pages; frame = frame_on TouchesEntries sets.frame }
 
-  same_on : SameLocks w v → SameLocks w u
+  same_on : SameLocks w.lock v.lock → SameLocks w.lock u.lock
   same_on same = record { lock = same.lock }
 
   clears_on : (range : ℕ) (x : TuplePlace) → ClearsEntry s w v range x → ClearsEntry s w u range x

@@ -50,9 +50,9 @@ pub record Base (w : IndexView) (per most later g tuples : ℕ) (moving unput : 
 
 -- the page that is emptied for the map, with so many tuples at most of those that count
 pub record EmptyingPage (w : IndexView) (range page most on : ℕ) (Counts : TuplePlace → Type 0) : Type 0 where
-  pub is : next_map_page w ≡ page
+  pub is : next_map_page w.pages ≡ page
   pub kind : w.pages.kind page ≡ Emptying
-  pub past : IsPastMap w range
+  pub past : IsPastMap w.pages range
   pub tuples_are : AreAtMost (λ z. (z.block ≡ page) × IsTaken w z × Counts z) on
   pub few : on ≤ most
 
@@ -242,13 +242,13 @@ module _ (s range per most later tail n : ℕ) (w v : IndexView) where
   not_both p Is a b one two is other = other (subst Is (sym one ∙ two) is)
 
   -- where the next page is being emptied already
-  begun : (g tuples : ℕ) → Base w per most later g tuples false true → Grows w range Emptying
-      → EmptyingPage w range (next_map_page w) most tuples (λ z. Unit)
+  begun : (g tuples : ℕ) → Base w per most later g tuples false true → Grows w.pages range Emptying
+      → EmptyingPage w range (next_map_page w.pages) most tuples (λ z. Unit)
   begun g tuples base grows = record {
     is = refl;
     kind = grows.is;
     past = grows.short;
-    tuples_are = fewer (IsTaken w) (λ z. (z.block ≡ next_map_page w) × IsTaken w z × Unit) tuples (λ z is. is.1) base.tuples_are;
+    tuples_are = fewer (IsTaken w) (λ z. (z.block ≡ next_map_page w.pages) × IsTaken w z × Unit) tuples (λ z is. is.1) base.tuples_are;
     few = few base.room;
   }
     where
@@ -258,12 +258,12 @@ module _ (s range per most later tail n : ℕ) (w v : IndexView) where
   room_for : (tuples : ℕ) → suc tuples + later ≤ most → (per + 8) + (3 * tuples + 2) < (per + 8) + c
   room_for tuples le = omega arith
 
-  empties : Left w range per most later tail n Vacant → Grows w range Emptying → EmptyLeft w range per most later tail n
+  empties : Left w range per most later tail n Vacant → Grows w.pages range Emptying → EmptyLeft w range per most later tail n
   empties (Works _ _ g tuples _ _ OwnVacant base enough) grows = record {
     g = g;
     tuples = tuples;
     on = tuples;
-    page = next_map_page w;
+    page = next_map_page w.pages;
     base = base;
     emptying = begun g tuples base grows;
     enough = to_page tail n (per + 8) ((per + 8) + (3 * tuples + 2)) (g * c) ((g - 1) * c) c
@@ -283,7 +283,7 @@ module _ (s range per most later tail n : ℕ) (w v : IndexView) where
   }
 
   -- of a page of another kind nothing is known
-  works_vacant : (kind : PageKind) → (IsOfEmptying kind → ⊥) → Grows w range kind → Left w range per most later tail n Vacant
+  works_vacant : (kind : PageKind) → (IsOfEmptying kind → ⊥) → Grows w.pages range kind → Left w range per most later tail n Vacant
       → (g : ℕ) × (tuples : ℕ) × Base w per most later g tuples false true × ((per + 8) + g * c + tail ≤ n)
   works_vacant kind other grows (Works _ _ g tuples _ _ OwnVacant base enough) = (g, tuples, base, enough)
   works_vacant kind other grows (Empties g tuples on page base emptying enough) =
@@ -319,7 +319,7 @@ module _ (s range per most later tail n : ℕ) (w v : IndexView) where
       let known = works_vacant Unstarted (λ is. is) grows left in
       let all = one_page known.0 c (pages_some w.pages.limit w.pages.map_pages known.0 grows.below known.2.pages) in
       let step = lower_page tail n (per + 8) (per + 9) (known.0 * c) ((known.0 - 1) * c) c all (few per most) known.3 in
-      (step.0, step.1, Grows' known.0 known.1 (turns_base known.0 known.1 Mapping (next_map_page w ∷ 0 ∷ []) turns known.2) step.2)
+      (step.0, step.1, Grows' known.0 known.1 (turns_base known.0 known.1 Mapping (next_map_page w.pages ∷ 0 ∷ []) turns known.2) step.2)
     where
       few : (per most : ℕ) → per + 9 < (per + 8) + (3 * most + 3)
       few per most = omega arith
@@ -344,11 +344,11 @@ module _ (s range per most later tail n : ℕ) (w v : IndexView) where
       let step = lower_page tail n (per + 8) ((per + 8) + (3 * known.1 + 2)) (known.0 * c) ((known.0 - 1) * c) c all (room_for known.1 known.2.room) known.3 in (
         step.0,
         step.1,
-        Empties known.0 known.1 known.1 (next_map_page w) (turns_base known.0 known.1 Emptying [] turns known.2) (record {
+        Empties known.0 known.1 known.1 (next_map_page w.pages) (turns_base known.0 known.1 Emptying [] turns known.2) (record {
           is = λ j. turns.page.map_pages j + 1;
           kind = turns.page.now;
           past = subst (λ k. k < map_page_of range) (sym turns.page.map_pages) grows.short;
-          tuples_are = fewer (IsTaken w) (λ z. (z.block ≡ next_map_page w) × IsTaken v z × Unit) known.1
+          tuples_are = fewer (IsTaken w) (λ z. (z.block ≡ next_map_page w.pages) × IsTaken v z × Unit) known.1
               (λ z is. same_taken s range per most later tail w v turns.frame.tuples.tuple z is.1) known.2.tuples_are;
           few = few known.1 known.2.room;
         }) step.2,
@@ -469,18 +469,18 @@ module _ (s range per most later tail n : ℕ) (w v : IndexView) where
       sub : (z : TuplePlace) → IsTaken v z → IsTaken w z
       sub z taken none = ⊎_elim
           (λ (same : IsUntouched w v z). taken (same.0 ∙ none))
-          (λ (swept : (z.block ≡ next_map_page w) × (z ≡ x)). taken (ap v.tuple swept.1 ∙ (sweeps.gone x refl).0))
+          (λ (swept : (z.block ≡ next_map_page w.pages) × (z ≡ x)). taken (ap v.tuple swept.1 ∙ (sweeps.gone x refl).0))
           (sweeps.places z)
 
       kind_on : (page : ℕ) → w.pages.kind page ≡ Emptying → v.pages.kind page ≡ Emptying
       kind_on page is = ⊎_elim
-          (λ (here : page ≡ next_map_page w). ap v.pages.kind here ∙ sweeps.page.now ∙ ap w.pages.kind (sym here) ∙ is)
+          (λ (here : page ≡ next_map_page w.pages). ap v.pages.kind here ∙ sweeps.page.now ∙ ap w.pages.kind (sym here) ∙ is)
           (λ (same : v.pages.kind page ≡ w.pages.kind page). same ∙ is)
           (sweeps.page.kinds page)
   growth_left _ _ (Turn grows none free meta turns) left =
       let known = empties left grows in
       let step = lower tail n ((per + 8) + (3 * known.on + 2)) (per + 9) ((known.g - 1) * c) (turned known.on) known.enough in
-      (step.0, step.1, Grows' known.g known.tuples (turns_base known.g known.tuples Mapping (next_map_page w ∷ 0 ∷ []) turns known.base) step.2)
+      (step.0, step.1, Grows' known.g known.tuples (turns_base known.g known.tuples Mapping (next_map_page w.pages ∷ 0 ∷ []) turns known.base) step.2)
     where
       turned : (on : ℕ) → per + 9 < (per + 8) + (3 * on + 2)
       turned on = omega arith

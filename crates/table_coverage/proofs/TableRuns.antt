@@ -77,7 +77,7 @@ refused_view i w s b k r _ (IndexFull number at x t u verdict) = ⊎_elim
 
 -- with nothing loose in hand a session locks no page
 on_index_locks_none : (w : IndexView) (s range : ℕ) (Makes : IndexTuple → IndexTuple → Type 0) (on_index : OnIndex) → loose_in on_index ≡ None
-    → KnowsOnIndex w s range Makes on_index → LocksNone w s
+    → KnowsOnIndex w s range Makes on_index → LocksNone w.lock s
 on_index_locks_none w s range Makes Empty none known = known
 on_index_locks_none w s range Makes (Held x) none known = known.0
 on_index_locks_none w s range Makes (Copied x old new) none known = known.0
@@ -189,7 +189,7 @@ module _ (s : ℕ) (w v : TableState) (kept : AreIndexesKept w) (i : ℕ) (below
       (λ (idle : seen_by i old ≡ Idle). counts_less r.id.t fails (same_views old Resting turns (sym idle)))
       (λ (at : (on_index : OnIndex) × (seen_by i old ≡ Inserting b k r on_index) × IsInsertEnded (index_view_at i w) s b on_index).
       let index : v.index i ≡ w.index i = fails.indexes.index i in
-      let none : LocksNone (index_view_at i w) s =
+      let none : LocksNone (w.index i).lock s =
       on_index_locks_none (index_view_at i w) s (range_of_block (index_view_at i w) b) (IsAdded r) at.0 (ended_loose (index_view_at i w) s b at.0 at.2)
       (known old (Inserting b k r at.0) turns.was at.1).2 in
       steps (Refused b k r at.0 at.2 (turned_at i s w v old Resting turns (Inserting b k r at.0) Idle at.1 refl)

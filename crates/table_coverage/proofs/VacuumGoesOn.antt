@@ -235,7 +235,7 @@ module _ (w : TableState) (s at page : ℕ) where
     unnamed = x.unnamed;
   }
 
-  swept : IsFree view s page → SweepsTuples s view (view_with swept_index) page IsSweepable
+  swept : IsFree view.lock s page → SweepsTuples s view (view_with swept_index) page IsSweepable
   swept free = record {
     free = free;
     gone = λ x is. (
@@ -254,7 +254,7 @@ module _ (w : TableState) (s at page : ℕ) where
     none = λ p is. after_only view s [] (free_none s view) p is;
   }
 
-  pub sweep_goes_on : w.task s ≡ Sweeps at page → at < w.indexes → IsFree view s page → IsTableStuck w s → ⊥
+  pub sweep_goes_on : w.task s ≡ Sweeps at page → at < w.indexes → IsFree view.lock s page → IsTableStuck w s → ⊥
   sweep_goes_on was inside free stuck =
       sweep_onward swept_state at (suc page) (no_onward w s stuck swept_state after (pick_same s after (w.task s)) does points.Sweep refl) (positive at w.indexes inside)
     where

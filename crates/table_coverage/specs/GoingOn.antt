@@ -11,7 +11,7 @@ use Rattle.table_coverage.specs.TablePoints.{does_point}
 
 -- each page of an index has a free slot, tuples can be made of each range of the table, and the rows of a block end at some slot
 pub record CanGoOn (w : TableState) : Type 0 where
-  pub slots : (i : ℕ) → i < w.indexes → HasFreeSlots (index_view_at i w)
+  pub slots : (i : ℕ) → i < w.indexes → HasFreeSlots (w.index i).tuple
   pub ranges : (i range : ℕ) → i < w.indexes → first_block w i range < w.blocks → range < (w.index i).contents.ranges
   pub rows : (b : ℕ) → (n : ℕ) × HasNoMoreRows (w.row b) n
 

@@ -122,7 +122,7 @@ pub data IsBlocked (w : TableState) (s : ℕ) : Task → Type 0 where
       → IsBlocked w s (Maintains job at range phase)
   DesummariseWaits : (q only at range : ℕ) (x : TuplePlace) → ClearVerdict (index_view_at at w) s range x (Waits q)
       → IsBlocked w s (Maintains (Desummarising only) at range (NotBuilding (Held x)))
-  SweepWaits : (at page : ℕ) → IsLocked (index_view_at at w) s page → IsBlocked w s (Sweeps at page)
+  SweepWaits : (at page : ℕ) → IsLocked (w.index at).lock s page → IsBlocked w s (Sweeps at page)
 
 -- a running insert has put the row of this place
 abbrev pub HasPut : ℕ → ℕ → Task → Type 0
