@@ -3,7 +3,8 @@ use Rattle.std.proofs.Common.{◌≡◌, ◌≢◌, ⊎_elim, ℕ, None, false, 
 use Rattle.std.specs.Prelude.{refl, ◌↔◌}
 use Rattle.std.proofs.lemmas.Option.{same_Some, none-some}
 use Rattle.std.proofs.lemmas.Bool.{false≢true}
-use Rattle.coverage.specs.IndexView.{TuplePlace, IndexTuple, Progress, ExtentUnread, Passing, IndexView, NamesPlaceholder}
+use Rattle.block_model.specs.declared.place.Spot.{Spot}
+use Rattle.coverage.specs.IndexView.{IndexTuple, Progress, ExtentUnread, Passing, IndexView, NamesPlaceholder}
 use Rattle.coverage.specs.Changes.{IsUntouched}
 use Rattle.coverage.specs.Statements.{OnIndex, Copied, Moving, Phase, NotBuilding, Vacant, Growing, Evacuating, Placing, IsAt, Statement}
 use Rattle.coverage.specs.Statements.{Maintaining}
@@ -68,7 +69,7 @@ module _ (s range : ℕ) (w v : IndexState) (before : IsIndexKept w) (after : Is
   )
 
   -- a tuple that goes was named by no entry
-  drops_none : (x : TuplePlace) → DropsTuple s (index_view w) (index_view v) x → GetsFinal → ⊥
+  drops_none : (x : Spot) → DropsTuple s (index_view w) (index_view v) x → GetsFinal → ⊥
   drops_none x drops gets = ⊎_elim
       (λ (is : gets.0.1.0 ≡ x). none-some _ (sym drops.now ∙ sym (ap v.tuple is) ∙ gets.0.1.2))
       (λ (same : v.tuple gets.0.1.0 ≡ w.tuple gets.0.1.0).
@@ -142,7 +143,7 @@ module _ (s range : ℕ) (w v : IndexState) where
   desummarise_exact _ _ (DropCleared x drops) = entry_stays 0 refl (drops.frame.map.entry range)
 
 -- the tuples of a page that a sweep drops are those that the map doesn't name
-pub swept_exact : (s page : ℕ) (w v : IndexView) → SweepsTuples s w v page (λ x. (x.block ≡ page) × IsUnnamed w x) → (x : TuplePlace) → x.block ≡ page
+pub swept_exact : (s page : ℕ) (w v : IndexView) → SweepsTuples s w v page (λ x. (x.block ≡ page) × IsUnnamed w x) → (x : Spot) → x.block ≡ page
     → HasGone (w.tuple x) (v.tuple x) ↔ IsUnnamed w x
 swept_exact s page w v sweeps x on = (
   (λ gone. ⊎_elim

@@ -2,7 +2,8 @@
 use Rattle.std.proofs.Common.{◌≡◌, ◌≢◌, inl, inr, ⊎_elim, ℕ, ◌+◌, ◌*◌, ◌<◌, Option, Some, None, true, sym, ◌∙◌, ap, subst}
 use Rattle.std.specs.Prelude.{refl, IsTrue}
 use Rattle.std.proofs.lemmas.Option.{same_Some, none-some}
-use Rattle.coverage.specs.IndexView.{TuplePlace, IndexTuple, IsFormed, Progress, ExtentUnread, Passing, IndexView, next_map_page, IsRangeOf, IsBuilding}
+use Rattle.block_model.specs.declared.place.Spot.{Spot}
+use Rattle.coverage.specs.IndexView.{IndexTuple, IsFormed, Progress, ExtentUnread, Passing, IndexView, next_map_page, IsRangeOf, IsBuilding}
 use Rattle.coverage.specs.IsSound.{IsSound}
 use Rattle.coverage.specs.Changes.{SameHeap, TouchesNothing, Frame, at_work, Turns, StartsBuilding, ReadsExtent, PassesBlock, Carries, Places, Names, Turn as TurnKind}
 use Rattle.coverage.specs.Changes.{IsUntouched, Clears, Sweeps}
@@ -42,13 +43,13 @@ makes_united w s range (Passing extent next result) building old new how = (
 
 -- tuples that the map doesn't name go, whoever drops them
 module _ (s : ℕ) (w v : IndexState) (d e : Statement) (turned : Turned s w v d e) (sound : IsSound (index_view w)) where
-  pub unnamed_all : (x : TuplePlace) → IsUnnamed (index_view w) x → (m : ℕ) → w.entry m ≢ Some x
+  pub unnamed_all : (x : Spot) → IsUnnamed (index_view w) x → (m : ℕ) → w.entry m ≢ Some x
   unnamed_all x unnamed m is =
       let by_map = sound.entries_name_tuples m x is in
       let of : unnamed.0.range ≡ m = ap (λ (u : IndexTuple). u.range) (same_Some _ _ (sym unnamed.1 ∙ by_map.1)) ∙ by_map.2 in
       unnamed.2 (ap w.entry of ∙ is)
 
-  pub sweep_both : (p : ℕ) (Sweeping : TuplePlace → Type 0) → ((x : TuplePlace) → x.block ≡ p → Sweeping x → IsUnnamed (index_view w) x) → loose_of d ≡ None
+  pub sweep_both : (p : ℕ) (Sweeping : Spot → Type 0) → ((x : Spot) → x.block ≡ p → Sweeping x → IsUnnamed (index_view w) x) → loose_of d ≡ None
       → loose_of e ≡ None → building_of e ≡ building_of d
       → SweepsTuples s (index_view w) (index_view v) p Sweeping → Both s (index_view w) (index_view v)
   sweep_both p Sweeping unnamed was now work sweeps =
@@ -105,7 +106,7 @@ module _ (s range : ℕ) (w v : IndexState) (sound : IsSound (index_view w)) (su
   result_kept ExtentUnread same formed = tt
   result_kept (Passing extent next result) same formed = subst (λ c. IsFormed c result) (sym same) formed
 
-  put : (x : TuplePlace) (t : IndexTuple) → Turned s w v (Maintaining range Vacant) (Maintaining range (Placing x)) → t.range ≡ range → t.placeholder ≡ true
+  put : (x : Spot) (t : IndexTuple) → Turned s w v (Maintaining range Vacant) (Maintaining range (Placing x)) → t.range ≡ range → t.placeholder ≡ true
       → PutsTuple s (index_view w) (index_view v) x t
       → v.lock x.block ≡ Some s → w.entry range ≡ None → IsFormed w.contents t → IsRangeOf (index_view w) range → Left (Maintaining range (Placing x))
   put x t turned of flag puts locked none formed its =
@@ -132,7 +133,7 @@ module _ (s range : ℕ) (w v : IndexState) (sound : IsSound (index_view w)) (su
         ),
       )
 
-  set : (x : TuplePlace) → Turned s w v (Maintaining range (Placing x)) (Maintaining range (IsAt ExtentUnread Empty))
+  set : (x : Spot) → Turned s w v (Maintaining range (Placing x)) (Maintaining range (IsAt ExtentUnread Empty))
       → SetsEntry s (index_view w) (index_view v) range x → LocksNone v.lock s
       → KnowsPhase (index_view w) s range (Placing x) → Left (Maintaining range (IsAt ExtentUnread Empty))
   set x turned sets none known =
@@ -154,7 +155,7 @@ module _ (s range : ℕ) (w v : IndexState) (sound : IsSound (index_view w)) (su
         (sets.frame.summarise_lock ∙ summarise_lock, (none, range_kept sets.frame.contents sets.frame.heap known.2, tt)),
       )
 
-  clear : (x : TuplePlace) → Turned s w v (Maintaining range (NotBuilding (Held x))) (Maintaining range (NotBuilding (Dropping x)))
+  clear : (x : Spot) → Turned s w v (Maintaining range (NotBuilding (Held x))) (Maintaining range (NotBuilding (Dropping x)))
       → ClearsEntry s (index_view w) (index_view v) range x → v.lock x.block ≡ Some s → Left (Maintaining range (NotBuilding (Dropping x)))
   clear x turned clears locked =
       let kind : Clears s (index_view w) (index_view v) range x = record {

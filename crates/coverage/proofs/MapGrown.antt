@@ -3,7 +3,8 @@
 use Rattle.std.proofs.Common.{◌≡◌, ⊎_elim, ℕ, ◌≤◌, Some, None, true, false, [], ◌∷◌, sym, ◌∙◌, ap, arith, zero, suc}
 use Rattle.std.specs.Prelude.{refl}
 use Rattle.std.proofs.lemmas.Option.{none-some}
-use Rattle.coverage.specs.IndexView.{TuplePlace, IndexTuple, ExtentUnread, Unstarted, Mapping, Emptying, IsPastMap, NamesPlaceholder}
+use Rattle.block_model.specs.declared.place.Spot.{Spot}
+use Rattle.coverage.specs.IndexView.{IndexTuple, ExtentUnread, Unstarted, Mapping, Emptying, IsPastMap, NamesPlaceholder}
 use Rattle.coverage.specs.Statements.{Empty, Moving, Dropping, Phase, NotBuilding, Vacant, Growing, Evacuating, Placing, IsAt, Idle, Maintaining, Holding}
 use Rattle.coverage.specs.Verdicts.{OnNew, PutGoes}
 use Rattle.coverage.specs.IsCovered.{IndexState}
@@ -16,7 +17,7 @@ use Rattle.coverage.proofs.SmallIndex.{count_at, held_by, turned, summarises, fr
 use Rattle.coverage.proofs.RangeSummarised.{no_rows, summarised, range_done, no_room}
 use Rattle.coverage.proofs.TupleMoved.{moved_place}
 
-abbrev pub new_place : TuplePlace
+abbrev pub new_place : Spot
 new_place = record { block = 4; slot = 0 }
 
 abbrev pub new_tuple : IndexTuple
@@ -113,11 +114,11 @@ old_drop = grows entry_set old_dropped (Evacuating 0 (Dropping place)) Vacant re
     (EvacuateDrop 0 place (drops no_rows entry_set place (Maintaining 1020 Vacant)))
 
 -- no tuple stands on the emptied page
-emptied : (x : TuplePlace) (t : IndexTuple) → x.block ≡ 2 → old_dropped.tuple x ≡ Some t → ⊥
+emptied : (x : Spot) (t : IndexTuple) → x.block ≡ 2 → old_dropped.tuple x ≡ Some t → ⊥
 emptied x t on here = ⊎_elim
     (λ (is : x ≡ place). gone is)
     (λ (e : old_dropped.tuple x ≡ copy_put.tuple x). ⊎_elim
-    (λ (is : x ≡ moved_place). differ 2 3 (sym on ∙ ap (λ (y : TuplePlace). y.block) is) (omega arith))
+    (λ (is : x ≡ moved_place). differ 2 3 (sym on ∙ ap (λ (y : Spot). y.block) is) (omega arith))
     (λ (d : copy_put.tuple x ≡ summarised.tuple x). ⊎_elim
     (λ (is : x ≡ place). gone is)
     (λ (c : summarised.tuple x ≡ None). none-some _ (sym c ∙ sym d ∙ sym e ∙ here))

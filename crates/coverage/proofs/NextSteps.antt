@@ -6,7 +6,8 @@ use Rattle.std.proofs.lemmas.Option.{same_Some}
 use Rattle.block_model.specs.declared.reply.Point.{Point}
 use Rattle.block_model.specs.declared.reply.Point.TheVariants as points
 use Rattle.block_model.specs.declared.row.Row.{Row}
-use Rattle.coverage.specs.IndexView.{TuplePlace, IndexTuple, Progress, ExtentUnread, Passing, PageKind, Unstarted, Mapping, Regular, Emptying, IndexView, placeholder_length}
+use Rattle.block_model.specs.declared.place.Spot.{Spot}
+use Rattle.coverage.specs.IndexView.{IndexTuple, Progress, ExtentUnread, Passing, PageKind, Unstarted, Mapping, Regular, Emptying, IndexView, placeholder_length}
 use Rattle.coverage.specs.IndexView.{range_of_block, next_map_page, IsPastMap}
 use Rattle.coverage.specs.Changes.{IsFree}
 use Rattle.coverage.specs.Verdicts.{Verdict, Waits, Differs, Fits, Puts, PutVerdict, SwapVerdict, ClearVerdict}
@@ -37,7 +38,7 @@ clear_point Differs = points.Again
 clear_point verdict = points.Clear
 
 -- the next tuple of a page is one
-pub next_once : (w : IndexView) (page : ℕ) (x y : TuplePlace) (t u : IndexTuple) → IsNextTuple w.tuple page x t → IsNextTuple w.tuple page y u → (x ≡ y) × (t ≡ u)
+pub next_once : (w : IndexView) (page : ℕ) (x y : Spot) (t u : IndexTuple) → IsNextTuple w.tuple page x t → IsNextTuple w.tuple page y u → (x ≡ y) × (t ≡ u)
 next_once w page x y t u one two = (place, same_Some _ _ (sym one.stands ∙ ap w.tuple place ∙ two.stands))
   where
     both : (a b : ℕ) → a ≤ b → b ≤ a → a ≡ b
@@ -53,7 +54,7 @@ next_once w page x y t u one two = (place, same_Some _ _ (sym one.stands ∙ ap 
     place = λ i. record { block = block i; slot = slot i }
 
 -- the next tuple isn't named and unnamed at once
-pub named_or_not : (w : IndexView) (page : ℕ) (x y : TuplePlace) (t u : IndexTuple)
+pub named_or_not : (w : IndexView) (page : ℕ) (x y : Spot) (t u : IndexTuple)
     → IsNextTuple w.tuple page x t → IsNextTuple w.tuple page y u → w.entry t.range ≡ Some x → IsUnnamed w y → ⊥
 named_or_not w page x y t u one two named unnamed =
     let same = next_once w page x y t u one two in
@@ -63,11 +64,11 @@ named_or_not w page x y t u one two named unnamed =
 -- the points of an insert, by its state on the index
 data OnIndexPoint (w : IndexView) (s range : ℕ) : OnIndex → Point → Type 0 where
   ToMap : OnIndexPoint w s range Empty points.Map
-  ToCopy : (x : TuplePlace) → OnIndexPoint w s range (Held x) points.Copy
-  ToJudge : (x : TuplePlace) (old new : IndexTuple) (verdict : Verdict) → IsUnblocked verdict → SwapVerdict w s range x old new verdict
+  ToCopy : (x : Spot) → OnIndexPoint w s range (Held x) points.Copy
+  ToJudge : (x : Spot) (old new : IndexTuple) (verdict : Verdict) → IsUnblocked verdict → SwapVerdict w s range x old new verdict
       → OnIndexPoint w s range (Copied x old new) (swap_point verdict)
-  ToSet : (x y : TuplePlace) (old new : IndexTuple) → OnIndexPoint w s range (Moving x y old new) points.Set
-  ToDrop : (x : TuplePlace) → OnIndexPoint w s range (Dropping x) points.Drop
+  ToSet : (x y : Spot) (old new : IndexTuple) → OnIndexPoint w s range (Moving x y old new) points.Set
+  ToDrop : (x : Spot) → OnIndexPoint w s range (Dropping x) points.Drop
 
 on_index_once : (w : IndexView) (s range : ℕ) (on_index : OnIndex) (p q : Point) → OnIndexPoint w s range on_index p → OnIndexPoint w s range on_index q → p ≡ q
 on_index_once w s range _ _ _ ToMap ToMap = refl
@@ -76,7 +77,7 @@ on_index_once w s range _ _ _ (ToJudge x old new p free one) (ToJudge x' old' ne
 on_index_once w s range _ _ _ (ToSet x y old new) (ToSet x' y' old' new') = refl
 on_index_once w s range _ _ _ (ToDrop x) (ToDrop x') = refl
 
-on_index_blocked : (w : IndexView) (s range q : ℕ) (x : TuplePlace) (old new : IndexTuple) (p : Point)
+on_index_blocked : (w : IndexView) (s range q : ℕ) (x : Spot) (old new : IndexTuple) (p : Point)
     → SwapVerdict w s range x old new (Waits q) → OnIndexPoint w s range (Copied x old new) p → ⊥
 on_index_blocked w s range q x old new _ waits (ToJudge _ _ _ p free one) = subst IsUnblocked (swap_once w s range x old new p (Waits q) one waits) free
 
@@ -101,17 +102,17 @@ pub insert_one_point : (s b k : ℕ) (r : Row) (w v u : IndexView) (on_index : O
 insert_one_point s b k r w v u on_index e f one two =
     on_index_once w s (range_of_block w b) on_index _ _ (insert_fact s b k r w v on_index e one) (insert_fact s b k r w u on_index f two)
 
-pub insert_blocked : (s b k p : ℕ) (r : Row) (w v : IndexView) (x : TuplePlace) (old new : IndexTuple) (e : Statement)
+pub insert_blocked : (s b k p : ℕ) (r : Row) (w v : IndexView) (x : Spot) (old new : IndexTuple) (e : Statement)
     → SwapVerdict w s (range_of_block w b) x old new (Waits p) → InsertStep s b k r w v (Copied x old new) e → ⊥
 insert_blocked s b k p r w v x old new e waits step = on_index_blocked w s (range_of_block w b) p x old new _ waits (insert_fact s b k r w v _ e step)
 
 -- the points of a page that is emptied for the map
 data EmptyingPoint (w : IndexView) (s : ℕ) : Point → Type 0 where
-  NamedNext : (x y : TuplePlace) (t : IndexTuple) → IsNextTuple w.tuple (next_map_page w.pages) x t → w.entry t.range ≡ Some x → IsFree w.lock s x.block
+  NamedNext : (x y : Spot) (t : IndexTuple) → IsNextTuple w.tuple (next_map_page w.pages) x t → w.entry t.range ≡ Some x → IsFree w.lock s x.block
       → PutVerdict w s t.range (length t.bytes) (Puts y) → EmptyingPoint w s points.Put
-  UnnamedNext : (x : TuplePlace) (t : IndexTuple) → IsNextTuple w.tuple (next_map_page w.pages) x t → IsUnnamed w x → IsFree w.lock s (next_map_page w.pages)
+  UnnamedNext : (x : Spot) (t : IndexTuple) → IsNextTuple w.tuple (next_map_page w.pages) x t → IsUnnamed w x → IsFree w.lock s (next_map_page w.pages)
       → EmptyingPoint w s points.Drop
-  NoneNext : ((x : TuplePlace) (t : IndexTuple) → IsNextTuple w.tuple (next_map_page w.pages) x t → ⊥) → IsFree w.lock s (next_map_page w.pages) → IsFree w.lock s 0
+  NoneNext : ((x : Spot) (t : IndexTuple) → IsNextTuple w.tuple (next_map_page w.pages) x t → ⊥) → IsFree w.lock s (next_map_page w.pages) → IsFree w.lock s 0
       → EmptyingPoint w s points.Turn
 
 emptying_once : (w : IndexView) (s : ℕ) (p q : Point) → EmptyingPoint w s p → EmptyingPoint w s q → p ≡ q
@@ -142,7 +143,7 @@ kind_once w s Emptying p q one two = emptying_once w s p q one two
 
 -- the points of a summariser that read that the map has no entry
 data VacantPoint (w : IndexView) (s range : ℕ) : Point → Type 0 where
-  MapSuffices : (x : TuplePlace) → (IsPastMap w.pages range → ⊥) → PutVerdict w s range (placeholder_length w range) (Puts x) → VacantPoint w s range points.Put
+  MapSuffices : (x : Spot) → (IsPastMap w.pages range → ⊥) → PutVerdict w s range (placeholder_length w range) (Puts x) → VacantPoint w s range points.Put
   MapGrows : (kind : PageKind) (p : Point) → Grows w.pages range kind → KindPoint w s kind p → VacantPoint w s range p
 
 vacant_once : (w : IndexView) (s range : ℕ) (p q : Point) → VacantPoint w s range p → VacantPoint w s range q → p ≡ q
@@ -161,12 +162,12 @@ IsUniting on_index progress = Unit
 -- the points of a summariser, by its phase
 data SummarisePoint (w : IndexView) (s range : ℕ) : Phase → Point → Type 0 where
   LooksAtMap : SummarisePoint w s range (NotBuilding Empty) points.Map
-  LooksAtTuple : (x : TuplePlace) → SummarisePoint w s range (NotBuilding (Held x)) points.Tuple
-  DropsOld : (x : TuplePlace) → SummarisePoint w s range (NotBuilding (Dropping x)) points.Drop
+  LooksAtTuple : (x : Spot) → SummarisePoint w s range (NotBuilding (Held x)) points.Tuple
+  DropsOld : (x : Spot) → SummarisePoint w s range (NotBuilding (Dropping x)) points.Drop
   WantsEntry : (p : Point) → VacantPoint w s range p → SummarisePoint w s range Vacant p
   ToCount : SummarisePoint w s range Growing points.Meta
   MovesOther : (m : ℕ) (on_index : OnIndex) (p : Point) → OnIndexPoint w s m on_index p → SummarisePoint w s range (Evacuating m on_index) p
-  SetsPlaceholder : (x : TuplePlace) → SummarisePoint w s range (Placing x) points.Set
+  SetsPlaceholder : (x : Spot) → SummarisePoint w s range (Placing x) points.Set
   ToExtent : SummarisePoint w s range (IsAt ExtentUnread Empty) points.Extent
   PassesNext : (extent next : ℕ) (result : IndexTuple) → next < extent → SummarisePoint w s range (IsAt (Passing extent next result) Empty) points.Pass
   MakesFinal : (progress : Progress) (on_index : OnIndex) (p : Point) → IsUniting on_index progress → OnIndexPoint w s range on_index p
@@ -238,7 +239,7 @@ summarise_one_point s range w v u phase e f one two =
     summarise_once w s range phase _ _ (summarise_fact s range w v phase e one) (summarise_fact s range w u phase f two)
 
 -- a put that waits doesn't go
-no_put : (w : IndexView) (s range need q : ℕ) (y : TuplePlace) → PutVerdict w s range need (Waits q) → PutVerdict w s range need (Puts y) → ⊥
+no_put : (w : IndexView) (s range need q : ℕ) (y : Spot) → PutVerdict w s range need (Waits q) → PutVerdict w s range need (Puts y) → ⊥
 no_put w s range need q y waits goes = subst IsUnblocked (put_once w s range need (Puts y) (Waits q) goes waits) tt
 
 module _ (w : IndexView) (s range : ℕ) where
@@ -251,7 +252,7 @@ module _ (w : IndexView) (s range : ℕ) where
   place_waits q _ long waits (WantsEntry p (MapSuffices x long' verdict)) = no_put w s range (placeholder_length w range) q x waits verdict
   place_waits q _ long waits (WantsEntry p (MapGrows kind _ grows at)) = long grows.short
 
-  put_waits : (q : ℕ) (x : TuplePlace) (t : IndexTuple) (p : Point) → IsNextTuple w.tuple (next_map_page w.pages) x t → w.entry t.range ≡ Some x
+  put_waits : (q : ℕ) (x : Spot) (t : IndexTuple) (p : Point) → IsNextTuple w.tuple (next_map_page w.pages) x t → w.entry t.range ≡ Some x
       → PutVerdict w s t.range (length t.bytes) (Waits q) → EmptyingPoint w s p → ⊥
   put_waits q x t _ next named waits (NamedNext x' y t' next' named' free verdict) =
       let same : t ≡ t' = (next_once w (next_map_page w.pages) x x' t t' next next').1 in
@@ -259,13 +260,13 @@ module _ (w : IndexView) (s range : ℕ) where
   put_waits q x t _ next named waits (UnnamedNext x' t' next' unnamed free) = named_or_not w (next_map_page w.pages) x x' t t' next next' named unnamed
   put_waits q x t _ next named waits (NoneNext none free meta) = none x t next
 
-  lock_waits : (x : TuplePlace) (t : IndexTuple) (p : Point) → IsNextTuple w.tuple (next_map_page w.pages) x t → (IsFree w.lock s (next_map_page w.pages) → ⊥) → EmptyingPoint w s p
+  lock_waits : (x : Spot) (t : IndexTuple) (p : Point) → IsNextTuple w.tuple (next_map_page w.pages) x t → (IsFree w.lock s (next_map_page w.pages) → ⊥) → EmptyingPoint w s p
       → ⊥
   lock_waits x t _ next locked (NamedNext x' y t' next' named free verdict) = locked (subst (IsFree w.lock s) next'.on free)
   lock_waits x t _ next locked (UnnamedNext x' t' next' unnamed free) = locked free
   lock_waits x t _ next locked (NoneNext none free meta) = none x t next
 
-  turn_waits : (p : Point) → ((x : TuplePlace) (t : IndexTuple) → IsNextTuple w.tuple (next_map_page w.pages) x t → ⊥)
+  turn_waits : (p : Point) → ((x : Spot) (t : IndexTuple) → IsNextTuple w.tuple (next_map_page w.pages) x t → ⊥)
       → (IsFree w.lock s (next_map_page w.pages) → IsFree w.lock s 0 → ⊥) → EmptyingPoint w s p → ⊥
   turn_waits _ none locked (NamedNext x y t next named free verdict) = none x t next
   turn_waits _ none locked (UnnamedNext x t next unnamed free) = none x t next
@@ -291,9 +292,9 @@ summarise_blocked s range w v p phase e waits step = phase_blocked w s range p p
 -- the points of a desummarise, by its phase
 data DesummarisePoint (w : IndexView) (s range : ℕ) : Phase → Point → Type 0 where
   ToEntry : DesummarisePoint w s range (NotBuilding Empty) points.Map
-  ToClear : (x : TuplePlace) (verdict : Verdict) → IsUnblocked verdict → ClearVerdict w s range x verdict
+  ToClear : (x : Spot) (verdict : Verdict) → IsUnblocked verdict → ClearVerdict w s range x verdict
       → DesummarisePoint w s range (NotBuilding (Held x)) (clear_point verdict)
-  ToDropCleared : (x : TuplePlace) → DesummarisePoint w s range (NotBuilding (Dropping x)) points.Drop
+  ToDropCleared : (x : Spot) → DesummarisePoint w s range (NotBuilding (Dropping x)) points.Drop
 
 desummarise_once : (w : IndexView) (s range : ℕ) (phase : Phase) (p q : Point) → DesummarisePoint w s range phase p → DesummarisePoint w s range phase q → p ≡ q
 desummarise_once w s range _ _ _ ToEntry ToEntry = refl
@@ -313,10 +314,10 @@ pub desummarise_one_point : (s range : ℕ) (w v u : IndexView) (phase : Phase) 
 desummarise_one_point s range w v u phase e f one two =
     desummarise_once w s range phase _ _ (desummarise_fact s range w v phase e one) (desummarise_fact s range w u phase f two)
 
-desummarise_unblocked : (w : IndexView) (s range q : ℕ) (x : TuplePlace) (p : Point)
+desummarise_unblocked : (w : IndexView) (s range q : ℕ) (x : Spot) (p : Point)
     → ClearVerdict w s range x (Waits q) → DesummarisePoint w s range (NotBuilding (Held x)) p → ⊥
 desummarise_unblocked w s range q x _ waits (ToClear _ p free one) = subst IsUnblocked (clear_once w s range x p (Waits q) one waits) free
 
-pub desummarise_blocked : (s range p : ℕ) (w v : IndexView) (x : TuplePlace) (e : Statement)
+pub desummarise_blocked : (s range p : ℕ) (w v : IndexView) (x : Spot) (e : Statement)
     → ClearVerdict w s range x (Waits p) → DesummariseStep s range w v (NotBuilding (Held x)) e → ⊥
 desummarise_blocked s range p w v x e waits step = desummarise_unblocked w s range p x _ waits (desummarise_fact s range w v _ e step)

@@ -2,7 +2,8 @@
 use Rattle.std.proofs.Common.{◌≡◌, ◌≢◌, ◌⊎◌, inl, inr, ⊎_elim, ℕ, ◌+◌, ◌*◌, ◌/◌, ◌≤◌, ◌<◌, Some, None, Bool, List, [], ◌∷◌, sym, ◌∙◌, ap, subst, arith}
 use Rattle.std.specs.Prelude.{refl}
 use Rattle.std.proofs.lemmas.Option.{same_Some, none-some}
-use Rattle.coverage.specs.IndexView.{TuplePlace, IndexTuple, Progress, ExtentUnread, Passing, PageKind, Pages, IndexView, map_page_of, next_map_page}
+use Rattle.block_model.specs.declared.place.Spot.{Spot}
+use Rattle.coverage.specs.IndexView.{IndexTuple, Progress, ExtentUnread, Passing, PageKind, Pages, IndexView, map_page_of, next_map_page}
 use Rattle.coverage.specs.IndexView.{range_of_block}
 use Rattle.coverage.specs.IsSound.{IsSound}
 use Rattle.coverage.specs.GoesOn.{GoesOn}
@@ -19,8 +20,8 @@ use Rattle.coverage.proofs.PagesOrdered.{order_still}
 pub record Quiet (w v : IndexView) : Type 0 where
   pub map_pages : v.pages.map_pages ≡ w.pages.map_pages
   pub vacant : (range : ℕ) → w.entry range ≡ None → v.entry range ≡ None
-  pub still : (range : ℕ) (x : TuplePlace) → w.entry range ≡ Some x → (y : TuplePlace) × (v.entry range ≡ Some y)
-  pub sorts : (range : ℕ) (x : TuplePlace) → HasNamedSort w range x → HasNamedSort v range x
+  pub still : (range : ℕ) (x : Spot) → w.entry range ≡ Some x → (y : Spot) × (v.entry range ≡ Some y)
+  pub sorts : (range : ℕ) (x : Spot) → HasNamedSort w range x → HasNamedSort v range x
 
 -- what a step leaves to all other sessions
 pub record PagesGoOn (s : ℕ) (w v : IndexView) : Type 0 where
@@ -75,7 +76,7 @@ still_after s w v new per blocks map tuples pages locks ordered knows = record {
 }
 
 -- a move's put, by a statement that doesn't turn a placeholder into a final tuple
-pub quiet_put : (w v : IndexView) (range : ℕ) (x y : TuplePlace) (old new : IndexTuple) → w.entry range ≡ Some x → w.tuple x ≡ Some old → new.range ≡ range
+pub quiet_put : (w v : IndexView) (range : ℕ) (x y : Spot) (old new : IndexTuple) → w.entry range ≡ Some x → w.tuple x ≡ Some old → new.range ≡ range
     → new.placeholder ≡ old.placeholder → ChangesAt w.tuple v.tuple y None (Some new) → SameMap w v → v.pages.map_pages ≡ w.pages.map_pages → Quiet w v
 quiet_put w v range x y old new named before of same put map map_pages = record {
   map_pages = map_pages;
@@ -91,14 +92,14 @@ quiet_put w v range x y old new named before of same put map map_pages = record 
       (put.others z);
 }
   where
-    stays : (z : TuplePlace) (u : IndexTuple) → w.tuple z ≡ Some u → v.tuple z ≡ Some u
+    stays : (z : Spot) (u : IndexTuple) → w.tuple z ≡ Some u → v.tuple z ≡ Some u
     stays z u here = ⊎_elim
         (λ (at : z ≡ y). absurd (none-some _ (sym put.was ∙ ap w.tuple (sym at) ∙ here)))
         (λ (e : v.tuple z ≡ w.tuple z). e ∙ here)
         (put.others z)
 
 -- a swap in place, likewise
-pub quiet_swap : (w v : IndexView) (range : ℕ) (x : TuplePlace) (old new : IndexTuple) → w.entry range ≡ Some x → new.range ≡ range
+pub quiet_swap : (w v : IndexView) (range : ℕ) (x : Spot) (old new : IndexTuple) → w.entry range ≡ Some x → new.range ≡ range
     → new.placeholder ≡ old.placeholder → ChangesAt w.tuple v.tuple x (Some old) (Some new) → SameMap w v → v.pages.map_pages ≡ w.pages.map_pages → Quiet w v
 quiet_swap w v range x old new named of same swap map map_pages = record {
   map_pages = map_pages;
@@ -121,7 +122,7 @@ quiet_swap w v range x old new named of same swap map map_pages = record {
 }
 
 -- the map names the new tuple, likewise
-pub quiet_set : (s : ℕ) (w v : IndexView) (range : ℕ) (x y : TuplePlace) (old new : IndexTuple) → w.entry range ≡ Some x → w.tuple x ≡ Some old
+pub quiet_set : (s : ℕ) (w v : IndexView) (range : ℕ) (x y : Spot) (old new : IndexTuple) → w.entry range ≡ Some x → w.tuple x ≡ Some old
     → w.tuple y ≡ Some new → new.placeholder ≡ old.placeholder → SetsEntry s w v range y → Quiet w v
 quiet_set s w v range x y old new named before after same sets = record {
   map_pages = ap (λ (g : Pages). g.map_pages) sets.pages;
@@ -145,8 +146,8 @@ quiet_set s w v range x y old new named before after same sets = record {
 }
 
 -- a tuple that the map doesn't name goes
-pub quiet_drop : (w v : IndexView) (x : TuplePlace) → ((range : ℕ) → w.entry range ≢ Some x) → v.tuple x ≡ None
-    → ((y : TuplePlace) → (y ≡ x) ⊎ (v.tuple y ≡ w.tuple y)) → SameMap w v → v.pages.map_pages ≡ w.pages.map_pages → Quiet w v
+pub quiet_drop : (w v : IndexView) (x : Spot) → ((range : ℕ) → w.entry range ≢ Some x) → v.tuple x ≡ None
+    → ((y : Spot) → (y ≡ x) ⊎ (v.tuple y ≡ w.tuple y)) → SameMap w v → v.pages.map_pages ≡ w.pages.map_pages → Quiet w v
 quiet_drop w v x unnamed gone others map map_pages = record {
   map_pages = map_pages;
   vacant = λ m none. map.entry m ∙ none;

@@ -4,7 +4,8 @@ use Rattle.std.specs.Prelude.{refl}
 use Rattle.std.proofs.lemmas.Option.{none-some}
 use Rattle.std.proofs.lemmas.Bool.{cases_eq}
 use Rattle.block_model.specs.declared.row.Row.{Row}
-use Rattle.coverage.specs.IndexView.{TuplePlace, IndexTuple, Progress, ExtentUnread, Passing, PageKind, Unstarted, Mapping, Regular, Emptying, Pages, IndexView, placeholder_length}
+use Rattle.block_model.specs.declared.place.Spot.{Spot}
+use Rattle.coverage.specs.IndexView.{IndexTuple, Progress, ExtentUnread, Passing, PageKind, Unstarted, Mapping, Regular, Emptying, Pages, IndexView, placeholder_length}
 use Rattle.coverage.specs.IndexView.{map_page_of, next_map_page, IsPastMap, range_of_block, NamesPlaceholder}
 use Rattle.coverage.specs.IsSound.{IsSound}
 use Rattle.coverage.specs.Changes.{SameHeap, OwnLocks, IsUntouched}
@@ -29,14 +30,14 @@ use Rattle.coverage.proofs.PagesOrdered.{order_counted}
 use Rattle.coverage.proofs.PagesGoOn.{Quiet, PagesGoOn, PagesAfter, same_blocks, quiet_same, kinds_turned, still_after, quiet_put, quiet_swap, quiet_set, quiet_drop}
 
 -- the page of a put is the target that was chosen
-pub put_target : (w : IndexView) (s range need : ℕ) (y : TuplePlace) → PutVerdict w s range need (Puts y) → IsTarget w.pages need y.block
+pub put_target : (w : IndexView) (s range need : ℕ) (y : Spot) → PutVerdict w s range need (Puts y) → IsTarget w.pages need y.block
 put_target w s range need y (PutGoes _ target free map) = target.0
 
-pub move_target : (w : IndexView) (s range : ℕ) (x y : TuplePlace) (old new : IndexTuple) → SwapVerdict w s range x old new (Puts y)
+pub move_target : (w : IndexView) (s range : ℕ) (x y : Spot) (old new : IndexTuple) → SwapVerdict w s range x old new (Puts y)
     → IsTarget w.pages (length new.bytes) y.block
 move_target w s range x y old new (SwapMoves _ free here must puts) = put_target w s range (length new.bytes) y puts
 
-swap_regular : (w : IndexView) (s range : ℕ) (x : TuplePlace) (old new : IndexTuple) → SwapVerdict w s range x old new Fits → w.pages.kind x.block ≡ Regular
+swap_regular : (w : IndexView) (s range : ℕ) (x : Spot) (old new : IndexTuple) → SwapVerdict w s range x old new Fits → w.pages.kind x.block ≡ Regular
 swap_regular w s range x old new (SwapFits free here kind fits) = kind
 swap_regular w s range x old new (SwapMoves _ free here must puts) = never puts
   where
@@ -67,16 +68,16 @@ module _ (s : ℕ) (w v : IndexView) (ordered : AreOrdered w) where
       still_after s w v new reads.frame.heap.pages_per_range (same_blocks w v reads.frame.heap) reads.frame.map reads.frame.tuples reads.pages
       reads.frame.locks ordered knows
 
-  swap_ordered : (x : TuplePlace) (old new : IndexTuple) → ReplacesTuple s w v x old new → w.pages.kind x.block ≡ Regular → AreOrdered v
+  swap_ordered : (x : Spot) (old new : IndexTuple) → ReplacesTuple s w v x old new → w.pages.kind x.block ≡ Regular → AreOrdered v
   swap_ordered x old new swap kind =
       order_same w v ordered (turned_same w v x.block Regular swap.page kind) swap.page.map_pages swap.page.limit
       (λ z t here. ⊎_elim
-      (λ (at : z ≡ x). subst (λ (y : TuplePlace). IsForTuples w.pages y.block) (sym at) (inl kind))
+      (λ (at : z ≡ x). subst (λ (y : Spot). IsForTuples w.pages y.block) (sym at) (inl kind))
       (λ (e : v.tuple z ≡ w.tuple z). ordered.tuples z t (sym e ∙ here))
       (swap.tuple.others z))
       (entries_same w v ordered swap.frame.map)
 
-  set_ordered : (range : ℕ) (x : TuplePlace) → SetsEntry s w v range x → map_page_of range ≤ w.pages.map_pages → AreOrdered v
+  set_ordered : (range : ℕ) (x : Spot) → SetsEntry s w v range x → map_page_of range ≤ w.pages.map_pages → AreOrdered v
   set_ordered range x sets within =
       order_same w v ordered (λ p. ap (λ (g : Pages). g.kind p) sets.pages) (ap (λ (g : Pages). g.map_pages) sets.pages)
       (ap (λ (g : Pages). g.limit) sets.pages) (tuples_same w v ordered sets.frame.tuples)
@@ -85,7 +86,7 @@ module _ (s : ℕ) (w v : IndexView) (ordered : AreOrdered w) where
       (λ (e : v.entry m ≡ w.entry m). ordered.entries m z (sym e ∙ named))
       (sets.others m))
 
-  clear_ordered : (range : ℕ) (x : TuplePlace) → ClearsEntry s w v range x → AreOrdered v
+  clear_ordered : (range : ℕ) (x : Spot) → ClearsEntry s w v range x → AreOrdered v
   clear_ordered range x clears =
       order_same w v ordered (λ p. ap (λ (g : Pages). g.kind p) clears.pages) (ap (λ (g : Pages). g.map_pages) clears.pages)
       (ap (λ (g : Pages). g.limit) clears.pages) (tuples_same w v ordered clears.frame.tuples)
@@ -94,7 +95,7 @@ module _ (s : ℕ) (w v : IndexView) (ordered : AreOrdered w) where
       (λ (e : v.entry m ≡ w.entry m). ordered.entries m z (sym e ∙ named))
       (clears.entry.others m))
 
-  drop_ordered : (x : TuplePlace) → DropsTuple s w v x → AreOrdered v
+  drop_ordered : (x : Spot) → DropsTuple s w v x → AreOrdered v
   drop_ordered x drops =
       order_same w v ordered (turned_same w v x.block (w.pages.kind x.block) drops.page refl) drops.page.map_pages drops.page.limit
       (λ z t here. ⊎_elim
@@ -103,12 +104,12 @@ module _ (s : ℕ) (w v : IndexView) (ordered : AreOrdered w) where
       (drops.others z))
       (entries_same w v ordered drops.frame.map)
 
-  drop_on : (x : TuplePlace) → DropsTuple s w v x → (w.summarise_lock ≡ Some s) ⊎ Quiet w v → PagesGoOn s w v
+  drop_on : (x : Spot) → DropsTuple s w v x → (w.summarise_lock ≡ Some s) ⊎ Quiet w v → PagesGoOn s w v
   drop_on x drops quiet =
       goes_on s w v drops.frame.heap drops.frame.locks (λ p n is other. turned_same w v x.block (w.pages.kind x.block) drops.page refl p) quiet
 
   -- tuples of a page go
-  pub sweep_after : (p : ℕ) (Sweeping : TuplePlace → Type 0) (new : Statement) → SweepsTuples s w v p Sweeping → w.summarise_lock ≡ Some s → KnowsPages v s new
+  pub sweep_after : (p : ℕ) (Sweeping : Spot → Type 0) (new : Statement) → SweepsTuples s w v p Sweeping → w.summarise_lock ≡ Some s → KnowsPages v s new
       → PagesAfter s w v new
   sweep_after p Sweeping new sweeps held knows = record {
     ordered = order_same w v ordered (turned_same w v p (w.pages.kind p) sweeps.page refl) sweeps.page.map_pages sweeps.page.limit
@@ -178,8 +179,8 @@ module _ (s b k : ℕ) (r : Row) (w v : IndexView) (sound : IsSound w) (ordered 
   }
 
 -- a page without a next tuple has none
-module _ (w : IndexView) (page : ℕ) (none : (x : TuplePlace) (t : IndexTuple) → IsNextTuple w.tuple page x t → ⊥) where
-  abbrev pub place : ℕ → TuplePlace
+module _ (w : IndexView) (page : ℕ) (none : (x : Spot) (t : IndexTuple) → IsNextTuple w.tuple page x t → ⊥) where
+  abbrev pub place : ℕ → Spot
   place k = record { block = page; slot = k }
 
   abbrev pub HasTuple : ℕ → Type 0
@@ -192,7 +193,7 @@ module _ (w : IndexView) (page : ℕ) (none : (x : TuplePlace) (t : IndexTuple) 
       by None is = inr (λ has. none-some _ (sym is ∙ has.1))
       by (Some t) is = inl (t, is)
 
-  pub none_left : (x : TuplePlace) (t : IndexTuple) → x.block ≡ page → w.tuple x ≡ Some t → ⊥
+  pub none_left : (x : Spot) (t : IndexTuple) → x.block ≡ page → w.tuple x ≡ Some t → ⊥
   none_left x t on here = ⊎_elim
       (λ (all : (i : ℕ) → i < x.slot + 1 → HasTuple i → ⊥). all x.slot (omega arith) (t, ap w.tuple (sym same) ∙ here))
       (λ (one : (i : ℕ) × HasTuple i × ((j : ℕ) → HasTuple j → i ≤ j)). none (place one.0) one.1.0 (record {
@@ -246,7 +247,7 @@ uniting s range w v extent next result all _ _ (MovePut x y old new verdict puts
 module _ (s range : ℕ) (w v : IndexView) (ordered : AreOrdered w) (held : w.summarise_lock ≡ Some s) where
   -- the page after the map turns to another kind
   turn_ordered : (kind : PageKind) (these : List ℕ) → TurnsKind s w v kind these → next_map_page w.pages < w.pages.limit → (kind ≡ Unstarted → ⊥)
-      → ((x : TuplePlace) (t : IndexTuple) → x.block ≡ next_map_page w.pages → w.tuple x ≡ Some t → (kind ≡ Regular) ⊎ (kind ≡ Emptying)) → AreOrdered v
+      → ((x : Spot) (t : IndexTuple) → x.block ≡ next_map_page w.pages → w.tuple x ≡ Some t → (kind ≡ Regular) ⊎ (kind ≡ Emptying)) → AreOrdered v
   turn_ordered kind these turns low started holds =
       order_turned w v ordered (next_map_page w.pages) kind turns.page (past w.pages.map_pages) low started (λ is. self (next_map_page w.pages)) first
       (λ x t here.
@@ -325,7 +326,7 @@ module _ (s range : ℕ) (w v : IndexView) (ordered : AreOrdered w) (held : w.su
       (lt_or_ge w.pages.map_pages (map_page_of range))
 
   -- where the map was read, the tuple at the place is the one that it names
-  sort_read : (x : TuplePlace) → w.entry range ≡ Some x → ReadsIndex s w v → HasNamedSort v range x
+  sort_read : (x : Spot) → w.entry range ≡ Some x → ReadsIndex s w v → HasNamedSort v range x
   sort_read x named reads t here of = (x, t, reads.frame.map.entry range ∙ named, here, refl)
 
   summarise_after : (old : Phase) (new : Statement) → SummariseStep s range w v old new → KnowsPhase w s range old → KnowsPagesOfPhase w s range old

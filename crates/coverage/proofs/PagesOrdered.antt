@@ -3,7 +3,8 @@ use Rattle.std.proofs.Common.{◌≡◌, ◌≢◌, ◌⊎◌, inl, inr, ⊎_eli
 use Rattle.std.specs.Prelude.{refl}
 use Rattle.std.proofs.lemmas.Option.{none-some}
 use Rattle.std.proofs.lemmas.Bool.{cases_eq}
-use Rattle.coverage.specs.IndexView.{TuplePlace, IndexTuple, PageKind, Unstarted, Mapping, Regular, Emptying, Pages, IndexView, map_page_of, next_map_page}
+use Rattle.block_model.specs.declared.place.Spot.{Spot}
+use Rattle.coverage.specs.IndexView.{IndexTuple, PageKind, Unstarted, Mapping, Regular, Emptying, Pages, IndexView, map_page_of, next_map_page}
 use Rattle.coverage.specs.Changes.{SameMap, SameTuples}
 use Rattle.coverage.specs.Verdicts.{IsLowestNumber, IsPageUnstarted, IsTarget, OnStarted, OnNew}
 use Rattle.coverage.specs.PageOrder.{IsForTuples, AreOrdered, AreNewPages}
@@ -35,10 +36,10 @@ turned_same w v page kind turns was p = ⊎_elim
     (turns.kinds p)
 
 abbrev TuplesOn : IndexView → IndexView → Type 0
-TuplesOn w v = (x : TuplePlace) (t : IndexTuple) → v.tuple x ≡ Some t → IsForTuples w.pages x.block
+TuplesOn w v = (x : Spot) (t : IndexTuple) → v.tuple x ≡ Some t → IsForTuples w.pages x.block
 
 abbrev EntriesWithin : IndexView → IndexView → Type 0
-EntriesWithin w v = (range : ℕ) (x : TuplePlace) → v.entry range ≡ Some x → map_page_of range ≤ w.pages.map_pages
+EntriesWithin w v = (range : ℕ) (x : Spot) → v.entry range ≡ Some x → map_page_of range ≤ w.pages.map_pages
 
 module _ (w v : IndexView) (ordered : AreOrdered w) where
   -- kinds and counts stay
@@ -81,10 +82,10 @@ module _ (w v : IndexView) (ordered : AreOrdered w) where
         differ : (a b n : ℕ) → a ≤ n → n < b → a ≡ b → ⊥
         differ a b n le less is = omega arith
 
-    abbrev Lies : TuplePlace → Type 0
+    abbrev Lies : Spot → Type 0
     Lies x = ((x.block ≡ page) × ((kind ≡ Regular) ⊎ (kind ≡ Emptying))) ⊎ ((x.block ≢ page) × IsForTuples w.pages x.block)
 
-    pub order_turned : ((x : TuplePlace) (t : IndexTuple) → v.tuple x ≡ Some t → Lies x) → EntriesWithin w v → AreOrdered v
+    pub order_turned : ((x : Spot) (t : IndexTuple) → v.tuple x ≡ Some t → Lies x) → EntriesWithin w v → AreOrdered v
     order_turned tuples entries = record {
       counted = subst (λ n. 0 < n) (sym turns.map_pages) ordered.counted;
       map = λ p le. let le' = subst (λ n. p ≤ n) turns.map_pages le in other_kind p (apart p le') ∙ ordered.map p le';
@@ -126,7 +127,7 @@ module _ (w v : IndexView) (ordered : AreOrdered w) where
         cross : (a b : ℕ) → a < b → b ≤ a → ⊥
         cross a b less more = omega arith
 
-    pub order_started : ((x : TuplePlace) (t : IndexTuple) → v.tuple x ≡ Some t → (x.block ≡ page) ⊎ IsForTuples w.pages x.block) → EntriesWithin w v → AreOrdered v
+    pub order_started : ((x : Spot) (t : IndexTuple) → v.tuple x ≡ Some t → (x.block ≡ page) ⊎ IsForTuples w.pages x.block) → EntriesWithin w v → AreOrdered v
     order_started tuples entries =
         order_turned page Regular turns past_map low (λ is. subst IsStarted is tt) (λ is. absurd (subst IsNoMap is tt)) none_before
         (λ x t here. ⊎_elim
@@ -136,18 +137,18 @@ module _ (w v : IndexView) (ordered : AreOrdered w) where
         (tuples x t here)) entries
 
   -- a tuple is put on the page that is its target
-  pub order_puts : (s need : ℕ) (y : TuplePlace) (t : IndexTuple) → PutsTuple s w v y t → IsTarget w.pages need y.block → AreOrdered v
+  pub order_puts : (s need : ℕ) (y : Spot) (t : IndexTuple) → PutsTuple s w v y t → IsTarget w.pages need y.block → AreOrdered v
   order_puts s need y t puts (OnStarted lowest) =
       order_same (turned_same w v y.block Regular puts.page lowest.0.1) puts.page.map_pages puts.page.limit
       (λ x u here. ⊎_elim
-      (λ (at : x ≡ y). subst (λ (z : TuplePlace). IsForTuples w.pages z.block) (sym at) (inl lowest.0.1))
+      (λ (at : x ≡ y). subst (λ (z : Spot). IsForTuples w.pages z.block) (sym at) (inl lowest.0.1))
       (λ (e : v.tuple x ≡ w.tuple x). ordered.tuples x u (sym e ∙ here))
       (puts.tuple.others x))
       (entries_same puts.frame.map)
   order_puts s need y t puts (OnNew none lowest low) =
       order_started y.block lowest low puts.page
       (λ x u here. ⊎_elim
-      (λ (at : x ≡ y). inl (ap (λ (z : TuplePlace). z.block) at))
+      (λ (at : x ≡ y). inl (ap (λ (z : Spot). z.block) at))
       (λ (e : v.tuple x ≡ w.tuple x). inr (ordered.tuples x u (sym e ∙ here)))
       (puts.tuple.others x))
       (entries_same puts.frame.map)
@@ -191,7 +192,7 @@ module _ (w v : IndexView) (ordered : AreOrdered w) where
           (cases_eq p (next_map_page w.pages))
 
 -- a new index
-pub order_new : (w : IndexView) → AreNewPages w.pages → ((x : TuplePlace) → w.tuple x ≡ None) → ((range : ℕ) → w.entry range ≡ None) → AreOrdered w
+pub order_new : (w : IndexView) → AreNewPages w.pages → ((x : Spot) → w.tuple x ≡ None) → ((range : ℕ) → w.entry range ≡ None) → AreOrdered w
 order_new w new tuples entries = record {
   counted = subst (λ n. 0 < n) (sym new.one) (omega arith);
   map = λ p le. new.map p (first p (subst (λ n. p ≤ n) new.one le));

@@ -3,7 +3,8 @@ use Rattle.std.proofs.Common.{◌≡◌, ◌≢◌, ◌⊎◌, inl, inr, ⊎_eli
 use Rattle.std.specs.Prelude.{refl, List, [], ◌∷◌, length}
 use Rattle.std.proofs.lemmas.Option.{same_Some, none-some}
 use Rattle.std.proofs.lemmas.Bool.{cases_eq}
-use Rattle.coverage.specs.IndexView.{TuplePlace, IndexTuple, Progress, ExtentUnread, Passing, PageKind, Unstarted, Mapping, Regular, Emptying, IndexView, placeholder_length, IsRangeOf}
+use Rattle.block_model.specs.declared.place.Spot.{Spot}
+use Rattle.coverage.specs.IndexView.{IndexTuple, Progress, ExtentUnread, Passing, PageKind, Unstarted, Mapping, Regular, Emptying, IndexView, placeholder_length, IsRangeOf}
 use Rattle.coverage.specs.IndexView.{map_page_of, next_map_page, IsPastMap, NamesPlaceholder}
 use Rattle.coverage.specs.Changes.{IsFree}
 use Rattle.coverage.specs.Verdicts.{IsLocked, IsFirstLocked, HasFreeSlots, Verdict, Waits, Differs, Fits, Puts, Full, PutVerdict, PutGoes, SwapVerdict}
@@ -37,7 +38,7 @@ free_three w s p q m one two three n among = ⊎_elim
     among
 
 -- the view after a put, with these locks
-module _ (s : ℕ) (w : IndexView) (y : TuplePlace) (t : IndexTuple) (these : List ℕ) (free : (p : ℕ) → IsOneOf these p → IsFree w.lock s p) where
+module _ (s : ℕ) (w : IndexView) (y : Spot) (t : IndexTuple) (these : List ℕ) (free : (p : ℕ) → IsOneOf these p → IsFree w.lock s p) where
   abbrev put_view : IndexView
   put_view = record w {
     tuple = tuple_with w.tuple y (Some t);
@@ -83,7 +84,7 @@ module _ (s : ℕ) (w : IndexView) where
   }
 
   -- an unnamed tuple goes
-  abbrev sweep_view : TuplePlace → IndexView
+  abbrev sweep_view : Spot → IndexView
   sweep_view x = record w {
     tuple = tuple_with w.tuple x None;
     unnamed = λ y. elim (place_is y x) as (λ _. Bool) [ inl is ↦ false | inr other ↦ w.unnamed y ];
@@ -94,11 +95,11 @@ module _ (s range : ℕ) (w : IndexView) (slots : HasFreeSlots w.tuple) (blocks 
   look_map : LocksNone w.lock s → IsSummariseStuck w s range (NotBuilding Empty) → ⊥
   look_map none stuck = by (w.entry range) refl
     where
-      by : (o : Option TuplePlace) → w.entry range ≡ o → ⊥
+      by : (o : Option Spot) → w.entry range ≡ o → ⊥
       by None is = stuck (Maintaining range Vacant) w (ReadNoEntry is its (reads_here s w none))
       by (Some x) is = stuck (Maintaining range (NotBuilding (Held x))) w (LookMap x is (reads_here s w none))
 
-  look_tuple : (x : TuplePlace) → LocksNone w.lock s → IsSummariseStuck w s range (NotBuilding (Held x)) → ⊥
+  look_tuple : (x : Spot) → LocksNone w.lock s → IsSummariseStuck w s range (NotBuilding (Held x)) → ⊥
   look_tuple x none stuck = by (w.tuple x) refl
     where
       by_flag : (t : IndexTuple) → w.tuple x ≡ Some t → t.range ≡ range → (flag : Bool) → t.placeholder ≡ flag → ⊥
@@ -117,7 +118,7 @@ module _ (s range : ℕ) (w : IndexView) (slots : HasFreeSlots w.tuple) (blocks 
   places : (IsPastMap w.pages range → ⊥) → IsSummariseStuck w s range Vacant → IsPhaseFree w s range Vacant → ⊥
   places long stuck free = some_put w slots s range (placeholder_length w range) by
     where
-      puts : (y : TuplePlace) → PutVerdict w s range (placeholder_length w range) (Puts y) → ⊥
+      puts : (y : Spot) → PutVerdict w s range (placeholder_length w range) (Puts y) → ⊥
       puts y (PutGoes _ target unlocked map) =
           let these = y.block ∷ map_page_of range ∷ [] in
           let free_all = free_two w s y.block (map_page_of range) unlocked map in
@@ -143,10 +144,10 @@ module _ (s range : ℕ) (w : IndexView) (slots : HasFreeSlots w.tuple) (blocks 
       (GrowMap Vacant Growing (Turn grows none_next both.0 both.1 (kind_turns s w Mapping (next_map_page w.pages ∷ 0 ∷ []) free_all))))
       (two_pages w s (next_map_page w.pages) 0)
     where
-      moves : (x : TuplePlace) (t : IndexTuple) → IsNextTuple w.tuple (next_map_page w.pages) x t → w.entry t.range ≡ Some x → IsFree w.lock s x.block → ⊥
+      moves : (x : Spot) (t : IndexTuple) → IsNextTuple w.tuple (next_map_page w.pages) x t → w.entry t.range ≡ Some x → IsFree w.lock s x.block → ⊥
       moves x t next named unlocked = some_put w slots s t.range (length t.bytes) by
         where
-          puts : (y : TuplePlace) → PutVerdict w s t.range (length t.bytes) (Puts y) → ⊥
+          puts : (y : Spot) → PutVerdict w s t.range (length t.bytes) (Puts y) → ⊥
           puts y (PutGoes _ target unlocked' map) =
               let these = x.block ∷ y.block ∷ map_page_of t.range ∷ [] in
               let free_all = free_three w s x.block y.block (map_page_of t.range) unlocked unlocked' map in
@@ -162,18 +163,18 @@ module _ (s range : ℕ) (w : IndexView) (slots : HasFreeSlots w.tuple) (blocks 
           by (Puts y) verdict = puts y verdict
           by (Full number) verdict = free.1 number (EvacuateFull number x t grows next named unlocked verdict)
 
-      sweeps : (x : TuplePlace) (t : IndexTuple) → IsNextTuple w.tuple (next_map_page w.pages) x t → w.entry t.range ≢ Some x → IsFree w.lock s (next_map_page w.pages) → ⊥
+      sweeps : (x : Spot) (t : IndexTuple) → IsNextTuple w.tuple (next_map_page w.pages) x t → w.entry t.range ≢ Some x → IsFree w.lock s (next_map_page w.pages) → ⊥
       sweeps x t next unnamed unlocked = stuck (Maintaining range Vacant) (sweep_view s w x)
           (GrowMap Vacant Vacant (EvacuateSweep x t grows next (t, next.stands, unnamed) swept))
         where
-          gone : (y : TuplePlace) → y ≡ x → (sweep_view s w x).unnamed y ≡ false
+          gone : (y : Spot) → y ≡ x → (sweep_view s w x).unnamed y ≡ false
           gone y is = by (place_is y x)
             where
               by : (d : (y ≡ x) ⊎ (y ≢ x)) → elim d as (λ _. Bool) [ inl at ↦ false | inr other ↦ w.unnamed y ] ≡ false
               by (inl at) = refl
               by (inr other) = absurd (other is)
 
-          kept : (y : TuplePlace) → y ≢ x → (sweep_view s w x).unnamed y ≡ w.unnamed y
+          kept : (y : Spot) → y ≢ x → (sweep_view s w x).unnamed y ≡ w.unnamed y
           kept y not = by (place_is y x)
             where
               by : (d : (y ≡ x) ⊎ (y ≢ x)) → elim d as (λ _. Bool) [ inl at ↦ false | inr other ↦ w.unnamed y ] ≡ w.unnamed y
@@ -185,7 +186,7 @@ module _ (s range : ℕ) (w : IndexView) (slots : HasFreeSlots w.tuple) (blocks 
             free = unlocked;
             gone = λ y is. (ap (tuple_with w.tuple x None) is ∙ tuple_here w.tuple x None, gone y is);
             places = λ y. ⊎_elim
-                (λ (is : y ≡ x). inr (ap (λ (z : TuplePlace). z.block) is ∙ next.on, is))
+                (λ (is : y ≡ x). inr (ap (λ (z : Spot). z.block) is ∙ next.on, is))
                 (λ (other : y ≢ x). inl (
                   ⊎_elim
                       (λ (is : y ≡ x). absurd (other is))
@@ -199,17 +200,17 @@ module _ (s range : ℕ) (w : IndexView) (slots : HasFreeSlots w.tuple) (blocks 
             none = λ p is. after_only w s [] (free_none s w) p is;
           }
 
-      named_or_not : (t : IndexTuple) (x : TuplePlace) → (w.entry t.range ≡ Some x) ⊎ (w.entry t.range ≢ Some x)
+      named_or_not : (t : IndexTuple) (x : Spot) → (w.entry t.range ≡ Some x) ⊎ (w.entry t.range ≢ Some x)
       named_or_not t x = by (w.entry t.range) refl
         where
-          by : (o : Option TuplePlace) → w.entry t.range ≡ o → (w.entry t.range ≡ Some x) ⊎ (w.entry t.range ≢ Some x)
+          by : (o : Option Spot) → w.entry t.range ≡ o → (w.entry t.range ≡ Some x) ⊎ (w.entry t.range ≢ Some x)
           by None is = inr (λ named. none-some _ (sym is ∙ named))
           by (Some y) is = ⊎_elim
               (λ (same : y ≡ x). inl (is ∙ ap Some same))
               (λ (other : y ≢ x). inr (λ named. other (same_Some _ _ (sym is ∙ named))))
               (place_is y x)
 
-      none_next : (x : TuplePlace) (t : IndexTuple) → IsNextTuple w.tuple (next_map_page w.pages) x t → ⊥
+      none_next : (x : Spot) (t : IndexTuple) → IsNextTuple w.tuple (next_map_page w.pages) x t → ⊥
       none_next x t next = ⊎_elim
           (λ (locked : IsLocked w.lock s (next_map_page w.pages)). free.0 (next_map_page w.pages) (EvacuateWaits x t grows next locked))
           (λ (unlocked : IsFree w.lock s (next_map_page w.pages)). ⊎_elim
@@ -254,10 +255,10 @@ module _ (s range : ℕ) (w : IndexView) (slots : HasFreeSlots w.tuple) (blocks 
       cross a b less le = omega arith
 
   -- the range's entry becomes a place, and the locks stay
-  abbrev set_view : ℕ → TuplePlace → IndexView
+  abbrev set_view : ℕ → Spot → IndexView
   set_view m y = record w { entry = number_with w.entry m (Some y) }
 
-  places_named : (x : TuplePlace) → IsSummariseStuck w s range (Placing x) → ⊥
+  places_named : (x : Spot) → IsSummariseStuck w s range (Placing x) → ⊥
   places_named x stuck =
       stuck (Maintaining range (IsAt ExtentUnread Empty))
       (record w { entry = number_with w.entry range (Some x); lock = locks_after w s [] (free_none s w) })
@@ -270,14 +271,14 @@ module _ (s range : ℕ) (w : IndexView) (slots : HasFreeSlots w.tuple) (blocks 
       })
       (λ p is. after_only w s [] (free_none s w) p is))
 
-  evacuates_set : (m : ℕ) (x y : TuplePlace) (t u : IndexTuple) → IsSummariseStuck w s range (Evacuating m (Moving x y t u)) → ⊥
+  evacuates_set : (m : ℕ) (x y : Spot) (t u : IndexTuple) → IsSummariseStuck w s range (Evacuating m (Moving x y t u)) → ⊥
   evacuates_set m x y t u stuck =
       stuck (Maintaining range (Evacuating m (Dropping x))) (set_view m y)
       (GrowMap (Evacuating m (Moving x y t u)) (Evacuating m (Dropping x)) (EvacuateSet m x y t u
       (record { now = number_here w.entry m (Some y); others = number_there w.entry m (Some y); pages = refl; frame = search rules })
       (record { lock = λ p. refl })))
 
-  sets_final : (p : Progress) (x y : TuplePlace) (old new : IndexTuple) → IsSummariseStuck w s range (IsAt p (Moving x y old new)) → ⊥
+  sets_final : (p : Progress) (x y : Spot) (old new : IndexTuple) → IsSummariseStuck w s range (IsAt p (Moving x y old new)) → ⊥
   sets_final p x y old new stuck =
       stuck (Maintaining range (NotBuilding (Dropping x))) (set_view range y)
       (SetFinal p x y old new
@@ -297,7 +298,7 @@ module _ (s range : ℕ) (w : IndexView) (slots : HasFreeSlots w.tuple) (blocks 
         (Unite extent next result Empty (Held names.0) all (Maps names.0 names.2 (reads_here s w none))))
         (lt_or_ge next extent)
 
-    unites : (x : TuplePlace) → LocksNone w.lock s → extent ≤ next → IsSummariseStuck w s range (IsAt (Passing extent next result) (Held x)) → ⊥
+    unites : (x : Spot) → LocksNone w.lock s → extent ≤ next → IsSummariseStuck w s range (IsAt (Passing extent next result) (Held x)) → ⊥
     unites x none all stuck = by (w.tuple x) refl
       where
         gone : ((t : IndexTuple) → w.tuple x ≡ Some t → t.range ≢ range) → ⊥
@@ -314,7 +315,7 @@ module _ (s range : ℕ) (w : IndexView) (slots : HasFreeSlots w.tuple) (blocks 
             (λ (other : t.range ≢ range). gone (λ u here of. other (ap (λ (q : IndexTuple). q.range) (same_Some _ _ (sym is ∙ here)) ∙ of)))
             (cases_eq t.range range)
 
-    finals : (x : TuplePlace) (old new : IndexTuple) → LocksNone w.lock s → extent ≤ next
+    finals : (x : Spot) (old new : IndexTuple) → LocksNone w.lock s → extent ≤ next
         → IsSummariseStuck w s range (IsAt (Passing extent next result) (Copied x old new))
         → IsPhaseFree w s range (IsAt (Passing extent next result) (Copied x old new)) → ⊥
     finals x old new none all stuck free = some_swap w slots s range x old new by
@@ -328,7 +329,7 @@ module _ (s range : ℕ) (w : IndexView) (slots : HasFreeSlots w.tuple) (blocks 
             never : PutVerdict w s range (length new.bytes) Fits → ⊥
             never puts = elim puts [ ]
 
-        moves : (y : TuplePlace) → SwapVerdict w s range x old new (Puts y) → ⊥
+        moves : (y : Spot) → SwapVerdict w s range x old new (Puts y) → ⊥
         moves y (SwapMoves _ unlocked here must puts) = by_put puts
           where
             by_put : PutVerdict w s range (length new.bytes) (Puts y) → ⊥

@@ -3,7 +3,8 @@ use Rattle.std.proofs.Common.{◌≡◌, ◌≢◌, ◌⊎◌, inl, inr, ⊎_eli
 use Rattle.std.proofs.lemmas.Option.{same_Some, none-some}
 use Rattle.std.proofs.lemmas.Bool.{cases_eq}
 use Rattle.std.specs.Prelude.{refl, List, [], ◌∷◌, length}
-use Rattle.coverage.specs.IndexView.{TuplePlace, IndexTuple, PageKind, Unstarted, Regular, IndexView, map_page_of}
+use Rattle.block_model.specs.declared.place.Spot.{Spot}
+use Rattle.coverage.specs.IndexView.{IndexTuple, PageKind, Unstarted, Regular, IndexView, map_page_of}
 use Rattle.coverage.specs.Changes.{IsFree}
 use Rattle.coverage.specs.Verdicts.{IsLocked, IsFirstLocked, First, Later, IsLowestNumber, PageHasRoom, IsPageUnstarted, IsTarget, OnStarted, OnNew, IsFreeSlot}
 use Rattle.coverage.specs.Verdicts.{HasFreeSlots, IsTargetPlace, Verdict, Waits, Differs, Fits, Puts, Full, PutVerdict, NoTarget, PutWaits, PutGoes, MustMove}
@@ -48,7 +49,7 @@ both_free w s p m q one two (First _ _ locked) = free_not_locked w s p one locke
 both_free w s p m q one two (Later _ _ _ _ (First _ _ locked)) = free_not_locked w s m two locked
 both_free w s p m q one two (Later _ _ _ _ (Later _ _ _ _ none)) = elim none [ ]
 
-place_once : (w : IndexView) (need : ℕ) (y z : TuplePlace) → IsTargetPlace w.pages w.tuple need y → IsTargetPlace w.pages w.tuple need z → y ≡ z
+place_once : (w : IndexView) (need : ℕ) (y z : Spot) → IsTargetPlace w.pages w.tuple need y → IsTargetPlace w.pages w.tuple need z → y ≡ z
 place_once w need y z one two =
     let block : y.block ≡ z.block = target_once w need y.block z.block one.0 two.0 in
     let slot : y.slot ≡ z.slot =
@@ -77,7 +78,7 @@ IsNotStarted Unstarted = Unit
 IsNotStarted kind = ⊥
 
 -- a tuple is put at a free place of a page past the map that has room and isn't being emptied, or of one that isn't started
-pub put_place : (w : IndexView) (s range need : ℕ) (y : TuplePlace) → PutVerdict w s range need (Puts y) → (w.tuple y ≡ None)
+pub put_place : (w : IndexView) (s range need : ℕ) (y : Spot) → PutVerdict w s range need (Puts y) → (w.tuple y ≡ None)
     × (((w.pages.map_pages < y.block) × (w.pages.kind y.block ≡ Regular) × (need ≤ w.pages.room y.block))
     ⊎ ((w.pages.kind y.block ≡ Unstarted) × (y.block < w.pages.limit)))
 put_place w s range need y (PutGoes _ place free map) = (place.1.0, by place.0)
@@ -88,7 +89,7 @@ put_place w s range need y (PutGoes _ place free map) = (place.1.0, by place.0)
     by (OnNew none lowest below) = inr (lowest.0, below)
 
 -- where the pages are in order, that place lies past the map and below the limit
-pub put_past_map : (w : IndexView) (s range need : ℕ) (y : TuplePlace) → AreOrdered w → PutVerdict w s range need (Puts y)
+pub put_past_map : (w : IndexView) (s range need : ℕ) (y : Spot) → AreOrdered w → PutVerdict w s range need (Puts y)
     → (w.pages.map_pages < y.block) × (y.block < w.pages.limit)
 put_past_map w s range need y ordered verdict = ⊎_elim
     (λ (started : (w.pages.map_pages < y.block) × (w.pages.kind y.block ≡ Regular) × (need ≤ w.pages.room y.block)).
@@ -103,7 +104,7 @@ put_past_map w s range need y ordered verdict = ⊎_elim
     (put_place w s range need y verdict).1
 
 -- what fits in its place needn't move
-fits_or_moves : (w : IndexView) (x : TuplePlace) (new : IndexTuple) → w.pages.kind x.block ≡ Regular → length new.bytes ≤ w.pages.room_at x → MustMove w.pages x (length new.bytes)
+fits_or_moves : (w : IndexView) (x : Spot) (new : IndexTuple) → w.pages.kind x.block ≡ Regular → length new.bytes ≤ w.pages.room_at x → MustMove w.pages x (length new.bytes)
     → ⊥
 fits_or_moves w x new regular room must = ⊎_elim
     (λ (other : w.pages.kind x.block ≢ Regular). other regular)
@@ -113,7 +114,7 @@ fits_or_moves w x new regular room must = ⊎_elim
     apart : (n m : ℕ) → n ≤ m → m < n → ⊥
     apart n m le less = omega arith
 
-pub swap_once : (w : IndexView) (s range : ℕ) (x : TuplePlace) (old new : IndexTuple) (p q : Verdict) → SwapVerdict w s range x old new p
+pub swap_once : (w : IndexView) (s range : ℕ) (x : Spot) (old new : IndexTuple) (p q : Verdict) → SwapVerdict w s range x old new p
     → SwapVerdict w s range x old new q → p ≡ q
 swap_once w s range x old new _ _ (SwapWaits locked) (SwapWaits locked') = refl
 swap_once w s range x old new _ _ (SwapWaits locked) (SwapDiffers free not) = absurd (free_not_locked w s x.block free locked)
@@ -133,7 +134,7 @@ swap_once w s range x old new p _ (SwapMoves verdict free here must puts) (SwapF
 swap_once w s range x old new p q (SwapMoves verdict free here must puts) (SwapMoves verdict' free' here' must' puts') =
     put_once w s range (length new.bytes) p q puts puts'
 
-pub clear_once : (w : IndexView) (s range : ℕ) (x : TuplePlace) (p q : Verdict) → ClearVerdict w s range x p → ClearVerdict w s range x q → p ≡ q
+pub clear_once : (w : IndexView) (s range : ℕ) (x : Spot) (p q : Verdict) → ClearVerdict w s range x p → ClearVerdict w s range x q → p ≡ q
 clear_once w s range x _ _ (ClearWaits q locked) (ClearWaits q' locked') =
     ap Waits (first_locked_once w s (x.block ∷ map_page_of range ∷ []) q q' locked locked')
 clear_once w s range x _ _ (ClearWaits q locked) (ClearDiffers free map not) = absurd (both_free w s x.block (map_page_of range) q free map locked)
@@ -153,18 +154,18 @@ first_is_locked w s _ p (Later q _ more free later) = first_is_locked w s more p
 pub put_waits : (w : IndexView) (s range need p : ℕ) → PutVerdict w s range need (Waits p) → IsLocked w.lock s p
 put_waits w s range need p (PutWaits q _ target locked) = first_is_locked w s (q ∷ map_page_of range ∷ []) p locked
 
-pub swap_waits : (w : IndexView) (s range : ℕ) (x : TuplePlace) (old new : IndexTuple) (p : ℕ) → SwapVerdict w s range x old new (Waits p) → IsLocked w.lock s p
+pub swap_waits : (w : IndexView) (s range : ℕ) (x : Spot) (old new : IndexTuple) (p : ℕ) → SwapVerdict w s range x old new (Waits p) → IsLocked w.lock s p
 swap_waits w s range x old new _ (SwapWaits locked) = locked
 swap_waits w s range x old new p (SwapMoves _ free here must puts) = put_waits w s range (length new.bytes) p puts
 
-pub swap_differs : (w : IndexView) (s range : ℕ) (x : TuplePlace) (old new : IndexTuple) → SwapVerdict w s range x old new Differs → w.tuple x ≢ Some old
+pub swap_differs : (w : IndexView) (s range : ℕ) (x : Spot) (old new : IndexTuple) → SwapVerdict w s range x old new Differs → w.tuple x ≢ Some old
 swap_differs w s range x old new (SwapDiffers free other) = other
 swap_differs w s range x old new (SwapMoves _ free here must puts) = elim puts [ ]
 
-pub clear_waits : (w : IndexView) (s range p : ℕ) (x : TuplePlace) → ClearVerdict w s range x (Waits p) → IsLocked w.lock s p
+pub clear_waits : (w : IndexView) (s range p : ℕ) (x : Spot) → ClearVerdict w s range x (Waits p) → IsLocked w.lock s p
 clear_waits w s range p x (ClearWaits _ locked) = first_is_locked w s (x.block ∷ map_page_of range ∷ []) p locked
 
-pub clear_differs : (w : IndexView) (s range : ℕ) (x : TuplePlace) → ClearVerdict w s range x Differs → w.entry range ≢ Some x
+pub clear_differs : (w : IndexView) (s range : ℕ) (x : Spot) → ClearVerdict w s range x Differs → w.entry range ≢ Some x
 clear_differs w s range x (ClearDiffers free map other) = other
 
 -- of two pages, the first one that another session locks, or none
@@ -196,11 +197,11 @@ module _ (w : IndexView) (slots : HasFreeSlots w.tuple) where
       (λ (waits : (q : ℕ) × IsFirstLocked w.lock s (p ∷ map_page_of range ∷ []) q). none (Waits waits.0) (PutWaits p waits.0 target waits.1))
       (λ (free : IsFree w.lock s p × IsFree w.lock s (map_page_of range)).
       let slot = lowest_slot p in
-      let y : TuplePlace = record { block = p; slot = slot.0 } in
+      let y : Spot = record { block = p; slot = slot.0 } in
       none (Puts y) (PutGoes y (target, slot.1) free.0 free.1))
       (two_pages w s p (map_page_of range))))
 
-  pub some_swap : (s range : ℕ) (x : TuplePlace) (old new : IndexTuple) → ((p : Verdict) → SwapVerdict w s range x old new p → ⊥) → ⊥
+  pub some_swap : (s range : ℕ) (x : Spot) (old new : IndexTuple) → ((p : Verdict) → SwapVerdict w s range x old new p → ⊥) → ⊥
   some_swap s range x old new none = ⊎_elim
       (λ (locked : IsLocked w.lock s x.block). none (Waits x.block) (SwapWaits locked))
       (λ (free : IsFree w.lock s x.block). none Differs (SwapDiffers free (λ here.
@@ -211,7 +212,7 @@ module _ (w : IndexView) (slots : HasFreeSlots w.tuple) where
       (lt_or_ge (w.pages.room_at x) (length new.bytes)))))
       (locked_or_free w s x.block)
 
-pub some_clear : (w : IndexView) (s range : ℕ) (x : TuplePlace) → ((p : Verdict) → ClearVerdict w s range x p → ⊥) → ⊥
+pub some_clear : (w : IndexView) (s range : ℕ) (x : Spot) → ((p : Verdict) → ClearVerdict w s range x p → ⊥) → ⊥
 some_clear w s range x none = ⊎_elim
     (λ (waits : (q : ℕ) × IsFirstLocked w.lock s (x.block ∷ map_page_of range ∷ []) q). none (Waits waits.0) (ClearWaits waits.0 waits.1))
     (λ (free : IsFree w.lock s x.block × IsFree w.lock s (map_page_of range)). none Differs (ClearDiffers free.0 free.1 (λ is. none Fits (ClearFits free.0 free.1 is))))

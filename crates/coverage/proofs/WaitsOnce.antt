@@ -1,7 +1,8 @@
 -- A summariser that waits does so for one page, which another session locks.
 use Rattle.std.proofs.Common.{◌≡◌, ℕ, length, sym, ◌∙◌, ap, subst}
 use Rattle.std.specs.Prelude.{refl, [], ◌∷◌}
-use Rattle.coverage.specs.IndexView.{TuplePlace, IndexTuple, PageKind, Unstarted, Mapping, Regular, Emptying, IndexView, next_map_page, IsPastMap, placeholder_length}
+use Rattle.block_model.specs.declared.place.Spot.{Spot}
+use Rattle.coverage.specs.IndexView.{IndexTuple, PageKind, Unstarted, Mapping, Regular, Emptying, IndexView, next_map_page, IsPastMap, placeholder_length}
 use Rattle.coverage.specs.Changes.{IsFree}
 use Rattle.coverage.specs.Verdicts.{IsLocked, IsFirstLocked, Verdict, Waits, PutVerdict}
 use Rattle.coverage.specs.Statements.{Copied, Phase, Vacant, IsAt}
@@ -19,10 +20,10 @@ waits_same p q is = ap (waited q) is
 
 -- the page that is waited for while a page is emptied
 data EmptyingWait (w : IndexView) (s : ℕ) : ℕ → Type 0 where
-  ForNext : (x : TuplePlace) (t : IndexTuple) → IsNextTuple w.tuple (next_map_page w.pages) x t → IsLocked w.lock s (next_map_page w.pages) → EmptyingWait w s (next_map_page w.pages)
-  ForTarget : (q : ℕ) (x : TuplePlace) (t : IndexTuple) → IsNextTuple w.tuple (next_map_page w.pages) x t → IsFree w.lock s x.block
+  ForNext : (x : Spot) (t : IndexTuple) → IsNextTuple w.tuple (next_map_page w.pages) x t → IsLocked w.lock s (next_map_page w.pages) → EmptyingWait w s (next_map_page w.pages)
+  ForTarget : (q : ℕ) (x : Spot) (t : IndexTuple) → IsNextTuple w.tuple (next_map_page w.pages) x t → IsFree w.lock s x.block
       → PutVerdict w s t.range (length t.bytes) (Waits q) → EmptyingWait w s q
-  ForTurn : (q : ℕ) → ((x : TuplePlace) (t : IndexTuple) → IsNextTuple w.tuple (next_map_page w.pages) x t → ⊥)
+  ForTurn : (q : ℕ) → ((x : Spot) (t : IndexTuple) → IsNextTuple w.tuple (next_map_page w.pages) x t → ⊥)
       → IsFirstLocked w.lock s (next_map_page w.pages ∷ 0 ∷ []) q → EmptyingWait w s q
 
 -- and while the map grows, by the kind of its next page
@@ -47,7 +48,7 @@ module _ (w : IndexView) (s range : ℕ) where
   vacant_wait q (TurnWaits _ grows none locked) = ForMap Emptying q grows (ForTurn q none locked)
 
   -- the page of the next tuple isn't locked and free at once
-  locked_or_not : (x : TuplePlace) (t : IndexTuple) → IsNextTuple w.tuple (next_map_page w.pages) x t → IsLocked w.lock s (next_map_page w.pages) → IsFree w.lock s x.block → ⊥
+  locked_or_not : (x : Spot) (t : IndexTuple) → IsNextTuple w.tuple (next_map_page w.pages) x t → IsLocked w.lock s (next_map_page w.pages) → IsFree w.lock s x.block → ⊥
   locked_or_not x t next locked free = free_not_locked w s (next_map_page w.pages) (subst (IsFree w.lock s) next.on free) locked
 
   emptying_once : (p q : ℕ) → EmptyingWait w s p → EmptyingWait w s q → p ≡ q

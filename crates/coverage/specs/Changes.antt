@@ -1,7 +1,8 @@
 -- The kinds of change that a step of session s makes to the view of the index.
 use Rattle.std.specs.Prelude.{◌≡◌, ◌≢◌, ◌⊎◌, ℕ, ◌+◌, ◌*◌, ◌≤◌, ◌<◌, min, Bool, true, false, IsTrue, Option, None, Some}
 use Rattle.block_model.specs.declared.row.Row.{Row}
-use Rattle.coverage.specs.IndexView.{TuplePlace, IndexTuple, IsFormed, Progress, ExtentUnread, Passing, Building, IndexView, IsTupleOf, IsBuilding}
+use Rattle.block_model.specs.declared.place.Spot.{Spot}
+use Rattle.coverage.specs.IndexView.{IndexTuple, IsFormed, Progress, ExtentUnread, Passing, Building, IndexView, IsTupleOf, IsBuilding}
 
 -- at one place the old value goes and the new one comes
 pub record ChangesAt {X A : Type 0} (f g : X → Option A) (x : X) (old new : Option A) : Type 0 where
@@ -18,10 +19,10 @@ pub record SameMap (w v : IndexView) : Type 0 where
   pub entry : (range : ℕ) → v.entry range ≡ w.entry range
 
 pub record SameTuples (w v : IndexView) : Type 0 where
-  pub tuple : (x : TuplePlace) → v.tuple x ≡ w.tuple x
+  pub tuple : (x : Spot) → v.tuple x ≡ w.tuple x
 
 pub record SameUnnamed (w v : IndexView) : Type 0 where
-  pub unnamed : (x : TuplePlace) → v.unnamed x ≡ w.unnamed x
+  pub unnamed : (x : Spot) → v.unnamed x ≡ w.unnamed x
 
 pub record SameLoose (w v : IndexView) : Type 0 where
   pub loose : (s : ℕ) → v.loose s ≡ w.loose s
@@ -77,7 +78,7 @@ pub record Frame (s : ℕ) (touched : Touched) (w v : IndexView) : Type 0 where
 
 -- the page of the session's loose tuple is locked by it
 abbrev pub IsLooseLocked : ℕ → IndexView → Type 0
-IsLooseLocked s v = (x : TuplePlace) → v.loose s ≡ Some x → v.lock x.block ≡ Some s
+IsLooseLocked s v = (x : Spot) → v.loose s ≡ Some x → v.lock x.block ≡ Some s
 
 -- nobody else locks this page
 abbrev pub IsFree : (ℕ → Option ℕ) → ℕ → ℕ → Type 0
@@ -109,7 +110,7 @@ pub record PutsRow (s : ℕ) (w v : IndexView) (b k : ℕ) (r : Row) : Type 0 wh
   pub locked : IsLooseLocked s v
 
 -- a placeholder is put, which the map doesn't name yet; from here on the session is building its range
-pub record Places (s : ℕ) (w v : IndexView) (x : TuplePlace) (t : IndexTuple) : Type 0 where
+pub record Places (s : ℕ) (w v : IndexView) (x : Spot) (t : IndexTuple) : Type 0 where
   pub tuple : ChangesAt w.tuple v.tuple x None (Some t)
   pub free : IsFree w.lock s x.block
   pub placeholder : t.placeholder ≡ true
@@ -122,7 +123,7 @@ pub record Places (s : ℕ) (w v : IndexView) (x : TuplePlace) (t : IndexTuple) 
   pub locked : IsLooseLocked s v
 
 -- the map names it
-pub record Names (s : ℕ) (w v : IndexView) (range : ℕ) (x : TuplePlace) (t : IndexTuple) : Type 0 where
+pub record Names (s : ℕ) (w v : IndexView) (range : ℕ) (x : Spot) (t : IndexTuple) : Type 0 where
   pub entry : ChangesAt w.entry v.entry range None (Some x)
   pub loose : ChangesAt w.loose v.loose s (Some x) None
   pub there : w.tuple x ≡ Some t
@@ -164,7 +165,7 @@ abbrev pub MayEnd : ℕ → IndexView → IndexView → Type 0
 MayEnd s w v = (n : ℕ) → (v.building n ≡ w.building n) ⊎ ((n ≡ s) × (v.building n ≡ None))
 
 -- in its place, the tuple that the map names gives way to one that carries it
-pub record Swaps (s : ℕ) (w v : IndexView) (range : ℕ) (x : TuplePlace) (old new : IndexTuple) : Type 0 where
+pub record Swaps (s : ℕ) (w v : IndexView) (range : ℕ) (x : Spot) (old new : IndexTuple) : Type 0 where
   pub tuple : ChangesAt w.tuple v.tuple x (Some old) (Some new)
   pub free : IsFree w.lock s x.block
   pub entry : w.entry range ≡ Some x
@@ -177,7 +178,7 @@ pub record Swaps (s : ℕ) (w v : IndexView) (range : ℕ) (x : TuplePlace) (old
   pub locked : IsLooseLocked s v
 
 -- a move puts the new tuple; the map still names the old one
-pub record MovePuts (s : ℕ) (w v : IndexView) (range : ℕ) (x y : TuplePlace) (old new : IndexTuple) : Type 0 where
+pub record MovePuts (s : ℕ) (w v : IndexView) (range : ℕ) (x y : Spot) (old new : IndexTuple) : Type 0 where
   pub tuple : ChangesAt w.tuple v.tuple y None (Some new)
   pub free : IsFree w.lock s y.block
   pub before : w.tuple x ≡ Some old
@@ -191,7 +192,7 @@ pub record MovePuts (s : ℕ) (w v : IndexView) (range : ℕ) (x y : TuplePlace)
   pub locked : IsLooseLocked s v
 
 -- the map names the new one; what the session builds ends here, if the tuple is final
-pub record MoveSets (s : ℕ) (w v : IndexView) (range : ℕ) (x y : TuplePlace) (old new : IndexTuple) : Type 0 where
+pub record MoveSets (s : ℕ) (w v : IndexView) (range : ℕ) (x y : Spot) (old new : IndexTuple) : Type 0 where
   pub entry : ChangesAt w.entry v.entry range (Some x) (Some y)
   pub loose : ChangesAt w.loose v.loose s (Some y) (Some x)
   pub free : IsFree w.lock s x.block
@@ -204,7 +205,7 @@ pub record MoveSets (s : ℕ) (w v : IndexView) (range : ℕ) (x y : TuplePlace)
   pub locked : IsLooseLocked s v
 
 -- the session drops the tuple in its hands, which the map no longer names
-pub record DropsLoose (s : ℕ) (w v : IndexView) (x : TuplePlace) (old : IndexTuple) : Type 0 where
+pub record DropsLoose (s : ℕ) (w v : IndexView) (x : Spot) (old : IndexTuple) : Type 0 where
   pub tuple : ChangesAt w.tuple v.tuple x (Some old) None
   pub loose : ChangesAt w.loose v.loose s (Some x) None
   pub unnamed : (range : ℕ) → w.entry range ≢ Some x
@@ -214,7 +215,7 @@ pub record DropsLoose (s : ℕ) (w v : IndexView) (x : TuplePlace) (old : IndexT
   pub locked : IsLooseLocked s v
 
 -- the holder of the summarise lock takes a range's entry out of the map
-pub record Clears (s : ℕ) (w v : IndexView) (range : ℕ) (x : TuplePlace) : Type 0 where
+pub record Clears (s : ℕ) (w v : IndexView) (range : ℕ) (x : Spot) : Type 0 where
   pub entry : ChangesAt w.entry v.entry range (Some x) None
   pub loose : ChangesAt w.loose v.loose s None (Some x)
   pub free : IsFree w.lock s x.block
@@ -224,19 +225,19 @@ pub record Clears (s : ℕ) (w v : IndexView) (range : ℕ) (x : TuplePlace) : T
   pub locked : IsLooseLocked s v
 
 -- nothing stands there any more, where the map named nothing
-pub record IsSwept (w v : IndexView) (page : ℕ) (x : TuplePlace) : Type 0 where
+pub record IsSwept (w v : IndexView) (page : ℕ) (x : Spot) : Type 0 where
   pub on : x.block ≡ page
   pub unnamed : (range : ℕ) → w.entry range ≢ Some x
   pub now : v.tuple x ≡ None
   pub gone : v.unnamed x ≡ false
 
 -- a place has the tuple that it had
-abbrev pub IsUntouched : IndexView → IndexView → TuplePlace → Type 0
+abbrev pub IsUntouched : IndexView → IndexView → Spot → Type 0
 IsUntouched w v x = (v.tuple x ≡ w.tuple x) × (v.unnamed x ≡ w.unnamed x)
 
 -- tuples of one page that the map doesn't name are dropped, under the page's lock
 pub record Sweeps (s : ℕ) (w v : IndexView) (page : ℕ) : Type 0 where
-  pub places : (x : TuplePlace) → IsUntouched w v x ⊎ IsSwept w v page x
+  pub places : (x : Spot) → IsUntouched w v x ⊎ IsSwept w v page x
   pub free : IsFree w.lock s page
   pub loose : SameLoose w v
   pub work : SameWork w v

@@ -1,7 +1,8 @@
 -- What each running statement knows of the index between its steps.
 use Rattle.std.specs.Prelude.{◌≡◌, ◌≢◌, ◌⊎◌, ℕ, ◌≤◌, Bool, true, IsTrue, Option, None, Some, List, [], ◌∷◌}
 use Rattle.block_model.specs.declared.row.Row.{Row}
-use Rattle.coverage.specs.IndexView.{TuplePlace, IndexTuple, IsFormed, Progress, ExtentUnread, Passing, IndexView, range_of_block, IsRangeOf}
+use Rattle.block_model.specs.declared.place.Spot.{Spot}
+use Rattle.coverage.specs.IndexView.{IndexTuple, IsFormed, Progress, ExtentUnread, Passing, IndexView, range_of_block, IsRangeOf}
 use Rattle.coverage.specs.IsSettled.{IsAccounted, TupleShows}
 use Rattle.coverage.specs.GoesOn.{IsHeld}
 use Rattle.coverage.specs.Statements.{OnIndex, Empty, Held, Copied, Moving, Dropping, Phase, NotBuilding, Vacant, Growing, Evacuating, Placing, IsAt, Scan}
@@ -59,7 +60,7 @@ IsResultFormed w ExtentUnread = Unit
 IsResultFormed w (Passing extent next result) = IsFormed w.contents result
 
 -- a placeholder of the range stands there, and the session locks its page
-abbrev pub HasPlaced : IndexView → ℕ → ℕ → TuplePlace → Type 0
+abbrev pub HasPlaced : IndexView → ℕ → ℕ → Spot → Type 0
 HasPlaced w s range x = (w.lock x.block ≡ Some s) × ((t : IndexTuple) × (w.tuple x ≡ Some t) × (t.range ≡ range) × (t.placeholder ≡ true))
 
 abbrev pub KnowsPhase : IndexView → ℕ → ℕ → Phase → Type 0
@@ -75,7 +76,7 @@ KnowsPhase w s range (IsAt p on_index) = KnowsOnIndex w s range (MakesUnited p) 
 pub record KnowsRow (w : IndexView) (scan : Scan) (b k : ℕ) (r : Row) : Type 0 where
   pub there : w.row b k ≡ Some r
   pub settled : IsAccounted w b r
-  pub shown : (x : TuplePlace) → scan.held ≡ Some (range_of_block w b, x) → TupleShows w x b r
+  pub shown : (x : Spot) → scan.held ≡ Some (range_of_block w b, x) → TupleShows w x b r
   pub kept : IsTrue (scan.matches r) → IsTrue (scan.found b k) ⊎ (IsTrue (scan.candidate b) × (scan.read ≤ b))
 
 abbrev pub Knows : IndexView → ℕ → Statement → Type 0
@@ -84,7 +85,7 @@ Knows w s (Inserting b k r on_index) =
     (w.row b k ≡ Some r) × (w.summarise_lock ≢ Some s) × KnowsOnIndex w s (range_of_block w b) (IsAdded r) on_index × SettledBy w b r on_index
 Knows w s (Maintaining range phase) = (w.summarise_lock ≡ Some s) × KnowsPhase w s range phase
 Knows w s Holding = (w.summarise_lock ≡ Some s) × LocksNone w.lock s
-Knows w s (Scanning scan) = HoldsNothing w s × ((range : ℕ) (x : TuplePlace) → scan.held ≡ Some (range, x) → IsHeld w range x)
+Knows w s (Scanning scan) = HoldsNothing w s × ((range : ℕ) (x : Spot) → scan.held ≡ Some (range, x) → IsHeld w range x)
     × ((b k : ℕ) → IsTrue (scan.sees b k) → (r : Row) × KnowsRow w scan b k r)
 
 -- the places of dropped rows are none that the statement sees, or has put

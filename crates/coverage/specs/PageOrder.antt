@@ -1,6 +1,7 @@
 -- The order in which an index's pages stand, and what each running statement knows of pages and locks between its steps.
 use Rattle.std.specs.Prelude.{◌≡◌, ◌≢◌, ◌⊎◌, ℕ, ◌*◌, ◌≤◌, ◌<◌, Option, Some, [], ◌∷◌}
-use Rattle.coverage.specs.IndexView.{TuplePlace, IndexTuple, Progress, ExtentUnread, Passing, Unstarted, Mapping, Regular, Emptying, Pages, IndexView}
+use Rattle.block_model.specs.declared.place.Spot.{Spot}
+use Rattle.coverage.specs.IndexView.{IndexTuple, Progress, ExtentUnread, Passing, Unstarted, Mapping, Regular, Emptying, Pages, IndexView}
 use Rattle.coverage.specs.IndexView.{map_page_of, next_map_page, IsPastMap, range_of_block, NamesPlaceholder}
 use Rattle.coverage.specs.Statements.{OnIndex, Empty, Held, Copied, Moving, Dropping, Phase, NotBuilding, Vacant, Growing, Evacuating, Placing, IsAt, Statement}
 use Rattle.coverage.specs.Statements.{Idle, Inserting, Maintaining, Holding, Scanning}
@@ -19,8 +20,8 @@ pub record AreOrdered (w : IndexView) : Type 0 where
   pub started : (p q : ℕ) → p < q → w.pages.kind p ≡ Unstarted → w.pages.kind q ≡ Unstarted
   pub below : (p : ℕ) → w.pages.kind p ≢ Unstarted → p < w.pages.limit
   -- tuples stand on pages for tuples, and entries on counted pages
-  pub tuples : (x : TuplePlace) (t : IndexTuple) → w.tuple x ≡ Some t → IsForTuples w.pages x.block
-  pub entries : (range : ℕ) (x : TuplePlace) → w.entry range ≡ Some x → map_page_of range ≤ w.pages.map_pages
+  pub tuples : (x : Spot) (t : IndexTuple) → w.tuple x ≡ Some t → IsForTuples w.pages x.block
+  pub entries : (range : ℕ) (x : Spot) → w.entry range ≡ Some x → map_page_of range ≤ w.pages.map_pages
 
 -- a new index has block 0 and one map page
 pub record AreNewPages (pages : Pages) : Type 0 where
@@ -30,9 +31,9 @@ pub record AreNewPages (pages : Pages) : Type 0 where
   pub below : 1 < pages.limit
 
 -- a tuple of the range at this place is a placeholder exactly where the one that the map names is
-abbrev pub HasNamedSort : IndexView → ℕ → TuplePlace → Type 0
+abbrev pub HasNamedSort : IndexView → ℕ → Spot → Type 0
 HasNamedSort w range x = (t : IndexTuple) → w.tuple x ≡ Some t → t.range ≡ range
-    → (y : TuplePlace) × (u : IndexTuple) × (w.entry range ≡ Some y) × (w.tuple y ≡ Some u) × (u.placeholder ≡ t.placeholder)
+    → (y : Spot) × (u : IndexTuple) × (w.entry range ≡ Some y) × (w.tuple y ≡ Some u) × (u.placeholder ≡ t.placeholder)
 
 -- A move locks the pages of both tuples and the map's page, a clear those of its tuple and of the map, and no others; what else a
 -- statement has on an index is under no lock.

@@ -1,6 +1,7 @@
 -- What comes of a step that would change index pages: it waits, it finds a difference, it has room in place or elsewhere, or none.
 use Rattle.std.specs.Prelude.{◌≡◌, ◌≢◌, ◌⊎◌, ℕ, ◌≤◌, ◌<◌, Option, None, Some, List, [], ◌∷◌, length}
-use Rattle.coverage.specs.IndexView.{TuplePlace, IndexTuple, Unstarted, Regular, Pages, IndexView, map_page_of}
+use Rattle.block_model.specs.declared.place.Spot.{Spot}
+use Rattle.coverage.specs.IndexView.{IndexTuple, Unstarted, Regular, Pages, IndexView, map_page_of}
 use Rattle.coverage.specs.Changes.{IsFree}
 
 -- another session locks this page
@@ -29,15 +30,15 @@ pub data IsTarget (pages : Pages) (need p : ℕ) : Type 0 where
   OnNew : ((q : ℕ) → PageHasRoom pages need q → ⊥) → IsLowestNumber (IsPageUnstarted pages) p → p < pages.limit → IsTarget pages need p
 
 -- nothing stands in this slot of the page
-abbrev pub IsFreeSlot : {A : Type 0} → (TuplePlace → Option A) → ℕ → ℕ → Type 0
+abbrev pub IsFreeSlot : {A : Type 0} → (Spot → Option A) → ℕ → ℕ → Type 0
 IsFreeSlot stands p k = stands (record { block = p; slot = k }) ≡ None
 
 -- each page has a free slot
-abbrev pub HasFreeSlots : {A : Type 0} → (TuplePlace → Option A) → Type 0
+abbrev pub HasFreeSlots : {A : Type 0} → (Spot → Option A) → Type 0
 HasFreeSlots stands = (p : ℕ) → (k : ℕ) × IsFreeSlot stands p k
 
 -- the place for it: the lowest free slot of that page
-abbrev pub IsTargetPlace : {A : Type 0} → Pages → (TuplePlace → Option A) → ℕ → TuplePlace → Type 0
+abbrev pub IsTargetPlace : {A : Type 0} → Pages → (Spot → Option A) → ℕ → Spot → Type 0
 IsTargetPlace pages stands need y = IsTarget pages need y.block × IsLowestNumber (IsFreeSlot stands y.block) y.slot
 
 -- it waits for this page; what it compares differs; it has room in place; a tuple is put at this place; no page has room, of so many
@@ -46,21 +47,21 @@ pub data Verdict : Type 0 where
   Waits : ℕ → Verdict
   Differs : Verdict
   Fits : Verdict
-  Puts : TuplePlace → Verdict
+  Puts : Spot → Verdict
   Full : ℕ → Verdict
 
 -- A tuple of this length is to be put for a range: the page is chosen, then its lock and that of the map page are needed.
 pub data PutVerdict (w : IndexView) (s range need : ℕ) : Verdict → Type 0 where
   NoTarget : ((p : ℕ) → IsTarget w.pages need p → ⊥) → PutVerdict w s range need (Full w.pages.limit)
   PutWaits : (p q : ℕ) → IsTarget w.pages need p → IsFirstLocked w.lock s (p ∷ map_page_of range ∷ []) q → PutVerdict w s range need (Waits q)
-  PutGoes : (y : TuplePlace) → IsTargetPlace w.pages w.tuple need y → IsFree w.lock s y.block → IsFree w.lock s (map_page_of range) → PutVerdict w s range need (Puts y)
+  PutGoes : (y : Spot) → IsTargetPlace w.pages w.tuple need y → IsFree w.lock s y.block → IsFree w.lock s (map_page_of range) → PutVerdict w s range need (Puts y)
 
 -- a tuple has to leave a page that isn't regular, or on which one of this length doesn't fit in its place
-abbrev pub MustMove : Pages → TuplePlace → ℕ → Type 0
+abbrev pub MustMove : Pages → Spot → ℕ → Type 0
 MustMove pages x need = (pages.kind x.block ≢ Regular) ⊎ (pages.room_at x < need)
 
 -- A new tuple is to take the place of the one that was copied at this place: its page's lock comes first, then the comparison.
-pub data SwapVerdict (w : IndexView) (s range : ℕ) (x : TuplePlace) (old new : IndexTuple) : Verdict → Type 0 where
+pub data SwapVerdict (w : IndexView) (s range : ℕ) (x : Spot) (old new : IndexTuple) : Verdict → Type 0 where
   SwapWaits : IsLocked w.lock s x.block → SwapVerdict w s range x old new (Waits x.block)
   SwapDiffers : IsFree w.lock s x.block → w.tuple x ≢ Some old → SwapVerdict w s range x old new Differs
   SwapFits : IsFree w.lock s x.block → w.tuple x ≡ Some old → w.pages.kind x.block ≡ Regular → length new.bytes ≤ w.pages.room_at x
@@ -69,7 +70,7 @@ pub data SwapVerdict (w : IndexView) (s range : ℕ) (x : TuplePlace) (old new :
       → SwapVerdict w s range x old new verdict
 
 -- The entry of a range is to go: the locks of tuple page and map page come first, then the comparison.
-pub data ClearVerdict (w : IndexView) (s range : ℕ) (x : TuplePlace) : Verdict → Type 0 where
+pub data ClearVerdict (w : IndexView) (s range : ℕ) (x : Spot) : Verdict → Type 0 where
   ClearWaits : (q : ℕ) → IsFirstLocked w.lock s (x.block ∷ map_page_of range ∷ []) q → ClearVerdict w s range x (Waits q)
   ClearDiffers : IsFree w.lock s x.block → IsFree w.lock s (map_page_of range) → w.entry range ≢ Some x → ClearVerdict w s range x Differs
   ClearFits : IsFree w.lock s x.block → IsFree w.lock s (map_page_of range) → w.entry range ≡ Some x → ClearVerdict w s range x Fits

@@ -2,7 +2,8 @@
 use Rattle.std.proofs.Common.{ℕ, Option, List}
 use Rattle.std.specs.Prelude.{refl}
 use Rattle.block_model.specs.declared.row.Row.{Row}
-use Rattle.coverage.specs.IndexView.{TuplePlace, IndexTuple, Building, PageKind, IndexView, range_of_block}
+use Rattle.block_model.specs.declared.place.Spot.{Spot}
+use Rattle.coverage.specs.IndexView.{IndexTuple, Building, PageKind, IndexView, range_of_block}
 use Rattle.coverage.specs.Changes.{Touched, TouchesNothing, TouchesRows, TouchesEntries, TouchesTuples}
 use Rattle.coverage.specs.Changes.{TouchesUnnamed, TouchesSummariseLock, KeepsHeap, KeepsMap, KeepsTuples, KeepsUnnamed, KeepsSummariseLock, Frame}
 use Rattle.coverage.specs.Statements.{OnIndex, Phase, Statement}
@@ -14,7 +15,7 @@ use Rattle.coverage.specs.Steps.{Turn, SummariseStep, LookMap, LookGone, IsFinal
 use Rattle.coverage.specs.Steps.{SwapFinal, SetFinal, DropOld, DesummariseStep, ClearMap, ClearNone, Clear, ClearAgain, DropCleared}
 
 -- the heap and the summarise lock of one view, with the map, tuples, pages and locks of another
-abbrev pub shown_on : IndexView → IndexView → (building : ℕ → Option Building) → (loose : ℕ → Option TuplePlace) → IndexView
+abbrev pub shown_on : IndexView → IndexView → (building : ℕ → Option Building) → (loose : ℕ → Option Spot) → IndexView
 shown_on w v building loose = record w {
   entry = v.entry;
   tuple = v.tuple;
@@ -25,7 +26,7 @@ shown_on w v building loose = record w {
   loose = loose;
 }
 
-module _ (s : ℕ) (w v : IndexView) (building : ℕ → Option Building) (loose : ℕ → Option TuplePlace) where
+module _ (s : ℕ) (w v : IndexView) (building : ℕ → Option Building) (loose : ℕ → Option Spot) where
   abbrev u : IndexView
   u = shown_on w v building loose
 
@@ -96,10 +97,10 @@ module _ (s : ℕ) (w v : IndexView) (building : ℕ → Option Building) (loose
   these_on : (these : List ℕ) → LocksThese v.lock s these → LocksThese u.lock s these
   these_on these locks = record { locked = locks.locked; only = locks.only }
 
-  puts_on : (y : TuplePlace) (t : IndexTuple) → PutsTuple s w v y t → PutsTuple s w u y t
+  puts_on : (y : Spot) (t : IndexTuple) → PutsTuple s w v y t → PutsTuple s w u y t
   puts_on y t puts = record { tuple = puts.tuple; free = puts.free; page = page_on _ _ puts.page; frame = frame_on TouchesTuples puts.frame }
 
-  replaces_on : (x : TuplePlace) (old new : IndexTuple) → ReplacesTuple s w v x old new → ReplacesTuple s w u x old new
+  replaces_on : (x : Spot) (old new : IndexTuple) → ReplacesTuple s w v x old new → ReplacesTuple s w u x old new
   replaces_on x old new swap = record {
     tuple = swap.tuple;
     free = swap.free;
@@ -108,16 +109,16 @@ module _ (s : ℕ) (w v : IndexView) (building : ℕ → Option Building) (loose
     none = swap.none;
   }
 
-  sets_on : (range : ℕ) (x : TuplePlace) → SetsEntry s w v range x → SetsEntry s w u range x
+  sets_on : (range : ℕ) (x : Spot) → SetsEntry s w v range x → SetsEntry s w u range x
   sets_on range x sets = record { now = sets.now; others = sets.others; pages = sets.pages; frame = frame_on TouchesEntries sets.frame }
 
   same_on : SameLocks w.lock v.lock → SameLocks w.lock u.lock
   same_on same = record { lock = same.lock }
 
-  clears_on : (range : ℕ) (x : TuplePlace) → ClearsEntry s w v range x → ClearsEntry s w u range x
+  clears_on : (range : ℕ) (x : Spot) → ClearsEntry s w v range x → ClearsEntry s w u range x
   clears_on range x clears = record { entry = clears.entry; free = clears.free; pages = clears.pages; frame = frame_on TouchesEntries clears.frame }
 
-  drops_on : (x : TuplePlace) → DropsTuple s w v x → DropsTuple s w u x
+  drops_on : (x : Spot) → DropsTuple s w v x → DropsTuple s w u x
   drops_on x drops = record {
     now = drops.now;
     others = drops.others;
@@ -126,7 +127,7 @@ module _ (s : ℕ) (w v : IndexView) (building : ℕ → Option Building) (loose
     none = drops.none;
   }
 
-  sweeps_on : (page : ℕ) (Sweeping : TuplePlace → Type 0) → SweepsTuples s w v page Sweeping → SweepsTuples s w u page Sweeping
+  sweeps_on : (page : ℕ) (Sweeping : Spot → Type 0) → SweepsTuples s w v page Sweeping → SweepsTuples s w u page Sweeping
   sweeps_on page Sweeping sweeps = record {
     free = sweeps.free;
     gone = sweeps.gone;

@@ -4,7 +4,8 @@ use Rattle.std.specs.Prelude.{refl, IsTrue, max}
 use Rattle.std.proofs.lemmas.Option.{none-some}
 use Rattle.std.proofs.lemmas.Bool.{cases_eq}
 use Rattle.block_model.specs.declared.row.Row.{Row}
-use Rattle.coverage.specs.IndexView.{TuplePlace, IndexTuple, IndexView, range_of_block}
+use Rattle.block_model.specs.declared.place.Spot.{Spot}
+use Rattle.coverage.specs.IndexView.{IndexTuple, IndexView, range_of_block}
 use Rattle.coverage.specs.Statements.{OnIndex, Empty, Held, Copied, Moving, Dropping, IsAdded, Phase, Scan, Statement, Idle, Inserting, Maintaining, Holding}
 use Rattle.coverage.specs.Statements.{Scanning, loose_in}
 use Rattle.coverage.specs.Knowing.{LocksNone, KnowsOnIndex, Knows}
@@ -321,7 +322,7 @@ module _ (s : ℕ) (w v : TableState) (kept : AreIndexesKept w) (i : ℕ) (below
   scan_elsewhere old apart = pick_other i old.at (held_at old.range old.held) None apart
 
   -- rows of a range that the index at hand leaves out don't match
-  pub dropped_spares : (old : TableScan) (x : TuplePlace) (t : IndexTuple) (candidate : ℕ → Bool) → w.task s ≡ Scans old → old.at < w.indexes
+  pub dropped_spares : (old : TableScan) (x : Spot) (t : IndexTuple) (candidate : ℕ → Bool) → w.task s ≡ Scans old → old.at < w.indexes
       → old.held ≡ Some x → (w.index old.at).tuple x ≡ Some t → t.range ≡ old.range → Excludes t old.matches
       → ((b : ℕ) → ((range_of_block (index_view_at old.at w) b ≡ old.range) × (candidate b ≡ false)) ⊎
       ((range_of_block (index_view_at old.at w) b ≢ old.range) × (candidate b ≡ old.candidate b)))
@@ -335,7 +336,7 @@ module _ (s : ℕ) (w v : TableState) (kept : AreIndexesKept w) (i : ℕ) (below
       (others b)
 
   -- the index that the scan is at sees the place that it holds
-  place_here : (old : TableScan) (x : TuplePlace) → i ≡ old.at → old.held ≡ Some x → pick i old.at (held_at old.range old.held) None ≡ Some (old.range, x)
+  place_here : (old : TableScan) (x : Spot) → i ≡ old.at → old.held ≡ Some x → pick i old.at (held_at old.range old.held) None ≡ Some (old.range, x)
   place_here old x is held =
       subst (λ m. pick m old.at (held_at old.range old.held) None ≡ held_at old.range old.held) (sym is)
       (pick_same old.at (held_at old.range old.held) None) ∙ ap (held_at old.range) held

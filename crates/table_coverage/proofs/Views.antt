@@ -3,7 +3,7 @@ use Rattle.std.proofs.Common.{◌≡◌, ◌≢◌, ◌⊎◌, inl, inr, ⊎_eli
 use Rattle.std.specs.Prelude.{refl, IsTrue}
 use Rattle.std.proofs.lemmas.Bool.{cases_eq}
 use Rattle.block_model.specs.declared.row.Row.{Row}
-use Rattle.coverage.specs.IndexView.{TuplePlace}
+use Rattle.block_model.specs.declared.place.Spot.{Spot}
 use Rattle.coverage.specs.Changes.{SameHeap, SameMap, SameTuples, SameUnnamed, OwnLocks, TouchesRows, Frame}
 use Rattle.coverage.specs.Statements.{OnIndex, Empty, Phase, Statement, Idle, Inserting, Maintaining, Holding, Scanning}
 use Rattle.coverage.specs.Knowing.{LocksNone, Spares}
@@ -32,7 +32,7 @@ pick_both (suc i) zero a = refl
 pick_both (suc i) (suc j) a = pick_both i j a
 
 -- where a scan holds no place, no index sees one
-pub held_none : (i at range : ℕ) (held : Option TuplePlace) → held ≡ None → pick i at (held_at range held) None ≡ None
+pub held_none : (i at range : ℕ) (held : Option Spot) → held ≡ None → pick i at (held_at range held) None ≡ None
 held_none i at range held none = ap (λ h. pick i at (held_at range h) None) none ∙ pick_both i at None
 
 pub on_index_first : (i : ℕ) → on_index_by i zero Empty ≡ Some Empty

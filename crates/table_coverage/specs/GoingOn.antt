@@ -1,7 +1,8 @@
 -- What a table has so that its statements go on, and steps that a session takes alone.
 use Rattle.std.specs.Prelude.{◌≡◌, ℕ, suc, ◌<◌, false, Some}
 use Rattle.block_model.specs.declared.reply.Point.{Point}
-use Rattle.coverage.specs.IndexView.{TuplePlace, IndexTuple}
+use Rattle.block_model.specs.declared.place.Spot.{Spot}
+use Rattle.coverage.specs.IndexView.{IndexTuple}
 use Rattle.coverage.specs.Verdicts.{HasFreeSlots}
 use Rattle.coverage.specs.Statements.{HasNoMoreRows}
 use Rattle.coverage.specs.Steps.{Excludes}
@@ -17,7 +18,7 @@ pub record CanGoOn (w : TableState) : Type 0 where
 
 -- a tuple that doesn't keep the query of the session's scan includes none of its matches
 abbrev pub IsScanHonest : TableState → ℕ → Type 0
-IsScanHonest w s = (scan : TableScan) → w.task s ≡ Scans scan → (x : TuplePlace) (t : IndexTuple) → (w.index scan.at).tuple x ≡ Some t
+IsScanHonest w s = (scan : TableScan) → w.task s ≡ Scans scan → (x : Spot) (t : IndexTuple) → (w.index scan.at).tuple x ≡ Some t
     → scan.keeps scan.at t ≡ false → Excludes t scan.matches
 
 -- an insert has put its row, and isn't done

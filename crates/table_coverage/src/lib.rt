@@ -8,7 +8,7 @@
 ghost use Rattle.std.specs.Prelude.{◌≡◌, ◌≢◌, ◌⊎◌, ◌↔◌, ◌≤◌, ◌<◌, ℕ, suc, ◌+◌, ◌*◌, Bool, false, IsTrue, None, Some, List, [], ◌∷◌, ◌++◌, length};
 ghost use Rattle.block_model.specs.declared.reply.Point.{Point};
 ghost use Rattle.block_model.specs.declared.row.Row.{Row};
-ghost use Rattle.coverage.specs.IndexView.{TuplePlace, IndexTuple};
+ghost use Rattle.coverage.specs.IndexView.{IndexTuple};
 ghost use Rattle.coverage.specs.Steps.{Excludes};
 ghost use Rattle.table_coverage.specs.Table.{Job, EachRange, OneRange, WholeRanges, Desummarising, TableScan, Task, Resting, Inserts, Maintains, Prunes, Sweeps, Restarts, Scans, Marks, TableState, index_view_at};
 ghost use Rattle.table_coverage.specs.GoingOn.{CanGoOn, IsScanHonest, IsInserting, StepsAlone};
@@ -22,6 +22,7 @@ ghost use Rattle.table_coverage.specs.RangesMade.{GivesFinals, IsInHand, AreMade
 ghost use Rattle.table_coverage.specs.Refusals.{Heap, IndexNumber, LacksMemory, IsFull, does_refusal, MayLackMemory, IsTaskFull};
 ghost use Rattle.table_coverage.specs.RowOrder.{IsAmong};
 ghost use Rattle.block_model.specs.declared.row.RowId.{RowId};
+ghost use Rattle.block_model.specs.declared.place.Spot.{Spot};
 ghost use Rattle.table_coverage.specs.Machines.{ShownTable, Unseen, table_state, task_turned, IsFewer, MachineSteps, MachineEnds, MachineWaits, ScanReplies, ScanSteps, ChangesIndex, InsertStepsIn};
 ghost use Rattle.table_coverage.specs.Machines.{MaintainStepsIn};
 ghost use Rattle.coverage.specs.Statements.{OnIndex, Empty, Phase, NotBuilding, Inserting, Maintaining};
@@ -75,7 +76,7 @@ pub fn scans_are_exact()
     ensures read { (w : TableState) (scan : TableScan) (m n : ℕ) (f g : ℕ → ℕ → Bool) → ReadsPage w scan m f → ReadsPage w scan n g
         → (m ≡ n) × ((b k : ℕ) → f b k ≡ g b k) }
     ensures some_judged { (w : TableState) (scan : TableScan)
-        → ((x : TuplePlace) (t : IndexTuple) → (w.index scan.at).tuple x ≡ Some t → scan.keeps scan.at t ≡ false → Excludes t scan.matches)
+        → ((x : Spot) (t : IndexTuple) → (w.index scan.at).tuple x ≡ Some t → scan.keeps scan.at t ≡ false → Excludes t scan.matches)
         → (q : TableScan) × JudgeStep (index_view_at scan.at w) scan q }
     ensures some_read { (w : TableState) (scan : TableScan) (b : ℕ) → scan.explains ≡ false → scan.at ≡ w.indexes → IsTrue (scan.candidate b) → scan.read ≤ b
         → (next : ℕ) × (found : ℕ → ℕ → Bool) × ReadsPage w scan next found }
@@ -178,7 +179,7 @@ pub fn summarises_end()
 pub fn machines_keep()
     ensures steps { (s : ℕ) (old new : ShownTable) (before after : Task) (u : Unseen) → MachineSteps s old new before after → u.task s ≡ before
         → IsTableKept (table_state old u)
-        → (unnamed : ℕ → TuplePlace → Bool) × IsFewer u.unnamed unnamed × IsTableKept (table_state new (task_turned s after (record u { unnamed = unnamed }))) }
+        → (unnamed : ℕ → Spot → Bool) × IsFewer u.unnamed unnamed × IsTableKept (table_state new (task_turned s after (record u { unnamed = unnamed }))) }
     ensures ends { (s : ℕ) (old new : ShownTable) (before : Task) (u : Unseen) → MachineEnds s old new before → u.task s ≡ before
         → IsTableKept (table_state old u) → IsTableKept (table_state new (record (task_turned s Resting u) { summarise_lock = None })) }
     ensures replies { (s b k : ℕ) (old new : ShownTable) (before : Task) (scan : TableScan) (u : Unseen) → ScanReplies s old new before scan
@@ -234,7 +235,7 @@ pub fn nothing_is_skipped()
 pub fn a_vacuum_ends()
     ensures { (r : Row) → (w : TableState) × (v : TableState) × (steps : List ℕ) × IsTableKept w × TableRun steps w v × (w.indexes ≡ 2)
         × (w.row 0 0 ≡ Some r) × (v.row 0 0 ≡ None)
-        × ((x : TuplePlace) × ((i : ℕ) → i < 2 → ((w.index i).tuple x ≢ None) × ((v.index i).tuple x ≡ None)))
+        × ((x : Spot) × ((i : ℕ) → i < 2 → ((w.index i).tuple x ≢ None) × ((v.index i).tuple x ≡ None)))
         × (v.task 0 ≡ Resting) × (v.summarise_lock ≡ None) }
 {}
 
