@@ -71,10 +71,10 @@ module _ (s range : ℕ) (w v : IndexState) (before : IsIndexKept w) (after : Is
   -- a tuple that goes was named by no entry
   drops_none : (x : Spot) → DropsTuple s (index_view w) (index_view v) x → GetsFinal → ⊥
   drops_none x drops gets = ⊎_elim
-      (λ (is : gets.0.1.0 ≡ x). none-some _ (sym drops.now ∙ sym (ap v.tuple is) ∙ gets.0.1.2))
+      (λ (is : gets.0.1.0 ≡ x). none-some _ (sym drops.tuple.now ∙ sym (ap v.tuple is) ∙ gets.0.1.2))
       (λ (same : v.tuple gets.0.1.0 ≡ w.tuple gets.0.1.0).
       gets.1 (gets.0.0, (gets.0.1.0, sym (drops.frame.map.entry range) ∙ gets.0.1.1, sym same ∙ gets.0.1.2), gets.0.2))
-      (drops.others gets.0.1.0)
+      (drops.tuple.others gets.0.1.0)
 
   phase_known : (u : IndexState) → IsIndexKept u → (phase : Phase) → u.statement s ≡ Maintaining range phase → KnowsPhase (index_view u) s range phase
       × KnowsPagesOfPhase (index_view u) s range phase
@@ -122,7 +122,7 @@ module _ (s range : ℕ) (w v : IndexState) (before : IsIndexKept w) (after : Is
       ((λ one. ((new, (x, swap.frame.map.entry range ∙ named, swap.tuple.now), united_final p old new known.3), was_none _ was refl)), λ gets. refl)
   summarise_exact _ _ (SetFinal p x y old new sets same) was now =
       let known = (phase_known w before (IsAt p (Moving x y old new)) was).0.0 in
-      ((λ one. ((new, (y, sets.now, sets.frame.tuples.tuple y ∙ known.4), united_final p old new known.6), was_none _ was refl)), λ gets. refl)
+      ((λ one. ((new, (y, sets.entry.now, sets.frame.tuples.tuple y ∙ known.4), united_final p old new known.6), was_none _ was refl)), λ gets. refl)
   summarise_exact _ _ (DropOld x drops) was now = no_final 0 refl (drops_none x drops)
 
 module _ (s range : ℕ) (w v : IndexState) where

@@ -137,7 +137,7 @@ module _ (s range : ℕ) (w v : IndexState) (kept : IsIndexKept w) where
         result,
         (x, own.2, own.3),
         all_passed extent next result is.0 own.6.0 known.0.1 known.1.2 is.1,
-        (y, sets.now, sets.frame.tuples.tuple y ∙ own.4 ∙ ap Some is.2),
+        (y, sets.entry.now, sets.frame.tuples.tuple y ∙ own.4 ∙ ap Some is.2),
       )
 
   pub exact_final : (old : Phase) (e : Statement) (step : SummariseStep s range view (index_view v) old e) → w.statement s ≡ Maintaining range old

@@ -23,10 +23,10 @@ module _ (s : ℕ) (w v : IndexView) (m : ℕ) where
 
   drops_final : (x : Spot) → DropsTuple s w v x → NamesFinal v m → NamesFinal w m
   drops_final x drops final = ⊎_elim
-      (λ (is : final.1.0 ≡ x). absurd (none-some _ (sym drops.now ∙ sym (ap v.tuple is) ∙ final.1.2)))
+      (λ (is : final.1.0 ≡ x). absurd (none-some _ (sym drops.tuple.now ∙ sym (ap v.tuple is) ∙ final.1.2)))
       (λ (same : v.tuple final.1.0 ≡ w.tuple final.1.0).
       (final.0, (final.1.0, sym (drops.frame.map.entry m) ∙ final.1.1, sym same ∙ final.1.2), final.2))
-      (drops.others final.1.0)
+      (drops.tuple.others final.1.0)
 
   puts_final : AreNamed w → (y : Spot) (t : IndexTuple) → PutsTuple s w v y t → NamesFinal v m → NamesFinal w m
   puts_final named y t puts final =
@@ -61,14 +61,14 @@ module _ (s : ℕ) (w v : IndexView) (m : ℕ) where
       (λ (is : m ≡ range). absurd (other is))
       (λ (same : v.entry m ≡ w.entry m).
       (final.0, (final.1.0, sym same ∙ final.1.1, sym (sets.frame.tuples.tuple final.1.0) ∙ final.1.2), final.2))
-      (sets.others m)
+      (sets.entry.others m)
 
   -- a tuple that moves for the map stays as it is
   moves_final : (n : ℕ) (x y : Spot) (t u : IndexTuple) → w.entry n ≡ Some x → w.tuple x ≡ Some t → w.tuple y ≡ Some u → u ≡ t → SetsEntry s w v n y
       → NamesFinal v m → NamesFinal w m
   moves_final n x y t u entry there put same sets final = ⊎_elim
       (λ (is : m ≡ n).
-      let place : final.1.0 ≡ y = same_Some _ _ (sym final.1.1 ∙ ap v.entry is ∙ sets.now) in
+      let place : final.1.0 ≡ y = same_Some _ _ (sym final.1.1 ∙ ap v.entry is ∙ sets.entry.now) in
       let one : final.0 ≡ t = same_Some _ _ (sym final.1.2 ∙ ap v.tuple place ∙ sets.frame.tuples.tuple y ∙ put) ∙ same in
       (t, (x, ap w.entry is ∙ entry, there), sym (ap (λ (z : IndexTuple). z.placeholder) one) ∙ final.2))
       (λ (other : m ≢ n). sets_final n other y sets final)

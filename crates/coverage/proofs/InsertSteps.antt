@@ -149,7 +149,7 @@ module _ (s b k : ℕ) (r : Row) (w v : IndexState) (sound : IsSound (index_view
       sets.frame.summarise_lock
       (set_knows s w v (Inserting b k r (Moving x y old new)) (Inserting b k r (Dropping x)) turned sound (range_of_block (index_view w) b)
       (IsAdded r) makes_added (IsAdded r) (range_of_block (index_view w) b) x y old new known.2 sets locked)
-      (includes_settles y new (at_range 0 sets.frame.heap.pages_per_range y sets.now) (sets.frame.tuples.tuple y ∙ known.2.4) known.2.6.row)
+      (includes_settles y new (at_range 0 sets.frame.heap.pages_per_range y sets.entry.now) (sets.frame.tuples.tuple y ∙ known.2.4) known.2.6.row)
   insert_outcome _ _ (InsertDrop x drops) turned known =
       let both = drop_both s w v (Inserting b k r (Dropping x)) Idle turned sound x known.2.0 known.2.1 known.2.2 refl refl refl drops in
       ends (Dropping x) Idle turned known.0 known.1 known.2 refl both drops.frame.summarise_lock drops.none (both.1.settled b k r known.0 known.3)

@@ -139,7 +139,7 @@ module _ (s range : ℕ) (w v : IndexState) (sound : IsSound (index_view w)) (su
   set x turned sets none known =
       let t = known.1.1 in
       let kind : Names s (index_view w) (index_view v) range x t.0 = record {
-        entry = record { was = known.0; now = sets.now; others = sets.others };
+        entry = record { was = known.0; now = sets.entry.now; others = sets.entry.others };
         loose = loose_turns s w v (Maintaining range (Placing x)) (Maintaining range (IsAt ExtentUnread Empty)) turned (Some x) None refl refl;
         there = t.1;
         of = t.2;
@@ -238,7 +238,7 @@ module _ (s range : ℕ) (w v : IndexState) (sound : IsSound (index_view w)) (su
             ⊎_elim
                 (λ (at : range ≡ m). absurd (none-some _ (sym known.0 ∙ ap w.entry at ∙ known.1.2)))
                 (λ (kept : v.entry range ≡ w.entry range). kept ∙ known.0)
-                (sets.others range),
+                (sets.entry.others range),
             set_knows s w v (Maintaining range (Evacuating m (Moving x y t u))) (Maintaining range (Evacuating m (Dropping x))) turned sound m MakesSame
                 (makes_same (index_view w) s m) MakesSame m x y t u known.1 sets locked,
             range_kept sets.frame.contents sets.frame.heap known.2,

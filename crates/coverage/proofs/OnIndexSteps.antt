@@ -96,7 +96,7 @@ module _ (s : ℕ) (w v : IndexState) (d e : Statement) (turned : Turned s w v d
         → Both s (index_view w) (index_view v)
     drop_both x locked unnamed stands was now work drops =
         let kind : DropsLoose s (index_view w) (index_view v) x stands.0 = record {
-          tuple = record { was = stands.1; now = drops.now; others = drops.others };
+          tuple = record { was = stands.1; now = drops.tuple.now; others = drops.tuple.others };
           loose = loose_turns (Some x) None was now;
           unnamed = unnamed;
           free = λ n is. same_Some _ _ (sym is ∙ locked);
@@ -139,7 +139,7 @@ module _ (s : ℕ) (w v : IndexState) (d e : Statement) (turned : Turned s w v d
       set_both x y old new known was now ends sets locked =
           let made = makes old new known.6 in
           let kind : MoveSets s (index_view w) (index_view v) range x y old new = record {
-            entry = record { was = known.2; now = sets.now; others = sets.others };
+            entry = record { was = known.2; now = sets.entry.now; others = sets.entry.others };
             loose = loose_turns (Some y) (Some x) was now;
             free = λ n is. same_Some _ _ (sym is ∙ known.0);
             before = known.3;
@@ -159,13 +159,13 @@ module _ (s : ℕ) (w v : IndexState) (d e : Statement) (turned : Turned s w v d
       pub set_unnamed : (x y : Spot) (old new : IndexTuple) → KnowsOnIndex (index_view w) s range Makes (Moving x y old new)
           → SetsEntry s (index_view w) (index_view v) range y → (m : ℕ) → v.entry m ≢ Some x
       set_unnamed x y old new known sets m is = ⊎_elim
-          (λ (at : m ≡ range). known.7 (same_Some _ _ (sym is ∙ ap v.entry at ∙ sets.now)))
+          (λ (at : m ≡ range). known.7 (same_Some _ _ (sym is ∙ ap v.entry at ∙ sets.entry.now)))
           (λ (kept : v.entry m ≡ w.entry m).
           let named : w.entry m ≡ Some x = sym kept ∙ is in
           let t = sound.entries_name_tuples m x named in
           let of : m ≡ range = sym t.2 ∙ ap (λ (u : IndexTuple). u.range) (same_Some _ _ (sym t.1 ∙ known.3)) ∙ known.5 in
-          known.7 (same_Some _ _ (sym is ∙ ap v.entry of ∙ sets.now)))
-          (sets.others m)
+          known.7 (same_Some _ _ (sym is ∙ ap v.entry of ∙ sets.entry.now)))
+          (sets.entry.others m)
 
       pub set_knows : (After : IndexTuple → IndexTuple → Type 0) (n : ℕ) (x y : Spot) (old new : IndexTuple)
           → KnowsOnIndex (index_view w) s range Makes (Moving x y old new) → SetsEntry s (index_view w) (index_view v) range y → v.lock x.block ≡ Some s

@@ -129,20 +129,20 @@ quiet_set s w v range x y old new named before after same sets = record {
   vacant = λ m none. ⊎_elim
       (λ (at : m ≡ range). absurd (none-some _ (sym none ∙ ap w.entry at ∙ named)))
       (λ (e : v.entry m ≡ w.entry m). e ∙ none)
-      (sets.others m);
+      (sets.entry.others m);
   still = λ m z is. ⊎_elim
-      (λ (at : m ≡ range). (y, ap v.entry at ∙ sets.now))
+      (λ (at : m ≡ range). (y, ap v.entry at ∙ sets.entry.now))
       (λ (e : v.entry m ≡ w.entry m). (z, e ∙ is))
-      (sets.others m);
+      (sets.entry.others m);
   sorts = λ m z has t there in_m.
       let h = has t (sym (sets.frame.tuples.tuple z) ∙ there) in_m in
       ⊎_elim
       (λ (at : m ≡ range).
       let place : h.0 ≡ x = same_Some _ _ (sym h.2 ∙ ap w.entry at ∙ named) in
       let is : h.1 ≡ old = same_Some _ _ (sym h.3 ∙ ap w.tuple place ∙ before) in
-      (y, new, ap v.entry at ∙ sets.now, sets.frame.tuples.tuple y ∙ after, same ∙ ap (λ (q : IndexTuple). q.placeholder) (sym is) ∙ h.4))
+      (y, new, ap v.entry at ∙ sets.entry.now, sets.frame.tuples.tuple y ∙ after, same ∙ ap (λ (q : IndexTuple). q.placeholder) (sym is) ∙ h.4))
       (λ (e : v.entry m ≡ w.entry m). (h.0, h.1, e ∙ h.2, sets.frame.tuples.tuple h.0 ∙ h.3, h.4))
-      (sets.others m);
+      (sets.entry.others m);
 }
 
 -- a tuple that the map doesn't name goes

@@ -84,7 +84,7 @@ module _ (s : ℕ) (w v : IndexView) (ordered : AreOrdered w) where
       (λ m z named. ⊎_elim
       (λ (at : m ≡ range). subst (λ n. map_page_of n ≤ w.pages.map_pages) (sym at) within)
       (λ (e : v.entry m ≡ w.entry m). ordered.entries m z (sym e ∙ named))
-      (sets.others m))
+      (sets.entry.others m))
 
   clear_ordered : (range : ℕ) (x : Spot) → ClearsEntry s w v range x → AreOrdered v
   clear_ordered range x clears =
@@ -99,9 +99,9 @@ module _ (s : ℕ) (w v : IndexView) (ordered : AreOrdered w) where
   drop_ordered x drops =
       order_same w v ordered (turned_same w v x.block (w.pages.kind x.block) drops.page refl) drops.page.map_pages drops.page.limit
       (λ z t here. ⊎_elim
-      (λ (at : z ≡ x). absurd (none-some _ (sym drops.now ∙ ap v.tuple (sym at) ∙ here)))
+      (λ (at : z ≡ x). absurd (none-some _ (sym drops.tuple.now ∙ ap v.tuple (sym at) ∙ here)))
       (λ (e : v.tuple z ≡ w.tuple z). ordered.tuples z t (sym e ∙ here))
-      (drops.others z))
+      (drops.tuple.others z))
       (entries_same w v ordered drops.frame.map)
 
   drop_on : (x : Spot) → DropsTuple s w v x → (w.summarise_lock ≡ Some s) ⊎ Quiet w v → PagesGoOn s w v
@@ -174,7 +174,7 @@ module _ (s b k : ℕ) (r : Row) (w v : IndexView) (sound : IsSound w) (ordered 
   }
   insert_after _ _ (InsertDrop x drops) known locks = record {
     ordered = drop_ordered s w v ordered x drops;
-    on = drop_on s w v ordered x drops (inr (quiet_drop w v x known.1 drops.now drops.others drops.frame.map drops.page.map_pages));
+    on = drop_on s w v ordered x drops (inr (quiet_drop w v x known.1 drops.tuple.now drops.tuple.others drops.frame.map drops.page.map_pages));
     knows = tt;
   }
 
@@ -349,7 +349,7 @@ module _ (s range : ℕ) (w v : IndexView) (ordered : AreOrdered w) (held : w.su
   summarise_after _ _ (Set x sets none) known pages = record {
     ordered = set_ordered s w v ordered range x sets (long_enough pages.0);
     on = goes_on s w v sets.frame.heap sets.frame.locks (same_kinds s w v sets.pages) (inl held);
-    knows = (tt, (x, known.1.1.0, sets.now, sets.frame.tuples.tuple x ∙ known.1.1.1, known.1.1.3), tt, tt);
+    knows = (tt, (x, known.1.1.0, sets.entry.now, sets.frame.tuples.tuple x ∙ known.1.1.1, known.1.1.3), tt, tt);
   }
   summarise_after _ _ (Extent extent result start is reads) known pages =
       read_after s w v ordered (Maintaining range (IsAt (Passing extent (range * w.pages_per_range) result) Empty)) reads (

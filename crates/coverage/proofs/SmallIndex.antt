@@ -273,16 +273,14 @@ module _ (row : ℕ → ℕ → Option Row) (w : Small) where
   pub sets : (range : ℕ) (y : Spot) (these : List ℕ) (e : Statement)
       → SetsEntry 0 (view row w) (view row (at_statement e (set_at range y these w))) range y
   sets range y these e = record {
-    now = at_here range (Some y) (w.entry range);
-    others = λ m. at_other m range (Some y) (w.entry m);
+    entry = record { now = at_here range (Some y) (w.entry range); others = λ m. at_other m range (Some y) (w.entry m) };
     pages = refl;
     frame = entries_frame row w (at_statement e (set_at range y these w)) (λ x. refl) refl;
   }
 
   pub drops : (x : Spot) (e : Statement) → DropsTuple 0 (view row w) (view row (at_statement e (drop_at x w))) x
   drops x e = record {
-    now = placed_here x None w.tuple;
-    others = placed_others x None w.tuple;
+    tuple = record { now = placed_here x None w.tuple; others = placed_others x None w.tuple };
     page = record { now = refl; kinds = λ p. inr refl; rooms = λ p. inr refl; places = λ y. inr refl; map_pages = refl; limit = refl };
     frame = tuples_frame row w (at_statement e (drop_at x w)) (λ m. refl) refl;
     none = nobody [] refl;

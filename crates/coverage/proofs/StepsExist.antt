@@ -234,8 +234,7 @@ module _ (s b k : ℕ) (r : Row) (w : IndexView) where
   moving_steps x y old new stuck =
       stuck (Inserting b k r (Dropping x)) (record w { entry = number_with w.entry (range_of_block w b) (Some y) }) (InsertSet x y old new
       (record {
-        now = number_here w.entry (range_of_block w b) (Some y);
-        others = number_there w.entry (range_of_block w b) (Some y);
+        entry = record { now = number_here w.entry (range_of_block w b) (Some y); others = number_there w.entry (range_of_block w b) (Some y) };
         pages = refl;
         frame = search rules;
       })

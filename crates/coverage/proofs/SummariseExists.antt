@@ -264,8 +264,7 @@ module _ (s range : ℕ) (w : IndexView) (slots : HasFreeSlots w.tuple) (blocks 
       (record w { entry = number_with w.entry range (Some x); lock = locks_after w s [] (free_none s w) })
       (Set x
       (record {
-        now = number_here w.entry range (Some x);
-        others = number_there w.entry range (Some x);
+        entry = record { now = number_here w.entry range (Some x); others = number_there w.entry range (Some x) };
         pages = refl;
         frame = search (rules, after_others, after_taken);
       })
@@ -275,14 +274,14 @@ module _ (s range : ℕ) (w : IndexView) (slots : HasFreeSlots w.tuple) (blocks 
   evacuates_set m x y t u stuck =
       stuck (Maintaining range (Evacuating m (Dropping x))) (set_view m y)
       (GrowMap (Evacuating m (Moving x y t u)) (Evacuating m (Dropping x)) (EvacuateSet m x y t u
-      (record { now = number_here w.entry m (Some y); others = number_there w.entry m (Some y); pages = refl; frame = search rules })
+      (record { entry = record { now = number_here w.entry m (Some y); others = number_there w.entry m (Some y) }; pages = refl; frame = search rules })
       (record { lock = λ p. refl })))
 
   sets_final : (p : Progress) (x y : Spot) (old new : IndexTuple) → IsSummariseStuck w s range (IsAt p (Moving x y old new)) → ⊥
   sets_final p x y old new stuck =
       stuck (Maintaining range (NotBuilding (Dropping x))) (set_view range y)
       (SetFinal p x y old new
-      (record { now = number_here w.entry range (Some y); others = number_there w.entry range (Some y); pages = refl; frame = search rules })
+      (record { entry = record { now = number_here w.entry range (Some y); others = number_there w.entry range (Some y) }; pages = refl; frame = search rules })
       (record { lock = λ p. refl }))
 
   -- a block is passed, or the placeholder is read again

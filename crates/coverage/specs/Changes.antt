@@ -10,6 +10,11 @@ pub record ChangesAt {X A : Type 0} (f g : X → Option A) (x : X) (old new : Op
   pub now : g x ≡ new
   pub others : (y : X) → (y ≡ x) ⊎ (g y ≡ f y)
 
+-- at one place there is this now, and elsewhere what there was
+pub record BecomesAt {X A : Type 0} (f g : X → Option A) (x : X) (new : Option A) : Type 0 where
+  pub now : g x ≡ new
+  pub others : (y : X) → (y ≡ x) ⊎ (g y ≡ f y)
+
 pub record SameHeap (w v : IndexView) : Type 0 where
   pub pages_per_range : v.pages_per_range ≡ w.pages_per_range
   pub blocks : v.blocks ≡ w.blocks

@@ -4,7 +4,7 @@ use Rattle.block_model.specs.declared.row.Row.{Row}
 use Rattle.block_model.specs.declared.place.Spot.{Spot}
 use Rattle.coverage.specs.IndexView.{IndexTuple, Progress, ExtentUnread, Passing, PageKind, Unstarted, Mapping, Regular, Emptying, Pages, IndexView, placeholder_length}
 use Rattle.coverage.specs.IndexView.{range_of_block, map_page_of, next_map_page, IsPastMap, IsRangeOf}
-use Rattle.coverage.specs.Changes.{ChangesAt, SameHeap, SameMap, SameTuples, SameUnnamed, TouchesNothing, TouchesRows, TouchesEntries, TouchesTuples}
+use Rattle.coverage.specs.Changes.{ChangesAt, BecomesAt, SameHeap, SameMap, SameTuples, SameUnnamed, TouchesNothing, TouchesRows, TouchesEntries, TouchesTuples}
 use Rattle.coverage.specs.Changes.{TouchesUnnamed, TouchesSummariseLock, Frame, RowComes, RowsGo, IsFree, IsUntouched}
 use Rattle.coverage.specs.Verdicts.{IsLocked, IsLowestNumber, IsPageUnstarted, Differs, Fits, Puts, PutVerdict, SwapVerdict, ClearVerdict}
 use Rattle.coverage.specs.Waiting.{Grows, IsNextTuple, IsPhaseFull, IsInsertEnded}
@@ -45,8 +45,7 @@ pub record ReplacesTuple (s : ℕ) (w v : IndexView) (x : Spot) (old new : Index
 
 -- the range's entry becomes this place
 pub record SetsEntry (s : ℕ) (w v : IndexView) (range : ℕ) (x : Spot) : Type 0 where
-  pub now : v.entry range ≡ Some x
-  pub others : (m : ℕ) → (m ≡ range) ⊎ (v.entry m ≡ w.entry m)
+  pub entry : BecomesAt w.entry v.entry range (Some x)
   pub pages : v.pages ≡ w.pages
   pub frame : Frame s TouchesEntries w v
 
@@ -62,8 +61,7 @@ pub record ClearsEntry (s : ℕ) (w v : IndexView) (range : ℕ) (x : Spot) : Ty
 
 -- the tuple at the place goes, and the session gives its locks
 pub record DropsTuple (s : ℕ) (w v : IndexView) (x : Spot) : Type 0 where
-  pub now : v.tuple x ≡ None
-  pub others : (y : Spot) → (y ≡ x) ⊎ (v.tuple y ≡ w.tuple y)
+  pub tuple : BecomesAt w.tuple v.tuple x None
   pub page : TurnsPage w.pages v.pages x.block (w.pages.kind x.block)
   pub frame : Frame s TouchesTuples w v
   pub none : LocksNone v.lock s

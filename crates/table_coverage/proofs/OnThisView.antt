@@ -110,7 +110,7 @@ module _ (s : ℕ) (w v : IndexView) (building : ℕ → Option Building) (loose
   }
 
   sets_on : (range : ℕ) (x : Spot) → SetsEntry s w v range x → SetsEntry s w u range x
-  sets_on range x sets = record { now = sets.now; others = sets.others; pages = sets.pages; frame = frame_on TouchesEntries sets.frame }
+  sets_on range x sets = record { entry = sets.entry; pages = sets.pages; frame = frame_on TouchesEntries sets.frame }
 
   same_on : SameLocks w.lock v.lock → SameLocks w.lock u.lock
   same_on same = record { lock = same.lock }
@@ -120,8 +120,7 @@ module _ (s : ℕ) (w v : IndexView) (building : ℕ → Option Building) (loose
 
   drops_on : (x : Spot) → DropsTuple s w v x → DropsTuple s w u x
   drops_on x drops = record {
-    now = drops.now;
-    others = drops.others;
+    tuple = drops.tuple;
     page = page_on _ _ drops.page;
     frame = frame_on TouchesTuples drops.frame;
     none = drops.none;

@@ -199,8 +199,8 @@ module _ (s range per most later tail : ℕ) (w v : IndexView) where
   -- after a drop one tuple fewer stands
   drop_taken : (x : Spot) → DropsTuple s w v x → (z : Spot) → IsTaken v z → IsTaken w z × (z ≢ x)
   drop_taken x drops z taken = (
-    (λ none. ⊎_elim (λ (here : z ≡ x). taken (ap v.tuple here ∙ drops.now)) (λ (same : v.tuple z ≡ w.tuple z). taken (same ∙ none)) (drops.others z)),
-    λ here. taken (ap v.tuple here ∙ drops.now),
+    (λ none. ⊎_elim (λ (here : z ≡ x). taken (ap v.tuple here ∙ drops.tuple.now)) (λ (same : v.tuple z ≡ w.tuple z). taken (same ∙ none)) (drops.tuple.others z)),
+    λ here. taken (ap v.tuple here ∙ drops.tuple.now),
   )
 
   drops_on : (g tuples : ℕ) (unput : Bool) (x : Spot) → DropsTuple s w v x → IsTaken w x → Base w per most later g tuples true unput
