@@ -12,6 +12,7 @@ pub mod ScanHasStep
 pub mod VacuumGoesOn
 pub mod MachinesKeep
 pub mod MachinesIn
+pub mod OneIndexSteps
 pub mod TableEntries
 pub mod TableOnePoint
 pub mod RangesExact

@@ -5,19 +5,20 @@
 //! of each of its steps which one of specs/TableSteps it is, and has coverage and the completeness of scans from here.
 #![tactic(auto)]
 
-ghost use Rattle.std.specs.Prelude.{◌≡◌, ◌≢◌, ◌⊎◌, ◌↔◌, ◌≤◌, ◌<◌, ℕ, suc, ◌+◌, ◌*◌, Bool, false, IsTrue, None, Some, List, [], ◌∷◌, ◌++◌, length};
+ghost use Rattle.std.specs.Prelude.{◌≡◌, ◌≢◌, ◌⊎◌, ◌↔◌, ◌≤◌, ◌<◌, ℕ, suc, ◌+◌, ◌*◌, max, Bool, false, IsTrue, Option, None, Some, List, [], ◌∷◌, ◌++◌, length};
 ghost use Rattle.block_model.specs.declared.reply.Point.{Point};
+ghost use Rattle.block_model.specs.declared.reply.Point.TheVariants as points;
 ghost use Rattle.block_model.specs.declared.row.Row.{Row};
 ghost use Rattle.coverage.specs.IndexView.{IndexTuple};
 ghost use Rattle.coverage.specs.Steps.{Excludes};
-ghost use Rattle.table_coverage.specs.Table.{Job, EachRange, OneRange, WholeRanges, Desummarising, TableScan, Task, Resting, Inserts, Maintains, Prunes, Sweeps, Restarts, Scans, Marks, TableState, index_view_at};
+ghost use Rattle.table_coverage.specs.Table.{Job, EachRange, OneRange, WholeRanges, Desummarising, TableScan, Task, Resting, Reaches, Inserts, Considers, Maintains, Prunes, SweepsFrom, Sweeps, Restarts, Scans, Marks, TableState, index_view_at};
 ghost use Rattle.table_coverage.specs.GoingOn.{CanGoOn, IsScanHonest, IsInserting, StepsAlone};
 ghost use Rattle.table_coverage.specs.StepsLeft.{scan_steps, HasAtMostToMark, desummarise_steps, IsCleaning, cleaning_steps, HasAtMostTuples, IsSummarise, summarise_steps, vacuum_steps};
-ghost use Rattle.table_coverage.specs.TableSteps.{range_in, AsksFor, HasRange, OnlyTurns, JudgeStep, ReadsPage, IsBlocked, Does, HasStep, Onward, IsMaintained, TableStep, TableRun, IsFirstPlace, IsHeapFull};
+ghost use Rattle.table_coverage.specs.TableSteps.{range_in, AsksFor, HasRange, OnlyTurns, JudgeStep, ReadsPage, IsBlocked, Does, HasStep, Onward, IsMaintained, Settles, TableStep, TableRun, IsFirstPlace, IsHeapFull};
 ghost use Rattle.coverage.specs.Changes.{IsFree};
 ghost use Rattle.table_coverage.specs.NextTasks.{AtFirst, AfterRange, AfterBlock, AfterPage, AfterRestart};
 ghost use Rattle.table_coverage.specs.TablePoints.{does_point, waits_for, IsHeldBy, IsTableStuck};
-ghost use Rattle.table_coverage.specs.Accounts.{Asked, Accounts, AccountsStep, AccountsRun, AccountsNext, queue_limit};
+ghost use Rattle.table_coverage.specs.Accounts.{Asked, no_account, Accounts, AccountsStep, AccountsRun, AccountsNext, queue_limit};
 ghost use Rattle.table_coverage.specs.RangesMade.{GivesFinals, IsInHand, AreMadeFinal};
 ghost use Rattle.table_coverage.specs.Refusals.{Heap, IndexNumber, LacksMemory, IsFull, does_refusal, MayLackMemory, IsTaskFull};
 ghost use Rattle.table_coverage.specs.RowOrder.{IsAmong};
@@ -25,7 +26,10 @@ ghost use Rattle.block_model.specs.declared.row.RowId.{RowId};
 ghost use Rattle.block_model.specs.declared.place.Spot.{Spot};
 ghost use Rattle.table_coverage.specs.Machines.{ShownTable, Unseen, table_state, task_turned, IsFewer, MachineSteps, MachineEnds, MachineWaits, ScanReplies, ScanSteps, ChangesIndex, InsertStepsIn};
 ghost use Rattle.table_coverage.specs.Machines.{MaintainStepsIn};
-ghost use Rattle.coverage.specs.Statements.{OnIndex, Empty, Phase, NotBuilding, Inserting, Maintaining};
+ghost use Rattle.coverage.specs.Statements.{OnIndex, Empty, Phase, NotBuilding, Idle, Inserting, Maintaining, Holding};
+ghost use Rattle.coverage.specs.IndexPart.{IndexPart, InsertMakes, SweepMakes};
+ghost use Rattle.coverage.specs.Counts.{AreTuplesGone};
+ghost use Rattle.table_coverage.specs.InOneIndex.{index_with, with_index, with_rows, RowComesTo, JobMakes, with_ranges, with_unnamed, DoesAt};
 ghost use Rattle.coverage.specs.Knowing.{Knows};
 ghost use Rattle.coverage.specs.PageOrder.{KnowsPages};
 ghost use Rattle.table_coverage.specs.TableCovered.{IsTableCovered, IsTableKept, IsTableAtRest, IsNewTable, TableStops, IsGiven, IsUnjudged};
@@ -204,6 +208,40 @@ pub fn machines_in_one_index()
     ensures maintain_knows { (s : ℕ) (job : Job) (at range : ℕ) (w : TableState) (phase : Phase) → IsTableKept w → at < w.indexes
         → w.task s ≡ Maintains job at range phase
         → Knows (index_view_at at w) s (Maintaining range phase) × KnowsPages (index_view_at at w) s (Maintaining range phase) }
+{}
+
+/// A step in one index, whatever the sessions have in hand after it, is what its statement does in the table, with the other indexes and
+/// the heap as they were: an insert goes on in the index, or is done with it; maintenance goes on at its range, or is done with it; a vacuum
+/// sweeps a page. It is printed under the step's point, and adds to the account what the step counts. Where the statement has a step then, it
+/// stays at that.
+pub fn a_table_steps_with_its_index()
+    ensures here { (at s : ℕ) (p : IndexPart) (task : Task) (w : TableState) → (with_index at p s task w).index at ≡ index_with p (w.index at) }
+    ensures others { (at s i : ℕ) (p : IndexPart) (task : Task) (w : TableState) → i ≢ at → (with_index at p s task w).index i ≡ w.index i }
+    ensures turned { (at s : ℕ) (p : IndexPart) (task : Task) (w : TableState) → (with_index at p s task w).task s ≡ task }
+    ensures other_tasks { (at s n : ℕ) (p : IndexPart) (task : Task) (w : TableState) → n ≢ s → (with_index at p s task w).task n ≡ w.task n }
+    ensures insert_goes { (s b k : ℕ) (r : Row) (at : ℕ) (w : TableState) (p : IndexPart) (old new : OnIndex) (point : Point) → at < w.indexes
+        → w.task s ≡ Inserts b k r at old → InsertMakes s b k r (index_view_at at w) p old (Inserting b k r new) point
+        → DoesAt s w (with_index at p s (Inserts b k r at new) w) point (λ account. account) }
+    ensures insert_completes { (s b k : ℕ) (r : Row) (at : ℕ) (w : TableState) (p : IndexPart) (old : OnIndex) (point : Point) → at < w.indexes
+        → w.task s ≡ Inserts b k r at old → InsertMakes s b k r (index_view_at at w) p old Idle point
+        → DoesAt s w (with_index at p s (Reaches b k r (suc at)) w) point (λ account. account) }
+    ensures maintain_goes { (s : ℕ) (job : Job) (at range : ℕ) (w : TableState) (p : IndexPart) (old new : Phase) (point : Point) (count : ℕ) → at < w.indexes
+        → w.task s ≡ Maintains job at range old → JobMakes job s range (index_view_at at w) p old (Maintaining range new) point count
+        → DoesAt s w (with_index at p s (Maintains job at range new) w) point (with_ranges count) }
+    ensures maintain_completes { (s : ℕ) (job : Job) (at range : ℕ) (w : TableState) (p : IndexPart) (old : Phase) (point : Point) (count : ℕ) → at < w.indexes
+        → w.task s ≡ Maintains job at range old → JobMakes job s range (index_view_at at w) p old Holding point count
+        → DoesAt s w (with_index at p s (Considers job at (suc range)) w) point (with_ranges count) }
+    ensures sweeps { (s at page : ℕ) (w : TableState) (p : IndexPart) (count : ℕ) → at < w.indexes → w.task s ≡ Sweeps at page
+        → SweepMakes s page (index_view_at at w) p → AreTuplesGone (w.index at).tuple p.tuple page count
+        → DoesAt s w (with_index at p s (SweepsFrom at (suc page)) w) points.Sweep (with_unnamed count) }
+    ensures stays { (s : ℕ) (w : TableState) → HasStep w (w.task s) → Settles s w w }
+{}
+
+/// A row put at the heap's first free place begins its insert: the heap has it beside its other rows, the statement is before the first index, and
+/// its account is empty.
+pub fn a_row_begins_its_insert()
+    ensures { (s b k : ℕ) (r : Row) (w : TableState) (row : ℕ → ℕ → Option Row) → w.task s ≡ Resting → IsFirstPlace w b k → RowComesTo w.row row b k r
+        → DoesAt s w (with_rows row (max w.blocks (b + 1)) s (Reaches b k r 0) w) points.Row (λ account. no_account) }
 {}
 
 /// A vacuum summarises the ranges all of whose blocks lie below the extent, a summarise of the table those with a block below it; and an
