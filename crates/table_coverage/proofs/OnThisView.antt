@@ -7,28 +7,16 @@ use Rattle.coverage.specs.IndexView.{IndexTuple, Building, PageKind, IndexView, 
 use Rattle.coverage.specs.Changes.{Touched, TouchesNothing, TouchesRows, TouchesEntries, TouchesTuples}
 use Rattle.coverage.specs.Changes.{TouchesUnnamed, TouchesSummariseLock, KeepsHeap, KeepsMap, KeepsTuples, KeepsUnnamed, KeepsSummariseLock, Frame}
 use Rattle.coverage.specs.Statements.{OnIndex, Phase, Statement}
-use Rattle.coverage.specs.Knowing.{LocksThese}
-use Rattle.coverage.specs.Steps.{ReadsIndex, TurnsPage, PutsTuple, ReplacesTuple, SetsEntry, SameLocks, ClearsEntry, DropsTuple, SweepsTuples, TurnsKind, CountsPage}
+use Rattle.coverage.specs.IndexPart.{part_of, with_part}
+use Rattle.coverage.specs.Steps.{ReadsIndex, PutsTuple, ReplacesTuple, SetsEntry, ClearsEntry, DropsTuple, SweepsTuples, TurnsKind, CountsPage}
 use Rattle.coverage.specs.Steps.{OnIndexStep, Maps, Gone, Again, MovePut, InsertStep, InsertOnIndex, InsertNoEntry, InsertCopies, InsertUnchanged, InsertSwap}
 use Rattle.coverage.specs.Steps.{InsertSet, InsertDrop, GrowthStep, Grow, CountLeftOver, Count, Flag, EvacuatePut, EvacuateSet, EvacuateDrop, EvacuateSweep}
 use Rattle.coverage.specs.Steps.{Turn, SummariseStep, LookMap, LookGone, IsFinal, Found, ReadNoEntry, GrowMap, Put, Set, Extent, Pass, Unite, UniteCopies}
 use Rattle.coverage.specs.Steps.{SwapFinal, SetFinal, DropOld, DesummariseStep, ClearMap, ClearNone, Clear, ClearAgain, DropCleared}
 
--- the heap and the summarise lock of one view, with the map, tuples, pages and locks of another
-abbrev pub shown_on : IndexView → IndexView → (building : ℕ → Option Building) → (loose : ℕ → Option Spot) → IndexView
-shown_on w v building loose = record w {
-  entry = v.entry;
-  tuple = v.tuple;
-  pages = v.pages;
-  lock = v.lock;
-  unnamed = v.unnamed;
-  building = building;
-  loose = loose;
-}
-
 module _ (s : ℕ) (w v : IndexView) (building : ℕ → Option Building) (loose : ℕ → Option Spot) where
   abbrev u : IndexView
-  u = shown_on w v building loose
+  u = with_part w (part_of v) building loose
 
   heap_on : (touched : Touched) → KeepsHeap touched w u
   heap_on TouchesNothing = record { pages_per_range = refl; blocks = refl; row = λ b k. refl }
@@ -84,27 +72,14 @@ module _ (s : ℕ) (w v : IndexView) (building : ℕ → Option Building) (loose
   reads_on : ReadsIndex s w v → ReadsIndex s w u
   reads_on reads = record { frame = frame_on TouchesNothing reads.frame; pages = reads.pages; none = reads.none }
 
-  page_on : (page : ℕ) (kind : PageKind) → TurnsPage w.pages v.pages page kind → TurnsPage w.pages u.pages page kind
-  page_on page kind turns = record {
-    now = turns.now;
-    kinds = turns.kinds;
-    rooms = turns.rooms;
-    places = turns.places;
-    map_pages = turns.map_pages;
-    limit = turns.limit;
-  }
-
-  these_on : (these : List ℕ) → LocksThese v.lock s these → LocksThese u.lock s these
-  these_on these locks = record { locked = locks.locked; only = locks.only }
-
   puts_on : (y : Spot) (t : IndexTuple) → PutsTuple s w v y t → PutsTuple s w u y t
-  puts_on y t puts = record { tuple = puts.tuple; free = puts.free; page = page_on _ _ puts.page; frame = frame_on TouchesTuples puts.frame }
+  puts_on y t puts = record { tuple = puts.tuple; free = puts.free; page = puts.page; frame = frame_on TouchesTuples puts.frame }
 
   replaces_on : (x : Spot) (old new : IndexTuple) → ReplacesTuple s w v x old new → ReplacesTuple s w u x old new
   replaces_on x old new swap = record {
     tuple = swap.tuple;
     free = swap.free;
-    page = page_on _ _ swap.page;
+    page = swap.page;
     frame = frame_on TouchesTuples swap.frame;
     none = swap.none;
   }
@@ -112,16 +87,13 @@ module _ (s : ℕ) (w v : IndexView) (building : ℕ → Option Building) (loose
   sets_on : (range : ℕ) (x : Spot) → SetsEntry s w v range x → SetsEntry s w u range x
   sets_on range x sets = record { entry = sets.entry; pages = sets.pages; frame = frame_on TouchesEntries sets.frame }
 
-  same_on : SameLocks w.lock v.lock → SameLocks w.lock u.lock
-  same_on same = record { lock = same.lock }
-
   clears_on : (range : ℕ) (x : Spot) → ClearsEntry s w v range x → ClearsEntry s w u range x
   clears_on range x clears = record { entry = clears.entry; free = clears.free; pages = clears.pages; frame = frame_on TouchesEntries clears.frame }
 
   drops_on : (x : Spot) → DropsTuple s w v x → DropsTuple s w u x
   drops_on x drops = record {
     tuple = drops.tuple;
-    page = page_on _ _ drops.page;
+    page = drops.page;
     frame = frame_on TouchesTuples drops.frame;
     none = drops.none;
   }
@@ -131,7 +103,7 @@ module _ (s : ℕ) (w v : IndexView) (building : ℕ → Option Building) (loose
     free = sweeps.free;
     gone = sweeps.gone;
     places = sweeps.places;
-    page = page_on _ _ sweeps.page;
+    page = sweeps.page;
     frame = frame_on TouchesUnnamed sweeps.frame;
     none = sweeps.none;
   }
@@ -139,8 +111,8 @@ module _ (s : ℕ) (w v : IndexView) (building : ℕ → Option Building) (loose
   turns_on : (kind : PageKind) (these : List ℕ) → TurnsKind s w v kind these → TurnsKind s w u kind these
   turns_on kind these turns = record {
     frame = frame_on TouchesNothing turns.frame;
-    page = page_on _ _ turns.page;
-    locks = these_on these turns.locks;
+    page = turns.page;
+    locks = turns.locks;
   }
 
   counts_on : CountsPage s w v → CountsPage s w u
@@ -150,7 +122,7 @@ module _ (s : ℕ) (w v : IndexView) (building : ℕ → Option Building) (loose
   on_index_on range _ _ (Maps x named reads) = Maps x named (reads_on reads)
   on_index_on range _ _ (Gone x gone reads) = Gone x gone (reads_on reads)
   on_index_on range _ _ (Again x old new verdict reads) = Again x old new verdict (reads_on reads)
-  on_index_on range _ _ (MovePut x y old new verdict puts these) = MovePut x y old new verdict (puts_on y new puts) (these_on _ these)
+  on_index_on range _ _ (MovePut x y old new verdict puts these) = MovePut x y old new verdict (puts_on y new puts) these
 
   pub insert_on : (b k : ℕ) (r : Row) (old : OnIndex) (new : Statement) → InsertStep s b k r w v old new → InsertStep s b k r w u old new
   insert_on b k r _ _ (InsertOnIndex old new step) = InsertOnIndex old new (on_index_on (range_of_block w b) old new step)
@@ -158,7 +130,7 @@ module _ (s : ℕ) (w v : IndexView) (building : ℕ → Option Building) (loose
   insert_on b k r _ _ (InsertCopies x old new stands added changes reads) = InsertCopies x old new stands added changes (reads_on reads)
   insert_on b k r _ _ (InsertUnchanged x t stands added free reads) = InsertUnchanged x t stands added free (reads_on reads)
   insert_on b k r _ _ (InsertSwap x old new verdict swap) = InsertSwap x old new verdict (replaces_on x old new swap)
-  insert_on b k r _ _ (InsertSet x y old new sets same) = InsertSet x y old new (sets_on _ y sets) (same_on same)
+  insert_on b k r _ _ (InsertSet x y old new sets same) = InsertSet x y old new (sets_on _ y sets) same
   insert_on b k r _ _ (InsertDrop x drops) = InsertDrop x (drops_on x drops)
 
   growth_on : (range : ℕ) (old new : Phase) → GrowthStep s range w v old new → GrowthStep s range w u old new
@@ -167,8 +139,8 @@ module _ (s : ℕ) (w v : IndexView) (building : ℕ → Option Building) (loose
   growth_on range _ _ (Count counts) = Count (counts_on counts)
   growth_on range _ _ (Flag grows free turns) = Flag grows free (turns_on _ _ turns)
   growth_on range _ _ (EvacuatePut x y t grows next named free verdict puts these) =
-      EvacuatePut x y t grows next named free verdict (puts_on y t puts) (these_on _ these)
-  growth_on range _ _ (EvacuateSet m x y t old sets same) = EvacuateSet m x y t old (sets_on m y sets) (same_on same)
+      EvacuatePut x y t grows next named free verdict (puts_on y t puts) these
+  growth_on range _ _ (EvacuateSet m x y t old sets same) = EvacuateSet m x y t old (sets_on m y sets) same
   growth_on range _ _ (EvacuateDrop m x drops) = EvacuateDrop m x (drops_on x drops)
   growth_on range _ _ (EvacuateSweep x t grows next unnamed sweeps) = EvacuateSweep x t grows next unnamed (sweeps_on _ _ sweeps)
   growth_on range _ _ (Turn grows empty free meta turns) = Turn grows empty free meta (turns_on _ _ turns)
@@ -180,7 +152,7 @@ module _ (s : ℕ) (w v : IndexView) (building : ℕ → Option Building) (loose
   summarise_on range _ _ (Found x t stands flag reads) = Found x t stands flag (reads_on reads)
   summarise_on range _ _ (ReadNoEntry none of reads) = ReadNoEntry none of (reads_on reads)
   summarise_on range _ _ (GrowMap old new step) = GrowMap old new (growth_on range old new step)
-  summarise_on range _ _ (Put x t is long verdict puts these) = Put x t is long verdict (puts_on x t puts) (these_on _ these)
+  summarise_on range _ _ (Put x t is long verdict puts these) = Put x t is long verdict (puts_on x t puts) these
   summarise_on range _ _ (Set x sets none) = Set x (sets_on range x sets) none
   summarise_on range _ _ (Extent extent result start is reads) = Extent extent result start is (reads_on reads)
   summarise_on range _ _ (Pass extent next slots result wider below none made reads) = Pass extent next slots result wider below none made (reads_on reads)
@@ -188,12 +160,12 @@ module _ (s : ℕ) (w v : IndexView) (building : ℕ → Option Building) (loose
   summarise_on range _ _ (UniteCopies extent next result x old new all stands united reads) =
       UniteCopies extent next result x old new all stands united (reads_on reads)
   summarise_on range _ _ (SwapFinal p x old new verdict swap) = SwapFinal p x old new verdict (replaces_on x old new swap)
-  summarise_on range _ _ (SetFinal p x y old new sets same) = SetFinal p x y old new (sets_on range y sets) (same_on same)
+  summarise_on range _ _ (SetFinal p x y old new sets same) = SetFinal p x y old new (sets_on range y sets) same
   summarise_on range _ _ (DropOld x drops) = DropOld x (drops_on x drops)
 
   pub desummarise_on : (range : ℕ) (old : Phase) (new : Statement) → DesummariseStep s range w v old new → DesummariseStep s range w u old new
   desummarise_on range _ _ (ClearMap x named reads) = ClearMap x named (reads_on reads)
   desummarise_on range _ _ (ClearNone none reads) = ClearNone none (reads_on reads)
-  desummarise_on range _ _ (Clear x verdict clears these) = Clear x verdict (clears_on range x clears) (these_on _ these)
+  desummarise_on range _ _ (Clear x verdict clears these) = Clear x verdict (clears_on range x clears) these
   desummarise_on range _ _ (ClearAgain x verdict reads) = ClearAgain x verdict (reads_on reads)
   desummarise_on range _ _ (DropCleared x drops) = DropCleared x (drops_on x drops)

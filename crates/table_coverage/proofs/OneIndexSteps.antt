@@ -34,9 +34,9 @@ same_rows : (w : TableState) → SameRows w w
 same_rows w = record { layout = record { indexes = refl; rows_per_page = refl; heap_limit = refl }; blocks = refl; row = λ b k. refl; counts = λ t. refl }
 
 -- a statement that has a step stays at it
-pub stays_at : (s : ℕ) (w : TableState) → HasStep w (w.task s) → Settles s w w
-stays_at s w has =
-    GoesOn (w.task s) (w.task s) (Stays (w.task s) has) (record { was = refl; now = refl; others = λ n. inr refl })
+pub stays_at : (s : ℕ) (w : TableState) (task : Task) → w.task s ≡ task → HasStep w task → Settles s w w
+stays_at s w task is has =
+    GoesOn task task (Stays task has) (record { was = is; now = is; others = λ n. inr refl })
     (record { rows = same_rows w; indexes = record { index = λ i. refl }; summarise_lock = refl })
 
 module _ (at s : ℕ) (w : TableState) (p : IndexPart) (old task : Task) (below : at < w.indexes) (was : w.task s ≡ old) where

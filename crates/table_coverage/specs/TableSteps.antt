@@ -3,9 +3,10 @@ use Rattle.std.specs.Prelude.{◌≡◌, ◌≢◌, ◌⊎◌, ℕ, suc, ◌+◌
 use Rattle.block_model.specs.declared.row.Row.{Row}
 use Rattle.block_model.specs.declared.row.RowId.{RowId}
 use Rattle.block_model.specs.declared.place.Spot.{Spot}
-use Rattle.coverage.specs.IndexView.{IndexTuple, Regular, Emptying, IndexView, range_of_block}
+use Rattle.coverage.specs.IndexView.{IndexTuple, IndexView, range_of_block}
 use Rattle.coverage.specs.Verdicts.{IsLocked, Waits, Full, SwapVerdict, ClearVerdict}
 use Rattle.coverage.specs.Statements.{OnIndex, Empty, Held, Copied, Phase, NotBuilding, Statement, Idle, Inserting, Maintaining, Holding}
+use Rattle.coverage.specs.PageOrder.{IsForTuples}
 use Rattle.coverage.specs.Waiting.{IsPhaseWaiting, IsPhaseFull}
 use Rattle.coverage.specs.Steps.{IsUnnamed, IsGone, Stands, SweepsTuples, Excludes, InsertStep, SummariseStep}
 use Rattle.coverage.specs.Steps.{DesummariseStep, SummariseLockPasses}
@@ -256,7 +257,7 @@ pub data Does (s : ℕ) (w v : TableState) : Type 0 where
 
 -- vacuum sweeps the pages with tuples, index by index
 abbrev pub HasTuples : TableState → ℕ → ℕ → Type 0
-HasTuples w at p = (at < w.indexes) × (((w.index at).pages.kind p ≡ Regular) ⊎ ((w.index at).pages.kind p ≡ Emptying))
+HasTuples w at p = (at < w.indexes) × IsForTuples (w.index at).pages p
 
 abbrev pub IsFrom : (at from m p : ℕ) → Type 0
 IsFrom at from m p = (at < m) ⊎ ((at ≡ m) × (from ≤ p))

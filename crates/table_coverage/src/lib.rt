@@ -234,7 +234,7 @@ pub fn a_table_steps_with_its_index()
     ensures sweeps { (s at page : ℕ) (w : TableState) (p : IndexPart) (count : ℕ) → at < w.indexes → w.task s ≡ Sweeps at page
         → SweepMakes s page (index_view_at at w) p → AreTuplesGone (w.index at).tuple p.tuple page count
         → DoesAt s w (with_index at p s (SweepsFrom at (suc page)) w) points.Sweep (with_unnamed count) }
-    ensures stays { (s : ℕ) (w : TableState) → HasStep w (w.task s) → Settles s w w }
+    ensures stays { (s : ℕ) (w : TableState) (task : Task) → w.task s ≡ task → HasStep w task → Settles s w w }
 {}
 
 /// A row put at the heap's first free place begins its insert: the heap has it beside its other rows, the statement is before the first index, and
