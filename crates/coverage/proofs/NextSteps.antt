@@ -248,7 +248,8 @@ module _ (w : IndexView) (s range : ℕ) where
   kind_at kind _ grows (WantsEntry p (MapSuffices x long verdict)) = absurd (long grows.short)
   kind_at kind _ grows (WantsEntry p (MapGrows kind' _ grows' at)) = subst (λ l. KindPoint w s l p) (sym grows'.is ∙ grows.is) at
 
-  place_waits : (q : ℕ) (p : Point) → (IsPastMap w.pages range → ⊥) → PutVerdict w s range (placeholder_length w range) (Waits q) → SummarisePoint w s range Vacant p → ⊥
+  place_waits : (q : ℕ) (p : Point) → (IsPastMap w.pages range → ⊥) → PutVerdict w s range (placeholder_length w range) (Waits q)
+      → SummarisePoint w s range Vacant p → ⊥
   place_waits q _ long waits (WantsEntry p (MapSuffices x long' verdict)) = no_put w s range (placeholder_length w range) q x waits verdict
   place_waits q _ long waits (WantsEntry p (MapGrows kind _ grows at)) = long grows.short
 
@@ -260,7 +261,8 @@ module _ (w : IndexView) (s range : ℕ) where
   put_waits q x t _ next named waits (UnnamedNext x' t' next' unnamed free) = named_or_not w (next_map_page w.pages) x x' t t' next next' named unnamed
   put_waits q x t _ next named waits (NoneNext none free meta) = none x t next
 
-  lock_waits : (x : Spot) (t : IndexTuple) (p : Point) → IsNextTuple w.tuple (next_map_page w.pages) x t → (IsFree w.lock s (next_map_page w.pages) → ⊥) → EmptyingPoint w s p
+  lock_waits : (x : Spot) (t : IndexTuple) (p : Point) → IsNextTuple w.tuple (next_map_page w.pages) x t
+      → (IsFree w.lock s (next_map_page w.pages) → ⊥) → EmptyingPoint w s p
       → ⊥
   lock_waits x t _ next locked (NamedNext x' y t' next' named free verdict) = locked (subst (IsFree w.lock s) next'.on free)
   lock_waits x t _ next locked (UnnamedNext x' t' next' unnamed free) = locked free

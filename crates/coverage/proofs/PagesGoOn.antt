@@ -53,7 +53,8 @@ quiet_same w v map tuples map_pages = record {
 }
 
 -- a page that nobody else locks turns
-pub kinds_turned : (s : ℕ) (w v : IndexView) (page : ℕ) (kind : PageKind) → TurnsPage w.pages v.pages page kind → IsFree w.lock s page → (p n : ℕ) → w.lock p ≡ Some n → n ≢ s
+pub kinds_turned : (s : ℕ) (w v : IndexView) (page : ℕ) (kind : PageKind) → TurnsPage w.pages v.pages page kind → IsFree w.lock s page → (p n : ℕ)
+    → w.lock p ≡ Some n → n ≢ s
     → v.pages.kind p ≡ w.pages.kind p
 kinds_turned s w v page kind turns free p n is other = ⊎_elim
     (λ (at : p ≡ page). absurd (other (free n (subst (λ q. w.lock q ≡ Some n) at is))))

@@ -154,7 +154,8 @@ module _ (w v : IndexView) (ordered : AreOrdered w) where
       (entries_same puts.frame.map)
 
   -- the next page is counted as one of the map
-  pub order_counted : v.pages ≡ record w.pages { map_pages = next_map_page w.pages } → w.pages.kind (next_map_page w.pages) ≡ Mapping → SameMap w v → SameTuples w v
+  pub order_counted : v.pages ≡ record w.pages { map_pages = next_map_page w.pages } → w.pages.kind (next_map_page w.pages) ≡ Mapping → SameMap w v
+      → SameTuples w v
       → AreOrdered v
   order_counted pages next same_map same_tuples = record {
     counted = subst (λ n. 0 < n) (sym map_pages) (more w.pages.map_pages);

@@ -163,7 +163,8 @@ module _ (s range : ℕ) (w : IndexView) (slots : HasFreeSlots w.tuple) (blocks 
           by (Puts y) verdict = puts y verdict
           by (Full number) verdict = free.1 number (EvacuateFull number x t grows next named unlocked verdict)
 
-      sweeps : (x : Spot) (t : IndexTuple) → IsNextTuple w.tuple (next_map_page w.pages) x t → w.entry t.range ≢ Some x → IsFree w.lock s (next_map_page w.pages) → ⊥
+      sweeps : (x : Spot) (t : IndexTuple) → IsNextTuple w.tuple (next_map_page w.pages) x t → w.entry t.range ≢ Some x
+          → IsFree w.lock s (next_map_page w.pages) → ⊥
       sweeps x t next unnamed unlocked = stuck (Maintaining range Vacant) (sweep_view s w x)
           (GrowMap Vacant Vacant (EvacuateSweep x t grows next (t, next.stands, unnamed) swept))
         where

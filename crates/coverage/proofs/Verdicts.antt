@@ -104,7 +104,8 @@ put_past_map w s range need y ordered verdict = ⊎_elim
     (put_place w s range need y verdict).1
 
 -- what fits in its place needn't move
-fits_or_moves : (w : IndexView) (x : Spot) (new : IndexTuple) → w.pages.kind x.block ≡ Regular → length new.bytes ≤ w.pages.room_at x → MustMove w.pages x (length new.bytes)
+fits_or_moves : (w : IndexView) (x : Spot) (new : IndexTuple) → w.pages.kind x.block ≡ Regular → length new.bytes ≤ w.pages.room_at x
+    → MustMove w.pages x (length new.bytes)
     → ⊥
 fits_or_moves w x new regular room must = ⊎_elim
     (λ (other : w.pages.kind x.block ≢ Regular). other regular)

@@ -20,7 +20,8 @@ waits_same p q is = ap (waited q) is
 
 -- the page that is waited for while a page is emptied
 data EmptyingWait (w : IndexView) (s : ℕ) : ℕ → Type 0 where
-  ForNext : (x : Spot) (t : IndexTuple) → IsNextTuple w.tuple (next_map_page w.pages) x t → IsLocked w.lock s (next_map_page w.pages) → EmptyingWait w s (next_map_page w.pages)
+  ForNext : (x : Spot) (t : IndexTuple) → IsNextTuple w.tuple (next_map_page w.pages) x t → IsLocked w.lock s (next_map_page w.pages)
+      → EmptyingWait w s (next_map_page w.pages)
   ForTarget : (q : ℕ) (x : Spot) (t : IndexTuple) → IsNextTuple w.tuple (next_map_page w.pages) x t → IsFree w.lock s x.block
       → PutVerdict w s t.range (length t.bytes) (Waits q) → EmptyingWait w s q
   ForTurn : (q : ℕ) → ((x : Spot) (t : IndexTuple) → IsNextTuple w.tuple (next_map_page w.pages) x t → ⊥)
@@ -48,7 +49,8 @@ module _ (w : IndexView) (s range : ℕ) where
   vacant_wait q (TurnWaits _ grows none locked) = ForMap Emptying q grows (ForTurn q none locked)
 
   -- the page of the next tuple isn't locked and free at once
-  locked_or_not : (x : Spot) (t : IndexTuple) → IsNextTuple w.tuple (next_map_page w.pages) x t → IsLocked w.lock s (next_map_page w.pages) → IsFree w.lock s x.block → ⊥
+  locked_or_not : (x : Spot) (t : IndexTuple) → IsNextTuple w.tuple (next_map_page w.pages) x t → IsLocked w.lock s (next_map_page w.pages)
+      → IsFree w.lock s x.block → ⊥
   locked_or_not x t next locked free = free_not_locked w s (next_map_page w.pages) (subst (IsFree w.lock s) next.on free) locked
 
   emptying_once : (p q : ℕ) → EmptyingWait w s p → EmptyingWait w s q → p ≡ q

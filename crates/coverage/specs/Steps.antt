@@ -104,7 +104,8 @@ pub data InsertStep (s b k : ℕ) (r : Row) (w v : IndexView) : OnIndex → Stat
   InsertOnIndex : (old new : OnIndex) → OnIndexStep s (range_of_block w b) w v old new → InsertStep s b k r w v old (Inserting b k r new)
   InsertNoEntry : w.entry (range_of_block w b) ≡ None → ReadsIndex s w v → InsertStep s b k r w v Empty Idle
   -- the tuple is copied, and with the row it changes, or another session locks its page
-  InsertCopies : (x : Spot) (old new : IndexTuple) → Stands w (range_of_block w b) x old → new ≡ w.contents.added r old → (new ≢ old) ⊎ IsLocked w.lock s x.block
+  InsertCopies : (x : Spot) (old new : IndexTuple) → Stands w (range_of_block w b) x old → new ≡ w.contents.added r old
+      → (new ≢ old) ⊎ IsLocked w.lock s x.block
       → ReadsIndex s w v
       → InsertStep s b k r w v (Held x) (Inserting b k r (Copied x old new))
   -- the row changes nothing in it, and no other session locks its page
@@ -146,7 +147,8 @@ pub data GrowthStep (s range : ℕ) (w v : IndexView) : Phase → Phase → Type
   EvacuateDrop : (m : ℕ) (x : Spot) → DropsTuple s w v x → GrowthStep s range w v (Evacuating m (Dropping x)) Vacant
   EvacuateSweep : (x : Spot) (t : IndexTuple) → Grows w.pages range Emptying → IsNextTuple w.tuple (next_map_page w.pages) x t → IsUnnamed w x
       → SweepsTuples s w v (next_map_page w.pages) (λ y. y ≡ x) → GrowthStep s range w v Vacant Vacant
-  Turn : Grows w.pages range Emptying → ((x : Spot) (t : IndexTuple) → IsNextTuple w.tuple (next_map_page w.pages) x t → ⊥) → IsFree w.lock s (next_map_page w.pages) → IsFree w.lock s 0
+  Turn : Grows w.pages range Emptying → ((x : Spot) (t : IndexTuple) → IsNextTuple w.tuple (next_map_page w.pages) x t → ⊥)
+      → IsFree w.lock s (next_map_page w.pages) → IsFree w.lock s 0
       → TurnsKind s w v Mapping (next_map_page w.pages ∷ 0 ∷ []) → GrowthStep s range w v Vacant Growing
 
 -- One step of a summariser on its range, with what it is at afterwards; where it only holds the lock, the range is done.

@@ -54,7 +54,8 @@ pub data Verdict : Type 0 where
 pub data PutVerdict (w : IndexView) (s range need : ℕ) : Verdict → Type 0 where
   NoTarget : ((p : ℕ) → IsTarget w.pages need p → ⊥) → PutVerdict w s range need (Full w.pages.limit)
   PutWaits : (p q : ℕ) → IsTarget w.pages need p → IsFirstLocked w.lock s (p ∷ map_page_of range ∷ []) q → PutVerdict w s range need (Waits q)
-  PutGoes : (y : Spot) → IsTargetPlace w.pages w.tuple need y → IsFree w.lock s y.block → IsFree w.lock s (map_page_of range) → PutVerdict w s range need (Puts y)
+  PutGoes : (y : Spot) → IsTargetPlace w.pages w.tuple need y → IsFree w.lock s y.block → IsFree w.lock s (map_page_of range)
+      → PutVerdict w s range need (Puts y)
 
 -- a tuple has to leave a page that isn't regular, or on which one of this length doesn't fit in its place
 abbrev pub MustMove : Pages → Spot → ℕ → Type 0
@@ -66,7 +67,8 @@ pub data SwapVerdict (w : IndexView) (s range : ℕ) (x : Spot) (old new : Index
   SwapDiffers : IsFree w.lock s x.block → w.tuple x ≢ Some old → SwapVerdict w s range x old new Differs
   SwapFits : IsFree w.lock s x.block → w.tuple x ≡ Some old → w.pages.kind x.block ≡ Regular → length new.bytes ≤ w.pages.room_at x
       → SwapVerdict w s range x old new Fits
-  SwapMoves : (verdict : Verdict) → IsFree w.lock s x.block → w.tuple x ≡ Some old → MustMove w.pages x (length new.bytes) → PutVerdict w s range (length new.bytes) verdict
+  SwapMoves : (verdict : Verdict) → IsFree w.lock s x.block → w.tuple x ≡ Some old → MustMove w.pages x (length new.bytes)
+      → PutVerdict w s range (length new.bytes) verdict
       → SwapVerdict w s range x old new verdict
 
 -- The entry of a range is to go: the locks of tuple page and map page come first, then the comparison.

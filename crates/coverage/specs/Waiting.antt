@@ -27,9 +27,11 @@ pub data IsPhaseWaiting (w : IndexView) (s range : ℕ) : Phase → ℕ → Type
   GrowWaits : (q : ℕ) → Grows w.pages range Unstarted → IsFirstLocked w.lock s (next_map_page w.pages ∷ 0 ∷ []) q → IsPhaseWaiting w s range Vacant q
   CountWaits : Grows w.pages range Mapping → IsLocked w.lock s 0 → IsPhaseWaiting w s range Vacant 0
   FlagWaits : Grows w.pages range Regular → IsLocked w.lock s (next_map_page w.pages) → IsPhaseWaiting w s range Vacant (next_map_page w.pages)
-  EvacuateWaits : (x : Spot) (t : IndexTuple) → Grows w.pages range Emptying → IsNextTuple w.tuple (next_map_page w.pages) x t → IsLocked w.lock s (next_map_page w.pages)
+  EvacuateWaits : (x : Spot) (t : IndexTuple) → Grows w.pages range Emptying → IsNextTuple w.tuple (next_map_page w.pages) x t
+      → IsLocked w.lock s (next_map_page w.pages)
       → IsPhaseWaiting w s range Vacant (next_map_page w.pages)
-  EvacuatePutWaits : (q : ℕ) (x : Spot) (t : IndexTuple) → Grows w.pages range Emptying → IsNextTuple w.tuple (next_map_page w.pages) x t → w.entry t.range ≡ Some x
+  EvacuatePutWaits : (q : ℕ) (x : Spot) (t : IndexTuple) → Grows w.pages range Emptying → IsNextTuple w.tuple (next_map_page w.pages) x t
+      → w.entry t.range ≡ Some x
       → IsFree w.lock s x.block → PutVerdict w s t.range (length t.bytes) (Waits q) → IsPhaseWaiting w s range Vacant q
   TurnWaits : (q : ℕ) → Grows w.pages range Emptying → ((x : Spot) (t : IndexTuple) → IsNextTuple w.tuple (next_map_page w.pages) x t → ⊥)
       → IsFirstLocked w.lock s (next_map_page w.pages ∷ 0 ∷ []) q → IsPhaseWaiting w s range Vacant q
@@ -38,9 +40,11 @@ pub data IsPhaseWaiting (w : IndexView) (s range : ℕ) : Phase → ℕ → Type
 pub data IsPhaseFull (w : IndexView) (s range : ℕ) : Phase → ℕ → Type 0 where
   FinalFull : (number : ℕ) (p : Progress) (x : Spot) (old new : IndexTuple) → SwapVerdict w s range x old new (Full number)
       → IsPhaseFull w s range (IsAt p (Copied x old new)) number
-  PlaceFull : (number : ℕ) → (IsPastMap w.pages range → ⊥) → PutVerdict w s range (placeholder_length w range) (Full number) → IsPhaseFull w s range Vacant number
+  PlaceFull : (number : ℕ) → (IsPastMap w.pages range → ⊥) → PutVerdict w s range (placeholder_length w range) (Full number)
+      → IsPhaseFull w s range Vacant number
   MapFull : IsPastMap w.pages range → w.pages.limit ≤ next_map_page w.pages → IsPhaseFull w s range Vacant w.pages.limit
-  EvacuateFull : (number : ℕ) (x : Spot) (t : IndexTuple) → Grows w.pages range Emptying → IsNextTuple w.tuple (next_map_page w.pages) x t → w.entry t.range ≡ Some x
+  EvacuateFull : (number : ℕ) (x : Spot) (t : IndexTuple) → Grows w.pages range Emptying → IsNextTuple w.tuple (next_map_page w.pages) x t
+      → w.entry t.range ≡ Some x
       → IsFree w.lock s x.block → PutVerdict w s t.range (length t.bytes) (Full number) → IsPhaseFull w s range Vacant number
 
 -- A refusal ends an insert in this state on the index: no page is left for its tuple here; or none was left in another index of the

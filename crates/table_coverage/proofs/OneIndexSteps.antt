@@ -1,5 +1,5 @@
 -- A step in one index is one of its table, and so is a row put.
-use Rattle.std.proofs.Common.{◌≡◌, ◌≢◌, ◌⊎◌, inl, inr, ℕ, ◌+◌, ◌<◌, max, Option, Some, suc, refl, sym, ap, subst}
+use Rattle.std.proofs.Common.{◌≡◌, ◌≢◌, inr, ℕ, ◌+◌, ◌<◌, max, Option, Some, suc, refl, sym, ap, subst}
 use Rattle.block_model.specs.declared.place.Spot.{Spot}
 use Rattle.block_model.specs.declared.reply.Point.{Point}
 use Rattle.block_model.specs.declared.reply.Point.TheVariants as points
@@ -61,8 +61,10 @@ module _ (at s : ℕ) (w : TableState) (p : IndexPart) (old task : Task) (below 
     where
       building : ℕ → Option Building
       building = λ n. building_of (seen_by at (after.task n))
+
       loose : ℕ → Option Spot
       loose = λ n. loose_of (seen_by at (after.task n))
+
       view_with : Index → IndexView
       view_with i = record {
         contents = i.contents;
@@ -86,7 +88,7 @@ goes_on_insert s b k r at w p old new point below was makes =
     let d = Inserts b k r at old in
     let e = Inserts b k r at new in
     let made = on_view at s w p d e below was
-        (λ (u : IndexView). (step : InsertStep s b k r (index_view_at at w) u old (Inserting b k r new)) × (insert_point step ≡ point)) makes in
+    (λ (u : IndexView). (step : InsertStep s b k r (index_view_at at w) u old (Inserting b k r new)) × (insert_point step ≡ point)) makes in
     record {
       does = InsertGoes b k r at old new (turns at s w p d e below was) (stepped at s w p d e below was) made.0;
       point_is = ap Some made.1;
@@ -100,7 +102,7 @@ completes_insert s b k r at w p old point below was makes =
     let d = Inserts b k r at old in
     let e = Reaches b k r (suc at) in
     let made = on_view at s w p d e below was
-        (λ (u : IndexView). (step : InsertStep s b k r (index_view_at at w) u old Idle) × (insert_point step ≡ point)) makes in
+    (λ (u : IndexView). (step : InsertStep s b k r (index_view_at at w) u old Idle) × (insert_point step ≡ point)) makes in
     record {
       does = InsertCompletes b k r at old (turns at s w p d e below was) (stepped at s w p d e below was) made.0;
       point_is = ap Some made.1;

@@ -6,7 +6,7 @@ use Rattle.coverage.specs.IndexView.{IndexTuple}
 use Rattle.coverage.specs.Verdicts.{HasFreeSlots}
 use Rattle.coverage.specs.Statements.{HasNoMoreRows}
 use Rattle.coverage.specs.Steps.{Excludes}
-use Rattle.table_coverage.specs.Table.{Task, Resting, Asks, Inserts, Scans, TableScan, TableState, index_view_at}
+use Rattle.table_coverage.specs.Table.{Task, Resting, Asks, Inserts, Scans, TableScan, TableState}
 use Rattle.table_coverage.specs.TableSteps.{first_block, TableStep}
 use Rattle.table_coverage.specs.TablePoints.{does_point}
 
