@@ -22,6 +22,7 @@ ghost use Rattle.coverage.specs.Steps.{IsUnnamed, SweepsTuples, InsertStep, Summ
 ghost use Rattle.coverage.specs.PageOrder.{AreOrdered, AreNewPages, KnowsPages};
 ghost use Rattle.coverage.specs.Points.{insert_point, summarise_point, desummarise_point};
 ghost use Rattle.coverage.specs.Counts.{HasGone, AreRowsGone, AreTuplesGone, NamesFinal, summarise_count, desummarise_count};
+ghost use Rattle.coverage.specs.IndexPart.{part_of, InsertMakes, SummariseMakes, DesummariseMakes, SweepMakes};
 ghost use Rattle.coverage.specs.ExactResults.{IsExact, IsExactAfter, NamesExactFinal};
 ghost use Rattle.coverage.specs.Knowing.{LocksNone, Knows, Spares};
 ghost use Rattle.coverage.specs.Verdicts.{Verdict, Waits, Differs, Puts, Full, IsLocked, HasFreeSlots, PutVerdict, SwapVerdict, ClearVerdict};
@@ -183,6 +184,18 @@ pub fn each_step_is_the_next_one()
         → SummariseStep s range w v phase e → ⊥ }
     ensures desummarise_blocked { (s range p : ℕ) (w v : IndexView) (x : Spot) (e : Statement) → ClearVerdict w s range x (Waits p)
         → DesummariseStep s range w v (NotBuilding (Held x)) e → ⊥ }
+{}
+
+/// A step hangs on nothing that the sessions build or have in hand: with the part of the index that it makes it is a step whatever that is
+/// then, under its point and with its count.
+pub fn steps_are_of_the_index()
+    ensures insert { (s b k : ℕ) (r : Row) (w v : IndexView) (old : OnIndex) (new : Statement) (step : InsertStep s b k r w v old new)
+        → InsertMakes s b k r w (part_of v) old new (insert_point step) }
+    ensures summarise { (s range : ℕ) (w v : IndexView) (old : Phase) (new : Statement) (step : SummariseStep s range w v old new)
+        → SummariseMakes s range w (part_of v) old new (summarise_point step) (summarise_count step) }
+    ensures desummarise { (s range : ℕ) (w v : IndexView) (old : Phase) (new : Statement) (step : DesummariseStep s range w v old new)
+        → DesummariseMakes s range w (part_of v) old new (desummarise_point step) (desummarise_count step) }
+    ensures sweep { (s page : ℕ) (w v : IndexView) → SweepsTuples s w v page (λ x. (x.block ≡ page) × IsUnnamed w x) → SweepMakes s page w (part_of v) }
 {}
 
 /// A running insert, summariser or desummarise is never stuck: it has a step on the index, or waits for a page; or no page is left

@@ -17,7 +17,7 @@ use Rattle.table_coverage.specs.TableSteps.{Stays, ToAsk, ToIndex, Inserted, ToR
 use Rattle.table_coverage.specs.TablePoints.{job_point, IsTableStuck}
 use Rattle.table_coverage.proofs.Views.{pick_same, pick_there}
 use Rattle.table_coverage.proofs.VacuumGoesOn.{no_onward, no_end}
-use Rattle.table_coverage.proofs.OnThisView.{insert_on, summarise_on, desummarise_on}
+use Rattle.coverage.proofs.OnThisView.{insert_on, summarise_on, desummarise_on}
 
 -- the table after such a step: one index of it is another, and the session's statement has turned
 module _ (w : TableState) (s at : ℕ) (x : Index) (new : Task) where

@@ -25,7 +25,6 @@ pub mod InTable
 pub mod RowsInOrder
 pub mod AccountsExact
 pub mod RefusalsCause
-pub mod OnThisView
 pub mod FoundListed
 pub mod InIndexStep
 pub mod StatementsGoOn

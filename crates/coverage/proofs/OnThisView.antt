@@ -1,5 +1,5 @@
 -- A step in an index depends on what it shows of its map, tuples, pages and locks alone: it is one to any view that shows the same.
-use Rattle.std.proofs.Common.{ℕ, Option, List}
+use Rattle.std.proofs.Common.{◌≡◌, ℕ, Option, List}
 use Rattle.std.specs.Prelude.{refl}
 use Rattle.block_model.specs.declared.row.Row.{Row}
 use Rattle.block_model.specs.declared.place.Spot.{Spot}
@@ -7,8 +7,10 @@ use Rattle.coverage.specs.IndexView.{IndexTuple, Building, PageKind, IndexView, 
 use Rattle.coverage.specs.Changes.{Touched, TouchesNothing, TouchesRows, TouchesEntries, TouchesTuples}
 use Rattle.coverage.specs.Changes.{TouchesUnnamed, TouchesSummariseLock, KeepsHeap, KeepsMap, KeepsTuples, KeepsUnnamed, KeepsSummariseLock, Frame}
 use Rattle.coverage.specs.Statements.{OnIndex, Phase, Statement}
-use Rattle.coverage.specs.IndexPart.{part_of, with_part}
-use Rattle.coverage.specs.Steps.{ReadsIndex, PutsTuple, ReplacesTuple, SetsEntry, ClearsEntry, DropsTuple, SweepsTuples, TurnsKind, CountsPage}
+use Rattle.coverage.specs.IndexPart.{part_of, with_part, InsertMakes, SummariseMakes, DesummariseMakes, SweepMakes}
+use Rattle.coverage.specs.Points.{on_index_point, insert_point, growth_point, summarise_point, desummarise_point}
+use Rattle.coverage.specs.Counts.{summarise_count, desummarise_count}
+use Rattle.coverage.specs.Steps.{IsUnnamed, ReadsIndex, PutsTuple, ReplacesTuple, SetsEntry, ClearsEntry, DropsTuple, SweepsTuples, TurnsKind, CountsPage}
 use Rattle.coverage.specs.Steps.{OnIndexStep, Maps, Gone, Again, MovePut, InsertStep, InsertOnIndex, InsertNoEntry, InsertCopies, InsertUnchanged, InsertSwap}
 use Rattle.coverage.specs.Steps.{InsertSet, InsertDrop, GrowthStep, Grow, CountLeftOver, Count, Flag, EvacuatePut, EvacuateSet, EvacuateDrop, EvacuateSweep}
 use Rattle.coverage.specs.Steps.{Turn, SummariseStep, LookMap, LookGone, IsFinal, Found, ReadNoEntry, GrowMap, Put, Set, Extent, Pass, Unite, UniteCopies}
@@ -169,3 +171,114 @@ module _ (s : ℕ) (w v : IndexView) (building : ℕ → Option Building) (loose
   desummarise_on range _ _ (Clear x verdict clears these) = Clear x verdict (clears_on range x clears) these
   desummarise_on range _ _ (ClearAgain x verdict reads) = ClearAgain x verdict (reads_on reads)
   desummarise_on range _ _ (DropCleared x drops) = DropCleared x (drops_on x drops)
+
+  -- the step on the other view has the same name, and counts the same
+  on_index_point_on : (range : ℕ) (old new : OnIndex) (step : OnIndexStep s range w v old new) → on_index_point (on_index_on range old new step) ≡ on_index_point step
+  unfolding on_index_on
+  on_index_point_on range _ _ (Maps x named reads) = refl
+  on_index_point_on range _ _ (Gone x gone reads) = refl
+  on_index_point_on range _ _ (Again x old new verdict reads) = refl
+  on_index_point_on range _ _ (MovePut x y old new verdict puts these) = refl
+
+  insert_point_on : (b k : ℕ) (r : Row) (old : OnIndex) (new : Statement) (step : InsertStep s b k r w v old new)
+      → insert_point (insert_on b k r old new step) ≡ insert_point step
+  unfolding insert_on
+  insert_point_on b k r _ _ (InsertOnIndex old new step) = on_index_point_on (range_of_block w b) old new step
+  insert_point_on b k r _ _ (InsertNoEntry none reads) = refl
+  insert_point_on b k r _ _ (InsertCopies x old new stands added changes reads) = refl
+  insert_point_on b k r _ _ (InsertUnchanged x t stands added free reads) = refl
+  insert_point_on b k r _ _ (InsertSwap x old new verdict swap) = refl
+  insert_point_on b k r _ _ (InsertSet x y old new sets same) = refl
+  insert_point_on b k r _ _ (InsertDrop x drops) = refl
+
+  growth_point_on : (range : ℕ) (old new : Phase) (step : GrowthStep s range w v old new) → growth_point (growth_on range old new step) ≡ growth_point step
+  unfolding growth_on
+  growth_point_on range _ _ (Grow grows free meta turns) = refl
+  growth_point_on range _ _ (CountLeftOver grows meta counts) = refl
+  growth_point_on range _ _ (Count counts) = refl
+  growth_point_on range _ _ (Flag grows free turns) = refl
+  growth_point_on range _ _ (EvacuatePut x y t grows next named free verdict puts these) = refl
+  growth_point_on range _ _ (EvacuateSet m x y t old sets same) = refl
+  growth_point_on range _ _ (EvacuateDrop m x drops) = refl
+  growth_point_on range _ _ (EvacuateSweep x t grows next unnamed sweeps) = refl
+  growth_point_on range _ _ (Turn grows empty free meta turns) = refl
+
+  summarise_point_on : (range : ℕ) (old : Phase) (new : Statement) (step : SummariseStep s range w v old new)
+      → summarise_point (summarise_on range old new step) ≡ summarise_point step
+  unfolding summarise_on
+  summarise_point_on range _ _ (LookMap x named reads) = refl
+  summarise_point_on range _ _ (LookGone x gone reads) = refl
+  summarise_point_on range _ _ (IsFinal x t stands final reads) = refl
+  summarise_point_on range _ _ (Found x t stands flag reads) = refl
+  summarise_point_on range _ _ (ReadNoEntry none of reads) = refl
+  summarise_point_on range _ _ (GrowMap old new step) = growth_point_on range old new step
+  summarise_point_on range _ _ (Put x t is long verdict puts these) = refl
+  summarise_point_on range _ _ (Set x sets none) = refl
+  summarise_point_on range _ _ (Extent extent result start is reads) = refl
+  summarise_point_on range _ _ (Pass extent next slots result wider below none made reads) = refl
+  summarise_point_on range _ _ (Unite extent next result old new all step) = on_index_point_on range old new step
+  summarise_point_on range _ _ (UniteCopies extent next result x old new all stands united reads) = refl
+  summarise_point_on range _ _ (SwapFinal p x old new verdict swap) = refl
+  summarise_point_on range _ _ (SetFinal p x y old new sets same) = refl
+  summarise_point_on range _ _ (DropOld x drops) = refl
+
+  summarise_count_on : (range : ℕ) (old : Phase) (new : Statement) (step : SummariseStep s range w v old new)
+      → summarise_count (summarise_on range old new step) ≡ summarise_count step
+  unfolding summarise_on
+  summarise_count_on range _ _ (LookMap x named reads) = refl
+  summarise_count_on range _ _ (LookGone x gone reads) = refl
+  summarise_count_on range _ _ (IsFinal x t stands final reads) = refl
+  summarise_count_on range _ _ (Found x t stands flag reads) = refl
+  summarise_count_on range _ _ (ReadNoEntry none of reads) = refl
+  summarise_count_on range _ _ (GrowMap old new step) = refl
+  summarise_count_on range _ _ (Put x t is long verdict puts these) = refl
+  summarise_count_on range _ _ (Set x sets none) = refl
+  summarise_count_on range _ _ (Extent extent result start is reads) = refl
+  summarise_count_on range _ _ (Pass extent next slots result wider below none made reads) = refl
+  summarise_count_on range _ _ (Unite extent next result old new all step) = refl
+  summarise_count_on range _ _ (UniteCopies extent next result x old new all stands united reads) = refl
+  summarise_count_on range _ _ (SwapFinal p x old new verdict swap) = refl
+  summarise_count_on range _ _ (SetFinal p x y old new sets same) = refl
+  summarise_count_on range _ _ (DropOld x drops) = refl
+
+  desummarise_point_on : (range : ℕ) (old : Phase) (new : Statement) (step : DesummariseStep s range w v old new)
+      → desummarise_point (desummarise_on range old new step) ≡ desummarise_point step
+  unfolding desummarise_on
+  desummarise_point_on range _ _ (ClearMap x named reads) = refl
+  desummarise_point_on range _ _ (ClearNone none reads) = refl
+  desummarise_point_on range _ _ (Clear x verdict clears these) = refl
+  desummarise_point_on range _ _ (ClearAgain x verdict reads) = refl
+  desummarise_point_on range _ _ (DropCleared x drops) = refl
+
+  desummarise_count_on : (range : ℕ) (old : Phase) (new : Statement) (step : DesummariseStep s range w v old new)
+      → desummarise_count (desummarise_on range old new step) ≡ desummarise_count step
+  unfolding desummarise_on
+  desummarise_count_on range _ _ (ClearMap x named reads) = refl
+  desummarise_count_on range _ _ (ClearNone none reads) = refl
+  desummarise_count_on range _ _ (Clear x verdict clears these) = refl
+  desummarise_count_on range _ _ (ClearAgain x verdict reads) = refl
+  desummarise_count_on range _ _ (DropCleared x drops) = refl
+
+pub insert_makes : (s b k : ℕ) (r : Row) (w v : IndexView) (old : OnIndex) (new : Statement) (step : InsertStep s b k r w v old new)
+    → InsertMakes s b k r w (part_of v) old new (insert_point step)
+insert_makes s b k r w v old new step building loose =
+    (insert_on s w v building loose b k r old new step, insert_point_on s w v building loose b k r old new step)
+
+pub summarise_makes : (s range : ℕ) (w v : IndexView) (old : Phase) (new : Statement) (step : SummariseStep s range w v old new)
+    → SummariseMakes s range w (part_of v) old new (summarise_point step) (summarise_count step)
+summarise_makes s range w v old new step building loose = (
+  summarise_on s w v building loose range old new step,
+  summarise_point_on s w v building loose range old new step,
+  summarise_count_on s w v building loose range old new step,
+)
+
+pub desummarise_makes : (s range : ℕ) (w v : IndexView) (old : Phase) (new : Statement) (step : DesummariseStep s range w v old new)
+    → DesummariseMakes s range w (part_of v) old new (desummarise_point step) (desummarise_count step)
+desummarise_makes s range w v old new step building loose = (
+  desummarise_on s w v building loose range old new step,
+  desummarise_point_on s w v building loose range old new step,
+  desummarise_count_on s w v building loose range old new step,
+)
+
+pub sweep_makes : (s page : ℕ) (w v : IndexView) → SweepsTuples s w v page (λ x. (x.block ≡ page) × IsUnnamed w x) → SweepMakes s page w (part_of v)
+sweep_makes s page w v sweeps building loose = sweeps_on s w v building loose page (λ (x : Spot). (x.block ≡ page) × IsUnnamed w x) sweeps
