@@ -4,7 +4,8 @@ use Rattle.std.specs.Prelude.{IsTrue}
 use Rattle.std.proofs.lemmas.Option.{same_Some, none-some}
 use Rattle.std.proofs.lemmas.Bool.{cases_eq}
 use Rattle.block_model.specs.declared.row.Row.{Row}
-use Rattle.coverage.specs.IndexView.{TuplePlace, IndexTuple, Progress, Passing, Building, IndexView, range_of_block, IsBuilding}
+use Rattle.block_model.specs.declared.place.Spot.{Spot}
+use Rattle.coverage.specs.IndexView.{IndexTuple, Progress, Passing, Building, IndexView, range_of_block, IsBuilding}
 use Rattle.coverage.specs.IsSettled.{IsAwaited, AllAwait, IsAccounted}
 use Rattle.coverage.specs.IsSound.{IsSound}
 use Rattle.coverage.specs.GoesOn.{GoesOn}
@@ -73,8 +74,8 @@ pub turn_go_on : (s : ℕ) (d : ℕ → ℕ → Bool) (w v : IndexView) (range :
 turn_go_on s d w v range old new sound kind = search (rules, turn_settled s w v range old new sound kind)
 
 -- rows of a range without an entry are settled, so a placeholder may come
-module _ (s : ℕ) (d : ℕ → ℕ → Bool) (w v : IndexView) (x : TuplePlace) (t : IndexTuple) (sound : IsSound w) (kind : Places s w v x t) where
-  place_awaits : (b : ℕ) (r : Row) (y : TuplePlace) → w.entry (range_of_block w b) ≡ Some y → AllAwait w b r → AllAwait v b r
+module _ (s : ℕ) (d : ℕ → ℕ → Bool) (w v : IndexView) (x : Spot) (t : IndexTuple) (sound : IsSound w) (kind : Places s w v x t) where
+  place_awaits : (b : ℕ) (r : Row) (y : Spot) → w.entry (range_of_block w b) ≡ Some y → AllAwait w b r → AllAwait v b r
   place_awaits b r y named all n p is =
       let here : v.building n ≡ at_work (range_of_block w b) (Some p) = is ∙ ap (λ m. at_work (b / m) (Some p)) kind.frame.heap.pages_per_range in
       ⊎_elim
@@ -83,7 +84,7 @@ module _ (s : ℕ) (d : ℕ → ℕ → Bool) (w v : IndexView) (x : TuplePlace)
       (λ (e : v.building n ≡ w.building n). all n p (sym e ∙ here))
       (kind.building.others n)
 
-  entry_back : (b : ℕ) (y : TuplePlace) → v.entry (range_of_block v b) ≡ Some y → w.entry (range_of_block w b) ≡ Some y
+  entry_back : (b : ℕ) (y : Spot) → v.entry (range_of_block v b) ≡ Some y → w.entry (range_of_block w b) ≡ Some y
   entry_back b y named = ap (λ m. w.entry (b / m)) (sym kind.frame.heap.pages_per_range) ∙ sym (kind.frame.map.entry (range_of_block v b)) ∙ named
 
   place_settled : (b k : ℕ) (r : Row) → IsAccounted w b r → IsAccounted v b r
@@ -102,7 +103,7 @@ module _ (s : ℕ) (d : ℕ → ℕ → Bool) (w v : IndexView) (x : TuplePlace)
   places_go_on = search (rules, place_settled)
 
 -- whoever has put the placeholder hasn't read the extent yet, and nobody else builds
-module _ (s : ℕ) (d : ℕ → ℕ → Bool) (w v : IndexView) (range : ℕ) (x : TuplePlace) (t : IndexTuple) (sound : IsSound w) (kind : Names s w v range x t) where
+module _ (s : ℕ) (d : ℕ → ℕ → Bool) (w v : IndexView) (range : ℕ) (x : Spot) (t : IndexTuple) (sound : IsSound w) (kind : Names s w v range x t) where
   named_awaits : (b : ℕ) (r : Row) → range ≡ range_of_block w b → AllAwait v b r
   named_awaits b r of n p is =
       let here : IsBuilding w n (range_of_block w b) p = sym (kind.work.building n) ∙ is ∙ ap (λ m. at_work (b / m) (Some p)) kind.frame.heap.pages_per_range in

@@ -4,7 +4,8 @@ use Rattle.std.specs.Prelude.{IsTrue}
 use Rattle.std.proofs.lemmas.Option.{same_Some, none-some}
 use Rattle.std.proofs.lemmas.Bool.{false≢true}
 use Rattle.block_model.specs.declared.row.Row.{Row}
-use Rattle.coverage.specs.IndexView.{TuplePlace, IndexTuple, Passing, IndexView, range_of_block, IsBuilding, NamesPlaceholder}
+use Rattle.block_model.specs.declared.place.Spot.{Spot}
+use Rattle.coverage.specs.IndexView.{IndexTuple, Passing, IndexView, range_of_block, IsBuilding, NamesPlaceholder}
 use Rattle.coverage.specs.IsSettled.{AllAwait, IsAccounted, TupleShows}
 use Rattle.coverage.specs.IsSound.{IsSound}
 use Rattle.coverage.specs.GoesOn.{GoesOn}
@@ -13,7 +14,7 @@ use Rattle.coverage.specs.Changes.{UnitesResult, Carries, MayEnd, Swaps, MovePut
 past : (b next extent : ℕ) → next ≤ b → b < extent → extent ≤ next → ⊥
 past b next extent from below all = omega arith
 
-module _ (w : IndexView) (s range : ℕ) (x : TuplePlace) (old new : IndexTuple) (entry : w.entry range ≡ Some x) (here : w.tuple x ≡ Some old)
+module _ (w : IndexView) (s range : ℕ) (x : Spot) (old new : IndexTuple) (entry : w.entry range ≡ Some x) (here : w.tuple x ≡ Some old)
     (carries : Carries w s range old new) (b : ℕ) (r : Row) (of : range ≡ range_of_block w b) where
   pub carried : IsAccounted w b r → IsTrue (new.includes r) ⊎ ((new.placeholder ≡ true) × AllAwait w b r)
   carried settled = ⊎_elim
@@ -41,15 +42,15 @@ ends_await s w v ends per b r all n p is = ⊎_elim
     (λ (done : (n ≡ s) × (v.building n ≡ None)). absurd (none-some _ (sym done.1 ∙ is)))
     (ends n)
 
-module _ (s : ℕ) (d : ℕ → ℕ → Bool) (w v : IndexView) (range : ℕ) (x : TuplePlace) (old new : IndexTuple) (sound : IsSound w)
+module _ (s : ℕ) (d : ℕ → ℕ → Bool) (w v : IndexView) (range : ℕ) (x : Spot) (old new : IndexTuple) (sound : IsSound w)
     (kind : Swaps s w v range x old new) where
-  swap_at : (y : TuplePlace) (t : IndexTuple) → v.tuple y ≡ Some t → ((y ≡ x) × (t ≡ new)) ⊎ (w.tuple y ≡ Some t)
+  swap_at : (y : Spot) (t : IndexTuple) → v.tuple y ≡ Some t → ((y ≡ x) × (t ≡ new)) ⊎ (w.tuple y ≡ Some t)
   swap_at y t here = ⊎_elim
       (λ (e : y ≡ x). inl (e, same_Some _ _ (sym here ∙ ap v.tuple e ∙ kind.tuple.now)))
       (λ (e : v.tuple y ≡ w.tuple y). inr (sym e ∙ here))
       (kind.tuple.others y)
 
-  entry_back : (b : ℕ) (y : TuplePlace) → v.entry (range_of_block v b) ≡ Some y → w.entry (range_of_block w b) ≡ Some y
+  entry_back : (b : ℕ) (y : Spot) → v.entry (range_of_block v b) ≡ Some y → w.entry (range_of_block w b) ≡ Some y
   entry_back b y named = ap (λ m. w.entry (b / m)) (sym kind.frame.heap.pages_per_range) ∙ sym (kind.frame.map.entry (range_of_block v b)) ∙ named
 
   range_named : (b : ℕ) → w.entry (range_of_block w b) ≡ Some x → range ≡ range_of_block w b
@@ -70,7 +71,7 @@ module _ (s : ℕ) (d : ℕ → ℕ → Bool) (w v : IndexView) (range : ℕ) (x
       (settled y t (entry_back b y named) was))
       (swap_at y t here)
 
-  swap_shows : (y : TuplePlace) (b k : ℕ) (r : Row) → IsAccounted w b r → TupleShows w y b r → TupleShows v y b r
+  swap_shows : (y : Spot) (b k : ℕ) (r : Row) → IsAccounted w b r → TupleShows w y b r → TupleShows v y b r
   swap_shows y b k r settled shown t here of final = ⊎_elim
       (λ (e : (y ≡ x) × (t ≡ new)). subst (λ (u : IndexTuple). IsTrue (u.includes r)) (sym e.1)
       (carried_final w s range x old new kind.entry kind.tuple.was kind.carries b r
@@ -101,9 +102,9 @@ module _ (s : ℕ) (d : ℕ → ℕ → Bool) (w v : IndexView) (range : ℕ) (x
   pub swaps_go_on : GoesOn s d w v
   swaps_go_on = search (rules, swap_settled, swap_shows, swap_flags)
 
-module _ (s : ℕ) (d : ℕ → ℕ → Bool) (w v : IndexView) (range : ℕ) (x y : TuplePlace) (old new : IndexTuple) (sound : IsSound w)
+module _ (s : ℕ) (d : ℕ → ℕ → Bool) (w v : IndexView) (range : ℕ) (x y : Spot) (old new : IndexTuple) (sound : IsSound w)
     (kind : MovePuts s w v range x y old new) where
-  put_shows : (z : TuplePlace) (b k : ℕ) (r : Row) → IsAccounted w b r → TupleShows w z b r → TupleShows v z b r
+  put_shows : (z : Spot) (b k : ℕ) (r : Row) → IsAccounted w b r → TupleShows w z b r → TupleShows v z b r
   put_shows z b k r settled shown t here of final = ⊎_elim
       (λ (e : z ≡ y).
       let is : t ≡ new = same_Some _ _ (sym here ∙ ap v.tuple e ∙ kind.tuple.now) in
@@ -117,7 +118,7 @@ module _ (s : ℕ) (d : ℕ → ℕ → Bool) (w v : IndexView) (range : ℕ) (x
   pub move_puts_go_on : GoesOn s d w v
   move_puts_go_on = search (rules, put_shows)
 
-module _ (s : ℕ) (d : ℕ → ℕ → Bool) (w v : IndexView) (range : ℕ) (x y : TuplePlace) (old new : IndexTuple) (sound : IsSound w)
+module _ (s : ℕ) (d : ℕ → ℕ → Bool) (w v : IndexView) (range : ℕ) (x y : Spot) (old new : IndexTuple) (sound : IsSound w)
     (kind : MoveSets s w v range x y old new) where
   set_settled : (b k : ℕ) (r : Row) → IsAccounted w b r → IsAccounted v b r
   set_settled b k r settled z t named here = ⊎_elim

@@ -3,7 +3,8 @@ use Rattle.std.proofs.Common.{◌≡◌, ◌≢◌, ⊎_elim, ℕ, None, false, 
 use Rattle.std.specs.Prelude.{refl, ◌↔◌}
 use Rattle.std.proofs.lemmas.Option.{same_Some, none-some}
 use Rattle.std.proofs.lemmas.Bool.{false≢true}
-use Rattle.coverage.specs.IndexView.{TuplePlace, IndexTuple, Progress, ExtentUnread, Passing, IndexView, NamesPlaceholder}
+use Rattle.block_model.specs.declared.place.Spot.{Spot}
+use Rattle.coverage.specs.IndexView.{IndexTuple, Progress, ExtentUnread, Passing, IndexView, NamesPlaceholder}
 use Rattle.coverage.specs.Changes.{IsUntouched}
 use Rattle.coverage.specs.Statements.{OnIndex, Copied, Moving, Phase, NotBuilding, Vacant, Growing, Evacuating, Placing, IsAt, Statement}
 use Rattle.coverage.specs.Statements.{Maintaining}
@@ -68,12 +69,12 @@ module _ (s range : ℕ) (w v : IndexState) (before : IsIndexKept w) (after : Is
   )
 
   -- a tuple that goes was named by no entry
-  drops_none : (x : TuplePlace) → DropsTuple s (index_view w) (index_view v) x → GetsFinal → ⊥
+  drops_none : (x : Spot) → DropsTuple s (index_view w) (index_view v) x → GetsFinal → ⊥
   drops_none x drops gets = ⊎_elim
-      (λ (is : gets.0.1.0 ≡ x). none-some _ (sym drops.now ∙ sym (ap v.tuple is) ∙ gets.0.1.2))
+      (λ (is : gets.0.1.0 ≡ x). none-some _ (sym drops.tuple.now ∙ sym (ap v.tuple is) ∙ gets.0.1.2))
       (λ (same : v.tuple gets.0.1.0 ≡ w.tuple gets.0.1.0).
       gets.1 (gets.0.0, (gets.0.1.0, sym (drops.frame.map.entry range) ∙ gets.0.1.1, sym same ∙ gets.0.1.2), gets.0.2))
-      (drops.others gets.0.1.0)
+      (drops.tuple.others gets.0.1.0)
 
   phase_known : (u : IndexState) → IsIndexKept u → (phase : Phase) → u.statement s ≡ Maintaining range phase → KnowsPhase (index_view u) s range phase
       × KnowsPagesOfPhase (index_view u) s range phase
@@ -121,7 +122,7 @@ module _ (s range : ℕ) (w v : IndexState) (before : IsIndexKept w) (after : Is
       ((λ one. ((new, (x, swap.frame.map.entry range ∙ named, swap.tuple.now), united_final p old new known.3), was_none _ was refl)), λ gets. refl)
   summarise_exact _ _ (SetFinal p x y old new sets same) was now =
       let known = (phase_known w before (IsAt p (Moving x y old new)) was).0.0 in
-      ((λ one. ((new, (y, sets.now, sets.frame.tuples.tuple y ∙ known.4), united_final p old new known.6), was_none _ was refl)), λ gets. refl)
+      ((λ one. ((new, (y, sets.entry.now, sets.frame.tuples.tuple y ∙ known.4), united_final p old new known.6), was_none _ was refl)), λ gets. refl)
   summarise_exact _ _ (DropOld x drops) was now = no_final 0 refl (drops_none x drops)
 
 module _ (s range : ℕ) (w v : IndexState) where
@@ -142,7 +143,7 @@ module _ (s range : ℕ) (w v : IndexState) where
   desummarise_exact _ _ (DropCleared x drops) = entry_stays 0 refl (drops.frame.map.entry range)
 
 -- the tuples of a page that a sweep drops are those that the map doesn't name
-pub swept_exact : (s page : ℕ) (w v : IndexView) → SweepsTuples s w v page (λ x. (x.block ≡ page) × IsUnnamed w x) → (x : TuplePlace) → x.block ≡ page
+pub swept_exact : (s page : ℕ) (w v : IndexView) → SweepsTuples s w v page (λ x. (x.block ≡ page) × IsUnnamed w x) → (x : Spot) → x.block ≡ page
     → HasGone (w.tuple x) (v.tuple x) ↔ IsUnnamed w x
 swept_exact s page w v sweeps x on = (
   (λ gone. ⊎_elim

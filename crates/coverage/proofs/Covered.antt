@@ -2,7 +2,8 @@
 use Rattle.std.proofs.Common.{◌≡◌, ◌⊎◌, inl, inr, ⊎_elim, ℕ, Some, sym, ◌∙◌, ap, subst}
 use Rattle.std.specs.Prelude.{IsTrue}
 use Rattle.std.proofs.lemmas.Option.{same_Some}
-use Rattle.coverage.specs.IndexView.{TuplePlace, IndexTuple, IndexView, range_of_block, IsTupleOf}
+use Rattle.block_model.specs.declared.place.Spot.{Spot}
+use Rattle.coverage.specs.IndexView.{IndexTuple, IndexView, range_of_block, IsTupleOf}
 use Rattle.coverage.specs.IsSettled.{IsAccounted}
 use Rattle.coverage.specs.GoesOn.{IsHeld}
 use Rattle.coverage.specs.Statements.{OnIndex, Empty, Held, Copied, Moving, Dropping, Phase, NotBuilding, Vacant, Growing, Evacuating, Placing, IsAt, Statement}
@@ -13,14 +14,14 @@ use Rattle.coverage.proofs.Settled.{accounted_settled}
 use Rattle.coverage.proofs.Formed.{named_formed, held_formed}
 
 on_index_held : (w : IndexView) (s m : ℕ) (Makes : IndexTuple → IndexTuple → Type 0) (on_index : OnIndex) → KnowsOnIndex w s m Makes on_index
-    → (range : ℕ) (x : TuplePlace) → OnIndexHolds m on_index range x → IsHeld w range x
+    → (range : ℕ) (x : Spot) → OnIndexHolds m on_index range x → IsHeld w range x
 on_index_held w s m Makes Empty known range x holds = absurd holds
 on_index_held w s m Makes (Held y) known range x holds = subst (λ n. IsHeld w n x) holds.0 (subst (λ z. IsHeld w m z) holds.1 known.1)
 on_index_held w s m Makes (Copied y old new) known range x holds = subst (λ n. IsHeld w n x) holds.0 (subst (λ z. IsHeld w m z) holds.1 known.1)
 on_index_held w s m Makes (Moving y z old new) known range x holds = absurd holds
 on_index_held w s m Makes (Dropping y) known range x holds = absurd holds
 
-phase_held : (w : IndexView) (s m : ℕ) (phase : Phase) → KnowsPhase w s m phase → (range : ℕ) (x : TuplePlace) → PhaseHolds m phase range x → IsHeld w range x
+phase_held : (w : IndexView) (s m : ℕ) (phase : Phase) → KnowsPhase w s m phase → (range : ℕ) (x : Spot) → PhaseHolds m phase range x → IsHeld w range x
 phase_held w s m (NotBuilding on_index) known range x holds = on_index_held w s m MakesNone on_index known range x holds
 phase_held w s m Vacant known range x holds = absurd holds
 phase_held w s m Growing known range x holds = absurd holds
@@ -28,7 +29,7 @@ phase_held w s m (Evacuating n on_index) known range x holds = on_index_held w s
 phase_held w s m (Placing y) known range x holds = absurd holds
 phase_held w s m (IsAt p on_index) known range x holds = on_index_held w s m (MakesUnited p) on_index known.0 range x holds
 
-statement_held : (w : IndexView) (s : ℕ) (d : Statement) → Knows w s d → (range : ℕ) (x : TuplePlace) → StatementHolds w d range x → IsHeld w range x
+statement_held : (w : IndexView) (s : ℕ) (d : Statement) → Knows w s d → (range : ℕ) (x : Spot) → StatementHolds w d range x → IsHeld w range x
 statement_held w s Idle known range x holds = absurd holds
 statement_held w s (Inserting b k r on_index) known range x holds = on_index_held w s (range_of_block w b) (IsAdded r) on_index known.2 range x holds
 statement_held w s (Maintaining m phase) known range x holds = phase_held w s m phase known.1 range x holds
@@ -61,7 +62,7 @@ kept_covered w kept = record {
 }
 
 -- a tuple of the range at a place that a statement holds is one of the index
-pub read_formed : (w : IndexState) (s range : ℕ) (x : TuplePlace) (t : IndexTuple) → IsIndexKept w → StatementHolds (index_view w) (w.statement s) range x
+pub read_formed : (w : IndexState) (s range : ℕ) (x : Spot) (t : IndexTuple) → IsIndexKept w → StatementHolds (index_view w) (w.statement s) range x
     → w.tuple x ≡ Some t → t.range ≡ range → IsTupleOf (index_view w) t
 read_formed w s range x t kept holds here of = held_formed (index_view w) range x t kept.sound
     (statement_held (index_view w) s (w.statement s) (kept.knows s) range x holds) here of

@@ -2,7 +2,8 @@
 use Rattle.std.proofs.Common.{◌≡◌, ◌⊎◌, inl, inr, ℕ, ◌+◌, ◌*◌, ◌≤◌, ◌<◌, min, Option, Some, sym, ◌∙◌, ap, subst, arith, add-one, suc-mul}
 use Rattle.std.specs.Prelude.{refl}
 use Rattle.block_model.specs.declared.row.Row.{Row}
-use Rattle.coverage.specs.IndexView.{TuplePlace, IndexTuple, Contents, Progress, ExtentUnread, Passing, IndexView, IsRangeOf}
+use Rattle.block_model.specs.declared.place.Spot.{Spot}
+use Rattle.coverage.specs.IndexView.{IndexTuple, Contents, Progress, ExtentUnread, Passing, IndexView, IsRangeOf}
 use Rattle.coverage.specs.Changes.{SameHeap}
 use Rattle.coverage.specs.Statements.{OnIndex, Empty, Copied, Moving, Phase, IsAt, Statement, Maintaining}
 use Rattle.coverage.specs.Knowing.{KnowsPhase, Knows}
@@ -112,7 +113,7 @@ module _ (s range : ℕ) (w v : IndexState) (kept : IsIndexKept w) where
       whole first per blocks past extent next some below last is over (inl le) = omega arith
       whole first per blocks past extent next some below last is over (inr same) = omega arith
 
-  swap_final : (p : Progress) (x : TuplePlace) (old new : IndexTuple) → w.statement s ≡ Maintaining range (IsAt p (Copied x old new))
+  swap_final : (p : Progress) (x : Spot) (old new : IndexTuple) → w.statement s ≡ Maintaining range (IsAt p (Copied x old new))
       → ReplacesTuple s view (index_view v) x old new → IsExact view range (IsAt p (Copied x old new)) → NamesExactFinal view (index_view v) range
   swap_final ExtentUnread x old new was swap is = absurd ((known_at (IsAt ExtentUnread (Copied x old new)) was).0.0.3)
   swap_final (Passing extent next result) x old new was swap is =
@@ -126,7 +127,7 @@ module _ (s range : ℕ) (w v : IndexState) (kept : IsIndexKept w) where
         (x, swap.frame.map.entry range ∙ named, swap.tuple.now ∙ ap Some is.2),
       )
 
-  set_final : (p : Progress) (x y : TuplePlace) (old new : IndexTuple) → w.statement s ≡ Maintaining range (IsAt p (Moving x y old new))
+  set_final : (p : Progress) (x y : Spot) (old new : IndexTuple) → w.statement s ≡ Maintaining range (IsAt p (Moving x y old new))
       → SetsEntry s view (index_view v) range y → IsExact view range (IsAt p (Moving x y old new)) → NamesExactFinal view (index_view v) range
   set_final ExtentUnread x y old new was sets is = absurd ((known_at (IsAt ExtentUnread (Moving x y old new)) was).0.0.6)
   set_final (Passing extent next result) x y old new was sets is =
@@ -136,7 +137,7 @@ module _ (s range : ℕ) (w v : IndexState) (kept : IsIndexKept w) where
         result,
         (x, own.2, own.3),
         all_passed extent next result is.0 own.6.0 known.0.1 known.1.2 is.1,
-        (y, sets.now, sets.frame.tuples.tuple y ∙ own.4 ∙ ap Some is.2),
+        (y, sets.entry.now, sets.frame.tuples.tuple y ∙ own.4 ∙ ap Some is.2),
       )
 
   pub exact_final : (old : Phase) (e : Statement) (step : SummariseStep s range view (index_view v) old e) → w.statement s ≡ Maintaining range old

@@ -18,7 +18,7 @@ flag_of true = 1
 
 abbrev pub tuple_of : ℕ → (placeholder all : Bool) → IndexTuple
 tuple_of range placeholder all =
-    record { bytes = range ∷ flag_of placeholder ∷ rest_of all; range = range; placeholder = placeholder; includes = λ r. all }
+    record { bytes = range ∷ flag_of placeholder ∷ rest_of all; range = range; placeholder = placeholder; includes = λ r. all; keeps = λ conds. true }
 
 abbrev is_flag : ℕ → Bool
 is_flag zero = false

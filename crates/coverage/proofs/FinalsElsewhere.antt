@@ -2,7 +2,8 @@
 use Rattle.std.proofs.Common.{◌≡◌, ◌≢◌, ⊎_elim, ℕ, Some, sym, ◌∙◌, ap}
 use Rattle.std.proofs.lemmas.Option.{same_Some, none-some}
 use Rattle.std.proofs.lemmas.Bool.{cases_eq}
-use Rattle.coverage.specs.IndexView.{TuplePlace, IndexTuple, IndexView}
+use Rattle.block_model.specs.declared.place.Spot.{Spot}
+use Rattle.coverage.specs.IndexView.{IndexTuple, IndexView}
 use Rattle.coverage.specs.Changes.{SameMap, SameTuples, IsUntouched}
 use Rattle.coverage.specs.Statements.{OnIndex, Phase, Statement}
 use Rattle.coverage.specs.Knowing.{KnowsPhase}
@@ -20,14 +21,14 @@ module _ (s : ℕ) (w v : IndexView) (m : ℕ) where
   reads_final : ReadsIndex s w v → NamesFinal v m → NamesFinal w m
   reads_final reads final = same_final reads.frame.map reads.frame.tuples final
 
-  drops_final : (x : TuplePlace) → DropsTuple s w v x → NamesFinal v m → NamesFinal w m
+  drops_final : (x : Spot) → DropsTuple s w v x → NamesFinal v m → NamesFinal w m
   drops_final x drops final = ⊎_elim
-      (λ (is : final.1.0 ≡ x). absurd (none-some _ (sym drops.now ∙ sym (ap v.tuple is) ∙ final.1.2)))
+      (λ (is : final.1.0 ≡ x). absurd (none-some _ (sym drops.tuple.now ∙ sym (ap v.tuple is) ∙ final.1.2)))
       (λ (same : v.tuple final.1.0 ≡ w.tuple final.1.0).
       (final.0, (final.1.0, sym (drops.frame.map.entry m) ∙ final.1.1, sym same ∙ final.1.2), final.2))
-      (drops.others final.1.0)
+      (drops.tuple.others final.1.0)
 
-  puts_final : AreNamed w → (y : TuplePlace) (t : IndexTuple) → PutsTuple s w v y t → NamesFinal v m → NamesFinal w m
+  puts_final : AreNamed w → (y : Spot) (t : IndexTuple) → PutsTuple s w v y t → NamesFinal v m → NamesFinal w m
   puts_final named y t puts final =
       let before : w.entry m ≡ Some final.1.0 = sym (puts.frame.map.entry m) ∙ final.1.1 in
       ⊎_elim
@@ -35,7 +36,7 @@ module _ (s : ℕ) (w v : IndexView) (m : ℕ) where
       (λ (same : v.tuple final.1.0 ≡ w.tuple final.1.0). (final.0, (final.1.0, before, sym same ∙ final.1.2), final.2))
       (puts.tuple.others final.1.0)
 
-  pub sweeps_final : (p : ℕ) (Sweeping : TuplePlace → Type 0) → SweepsTuples s w v p Sweeping → NamesFinal v m → NamesFinal w m
+  pub sweeps_final : (p : ℕ) (Sweeping : Spot → Type 0) → SweepsTuples s w v p Sweeping → NamesFinal v m → NamesFinal w m
   sweeps_final p Sweeping sweeps final = ⊎_elim
       (λ (same : IsUntouched w v final.1.0).
       (final.0, (final.1.0, sym (sweeps.frame.map.entry m) ∙ final.1.1, sym same.0 ∙ final.1.2), final.2))
@@ -43,7 +44,7 @@ module _ (s : ℕ) (w v : IndexView) (m : ℕ) where
       (sweeps.places final.1.0)
 
   -- the tuple of one range gives way, and another range doesn't name it
-  swaps_final : AreNamed w → (range : ℕ) → m ≢ range → (x : TuplePlace) (old new : IndexTuple) → old.range ≡ range → ReplacesTuple s w v x old new
+  swaps_final : AreNamed w → (range : ℕ) → m ≢ range → (x : Spot) (old new : IndexTuple) → old.range ≡ range → ReplacesTuple s w v x old new
       → NamesFinal v m → NamesFinal w m
   swaps_final named range other x old new of swap final =
       let before : w.entry m ≡ Some final.1.0 = sym (swap.frame.map.entry m) ∙ final.1.1 in
@@ -55,19 +56,19 @@ module _ (s : ℕ) (w v : IndexView) (m : ℕ) where
       (λ (same : v.tuple final.1.0 ≡ w.tuple final.1.0). (final.0, (final.1.0, before, sym same ∙ final.1.2), final.2))
       (swap.tuple.others final.1.0)
 
-  sets_final : (range : ℕ) → m ≢ range → (y : TuplePlace) → SetsEntry s w v range y → NamesFinal v m → NamesFinal w m
+  sets_final : (range : ℕ) → m ≢ range → (y : Spot) → SetsEntry s w v range y → NamesFinal v m → NamesFinal w m
   sets_final range other y sets final = ⊎_elim
       (λ (is : m ≡ range). absurd (other is))
       (λ (same : v.entry m ≡ w.entry m).
       (final.0, (final.1.0, sym same ∙ final.1.1, sym (sets.frame.tuples.tuple final.1.0) ∙ final.1.2), final.2))
-      (sets.others m)
+      (sets.entry.others m)
 
   -- a tuple that moves for the map stays as it is
-  moves_final : (n : ℕ) (x y : TuplePlace) (t u : IndexTuple) → w.entry n ≡ Some x → w.tuple x ≡ Some t → w.tuple y ≡ Some u → u ≡ t → SetsEntry s w v n y
+  moves_final : (n : ℕ) (x y : Spot) (t u : IndexTuple) → w.entry n ≡ Some x → w.tuple x ≡ Some t → w.tuple y ≡ Some u → u ≡ t → SetsEntry s w v n y
       → NamesFinal v m → NamesFinal w m
   moves_final n x y t u entry there put same sets final = ⊎_elim
       (λ (is : m ≡ n).
-      let place : final.1.0 ≡ y = same_Some _ _ (sym final.1.1 ∙ ap v.entry is ∙ sets.now) in
+      let place : final.1.0 ≡ y = same_Some _ _ (sym final.1.1 ∙ ap v.entry is ∙ sets.entry.now) in
       let one : final.0 ≡ t = same_Some _ _ (sym final.1.2 ∙ ap v.tuple place ∙ sets.frame.tuples.tuple y ∙ put) ∙ same in
       (t, (x, ap w.entry is ∙ entry, there), sym (ap (λ (z : IndexTuple). z.placeholder) one) ∙ final.2))
       (λ (other : m ≢ n). sets_final n other y sets final)

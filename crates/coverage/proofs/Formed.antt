@@ -3,7 +3,8 @@ use Rattle.std.proofs.Common.{◌≡◌, ◌⊎◌, inl, inr, ⊎_elim, ℕ, ◌
 use Rattle.std.specs.Prelude.{IsTrue}
 use Rattle.std.proofs.lemmas.Option.{same_Some, none-some}
 use Rattle.block_model.specs.declared.row.Row.{Row}
-use Rattle.coverage.specs.IndexView.{TuplePlace, IndexTuple, Contents, IsFormed, Progress, IndexView, IsRangeOf, IsTupleOf}
+use Rattle.block_model.specs.declared.place.Spot.{Spot}
+use Rattle.coverage.specs.IndexView.{IndexTuple, Contents, IsFormed, Progress, IndexView, IsRangeOf, IsTupleOf}
 use Rattle.coverage.specs.IsSound.{IsSound}
 use Rattle.coverage.specs.GoesOn.{IsHeld}
 use Rattle.coverage.specs.Changes.{SameHeap, SameTuples, SameUnnamed, PutsRow, Places, Names, Turn, Swaps, MovePuts, MoveSets, DropsLoose, Clears, IsUntouched}
@@ -34,9 +35,9 @@ module _ (w v : IndexView) (contents : v.contents ≡ w.contents) (ranges : v.pa
   range_of_on range is = (in_blocks range is.0, subst (λ (c : Contents). range < c.ranges) (sym contents) is.1)
 
   -- a tuple that comes is one of the index, and what was unnamed stays so or goes
-  came_formed : IsSound w → ((x : TuplePlace) (t : IndexTuple) → v.tuple x ≡ Some t → (w.tuple x ≡ Some t) ⊎ IsTupleOf w t)
-      → ((x : TuplePlace) → IsTrue (w.unnamed x) → IsTrue (v.unnamed x) ⊎ (v.tuple x ≡ None))
-      → (x : TuplePlace) (t : IndexTuple) → v.tuple x ≡ Some t → IsTupleOf v t ⊎ IsTrue (v.unnamed x)
+  came_formed : IsSound w → ((x : Spot) (t : IndexTuple) → v.tuple x ≡ Some t → (w.tuple x ≡ Some t) ⊎ IsTupleOf w t)
+      → ((x : Spot) → IsTrue (w.unnamed x) → IsTrue (v.unnamed x) ⊎ (v.tuple x ≡ None))
+      → (x : Spot) (t : IndexTuple) → v.tuple x ≡ Some t → IsTupleOf v t ⊎ IsTrue (v.unnamed x)
   came_formed sound came stays x t here = ⊎_elim
       (λ (was : w.tuple x ≡ Some t). ⊎_elim
       (λ (is : IsTupleOf w t). inl (tuple_of_on t is))
@@ -49,9 +50,9 @@ module _ (w v : IndexView) (contents : v.contents ≡ w.contents) (ranges : v.pa
       (came x t here)
 
 abbrev AreFormed : IndexView → Type 0
-AreFormed v = (x : TuplePlace) (t : IndexTuple) → v.tuple x ≡ Some t → IsTupleOf v t ⊎ IsTrue (v.unnamed x)
+AreFormed v = (x : Spot) (t : IndexTuple) → v.tuple x ≡ Some t → IsTupleOf v t ⊎ IsTrue (v.unnamed x)
 
-still : (w v : IndexView) → SameUnnamed w v → (x : TuplePlace) → IsTrue (w.unnamed x) → IsTrue (v.unnamed x) ⊎ (v.tuple x ≡ None)
+still : (w v : IndexView) → SameUnnamed w v → (x : Spot) → IsTrue (w.unnamed x) → IsTrue (v.unnamed x) ⊎ (v.tuple x ≡ None)
 still w v same x unnamed = inl (same.unnamed x ∙ unnamed)
 
 -- no tuple changes
@@ -65,33 +66,33 @@ all_formed : (w v : IndexView) → IsSound w → v.contents ≡ w.contents → S
 all_formed w v sound contents heap same unnamed = same_formed w v sound contents heap.pages_per_range (no_less v.blocks w.blocks heap.blocks) same unnamed
 
 -- one tuple comes or goes
-one_formed : (w v : IndexView) → IsSound w → v.contents ≡ w.contents → SameHeap w v → SameUnnamed w v → (y : TuplePlace)
-    → ((t : IndexTuple) → v.tuple y ≡ Some t → IsTupleOf w t) → ((x : TuplePlace) → (x ≡ y) ⊎ (v.tuple x ≡ w.tuple x)) → AreFormed v
+one_formed : (w v : IndexView) → IsSound w → v.contents ≡ w.contents → SameHeap w v → SameUnnamed w v → (y : Spot)
+    → ((t : IndexTuple) → v.tuple y ≡ Some t → IsTupleOf w t) → ((x : Spot) → (x ≡ y) ⊎ (v.tuple x ≡ w.tuple x)) → AreFormed v
 one_formed w v sound contents heap unnamed y one others =
     came_formed w v contents heap.pages_per_range (no_less v.blocks w.blocks heap.blocks) sound came (still w v unnamed)
   where
-    came : (x : TuplePlace) (t : IndexTuple) → v.tuple x ≡ Some t → (w.tuple x ≡ Some t) ⊎ IsTupleOf w t
+    came : (x : Spot) (t : IndexTuple) → v.tuple x ≡ Some t → (w.tuple x ≡ Some t) ⊎ IsTupleOf w t
     came x t here = ⊎_elim
         (λ (is : x ≡ y). inr (one t (ap v.tuple (sym is) ∙ here)))
         (λ (same : v.tuple x ≡ w.tuple x). inl (sym same ∙ here))
         (others x)
 
 -- a tuple that the map names is one of the index
-pub named_formed : (w : IndexView) (range : ℕ) (x : TuplePlace) (t : IndexTuple) → IsSound w → w.entry range ≡ Some x → w.tuple x ≡ Some t → IsTupleOf w t
+pub named_formed : (w : IndexView) (range : ℕ) (x : Spot) (t : IndexTuple) → IsSound w → w.entry range ≡ Some x → w.tuple x ≡ Some t → IsTupleOf w t
 named_formed w range x t sound named here = ⊎_elim
     (λ (is : IsTupleOf w t). is)
     (λ (unnamed : IsTrue (w.unnamed x)). absurd ((sound.unnamed_tuples x unnamed).unnamed range named))
     (sound.formed x t here)
 
 -- so is a tuple in a session's hands
-pub loose_formed : (w : IndexView) (s : ℕ) (x : TuplePlace) (t : IndexTuple) → IsSound w → w.loose s ≡ Some x → w.tuple x ≡ Some t → IsTupleOf w t
+pub loose_formed : (w : IndexView) (s : ℕ) (x : Spot) (t : IndexTuple) → IsSound w → w.loose s ≡ Some x → w.tuple x ≡ Some t → IsTupleOf w t
 loose_formed w s x t sound loose here = ⊎_elim
     (λ (is : IsTupleOf w t). is)
     (λ (unnamed : IsTrue (w.unnamed x)). absurd ((sound.unnamed_tuples x unnamed).apart s loose))
     (sound.formed x t here)
 
 -- and a tuple of the range at a place that a statement holds
-pub held_formed : (w : IndexView) (range : ℕ) (x : TuplePlace) (t : IndexTuple) → IsSound w → IsHeld w range x → w.tuple x ≡ Some t → t.range ≡ range
+pub held_formed : (w : IndexView) (range : ℕ) (x : Spot) (t : IndexTuple) → IsSound w → IsHeld w range x → w.tuple x ≡ Some t → t.range ≡ range
     → IsTupleOf w t
 held_formed w range x t sound held here of = ⊎_elim
     (λ (named : w.entry range ≡ Some x). named_formed w range x t sound named here)
@@ -99,7 +100,7 @@ held_formed w range x t sound held here of = ⊎_elim
     (held t here of)
 
 -- a new tuple of the range of one that the map names
-pub made_formed : (w : IndexView) (range : ℕ) (x : TuplePlace) (old new : IndexTuple) → IsSound w → w.entry range ≡ Some x → w.tuple x ≡ Some old
+pub made_formed : (w : IndexView) (range : ℕ) (x : Spot) (old new : IndexTuple) → IsSound w → w.entry range ≡ Some x → w.tuple x ≡ Some old
     → (old.range ≡ range) × (new.range ≡ range) → IsFormed w.contents new → IsTupleOf w new
 made_formed w range x old new sound named here of formed =
     (formed, subst (λ n. n * w.pages_per_range < w.blocks) (of.0 ∙ sym of.1) (named_formed w range x old sound named here).1)
@@ -112,50 +113,50 @@ pub puts_row_formed : (s : ℕ) (w v : IndexView) (b k : ℕ) (r : Row) → IsSo
 puts_row_formed s w v b k r sound kind =
     same_formed w v sound kind.frame.contents kind.row.pages_per_range kind.row.grown kind.frame.tuples kind.frame.unnamed_tuples
 
-pub places_formed : (s : ℕ) (w v : IndexView) (x : TuplePlace) (t : IndexTuple) → IsSound w → Places s w v x t → AreFormed v
+pub places_formed : (s : ℕ) (w v : IndexView) (x : Spot) (t : IndexTuple) → IsSound w → Places s w v x t → AreFormed v
 places_formed s w v x t sound kind = one_formed w v sound kind.frame.contents kind.frame.heap kind.frame.unnamed_tuples x
     (λ u here. subst (IsTupleOf w) (same_Some _ _ (sym kind.tuple.now ∙ here)) kind.formed) kind.tuple.others
 
-pub names_formed : (s : ℕ) (w v : IndexView) (range : ℕ) (x : TuplePlace) (t : IndexTuple) → IsSound w → Names s w v range x t → AreFormed v
+pub names_formed : (s : ℕ) (w v : IndexView) (range : ℕ) (x : Spot) (t : IndexTuple) → IsSound w → Names s w v range x t → AreFormed v
 names_formed s w v range x t sound kind = all_formed w v sound kind.frame.contents kind.frame.heap kind.frame.tuples kind.frame.unnamed_tuples
 
 pub turn_formed : (s : ℕ) (w v : IndexView) (range : ℕ) (old new : Option Progress) → IsSound w → Turn s w v range old new → AreFormed v
 turn_formed s w v range old new sound kind = all_formed w v sound kind.frame.contents kind.frame.heap kind.frame.tuples kind.frame.unnamed_tuples
 
-pub swaps_formed : (s : ℕ) (w v : IndexView) (range : ℕ) (x : TuplePlace) (old new : IndexTuple) → IsSound w → Swaps s w v range x old new → AreFormed v
+pub swaps_formed : (s : ℕ) (w v : IndexView) (range : ℕ) (x : Spot) (old new : IndexTuple) → IsSound w → Swaps s w v range x old new → AreFormed v
 swaps_formed s w v range x old new sound kind = one_formed w v sound kind.frame.contents kind.frame.heap kind.frame.unnamed_tuples x
     (λ u here. subst (IsTupleOf w) (same_Some _ _ (sym kind.tuple.now ∙ here))
     (made_formed w range x old new sound kind.entry kind.tuple.was kind.of kind.formed)) kind.tuple.others
 
-pub move_puts_formed : (s : ℕ) (w v : IndexView) (range : ℕ) (x y : TuplePlace) (old new : IndexTuple) → IsSound w → MovePuts s w v range x y old new
+pub move_puts_formed : (s : ℕ) (w v : IndexView) (range : ℕ) (x y : Spot) (old new : IndexTuple) → IsSound w → MovePuts s w v range x y old new
     → AreFormed v
 move_puts_formed s w v range x y old new sound kind = one_formed w v sound kind.frame.contents kind.frame.heap kind.frame.unnamed_tuples y
     (λ u here. subst (IsTupleOf w) (same_Some _ _ (sym kind.tuple.now ∙ here))
     (made_formed w range x old new sound kind.entry kind.before kind.of kind.formed)) kind.tuple.others
 
-pub move_sets_formed : (s : ℕ) (w v : IndexView) (range : ℕ) (x y : TuplePlace) (old new : IndexTuple) → IsSound w → MoveSets s w v range x y old new
+pub move_sets_formed : (s : ℕ) (w v : IndexView) (range : ℕ) (x y : Spot) (old new : IndexTuple) → IsSound w → MoveSets s w v range x y old new
     → AreFormed v
 move_sets_formed s w v range x y old new sound kind =
     all_formed w v sound kind.frame.contents kind.frame.heap kind.frame.tuples kind.frame.unnamed_tuples
 
-pub drops_formed : (s : ℕ) (w v : IndexView) (x : TuplePlace) (old : IndexTuple) → IsSound w → DropsLoose s w v x old → AreFormed v
+pub drops_formed : (s : ℕ) (w v : IndexView) (x : Spot) (old : IndexTuple) → IsSound w → DropsLoose s w v x old → AreFormed v
 drops_formed s w v x old sound kind = one_formed w v sound kind.frame.contents kind.frame.heap kind.frame.unnamed_tuples x
     (λ u here. absurd (none-some _ (sym kind.tuple.now ∙ here))) kind.tuple.others
 
-pub clears_formed : (s : ℕ) (w v : IndexView) (range : ℕ) (x : TuplePlace) → IsSound w → Clears s w v range x → AreFormed v
+pub clears_formed : (s : ℕ) (w v : IndexView) (range : ℕ) (x : Spot) → IsSound w → Clears s w v range x → AreFormed v
 clears_formed s w v range x sound kind = all_formed w v sound kind.frame.contents kind.frame.heap kind.frame.tuples kind.frame.unnamed_tuples
 
 pub sweeps_formed : (s : ℕ) (w v : IndexView) (p : ℕ) → IsSound w → Sweeps s w v p → AreFormed v
 sweeps_formed s w v p sound kind =
     came_formed w v kind.frame.contents kind.frame.heap.pages_per_range (no_less v.blocks w.blocks kind.frame.heap.blocks) sound came stays
   where
-    came : (x : TuplePlace) (t : IndexTuple) → v.tuple x ≡ Some t → (w.tuple x ≡ Some t) ⊎ IsTupleOf w t
+    came : (x : Spot) (t : IndexTuple) → v.tuple x ≡ Some t → (w.tuple x ≡ Some t) ⊎ IsTupleOf w t
     came x t here = ⊎_elim
         (λ (same : IsUntouched w v x). inl (sym same.0 ∙ here))
         (λ (swept : IsSwept w v p x). absurd (none-some _ (sym swept.now ∙ here)))
         (kind.places x)
 
-    stays : (x : TuplePlace) → IsTrue (w.unnamed x) → IsTrue (v.unnamed x) ⊎ (v.tuple x ≡ None)
+    stays : (x : Spot) → IsTrue (w.unnamed x) → IsTrue (v.unnamed x) ⊎ (v.tuple x ≡ None)
     stays x unnamed = ⊎_elim
         (λ (same : IsUntouched w v x). inl (same.1 ∙ unnamed))
         (λ (swept : IsSwept w v p x). inr swept.now)

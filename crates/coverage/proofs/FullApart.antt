@@ -1,7 +1,8 @@
 -- Where a statement lacks a page for what it has to put, it has no step.
 use Rattle.std.proofs.Common.{◌≡◌, ℕ, ◌≤◌, ◌<◌, Some, None, length, sym, ◌∙◌, subst, arith}
 use Rattle.block_model.specs.declared.row.Row.{Row}
-use Rattle.coverage.specs.IndexView.{TuplePlace, IndexTuple, Emptying, IndexView, range_of_block, next_map_page, placeholder_length}
+use Rattle.block_model.specs.declared.place.Spot.{Spot}
+use Rattle.coverage.specs.IndexView.{IndexTuple, Emptying, IndexView, range_of_block, next_map_page, placeholder_length}
 use Rattle.std.specs.Prelude.{refl}
 use Rattle.coverage.specs.Verdicts.{Verdict, Differs, Fits, Puts, Full, PutVerdict, NoTarget, SwapVerdict, SwapMoves}
 use Rattle.coverage.specs.Statements.{OnIndex, Copied, Phase, Statement, loose_in, loose_at}
@@ -21,20 +22,20 @@ crosses : (n m : ℕ) → n < m → m ≤ n → ⊥
 crosses n m less le = omega arith
 
 module _ (w : IndexView) (s range number : ℕ) where
-  full_fits : (x : TuplePlace) (old new : IndexTuple) → SwapVerdict w s range x old new (Full number) → SwapVerdict w s range x old new Fits → ⊥
+  full_fits : (x : Spot) (old new : IndexTuple) → SwapVerdict w s range x old new (Full number) → SwapVerdict w s range x old new Fits → ⊥
   full_fits x old new full fits = subst IsFull (swap_once w s range x old new (Full number) Fits full fits) tt
 
-  full_judged : (x : TuplePlace) (old new : IndexTuple) (h : OnIndex) → SwapVerdict w s range x old new (Full number) → NextOnIndex w s range (Copied x old new) h → ⊥
+  full_judged : (x : Spot) (old new : IndexTuple) (h : OnIndex) → SwapVerdict w s range x old new (Full number) → NextOnIndex w s range (Copied x old new) h → ⊥
   full_judged x old new _ full (Changed _ _ _ differs) = subst IsFull (swap_once w s range x old new (Full number) Differs full differs) tt
   full_judged x old new _ full (Moved _ y _ _ puts) = subst IsFull (swap_once w s range x old new (Full number) (Puts y) full puts) tt
 
-  full_grows : (x : TuplePlace) (t : IndexTuple) (new : Phase) → IsNextTuple w (next_map_page w) x t → w.entry t.range ≡ Some x
+  full_grows : (x : Spot) (t : IndexTuple) (new : Phase) → IsNextTuple w.tuple (next_map_page w.pages) x t → w.entry t.range ≡ Some x
       → PutVerdict w s t.range (length t.bytes) (Full number) → NextGrowth w s Emptying new → ⊥
   full_grows x t _ next named full (MovesNext x' y t' next' named' verdict) =
-      let same = next_once w (next_map_page w) x x' t t' next next' in
+      let same = next_once w (next_map_page w.pages) x x' t t' next next' in
       subst IsFull (put_once w s t.range (length t.bytes) (Full number) (Puts y) full
       (subst (λ (u : IndexTuple). PutVerdict w s u.range (length u.bytes) (Puts y)) (sym same.1) verdict)) tt
-  full_grows x t _ next named full (SweepsNext x' t' next' unnamed) = named_or_not w (next_map_page w) x x' t t' next next' named unnamed
+  full_grows x t _ next named full (SweepsNext x' t' next' unnamed) = named_or_not w (next_map_page w.pages) x x' t t' next next' named unnamed
   full_grows x t _ next named full (Turns none) = none x t next
 
 phase_full : (w : IndexView) (s range number : ℕ) (phase : Phase) (e : Statement) → IsPhaseFull w s range phase number → NextPhase w s range phase e → ⊥
@@ -43,7 +44,7 @@ phase_full w s range number _ _ (FinalFull _ _ x old new full) (SwapsFinal _ _ _
 phase_full w s range number _ _ (PlaceFull _ long full) (Lengthens kind new grows growth) = long grows.short
 phase_full w s range number _ _ (PlaceFull _ long full) (Places y long' verdict) =
     subst IsFull (put_once w s range (placeholder_length w range) (Full number) (Puts y) full verdict) tt
-phase_full w s range _ _ _ (MapFull past limit) (Lengthens kind new grows growth) = crosses (next_map_page w) w.pages.limit grows.below limit
+phase_full w s range _ _ _ (MapFull past limit) (Lengthens kind new grows growth) = crosses (next_map_page w.pages) w.pages.limit grows.below limit
 phase_full w s range _ _ _ (MapFull past limit) (Places y long verdict) = long past
 phase_full w s range number _ _ (EvacuateFull _ x t grows next named free full) (Lengthens kind new grows' growth) =
     full_grows w s range number x t new next named full (subst (λ l. NextGrowth w s l new) (sym grows'.is ∙ grows.is) growth)
@@ -52,12 +53,12 @@ phase_full w s range number _ _ (EvacuateFull _ x t grows next named free full) 
 pub summarise_full : (w v : IndexView) (s range number : ℕ) (phase : Phase) (e : Statement) → IsPhaseFull w s range phase number → SummariseStep s range w v phase e → ⊥
 summarise_full w v s range number phase e full step = phase_full w s range number phase e full (summarise_next s range w v phase e step)
 
-insert_next_full : (w : IndexView) (s b k number : ℕ) (r : Row) (x : TuplePlace) (old new : IndexTuple) (e : Statement)
+insert_next_full : (w : IndexView) (s b k number : ℕ) (r : Row) (x : Spot) (old new : IndexTuple) (e : Statement)
     → SwapVerdict w s (range_of_block w b) x old new (Full number) → NextInsert w s b k r (Copied x old new) e → ⊥
 insert_next_full w s b k number r x old new _ full (GoesOn _ h next) = full_judged w s (range_of_block w b) number x old new h full next
 insert_next_full w s b k number r x old new _ full (Swapped _ _ _ fits) = full_fits w s (range_of_block w b) number x old new full fits
 
-pub insert_full : (w v : IndexView) (s b k number : ℕ) (r : Row) (x : TuplePlace) (old new : IndexTuple) (e : Statement)
+pub insert_full : (w v : IndexView) (s b k number : ℕ) (r : Row) (x : Spot) (old new : IndexTuple) (e : Statement)
     → SwapVerdict w s (range_of_block w b) x old new (Full number) → InsertStep s b k r w v (Copied x old new) e → ⊥
 insert_full w v s b k number r x old new e full step = insert_next_full w s b k number r x old new e full (insert_next s b k r w v (Copied x old new) e step)
 
@@ -65,7 +66,7 @@ insert_full w v s b k number r x old new e full step = insert_next_full w s b k 
 pub full_put : (w : IndexView) (s range need number : ℕ) → PutVerdict w s range need (Full number) → number ≡ w.pages.limit
 full_put w s range need _ (NoTarget none) = refl
 
-pub full_swap : (w : IndexView) (s range number : ℕ) (x : TuplePlace) (old new : IndexTuple) → SwapVerdict w s range x old new (Full number)
+pub full_swap : (w : IndexView) (s range number : ℕ) (x : Spot) (old new : IndexTuple) → SwapVerdict w s range x old new (Full number)
     → number ≡ w.pages.limit
 full_swap w s range number x old new (SwapMoves _ free here must puts) = full_put w s range (length new.bytes) number puts
 

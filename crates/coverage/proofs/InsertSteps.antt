@@ -4,7 +4,8 @@ use Rattle.std.specs.Prelude.{refl, IsTrue}
 use Rattle.std.proofs.lemmas.Option.{same_Some, none-some}
 use Rattle.std.proofs.lemmas.Bool.{false≢true}
 use Rattle.block_model.specs.declared.row.Row.{Row}
-use Rattle.coverage.specs.IndexView.{TuplePlace, IndexTuple, IsFormed, IndexView, range_of_block}
+use Rattle.block_model.specs.declared.place.Spot.{Spot}
+use Rattle.coverage.specs.IndexView.{IndexTuple, IsFormed, IndexView, range_of_block}
 use Rattle.coverage.specs.IsSettled.{IsAccounted}
 use Rattle.coverage.specs.IsSound.{IsSound}
 use Rattle.coverage.specs.GoesOn.{GoesOn}
@@ -59,13 +60,13 @@ module _ (s b k : ℕ) (r : Row) (w v : IndexState) (sound : IsSound (index_view
   there_after on there = ⊎_elim (λ (e : v.row b k ≡ Some r). e) (λ (dead : IsTrue (never b k)). absurd (false≢true dead)) (on.rows b k r there)
 
   -- the entry of the row's range names a tuple that includes it
-  includes_settles : (x : TuplePlace) (t : IndexTuple) → v.entry (range_of_block (index_view v) b) ≡ Some x → v.tuple x ≡ Some t → IsTrue (t.includes r)
+  includes_settles : (x : Spot) (t : IndexTuple) → v.entry (range_of_block (index_view v) b) ≡ Some x → v.tuple x ≡ Some t → IsTrue (t.includes r)
       → IsAccounted (index_view v) b r
   includes_settles x t named here has y u named' here' =
       let place : x ≡ y = same_Some _ _ (sym named ∙ named') in
       inl (subst (λ (q : IndexTuple). IsTrue (q.includes r)) (same_Some _ _ (sym here ∙ ap v.tuple place ∙ here')) has)
 
-  at_range : (range : ℕ) → v.pages_per_range ≡ w.pages_per_range → (x : TuplePlace) → v.entry (range_of_block (index_view w) b) ≡ Some x
+  at_range : (range : ℕ) → v.pages_per_range ≡ w.pages_per_range → (x : Spot) → v.entry (range_of_block (index_view w) b) ≡ Some x
       → v.entry (range_of_block (index_view v) b) ≡ Some x
   at_range range same x named = ap v.entry (same_heap_range (index_view w) (index_view v) b same) ∙ named
 
@@ -88,7 +89,7 @@ module _ (s b k : ℕ) (r : Row) (w v : IndexState) (sound : IsSound (index_view
     }
 
     -- the index is complete
-    ends : e ≡ Idle → Both s (index_view w) (index_view v) → v.summarise_lock ≡ w.summarise_lock → LocksNone (index_view v) s → IsAccounted (index_view v) b r
+    ends : e ≡ Idle → Both s (index_view w) (index_view v) → v.summarise_lock ≡ w.summarise_lock → LocksNone v.lock s → IsAccounted (index_view v) b r
         → Outcome s never w v (Inserting b k r on_index) e
     ends is both summarise_lock none settled = record {
       sound = both.0;
@@ -148,7 +149,7 @@ module _ (s b k : ℕ) (r : Row) (w v : IndexState) (sound : IsSound (index_view
       sets.frame.summarise_lock
       (set_knows s w v (Inserting b k r (Moving x y old new)) (Inserting b k r (Dropping x)) turned sound (range_of_block (index_view w) b)
       (IsAdded r) makes_added (IsAdded r) (range_of_block (index_view w) b) x y old new known.2 sets locked)
-      (includes_settles y new (at_range 0 sets.frame.heap.pages_per_range y sets.now) (sets.frame.tuples.tuple y ∙ known.2.4) known.2.6.row)
+      (includes_settles y new (at_range 0 sets.frame.heap.pages_per_range y sets.entry.now) (sets.frame.tuples.tuple y ∙ known.2.4) known.2.6.row)
   insert_outcome _ _ (InsertDrop x drops) turned known =
       let both = drop_both s w v (Inserting b k r (Dropping x)) Idle turned sound x known.2.0 known.2.1 known.2.2 refl refl refl drops in
       ends (Dropping x) Idle turned known.0 known.1 known.2 refl both drops.frame.summarise_lock drops.none (both.1.settled b k r known.0 known.3)

@@ -1,7 +1,8 @@
 -- An insert that is stepped alone is done with an index within six steps.
 use Rattle.std.proofs.Common.{◌≡◌, ℕ, ◌/◌, ◌≤◌, Some, sym, ◌∙◌, ap, arith, suc}
 use Rattle.block_model.specs.declared.row.Row.{Row}
-use Rattle.coverage.specs.IndexView.{TuplePlace, IndexTuple, IndexView, range_of_block}
+use Rattle.block_model.specs.declared.place.Spot.{Spot}
+use Rattle.coverage.specs.IndexView.{IndexTuple, IndexView, range_of_block}
 use Rattle.coverage.specs.Verdicts.{Differs, SwapVerdict}
 use Rattle.coverage.specs.Statements.{OnIndex, Empty, Held, Copied, Moving, Dropping, Statement, Inserting}
 use Rattle.coverage.specs.Steps.{ReadsIndex, IsGone, Stands, OnIndexStep, Maps, Gone, Again, MovePut, InsertStep, InsertOnIndex, InsertNoEntry, InsertCopies, InsertUnchanged, InsertSwap, InsertSet, InsertDrop}
@@ -10,12 +11,12 @@ use Rattle.coverage.proofs.Verdicts.{swap_differs}
 
 -- where an insert goes on in the index
 data GoesTo (s range : ℕ) (w v : IndexView) : OnIndex → OnIndex → Type 0 where
-  ToPlace : (x : TuplePlace) → w.entry range ≡ Some x → ReadsIndex s w v → GoesTo s range w v Empty (Held x)
-  BackFromPlace : (x : TuplePlace) → IsGone w range x → ReadsIndex s w v → GoesTo s range w v (Held x) Empty
-  ToCopy : (x : TuplePlace) (old new : IndexTuple) → Stands w range x old → ReadsIndex s w v → GoesTo s range w v (Held x) (Copied x old new)
-  BackFromCopy : (x : TuplePlace) (old new : IndexTuple) → SwapVerdict w s range x old new Differs → ReadsIndex s w v → GoesTo s range w v (Copied x old new) Empty
-  ToMove : (x y : TuplePlace) (old new : IndexTuple) → GoesTo s range w v (Copied x old new) (Moving x y old new)
-  ToDrop : (x y : TuplePlace) (old new : IndexTuple) → GoesTo s range w v (Moving x y old new) (Dropping x)
+  ToPlace : (x : Spot) → w.entry range ≡ Some x → ReadsIndex s w v → GoesTo s range w v Empty (Held x)
+  BackFromPlace : (x : Spot) → IsGone w range x → ReadsIndex s w v → GoesTo s range w v (Held x) Empty
+  ToCopy : (x : Spot) (old new : IndexTuple) → Stands w range x old → ReadsIndex s w v → GoesTo s range w v (Held x) (Copied x old new)
+  BackFromCopy : (x : Spot) (old new : IndexTuple) → SwapVerdict w s range x old new Differs → ReadsIndex s w v → GoesTo s range w v (Copied x old new) Empty
+  ToMove : (x y : Spot) (old new : IndexTuple) → GoesTo s range w v (Copied x old new) (Moving x y old new)
+  ToDrop : (x y : Spot) (old new : IndexTuple) → GoesTo s range w v (Moving x y old new) (Dropping x)
 
 on_index_goes : (s range : ℕ) (w v : IndexView) (g h : OnIndex) → OnIndexStep s range w v g h → GoesTo s range w v g h
 on_index_goes s range w v _ _ (Maps x named reads) = ToPlace x named reads
@@ -56,14 +57,14 @@ at_most : (m : ℕ) → 1 ≤ suc m
 at_most m = omega arith
 
 module _ (s b k : ℕ) (r : Row) where
-  drop_bound : (n : ℕ) (w : IndexView) (x : TuplePlace) → InsertsAlone s b k r n w (Dropping x) → n ≤ 1
+  drop_bound : (n : ℕ) (w : IndexView) (x : Spot) → InsertsAlone s b k r n w (Dropping x) → n ≤ 1
   drop_bound _ w x (LastStep _ v _ new step) = at_most 0
   drop_bound _ w x (OneMore n _ v _ new step more) = no_way (insert_goes s b k r w v (Dropping x) (Inserting b k r new) step tt)
     where
       no_way : GoesTo s (range_of_block w b) w v (Dropping x) new → suc n ≤ 1
       no_way goes = elim goes [ ]
 
-  move_bound : (n : ℕ) (w : IndexView) (x y : TuplePlace) (old new : IndexTuple) → InsertsAlone s b k r n w (Moving x y old new) → n ≤ 2
+  move_bound : (n : ℕ) (w : IndexView) (x y : Spot) (old new : IndexTuple) → InsertsAlone s b k r n w (Moving x y old new) → n ≤ 2
   move_bound _ w x y old new (LastStep _ v _ e step) = at_most 1
   move_bound _ w x y old new (OneMore n _ v _ h step more) = by h (insert_goes s b k r w v (Moving x y old new) (Inserting b k r h) step tt) more
     where
@@ -71,7 +72,7 @@ module _ (s b k : ℕ) (r : Row) where
       by _ (ToDrop _ _ _ _) more = next n 1 (drop_bound n v x more)
 
   -- what is copied stands there still
-  copy_bound : (n : ℕ) (w : IndexView) (x : TuplePlace) (old new : IndexTuple) → w.tuple x ≡ Some old → InsertsAlone s b k r n w (Copied x old new) → n ≤ 3
+  copy_bound : (n : ℕ) (w : IndexView) (x : Spot) (old new : IndexTuple) → w.tuple x ≡ Some old → InsertsAlone s b k r n w (Copied x old new) → n ≤ 3
   copy_bound _ w x old new here (LastStep _ v _ e step) = at_most 2
   copy_bound _ w x old new here (OneMore n _ v _ h step more) = by h (insert_goes s b k r w v (Copied x old new) (Inserting b k r h) step tt) more
     where
@@ -80,7 +81,7 @@ module _ (s b k : ℕ) (r : Row) where
       by _ (ToMove _ y _ _) more = next n 2 (move_bound n v x y old new more)
 
   -- a tuple of the range stands at the held place
-  place_bound : (n : ℕ) (w : IndexView) (x : TuplePlace) (t : IndexTuple) → Stands w (range_of_block w b) x t → InsertsAlone s b k r n w (Held x) → n ≤ 4
+  place_bound : (n : ℕ) (w : IndexView) (x : Spot) (t : IndexTuple) → Stands w (range_of_block w b) x t → InsertsAlone s b k r n w (Held x) → n ≤ 4
   place_bound _ w x t stands (LastStep _ v _ e step) = at_most 3
   place_bound _ w x t stands (OneMore n _ v _ h step more) = by h (insert_goes s b k r w v (Held x) (Inserting b k r h) step tt) more
     where

@@ -29,6 +29,7 @@ pub mod WaitsOnce
 pub mod StepsExist
 pub mod SummariseExists
 pub mod InsertsEnd
+pub mod OnThisView
 pub mod Counted
 pub mod CountsExact
 pub mod FinalsElsewhere

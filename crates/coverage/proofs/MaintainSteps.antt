@@ -2,7 +2,8 @@
 use Rattle.std.proofs.Common.{◌≡◌, ◌≢◌, inl, inr, ⊎_elim, ℕ, ◌+◌, ◌*◌, ◌<◌, Option, Some, None, true, sym, ◌∙◌, ap, subst}
 use Rattle.std.specs.Prelude.{refl, IsTrue}
 use Rattle.std.proofs.lemmas.Option.{same_Some, none-some}
-use Rattle.coverage.specs.IndexView.{TuplePlace, IndexTuple, IsFormed, Progress, ExtentUnread, Passing, IndexView, next_map_page, IsRangeOf, IsBuilding}
+use Rattle.block_model.specs.declared.place.Spot.{Spot}
+use Rattle.coverage.specs.IndexView.{IndexTuple, IsFormed, Progress, ExtentUnread, Passing, IndexView, next_map_page, IsRangeOf, IsBuilding}
 use Rattle.coverage.specs.IsSound.{IsSound}
 use Rattle.coverage.specs.Changes.{SameHeap, TouchesNothing, Frame, at_work, Turns, StartsBuilding, ReadsExtent, PassesBlock, Carries, Places, Names, Turn as TurnKind}
 use Rattle.coverage.specs.Changes.{IsUntouched, Clears, Sweeps}
@@ -42,13 +43,13 @@ makes_united w s range (Passing extent next result) building old new how = (
 
 -- tuples that the map doesn't name go, whoever drops them
 module _ (s : ℕ) (w v : IndexState) (d e : Statement) (turned : Turned s w v d e) (sound : IsSound (index_view w)) where
-  pub unnamed_all : (x : TuplePlace) → IsUnnamed (index_view w) x → (m : ℕ) → w.entry m ≢ Some x
+  pub unnamed_all : (x : Spot) → IsUnnamed (index_view w) x → (m : ℕ) → w.entry m ≢ Some x
   unnamed_all x unnamed m is =
       let by_map = sound.entries_name_tuples m x is in
       let of : unnamed.0.range ≡ m = ap (λ (u : IndexTuple). u.range) (same_Some _ _ (sym unnamed.1 ∙ by_map.1)) ∙ by_map.2 in
       unnamed.2 (ap w.entry of ∙ is)
 
-  pub sweep_both : (p : ℕ) (Sweeping : TuplePlace → Type 0) → ((x : TuplePlace) → x.block ≡ p → Sweeping x → IsUnnamed (index_view w) x) → loose_of d ≡ None
+  pub sweep_both : (p : ℕ) (Sweeping : Spot → Type 0) → ((x : Spot) → x.block ≡ p → Sweeping x → IsUnnamed (index_view w) x) → loose_of d ≡ None
       → loose_of e ≡ None → building_of e ≡ building_of d
       → SweepsTuples s (index_view w) (index_view v) p Sweeping → Both s (index_view w) (index_view v)
   sweep_both p Sweeping unnamed was now work sweeps =
@@ -105,7 +106,7 @@ module _ (s range : ℕ) (w v : IndexState) (sound : IsSound (index_view w)) (su
   result_kept ExtentUnread same formed = tt
   result_kept (Passing extent next result) same formed = subst (λ c. IsFormed c result) (sym same) formed
 
-  put : (x : TuplePlace) (t : IndexTuple) → Turned s w v (Maintaining range Vacant) (Maintaining range (Placing x)) → t.range ≡ range → t.placeholder ≡ true
+  put : (x : Spot) (t : IndexTuple) → Turned s w v (Maintaining range Vacant) (Maintaining range (Placing x)) → t.range ≡ range → t.placeholder ≡ true
       → PutsTuple s (index_view w) (index_view v) x t
       → v.lock x.block ≡ Some s → w.entry range ≡ None → IsFormed w.contents t → IsRangeOf (index_view w) range → Left (Maintaining range (Placing x))
   put x t turned of flag puts locked none formed its =
@@ -132,13 +133,13 @@ module _ (s range : ℕ) (w v : IndexState) (sound : IsSound (index_view w)) (su
         ),
       )
 
-  set : (x : TuplePlace) → Turned s w v (Maintaining range (Placing x)) (Maintaining range (IsAt ExtentUnread Empty))
-      → SetsEntry s (index_view w) (index_view v) range x → LocksNone (index_view v) s
+  set : (x : Spot) → Turned s w v (Maintaining range (Placing x)) (Maintaining range (IsAt ExtentUnread Empty))
+      → SetsEntry s (index_view w) (index_view v) range x → LocksNone v.lock s
       → KnowsPhase (index_view w) s range (Placing x) → Left (Maintaining range (IsAt ExtentUnread Empty))
   set x turned sets none known =
       let t = known.1.1 in
       let kind : Names s (index_view w) (index_view v) range x t.0 = record {
-        entry = record { was = known.0; now = sets.now; others = sets.others };
+        entry = record { was = known.0; now = sets.entry.now; others = sets.entry.others };
         loose = loose_turns s w v (Maintaining range (Placing x)) (Maintaining range (IsAt ExtentUnread Empty)) turned (Some x) None refl refl;
         there = t.1;
         of = t.2;
@@ -154,7 +155,7 @@ module _ (s range : ℕ) (w v : IndexState) (sound : IsSound (index_view w)) (su
         (sets.frame.summarise_lock ∙ summarise_lock, (none, range_kept sets.frame.contents sets.frame.heap known.2, tt)),
       )
 
-  clear : (x : TuplePlace) → Turned s w v (Maintaining range (NotBuilding (Held x))) (Maintaining range (NotBuilding (Dropping x)))
+  clear : (x : Spot) → Turned s w v (Maintaining range (NotBuilding (Held x))) (Maintaining range (NotBuilding (Dropping x)))
       → ClearsEntry s (index_view w) (index_view v) range x → v.lock x.block ≡ Some s → Left (Maintaining range (NotBuilding (Dropping x)))
   clear x turned clears locked =
       let kind : Clears s (index_view w) (index_view v) range x = record {
@@ -184,7 +185,7 @@ module _ (s range : ℕ) (w v : IndexState) (sound : IsSound (index_view w)) (su
           (clears.entry.others m)
 
   -- the lock is held for no range, between two of them
-  holds : v.summarise_lock ≡ w.summarise_lock → LocksNone (index_view v) s → Knows (index_view v) s Holding
+  holds : v.summarise_lock ≡ w.summarise_lock → LocksNone v.lock s → Knows (index_view v) s Holding
   holds same none = (same ∙ summarise_lock, none)
 
   building_here : (p : Progress) (on_index : OnIndex) → w.statement s ≡ Maintaining range (IsAt p on_index) → IsBuilding (index_view w) s range p
@@ -237,7 +238,7 @@ module _ (s range : ℕ) (w v : IndexState) (sound : IsSound (index_view w)) (su
             ⊎_elim
                 (λ (at : range ≡ m). absurd (none-some _ (sym known.0 ∙ ap w.entry at ∙ known.1.2)))
                 (λ (kept : v.entry range ≡ w.entry range). kept ∙ known.0)
-                (sets.others range),
+                (sets.entry.others range),
             set_knows s w v (Maintaining range (Evacuating m (Moving x y t u))) (Maintaining range (Evacuating m (Dropping x))) turned sound m MakesSame
                 (makes_same (index_view w) s m) MakesSame m x y t u known.1 sets locked,
             range_kept sets.frame.contents sets.frame.heap known.2,
@@ -250,7 +251,7 @@ module _ (s range : ℕ) (w v : IndexState) (sound : IsSound (index_view w)) (su
     (drops.frame.summarise_lock ∙ summarise_lock, (drops.none, drops.frame.map.entry range ∙ known.0, range_kept drops.frame.contents drops.frame.heap known.2)),
   )
   growth_left _ _ (EvacuateSweep x t grows next unnamed sweeps) turned known = (
-    sweep_both s w v (Maintaining range Vacant) (Maintaining range Vacant) turned sound (next_map_page (index_view w)) (λ y. y ≡ x)
+    sweep_both s w v (Maintaining range Vacant) (Maintaining range Vacant) turned sound (next_map_page w.pages) (λ y. y ≡ x)
         (λ y on is. subst (λ z. IsUnnamed (index_view w) z) (sym is) unnamed) refl refl refl sweeps,
     (sweeps.frame.summarise_lock ∙ summarise_lock, (sweeps.none, sweeps.frame.map.entry range ∙ known.1, range_kept sweeps.frame.contents sweeps.frame.heap known.2)),
   )

@@ -3,7 +3,8 @@
 use Rattle.std.proofs.Common.{◌≡◌, ⊎_elim, ℕ, ◌≤◌, Some, None, true, false, [], ◌∷◌, sym, ◌∙◌, ap, arith, zero, suc}
 use Rattle.std.specs.Prelude.{refl}
 use Rattle.std.proofs.lemmas.Option.{none-some}
-use Rattle.coverage.specs.IndexView.{TuplePlace, IndexTuple, ExtentUnread, Unstarted, Mapping, Emptying, IsPastMap, NamesPlaceholder}
+use Rattle.block_model.specs.declared.place.Spot.{Spot}
+use Rattle.coverage.specs.IndexView.{IndexTuple, ExtentUnread, Unstarted, Mapping, Emptying, IsPastMap, NamesPlaceholder}
 use Rattle.coverage.specs.Statements.{Empty, Moving, Dropping, Phase, NotBuilding, Vacant, Growing, Evacuating, Placing, IsAt, Idle, Maintaining, Holding}
 use Rattle.coverage.specs.Verdicts.{OnNew, PutGoes}
 use Rattle.coverage.specs.IsCovered.{IndexState}
@@ -16,7 +17,7 @@ use Rattle.coverage.proofs.SmallIndex.{count_at, held_by, turned, summarises, fr
 use Rattle.coverage.proofs.RangeSummarised.{no_rows, summarised, range_done, no_room}
 use Rattle.coverage.proofs.TupleMoved.{moved_place}
 
-abbrev pub new_place : TuplePlace
+abbrev pub new_place : Spot
 new_place = record { block = 4; slot = 0 }
 
 abbrev pub new_tuple : IndexTuple
@@ -89,7 +90,7 @@ lowest (suc zero) is = absurd (differ 0 1 (sym (ap kind_number is)) (omega arith
 lowest (suc (suc zero)) is = absurd (differ 0 3 (sym (ap kind_number is)) (omega arith))
 lowest (suc (suc (suc q))) is = omega arith
 
-emptying : Grows (view no_rows page_flagged) 1020 Emptying
+emptying : Grows (view no_rows page_flagged).pages 1020 Emptying
 emptying = record { short = omega arith; below = omega arith; is = refl }
 
 copies : Step 0 (index_of no_rows page_flagged) (index_of no_rows copy_put)
@@ -113,11 +114,11 @@ old_drop = grows entry_set old_dropped (Evacuating 0 (Dropping place)) Vacant re
     (EvacuateDrop 0 place (drops no_rows entry_set place (Maintaining 1020 Vacant)))
 
 -- no tuple stands on the emptied page
-emptied : (x : TuplePlace) (t : IndexTuple) → x.block ≡ 2 → old_dropped.tuple x ≡ Some t → ⊥
+emptied : (x : Spot) (t : IndexTuple) → x.block ≡ 2 → old_dropped.tuple x ≡ Some t → ⊥
 emptied x t on here = ⊎_elim
     (λ (is : x ≡ place). gone is)
     (λ (e : old_dropped.tuple x ≡ copy_put.tuple x). ⊎_elim
-    (λ (is : x ≡ moved_place). differ 2 3 (sym on ∙ ap (λ (y : TuplePlace). y.block) is) (omega arith))
+    (λ (is : x ≡ moved_place). differ 2 3 (sym on ∙ ap (λ (y : Spot). y.block) is) (omega arith))
     (λ (d : copy_put.tuple x ≡ summarised.tuple x). ⊎_elim
     (λ (is : x ≡ place). gone is)
     (λ (c : summarised.tuple x ≡ None). none-some _ (sym c ∙ sym d ∙ sym e ∙ here))
@@ -160,7 +161,7 @@ growth_run = Next 0 _ _ _ _ takes (Next 0 _ _ _ _ begins (Next 0 _ _ _ _ looks (
     (Next 0 _ _ _ _ old_drop (Next 0 _ _ _ _ turns_page (Next 0 _ _ _ _ counts (Next 0 _ _ _ _ new_put (Next 0 _ _ _ _ new_set (Done map_grown)))))))))))
 
 -- the map was too short for the range's entry, and names a placeholder for it afterwards
-pub was_short : IsPastMap (view no_rows summarised) 1020
+pub was_short : IsPastMap (view no_rows summarised).pages 1020
 was_short = omega arith
 
 pub names_new : NamesPlaceholder (view no_rows placeholder_named) 1020

@@ -6,7 +6,8 @@ use Rattle.std.proofs.lemmas.Option.{same_Some}
 use Rattle.block_model.specs.declared.reply.Point.{Point}
 use Rattle.block_model.specs.declared.reply.Point.TheVariants as points
 use Rattle.block_model.specs.declared.row.Row.{Row}
-use Rattle.coverage.specs.IndexView.{TuplePlace, IndexTuple, Progress, ExtentUnread, Passing, PageKind, Unstarted, Mapping, Regular, Emptying, IndexView, placeholder_length}
+use Rattle.block_model.specs.declared.place.Spot.{Spot}
+use Rattle.coverage.specs.IndexView.{IndexTuple, Progress, ExtentUnread, Passing, PageKind, Unstarted, Mapping, Regular, Emptying, IndexView, placeholder_length}
 use Rattle.coverage.specs.IndexView.{range_of_block, next_map_page, IsPastMap}
 use Rattle.coverage.specs.Changes.{IsFree}
 use Rattle.coverage.specs.Verdicts.{Verdict, Waits, Differs, Fits, Puts, PutVerdict, SwapVerdict, ClearVerdict}
@@ -37,7 +38,7 @@ clear_point Differs = points.Again
 clear_point verdict = points.Clear
 
 -- the next tuple of a page is one
-pub next_once : (w : IndexView) (page : ℕ) (x y : TuplePlace) (t u : IndexTuple) → IsNextTuple w page x t → IsNextTuple w page y u → (x ≡ y) × (t ≡ u)
+pub next_once : (w : IndexView) (page : ℕ) (x y : Spot) (t u : IndexTuple) → IsNextTuple w.tuple page x t → IsNextTuple w.tuple page y u → (x ≡ y) × (t ≡ u)
 next_once w page x y t u one two = (place, same_Some _ _ (sym one.stands ∙ ap w.tuple place ∙ two.stands))
   where
     both : (a b : ℕ) → a ≤ b → b ≤ a → a ≡ b
@@ -53,8 +54,8 @@ next_once w page x y t u one two = (place, same_Some _ _ (sym one.stands ∙ ap 
     place = λ i. record { block = block i; slot = slot i }
 
 -- the next tuple isn't named and unnamed at once
-pub named_or_not : (w : IndexView) (page : ℕ) (x y : TuplePlace) (t u : IndexTuple)
-    → IsNextTuple w page x t → IsNextTuple w page y u → w.entry t.range ≡ Some x → IsUnnamed w y → ⊥
+pub named_or_not : (w : IndexView) (page : ℕ) (x y : Spot) (t u : IndexTuple)
+    → IsNextTuple w.tuple page x t → IsNextTuple w.tuple page y u → w.entry t.range ≡ Some x → IsUnnamed w y → ⊥
 named_or_not w page x y t u one two named unnamed =
     let same = next_once w page x y t u one two in
     let tuple : t ≡ unnamed.0 = same.1 ∙ same_Some _ _ (sym two.stands ∙ unnamed.1) in
@@ -63,11 +64,11 @@ named_or_not w page x y t u one two named unnamed =
 -- the points of an insert, by its state on the index
 data OnIndexPoint (w : IndexView) (s range : ℕ) : OnIndex → Point → Type 0 where
   ToMap : OnIndexPoint w s range Empty points.Map
-  ToCopy : (x : TuplePlace) → OnIndexPoint w s range (Held x) points.Copy
-  ToJudge : (x : TuplePlace) (old new : IndexTuple) (verdict : Verdict) → IsUnblocked verdict → SwapVerdict w s range x old new verdict
+  ToCopy : (x : Spot) → OnIndexPoint w s range (Held x) points.Copy
+  ToJudge : (x : Spot) (old new : IndexTuple) (verdict : Verdict) → IsUnblocked verdict → SwapVerdict w s range x old new verdict
       → OnIndexPoint w s range (Copied x old new) (swap_point verdict)
-  ToSet : (x y : TuplePlace) (old new : IndexTuple) → OnIndexPoint w s range (Moving x y old new) points.Set
-  ToDrop : (x : TuplePlace) → OnIndexPoint w s range (Dropping x) points.Drop
+  ToSet : (x y : Spot) (old new : IndexTuple) → OnIndexPoint w s range (Moving x y old new) points.Set
+  ToDrop : (x : Spot) → OnIndexPoint w s range (Dropping x) points.Drop
 
 on_index_once : (w : IndexView) (s range : ℕ) (on_index : OnIndex) (p q : Point) → OnIndexPoint w s range on_index p → OnIndexPoint w s range on_index q → p ≡ q
 on_index_once w s range _ _ _ ToMap ToMap = refl
@@ -76,7 +77,7 @@ on_index_once w s range _ _ _ (ToJudge x old new p free one) (ToJudge x' old' ne
 on_index_once w s range _ _ _ (ToSet x y old new) (ToSet x' y' old' new') = refl
 on_index_once w s range _ _ _ (ToDrop x) (ToDrop x') = refl
 
-on_index_blocked : (w : IndexView) (s range q : ℕ) (x : TuplePlace) (old new : IndexTuple) (p : Point)
+on_index_blocked : (w : IndexView) (s range q : ℕ) (x : Spot) (old new : IndexTuple) (p : Point)
     → SwapVerdict w s range x old new (Waits q) → OnIndexPoint w s range (Copied x old new) p → ⊥
 on_index_blocked w s range q x old new _ waits (ToJudge _ _ _ p free one) = subst IsUnblocked (swap_once w s range x old new p (Waits q) one waits) free
 
@@ -101,26 +102,26 @@ pub insert_one_point : (s b k : ℕ) (r : Row) (w v u : IndexView) (on_index : O
 insert_one_point s b k r w v u on_index e f one two =
     on_index_once w s (range_of_block w b) on_index _ _ (insert_fact s b k r w v on_index e one) (insert_fact s b k r w u on_index f two)
 
-pub insert_blocked : (s b k p : ℕ) (r : Row) (w v : IndexView) (x : TuplePlace) (old new : IndexTuple) (e : Statement)
+pub insert_blocked : (s b k p : ℕ) (r : Row) (w v : IndexView) (x : Spot) (old new : IndexTuple) (e : Statement)
     → SwapVerdict w s (range_of_block w b) x old new (Waits p) → InsertStep s b k r w v (Copied x old new) e → ⊥
 insert_blocked s b k p r w v x old new e waits step = on_index_blocked w s (range_of_block w b) p x old new _ waits (insert_fact s b k r w v _ e step)
 
 -- the points of a page that is emptied for the map
 data EmptyingPoint (w : IndexView) (s : ℕ) : Point → Type 0 where
-  NamedNext : (x y : TuplePlace) (t : IndexTuple) → IsNextTuple w (next_map_page w) x t → w.entry t.range ≡ Some x → IsFree w s x.block
+  NamedNext : (x y : Spot) (t : IndexTuple) → IsNextTuple w.tuple (next_map_page w.pages) x t → w.entry t.range ≡ Some x → IsFree w.lock s x.block
       → PutVerdict w s t.range (length t.bytes) (Puts y) → EmptyingPoint w s points.Put
-  UnnamedNext : (x : TuplePlace) (t : IndexTuple) → IsNextTuple w (next_map_page w) x t → IsUnnamed w x → IsFree w s (next_map_page w)
+  UnnamedNext : (x : Spot) (t : IndexTuple) → IsNextTuple w.tuple (next_map_page w.pages) x t → IsUnnamed w x → IsFree w.lock s (next_map_page w.pages)
       → EmptyingPoint w s points.Drop
-  NoneNext : ((x : TuplePlace) (t : IndexTuple) → IsNextTuple w (next_map_page w) x t → ⊥) → IsFree w s (next_map_page w) → IsFree w s 0
+  NoneNext : ((x : Spot) (t : IndexTuple) → IsNextTuple w.tuple (next_map_page w.pages) x t → ⊥) → IsFree w.lock s (next_map_page w.pages) → IsFree w.lock s 0
       → EmptyingPoint w s points.Turn
 
 emptying_once : (w : IndexView) (s : ℕ) (p q : Point) → EmptyingPoint w s p → EmptyingPoint w s q → p ≡ q
 emptying_once w s _ _ (NamedNext x y t next named free verdict) (NamedNext x' y' t' next' named' free' verdict') = refl
 emptying_once w s _ _ (NamedNext x y t next named free verdict) (UnnamedNext x' t' next' unnamed free') =
-    absurd (named_or_not w (next_map_page w) x x' t t' next next' named unnamed)
+    absurd (named_or_not w (next_map_page w.pages) x x' t t' next next' named unnamed)
 emptying_once w s _ _ (NamedNext x y t next named free verdict) (NoneNext none free' meta) = absurd (none x t next)
 emptying_once w s _ _ (UnnamedNext x t next unnamed free) (NamedNext x' y t' next' named free' verdict) =
-    absurd (named_or_not w (next_map_page w) x' x t' t next' next named unnamed)
+    absurd (named_or_not w (next_map_page w.pages) x' x t' t next' next named unnamed)
 emptying_once w s _ _ (UnnamedNext x t next unnamed free) (UnnamedNext x' t' next' unnamed' free') = refl
 emptying_once w s _ _ (UnnamedNext x t next unnamed free) (NoneNext none free' meta) = absurd (none x t next)
 emptying_once w s _ _ (NoneNext none free meta) (NamedNext x y t next named free' verdict) = absurd (none x t next)
@@ -129,9 +130,9 @@ emptying_once w s _ _ (NoneNext none free meta) (NoneNext none' free' meta') = r
 
 -- the points of the map's growth, by the kind of its next page
 abbrev KindPoint : IndexView → ℕ → PageKind → Point → Type 0
-KindPoint w s Unstarted p = (p ≡ points.Grow) × IsFree w s (next_map_page w) × IsFree w s 0
-KindPoint w s Mapping p = (p ≡ points.Meta) × IsFree w s 0
-KindPoint w s Regular p = (p ≡ points.Flag) × IsFree w s (next_map_page w)
+KindPoint w s Unstarted p = (p ≡ points.Grow) × IsFree w.lock s (next_map_page w.pages) × IsFree w.lock s 0
+KindPoint w s Mapping p = (p ≡ points.Meta) × IsFree w.lock s 0
+KindPoint w s Regular p = (p ≡ points.Flag) × IsFree w.lock s (next_map_page w.pages)
 KindPoint w s Emptying p = EmptyingPoint w s p
 
 kind_once : (w : IndexView) (s : ℕ) (kind : PageKind) (p q : Point) → KindPoint w s kind p → KindPoint w s kind q → p ≡ q
@@ -142,8 +143,8 @@ kind_once w s Emptying p q one two = emptying_once w s p q one two
 
 -- the points of a summariser that read that the map has no entry
 data VacantPoint (w : IndexView) (s range : ℕ) : Point → Type 0 where
-  MapSuffices : (x : TuplePlace) → (IsPastMap w range → ⊥) → PutVerdict w s range (placeholder_length w range) (Puts x) → VacantPoint w s range points.Put
-  MapGrows : (kind : PageKind) (p : Point) → Grows w range kind → KindPoint w s kind p → VacantPoint w s range p
+  MapSuffices : (x : Spot) → (IsPastMap w.pages range → ⊥) → PutVerdict w s range (placeholder_length w range) (Puts x) → VacantPoint w s range points.Put
+  MapGrows : (kind : PageKind) (p : Point) → Grows w.pages range kind → KindPoint w s kind p → VacantPoint w s range p
 
 vacant_once : (w : IndexView) (s range : ℕ) (p q : Point) → VacantPoint w s range p → VacantPoint w s range q → p ≡ q
 vacant_once w s range _ _ (MapSuffices x long verdict) (MapSuffices x' long' verdict') = refl
@@ -161,12 +162,12 @@ IsUniting on_index progress = Unit
 -- the points of a summariser, by its phase
 data SummarisePoint (w : IndexView) (s range : ℕ) : Phase → Point → Type 0 where
   LooksAtMap : SummarisePoint w s range (NotBuilding Empty) points.Map
-  LooksAtTuple : (x : TuplePlace) → SummarisePoint w s range (NotBuilding (Held x)) points.Tuple
-  DropsOld : (x : TuplePlace) → SummarisePoint w s range (NotBuilding (Dropping x)) points.Drop
+  LooksAtTuple : (x : Spot) → SummarisePoint w s range (NotBuilding (Held x)) points.Tuple
+  DropsOld : (x : Spot) → SummarisePoint w s range (NotBuilding (Dropping x)) points.Drop
   WantsEntry : (p : Point) → VacantPoint w s range p → SummarisePoint w s range Vacant p
   ToCount : SummarisePoint w s range Growing points.Meta
   MovesOther : (m : ℕ) (on_index : OnIndex) (p : Point) → OnIndexPoint w s m on_index p → SummarisePoint w s range (Evacuating m on_index) p
-  SetsPlaceholder : (x : TuplePlace) → SummarisePoint w s range (Placing x) points.Set
+  SetsPlaceholder : (x : Spot) → SummarisePoint w s range (Placing x) points.Set
   ToExtent : SummarisePoint w s range (IsAt ExtentUnread Empty) points.Extent
   PassesNext : (extent next : ℕ) (result : IndexTuple) → next < extent → SummarisePoint w s range (IsAt (Passing extent next result) Empty) points.Pass
   MakesFinal : (progress : Progress) (on_index : OnIndex) (p : Point) → IsUniting on_index progress → OnIndexPoint w s range on_index p
@@ -238,35 +239,37 @@ summarise_one_point s range w v u phase e f one two =
     summarise_once w s range phase _ _ (summarise_fact s range w v phase e one) (summarise_fact s range w u phase f two)
 
 -- a put that waits doesn't go
-no_put : (w : IndexView) (s range need q : ℕ) (y : TuplePlace) → PutVerdict w s range need (Waits q) → PutVerdict w s range need (Puts y) → ⊥
+no_put : (w : IndexView) (s range need q : ℕ) (y : Spot) → PutVerdict w s range need (Waits q) → PutVerdict w s range need (Puts y) → ⊥
 no_put w s range need q y waits goes = subst IsUnblocked (put_once w s range need (Puts y) (Waits q) goes waits) tt
 
 module _ (w : IndexView) (s range : ℕ) where
   -- where the map may grow onto a page of this kind, the facts are those of the kind
-  kind_at : (kind : PageKind) (p : Point) → Grows w range kind → SummarisePoint w s range Vacant p → KindPoint w s kind p
+  kind_at : (kind : PageKind) (p : Point) → Grows w.pages range kind → SummarisePoint w s range Vacant p → KindPoint w s kind p
   kind_at kind _ grows (WantsEntry p (MapSuffices x long verdict)) = absurd (long grows.short)
   kind_at kind _ grows (WantsEntry p (MapGrows kind' _ grows' at)) = subst (λ l. KindPoint w s l p) (sym grows'.is ∙ grows.is) at
 
-  place_waits : (q : ℕ) (p : Point) → (IsPastMap w range → ⊥) → PutVerdict w s range (placeholder_length w range) (Waits q) → SummarisePoint w s range Vacant p → ⊥
+  place_waits : (q : ℕ) (p : Point) → (IsPastMap w.pages range → ⊥) → PutVerdict w s range (placeholder_length w range) (Waits q)
+      → SummarisePoint w s range Vacant p → ⊥
   place_waits q _ long waits (WantsEntry p (MapSuffices x long' verdict)) = no_put w s range (placeholder_length w range) q x waits verdict
   place_waits q _ long waits (WantsEntry p (MapGrows kind _ grows at)) = long grows.short
 
-  put_waits : (q : ℕ) (x : TuplePlace) (t : IndexTuple) (p : Point) → IsNextTuple w (next_map_page w) x t → w.entry t.range ≡ Some x
+  put_waits : (q : ℕ) (x : Spot) (t : IndexTuple) (p : Point) → IsNextTuple w.tuple (next_map_page w.pages) x t → w.entry t.range ≡ Some x
       → PutVerdict w s t.range (length t.bytes) (Waits q) → EmptyingPoint w s p → ⊥
   put_waits q x t _ next named waits (NamedNext x' y t' next' named' free verdict) =
-      let same : t ≡ t' = (next_once w (next_map_page w) x x' t t' next next').1 in
+      let same : t ≡ t' = (next_once w (next_map_page w.pages) x x' t t' next next').1 in
       no_put w s t'.range (length t'.bytes) q y (subst (λ (z : IndexTuple). PutVerdict w s z.range (length z.bytes) (Waits q)) same waits) verdict
-  put_waits q x t _ next named waits (UnnamedNext x' t' next' unnamed free) = named_or_not w (next_map_page w) x x' t t' next next' named unnamed
+  put_waits q x t _ next named waits (UnnamedNext x' t' next' unnamed free) = named_or_not w (next_map_page w.pages) x x' t t' next next' named unnamed
   put_waits q x t _ next named waits (NoneNext none free meta) = none x t next
 
-  lock_waits : (x : TuplePlace) (t : IndexTuple) (p : Point) → IsNextTuple w (next_map_page w) x t → (IsFree w s (next_map_page w) → ⊥) → EmptyingPoint w s p
+  lock_waits : (x : Spot) (t : IndexTuple) (p : Point) → IsNextTuple w.tuple (next_map_page w.pages) x t
+      → (IsFree w.lock s (next_map_page w.pages) → ⊥) → EmptyingPoint w s p
       → ⊥
-  lock_waits x t _ next locked (NamedNext x' y t' next' named free verdict) = locked (subst (IsFree w s) next'.on free)
+  lock_waits x t _ next locked (NamedNext x' y t' next' named free verdict) = locked (subst (IsFree w.lock s) next'.on free)
   lock_waits x t _ next locked (UnnamedNext x' t' next' unnamed free) = locked free
   lock_waits x t _ next locked (NoneNext none free meta) = none x t next
 
-  turn_waits : (p : Point) → ((x : TuplePlace) (t : IndexTuple) → IsNextTuple w (next_map_page w) x t → ⊥)
-      → (IsFree w s (next_map_page w) → IsFree w s 0 → ⊥) → EmptyingPoint w s p → ⊥
+  turn_waits : (p : Point) → ((x : Spot) (t : IndexTuple) → IsNextTuple w.tuple (next_map_page w.pages) x t → ⊥)
+      → (IsFree w.lock s (next_map_page w.pages) → IsFree w.lock s 0 → ⊥) → EmptyingPoint w s p → ⊥
   turn_waits _ none locked (NamedNext x y t next named free verdict) = none x t next
   turn_waits _ none locked (UnnamedNext x t next unnamed free) = none x t next
   turn_waits _ none locked (NoneNext none' free meta) = locked free meta
@@ -275,14 +278,14 @@ module _ (w : IndexView) (s range : ℕ) where
   phase_blocked _ _ p (FinalWaits q _ x old new waits) (MakesFinal _ _ _ all at) = on_index_blocked w s range q x old new p waits at
   phase_blocked _ _ p (PlaceWaits q long waits) at = place_waits q p long waits at
   phase_blocked _ _ p (GrowWaits q grows locked) at =
-      let free = kind_at Unstarted p grows at in both_free w s (next_map_page w) 0 q free.1 free.2 locked
+      let free = kind_at Unstarted p grows at in both_free w s (next_map_page w.pages) 0 q free.1 free.2 locked
   phase_blocked _ _ p (CountWaits grows locked) at = free_not_locked w s 0 (kind_at Mapping p grows at).1 locked
-  phase_blocked _ _ p (FlagWaits grows locked) at = free_not_locked w s (next_map_page w) (kind_at Regular p grows at).1 locked
+  phase_blocked _ _ p (FlagWaits grows locked) at = free_not_locked w s (next_map_page w.pages) (kind_at Regular p grows at).1 locked
   phase_blocked _ _ p (EvacuateWaits x t grows next locked) at =
-      lock_waits x t p next (λ free. free_not_locked w s (next_map_page w) free locked) (kind_at Emptying p grows at)
+      lock_waits x t p next (λ free. free_not_locked w s (next_map_page w.pages) free locked) (kind_at Emptying p grows at)
   phase_blocked _ _ p (EvacuatePutWaits q x t grows next named free waits) at = put_waits q x t p next named waits (kind_at Emptying p grows at)
   phase_blocked _ _ p (TurnWaits q grows none locked) at =
-      turn_waits p none (λ free meta. both_free w s (next_map_page w) 0 q free meta locked) (kind_at Emptying p grows at)
+      turn_waits p none (λ free meta. both_free w s (next_map_page w.pages) 0 q free meta locked) (kind_at Emptying p grows at)
 
 pub summarise_blocked : (s range : ℕ) (w v : IndexView) (p : ℕ) (phase : Phase) (e : Statement) → IsPhaseWaiting w s range phase p
     → SummariseStep s range w v phase e → ⊥
@@ -291,9 +294,9 @@ summarise_blocked s range w v p phase e waits step = phase_blocked w s range p p
 -- the points of a desummarise, by its phase
 data DesummarisePoint (w : IndexView) (s range : ℕ) : Phase → Point → Type 0 where
   ToEntry : DesummarisePoint w s range (NotBuilding Empty) points.Map
-  ToClear : (x : TuplePlace) (verdict : Verdict) → IsUnblocked verdict → ClearVerdict w s range x verdict
+  ToClear : (x : Spot) (verdict : Verdict) → IsUnblocked verdict → ClearVerdict w s range x verdict
       → DesummarisePoint w s range (NotBuilding (Held x)) (clear_point verdict)
-  ToDropCleared : (x : TuplePlace) → DesummarisePoint w s range (NotBuilding (Dropping x)) points.Drop
+  ToDropCleared : (x : Spot) → DesummarisePoint w s range (NotBuilding (Dropping x)) points.Drop
 
 desummarise_once : (w : IndexView) (s range : ℕ) (phase : Phase) (p q : Point) → DesummarisePoint w s range phase p → DesummarisePoint w s range phase q → p ≡ q
 desummarise_once w s range _ _ _ ToEntry ToEntry = refl
@@ -313,10 +316,10 @@ pub desummarise_one_point : (s range : ℕ) (w v u : IndexView) (phase : Phase) 
 desummarise_one_point s range w v u phase e f one two =
     desummarise_once w s range phase _ _ (desummarise_fact s range w v phase e one) (desummarise_fact s range w u phase f two)
 
-desummarise_unblocked : (w : IndexView) (s range q : ℕ) (x : TuplePlace) (p : Point)
+desummarise_unblocked : (w : IndexView) (s range q : ℕ) (x : Spot) (p : Point)
     → ClearVerdict w s range x (Waits q) → DesummarisePoint w s range (NotBuilding (Held x)) p → ⊥
 desummarise_unblocked w s range q x _ waits (ToClear _ p free one) = subst IsUnblocked (clear_once w s range x p (Waits q) one waits) free
 
-pub desummarise_blocked : (s range p : ℕ) (w v : IndexView) (x : TuplePlace) (e : Statement)
+pub desummarise_blocked : (s range p : ℕ) (w v : IndexView) (x : Spot) (e : Statement)
     → ClearVerdict w s range x (Waits p) → DesummariseStep s range w v (NotBuilding (Held x)) e → ⊥
 desummarise_blocked s range p w v x e waits step = desummarise_unblocked w s range p x _ waits (desummarise_fact s range w v _ e step)

@@ -2,7 +2,8 @@
 use Rattle.std.proofs.Common.{◌≡◌, ◌≢◌, inl, inr, ⊎_elim, ℕ, Option, Some, None, Bool, false, sym, ◌∙◌, ap, subst}
 use Rattle.std.specs.Prelude.{refl}
 use Rattle.std.proofs.lemmas.Option.{same_Some, none-some}
-use Rattle.coverage.specs.IndexView.{TuplePlace, IndexTuple, IsFormed, Building, IndexView}
+use Rattle.block_model.specs.declared.place.Spot.{Spot}
+use Rattle.coverage.specs.IndexView.{IndexTuple, IsFormed, Building, IndexView}
 use Rattle.coverage.specs.IsSound.{IsSound}
 use Rattle.coverage.specs.GoesOn.{GoesOn}
 use Rattle.coverage.specs.Changes.{ChangesAt, SameLoose, TouchesNothing, Frame, IsLooseLocked, IsFree, Carries, MayEnd, Swaps, MovePuts, MoveSets, DropsLoose}
@@ -21,8 +22,8 @@ abbrev pub never : ℕ → ℕ → Bool
 never b k = false
 
 -- where a move puts the new tuple, its page is free and the old one stands there
-pub move_compares : (w : IndexView) (s range : ℕ) (x y : TuplePlace) (old new : IndexTuple) → SwapVerdict w s range x old new (Puts y)
-    → IsFree w s x.block × (w.tuple x ≡ Some old)
+pub move_compares : (w : IndexView) (s range : ℕ) (x y : Spot) (old new : IndexTuple) → SwapVerdict w s range x old new (Puts y)
+    → IsFree w.lock s x.block × (w.tuple x ≡ Some old)
 move_compares w s range x y old new (SwapMoves _ free here must puts) = (free, here)
 
 -- the view stays sound, and all others go on
@@ -39,7 +40,7 @@ module _ (s : ℕ) (w v : IndexState) (d e : Statement) (turned : Turned s w v d
         (turned.others n);
   }
 
-  pub loose_turns : (o p : Option TuplePlace) → loose_of d ≡ o → loose_of e ≡ p
+  pub loose_turns : (o p : Option Spot) → loose_of d ≡ o → loose_of e ≡ p
       → ChangesAt (λ n. loose_of (w.statement n)) (λ n. loose_of (v.statement n)) s o p
   loose_turns o p was now = record {
     was = ap loose_of turned.was ∙ was;
@@ -69,14 +70,14 @@ module _ (s : ℕ) (w v : IndexState) (d e : Statement) (turned : Turned s w v d
       (λ (is : v.statement n ≡ w.statement n). inl (ap building_of is))
       (turned.others n)
 
-  pub locks_by : ((x : TuplePlace) → loose_of e ≡ Some x → v.lock x.block ≡ Some s) → IsLooseLocked s (index_view v)
+  pub locks_by : ((x : Spot) → loose_of e ≡ Some x → v.lock x.block ≡ Some s) → IsLooseLocked s (index_view v)
   locks_by locked x is = locked x (sym (ap loose_of turned.now) ∙ is)
 
-  pub nothing_loose : loose_of e ≡ None → (x : TuplePlace) → loose_of e ≡ Some x → v.lock x.block ≡ Some s
+  pub nothing_loose : loose_of e ≡ None → (x : Spot) → loose_of e ≡ Some x → v.lock x.block ≡ Some s
   nothing_loose none x is = absurd (none-some _ (sym none ∙ is))
 
-  pub loose_locked : (y : TuplePlace) → loose_of e ≡ Some y → v.lock y.block ≡ Some s → (x : TuplePlace) → loose_of e ≡ Some x → v.lock x.block ≡ Some s
-  loose_locked y now locked x is = subst (λ (z : TuplePlace). v.lock z.block ≡ Some s) (same_Some _ _ (sym now ∙ is)) locked
+  pub loose_locked : (y : Spot) → loose_of e ≡ Some y → v.lock y.block ≡ Some s → (x : Spot) → loose_of e ≡ Some x → v.lock x.block ≡ Some s
+  loose_locked y now locked x is = subst (λ (z : Spot). v.lock z.block ≡ Some s) (same_Some _ _ (sym now ∙ is)) locked
 
   module _ (sound : IsSound (index_view w)) where
     pub looks_both : loose_of d ≡ None → loose_of e ≡ None → building_of e ≡ building_of d → Frame s TouchesNothing (index_view w) (index_view v)
@@ -90,12 +91,12 @@ module _ (s : ℕ) (w v : IndexState) (d e : Statement) (turned : Turned s w v d
         } in
         (turns_locks_sound s (index_view w) (index_view v) sound kind, turns_locks_go_on s never (index_view w) (index_view v) sound kind)
 
-    pub drop_both : (x : TuplePlace) → (w.lock x.block ≡ Some s) → ((m : ℕ) → w.entry m ≢ Some x) → ((t : IndexTuple) × (w.tuple x ≡ Some t))
+    pub drop_both : (x : Spot) → (w.lock x.block ≡ Some s) → ((m : ℕ) → w.entry m ≢ Some x) → ((t : IndexTuple) × (w.tuple x ≡ Some t))
         → loose_of d ≡ Some x → loose_of e ≡ None → building_of e ≡ building_of d → DropsTuple s (index_view w) (index_view v) x
         → Both s (index_view w) (index_view v)
     drop_both x locked unnamed stands was now work drops =
         let kind : DropsLoose s (index_view w) (index_view v) x stands.0 = record {
-          tuple = record { was = stands.1; now = drops.now; others = drops.others };
+          tuple = record { was = stands.1; now = drops.tuple.now; others = drops.tuple.others };
           loose = loose_turns (Some x) None was now;
           unnamed = unnamed;
           free = λ n is. same_Some _ _ (sym is ∙ locked);
@@ -108,11 +109,11 @@ module _ (s : ℕ) (w v : IndexState) (d e : Statement) (turned : Turned s w v d
     module _ (range : ℕ) (Makes : IndexTuple → IndexTuple → Type 0)
         (makes : (old new : IndexTuple) → Makes old new → (new.range ≡ old.range) × Carries (index_view w) s range old new) where
       -- the compared tuple is the one that the map names
-      pub copied_named : (x : TuplePlace) (old new : IndexTuple) → KnowsOnIndex (index_view w) s range Makes (Copied x old new) → w.tuple x ≡ Some old
-          → IsFree (index_view w) s x.block → w.entry range ≡ Some x
+      pub copied_named : (x : Spot) (old new : IndexTuple) → KnowsOnIndex (index_view w) s range Makes (Copied x old new) → w.tuple x ≡ Some old
+          → IsFree w.lock s x.block → w.entry range ≡ Some x
       copied_named x old new known here free = held_named (index_view w) s range x old sound known.1 here known.2 free known.0
 
-      pub swap_both : (x : TuplePlace) (old new : IndexTuple) → KnowsOnIndex (index_view w) s range Makes (Copied x old new) → loose_of d ≡ None
+      pub swap_both : (x : Spot) (old new : IndexTuple) → KnowsOnIndex (index_view w) s range Makes (Copied x old new) → loose_of d ≡ None
           → loose_of e ≡ None
           → MayEnd s (index_view w) (index_view v) → ReplacesTuple s (index_view w) (index_view v) x old new → Both s (index_view w) (index_view v)
       swap_both x old new known was now ends swap =
@@ -131,14 +132,14 @@ module _ (s : ℕ) (w v : IndexState) (d e : Statement) (turned : Turned s w v d
           } in
           (swaps_sound s (index_view w) (index_view v) range x old new sound kind, swaps_go_on s never (index_view w) (index_view v) range x old new sound kind)
 
-      pub set_both : (x y : TuplePlace) (old new : IndexTuple) → KnowsOnIndex (index_view w) s range Makes (Moving x y old new) → loose_of d ≡ Some y
+      pub set_both : (x y : Spot) (old new : IndexTuple) → KnowsOnIndex (index_view w) s range Makes (Moving x y old new) → loose_of d ≡ Some y
           → loose_of e ≡ Some x
           → MayEnd s (index_view w) (index_view v) → SetsEntry s (index_view w) (index_view v) range y → v.lock x.block ≡ Some s
           → Both s (index_view w) (index_view v)
       set_both x y old new known was now ends sets locked =
           let made = makes old new known.6 in
           let kind : MoveSets s (index_view w) (index_view v) range x y old new = record {
-            entry = record { was = known.2; now = sets.now; others = sets.others };
+            entry = record { was = known.2; now = sets.entry.now; others = sets.entry.others };
             loose = loose_turns (Some y) (Some x) was now;
             free = λ n is. same_Some _ _ (sym is ∙ known.0);
             before = known.3;
@@ -155,23 +156,23 @@ module _ (s : ℕ) (w v : IndexState) (d e : Statement) (turned : Turned s w v d
           )
 
       -- after a set no entry names the old tuple
-      pub set_unnamed : (x y : TuplePlace) (old new : IndexTuple) → KnowsOnIndex (index_view w) s range Makes (Moving x y old new)
+      pub set_unnamed : (x y : Spot) (old new : IndexTuple) → KnowsOnIndex (index_view w) s range Makes (Moving x y old new)
           → SetsEntry s (index_view w) (index_view v) range y → (m : ℕ) → v.entry m ≢ Some x
       set_unnamed x y old new known sets m is = ⊎_elim
-          (λ (at : m ≡ range). known.7 (same_Some _ _ (sym is ∙ ap v.entry at ∙ sets.now)))
+          (λ (at : m ≡ range). known.7 (same_Some _ _ (sym is ∙ ap v.entry at ∙ sets.entry.now)))
           (λ (kept : v.entry m ≡ w.entry m).
           let named : w.entry m ≡ Some x = sym kept ∙ is in
           let t = sound.entries_name_tuples m x named in
           let of : m ≡ range = sym t.2 ∙ ap (λ (u : IndexTuple). u.range) (same_Some _ _ (sym t.1 ∙ known.3)) ∙ known.5 in
-          known.7 (same_Some _ _ (sym is ∙ ap v.entry of ∙ sets.now)))
-          (sets.others m)
+          known.7 (same_Some _ _ (sym is ∙ ap v.entry of ∙ sets.entry.now)))
+          (sets.entry.others m)
 
-      pub set_knows : (After : IndexTuple → IndexTuple → Type 0) (n : ℕ) (x y : TuplePlace) (old new : IndexTuple)
+      pub set_knows : (After : IndexTuple → IndexTuple → Type 0) (n : ℕ) (x y : Spot) (old new : IndexTuple)
           → KnowsOnIndex (index_view w) s range Makes (Moving x y old new) → SetsEntry s (index_view w) (index_view v) range y → v.lock x.block ≡ Some s
           → KnowsOnIndex (index_view v) s n After (Dropping x)
       set_knows After n x y old new known sets locked = (locked, set_unnamed x y old new known sets, (old, sets.frame.tuples.tuple x ∙ known.3))
 
-      pub put_both : (x y : TuplePlace) (old new : IndexTuple) → w.entry range ≡ Some x → w.tuple x ≡ Some old → old.range ≡ range → Makes old new
+      pub put_both : (x y : Spot) (old new : IndexTuple) → w.entry range ≡ Some x → w.tuple x ≡ Some old → old.range ≡ range → Makes old new
           → IsFormed w.contents new → loose_of d ≡ None → loose_of e ≡ Some y → building_of e ≡ building_of d
           → PutsTuple s (index_view w) (index_view v) y new → v.lock y.block ≡ Some s → Both s (index_view w) (index_view v)
       put_both x y old new entry before of how formed was now work puts target =
@@ -194,7 +195,7 @@ module _ (s : ℕ) (w v : IndexState) (d e : Statement) (turned : Turned s w v d
                 (index_view v) range x y old new sound kind,
           )
 
-      pub put_knows : (x y : TuplePlace) (old new : IndexTuple) → w.entry range ≡ Some x → w.tuple x ≡ Some old → old.range ≡ range → Makes old new
+      pub put_knows : (x y : Spot) (old new : IndexTuple) → w.entry range ≡ Some x → w.tuple x ≡ Some old → old.range ≡ range → Makes old new
           → PutsTuple s (index_view w) (index_view v) y new → v.lock x.block ≡ Some s → v.lock y.block ≡ Some s
           → KnowsOnIndex (index_view v) s range Makes (Moving x y old new)
       put_knows x y old new entry before of how puts locked target =
@@ -221,8 +222,8 @@ module _ (s : ℕ) (w v : IndexState) (d e : Statement) (turned : Turned s w v d
           )
 
       -- the tuple is copied, and the new one made
-      pub copy_knows : (x : TuplePlace) (old new : IndexTuple) → old.range ≡ range → Makes old new → IsFormed w.contents new → Both s (index_view w) (index_view v)
-          → LocksNone (index_view v) s → KnowsOnIndex (index_view w) s range Makes (Held x)
+      pub copy_knows : (x : Spot) (old new : IndexTuple) → old.range ≡ range → Makes old new → IsFormed w.contents new → Both s (index_view w) (index_view v)
+          → LocksNone v.lock s → KnowsOnIndex (index_view w) s range Makes (Held x)
           → KnowsOnIndex (index_view v) s range Makes (Copied x old new)
       copy_knows x old new of how formed both none known =
           (none, both.1.held range x known.1, of, how, subst (λ c. IsFormed c new) (sym both.1.contents) formed)

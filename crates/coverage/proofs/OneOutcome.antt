@@ -4,7 +4,8 @@ use Rattle.std.specs.Prelude.{refl}
 use Rattle.std.proofs.lemmas.Option.{same_Some, none-some}
 use Rattle.std.proofs.lemmas.Bool.{cases_eq, false≢true}
 use Rattle.block_model.specs.declared.row.Row.{Row}
-use Rattle.coverage.specs.IndexView.{TuplePlace, IndexTuple, Contents, Progress, ExtentUnread, Passing, PageKind, Unstarted, Mapping, Regular, Emptying, placeholder_length}
+use Rattle.block_model.specs.declared.place.Spot.{Spot}
+use Rattle.coverage.specs.IndexView.{IndexTuple, Contents, Progress, ExtentUnread, Passing, PageKind, Unstarted, Mapping, Regular, Emptying, placeholder_length}
 use Rattle.coverage.specs.IndexView.{IndexView, range_of_block, next_map_page, IsPastMap}
 use Rattle.coverage.specs.Changes.{IsFree}
 use Rattle.coverage.specs.Verdicts.{IsLocked, Verdict, Differs, Fits, Puts, PutVerdict, SwapVerdict}
@@ -21,7 +22,7 @@ use Rattle.coverage.proofs.Verdicts.{free_not_locked, put_once, swap_once, clear
 use Rattle.coverage.proofs.NextSteps.{next_once, named_or_not}
 
 -- what comes of a verdict on a swap, for the statement's state on the index
-abbrev place_of : Verdict → TuplePlace → TuplePlace
+abbrev place_of : Verdict → Spot → Spot
 place_of (Puts y) x = y
 place_of verdict x = x
 
@@ -35,10 +36,10 @@ IsPut verdict = ⊥
 
 -- A statement's next state on the index, and what decides it.
 pub data NextOnIndex (w : IndexView) (s range : ℕ) : OnIndex → OnIndex → Type 0 where
-  Named : (x : TuplePlace) → w.entry range ≡ Some x → NextOnIndex w s range Empty (Held x)
-  Lost : (x : TuplePlace) → IsGone w range x → NextOnIndex w s range (Held x) Empty
-  Changed : (x : TuplePlace) (old new : IndexTuple) → SwapVerdict w s range x old new Differs → NextOnIndex w s range (Copied x old new) Empty
-  Moved : (x y : TuplePlace) (old new : IndexTuple) → SwapVerdict w s range x old new (Puts y) → NextOnIndex w s range (Copied x old new) (Moving x y old new)
+  Named : (x : Spot) → w.entry range ≡ Some x → NextOnIndex w s range Empty (Held x)
+  Lost : (x : Spot) → IsGone w range x → NextOnIndex w s range (Held x) Empty
+  Changed : (x : Spot) (old new : IndexTuple) → SwapVerdict w s range x old new Differs → NextOnIndex w s range (Copied x old new) Empty
+  Moved : (x y : Spot) (old new : IndexTuple) → SwapVerdict w s range x old new (Puts y) → NextOnIndex w s range (Copied x old new) (Moving x y old new)
 
 on_index_next : (s range : ℕ) (w v : IndexView) (g h : OnIndex) → OnIndexStep s range w v g h → NextOnIndex w s range g h
 on_index_next s range w v _ _ (Maps x named reads) = Named x named
@@ -62,33 +63,33 @@ module _ (w : IndexView) (s range : ℕ) where
   named_entry : (h : OnIndex) → NextOnIndex w s range Empty h → w.entry range ≡ None → ⊥
   named_entry _ (Named x named) none = none-some _ (sym none ∙ named)
 
-  lost_stands : (x : TuplePlace) (t : IndexTuple) (h : OnIndex) → NextOnIndex w s range (Held x) h → Stands w range x t → ⊥
+  lost_stands : (x : Spot) (t : IndexTuple) (h : OnIndex) → NextOnIndex w s range (Held x) h → Stands w range x t → ⊥
   lost_stands x t _ (Lost _ gone) stands = gone t stands.0 stands.1
 
-  judged_fits : (x : TuplePlace) (old new : IndexTuple) (h : OnIndex) → NextOnIndex w s range (Copied x old new) h → SwapVerdict w s range x old new Fits → ⊥
+  judged_fits : (x : Spot) (old new : IndexTuple) (h : OnIndex) → NextOnIndex w s range (Copied x old new) h → SwapVerdict w s range x old new Fits → ⊥
   judged_fits x old new _ (Changed _ _ _ one) fits = subst IsSwap (swap_once w s range x old new Fits Differs fits one) tt
   judged_fits x old new _ (Moved _ y _ _ one) fits = subst IsSwap (swap_once w s range x old new Fits (Puts y) fits one) tt
 
-  none_moving : (x y : TuplePlace) (old new : IndexTuple) (h : OnIndex) → NextOnIndex w s range (Moving x y old new) h → ⊥
+  none_moving : (x y : Spot) (old new : IndexTuple) (h : OnIndex) → NextOnIndex w s range (Moving x y old new) h → ⊥
   none_moving x y old new h next = elim next [ ]
 
-  none_dropping : (x : TuplePlace) (h : OnIndex) → NextOnIndex w s range (Dropping x) h → ⊥
+  none_dropping : (x : Spot) (h : OnIndex) → NextOnIndex w s range (Dropping x) h → ⊥
   none_dropping x h next = elim next [ ]
 
-  there_same : (x : TuplePlace) (t u : IndexTuple) → Stands w range x t → Stands w range x u → t ≡ u
+  there_same : (x : Spot) (t u : IndexTuple) → Stands w range x t → Stands w range x u → t ≡ u
   there_same x t u one two = same_Some _ _ (sym one.0 ∙ two.0)
 
 -- An insert's next state, and what decides it.
 pub data NextInsert (w : IndexView) (s b k : ℕ) (r : Row) : OnIndex → Statement → Type 0 where
   GoesOn : (g h : OnIndex) → NextOnIndex w s (range_of_block w b) g h → NextInsert w s b k r g (Inserting b k r h)
   Unsummarised : w.entry (range_of_block w b) ≡ None → NextInsert w s b k r Empty Idle
-  Copies : (x : TuplePlace) (old new : IndexTuple) → Stands w (range_of_block w b) x old → new ≡ w.contents.added r old
-      → (new ≢ old) ⊎ IsLocked w s x.block → NextInsert w s b k r (Held x) (Inserting b k r (Copied x old new))
-  Unchanged : (x : TuplePlace) (t : IndexTuple) → Stands w (range_of_block w b) x t → t ≡ w.contents.added r t → IsFree w s x.block
+  Copies : (x : Spot) (old new : IndexTuple) → Stands w (range_of_block w b) x old → new ≡ w.contents.added r old
+      → (new ≢ old) ⊎ IsLocked w.lock s x.block → NextInsert w s b k r (Held x) (Inserting b k r (Copied x old new))
+  Unchanged : (x : Spot) (t : IndexTuple) → Stands w (range_of_block w b) x t → t ≡ w.contents.added r t → IsFree w.lock s x.block
       → NextInsert w s b k r (Held x) Idle
-  Swapped : (x : TuplePlace) (old new : IndexTuple) → SwapVerdict w s (range_of_block w b) x old new Fits → NextInsert w s b k r (Copied x old new) Idle
-  SetNew : (x y : TuplePlace) (old new : IndexTuple) → NextInsert w s b k r (Moving x y old new) (Inserting b k r (Dropping x))
-  DropsOld : (x : TuplePlace) → NextInsert w s b k r (Dropping x) Idle
+  Swapped : (x : Spot) (old new : IndexTuple) → SwapVerdict w s (range_of_block w b) x old new Fits → NextInsert w s b k r (Copied x old new) Idle
+  SetNew : (x y : Spot) (old new : IndexTuple) → NextInsert w s b k r (Moving x y old new) (Inserting b k r (Dropping x))
+  DropsOld : (x : Spot) → NextInsert w s b k r (Dropping x) Idle
 
 pub insert_next : (s b k : ℕ) (r : Row) (w v : IndexView) (g : OnIndex) (e : Statement) → InsertStep s b k r w v g e → NextInsert w s b k r g e
 insert_next s b k r w v _ _ (InsertOnIndex old new step) = GoesOn old new (on_index_next s (range_of_block w b) w v old new step)
@@ -101,13 +102,13 @@ insert_next s b k r w v _ _ (InsertDrop x drops) = DropsOld x
 
 module _ (w : IndexView) (s b k : ℕ) (r : Row) where
   -- a copy goes on exactly where it isn't complete
-  copies_or_not : (x : TuplePlace) (old new t : IndexTuple) → Stands w (range_of_block w b) x old → new ≡ w.contents.added r old
-      → (new ≢ old) ⊎ IsLocked w s x.block → Stands w (range_of_block w b) x t → t ≡ w.contents.added r t → IsFree w s x.block → ⊥
+  copies_or_not : (x : Spot) (old new t : IndexTuple) → Stands w (range_of_block w b) x old → new ≡ w.contents.added r old
+      → (new ≢ old) ⊎ IsLocked w.lock s x.block → Stands w (range_of_block w b) x t → t ≡ w.contents.added r t → IsFree w.lock s x.block → ⊥
   copies_or_not x old new t stands added changes stands' same free =
       let one : old ≡ t = there_same w s (range_of_block w b) x old t stands stands' in
       ⊎_elim
       (λ (other : new ≢ old). other (added ∙ ap (w.contents.added r) one ∙ sym same ∙ sym one))
-      (λ (locked : IsLocked w s x.block). free_not_locked w s x.block free locked)
+      (λ (locked : IsLocked w.lock s x.block). free_not_locked w s x.block free locked)
       changes
 
   insert_same : (g : OnIndex) (e f : Statement) → NextInsert w s b k r g e → NextInsert w s b k r g f → e ≡ f
@@ -173,27 +174,27 @@ pub data NextGrowth (w : IndexView) (s : ℕ) : PageKind → Phase → Type 0 wh
   Starts : NextGrowth w s Unstarted Growing
   Counts : NextGrowth w s Mapping Vacant
   Flags : NextGrowth w s Regular Vacant
-  MovesNext : (x y : TuplePlace) (t : IndexTuple) → IsNextTuple w (next_map_page w) x t → w.entry t.range ≡ Some x
+  MovesNext : (x y : Spot) (t : IndexTuple) → IsNextTuple w.tuple (next_map_page w.pages) x t → w.entry t.range ≡ Some x
       → PutVerdict w s t.range (length t.bytes) (Puts y) → NextGrowth w s Emptying (Evacuating t.range (Moving x y t t))
-  SweepsNext : (x : TuplePlace) (t : IndexTuple) → IsNextTuple w (next_map_page w) x t → IsUnnamed w x → NextGrowth w s Emptying Vacant
-  Turns : ((x : TuplePlace) (t : IndexTuple) → IsNextTuple w (next_map_page w) x t → ⊥) → NextGrowth w s Emptying Growing
+  SweepsNext : (x : Spot) (t : IndexTuple) → IsNextTuple w.tuple (next_map_page w.pages) x t → IsUnnamed w x → NextGrowth w s Emptying Vacant
+  Turns : ((x : Spot) (t : IndexTuple) → IsNextTuple w.tuple (next_map_page w.pages) x t → ⊥) → NextGrowth w s Emptying Growing
 
 pub data NextPhase (w : IndexView) (s range : ℕ) : Phase → Statement → Type 0 where
-  LooksNamed : (x : TuplePlace) → w.entry range ≡ Some x → NextPhase w s range (NotBuilding Empty) (Maintaining range (NotBuilding (Held x)))
+  LooksNamed : (x : Spot) → w.entry range ≡ Some x → NextPhase w s range (NotBuilding Empty) (Maintaining range (NotBuilding (Held x)))
   LooksVacant : w.entry range ≡ None → NextPhase w s range (NotBuilding Empty) (Maintaining range Vacant)
-  LooksLost : (x : TuplePlace) → IsGone w range x → NextPhase w s range (NotBuilding (Held x)) (Maintaining range (NotBuilding Empty))
-  LooksFinal : (x : TuplePlace) (t : IndexTuple) → Stands w range x t → t.placeholder ≡ false → NextPhase w s range (NotBuilding (Held x)) Holding
-  LooksFound : (x : TuplePlace) (t : IndexTuple) → Stands w range x t → t.placeholder ≡ true
+  LooksLost : (x : Spot) → IsGone w range x → NextPhase w s range (NotBuilding (Held x)) (Maintaining range (NotBuilding Empty))
+  LooksFinal : (x : Spot) (t : IndexTuple) → Stands w range x t → t.placeholder ≡ false → NextPhase w s range (NotBuilding (Held x)) Holding
+  LooksFound : (x : Spot) (t : IndexTuple) → Stands w range x t → t.placeholder ≡ true
       → NextPhase w s range (NotBuilding (Held x)) (Maintaining range (IsAt ExtentUnread Empty))
-  Drops : (x : TuplePlace) → NextPhase w s range (NotBuilding (Dropping x)) Holding
-  Lengthens : (kind : PageKind) (new : Phase) → Grows w range kind → NextGrowth w s kind new → NextPhase w s range Vacant (Maintaining range new)
-  Places : (y : TuplePlace) → (IsPastMap w range → ⊥) → PutVerdict w s range (placeholder_length w range) (Puts y)
+  Drops : (x : Spot) → NextPhase w s range (NotBuilding (Dropping x)) Holding
+  Lengthens : (kind : PageKind) (new : Phase) → Grows w.pages range kind → NextGrowth w s kind new → NextPhase w s range Vacant (Maintaining range new)
+  Places : (y : Spot) → (IsPastMap w.pages range → ⊥) → PutVerdict w s range (placeholder_length w range) (Puts y)
       → NextPhase w s range Vacant (Maintaining range (Placing y))
   CountsStarted : NextPhase w s range Growing (Maintaining range Vacant)
-  SetsOther : (m : ℕ) (x y : TuplePlace) (t u : IndexTuple)
+  SetsOther : (m : ℕ) (x y : Spot) (t u : IndexTuple)
       → NextPhase w s range (Evacuating m (Moving x y t u)) (Maintaining range (Evacuating m (Dropping x)))
-  DropsOther : (m : ℕ) (x : TuplePlace) → NextPhase w s range (Evacuating m (Dropping x)) (Maintaining range Vacant)
-  Names : (x : TuplePlace) → NextPhase w s range (Placing x) (Maintaining range (IsAt ExtentUnread Empty))
+  DropsOther : (m : ℕ) (x : Spot) → NextPhase w s range (Evacuating m (Dropping x)) (Maintaining range Vacant)
+  Names : (x : Spot) → NextPhase w s range (Placing x) (Maintaining range (IsAt ExtentUnread Empty))
   ReadsExtent : (extent : ℕ) (result : IndexTuple) → result ≡ w.contents.empty range → extent ≡ min w.blocks ((range + 1) * w.pages_per_range)
       → NextPhase w s range (IsAt ExtentUnread Empty) (Maintaining range (IsAt (Passing extent (range * w.pages_per_range) result) Empty))
   Passes : (extent next slots : ℕ) (result wider : IndexTuple) → next < extent → HasNoMoreRows (w.row next) slots
@@ -201,11 +202,11 @@ pub data NextPhase (w : IndexView) (s range : ℕ) : Phase → Statement → Typ
       → NextPhase w s range (IsAt (Passing extent next result) Empty) (Maintaining range (IsAt (Passing extent (next + 1) wider) Empty))
   Unites : (extent next : ℕ) (result : IndexTuple) (g h : OnIndex) → extent ≤ next → NextOnIndex w s range g h
       → NextPhase w s range (IsAt (Passing extent next result) g) (Maintaining range (IsAt (Passing extent next result) h))
-  CopiesUnited : (extent next : ℕ) (result : IndexTuple) (x : TuplePlace) (old new : IndexTuple) → Stands w range x old → new ≡ w.contents.united old result
+  CopiesUnited : (extent next : ℕ) (result : IndexTuple) (x : Spot) (old new : IndexTuple) → Stands w range x old → new ≡ w.contents.united old result
       → NextPhase w s range (IsAt (Passing extent next result) (Held x)) (Maintaining range (IsAt (Passing extent next result) (Copied x old new)))
-  SwapsFinal : (p : Progress) (x : TuplePlace) (old new : IndexTuple) → SwapVerdict w s range x old new Fits
+  SwapsFinal : (p : Progress) (x : Spot) (old new : IndexTuple) → SwapVerdict w s range x old new Fits
       → NextPhase w s range (IsAt p (Copied x old new)) Holding
-  SetsFinal : (p : Progress) (x y : TuplePlace) (old new : IndexTuple)
+  SetsFinal : (p : Progress) (x y : Spot) (old new : IndexTuple)
       → NextPhase w s range (IsAt p (Moving x y old new)) (Maintaining range (NotBuilding (Dropping x)))
 
 growth_next : (s range : ℕ) (w v : IndexView) (old new : Phase) → GrowthStep s range w v old new → NextPhase w s range old (Maintaining range new)
@@ -244,23 +245,23 @@ module _ (w : IndexView) (s range : ℕ) where
   growth_same _ _ _ Counts Counts = refl
   growth_same _ _ _ Flags Flags = refl
   growth_same _ _ _ (MovesNext x y t next named verdict) (MovesNext x' y' t' next' named' verdict') =
-      let same = next_once w (next_map_page w) x x' t t' next next' in
+      let same = next_once w (next_map_page w.pages) x x' t t' next next' in
       let target : y ≡ y' = ap (λ q. place_of q y)
       (put_once w s t.range (length t.bytes) (Puts y) (Puts y') verdict
       (subst (λ (u : IndexTuple). PutVerdict w s u.range (length u.bytes) (Puts y')) (sym same.1) verdict')) in
       λ i. Evacuating (same.1 i).range (Moving (same.0 i) (target i) (same.1 i) (same.1 i))
   growth_same _ _ _ (MovesNext x y t next named verdict) (SweepsNext x' t' next' unnamed) =
-      absurd (named_or_not w (next_map_page w) x x' t t' next next' named unnamed)
+      absurd (named_or_not w (next_map_page w.pages) x x' t t' next next' named unnamed)
   growth_same _ _ _ (MovesNext x y t next named verdict) (Turns none) = absurd (none x t next)
   growth_same _ _ _ (SweepsNext x t next unnamed) (MovesNext x' y' t' next' named verdict) =
-      absurd (named_or_not w (next_map_page w) x' x t' t next' next named unnamed)
+      absurd (named_or_not w (next_map_page w.pages) x' x t' t next' next named unnamed)
   growth_same _ _ _ (SweepsNext x t next unnamed) (SweepsNext x' t' next' unnamed') = refl
   growth_same _ _ _ (SweepsNext x t next unnamed) (Turns none) = absurd (none x t next)
   growth_same _ _ _ (Turns none) (MovesNext x y t next named verdict) = absurd (none x t next)
   growth_same _ _ _ (Turns none) (SweepsNext x t next unnamed) = absurd (none x t next)
   growth_same _ _ _ (Turns none) (Turns none') = refl
 
-  final_or_not : (x : TuplePlace) (t u : IndexTuple) → Stands w range x t → t.placeholder ≡ false → Stands w range x u → u.placeholder ≡ true → ⊥
+  final_or_not : (x : Spot) (t u : IndexTuple) → Stands w range x t → t.placeholder ≡ false → Stands w range x u → u.placeholder ≡ true → ⊥
   final_or_not x t u stands final stands' flag =
       false≢true (sym final ∙ ap (λ (q : IndexTuple). q.placeholder) (there_same w s range x t u stands stands') ∙ flag)
 

@@ -4,7 +4,8 @@ use Rattle.std.specs.Prelude.{refl, IsTrue}
 use Rattle.std.proofs.lemmas.Option.{same_Some, none-some}
 use Rattle.std.proofs.lemmas.Bool.{false≢true}
 use Rattle.block_model.specs.declared.row.Row.{Row}
-use Rattle.coverage.specs.IndexView.{TuplePlace, IndexTuple, Contents, Progress, Pages, range_of_block, IsTupleOf, IsBuilding}
+use Rattle.block_model.specs.declared.place.Spot.{Spot}
+use Rattle.coverage.specs.IndexView.{IndexTuple, Contents, Progress, Pages, range_of_block, IsTupleOf, IsBuilding}
 use Rattle.coverage.specs.IsSettled.{IsSettled, AllAwait, IsAccounted}
 use Rattle.coverage.specs.IsSound.{IsSound}
 use Rattle.coverage.specs.Statements.{OnIndex, Scan, Inserting, Scanning, AreLawful, loose_of, building_of}
@@ -21,13 +22,13 @@ module _ (w : IndexState) (covered : IsCovered w) (rest : IsAtRest w) (ranged : 
   nobody_builds : (s range : ℕ) (p : Progress) → IsBuilding (index_view w) s range p → ⊥
   nobody_builds s range p is = none-some _ (sym (ap building_of (rest.idle s)) ∙ is)
 
-  nothing_loose : (s : ℕ) (x : TuplePlace) → loose_of (w.statement s) ≡ Some x → ⊥
+  nothing_loose : (s : ℕ) (x : Spot) → loose_of (w.statement s) ≡ Some x → ⊥
   nothing_loose s x is = none-some _ (sym (ap loose_of (rest.idle s)) ∙ is)
 
-  names_some : (range : ℕ) (x : TuplePlace) → w.entry range ≡ Some x → (t : IndexTuple) × (w.tuple x ≡ Some t) × (t.range ≡ range)
+  names_some : (range : ℕ) (x : Spot) → w.entry range ≡ Some x → (t : IndexTuple) × (w.tuple x ≡ Some t) × (t.range ≡ range)
   names_some range x named = let t = covered.entries_name_tuples range x named in (t.0, t.1, t.2)
 
-  all_formed : (x : TuplePlace) (t : IndexTuple) → w.tuple x ≡ Some t → IsTupleOf (index_view w) t ⊎ IsTrue (w.unnamed x)
+  all_formed : (x : Spot) (t : IndexTuple) → w.tuple x ≡ Some t → IsTupleOf (index_view w) t ⊎ IsTrue (w.unnamed x)
   all_formed x t here = ⊎_elim
       (λ (named : w.entry t.range ≡ Some x).
       let by_map = covered.entries_name_tuples t.range x named in
@@ -88,7 +89,7 @@ module _ (w v : IndexState) (kept : IsIndexKept w) (stops : Stops w v) where
   nobody_builds' s range p is = none-some _ (sym (ap building_of (stops.rest.idle s)) ∙ is)
 
   -- a tuple that stands there stood there before
-  came : (x : TuplePlace) (t : IndexTuple) → v.tuple x ≡ Some t → w.tuple x ≡ Some t
+  came : (x : Spot) (t : IndexTuple) → v.tuple x ≡ Some t → w.tuple x ≡ Some t
   came x t here = ⊎_elim
       (λ (same : v.tuple x ≡ w.tuple x). sym same ∙ here)
       (λ (gone : (v.tuple x ≡ None) × ((range : ℕ) → w.entry range ≢ Some x)). absurd (none-some _ (sym gone.0 ∙ here)))
@@ -100,7 +101,7 @@ module _ (w v : IndexState) (kept : IsIndexKept w) (stops : Stops w v) where
       order_same (index_view w) (index_view v) kept.ordered (λ p. ap (λ (g : Pages). g.kind p) pages) (ap (λ (g : Pages). g.map_pages) pages)
       (ap (λ (g : Pages). g.limit) pages) (λ x t here. kept.ordered.tuples x t (came x t here))
       (entries_same (index_view w) (index_view v) kept.ordered stops.map))
-      (λ (starts : StartsPage (index_view w) (index_view v)).
+      (λ (starts : StartsPage w.pages v.pages).
       order_started (index_view w) (index_view v) kept.ordered starts.page starts.next starts.below starts.turns
       (λ x t here. inr (kept.ordered.tuples x t (came x t here))) (entries_same (index_view w) (index_view v) kept.ordered stops.map))
       stops.pages
@@ -117,7 +118,7 @@ module _ (w v : IndexState) (kept : IsIndexKept w) (stops : Stops w v) where
   within b n m low more = omega arith
 
   -- what was unnamed at the opening and stands still is unnamed
-  stopped_formed : (x : TuplePlace) (t : IndexTuple) → v.tuple x ≡ Some t → IsTupleOf (index_view v) t ⊎ IsTrue (v.unnamed x)
+  stopped_formed : (x : Spot) (t : IndexTuple) → v.tuple x ≡ Some t → IsTupleOf (index_view v) t ⊎ IsTrue (v.unnamed x)
   stopped_formed x t here = ⊎_elim
       (λ (is : IsTupleOf (index_view w) t). inl (tuple_of_on (index_view w) (index_view v) stops.contents stops.pages_per_range stops.blocks t is))
       (λ (unnamed : IsTrue (w.unnamed x)). ⊎_elim

@@ -1,7 +1,8 @@
 -- Each kind of change that carries no tuple lets all others go on.
 use Rattle.std.proofs.Common.{ℕ, Bool, rules}
 use Rattle.block_model.specs.declared.row.Row.{Row}
-use Rattle.coverage.specs.IndexView.{TuplePlace, IndexTuple, IndexView}
+use Rattle.block_model.specs.declared.place.Spot.{Spot}
+use Rattle.coverage.specs.IndexView.{IndexTuple, IndexView}
 use Rattle.coverage.specs.IsSound.{IsSound}
 use Rattle.coverage.specs.GoesOn.{GoesOn}
 use Rattle.coverage.specs.Changes.{PutsRow, DropsLoose, Clears, Sweeps, Prunes, Takes, Ends, TurnsLocks}
@@ -9,10 +10,10 @@ use Rattle.coverage.specs.Changes.{PutsRow, DropsLoose, Clears, Sweeps, Prunes, 
 pub puts_row_go_on : (s : ℕ) (d : ℕ → ℕ → Bool) (w v : IndexView) (b k : ℕ) (r : Row) → IsSound w → PutsRow s w v b k r → GoesOn s d w v
 puts_row_go_on s d w v b k r sound kind = search rules
 
-pub drops_go_on : (s : ℕ) (d : ℕ → ℕ → Bool) (w v : IndexView) (x : TuplePlace) (old : IndexTuple) → IsSound w → DropsLoose s w v x old → GoesOn s d w v
+pub drops_go_on : (s : ℕ) (d : ℕ → ℕ → Bool) (w v : IndexView) (x : Spot) (old : IndexTuple) → IsSound w → DropsLoose s w v x old → GoesOn s d w v
 drops_go_on s d w v x old sound kind = search rules
 
-pub clears_go_on : (s : ℕ) (d : ℕ → ℕ → Bool) (w v : IndexView) (range : ℕ) (x : TuplePlace) → IsSound w → Clears s w v range x → GoesOn s d w v
+pub clears_go_on : (s : ℕ) (d : ℕ → ℕ → Bool) (w v : IndexView) (range : ℕ) (x : Spot) → IsSound w → Clears s w v range x → GoesOn s d w v
 clears_go_on s d w v range x sound kind = search rules
 
 pub sweeps_go_on : (s : ℕ) (d : ℕ → ℕ → Bool) (w v : IndexView) (p : ℕ) → IsSound w → Sweeps s w v p → GoesOn s d w v

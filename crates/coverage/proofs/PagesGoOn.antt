@@ -2,7 +2,8 @@
 use Rattle.std.proofs.Common.{◌≡◌, ◌≢◌, ◌⊎◌, inl, inr, ⊎_elim, ℕ, ◌+◌, ◌*◌, ◌/◌, ◌≤◌, ◌<◌, Some, None, Bool, List, [], ◌∷◌, sym, ◌∙◌, ap, subst, arith}
 use Rattle.std.specs.Prelude.{refl}
 use Rattle.std.proofs.lemmas.Option.{same_Some, none-some}
-use Rattle.coverage.specs.IndexView.{TuplePlace, IndexTuple, Progress, ExtentUnread, Passing, PageKind, Pages, IndexView, map_page_of, next_map_page}
+use Rattle.block_model.specs.declared.place.Spot.{Spot}
+use Rattle.coverage.specs.IndexView.{IndexTuple, Progress, ExtentUnread, Passing, PageKind, Pages, IndexView, map_page_of, next_map_page}
 use Rattle.coverage.specs.IndexView.{range_of_block}
 use Rattle.coverage.specs.IsSound.{IsSound}
 use Rattle.coverage.specs.GoesOn.{GoesOn}
@@ -19,14 +20,14 @@ use Rattle.coverage.proofs.PagesOrdered.{order_still}
 pub record Quiet (w v : IndexView) : Type 0 where
   pub map_pages : v.pages.map_pages ≡ w.pages.map_pages
   pub vacant : (range : ℕ) → w.entry range ≡ None → v.entry range ≡ None
-  pub still : (range : ℕ) (x : TuplePlace) → w.entry range ≡ Some x → (y : TuplePlace) × (v.entry range ≡ Some y)
-  pub sorts : (range : ℕ) (x : TuplePlace) → HasNamedSort w range x → HasNamedSort v range x
+  pub still : (range : ℕ) (x : Spot) → w.entry range ≡ Some x → (y : Spot) × (v.entry range ≡ Some y)
+  pub sorts : (range : ℕ) (x : Spot) → HasNamedSort w range x → HasNamedSort v range x
 
 -- what a step leaves to all other sessions
 pub record PagesGoOn (s : ℕ) (w v : IndexView) : Type 0 where
   pub pages_per_range : v.pages_per_range ≡ w.pages_per_range
   pub blocks : w.blocks ≤ v.blocks
-  pub locks : OwnLocks s w v
+  pub locks : OwnLocks s w.lock v.lock
   pub kinds : (p n : ℕ) → w.lock p ≡ Some n → n ≢ s → v.pages.kind p ≡ w.pages.kind p
   pub quiet : (w.summarise_lock ≡ Some s) ⊎ Quiet w v
 
@@ -52,7 +53,8 @@ quiet_same w v map tuples map_pages = record {
 }
 
 -- a page that nobody else locks turns
-pub kinds_turned : (s : ℕ) (w v : IndexView) (page : ℕ) (kind : PageKind) → TurnsPage w v page kind → IsFree w s page → (p n : ℕ) → w.lock p ≡ Some n → n ≢ s
+pub kinds_turned : (s : ℕ) (w v : IndexView) (page : ℕ) (kind : PageKind) → TurnsPage w.pages v.pages page kind → IsFree w.lock s page → (p n : ℕ)
+    → w.lock p ≡ Some n → n ≢ s
     → v.pages.kind p ≡ w.pages.kind p
 kinds_turned s w v page kind turns free p n is other = ⊎_elim
     (λ (at : p ≡ page). absurd (other (free n (subst (λ q. w.lock q ≡ Some n) at is))))
@@ -61,7 +63,7 @@ kinds_turned s w v page kind turns free p n is other = ⊎_elim
 
 -- entries, tuples and pages stay
 pub still_after : (s : ℕ) (w v : IndexView) (new : Statement) → v.pages_per_range ≡ w.pages_per_range → w.blocks ≤ v.blocks → SameMap w v → SameTuples w v
-    → v.pages ≡ w.pages → OwnLocks s w v → AreOrdered w → KnowsPages v s new → PagesAfter s w v new
+    → v.pages ≡ w.pages → OwnLocks s w.lock v.lock → AreOrdered w → KnowsPages v s new → PagesAfter s w v new
 still_after s w v new per blocks map tuples pages locks ordered knows = record {
   ordered = order_still w v ordered map tuples pages;
   on = record {
@@ -75,7 +77,7 @@ still_after s w v new per blocks map tuples pages locks ordered knows = record {
 }
 
 -- a move's put, by a statement that doesn't turn a placeholder into a final tuple
-pub quiet_put : (w v : IndexView) (range : ℕ) (x y : TuplePlace) (old new : IndexTuple) → w.entry range ≡ Some x → w.tuple x ≡ Some old → new.range ≡ range
+pub quiet_put : (w v : IndexView) (range : ℕ) (x y : Spot) (old new : IndexTuple) → w.entry range ≡ Some x → w.tuple x ≡ Some old → new.range ≡ range
     → new.placeholder ≡ old.placeholder → ChangesAt w.tuple v.tuple y None (Some new) → SameMap w v → v.pages.map_pages ≡ w.pages.map_pages → Quiet w v
 quiet_put w v range x y old new named before of same put map map_pages = record {
   map_pages = map_pages;
@@ -91,14 +93,14 @@ quiet_put w v range x y old new named before of same put map map_pages = record 
       (put.others z);
 }
   where
-    stays : (z : TuplePlace) (u : IndexTuple) → w.tuple z ≡ Some u → v.tuple z ≡ Some u
+    stays : (z : Spot) (u : IndexTuple) → w.tuple z ≡ Some u → v.tuple z ≡ Some u
     stays z u here = ⊎_elim
         (λ (at : z ≡ y). absurd (none-some _ (sym put.was ∙ ap w.tuple (sym at) ∙ here)))
         (λ (e : v.tuple z ≡ w.tuple z). e ∙ here)
         (put.others z)
 
 -- a swap in place, likewise
-pub quiet_swap : (w v : IndexView) (range : ℕ) (x : TuplePlace) (old new : IndexTuple) → w.entry range ≡ Some x → new.range ≡ range
+pub quiet_swap : (w v : IndexView) (range : ℕ) (x : Spot) (old new : IndexTuple) → w.entry range ≡ Some x → new.range ≡ range
     → new.placeholder ≡ old.placeholder → ChangesAt w.tuple v.tuple x (Some old) (Some new) → SameMap w v → v.pages.map_pages ≡ w.pages.map_pages → Quiet w v
 quiet_swap w v range x old new named of same swap map map_pages = record {
   map_pages = map_pages;
@@ -121,32 +123,32 @@ quiet_swap w v range x old new named of same swap map map_pages = record {
 }
 
 -- the map names the new tuple, likewise
-pub quiet_set : (s : ℕ) (w v : IndexView) (range : ℕ) (x y : TuplePlace) (old new : IndexTuple) → w.entry range ≡ Some x → w.tuple x ≡ Some old
+pub quiet_set : (s : ℕ) (w v : IndexView) (range : ℕ) (x y : Spot) (old new : IndexTuple) → w.entry range ≡ Some x → w.tuple x ≡ Some old
     → w.tuple y ≡ Some new → new.placeholder ≡ old.placeholder → SetsEntry s w v range y → Quiet w v
 quiet_set s w v range x y old new named before after same sets = record {
   map_pages = ap (λ (g : Pages). g.map_pages) sets.pages;
   vacant = λ m none. ⊎_elim
       (λ (at : m ≡ range). absurd (none-some _ (sym none ∙ ap w.entry at ∙ named)))
       (λ (e : v.entry m ≡ w.entry m). e ∙ none)
-      (sets.others m);
+      (sets.entry.others m);
   still = λ m z is. ⊎_elim
-      (λ (at : m ≡ range). (y, ap v.entry at ∙ sets.now))
+      (λ (at : m ≡ range). (y, ap v.entry at ∙ sets.entry.now))
       (λ (e : v.entry m ≡ w.entry m). (z, e ∙ is))
-      (sets.others m);
+      (sets.entry.others m);
   sorts = λ m z has t there in_m.
       let h = has t (sym (sets.frame.tuples.tuple z) ∙ there) in_m in
       ⊎_elim
       (λ (at : m ≡ range).
       let place : h.0 ≡ x = same_Some _ _ (sym h.2 ∙ ap w.entry at ∙ named) in
       let is : h.1 ≡ old = same_Some _ _ (sym h.3 ∙ ap w.tuple place ∙ before) in
-      (y, new, ap v.entry at ∙ sets.now, sets.frame.tuples.tuple y ∙ after, same ∙ ap (λ (q : IndexTuple). q.placeholder) (sym is) ∙ h.4))
+      (y, new, ap v.entry at ∙ sets.entry.now, sets.frame.tuples.tuple y ∙ after, same ∙ ap (λ (q : IndexTuple). q.placeholder) (sym is) ∙ h.4))
       (λ (e : v.entry m ≡ w.entry m). (h.0, h.1, e ∙ h.2, sets.frame.tuples.tuple h.0 ∙ h.3, h.4))
-      (sets.others m);
+      (sets.entry.others m);
 }
 
 -- a tuple that the map doesn't name goes
-pub quiet_drop : (w v : IndexView) (x : TuplePlace) → ((range : ℕ) → w.entry range ≢ Some x) → v.tuple x ≡ None
-    → ((y : TuplePlace) → (y ≡ x) ⊎ (v.tuple y ≡ w.tuple y)) → SameMap w v → v.pages.map_pages ≡ w.pages.map_pages → Quiet w v
+pub quiet_drop : (w v : IndexView) (x : Spot) → ((range : ℕ) → w.entry range ≢ Some x) → v.tuple x ≡ None
+    → ((y : Spot) → (y ≡ x) ⊎ (v.tuple y ≡ w.tuple y)) → SameMap w v → v.pages.map_pages ≡ w.pages.map_pages → Quiet w v
 quiet_drop w v x unnamed gone others map map_pages = record {
   map_pages = map_pages;
   vacant = λ m none. map.entry m ∙ none;
@@ -163,13 +165,13 @@ quiet_drop w v x unnamed gone others map map_pages = record {
 }
 
 module _ (s : ℕ) (d : ℕ → ℕ → Bool) (w v : IndexView) (sound : IsSound w) (on : GoesOn s d w v) (pages : PagesGoOn s w v) (n : ℕ) (other : n ≢ s) where
-  these_on : (these : List ℕ) → LocksThese w n these → LocksThese v n these
+  these_on : (these : List ℕ) → LocksThese w.lock n these → LocksThese v.lock n these
   these_on these locks = record {
     locked = λ p one. pages.locks.others p n (locks.locked p one) other;
     only = λ p is. locks.only p (pages.locks.taken p n is other);
   }
 
-  locks_on : (range : ℕ) (on_index : OnIndex) → LocksOnIndex w n range on_index → LocksOnIndex v n range on_index
+  locks_on : (range : ℕ) (on_index : OnIndex) → LocksOnIndex w.lock n range on_index → LocksOnIndex v.lock n range on_index
   locks_on range Empty locks = tt
   locks_on range (Held x) locks = tt
   locks_on range (Copied x old new) locks = tt
@@ -205,8 +207,8 @@ module _ (s : ℕ) (d : ℕ → ℕ → Bool) (w v : IndexView) (sound : IsSound
   phase_pages_on held range Vacant known = tt
   phase_pages_on held range Growing known =
       let same = (quiet_on held).map_pages in (
-        ap (λ m. v.pages.kind (m + 1)) same ∙ pages.kinds (next_map_page w) n (known.1.locked (next_map_page w) (inl refl)) other ∙ known.0,
-        subst (λ m. LocksThese v n ((m + 1) ∷ 0 ∷ [])) (sym same) (these_on (next_map_page w ∷ 0 ∷ []) known.1),
+        ap (λ m. v.pages.kind (m + 1)) same ∙ pages.kinds (next_map_page w.pages) n (known.1.locked (next_map_page w.pages) (inl refl)) other ∙ known.0,
+        subst (λ m. LocksThese v.lock n ((m + 1) ∷ 0 ∷ [])) (sym same) (these_on (next_map_page w.pages ∷ 0 ∷ []) known.1),
       )
   phase_pages_on held range (Evacuating m on_index) known = (locks_on m on_index known.0, known.1)
   phase_pages_on held range (Placing x) known = (
@@ -219,7 +221,7 @@ module _ (s : ℕ) (d : ℕ → ℕ → Bool) (w v : IndexView) (sound : IsSound
   pub pages_on : (e : Statement) → Knows w n e → KnowsPages w n e → KnowsPages v n e
   pages_on Idle known pages_known = tt
   pages_on (Inserting b k r on_index) known pages_known =
-      subst (λ m. LocksOnIndex v n (b / m) on_index) (sym pages.pages_per_range) (locks_on (range_of_block w b) on_index pages_known)
+      subst (λ m. LocksOnIndex v.lock n (b / m) on_index) (sym pages.pages_per_range) (locks_on (range_of_block w b) on_index pages_known)
   pages_on (Maintaining range phase) known pages_known = phase_pages_on known.0 range phase pages_known
   pages_on Holding known pages_known = tt
   pages_on (Scanning scan) known pages_known = tt

@@ -4,7 +4,8 @@ use Rattle.std.specs.Prelude.{refl}
 use Rattle.std.proofs.lemmas.Option.{none-some}
 use Rattle.std.proofs.lemmas.Bool.{cases_eq}
 use Rattle.block_model.specs.declared.row.Row.{Row}
-use Rattle.coverage.specs.IndexView.{TuplePlace, IndexTuple, Progress, ExtentUnread, Passing, PageKind, Unstarted, Mapping, Regular, Emptying, Pages, IndexView, placeholder_length}
+use Rattle.block_model.specs.declared.place.Spot.{Spot}
+use Rattle.coverage.specs.IndexView.{IndexTuple, Progress, ExtentUnread, Passing, PageKind, Unstarted, Mapping, Regular, Emptying, Pages, IndexView, placeholder_length}
 use Rattle.coverage.specs.IndexView.{map_page_of, next_map_page, IsPastMap, range_of_block, NamesPlaceholder}
 use Rattle.coverage.specs.IsSound.{IsSound}
 use Rattle.coverage.specs.Changes.{SameHeap, OwnLocks, IsUntouched}
@@ -29,14 +30,14 @@ use Rattle.coverage.proofs.PagesOrdered.{order_counted}
 use Rattle.coverage.proofs.PagesGoOn.{Quiet, PagesGoOn, PagesAfter, same_blocks, quiet_same, kinds_turned, still_after, quiet_put, quiet_swap, quiet_set, quiet_drop}
 
 -- the page of a put is the target that was chosen
-pub put_target : (w : IndexView) (s range need : ℕ) (y : TuplePlace) → PutVerdict w s range need (Puts y) → IsTarget w need y.block
+pub put_target : (w : IndexView) (s range need : ℕ) (y : Spot) → PutVerdict w s range need (Puts y) → IsTarget w.pages need y.block
 put_target w s range need y (PutGoes _ target free map) = target.0
 
-pub move_target : (w : IndexView) (s range : ℕ) (x y : TuplePlace) (old new : IndexTuple) → SwapVerdict w s range x old new (Puts y)
-    → IsTarget w (length new.bytes) y.block
+pub move_target : (w : IndexView) (s range : ℕ) (x y : Spot) (old new : IndexTuple) → SwapVerdict w s range x old new (Puts y)
+    → IsTarget w.pages (length new.bytes) y.block
 move_target w s range x y old new (SwapMoves _ free here must puts) = put_target w s range (length new.bytes) y puts
 
-swap_regular : (w : IndexView) (s range : ℕ) (x : TuplePlace) (old new : IndexTuple) → SwapVerdict w s range x old new Fits → w.pages.kind x.block ≡ Regular
+swap_regular : (w : IndexView) (s range : ℕ) (x : Spot) (old new : IndexTuple) → SwapVerdict w s range x old new Fits → w.pages.kind x.block ≡ Regular
 swap_regular w s range x old new (SwapFits free here kind fits) = kind
 swap_regular w s range x old new (SwapMoves _ free here must puts) = never puts
   where
@@ -44,7 +45,7 @@ swap_regular w s range x old new (SwapMoves _ free here must puts) = never puts
     never puts = elim puts [ ]
 
 module _ (s : ℕ) (w v : IndexView) where
-  goes_on : SameHeap w v → OwnLocks s w v → ((p n : ℕ) → w.lock p ≡ Some n → n ≢ s → v.pages.kind p ≡ w.pages.kind p)
+  goes_on : SameHeap w v → OwnLocks s w.lock v.lock → ((p n : ℕ) → w.lock p ≡ Some n → n ≢ s → v.pages.kind p ≡ w.pages.kind p)
       → (w.summarise_lock ≡ Some s) ⊎ Quiet w v → PagesGoOn s w v
   goes_on heap locks kinds quiet = record {
     pages_per_range = heap.pages_per_range;
@@ -57,7 +58,7 @@ module _ (s : ℕ) (w v : IndexView) where
   same_kinds : v.pages ≡ w.pages → (p n : ℕ) → w.lock p ≡ Some n → n ≢ s → v.pages.kind p ≡ w.pages.kind p
   same_kinds pages p n is other = ap (λ (g : Pages). g.kind p) pages
 
-  these_same : SameLocks w v → (these : List ℕ) → LocksThese w s these → LocksThese v s these
+  these_same : SameLocks w.lock v.lock → (these : List ℕ) → LocksThese w.lock s these → LocksThese v.lock s these
   these_same same these locks =
       record { locked = λ p one. same.lock p ∙ locks.locked p one; only = λ p is. locks.only p (sym (same.lock p) ∙ is) }
 
@@ -67,25 +68,25 @@ module _ (s : ℕ) (w v : IndexView) (ordered : AreOrdered w) where
       still_after s w v new reads.frame.heap.pages_per_range (same_blocks w v reads.frame.heap) reads.frame.map reads.frame.tuples reads.pages
       reads.frame.locks ordered knows
 
-  swap_ordered : (x : TuplePlace) (old new : IndexTuple) → ReplacesTuple s w v x old new → w.pages.kind x.block ≡ Regular → AreOrdered v
+  swap_ordered : (x : Spot) (old new : IndexTuple) → ReplacesTuple s w v x old new → w.pages.kind x.block ≡ Regular → AreOrdered v
   swap_ordered x old new swap kind =
       order_same w v ordered (turned_same w v x.block Regular swap.page kind) swap.page.map_pages swap.page.limit
       (λ z t here. ⊎_elim
-      (λ (at : z ≡ x). subst (λ (y : TuplePlace). IsForTuples w y.block) (sym at) (inl kind))
+      (λ (at : z ≡ x). subst (λ (y : Spot). IsForTuples w.pages y.block) (sym at) (inl kind))
       (λ (e : v.tuple z ≡ w.tuple z). ordered.tuples z t (sym e ∙ here))
       (swap.tuple.others z))
       (entries_same w v ordered swap.frame.map)
 
-  set_ordered : (range : ℕ) (x : TuplePlace) → SetsEntry s w v range x → map_page_of range ≤ w.pages.map_pages → AreOrdered v
+  set_ordered : (range : ℕ) (x : Spot) → SetsEntry s w v range x → map_page_of range ≤ w.pages.map_pages → AreOrdered v
   set_ordered range x sets within =
       order_same w v ordered (λ p. ap (λ (g : Pages). g.kind p) sets.pages) (ap (λ (g : Pages). g.map_pages) sets.pages)
       (ap (λ (g : Pages). g.limit) sets.pages) (tuples_same w v ordered sets.frame.tuples)
       (λ m z named. ⊎_elim
       (λ (at : m ≡ range). subst (λ n. map_page_of n ≤ w.pages.map_pages) (sym at) within)
       (λ (e : v.entry m ≡ w.entry m). ordered.entries m z (sym e ∙ named))
-      (sets.others m))
+      (sets.entry.others m))
 
-  clear_ordered : (range : ℕ) (x : TuplePlace) → ClearsEntry s w v range x → AreOrdered v
+  clear_ordered : (range : ℕ) (x : Spot) → ClearsEntry s w v range x → AreOrdered v
   clear_ordered range x clears =
       order_same w v ordered (λ p. ap (λ (g : Pages). g.kind p) clears.pages) (ap (λ (g : Pages). g.map_pages) clears.pages)
       (ap (λ (g : Pages). g.limit) clears.pages) (tuples_same w v ordered clears.frame.tuples)
@@ -94,21 +95,21 @@ module _ (s : ℕ) (w v : IndexView) (ordered : AreOrdered w) where
       (λ (e : v.entry m ≡ w.entry m). ordered.entries m z (sym e ∙ named))
       (clears.entry.others m))
 
-  drop_ordered : (x : TuplePlace) → DropsTuple s w v x → AreOrdered v
+  drop_ordered : (x : Spot) → DropsTuple s w v x → AreOrdered v
   drop_ordered x drops =
       order_same w v ordered (turned_same w v x.block (w.pages.kind x.block) drops.page refl) drops.page.map_pages drops.page.limit
       (λ z t here. ⊎_elim
-      (λ (at : z ≡ x). absurd (none-some _ (sym drops.now ∙ ap v.tuple (sym at) ∙ here)))
+      (λ (at : z ≡ x). absurd (none-some _ (sym drops.tuple.now ∙ ap v.tuple (sym at) ∙ here)))
       (λ (e : v.tuple z ≡ w.tuple z). ordered.tuples z t (sym e ∙ here))
-      (drops.others z))
+      (drops.tuple.others z))
       (entries_same w v ordered drops.frame.map)
 
-  drop_on : (x : TuplePlace) → DropsTuple s w v x → (w.summarise_lock ≡ Some s) ⊎ Quiet w v → PagesGoOn s w v
+  drop_on : (x : Spot) → DropsTuple s w v x → (w.summarise_lock ≡ Some s) ⊎ Quiet w v → PagesGoOn s w v
   drop_on x drops quiet =
       goes_on s w v drops.frame.heap drops.frame.locks (λ p n is other. turned_same w v x.block (w.pages.kind x.block) drops.page refl p) quiet
 
   -- tuples of a page go
-  pub sweep_after : (p : ℕ) (Sweeping : TuplePlace → Type 0) (new : Statement) → SweepsTuples s w v p Sweeping → w.summarise_lock ≡ Some s → KnowsPages v s new
+  pub sweep_after : (p : ℕ) (Sweeping : Spot → Type 0) (new : Statement) → SweepsTuples s w v p Sweeping → w.summarise_lock ≡ Some s → KnowsPages v s new
       → PagesAfter s w v new
   sweep_after p Sweeping new sweeps held knows = record {
     ordered = order_same w v ordered (turned_same w v p (w.pages.kind p) sweeps.page refl) sweeps.page.map_pages sweeps.page.limit
@@ -122,7 +123,7 @@ module _ (s : ℕ) (w v : IndexView) (ordered : AreOrdered w) where
   }
 
   module _ (range : ℕ) (quiet : (w.summarise_lock ≡ Some s) ⊎ Quiet w v) where
-    on_index_after : (g h : OnIndex) → OnIndexStep s range w v g h → AreOrdered v × PagesGoOn s w v × LocksOnIndex v s range h
+    on_index_after : (g h : OnIndex) → OnIndexStep s range w v g h → AreOrdered v × PagesGoOn s w v × LocksOnIndex v.lock s range h
     on_index_after _ _ (Maps x named reads) = let after = read_after Idle reads tt in (after.ordered, after.on, tt)
     on_index_after _ _ (Gone x gone reads) = let after = read_after Idle reads tt in (after.ordered, after.on, tt)
     on_index_after _ _ (Again x old new verdict reads) = let after = read_after Idle reads tt in (after.ordered, after.on, tt)
@@ -145,13 +146,13 @@ module _ (s b k : ℕ) (r : Row) (w v : IndexView) (sound : IsSound w) (ordered 
       puts.page.map_pages
 
   pub insert_after : (g : OnIndex) (e : Statement) → InsertStep s b k r w v g e → KnowsOnIndex w s (range_of_block w b) (IsAdded r) g
-      → LocksOnIndex w s (range_of_block w b) g → PagesAfter s w v e
+      → LocksOnIndex w.lock s (range_of_block w b) g → PagesAfter s w v e
   insert_after _ _ (InsertOnIndex old new step) known locks =
       let after = on_index_after s w v ordered (range_of_block w b) (inr (on_index_quiet old new step known)) old new step in
       record {
         ordered = after.0;
         on = after.1;
-        knows = subst (λ m. LocksOnIndex v s (b / m) new) (sym after.1.pages_per_range) after.2;
+        knows = subst (λ m. LocksOnIndex v.lock s (b / m) new) (sym after.1.pages_per_range) after.2;
       }
   insert_after _ _ (InsertNoEntry none reads) known locks = read_after s w v ordered Idle reads tt
   insert_after _ _ (InsertCopies x old new stands added changes reads) known locks = read_after s w v ordered (Inserting b k r (Copied x old new)) reads tt
@@ -168,18 +169,18 @@ module _ (s b k : ℕ) (r : Row) (w v : IndexView) (sound : IsSound w) (ordered 
     ordered = set_ordered s w v ordered (range_of_block w b) y sets (ordered.entries (range_of_block w b) x known.2);
     on = goes_on s w v sets.frame.heap sets.frame.locks (same_kinds s w v sets.pages)
         (inr (quiet_set s w v (range_of_block w b) x y old new known.2 known.3 known.4 known.6.placeholder sets));
-    knows = subst (λ m. LocksOnIndex v s (b / m) (Dropping x)) (sym sets.frame.heap.pages_per_range)
+    knows = subst (λ m. LocksOnIndex v.lock s (b / m) (Dropping x)) (sym sets.frame.heap.pages_per_range)
         (y.block, these_same s w v same (x.block ∷ y.block ∷ map_page_of (range_of_block w b) ∷ []) locks);
   }
   insert_after _ _ (InsertDrop x drops) known locks = record {
     ordered = drop_ordered s w v ordered x drops;
-    on = drop_on s w v ordered x drops (inr (quiet_drop w v x known.1 drops.now drops.others drops.frame.map drops.page.map_pages));
+    on = drop_on s w v ordered x drops (inr (quiet_drop w v x known.1 drops.tuple.now drops.tuple.others drops.frame.map drops.page.map_pages));
     knows = tt;
   }
 
 -- a page without a next tuple has none
-module _ (w : IndexView) (page : ℕ) (none : (x : TuplePlace) (t : IndexTuple) → IsNextTuple w page x t → ⊥) where
-  abbrev pub place : ℕ → TuplePlace
+module _ (w : IndexView) (page : ℕ) (none : (x : Spot) (t : IndexTuple) → IsNextTuple w.tuple page x t → ⊥) where
+  abbrev pub place : ℕ → Spot
   place k = record { block = page; slot = k }
 
   abbrev pub HasTuple : ℕ → Type 0
@@ -192,7 +193,7 @@ module _ (w : IndexView) (page : ℕ) (none : (x : TuplePlace) (t : IndexTuple) 
       by None is = inr (λ has. none-some _ (sym is ∙ has.1))
       by (Some t) is = inl (t, is)
 
-  pub none_left : (x : TuplePlace) (t : IndexTuple) → x.block ≡ page → w.tuple x ≡ Some t → ⊥
+  pub none_left : (x : Spot) (t : IndexTuple) → x.block ≡ page → w.tuple x ≡ Some t → ⊥
   none_left x t on here = ⊎_elim
       (λ (all : (i : ℕ) → i < x.slot + 1 → HasTuple i → ⊥). all x.slot (omega arith) (t, ap w.tuple (sym same) ∙ here))
       (λ (one : (i : ℕ) × HasTuple i × ((j : ℕ) → HasTuple j → i ≤ j)). none (place one.0) one.1.0 (record {
@@ -245,16 +246,16 @@ uniting s range w v extent next result all _ _ (MovePut x y old new verdict puts
 
 module _ (s range : ℕ) (w v : IndexView) (ordered : AreOrdered w) (held : w.summarise_lock ≡ Some s) where
   -- the page after the map turns to another kind
-  turn_ordered : (kind : PageKind) (these : List ℕ) → TurnsKind s w v kind these → next_map_page w < w.pages.limit → (kind ≡ Unstarted → ⊥)
-      → ((x : TuplePlace) (t : IndexTuple) → x.block ≡ next_map_page w → w.tuple x ≡ Some t → (kind ≡ Regular) ⊎ (kind ≡ Emptying)) → AreOrdered v
+  turn_ordered : (kind : PageKind) (these : List ℕ) → TurnsKind s w v kind these → next_map_page w.pages < w.pages.limit → (kind ≡ Unstarted → ⊥)
+      → ((x : Spot) (t : IndexTuple) → x.block ≡ next_map_page w.pages → w.tuple x ≡ Some t → (kind ≡ Regular) ⊎ (kind ≡ Emptying)) → AreOrdered v
   turn_ordered kind these turns low started holds =
-      order_turned w v ordered (next_map_page w) kind turns.page (past w.pages.map_pages) low started (λ is. self (next_map_page w)) first
+      order_turned w v ordered (next_map_page w.pages) kind turns.page (past w.pages.map_pages) low started (λ is. self (next_map_page w.pages)) first
       (λ x t here.
       let was : w.tuple x ≡ Some t = sym (turns.frame.tuples.tuple x) ∙ here in
       ⊎_elim
-      (λ (at : x.block ≡ next_map_page w). inl (at, holds x t at was))
-      (λ (other : x.block ≢ next_map_page w). inr (other, ordered.tuples x t was))
-      (cases_eq x.block (next_map_page w)))
+      (λ (at : x.block ≡ next_map_page w.pages). inl (at, holds x t at was))
+      (λ (other : x.block ≢ next_map_page w.pages). inr (other, ordered.tuples x t was))
+      (cases_eq x.block (next_map_page w.pages)))
       (entries_same w v ordered turns.frame.map)
     where
       past : (n : ℕ) → n < n + 1
@@ -266,16 +267,16 @@ module _ (s range : ℕ) (w v : IndexView) (ordered : AreOrdered w) (held : w.su
       before : (p n : ℕ) → p < n + 1 → p ≤ n
       before p n less = omega arith
 
-      first : (p : ℕ) → p < next_map_page w → w.pages.kind p ≢ Unstarted
+      first : (p : ℕ) → p < next_map_page w.pages → w.pages.kind p ≢ Unstarted
       first p less is = subst IsStarted (sym (ordered.map p (before p w.pages.map_pages less)) ∙ is) tt
 
-  grown : (these : List ℕ) (turns : TurnsKind s w v Mapping these) → these ≡ (next_map_page w ∷ 0 ∷ []) → KnowsPagesOfPhase v s range Growing
+  grown : (these : List ℕ) (turns : TurnsKind s w v Mapping these) → these ≡ (next_map_page w.pages ∷ 0 ∷ []) → KnowsPagesOfPhase v s range Growing
   grown these turns are = (
     ap (λ m. v.pages.kind (m + 1)) turns.page.map_pages ∙ turns.page.now,
-    subst (λ m. LocksThese v s ((m + 1) ∷ 0 ∷ [])) (sym turns.page.map_pages) (subst (LocksThese v s) are turns.locks),
+    subst (λ m. LocksThese v.lock s ((m + 1) ∷ 0 ∷ [])) (sym turns.page.map_pages) (subst (LocksThese v.lock s) are turns.locks),
   )
 
-  count_after : CountsPage s w v → w.pages.kind (next_map_page w) ≡ Mapping → PagesAfter s w v (Maintaining range Vacant)
+  count_after : CountsPage s w v → w.pages.kind (next_map_page w.pages) ≡ Mapping → PagesAfter s w v (Maintaining range Vacant)
   count_after counts next = record {
     ordered = order_counted w v ordered counts.pages next counts.frame.map counts.frame.tuples;
     on = goes_on s w v counts.frame.heap counts.frame.locks (λ p n is other. ap (λ (g : Pages). g.kind p) counts.pages) (inl held);
@@ -285,16 +286,16 @@ module _ (s range : ℕ) (w v : IndexView) (ordered : AreOrdered w) (held : w.su
   growth_after : (old new : Phase) → GrowthStep s range w v old new → KnowsPhase w s range old → KnowsPagesOfPhase w s range old
       → PagesAfter s w v (Maintaining range new)
   growth_after _ _ (Grow grows free meta turns) known pages = record {
-    ordered = turn_ordered Mapping (next_map_page w ∷ 0 ∷ []) turns grows.below (λ is. subst IsStarted is tt)
+    ordered = turn_ordered Mapping (next_map_page w.pages ∷ 0 ∷ []) turns grows.below (λ is. subst IsStarted is tt)
         (λ x t at here. absurd (subst IsStarted (ap w.pages.kind at ∙ grows.is) (for_tuples w x.block (ordered.tuples x t here)).0));
-    on = goes_on s w v turns.frame.heap turns.frame.locks (kinds_turned s w v (next_map_page w) Mapping turns.page free) (inl held);
-    knows = grown (next_map_page w ∷ 0 ∷ []) turns refl;
+    on = goes_on s w v turns.frame.heap turns.frame.locks (kinds_turned s w v (next_map_page w.pages) Mapping turns.page free) (inl held);
+    knows = grown (next_map_page w.pages ∷ 0 ∷ []) turns refl;
   }
   growth_after _ _ (CountLeftOver grows meta counts) known pages = count_after counts grows.is
   growth_after _ _ (Count counts) known pages = count_after counts pages.0
   growth_after _ _ (Flag grows free turns) known pages = record {
     ordered = turn_ordered Emptying [] turns grows.below (λ is. subst IsStarted is tt) (λ x t at here. inr refl);
-    on = goes_on s w v turns.frame.heap turns.frame.locks (kinds_turned s w v (next_map_page w) Emptying turns.page free) (inl held);
+    on = goes_on s w v turns.frame.heap turns.frame.locks (kinds_turned s w v (next_map_page w.pages) Emptying turns.page free) (inl held);
     knows = tt;
   }
   growth_after _ _ (EvacuatePut x y t grows next named free verdict puts these) known pages = record {
@@ -310,22 +311,22 @@ module _ (s range : ℕ) (w v : IndexView) (ordered : AreOrdered w) (held : w.su
   growth_after _ _ (EvacuateDrop m x drops) known pages =
       record { ordered = drop_ordered s w v ordered x drops; on = drop_on s w v ordered x drops (inl held); knows = tt }
   growth_after _ _ (EvacuateSweep x t grows next unnamed sweeps) known pages =
-      sweep_after s w v ordered (next_map_page w) (λ y. y ≡ x) (Maintaining range Vacant) sweeps held tt
+      sweep_after s w v ordered (next_map_page w.pages) (λ y. y ≡ x) (Maintaining range Vacant) sweeps held tt
   growth_after _ _ (Turn grows empty free meta turns) known pages = record {
-    ordered = turn_ordered Mapping (next_map_page w ∷ 0 ∷ []) turns grows.below (λ is. subst IsStarted is tt)
-        (λ x t at here. absurd (none_left w (next_map_page w) empty x t at here));
-    on = goes_on s w v turns.frame.heap turns.frame.locks (kinds_turned s w v (next_map_page w) Mapping turns.page free) (inl held);
-    knows = grown (next_map_page w ∷ 0 ∷ []) turns refl;
+    ordered = turn_ordered Mapping (next_map_page w.pages ∷ 0 ∷ []) turns grows.below (λ is. subst IsStarted is tt)
+        (λ x t at here. absurd (none_left w (next_map_page w.pages) empty x t at here));
+    on = goes_on s w v turns.frame.heap turns.frame.locks (kinds_turned s w v (next_map_page w.pages) Mapping turns.page free) (inl held);
+    knows = grown (next_map_page w.pages ∷ 0 ∷ []) turns refl;
   }
 
-  long_enough : (IsPastMap w range → ⊥) → map_page_of range ≤ w.pages.map_pages
+  long_enough : (IsPastMap w.pages range → ⊥) → map_page_of range ≤ w.pages.map_pages
   long_enough long = ⊎_elim
       (λ (past : w.pages.map_pages < map_page_of range). absurd (long past))
       (λ (le : map_page_of range ≤ w.pages.map_pages). le)
       (lt_or_ge w.pages.map_pages (map_page_of range))
 
   -- where the map was read, the tuple at the place is the one that it names
-  sort_read : (x : TuplePlace) → w.entry range ≡ Some x → ReadsIndex s w v → HasNamedSort v range x
+  sort_read : (x : Spot) → w.entry range ≡ Some x → ReadsIndex s w v → HasNamedSort v range x
   sort_read x named reads t here of = (x, t, reads.frame.map.entry range ∙ named, here, refl)
 
   summarise_after : (old : Phase) (new : Statement) → SummariseStep s range w v old new → KnowsPhase w s range old → KnowsPagesOfPhase w s range old
@@ -348,7 +349,7 @@ module _ (s range : ℕ) (w v : IndexView) (ordered : AreOrdered w) (held : w.su
   summarise_after _ _ (Set x sets none) known pages = record {
     ordered = set_ordered s w v ordered range x sets (long_enough pages.0);
     on = goes_on s w v sets.frame.heap sets.frame.locks (same_kinds s w v sets.pages) (inl held);
-    knows = (tt, (x, known.1.1.0, sets.now, sets.frame.tuples.tuple x ∙ known.1.1.1, known.1.1.3), tt, tt);
+    knows = (tt, (x, known.1.1.0, sets.entry.now, sets.frame.tuples.tuple x ∙ known.1.1.1, known.1.1.3), tt, tt);
   }
   summarise_after _ _ (Extent extent result start is reads) known pages =
       read_after s w v ordered (Maintaining range (IsAt (Passing extent (range * w.pages_per_range) result) Empty)) reads (

@@ -3,7 +3,8 @@ use Rattle.std.proofs.Common.{◌≡◌, ◌≢◌, ◌⊎◌, inl, inr, ⊎_eli
 use Rattle.std.specs.Prelude.{refl}
 use Rattle.std.proofs.lemmas.Option.{none-some}
 use Rattle.std.proofs.lemmas.Bool.{cases_eq}
-use Rattle.coverage.specs.IndexView.{TuplePlace, IndexTuple, PageKind, Unstarted, Mapping, Regular, Emptying, Pages, IndexView, map_page_of, next_map_page}
+use Rattle.block_model.specs.declared.place.Spot.{Spot}
+use Rattle.coverage.specs.IndexView.{IndexTuple, PageKind, Unstarted, Mapping, Regular, Emptying, Pages, IndexView, map_page_of, next_map_page}
 use Rattle.coverage.specs.Changes.{SameMap, SameTuples}
 use Rattle.coverage.specs.Verdicts.{IsLowestNumber, IsPageUnstarted, IsTarget, OnStarted, OnNew}
 use Rattle.coverage.specs.PageOrder.{IsForTuples, AreOrdered, AreNewPages}
@@ -20,14 +21,14 @@ IsNoMap Mapping = ⊥
 IsNoMap kind = Unit
 
 -- a page with tuples is started, and is no map page
-pub for_tuples : (w : IndexView) (p : ℕ) → IsForTuples w p → IsStarted (w.pages.kind p) × IsNoMap (w.pages.kind p)
+pub for_tuples : (w : IndexView) (p : ℕ) → IsForTuples w.pages p → IsStarted (w.pages.kind p) × IsNoMap (w.pages.kind p)
 for_tuples w p is = ⊎_elim
     (λ (r : w.pages.kind p ≡ Regular). (subst IsStarted (sym r) tt, subst IsNoMap (sym r) tt))
     (λ (e : w.pages.kind p ≡ Emptying). (subst IsStarted (sym e) tt, subst IsNoMap (sym e) tt))
     is
 
 -- a page that turns to the kind that it is of
-pub turned_same : (w v : IndexView) (page : ℕ) (kind : PageKind) → TurnsPage w v page kind → w.pages.kind page ≡ kind → (p : ℕ)
+pub turned_same : (w v : IndexView) (page : ℕ) (kind : PageKind) → TurnsPage w.pages v.pages page kind → w.pages.kind page ≡ kind → (p : ℕ)
     → v.pages.kind p ≡ w.pages.kind p
 turned_same w v page kind turns was p = ⊎_elim
     (λ (at : p ≡ page). ap v.pages.kind at ∙ turns.now ∙ sym was ∙ ap w.pages.kind (sym at))
@@ -35,10 +36,10 @@ turned_same w v page kind turns was p = ⊎_elim
     (turns.kinds p)
 
 abbrev TuplesOn : IndexView → IndexView → Type 0
-TuplesOn w v = (x : TuplePlace) (t : IndexTuple) → v.tuple x ≡ Some t → IsForTuples w x.block
+TuplesOn w v = (x : Spot) (t : IndexTuple) → v.tuple x ≡ Some t → IsForTuples w.pages x.block
 
 abbrev EntriesWithin : IndexView → IndexView → Type 0
-EntriesWithin w v = (range : ℕ) (x : TuplePlace) → v.entry range ≡ Some x → map_page_of range ≤ w.pages.map_pages
+EntriesWithin w v = (range : ℕ) (x : Spot) → v.entry range ≡ Some x → map_page_of range ≤ w.pages.map_pages
 
 module _ (w v : IndexView) (ordered : AreOrdered w) where
   -- kinds and counts stay
@@ -70,8 +71,8 @@ module _ (w v : IndexView) (ordered : AreOrdered w) where
       (entries_same map)
 
   -- a page past the map, before which none is unstarted, turns to a started kind
-  module _ (page : ℕ) (kind : PageKind) (turns : TurnsPage w v page kind) (past : w.pages.map_pages < page) (low : page < w.pages.limit)
-      (started : kind ≢ Unstarted) (next : kind ≡ Mapping → page ≤ next_map_page w) (first : (p : ℕ) → p < page → w.pages.kind p ≢ Unstarted) where
+  module _ (page : ℕ) (kind : PageKind) (turns : TurnsPage w.pages v.pages page kind) (past : w.pages.map_pages < page) (low : page < w.pages.limit)
+      (started : kind ≢ Unstarted) (next : kind ≡ Mapping → page ≤ next_map_page w.pages) (first : (p : ℕ) → p < page → w.pages.kind p ≢ Unstarted) where
     other_kind : (p : ℕ) → p ≢ page → v.pages.kind p ≡ w.pages.kind p
     other_kind p other = ⊎_elim (λ (at : p ≡ page). absurd (other at)) (λ (e : v.pages.kind p ≡ w.pages.kind p). e) (turns.kinds p)
 
@@ -81,15 +82,15 @@ module _ (w v : IndexView) (ordered : AreOrdered w) where
         differ : (a b n : ℕ) → a ≤ n → n < b → a ≡ b → ⊥
         differ a b n le less is = omega arith
 
-    abbrev Lies : TuplePlace → Type 0
-    Lies x = ((x.block ≡ page) × ((kind ≡ Regular) ⊎ (kind ≡ Emptying))) ⊎ ((x.block ≢ page) × IsForTuples w x.block)
+    abbrev Lies : Spot → Type 0
+    Lies x = ((x.block ≡ page) × ((kind ≡ Regular) ⊎ (kind ≡ Emptying))) ⊎ ((x.block ≢ page) × IsForTuples w.pages x.block)
 
-    pub order_turned : ((x : TuplePlace) (t : IndexTuple) → v.tuple x ≡ Some t → Lies x) → EntriesWithin w v → AreOrdered v
+    pub order_turned : ((x : Spot) (t : IndexTuple) → v.tuple x ≡ Some t → Lies x) → EntriesWithin w v → AreOrdered v
     order_turned tuples entries = record {
       counted = subst (λ n. 0 < n) (sym turns.map_pages) ordered.counted;
       map = λ p le. let le' = subst (λ n. p ≤ n) turns.map_pages le in other_kind p (apart p le') ∙ ordered.map p le';
       left_over = λ p is. subst (λ n. p ≤ n + 1) (sym turns.map_pages) (⊎_elim
-          (λ (at : p ≡ page). subst (λ q. q ≤ next_map_page w) (sym at) (next (sym turns.now ∙ ap v.pages.kind (sym at) ∙ is)))
+          (λ (at : p ≡ page). subst (λ q. q ≤ next_map_page w.pages) (sym at) (next (sym turns.now ∙ ap v.pages.kind (sym at) ∙ is)))
           (λ (other : p ≢ page). ordered.left_over p (sym (other_kind p other) ∙ is))
           (cases_eq p page));
       started = λ p q less is.
@@ -104,7 +105,7 @@ module _ (w v : IndexView) (ordered : AreOrdered w) where
           (λ (r : kind ≡ Regular). inl (ap v.pages.kind on.0 ∙ turns.now ∙ r))
           (λ (e : kind ≡ Emptying). inr (ap v.pages.kind on.0 ∙ turns.now ∙ e))
           on.1)
-          (λ (off : (x.block ≢ page) × IsForTuples w x.block). ⊎_elim
+          (λ (off : (x.block ≢ page) × IsForTuples w.pages x.block). ⊎_elim
           (λ (r : w.pages.kind x.block ≡ Regular). inl (other_kind x.block off.0 ∙ r))
           (λ (e : w.pages.kind x.block ≡ Emptying). inr (other_kind x.block off.0 ∙ e))
           off.1)
@@ -113,7 +114,7 @@ module _ (w v : IndexView) (ordered : AreOrdered w) where
     }
 
   -- the next page that isn't started is started, for tuples
-  module _ (page : ℕ) (lowest : IsLowestNumber (IsPageUnstarted w) page) (low : page < w.pages.limit) (turns : TurnsPage w v page Regular) where
+  module _ (page : ℕ) (lowest : IsLowestNumber (IsPageUnstarted w.pages) page) (low : page < w.pages.limit) (turns : TurnsPage w.pages v.pages page Regular) where
     past_map : w.pages.map_pages < page
     past_map = ⊎_elim
         (λ (less : w.pages.map_pages < page). less)
@@ -126,39 +127,40 @@ module _ (w v : IndexView) (ordered : AreOrdered w) where
         cross : (a b : ℕ) → a < b → b ≤ a → ⊥
         cross a b less more = omega arith
 
-    pub order_started : ((x : TuplePlace) (t : IndexTuple) → v.tuple x ≡ Some t → (x.block ≡ page) ⊎ IsForTuples w x.block) → EntriesWithin w v → AreOrdered v
+    pub order_started : ((x : Spot) (t : IndexTuple) → v.tuple x ≡ Some t → (x.block ≡ page) ⊎ IsForTuples w.pages x.block) → EntriesWithin w v → AreOrdered v
     order_started tuples entries =
         order_turned page Regular turns past_map low (λ is. subst IsStarted is tt) (λ is. absurd (subst IsNoMap is tt)) none_before
         (λ x t here. ⊎_elim
         (λ (at : x.block ≡ page). inl (at, inl refl))
-        (λ (for : IsForTuples w x.block).
+        (λ (for : IsForTuples w.pages x.block).
         inr ((λ at. subst IsStarted (ap w.pages.kind at ∙ lowest.0) (for_tuples w x.block for).0), for))
         (tuples x t here)) entries
 
   -- a tuple is put on the page that is its target
-  pub order_puts : (s need : ℕ) (y : TuplePlace) (t : IndexTuple) → PutsTuple s w v y t → IsTarget w need y.block → AreOrdered v
+  pub order_puts : (s need : ℕ) (y : Spot) (t : IndexTuple) → PutsTuple s w v y t → IsTarget w.pages need y.block → AreOrdered v
   order_puts s need y t puts (OnStarted lowest) =
       order_same (turned_same w v y.block Regular puts.page lowest.0.1) puts.page.map_pages puts.page.limit
       (λ x u here. ⊎_elim
-      (λ (at : x ≡ y). subst (λ (z : TuplePlace). IsForTuples w z.block) (sym at) (inl lowest.0.1))
+      (λ (at : x ≡ y). subst (λ (z : Spot). IsForTuples w.pages z.block) (sym at) (inl lowest.0.1))
       (λ (e : v.tuple x ≡ w.tuple x). ordered.tuples x u (sym e ∙ here))
       (puts.tuple.others x))
       (entries_same puts.frame.map)
   order_puts s need y t puts (OnNew none lowest low) =
       order_started y.block lowest low puts.page
       (λ x u here. ⊎_elim
-      (λ (at : x ≡ y). inl (ap (λ (z : TuplePlace). z.block) at))
+      (λ (at : x ≡ y). inl (ap (λ (z : Spot). z.block) at))
       (λ (e : v.tuple x ≡ w.tuple x). inr (ordered.tuples x u (sym e ∙ here)))
       (puts.tuple.others x))
       (entries_same puts.frame.map)
 
   -- the next page is counted as one of the map
-  pub order_counted : v.pages ≡ record w.pages { map_pages = next_map_page w } → w.pages.kind (next_map_page w) ≡ Mapping → SameMap w v → SameTuples w v
+  pub order_counted : v.pages ≡ record w.pages { map_pages = next_map_page w.pages } → w.pages.kind (next_map_page w.pages) ≡ Mapping → SameMap w v
+      → SameTuples w v
       → AreOrdered v
   order_counted pages next same_map same_tuples = record {
     counted = subst (λ n. 0 < n) (sym map_pages) (more w.pages.map_pages);
     map = λ p le. kinds p ∙ mapping p (subst (λ n. p ≤ n) map_pages le);
-    left_over = λ p is. subst (λ n. p ≤ n + 1) (sym map_pages) (wider p (next_map_page w) (ordered.left_over p (sym (kinds p) ∙ is)));
+    left_over = λ p is. subst (λ n. p ≤ n + 1) (sym map_pages) (wider p (next_map_page w.pages) (ordered.left_over p (sym (kinds p) ∙ is)));
     started = λ p q less is. kinds q ∙ ordered.started p q less (sym (kinds p) ∙ is);
     below = λ p not. subst (λ n. p < n) (sym (ap (λ (g : Pages). g.limit) pages)) (ordered.below p (λ is. not (kinds p ∙ is)));
     tuples = λ x t here. ⊎_elim
@@ -169,7 +171,7 @@ module _ (w v : IndexView) (ordered : AreOrdered w) where
         subst (λ n. map_page_of range ≤ n) (sym map_pages) (wider (map_page_of range) w.pages.map_pages (entries_same same_map range x named));
   }
     where
-      map_pages : v.pages.map_pages ≡ next_map_page w
+      map_pages : v.pages.map_pages ≡ next_map_page w.pages
       map_pages = ap (λ (g : Pages). g.map_pages) pages
 
       kinds : (p : ℕ) → v.pages.kind p ≡ w.pages.kind p
@@ -184,14 +186,14 @@ module _ (w v : IndexView) (ordered : AreOrdered w) where
       below_next : (p n : ℕ) → p ≤ n + 1 → p ≢ n + 1 → p ≤ n
       below_next p n le other = omega arith
 
-      mapping : (p : ℕ) → p ≤ next_map_page w → w.pages.kind p ≡ Mapping
+      mapping : (p : ℕ) → p ≤ next_map_page w.pages → w.pages.kind p ≡ Mapping
       mapping p le = ⊎_elim
-          (λ (at : p ≡ next_map_page w). ap w.pages.kind at ∙ next)
-          (λ (other : p ≢ next_map_page w). ordered.map p (below_next p w.pages.map_pages le other))
-          (cases_eq p (next_map_page w))
+          (λ (at : p ≡ next_map_page w.pages). ap w.pages.kind at ∙ next)
+          (λ (other : p ≢ next_map_page w.pages). ordered.map p (below_next p w.pages.map_pages le other))
+          (cases_eq p (next_map_page w.pages))
 
 -- a new index
-pub order_new : (w : IndexView) → AreNewPages w.pages → ((x : TuplePlace) → w.tuple x ≡ None) → ((range : ℕ) → w.entry range ≡ None) → AreOrdered w
+pub order_new : (w : IndexView) → AreNewPages w.pages → ((x : Spot) → w.tuple x ≡ None) → ((range : ℕ) → w.entry range ≡ None) → AreOrdered w
 order_new w new tuples entries = record {
   counted = subst (λ n. 0 < n) (sym new.one) (omega arith);
   map = λ p le. new.map p (first p (subst (λ n. p ≤ n) new.one le));

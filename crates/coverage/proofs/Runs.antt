@@ -4,7 +4,8 @@ use Rattle.std.specs.Prelude.{refl, IsTrue, ◌↔◌}
 use Rattle.std.proofs.lemmas.Option.{same_Some, none-some}
 use Rattle.std.proofs.lemmas.Bool.{cases_eq, false≢true}
 use Rattle.block_model.specs.declared.row.Row.{Row}
-use Rattle.coverage.specs.IndexView.{TuplePlace, Pages, IndexView, range_of_block}
+use Rattle.block_model.specs.declared.place.Spot.{Spot}
+use Rattle.coverage.specs.IndexView.{Pages, IndexView, range_of_block}
 use Rattle.coverage.specs.IsSettled.{AllAwait, IsAccounted, TupleShows}
 use Rattle.coverage.specs.GoesOn.{IsHeld, GoesOn}
 use Rattle.coverage.specs.Changes.{TouchesNothing, Frame, SameHeap, PutsRow, Prunes, Takes, Ends}
@@ -151,7 +152,7 @@ module _ (s : ℕ) (dropped : ℕ → ℕ → Bool) (w v : IndexState) (old new 
   }
 
 -- where the entry of a settled row's range names a place, a final tuple there includes the row
-settled_shows : (w : IndexView) (b : ℕ) (r : Row) (x : TuplePlace) → w.entry (range_of_block w b) ≡ Some x → IsAccounted w b r → TupleShows w x b r
+settled_shows : (w : IndexView) (b : ℕ) (r : Row) (x : Spot) → w.entry (range_of_block w b) ≡ Some x → IsAccounted w b r → TupleShows w x b r
 settled_shows w b r x named settled t here of final = ⊎_elim
     (λ (has : IsTrue (t.includes r)). has)
     (λ (waits : (t.placeholder ≡ true) × AllAwait w b r). absurd (false≢true (sym final ∙ waits.0)))
@@ -165,7 +166,7 @@ module _ (w : IndexView) (b k : ℕ) (r : Row) where
     shown = λ y held.
         let both : (range, x) ≡ (range_of_block w b, y) = same_Some _ _ held in
         settled_shows w b r y
-        (ap w.entry (sym (ap (λ (q : ℕ × TuplePlace). q.0) both)) ∙ named ∙ ap Some (ap (λ (q : ℕ × TuplePlace). q.1) both)) known.settled;
+        (ap w.entry (sym (ap (λ (q : ℕ × Spot). q.0) both)) ∙ named ∙ ap Some (ap (λ (q : ℕ × Spot). q.1) both)) known.settled;
     kept = known.kept;
   }
   scan_row old _ (ScanNoEntry range empty none) sees known = known
@@ -229,11 +230,11 @@ scan_sees w old _ (ScanDrops range x t candidate held stands keeps excludes othe
 scan_sees w old _ (ScanElsewhere candidate others) b k sees = sees
 scan_sees w old _ (ScanPage next found given unread first keeps page only) b k sees = sees
 
-scan_held : (w : IndexView) (old new : Scan) → ScanStep w old new → ((range : ℕ) (x : TuplePlace) → old.held ≡ Some (range, x) → IsHeld w range x)
-    → (range : ℕ) (x : TuplePlace) → new.held ≡ Some (range, x) → IsHeld w range x
+scan_held : (w : IndexView) (old new : Scan) → ScanStep w old new → ((range : ℕ) (x : Spot) → old.held ≡ Some (range, x) → IsHeld w range x)
+    → (range : ℕ) (x : Spot) → new.held ≡ Some (range, x) → IsHeld w range x
 scan_held w old _ (ScanMap m y empty named) before range x held =
     let both : (m, y) ≡ (range, x) = same_Some _ _ held in
-    λ t here of. inl (ap w.entry (sym (ap (λ (q : ℕ × TuplePlace). q.0) both)) ∙ named ∙ ap Some (ap (λ (q : ℕ × TuplePlace). q.1) both))
+    λ t here of. inl (ap w.entry (sym (ap (λ (q : ℕ × Spot). q.0) both)) ∙ named ∙ ap Some (ap (λ (q : ℕ × Spot). q.1) both))
 scan_held w old _ (ScanNoEntry m empty none) before range x held = before range x held
 scan_held w old _ (ScanGone m y was gone) before range x held = absurd (none-some _ held)
 scan_held w old _ (ScanKeeps m y t was stands keeps) before range x held = absurd (none-some _ held)
@@ -547,12 +548,12 @@ module _ (s : ℕ) (w v : IndexState) (kept : IsIndexKept w) where
       quiet : Quiet (index_view w) (index_view v)
       quiet = ⊎_elim (λ (held : w.summarise_lock ≡ Some s). absurd (free held)) (λ (q : Quiet (index_view w) (index_view v)). q) (step_quiet step)
 
-      by_entry : (o : Option TuplePlace) → w.entry range ≡ o → v.entry range ≡ None → w.entry range ≡ None
+      by_entry : (o : Option Spot) → w.entry range ≡ o → v.entry range ≡ None → w.entry range ≡ None
       by_entry None is gone = is
       by_entry (Some x) is gone = absurd (none-some _ (sym gone ∙ (quiet.still range x is).1))
 
 -- tuples that the map names stand past its pages
-pub named_past_map : (w : IndexState) (range : ℕ) (x : TuplePlace) → IsIndexKept w → w.entry range ≡ Some x → w.pages.map_pages < x.block
+pub named_past_map : (w : IndexState) (range : ℕ) (x : Spot) → IsIndexKept w → w.entry range ≡ Some x → w.pages.map_pages < x.block
 named_past_map w range x kept named = ⊎_elim
     (λ (less : w.pages.map_pages < x.block). less)
     (λ (le : x.block ≤ w.pages.map_pages).

@@ -4,13 +4,14 @@ use Rattle.std.specs.Prelude.{refl, IsTrue}
 use Rattle.std.proofs.lemmas.Option.{same_Some, none-some}
 use Rattle.std.proofs.lemmas.Bool.{cases_eq}
 use Rattle.block_model.specs.declared.row.Row.{Row}
-use Rattle.coverage.specs.IndexView.{TuplePlace, IndexTuple, Progress, ExtentUnread, Passing, Building, IndexView, range_of_block, IsBuilding, NamesTuple}
+use Rattle.block_model.specs.declared.place.Spot.{Spot}
+use Rattle.coverage.specs.IndexView.{IndexTuple, Progress, ExtentUnread, Passing, Building, IndexView, range_of_block, IsBuilding, NamesTuple}
 use Rattle.coverage.specs.IsSettled.{IsAhead, IsInResult, IsSettled, NoEntry, FinalIncludes, PlaceholderIncludes, NobodyBuilding, ResultIncludes, AheadOfPass}
 use Rattle.coverage.specs.IsSettled.{IsAwaited, AllAwait, IsAccounted}
 use Rattle.coverage.specs.IsSound.{IsSound}
 
 module _ (w : IndexView) (sound : IsSound w) (b : ℕ) (r : Row) where
-  same_tuple : (t : IndexTuple) → NamesTuple w (range_of_block w b) t → (y : TuplePlace) (u : IndexTuple) → w.entry (range_of_block w b) ≡ Some y
+  same_tuple : (t : IndexTuple) → NamesTuple w (range_of_block w b) t → (y : Spot) (u : IndexTuple) → w.entry (range_of_block w b) ≡ Some y
       → w.tuple y ≡ Some u → t ≡ u
   same_tuple t n y u named here = same_Some _ _ (sym n.2 ∙ ap w.tuple (same_Some _ _ (sym n.1 ∙ named)) ∙ here)
 
@@ -84,6 +85,6 @@ module _ (w : IndexView) (sound : IsSound w) (b : ℕ) (r : Row) where
   pub accounted_settled : IsAccounted w b r → IsSettled w b r
   accounted_settled accounted = by_entry (w.entry (range_of_block w b)) refl
     where
-      by_entry : (e : Option TuplePlace) → w.entry (range_of_block w b) ≡ e → IsSettled w b r
+      by_entry : (e : Option Spot) → w.entry (range_of_block w b) ≡ e → IsSettled w b r
       by_entry None none = NoEntry none
       by_entry (Some x) named = let t = sound.entries_name_tuples (range_of_block w b) x named in case_at t.0 (x, named, t.1) accounted

@@ -3,7 +3,8 @@ use Rattle.std.proofs.Common.{◌≡◌, ◌⊎◌, inl, inr, ⊎_elim, ℕ, ◌
 use Rattle.std.specs.Prelude.{refl}
 use Rattle.std.proofs.lemmas.Option.{same_Some, none-some}
 use Rattle.block_model.specs.declared.row.Row.{Row}
-use Rattle.coverage.specs.IndexView.{TuplePlace, IndexTuple, PageKind, Unstarted, Mapping, Regular, Emptying, Pages, IndexView}
+use Rattle.block_model.specs.declared.place.Spot.{Spot}
+use Rattle.coverage.specs.IndexView.{IndexTuple, PageKind, Unstarted, Mapping, Regular, Emptying, Pages, IndexView}
 use Rattle.coverage.specs.Changes.{ChangesAt, SameHeap, OwnLocks, TouchesNothing, TouchesEntries, TouchesTuples, Frame}
 use Rattle.coverage.specs.Statements.{OnIndex, Phase, Statement, Idle, Inserting, Maintaining}
 use Rattle.coverage.specs.Knowing.{IsOneOf, LocksThese}
@@ -39,13 +40,13 @@ at_same : {A : Type 0} → (n m : ℕ) (a b : A) → n ≡ m → at_number n m a
 at_same n m a b is = ap (λ k. at_number k m a b) is ∙ at_here m a b
 
 -- a tuple at a place, over those of before
-abbrev pub placed : TuplePlace → Option IndexTuple → (TuplePlace → Option IndexTuple) → TuplePlace → Option IndexTuple
+abbrev pub placed : Spot → Option IndexTuple → (Spot → Option IndexTuple) → Spot → Option IndexTuple
 placed y o f x = at_number x.block y.block (at_number x.slot y.slot o (f x)) (f x)
 
-placed_here : (y : TuplePlace) (o : Option IndexTuple) (f : TuplePlace → Option IndexTuple) → placed y o f y ≡ o
+placed_here : (y : Spot) (o : Option IndexTuple) (f : Spot → Option IndexTuple) → placed y o f y ≡ o
 placed_here y o f = at_here y.block (at_number y.slot y.slot o (f y)) (f y) ∙ at_here y.slot o (f y)
 
-pub placed_others : (y : TuplePlace) (o : Option IndexTuple) (f : TuplePlace → Option IndexTuple) (x : TuplePlace) → (x ≡ y) ⊎ (placed y o f x ≡ f x)
+pub placed_others : (y : Spot) (o : Option IndexTuple) (f : Spot → Option IndexTuple) (x : Spot) → (x ≡ y) ⊎ (placed y o f x ≡ f x)
 placed_others y o f x = ⊎_elim
     (λ (block : x.block ≡ y.block). ⊎_elim
     (λ (slot : x.slot ≡ y.slot). inl (λ i. record { block = block i; slot = slot i }))
@@ -54,19 +55,19 @@ placed_others y o f x = ⊎_elim
     (λ (e : placed y o f x ≡ f x). inr e)
     (at_other x.block y.block (at_number x.slot y.slot o (f x)) (f x))
 
-pub placed_again : (y : TuplePlace) (o p : Option IndexTuple) (f : TuplePlace → Option IndexTuple) (x : TuplePlace) → (x ≡ y) ⊎ (placed y o f x ≡ placed y p f x)
+pub placed_again : (y : Spot) (o p : Option IndexTuple) (f : Spot → Option IndexTuple) (x : Spot) → (x ≡ y) ⊎ (placed y o f x ≡ placed y p f x)
 placed_again y o p f x = ⊎_elim
     (λ (is : x ≡ y). inl is)
     (λ (e : placed y o f x ≡ f x). ⊎_elim (λ (is : x ≡ y). inl is) (λ (d : placed y p f x ≡ f x). inr (e ∙ sym d)) (placed_others y p f x))
     (placed_others y o f x)
 
-abbrev pub no_tuples : TuplePlace → Option IndexTuple
+abbrev pub no_tuples : Spot → Option IndexTuple
 no_tuples x = None
 
-abbrev pub place : TuplePlace
+abbrev pub place : Spot
 place = record { block = 2; slot = 0 }
 
-abbrev pub one_tuple : Option IndexTuple → TuplePlace → Option IndexTuple
+abbrev pub one_tuple : Option IndexTuple → Spot → Option IndexTuple
 one_tuple o = placed place o no_tuples
 
 abbrev pub no_locks : ℕ → Option ℕ
@@ -123,8 +124,8 @@ only_by (q ∷ more) p is = ⊎_elim
 
 -- what a small index is: entries, tuples, pages, the pages that the session locks, who holds the summarise lock, and what the session is at
 pub record Small : Type 0 where
-  pub entry : ℕ → Option TuplePlace
-  pub tuple : TuplePlace → Option IndexTuple
+  pub entry : ℕ → Option Spot
+  pub tuple : Spot → Option IndexTuple
   pub pages : Pages
   pub locks : List ℕ
   pub held : Option ℕ
@@ -160,13 +161,13 @@ at_statement e w = record w { statement = e }
 abbrev turned_page : ℕ → PageKind → Pages → Pages
 turned_page page kind g = record g { kind = λ p. at_number p page kind (g.kind p) }
 
-abbrev pub put_at : TuplePlace → IndexTuple → List ℕ → Small → Small
+abbrev pub put_at : Spot → IndexTuple → List ℕ → Small → Small
 put_at y t these w = record w { tuple = placed y (Some t) w.tuple; pages = turned_page y.block Regular w.pages; locks = these }
 
-abbrev pub set_at : ℕ → TuplePlace → List ℕ → Small → Small
+abbrev pub set_at : ℕ → Spot → List ℕ → Small → Small
 set_at range y these w = record w { entry = λ m. at_number m range (Some y) (w.entry m); locks = these }
 
-abbrev pub drop_at : TuplePlace → Small → Small
+abbrev pub drop_at : Spot → Small → Small
 drop_at x w = record w { tuple = placed x None w.tuple; locks = [] }
 
 abbrev pub kind_at : PageKind → List ℕ → Small → Small
@@ -187,7 +188,7 @@ pub nobody : (locks : List ℕ) → locks ≡ [] → (p : ℕ) → locks_of lock
 nobody locks none p is = none-some _ (sym (ap (λ l. locks_of l p) none) ∙ is)
 
 module _ (row : ℕ → ℕ → Option Row) (w v : Small) where
-  own : OwnLocks 0 (view row w) (view row v)
+  own : OwnLocks 0 (view row w).lock (view row v).lock
   own = record {
     others = λ p n is other. absurd (other (own_locks w.locks p n is));
     taken = λ p n is other. absurd (other (own_locks v.locks p n is));
@@ -199,7 +200,7 @@ module _ (row : ℕ → ℕ → Option Row) (w v : Small) where
   pub turned : (d e : Statement) → w.statement ≡ d → v.statement ≡ e → Turned 0 (index_of row w) (index_of row v) d e
   turned d e was now = record { was = was; now = now; others = λ n. turns w.statement v.statement n }
 
-  nothing_frame : ((m : ℕ) → v.entry m ≡ w.entry m) → ((x : TuplePlace) → v.tuple x ≡ w.tuple x) → v.held ≡ w.held
+  nothing_frame : ((m : ℕ) → v.entry m ≡ w.entry m) → ((x : Spot) → v.tuple x ≡ w.tuple x) → v.held ≡ w.held
       → Frame 0 TouchesNothing (view row w) (view row v)
   nothing_frame entry tuple held = record {
     heap = heap;
@@ -222,7 +223,7 @@ module _ (row : ℕ → ℕ → Option Row) (w v : Small) where
     contents = refl;
   }
 
-  entries_frame : ((x : TuplePlace) → v.tuple x ≡ w.tuple x) → v.held ≡ w.held → Frame 0 TouchesEntries (view row w) (view row v)
+  entries_frame : ((x : Spot) → v.tuple x ≡ w.tuple x) → v.held ≡ w.held → Frame 0 TouchesEntries (view row w) (view row v)
   entries_frame tuple held = record {
     heap = heap;
     map = tt;
@@ -244,7 +245,7 @@ module _ (row : ℕ → ℕ → Option Row) (w v : Small) where
       Maintain range old new (turned (Maintaining range old) new was now) (Summarises step) (record { counts = λ t. refl })
 
 module _ (row : ℕ → ℕ → Option Row) (w : Small) where
-  pub locks_these : LocksThese (view row w) 0 w.locks
+  pub locks_these : LocksThese (view row w).lock 0 w.locks
   locks_these = record { locked = λ p one. locked_by w.locks p one; only = λ p is. only_by w.locks p is }
 
   pub free : (p n : ℕ) → locks_of w.locks p ≡ Some n → n ≡ 0
@@ -253,7 +254,7 @@ module _ (row : ℕ → ℕ → Option Row) (w : Small) where
   pub reads : (e : Statement) → w.locks ≡ [] → ReadsIndex 0 (view row w) (view row (at_statement e w))
   reads e none = record { frame = nothing_frame row w (at_statement e w) (λ m. refl) (λ x. refl) refl; pages = refl; none = nobody w.locks none }
 
-  pub puts : (y : TuplePlace) (t : IndexTuple) (these : List ℕ) (e : Statement) → w.tuple y ≡ None
+  pub puts : (y : Spot) (t : IndexTuple) (these : List ℕ) (e : Statement) → w.tuple y ≡ None
       → PutsTuple 0 (view row w) (view row (at_statement e (put_at y t these w))) y t
   puts y t these e none = record {
     tuple = record { was = none; now = placed_here y (Some t) w.tuple; others = placed_others y (Some t) w.tuple };
@@ -269,25 +270,23 @@ module _ (row : ℕ → ℕ → Option Row) (w : Small) where
     frame = tuples_frame row w (at_statement e (put_at y t these w)) (λ m. refl) refl;
   }
 
-  pub sets : (range : ℕ) (y : TuplePlace) (these : List ℕ) (e : Statement)
+  pub sets : (range : ℕ) (y : Spot) (these : List ℕ) (e : Statement)
       → SetsEntry 0 (view row w) (view row (at_statement e (set_at range y these w))) range y
   sets range y these e = record {
-    now = at_here range (Some y) (w.entry range);
-    others = λ m. at_other m range (Some y) (w.entry m);
+    entry = record { now = at_here range (Some y) (w.entry range); others = λ m. at_other m range (Some y) (w.entry m) };
     pages = refl;
     frame = entries_frame row w (at_statement e (set_at range y these w)) (λ x. refl) refl;
   }
 
-  pub drops : (x : TuplePlace) (e : Statement) → DropsTuple 0 (view row w) (view row (at_statement e (drop_at x w))) x
+  pub drops : (x : Spot) (e : Statement) → DropsTuple 0 (view row w) (view row (at_statement e (drop_at x w))) x
   drops x e = record {
-    now = placed_here x None w.tuple;
-    others = placed_others x None w.tuple;
+    tuple = record { now = placed_here x None w.tuple; others = placed_others x None w.tuple };
     page = record { now = refl; kinds = λ p. inr refl; rooms = λ p. inr refl; places = λ y. inr refl; map_pages = refl; limit = refl };
     frame = tuples_frame row w (at_statement e (drop_at x w)) (λ m. refl) refl;
     none = nobody [] refl;
   }
 
-  pub replaces : (x : TuplePlace) (old new : IndexTuple) (tuple : TuplePlace → Option IndexTuple) (e : Statement)
+  pub replaces : (x : Spot) (old new : IndexTuple) (tuple : Spot → Option IndexTuple) (e : Statement)
       → ChangesAt w.tuple tuple x (Some old) (Some new) → w.pages.kind x.block ≡ Regular → w.locks ≡ []
       → ReplacesTuple 0 (view row w) (view row (at_statement e (record w { tuple = tuple }))) x old new
   replaces x old new tuple e changes regular none = record {

@@ -3,7 +3,8 @@ use Rattle.std.proofs.Common.{◌≡◌, ◌≢◌, ⊎_elim, ℕ, ◌/◌, Some
 use Rattle.std.specs.Prelude.{IsTrue}
 use Rattle.std.proofs.lemmas.Option.{same_Some}
 use Rattle.block_model.specs.declared.row.Row.{Row}
-use Rattle.coverage.specs.IndexView.{TuplePlace, IndexTuple, Progress, ExtentUnread, Passing, IndexView, range_of_block, IsRangeOf, NamesPlaceholder}
+use Rattle.block_model.specs.declared.place.Spot.{Spot}
+use Rattle.coverage.specs.IndexView.{IndexTuple, Progress, ExtentUnread, Passing, IndexView, range_of_block, IsRangeOf, NamesPlaceholder}
 use Rattle.coverage.specs.IsSound.{IsSound}
 use Rattle.coverage.specs.GoesOn.{IsHeld, GoesOn}
 use Rattle.coverage.specs.Changes.{IsFree}
@@ -14,8 +15,8 @@ use Rattle.coverage.specs.Knowing.{IsResultFormed, Spares}
 use Rattle.coverage.proofs.Formed.{formed_on, range_of_on}
 
 -- Where nobody else locks the page and the session locks none, a tuple of the range at a place that it holds is the one that the map names.
-pub held_named : (w : IndexView) (s range : ℕ) (x : TuplePlace) (t : IndexTuple) → IsSound w → IsHeld w range x → w.tuple x ≡ Some t → t.range ≡ range
-    → IsFree w s x.block → LocksNone w s → w.entry range ≡ Some x
+pub held_named : (w : IndexView) (s range : ℕ) (x : Spot) (t : IndexTuple) → IsSound w → IsHeld w range x → w.tuple x ≡ Some t → t.range ≡ range
+    → IsFree w.lock s x.block → LocksNone w.lock s → w.entry range ≡ Some x
 held_named w s range x t sound held here of free none = ⊎_elim
     (λ (named : w.entry range ≡ Some x). named)
     (λ (loose : (n : ℕ) × (w.loose n ≡ Some x)).
@@ -24,7 +25,7 @@ held_named w s range x t sound held here of free none = ⊎_elim
     (held t here of)
 
 module _ (a : ℕ) (d : ℕ → ℕ → Bool) (w v : IndexView) (sound : IsSound w) (on : GoesOn a d w v) (s : ℕ) (other : s ≢ a) where
-  none_on : LocksNone w s → LocksNone v s
+  none_on : LocksNone w.lock s → LocksNone v.lock s
   none_on none p is = none p (on.no_lock_given p s is other)
 
   nothing_on : HoldsNothing w s → HoldsNothing v s
@@ -68,7 +69,7 @@ module _ (a : ℕ) (d : ℕ → ℕ → Bool) (w v : IndexView) (sound : IsSound
           (λ (e : w.loose a ≡ Some x). other (same_Some _ _ (sym known.0 ∙ sound.loose_is_locked a x e)))
           (on.named m x is)
 
-  placed_on : (range : ℕ) (x : TuplePlace) → HasPlaced w s range x → HasPlaced v s range x
+  placed_on : (range : ℕ) (x : Spot) → HasPlaced w s range x → HasPlaced v s range x
   placed_on range x known =
       (on.locks x.block s known.0 other, (known.1.0, on.tuples x s known.0 other ∙ known.1.1, known.1.2, known.1.3))
 

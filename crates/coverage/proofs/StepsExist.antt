@@ -4,7 +4,8 @@ use Rattle.std.specs.Prelude.{refl, List, [], ◌∷◌, length}
 use Rattle.std.proofs.lemmas.Option.{same_Some, none-some}
 use Rattle.std.proofs.lemmas.Bool.{cases_eq}
 use Rattle.block_model.specs.declared.row.Row.{Row}
-use Rattle.coverage.specs.IndexView.{TuplePlace, IndexTuple, Regular, IndexView, range_of_block, map_page_of}
+use Rattle.block_model.specs.declared.place.Spot.{Spot}
+use Rattle.coverage.specs.IndexView.{IndexTuple, Regular, IndexView, range_of_block, map_page_of}
 use Rattle.coverage.specs.Changes.{IsFree}
 use Rattle.coverage.specs.Verdicts.{IsLocked, HasFreeSlots, Verdict, Waits, Differs, Fits, Puts, Full, PutVerdict, PutGoes, SwapVerdict, SwapFits, SwapMoves}
 use Rattle.coverage.specs.Verdicts.{ClearVerdict, ClearFits}
@@ -27,13 +28,13 @@ pub chosen_no : {A P : Type 0} → (d : P ⊎ (P → ⊥)) → (a b : A) → (P 
 chosen_no (inl p) a b lacks = absurd (lacks p)
 chosen_no (inr lacks') a b lacks = refl
 
-pub place_is : (x y : TuplePlace) → (x ≡ y) ⊎ (x ≢ y)
+pub place_is : (x y : Spot) → (x ≡ y) ⊎ (x ≢ y)
 place_is x y = ⊎_elim
     (λ (block : x.block ≡ y.block). ⊎_elim
     (λ (slot : x.slot ≡ y.slot). inl (λ i. record { block = block i; slot = slot i }))
-    (λ (other : x.slot ≢ y.slot). inr (λ e. other (ap (λ (z : TuplePlace). z.slot) e)))
+    (λ (other : x.slot ≢ y.slot). inr (λ e. other (ap (λ (z : Spot). z.slot) e)))
     (cases_eq x.slot y.slot))
-    (λ (other : x.block ≢ y.block). inr (λ e. other (ap (λ (z : TuplePlace). z.block) e)))
+    (λ (other : x.block ≢ y.block). inr (λ e. other (ap (λ (z : Spot). z.block) e)))
     (cases_eq x.block y.block)
 
 pub one_of : (these : List ℕ) (p : ℕ) → IsOneOf these p ⊎ (IsOneOf these p → ⊥)
@@ -47,7 +48,7 @@ one_of (q ∷ more) p = ⊎_elim
     (cases_eq p q)
 
 -- the session's locks become these, and those of others stay
-module _ (w : IndexView) (s : ℕ) (these : List ℕ) (free : (p : ℕ) → IsOneOf these p → IsFree w s p) where
+module _ (w : IndexView) (s : ℕ) (these : List ℕ) (free : (p : ℕ) → IsOneOf these p → IsFree w.lock s p) where
   abbrev given : (p : ℕ) (o : Option ℕ) → Option ℕ
   given p None = None
   given p (Some n) = chosen (cases_eq n s) None (Some n)
@@ -95,13 +96,13 @@ module _ (w : IndexView) (s : ℕ) (these : List ℕ) (free : (p : ℕ) → IsOn
       (one_of these p)
 
 -- a tuple at a place, an entry of a range, a kind of a page
-abbrev pub tuple_with : (TuplePlace → Option IndexTuple) → TuplePlace → Option IndexTuple → TuplePlace → Option IndexTuple
+abbrev pub tuple_with : (Spot → Option IndexTuple) → Spot → Option IndexTuple → Spot → Option IndexTuple
 tuple_with f x o y = chosen (place_is y x) o (f y)
 
-pub tuple_here : (f : TuplePlace → Option IndexTuple) (x : TuplePlace) (o : Option IndexTuple) → tuple_with f x o x ≡ o
+pub tuple_here : (f : Spot → Option IndexTuple) (x : Spot) (o : Option IndexTuple) → tuple_with f x o x ≡ o
 tuple_here f x o = chosen_yes (place_is x x) o (f x) refl
 
-pub tuple_there : (f : TuplePlace → Option IndexTuple) (x : TuplePlace) (o : Option IndexTuple) (y : TuplePlace) → (y ≡ x) ⊎ (tuple_with f x o y ≡ f y)
+pub tuple_there : (f : Spot → Option IndexTuple) (x : Spot) (o : Option IndexTuple) (y : Spot) → (y ≡ x) ⊎ (tuple_with f x o y ≡ f y)
 tuple_there f x o y = ⊎_elim (λ (is : y ≡ x). inl is) (λ (other : y ≢ x). inr (chosen_no (place_is y x) o (f y) other)) (place_is y x)
 
 abbrev pub number_with : {A : Type 0} → (ℕ → A) → ℕ → A → ℕ → A
@@ -115,40 +116,40 @@ number_there f n a m = ⊎_elim (λ (is : m ≡ n). inl is) (λ (other : m ≢ n
 
 module _ (s : ℕ) (w : IndexView) where
   -- nothing changes, and the session locks no page
-  pub reads_here : LocksNone w s → ReadsIndex s w w
+  pub reads_here : LocksNone w.lock s → ReadsIndex s w w
   reads_here none = search rules
 
-  pub free_none : (p : ℕ) → IsOneOf [] p → IsFree w s p
+  pub free_none : (p : ℕ) → IsOneOf [] p → IsFree w.lock s p
   free_none p among = absurd among
 
   -- the tuple at a place goes, and the locks are given
-  abbrev pub drops_view : TuplePlace → IndexView
+  abbrev pub drops_view : Spot → IndexView
   drops_view x = record w { tuple = tuple_with w.tuple x None; lock = locks_after w s [] free_none }
 
-  pub drops_here : (x : TuplePlace) → DropsTuple s w (drops_view x) x
+  pub drops_here : (x : Spot) → DropsTuple s w (drops_view x) x
   drops_here x = search (rules, tuple_here, tuple_there, after_others, after_taken, after_only)
 
 module _ (s b k : ℕ) (r : Row) (w : IndexView) where
-  empty_steps : LocksNone w s → IsInsertStuck w s b k r Empty → ⊥
+  empty_steps : LocksNone w.lock s → IsInsertStuck w s b k r Empty → ⊥
   empty_steps none stuck = by (w.entry (range_of_block w b)) refl
     where
-      by : (o : Option TuplePlace) → w.entry (range_of_block w b) ≡ o → ⊥
+      by : (o : Option Spot) → w.entry (range_of_block w b) ≡ o → ⊥
       by None is = stuck Idle w (InsertNoEntry is (reads_here s w none))
       by (Some x) is = stuck (Inserting b k r (Held x)) w (InsertOnIndex Empty (Held x) (Maps x is (reads_here s w none)))
 
-  held_steps : (x : TuplePlace) → LocksNone w s → IsInsertStuck w s b k r (Held x) → ⊥
+  held_steps : (x : Spot) → LocksNone w.lock s → IsInsertStuck w s b k r (Held x) → ⊥
   held_steps x none stuck = by (w.tuple x) refl
     where
       -- with the row in the tuple already, another session's lock of its page decides
       unchanged : (t : IndexTuple) → w.tuple x ≡ Some t → t.range ≡ range_of_block w b → t ≡ w.contents.added r t → ⊥
       unchanged t is of same = by_lock (w.lock x.block) refl
         where
-          copies : IsLocked w s x.block → ⊥
+          copies : IsLocked w.lock s x.block → ⊥
           copies locked =
               stuck (Inserting b k r (Copied x t (w.contents.added r t))) w
               (InsertCopies x t (w.contents.added r t) (is, of) refl (inr locked) (reads_here s w none))
 
-          completes : IsFree w s x.block → ⊥
+          completes : IsFree w.lock s x.block → ⊥
           completes free = stuck Idle w (InsertUnchanged x t (is, of) same free (reads_here s w none))
 
           by_lock : (o : Option ℕ) → w.lock x.block ≡ o → ⊥
@@ -171,7 +172,7 @@ module _ (s b k : ℕ) (r : Row) (w : IndexView) where
           (cases_eq t.range (range_of_block w b))
 
   -- the copied tuple is judged again
-  copied_steps : HasFreeSlots w → (x : TuplePlace) (old new : IndexTuple) → LocksNone w s → IsInsertStuck w s b k r (Copied x old new)
+  copied_steps : HasFreeSlots w.tuple → (x : Spot) (old new : IndexTuple) → LocksNone w.lock s → IsInsertStuck w s b k r (Copied x old new)
       → ((number : ℕ) → SwapVerdict w s (range_of_block w b) x old new (Full number) → ⊥) → ((p : ℕ) → SwapVerdict w s (range_of_block w b) x old new (Waits p) → ⊥) → ⊥
   copied_steps slots x old new none stuck room free = some_swap w slots s (range_of_block w b) x old new by
     where
@@ -185,17 +186,17 @@ module _ (s b k : ℕ) (r : Row) (w : IndexView) where
               none_fits : PutVerdict w s (range_of_block w b) (length new.bytes) Fits → ⊥
               none_fits puts = elim puts [ ]
 
-      moves : (y : TuplePlace) → SwapVerdict w s (range_of_block w b) x old new (Puts y) → ⊥
+      moves : (y : Spot) → SwapVerdict w s (range_of_block w b) x old new (Puts y) → ⊥
       moves y verdict = by_move verdict
         where
-          all_free : IsFree w s x.block → IsFree w s y.block → IsFree w s (map_page_of (range_of_block w b)) → (p : ℕ)
-              → IsOneOf (x.block ∷ y.block ∷ map_page_of (range_of_block w b) ∷ []) p → IsFree w s p
+          all_free : IsFree w.lock s x.block → IsFree w.lock s y.block → IsFree w.lock s (map_page_of (range_of_block w b)) → (p : ℕ)
+              → IsOneOf (x.block ∷ y.block ∷ map_page_of (range_of_block w b) ∷ []) p → IsFree w.lock s p
           all_free one two three p among = ⊎_elim
-              (λ (is : p ≡ x.block). subst (IsFree w s) (sym is) one)
+              (λ (is : p ≡ x.block). subst (IsFree w.lock s) (sym is) one)
               (λ (more : (p ≡ y.block) ⊎ ((p ≡ map_page_of (range_of_block w b)) ⊎ ⊥)). ⊎_elim
-              (λ (is : p ≡ y.block). subst (IsFree w s) (sym is) two)
+              (λ (is : p ≡ y.block). subst (IsFree w.lock s) (sym is) two)
               (λ (last : (p ≡ map_page_of (range_of_block w b)) ⊎ ⊥).
-              ⊎_elim (λ (is : p ≡ map_page_of (range_of_block w b)). subst (IsFree w s) (sym is) three) (λ (never : ⊥). absurd never) last)
+              ⊎_elim (λ (is : p ≡ map_page_of (range_of_block w b)). subst (IsFree w.lock s) (sym is) three) (λ (never : ⊥). absurd never) last)
               more)
               among
 
@@ -229,21 +230,20 @@ module _ (s b k : ℕ) (r : Row) (w : IndexView) where
       by (Full number) verdict = room number verdict
 
   -- the map names the new tuple
-  moving_steps : (x y : TuplePlace) (old new : IndexTuple) → IsInsertStuck w s b k r (Moving x y old new) → ⊥
+  moving_steps : (x y : Spot) (old new : IndexTuple) → IsInsertStuck w s b k r (Moving x y old new) → ⊥
   moving_steps x y old new stuck =
       stuck (Inserting b k r (Dropping x)) (record w { entry = number_with w.entry (range_of_block w b) (Some y) }) (InsertSet x y old new
       (record {
-        now = number_here w.entry (range_of_block w b) (Some y);
-        others = number_there w.entry (range_of_block w b) (Some y);
+        entry = record { now = number_here w.entry (range_of_block w b) (Some y); others = number_there w.entry (range_of_block w b) (Some y) };
         pages = refl;
         frame = search rules;
       })
       (record { lock = λ p. refl }))
 
-  dropping_steps : (x : TuplePlace) → IsInsertStuck w s b k r (Dropping x) → ⊥
+  dropping_steps : (x : Spot) → IsInsertStuck w s b k r (Dropping x) → ⊥
   dropping_steps x stuck = stuck Idle (drops_view s w x) (InsertDrop x (drops_here s w x))
 
-  pub insert_has_step : HasFreeSlots w → (on_index : OnIndex) → Knows w s (Inserting b k r on_index) → IsInsertStuck w s b k r on_index
+  pub insert_has_step : HasFreeSlots w.tuple → (on_index : OnIndex) → Knows w s (Inserting b k r on_index) → IsInsertStuck w s b k r on_index
       → IsSwapFree w s (range_of_block w b) on_index → ⊥
   insert_has_step slots Empty known stuck others = empty_steps known.2 stuck
   insert_has_step slots (Held x) known stuck others = held_steps x known.2.0 stuck
@@ -253,21 +253,21 @@ module _ (s b k : ℕ) (r : Row) (w : IndexView) where
   insert_has_step slots (Dropping x) known stuck others = dropping_steps x stuck
 
 module _ (s range : ℕ) (w : IndexView) where
-  clear_empty : LocksNone w s → IsDesummariseStuck w s range Empty → ⊥
+  clear_empty : LocksNone w.lock s → IsDesummariseStuck w s range Empty → ⊥
   clear_empty none stuck = by (w.entry range) refl
     where
-      by : (o : Option TuplePlace) → w.entry range ≡ o → ⊥
+      by : (o : Option Spot) → w.entry range ≡ o → ⊥
       by None is = stuck Holding w (ClearNone is (reads_here s w none))
       by (Some x) is = stuck (Maintaining range (NotBuilding (Held x))) w (ClearMap x is (reads_here s w none))
 
-  clear_held : (x : TuplePlace) → LocksNone w s → IsDesummariseStuck w s range (Held x) → ((p : ℕ) → ClearVerdict w s range x (Waits p) → ⊥) → ⊥
+  clear_held : (x : Spot) → LocksNone w.lock s → IsDesummariseStuck w s range (Held x) → ((p : ℕ) → ClearVerdict w s range x (Waits p) → ⊥) → ⊥
   clear_held x none stuck free = some_clear w s range x by
     where
       clears : ClearVerdict w s range x Fits → ⊥
       clears (ClearFits unlocked map names) =
-          let free_all : (p : ℕ) → IsOneOf (x.block ∷ map_page_of range ∷ []) p → IsFree w s p = λ p among. ⊎_elim
-          (λ (is : p ≡ x.block). subst (IsFree w s) (sym is) unlocked)
-          (λ (more : (p ≡ map_page_of range) ⊎ ⊥). ⊎_elim (λ (is : p ≡ map_page_of range). subst (IsFree w s) (sym is) map) (λ (never : ⊥). absurd never) more)
+          let free_all : (p : ℕ) → IsOneOf (x.block ∷ map_page_of range ∷ []) p → IsFree w.lock s p = λ p among. ⊎_elim
+          (λ (is : p ≡ x.block). subst (IsFree w.lock s) (sym is) unlocked)
+          (λ (more : (p ≡ map_page_of range) ⊎ ⊥). ⊎_elim (λ (is : p ≡ map_page_of range). subst (IsFree w.lock s) (sym is) map) (λ (never : ⊥). absurd never) more)
           among in
           stuck (Maintaining range (NotBuilding (Dropping x)))
           (record w { entry = number_with w.entry range None; lock = locks_after w s (x.block ∷ map_page_of range ∷ []) free_all })
@@ -287,7 +287,7 @@ module _ (s range : ℕ) (w : IndexView) where
       by (Puts y) verdict = elim verdict [ ]
       by (Full number) verdict = elim verdict [ ]
 
-  clear_dropping : (x : TuplePlace) → IsDesummariseStuck w s range (Dropping x) → ⊥
+  clear_dropping : (x : Spot) → IsDesummariseStuck w s range (Dropping x) → ⊥
   clear_dropping x stuck = stuck Holding (drops_view s w x) (DropCleared x (drops_here s w x))
 
   pub desummarise_has_step : (on_index : OnIndex) → Knows w s (Maintaining range (NotBuilding on_index)) → IsDesummariseStuck w s range on_index

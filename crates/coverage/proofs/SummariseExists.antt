@@ -3,7 +3,8 @@ use Rattle.std.proofs.Common.{◌≡◌, ◌≢◌, ◌⊎◌, inl, inr, ⊎_eli
 use Rattle.std.specs.Prelude.{refl, List, [], ◌∷◌, length}
 use Rattle.std.proofs.lemmas.Option.{same_Some, none-some}
 use Rattle.std.proofs.lemmas.Bool.{cases_eq}
-use Rattle.coverage.specs.IndexView.{TuplePlace, IndexTuple, Progress, ExtentUnread, Passing, PageKind, Unstarted, Mapping, Regular, Emptying, IndexView, placeholder_length, IsRangeOf}
+use Rattle.block_model.specs.declared.place.Spot.{Spot}
+use Rattle.coverage.specs.IndexView.{IndexTuple, Progress, ExtentUnread, Passing, PageKind, Unstarted, Mapping, Regular, Emptying, IndexView, placeholder_length, IsRangeOf}
 use Rattle.coverage.specs.IndexView.{map_page_of, next_map_page, IsPastMap, NamesPlaceholder}
 use Rattle.coverage.specs.Changes.{IsFree}
 use Rattle.coverage.specs.Verdicts.{IsLocked, IsFirstLocked, HasFreeSlots, Verdict, Waits, Differs, Fits, Puts, Full, PutVerdict, PutGoes, SwapVerdict}
@@ -24,20 +25,20 @@ use Rattle.coverage.proofs.Verdicts.{locked_or_free, two_pages, some_put, some_s
 use Rattle.coverage.proofs.StepsExist.{place_is, locks_after, after_locked, after_only, after_others, after_taken, tuple_with, tuple_here, tuple_there}
 use Rattle.coverage.proofs.StepsExist.{number_with, number_here, number_there, reads_here, free_none, drops_view, drops_here}
 
-free_two : (w : IndexView) (s p q : ℕ) → IsFree w s p → IsFree w s q → (n : ℕ) → IsOneOf (p ∷ q ∷ []) n → IsFree w s n
+free_two : (w : IndexView) (s p q : ℕ) → IsFree w.lock s p → IsFree w.lock s q → (n : ℕ) → IsOneOf (p ∷ q ∷ []) n → IsFree w.lock s n
 free_two w s p q one two n among = ⊎_elim
-    (λ (is : n ≡ p). subst (IsFree w s) (sym is) one)
-    (λ (more : (n ≡ q) ⊎ ⊥). ⊎_elim (λ (is : n ≡ q). subst (IsFree w s) (sym is) two) (λ (never : ⊥). absurd never) more)
+    (λ (is : n ≡ p). subst (IsFree w.lock s) (sym is) one)
+    (λ (more : (n ≡ q) ⊎ ⊥). ⊎_elim (λ (is : n ≡ q). subst (IsFree w.lock s) (sym is) two) (λ (never : ⊥). absurd never) more)
     among
 
-free_three : (w : IndexView) (s p q m : ℕ) → IsFree w s p → IsFree w s q → IsFree w s m → (n : ℕ) → IsOneOf (p ∷ q ∷ m ∷ []) n → IsFree w s n
+free_three : (w : IndexView) (s p q m : ℕ) → IsFree w.lock s p → IsFree w.lock s q → IsFree w.lock s m → (n : ℕ) → IsOneOf (p ∷ q ∷ m ∷ []) n → IsFree w.lock s n
 free_three w s p q m one two three n among = ⊎_elim
-    (λ (is : n ≡ p). subst (IsFree w s) (sym is) one)
+    (λ (is : n ≡ p). subst (IsFree w.lock s) (sym is) one)
     (λ (more : IsOneOf (q ∷ m ∷ []) n). free_two w s q m two three n more)
     among
 
 -- the view after a put, with these locks
-module _ (s : ℕ) (w : IndexView) (y : TuplePlace) (t : IndexTuple) (these : List ℕ) (free : (p : ℕ) → IsOneOf these p → IsFree w s p) where
+module _ (s : ℕ) (w : IndexView) (y : Spot) (t : IndexTuple) (these : List ℕ) (free : (p : ℕ) → IsOneOf these p → IsFree w.lock s p) where
   abbrev put_view : IndexView
   put_view = record w {
     tuple = tuple_with w.tuple y (Some t);
@@ -45,7 +46,7 @@ module _ (s : ℕ) (w : IndexView) (y : TuplePlace) (t : IndexTuple) (these : Li
     pages = record w.pages { kind = number_with w.pages.kind y.block Regular };
   }
 
-  puts_here : w.tuple y ≡ None → IsFree w s y.block → PutsTuple s w put_view y t
+  puts_here : w.tuple y ≡ None → IsFree w.lock s y.block → PutsTuple s w put_view y t
   puts_here none target = record {
     tuple = record { was = none; now = tuple_here w.tuple y (Some t); others = tuple_there w.tuple y (Some t) };
     free = target;
@@ -53,15 +54,15 @@ module _ (s : ℕ) (w : IndexView) (y : TuplePlace) (t : IndexTuple) (these : Li
     frame = search (rules, after_others, after_taken);
   }
 
-  locks_here : LocksThese put_view s these
+  locks_here : LocksThese put_view.lock s these
   locks_here = record { locked = after_locked w s these free; only = after_only w s these free }
 
 -- the view after the next map page turns to a kind
-module _ (s : ℕ) (w : IndexView) (kind : PageKind) (these : List ℕ) (free : (p : ℕ) → IsOneOf these p → IsFree w s p) where
+module _ (s : ℕ) (w : IndexView) (kind : PageKind) (these : List ℕ) (free : (p : ℕ) → IsOneOf these p → IsFree w.lock s p) where
   abbrev kind_view : IndexView
   kind_view = record w {
     lock = locks_after w s these free;
-    pages = record w.pages { kind = number_with w.pages.kind (next_map_page w) kind };
+    pages = record w.pages { kind = number_with w.pages.kind (next_map_page w.pages) kind };
   }
 
   kind_turns : TurnsKind s w kind_view kind these
@@ -73,7 +74,7 @@ module _ (s : ℕ) (w : IndexView) (kind : PageKind) (these : List ℕ) (free : 
 
 module _ (s : ℕ) (w : IndexView) where
   abbrev count_view : IndexView
-  count_view = record w { pages = record w.pages { map_pages = next_map_page w }; lock = locks_after w s [] (free_none s w) }
+  count_view = record w { pages = record w.pages { map_pages = next_map_page w.pages }; lock = locks_after w s [] (free_none s w) }
 
   counts_here : CountsPage s w count_view
   counts_here = record {
@@ -83,22 +84,22 @@ module _ (s : ℕ) (w : IndexView) where
   }
 
   -- an unnamed tuple goes
-  abbrev sweep_view : TuplePlace → IndexView
+  abbrev sweep_view : Spot → IndexView
   sweep_view x = record w {
     tuple = tuple_with w.tuple x None;
     unnamed = λ y. elim (place_is y x) as (λ _. Bool) [ inl is ↦ false | inr other ↦ w.unnamed y ];
     lock = locks_after w s [] (free_none s w);
   }
 
-module _ (s range : ℕ) (w : IndexView) (slots : HasFreeSlots w) (blocks : HasBlocksOfRows w) (its : IsRangeOf w range) where
-  look_map : LocksNone w s → IsSummariseStuck w s range (NotBuilding Empty) → ⊥
+module _ (s range : ℕ) (w : IndexView) (slots : HasFreeSlots w.tuple) (blocks : HasBlocksOfRows w) (its : IsRangeOf w range) where
+  look_map : LocksNone w.lock s → IsSummariseStuck w s range (NotBuilding Empty) → ⊥
   look_map none stuck = by (w.entry range) refl
     where
-      by : (o : Option TuplePlace) → w.entry range ≡ o → ⊥
+      by : (o : Option Spot) → w.entry range ≡ o → ⊥
       by None is = stuck (Maintaining range Vacant) w (ReadNoEntry is its (reads_here s w none))
       by (Some x) is = stuck (Maintaining range (NotBuilding (Held x))) w (LookMap x is (reads_here s w none))
 
-  look_tuple : (x : TuplePlace) → LocksNone w s → IsSummariseStuck w s range (NotBuilding (Held x)) → ⊥
+  look_tuple : (x : Spot) → LocksNone w.lock s → IsSummariseStuck w s range (NotBuilding (Held x)) → ⊥
   look_tuple x none stuck = by (w.tuple x) refl
     where
       by_flag : (t : IndexTuple) → w.tuple x ≡ Some t → t.range ≡ range → (flag : Bool) → t.placeholder ≡ flag → ⊥
@@ -114,10 +115,10 @@ module _ (s range : ℕ) (w : IndexView) (slots : HasFreeSlots w) (blocks : HasB
           (cases_eq t.range range)
 
   -- the placeholder is put, or waits, or lacks a page
-  places : (IsPastMap w range → ⊥) → IsSummariseStuck w s range Vacant → IsPhaseFree w s range Vacant → ⊥
+  places : (IsPastMap w.pages range → ⊥) → IsSummariseStuck w s range Vacant → IsPhaseFree w s range Vacant → ⊥
   places long stuck free = some_put w slots s range (placeholder_length w range) by
     where
-      puts : (y : TuplePlace) → PutVerdict w s range (placeholder_length w range) (Puts y) → ⊥
+      puts : (y : Spot) → PutVerdict w s range (placeholder_length w range) (Puts y) → ⊥
       puts y (PutGoes _ target unlocked map) =
           let these = y.block ∷ map_page_of range ∷ [] in
           let free_all = free_two w s y.block (map_page_of range) unlocked map in
@@ -134,19 +135,19 @@ module _ (s range : ℕ) (w : IndexView) (slots : HasFreeSlots w) (blocks : HasB
       by (Full number) verdict = free.1 number (PlaceFull number long verdict)
 
   -- a page is emptied for the map
-  evacuates : Grows w range Emptying → IsSummariseStuck w s range Vacant → IsPhaseFree w s range Vacant → ⊥
+  evacuates : Grows w.pages range Emptying → IsSummariseStuck w s range Vacant → IsPhaseFree w s range Vacant → ⊥
   evacuates grows stuck free = ⊎_elim
-      (λ (locked : (q : ℕ) × IsFirstLocked w s (next_map_page w ∷ 0 ∷ []) q). free.0 locked.0 (TurnWaits locked.0 grows none_next locked.1))
-      (λ (both : IsFree w s (next_map_page w) × IsFree w s 0).
-      let free_all = free_two w s (next_map_page w) 0 both.0 both.1 in
-      stuck (Maintaining range Growing) (kind_view s w Mapping (next_map_page w ∷ 0 ∷ []) free_all)
-      (GrowMap Vacant Growing (Turn grows none_next both.0 both.1 (kind_turns s w Mapping (next_map_page w ∷ 0 ∷ []) free_all))))
-      (two_pages w s (next_map_page w) 0)
+      (λ (locked : (q : ℕ) × IsFirstLocked w.lock s (next_map_page w.pages ∷ 0 ∷ []) q). free.0 locked.0 (TurnWaits locked.0 grows none_next locked.1))
+      (λ (both : IsFree w.lock s (next_map_page w.pages) × IsFree w.lock s 0).
+      let free_all = free_two w s (next_map_page w.pages) 0 both.0 both.1 in
+      stuck (Maintaining range Growing) (kind_view s w Mapping (next_map_page w.pages ∷ 0 ∷ []) free_all)
+      (GrowMap Vacant Growing (Turn grows none_next both.0 both.1 (kind_turns s w Mapping (next_map_page w.pages ∷ 0 ∷ []) free_all))))
+      (two_pages w s (next_map_page w.pages) 0)
     where
-      moves : (x : TuplePlace) (t : IndexTuple) → IsNextTuple w (next_map_page w) x t → w.entry t.range ≡ Some x → IsFree w s x.block → ⊥
+      moves : (x : Spot) (t : IndexTuple) → IsNextTuple w.tuple (next_map_page w.pages) x t → w.entry t.range ≡ Some x → IsFree w.lock s x.block → ⊥
       moves x t next named unlocked = some_put w slots s t.range (length t.bytes) by
         where
-          puts : (y : TuplePlace) → PutVerdict w s t.range (length t.bytes) (Puts y) → ⊥
+          puts : (y : Spot) → PutVerdict w s t.range (length t.bytes) (Puts y) → ⊥
           puts y (PutGoes _ target unlocked' map) =
               let these = x.block ∷ y.block ∷ map_page_of t.range ∷ [] in
               let free_all = free_three w s x.block y.block (map_page_of t.range) unlocked unlocked' map in
@@ -162,30 +163,31 @@ module _ (s range : ℕ) (w : IndexView) (slots : HasFreeSlots w) (blocks : HasB
           by (Puts y) verdict = puts y verdict
           by (Full number) verdict = free.1 number (EvacuateFull number x t grows next named unlocked verdict)
 
-      sweeps : (x : TuplePlace) (t : IndexTuple) → IsNextTuple w (next_map_page w) x t → w.entry t.range ≢ Some x → IsFree w s (next_map_page w) → ⊥
+      sweeps : (x : Spot) (t : IndexTuple) → IsNextTuple w.tuple (next_map_page w.pages) x t → w.entry t.range ≢ Some x
+          → IsFree w.lock s (next_map_page w.pages) → ⊥
       sweeps x t next unnamed unlocked = stuck (Maintaining range Vacant) (sweep_view s w x)
           (GrowMap Vacant Vacant (EvacuateSweep x t grows next (t, next.stands, unnamed) swept))
         where
-          gone : (y : TuplePlace) → y ≡ x → (sweep_view s w x).unnamed y ≡ false
+          gone : (y : Spot) → y ≡ x → (sweep_view s w x).unnamed y ≡ false
           gone y is = by (place_is y x)
             where
               by : (d : (y ≡ x) ⊎ (y ≢ x)) → elim d as (λ _. Bool) [ inl at ↦ false | inr other ↦ w.unnamed y ] ≡ false
               by (inl at) = refl
               by (inr other) = absurd (other is)
 
-          kept : (y : TuplePlace) → y ≢ x → (sweep_view s w x).unnamed y ≡ w.unnamed y
+          kept : (y : Spot) → y ≢ x → (sweep_view s w x).unnamed y ≡ w.unnamed y
           kept y not = by (place_is y x)
             where
               by : (d : (y ≡ x) ⊎ (y ≢ x)) → elim d as (λ _. Bool) [ inl at ↦ false | inr other ↦ w.unnamed y ] ≡ w.unnamed y
               by (inl at) = absurd (not at)
               by (inr other) = refl
 
-          swept : SweepsTuples s w (sweep_view s w x) (next_map_page w) (λ y. y ≡ x)
+          swept : SweepsTuples s w (sweep_view s w x) (next_map_page w.pages) (λ y. y ≡ x)
           swept = record {
             free = unlocked;
             gone = λ y is. (ap (tuple_with w.tuple x None) is ∙ tuple_here w.tuple x None, gone y is);
             places = λ y. ⊎_elim
-                (λ (is : y ≡ x). inr (ap (λ (z : TuplePlace). z.block) is ∙ next.on, is))
+                (λ (is : y ≡ x). inr (ap (λ (z : Spot). z.block) is ∙ next.on, is))
                 (λ (other : y ≢ x). inl (
                   ⊎_elim
                       (λ (is : y ≡ x). absurd (other is))
@@ -199,54 +201,54 @@ module _ (s range : ℕ) (w : IndexView) (slots : HasFreeSlots w) (blocks : HasB
             none = λ p is. after_only w s [] (free_none s w) p is;
           }
 
-      named_or_not : (t : IndexTuple) (x : TuplePlace) → (w.entry t.range ≡ Some x) ⊎ (w.entry t.range ≢ Some x)
+      named_or_not : (t : IndexTuple) (x : Spot) → (w.entry t.range ≡ Some x) ⊎ (w.entry t.range ≢ Some x)
       named_or_not t x = by (w.entry t.range) refl
         where
-          by : (o : Option TuplePlace) → w.entry t.range ≡ o → (w.entry t.range ≡ Some x) ⊎ (w.entry t.range ≢ Some x)
+          by : (o : Option Spot) → w.entry t.range ≡ o → (w.entry t.range ≡ Some x) ⊎ (w.entry t.range ≢ Some x)
           by None is = inr (λ named. none-some _ (sym is ∙ named))
           by (Some y) is = ⊎_elim
               (λ (same : y ≡ x). inl (is ∙ ap Some same))
               (λ (other : y ≢ x). inr (λ named. other (same_Some _ _ (sym is ∙ named))))
               (place_is y x)
 
-      none_next : (x : TuplePlace) (t : IndexTuple) → IsNextTuple w (next_map_page w) x t → ⊥
+      none_next : (x : Spot) (t : IndexTuple) → IsNextTuple w.tuple (next_map_page w.pages) x t → ⊥
       none_next x t next = ⊎_elim
-          (λ (locked : IsLocked w s (next_map_page w)). free.0 (next_map_page w) (EvacuateWaits x t grows next locked))
-          (λ (unlocked : IsFree w s (next_map_page w)). ⊎_elim
-          (λ (named : w.entry t.range ≡ Some x). moves x t next named (subst (IsFree w s) (sym next.on) unlocked))
+          (λ (locked : IsLocked w.lock s (next_map_page w.pages)). free.0 (next_map_page w.pages) (EvacuateWaits x t grows next locked))
+          (λ (unlocked : IsFree w.lock s (next_map_page w.pages)). ⊎_elim
+          (λ (named : w.entry t.range ≡ Some x). moves x t next named (subst (IsFree w.lock s) (sym next.on) unlocked))
           (λ (unnamed : w.entry t.range ≢ Some x). sweeps x t next unnamed unlocked)
           (named_or_not t x))
-          (locked_or_free w s (next_map_page w))
+          (locked_or_free w s (next_map_page w.pages))
 
   -- the map grows, by the kind of its next page
-  grows_by : (kind : PageKind) → Grows w range kind → IsSummariseStuck w s range Vacant → IsPhaseFree w s range Vacant → ⊥
+  grows_by : (kind : PageKind) → Grows w.pages range kind → IsSummariseStuck w s range Vacant → IsPhaseFree w s range Vacant → ⊥
   grows_by Unstarted grows stuck free = ⊎_elim
-      (λ (locked : (q : ℕ) × IsFirstLocked w s (next_map_page w ∷ 0 ∷ []) q). free.0 locked.0 (GrowWaits locked.0 grows locked.1))
-      (λ (both : IsFree w s (next_map_page w) × IsFree w s 0).
-      let free_all = free_two w s (next_map_page w) 0 both.0 both.1 in
-      stuck (Maintaining range Growing) (kind_view s w Mapping (next_map_page w ∷ 0 ∷ []) free_all)
-      (GrowMap Vacant Growing (Grow grows both.0 both.1 (kind_turns s w Mapping (next_map_page w ∷ 0 ∷ []) free_all))))
-      (two_pages w s (next_map_page w) 0)
+      (λ (locked : (q : ℕ) × IsFirstLocked w.lock s (next_map_page w.pages ∷ 0 ∷ []) q). free.0 locked.0 (GrowWaits locked.0 grows locked.1))
+      (λ (both : IsFree w.lock s (next_map_page w.pages) × IsFree w.lock s 0).
+      let free_all = free_two w s (next_map_page w.pages) 0 both.0 both.1 in
+      stuck (Maintaining range Growing) (kind_view s w Mapping (next_map_page w.pages ∷ 0 ∷ []) free_all)
+      (GrowMap Vacant Growing (Grow grows both.0 both.1 (kind_turns s w Mapping (next_map_page w.pages ∷ 0 ∷ []) free_all))))
+      (two_pages w s (next_map_page w.pages) 0)
   grows_by Mapping grows stuck free = ⊎_elim
-      (λ (locked : IsLocked w s 0). free.0 0 (CountWaits grows locked))
-      (λ (meta : IsFree w s 0).
+      (λ (locked : IsLocked w.lock s 0). free.0 0 (CountWaits grows locked))
+      (λ (meta : IsFree w.lock s 0).
       stuck (Maintaining range Vacant) (count_view s w) (GrowMap Vacant Vacant (CountLeftOver grows meta (counts_here s w))))
       (locked_or_free w s 0)
   grows_by Regular grows stuck free = ⊎_elim
-      (λ (locked : IsLocked w s (next_map_page w)). free.0 (next_map_page w) (FlagWaits grows locked))
-      (λ (unlocked : IsFree w s (next_map_page w)).
+      (λ (locked : IsLocked w.lock s (next_map_page w.pages)). free.0 (next_map_page w.pages) (FlagWaits grows locked))
+      (λ (unlocked : IsFree w.lock s (next_map_page w.pages)).
       stuck (Maintaining range Vacant) (kind_view s w Emptying [] (free_none s w))
       (GrowMap Vacant Vacant (Flag grows unlocked (kind_turns s w Emptying [] (free_none s w)))))
-      (locked_or_free w s (next_map_page w))
+      (locked_or_free w s (next_map_page w.pages))
   grows_by Emptying grows stuck free = evacuates grows stuck free
 
   vacant : IsSummariseStuck w s range Vacant → IsPhaseFree w s range Vacant → ⊥
   vacant stuck free = ⊎_elim
       (λ (past : w.pages.map_pages < map_page_of range). ⊎_elim
-      (λ (low : next_map_page w < w.pages.limit).
-      grows_by (w.pages.kind (next_map_page w)) (record { short = past; below = low; is = refl }) stuck free)
-      (λ (full : w.pages.limit ≤ next_map_page w). free.1 w.pages.limit (MapFull past full))
-      (lt_or_ge (next_map_page w) w.pages.limit))
+      (λ (low : next_map_page w.pages < w.pages.limit).
+      grows_by (w.pages.kind (next_map_page w.pages)) (record { short = past; below = low; is = refl }) stuck free)
+      (λ (full : w.pages.limit ≤ next_map_page w.pages). free.1 w.pages.limit (MapFull past full))
+      (lt_or_ge (next_map_page w.pages) w.pages.limit))
       (λ (long : map_page_of range ≤ w.pages.map_pages). places (λ past. cross w.pages.map_pages (map_page_of range) past long) stuck free)
       (lt_or_ge w.pages.map_pages (map_page_of range))
     where
@@ -254,39 +256,38 @@ module _ (s range : ℕ) (w : IndexView) (slots : HasFreeSlots w) (blocks : HasB
       cross a b less le = omega arith
 
   -- the range's entry becomes a place, and the locks stay
-  abbrev set_view : ℕ → TuplePlace → IndexView
+  abbrev set_view : ℕ → Spot → IndexView
   set_view m y = record w { entry = number_with w.entry m (Some y) }
 
-  places_named : (x : TuplePlace) → IsSummariseStuck w s range (Placing x) → ⊥
+  places_named : (x : Spot) → IsSummariseStuck w s range (Placing x) → ⊥
   places_named x stuck =
       stuck (Maintaining range (IsAt ExtentUnread Empty))
       (record w { entry = number_with w.entry range (Some x); lock = locks_after w s [] (free_none s w) })
       (Set x
       (record {
-        now = number_here w.entry range (Some x);
-        others = number_there w.entry range (Some x);
+        entry = record { now = number_here w.entry range (Some x); others = number_there w.entry range (Some x) };
         pages = refl;
         frame = search (rules, after_others, after_taken);
       })
       (λ p is. after_only w s [] (free_none s w) p is))
 
-  evacuates_set : (m : ℕ) (x y : TuplePlace) (t u : IndexTuple) → IsSummariseStuck w s range (Evacuating m (Moving x y t u)) → ⊥
+  evacuates_set : (m : ℕ) (x y : Spot) (t u : IndexTuple) → IsSummariseStuck w s range (Evacuating m (Moving x y t u)) → ⊥
   evacuates_set m x y t u stuck =
       stuck (Maintaining range (Evacuating m (Dropping x))) (set_view m y)
       (GrowMap (Evacuating m (Moving x y t u)) (Evacuating m (Dropping x)) (EvacuateSet m x y t u
-      (record { now = number_here w.entry m (Some y); others = number_there w.entry m (Some y); pages = refl; frame = search rules })
+      (record { entry = record { now = number_here w.entry m (Some y); others = number_there w.entry m (Some y) }; pages = refl; frame = search rules })
       (record { lock = λ p. refl })))
 
-  sets_final : (p : Progress) (x y : TuplePlace) (old new : IndexTuple) → IsSummariseStuck w s range (IsAt p (Moving x y old new)) → ⊥
+  sets_final : (p : Progress) (x y : Spot) (old new : IndexTuple) → IsSummariseStuck w s range (IsAt p (Moving x y old new)) → ⊥
   sets_final p x y old new stuck =
       stuck (Maintaining range (NotBuilding (Dropping x))) (set_view range y)
       (SetFinal p x y old new
-      (record { now = number_here w.entry range (Some y); others = number_there w.entry range (Some y); pages = refl; frame = search rules })
+      (record { entry = record { now = number_here w.entry range (Some y); others = number_there w.entry range (Some y) }; pages = refl; frame = search rules })
       (record { lock = λ p. refl }))
 
   -- a block is passed, or the placeholder is read again
   module _ (extent next : ℕ) (result : IndexTuple) where
-    passes : LocksNone w s → NamesPlaceholder w range → IsSummariseStuck w s range (IsAt (Passing extent next result) Empty) → ⊥
+    passes : LocksNone w.lock s → NamesPlaceholder w range → IsSummariseStuck w s range (IsAt (Passing extent next result) Empty) → ⊥
     passes none names stuck = ⊎_elim
         (λ (below : next < extent).
         let rows = blocks next in
@@ -297,7 +298,7 @@ module _ (s range : ℕ) (w : IndexView) (slots : HasFreeSlots w) (blocks : HasB
         (Unite extent next result Empty (Held names.0) all (Maps names.0 names.2 (reads_here s w none))))
         (lt_or_ge next extent)
 
-    unites : (x : TuplePlace) → LocksNone w s → extent ≤ next → IsSummariseStuck w s range (IsAt (Passing extent next result) (Held x)) → ⊥
+    unites : (x : Spot) → LocksNone w.lock s → extent ≤ next → IsSummariseStuck w s range (IsAt (Passing extent next result) (Held x)) → ⊥
     unites x none all stuck = by (w.tuple x) refl
       where
         gone : ((t : IndexTuple) → w.tuple x ≡ Some t → t.range ≢ range) → ⊥
@@ -314,7 +315,7 @@ module _ (s range : ℕ) (w : IndexView) (slots : HasFreeSlots w) (blocks : HasB
             (λ (other : t.range ≢ range). gone (λ u here of. other (ap (λ (q : IndexTuple). q.range) (same_Some _ _ (sym is ∙ here)) ∙ of)))
             (cases_eq t.range range)
 
-    finals : (x : TuplePlace) (old new : IndexTuple) → LocksNone w s → extent ≤ next
+    finals : (x : Spot) (old new : IndexTuple) → LocksNone w.lock s → extent ≤ next
         → IsSummariseStuck w s range (IsAt (Passing extent next result) (Copied x old new))
         → IsPhaseFree w s range (IsAt (Passing extent next result) (Copied x old new)) → ⊥
     finals x old new none all stuck free = some_swap w slots s range x old new by
@@ -328,7 +329,7 @@ module _ (s range : ℕ) (w : IndexView) (slots : HasFreeSlots w) (blocks : HasB
             never : PutVerdict w s range (length new.bytes) Fits → ⊥
             never puts = elim puts [ ]
 
-        moves : (y : TuplePlace) → SwapVerdict w s range x old new (Puts y) → ⊥
+        moves : (y : Spot) → SwapVerdict w s range x old new (Puts y) → ⊥
         moves y (SwapMoves _ unlocked here must puts) = by_put puts
           where
             by_put : PutVerdict w s range (length new.bytes) (Puts y) → ⊥

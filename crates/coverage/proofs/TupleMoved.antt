@@ -3,7 +3,8 @@ use Rattle.std.proofs.Common.{◌≡◌, ◌⊎◌, inl, inr, ℕ, ◌≤◌, Op
 use Rattle.std.specs.Prelude.{refl, length}
 use Rattle.std.proofs.lemmas.Option.{none-some}
 use Rattle.block_model.specs.declared.row.Row.{Row}
-use Rattle.coverage.specs.IndexView.{TuplePlace, IndexTuple, Unstarted}
+use Rattle.block_model.specs.declared.place.Spot.{Spot}
+use Rattle.coverage.specs.IndexView.{IndexTuple, Unstarted}
 use Rattle.coverage.specs.Statements.{OnIndex, Empty, Held, Copied, Moving, Dropping, Statement, Idle, Inserting}
 use Rattle.coverage.specs.Verdicts.{OnNew, PutGoes, SwapMoves}
 use Rattle.coverage.specs.IsCovered.{IndexState, IsIndexKept}
@@ -14,7 +15,7 @@ use Rattle.coverage.proofs.SmallIndex.{at_number, place, grown_kind, kind_number
 use Rattle.coverage.proofs.SmallIndex.{free, locks_these, nobody, reads, puts, sets, drops}
 use Rattle.coverage.proofs.RangeSummarised.{summarised, range_done, summarised_kept, no_room}
 
-abbrev pub moved_place : TuplePlace
+abbrev pub moved_place : Spot
 moved_place = record { block = 3; slot = 0 }
 
 abbrev one_row : Row → ℕ → ℕ → Option Row
@@ -122,4 +123,4 @@ pub blocks_differ : place.block ≡ moved_place.block → ⊥
 blocks_differ is = differ 2 3 is (omega arith)
 
 pub places_differ : place ≡ moved_place → ⊥
-places_differ is = blocks_differ (ap (λ (x : TuplePlace). x.block) is)
+places_differ is = blocks_differ (ap (λ (x : Spot). x.block) is)

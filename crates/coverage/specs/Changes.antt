@@ -1,11 +1,17 @@
 -- The kinds of change that a step of session s makes to the view of the index.
 use Rattle.std.specs.Prelude.{◌≡◌, ◌≢◌, ◌⊎◌, ℕ, ◌+◌, ◌*◌, ◌≤◌, ◌<◌, min, Bool, true, false, IsTrue, Option, None, Some}
 use Rattle.block_model.specs.declared.row.Row.{Row}
-use Rattle.coverage.specs.IndexView.{TuplePlace, IndexTuple, IsFormed, Progress, ExtentUnread, Passing, Building, IndexView, IsTupleOf, IsBuilding}
+use Rattle.block_model.specs.declared.place.Spot.{Spot}
+use Rattle.coverage.specs.IndexView.{IndexTuple, IsFormed, Progress, ExtentUnread, Passing, Building, IndexView, IsTupleOf, IsBuilding}
 
 -- at one place the old value goes and the new one comes
 pub record ChangesAt {X A : Type 0} (f g : X → Option A) (x : X) (old new : Option A) : Type 0 where
   pub was : f x ≡ old
+  pub now : g x ≡ new
+  pub others : (y : X) → (y ≡ x) ⊎ (g y ≡ f y)
+
+-- at one place there is this now, and elsewhere what there was
+pub record BecomesAt {X A : Type 0} (f g : X → Option A) (x : X) (new : Option A) : Type 0 where
   pub now : g x ≡ new
   pub others : (y : X) → (y ≡ x) ⊎ (g y ≡ f y)
 
@@ -18,10 +24,10 @@ pub record SameMap (w v : IndexView) : Type 0 where
   pub entry : (range : ℕ) → v.entry range ≡ w.entry range
 
 pub record SameTuples (w v : IndexView) : Type 0 where
-  pub tuple : (x : TuplePlace) → v.tuple x ≡ w.tuple x
+  pub tuple : (x : Spot) → v.tuple x ≡ w.tuple x
 
 pub record SameUnnamed (w v : IndexView) : Type 0 where
-  pub unnamed : (x : TuplePlace) → v.unnamed x ≡ w.unnamed x
+  pub unnamed : (x : Spot) → v.unnamed x ≡ w.unnamed x
 
 pub record SameLoose (w v : IndexView) : Type 0 where
   pub loose : (s : ℕ) → v.loose s ≡ w.loose s
@@ -30,9 +36,9 @@ pub record SameWork (w v : IndexView) : Type 0 where
   pub building : (s : ℕ) → v.building s ≡ w.building s
 
 -- the locks of other sessions stay, and none are given to them
-pub record OwnLocks (s : ℕ) (w v : IndexView) : Type 0 where
-  pub others : (p n : ℕ) → w.lock p ≡ Some n → n ≢ s → v.lock p ≡ Some n
-  pub taken : (p n : ℕ) → v.lock p ≡ Some n → n ≢ s → w.lock p ≡ Some n
+pub record OwnLocks (s : ℕ) (old new : ℕ → Option ℕ) : Type 0 where
+  pub others : (p n : ℕ) → old p ≡ Some n → n ≢ s → new p ≡ Some n
+  pub taken : (p n : ℕ) → new p ≡ Some n → n ≢ s → old p ≡ Some n
 
 -- what a step may change beside the page locks of its session: nothing; the heap's rows; the range map; the tuples; the tuples
 -- and which of them were unnamed at the opening; or who holds the summarise lock
@@ -72,16 +78,16 @@ pub record Frame (s : ℕ) (touched : Touched) (w v : IndexView) : Type 0 where
   pub tuples : KeepsTuples touched w v
   pub unnamed_tuples : KeepsUnnamed touched w v
   pub summarise_lock : KeepsSummariseLock touched w v
-  pub locks : OwnLocks s w v
+  pub locks : OwnLocks s w.lock v.lock
   pub contents : v.contents ≡ w.contents
 
 -- the page of the session's loose tuple is locked by it
 abbrev pub IsLooseLocked : ℕ → IndexView → Type 0
-IsLooseLocked s v = (x : TuplePlace) → v.loose s ≡ Some x → v.lock x.block ≡ Some s
+IsLooseLocked s v = (x : Spot) → v.loose s ≡ Some x → v.lock x.block ≡ Some s
 
 -- nobody else locks this page
-abbrev pub IsFree : IndexView → ℕ → ℕ → Type 0
-IsFree w s p = (n : ℕ) → w.lock p ≡ Some n → n ≡ s
+abbrev pub IsFree : (ℕ → Option ℕ) → ℕ → ℕ → Type 0
+IsFree lock s p = (n : ℕ) → lock p ≡ Some n → n ≡ s
 
 -- all that one includes, the other includes
 abbrev pub IsWithin : (Row → Bool) → (Row → Bool) → Type 0
@@ -109,9 +115,9 @@ pub record PutsRow (s : ℕ) (w v : IndexView) (b k : ℕ) (r : Row) : Type 0 wh
   pub locked : IsLooseLocked s v
 
 -- a placeholder is put, which the map doesn't name yet; from here on the session is building its range
-pub record Places (s : ℕ) (w v : IndexView) (x : TuplePlace) (t : IndexTuple) : Type 0 where
+pub record Places (s : ℕ) (w v : IndexView) (x : Spot) (t : IndexTuple) : Type 0 where
   pub tuple : ChangesAt w.tuple v.tuple x None (Some t)
-  pub free : IsFree w s x.block
+  pub free : IsFree w.lock s x.block
   pub placeholder : t.placeholder ≡ true
   pub vacant : w.entry t.range ≡ None
   pub formed : IsTupleOf w t
@@ -122,7 +128,7 @@ pub record Places (s : ℕ) (w v : IndexView) (x : TuplePlace) (t : IndexTuple) 
   pub locked : IsLooseLocked s v
 
 -- the map names it
-pub record Names (s : ℕ) (w v : IndexView) (range : ℕ) (x : TuplePlace) (t : IndexTuple) : Type 0 where
+pub record Names (s : ℕ) (w v : IndexView) (range : ℕ) (x : Spot) (t : IndexTuple) : Type 0 where
   pub entry : ChangesAt w.entry v.entry range None (Some x)
   pub loose : ChangesAt w.loose v.loose s (Some x) None
   pub there : w.tuple x ≡ Some t
@@ -164,9 +170,9 @@ abbrev pub MayEnd : ℕ → IndexView → IndexView → Type 0
 MayEnd s w v = (n : ℕ) → (v.building n ≡ w.building n) ⊎ ((n ≡ s) × (v.building n ≡ None))
 
 -- in its place, the tuple that the map names gives way to one that carries it
-pub record Swaps (s : ℕ) (w v : IndexView) (range : ℕ) (x : TuplePlace) (old new : IndexTuple) : Type 0 where
+pub record Swaps (s : ℕ) (w v : IndexView) (range : ℕ) (x : Spot) (old new : IndexTuple) : Type 0 where
   pub tuple : ChangesAt w.tuple v.tuple x (Some old) (Some new)
-  pub free : IsFree w s x.block
+  pub free : IsFree w.lock s x.block
   pub entry : w.entry range ≡ Some x
   pub of : (old.range ≡ range) × (new.range ≡ range)
   pub formed : IsFormed w.contents new
@@ -177,9 +183,9 @@ pub record Swaps (s : ℕ) (w v : IndexView) (range : ℕ) (x : TuplePlace) (old
   pub locked : IsLooseLocked s v
 
 -- a move puts the new tuple; the map still names the old one
-pub record MovePuts (s : ℕ) (w v : IndexView) (range : ℕ) (x y : TuplePlace) (old new : IndexTuple) : Type 0 where
+pub record MovePuts (s : ℕ) (w v : IndexView) (range : ℕ) (x y : Spot) (old new : IndexTuple) : Type 0 where
   pub tuple : ChangesAt w.tuple v.tuple y None (Some new)
-  pub free : IsFree w s y.block
+  pub free : IsFree w.lock s y.block
   pub before : w.tuple x ≡ Some old
   pub entry : w.entry range ≡ Some x
   pub of : (old.range ≡ range) × (new.range ≡ range)
@@ -191,10 +197,10 @@ pub record MovePuts (s : ℕ) (w v : IndexView) (range : ℕ) (x y : TuplePlace)
   pub locked : IsLooseLocked s v
 
 -- the map names the new one; what the session builds ends here, if the tuple is final
-pub record MoveSets (s : ℕ) (w v : IndexView) (range : ℕ) (x y : TuplePlace) (old new : IndexTuple) : Type 0 where
+pub record MoveSets (s : ℕ) (w v : IndexView) (range : ℕ) (x y : Spot) (old new : IndexTuple) : Type 0 where
   pub entry : ChangesAt w.entry v.entry range (Some x) (Some y)
   pub loose : ChangesAt w.loose v.loose s (Some y) (Some x)
-  pub free : IsFree w s x.block
+  pub free : IsFree w.lock s x.block
   pub before : w.tuple x ≡ Some old
   pub after : w.tuple y ≡ Some new
   pub of : (old.range ≡ range) × (new.range ≡ range)
@@ -204,40 +210,40 @@ pub record MoveSets (s : ℕ) (w v : IndexView) (range : ℕ) (x y : TuplePlace)
   pub locked : IsLooseLocked s v
 
 -- the session drops the tuple in its hands, which the map no longer names
-pub record DropsLoose (s : ℕ) (w v : IndexView) (x : TuplePlace) (old : IndexTuple) : Type 0 where
+pub record DropsLoose (s : ℕ) (w v : IndexView) (x : Spot) (old : IndexTuple) : Type 0 where
   pub tuple : ChangesAt w.tuple v.tuple x (Some old) None
   pub loose : ChangesAt w.loose v.loose s (Some x) None
   pub unnamed : (range : ℕ) → w.entry range ≢ Some x
-  pub free : IsFree w s x.block
+  pub free : IsFree w.lock s x.block
   pub work : SameWork w v
   pub frame : Frame s TouchesTuples w v
   pub locked : IsLooseLocked s v
 
 -- the holder of the summarise lock takes a range's entry out of the map
-pub record Clears (s : ℕ) (w v : IndexView) (range : ℕ) (x : TuplePlace) : Type 0 where
+pub record Clears (s : ℕ) (w v : IndexView) (range : ℕ) (x : Spot) : Type 0 where
   pub entry : ChangesAt w.entry v.entry range (Some x) None
   pub loose : ChangesAt w.loose v.loose s None (Some x)
-  pub free : IsFree w s x.block
+  pub free : IsFree w.lock s x.block
   pub summarise_lock : w.summarise_lock ≡ Some s
   pub work : SameWork w v
   pub frame : Frame s TouchesEntries w v
   pub locked : IsLooseLocked s v
 
 -- nothing stands there any more, where the map named nothing
-pub record IsSwept (w v : IndexView) (page : ℕ) (x : TuplePlace) : Type 0 where
+pub record IsSwept (w v : IndexView) (page : ℕ) (x : Spot) : Type 0 where
   pub on : x.block ≡ page
   pub unnamed : (range : ℕ) → w.entry range ≢ Some x
   pub now : v.tuple x ≡ None
   pub gone : v.unnamed x ≡ false
 
 -- a place has the tuple that it had
-abbrev pub IsUntouched : IndexView → IndexView → TuplePlace → Type 0
+abbrev pub IsUntouched : IndexView → IndexView → Spot → Type 0
 IsUntouched w v x = (v.tuple x ≡ w.tuple x) × (v.unnamed x ≡ w.unnamed x)
 
 -- tuples of one page that the map doesn't name are dropped, under the page's lock
 pub record Sweeps (s : ℕ) (w v : IndexView) (page : ℕ) : Type 0 where
-  pub places : (x : TuplePlace) → IsUntouched w v x ⊎ IsSwept w v page x
-  pub free : IsFree w s page
+  pub places : (x : Spot) → IsUntouched w v x ⊎ IsSwept w v page x
+  pub free : IsFree w.lock s page
   pub loose : SameLoose w v
   pub work : SameWork w v
   pub frame : Frame s TouchesUnnamed w v

@@ -1,7 +1,8 @@
 -- How many numbers are so, and what a step adds to the count that its statement's reply tells.
 use Rattle.std.specs.Prelude.{◌≡◌, ◌≢◌, ℕ, suc, ◌≤◌, false, Option, None}
 use Rattle.block_model.specs.declared.row.Row.{Row}
-use Rattle.coverage.specs.IndexView.{TuplePlace, IndexTuple, IndexView, NamesTuple}
+use Rattle.block_model.specs.declared.place.Spot.{Spot}
+use Rattle.coverage.specs.IndexView.{IndexTuple, IndexView, NamesTuple}
 use Rattle.coverage.specs.Statements.{Phase, Statement}
 use Rattle.coverage.specs.Steps.{SummariseStep, LookMap, LookGone, IsFinal, Found, ReadNoEntry, GrowMap, Put, Set, Extent, Pass, Unite, UniteCopies}
 use Rattle.coverage.specs.Steps.{SwapFinal, SetFinal, DropOld, DesummariseStep, ClearMap, ClearNone, Clear, ClearAgain, DropCleared}
@@ -26,7 +27,7 @@ HasGone before after = (before ≢ None) × (after ≡ None)
 abbrev pub AreRowsGone : (before after : ℕ → ℕ → Option Row) → (block count : ℕ) → Type 0
 AreRowsGone before after block count = IsCountOf (λ k. HasGone (before block k) (after block k)) count
 
-abbrev pub AreTuplesGone : (before after : TuplePlace → Option IndexTuple) → (page count : ℕ) → Type 0
+abbrev pub AreTuplesGone : (before after : Spot → Option IndexTuple) → (page count : ℕ) → Type 0
 AreTuplesGone before after page count =
     IsCountOf (λ k. HasGone (before (record { block = page; slot = k })) (after (record { block = page; slot = k }))) count
 

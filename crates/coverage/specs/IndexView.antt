@@ -1,19 +1,17 @@
 -- One index and its table, as the running statements meet them: rows and tuples on their pages, the range map, who locks
 -- what, and how far each summarising has come.
 use Rattle.std.specs.Prelude.{◌≡◌, ℕ, ◌+◌, ◌*◌, ◌/◌, ◌≤◌, ◌<◌, Bool, true, Option, Some, List, length}
+use Rattle.block_model.specs.declared.row.Cond.{Cond}
 use Rattle.block_model.specs.declared.row.Row.{Row}
+use Rattle.block_model.specs.declared.place.Spot.{Spot}
 
--- where a tuple stands: an index page and a slot of it
-pub record TuplePlace : Type 0 where
-  pub block : ℕ
-  pub slot : ℕ
-
--- a tuple: its bytes, its range, whether it is a placeholder, and which rows it includes
+-- a tuple: its bytes, its range, whether it is a placeholder, which rows it includes, and which conditions it keeps its range for
 pub record IndexTuple : Type 0 where
   pub bytes : List ℕ
   pub range : ℕ
   pub placeholder : Bool
   pub includes : Row → Bool
+  pub keeps : List Cond → Bool
 
 -- What the operator classes of an index make of tuples: the placeholder of a range that includes nothing yet; the tuple with a row
 -- added; the final tuple that unites one with another; the tuple that bytes are of, if they are of one of this index; how long its
@@ -59,7 +57,7 @@ pub data PageKind : Type 0 where
 pub record Pages : Type 0 where
   pub kind : ℕ → PageKind
   pub room : ℕ → ℕ
-  pub room_at : TuplePlace → ℕ
+  pub room_at : Spot → ℕ
   pub map_pages : ℕ
   pub limit : ℕ
 
@@ -70,8 +68,8 @@ pub record IndexView : Type 0 where
   pub blocks : ℕ
   pub row : ℕ → ℕ → Option Row
   -- the range map by range, the tuples by place
-  pub entry : ℕ → Option TuplePlace
-  pub tuple : TuplePlace → Option IndexTuple
+  pub entry : ℕ → Option Spot
+  pub tuple : Spot → Option IndexTuple
   pub pages : Pages
   -- who locks an index page, and who holds the table's summarise lock
   pub lock : ℕ → Option ℕ
@@ -79,9 +77,9 @@ pub record IndexView : Type 0 where
   -- what a session is building
   pub building : ℕ → Option Building
   -- the one tuple that a session has put and not named yet, or no longer names and has still to drop
-  pub loose : ℕ → Option TuplePlace
+  pub loose : ℕ → Option Spot
   -- the tuples that were unnamed when the store was opened, and stand still
-  pub unnamed : TuplePlace → Bool
+  pub unnamed : Spot → Bool
 
 -- the range in which a heap block lies
 abbrev pub range_of_block : IndexView → ℕ → ℕ
@@ -95,12 +93,12 @@ abbrev pub map_page_of : ℕ → ℕ
 map_page_of range = range / entries_a_page + 1
 
 -- the page that the map grows onto
-abbrev pub next_map_page : IndexView → ℕ
-next_map_page w = w.pages.map_pages + 1
+abbrev pub next_map_page : Pages → ℕ
+next_map_page pages = pages.map_pages + 1
 
 -- the map has no page for the range's entry yet
-abbrev pub IsPastMap : IndexView → ℕ → Type 0
-IsPastMap w range = w.pages.map_pages < map_page_of range
+abbrev pub IsPastMap : Pages → ℕ → Type 0
+IsPastMap pages range = pages.map_pages < map_page_of range
 
 -- a statement of this session is building the range's summary, and has come so far
 abbrev pub IsBuilding : IndexView → ℕ → ℕ → Progress → Type 0
@@ -116,7 +114,7 @@ IsTupleOf w t = IsFormed w.contents t × (t.range * w.pages_per_range < w.blocks
 
 -- the map names this tuple for the range
 abbrev pub NamesTuple : IndexView → ℕ → IndexTuple → Type 0
-NamesTuple w range t = (x : TuplePlace) × (w.entry range ≡ Some x) × (w.tuple x ≡ Some t)
+NamesTuple w range t = (x : Spot) × (w.entry range ≡ Some x) × (w.tuple x ≡ Some t)
 
 -- how long the empty placeholder of a range is
 abbrev pub placeholder_length : IndexView → ℕ → ℕ
@@ -124,4 +122,4 @@ placeholder_length w range = length (w.contents.empty range).bytes
 
 -- the map names a placeholder for the range
 abbrev pub NamesPlaceholder : IndexView → ℕ → Type 0
-NamesPlaceholder w range = (x : TuplePlace) × (t : IndexTuple) × (w.entry range ≡ Some x) × (w.tuple x ≡ Some t) × (t.placeholder ≡ true)
+NamesPlaceholder w range = (x : Spot) × (t : IndexTuple) × (w.entry range ≡ Some x) × (w.tuple x ≡ Some t) × (t.placeholder ≡ true)

@@ -1,7 +1,8 @@
 -- When an index is covered: no scan loses a row to it, whatever is running.
 use Rattle.std.specs.Prelude.{◌≡◌, ◌⊎◌, ℕ, ◌≤◌, ◌<◌, Bool, false, IsTrue, Option, None, Some}
 use Rattle.block_model.specs.declared.row.Row.{Row}
-use Rattle.coverage.specs.IndexView.{TuplePlace, IndexTuple, Contents, Progress, Pages, IndexView, range_of_block, IsTupleOf, IsBuilding}
+use Rattle.block_model.specs.declared.place.Spot.{Spot}
+use Rattle.coverage.specs.IndexView.{IndexTuple, Contents, Progress, Pages, IndexView, range_of_block, IsTupleOf, IsBuilding}
 use Rattle.coverage.specs.IsSettled.{IsSettled, IsAccounted}
 use Rattle.coverage.specs.IsSound.{IsLeftUnnamed, IsSound}
 use Rattle.coverage.specs.GoesOn.{IsHeld}
@@ -17,12 +18,12 @@ pub record IndexState : Type 0 where
   pub pages_per_range : ℕ
   pub blocks : ℕ
   pub row : ℕ → ℕ → Option Row
-  pub entry : ℕ → Option TuplePlace
-  pub tuple : TuplePlace → Option IndexTuple
+  pub entry : ℕ → Option Spot
+  pub tuple : Spot → Option IndexTuple
   pub pages : Pages
   pub lock : ℕ → Option ℕ
   pub summarise_lock : Option ℕ
-  pub unnamed : TuplePlace → Bool
+  pub unnamed : Spot → Bool
   pub statement : ℕ → Statement
   pub counts : ℕ → Bool
 
@@ -43,14 +44,14 @@ index_view w = record {
 }
 
 -- the place that a statement in this state on the index holds for a range
-abbrev pub OnIndexHolds : ℕ → OnIndex → ℕ → TuplePlace → Type 0
+abbrev pub OnIndexHolds : ℕ → OnIndex → ℕ → Spot → Type 0
 OnIndexHolds m Empty range x = ⊥
 OnIndexHolds m (Held y) range x = (m ≡ range) × (y ≡ x)
 OnIndexHolds m (Copied y old new) range x = (m ≡ range) × (y ≡ x)
 OnIndexHolds m (Moving y z old new) range x = ⊥
 OnIndexHolds m (Dropping y) range x = ⊥
 
-abbrev pub PhaseHolds : ℕ → Phase → ℕ → TuplePlace → Type 0
+abbrev pub PhaseHolds : ℕ → Phase → ℕ → Spot → Type 0
 PhaseHolds m (NotBuilding on_index) range x = OnIndexHolds m on_index range x
 PhaseHolds m Vacant range x = ⊥
 PhaseHolds m Growing range x = ⊥
@@ -59,7 +60,7 @@ PhaseHolds m (Placing y) range x = ⊥
 PhaseHolds m (IsAt p on_index) range x = OnIndexHolds m on_index range x
 
 -- the place that a statement holds for a range
-abbrev pub StatementHolds : IndexView → Statement → ℕ → TuplePlace → Type 0
+abbrev pub StatementHolds : IndexView → Statement → ℕ → Spot → Type 0
 StatementHolds w Idle range x = ⊥
 StatementHolds w (Inserting b k r on_index) range x = OnIndexHolds (range_of_block w b) on_index range x
 StatementHolds w (Maintaining m phase) range x = PhaseHolds m phase range x
@@ -71,17 +72,17 @@ pub record IsCovered (w : IndexState) : Type 0 where
   pub rows_settled : (b k : ℕ) (r : Row) → w.row b k ≡ Some r → IsTrue (w.counts r.id.t)
       → IsSettled (index_view w) b r ⊎ ((s : ℕ) × (on_index : OnIndex) × (w.statement s ≡ Inserting b k r on_index))
   -- every entry names a tuple of its range, which is one of the index
-  pub entries_name_tuples : (range : ℕ) (x : TuplePlace) → w.entry range ≡ Some x
+  pub entries_name_tuples : (range : ℕ) (x : Spot) → w.entry range ≡ Some x
       → (t : IndexTuple) × (w.tuple x ≡ Some t) × (t.range ≡ range) × IsTupleOf (index_view w) t
   -- every tuple is named for its range; or its page is locked by the session whose put, move or clear is running; or it was unnamed at the opening
-  pub tuples_are_named : (x : TuplePlace) (t : IndexTuple) → w.tuple x ≡ Some t
+  pub tuples_are_named : (x : Spot) (t : IndexTuple) → w.tuple x ≡ Some t
       → (w.entry t.range ≡ Some x) ⊎ ((s : ℕ) × (loose_of (w.statement s) ≡ Some x) × (w.lock x.block ≡ Some s)) ⊎ IsTrue (w.unnamed x)
   -- at most one statement of the table is building a range
   pub one_builder_a_table : (s n range m : ℕ) (p q : Progress) → IsBuilding (index_view w) s range p → IsBuilding (index_view w) n m q → s ≡ n
   -- every place that a statement holds was named by the map when it was read
-  pub held_places_were_named : (s range : ℕ) (x : TuplePlace) → StatementHolds (index_view w) (w.statement s) range x → IsHeld (index_view w) range x
+  pub held_places_were_named : (s range : ℕ) (x : Spot) → StatementHolds (index_view w) (w.statement s) range x → IsHeld (index_view w) range x
   -- a final tuple at a place that a scan holds for its range includes every row of the range that the scan's session sees
-  pub held_tuples_include : (s : ℕ) (scan : Scan) → w.statement s ≡ Scanning scan → (range : ℕ) (x : TuplePlace) → scan.held ≡ Some (range, x)
+  pub held_tuples_include : (s : ℕ) (scan : Scan) → w.statement s ≡ Scanning scan → (range : ℕ) (x : Spot) → scan.held ≡ Some (range, x)
       → (t : IndexTuple) → w.tuple x ≡ Some t → t.range ≡ range → t.placeholder ≡ false
       → (b k : ℕ) (r : Row) → IsTrue (scan.sees b k) → w.row b k ≡ Some r → range_of_block (index_view w) b ≡ range → IsTrue (t.includes r)
 
@@ -116,7 +117,7 @@ pub record IsAtRest (w : IndexState) : Type 0 where
   pub idle : (s : ℕ) → w.statement s ≡ Idle
   pub unlocked : (p : ℕ) → w.lock p ≡ None
   pub free : w.summarise_lock ≡ None
-  pub unnamed_tuples : (x : TuplePlace) → IsTrue (w.unnamed x) → IsLeftUnnamed (index_view w) x
+  pub unnamed_tuples : (x : Spot) → IsTrue (w.unnamed x) → IsLeftUnnamed (index_view w) x
 
 -- What every step keeps, and whatever is covered rests on: the view is sound, the pages stand in their order, each statement's
 -- knowledge is true, and every row that counts is settled or its insert is running.

@@ -1,7 +1,8 @@
 -- When no scan can miss a row for what the index says of its range (the access method's README, on placeholders).
 use Rattle.std.specs.Prelude.{◌≡◌, ◌⊎◌, ℕ, ◌≤◌, ◌<◌, true, false, IsTrue, None, Some}
 use Rattle.block_model.specs.declared.row.Row.{Row}
-use Rattle.coverage.specs.IndexView.{TuplePlace, IndexTuple, Progress, ExtentUnread, Passing, IndexView, range_of_block, IsBuilding, NamesTuple}
+use Rattle.block_model.specs.declared.place.Spot.{Spot}
+use Rattle.coverage.specs.IndexView.{IndexTuple, Progress, ExtentUnread, Passing, IndexView, range_of_block, IsBuilding, NamesTuple}
 
 -- the extent isn't read yet, or the block lies below it and isn't passed yet
 abbrev pub IsAhead : Progress → ℕ → Type 0
@@ -43,9 +44,9 @@ AllAwait w b r = (s : ℕ) (p : Progress) → IsBuilding w s (range_of_block w b
 -- the six cases in one: the tuple that the map names includes the row, or is a placeholder whose builder awaits it
 abbrev pub IsAccounted : IndexView → ℕ → Row → Type 0
 IsAccounted w b r =
-    (x : TuplePlace) (t : IndexTuple) → w.entry (range_of_block w b) ≡ Some x → w.tuple x ≡ Some t
+    (x : Spot) (t : IndexTuple) → w.entry (range_of_block w b) ≡ Some x → w.tuple x ≡ Some t
     → IsTrue (t.includes r) ⊎ ((t.placeholder ≡ true) × AllAwait w b r)
 
 -- a final tuple of the row's range at this place includes the row
-abbrev pub TupleShows : IndexView → TuplePlace → ℕ → Row → Type 0
+abbrev pub TupleShows : IndexView → Spot → ℕ → Row → Type 0
 TupleShows w x b r = (t : IndexTuple) → w.tuple x ≡ Some t → t.range ≡ range_of_block w b → t.placeholder ≡ false → IsTrue (t.includes r)

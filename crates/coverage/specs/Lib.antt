@@ -12,5 +12,6 @@ pub mod Steps
 pub mod Points
 pub mod Waiting
 pub mod Counts
+pub mod IndexPart
 pub mod Stuck
 pub mod ExactResults

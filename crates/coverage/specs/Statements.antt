@@ -1,17 +1,18 @@
 -- The running statements of one index's table: what each is at, between two steps.
 use Rattle.std.specs.Prelude.{◌≡◌, ℕ, zero, suc, ◌≤◌, ◌<◌, Bool, true, false, IsTrue, Option, None, Some}
 use Rattle.block_model.specs.declared.row.Row.{Row}
-use Rattle.coverage.specs.IndexView.{TuplePlace, IndexTuple, Contents, IsFormed, most_bytes, Progress, ExtentUnread, Building}
+use Rattle.block_model.specs.declared.place.Spot.{Spot}
+use Rattle.coverage.specs.IndexView.{IndexTuple, Contents, IsFormed, most_bytes, Progress, ExtentUnread, Building}
 use Rattle.coverage.specs.Changes.{IsWithin}
 
 -- What a statement has on an index of a range: nothing; the place that the map named; also the tuple copied there, and the one to
 -- come in its place; in a move, the old tuple's place and that of the new one, which is put and not named; the old one's place, which is no longer named.
 pub data OnIndex : Type 0 where
   Empty : OnIndex
-  Held : TuplePlace → OnIndex
-  Copied : TuplePlace → IndexTuple → IndexTuple → OnIndex
-  Moving : TuplePlace → TuplePlace → IndexTuple → IndexTuple → OnIndex
-  Dropping : TuplePlace → OnIndex
+  Held : Spot → OnIndex
+  Copied : Spot → IndexTuple → IndexTuple → OnIndex
+  Moving : Spot → Spot → IndexTuple → IndexTuple → OnIndex
+  Dropping : Spot → OnIndex
 
 -- Where a maintenance statement is with its range: not building; it read that the map has no entry; the map grows, and a page
 -- is locked for it; a page is emptied for the map, and a tuple of another range moves; its placeholder is put and isn't named; it is building.
@@ -20,7 +21,7 @@ pub data Phase : Type 0 where
   Vacant : Phase
   Growing : Phase
   Evacuating : ℕ → OnIndex → Phase
-  Placing : TuplePlace → Phase
+  Placing : Spot → Phase
   IsAt : Progress → OnIndex → Phase
 
 -- A scan: the rows that its session sees, by block and slot; the test of its query, and which tuples keep it; its candidate
@@ -32,7 +33,7 @@ pub record Scan : Type 0 where
   pub candidate : ℕ → Bool
   pub read : ℕ
   pub found : ℕ → ℕ → Bool
-  pub held : Option (ℕ × TuplePlace)
+  pub held : Option (ℕ × Spot)
 
 pub data Statement : Type 0 where
   Idle : Statement
@@ -44,14 +45,14 @@ pub data Statement : Type 0 where
   Scanning : Scan → Statement
 
 -- the loose tuple of a statement in this state on the index
-abbrev pub loose_in : OnIndex → Option TuplePlace
+abbrev pub loose_in : OnIndex → Option Spot
 loose_in Empty = None
 loose_in (Held x) = None
 loose_in (Copied x old new) = None
 loose_in (Moving x y old new) = Some y
 loose_in (Dropping x) = Some x
 
-abbrev pub loose_at : Phase → Option TuplePlace
+abbrev pub loose_at : Phase → Option Spot
 loose_at (NotBuilding on_index) = loose_in on_index
 loose_at Vacant = None
 loose_at Growing = None
@@ -59,7 +60,7 @@ loose_at (Evacuating m on_index) = loose_in on_index
 loose_at (Placing x) = Some x
 loose_at (IsAt p on_index) = loose_in on_index
 
-abbrev pub loose_of : Statement → Option TuplePlace
+abbrev pub loose_of : Statement → Option Spot
 loose_of Idle = None
 loose_of (Inserting b k r on_index) = loose_in on_index
 loose_of (Maintaining range phase) = loose_at phase

@@ -1,7 +1,8 @@
 -- When a statement has no step, and how many steps an insert takes alone.
 use Rattle.std.specs.Prelude.{◌≡◌, ℕ, suc, Some}
 use Rattle.block_model.specs.declared.row.Row.{Row}
-use Rattle.coverage.specs.IndexView.{TuplePlace, IndexTuple, IndexView}
+use Rattle.block_model.specs.declared.place.Spot.{Spot}
+use Rattle.coverage.specs.IndexView.{IndexTuple, IndexView}
 use Rattle.coverage.specs.Verdicts.{Waits, Full, SwapVerdict, ClearVerdict}
 use Rattle.coverage.specs.Waiting.{IsPhaseWaiting, IsPhaseFull}
 use Rattle.coverage.specs.Statements.{OnIndex, Held, Copied, Phase, NotBuilding, Statement, Inserting, HasNoMoreRows}
@@ -25,7 +26,7 @@ IsInsertStuck w s b k r on_index = (e : Statement) (v : IndexView) → InsertSte
 
 -- where its tuple is copied, it finds the index not full, and waits for no page
 abbrev pub IsSwapFree : IndexView → (s range : ℕ) → OnIndex → Type 0
-IsSwapFree w s range on_index = (x : TuplePlace) (old new : IndexTuple) → on_index ≡ Copied x old new
+IsSwapFree w s range on_index = (x : Spot) (old new : IndexTuple) → on_index ≡ Copied x old new
     → ((number : ℕ) → SwapVerdict w s range x old new (Full number) → ⊥) × ((p : ℕ) → SwapVerdict w s range x old new (Waits p) → ⊥)
 
 -- a desummarise in this state on the index has no step
@@ -34,7 +35,7 @@ IsDesummariseStuck w s range on_index = (e : Statement) (v : IndexView) → Desu
 
 -- where it holds a place, it waits for no page
 abbrev pub IsClearFree : IndexView → (s range : ℕ) → OnIndex → Type 0
-IsClearFree w s range on_index = (x : TuplePlace) (p : ℕ) → on_index ≡ Held x → ClearVerdict w s range x (Waits p) → ⊥
+IsClearFree w s range on_index = (x : Spot) (p : ℕ) → on_index ≡ Held x → ClearVerdict w s range x (Waits p) → ⊥
 
 -- an insert takes so many steps in the index, one right after the other, while no other session steps
 pub data InsertsAlone (s b k : ℕ) (r : Row) : (steps : ℕ) → IndexView → OnIndex → Type 0 where
@@ -44,4 +45,4 @@ pub data InsertsAlone (s b k : ℕ) (r : Row) : (steps : ℕ) → IndexView → 
 
 -- each entry names a tuple of its range
 abbrev pub AreNamed : IndexView → Type 0
-AreNamed w = (range : ℕ) (x : TuplePlace) → w.entry range ≡ Some x → (t : IndexTuple) × (w.tuple x ≡ Some t) × (t.range ≡ range)
+AreNamed w = (range : ℕ) (x : Spot) → w.entry range ≡ Some x → (t : IndexTuple) × (w.tuple x ≡ Some t) × (t.range ≡ range)

@@ -2,7 +2,7 @@
 use Rattle.std.proofs.Common.{◌≡◌, ◌⊎◌, inl, inr, ℕ, ◌+◌, ◌≤◌, ◌<◌, Option, Some, List, [], ◌∷◌, ◌++◌, length, sym, ◌∙◌, ap, subst, arith, suc, length-append}
 use Rattle.std.proofs.lemmas.Option.{none-some}
 use Rattle.block_model.specs.declared.reply.Point.{Point}
-use Rattle.coverage.specs.IndexView.{TuplePlace}
+use Rattle.block_model.specs.declared.place.Spot.{Spot}
 use Rattle.coverage.specs.Counts.{HasGone}
 use Rattle.coverage.proofs.Counted.{count_once}
 use Rattle.table_coverage.specs.Table.{Task, TableState}
@@ -25,7 +25,7 @@ module _ (s : ℕ) (a b c : Accounts) where
   less_not_more : (n m : ℕ) → n < m → m ≤ n → ⊥
   less_not_more n m less more = omega arith
 
-  asking_once : (asked : Asked) (entry : Option TuplePlace) → Asking s a b asked entry → Asking s a c asked entry → SameOwn s b c
+  asking_once : (asked : Asked) (entry : Option Spot) → Asking s a b asked entry → Asking s a c asked entry → SameOwn s b c
   asking_once asked _ (HasEntry x one) (HasEntry _ two) = is_once (a.of s) one two
   asking_once asked _ (Joins less queue account) (Joins less' queue' account') = (queue ∙ sym queue', account ∙ sym account')
   asking_once asked _ (Joins less queue account) (IsDropped full two) = absurd (less_not_more (length a.queue) queue_limit less full)
@@ -95,7 +95,7 @@ pub data QueueGoes (old new : List Asked) : Type 0 where
   FirstGoes : (asked : Asked) → old ≡ asked ∷ new → QueueGoes old new
 
 module _ (s : ℕ) (a b : Accounts) where
-  asking_goes : (asked : Asked) (entry : Option TuplePlace) → Asking s a b asked entry → QueueGoes a.queue b.queue
+  asking_goes : (asked : Asked) (entry : Option Spot) → Asking s a b asked entry → QueueGoes a.queue b.queue
   asking_goes asked _ (HasEntry x one) = Stays one.queue
   asking_goes asked _ (Joins less queue account) = JoinsEnd asked less queue
   asking_goes asked _ (IsDropped full one) = Stays one.queue

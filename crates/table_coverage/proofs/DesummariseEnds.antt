@@ -1,7 +1,8 @@
 -- A desummarise whose session steps alone ends within three steps from where it reads the map.
 use Rattle.std.proofs.Common.{◌≡◌, ⊎_elim, ℕ, ◌≤◌, Option, Some, ◌∙◌, ap, subst, arith, suc}
 use Rattle.std.specs.Prelude.{refl}
-use Rattle.coverage.specs.IndexView.{TuplePlace, IndexView}
+use Rattle.block_model.specs.declared.place.Spot.{Spot}
+use Rattle.coverage.specs.IndexView.{IndexView}
 use Rattle.coverage.specs.Statements.{Held, Phase, NotBuilding, Statement, Maintaining, Holding}
 use Rattle.coverage.specs.Steps.{DesummariseStep, ClearMap, ClearNone, Clear, ClearAgain, DropCleared}
 use Rattle.coverage.proofs.Verdicts.{clear_differs}
@@ -15,11 +16,11 @@ use Rattle.table_coverage.proofs.StepDid.{Did, DidBegin, DidAsk, DidInsert, DidC
 use Rattle.table_coverage.proofs.TableSeen.{table_step_kept}
 
 -- so many steps are within what is left, by the entry of the range
-abbrev ClearWithin : (n : ℕ) → Option TuplePlace → Phase → Type 0
+abbrev ClearWithin : (n : ℕ) → Option Spot → Phase → Type 0
 ClearWithin n entry (NotBuilding (Held x)) = (entry ≡ Some x → n ≤ 2) × (n ≤ 4)
 ClearWithin n entry phase = n ≤ desummarise_steps phase
 
-abbrev AfterClear : (n : ℕ) → Option TuplePlace → Statement → Type 0
+abbrev AfterClear : (n : ℕ) → Option Spot → Statement → Type 0
 AfterClear n entry (Maintaining range phase) = ClearWithin n entry phase
 AfterClear n entry statement = n ≡ 0
 
@@ -40,7 +41,7 @@ module _ (s range n : ℕ) (w v : IndexView) where
   clear_within _ _ (ClearAgain x verdict reads) left = ((λ is. absurd (clear_differs w s range x verdict is)), one_more 3 left)
   clear_within _ _ (DropCleared x drops) left = last_one 0 left
 
-clear_bound : (n : ℕ) (entry : Option TuplePlace) (phase : Phase) → ClearWithin n entry phase → n ≤ desummarise_steps phase
+clear_bound : (n : ℕ) (entry : Option Spot) (phase : Phase) → ClearWithin n entry phase → n ≤ desummarise_steps phase
 clear_bound n entry (NotBuilding (Held x)) left = left.1
 clear_bound n entry phase left = left
 
@@ -121,7 +122,7 @@ module _ (s : ℕ) where
       least : (m : ℕ) → 0 ≤ m
       least m = omega arith
 
-      none_clear : (entry : Option TuplePlace) (phase : Phase) → ClearWithin 0 entry phase
+      none_clear : (entry : Option Spot) (phase : Phase) → ClearWithin 0 entry phase
       none_clear entry (NotBuilding (Held x)) = ((λ _. least 2), least 4)
       none_clear entry phase = least (desummarise_steps phase)
 

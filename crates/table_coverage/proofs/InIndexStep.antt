@@ -2,7 +2,8 @@
 use Rattle.std.proofs.Common.{◌≡◌, ◌⊎◌, inl, inr, ⊎_elim, ℕ, ◌≤◌, ◌<◌, Option, sym, ◌∙◌, ap, subst, arith, suc}
 use Rattle.std.specs.Prelude.{refl}
 use Rattle.block_model.specs.declared.row.Row.{Row}
-use Rattle.coverage.specs.IndexView.{TuplePlace, Building, IndexView}
+use Rattle.block_model.specs.declared.place.Spot.{Spot}
+use Rattle.coverage.specs.IndexView.{Building, IndexView}
 use Rattle.coverage.specs.Statements.{OnIndex, Empty, Phase, Statement, Idle, Inserting, Maintaining, Holding, building_of, loose_of}
 use Rattle.coverage.specs.Steps.{InsertStep, InsertOnIndex, InsertNoEntry, InsertCopies, InsertUnchanged, InsertSwap, InsertSet, InsertDrop}
 use Rattle.coverage.specs.Steps.{SummariseStep, LookMap, LookGone, IsFinal, Found, ReadNoEntry, GrowMap, Put, Set, Extent, Pass, Unite, UniteCopies, SwapFinal}
@@ -16,7 +17,7 @@ use Rattle.table_coverage.specs.TableSteps.{Stays, ToAsk, ToIndex, Inserted, ToR
 use Rattle.table_coverage.specs.TablePoints.{job_point, IsTableStuck}
 use Rattle.table_coverage.proofs.Views.{pick_same, pick_there}
 use Rattle.table_coverage.proofs.VacuumGoesOn.{no_onward, no_end}
-use Rattle.table_coverage.proofs.OnThisView.{insert_on, summarise_on, desummarise_on}
+use Rattle.coverage.proofs.OnThisView.{insert_on, summarise_on, desummarise_on}
 
 -- the table after such a step: one index of it is another, and the session's statement has turned
 module _ (w : TableState) (s at : ℕ) (x : Index) (new : Task) where
@@ -201,7 +202,7 @@ module _ (w : TableState) (s : ℕ) (stuck : IsTableStuck w s) (at : ℕ) (below
         (MaintainGoes job at range g h (turns_in w s at x new (Maintains job at range g) was) (steps_in w s at x new below same) step)
         (job_point job s range view (index_view_at at u) g (Maintaining range h) step) refl new (Stays new tt)
 
-    job_on : (j : Job) (v : IndexView) (building : ℕ → Option Building) (loose : ℕ → Option TuplePlace) (e : Statement) → JobStep j s range view v g e
+    job_on : (j : Job) (v : IndexView) (building : ℕ → Option Building) (loose : ℕ → Option Spot) (e : Statement) → JobStep j s range view v g e
         → JobStep j s range view (record view {
           entry = v.entry;
           tuple = v.tuple;

@@ -12,6 +12,7 @@ pub mod ScanHasStep
 pub mod VacuumGoesOn
 pub mod MachinesKeep
 pub mod MachinesIn
+pub mod OneIndexSteps
 pub mod TableEntries
 pub mod TableOnePoint
 pub mod RangesExact
@@ -24,7 +25,6 @@ pub mod InTable
 pub mod RowsInOrder
 pub mod AccountsExact
 pub mod RefusalsCause
-pub mod OnThisView
 pub mod FoundListed
 pub mod InIndexStep
 pub mod StatementsGoOn

@@ -2,7 +2,7 @@
 use Rattle.std.proofs.Common.{◌≡◌, ◌⊎◌, inl, inr, ⊎_elim, ℕ, ◌<◌, Bool, ◌∙◌, ap, subst}
 use Rattle.std.specs.Prelude.{refl}
 use Rattle.block_model.specs.declared.row.Row.{Row}
-use Rattle.coverage.specs.IndexView.{TuplePlace}
+use Rattle.block_model.specs.declared.place.Spot.{Spot}
 use Rattle.coverage.specs.Statements.{OnIndex, Phase, Statement, Inserting, Maintaining, Holding}
 use Rattle.coverage.specs.Knowing.{Knows}
 use Rattle.coverage.specs.PageOrder.{KnowsPages}
@@ -13,10 +13,10 @@ use Rattle.table_coverage.specs.Machines.{ShownIndex, ShownTable, Unseen, table_
 use Rattle.table_coverage.specs.Machines.{MaintainStepsIn}
 use Rattle.table_coverage.proofs.Views.{pick_same, pick_there, on_index_here}
 
-abbrev unnamed_as : Unseen → (ℕ → TuplePlace → Bool) → Unseen
+abbrev unnamed_as : Unseen → (ℕ → Spot → Bool) → Unseen
 unnamed_as u unnamed = record u { unnamed = unnamed }
 
-abbrev index_with : ShownIndex → (TuplePlace → Bool) → Index
+abbrev index_with : ShownIndex → (Spot → Bool) → Index
 index_with x unnamed = record {
   contents = x.contents;
   pages_per_range = x.pages_per_range;
@@ -28,7 +28,7 @@ index_with x unnamed = record {
   unnamed = unnamed;
 }
 
-module _ (s at : ℕ) (old new : ShownTable) (changes : ChangesIndex at old new) (u : Unseen) (unnamed : ℕ → TuplePlace → Bool)
+module _ (s at : ℕ) (old new : ShownTable) (changes : ChangesIndex at old new) (u : Unseen) (unnamed : ℕ → Spot → Bool)
     (apart : (i : ℕ) → (i ≡ at) ⊎ (unnamed i ≡ u.unnamed i)) (before after : Task) where
   abbrev later : TableState
   later = table_state new (task_turned s after (unnamed_as u unnamed))

@@ -2,7 +2,7 @@
 use Rattle.std.proofs.Common.{◌≡◌, ◌≢◌, ◌⊎◌, inl, inr, ⊎_elim, ℕ, Some, None, Bool, [], ◌∷◌, sym, ◌∙◌, subst}
 use Rattle.std.specs.Prelude.{refl, false, IsTrue}
 use Rattle.block_model.specs.declared.row.Row.{Row}
-use Rattle.coverage.specs.IndexView.{TuplePlace}
+use Rattle.block_model.specs.declared.place.Spot.{Spot}
 use Rattle.table_coverage.specs.Table.{TableScan, Task, Resting, Scans, TableState, pick}
 use Rattle.table_coverage.specs.TableSteps.{GivesLock, TableNext, TableDone}
 use Rattle.table_coverage.specs.TableCovered.{IsTableKept}
@@ -15,7 +15,7 @@ use Rattle.table_coverage.proofs.TableScans.{replied_finds}
 
 pub steps_keep : (s : ℕ) (old new : ShownTable) (before after : Task) (u : Unseen) → MachineSteps s old new before after → u.task s ≡ before
     → IsTableKept (table_state old u)
-    → (unnamed : ℕ → TuplePlace → Bool) × IsFewer u.unnamed unnamed × IsTableKept (table_state new (task_turned s after (record u { unnamed = unnamed })))
+    → (unnamed : ℕ → Spot → Bool) × IsFewer u.unnamed unnamed × IsTableKept (table_state new (task_turned s after (record u { unnamed = unnamed })))
 steps_keep s old new before after u step is kept =
     let did = step u is kept in (did.0, did.1, table_run_kept (s ∷ []) _ _ kept (TableNext s [] _ _ _ did.2 (TableDone _)))
 

@@ -1,14 +1,14 @@
 -- How many places are so at most, where one joins them or leaves them.
 use Rattle.std.proofs.Common.{◌≡◌, ◌≢◌, ◌⊎◌, inl, inr, ⊎_elim, ℕ, ◌≤◌, List, [], ◌∷◌, length, sym, ◌∙◌, subst, arith, zero, suc}
 use Rattle.std.specs.Prelude.{refl}
-use Rattle.coverage.specs.IndexView.{TuplePlace}
+use Rattle.block_model.specs.declared.place.Spot.{Spot}
 use Rattle.table_coverage.specs.StepsLeft.{IsIn, AreApart, AreAtMost}
 
-pub fewer : (P Q : TuplePlace → Type 0) (n : ℕ) → ((x : TuplePlace) → Q x → P x) → AreAtMost P n → AreAtMost Q n
+pub fewer : (P Q : Spot → Type 0) (n : ℕ) → ((x : Spot) → Q x → P x) → AreAtMost P n → AreAtMost Q n
 fewer P Q n sub most xs apart all = most xs apart (λ x among. sub x (all x among))
 
 -- one of them leaves
-pub one_less : (P Q : TuplePlace → Type 0) (x : TuplePlace) (n : ℕ) → P x → ((y : TuplePlace) → Q y → P y × (y ≢ x)) → AreAtMost P n
+pub one_less : (P Q : Spot → Type 0) (x : Spot) (n : ℕ) → P x → ((y : Spot) → Q y → P y × (y ≢ x)) → AreAtMost P n
     → (m : ℕ) × (n ≡ suc m) × AreAtMost Q m
 one_less P Q x zero is sub most = absurd (none (most (x ∷ []) ((λ among. among), tt) (λ y among. ⊎_elim (λ (same : y ≡ x). subst P (sym same) is) (λ (no : ⊥). absurd no) among)))
   where
@@ -25,9 +25,9 @@ one_less P Q x (suc m) is sub most = (
     lower k le = omega arith
 
 -- without one place a list is shorter by one at most
-module _ (P : TuplePlace → Type 0) (x : TuplePlace) where
-  without : (xs : List TuplePlace) → AreApart xs → ((y : TuplePlace) → IsIn xs y → (y ≡ x) ⊎ P y)
-      → (ys : List TuplePlace) × AreApart ys × ((y : TuplePlace) → IsIn ys y → P y × IsIn xs y) × (length xs ≤ suc (length ys))
+module _ (P : Spot → Type 0) (x : Spot) where
+  without : (xs : List Spot) → AreApart xs → ((y : Spot) → IsIn xs y → (y ≡ x) ⊎ P y)
+      → (ys : List Spot) × AreApart ys × ((y : Spot) → IsIn ys y → P y × IsIn xs y) × (length xs ≤ suc (length ys))
   without [] apart all = ([], tt, (λ y among. absurd among), least 0)
     where
       least : (n : ℕ) → n ≤ suc n
@@ -64,7 +64,7 @@ module _ (P : TuplePlace → Type 0) (x : TuplePlace) where
       more m n le = omega arith
 
 -- one more place joins them
-pub one_more : (P Q : TuplePlace → Type 0) (x : TuplePlace) (n : ℕ) → ((y : TuplePlace) → Q y → (y ≡ x) ⊎ P y) → AreAtMost P n → AreAtMost Q (suc n)
+pub one_more : (P Q : Spot → Type 0) (x : Spot) (n : ℕ) → ((y : Spot) → Q y → (y ≡ x) ⊎ P y) → AreAtMost P n → AreAtMost Q (suc n)
 one_more P Q x n sub most xs apart all =
     let rest = without P x xs apart (λ y among. sub y (all y among)) in
     through (length xs) (length rest.0) rest.3 (most rest.0 rest.1 (λ y among. (rest.2 y among).0))

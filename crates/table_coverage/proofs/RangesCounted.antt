@@ -2,23 +2,23 @@
 use Rattle.std.proofs.Common.{◌≡◌, ◌≢◌, ◌⊎◌, inl, inr, ⊎_elim, ℕ, ◌+◌, ◌≤◌, ◌<◌, List, [], ◌∷◌, length, sym, ◌∙◌, ap, subst, arith, suc}
 use Rattle.std.specs.Prelude.{refl, ◌↔◌}
 use Rattle.std.proofs.lemmas.Bool.{cases_eq}
-use Rattle.coverage.specs.IndexView.{TuplePlace, IndexView}
-use Rattle.coverage.specs.Statements.{OnIndex, Empty, Dropping, Phase, NotBuilding, Statement, Maintaining, Holding}
+use Rattle.coverage.specs.IndexView.{IndexView}
+use Rattle.coverage.specs.Statements.{Dropping, Phase, NotBuilding, Statement, Maintaining, Holding}
 use Rattle.coverage.specs.Knowing.{Knows}
 use Rattle.coverage.specs.Steps.{SummariseStep, LookMap, LookGone, IsFinal, Found, ReadNoEntry, GrowMap, Put, Set, Extent, Pass, Unite, UniteCopies}
 use Rattle.coverage.specs.Steps.{SwapFinal, SetFinal, DropOld, GrowthStep, Grow, CountLeftOver, Count, Flag, EvacuatePut, EvacuateSet, EvacuateDrop, EvacuateSweep, Turn}
 use Rattle.coverage.specs.Counts.{NamesFinal, summarise_count}
 use Rattle.coverage.proofs.CountsExact.{summarise_exact}
 use Rattle.coverage.proofs.FinalsElsewhere.{same_final, sweeps_final, summarise_elsewhere}
-use Rattle.table_coverage.specs.Table.{Index, Job, EachRange, OneRange, WholeRanges, Desummarising, Task, Resting, Reaches, Asks, Inserts, Considers, Maintains}
-use Rattle.table_coverage.specs.Table.{Prunes, SweepsFrom, Sweeps, Restarts, Scans, Marks, TableState, seen_by, index_state, index_view_at}
-use Rattle.table_coverage.specs.TableSteps.{TaskTurns, StepsIn, JobStep, BeginsWith, Summarize, SummarizeOne, Work, Desummarize, Vacuum, IsInsertRefused, IndexFull}
+use Rattle.table_coverage.specs.Table.{Index, Job, EachRange, OneRange, WholeRanges, Desummarising, Task, Resting, Reaches, Considers, Maintains}
+use Rattle.table_coverage.specs.Table.{Prunes, SweepsFrom, Sweeps, Restarts, Scans, TableState, seen_by, index_state, index_view_at}
+use Rattle.table_coverage.specs.TableSteps.{TaskTurns, StepsIn, JobStep, BeginsWith, Summarize, SummarizeOne, Work, Desummarize, Vacuum, IndexFull}
 use Rattle.table_coverage.specs.TableSteps.{Does, PutsRow, RefusesRow, AsksSummary, InsertGoes, InsertCompletes, RefusesInsert, TakesLock, MaintainGoes}
 use Rattle.table_coverage.specs.TableSteps.{MaintainCompletes, RefusesMaintain, RefusesVacuum, PrunesBlock, SweepsPage, RestartsIndex, BeginsScan, Judges}
 use Rattle.table_coverage.specs.TableSteps.{ReadsBlock, RefusesScan, MarksRow, Conflicts, Blocked, Transacts, IsFrom, Onward, Stays, ToAsk, ToIndex, Inserted}
 use Rattle.table_coverage.specs.TableSteps.{ToRange, NextIndex, Pruned, ToPage, Swept, JudgesNext, Scanned, ToMarks, Marked, Settles, GoesOn, GivesLock, TableStep}
-use Rattle.table_coverage.specs.StepsLeft.{IsIn, AreApart}
-use Rattle.table_coverage.specs.TableCovered.{IsInTable, IsTableKept}
+use Rattle.table_coverage.specs.StepsLeft.{IsIn}
+use Rattle.table_coverage.specs.TableCovered.{IsTableKept}
 use Rattle.table_coverage.specs.Accounts.{Account, Accounts, Begins, Adds, job_count, AccountsStep, AccountsRun, AccountsDone, AccountsNext}
 use Rattle.table_coverage.specs.RangesMade.{IsBuilder, GivesFinals, IsMadeFinal, MakesFinal, IsInHand, AreMadeFinal}
 use Rattle.table_coverage.proofs.Views.{pick_same}

@@ -4,7 +4,8 @@ use Rattle.std.specs.Prelude.{refl, IsTrue}
 use Rattle.std.proofs.lemmas.Option.{same_Some, none-some}
 use Rattle.std.proofs.lemmas.Bool.{cases_eq, false≢true}
 use Rattle.block_model.specs.declared.row.Row.{Row}
-use Rattle.coverage.specs.IndexView.{TuplePlace, IndexTuple, IndexView, range_of_block}
+use Rattle.block_model.specs.declared.place.Spot.{Spot}
+use Rattle.coverage.specs.IndexView.{IndexTuple, IndexView, range_of_block}
 use Rattle.coverage.specs.Steps.{Excludes}
 use Rattle.coverage.proofs.Numbers.{lt_or_ge, lowest_below}
 use Rattle.coverage.proofs.StepsExist.{chosen, chosen_yes, chosen_no}
@@ -12,8 +13,8 @@ use Rattle.table_coverage.specs.Table.{TableScan, TableState, judged_with}
 use Rattle.table_coverage.specs.TableSteps.{JudgeStep, JudgeMap, JudgeNoEntry, JudgeGone, JudgeKeeps, JudgeDrops, ReadsPage}
 
 -- the range that the scan is at is judged by what stands there
-module _ (w : IndexView) (scan : TableScan) (honest : (x : TuplePlace) (t : IndexTuple) → w.tuple x ≡ Some t → scan.keeps scan.at t ≡ false → Excludes t scan.matches) where
-  by_entry : scan.held ≡ None → (o : Option TuplePlace) → w.entry scan.range ≡ o → (q : TableScan) × JudgeStep w scan q
+module _ (w : IndexView) (scan : TableScan) (honest : (x : Spot) (t : IndexTuple) → w.tuple x ≡ Some t → scan.keeps scan.at t ≡ false → Excludes t scan.matches) where
+  by_entry : scan.held ≡ None → (o : Option Spot) → w.entry scan.range ≡ o → (q : TableScan) × JudgeStep w scan q
   by_entry empty None is = (record scan { range = suc scan.range; judged = judged_with scan true }, JudgeNoEntry empty is)
   by_entry empty (Some x) is = (record scan { held = Some x }, JudgeMap x empty is)
 
@@ -26,13 +27,13 @@ module _ (w : IndexView) (scan : TableScan) (honest : (x : TuplePlace) (t : Inde
       (λ (other : range_of_block w b ≢ scan.range). inr (other, chosen_no (cases_eq (range_of_block w b) scan.range) false (scan.candidate b) other))
       (cases_eq (range_of_block w b) scan.range)
 
-  by_keeps : (x : TuplePlace) (t : IndexTuple) → scan.held ≡ Some x → w.tuple x ≡ Some t → t.range ≡ scan.range → (keeps : Bool) → scan.keeps scan.at t ≡ keeps
+  by_keeps : (x : Spot) (t : IndexTuple) → scan.held ≡ Some x → w.tuple x ≡ Some t → t.range ≡ scan.range → (keeps : Bool) → scan.keeps scan.at t ≡ keeps
       → (q : TableScan) × JudgeStep w scan q
   by_keeps x t held here of true is = (record scan { range = suc scan.range; held = None; judged = judged_with scan true }, JudgeKeeps x t held (here, of) is)
   by_keeps x t held here of false is =
       (record scan { range = suc scan.range; held = None; judged = judged_with scan false; candidate = left_out }, JudgeDrops x t left_out held (here, of) is (honest x t here is) leaves_out)
 
-  by_tuple : (x : TuplePlace) → scan.held ≡ Some x → (o : Option IndexTuple) → w.tuple x ≡ o → (q : TableScan) × JudgeStep w scan q
+  by_tuple : (x : Spot) → scan.held ≡ Some x → (o : Option IndexTuple) → w.tuple x ≡ o → (q : TableScan) × JudgeStep w scan q
   by_tuple x held None is = (record scan { held = None }, JudgeGone x held (λ t here. absurd (none-some _ (sym is ∙ here))))
   by_tuple x held (Some t) is = ⊎_elim
       (λ (of : t.range ≡ scan.range). by_keeps x t held is of (scan.keeps scan.at t) refl)
@@ -40,7 +41,7 @@ module _ (w : IndexView) (scan : TableScan) (honest : (x : TuplePlace) (t : Inde
       (record scan { held = None }, JudgeGone x held (λ u here of. other (ap (λ (z : IndexTuple). z.range) (same_Some _ _ (sym is ∙ here)) ∙ of))))
       (cases_eq t.range scan.range)
 
-  by_held : (o : Option TuplePlace) → scan.held ≡ o → (q : TableScan) × JudgeStep w scan q
+  by_held : (o : Option Spot) → scan.held ≡ o → (q : TableScan) × JudgeStep w scan q
   by_held None empty = by_entry empty (w.entry scan.range) refl
   by_held (Some x) held = by_tuple x held (w.tuple x) refl
 

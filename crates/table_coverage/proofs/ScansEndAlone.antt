@@ -5,7 +5,8 @@ use Rattle.std.proofs.lemmas.Nat.{le-div}
 use Rattle.std.proofs.lemmas.Option.{same_Some, none-some}
 use Rattle.block_model.specs.declared.row.Row.{Row}
 use Rattle.block_model.specs.declared.row.RowId.{RowId}
-use Rattle.coverage.specs.IndexView.{TuplePlace, IndexTuple}
+use Rattle.block_model.specs.declared.place.Spot.{Spot}
+use Rattle.coverage.specs.IndexView.{IndexTuple}
 use Rattle.coverage.specs.Steps.{Stands}
 use Rattle.table_coverage.specs.Table.{TableScan, Task, Resting, Reaches, Asks, Inserts, Considers, Maintains, Prunes, SweepsFrom, Sweeps, Restarts}
 use Rattle.table_coverage.specs.Table.{Scans, Marks, TableState, index_view_at}
@@ -66,7 +67,7 @@ module _ (per extent range : ℕ) (ranged : 0 < per) where
 
 -- a tuple of the range stands at the place that the scan holds
 abbrev HoldsTuple : TableState → TableScan → Type 0
-HoldsTuple w scan = (x : TuplePlace) × (t : IndexTuple) × (scan.held ≡ Some x) × Stands (index_view_at scan.at w) scan.range x t
+HoldsTuple w scan = (x : Spot) × (t : IndexTuple) × (scan.held ≡ Some x) × Stands (index_view_at scan.at w) scan.range x t
 
 abbrev unread : TableScan → ℕ
 unread scan = unread_blocks scan.explains scan.extent scan.read
@@ -115,7 +116,7 @@ module _ (all before range un rows n : ℕ) where
 
 module _ (rows n : ℕ) (w : TableState) (old : TableScan) (inside : old.at < w.indexes) (low : first_block w old.at old.range < old.extent)
     (ranged : 0 < (w.index old.at).pages_per_range)
-    (named : (range : ℕ) (x : TuplePlace) → (w.index old.at).entry range ≡ Some x → (t : IndexTuple) × ((w.index old.at).tuple x ≡ Some t) × (t.range ≡ range)) where
+    (named : (range : ℕ) (x : Spot) → (w.index old.at).entry range ≡ Some x → (t : IndexTuple) × ((w.index old.at).tuple x ≡ Some t) × (t.range ≡ range)) where
   abbrev all : ℕ
   all = sum_below w.indexes (ranges_below w old.extent)
 

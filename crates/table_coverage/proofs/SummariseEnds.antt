@@ -2,7 +2,8 @@
 use Rattle.std.proofs.Common.{◌≡◌, ◌⊎◌, inl, inr, ⊎_elim, ℕ, ◌+◌, ◌-◌, ◌*◌, ◌/◌, ◌≤◌, ◌<◌, Bool, true, false, Some, length, sym, ◌∙◌, ap, subst, arith, suc, suc-mul}
 use Rattle.std.specs.Prelude.{refl}
 use Rattle.std.proofs.lemmas.Option.{none-some}
-use Rattle.coverage.specs.IndexView.{TuplePlace, IndexTuple, Progress, ExtentUnread, Passing, IndexView}
+use Rattle.block_model.specs.declared.place.Spot.{Spot}
+use Rattle.coverage.specs.IndexView.{IndexTuple, Progress, ExtentUnread, Passing, IndexView}
 use Rattle.coverage.specs.Statements.{OnIndex, Empty, Held, Copied, Moving, Dropping, Phase, NotBuilding, Vacant, Growing, Evacuating, Placing, IsAt, Statement, Maintaining, Holding}
 use Rattle.coverage.specs.Knowing.{KnowsPhase}
 use Rattle.coverage.specs.PageOrder.{KnowsPagesOfPhase}
@@ -67,7 +68,7 @@ module _ (w : IndexView) (s range most later tail tuples : ℕ) (has : AreAtMost
   small : (a b : ℕ) → a ≤ b → a ≤ per + b
   small a b le = omega arith
 
-  taken_of : (x : TuplePlace) → ((t : IndexTuple) × (w.tuple x ≡ Some t)) → IsTaken w x
+  taken_of : (x : Spot) → ((t : IndexTuple) × (w.tuple x ≡ Some t)) → IsTaken w x
   taken_of x there none = none-some _ (sym none ∙ there.1)
 
   start_not_building : (on_index : OnIndex) → KnowsPhase w s range (NotBuilding on_index) → Starts (NotBuilding on_index)

@@ -2,7 +2,8 @@
 use Rattle.std.proofs.Common.{◌≡◌, ◌≢◌, ◌⊎◌, inl, inr, ⊎_elim, ℕ, ◌+◌, ◌-◌, ◌*◌, ◌≤◌, ◌<◌, min, List, [], ◌∷◌, length, Bool, true, false, Some, None, sym, ◌∙◌, ap, subst, arith, suc, suc-mul, add-one}
 use Rattle.std.specs.Prelude.{refl}
 use Rattle.std.proofs.lemmas.Option.{none-some}
-use Rattle.coverage.specs.IndexView.{TuplePlace, IndexTuple, Progress, ExtentUnread, Passing, PageKind, Unstarted, Mapping, Regular, Emptying, Pages, IndexView, map_page_of, next_map_page, IsPastMap}
+use Rattle.block_model.specs.declared.place.Spot.{Spot}
+use Rattle.coverage.specs.IndexView.{IndexTuple, Progress, ExtentUnread, Passing, PageKind, Unstarted, Mapping, Regular, Emptying, Pages, IndexView, map_page_of, next_map_page, IsPastMap}
 use Rattle.coverage.specs.Changes.{IsUntouched}
 use Rattle.coverage.specs.Waiting.{Grows}
 use Rattle.coverage.specs.Statements.{OnIndex, Empty, Held, Copied, Moving, Dropping, Phase, NotBuilding, Vacant, Growing, Evacuating, Placing, IsAt, Statement, Maintaining}
@@ -16,26 +17,26 @@ use Rattle.table_coverage.specs.StepsLeft.{AreAtMost}
 use Rattle.table_coverage.proofs.PlacesCounted.{fewer, one_less, one_more}
 
 -- a tuple stands there
-abbrev pub IsTaken : IndexView → TuplePlace → Type 0
+abbrev pub IsTaken : IndexView → Spot → Type 0
 IsTaken w x = w.tuple x ≢ None
 
 -- what a summariser's own steps on its range come to; whether a tuple of a move is one more; and whether its placeholder is still to be put
 pub data Own (w : IndexView) (range per : ℕ) : Phase → (own : ℕ) (moving unput : Bool) → Type 0 where
   OwnMap : Own w range per (NotBuilding Empty) (per + 9) false true
-  OwnTuple : (x : TuplePlace) (t : IndexTuple) → w.tuple x ≡ Some t → t.range ≡ range → Own w range per (NotBuilding (Held x)) (per + 7) false true
-  OwnTupleGone : (x : TuplePlace) → Own w range per (NotBuilding (Held x)) (per + 10) false true
+  OwnTuple : (x : Spot) (t : IndexTuple) → w.tuple x ≡ Some t → t.range ≡ range → Own w range per (NotBuilding (Held x)) (per + 7) false true
+  OwnTupleGone : (x : Spot) → Own w range per (NotBuilding (Held x)) (per + 10) false true
   OwnVacant : Own w range per Vacant (per + 8) false true
-  OwnEvacuates : (m : ℕ) (x y : TuplePlace) (t u : IndexTuple) → IsTaken w x → Own w range per (Evacuating m (Moving x y t u)) (per + 10) true true
-  OwnVacates : (m : ℕ) (x : TuplePlace) → IsTaken w x → Own w range per (Evacuating m (Dropping x)) (per + 9) true true
-  OwnPlacing : (x : TuplePlace) → Own w range per (Placing x) (per + 7) false false
+  OwnEvacuates : (m : ℕ) (x y : Spot) (t u : IndexTuple) → IsTaken w x → Own w range per (Evacuating m (Moving x y t u)) (per + 10) true true
+  OwnVacates : (m : ℕ) (x : Spot) → IsTaken w x → Own w range per (Evacuating m (Dropping x)) (per + 9) true true
+  OwnPlacing : (x : Spot) → Own w range per (Placing x) (per + 7) false false
   OwnExtent : Own w range per (IsAt ExtentUnread Empty) (per + 6) false false
   OwnPass : (extent next : ℕ) (result : IndexTuple) → Own w range per (IsAt (Passing extent next result) Empty) ((extent - next) + 5) false false
-  OwnHeld : (p : Progress) (x : TuplePlace) (t : IndexTuple) → w.tuple x ≡ Some t → t.range ≡ range → Own w range per (IsAt p (Held x)) 4 false false
-  OwnHeldGone : (p : Progress) (x : TuplePlace) → Own w range per (IsAt p (Held x)) 6 false false
-  OwnCopied : (p : Progress) (x : TuplePlace) (old new : IndexTuple) → w.tuple x ≡ Some old → Own w range per (IsAt p (Copied x old new)) 3 false false
-  OwnCopiedGone : (p : Progress) (x : TuplePlace) (old new : IndexTuple) → Own w range per (IsAt p (Copied x old new)) 6 false false
-  OwnMoving : (p : Progress) (x y : TuplePlace) (old new : IndexTuple) → IsTaken w x → Own w range per (IsAt p (Moving x y old new)) 2 true false
-  OwnDropping : (x : TuplePlace) → IsTaken w x → Own w range per (NotBuilding (Dropping x)) 1 true false
+  OwnHeld : (p : Progress) (x : Spot) (t : IndexTuple) → w.tuple x ≡ Some t → t.range ≡ range → Own w range per (IsAt p (Held x)) 4 false false
+  OwnHeldGone : (p : Progress) (x : Spot) → Own w range per (IsAt p (Held x)) 6 false false
+  OwnCopied : (p : Progress) (x : Spot) (old new : IndexTuple) → w.tuple x ≡ Some old → Own w range per (IsAt p (Copied x old new)) 3 false false
+  OwnCopiedGone : (p : Progress) (x : Spot) (old new : IndexTuple) → Own w range per (IsAt p (Copied x old new)) 6 false false
+  OwnMoving : (p : Progress) (x y : Spot) (old new : IndexTuple) → IsTaken w x → Own w range per (IsAt p (Moving x y old new)) 2 true false
+  OwnDropping : (x : Spot) → IsTaken w x → Own w range per (NotBuilding (Dropping x)) 1 true false
 
 abbrev pub with_one : Bool → ℕ → ℕ
 with_one false n = n
@@ -49,10 +50,10 @@ pub record Base (w : IndexView) (per most later g tuples : ℕ) (moving unput : 
   pub pages : w.pages.limit - w.pages.map_pages ≡ g
 
 -- the page that is emptied for the map, with so many tuples at most of those that count
-pub record EmptyingPage (w : IndexView) (range page most on : ℕ) (Counts : TuplePlace → Type 0) : Type 0 where
-  pub is : next_map_page w ≡ page
+pub record EmptyingPage (w : IndexView) (range page most on : ℕ) (Counts : Spot → Type 0) : Type 0 where
+  pub is : next_map_page w.pages ≡ page
   pub kind : w.pages.kind page ≡ Emptying
-  pub past : IsPastMap w range
+  pub past : IsPastMap w.pages range
   pub tuples_are : AreAtMost (λ z. (z.block ≡ page) × IsTaken w z × Counts z) on
   pub few : on ≤ most
 
@@ -63,10 +64,10 @@ pub data Left (w : IndexView) (range per most later tail n : ℕ) : Phase → Ty
   Empties : (g tuples on page : ℕ) → Base w per most later g tuples false true → EmptyingPage w range page most on (λ z. Unit)
       → (per + 8) + (3 * on + 2) + (g - 1) * (3 * most + 3) + tail ≤ n → Left w range per most later tail n Vacant
   Grows' : (g tuples : ℕ) → Base w per most later g tuples false true → (per + 9) + (g - 1) * (3 * most + 3) + tail ≤ n → Left w range per most later tail n Growing
-  Moves : (m g tuples on page : ℕ) (x y : TuplePlace) (t u : IndexTuple) → Base w per most later g tuples true true → IsTaken w x
+  Moves : (m g tuples on page : ℕ) (x y : Spot) (t u : IndexTuple) → Base w per most later g tuples true true → IsTaken w x
       → EmptyingPage w range page most on (λ z. z ≢ x) → (per + 8) + (3 * on + 4) + (g - 1) * (3 * most + 3) + tail ≤ n
       → Left w range per most later tail n (Evacuating m (Moving x y t u))
-  Drops : (m g tuples on page : ℕ) (x : TuplePlace) → Base w per most later g tuples true true → IsTaken w x
+  Drops : (m g tuples on page : ℕ) (x : Spot) → Base w per most later g tuples true true → IsTaken w x
       → EmptyingPage w range page most on (λ z. z ≢ x) → (per + 8) + (3 * on + 3) + (g - 1) * (3 * most + 3) + tail ≤ n
       → Left w range per most later tail n (Evacuating m (Dropping x))
 
@@ -127,7 +128,7 @@ module _ (s range per most later tail : ℕ) (w v : IndexView) where
 
   -- the same is left beside the range's own steps
   base_on : (g tuples : ℕ) (moving unput : Bool) → v.pages_per_range ≡ w.pages_per_range → v.pages.map_pages ≡ w.pages.map_pages
-      → v.pages.limit ≡ w.pages.limit → ((z : TuplePlace) → IsTaken v z → IsTaken w z) → Base w per most later g tuples moving unput
+      → v.pages.limit ≡ w.pages.limit → ((z : Spot) → IsTaken v z → IsTaken w z) → Base w per most later g tuples moving unput
       → Base v per most later g tuples moving unput
   base_on g tuples moving unput ranged map limit sub base = record {
     per_is = ranged ∙ base.per_is;
@@ -136,7 +137,7 @@ module _ (s range per most later tail : ℕ) (w v : IndexView) where
     pages = (λ j. limit j - map j) ∙ base.pages;
   }
 
-  same_taken : ((z : TuplePlace) → v.tuple z ≡ w.tuple z) → (z : TuplePlace) → IsTaken v z → IsTaken w z
+  same_taken : ((z : Spot) → v.tuple z ≡ w.tuple z) → (z : Spot) → IsTaken v z → IsTaken w z
   same_taken same z taken none = taken (same z ∙ none)
 
   reads_on : (g tuples : ℕ) (moving unput : Bool) → ReadsIndex s w v → Base w per most later g tuples moving unput → Base v per most later g tuples moving unput
@@ -174,13 +175,13 @@ module _ (s range per most later tail : ℕ) (w v : IndexView) where
       plain a b m le = omega arith
 
   -- after a put one tuple more stands
-  put_taken : (y : TuplePlace) (t : IndexTuple) → PutsTuple s w v y t → (z : TuplePlace) → IsTaken v z → (z ≡ y) ⊎ IsTaken w z
+  put_taken : (y : Spot) (t : IndexTuple) → PutsTuple s w v y t → (z : Spot) → IsTaken v z → (z ≡ y) ⊎ IsTaken w z
   put_taken y t puts z taken = ⊎_elim
       (λ (here : z ≡ y). inl here)
       (λ (same : v.tuple z ≡ w.tuple z). inr (λ none. taken (same ∙ none)))
       (puts.tuple.others z)
 
-  puts_on : (g tuples : ℕ) (unput : Bool) (y : TuplePlace) (t : IndexTuple) → PutsTuple s w v y t → Base w per most later g tuples false unput
+  puts_on : (g tuples : ℕ) (unput : Bool) (y : Spot) (t : IndexTuple) → PutsTuple s w v y t → Base w per most later g tuples false unput
       → Base v per most later g tuples true unput
   puts_on g tuples unput y t puts base = record {
     per_is = puts.frame.heap.pages_per_range ∙ base.per_is;
@@ -189,20 +190,20 @@ module _ (s range per most later tail : ℕ) (w v : IndexView) where
     pages = (λ j. puts.page.limit j - puts.page.map_pages j) ∙ base.pages;
   }
 
-  stays_taken : (y x : TuplePlace) (t : IndexTuple) → PutsTuple s w v y t → IsTaken w x → IsTaken v x
+  stays_taken : (y x : Spot) (t : IndexTuple) → PutsTuple s w v y t → IsTaken w x → IsTaken v x
   stays_taken y x t puts taken none = ⊎_elim
       (λ (here : x ≡ y). none-some _ (sym none ∙ ap v.tuple here ∙ puts.tuple.now))
       (λ (same : v.tuple x ≡ w.tuple x). taken (sym same ∙ none))
       (puts.tuple.others x)
 
   -- after a drop one tuple fewer stands
-  drop_taken : (x : TuplePlace) → DropsTuple s w v x → (z : TuplePlace) → IsTaken v z → IsTaken w z × (z ≢ x)
+  drop_taken : (x : Spot) → DropsTuple s w v x → (z : Spot) → IsTaken v z → IsTaken w z × (z ≢ x)
   drop_taken x drops z taken = (
-    (λ none. ⊎_elim (λ (here : z ≡ x). taken (ap v.tuple here ∙ drops.now)) (λ (same : v.tuple z ≡ w.tuple z). taken (same ∙ none)) (drops.others z)),
-    λ here. taken (ap v.tuple here ∙ drops.now),
+    (λ none. ⊎_elim (λ (here : z ≡ x). taken (ap v.tuple here ∙ drops.tuple.now)) (λ (same : v.tuple z ≡ w.tuple z). taken (same ∙ none)) (drops.tuple.others z)),
+    λ here. taken (ap v.tuple here ∙ drops.tuple.now),
   )
 
-  drops_on : (g tuples : ℕ) (unput : Bool) (x : TuplePlace) → DropsTuple s w v x → IsTaken w x → Base w per most later g tuples true unput
+  drops_on : (g tuples : ℕ) (unput : Bool) (x : Spot) → DropsTuple s w v x → IsTaken w x → Base w per most later g tuples true unput
       → Base v per most later g tuples false unput
   drops_on g tuples unput x drops taken base =
       let less = one_less (IsTaken w) (IsTaken v) x (suc tuples) taken (drop_taken x drops) base.tuples_are in
@@ -242,13 +243,13 @@ module _ (s range per most later tail n : ℕ) (w v : IndexView) where
   not_both p Is a b one two is other = other (subst Is (sym one ∙ two) is)
 
   -- where the next page is being emptied already
-  begun : (g tuples : ℕ) → Base w per most later g tuples false true → Grows w range Emptying
-      → EmptyingPage w range (next_map_page w) most tuples (λ z. Unit)
+  begun : (g tuples : ℕ) → Base w per most later g tuples false true → Grows w.pages range Emptying
+      → EmptyingPage w range (next_map_page w.pages) most tuples (λ z. Unit)
   begun g tuples base grows = record {
     is = refl;
     kind = grows.is;
     past = grows.short;
-    tuples_are = fewer (IsTaken w) (λ z. (z.block ≡ next_map_page w) × IsTaken w z × Unit) tuples (λ z is. is.1) base.tuples_are;
+    tuples_are = fewer (IsTaken w) (λ z. (z.block ≡ next_map_page w.pages) × IsTaken w z × Unit) tuples (λ z is. is.1) base.tuples_are;
     few = few base.room;
   }
     where
@@ -258,12 +259,12 @@ module _ (s range per most later tail n : ℕ) (w v : IndexView) where
   room_for : (tuples : ℕ) → suc tuples + later ≤ most → (per + 8) + (3 * tuples + 2) < (per + 8) + c
   room_for tuples le = omega arith
 
-  empties : Left w range per most later tail n Vacant → Grows w range Emptying → EmptyLeft w range per most later tail n
+  empties : Left w range per most later tail n Vacant → Grows w.pages range Emptying → EmptyLeft w range per most later tail n
   empties (Works _ _ g tuples _ _ OwnVacant base enough) grows = record {
     g = g;
     tuples = tuples;
     on = tuples;
-    page = next_map_page w;
+    page = next_map_page w.pages;
     base = base;
     emptying = begun g tuples base grows;
     enough = to_page tail n (per + 8) ((per + 8) + (3 * tuples + 2)) (g * c) ((g - 1) * c) c
@@ -283,7 +284,7 @@ module _ (s range per most later tail n : ℕ) (w v : IndexView) where
   }
 
   -- of a page of another kind nothing is known
-  works_vacant : (kind : PageKind) → (IsOfEmptying kind → ⊥) → Grows w range kind → Left w range per most later tail n Vacant
+  works_vacant : (kind : PageKind) → (IsOfEmptying kind → ⊥) → Grows w.pages range kind → Left w range per most later tail n Vacant
       → (g : ℕ) × (tuples : ℕ) × Base w per most later g tuples false true × ((per + 8) + g * c + tail ≤ n)
   works_vacant kind other grows (Works _ _ g tuples _ _ OwnVacant base enough) = (g, tuples, base, enough)
   works_vacant kind other grows (Empties g tuples on page base emptying enough) =
@@ -303,7 +304,7 @@ module _ (s range per most later tail n : ℕ) (w v : IndexView) where
   }
 
   -- the page of a growth is emptied on: it is the next one still, and of its kind, and fewer tuples count there
-  page_on : (page on on' : ℕ) (Before After : TuplePlace → Type 0) → EmptyingPage w range page most on Before → v.pages.map_pages ≡ w.pages.map_pages
+  page_on : (page on on' : ℕ) (Before After : Spot → Type 0) → EmptyingPage w range page most on Before → v.pages.map_pages ≡ w.pages.map_pages
       → v.pages.kind page ≡ Emptying → AreAtMost (λ z. (z.block ≡ page) × IsTaken v z × After z) on' → on' ≤ most
       → EmptyingPage v range page most on' After
   page_on page on on' Before After emptying map kind tuples few = record {
@@ -319,7 +320,7 @@ module _ (s range per most later tail n : ℕ) (w v : IndexView) where
       let known = works_vacant Unstarted (λ is. is) grows left in
       let all = one_page known.0 c (pages_some w.pages.limit w.pages.map_pages known.0 grows.below known.2.pages) in
       let step = lower_page tail n (per + 8) (per + 9) (known.0 * c) ((known.0 - 1) * c) c all (few per most) known.3 in
-      (step.0, step.1, Grows' known.0 known.1 (turns_base known.0 known.1 Mapping (next_map_page w ∷ 0 ∷ []) turns known.2) step.2)
+      (step.0, step.1, Grows' known.0 known.1 (turns_base known.0 known.1 Mapping (next_map_page w.pages ∷ 0 ∷ []) turns known.2) step.2)
     where
       few : (per most : ℕ) → per + 9 < (per + 8) + (3 * most + 3)
       few per most = omega arith
@@ -344,11 +345,11 @@ module _ (s range per most later tail n : ℕ) (w v : IndexView) where
       let step = lower_page tail n (per + 8) ((per + 8) + (3 * known.1 + 2)) (known.0 * c) ((known.0 - 1) * c) c all (room_for known.1 known.2.room) known.3 in (
         step.0,
         step.1,
-        Empties known.0 known.1 known.1 (next_map_page w) (turns_base known.0 known.1 Emptying [] turns known.2) (record {
+        Empties known.0 known.1 known.1 (next_map_page w.pages) (turns_base known.0 known.1 Emptying [] turns known.2) (record {
           is = λ j. turns.page.map_pages j + 1;
           kind = turns.page.now;
           past = subst (λ k. k < map_page_of range) (sym turns.page.map_pages) grows.short;
-          tuples_are = fewer (IsTaken w) (λ z. (z.block ≡ next_map_page w) × IsTaken v z × Unit) known.1
+          tuples_are = fewer (IsTaken w) (λ z. (z.block ≡ next_map_page w.pages) × IsTaken v z × Unit) known.1
               (λ z is. same_taken s range per most later tail w v turns.frame.tuples.tuple z is.1) known.2.tuples_are;
           few = few known.1 known.2.room;
         }) step.2,
@@ -388,9 +389,9 @@ module _ (s range per most later tail n : ℕ) (w v : IndexView) where
           not_both page IsOfEmptying Emptying Unstarted emptying.kind (ap w.pages.kind (sym here) ∙ new.0) tt (λ is. is))
           (put_place w s t.range (length t.bytes) y verdict).1
 
-      was_taken : (page : ℕ) → y.block ≢ page → (z : TuplePlace) → z.block ≡ page → IsTaken v z → IsTaken w z
+      was_taken : (page : ℕ) → y.block ≢ page → (z : Spot) → z.block ≡ page → IsTaken v z → IsTaken w z
       was_taken page apart z on taken = ⊎_elim
-          (λ (here : z ≡ y). absurd (apart (ap (λ (p : TuplePlace). p.block) (sym here) ∙ on)))
+          (λ (here : z ≡ y). absurd (apart (ap (λ (p : Spot). p.block) (sym here) ∙ on)))
           (λ (was : IsTaken w z). was)
           (put_taken s range per most later tail w v y t puts z taken)
   growth_left _ _ (EvacuateSet m x y t u sets same) (Moves _ g tuples on page _ _ _ _ base taken emptying enough) =
@@ -466,21 +467,21 @@ module _ (s range per most later tail n : ℕ) (w v : IndexView) where
       still : (a b : ℕ) → b ≡ suc a → b ≤ most → a ≤ most
       still a b is le = omega arith
 
-      sub : (z : TuplePlace) → IsTaken v z → IsTaken w z
+      sub : (z : Spot) → IsTaken v z → IsTaken w z
       sub z taken none = ⊎_elim
           (λ (same : IsUntouched w v z). taken (same.0 ∙ none))
-          (λ (swept : (z.block ≡ next_map_page w) × (z ≡ x)). taken (ap v.tuple swept.1 ∙ (sweeps.gone x refl).0))
+          (λ (swept : (z.block ≡ next_map_page w.pages) × (z ≡ x)). taken (ap v.tuple swept.1 ∙ (sweeps.gone x refl).0))
           (sweeps.places z)
 
       kind_on : (page : ℕ) → w.pages.kind page ≡ Emptying → v.pages.kind page ≡ Emptying
       kind_on page is = ⊎_elim
-          (λ (here : page ≡ next_map_page w). ap v.pages.kind here ∙ sweeps.page.now ∙ ap w.pages.kind (sym here) ∙ is)
+          (λ (here : page ≡ next_map_page w.pages). ap v.pages.kind here ∙ sweeps.page.now ∙ ap w.pages.kind (sym here) ∙ is)
           (λ (same : v.pages.kind page ≡ w.pages.kind page). same ∙ is)
           (sweeps.page.kinds page)
   growth_left _ _ (Turn grows none free meta turns) left =
       let known = empties left grows in
       let step = lower tail n ((per + 8) + (3 * known.on + 2)) (per + 9) ((known.g - 1) * c) (turned known.on) known.enough in
-      (step.0, step.1, Grows' known.g known.tuples (turns_base known.g known.tuples Mapping (next_map_page w ∷ 0 ∷ []) turns known.base) step.2)
+      (step.0, step.1, Grows' known.g known.tuples (turns_base known.g known.tuples Mapping (next_map_page w.pages ∷ 0 ∷ []) turns known.base) step.2)
     where
       turned : (on : ℕ) → per + 9 < (per + 8) + (3 * on + 2)
       turned on = omega arith
@@ -501,7 +502,7 @@ module _ (s range per most later tail n : ℕ) (w v : IndexView) (named : AreNam
   less_per : (a b : ℕ) → a < b → per + a < per + b
   less_per a b less = omega arith
 
-  gone_not : (x : TuplePlace) (t : IndexTuple) → IsGone w range x → w.tuple x ≡ Some t → t.range ≡ range → ⊥
+  gone_not : (x : Spot) (t : IndexTuple) → IsGone w range x → w.tuple x ≡ Some t → t.range ≡ range → ⊥
   gone_not x t gone here of = gone t here of
 
   -- one step towards the final tuple
@@ -540,7 +541,7 @@ module _ (s range per most later tail n : ℕ) (w v : IndexView) (named : AreNam
       (puts_on s range per most later tail w v g tuples false y new puts base)
 
   -- the final tuple takes the placeholder's place
-  swap_base : (g tuples : ℕ) (x : TuplePlace) (old new : IndexTuple) → ReplacesTuple s w v x old new → Base w per most later g tuples false false
+  swap_base : (g tuples : ℕ) (x : Spot) (old new : IndexTuple) → ReplacesTuple s w v x old new → Base w per most later g tuples false false
       → Base v per most later g tuples false false
   swap_base g tuples x old new swap base = base_on s range per most later tail w v g tuples false false swap.frame.heap.pages_per_range swap.page.map_pages
       swap.page.limit (λ z taken none. ⊎_elim

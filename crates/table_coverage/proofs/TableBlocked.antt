@@ -3,7 +3,8 @@ use Rattle.std.proofs.Common.{◌≡◌, ◌≢◌, ◌⊎◌, inl, inr, ℕ, No
 use Rattle.std.specs.Prelude.{refl}
 use Rattle.block_model.specs.declared.row.Row.{Row}
 use Rattle.block_model.specs.declared.row.RowId.{RowId}
-use Rattle.coverage.specs.IndexView.{TuplePlace, IndexView}
+use Rattle.block_model.specs.declared.place.Spot.{Spot}
+use Rattle.coverage.specs.IndexView.{IndexView}
 use Rattle.coverage.specs.Statements.{OnIndex, Held, Phase, NotBuilding, Statement}
 use Rattle.coverage.specs.Verdicts.{Waits}
 use Rattle.coverage.specs.Steps.{SweepsTuples, InsertStep, DesummariseStep, IsUnnamed}
@@ -47,7 +48,7 @@ module _ (s : ℕ) (w : TableState) where
   maintain_case (Desummarising only) at range _ v e (DesummariseWaits q _ _ _ x verdict) step =
       desummarise_blocked s range q (index_view_at at w) v x e verdict step
 
-  sweep_case : (at page : ℕ) (v : IndexView) (Sweeping : TuplePlace → Type 0) → IsBlocked w s (Sweeps at page)
+  sweep_case : (at page : ℕ) (v : IndexView) (Sweeping : Spot → Type 0) → IsBlocked w s (Sweeps at page)
       → SweepsTuples s (index_view_at at w) v page Sweeping → ⊥
   sweep_case at page v Sweeping (SweepWaits _ _ locked) sweeps = free_not_locked (index_view_at at w) s page sweeps.free locked
 
@@ -144,7 +145,7 @@ module _ (s : ℕ) (w : TableState) where
   blocked_by _ (DesummariseWaits q only at range x verdict) = clear_waits (index_view_at at w) s range q x verdict
   blocked_by _ (SweepWaits at page locked) = locked
 
-  no_wait : (range q : ℕ) (x : TuplePlace) (at : ℕ) → IsPhaseWaiting (index_view_at at w) s range (NotBuilding (Held x)) q → ⊥
+  no_wait : (range q : ℕ) (x : Spot) (at : ℕ) → IsPhaseWaiting (index_view_at at w) s range (NotBuilding (Held x)) q → ⊥
   no_wait range q x at waits = elim waits [ ]
 
   -- and that is one thing

@@ -3,7 +3,7 @@ use Rattle.std.proofs.Common.{◌≡◌, ◌≢◌, ◌⊎◌, ⊎_elim, ℕ, �
 use Rattle.std.specs.Prelude.{refl, ◌↔◌}
 use Rattle.std.proofs.lemmas.Option.{none-some}
 use Rattle.block_model.specs.declared.row.Row.{Row}
-use Rattle.coverage.specs.IndexView.{TuplePlace}
+use Rattle.block_model.specs.declared.place.Spot.{Spot}
 use Rattle.coverage.specs.Statements.{OnIndex, Statement, Idle, Inserting}
 use Rattle.coverage.specs.Steps.{InsertStep}
 use Rattle.coverage.proofs.PagesGoOn.{Quiet}
@@ -26,7 +26,7 @@ same_entry w v i range same =
 quiet_entry : (w v : TableState) (i range : ℕ) → Quiet (index_view_at i w) (index_view_at i v) → SameEntry w v i range
 quiet_entry w v i range quiet = ((λ none. quiet.vacant range none), by ((w.index i).entry range) refl)
   where
-    by : (o : Option TuplePlace) → (w.index i).entry range ≡ o → (v.index i).entry range ≡ None → (w.index i).entry range ≡ None
+    by : (o : Option Spot) → (w.index i).entry range ≡ o → (v.index i).entry range ≡ None → (w.index i).entry range ≡ None
     by None is gone = is
     by (Some x) is gone = absurd (none-some _ (sym gone ∙ (quiet.still range x is).1))
 

@@ -6,7 +6,8 @@ use Rattle.block_model.specs.declared.reply.Point.{Point}
 use Rattle.block_model.specs.declared.reply.Point.TheVariants as points
 use Rattle.block_model.specs.declared.row.Row.{Row}
 use Rattle.block_model.specs.declared.row.RowId.{RowId}
-use Rattle.coverage.specs.IndexView.{TuplePlace, IndexView}
+use Rattle.block_model.specs.declared.place.Spot.{Spot}
+use Rattle.coverage.specs.IndexView.{IndexView}
 use Rattle.coverage.specs.Statements.{OnIndex, Empty, Phase, Statement, Idle, Inserting, Maintaining, Holding}
 use Rattle.coverage.specs.Steps.{InsertStep}
 use Rattle.coverage.specs.Points.{insert_point}
@@ -60,7 +61,7 @@ job_one_point (WholeRanges extent) s range w v u phase e f one two = summarise_o
 job_one_point (Desummarising only) s range w v u phase e f one two = desummarise_one_point s range w v u phase e f one two
 
 -- a scan reads the map where it holds no place, else the tuple there
-abbrev point_of_held : Option TuplePlace → Point
+abbrev point_of_held : Option Spot → Point
 point_of_held None = points.Map
 point_of_held (Some x) = points.Tuple
 

@@ -4,7 +4,8 @@ use Rattle.std.specs.Prelude.{refl, IsTrue, max}
 use Rattle.std.proofs.lemmas.Option.{none-some}
 use Rattle.std.proofs.lemmas.Bool.{cases_eq}
 use Rattle.block_model.specs.declared.row.Row.{Row}
-use Rattle.coverage.specs.IndexView.{TuplePlace, IndexTuple, IndexView, range_of_block}
+use Rattle.block_model.specs.declared.place.Spot.{Spot}
+use Rattle.coverage.specs.IndexView.{IndexTuple, IndexView, range_of_block}
 use Rattle.coverage.specs.Statements.{OnIndex, Empty, Held, Copied, Moving, Dropping, IsAdded, Phase, Scan, Statement, Idle, Inserting, Maintaining, Holding}
 use Rattle.coverage.specs.Statements.{Scanning, loose_in}
 use Rattle.coverage.specs.Knowing.{LocksNone, KnowsOnIndex, Knows}
@@ -77,7 +78,7 @@ refused_view i w s b k r _ (IndexFull number at x t u verdict) = ⊎_elim
 
 -- with nothing loose in hand a session locks no page
 on_index_locks_none : (w : IndexView) (s range : ℕ) (Makes : IndexTuple → IndexTuple → Type 0) (on_index : OnIndex) → loose_in on_index ≡ None
-    → KnowsOnIndex w s range Makes on_index → LocksNone w s
+    → KnowsOnIndex w s range Makes on_index → LocksNone w.lock s
 on_index_locks_none w s range Makes Empty none known = known
 on_index_locks_none w s range Makes (Held x) none known = known.0
 on_index_locks_none w s range Makes (Copied x old new) none known = known.0
@@ -189,7 +190,7 @@ module _ (s : ℕ) (w v : TableState) (kept : AreIndexesKept w) (i : ℕ) (below
       (λ (idle : seen_by i old ≡ Idle). counts_less r.id.t fails (same_views old Resting turns (sym idle)))
       (λ (at : (on_index : OnIndex) × (seen_by i old ≡ Inserting b k r on_index) × IsInsertEnded (index_view_at i w) s b on_index).
       let index : v.index i ≡ w.index i = fails.indexes.index i in
-      let none : LocksNone (index_view_at i w) s =
+      let none : LocksNone (w.index i).lock s =
       on_index_locks_none (index_view_at i w) s (range_of_block (index_view_at i w) b) (IsAdded r) at.0 (ended_loose (index_view_at i w) s b at.0 at.2)
       (known old (Inserting b k r at.0) turns.was at.1).2 in
       steps (Refused b k r at.0 at.2 (turned_at i s w v old Resting turns (Inserting b k r at.0) Idle at.1 refl)
@@ -321,7 +322,7 @@ module _ (s : ℕ) (w v : TableState) (kept : AreIndexesKept w) (i : ℕ) (below
   scan_elsewhere old apart = pick_other i old.at (held_at old.range old.held) None apart
 
   -- rows of a range that the index at hand leaves out don't match
-  pub dropped_spares : (old : TableScan) (x : TuplePlace) (t : IndexTuple) (candidate : ℕ → Bool) → w.task s ≡ Scans old → old.at < w.indexes
+  pub dropped_spares : (old : TableScan) (x : Spot) (t : IndexTuple) (candidate : ℕ → Bool) → w.task s ≡ Scans old → old.at < w.indexes
       → old.held ≡ Some x → (w.index old.at).tuple x ≡ Some t → t.range ≡ old.range → Excludes t old.matches
       → ((b : ℕ) → ((range_of_block (index_view_at old.at w) b ≡ old.range) × (candidate b ≡ false)) ⊎
       ((range_of_block (index_view_at old.at w) b ≢ old.range) × (candidate b ≡ old.candidate b)))
@@ -335,7 +336,7 @@ module _ (s : ℕ) (w v : TableState) (kept : AreIndexesKept w) (i : ℕ) (below
       (others b)
 
   -- the index that the scan is at sees the place that it holds
-  place_here : (old : TableScan) (x : TuplePlace) → i ≡ old.at → old.held ≡ Some x → pick i old.at (held_at old.range old.held) None ≡ Some (old.range, x)
+  place_here : (old : TableScan) (x : Spot) → i ≡ old.at → old.held ≡ Some x → pick i old.at (held_at old.range old.held) None ≡ Some (old.range, x)
   place_here old x is held =
       subst (λ m. pick m old.at (held_at old.range old.held) None ≡ held_at old.range old.held) (sym is)
       (pick_same old.at (held_at old.range old.held) None) ∙ ap (held_at old.range) held

@@ -5,9 +5,10 @@ use Rattle.std.proofs.lemmas.Option.{same_Some, none-some}
 use Rattle.std.proofs.lemmas.Bool.{false≢true}
 use Rattle.block_model.specs.declared.row.Row.{Row}
 use Rattle.block_model.specs.declared.row.RowId.{RowId}
+use Rattle.block_model.specs.declared.place.Spot.{Spot}
 use Rattle.table_coverage.specs.RowOrder.{IsAmong}
 use Rattle.table_coverage.specs.Table.{TableScan, Resting, Scans, Marks, TableState, judged_with}
-use Rattle.coverage.specs.IndexView.{TuplePlace, IndexTuple, IndexView, range_of_block}
+use Rattle.coverage.specs.IndexView.{IndexTuple, IndexView, range_of_block}
 use Rattle.coverage.specs.Steps.{IsGone}
 use Rattle.table_coverage.specs.TableSteps.{JudgeStep, JudgeMap, JudgeNoEntry, JudgeGone, JudgeKeeps, JudgeDrops, ReadsPage, Onward, JudgesNext}
 use Rattle.table_coverage.specs.TableSteps.{Scanned, IsScanRead, ListsFound}
@@ -38,14 +39,14 @@ same_test true false one two = sym (one refl)
 same_test false true one two = two refl
 same_test false false one two = refl
 
-place_of : (w : IndexView) (range : ℕ) (x y : TuplePlace) → w.entry range ≡ Some x → w.entry range ≡ Some y → x ≡ y
+place_of : (w : IndexView) (range : ℕ) (x y : Spot) → w.entry range ≡ Some x → w.entry range ≡ Some y → x ≡ y
 place_of w range x y one two = same_Some _ _ (sym one ∙ two)
 
-same_held : (held : Option TuplePlace) (x y : TuplePlace) → held ≡ Some x → held ≡ Some y → x ≡ y
+same_held : (held : Option Spot) (x y : Spot) → held ≡ Some x → held ≡ Some y → x ≡ y
 same_held held x y one two = same_Some _ _ (sym one ∙ two)
 
 -- the tuple at a held place is one
-same_there : (w : IndexView) (scan : TableScan) (x y : TuplePlace) (t u : IndexTuple) → scan.held ≡ Some x → scan.held ≡ Some y → w.tuple x ≡ Some t
+same_there : (w : IndexView) (scan : TableScan) (x y : Spot) (t u : IndexTuple) → scan.held ≡ Some x → scan.held ≡ Some y → w.tuple x ≡ Some t
     → w.tuple y ≡ Some u → t ≡ u
 same_there w scan x y t u one two here there = same_Some _ _ (sym here ∙ ap w.tuple (same_held scan.held x y one two) ∙ there)
 
@@ -65,15 +66,15 @@ same_candidates w old f g one two b = ⊎_elim
     (one b)
 
 module _ (w : IndexView) (old : TableScan) where
-  empty_held : {A : Type 0} → (x : TuplePlace) → old.held ≡ None → old.held ≡ Some x → A
+  empty_held : {A : Type 0} → (x : Spot) → old.held ≡ None → old.held ≡ Some x → A
   empty_held x empty held = absurd (none-some _ (sym empty ∙ held))
 
-  keeps_or_not : {A : Type 0} → (x y : TuplePlace) (t u : IndexTuple) → old.held ≡ Some x → old.held ≡ Some y → w.tuple x ≡ Some t → w.tuple y ≡ Some u
+  keeps_or_not : {A : Type 0} → (x y : Spot) (t u : IndexTuple) → old.held ≡ Some x → old.held ≡ Some y → w.tuple x ≡ Some t → w.tuple y ≡ Some u
       → IsTrue (old.keeps old.at t) → old.keeps old.at u ≡ false → A
   keeps_or_not x y t u one two here there keeps drops =
       absurd (false≢true (sym drops ∙ ap (old.keeps old.at) (sym (same_there w old x y t u one two here there)) ∙ keeps))
 
-  gone_or_there : {A : Type 0} → (x y : TuplePlace) (t : IndexTuple) → old.held ≡ Some x → old.held ≡ Some y → IsGone w old.range x → w.tuple y ≡ Some t
+  gone_or_there : {A : Type 0} → (x y : Spot) (t : IndexTuple) → old.held ≡ Some x → old.held ≡ Some y → IsGone w old.range x → w.tuple y ≡ Some t
       → t.range ≡ old.range → A
   gone_or_there x y t one two gone there of = absurd (gone t (ap w.tuple (same_held old.held x y one two) ∙ there) of)
 

@@ -1,5 +1,5 @@
 -- A vacuum whose session steps alone from one of its indexes on ends, or waits, or lacks a page, within the sum over these indexes.
-use Rattle.std.proofs.Common.{◌≡◌, ◌⊎◌, inl, inr, ⊎_elim, ℕ, ◌+◌, ◌-◌, ◌*◌, ◌/◌, ◌≤◌, ◌<◌, Some, false, true, sym, ◌∙◌, ap, subst, arith, zero, suc, suc-mul}
+use Rattle.std.proofs.Common.{◌≡◌, ⊎_elim, ℕ, ◌+◌, ◌-◌, ◌*◌, ◌/◌, ◌≤◌, ◌<◌, Some, false, true, sym, ◌∙◌, ap, subst, arith, zero, suc}
 use Rattle.std.specs.Prelude.{refl}
 use Rattle.block_model.specs.declared.reply.Point.{Point}
 use Rattle.coverage.specs.Statements.{Empty, NotBuilding}

@@ -5,7 +5,8 @@ use Rattle.std.proofs.lemmas.Option.{same_Some, none-some}
 use Rattle.std.proofs.lemmas.Bool.{cases_eq, false≢true}
 use Rattle.block_model.specs.declared.reply.Point.{Point}
 use Rattle.block_model.specs.declared.reply.Point.TheVariants as points
-use Rattle.coverage.specs.IndexView.{TuplePlace, IndexTuple, IndexView}
+use Rattle.block_model.specs.declared.place.Spot.{Spot}
+use Rattle.coverage.specs.IndexView.{IndexTuple, IndexView}
 use Rattle.coverage.specs.Changes.{IsFree}
 use Rattle.coverage.specs.Statements.{building_of, loose_of}
 use Rattle.coverage.specs.Steps.{IsUnnamed, SweepsTuples}
@@ -177,13 +178,13 @@ module _ (w : TableState) (s at page : ℕ) where
   abbrev view : IndexView
   view = index_view_at at w
 
-  abbrev IsSweepable : TuplePlace → Type 0
+  abbrev IsSweepable : Spot → Type 0
   IsSweepable x = (x.block ≡ page) × IsUnnamed view x
 
-  unnamed_or_not : (x : TuplePlace) → IsUnnamed view x ⊎ (IsUnnamed view x → ⊥)
+  unnamed_or_not : (x : Spot) → IsUnnamed view x ⊎ (IsUnnamed view x → ⊥)
   unnamed_or_not x = by_tuple ((w.index at).tuple x) refl
     where
-      by_entry : (t : IndexTuple) → (w.index at).tuple x ≡ Some t → (o : Option TuplePlace) → (w.index at).entry t.range ≡ o
+      by_entry : (t : IndexTuple) → (w.index at).tuple x ≡ Some t → (o : Option Spot) → (w.index at).entry t.range ≡ o
           → IsUnnamed view x ⊎ (IsUnnamed view x → ⊥)
       by_entry t here None none = inl (t, here, λ named. none-some _ (sym none ∙ named))
       by_entry t here (Some y) names = ⊎_elim
@@ -196,7 +197,7 @@ module _ (w : TableState) (s at page : ℕ) where
       by_tuple None none = inr (λ unnamed. none-some _ (sym none ∙ unnamed.1))
       by_tuple (Some t) here = by_entry t here ((w.index at).entry t.range) refl
 
-  sweepable_or_not : (x : TuplePlace) → IsSweepable x ⊎ (IsSweepable x → ⊥)
+  sweepable_or_not : (x : Spot) → IsSweepable x ⊎ (IsSweepable x → ⊥)
   sweepable_or_not x = ⊎_elim
       (λ (on : x.block ≡ page). ⊎_elim
       (λ (unnamed : IsUnnamed view x). inl (on, unnamed))
@@ -235,7 +236,7 @@ module _ (w : TableState) (s at page : ℕ) where
     unnamed = x.unnamed;
   }
 
-  swept : IsFree view s page → SweepsTuples s view (view_with swept_index) page IsSweepable
+  swept : IsFree view.lock s page → SweepsTuples s view (view_with swept_index) page IsSweepable
   swept free = record {
     free = free;
     gone = λ x is. (
@@ -254,7 +255,7 @@ module _ (w : TableState) (s at page : ℕ) where
     none = λ p is. after_only view s [] (free_none s view) p is;
   }
 
-  pub sweep_goes_on : w.task s ≡ Sweeps at page → at < w.indexes → IsFree view s page → IsTableStuck w s → ⊥
+  pub sweep_goes_on : w.task s ≡ Sweeps at page → at < w.indexes → IsFree view.lock s page → IsTableStuck w s → ⊥
   sweep_goes_on was inside free stuck =
       sweep_onward swept_state at (suc page) (no_onward w s stuck swept_state after (pick_same s after (w.task s)) does points.Sweep refl) (positive at w.indexes inside)
     where

@@ -4,7 +4,8 @@ use Rattle.std.specs.Prelude.{refl, ◌≢◌}
 use Rattle.std.proofs.lemmas.Option.{none-some}
 use Rattle.std.proofs.lemmas.Bool.{false≢true}
 use Rattle.block_model.specs.declared.row.Row.{Row}
-use Rattle.coverage.specs.IndexView.{TuplePlace, IndexTuple, Regular, Emptying, IndexView}
+use Rattle.block_model.specs.declared.place.Spot.{Spot}
+use Rattle.coverage.specs.IndexView.{IndexTuple, Regular, Emptying, IndexView}
 use Rattle.coverage.specs.Steps.{SweepsTuples, IsUnnamed}
 use Rattle.coverage.specs.Statements.{Scan, Statement, Idle, Scanning}
 use Rattle.coverage.specs.PageOrder.{AreOrdered}
@@ -19,7 +20,7 @@ use Rattle.table_coverage.specs.TableSteps.{TableDone, TableNext}
 use Rattle.table_coverage.specs.TableCovered.{IsTableKept}
 use Rattle.table_coverage.proofs.TableOpening.{table_opened}
 
-abbrev left_at : Bool → TuplePlace → Bool
+abbrev left_at : Bool → Spot → Bool
 left_at left x = at_number x.block 2 (at_number x.slot 0 left false) false
 
 abbrev index_with : Option IndexTuple → Bool → Index
@@ -100,7 +101,7 @@ same_at zero (suc m) a = refl
 same_at (suc n) zero a = refl
 same_at (suc n) (suc m) a = same_at n m a
 
-at_place : {A : Type 0} → (a d : A) (x : TuplePlace) → (x ≡ place) ⊎ (at_number x.block 2 (at_number x.slot 0 a d) d ≡ d)
+at_place : {A : Type 0} → (a d : A) (x : Spot) → (x ≡ place) ⊎ (at_number x.block 2 (at_number x.slot 0 a d) d ≡ d)
 at_place a d x = ⊎_elim
     (λ (block : x.block ≡ 2). ⊎_elim
     (λ (slot : x.slot ≡ 0). inl (λ i. record { block = block i; slot = slot i }))
@@ -109,17 +110,17 @@ at_place a d x = ⊎_elim
     (λ (e : at_number x.block 2 (at_number x.slot 0 a d) d ≡ d). inr e)
     (at_other x.block 2 (at_number x.slot 0 a d) d)
 
-same_place : {A : Type 0} → (d : A) (x : TuplePlace) → at_number x.block 2 (at_number x.slot 0 d d) d ≡ d
+same_place : {A : Type 0} → (d : A) (x : Spot) → at_number x.block 2 (at_number x.slot 0 d d) d ≡ d
 same_place d x = ap (λ z. at_number x.block 2 z d) (same_at x.slot 0 d) ∙ same_at x.block 2 d
 
 -- the table at rest
-tuple_left : (x : TuplePlace) (t : IndexTuple) → one_tuple (Some final_tuple) x ≡ Some t → left_at true x ≡ true
+tuple_left : (x : Spot) (t : IndexTuple) → one_tuple (Some final_tuple) x ≡ Some t → left_at true x ≡ true
 tuple_left x t here = ⊎_elim
     (λ (is : x ≡ place). ap (left_at true) is)
     (λ (e : one_tuple (Some final_tuple) x ≡ None). absurd (none-some _ (sym e ∙ here)))
     (at_place (Some final_tuple) None x)
 
-left_stands : (x : TuplePlace) → left_at true x ≡ true → one_tuple (Some final_tuple) x ≡ None → ⊥
+left_stands : (x : Spot) → left_at true x ≡ true → one_tuple (Some final_tuple) x ≡ None → ⊥
 left_stands x left gone = ⊎_elim
     (λ (is : x ≡ place). none-some final_tuple (sym gone ∙ ap (one_tuple (Some final_tuple)) is))
     (λ (e : left_at true x ≡ false). absurd (false≢true (sym e ∙ left)))
@@ -285,11 +286,11 @@ both_others zero = inr refl
 both_others (suc zero) = inl refl
 both_others (suc (suc i)) = inr refl
 
-abbrev Places : TuplePlace → Type 0
+abbrev Places : Spot → Type 0
 Places x = ((one_tuple None x ≡ one_tuple (Some final_tuple) x) × (left_at false x ≡ left_at true x))
     ⊎ ((x.block ≡ 2) × ((x.block ≡ 2) × ((t : IndexTuple) × (one_tuple (Some final_tuple) x ≡ Some t) × (None ≢ Some x))))
 
-sweep_places : (x : TuplePlace) → Places x
+sweep_places : (x : Spot) → Places x
 sweep_places x = ⊎_elim
     (λ (is : x ≡ place). on_place is)
     (λ (e : one_tuple (Some final_tuple) x ≡ None). ⊎_elim
@@ -300,7 +301,7 @@ sweep_places x = ⊎_elim
   where
     on_place : x ≡ place → Places x
     on_place is =
-        let block : x.block ≡ 2 = ap (λ (y : TuplePlace). y.block) is in
+        let block : x.block ≡ 2 = ap (λ (y : Spot). y.block) is in
         inr (block, (block, (final_tuple, ap (one_tuple (Some final_tuple)) is, λ named. none-some _ named)))
 
 -- an index with its tuple left, and without

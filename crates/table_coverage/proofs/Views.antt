@@ -3,7 +3,7 @@ use Rattle.std.proofs.Common.{◌≡◌, ◌≢◌, ◌⊎◌, inl, inr, ⊎_eli
 use Rattle.std.specs.Prelude.{refl, IsTrue}
 use Rattle.std.proofs.lemmas.Bool.{cases_eq}
 use Rattle.block_model.specs.declared.row.Row.{Row}
-use Rattle.coverage.specs.IndexView.{TuplePlace}
+use Rattle.block_model.specs.declared.place.Spot.{Spot}
 use Rattle.coverage.specs.Changes.{SameHeap, SameMap, SameTuples, SameUnnamed, OwnLocks, TouchesRows, Frame}
 use Rattle.coverage.specs.Statements.{OnIndex, Empty, Phase, Statement, Idle, Inserting, Maintaining, Holding, Scanning}
 use Rattle.coverage.specs.Knowing.{LocksNone, Spares}
@@ -32,7 +32,7 @@ pick_both (suc i) zero a = refl
 pick_both (suc i) (suc j) a = pick_both i j a
 
 -- where a scan holds no place, no index sees one
-pub held_none : (i at range : ℕ) (held : Option TuplePlace) → held ≡ None → pick i at (held_at range held) None ≡ None
+pub held_none : (i at range : ℕ) (held : Option Spot) → held ≡ None → pick i at (held_at range held) None ≡ None
 held_none i at range held none = ap (λ h. pick i at (held_at range h) None) none ∙ pick_both i at None
 
 pub on_index_first : (i : ℕ) → on_index_by i zero Empty ≡ Some Empty
@@ -172,10 +172,10 @@ module _ (i s : ℕ) (w v : TableState) (index : v.index i ≡ w.index i) where
   lock_at : (p : ℕ) → (v.index i).lock p ≡ (w.index i).lock p
   lock_at p = ap (λ (x : Index). x.lock p) index
 
-  locks_at : OwnLocks s (index_view_at i w) (index_view_at i v)
+  locks_at : OwnLocks s (w.index i).lock (v.index i).lock
   locks_at = record { others = λ p n is other. lock_at p ∙ is; taken = λ p n is other. sym (lock_at p) ∙ is }
 
-  pub none_at : LocksNone (index_view_at i w) s → LocksNone (index_view_at i v) s
+  pub none_at : LocksNone (w.index i).lock s → LocksNone (v.index i).lock s
   none_at none p is = none p (sym (lock_at p) ∙ is)
 
   pub rows_frame : v.summarise_lock ≡ w.summarise_lock → Frame s TouchesRows (index_view_at i w) (index_view_at i v)
@@ -189,7 +189,7 @@ module _ (i s : ℕ) (w v : TableState) (index : v.index i ≡ w.index i) where
     contents = contents_at;
   }
 
-  pub reads_by : SameHeap (index_view_at i w) (index_view_at i v) → v.summarise_lock ≡ w.summarise_lock → LocksNone (index_view_at i w) s
+  pub reads_by : SameHeap (index_view_at i w) (index_view_at i v) → v.summarise_lock ≡ w.summarise_lock → LocksNone (w.index i).lock s
       → ReadsIndex s (index_view_at i w) (index_view_at i v)
   reads_by heap summarise_lock none = record {
     frame = record { heap = heap; map = map_at; tuples = tuples_at; unnamed_tuples = unnamed_at; summarise_lock = summarise_lock; locks = locks_at; contents = contents_at };
@@ -228,10 +228,10 @@ module _ (i s : ℕ) (w v : TableState) (old new : Task) (turns : TaskTurns s w 
       counts = record { counts = rows.counts };
     }
 
-    pub reads_at : v.summarise_lock ≡ w.summarise_lock → LocksNone (index_view_at i w) s → ReadsIndex s (index_view_at i w) (index_view_at i v)
+    pub reads_at : v.summarise_lock ≡ w.summarise_lock → LocksNone (w.index i).lock s → ReadsIndex s (index_view_at i w) (index_view_at i v)
     reads_at summarise_lock none = reads_by i s w v index heap_at summarise_lock none
 
-    pub passes_at : (from to : Option ℕ) → w.summarise_lock ≡ from → v.summarise_lock ≡ to → LocksNone (index_view_at i w) s
+    pub passes_at : (from to : Option ℕ) → w.summarise_lock ≡ from → v.summarise_lock ≡ to → LocksNone (w.index i).lock s
         → SummariseLockPasses s (index_view_at i w) (index_view_at i v) from to
     passes_at from to was now none = record {
       was = was;

@@ -1,6 +1,7 @@
 -- What the replies of a table's statements will tell, and the queue of the summaries that inserts ask for.
 use Rattle.std.specs.Prelude.{◌≡◌, ◌≢◌, ◌⊎◌, ℕ, ◌+◌, ◌≤◌, ◌<◌, Option, None, Some, List, [], ◌∷◌, ◌++◌, length}
-use Rattle.coverage.specs.IndexView.{TuplePlace, IndexView}
+use Rattle.block_model.specs.declared.place.Spot.{Spot}
+use Rattle.coverage.specs.IndexView.{IndexView}
 use Rattle.coverage.specs.Statements.{Phase, Statement, Maintaining, Holding}
 use Rattle.coverage.specs.Counts.{AreRowsGone, AreTuplesGone, summarise_count, desummarise_count}
 use Rattle.table_coverage.specs.Table.{Job, EachRange, OneRange, WholeRanges, Desummarising, Task, TableState, index_view_at}
@@ -49,8 +50,8 @@ pub record AccountIs (s : ℕ) (a b : Accounts) (now : Account) : Type 0 where
 
 -- An insert asks for the summary of a range, unless that has an entry. It joins the queue, also where it is there already; or the queue
 -- is full, and the insert keeps what it asked for in vain.
-pub data Asking (s : ℕ) (a b : Accounts) (asked : Asked) : Option TuplePlace → Type 0 where
-  HasEntry : (x : TuplePlace) → AccountIs s a b (a.of s) → Asking s a b asked (Some x)
+pub data Asking (s : ℕ) (a b : Accounts) (asked : Asked) : Option Spot → Type 0 where
+  HasEntry : (x : Spot) → AccountIs s a b (a.of s) → Asking s a b asked (Some x)
   Joins : length a.queue < queue_limit → b.queue ≡ a.queue ++ (asked ∷ []) → b.of s ≡ a.of s → Asking s a b asked None
   IsDropped : queue_limit ≤ length a.queue → AccountIs s a b (record (a.of s) { dropped = (a.of s).dropped ++ (asked ∷ []) }) → Asking s a b asked None
 

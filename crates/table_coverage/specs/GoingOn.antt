@@ -1,23 +1,24 @@
 -- What a table has so that its statements go on, and steps that a session takes alone.
 use Rattle.std.specs.Prelude.{◌≡◌, ℕ, suc, ◌<◌, false, Some}
 use Rattle.block_model.specs.declared.reply.Point.{Point}
-use Rattle.coverage.specs.IndexView.{TuplePlace, IndexTuple}
+use Rattle.block_model.specs.declared.place.Spot.{Spot}
+use Rattle.coverage.specs.IndexView.{IndexTuple}
 use Rattle.coverage.specs.Verdicts.{HasFreeSlots}
 use Rattle.coverage.specs.Statements.{HasNoMoreRows}
 use Rattle.coverage.specs.Steps.{Excludes}
-use Rattle.table_coverage.specs.Table.{Task, Resting, Asks, Inserts, Scans, TableScan, TableState, index_view_at}
+use Rattle.table_coverage.specs.Table.{Task, Resting, Asks, Inserts, Scans, TableScan, TableState}
 use Rattle.table_coverage.specs.TableSteps.{first_block, TableStep}
 use Rattle.table_coverage.specs.TablePoints.{does_point}
 
 -- each page of an index has a free slot, tuples can be made of each range of the table, and the rows of a block end at some slot
 pub record CanGoOn (w : TableState) : Type 0 where
-  pub slots : (i : ℕ) → i < w.indexes → HasFreeSlots (index_view_at i w)
+  pub slots : (i : ℕ) → i < w.indexes → HasFreeSlots (w.index i).tuple
   pub ranges : (i range : ℕ) → i < w.indexes → first_block w i range < w.blocks → range < (w.index i).contents.ranges
   pub rows : (b : ℕ) → (n : ℕ) × HasNoMoreRows (w.row b) n
 
 -- a tuple that doesn't keep the query of the session's scan includes none of its matches
 abbrev pub IsScanHonest : TableState → ℕ → Type 0
-IsScanHonest w s = (scan : TableScan) → w.task s ≡ Scans scan → (x : TuplePlace) (t : IndexTuple) → (w.index scan.at).tuple x ≡ Some t
+IsScanHonest w s = (scan : TableScan) → w.task s ≡ Scans scan → (x : Spot) (t : IndexTuple) → (w.index scan.at).tuple x ≡ Some t
     → scan.keeps scan.at t ≡ false → Excludes t scan.matches
 
 -- an insert has put its row, and isn't done

@@ -6,6 +6,7 @@ pub mod NextTasks
 pub mod TablePoints
 pub mod Accounts
 pub mod Refusals
+pub mod InOneIndex
 pub mod Machines
 pub mod GoingOn
 pub mod StepsLeft

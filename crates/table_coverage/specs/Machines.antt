@@ -1,7 +1,8 @@
 -- What the pages and page locks of a table show, what of its state they don't, and what a step of a machine over them is.
 use Rattle.std.specs.Prelude.{◌≡◌, ◌⊎◌, ◌<◌, ℕ, Bool, IsTrue, Option}
 use Rattle.block_model.specs.declared.row.Row.{Row}
-use Rattle.coverage.specs.IndexView.{TuplePlace, IndexTuple, Contents, Pages}
+use Rattle.block_model.specs.declared.place.Spot.{Spot}
+use Rattle.coverage.specs.IndexView.{IndexTuple, Contents, Pages}
 use Rattle.coverage.specs.Statements.{OnIndex, Phase, Inserting, Maintaining}
 use Rattle.coverage.specs.Steps.{InsertStep}
 use Rattle.table_coverage.specs.Table.{Job, TableScan, Task, Resting, Inserts, Maintains, Scans, TableState, pick, index_view_at}
@@ -13,8 +14,8 @@ pub record ShownIndex : Type 0 where
   pub contents : Contents
   pub pages_per_range : ℕ
   pub autosummarize : Bool
-  pub entry : ℕ → Option TuplePlace
-  pub tuple : TuplePlace → Option IndexTuple
+  pub entry : ℕ → Option Spot
+  pub tuple : Spot → Option IndexTuple
   pub pages : Pages
   pub lock : ℕ → Option ℕ
 
@@ -33,7 +34,7 @@ pub record Unseen : Type 0 where
   pub summarise_lock : Option ℕ
   pub task : ℕ → Task
   pub counts : ℕ → Bool
-  pub unnamed : ℕ → TuplePlace → Bool
+  pub unnamed : ℕ → Spot → Bool
 
 -- the table of both
 abbrev pub table_state : ShownTable → Unseen → TableState
@@ -63,13 +64,13 @@ abbrev pub task_turned : ℕ → Task → Unseen → Unseen
 task_turned s task u = record u { task = λ n. pick n s task (u.task n) }
 
 -- a tuple that was unnamed at the opening may be dropped, and none joins them
-abbrev pub IsFewer : (before after : ℕ → TuplePlace → Bool) → Type 0
-IsFewer before after = (i : ℕ) (x : TuplePlace) → IsTrue (after i x) → IsTrue (before i x)
+abbrev pub IsFewer : (before after : ℕ → Spot → Bool) → Type 0
+IsFewer before after = (i : ℕ) (x : Spot) → IsTrue (after i x) → IsTrue (before i x)
 
 -- a machine of session s takes its statement from one task to another: whatever it doesn't see, that is a step of the table
 abbrev pub MachineSteps : ℕ → (old new : ShownTable) → (before after : Task) → Type 0
 MachineSteps s old new before after = (u : Unseen) → u.task s ≡ before → IsTableKept (table_state old u)
-    → (unnamed : ℕ → TuplePlace → Bool) × IsFewer u.unnamed unnamed
+    → (unnamed : ℕ → Spot → Bool) × IsFewer u.unnamed unnamed
     × TableStep s (table_state old u) (table_state new (task_turned s after (record u { unnamed = unnamed })))
 
 -- the last step of a maintenance statement's machine, after which its session gives the summarise lock and replies
@@ -115,6 +116,6 @@ InsertStepsIn s b k r at old new before after = (u : Unseen) → u.task s ≡ In
 -- so is that of a maintenance statement, but for the unnamed tuples that it drops
 abbrev pub MaintainStepsIn : (s : ℕ) → Job → (at range : ℕ) → (old new : ShownTable) → (before after : Phase) → Type 0
 MaintainStepsIn s job at range old new before after = (u : Unseen) → u.task s ≡ Maintains job at range before → IsTableKept (table_state old u)
-    → (unnamed : ℕ → TuplePlace → Bool) × IsFewer u.unnamed unnamed × ((i : ℕ) → (i ≡ at) ⊎ (unnamed i ≡ u.unnamed i))
+    → (unnamed : ℕ → Spot → Bool) × IsFewer u.unnamed unnamed × ((i : ℕ) → (i ≡ at) ⊎ (unnamed i ≡ u.unnamed i))
     × JobStep job s range (index_view_at at (table_state old u))
     (index_view_at at (table_state new (task_turned s (Maintains job at range after) (record u { unnamed = unnamed })))) before (Maintaining range after)

@@ -1,7 +1,8 @@
 -- How many steps a statement takes at most from where it is, while no other session steps.
 use Rattle.std.specs.Prelude.{◌≡◌, ◌≢◌, ◌⊎◌, ℕ, zero, suc, ◌+◌, ◌-◌, ◌*◌, ◌/◌, ◌≤◌, Bool, true, false, Option, None, Some, List, [], ◌∷◌, length}
 use Rattle.block_model.specs.declared.row.RowId.{RowId}
-use Rattle.coverage.specs.IndexView.{TuplePlace, Passing}
+use Rattle.block_model.specs.declared.place.Spot.{Spot}
+use Rattle.coverage.specs.IndexView.{Passing}
 use Rattle.coverage.specs.Statements.{Empty, Held, Phase, NotBuilding, IsAt}
 use Rattle.table_coverage.specs.RowOrder.{AreInOrder}
 use Rattle.table_coverage.specs.Table.{Job, EachRange, OneRange, WholeRanges, TableScan, Task, Prunes, Sweeps, TableState}
@@ -25,7 +26,7 @@ abbrev pub unjudged_ranges : TableState → TableScan → ℕ
 unjudged_ranges w scan = sum_below w.indexes (ranges_below w scan.extent) - (sum_below scan.at (ranges_below w scan.extent) + scan.range)
 
 -- no tuple of the range may stand any more at a place that is held
-abbrev pub held_steps : Option TuplePlace → ℕ
+abbrev pub held_steps : Option Spot → ℕ
 held_steps None = 0
 held_steps (Some x) = 1
 
@@ -73,8 +74,8 @@ AreApart [] = Unit
 AreApart (x ∷ more) = (IsIn more x → ⊥) × AreApart more
 
 -- no more than so many places are so: each list of such places, apart from each other, is as short
-abbrev pub AreAtMost : (TuplePlace → Type 0) → (count : ℕ) → Type 0
-AreAtMost Is count = (xs : List TuplePlace) → AreApart xs → ((x : TuplePlace) → IsIn xs x → Is x) → length xs ≤ count
+abbrev pub AreAtMost : (Spot → Type 0) → (count : ℕ) → Type 0
+AreAtMost Is count = (xs : List Spot) → AreApart xs → ((x : Spot) → IsIn xs x → Is x) → length xs ≤ count
 
 -- no more than so many tuples stand in an index
 abbrev pub HasAtMostTuples : TableState → (at tuples : ℕ) → Type 0

@@ -2,7 +2,8 @@
 use Rattle.std.specs.Prelude.{ℕ, zero, suc, Bool, Option, None, Some, List}
 use Rattle.block_model.specs.declared.row.Row.{Row}
 use Rattle.block_model.specs.declared.row.RowId.{RowId}
-use Rattle.coverage.specs.IndexView.{TuplePlace, IndexTuple, Contents, Pages, IndexView}
+use Rattle.block_model.specs.declared.place.Spot.{Spot}
+use Rattle.coverage.specs.IndexView.{IndexTuple, Contents, Pages, IndexView}
 use Rattle.coverage.specs.Statements.{OnIndex, Empty, Phase, Scan, Statement, Idle, Inserting, Maintaining, Holding, Scanning}
 use Rattle.coverage.specs.IsCovered.{IndexState, index_view}
 
@@ -11,11 +12,11 @@ pub record Index : Type 0 where
   pub contents : Contents
   pub pages_per_range : ℕ
   pub autosummarize : Bool
-  pub entry : ℕ → Option TuplePlace
-  pub tuple : TuplePlace → Option IndexTuple
+  pub entry : ℕ → Option Spot
+  pub tuple : Spot → Option IndexTuple
   pub pages : Pages
   pub lock : ℕ → Option ℕ
-  pub unnamed : TuplePlace → Bool
+  pub unnamed : Spot → Bool
 
 -- The ranges that a maintenance statement goes over: those whose first block lies below an extent; one of these alone; those
 -- all of whose blocks lie below it; or the one to be desummarised.
@@ -38,7 +39,7 @@ pub record TableScan : Type 0 where
   pub extent : ℕ
   pub at : ℕ
   pub range : ℕ
-  pub held : Option TuplePlace
+  pub held : Option Spot
   pub judged : ℕ → ℕ → Option Bool
   pub candidate : ℕ → Bool
   pub read : ℕ
@@ -97,7 +98,7 @@ abbrev pub inserting_of : ℕ → ℕ → Row → Option OnIndex → Statement
 inserting_of b k r None = Idle
 inserting_of b k r (Some on_index) = Inserting b k r on_index
 
-abbrev pub held_at : ℕ → Option TuplePlace → Option (ℕ × TuplePlace)
+abbrev pub held_at : ℕ → Option Spot → Option (ℕ × Spot)
 held_at range None = None
 held_at range (Some x) = Some (range, x)
 

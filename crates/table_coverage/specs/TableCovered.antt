@@ -2,7 +2,8 @@
 use Rattle.std.specs.Prelude.{◌≡◌, ◌≢◌, ◌⊎◌, ℕ, ◌≤◌, ◌<◌, IsTrue, ◌↔◌, true, false, None, Some, List}
 use Rattle.block_model.specs.declared.row.Row.{Row}
 use Rattle.block_model.specs.declared.row.RowId.{RowId}
-use Rattle.coverage.specs.IndexView.{TuplePlace, Progress, IsBuilding}
+use Rattle.block_model.specs.declared.place.Spot.{Spot}
+use Rattle.coverage.specs.IndexView.{Progress, IsBuilding}
 use Rattle.coverage.specs.Statements.{AreLawful, Phase, NotBuilding}
 use Rattle.coverage.specs.IsCovered.{IsCovered, IsAtRest, IsIndexKept}
 use Rattle.coverage.specs.PageOrder.{AreOrdered, AreNewPages}
@@ -124,9 +125,9 @@ pub record IsNewTable (w : TableState) : Type 0 where
   pub free : w.summarise_lock ≡ None
   pub row : (b k : ℕ) → w.row b k ≡ None
   pub entry : (i range : ℕ) → (w.index i).entry range ≡ None
-  pub tuple : (i : ℕ) (x : TuplePlace) → (w.index i).tuple x ≡ None
+  pub tuple : (i : ℕ) (x : Spot) → (w.index i).tuple x ≡ None
   pub lock : (i p : ℕ) → (w.index i).lock p ≡ None
-  pub unnamed : (i : ℕ) (x : TuplePlace) → (w.index i).unnamed x ≡ false
+  pub unnamed : (i : ℕ) (x : Spot) → (w.index i).unnamed x ≡ false
   pub pages : (i : ℕ) → AreNewPages (w.index i).pages
   pub lawful : (i : ℕ) → AreLawful (w.index i).contents
   pub ranged : (i : ℕ) → 0 < (w.index i).pages_per_range

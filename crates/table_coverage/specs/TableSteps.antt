@@ -2,9 +2,11 @@
 use Rattle.std.specs.Prelude.{◌≡◌, ◌≢◌, ◌⊎◌, ℕ, suc, ◌+◌, ◌*◌, ◌/◌, ◌≤◌, ◌<◌, max, Bool, true, false, IsTrue, ◌↔◌, None, Some, List, [], ◌∷◌}
 use Rattle.block_model.specs.declared.row.Row.{Row}
 use Rattle.block_model.specs.declared.row.RowId.{RowId}
-use Rattle.coverage.specs.IndexView.{TuplePlace, IndexTuple, Regular, Emptying, IndexView, range_of_block}
+use Rattle.block_model.specs.declared.place.Spot.{Spot}
+use Rattle.coverage.specs.IndexView.{IndexTuple, IndexView, range_of_block}
 use Rattle.coverage.specs.Verdicts.{IsLocked, Waits, Full, SwapVerdict, ClearVerdict}
 use Rattle.coverage.specs.Statements.{OnIndex, Empty, Held, Copied, Phase, NotBuilding, Statement, Idle, Inserting, Maintaining, Holding}
+use Rattle.coverage.specs.PageOrder.{IsForTuples}
 use Rattle.coverage.specs.Waiting.{IsPhaseWaiting, IsPhaseFull}
 use Rattle.coverage.specs.Steps.{IsUnnamed, IsGone, Stands, SweepsTuples, Excludes, InsertStep, SummariseStep}
 use Rattle.coverage.specs.Steps.{DesummariseStep, SummariseLockPasses}
@@ -82,7 +84,7 @@ AsksFor w b k at = IsTrue (w.index at).autosummarize × (k ≡ 0) × (first_bloc
 
 -- An insert is refused: no page is left in its index for the tuple, of so many that there may be.
 pub data IsInsertRefused (w : TableState) (s b k : ℕ) (r : Row) : Task → Type 0 where
-  IndexFull : (number at : ℕ) (x : TuplePlace) (old new : IndexTuple) → SwapVerdict (index_view_at at w) s (range_in w at b) x old new (Full number)
+  IndexFull : (number at : ℕ) (x : Spot) (old new : IndexTuple) → SwapVerdict (index_view_at at w) s (range_in w at b) x old new (Full number)
       → IsInsertRefused w s b k r (Inserts b k r at (Copied x old new))
 
 -- the statement goes over this range
@@ -115,14 +117,14 @@ pub data IsMaintainRefused (w : IndexView) (s range : ℕ) : Phase → Type 0 wh
 -- A step is blocked: another session holds the summarise lock, or the lock of the page that is needed first.
 pub data IsBlocked (w : TableState) (s : ℕ) : Task → Type 0 where
   SummariseLockHeld : (n : ℕ) → w.summarise_lock ≡ Some n → n ≢ s → IsBlocked w s Resting
-  InsertWaits : (q b k : ℕ) (r : Row) (at : ℕ) (x : TuplePlace) (old new : IndexTuple)
+  InsertWaits : (q b k : ℕ) (r : Row) (at : ℕ) (x : Spot) (old new : IndexTuple)
       → SwapVerdict (index_view_at at w) s (range_in w at b) x old new (Waits q)
       → IsBlocked w s (Inserts b k r at (Copied x old new))
   SummariseWaits : (q : ℕ) (job : Job) (at range : ℕ) (phase : Phase) → IsPhaseWaiting (index_view_at at w) s range phase q
       → IsBlocked w s (Maintains job at range phase)
-  DesummariseWaits : (q only at range : ℕ) (x : TuplePlace) → ClearVerdict (index_view_at at w) s range x (Waits q)
+  DesummariseWaits : (q only at range : ℕ) (x : Spot) → ClearVerdict (index_view_at at w) s range x (Waits q)
       → IsBlocked w s (Maintains (Desummarising only) at range (NotBuilding (Held x)))
-  SweepWaits : (at page : ℕ) → IsLocked (index_view_at at w) s page → IsBlocked w s (Sweeps at page)
+  SweepWaits : (at page : ℕ) → IsLocked (w.index at).lock s page → IsBlocked w s (Sweeps at page)
 
 -- a running insert has put the row of this place
 abbrev pub HasPut : ℕ → ℕ → Task → Type 0
@@ -171,12 +173,12 @@ pub record ScanBegins (w : TableState) (scan : TableScan) : Type 0 where
 
 -- One step of a scan in its range of the index that it judges, as a scan's step there.
 pub data JudgeStep (w : IndexView) (old : TableScan) : TableScan → Type 0 where
-  JudgeMap : (x : TuplePlace) → old.held ≡ None → w.entry old.range ≡ Some x → JudgeStep w old (record old { held = Some x })
+  JudgeMap : (x : Spot) → old.held ≡ None → w.entry old.range ≡ Some x → JudgeStep w old (record old { held = Some x })
   JudgeNoEntry : old.held ≡ None → w.entry old.range ≡ None → JudgeStep w old (record old { range = suc old.range; judged = judged_with old true })
-  JudgeGone : (x : TuplePlace) → old.held ≡ Some x → IsGone w old.range x → JudgeStep w old (record old { held = None })
-  JudgeKeeps : (x : TuplePlace) (t : IndexTuple) → old.held ≡ Some x → Stands w old.range x t → IsTrue (old.keeps old.at t)
+  JudgeGone : (x : Spot) → old.held ≡ Some x → IsGone w old.range x → JudgeStep w old (record old { held = None })
+  JudgeKeeps : (x : Spot) (t : IndexTuple) → old.held ≡ Some x → Stands w old.range x t → IsTrue (old.keeps old.at t)
       → JudgeStep w old (record old { range = suc old.range; held = None; judged = judged_with old true })
-  JudgeDrops : (x : TuplePlace) (t : IndexTuple) (candidate : ℕ → Bool) → old.held ≡ Some x → Stands w old.range x t → old.keeps old.at t ≡ false
+  JudgeDrops : (x : Spot) (t : IndexTuple) (candidate : ℕ → Bool) → old.held ≡ Some x → Stands w old.range x t → old.keeps old.at t ≡ false
       → Excludes t old.matches
       → ((b : ℕ) → ((range_of_block w b ≡ old.range) × (candidate b ≡ false)) ⊎ ((range_of_block w b ≢ old.range) × (candidate b ≡ old.candidate b)))
       → JudgeStep w old (record old { range = suc old.range; held = None; judged = judged_with old false; candidate = candidate })
@@ -255,7 +257,7 @@ pub data Does (s : ℕ) (w v : TableState) : Type 0 where
 
 -- vacuum sweeps the pages with tuples, index by index
 abbrev pub HasTuples : TableState → ℕ → ℕ → Type 0
-HasTuples w at p = (at < w.indexes) × (((w.index at).pages.kind p ≡ Regular) ⊎ ((w.index at).pages.kind p ≡ Emptying))
+HasTuples w at p = (at < w.indexes) × IsForTuples (w.index at).pages p
 
 abbrev pub IsFrom : (at from m p : ℕ) → Type 0
 IsFrom at from m p = (at < m) ⊎ ((at ≡ m) × (from ≤ p))

@@ -5,26 +5,31 @@
 //! of each of its steps which one of specs/TableSteps it is, and has coverage and the completeness of scans from here.
 #![tactic(auto)]
 
-ghost use Rattle.std.specs.Prelude.{◌≡◌, ◌≢◌, ◌⊎◌, ◌↔◌, ◌≤◌, ◌<◌, ℕ, suc, ◌+◌, ◌*◌, Bool, false, IsTrue, None, Some, List, [], ◌∷◌, ◌++◌, length};
+ghost use Rattle.std.specs.Prelude.{◌≡◌, ◌≢◌, ◌⊎◌, ◌↔◌, ◌≤◌, ◌<◌, ℕ, suc, ◌+◌, ◌*◌, max, Bool, false, IsTrue, Option, None, Some, List, [], ◌∷◌, ◌++◌, length};
 ghost use Rattle.block_model.specs.declared.reply.Point.{Point};
+ghost use Rattle.block_model.specs.declared.reply.Point.TheVariants as points;
 ghost use Rattle.block_model.specs.declared.row.Row.{Row};
-ghost use Rattle.coverage.specs.IndexView.{TuplePlace, IndexTuple};
+ghost use Rattle.coverage.specs.IndexView.{IndexTuple};
 ghost use Rattle.coverage.specs.Steps.{Excludes};
-ghost use Rattle.table_coverage.specs.Table.{Job, EachRange, OneRange, WholeRanges, Desummarising, TableScan, Task, Resting, Inserts, Maintains, Prunes, Sweeps, Restarts, Scans, Marks, TableState, index_view_at};
+ghost use Rattle.table_coverage.specs.Table.{Job, EachRange, OneRange, WholeRanges, Desummarising, TableScan, Task, Resting, Reaches, Inserts, Considers, Maintains, Prunes, SweepsFrom, Sweeps, Restarts, Scans, Marks, TableState, index_view_at};
 ghost use Rattle.table_coverage.specs.GoingOn.{CanGoOn, IsScanHonest, IsInserting, StepsAlone};
 ghost use Rattle.table_coverage.specs.StepsLeft.{scan_steps, HasAtMostToMark, desummarise_steps, IsCleaning, cleaning_steps, HasAtMostTuples, IsSummarise, summarise_steps, vacuum_steps};
-ghost use Rattle.table_coverage.specs.TableSteps.{range_in, AsksFor, HasRange, OnlyTurns, JudgeStep, ReadsPage, IsBlocked, Does, HasStep, Onward, IsMaintained, TableStep, TableRun, IsFirstPlace, IsHeapFull};
+ghost use Rattle.table_coverage.specs.TableSteps.{range_in, AsksFor, HasRange, OnlyTurns, JudgeStep, ReadsPage, IsBlocked, Does, HasStep, Onward, IsMaintained, Settles, TableStep, TableRun, IsFirstPlace, IsHeapFull};
 ghost use Rattle.coverage.specs.Changes.{IsFree};
 ghost use Rattle.table_coverage.specs.NextTasks.{AtFirst, AfterRange, AfterBlock, AfterPage, AfterRestart};
 ghost use Rattle.table_coverage.specs.TablePoints.{does_point, waits_for, IsHeldBy, IsTableStuck};
-ghost use Rattle.table_coverage.specs.Accounts.{Asked, Accounts, AccountsStep, AccountsRun, AccountsNext, queue_limit};
+ghost use Rattle.table_coverage.specs.Accounts.{Asked, no_account, Accounts, AccountsStep, AccountsRun, AccountsNext, queue_limit};
 ghost use Rattle.table_coverage.specs.RangesMade.{GivesFinals, IsInHand, AreMadeFinal};
 ghost use Rattle.table_coverage.specs.Refusals.{Heap, IndexNumber, LacksMemory, IsFull, does_refusal, MayLackMemory, IsTaskFull};
 ghost use Rattle.table_coverage.specs.RowOrder.{IsAmong};
 ghost use Rattle.block_model.specs.declared.row.RowId.{RowId};
+ghost use Rattle.block_model.specs.declared.place.Spot.{Spot};
 ghost use Rattle.table_coverage.specs.Machines.{ShownTable, Unseen, table_state, task_turned, IsFewer, MachineSteps, MachineEnds, MachineWaits, ScanReplies, ScanSteps, ChangesIndex, InsertStepsIn};
 ghost use Rattle.table_coverage.specs.Machines.{MaintainStepsIn};
-ghost use Rattle.coverage.specs.Statements.{OnIndex, Empty, Phase, NotBuilding, Inserting, Maintaining};
+ghost use Rattle.coverage.specs.Statements.{OnIndex, Empty, Phase, NotBuilding, Idle, Inserting, Maintaining, Holding};
+ghost use Rattle.coverage.specs.IndexPart.{IndexPart, InsertMakes, SweepMakes};
+ghost use Rattle.coverage.specs.Counts.{AreTuplesGone};
+ghost use Rattle.table_coverage.specs.InOneIndex.{index_with, with_index, with_rows, RowComesTo, JobMakes, with_ranges, with_unnamed, DoesAt};
 ghost use Rattle.coverage.specs.Knowing.{Knows};
 ghost use Rattle.coverage.specs.PageOrder.{KnowsPages};
 ghost use Rattle.table_coverage.specs.TableCovered.{IsTableCovered, IsTableKept, IsTableAtRest, IsNewTable, TableStops, IsGiven, IsUnjudged};
@@ -75,7 +80,7 @@ pub fn scans_are_exact()
     ensures read { (w : TableState) (scan : TableScan) (m n : ℕ) (f g : ℕ → ℕ → Bool) → ReadsPage w scan m f → ReadsPage w scan n g
         → (m ≡ n) × ((b k : ℕ) → f b k ≡ g b k) }
     ensures some_judged { (w : TableState) (scan : TableScan)
-        → ((x : TuplePlace) (t : IndexTuple) → (w.index scan.at).tuple x ≡ Some t → scan.keeps scan.at t ≡ false → Excludes t scan.matches)
+        → ((x : Spot) (t : IndexTuple) → (w.index scan.at).tuple x ≡ Some t → scan.keeps scan.at t ≡ false → Excludes t scan.matches)
         → (q : TableScan) × JudgeStep (index_view_at scan.at w) scan q }
     ensures some_read { (w : TableState) (scan : TableScan) (b : ℕ) → scan.explains ≡ false → scan.at ≡ w.indexes → IsTrue (scan.candidate b) → scan.read ≤ b
         → (next : ℕ) × (found : ℕ → ℕ → Bool) × ReadsPage w scan next found }
@@ -178,7 +183,7 @@ pub fn summarises_end()
 pub fn machines_keep()
     ensures steps { (s : ℕ) (old new : ShownTable) (before after : Task) (u : Unseen) → MachineSteps s old new before after → u.task s ≡ before
         → IsTableKept (table_state old u)
-        → (unnamed : ℕ → TuplePlace → Bool) × IsFewer u.unnamed unnamed × IsTableKept (table_state new (task_turned s after (record u { unnamed = unnamed }))) }
+        → (unnamed : ℕ → Spot → Bool) × IsFewer u.unnamed unnamed × IsTableKept (table_state new (task_turned s after (record u { unnamed = unnamed }))) }
     ensures ends { (s : ℕ) (old new : ShownTable) (before : Task) (u : Unseen) → MachineEnds s old new before → u.task s ≡ before
         → IsTableKept (table_state old u) → IsTableKept (table_state new (record (task_turned s Resting u) { summarise_lock = None })) }
     ensures replies { (s b k : ℕ) (old new : ShownTable) (before : Task) (scan : TableScan) (u : Unseen) → ScanReplies s old new before scan
@@ -203,6 +208,40 @@ pub fn machines_in_one_index()
     ensures maintain_knows { (s : ℕ) (job : Job) (at range : ℕ) (w : TableState) (phase : Phase) → IsTableKept w → at < w.indexes
         → w.task s ≡ Maintains job at range phase
         → Knows (index_view_at at w) s (Maintaining range phase) × KnowsPages (index_view_at at w) s (Maintaining range phase) }
+{}
+
+/// A step in one index, whatever the sessions have in hand after it, is what its statement does in the table, with the other indexes and
+/// the heap as they were: an insert goes on in the index, or is done with it; maintenance goes on at its range, or is done with it; a vacuum
+/// sweeps a page. It is printed under the step's point, and adds to the account what the step counts. Where the statement has a step then, it
+/// stays at that.
+pub fn a_table_steps_with_its_index()
+    ensures here { (at s : ℕ) (p : IndexPart) (task : Task) (w : TableState) → (with_index at p s task w).index at ≡ index_with p (w.index at) }
+    ensures others { (at s i : ℕ) (p : IndexPart) (task : Task) (w : TableState) → i ≢ at → (with_index at p s task w).index i ≡ w.index i }
+    ensures turned { (at s : ℕ) (p : IndexPart) (task : Task) (w : TableState) → (with_index at p s task w).task s ≡ task }
+    ensures other_tasks { (at s n : ℕ) (p : IndexPart) (task : Task) (w : TableState) → n ≢ s → (with_index at p s task w).task n ≡ w.task n }
+    ensures insert_goes { (s b k : ℕ) (r : Row) (at : ℕ) (w : TableState) (p : IndexPart) (old new : OnIndex) (point : Point) → at < w.indexes
+        → w.task s ≡ Inserts b k r at old → InsertMakes s b k r (index_view_at at w) p old (Inserting b k r new) point
+        → DoesAt s w (with_index at p s (Inserts b k r at new) w) point (λ account. account) }
+    ensures insert_completes { (s b k : ℕ) (r : Row) (at : ℕ) (w : TableState) (p : IndexPart) (old : OnIndex) (point : Point) → at < w.indexes
+        → w.task s ≡ Inserts b k r at old → InsertMakes s b k r (index_view_at at w) p old Idle point
+        → DoesAt s w (with_index at p s (Reaches b k r (suc at)) w) point (λ account. account) }
+    ensures maintain_goes { (s : ℕ) (job : Job) (at range : ℕ) (w : TableState) (p : IndexPart) (old new : Phase) (point : Point) (count : ℕ) → at < w.indexes
+        → w.task s ≡ Maintains job at range old → JobMakes job s range (index_view_at at w) p old (Maintaining range new) point count
+        → DoesAt s w (with_index at p s (Maintains job at range new) w) point (with_ranges count) }
+    ensures maintain_completes { (s : ℕ) (job : Job) (at range : ℕ) (w : TableState) (p : IndexPart) (old : Phase) (point : Point) (count : ℕ) → at < w.indexes
+        → w.task s ≡ Maintains job at range old → JobMakes job s range (index_view_at at w) p old Holding point count
+        → DoesAt s w (with_index at p s (Considers job at (suc range)) w) point (with_ranges count) }
+    ensures sweeps { (s at page : ℕ) (w : TableState) (p : IndexPart) (count : ℕ) → at < w.indexes → w.task s ≡ Sweeps at page
+        → SweepMakes s page (index_view_at at w) p → AreTuplesGone (w.index at).tuple p.tuple page count
+        → DoesAt s w (with_index at p s (SweepsFrom at (suc page)) w) points.Sweep (with_unnamed count) }
+    ensures stays { (s : ℕ) (w : TableState) (task : Task) → w.task s ≡ task → HasStep w task → Settles s w w }
+{}
+
+/// A row put at the heap's first free place begins its insert: the heap has it beside its other rows, the statement is before the first index, and
+/// its account is empty.
+pub fn a_row_begins_its_insert()
+    ensures { (s b k : ℕ) (r : Row) (w : TableState) (row : ℕ → ℕ → Option Row) → w.task s ≡ Resting → IsFirstPlace w b k → RowComesTo w.row row b k r
+        → DoesAt s w (with_rows row (max w.blocks (b + 1)) s (Reaches b k r 0) w) points.Row (λ account. no_account) }
 {}
 
 /// A vacuum summarises the ranges all of whose blocks lie below the extent, a summarise of the table those with a block below it; and an
@@ -234,7 +273,7 @@ pub fn nothing_is_skipped()
 pub fn a_vacuum_ends()
     ensures { (r : Row) → (w : TableState) × (v : TableState) × (steps : List ℕ) × IsTableKept w × TableRun steps w v × (w.indexes ≡ 2)
         × (w.row 0 0 ≡ Some r) × (v.row 0 0 ≡ None)
-        × ((x : TuplePlace) × ((i : ℕ) → i < 2 → ((w.index i).tuple x ≢ None) × ((v.index i).tuple x ≡ None)))
+        × ((x : Spot) × ((i : ℕ) → i < 2 → ((w.index i).tuple x ≢ None) × ((v.index i).tuple x ≡ None)))
         × (v.task 0 ≡ Resting) × (v.summarise_lock ≡ None) }
 {}
 
