@@ -1,9 +1,9 @@
 -- who holds the lock of which page
-use Rattle.std.specs.Prelude.{◌≡◌, ℕ, true, Option, refl}
+use Rattle.std.specs.Prelude.{ℕ, Option, refl}
 use Rattle.std.proofs.Common.{ap}
 use Rattle.std.specs.Coded.{Coded, code_by, coded×, coded_ℕ}
 use Rattle.std.specs.declared.cmp.Ordering.{Ordering}
-use Rattle.std.specs.Ordering.{nat_cmp, ordering_then, eq_by_cmp}
+use Rattle.std.specs.Ordering.{nat_cmp, ordering_then}
 use Rattle.std.specs.Cmp.{IsTotalOrder}
 use Rattle.std.specs.FinMap as map
 use Rattle.std.proofs.lemmas.Cmp.{on_total, then_total, nat_cmp_total}

@@ -1,4 +1,4 @@
-use Rattle.std.proofs.Common.{◌<◌, length, get_or, ◌∙◌, arith}
+use Rattle.std.proofs.Common.{get_or, ◌∙◌, arith}
 use Rattle.block_model.specs.declared.place.Place.{Place}
 use Rattle.page_locks.specs.LockChanges.{page_of}
 use Rattle.page_locks.specs.HeldLocks.{holders_of}

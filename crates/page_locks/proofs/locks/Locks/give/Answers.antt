@@ -1,13 +1,10 @@
-use Rattle.std.proofs.Common.{◌≡◌, ◌≢◌, ℕ, ◌≤◌, List, length, filter, Option, Some, sym, ap, ◌∙◌, subst, arith}
-use Rattle.block_model.specs.declared.place.Place.{Place}
+use Rattle.std.proofs.Common.{◌≡◌, ◌≢◌, List, length, filter, Some, sym, ap, ◌∙◌, subst, arith}
 use Rattle.page_locks.specs.declared.held.Held.{Held}
 use Rattle.page_locks.specs.LockHolders.{Holders, LockState, holder, without_lock}
-use Rattle.page_locks.specs.LockChanges.{GivesAll}
-use Rattle.page_locks.specs.LockCounts.{AddsAtMost, locks_of}
-use Rattle.page_locks.specs.HeldLocks.{AreApart, holders_of, is_left, is_others, shown}
+use Rattle.page_locks.specs.LockCounts.{AddsAtMost}
+use Rattle.page_locks.specs.HeldLocks.{AreApart, holders_of, is_left, shown}
 use Rattle.page_locks.proofs.Entries.{apart_filter, held_in_map}
-use Rattle.page_locks.proofs.Counts.{held_by}
-use Rattle.page_locks.proofs.Changes.{SomeMore, adds, filter_short, given, given_all, left_counted, none_left, not_given, others_pass, others_pass_left}
+use Rattle.page_locks.proofs.Changes.{adds, filter_short, given, left_counted, not_given, others_pass_left}
 use Rattle.page_locks.proofs.locks.Locks.give.Goals as goal
 
 pub invariant_of-self : goal.invariant_of-self

@@ -1,4 +1,4 @@
-use Rattle.std.proofs.Common.{◌≡◌, ℕ, ◌<◌, List, ◌∷◌, [], ◌++◌, length, Option, Some, None, sym, ap, ◌∙◌, subst, arith}
+use Rattle.std.proofs.Common.{◌≡◌, ℕ, ◌<◌, List, length, Option, Some, None, sym, ap, ◌∙◌, subst, arith}
 use Rattle.page_locks.specs.declared.held.Held.{Held}
 use Rattle.block_model.specs.declared.place.Place.{Place}
 use Rattle.page_locks.specs.LockHolders.{LockState, count_of, holder, with_lock}
