@@ -1,7 +1,7 @@
 -- who holds a page by a list of locks, after a push and after a filter
 use Rattle.std.proofs.Common.{◌≡◌, ℕ, ◌+◌, Bool, true, false, cond, List, [], ◌∷◌, ◌++◌, length, filter, Option, Some, None, is_some, refl, sym, ap, ◌∙◌, subst, inl, inr, arith}
 use Rattle.std.specs.Ordering.{eq_by_cmp}
-use Rattle.std.specs.FinMap.{get, insert, from_entries, len, contains_key, get-insert, get-from_entries, from_entries_push, len-empty, len-insert, same_map}
+use Rattle.std.specs.FinMap.{find, get, insert, from_entries, len, contains_key, get-insert, get-from_entries, from_entries_push, len-empty, len-insert, same_map}
 use Rattle.std.specs.FinMap.Entries.{find-append}
 use Rattle.std.proofs.lemmas.Bool.{cond-true, cond-false, cases_Bool}
 use Rattle.block_model.specs.declared.place.Place.{Place}
@@ -22,7 +22,7 @@ entries_push [] x = refl
 entries_push (y ∷ held) x = ap (λ (es : List (Place × ℕ)). (y.page, y.by) ∷ es) (entries_push held x)
 
 pub found_push : (held : List Held) (x : Held) (q : Place) → found held x.page ≡ None → found (held ++ x ∷ []) q ≡ cond (eq_by_cmp place_cmp q x.page) (Some x.by) (found held q)
-found_push held x q none = ap (λ (es : List (Place × ℕ)). Rattle.std.specs.FinMap.find place_cmp q es) (entries_push held x) ∙ find-append place_cmp places_total (entries_of held) x.page x.by q none
+found_push held x q none = ap (λ (es : List (Place × ℕ)). find place_cmp q es) (entries_push held x) ∙ find-append place_cmp places_total (entries_of held) x.page x.by q none
 
 pub holders_push : (held : List Held) (x : Held) → found held x.page ≡ None → holders_of (held ++ x ∷ []) ≡ insert (holders_of held) x.page x.by
 holders_push held x none = ap (λ (es : List (Place × ℕ)). from_entries es) (entries_push held x) ∙ from_entries_push places_total places_exact (entries_of held) x.page x.by none

@@ -1,4 +1,5 @@
 pub mod Places
 pub mod Entries
 pub mod Counts
-pub mod Changes
+pub mod Takings
+pub mod Givings

@@ -1,6 +1,6 @@
 use Rattle.std.proofs.Common.{ap}
 use Rattle.page_locks.specs.LockHolders.{Holders, LockState}
-use Rattle.page_locks.proofs.Changes.{given_back}
+use Rattle.page_locks.proofs.Takings.{given_back}
 use Rattle.page_locks.proofs.laws.a_taken_lock_is_given_back.Goals as goal
 
 pub returns : goal.returns

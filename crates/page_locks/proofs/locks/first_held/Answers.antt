@@ -1,6 +1,6 @@
 use Rattle.std.proofs.Common.{◌<◌, length}
 use Rattle.page_locks.specs.HeldLocks.{found}
-use Rattle.page_locks.proofs.Changes.{first_here, first_later, free_with}
+use Rattle.page_locks.proofs.Takings.{first_here, first_later, free_with}
 use Rattle.page_locks.proofs.locks.first_held.Goals as goal
 
 pub returns-in-Some-clause-first : goal.returns-in-Some-clause-first

@@ -1,7 +1,7 @@
 use Rattle.std.proofs.Common.{ℕ, drop}
 use Rattle.page_locks.specs.HeldLocks.{found}
 use Rattle.page_locks.specs.LockChanges.{IsFirstHeld}
-use Rattle.page_locks.proofs.Changes.{AllFree}
+use Rattle.page_locks.proofs.Takings.{AllFree}
 use Rattle.page_locks.proofs.locks.first_held.Given as goal
 
 -- the first held one of what is left is the first of all, and where all that is left is free all is

@@ -2,7 +2,7 @@ use Rattle.std.proofs.Common.{get_or, ◌∙◌, arith}
 use Rattle.block_model.specs.declared.place.Place.{Place}
 use Rattle.page_locks.specs.LockChanges.{page_of}
 use Rattle.page_locks.specs.HeldLocks.{holders_of}
-use Rattle.page_locks.proofs.Changes.{all_stay_free, held_more, one_at}
+use Rattle.page_locks.proofs.Takings.{all_stay_free, held_more, one_at}
 use Rattle.page_locks.proofs.locks.hold_all.Goals as goal
 
 pub hold-requires-clause-free : goal.hold-requires-clause-free

@@ -1,6 +1,6 @@
 use Rattle.std.proofs.Common.{◌≡◌, ◌+◌, ◌≤◌, drop, length, vec_capacity}
 use Rattle.page_locks.specs.HeldLocks.{AreApart, found, holders_of, with_locks}
-use Rattle.page_locks.proofs.Changes.{AllFree}
+use Rattle.page_locks.proofs.Takings.{AllFree}
 use Rattle.page_locks.proofs.locks.hold_all.Given as goal
 
 -- with the blocks that are left the locks are those with all blocks

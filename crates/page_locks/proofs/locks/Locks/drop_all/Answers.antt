@@ -6,7 +6,8 @@ use Rattle.page_locks.specs.LockCounts.{AddsAtMost}
 use Rattle.page_locks.specs.HeldLocks.{AreApart, holders_of, is_others, shown}
 use Rattle.page_locks.proofs.Entries.{apart_filter}
 use Rattle.page_locks.proofs.Counts.{held_by}
-use Rattle.page_locks.proofs.Changes.{adds, filter_short, given_all, left_counted, none_left, others_pass}
+use Rattle.page_locks.proofs.Takings.{adds}
+use Rattle.page_locks.proofs.Givings.{filter_short, given_all, left_counted, none_left, others_pass}
 use Rattle.page_locks.proofs.locks.Locks.drop_all.Goals as goal
 
 pub invariant_of-self : goal.invariant_of-self

@@ -4,7 +4,8 @@ use Rattle.page_locks.specs.LockHolders.{Holders, LockState, holder, without_loc
 use Rattle.page_locks.specs.LockCounts.{AddsAtMost}
 use Rattle.page_locks.specs.HeldLocks.{AreApart, holders_of, is_left, shown}
 use Rattle.page_locks.proofs.Entries.{apart_filter, held_in_map}
-use Rattle.page_locks.proofs.Changes.{adds, filter_short, given, left_counted, not_given, others_pass_left}
+use Rattle.page_locks.proofs.Takings.{adds}
+use Rattle.page_locks.proofs.Givings.{filter_short, given, left_counted, not_given, others_pass_left}
 use Rattle.page_locks.proofs.locks.Locks.give.Goals as goal
 
 pub invariant_of-self : goal.invariant_of-self

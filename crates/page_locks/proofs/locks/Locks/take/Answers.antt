@@ -1,10 +1,11 @@
 use Rattle.std.proofs.Common.{◌≡◌, ℕ, ◌<◌, List, length, Option, Some, None, sym, ap, ◌∙◌, subst, arith}
 use Rattle.page_locks.specs.declared.held.Held.{Held}
 use Rattle.block_model.specs.declared.place.Place.{Place}
+use Rattle.block_model.specs.NumberMaps.{same_Some}
 use Rattle.page_locks.specs.LockHolders.{LockState, count_of, holder, with_lock}
 use Rattle.page_locks.specs.HeldLocks.{AreApart, found, shown}
 use Rattle.page_locks.proofs.Entries.{apart_push, held_in_map, len_listed}
-use Rattle.page_locks.proofs.Changes.{adds_taken, counts_same, free_of_none, held_already, holds_taken, pushed}
+use Rattle.page_locks.proofs.Takings.{adds_taken, counts_same, free_of_none, held_already, holds_taken, pushed}
 use Rattle.page_locks.proofs.locks.Locks.take.Goals as goal
 
 -- what the search found is what the locks have
@@ -58,7 +59,7 @@ pub returns-in-Some-clause-taken : goal.returns-in-Some-clause-taken
 returns-in-Some-clause-taken c = held_already c.args.self.now c.args.page c.args.actor (returns-in-Some-clause-held c)
 
 pub returns-in-Some-clause-free : goal.returns-in-Some-clause-free
-returns-in-Some-clause-free c = λ n is. Rattle.block_model.specs.NumberMaps.same_Some n c.args.actor (sym is ∙ returns-in-Some-clause-held c)
+returns-in-Some-clause-free c = λ n is. same_Some n c.args.actor (sym is ∙ returns-in-Some-clause-held c)
 
 pub returns-in-Some-clause-counts : goal.returns-in-Some-clause-counts
 returns-in-Some-clause-counts c = counts_same c.args.self.now c.args.actor 1

@@ -6,7 +6,7 @@ use Rattle.page_locks.specs.LockChanges.{IsAnothers, IsFirstHeld, TakesAll}
 use Rattle.page_locks.specs.LockCounts.{AddsAtMost}
 use Rattle.page_locks.specs.HeldLocks.{AreApart, found, shown}
 use Rattle.page_locks.proofs.Entries.{len_listed}
-use Rattle.page_locks.proofs.Changes.{AllFree, list_adds, list_takes, same_holders}
+use Rattle.page_locks.proofs.Takings.{AllFree, list_adds, list_takes, same_holders}
 use Rattle.page_locks.proofs.locks.Locks.take_all.Goals as goal
 
 -- who holds a page, by the locks and by the slice of them

@@ -1,4 +1,4 @@
--- what calls make of the locks that are held
+-- what a call makes of the locks where an actor takes some
 use Rattle.std.proofs.Common.{◌≡◌, ◌≢◌, ◌==◌, ℕ, zero, suc, ◌+◌, ◌<◌, ◌≤◌, get_or, drop, Bool, true, false, cond, not, ◌&&◌, eqb, List, [], ◌∷◌, ◌++◌, length, filter, Option, Some, None, refl, sym, ap, ◌∙◌, subst, inl, inr, ⊎_elim, arith}
 use Rattle.std.specs.Ordering.{eq_by_cmp}
 use Rattle.std.specs.FinMap.{get, insert, remove, len, get-insert, get-remove, len-insert, contains_key, same_map}
@@ -14,12 +14,6 @@ use Rattle.page_locks.specs.HeldLocks.{AreApart, found, holders_of, shown, is_le
 use Rattle.page_locks.proofs.Places.{same_place, ties_back, ties_itself}
 use Rattle.page_locks.proofs.Entries.{held_in_map, holders_push, insert_same, kept, found_filter, apart_filter, len_listed}
 use Rattle.page_locks.proofs.Counts.{one, held_by, insert_counted, counted_listed, count_filter_le, count_filter_same, count_filter_none}
-
--- ---- taking
-
--- where nobody else holds the page, it is new to the map or held already
-abbrev pub Takes : Holders → Place → ℕ → Type 0
-Takes m q actor = IsFreeFor (get m) actor q
 
 pub counts_same : (s : LockState) (actor more : ℕ) → AddsAtMost s s actor more
 counts_same s actor more = record { own = omega arith; others = λ a _. refl; all = omega arith }
@@ -37,7 +31,7 @@ len_bounded : (b : Bool) (n : ℕ) → cond b n (n + 1) ≤ n + 1
 len_bounded true n = omega arith
 len_bounded false n = omega arith
 
-pub one_more : (m : Holders) (q : Place) (actor : ℕ) → Takes m q actor → SomeMore m (insert m q actor) actor 1
+pub one_more : (m : Holders) (q : Place) (actor : ℕ) → IsFreeFor (get m) actor q → SomeMore m (insert m q actor) actor 1
 one_more m q actor free = elim (get m q) as (λ (o : Option ℕ). get m q ≡ o → SomeMore m (insert m q actor) actor 1) [
   | None ↦ λ none. record {
     own = omega (arith, insert_counted m q actor actor none, ap one (eq-eqb actor actor refl));
@@ -63,14 +57,15 @@ stays_free m q r actor free n is = elim (cases_Bool (eq_by_cmp place_cmp r q)) [
   | inr f ↦ free n (sym (taken_elsewhere m q r actor f) ∙ is)
 ]
 
-abbrev AreFree : Holders → ℕ → List ℕ → ℕ → Type 0
-AreFree m relation blocks actor = (p : ℕ) → IsOneOf blocks p → IsFreeFor (get m) actor (page_of relation p)
+-- no other actor holds one of the blocks
+abbrev pub AllFree : (Place → Option ℕ) → ℕ → ℕ → List ℕ → Type 0
+AllFree h relation actor blocks = (p : ℕ) → IsOneOf blocks p → IsFreeFor h actor (page_of relation p)
 
 module _ (relation actor : ℕ) where
-  later_free : (m : Holders) (b : ℕ) (blocks : List ℕ) → AreFree m relation (b ∷ blocks) actor → AreFree (insert m (page_of relation b) actor) relation blocks actor
+  later_free : (m : Holders) (b : ℕ) (blocks : List ℕ) → AllFree (get m) relation actor (b ∷ blocks) → AllFree (get (insert m (page_of relation b) actor)) relation actor blocks
   later_free m b blocks free p among = stays_free m (page_of relation b) (page_of relation p) actor (free p (inr among))
 
-  pub taken_all : (m : Holders) (blocks : List ℕ) → AreFree m relation blocks actor → TakesAll (get m) (get (with_locks m relation blocks actor)) relation blocks actor
+  pub taken_all : (m : Holders) (blocks : List ℕ) → AllFree (get m) relation actor blocks → TakesAll (get m) (get (with_locks m relation blocks actor)) relation blocks actor
   taken_all m [] free = record { free = free; now = λ p among. absurd among; others = λ q. inr refl }
   taken_all m (b ∷ blocks) free =
       let first : Place = page_of relation b in
@@ -91,7 +86,7 @@ module _ (relation actor : ℕ) where
             ]) (rest.others q);
       }
 
-  pub some_more : (m : Holders) (blocks : List ℕ) → AreFree m relation blocks actor → SomeMore m (with_locks m relation blocks actor) actor (length blocks)
+  pub some_more : (m : Holders) (blocks : List ℕ) → AllFree (get m) relation actor blocks → SomeMore m (with_locks m relation blocks actor) actor (length blocks)
   some_more m [] free = record { own = omega arith; others = λ a _. refl; all = omega arith }
   some_more m (b ∷ blocks) free =
       let first : Place = page_of relation b in
@@ -116,10 +111,7 @@ given_back m q actor none = same_map places_total places_exact (remove (insert m
 -- ---- the first that another holds
 
 module _ (h : Place → Option ℕ) (relation actor : ℕ) where
-  abbrev pub AllFree : List ℕ → Type 0
-  AllFree blocks = (p : ℕ) → IsOneOf blocks p → IsFreeFor h actor (page_of relation p)
-
-  one_free_more : (b : ℕ) (blocks : List ℕ) → IsFreeFor h actor (page_of relation b) → AllFree blocks → AllFree (b ∷ blocks)
+  one_free_more : (b : ℕ) (blocks : List ℕ) → IsFreeFor h actor (page_of relation b) → AllFree h relation actor blocks → AllFree h relation actor (b ∷ blocks)
   one_free_more b blocks here rest p among = ⊎_elim
       (λ (is : p ≡ b). subst (λ (x : ℕ). IsFreeFor h actor (page_of relation x)) (sym is) here)
       (λ (later : IsOneOf blocks p). rest p later) among
@@ -141,8 +133,8 @@ module _ (h : Place → Option ℕ) (relation actor : ℕ) where
     pub first_later : (q : ℕ) → IsFreeFor h actor (page_of relation block) → IsFirstHeld h relation actor (drop (i + 1) blocks) q → IsFirstHeld h relation actor (drop i blocks) q
     first_later q free later = subst (λ (bs : List ℕ). IsFirstHeld h relation actor bs q) (sym split) (LaterHeld block q (drop (i + 1) blocks) free later)
 
-    pub free_with : IsFreeFor h actor (page_of relation block) → AllFree (drop (i + 1) blocks) → AllFree (drop i blocks)
-    free_with free rest = subst AllFree (sym split) (one_free_more block (drop (i + 1) blocks) free rest)
+    pub free_with : IsFreeFor h actor (page_of relation block) → AllFree h relation actor (drop (i + 1) blocks) → AllFree h relation actor (drop i blocks)
+    free_with free rest = subst (AllFree h relation actor) (sym split) (one_free_more block (drop (i + 1) blocks) free rest)
 
 -- the block at a place of the list is one of them
 pub one_at : (blocks : List ℕ) (i : ℕ) → i < length blocks → IsOneOf blocks (get_or blocks i 0)
@@ -162,99 +154,6 @@ pub all_stay_free : (held new : List Held) (page : Place) (relation actor : ℕ)
 all_stay_free held new page relation actor blocks is free p among n found_there =
     stays_free (holders_of held) page (page_of relation p) actor (λ k e. free p among k (sym (held_in_map held (page_of relation p)) ∙ e)) n
     (sym (ap (λ (m : Holders). get m (page_of relation p)) is) ∙ held_in_map new (page_of relation p) ∙ found_there)
-
-pub filter_short : (p : Held → Bool) (xs : List Held) → length (filter p xs) ≤ length xs
-filter_short p [] = omega arith
-filter_short p (x ∷ xs) = elim (p x) as (λ (b : Bool). length (cond b (x ∷ filter p xs) (filter p xs)) ≤ length (x ∷ xs)) [ true ↦ omega (arith, filter_short p xs) | false ↦ omega (arith, filter_short p xs) ]
-
--- ---- giving
-
-module _ (held : List Held) (apart : AreApart held) where
-  -- the map of the locks that stay
-  pub left_in_map : (p : Held → Bool) (q : Place) → get (holders_of (filter p held)) q ≡ kept p q (found held q)
-  left_in_map p q = held_in_map (filter p held) q ∙ found_filter p held q apart
-
-  keeps_other : (page : Place) (actor : ℕ) (q : Place) (o : Option ℕ) → eq_by_cmp place_cmp q page ≡ false → kept (is_left page actor) q o ≡ o
-  keeps_other page actor q None other = refl
-  keeps_other page actor q (Some n) other =
-      ap (λ (b : Bool). cond (not b) (Some n) None) (and_left (eq_by_cmp place_cmp page q) (eqb n actor) (ties_back page q ∙ other))
-
-  keeps_anothers : (page : Place) (actor : ℕ) (o : Option ℕ) → o ≢ Some actor → kept (is_left page actor) page o ≡ o
-  keeps_anothers page actor None other = refl
-  keeps_anothers page actor (Some n) other =
-      ap (λ (b : Bool). cond (not (eq_by_cmp place_cmp page page && b)) (Some n) None) (ne_eqb n actor (λ e. other (ap Some e)))
-      ∙ ap (λ (b : Bool). cond (not (b && false)) (Some n) None) (ties_itself page)
-
-  lets_own : (page : Place) (actor : ℕ) → kept (is_left page actor) page (Some actor) ≡ None
-  lets_own page actor =
-      ap (λ (b : Bool). cond (not (eq_by_cmp place_cmp page page && b)) (Some actor) None) (eq-eqb actor actor refl)
-      ∙ ap (λ (b : Bool). cond (not (b && true)) (Some actor) None) (ties_itself page)
-
-  pub given : (page : Place) (actor : ℕ) → found held page ≡ Some actor → holders_of (filter (is_left page actor) held) ≡ remove (holders_of held) page
-  given page actor is = same_map places_total places_exact _ _ (λ (q : Place). left_in_map (is_left page actor) q ∙ at q ∙ sym (get-remove places_total (holders_of held) page q))
-    where
-      at : (q : Place) → kept (is_left page actor) q (found held q) ≡ cond (eq_by_cmp place_cmp q page) None (get (holders_of held) q)
-      at q = elim (cases_Bool (eq_by_cmp place_cmp q page)) [
-        | inl t ↦ subst (λ (r : Place). kept (is_left page actor) r (found held r) ≡ None) (sym (same_place q page t)) (ap (kept (is_left page actor) page) is ∙ lets_own page actor)
-            ∙ sym (cond-true (eq_by_cmp place_cmp q page) None (get (holders_of held) q) t)
-        | inr f ↦ keeps_other page actor q (found held q) f ∙ sym (held_in_map held q) ∙ sym (cond-false (eq_by_cmp place_cmp q page) None (get (holders_of held) q) f)
-      ]
-
-  pub not_given : (page : Place) (actor : ℕ) → found held page ≢ Some actor → holders_of (filter (is_left page actor) held) ≡ holders_of held
-  not_given page actor other = same_map places_total places_exact _ _ (λ (q : Place). left_in_map (is_left page actor) q ∙ at q ∙ sym (held_in_map held q))
-    where
-      at : (q : Place) → kept (is_left page actor) q (found held q) ≡ found held q
-      at q = elim (cases_Bool (eq_by_cmp place_cmp q page)) [
-        | inl t ↦ subst (λ (r : Place). kept (is_left page actor) r (found held r) ≡ found held r) (sym (same_place q page t)) (keeps_anothers page actor (found held page) other)
-        | inr f ↦ keeps_other page actor q (found held q) f
-      ]
-
-  -- where all locks of an actor are given
-  lacks_own : (actor : ℕ) (q : Place) (o : Option ℕ) → kept (is_others actor) q o ≡ Some actor → ⊥
-  lacks_own actor q None is = none_Some actor is
-  lacks_own actor q (Some n) is = elim (cases_eq n actor) [
-    | inl e ↦ none_Some actor (sym (ap (λ (b : Bool). cond (not b) (Some n) None) (eq-eqb n actor e)) ∙ is)
-    | inr other ↦ other (same_Some n actor (sym (ap (λ (b : Bool). cond (not b) (Some n) None) (ne_eqb n actor other)) ∙ is))
-  ]
-
-  keeps_others : (actor : ℕ) (q : Place) (n : ℕ) → n ≢ actor → kept (is_others actor) q (Some n) ≡ Some n
-  keeps_others actor q n other = ap (λ (b : Bool). cond (not b) (Some n) None) (ne_eqb n actor other)
-
-  were_held : (actor : ℕ) (q : Place) (n : ℕ) (o : Option ℕ) → kept (is_others actor) q o ≡ Some n → o ≡ Some n
-  were_held actor q n None is = is
-  were_held actor q n (Some m) is = elim (cases_eq m actor) [
-    | inl e ↦ absurd (none_Some n (sym (ap (λ (b : Bool). cond (not b) (Some m) None) (eq-eqb m actor e)) ∙ is))
-    | inr other ↦ sym (keeps_others actor q m other) ∙ is
-  ]
-
-  pub given_all : (actor : ℕ) → GivesAll (get (holders_of held)) (get (holders_of (filter (is_others actor) held))) actor
-  given_all actor = record {
-    none = λ q is. lacks_own actor q (found held q) (sym (left_in_map (is_others actor) q) ∙ is);
-    kept = λ q n other is. left_in_map (is_others actor) q ∙ ap (kept (is_others actor) q) (sym (held_in_map held q) ∙ is) ∙ keeps_others actor q n other;
-    only = λ q n is. held_in_map held q ∙ were_held actor q n (found held q) (sym (left_in_map (is_others actor) q) ∙ is);
-  }
-
-  -- counts where only the locks that pass stay, and others' pass
-  pub left_counted : (p : Held → Bool) (actor : ℕ) → ((x : Held) → x.by ≢ actor → p x ≡ true) → SomeMore (holders_of held) (holders_of (filter p held)) actor 0
-  left_counted p actor keeps =
-      let apart' : AreApart (filter p held) = apart_filter p held apart in
-      record {
-        own = omega (arith, counted_listed held actor apart, counted_listed (filter p held) actor apart', count_filter_le (λ (x : Held). x.by == actor) p held);
-        others = λ a other. counted_listed (filter p held) a apart'
-            ∙ count_filter_same (λ (x : Held). x.by == a) p (λ (x : Held) (is : (x.by == a) ≡ true). keeps x (λ e. other (sym (eqb-true x.by a is) ∙ e))) held
-            ∙ sym (counted_listed held a apart);
-        all = omega (arith, len_listed held apart, len_listed (filter p held) apart', filter_short p held);
-      }
-
-  pub others_pass_left : (page : Place) (actor : ℕ) (x : Held) → x.by ≢ actor → is_left page actor x ≡ true
-  others_pass_left page actor x other = elim (eq_by_cmp place_cmp page x.page) as (λ (b : Bool). not (b && eqb x.by actor) ≡ true) [ true ↦ ap not (ne_eqb x.by actor other) | false ↦ refl ]
-
-  pub others_pass : (actor : ℕ) (x : Held) → x.by ≢ actor → is_others actor x ≡ true
-  others_pass actor x other = ap not (ne_eqb x.by actor other)
-
-  pub none_left : (actor : ℕ) → held_by (holders_of (filter (is_others actor) held)) actor ≡ 0
-  none_left actor = counted_listed (filter (is_others actor) held) actor (apart_filter (is_others actor) held apart)
-      ∙ count_filter_none (λ (x : Held). x.by == actor) (is_others actor) (λ (x : Held) (is : not (eqb x.by actor) ≡ true). not-true (eqb x.by actor) is) held
 
 -- ---- of lists, as contracts see them
 
