@@ -1,0 +1,5 @@
+pub mod Places
+pub mod Entries
+pub mod Counts
+pub mod Takings
+pub mod Givings
