@@ -27,7 +27,7 @@ use Rattle.statements.specs.declared.statement.Statement.{Statement}
 use Rattle.statements.specs.declared.statement.Statement.TheVariants as statements
 use Rattle.statements.specs.RowsPut.{row_of_entry, row_put, rows_of_table, rows_put, rows_put-append}
 use Rattle.statements.specs.declared.limits.TheConstants.{MAX_ENTRIES}
-use Rattle.statements.specs.StatementRequests.{submission_refusal, request_entry, tagged_entry, look_entry, delete_entries, mark_entries, found_in, unless_conflict, put_tag, end_reply, marks_reply, deleted_reply, reply_to_statement, want_of_memory}
+use Rattle.statements.specs.StatementRequests.{submission_refusal, request_entry, tagged_entry, look_entry, delete_entries, mark_entries, found_in, unless_conflict, put_tag, end_reply, marks_reply, deleted_reply, reply_to_statement}
 use Rattle.statements.specs.StatementFits.{IsQueryFor, IsStatementFor}
 use Rattle.statements.specs.HeapRoom.{full_table}
 use Rattle.page_store.specs.declared.faults.MachineFault.TheVariants as machine_faults
@@ -52,18 +52,18 @@ use Rattle.heap_versions.specs.HitMarks.{MarksFirst}
 use Rattle.heap_versions.specs.ShownVersions.{shown_tables}
 use Rattle.heap_versions.specs.Standings.{OneStands, StandAlike, stands}
 use Rattle.range_summaries.specs.Summarised.{AreOfSchema, AreSummaries}
-use Rattle.session_core.specs.declared.limits.TheConstants.{ENTRIES_A_SESSION, MAX_PROMISED}
+use Rattle.session_core.specs.declared.limits.TheConstants.{MAX_PROMISED}
 use Rattle.session_core.specs.declared.faults.StoreFault.{StoreFault}
 use Rattle.session_core.specs.declared.faults.StoreFault.TheVariants as stops
 use Rattle.session_core.specs.declared.tables.Tables.{Tables}
-use Rattle.session_core.specs.Acts.{DoesStatement, FailsAt, IsPastJournal, IsTaken, KeepsSessions, MakesFirst, UndoneBy, blocks_for, is_full_in, reply_in, requests_in, transaction_of}
+use Rattle.session_core.specs.Acts.{DoesStatement, FailsAt, IsPastJournal, IsTaken, KeepsSessions, MakesFirst, UndoneBy, is_full_in, reply_in, requests_in, transaction_of}
 use Rattle.session_core.specs.JournalState.{JournalState}
-use Rattle.session_core.specs.Promises.{begins_in, promised_to, KeepsPromises}
-use Rattle.session_core.specs.Steps.{HasFaultCause, IsPageOffset, StaysReady}
+use Rattle.session_core.specs.Promises.{begins_in, promised_to}
+use Rattle.session_core.specs.Steps.{HasFaultCause, IsPageOffset}
 use Rattle.session_core.specs.StoreFaults.{fault_of}
 use Rattle.session_core.specs.TablesKept.{AreOfLayout, AreTables, FillInOrder, ShowsAlike, StandInOrder, rows_on}
-use Rattle.session_core.proofs.Transactions.{IsUnderWay, IsWhole, idle, under_way, whole}
-use Rattle.session_core.proofs.Promising.{at_most_three, promises_spent, promises_ample, promises_alike}
+use Rattle.session_core.proofs.Transactions.{IsUnderWay, IsWhole, idle, whole}
+use Rattle.session_core.proofs.Promising.{at_most_three, promises_spent, promises_ample}
 use Rattle.session_core.proofs.RowsByTable.{one_put, row_gained, marks_put_none}
 use Rattle.session_core.proofs.Standing.{refusal_stands, stands_idle, stands_whole}
 
@@ -325,17 +325,6 @@ module _ {D : Type 0} (told : D → Told) (t t₁ : Tables D) (j j₁ : JournalS
     begins = omega (arith, h.begins, reads.begins);
   }
 
-  -- a statement that comes back
-  pub keeps_back : (statement : Statement) → KeepsSessions told t j n (Some statement) (Some statement) t₁ j₁
-  keeps_back statement = record {
-    fits = λ few. omega (arith, few, ap length reads.entries);
-    leaves = reads.leaves;
-    fit = reads.fit;
-    others = λ m apart. reads.stand m;
-    promises = promises_alike _ _ _ _ (let same : promised_to (Some statement) (stands t₁.versions.database n) ≡ promised_to (Some statement) (stands t.versions.database n) = ap (promised_to (Some statement)) (reads.stand n) in omega (arith, same)) reads.room;
-    begins = omega (arith, reads.begins);
-  }
-
   pub makes_none : (statement : Statement) → Tells told t.versions.store → MakesFirst t j n statement t₁ j₁
   makes_none statement tells =
       let same = reads.same tells in
@@ -431,10 +420,6 @@ undone_by t j n statement t' j' error fault is first = subst (UndoneBy t j n sta
     by_error (errors.Reopen faults) = first
     by_error (errors.Damaged at) = first
 
--- nothing is refused while no disk fault was kept, and after that a fault is kept
-pub ready_on : {D : Type 0} (s s₁ s' : View D) → StaysReady s s₁ → s' ≡ s₁ → StaysReady s s'
-ready_on s s₁ s' ready same none = ap (λ (v : View _). v.failed) same ∙ ready none
-
 -- room may have been made, and blocks been read, before
 pub record Before {D : Type 0} (t t₁ : Tables D) (j j₁ : JournalState) : Type 0 where
   pub database : t₁.versions.database ≡ t.versions.database
@@ -518,36 +503,6 @@ does_select t t' j j₁ j' n q rows sound same same_rows did entries entered =
       rows = no_row (rows_on t.versions) (rows_on t'.versions) same_rows;
       sound = sound;
     }) refl
-
--- an explain
-pub does_explain : {D : Type 0} (t : Tables D) (j : JournalState) (n : ℕ) (q : Query) (reply : Reply) (short : Bool) → AreTables t → reply ≡ (if short then replies.Refused refusals.Memory else replies.Kept (blocks_for t q)) → DoesStatement t j n (statements.Explain q) t j reply
-does_explain t j n q reply short sound is = record {
-  short = short;
-  entries = sym (append-nil j.entries);
-  database = refl;
-  rows = λ k. sym (append-nil (rows_at (rows_on t.versions) k));
-  replied = ap Some is ∙ explain_reply short;
-  sound = sound;
-}
-  where
-    explain_reply : (short : Bool) → Some (if short then replies.Refused refusals.Memory else replies.Kept (blocks_for t q)) ≡ (if short then want_of_memory else Some (replies.Kept (blocks_for t q)))
-    explain_reply true = refl
-    explain_reply false = refl
-
-pub keeps_explain : {D : Type 0} (told : D → Told) (t : Tables D) (j : JournalState) (n : ℕ) (q : Query) → AreOfLayout t → KeepsSessions told t j n (Some (statements.Explain q)) None t j
-keeps_explain told t j n q fit = record {
-  fits = λ h. h;
-  leaves = leaves_same told t.versions.store t.versions.store refl;
-  fit = fit;
-  others = λ m apart. refl;
-  promises = promises_alike _ _ _ _ (alike (stands t.versions.database n)) (omega arith);
-  begins = omega arith;
-}
-  where
-    alike : (standing : Standing) → promised_to None standing ≤ promised_to (Some (statements.Explain q)) standing
-    alike standings.Idle = omega arith
-    alike standings.UnderWay = omega arith
-    alike standings.Failed = omega arith
 
 -- ---- a delete
 
@@ -659,20 +614,6 @@ keeps_delete told t t' j j₁ j' n q after marks kept fits room few leaves fit o
 pub past_of : (b : Bool) (n most : ℕ) → (n ≤ most → b ≡ true) → b ≡ false → most < n
 past_of b n most h e = elim (cases_lt most n) [ inl past ↦ past | inr fits ↦ absurd (false≢true (sym e ∙ h fits)) ]
 
--- a statement of a transaction enters one request at least
-pub spent_at : {D : Type 0} (t : Tables D) (j : JournalState) (n : ℕ) (statement : Statement) → IsStatementFor t.versions.store.layout.schema statement → ((q : Query) → statement ≡ statements.Explain q → ⊥) → MAX_ENTRIES < length j.entries + 1 → IsPastJournal t j n statement
-spent_at t j n statements.Begin fitting other past = record { short = false; past = past }
-spent_at t j n statements.Commit fitting other past = record { short = false; past = past }
-spent_at t j n statements.Rollback fitting other past = record { short = false; past = past }
-spent_at t j n (statements.Insert table values) fitting other past = record { short = false; past = past }
-spent_at t j n (statements.Select q) fitting other past = record { short = false; past = past }
-spent_at t j n (statements.Delete q) fitting other past = record { short = false; past = omega (arith, past) }
-spent_at t j n (statements.Explain q) fitting other past = absurd (other q refl)
-spent_at t j n (statements.Summarize index block) fitting other past = absurd fitting
-spent_at t j n (statements.Desummarize index block) fitting other past = absurd fitting
-spent_at t j n (statements.Vacuum table) fitting other past = absurd fitting
-spent_at t j n statements.Work fitting other past = absurd fitting
-
 -- a statement that isn't done has made first requests, or none
 pub undone_first : {D : Type 0} (t : Tables D) (j : JournalState) (n : ℕ) (statement : Statement) (t' : Tables D) (j' : JournalState) (fault : StoreFault) → UndoneBy t j n statement t' j' fault → MakesFirst t j n statement t' j'
 undone_first t j n statement t' j' (stops.Spent entries) h = record {
@@ -686,7 +627,3 @@ undone_first t j n statement t' j' (stops.Spent entries) h = record {
 undone_first t j n statement t' j' stops.Disk h = h
 undone_first t j n statement t' j' (stops.Reopen faults) h = h
 undone_first t j n statement t' j' (stops.Damaged at) h = h
-
--- the same store of pages has no other fault
-pub ready_same : {D : Type 0} (s s' : View D) → s' ≡ s → StaysReady s s'
-ready_same s s' same none = ap (λ (v : View _). v.failed) same ∙ none

@@ -14,7 +14,6 @@ use Rattle.statements.specs.declared.limits.TheConstants.{MAX_ENTRIES}
 use Rattle.statements.specs.StatementRequests.{refusal_at, statement_requests, statement_reply, reply_to_statement, want_of_memory}
 use Rattle.range_summaries.specs.ExplainedBlocks.{explained, blocks_kept}
 use Rattle.disk_trait.specs.Told.{Told}
-use Rattle.page_store.specs.Keeps.{Tells}
 use Rattle.session_core.specs.declared.tables.Tables.{Tables}
 use Rattle.session_core.specs.declared.faults.StoreFault.{StoreFault}
 use Rattle.session_core.specs.declared.faults.StoreFault.TheVariants as stops

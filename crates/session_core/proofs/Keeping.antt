@@ -1,8 +1,8 @@
 -- what keeps a store's invariant
-use Rattle.std.proofs.Common.{◌≡◌, ◌≢◌, ℕ, zero, suc, ◌+◌, ◌<◌, ◌≤◌, Bool, true, false, ◌&&◌, ◌⊎◌, inl, inr, List, [], ◌∷◌, ◌++◌, length, take, drop, get_or, set, replicate, get_or-set_same, get_or-set_other, length-append, take-append-drop, refl, sym, ap, ◌∙◌, subst, arith, Option, None, Some}
+use Rattle.std.proofs.Common.{◌≡◌, ℕ, zero, suc, ◌+◌, ◌<◌, ◌≤◌, Bool, true, false, ◌&&◌, ◌⊎◌, inl, inr, List, [], ◌∷◌, ◌++◌, length, take, drop, get_or, set, replicate, get_or-set_same, get_or-set_other, length-append, take-append-drop, refl, sym, ap, ◌∙◌, subst, arith, Option, None, Some}
 use Rattle.std.specs.Prelude.{IsTrue}
 use Rattle.std.specs.Ordering.{nat_cmp}
-use Rattle.std.specs.FinMap.{get, get-empty}
+use Rattle.std.specs.FinMap.{get-empty}
 use Rattle.std.proofs.lemmas.Bool.{and_parts, cases_eq}
 use Rattle.std.proofs.lemmas.List.{append-nil, length-set, set-set, set-get_or}
 use Rattle.store_layout.specs.DiskLayout.{DiskLayout}
@@ -23,7 +23,6 @@ use Rattle.statements.specs.RowsPut.{rows_of_table, rows_put, rows_put-append}
 use Rattle.statements.specs.JournalAnswers.{new_opening, database_of, rows_of}
 use Rattle.statements.specs.StatementRequests.{refusal_at}
 use Rattle.page_store.specs.Keeps.{Tells}
-use Rattle.page_store.specs.PageMap.{View}
 use Rattle.row_versions.specs.VersionsState.{StandAtTheirIds, rows_at, standing_of}
 use Rattle.row_versions.specs.declared.standing.Standing.{Standing}
 use Rattle.row_versions.specs.declared.standing.Standing.TheVariants as standings
@@ -35,9 +34,9 @@ use Rattle.session_core.specs.Acts.{DoesStatement, IsTaken, KeepsSessions, Makes
 use Rattle.session_core.specs.JournalState.{JournalState}
 use Rattle.session_core.specs.Promises.{begins_in, begins, promised_to, promised}
 use Rattle.session_core.specs.StoreInvariant.{IsShown, IsStoreKept, store_with}
-use Rattle.session_core.specs.StoreState.{AreSessions, StoreState}
+use Rattle.session_core.specs.StoreState.{StoreState}
 use Rattle.session_core.specs.Submits.{refusal_behind}
-use Rattle.session_core.specs.TablesKept.{AreOfLayout, AreTables, MakesRoom, ShowsAlike, rows_on}
+use Rattle.session_core.specs.TablesKept.{AreOfLayout, AreTables, MakesRoom, rows_on}
 use Rattle.session_core.proofs.Acting.{same_rows, still_layout, still_tables}
 use Rattle.session_core.proofs.LegalRequests.{requests_are_legal}
 use Rattle.session_core.proofs.Promising.{shared, promised_to_all, begins_of_all, begins_changed, promised_appended, begins_appended, begins_at}

@@ -1,4 +1,3 @@
-pub mod OtherSessions
 pub mod Transactions
 pub mod LegalRequests
 pub mod Promising

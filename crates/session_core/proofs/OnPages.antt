@@ -1,7 +1,6 @@
 -- The rows of tables on pages, and what a put makes of them.
-use Rattle.std.proofs.Common.{◌≡◌, ◌≢◌, ◌⊎◌, Bool, true, false, eqb, eqb-true, ℕ, zero, suc, ◌+◌, ◌*◌, ◌/◌, ◌<◌, ◌≤◌, inl, inr, All, List, [], ◌∷◌, ◌++◌, map, length, get_or, set, replicate, refl, sym, ap, subst, ◌∙◌, arith, length-set, get_or-set_same, get_or-set_other}
-use Rattle.std.specs.Prelude.{Option, None, Some, slice_get, slice_index_or, nat_le}
-use Rattle.std.specs.Int.{div_ceil}
+use Rattle.std.proofs.Common.{◌≡◌, ◌≢◌, ◌⊎◌, true, false, ℕ, zero, suc, ◌*◌, ◌/◌, ◌<◌, ◌≤◌, inl, inr, List, [], ◌∷◌, ◌++◌, map, length, get_or, set, replicate, refl, sym, ap, subst, ◌∙◌, arith, length-set, get_or-set_same, get_or-set_other}
+use Rattle.std.specs.Prelude.{Option, None, Some}
 use Rattle.std.proofs.lemmas.Bool.{cases_eq, lt-leb}
 use Rattle.std.proofs.lemmas.List.{length-map, same_lists}
 use Rattle.std.proofs.lemmas.List.FromFn.{length-map-range_with_len}
@@ -25,19 +24,19 @@ use Rattle.statements.specs.StatementFits.{AreValuesFor, IsInsertFor}
 use Rattle.page_layout.specs.PageContents.{IsUnstarted, Slot}
 use Rattle.page_layout.specs.RowBytes.{HaveKinds}
 use Rattle.page_layout.specs.HeapForms.{kinds_of}
-use Rattle.page_store.specs.PageMap.{PageMap, View, page_at}
-use Rattle.heap_rows.specs.Heaps.{kinds_at, no_table, slots_a_page, table_at}
+use Rattle.page_store.specs.PageMap.{PageMap, page_at}
+use Rattle.heap_rows.specs.Heaps.{kinds_at, no_table, slots_a_page}
 use Rattle.heap_rows.specs.HeapBlocks.{HasBlocks, slots_of}
-use Rattle.heap_rows.specs.RowPlaces.{FillsSlot, TakesRowAt, new_row, place_for, slot_at, with_row}
+use Rattle.heap_rows.specs.RowPlaces.{FillsSlot, TakesRowAt, new_row, place_for, with_row}
 use Rattle.row_versions.specs.declared.table.Version.{Version}
 use Rattle.row_versions.specs.VersionsState.{rows_at}
 use Rattle.row_versions.specs.VisibleState.{stored_rows}
 use Rattle.heap_versions.specs.HeapState.{HeapState}
 use Rattle.heap_versions.specs.RowsAlike.{HaveRowsAlike}
-use Rattle.heap_versions.specs.ShownVersions.{shown_tables, version_of, versions_of_table, versions_on}
+use Rattle.heap_versions.specs.ShownVersions.{shown_tables, versions_of_table}
 use Rattle.heap_versions.proofs.Tables.{AreRead, none_started, shown_at, table_by_blocks}
 use Rattle.range_summaries.specs.ExplainedBlocks.{rows_per_page_at}
-use Rattle.session_core.specs.TablesKept.{FillInOrder, StandInOrder, row_in, rows_on}
+use Rattle.session_core.specs.TablesKept.{FillInOrder, StandInOrder, rows_on}
 use Rattle.session_core.proofs.Ordered.{all_rows, enough_blocks, fill_alike, next_in, no_fill, not_full, pushed}
 
 -- ---- the table of a number

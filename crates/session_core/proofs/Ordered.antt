@@ -1,6 +1,6 @@
 -- Rows that fill the slots of a table's blocks one after the other.
-use Rattle.std.proofs.Common.{◌≡◌, ◌⊎◌, Bool, true, false, cond, ℕ, zero, suc, ◌+◌, ◌*◌, ◌/◌, ◌%◌, ◌<◌, ◌≤◌, inl, inr, All, List, [], ◌∷◌, ◌++◌, map, length, take, drop, get_or, set, replicate, refl, sym, ap, subst, ◌∙◌, arith, length-append, length-set, take-append-drop}
-use Rattle.std.specs.Prelude.{Option, None, Some, nat_lt, slice_get}
+use Rattle.std.proofs.Common.{◌≡◌, ◌⊎◌, true, false, cond, ℕ, zero, suc, ◌+◌, ◌*◌, ◌/◌, ◌%◌, ◌<◌, ◌≤◌, inl, inr, All, List, [], ◌∷◌, ◌++◌, map, length, take, drop, get_or, replicate, refl, sym, ap, subst, ◌∙◌, arith, length-append, length-set, take-append-drop}
+use Rattle.std.specs.Prelude.{None, Some, nat_lt, slice_get}
 use Rattle.std.specs.Int.{div_ceil}
 use Rattle.std.specs.List.{flat_map}
 use Rattle.std.proofs.Math.Nat.{mul_comm, add-mul, mul-le-mul_right}
@@ -18,7 +18,7 @@ use Rattle.page_layout.specs.FreeSlots.{AreUsedBelow, is_free, lowest_free}
 use Rattle.page_layout.specs.SlotLaws.{lowest_is, none_free}
 use Rattle.heap_rows.specs.HeapBlocks.{slots_of}
 use Rattle.heap_rows.specs.IsTableFull.{IsTableFull}
-use Rattle.heap_rows.specs.RowPlaces.{ChangesSlot, FillsSlot, place_for, place_from, slot_at, spot_in, with_row, with_table_block}
+use Rattle.heap_rows.specs.RowPlaces.{FillsSlot, place_for, place_from, slot_at, spot_in, with_row, with_table_block}
 use Rattle.row_versions.specs.declared.table.Version.{Version}
 use Rattle.heap_versions.specs.RowsAlike.{AreAlike, HaveRowsAlike}
 use Rattle.heap_versions.specs.ShownVersions.{version_of, versions_on}
@@ -31,9 +31,9 @@ before_of : (c b s b' s' : ℕ) → s < c → s' < c → b * c + s < b' * c + s'
 before_of c b s b' s' low low' less = elim (cases_lt b b') [
   | inl before ↦ inl before
   | inr from ↦ elim (cases_lt b' b) [
-      | inl after ↦ let more : (b' + 1) * c ≤ b * c = mul-le-mul_right c (omega (arith, after)) in absurd (omega (arith, more, add-mul b' 1 c, less, low'))
-      | inr to ↦ let same : b ≡ b' = omega (arith, from, to) in inr (same, let size : b * c ≡ b' * c = ap (λ k. k * c) same in omega (arith, size, less))
-    ]
+    | inl after ↦ let more : (b' + 1) * c ≤ b * c = mul-le-mul_right c (omega (arith, after)) in absurd (omega (arith, more, add-mul b' 1 c, less, low'))
+    | inr to ↦ let same : b ≡ b' = omega (arith, from, to) in inr (same, let size : b * c ≡ b' * c = ap (λ k. k * c) same in omega (arith, size, less))
+  ]
 ]
 
 -- a place's number tells its block and its slot
@@ -50,9 +50,9 @@ ceil_is n c m some enough least =
     elim (cases_lt m d) [
       | inl less ↦ let more : (m + 1) * c ≤ d * c = mul-le-mul_right c (omega (arith, less)) in absurd (omega (arith, more, add-mul m 1 c, h.1, enough))
       | inr from ↦ elim (cases_lt d m) [
-          | inl above ↦ let more : (d + 1) * c ≤ m * c = mul-le-mul_right c (omega (arith, above)) in absurd (omega (arith, more, add-mul d 1 c, h.0, least))
-          | inr to ↦ omega (arith, from, to)
-        ]
+        | inl above ↦ let more : (d + 1) * c ≤ m * c = mul-le-mul_right c (omega (arith, above)) in absurd (omega (arith, more, add-mul d 1 c, h.0, least))
+        | inr to ↦ omega (arith, from, to)
+      ]
     ]
 
 -- no rows fill no blocks
@@ -186,9 +186,9 @@ module _ (count table : ℕ) (blocks : List (List Slot)) (rows : List Row) (some
               elim (cases_lt next_block (length blocks)) [
                 | inl there ↦ absurd (true≢false (sym end_is_free ∙ next.before next_block next_slot there (omega (arith, in_page, whole next_block there)) order))
                 | inr past ↦ elim order [
-                    | inl b ↦ absurd (omega (arith, next.near, past, b))
-                    | inr s ↦ let zero_slot = next.first (omega (arith, next.near, past, s.0)) in absurd (omega (arith, zero_slot, s.1))
-                  ]
+                  | inl b ↦ absurd (omega (arith, next.near, past, b))
+                  | inr s ↦ let zero_slot = next.first (omega (arith, next.near, past, s.0)) in absurd (omega (arith, zero_slot, s.1))
+                ]
               ]
         ]
 

@@ -1,5 +1,5 @@
 -- what is promised to one session, and to the others
-use Rattle.std.proofs.Common.{◌≡◌, ℕ, zero, suc, ◌+◌, ◌*◌, ◌<◌, ◌≤◌, Bool, true, false, if◌then◌else◌, List, [], ◌∷◌, ◌++◌, length, get_or, set, refl, ap, ◌∙◌, arith, Option, None, Some}
+use Rattle.std.proofs.Common.{◌≡◌, ℕ, zero, suc, ◌+◌, ◌*◌, ◌<◌, ◌≤◌, List, [], ◌∷◌, ◌++◌, length, get_or, set, refl, ap, ◌∙◌, arith, Option, None, Some}
 use Rattle.row_versions.specs.declared.standing.Standing.{Standing}
 use Rattle.row_versions.specs.declared.standing.Standing.TheVariants as standings
 use Rattle.statements.specs.declared.statement.Statement.{Statement}
@@ -30,11 +30,6 @@ pub at_most_three : (hand : Option Statement) (standing : Standing) → promised
 at_most_three hand standings.Idle = omega (arith, few_begins hand)
 at_most_three hand standings.UnderWay = omega arith
 at_most_three hand standings.Failed = omega arith
-
-pub at_most_two : (standing : Standing) → promised_to None standing ≤ 2
-at_most_two standings.Idle = omega arith
-at_most_two standings.UnderWay = omega arith
-at_most_two standings.Failed = omega arith
 
 promised_bound : (ss : Stands) (k : ℕ) (hands : List (Option Statement)) → promised ss k hands ≤ ENTRIES_A_SESSION * length hands
 promised_bound ss k [] = omega arith

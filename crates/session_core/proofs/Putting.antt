@@ -1,43 +1,34 @@
 -- What a put, and a call that keeps the pages, leaves of tables and their summaries.
-use Rattle.std.proofs.Common.{◌≡◌, true, false, ℕ, zero, suc, ◌+◌, ◌*◌, ◌/◌, ◌<◌, ◌≤◌, All, List, [], ◌∷◌, ◌++◌, length, get_or, set, replicate, refl, sym, ap, subst, ◌∙◌, arith}
-use Rattle.std.specs.Prelude.{Option, Err}
+use Rattle.std.proofs.Common.{◌≡◌, true, false, ℕ, zero, suc, ◌/◌, ◌<◌, ◌≤◌, List, [], ◌∷◌, ◌++◌, length, get_or, set, replicate, sym, ap, subst, ◌∙◌, arith}
 use Rattle.std.proofs.lemmas.Bool.{le-leb}
 use Rattle.std.proofs.Math.Nat.{div-mul-le_self, div-zero}
 use Rattle.std.proofs.lemmas.Nat.{le-div}
-use Rattle.std.proofs.lemmas.Option.{slice_get_within}
 use Rattle.block_model.specs.declared.place.Place.{Place}
 use Rattle.block_model.specs.declared.place.Spot.{Spot}
-use Rattle.block_model.specs.declared.row.Query.{Query}
 use Rattle.block_model.specs.declared.row.Row.{Row}
 use Rattle.block_model.specs.declared.row.RowId.{RowId}
 use Rattle.block_model.specs.declared.schema.Schema.{Schema}
 use Rattle.block_model.specs.declared.value.Value.{Value}
-use Rattle.block_model.specs.DatabaseState.{OpenTransaction}
 use Rattle.store_layout.specs.DiskLayout.{DiskLayout}
 use Rattle.disk_trait.specs.Told.{Told}
-use Rattle.statements.specs.HeapRoom.{is_full_with, table_slots}
+use Rattle.statements.specs.HeapRoom.{table_slots}
 use Rattle.statements.specs.RowsPut.{row_put}
-use Rattle.statements.specs.StatementFits.{IsInsertFor, IsQueryFor}
+use Rattle.statements.specs.StatementFits.{IsInsertFor}
 use Rattle.page_layout.specs.PageContents.{IsUnstarted, Slot}
-use Rattle.page_store.specs.declared.faults.MachineFault.{MachineFault}
-use Rattle.page_store.specs.declared.faults.MachineFault.TheVariants as faults
-use Rattle.page_store.specs.Keeps.{Keeps, Leaves, Tells, Untold}
-use Rattle.page_store.specs.PageMap.{PageMap, View, page_at}
+use Rattle.page_store.specs.Keeps.{Keeps, Tells}
+use Rattle.page_store.specs.PageMap.{PageMap, page_at}
 use Rattle.heap_rows.specs.Heaps.{no_table, slots_a_page}
 use Rattle.heap_rows.specs.HeapBlocks.{HasBlocks}
 use Rattle.heap_rows.specs.IsTableFull.{IsTableFull}
 use Rattle.row_versions.specs.VersionsState.{rows_at}
-use Rattle.heap_versions.specs.Finds.{LookOutcome}
 use Rattle.heap_versions.specs.HeapState.{HeapState}
-use Rattle.heap_versions.specs.PutAnswers.{PutAnswer}
 use Rattle.heap_versions.proofs.Tables.{AreRead}
 use Rattle.range_summaries.specs.declared.summaries.Summaries.{Summaries}
 use Rattle.range_summaries.specs.ExplainedBlocks.{rows_per_page_at}
-use Rattle.range_summaries.specs.IndexContents.{HasRangeOf, contents_of}
-use Rattle.range_summaries.specs.Summarised.{AreOfSchema, AreSummaries, HasRangesFor, blocks_filled}
+use Rattle.range_summaries.specs.Summarised.{AreSummaries, HasRangesFor, blocks_filled}
 use Rattle.session_core.specs.declared.tables.Tables.{Tables}
-use Rattle.session_core.specs.Acts.{HasTableCause, is_full_in}
-use Rattle.session_core.specs.TablesKept.{AreOfLayout, AreTables, ShowsAlike, StandInOrder, rows_on}
+use Rattle.session_core.specs.Acts.{is_full_in}
+use Rattle.session_core.specs.TablesKept.{AreOfLayout, AreTables, StandInOrder, rows_on}
 use Rattle.session_core.proofs.Covered.{filled_is}
 use Rattle.session_core.proofs.Ordered.{full_of_rows, next_near}
 use Rattle.session_core.proofs.OnPages.{HavePagesOf, PutThere, insert_below, no_rows, none_in_order, put_block, put_free, put_in_order, put_rows, same_order, same_rows, table_slots_are, whole_blocks}
@@ -93,7 +84,7 @@ range_before block next (suc size) below = le-div (block / suc size) next (suc s
 
 ranges_before : (s : Summaries) (table block next : ℕ) → block ≤ next → HasRangesFor s table next → HasRangesFor s table block
 ranges_before s table block next below has = record {
-  each = λ k d low own. let there = has.each k d low own in omega (arith, there, range_before block next (get_or s.of_indexes.items k d).pages_per_range below)
+  each = λ k d low own. let there = has.each k d low own in omega (arith, there, range_before block next (get_or s.of_indexes.items k d).pages_per_range below);
 }
 
 -- room was made for the table's next row, the row was put, and its range widened
@@ -130,9 +121,12 @@ module _ {D : Type 0} (read : AreRead) {old : Tables D} {schema : Schema} {made 
   near : spot.block ≤ next
   near =
       let whole = whole_blocks layout old.versions.store.pages table was.blocks was.has in
-      omega (arith, puts.behind was.blocks was.has,
-      next_near (slots_a_page layout table) table was.blocks (rows_at (rows_on old.versions) table) (some_slots old puts.fit table below) whole was.in_order layout.sizes.heap_blocks spot (puts.there.place was.blocks was.has) puts.there.within.1
-      (puts.there.fills was.blocks was.has).0)
+      omega (
+        arith,
+        puts.behind was.blocks was.has,
+        next_near (slots_a_page layout table) table was.blocks (rows_at (rows_on old.versions) table) (some_slots old puts.fit table below) whole was.in_order layout.sizes.heap_blocks spot (puts.there.place was.blocks was.has) puts.there.within.1
+            (puts.there.fills was.blocks was.has).0,
+      )
 
   abbrev summaries_were : AreSummaries schema (rows_on old.versions) old.summaries
   summaries_were = subst (λ (of : Schema). AreSummaries of (rows_on old.versions) old.summaries) (sym puts.is_schema) puts.sound.summarised

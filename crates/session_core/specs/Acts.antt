@@ -31,7 +31,7 @@ use Rattle.session_core.specs.declared.faults.StoreFault.TheVariants as stops
 use Rattle.session_core.specs.declared.tables.Tables.{Tables}
 use Rattle.session_core.specs.JournalState.{JournalState}
 use Rattle.session_core.specs.Promises.{begins_in, promised_to, KeepsPromises}
-use Rattle.session_core.specs.Steps.{IsPageOffset, StaysReady}
+use Rattle.session_core.specs.Steps.{StaysReady}
 use Rattle.session_core.specs.TablesKept.{AreOfLayout, AreTables, ShowsAlike, rows_on}
 
 -- the session's transaction that is under way

@@ -13,7 +13,7 @@ use Rattle.statements.specs.contracts.statement.Statement as statement_contract
 use Rattle.statements.specs.StatementFits.{IsStatementFor}
 use Rattle.statements.specs.StatementRequests.{refusal_at}
 use Rattle.statements.specs.SessionNumbers.{session_number, with_session}
-use Rattle.statements.specs.JournalAnswers.{Opening, new_opening, database_of}
+use Rattle.statements.specs.JournalAnswers.{Opening, database_of}
 use Rattle.statements.specs.declared.limits.TheConstants.{MAX_ENTRIES, MAX_SESSIONS}
 
 -- what the store was opened with; the sessions' names by their numbers, and the statement that each has in hand; the journal of all

@@ -1,10 +1,8 @@
 -- what holds of tables with their summaries, and what calls keep of them
-use Rattle.std.specs.Prelude.{◌≡◌, ℕ, ◌+◌, ◌*◌, ◌<◌, ◌≤◌, List, length, map, slice_get, Option, None, Some}
+use Rattle.std.specs.Prelude.{◌≡◌, ℕ, ◌+◌, ◌*◌, ◌<◌, ◌≤◌, List, length, slice_get, Option, None, Some}
 use Rattle.std.specs.Int.{div_ceil}
 use Rattle.block_model.specs.declared.row.Row.{Row}
-use Rattle.disk_trait.specs.Told.{Told}
 use Rattle.page_layout.specs.PageContents.{Slot}
-use Rattle.page_store.specs.Keeps.{Leaves}
 use Rattle.heap_rows.specs.Heaps.{slots_a_page}
 use Rattle.heap_rows.specs.HeapBlocks.{HasBlocks}
 use Rattle.heap_rows.specs.RowPlaces.{slot_at}

@@ -439,7 +439,6 @@ fn mark_hits<D: Disk + Drop>(
     ensures cause { IfErr result (λ fault. HasFaultCause D.told tables.old.versions.store tables.new.versions.store (fault_of fault.error)) }
 {
     slots_are_read();
-    tables.layout().known();
     match tables.versions.mark_hits(session, query, hits) {
         Ok(conflict) => Ok(conflict),
         Err(fault) => Err(fault),

@@ -1,4 +1,4 @@
-use Rattle.std.proofs.Common.{length, take, length-take, ap, arith}
+use Rattle.std.proofs.Common.{length, length-take, ap, arith}
 use Rattle.session_core.proofs.acts.copy_of.Goals as goal
 
 pub push-requires : goal.push-requires

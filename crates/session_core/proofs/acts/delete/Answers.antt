@@ -1,11 +1,11 @@
-use Rattle.std.proofs.Common.{◌≡◌, ◌∙◌, Err, Vec, List, Some, None, refl, sym, ap, subst, arith}
+use Rattle.std.proofs.Common.{◌∙◌, Err, List, Some, None, sym, subst}
 use Rattle.page_store.specs.declared.faults.MachineFault.{MachineFault}
-use Rattle.heap_rows.specs.PutAnswers.{NamesTable, SaysFull}
+use Rattle.heap_rows.specs.PutAnswers.{NamesTable}
 use Rattle.heap_versions.specs.declared.versions.Hit.{Hit}
 use Rattle.heap_versions.specs.Hits.{AreHits}
 use Rattle.statements.specs.declared.statement.Statement.TheVariants.{Delete}
 use Rattle.session_core.specs.Acts.{HasTableCause}
-use Rattle.session_core.proofs.Acting.{blocks_still, cause_behind, cause_of, delete_behind, keeps_back, keeps_behind, makes_none, only_reads, query_below, ready_on, still_tells, taken_still, told_before, undone_behind, undone_by}
+use Rattle.session_core.proofs.Acting.{blocks_still, cause_behind, cause_of, delete_behind, keeps_behind, makes_none, only_reads, query_below, still_tells, taken_still, told_before, undone_behind, undone_by}
 use Rattle.session_core.proofs.acts.delete.Goals as goal
 
 pub delete_found-requires-clause-taken : goal.delete_found-requires-clause-taken

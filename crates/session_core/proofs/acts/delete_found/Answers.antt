@@ -1,4 +1,4 @@
-use Rattle.std.proofs.Common.{◌≡◌, ◌+◌, ◌≤◌, ◌∙◌, Some, None, IfSome, Option, length, map, take, refl, sym, ap, subst, arith}
+use Rattle.std.proofs.Common.{◌≡◌, ◌+◌, Some, None, IfSome, Option, length, map, take, refl, sym, subst}
 use Rattle.block_model.specs.DatabaseState.{OpenTransaction}
 use Rattle.block_model.specs.RequestEffect.{rows_found}
 use Rattle.statements.specs.declared.limits.TheConstants.{MAX_ENTRIES}
@@ -20,10 +20,12 @@ returns-then-not-fits-clause-undone g c = λ tells.
     let marks = c.marks-marks.result in
     let are : mark_entries t.versions.database n q.table (rows_found found.transaction q) ≡ map (mark_of n q.table) (take marks c.args.hits.now) =
     subst (λ (o : Option OpenTransaction). IfSome o (λ x. mark_entries t.versions.database n q.table (rows_found x q) ≡ map (mark_of n q.table) (take marks c.args.hits.now))) found.under_way (c.marks-marks.ensures.marks tells) in
-    subst (UndoneBy t c.args.journal.now n (Delete q) t c.args.journal.now) (sym c.spent.ensures)
-    (
+    subst (UndoneBy t c.args.journal.now n (Delete q) t c.args.journal.now) (sym c.spent.ensures) (
       delete_is_past t n q found.transaction found.under_way c.args.hits.now marks c.marks-marks.ensures.within are c.args.journal.now (past_of c.fits.result (length c.args.journal.now.entries + (1 + marks)) MAX_ENTRIES c.fits.ensures.1 c.if-not-fits.true),
-      refl, refl, record { database = refl; rows = refl }, c.requires.sound tells,
+      refl,
+      refl,
+      record { database = refl; rows = refl },
+      c.requires.sound tells,
     )
 
 -- there is no memory for the journal

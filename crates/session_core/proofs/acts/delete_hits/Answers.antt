@@ -1,4 +1,4 @@
-use Rattle.std.proofs.Common.{◌≡◌, [], ◌∷◌, ◌++◌, length, map, take, min, IfSome, Option, Some, None, refl, subst, sym, ap, ◌∙◌, arith, length-take-le, length-take}
+use Rattle.std.proofs.Common.{◌≡◌, [], ◌∷◌, ◌++◌, length, map, take, IfSome, Option, Some, None, subst, sym, ap, ◌∙◌, arith, length-take-le, length-take}
 use Rattle.block_model.specs.declared.row.Query.{Query}
 use Rattle.block_model.specs.declared.request.Request.TheVariants.{Look}
 use Rattle.block_model.specs.declared.reply.Reply.{Reply}

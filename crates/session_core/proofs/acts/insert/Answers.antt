@@ -1,4 +1,4 @@
-use Rattle.std.proofs.Common.{◌≡◌, ◌<◌, Err, true, false, length, refl, sym, ap, ◌∙◌, subst, arith, Result}
+use Rattle.std.proofs.Common.{◌<◌, Err, true, false, length, refl, sym, ap, ◌∙◌, subst, arith}
 use Rattle.block_model.specs.declared.row.RowId.{RowId}
 use Rattle.block_model.specs.declared.request.Request.TheVariants.{Put}
 use Rattle.block_model.specs.declared.request.Tag.TheVariants as tags
@@ -7,13 +7,13 @@ use Rattle.block_model.specs.declared.reply.Refusal.TheVariants as refusals
 use Rattle.block_model.specs.RequestEffect as answers
 use Rattle.store_layout.specs.DiskLayout.{DiskLayout}
 use Rattle.statements.specs.declared.statement.Statement.TheVariants.{Insert}
-use Rattle.statements.specs.StatementRequests.{request_entry, tagged_entry}
+use Rattle.statements.specs.StatementRequests.{tagged_entry}
 use Rattle.statements.specs.HeapRoom.{full_table}
 use Rattle.page_store.specs.declared.faults.MachineFault.{MachineFault}
 use Rattle.heap_rows.specs.PutAnswers.{NamesTable, SaysFull}
 use Rattle.session_core.specs.declared.tables.Tables.{Tables}
-use Rattle.session_core.specs.Acts.{DoesStatement, HasTableCause, KeepsSessions}
-use Rattle.session_core.proofs.Acting.{OnlyReads, cause_of, does_failing, does_insert, insert_may_find_full, insert_may_want, keeps_ample, keeps_back, keeps_failing, leaves_same, makes_none, ready_on, ready_same, still_tells, undone_by}
+use Rattle.session_core.specs.Acts.{DoesStatement, HasTableCause}
+use Rattle.session_core.proofs.Acting.{OnlyReads, cause_of, does_failing, does_insert, insert_may_find_full, insert_may_want, keeps_failing, leaves_same, makes_none, still_tells, undone_by}
 use Rattle.session_core.proofs.OnPages.{insert_below, rows_count}
 use Rattle.session_core.proofs.acts.insert.Goals as goal
 

@@ -1,6 +1,4 @@
-use Rattle.std.proofs.Common.{◌≡◌, refl, sym, subst, ◌∙◌}
-use Rattle.store_layout.specs.DiskLayout.{DiskLayout}
-use Rattle.store_layout.specs.FirstBrokenRule.{KeepsLimits}
+use Rattle.std.proofs.Common.{refl}
 use Rattle.session_core.specs.StoreFaults.{fault_of}
 use Rattle.session_core.proofs.Acting.{cause_of, others_marked, query_below}
 use Rattle.session_core.proofs.Marking.{layout_stays, rows_stay, tables_stay}
@@ -8,12 +6,12 @@ use Rattle.session_core.proofs.acts.mark_hits.Goals as goal
 
 pub returns-in-Ok-clause-rows : goal.returns-in-Ok-clause-rows
 returns-in-Ok-clause-rows g c = λ tells.
-    rows_stay (record { one = c.slots_are_read.ensures.one; unstarted = c.slots_are_read.ensures.unstarted }) c.args.tables.now c.mark_hits.new.self c.args.query.now.table (subst (λ (d : DiskLayout). KeepsLimits d.schema d.sizes) c.layout.ensures c.known.ensures.limits) (c.requires.sound tells)
+    rows_stay (record { one = c.slots_are_read.ensures.one; unstarted = c.slots_are_read.ensures.unstarted }) c.args.tables.now c.mark_hits.new.self c.args.query.now.table c.requires.fit (c.requires.sound tells)
     (record { layout = c.mark_hits.ensures.others.leaves.layout; rows = c.mark_hits.ensures.rows tells; others = c.mark_hits.ensures.others.tables tells })
 
 pub returns-in-Ok-clause-sound : goal.returns-in-Ok-clause-sound
 returns-in-Ok-clause-sound g c = λ tells.
-    tables_stay (record { one = c.slots_are_read.ensures.one; unstarted = c.slots_are_read.ensures.unstarted }) c.args.tables.now c.mark_hits.new.self c.args.query.now.table (subst (λ (d : DiskLayout). KeepsLimits d.schema d.sizes) c.layout.ensures c.known.ensures.limits) (c.requires.sound tells)
+    tables_stay (record { one = c.slots_are_read.ensures.one; unstarted = c.slots_are_read.ensures.unstarted }) c.args.tables.now c.mark_hits.new.self c.args.query.now.table c.requires.fit (c.requires.sound tells)
     (record { layout = c.mark_hits.ensures.others.leaves.layout; rows = c.mark_hits.ensures.rows tells; others = c.mark_hits.ensures.others.tables tells })
 
 pub returns-in-Ok-clause-fit : goal.returns-in-Ok-clause-fit
@@ -25,12 +23,12 @@ returns-in-Ok-clause-others g c =
 
 pub returns-in-Err-clause-rows : goal.returns-in-Err-clause-rows
 returns-in-Err-clause-rows g c = λ tells.
-    rows_stay (record { one = c.slots_are_read.ensures.one; unstarted = c.slots_are_read.ensures.unstarted }) c.args.tables.now c.mark_hits.new.self c.args.query.now.table (subst (λ (d : DiskLayout). KeepsLimits d.schema d.sizes) c.layout.ensures c.known.ensures.limits) (c.requires.sound tells)
+    rows_stay (record { one = c.slots_are_read.ensures.one; unstarted = c.slots_are_read.ensures.unstarted }) c.args.tables.now c.mark_hits.new.self c.args.query.now.table c.requires.fit (c.requires.sound tells)
     (record { layout = c.mark_hits.ensures.others.leaves.layout; rows = c.mark_hits.ensures.rows tells; others = c.mark_hits.ensures.others.tables tells })
 
 pub returns-in-Err-clause-sound : goal.returns-in-Err-clause-sound
 returns-in-Err-clause-sound g c = λ tells.
-    tables_stay (record { one = c.slots_are_read.ensures.one; unstarted = c.slots_are_read.ensures.unstarted }) c.args.tables.now c.mark_hits.new.self c.args.query.now.table (subst (λ (d : DiskLayout). KeepsLimits d.schema d.sizes) c.layout.ensures c.known.ensures.limits) (c.requires.sound tells)
+    tables_stay (record { one = c.slots_are_read.ensures.one; unstarted = c.slots_are_read.ensures.unstarted }) c.args.tables.now c.mark_hits.new.self c.args.query.now.table c.requires.fit (c.requires.sound tells)
     (record { layout = c.mark_hits.ensures.others.leaves.layout; rows = c.mark_hits.ensures.rows tells; others = c.mark_hits.ensures.others.tables tells })
 
 pub returns-in-Err-clause-fit : goal.returns-in-Err-clause-fit

@@ -1,4 +1,4 @@
-use Rattle.std.proofs.Common.{◌≡◌, true, refl, arith}
+use Rattle.std.proofs.Common.{true, refl, arith}
 use Rattle.block_model.specs.declared.request.Request.TheVariants.{Look}
 use Rattle.block_model.specs.declared.request.Tag.TheVariants.{NoMemory}
 use Rattle.block_model.specs.declared.reply.Reply.TheVariants as replies

@@ -1,4 +1,4 @@
-use Rattle.std.proofs.Common.{◌≡◌, Err, List, true, refl, sym, ap, ◌∙◌, subst, arith, Result}
+use Rattle.std.proofs.Common.{Err, List, true, refl, subst}
 use Rattle.block_model.specs.declared.row.Row.{Row}
 use Rattle.block_model.specs.declared.request.Request.TheVariants.{Look}
 use Rattle.block_model.specs.declared.request.Tag.TheVariants.{NoMemory}

@@ -1,7 +1,5 @@
-use Rattle.std.proofs.Common.{sym, ap, ◌∙◌, subst, Err}
+use Rattle.std.proofs.Common.{sym, ◌∙◌, subst, Err}
 use Rattle.page_store.specs.Keeps.{Leaves, Tells}
-use Rattle.session_core.specs.declared.hand.Hand.{Hand}
-use Rattle.session_core.specs.Acts.{UndoneBy}
 use Rattle.session_core.specs.SessionList.{names_of, hands_of}
 use Rattle.session_core.specs.StoreState.{PagedStore}
 use Rattle.session_core.specs.StoreInvariant.{sessions_of}
@@ -47,7 +45,7 @@ invariant_of-self-in-Err g c =
     (λ tells. undone_first t j c.args.session statement c.act.new.tables c.act.new.journal c.in-Err.field-0.fault (c.in-Err.ensures.undone tells)) c.in-Err.ensures.still c.in-Err.ensures.stand
     (names_of c.put_hand.new.sessions.items) (hands_of c.put_hand.new.sessions.items) (c.put_hand.ensures.names ∙ c.take_hand-hand.ensures.names)
     (put_back g.D.Disk.told t j (names_of c.self.inside.sessions.items) (hands_of c.self.inside.sessions.items) c.args.session statement c.self.invariant c.take_hand-hand.ensures.hand
-    (hands_of c.put_hand.new.sessions.items) (hands_of c.take_hand-hand.new.sessions.items) c.in-Err.hand.statement c.take_hand-hand.ensures.hands c.put_hand.ensures.hands (ap (λ (h : Hand). h.statement) (sym c.in-Err.hand-is) ∙ c.in-Err.ensures.back))
+    (hands_of c.put_hand.new.sessions.items) (hands_of c.take_hand-hand.new.sessions.items) c.in-Err.field-0.hand.statement c.take_hand-hand.ensures.hands c.put_hand.ensures.hands c.in-Err.ensures.back)
 
 pub returns-in-Err-clause-steps : goal.returns-in-Err-clause-steps
 returns-in-Err-clause-steps g c = λ tells.
@@ -57,15 +55,14 @@ returns-in-Err-clause-steps g c = λ tells.
     let hands = hands_of c.self.inside.sessions.items in
     let statement = c.take_hand-hand.result.statement in
     let inside = subst (λ (s : PagedStore _). Tells g.D.Disk.told s.pages) (sym c.self.view_is) tells in
-    subst (λ (s : PagedStore _). Steps s.state c.args.session (sessions_of c.act.new.tables c.put_hand.new.sessions.items c.act.new.journal) (Err c.in-Err.fault)) c.self.view_is
-    (stops_short g.D.Disk.told t j names hands c.args.session c.self.invariant (c.self.invariant.shown inside) statement c.take_hand-hand.ensures.hand c.act.new.tables c.act.new.journal c.in-Err.fault
-    (names_of c.put_hand.new.sessions.items) (hands_of c.put_hand.new.sessions.items) (subst (UndoneBy t j c.args.session statement c.act.new.tables c.act.new.journal) c.in-Err.fault-is (c.in-Err.ensures.undone inside)) c.in-Err.ensures.still (c.put_hand.ensures.names ∙ c.take_hand-hand.ensures.names)
+    subst (λ (s : PagedStore _). Steps s.state c.args.session (sessions_of c.act.new.tables c.put_hand.new.sessions.items c.act.new.journal) (Err c.in-Err.field-0.fault)) c.self.view_is
+    (stops_short g.D.Disk.told t j names hands c.args.session c.self.invariant (c.self.invariant.shown inside) statement c.take_hand-hand.ensures.hand c.act.new.tables c.act.new.journal c.in-Err.field-0.fault
+    (names_of c.put_hand.new.sessions.items) (hands_of c.put_hand.new.sessions.items) (c.in-Err.ensures.undone inside) c.in-Err.ensures.still (c.put_hand.ensures.names ∙ c.take_hand-hand.ensures.names)
     (put_back g.D.Disk.told t j names hands c.args.session statement c.self.invariant c.take_hand-hand.ensures.hand
-    (hands_of c.put_hand.new.sessions.items) (hands_of c.take_hand-hand.new.sessions.items) c.in-Err.hand.statement c.take_hand-hand.ensures.hands c.put_hand.ensures.hands (ap (λ (h : Hand). h.statement) (sym c.in-Err.hand-is) ∙ c.in-Err.ensures.back)))
+    (hands_of c.put_hand.new.sessions.items) (hands_of c.take_hand-hand.new.sessions.items) c.in-Err.field-0.hand.statement c.take_hand-hand.ensures.hands c.put_hand.ensures.hands c.in-Err.ensures.back))
 
 pub returns-in-Err-clause-leaves : goal.returns-in-Err-clause-leaves
 returns-in-Err-clause-leaves g c = subst (λ (s : PagedStore _). Leaves g.D.Disk.told s.pages c.act.new.tables.versions.store) c.self.view_is c.in-Err.ensures.still.leaves
 
 pub returns-in-Err-clause-cause : goal.returns-in-Err-clause-cause
-returns-in-Err-clause-cause g c = subst (λ (s : PagedStore _). HasFaultCause g.D.Disk.told s.pages c.act.new.tables.versions.store c.in-Err.fault) c.self.view_is
-    (subst (HasFaultCause g.D.Disk.told c.self.inside.tables.versions.store c.act.new.tables.versions.store) c.in-Err.fault-is c.in-Err.ensures.cause)
+returns-in-Err-clause-cause g c = subst (λ (s : PagedStore _). HasFaultCause g.D.Disk.told s.pages c.act.new.tables.versions.store c.in-Err.field-0.fault) c.self.view_is c.in-Err.ensures.cause

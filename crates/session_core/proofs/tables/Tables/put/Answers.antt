@@ -1,7 +1,5 @@
-use Rattle.std.proofs.Common.{◌≡◌, sym, ap, ◌∙◌, subst, List, length}
-use Rattle.block_model.specs.declared.row.Row.{Row}
+use Rattle.std.proofs.Common.{◌≡◌, sym, ap, ◌∙◌, subst}
 use Rattle.block_model.specs.declared.schema.Schema.{Schema}
-use Rattle.block_model.specs.declared.value.Value.{Value}
 use Rattle.store_layout.specs.DiskLayout.{DiskLayout}
 use Rattle.page_layout.specs.RowBytes.{HaveKinds}
 use Rattle.page_store.specs.Keeps.{Tells}
