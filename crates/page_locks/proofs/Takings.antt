@@ -1,19 +1,19 @@
 -- what a call makes of the locks where an actor takes some
-use Rattle.std.proofs.Common.{◌≡◌, ◌≢◌, ◌==◌, ℕ, zero, suc, ◌+◌, ◌<◌, ◌≤◌, get_or, drop, Bool, true, false, cond, not, ◌&&◌, eqb, List, [], ◌∷◌, ◌++◌, length, filter, Option, Some, None, refl, sym, ap, ◌∙◌, subst, inl, inr, ⊎_elim, arith}
+use Rattle.std.proofs.Common.{◌≡◌, ◌≢◌, ℕ, zero, suc, ◌+◌, ◌<◌, ◌≤◌, get_or, drop, Bool, true, false, cond, List, [], ◌∷◌, ◌++◌, length, Option, Some, None, refl, sym, ap, ◌∙◌, subst, inl, inr, ⊎_elim, arith}
 use Rattle.std.specs.Ordering.{eq_by_cmp}
 use Rattle.std.specs.FinMap.{get, insert, remove, len, get-insert, get-remove, len-insert, contains_key, same_map}
 use Rattle.std.proofs.lemmas.List.{drop_more}
-use Rattle.std.proofs.lemmas.Bool.{cond-true, cond-false, cases_Bool, eq-eqb, eqb-true, ne_eqb, cases_eq, and_left, not-true}
+use Rattle.std.proofs.lemmas.Bool.{cond-true, cond-false, cases_Bool, eq-eqb, ne_eqb}
 use Rattle.block_model.specs.declared.place.Place.{Place}
 use Rattle.block_model.specs.NumberMaps.{none_Some, same_Some}
 use Rattle.page_locks.specs.declared.held.Held.{Held}
 use Rattle.page_locks.specs.LockHolders.{Holders, LockState, place_cmp, places_total, places_exact, holder, with_lock}
-use Rattle.page_locks.specs.LockChanges.{page_of, IsOneOf, IsFreeFor, IsAnothers, TakesAll, IsFirstHeld, FirstHeld, LaterHeld, GivesAll}
+use Rattle.page_locks.specs.LockChanges.{page_of, IsOneOf, IsFreeFor, IsAnothers, TakesAll, IsFirstHeld, FirstHeld, LaterHeld}
 use Rattle.page_locks.specs.LockCounts.{AddsAtMost}
-use Rattle.page_locks.specs.HeldLocks.{AreApart, found, holders_of, shown, is_left, is_others, with_locks}
-use Rattle.page_locks.proofs.Places.{same_place, ties_back, ties_itself}
-use Rattle.page_locks.proofs.Entries.{held_in_map, holders_push, insert_same, kept, found_filter, apart_filter, len_listed}
-use Rattle.page_locks.proofs.Counts.{one, held_by, insert_counted, counted_listed, count_filter_le, count_filter_same, count_filter_none}
+use Rattle.page_locks.specs.HeldLocks.{found, holders_of, shown, with_locks}
+use Rattle.page_locks.proofs.Places.{same_place, ties_itself}
+use Rattle.page_locks.proofs.Entries.{held_in_map, holders_push, insert_same}
+use Rattle.page_locks.proofs.Counts.{one, held_by, insert_counted}
 
 pub counts_same : (s : LockState) (actor more : ℕ) → AddsAtMost s s actor more
 counts_same s actor more = record { own = omega arith; others = λ a _. refl; all = omega arith }
