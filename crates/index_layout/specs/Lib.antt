@@ -1,0 +1,3 @@
+pub mod IndexPages
+pub mod IndexReading
+pub mod IndexFaults
