@@ -5,3 +5,6 @@ pub mod Entries
 pub mod Walks
 pub mod PageKinds
 pub mod Reading
+pub mod Moves
+pub mod SlotWrites
+pub mod PageWrites

@@ -6,7 +6,7 @@ use Rattle.std.proofs.lemmas.Bool.{eqb-true, eq-eqb, ne_eqb, eqb-false}
 use Rattle.std.proofs.lemmas.List.{length-replicate, drop-drop, drop_more, drop_all, get_or_past}
 use Rattle.block_model.specs.declared.place.Spot.{Spot}
 use Rattle.byte_fields.specs.Fields.{number_of, field_at, number-bytes}
-use Rattle.index_layout.specs.IndexPages.{Slot, IsSlot, AreSlots, HasSlots, IsRegular, IsMeta, IsMap, IsIndexPage, Unstarted, Meta, Map, Regular, tuple_bytes, taken, tuples, header, regular_bytes, meta_bytes, map_bytes, entries_bytes}
+use Rattle.index_layout.specs.IndexPages.{Slot, IsSlot, AreSlots, IsLastUsed, HasSlots, IsRegular, IsMeta, IsMap, IsIndexPage, Unstarted, Meta, Map, Regular, tuple_bytes, taken, tuples, header, regular_bytes, meta_bytes, map_bytes, entries_bytes}
 use Rattle.index_layout.specs.IndexReading.{number_at, is_regular, slot_in, slots_in, slots_of, entry_in, entries_in, entries_of, map_pages_of, end_from, free_of, free_slot_of}
 use Rattle.index_layout.proofs.SlotLists.{taken-is, length-in, length-regular}
 use Rattle.index_layout.proofs.SlotsRead.{one_list, slot_read, slot_at, SlotAt, end_all, end_more}
@@ -41,19 +41,19 @@ pub slots_some : (page : List ℕ) → is_regular (get_or page 0 0) ≡ true →
 unfolding slots_of
 slots_some page e = ap (λ (t : Bool). cond t (slots_in page (number_at page 2 2) (drop 32 page)) []) e
 
-front_zero : (n : ℕ) → get_or (replicate n 0) 0 0 ≡ 0
-front_zero zero = refl
-front_zero (suc n) = refl
+pub front_zero : (n : ℕ) → get_or {A = ℕ} (replicate n 0) 0 0 ≡ 0
+pub front_zero zero = refl
+pub front_zero (suc n) = refl
 
-front_meta : (pages : ℕ) → get_or (meta_bytes pages) 0 0 ≡ 3
+pub front_meta : (pages : ℕ) → get_or (meta_bytes pages) 0 0 ≡ 3
 unfolding meta_bytes
 front_meta pages = refl
 
-front_map : (entries : List (Option Spot)) → get_or (map_bytes entries) 0 0 ≡ 4
+pub front_map : (entries : List (Option Spot)) → get_or (map_bytes entries) 0 0 ≡ 4
 unfolding map_bytes
 front_map entries = refl
 
-front_regular : (kind : ℕ) (slots : List Slot) → get_or (regular_bytes kind slots) 0 0 ≡ kind
+pub front_regular : (kind : ℕ) (slots : List Slot) → get_or (regular_bytes kind slots) 0 0 ≡ kind
 unfolding regular_bytes
 front_regular kind slots = refl
 
@@ -66,15 +66,23 @@ has_read kind slots page has =
     let own = subst (λ (k : ℕ). HasSlots k slots page) (sym (regular_front kind slots page has)) has in
     subst (λ (s : List Slot). HasSlots (get_or page 0 0) s page) (one_list kind slots page has) own
 
-no_slots : (page : List ℕ) (kind : ℕ) → get_or page 0 0 ≡ kind → is_regular kind ≡ false → 0 < length (slots_of page) → ⊥
-no_slots page kind front other some = let none = ap length (slots_none page (ap is_regular front ∙ other)) in omega (arith, none)
+other_kind : (page : List ℕ) (kind : ℕ) → get_or page 0 0 ≡ kind → is_regular kind ≡ false → is_regular (get_or page 0 0) ≡ true → ⊥
+other_kind page kind front other is = let same : false ≡ true = sym other ∙ ap is_regular (sym front) ∙ is in cc
 
--- a page that has a slot has its slots
-pub regular_of : (page : List ℕ) (n : ℕ) → n ≡ 8192 → IsIndexPage page → 0 < length (slots_of page) → HasSlots (get_or page 0 0) (slots_of page) page
-regular_of page n is (Unstarted zeros) some = absurd (no_slots page 0 (ap (λ (l : List ℕ). get_or l 0 0) (zeros ∙ ap (λ (k : ℕ). replicate k 0) (sym is)) ∙ front_zero n) refl some)
-regular_of page n is (Meta pages meta) some = absurd (no_slots page 3 (ap (λ (l : List ℕ). get_or l 0 0) meta.bytes ∙ front_meta pages) refl some)
-regular_of page n is (Map entries map) some = absurd (no_slots page 4 (ap (λ (l : List ℕ). get_or l 0 0) map.bytes ∙ front_map entries) refl some)
-regular_of page n is (Regular kind slots regular) some = has_read kind slots page regular.has
+-- a page of tuples has the slots that are read
+pub regular_of : (page : List ℕ) (n : ℕ) → n ≡ 8192 → IsIndexPage page → is_regular (get_or page 0 0) ≡ true → IsRegular (get_or page 0 0) (slots_of page) page
+regular_of page n is (Unstarted zeros) some = absurd (other_kind page 0 (ap (λ (l : List ℕ). get_or l 0 0) (zeros ∙ ap (λ (k : ℕ). replicate k 0) (sym is)) ∙ front_zero n) refl some)
+regular_of page n is (Meta pages meta) some = absurd (other_kind page 3 (ap (λ (l : List ℕ). get_or l 0 0) meta.bytes ∙ front_meta pages) refl some)
+regular_of page n is (Map entries map) some = absurd (other_kind page 4 (ap (λ (l : List ℕ). get_or l 0 0) map.bytes ∙ front_map entries) refl some)
+regular_of page n is (Regular kind slots regular) some = record { has = has_read kind slots page regular.has; last = subst IsLastUsed (one_list kind slots page regular.has) regular.last }
+
+-- and so has a page with a slot
+pub slots_there : (page : List ℕ) → 0 < length (slots_of page) → is_regular (get_or page 0 0) ≡ true
+slots_there page some = by (is_regular (get_or page 0 0)) refl
+  where
+    by : (t : Bool) → is_regular (get_or page 0 0) ≡ t → is_regular (get_or page 0 0) ≡ true
+    by true e = e
+    by false e = let none = ap length (slots_none page e) in absurd (omega (arith, none))
 
 -- how many slots there are
 pub count_read : (page : List ℕ) → is_regular (get_or page 0 0) ≡ true → number_at page 2 2 ≡ length (slots_of page)
@@ -115,6 +123,29 @@ tuple_read page i at from size has below place some se fe =
     ∙ (λ i. cond (eqb (width i) 0) None (Some (field_at page (offset i) (width i))))
     ∙ sym (slot_read page (number_at page 2 2) i (drop 32 page) (omega (arith, count_read page kind)))
     ∙ ap (λ (s : List Slot). get_or s i None) (sym (slots_some page kind))
+
+-- where a tuple begins, by the offset of its slot
+pub record OffsetAt (slots : List Slot) (i offset : ℕ) : Type 0 where
+  pub free : offset ≡ 0 → end_from 8192 (i + 1) slots ≡ end_from 8192 i slots
+  pub used : 0 < offset → offset ≡ end_from 8192 (i + 1) slots
+  pub begins : 0 < length (tuple_bytes (get_or slots i None)) → offset ≡ end_from 8192 i slots - length (tuple_bytes (get_or slots i None))
+
+pub offset_read : (kind : ℕ) (slots : List Slot) (page : List ℕ) (i at offset : ℕ) → HasSlots kind slots page → i < length slots → at ≡ i → offset ≡ number_of (field_at page (32 + at * 4) 2) → OffsetAt slots i offset
+offset_read kind slots page i at offset has below place is =
+    let s = slot_at kind slots page i has below in
+    let tuple = tuple_bytes (get_or slots i None) in
+    let here : offset ≡ number_of (field_at page (32 + i * 4) 2) = is ∙ ap (λ (k : ℕ). number_of (field_at page (32 + k * 4) 2)) place in
+    let next : end_from 8192 (i + 1) slots ≡ end_from 8192 i slots - length tuple = ap (λ (k : ℕ). end_from 8192 k slots) (let e : i + 1 ≡ suc i = omega arith in e) ∙ end_more i slots 8192 in
+    let empty : length tuple ≡ 0 → offset ≡ 0 = λ e. here ∙ s.free (free_at kind slots page i has e) in
+    let full : 0 < length tuple → offset ≡ end_from 8192 i slots - length tuple = λ some. here ∙ s.offset some in
+    by (length tuple) refl next empty full s.room
+  where
+    by : (n : ℕ) → length (tuple_bytes (get_or slots i None)) ≡ n → end_from 8192 (i + 1) slots ≡ end_from 8192 i slots - length (tuple_bytes (get_or slots i None)) → (length (tuple_bytes (get_or slots i None)) ≡ 0 → offset ≡ 0) → (0 < length (tuple_bytes (get_or slots i None)) → offset ≡ end_from 8192 i slots - length (tuple_bytes (get_or slots i None)))
+        → 32 + 4 * length slots + length (tuple_bytes (get_or slots i None)) ≤ end_from 8192 i slots → OffsetAt slots i offset
+    by zero e next empty full room = record { free = λ z. omega arith; used = λ some. absurd (omega (arith, empty e)); begins = λ some. absurd (omega arith) }
+    by (suc n) e next empty full room =
+        let is_there = full (omega arith) in
+        record { free = λ z. absurd (omega arith); used = λ some. omega arith; begins = λ some. is_there }
 
 -- free slots
 

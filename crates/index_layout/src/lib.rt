@@ -7,8 +7,18 @@
 
 mod checking;
 mod format;
+mod moving;
 mod readers;
+mod room;
+mod writers;
 
 pub use checking::first_fault;
 pub use format::{EVACUATED, MAP, MAP_ENTRIES, META, REGULAR, UNSTARTED};
-pub use readers::{entry_at, free_bytes, free_slot, kind_of, map_pages, slots, tuple_at, tuple_range};
+pub use readers::{
+    entry_at, free_bytes, free_slot, kind_of, map_pages, slots, tuple_at, tuple_range,
+};
+pub use room::{can_drop, can_put, can_replace, room_for};
+pub use writers::{
+    drop_tuples, evacuate, put_tuple, replace_tuple, set_entry, set_map_pages, start_map,
+    start_meta, start_regular, turn_to_map,
+};

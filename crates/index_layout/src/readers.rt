@@ -1,11 +1,11 @@
 //! What stands on a page that passed its check.
 
-ghost use Rattle.std.specs.Prelude.{◌≡◌, ◌+◌, ◌-◌, ◌*◌, ◌<◌, ◌≤◌, length, slice_index, slice_index_or, None};
+ghost use Rattle.std.specs.Prelude.{◌≡◌, ◌+◌, ◌-◌, ◌*◌, ◌<◌, ◌≤◌, length, slice_index, slice_index_or, true, None};
 ghost use Rattle.std.specs.Option.{option_map};
 ghost use Rattle.block_model.specs.declared.limits.TheConstants.{PAGE_SIZE};
 ghost use Rattle.byte_fields.specs.Fields.{field_at, number_of};
 ghost use Rattle.index_layout.specs.declared.format.TheConstants.{MAP_ENTRIES};
-ghost use Rattle.index_layout.specs.IndexPages.{HasSlots, IsIndexPage, tuple_bytes};
+ghost use Rattle.index_layout.specs.IndexPages.{HasSlots, IsIndexPage, IsRegular, tuple_bytes};
 ghost use Rattle.index_layout.specs.IndexReading.{end_from, entries_of, free_of, free_slot_of, is_regular, map_pages_of, slots_of};
 
 use crate::format::{
@@ -28,10 +28,10 @@ pub fn slots(page: &[u8]) -> u16
     ensures { result ≡ length (slots_of page.now) }
 {
     page_known(page);
-    if !is_regular(page[0]) {
-        return 0;
+    if is_regular(page[0]) {
+        return get_u16(page, COUNT);
     }
-    get_u16(page, COUNT)
+    0
 }
 
 /// The tuple in that slot, borrowed from the page. None where the slot is free, and where the page has no such slot.
@@ -127,13 +127,13 @@ pub(crate) fn is_regular(kind: u8) -> bool
     kind == REGULAR || kind == EVACUATED
 }
 
-/// Does nothing; tells its caller how many bytes a page has, and that one with a slot has its slots.
+/// Does nothing; tells its caller how many bytes a page has, and that one of tuples has its slots.
 pub(crate) fn page_known(page: &[u8])
     requires { IsIndexPage page.now }
     ensures whole { length page.now ≡ PAGE_SIZE }
+    ensures regular { is_regular (slice_index page.now 0) ≡ true → IsRegular (slice_index page.now 0) (slots_of page.now) page.now }
     ensures has { 0 < length (slots_of page.now) → HasSlots (slice_index page.now 0) (slots_of page.now) page.now }
-{
-}
+{}
 
 /// The length of the tuple in that slot, 0 where it is free.
 pub(crate) fn size_at(page: &[u8], slot: u16) -> usize
