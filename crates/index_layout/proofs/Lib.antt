@@ -8,3 +8,4 @@ pub mod Reading
 pub mod Moves
 pub mod SlotWrites
 pub mod PageWrites
+pub mod Dropping

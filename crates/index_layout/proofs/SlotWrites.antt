@@ -312,3 +312,37 @@ lengths_room kind slots n at count tuple page below place counted fit room e =
     ∙ (λ i. size i + lengths_in (length b) (behind i))
     ∙ ap (λ (k : ℕ). length tuple + k) (lengths_directory b (end - length (tuple_bytes s)) tail few) in
     omega (arith, whole, sizes.end, sizes.all, fit.room, room, taken-is slots)
+
+-- where the tuple goes
+
+pub record PlaceSizes (slots : List Slot) (n low end size : ℕ) (tuple : List ℕ) : Type 0 where
+  pub fits : size ≤ end
+  pub order : low ≤ end - size
+  pub within : end ≤ 8192
+  pub room : length tuple ≤ low + (end - (end - size))
+
+pub place_sizes : (slots : List Slot) (n count low end size : ℕ) (tuple : List ℕ) → n < length slots → FitPage slots → length tuple ≤ free_of slots + length (tuple_bytes (get_or slots n None)) → count ≡ length slots → size ≡ length (tuple_bytes (get_or slots n None)) → end ≡ end_from 8192 n slots → low ≡ end_from 8192 count slots → PlaceSizes slots n low end size tuple
+place_sizes slots n count low end size tuple below fit room counted size_is end_is low_is =
+    let sizes = sizes_of slots n tuple below in
+    let all : low ≡ 8192 - length (tuples slots) = low_is ∙ ap (λ (k : ℕ). end_from 8192 k slots) counted ∙ end_all slots 8192 in
+    let last : end ≡ 8192 - length (tuples (take n slots)) = end_is ∙ sizes.end in
+    let few = taken-is slots in
+    let whole = sizes.all in
+    let most = fit.room in
+    record { fits = omega arith; order = omega arith; within = omega arith; room = omega arith }
+
+-- what the page is with the tuple in its place
+pub slot_placed : (kind : ℕ) (slots : List Slot) (n count low end size : ℕ) (tuple page new : List ℕ) → n < length slots → HasSlots kind slots page → length tuple ≤ free_of slots + length (tuple_bytes (get_or slots n None)) → count ≡ length slots → size ≡ length (tuple_bytes (get_or slots n None)) → end ≡ end_from 8192 n slots → low ≡ end_from 8192 count slots
+    → ((front others old behind : List ℕ) (zeros : ℕ) → page ≡ front ++ (replicate zeros 0 ++ (others ++ (old ++ behind))) → length front + zeros ≡ low → low + length others ≡ end - size → end - size + length old ≡ end → length tuple ≤ zeros + length old → new ≡ front ++ (replicate (zeros + length old - length tuple) 0 ++ (others ++ (tuple ++ behind))))
+    → new ≡ header kind (length slots) ++ (directory 8192 slots ++ area (set slots n (slot_with tuple)))
+slot_placed kind slots n count low end size tuple page new below has room counted size_is end_is low_is placed =
+    let sizes = sizes_of slots n tuple below in
+    let front = header kind (length slots) ++ directory 8192 slots in
+    let all : low ≡ 8192 - length (tuples slots) = low_is ∙ ap (λ (k : ℕ). end_from 8192 k slots) counted ∙ end_all slots 8192 in
+    let last : end ≡ 8192 - length (tuples (take n slots)) = end_is ∙ sizes.end in
+    let few = taken-is slots in
+    let whole = sizes.all in
+    let most = has.fit.room in
+    let long = front_long kind slots in
+    placed_parts kind slots n tuple new below has.fit.room room
+    (placed front (tuples (drop (suc n) slots)) (tuple_bytes (get_or slots n None)) (tuples (take n slots)) (8160 - taken slots) (page_parts kind slots n page below has.bytes) (omega arith) (omega arith) (omega arith) (omega arith))

@@ -7,6 +7,7 @@
 
 mod checking;
 mod format;
+mod laws;
 mod moving;
 mod readers;
 mod room;
@@ -14,6 +15,7 @@ mod writers;
 
 pub use checking::first_fault;
 pub use format::{EVACUATED, MAP, MAP_ENTRIES, META, REGULAR, UNSTARTED};
+pub use laws::an_index_page_has_one_list;
 pub use readers::{
     entry_at, free_bytes, free_slot, kind_of, map_pages, slots, tuple_at, tuple_range,
 };

@@ -1,6 +1,6 @@
 //! How one slot of a page gets another tuple: the tuples of the slots behind it move, and their offsets with them.
 
-ghost use Rattle.std.specs.Prelude.{◌≡◌, ◌+◌, ◌-◌, ◌*◌, ◌<◌, ◌≤◌, ◌++◌, ℕ, List, length, take, drop, replicate, set, slice_index, slice_index_or, None};
+ghost use Rattle.std.specs.Prelude.{◌≡◌, ◌+◌, ◌-◌, ◌*◌, ◌<◌, ◌≤◌, ◌++◌, ◌==◌, if◌then◌else◌, ℕ, List, length, take, drop, replicate, set, slice_index, slice_index_or, None};
 ghost use Rattle.block_model.specs.declared.limits.TheConstants.{PAGE_SIZE};
 ghost use Rattle.index_layout.specs.IndexPages.{HasSlots, tuple_bytes};
 ghost use Rattle.index_layout.specs.IndexReading.{free_of, slots_of};
@@ -24,11 +24,12 @@ pub(crate) fn set_slot(page: &mut [u8], count: u16, slot: u16, tuple: &[u8])
     let end = end_of(page, slot);
     let low = end_of(page, count);
     place_tuple(page, low, end - size, end, tuple);
-    if size != tuple.len() {
-        let at = HEADER + usize::from(slot) * SLOT_SIZE;
-        put_u16(page, at + LENGTH, tuple.len() as u16);
-        lay_offsets(page, at, count - slot, end);
+    if size == tuple.len() {
+        return;
     }
+    let at = HEADER + usize::from(slot) * SLOT_SIZE;
+    put_u16(page, at + LENGTH, tuple.len() as u16);
+    lay_offsets(page, at, count - slot, end);
 }
 
 /// The tuple stands up to `end` in the place of the bytes from `start` on, and the bytes from `low` to `start` stand before it.
@@ -59,9 +60,10 @@ fn move_bytes(page: &mut [u8], low: usize, start: usize, to: usize)
         return;
     }
     page.copy_within(low..start, to);
-    if low < to {
-        page[low..to].fill(0);
+    if to < low {
+        return;
     }
+    page[low..to].fill(0);
 }
 
 /// Writes anew the offsets of this many slots whose directory begins at the place, by their lengths and the end of the first

@@ -23,10 +23,10 @@ pub fn put_tuple(page: &mut [u8], slot: u16, tuple: &[u8])
     let count = slots(page);
     if slot < count {
         set_slot(page, count, slot, tuple);
-    } else {
-        add_slot(page, count);
-        set_slot(page, count + 1, slot, tuple);
+        return;
     }
+    add_slot(page, count);
+    set_slot(page, count + 1, slot, tuple);
 }
 
 /// The tuple stands in the slot in the place of another.
