@@ -3,7 +3,7 @@ use Rattle.std.proofs.Common.{◌≡◌, ℕ, zero, suc, ◌+◌, ◌-◌, ◌*�
 use Rattle.std.specs.Prelude.{Option, None, Some, replicate, slice_get}
 use Rattle.std.specs.Int.{bytes_high_first}
 use Rattle.std.proofs.lemmas.Bool.{ne_eqb, eq-eqb, lt-ltb, le-ltb, eqb-false, eqb-true}
-use Rattle.std.proofs.lemmas.List.{append-nil, length-replicate, replicate-append-replicate, length-set, length-take-le, take_at, drop_at, set_split, set-get_or, set_at, length_push, take_more, take_all, get_or_default}
+use Rattle.std.proofs.lemmas.List.{append-nil, length-replicate, replicate-append-replicate, length-set, length-take-le, take_at, drop_at, set_split, set-get_or, set_at, length_push, take_more, take_all, drop_all}
 use Rattle.block_model.specs.declared.place.Spot.{Spot}
 use Rattle.byte_fields.specs.Fields.{number_of, put_at, put-part, number-bytes}
 use borrow.Rule.Slice.PartMut.{put_mid}
@@ -214,13 +214,14 @@ pub slot_put_there : (kind : ℕ) (slots : List Slot) (n : ℕ) (tuple page : Li
 slot_put_there kind slots n tuple page below some five last has = subst (λ (s : List Slot). IsRegular 5 s page) (sym (put_there slots n tuple below)) (slot_put kind slots n tuple page below some five last has)
 
 -- and in the next one, which was added
-pub slot_put_next : (kind : ℕ) (slots all : List Slot) (n : ℕ) (tuple page : List ℕ) → n ≡ length slots → all ≡ slots ++ None ∷ [] → 0 < length tuple → kind ≡ 5 → HasSlots kind (set all n (slot_with tuple)) page → IsRegular 5 (put_in slots n tuple) page
-slot_put_next kind slots all n tuple page next all_is some five has =
-    let whole : set all n (slot_with tuple) ≡ slots ++ Some tuple ∷ [] = (λ i. set (all_is i) n (with_some tuple some i)) ∙ set_at slots None [] (Some tuple) n (sym next) in
-    let own : IsRegular 5 (slots ++ Some tuple ∷ []) page = record {
-      has = subst (λ (k : ℕ). HasSlots k (slots ++ Some tuple ∷ []) page) five (subst (λ (s : List Slot). HasSlots kind s page) whole has);
-      last = last_push slots tuple;
-    } in
+pub next_put : (kind first : ℕ) (slots all : List Slot) (n : ℕ) (tuple page : List ℕ) → n ≡ length slots → slots ++ None ∷ [] ≡ all → first ≡ kind → 0 < length tuple → HasSlots first (set all n (slot_with tuple)) page → HasSlots kind (slots ++ Some tuple ∷ []) page
+next_put kind first slots all n tuple page next all_is front some has =
+    let whole : set all n (slot_with tuple) ≡ slots ++ Some tuple ∷ [] = (λ i. set (sym all_is i) n (with_some tuple some i)) ∙ set_at slots None [] (Some tuple) n (sym next) in
+    subst (λ (k : ℕ). HasSlots k (slots ++ Some tuple ∷ []) page) front (subst (λ (s : List Slot). HasSlots first s page) whole has)
+
+pub slot_put_next : (kind : ℕ) (slots : List Slot) (n : ℕ) (tuple page : List ℕ) → n ≡ length slots → kind ≡ 5 → HasSlots kind (slots ++ Some tuple ∷ []) page → IsRegular 5 (put_in slots n tuple) page
+slot_put_next kind slots n tuple page next five has =
+    let own : IsRegular 5 (slots ++ Some tuple ∷ []) page = record { has = subst (λ (k : ℕ). HasSlots k (slots ++ Some tuple ∷ []) page) five has; last = last_push slots tuple } in
     subst (λ (s : List Slot). IsRegular 5 s page) (sym (put_next slots n tuple next)) own
 
 -- another kind
@@ -272,12 +273,19 @@ turned kind z n slots page new zs is has none put =
 zeros_set : (new z : ℕ) → set (replicate (32 + z) 0) 0 new ≡ header new 0 ++ replicate z 0
 zeros_set new z = ap (λ (l : List ℕ). set l 0 new) (sym (replicate-append-replicate 32 z 0))
 
-pub begun : (page new : List ℕ) (kind z n : ℕ) → n ≡ length page → length page ≡ 8192 → z ≡ 8160 → new ≡ set (replicate n 0) 0 kind → new ≡ header kind 0 ++ replicate z 0
-begun page new kind z n is long zs put = put ∙ ap (λ (k : ℕ). set (replicate k 0) 0 kind) (let e : n ≡ 32 + z = omega arith in e) ∙ zeros_set kind z
+pub begun : (page mid : List ℕ) (kind n z : ℕ) → length page ≡ n → n ≡ 8192 → z ≡ 8160 → mid ≡ put_mid 0 n page (replicate n 0) → set mid 0 kind ≡ header kind 0 ++ replicate z 0
+begun page mid kind n z long is zs cleared =
+    let none : drop n page ≡ [] = drop_all n page (omega arith) in
+    let zeros : mid ≡ replicate n 0 = cleared ∙ ap (λ (l : List ℕ). replicate n 0 ++ l) none ∙ append-nil (replicate n 0) in
+    ap (λ (l : List ℕ). set l 0 kind) (zeros ∙ ap (λ (k : ℕ). replicate k 0) (let e : n ≡ 32 + z = omega arith in e)) ∙ zeros_set kind z
 
 pub regular_begun : (page : List ℕ) (z : ℕ) → z ≡ 8160 → page ≡ header 5 0 ++ replicate z 0 → IsRegular 5 [] page
 unfolding taken
 regular_begun page z zs e = record { has = record { of = inl refl; fit = record { are = tt; room = omega arith }; bytes = e ∙ sym (empty_regular 5 z zs) }; last = tt }
+
+-- the room of slots with one more
+pub room_added : (slots all : List Slot) → slots ++ None ∷ [] ≡ all → free_of all ≡ free_of slots - 4
+room_added slots all e = omega (arith, ap taken e, taken-append slots (None ∷ []), taken_free 1)
 
 -- the metapage
 

@@ -42,8 +42,8 @@ unfolding slots_of
 slots_some page e = ap (λ (t : Bool). cond t (slots_in page (number_at page 2 2) (drop 32 page)) []) e
 
 pub front_zero : (n : ℕ) → get_or {A = ℕ} (replicate n 0) 0 0 ≡ 0
-pub front_zero zero = refl
-pub front_zero (suc n) = refl
+front_zero zero = refl
+front_zero (suc n) = refl
 
 pub front_meta : (pages : ℕ) → get_or (meta_bytes pages) 0 0 ≡ 3
 unfolding meta_bytes

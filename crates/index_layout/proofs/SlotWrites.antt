@@ -109,10 +109,14 @@ relaid_entry end old None [] rest small = refl
 relaid_entry end old (Some other) [] rest small = refl
 relaid_entry end old None (byte ∷ bytes) rest small =
     let size : number_of (bytes_high_first 2 (suc (length bytes))) ≡ suc (length bytes) = two (suc (length bytes)) small in
-    λ i. bytes_high_first 2 (cond (eqb (size i) 0) 0 (end - size i)) ++ bytes_high_first 2 (suc (length bytes))
+    let some : eqb (suc (length bytes)) 0 ≡ false = ne_eqb (suc (length bytes)) 0 (λ e. absurd (omega arith)) in
+    (λ i. bytes_high_first 2 (cond (eqb (size i) 0) 0 (end - size i)) ++ bytes_high_first 2 (suc (length bytes)))
+    ∙ (λ i. bytes_high_first 2 (cond (some i) 0 (end - suc (length bytes))) ++ bytes_high_first 2 (suc (length bytes)))
 relaid_entry end old (Some other) (byte ∷ bytes) rest small =
     let size : number_of (bytes_high_first 2 (suc (length bytes))) ≡ suc (length bytes) = two (suc (length bytes)) small in
-    λ i. bytes_high_first 2 (cond (eqb (size i) 0) 0 (end - size i)) ++ bytes_high_first 2 (suc (length bytes))
+    let some : eqb (suc (length bytes)) 0 ≡ false = ne_eqb (suc (length bytes)) 0 (λ e. absurd (omega arith)) in
+    (λ i. bytes_high_first 2 (cond (eqb (size i) 0) 0 (end - size i)) ++ bytes_high_first 2 (suc (length bytes)))
+    ∙ (λ i. bytes_high_first 2 (cond (some i) 0 (end - suc (length bytes))) ++ bytes_high_first 2 (suc (length bytes)))
 
 pub length_relaid : (old : ℕ) (slot : Slot) (tuple rest : List ℕ) → length tuple < 65536 → number_at (take 2 (directory_entry old slot) ++ (bytes_high_first 2 (length tuple) ++ rest)) 2 2 ≡ length tuple
 length_relaid old None tuple rest small = two (length tuple) small

@@ -5,6 +5,7 @@ ghost use Rattle.block_model.specs.declared.limits.TheConstants.{PAGE_SIZE};
 ghost use Rattle.index_layout.specs.IndexPages.{HasSlots, tuple_bytes};
 ghost use Rattle.index_layout.specs.IndexReading.{free_of, slots_of};
 ghost use Rattle.index_layout.specs.IndexWrites.{laid, lengths_in, slot_with};
+ghost use borrow.Rule.Slice.PartMut.{put_mid};
 
 use crate::format::{HEADER, LENGTH, SLOT_SIZE};
 use crate::readers::{end_of, size_at};
@@ -63,7 +64,16 @@ fn move_bytes(page: &mut [u8], low: usize, start: usize, to: usize)
     if to < low {
         return;
     }
-    page[low..to].fill(0);
+    clear(page, low, to);
+}
+
+/// Zeros stand in the bytes from one place up to another.
+pub(crate) fn clear(page: &mut [u8], from: usize, to: usize)
+    requires order { from ≤ to }
+    requires within { to ≤ length page.old }
+    ensures cleared { page.new ≡ put_mid from (to - from) page.old (replicate (to - from) 0) }
+{
+    page[from..to].fill(0);
 }
 
 /// Writes anew the offsets of this many slots whose directory begins at the place, by their lengths and the end of the first

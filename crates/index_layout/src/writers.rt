@@ -1,16 +1,16 @@
 //! What is written to a page that passed its check.
 
-ghost use Rattle.std.specs.Prelude.{◌≡◌, ◌<◌, ◌≤◌, ◌++◌, ◌∷◌, [], length, set, take, replicate, slice_index, true, None, Some};
-ghost use Rattle.block_model.specs.declared.limits.TheConstants.{PAGE_SIZE};
+ghost use Rattle.std.specs.Prelude.{◌≡◌, ◌+◌, ◌<◌, ◌≤◌, ◌++◌, ◌∷◌, [], length, set, take, replicate, slice_index, true, None, Some};
+ghost use Rattle.block_model.specs.declared.limits.TheConstants.{PAGE_ROOM, PAGE_SIZE};
 ghost use Rattle.index_layout.specs.declared.format.TheConstants.{EVACUATED, MAP, MAP_ENTRIES, META, REGULAR};
-ghost use Rattle.index_layout.specs.IndexPages.{HasSlots, IsIndexPage, IsMap, IsMeta, IsRegular};
+ghost use Rattle.index_layout.specs.IndexPages.{header, HasSlots, IsIndexPage, IsMap, IsMeta, IsRegular};
 ghost use Rattle.index_layout.specs.IndexReading.{entries_of, free_of, slots_of};
 ghost use Rattle.index_layout.specs.IndexWrites.{CanDrop, CanPut, CanReplace, are_ascending, dropped, entry_for, put_in, trimmed};
 
 use crate::format::{COUNT, ENTRY_SIZE, ENTRY_SLOT, EVACUATED, HEADER, MAP, META, REGULAR};
-use crate::moving::set_slot;
+use crate::moving::{clear, set_slot};
 use crate::readers::{page_known, size_at, slots};
-use block_model::Spot;
+use block_model::{PAGE_SIZE, Spot};
 use byte_fields::{put_u16, put_u32};
 
 /// The tuple stands in the slot, which was free or is the next one.
@@ -23,10 +23,22 @@ pub fn put_tuple(page: &mut [u8], slot: u16, tuple: &[u8])
     let count = slots(page);
     if slot < count {
         set_slot(page, count, slot, tuple);
-        return;
+    } else {
+        put_next(page, count, tuple);
     }
+}
+
+/// The tuple stands in the next slot.
+fn put_next(page: &mut [u8], count: u16, tuple: &[u8])
+    requires page { HasSlots (slice_index page.old 0) (slots_of page.old) page.old }
+    requires whole { length page.old ≡ PAGE_SIZE }
+    requires count { count ≡ length (slots_of page.old) }
+    requires some { 0 < length tuple.now }
+    requires room { length tuple.now + 4 ≤ free_of (slots_of page.old) }
+    ensures put { HasSlots (slice_index page.old 0) (slots_of page.old ++ Some tuple.now ∷ []) page.new }
+{
     add_slot(page, count);
-    set_slot(page, count + 1, slot, tuple);
+    set_slot(page, count + 1, count, tuple);
 }
 
 /// The tuple stands in the slot in the place of another.
@@ -123,9 +135,19 @@ pub fn set_entry(page: &mut [u8], entry: u16, spot: Spot)
     ensures set { IsMap (set (entries_of page.old) entry (entry_for spot)) page.new }
 {
     page_known(page);
+    write_entry(page, entry, spot.block, spot.slot);
+}
+
+/// That entry has the block and the slot.
+fn write_entry(page: &mut [u8], entry: u16, block: u32, slot: u16)
+    requires page { IsMap (entries_of page.old) page.old }
+    requires whole { length page.old ≡ PAGE_SIZE }
+    requires entry { entry < MAP_ENTRIES }
+    ensures set { IsMap (set (entries_of page.old) entry (entry_for (record { block = block; slot = slot }))) page.new }
+{
     let at = HEADER + usize::from(entry) * ENTRY_SIZE;
-    put_u32(page, at, spot.block);
-    put_u16(page, at + ENTRY_SLOT, spot.slot);
+    put_u32(page, at, block);
+    put_u16(page, at + ENTRY_SLOT, slot);
 }
 
 /// The metapage has that number of map pages.
@@ -143,8 +165,7 @@ pub fn start_meta(page: &mut [u8], pages: u32)
     requires { length page.old ≡ PAGE_SIZE }
     ensures { IsMeta pages page.new }
 {
-    page.fill(0);
-    page[0] = META;
+    start(page, META);
     put_u32(page, HEADER, pages);
 }
 
@@ -153,8 +174,7 @@ pub fn start_map(page: &mut [u8])
     requires { length page.old ≡ PAGE_SIZE }
     ensures { IsMap (replicate MAP_ENTRIES None) page.new }
 {
-    page.fill(0);
-    page[0] = MAP;
+    start(page, MAP);
 }
 
 /// Whatever bytes stand there, they become a page of tuples without slots.
@@ -162,6 +182,14 @@ pub fn start_regular(page: &mut [u8])
     requires { length page.old ≡ PAGE_SIZE }
     ensures { IsRegular REGULAR [] page.new }
 {
-    page.fill(0);
-    page[0] = REGULAR;
+    start(page, REGULAR);
+}
+
+/// A page of the kind whose other bytes are zeros.
+fn start(page: &mut [u8], kind: u8)
+    requires { length page.old ≡ PAGE_SIZE }
+    ensures { page.new ≡ header kind 0 ++ replicate PAGE_ROOM 0 }
+{
+    clear(page, 0, PAGE_SIZE);
+    page[0] = kind;
 }

@@ -1,4 +1,4 @@
-use Rattle.std.proofs.Common.{◌-◌, refl, arith}
+use Rattle.std.proofs.Common.{◌-◌, refl, ◌∙◌, arith}
 use Rattle.index_layout.proofs.Moves.{moved_down, moved_same, moved_up}
 use Rattle.index_layout.proofs.moving.move_bytes.Goals as goal
 
@@ -14,5 +14,5 @@ returns-then-to-low-2 c = record {
 
 pub returns : goal.returns
 returns c = record {
-  moved = λ front rest zeros is at room. moved_up c.args.page.now c.copy_within.new.self front rest zeros c.args.low c.args.start c.args.to (c.args.start - c.args.low) (c.args.to - c.args.low) is at (omega arith) (omega arith) refl refl c.copy_within.ensures.after;
+  moved = λ front rest zeros is at room. c.clear.ensures.cleared ∙ moved_up c.args.page.now c.copy_within.new.self front rest zeros c.args.low c.args.start c.args.to (c.args.start - c.args.low) (c.args.to - c.args.low) is at (omega arith) (omega arith) refl refl c.copy_within.ensures.after;
 }

@@ -1,4 +1,4 @@
-use Rattle.std.proofs.Common.{◌∙◌, sym, arith}
+use Rattle.std.proofs.Common.{◌≡◌, ◌∙◌, arith}
 use Rattle.index_layout.specs.IndexReading.{slots_of}
 use Rattle.index_layout.proofs.Reading.{free_found, free_next, free-end}
 use Rattle.index_layout.proofs.readers.free_slot.Goals as goal
@@ -16,4 +16,5 @@ loop-slot-preserved c =
 pub returns : goal.returns
 returns c =
     let slots = slots_of c.args.page.now in
-    c.slots-count.ensures ∙ free-end slots _ (omega (arith, c.slots-count.ensures)) c.loop-slot.invariant
+    let all : c.slots-count.result ≡ c.loop-slot.slot = omega arith in
+    all ∙ free-end slots c.loop-slot.slot (omega (arith, c.slots-count.ensures)) c.loop-slot.invariant

@@ -1,42 +1,25 @@
-use Rattle.std.proofs.Common.{◌≡◌, ℕ, ◌+◌, List, ◌∷◌, [], ◌++◌, length, get_or, refl, sym, ap, ◌∙◌, length-append, arith}
-use Rattle.std.specs.Prelude.{None}
+use Rattle.std.proofs.Common.{◌≡◌, ◌∙◌, length, get_or, ap, arith}
 use Rattle.index_layout.specs.IndexReading.{slots_of, is_regular}
-use Rattle.index_layout.specs.IndexPages.{Slot}
-use Rattle.index_layout.proofs.SlotsRead.{one_list}
-use Rattle.index_layout.proofs.Reading.{has_read, regular_front}
-use Rattle.index_layout.proofs.Dropping.{room_free, room_next}
-use Rattle.index_layout.proofs.PageWrites.{slot_put_there, slot_put_next, taken_free}
-use Rattle.index_layout.proofs.SlotWrites.{taken-append}
+use Rattle.index_layout.proofs.Dropping.{room_next}
+use Rattle.index_layout.proofs.PageWrites.{slot_put_there, slot_put_next}
 use Rattle.index_layout.proofs.writers.put_tuple.Goals as goal
 
-pub set_slot-requires : goal.set_slot-requires
-set_slot-requires c =
+pub put_next-requires : goal.put_next-requires
+put_next-requires c =
     let slots = slots_of c.args.page.now in
     let regular = c.page_known.ensures.regular (ap is_regular c.requires.room.0) in
-    record {
-      page = regular.has;
-      whole = c.page_known.ensures.whole;
-      count = c.slots-count.ensures;
-      slot = omega arith;
-      room = omega (arith, room_free slots c.args.slot (length c.args.tuple.now) c.requires.room.2);
-    }
+    let next = room_next slots c.args.slot (length c.args.tuple.now) (omega (arith, c.slots-count.ensures, c.if-slot-count.false)) c.requires.room.2 in
+    record { page = regular.has; whole = c.page_known.ensures.whole; count = c.slots-count.ensures; some = c.requires.room.1; room = next.1 }
 
 pub returns-then-slot-count : goal.returns-then-slot-count
-returns-then-slot-count c = ?
-
-pub add_slot-requires : goal.add_slot-requires
-add_slot-requires c =
-    let slots = slots_of c.args.page.now in
+returns-then-slot-count c =
+    let page = c.args.page.now in
     let regular = c.page_known.ensures.regular (ap is_regular c.requires.room.0) in
-    record {
-      page = regular.has;
-      whole = c.page_known.ensures.whole;
-      count = c.slots-count.ensures;
-      room = omega (arith, (room_next slots c.args.slot (length c.args.tuple.now) (omega arith) c.requires.room.2).1);
-    }
+    record { put = slot_put_there (get_or page 0 0) (slots_of page) c.args.slot c.args.tuple.now c.set_slot.new.page (omega (arith, c.slots-count.ensures, c.if-slot-count.true)) c.requires.room.1 c.requires.room.0 regular.last c.set_slot.ensures.set }
 
-pub set_slot-requires-2 : goal.set_slot-requires-2
-set_slot-requires-2 c = ?
-
-pub returns : goal.returns
-returns c = ?
+pub returns-else-slot-count : goal.returns-else-slot-count
+returns-else-slot-count c =
+    let page = c.args.page.now in
+    let slots = slots_of page in
+    let next = room_next slots c.args.slot (length c.args.tuple.now) (omega (arith, c.slots-count.ensures, c.if-slot-count.false)) c.requires.room.2 in
+    record { put = slot_put_next (get_or page 0 0) slots c.args.slot c.args.tuple.now c.put_next.new.page next.0 c.requires.room.0 c.put_next.ensures.put }
