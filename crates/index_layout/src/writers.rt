@@ -120,7 +120,7 @@ pub fn evacuate(page: &mut [u8])
 pub fn turn_to_map(page: &mut [u8])
     requires page { IsIndexPage page.old }
     requires kind { slice_index page.old 0 ≡ EVACUATED }
-    requires empty { slots_of page.old ≡ [] }
+    requires empty { length (slots_of page.old) ≡ 0 }
     ensures map { IsMap (replicate MAP_ENTRIES None) page.new }
 {
     page_known(page);
