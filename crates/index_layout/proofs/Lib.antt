@@ -9,3 +9,4 @@ pub mod Moves
 pub mod SlotWrites
 pub mod PageWrites
 pub mod Dropping
+pub mod SlotLaws

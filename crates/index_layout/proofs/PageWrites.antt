@@ -197,10 +197,10 @@ last_push (Some old ∷ []) tuple = tt
 last_push (None ∷ (next ∷ slots)) tuple = last_push (next ∷ slots) tuple
 last_push (Some old ∷ (next ∷ slots)) tuple = last_push (next ∷ slots) tuple
 
-put_there : (slots : List Slot) (n : ℕ) (tuple : List ℕ) → n < length slots → put_in slots n tuple ≡ set slots n (Some tuple)
+pub put_there : (slots : List Slot) (n : ℕ) (tuple : List ℕ) → n < length slots → put_in slots n tuple ≡ set slots n (Some tuple)
 put_there slots n tuple below = ap (λ (t : Bool). cond t (set slots n (Some tuple)) (slots ++ Some tuple ∷ [])) (lt-ltb n (length slots) below)
 
-put_next : (slots : List Slot) (n : ℕ) (tuple : List ℕ) → n ≡ length slots → put_in slots n tuple ≡ slots ++ Some tuple ∷ []
+pub put_next : (slots : List Slot) (n : ℕ) (tuple : List ℕ) → n ≡ length slots → put_in slots n tuple ≡ slots ++ Some tuple ∷ []
 put_next slots n tuple is = ap (λ (t : Bool). cond t (set slots n (Some tuple)) (slots ++ Some tuple ∷ [])) (le-ltb n (length slots) (omega arith))
 
 -- the tuple stands in a slot that is there

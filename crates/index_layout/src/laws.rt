@@ -1,10 +1,11 @@
-//! What a page of an index has.
+//! What a page of an index has, and what changes leave of its slots.
 
-ghost use Rattle.std.specs.Prelude.{◌≡◌, List, Option, ℕ, slice_index, true};
+ghost use Rattle.std.specs.Prelude.{◌≡◌, ◌≢◌, ◌<◌, ◌≤◌, List, Option, None, Some, ℕ, length, slice_index, slice_index_or, true};
 ghost use Rattle.block_model.specs.declared.place.Spot.{Spot};
 ghost use Rattle.index_layout.specs.declared.format.TheConstants.{MAP, META};
 ghost use Rattle.index_layout.specs.IndexPages.{HasSlots, IsIndexPage, IsMap, IsMeta, IsRegular, Slot};
-ghost use Rattle.index_layout.specs.IndexReading.{entries_of, is_regular, map_pages_of, slots_of};
+ghost use Rattle.index_layout.specs.IndexWrites.{IsRoom, put_in, room_for_further, trimmed};
+ghost use Rattle.index_layout.specs.IndexReading.{entries_of, free_slot_of, is_regular, map_pages_of, slots_of};
 
 /// A page has one list of slots or of entries, or one number of map pages: the one that is read from its bytes. Each page of
 /// tuples has the slots that are read, each page of the map the entries, and each metapage the number.
@@ -16,4 +17,21 @@ pub fn an_index_page_has_one_list()
     ensures regular { (page : List ℕ) → IsIndexPage page → is_regular (slice_index page 0) ≡ true → IsRegular (slice_index page 0) (slots_of page) page }
     ensures map { (page : List ℕ) → IsIndexPage page → slice_index page 0 ≡ MAP → IsMap (entries_of page) page }
     ensures meta { (page : List ℕ) → IsIndexPage page → slice_index page 0 ≡ META → IsMeta (map_pages_of page) page }
+{}
+
+/// A put changes its slot alone, and a list that ends with its last used slot has at each slot what it had.
+pub fn a_put_changes_one_slot()
+    ensures put { (list : List Slot) (n : ℕ) (tuple : List ℕ) → n ≤ length list → slice_index_or (put_in list n tuple) n None ≡ Some tuple }
+    ensures others { (list : List Slot) (n m : ℕ) (tuple : List ℕ) → n ≤ length list → m ≢ n → slice_index_or (put_in list n tuple) m None ≡ slice_index_or list m None }
+    ensures trimmed { (list : List Slot) (m : ℕ) → slice_index_or (trimmed list) m None ≡ slice_index_or list m None }
+{}
+
+/// The slot for a further tuple is the lowest that is free, or the next one. A tuple has room in some slot exactly if it has
+/// room in that one, and that is where it has no more bytes than `room_for` answers.
+pub fn the_lowest_free_slot_has_room()
+    ensures free { (list : List Slot) → slice_index_or list (free_slot_of list) None ≡ None }
+    ensures lowest { (list : List Slot) (n : ℕ) → n < free_slot_of list → slice_index_or list n None ≢ None }
+    ensures within { (list : List Slot) → free_slot_of list ≤ length list }
+    ensures room { (list : List Slot) (size : ℕ) → 0 < size → size ≤ room_for_further list → IsRoom list (free_slot_of list) size }
+    ensures least { (list : List Slot) (n size : ℕ) → IsRoom list n size → size ≤ room_for_further list }
 {}

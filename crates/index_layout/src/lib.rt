@@ -15,7 +15,7 @@ mod writers;
 
 pub use checking::first_fault;
 pub use format::{EVACUATED, MAP, MAP_ENTRIES, META, REGULAR, UNSTARTED};
-pub use laws::an_index_page_has_one_list;
+pub use laws::{a_put_changes_one_slot, an_index_page_has_one_list, the_lowest_free_slot_has_room};
 pub use readers::{
     entry_at, free_bytes, free_slot, kind_of, map_pages, slots, tuple_at, tuple_range,
 };
