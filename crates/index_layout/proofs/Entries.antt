@@ -3,12 +3,12 @@ use Rattle.std.proofs.Common.{◌≡◌, ℕ, zero, suc, ◌+◌, ◌-◌, ◌*�
 use Rattle.std.specs.Prelude.{Option, None, Some, replicate}
 use Rattle.std.specs.Int.{bytes_high_first}
 use Rattle.std.proofs.lemmas.Bool.{eqb-true, eqb-false, ne_eqb}
-use Rattle.std.proofs.lemmas.List.{append-nil, take_at, drop_at, drop-drop, length-take-le, nil_from_length, take-append-drop}
-use Rattle.byte_fields.specs.Fields.{AreBytes, AreBytes-drop, AreBytes-take, number_of, number-bytes, number-fits, bytes-number, field_at}
+use Rattle.std.proofs.lemmas.List.{drop_at, drop-drop, length-take-le, nil_from_length, take-append-drop}
+use Rattle.byte_fields.specs.Fields.{AreBytes, AreBytes-drop, AreBytes-take, number_of, number-bytes, number-fits, bytes-number}
 use Rattle.block_model.specs.declared.place.Spot.{Spot}
 use Rattle.index_layout.specs.IndexPages.{IsEntry, AreEntries, entry_bytes, entries_bytes}
 use Rattle.index_layout.specs.IndexFaults.{first_of, shifted, zeros_fault, entries_fault}
-use Rattle.index_layout.specs.IndexReading.{number_at, entry_in, entries_in}
+use Rattle.index_layout.specs.IndexReading.{entry_in, entries_in}
 use Rattle.index_layout.proofs.Faults.{first_none, shifted-none, shifted-twice, zeros_take, zeros_pass}
 use Rattle.index_layout.proofs.SlotLists.{take_more_of}
 

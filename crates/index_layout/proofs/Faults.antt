@@ -1,5 +1,5 @@
 -- The parts of a fault: there is none exactly where no part has one. Zeros have none.
-use Rattle.std.proofs.Common.{◌≡◌, ℕ, zero, suc, ◌+◌, ◌<◌, ◌≤◌, Bool, true, false, not, cond, eqb, List, [], ◌∷◌, length, refl, sym, ap, ◌∙◌, arith}
+use Rattle.std.proofs.Common.{◌≡◌, ℕ, zero, suc, ◌+◌, ◌≤◌, Bool, true, false, not, cond, eqb, List, [], ◌∷◌, length, refl, ap, arith}
 use Rattle.std.specs.Prelude.{Option, None, Some, replicate}
 use Rattle.std.specs.List.{prefix_len}
 use Rattle.std.proofs.lemmas.Bool.{eqb-true, ltb-false, le-ltb}

@@ -1,9 +1,9 @@
 -- Bytes that move on a page: what stands before and behind each other afterwards.
-use Rattle.std.proofs.Common.{◌≡◌, ℕ, zero, suc, ◌+◌, ◌-◌, ◌*◌, ◌<◌, ◌≤◌, Bool, true, false, cond, eqb, List, [], ◌∷◌, ◌++◌, length, take, drop, refl, sym, ap, ◌∙◌, append_assoc, length-append, length-drop, arith}
+use Rattle.std.proofs.Common.{◌≡◌, ℕ, suc, ◌+◌, ◌-◌, ◌<◌, ◌≤◌, cond, eqb, List, ◌++◌, length, take, drop, refl, sym, ap, ◌∙◌, append_assoc, length-append, arith}
 use Rattle.std.specs.Prelude.{replicate}
 use Rattle.std.specs.List.{copy_within}
 use Rattle.std.specs.Int.{bytes_high_first}
-use Rattle.std.proofs.lemmas.List.{append-nil, length-replicate, replicate-append-replicate, take_at, drop_at, drop-drop, take-append-drop, take-append-le, drop-append-le, take-take, length-take-le, take-replicate}
+use Rattle.std.proofs.lemmas.List.{length-replicate, replicate-append-replicate, take_at, drop_at, drop-drop, take-append-drop, take-append-le, take-take, length-take-le, take-replicate}
 use Rattle.byte_fields.specs.Fields.{number_of, field_at, put_at, put-part}
 use borrow.Rule.Slice.PartMut.{put_mid}
 use Rattle.index_layout.specs.IndexReading.{number_at}

@@ -1,18 +1,17 @@
 -- Pages of an index: what has no fault is one, and one has no fault.
-use Rattle.std.proofs.Common.{◌≡◌, ℕ, zero, suc, ◌+◌, ◌-◌, ◌*◌, ◌<◌, ◌≤◌, ◌^◌, ◌⊎◌, inl, inr, Bool, true, false, ◌||◌, cond, eqb, List, [], ◌∷◌, ◌++◌, length, take, drop, get_or, refl, sym, ap, subst, ◌∙◌, append_assoc, length-append, length-drop, arith}
+use Rattle.std.proofs.Common.{◌≡◌, ℕ, zero, suc, ◌+◌, ◌-◌, ◌*◌, ◌<◌, ◌≤◌, ◌^◌, ◌⊎◌, inl, inr, Bool, true, false, ◌||◌, cond, eqb, List, [], ◌∷◌, ◌++◌, length, take, drop, get_or, refl, sym, ap, subst, ◌∙◌, length-drop, arith}
 use Rattle.std.specs.Prelude.{Option, None, Some, replicate, nat_le}
 use Rattle.std.specs.Int.{bytes_high_first}
 use Rattle.std.proofs.lemmas.Bool.{eqb-true, leb-true, le-leb}
 use Rattle.std.proofs.lemmas.List.{append-nil, length-replicate, take_all, take-append-drop, length-take-le}
 use Rattle.block_model.specs.declared.place.Spot.{Spot}
-use Rattle.byte_fields.specs.Fields.{AreBytes, AreBytes-drop, AreBytes-take, number_of, number-fits, bytes-number, number-bytes}
-use Rattle.index_layout.specs.IndexPages.{Slot, IsLastUsed, FitPage, HasSlots, IsRegular, IsMeta, IsMap, IsIndexPage, Unstarted, Meta, Map, Regular, AreEntries, entries_bytes, tuple_bytes, taken, directory, tuples, header, regular_bytes, meta_bytes, map_bytes}
+use Rattle.byte_fields.specs.Fields.{AreBytes, AreBytes-drop, AreBytes-take, number_of, number-fits, bytes-number}
+use Rattle.index_layout.specs.IndexPages.{Slot, IsLastUsed, HasSlots, IsRegular, IsMeta, IsMap, IsIndexPage, Unstarted, Meta, Map, Regular, entries_bytes, taken, directory, tuples, header, regular_bytes, meta_bytes, map_bytes}
 use Rattle.index_layout.specs.IndexFaults.{first_of, shifted, fault_unless, zeros_fault, directory_fault, regular_fault, meta_fault, map_fault, entries_fault, index_fault}
-use Rattle.index_layout.specs.IndexReading.{number_at, is_regular, slots_in, slots_of, entries_in, entries_of, map_pages_of}
+use Rattle.index_layout.specs.IndexReading.{is_regular, slots_in, entries_in}
 use Rattle.index_layout.proofs.Faults.{first_none, holds-unless, shifted-none, zeros_take, zeros_pass}
-use Rattle.index_layout.proofs.SlotLists.{slots-take, slots-pass, taken-is, two, two_bytes, length-in, length-regular}
-use Rattle.index_layout.proofs.SlotsRead.{one_list}
-use Rattle.index_layout.proofs.Entries.{entries-take, entries-pass, entries_again, length-entries, length-entries_in}
+use Rattle.index_layout.proofs.SlotLists.{slots-take, slots-pass, taken-is, two, two_bytes, length-in}
+use Rattle.index_layout.proofs.Entries.{entries-take, entries-pass, length-entries_in}
 
 -- a page without a fault
 

@@ -1,18 +1,17 @@
 -- Pages of an index after a write.
-use Rattle.std.proofs.Common.{◌≡◌, ℕ, zero, suc, ◌+◌, ◌-◌, ◌*◌, ◌<◌, ◌≤◌, ◌⊎◌, inl, inr, Bool, true, false, cond, eqb, ltb, List, [], ◌∷◌, ◌++◌, length, take, drop, set, get_or, refl, sym, ap, subst, ◌∙◌, append_assoc, length-append, length-drop, arith}
-use Rattle.std.specs.Prelude.{Option, None, Some, replicate, slice_get}
+use Rattle.std.proofs.Common.{◌≡◌, ℕ, zero, suc, ◌+◌, ◌-◌, ◌*◌, ◌<◌, ◌≤◌, ◌⊎◌, inl, inr, Bool, true, false, cond, eqb, List, [], ◌∷◌, ◌++◌, length, take, drop, set, get_or, refl, sym, ap, subst, ◌∙◌, append_assoc, length-append, arith}
+use Rattle.std.specs.Prelude.{Option, None, Some, replicate}
 use Rattle.std.specs.Int.{bytes_high_first}
-use Rattle.std.proofs.lemmas.Bool.{ne_eqb, eq-eqb, lt-ltb, le-ltb, eqb-false, eqb-true}
-use Rattle.std.proofs.lemmas.List.{append-nil, length-replicate, replicate-append-replicate, length-set, length-take-le, take_at, drop_at, set_split, set-get_or, set_at, length_push, take_more, take_all, drop_all}
+use Rattle.std.proofs.lemmas.Bool.{lt-ltb, le-ltb, eqb-false, eqb-true}
+use Rattle.std.proofs.lemmas.List.{append-nil, length-replicate, replicate-append-replicate, length-set, length-take-le, set_split, set-get_or, set_at, length_push, take_more, take_all, drop_all}
 use Rattle.block_model.specs.declared.place.Spot.{Spot}
-use Rattle.byte_fields.specs.Fields.{number_of, put_at, put-part, number-bytes}
+use Rattle.byte_fields.specs.Fields.{put_at, put-part}
 use borrow.Rule.Slice.PartMut.{put_mid}
-use Rattle.index_layout.specs.IndexPages.{Slot, IsSlot, AreSlots, IsLastUsed, FitPage, HasSlots, IsRegular, IsMeta, IsMap, IsIndexPage, Unstarted, Meta, Map, Regular, IsEntry, AreEntries, entry_bytes, entries_bytes, tuple_bytes, taken, directory_entry, directory, tuples, header, regular_bytes, meta_bytes, map_bytes}
-use Rattle.index_layout.specs.IndexReading.{is_regular, slots_of, entries_of, map_pages_of, end_from, free_of}
-use Rattle.index_layout.specs.IndexWrites.{put_in, before, trimmed, dropped, entry_for, slot_with}
-use Rattle.index_layout.proofs.SlotLists.{taken-is}
-use Rattle.index_layout.proofs.SlotWrites.{directory-append, tuples-append, taken-append, are_set, write_behind}
-use Rattle.index_layout.proofs.Reading.{front_zero, front_meta, front_map, one_map, one_number, regular_front}
+use Rattle.index_layout.specs.IndexPages.{Slot, AreSlots, IsLastUsed, HasSlots, IsRegular, IsMeta, IsMap, IsIndexPage, Unstarted, Meta, Map, Regular, IsEntry, AreEntries, entry_bytes, entries_bytes, tuple_bytes, taken, directory, tuples, header, regular_bytes, meta_bytes, map_bytes}
+use Rattle.index_layout.specs.IndexReading.{entries_of, end_from, free_of}
+use Rattle.index_layout.specs.IndexWrites.{put_in, before, trimmed, entry_for, slot_with}
+use Rattle.index_layout.proofs.SlotWrites.{directory-append, tuples-append, taken-append, write_behind}
+use Rattle.index_layout.proofs.Reading.{front_zero, front_meta, front_map, one_map, regular_front}
 
 -- free slots behind others
 

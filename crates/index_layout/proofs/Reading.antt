@@ -1,15 +1,15 @@
 -- What a page of an index has, by what its bytes say.
-use Rattle.std.proofs.Common.{◌≡◌, ℕ, zero, suc, ◌+◌, ◌-◌, ◌*◌, ◌<◌, ◌≤◌, ◌⊎◌, inl, inr, Bool, true, false, cond, eqb, List, [], ◌∷◌, ◌++◌, length, take, drop, get_or, refl, sym, ap, subst, ◌∙◌, length-append, length-drop, arith}
+use Rattle.std.proofs.Common.{◌≡◌, ℕ, zero, suc, ◌+◌, ◌-◌, ◌*◌, ◌<◌, ◌≤◌, ◌⊎◌, inl, inr, Bool, true, false, cond, eqb, List, [], ◌∷◌, ◌++◌, length, take, drop, get_or, refl, sym, ap, subst, ◌∙◌, arith}
 use Rattle.std.specs.Prelude.{Option, None, Some, replicate}
 use Rattle.std.specs.Int.{bytes_high_first}
-use Rattle.std.proofs.lemmas.Bool.{eqb-true, eq-eqb, ne_eqb, eqb-false}
+use Rattle.std.proofs.lemmas.Bool.{eq-eqb, ne_eqb}
 use Rattle.std.proofs.lemmas.List.{length-replicate, drop-drop, drop_more, drop_all, get_or_past}
 use Rattle.block_model.specs.declared.place.Spot.{Spot}
 use Rattle.byte_fields.specs.Fields.{number_of, field_at, number-bytes}
 use Rattle.index_layout.specs.IndexPages.{Slot, IsSlot, AreSlots, IsLastUsed, HasSlots, IsRegular, IsMeta, IsMap, IsIndexPage, Unstarted, Meta, Map, Regular, tuple_bytes, taken, tuples, header, regular_bytes, meta_bytes, map_bytes, entries_bytes}
-use Rattle.index_layout.specs.IndexReading.{number_at, is_regular, slot_in, slots_in, slots_of, entry_in, entries_in, entries_of, map_pages_of, end_from, free_of, free_slot_of}
+use Rattle.index_layout.specs.IndexReading.{number_at, is_regular, slots_in, slots_of, entries_in, entries_of, map_pages_of, end_from, free_of, free_slot_of}
 use Rattle.index_layout.proofs.SlotLists.{taken-is, length-in, length-regular}
-use Rattle.index_layout.proofs.SlotsRead.{one_list, slot_read, slot_at, SlotAt, end_all, end_more}
+use Rattle.index_layout.proofs.SlotsRead.{one_list, slot_read, slot_at, end_all, end_more}
 use Rattle.index_layout.proofs.Entries.{entries_again, entry_read, length-entries}
 
 -- how many bytes a page has

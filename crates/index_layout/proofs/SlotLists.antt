@@ -1,11 +1,11 @@
 -- Slots on a page: what has no fault was written, and what was written has no fault.
-use Rattle.std.proofs.Common.{◌≡◌, ℕ, zero, suc, ◌+◌, ◌-◌, ◌*◌, ◌<◌, ◌≤◌, ◌^◌, Bool, true, false, not, cond, eqb, List, [], ◌∷◌, ◌++◌, length, take, drop, get_or, refl, sym, ap, subst, ◌∙◌, append_assoc, length-append, length-drop, arith}
+use Rattle.std.proofs.Common.{◌≡◌, ℕ, zero, suc, ◌+◌, ◌-◌, ◌*◌, ◌<◌, ◌≤◌, Bool, true, false, not, cond, eqb, List, [], ◌∷◌, ◌++◌, length, take, drop, refl, sym, ap, subst, ◌∙◌, append_assoc, length-append, length-drop, arith}
 use Rattle.std.specs.Prelude.{Option, None, Some, replicate, nat_le}
 use Rattle.std.specs.Int.{bytes_high_first}
 use Rattle.std.proofs.lemmas.Bool.{eqb-true, eqb-false, eq-eqb, ne_eqb, leb-true, le-leb}
-use Rattle.std.proofs.lemmas.List.{append-nil, length-replicate, take_at, drop_at, drop-drop, take-append-drop, length-take-le, take_all}
+use Rattle.std.proofs.lemmas.List.{append-nil, length-replicate, take_at, drop-drop, length-take-le}
 use Rattle.byte_fields.specs.Fields.{AreBytes, number_of, bytes-number, number-bytes, field_at, length-field}
-use Rattle.index_layout.specs.IndexPages.{Slot, IsSlot, AreSlots, IsLastUsed, FitPage, tuple_bytes, taken, directory_entry, directory, tuples, header, regular_bytes}
+use Rattle.index_layout.specs.IndexPages.{Slot, AreSlots, IsLastUsed, tuple_bytes, taken, directory_entry, directory, tuples, regular_bytes}
 use Rattle.index_layout.specs.IndexFaults.{first_of, shifted, fault_unless, zeros_fault, slot_fault, directory_fault}
 use Rattle.index_layout.specs.IndexReading.{number_at, slot_in, slots_in}
 use Rattle.index_layout.proofs.Faults.{first_none, holds-unless, shifted-none, zeros_take, zeros_pass}

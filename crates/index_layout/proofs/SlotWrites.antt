@@ -1,17 +1,16 @@
 -- What a page has after one of its slots got another tuple.
-use Rattle.std.proofs.Common.{◌≡◌, ℕ, zero, suc, ◌+◌, ◌-◌, ◌*◌, ◌<◌, ◌≤◌, ◌⊎◌, inl, inr, Bool, true, false, cond, eqb, List, [], ◌∷◌, ◌++◌, length, take, drop, set, get_or, refl, sym, ap, subst, ◌∙◌, append_assoc, length-append, length-drop, arith}
-use Rattle.std.specs.Prelude.{Option, None, Some, replicate}
+use Rattle.std.proofs.Common.{◌≡◌, ℕ, zero, suc, ◌+◌, ◌-◌, ◌*◌, ◌<◌, ◌≤◌, ◌⊎◌, false, cond, eqb, List, [], ◌∷◌, ◌++◌, length, take, drop, set, get_or, refl, sym, ap, ◌∙◌, append_assoc, length-append, length-drop, arith}
+use Rattle.std.specs.Prelude.{None, Some, replicate}
 use Rattle.std.specs.Int.{bytes_high_first}
-use Rattle.std.proofs.lemmas.Bool.{ne_eqb, eq-eqb}
-use Rattle.std.proofs.lemmas.List.{append-nil, length-replicate, length-set, length-take-le, take_at, drop_at, set_split, set-get_or, take-append-drop}
-use Rattle.byte_fields.specs.Fields.{number_of, put_at, put-part, number-bytes}
+use Rattle.std.proofs.lemmas.Bool.{ne_eqb}
+use Rattle.std.proofs.lemmas.List.{append-nil, length-set, length-take-le, take_at, drop_at, set_split, set-get_or}
+use Rattle.byte_fields.specs.Fields.{number_of, put_at, put-part}
 use borrow.Rule.Slice.PartMut.{put_mid}
 use Rattle.index_layout.specs.IndexPages.{Slot, IsSlot, AreSlots, FitPage, HasSlots, tuple_bytes, taken, directory_entry, directory, tuples, header, regular_bytes}
 use Rattle.index_layout.specs.IndexReading.{number_at, end_from, free_of}
 use Rattle.index_layout.specs.IndexWrites.{laid, laid_entry, lengths_in, slot_with}
-use Rattle.index_layout.proofs.SlotLists.{taken-is, two, length-entry, length-directory}
+use Rattle.index_layout.proofs.SlotLists.{taken-is, two, length-directory}
 use Rattle.index_layout.proofs.SlotsRead.{end_all}
-use Rattle.index_layout.proofs.Moves.{drop_behind}
 
 -- slots one behind the other
 

@@ -1,13 +1,13 @@
 -- The slots of a page are those that are read from its bytes.
-use Rattle.std.proofs.Common.{◌≡◌, ℕ, zero, suc, ◌+◌, ◌-◌, ◌*◌, ◌<◌, ◌≤◌, ◌⊎◌, inl, inr, Bool, true, false, cond, eqb, List, [], ◌∷◌, ◌++◌, length, take, drop, get_or, refl, sym, ap, subst, ◌∙◌, append_assoc, length-append, length-drop, arith}
-use Rattle.std.specs.Prelude.{Option, None, Some, replicate}
+use Rattle.std.proofs.Common.{◌≡◌, ℕ, zero, suc, ◌+◌, ◌-◌, ◌*◌, ◌<◌, ◌≤◌, ◌⊎◌, inl, inr, Bool, true, false, cond, eqb, List, [], ◌∷◌, ◌++◌, length, take, drop, get_or, refl, sym, ap, ◌∙◌, append_assoc, length-append, arith}
+use Rattle.std.specs.Prelude.{None, Some, replicate}
 use Rattle.std.specs.Int.{bytes_high_first}
 use Rattle.std.proofs.lemmas.Bool.{ne_eqb}
-use Rattle.std.proofs.lemmas.List.{append-nil, take_at, drop_at, drop-drop, get_or_past, get_or_default}
+use Rattle.std.proofs.lemmas.List.{append-nil, take_at, drop_at, drop-drop}
 use Rattle.byte_fields.specs.Fields.{number_of, field_at}
-use Rattle.index_layout.specs.IndexPages.{Slot, IsSlot, AreSlots, IsLastUsed, FitPage, HasSlots, IsRegular, tuple_bytes, taken, directory_entry, directory, tuples, header, regular_bytes}
+use Rattle.index_layout.specs.IndexPages.{Slot, IsSlot, AreSlots, HasSlots, tuple_bytes, taken, directory_entry, directory, tuples, header, regular_bytes}
 use Rattle.index_layout.specs.IndexReading.{number_at, slot_in, slots_in, slots_of, is_regular, end_from}
-use Rattle.index_layout.proofs.SlotLists.{size_here, offset_here, taken-is, length-directory, length-entry, length-regular, two, length-in}
+use Rattle.index_layout.proofs.SlotLists.{taken-is, length-entry, length-regular, two, length-in}
 
 -- the first slot of a directory, where the page has its tuple
 slot_again : (end : ℕ) (slot : Slot) (page front behind rest : List ℕ) → IsSlot slot → end < 65536 → length front + length (tuple_bytes slot) ≡ end → page ≡ front ++ (tuple_bytes slot ++ behind) → slot_in page (directory_entry end slot ++ rest) ≡ slot

@@ -1,6 +1,6 @@
 -- what stands on a page of an index, read from its bytes
 use Rattle.std.specs.Prelude.{ℕ, zero, suc, ◌-◌, ◌==◌, ◌+◌, ◌||◌, Bool, List, [], ◌∷◌, length, drop, slice_index, Option, None, Some, if◌then◌else◌}
-use Rattle.block_model.specs.declared.limits.TheConstants.{PAGE_ROOM, PAGE_SIZE}
+use Rattle.block_model.specs.declared.limits.TheConstants.{PAGE_ROOM}
 use Rattle.block_model.specs.declared.place.Spot.{Spot}
 use Rattle.byte_fields.specs.Fields.{field_at, number_of}
 use Rattle.index_layout.specs.declared.format.TheConstants.{META, MAP, MAP_ENTRIES, REGULAR, EVACUATED}

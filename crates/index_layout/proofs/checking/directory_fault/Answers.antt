@@ -1,4 +1,4 @@
-use Rattle.std.proofs.Common.{◌≡◌, ℕ, ◌+◌, ◌-◌, ◌*◌, suc, eqb, length, drop, sym, ap, ◌∙◌, arith}
+use Rattle.std.proofs.Common.{◌≡◌, ℕ, ◌+◌, ◌-◌, ◌*◌, suc, eqb, drop, sym, ap, ◌∙◌, arith}
 use Rattle.index_layout.specs.IndexFaults.{directory_fault, shifted}
 use Rattle.index_layout.proofs.Walks.{last_slot, directory-stop, directory-next, directory-end}
 use Rattle.index_layout.proofs.checking.directory_fault.Goals as goal

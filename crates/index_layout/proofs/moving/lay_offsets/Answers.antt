@@ -1,5 +1,5 @@
 use Rattle.byte_fields.specs.Fields.{field_at, number_of, put_at}
-use Rattle.std.proofs.Common.{◌≡◌, ◌≤◌, ℕ, ◌+◌, ◌-◌, ◌*◌, ◌++◌, suc, length, take, drop, refl, sym, ap, ◌∙◌, arith}
+use Rattle.std.proofs.Common.{◌≡◌, ◌≤◌, ℕ, ◌+◌, ◌-◌, ◌*◌, ◌++◌, suc, length, take, drop, refl, ap, ◌∙◌, arith}
 use Rattle.index_layout.specs.IndexWrites.{laid, lengths_in}
 use Rattle.index_layout.proofs.Moves.{laid-start, laid-lengths, laid-next, laid-end, length_first, behind_put}
 use Rattle.index_layout.proofs.moving.lay_offsets.Goals as goal

@@ -1,4 +1,4 @@
-use Rattle.std.proofs.Common.{◌≡◌, ◌+◌, ◌-◌, ◌*◌, ◌≤◌, ◌++◌, length, take, drop}
+use Rattle.std.proofs.Common.{◌≡◌, ◌+◌, ◌-◌, ◌*◌, ◌≤◌, ◌++◌, take, drop}
 use Rattle.index_layout.specs.IndexWrites.{laid, lengths_in}
 use Rattle.index_layout.proofs.moving.lay_offsets.Given as goal
 

@@ -1,7 +1,7 @@
-use Rattle.std.proofs.Common.{◌≡◌, ℕ, ◌+◌, ◌-◌, ◌*◌, ◌++◌, length, get_or, take, drop, sym, refl, ap, ◌∙◌, arith}
+use Rattle.std.proofs.Common.{◌≡◌, ℕ, ◌+◌, ◌-◌, ◌*◌, ◌++◌, length, get_or, take, drop, sym, ap, ◌∙◌, arith}
 use Rattle.std.specs.Prelude.{None}
 use Rattle.index_layout.specs.IndexPages.{tuple_bytes}
-use Rattle.index_layout.specs.IndexReading.{slots_of, end_from}
+use Rattle.index_layout.specs.IndexReading.{slots_of}
 use Rattle.index_layout.specs.IndexWrites.{laid}
 use Rattle.index_layout.proofs.SlotWrites.{place_sizes, slot_placed, same_length, length_parts, relaid, lengths_room}
 use Rattle.index_layout.proofs.moving.set_slot.Goals as goal

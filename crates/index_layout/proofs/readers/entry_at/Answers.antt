@@ -1,4 +1,4 @@
-use Rattle.std.proofs.Common.{◌≡◌, ℕ, ◌+◌, ◌*◌, ◌<◌, List, get_or, refl, sym, ap, arith}
+use Rattle.std.proofs.Common.{ℕ, ◌+◌, ◌*◌, ◌<◌, List, get_or, refl, sym, ap, arith}
 use Rattle.std.specs.Prelude.{Option, None}
 use Rattle.block_model.specs.declared.place.Spot.{Spot}
 use Rattle.index_layout.proofs.Reading.{entries_none, entry_none, entry_some}

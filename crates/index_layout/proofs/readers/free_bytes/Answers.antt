@@ -1,4 +1,4 @@
-use Rattle.std.proofs.Common.{◌≡◌, ◌∙◌, ◌+◌, ◌*◌, ◌<◌, ◌≤◌, length, get_or, ap, sym, arith}
+use Rattle.std.proofs.Common.{get_or, arith}
 use Rattle.index_layout.specs.IndexReading.{slots_of}
 use Rattle.index_layout.proofs.Reading.{free_between, free_empty}
 use Rattle.index_layout.proofs.readers.free_bytes.Goals as goal

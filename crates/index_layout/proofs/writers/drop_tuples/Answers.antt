@@ -1,4 +1,4 @@
-use Rattle.std.proofs.Common.{◌≡◌, List, length, get_or, sym, ap, ◌∙◌}
+use Rattle.std.proofs.Common.{List, length, get_or, sym, ap, ◌∙◌}
 use Rattle.index_layout.specs.IndexPages.{Slot}
 use Rattle.index_layout.specs.IndexReading.{slots_of}
 use Rattle.index_layout.specs.IndexWrites.{dropped, trimmed}

@@ -1,4 +1,4 @@
-use Rattle.std.proofs.Common.{◌≡◌, ◌∷◌, ◌++◌, [], length, get_or, ap, ◌∙◌, length-append, arith}
+use Rattle.std.proofs.Common.{◌∷◌, ◌++◌, [], length, get_or, ap, length-append, arith}
 use Rattle.std.specs.Prelude.{None}
 use Rattle.index_layout.specs.IndexReading.{slots_of}
 use Rattle.index_layout.proofs.SlotsRead.{one_list}

@@ -1,4 +1,4 @@
-use Rattle.std.proofs.Common.{◌≡◌, ◌∙◌, length, get_or, ap, arith}
+use Rattle.std.proofs.Common.{length, get_or, ap, arith}
 use Rattle.index_layout.specs.IndexReading.{slots_of, is_regular}
 use Rattle.index_layout.proofs.Dropping.{room_next}
 use Rattle.index_layout.proofs.PageWrites.{slot_put_there, slot_put_next}
