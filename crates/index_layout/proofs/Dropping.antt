@@ -53,10 +53,6 @@ length-dropped slots (x ∷ y ∷ bytes) = length-dropped (set slots (x * 256 + 
 
 -- room
 
-pub room_free : (slots : List Slot) (n size : ℕ) → IsRoom slots n size → size ≤ free_of slots
-room_free slots n size (inl free) = free.1
-room_free slots n size (inr next) = omega (arith, next.1)
-
 pub room_next : (slots : List Slot) (n size : ℕ) → length slots ≤ n → IsRoom slots n size → (n ≡ length slots) × (size + 4 ≤ free_of slots)
 room_next slots n size past (inl free) = absurd (omega (arith, slice_get_within slots n None free.0))
 room_next slots n size past (inr next) = next
@@ -67,8 +63,7 @@ in_place slots n size (tuple, there, room) =
     let here : get_or slots n None ≡ Some tuple = get_or_from_slice_get slots n (Some tuple) None there in
     (slice_get_within slots n (Some tuple) there, omega (arith, room, ap length (ap tuple_bytes here)))
 
--- and the other way
-
+-- what stands at a slot's number
 slice_at : (slots : List Slot) (n : ℕ) → n < length slots → slice_get slots n ≡ Some (get_or slots n None)
 slice_at [] n below = absurd (omega arith)
 slice_at (slot ∷ slots) zero below = refl
@@ -76,17 +71,3 @@ slice_at (slot ∷ slots) (suc n) below = slice_at slots n (omega arith)
 
 pub free_there : (slots : List Slot) (n : ℕ) → n < length slots → get_or slots n None ≡ None → slice_get slots n ≡ Some None
 free_there slots n below free = slice_at slots n below ∙ ap Some free
-
-pub used_there : (slots : List Slot) (n : ℕ) → n < length slots → 0 < length (tuple_bytes (get_or slots n None)) → (tuple : List ℕ) × (slice_get slots n ≡ Some (Some tuple)) × (length tuple ≡ length (tuple_bytes (get_or slots n None)))
-used_there slots n below some = by (get_or slots n None) (slice_at slots n below) some
-  where
-    by : (slot : Slot) → slice_get slots n ≡ Some slot → 0 < length (tuple_bytes slot) → (tuple : List ℕ) × (slice_get slots n ≡ Some (Some tuple)) × (length tuple ≡ length (tuple_bytes slot))
-    by None e some = absurd (omega arith)
-    by (Some tuple) e some = (tuple, e, refl)
-
--- a slot with a tuple isn't free
-pub used_free : (slots : List Slot) (n : ℕ) (tuple : List ℕ) → slice_get slots n ≡ Some (Some tuple) → get_or slots n None ≡ None → ⊥
-used_free slots n tuple there free = let here : Some tuple ≡ None = sym (get_or_from_slice_get slots n (Some tuple) None there) ∙ free in cc
-
-pub free_empty_slot : (slots : List Slot) (n : ℕ) → slice_get slots n ≡ Some None → length (tuple_bytes (get_or slots n None)) ≡ 0
-free_empty_slot slots n there = ap length (ap tuple_bytes (get_or_from_slice_get slots n None None there))

@@ -149,9 +149,6 @@ unfolding trimmed
 trim_used [] tuple = refl
 trim_used (slot ∷ slots) tuple = ap (before slot) (trim_used slots tuple) ∙ before_more slot (slots ++ Some tuple ∷ []) (omega (arith, length-append slots (Some tuple ∷ [])))
 
-pub used-start : (slots : List Slot) (n : ℕ) → n ≡ length slots → trimmed (take n slots) ≡ trimmed slots
-used-start slots n all = ap trimmed (take_all n slots (omega arith))
-
 pub used-next : (slots : List Slot) (n i : ℕ) → n ≡ i + 1 → i < length slots → get_or slots i None ≡ None → trimmed (take n slots) ≡ trimmed slots → trimmed (take i slots) ≡ trimmed slots
 used-next slots n i more below free so_far =
     sym (trim_push (take i slots)) ∙ ap (λ (s : Slot). trimmed (take i slots ++ s ∷ [])) (sym free) ∙ ap trimmed (sym (take_more slots i None below)) ∙ ap (λ (k : ℕ). trimmed (take k slots)) (sym more) ∙ so_far
@@ -344,12 +341,6 @@ entries_split : (entries : List (Option Spot)) (n : ℕ) (new : Option Spot) →
 unfolding entries_bytes
 entries_split entries n new below = ap entries_bytes (set_split entries n new below) ∙ entries_append (take n entries) (new ∷ drop (suc n) entries)
 
-long_entries : (entries : List (Option Spot)) → length (entries_bytes entries) ≡ 8 * length entries
-unfolding entries_bytes
-long_entries [] = refl
-long_entries (None ∷ entries) = omega (arith, long_entries entries)
-long_entries (Some spot ∷ entries) = omega (arith, long_entries entries)
-
 put_block : (entry : Option Spot) (block : ℕ) (rest : List ℕ) → put_mid 0 4 (entry_bytes entry ++ rest) (bytes_high_first 4 block) ≡ bytes_high_first 4 block ++ drop 4 (entry_bytes entry ++ rest)
 put_block None block rest = refl
 put_block (Some spot) block rest = refl
@@ -394,7 +385,7 @@ entry_set entries n at spot page mid new map below place big small first second 
     ∙ ap (λ (l : List (Option Spot)). header 4 0 ++ entries_bytes l) (sym (set-get_or entries n None))
     ∙ ap (λ (l : List ℕ). header 4 0 ++ l) (entries_split entries n old (omega arith))
     ∙ sym (append_assoc (header 4 0) (entries_bytes (take n entries)) (entry_bytes old ++ rest)) in
-    let long : length front ≡ at = omega (arith, length-append (header 4 0) (entries_bytes (take n entries)), long_entries (take n entries), length-take-le n entries (omega arith)) in
+    let long : length front ≡ at = omega (arith, length-append (header 4 0) (entries_bytes (take n entries)), length-entries (take n entries), length-take-le n entries (omega arith)) in
     let zero_at : at ≡ length front + 0 = omega arith in
     let written : mid ≡ front ++ (bytes_high_first 4 spot.block ++ drop 4 (entry_bytes old ++ rest)) =
     first ∙ put-part page at 4 spot.block

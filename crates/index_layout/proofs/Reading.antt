@@ -93,7 +93,7 @@ few_slots kind slots page has = omega (arith, taken-is slots, has.fit.room)
 
 -- one slot
 
-are_at : (slots : List Slot) (i : ℕ) → AreSlots slots → IsSlot (get_or slots i None)
+pub are_at : (slots : List Slot) (i : ℕ) → AreSlots slots → IsSlot (get_or slots i None)
 are_at [] i are = tt
 are_at (slot ∷ slots) zero are = are.0
 are_at (slot ∷ slots) (suc i) are = are_at slots i are.1
@@ -148,9 +148,6 @@ offset_read kind slots page i at offset has below place is =
         record { free = λ z. absurd (omega arith); used = λ some. omega arith; begins = λ some. is_there }
 
 -- free slots
-
-pub free-start : (slots : List Slot) → 0 + free_slot_of (drop 0 slots) ≡ free_slot_of slots
-free-start slots = omega arith
 
 pub free_found : (slots : List Slot) (i : ℕ) → i < length slots → get_or slots i None ≡ None → i + free_slot_of (drop i slots) ≡ free_slot_of slots → i ≡ free_slot_of slots
 unfolding free_slot_of

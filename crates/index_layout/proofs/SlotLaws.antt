@@ -1,12 +1,12 @@
 -- What changes of slots leave at each slot, which slot is the lowest free one, and which tuples have room in it.
-use Rattle.std.proofs.Common.{◌≡◌, ℕ, zero, suc, ◌+◌, ◌-◌, ◌<◌, ◌≤◌, inl, inr, Bool, true, false, cond, ltb, List, [], ◌∷◌, ◌++◌, length, get_or, refl, sym, ap, ◌∙◌, arith}
+use Rattle.std.proofs.Common.{◌≡◌, ℕ, zero, suc, ◌+◌, ◌-◌, ◌<◌, ◌≤◌, inl, inr, Bool, true, false, cond, eqb, ltb, List, [], ◌∷◌, ◌++◌, length, get_or, refl, sym, ap, ◌∙◌, arith}
 use Rattle.std.specs.Prelude.{None, Some}
-use Rattle.std.proofs.lemmas.Bool.{cases_lt, ltb-true, ltb-false, lt-ltb}
+use Rattle.std.proofs.lemmas.Bool.{cases_lt, eqb-true, eq-eqb, ltb-true, ltb-false, lt-ltb}
 use Rattle.std.proofs.lemmas.Option.{slice_get_within, get_or_from_slice_get}
 use Rattle.std.proofs.lemmas.List.{get_or-set_same, get_or-set_other, get_or_at, get_or_append_left, get_or_past, length_push}
 use Rattle.index_layout.specs.IndexPages.{Slot}
-use Rattle.index_layout.specs.IndexReading.{free_of, free_slot_of}
-use Rattle.index_layout.specs.IndexWrites.{put_in, before, trimmed, IsRoom, room_for_further}
+use Rattle.index_layout.specs.IndexReading.{free_of, free_slot_of, slots_of}
+use Rattle.index_layout.specs.IndexWrites.{put_in, before, trimmed, IsRoom, CanPut, room_for_further, room_on}
 use Rattle.index_layout.proofs.PageWrites.{put_there, put_next}
 use Rattle.index_layout.proofs.Dropping.{free_there}
 
@@ -63,7 +63,7 @@ lowest_within [] = omega arith
 lowest_within (None ∷ slots) = omega arith
 lowest_within (Some tuple ∷ slots) = omega (arith, lowest_within slots)
 
-pub room_there : (slots : List Slot) (size : ℕ) → 0 < size → size ≤ room_for_further slots → IsRoom slots (free_slot_of slots) size
+room_there : (slots : List Slot) (size : ℕ) → 0 < size → size ≤ room_for_further slots → IsRoom slots (free_slot_of slots) size
 room_there slots size some room = by (ltb (free_slot_of slots) (length slots)) refl room
   where
     by : (t : Bool) → ltb (free_slot_of slots) (length slots) ≡ t → size ≤ cond t (free_of slots) (free_of slots - 4) → IsRoom slots (free_slot_of slots) size
@@ -77,7 +77,7 @@ further_small : (t : Bool) (free size : ℕ) → size + 4 ≤ free → size ≤ 
 further_small true free size le = omega arith
 further_small false free size le = omega arith
 
-pub room_least : (slots : List Slot) (n size : ℕ) → IsRoom slots n size → size ≤ room_for_further slots
+room_least : (slots : List Slot) (n size : ℕ) → IsRoom slots n size → size ≤ room_for_further slots
 room_least slots n size (inr next) = further_small (ltb (free_slot_of slots) (length slots)) (free_of slots) size next.1
 room_least slots n size (inl (there, le)) =
     let here : get_or slots n None ≡ None = get_or_from_slice_get slots n None None there in
@@ -88,3 +88,16 @@ room_least slots n size (inl (there, le)) =
           let same : room_for_further slots ≡ free_of slots = ap (λ (t : Bool). cond t (free_of slots) (free_of slots - 4)) most in
           omega arith)
     ]
+
+pub page_takes : (page : List ℕ) (size : ℕ) → 0 < size → size ≤ room_on page → CanPut page (free_slot_of (slots_of page)) size
+page_takes page size some room = by (eqb (get_or page 0 0) 5) refl room
+  where
+    by : (t : Bool) → eqb (get_or page 0 0) 5 ≡ t → size ≤ cond t (room_for_further (slots_of page)) 0 → CanPut page (free_slot_of (slots_of page)) size
+    by true e le = (eqb-true (get_or page 0 0) 5 e, some, room_there (slots_of page) size some le)
+    by false e le = absurd (omega arith)
+
+pub taken_by_page : (page : List ℕ) (n size : ℕ) → CanPut page n size → size ≤ room_on page
+taken_by_page page n size (five, some, room) =
+    let same : room_on page ≡ room_for_further (slots_of page) = ap (λ (t : Bool). cond t (room_for_further (slots_of page)) 0) (eq-eqb (get_or page 0 0) 5 five) in
+    let least = room_least (slots_of page) n size room in
+    omega (arith, same, least)

@@ -71,15 +71,6 @@ slot_takes floor end last offset size f = by (eqb size 0) refl f
 pub two : (x : ℕ) → x < 65536 → number_of (bytes_high_first 2 x) ≡ x
 two x small = number-bytes 2 x small
 
--- the first entry of a directory
-pub size_here : (end : ℕ) (slot : Slot) (rest : List ℕ) → length (tuple_bytes slot) < 65536 → number_at (directory_entry end slot ++ rest) 2 2 ≡ length (tuple_bytes slot)
-unfolding number_of
-size_here end None rest small = refl
-size_here end (Some tuple) rest small = two (length tuple) small
-
-pub offset_here : (end : ℕ) (tuple rest : List ℕ) → end < 65536 → number_at (directory_entry end (Some tuple) ++ rest) 0 2 ≡ end - length tuple
-offset_here end tuple rest small = two (end - length tuple) (omega arith)
-
 none_last : (slots : List Slot) → IsLastUsed (None ∷ slots) → (0 < length slots) × IsLastUsed slots
 none_last [] last = absurd last
 none_last (slot ∷ slots) last = (omega arith, last)
@@ -146,10 +137,6 @@ two_bytes a b x y = bytes-number (a ∷ b ∷ []) small
     small zero = x
     small (suc zero) = y
     small (suc (suc i)) = omega arith
-
-two_small : (a b : ℕ) → a < 256 → b < 256 → number_of (a ∷ b ∷ []) < 65536
-unfolding number_of
-two_small a b x y = omega arith
 
 -- the slots behind a free one, and behind one with a tuple
 

@@ -11,6 +11,7 @@ use Rattle.index_layout.specs.IndexReading.{number_at, end_from, free_of}
 use Rattle.index_layout.specs.IndexWrites.{laid, laid_entry, lengths_in, slot_with}
 use Rattle.index_layout.proofs.SlotLists.{taken-is, two, length-directory}
 use Rattle.index_layout.proofs.SlotsRead.{end_all}
+use Rattle.index_layout.proofs.Reading.{are_at}
 
 -- slots one behind the other
 
@@ -45,11 +46,6 @@ pub are_set : (slots : List Slot) (n : ℕ) (new : Slot) → AreSlots slots → 
 are_set [] n new are is = tt
 are_set (slot ∷ slots) zero new are is = (is, are.1)
 are_set (slot ∷ slots) (suc n) new are is = (are.0, are_set slots n new are.1 is)
-
-pub are_get : (slots : List Slot) (n : ℕ) → AreSlots slots → IsSlot (get_or slots n None)
-are_get [] n are = tt
-are_get (slot ∷ slots) zero are = are.0
-are_get (slot ∷ slots) (suc n) are = are_get slots n are.1
 
 are_drop : (n : ℕ) (slots : List Slot) → AreSlots slots → AreSlots (drop n slots)
 are_drop zero slots are = are
@@ -228,7 +224,7 @@ same_length kind slots n tuple page below of fit room same e =
     let at = end_from 8192 n slots in
     let b = drop (suc n) slots in
     let long : length (tuple_bytes s) ≡ length (tuple_bytes new) = same ∙ ap length (sym (with_bytes tuple)) in
-    let entry = entry_same at s new (are_get slots n fit.are) (with-is tuple) long in
+    let entry = entry_same at s new (are_at slots n fit.are) (with-is tuple) long in
     let whole : directory 8192 slots ≡ directory 8192 (set slots n new) = old_parts slots n below ∙ (λ i. directory 8192 (take n slots) ++ (entry i ++ directory (at - long i) b)) ∙ sym (directory_parts slots n new below) in
     has_by kind slots n tuple page of (set_fits slots n tuple below fit room) (e ∙ ap (λ (l : List ℕ). header kind (length slots) ++ (l ++ area (set slots n new))) whole)
 

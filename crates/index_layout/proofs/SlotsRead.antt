@@ -65,9 +65,6 @@ one_list kind slots page has =
 
 -- the entry of a slot in the directory
 
-pub length-slots_in : (page : List ℕ) (n : ℕ) (bytes : List ℕ) → length (slots_in page n bytes) ≡ n
-length-slots_in = length-in
-
 drop_four : (i : ℕ) (entry rest : List ℕ) → length entry ≡ 4 → drop (suc i * 4) (entry ++ rest) ≡ drop (i * 4) rest
 drop_four i entry rest len =
     let more : suc i * 4 ≡ 4 + i * 4 = omega arith in

@@ -12,11 +12,6 @@ use Rattle.index_layout.proofs.Faults.{shifted-twice}
 pub last_slot : (slot count : ℕ) → slot < count → eqb (slot + 1) count ≡ eqb (count - (slot + 1)) 0
 last_slot slot count below = grind (arith, nat_tests)
 
-pub directory-start : (floor end count at : ℕ) (page : List ℕ) (all : Option ℕ) → at ≡ 32 → all ≡ shifted 32 (directory_fault floor end count (drop 32 page)) → shifted at (directory_fault floor end (count - 0) (drop at page)) ≡ all
-directory-start floor end count at page all is whole =
-    let n : count - 0 ≡ count = omega arith in
-    (λ i. shifted (is i) (directory_fault floor end (n i) (drop (is i) page))) ∙ sym whole
-
 -- the fault of a slot by its two fields
 own_fault : (floor end at offset size : ℕ) (last behind : Bool) (page : List ℕ) (o : Option ℕ) → last ≡ behind → offset ≡ number_of (field_at page at 2) → size ≡ number_of (field_at page (at + 2) 2) → o ≡ slot_fault floor end last offset size
     → o ≡ slot_fault floor end behind (number_at (drop at page) 0 2) (number_at (drop at page) 2 2)

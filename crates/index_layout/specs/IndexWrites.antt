@@ -40,6 +40,10 @@ IsRoom slots n size = ((slice_get slots n ≡ Some None) × (size ≤ free_of sl
 abbrev pub room_for_further : List Slot → ℕ
 room_for_further slots = if nat_lt (free_slot_of slots) (length slots) then free_of slots else free_of slots - 4
 
+-- and on a page: one that isn't of tuples, or is being evacuated, takes none
+abbrev pub room_on : List ℕ → ℕ
+room_on page = if slice_index page 0 == REGULAR then room_for_further (slots_of page) else 0
+
 -- a page of tuples that isn't being evacuated has room in slot n
 abbrev pub CanPut : List ℕ → ℕ → ℕ → Type 0
 CanPut page n size = (slice_index page 0 ≡ REGULAR) × (0 < size) × IsRoom (slots_of page) n size

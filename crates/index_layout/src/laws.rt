@@ -4,7 +4,7 @@ ghost use Rattle.std.specs.Prelude.{◌≡◌, ◌≢◌, ◌<◌, ◌≤◌, Li
 ghost use Rattle.block_model.specs.declared.place.Spot.{Spot};
 ghost use Rattle.index_layout.specs.declared.format.TheConstants.{MAP, META};
 ghost use Rattle.index_layout.specs.IndexPages.{HasSlots, IsIndexPage, IsMap, IsMeta, IsRegular, Slot};
-ghost use Rattle.index_layout.specs.IndexWrites.{IsRoom, put_in, room_for_further, trimmed};
+ghost use Rattle.index_layout.specs.IndexWrites.{CanPut, put_in, room_on, trimmed};
 ghost use Rattle.index_layout.specs.IndexReading.{entries_of, free_slot_of, is_regular, map_pages_of, slots_of};
 
 /// A page has one list of slots or of entries, or one number of map pages: the one that is read from its bytes. Each page of
@@ -26,12 +26,12 @@ pub fn a_put_changes_one_slot()
     ensures trimmed { (list : List Slot) (m : ℕ) → slice_index_or (trimmed list) m None ≡ slice_index_or list m None }
 {}
 
-/// The slot for a further tuple is the lowest that is free, or the next one. A tuple has room in some slot exactly if it has
-/// room in that one, and that is where it has no more bytes than `room_for` answers.
+/// The slot for a further tuple is the lowest that is free, or the next one. A page takes a tuple in some slot exactly if it
+/// takes it in that one, and that is where the tuple has no more bytes than `room_for` answers.
 pub fn the_lowest_free_slot_has_room()
     ensures free { (list : List Slot) → slice_index_or list (free_slot_of list) None ≡ None }
     ensures lowest { (list : List Slot) (n : ℕ) → n < free_slot_of list → slice_index_or list n None ≢ None }
     ensures within { (list : List Slot) → free_slot_of list ≤ length list }
-    ensures room { (list : List Slot) (size : ℕ) → 0 < size → size ≤ room_for_further list → IsRoom list (free_slot_of list) size }
-    ensures least { (list : List Slot) (n size : ℕ) → IsRoom list n size → size ≤ room_for_further list }
+    ensures room { (page : List ℕ) (size : ℕ) → 0 < size → size ≤ room_on page → CanPut page (free_slot_of (slots_of page)) size }
+    ensures least { (page : List ℕ) (n size : ℕ) → CanPut page n size → size ≤ room_on page }
 {}

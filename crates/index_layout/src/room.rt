@@ -3,16 +3,21 @@
 ghost use Rattle.std.specs.Prelude.{◌≡◌, ◌≤◌, length, true, false};
 ghost use Rattle.index_layout.specs.IndexPages.{IsIndexPage};
 ghost use Rattle.index_layout.specs.IndexReading.{slots_of};
-ghost use Rattle.index_layout.specs.IndexWrites.{CanDrop, CanPut, CanReplace, are_ascending, room_for_further};
+ghost use Rattle.index_layout.specs.IndexWrites.{CanDrop, CanPut, CanReplace, are_ascending, room_on};
 
 use crate::format::{REGULAR, SLOT_SIZE};
 use crate::readers::{free_bytes, free_slot, is_regular, page_known, size_at, slots};
 
-/// The bytes of the greatest further tuple that the page has room for, in a free slot or the next one; 0 where there is none.
+/// The bytes of the greatest further tuple that the page takes in a free slot or the next one: 0 where it takes none, as one
+/// that isn't of tuples or is being evacuated.
 pub fn room_for(page: &[u8]) -> u16
     requires { IsIndexPage page.now }
-    ensures { result ≡ room_for_further (slots_of page.now) }
+    ensures { result ≡ room_on page.now }
 {
+    page_known(page);
+    if page[0] != REGULAR {
+        return 0;
+    }
     let free = free_bytes(page);
     if free_slot(page) < slots(page) {
         return free;
