@@ -10,6 +10,7 @@ use borrow.Rule.Slice.PartMut.{put_mid}
 use Rattle.index_layout.specs.IndexPages.{Slot, AreSlots, IsLastUsed, HasSlots, IsRegular, IsMeta, IsMap, IsIndexPage, Unstarted, Meta, Map, Regular, IsEntry, AreEntries, entry_bytes, entries_bytes, tuple_bytes, taken, directory, tuples, header, regular_bytes, meta_bytes, map_bytes}
 use Rattle.index_layout.specs.IndexReading.{entries_of, end_from, free_of}
 use Rattle.index_layout.specs.IndexWrites.{put_in, before, trimmed, entry_for, slot_with}
+use Rattle.index_layout.proofs.Entries.{length-entries}
 use Rattle.index_layout.proofs.SlotWrites.{directory-append, tuples-append, taken-append, write_behind}
 use Rattle.index_layout.proofs.Reading.{front_zero, front_meta, front_map, one_map, regular_front}
 
