@@ -3,7 +3,7 @@ use Rattle.std.proofs.Common.{◌≡◌, ℕ, zero, suc, ◌+◌, ◌-◌, ◌*�
 use Rattle.std.specs.Prelude.{Option, None, Some, replicate}
 use Rattle.std.specs.Int.{bytes_high_first}
 use Rattle.std.proofs.lemmas.Bool.{lt-ltb, le-ltb, eqb-false, eqb-true}
-use Rattle.std.proofs.lemmas.List.{append-nil, length-replicate, replicate-append-replicate, length-set, length-take-le, set_split, set-get_or, set_at, length_push, take_more, take_all, drop_all}
+use Rattle.std.proofs.lemmas.List.{append-nil, length-replicate, replicate-append-replicate, length-set, length-take-le, set_split, set-get_or, set_at, length_push, take_more, drop_all}
 use Rattle.block_model.specs.declared.place.Spot.{Spot}
 use Rattle.byte_fields.specs.Fields.{put_at, put-part}
 use borrow.Rule.Slice.PartMut.{put_mid}

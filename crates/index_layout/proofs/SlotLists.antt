@@ -7,7 +7,7 @@ use Rattle.std.proofs.lemmas.List.{append-nil, length-replicate, take_at, drop-d
 use Rattle.byte_fields.specs.Fields.{AreBytes, number_of, bytes-number, number-bytes, field_at, length-field}
 use Rattle.index_layout.specs.IndexPages.{Slot, AreSlots, IsLastUsed, tuple_bytes, taken, directory_entry, directory, tuples, regular_bytes}
 use Rattle.index_layout.specs.IndexFaults.{first_of, shifted, fault_unless, zeros_fault, slot_fault, directory_fault}
-use Rattle.index_layout.specs.IndexReading.{number_at, slot_in, slots_in}
+use Rattle.index_layout.specs.IndexReading.{slot_in, slots_in}
 use Rattle.index_layout.proofs.Faults.{first_none, holds-unless, shifted-none, zeros_take, zeros_pass}
 
 -- sizes

@@ -7,7 +7,7 @@ use Rattle.std.proofs.lemmas.List.{append-nil, take_at, drop_at, drop-drop}
 use Rattle.byte_fields.specs.Fields.{number_of, field_at}
 use Rattle.index_layout.specs.IndexPages.{Slot, IsSlot, AreSlots, HasSlots, tuple_bytes, taken, directory_entry, directory, tuples, header, regular_bytes}
 use Rattle.index_layout.specs.IndexReading.{number_at, slot_in, slots_in, slots_of, is_regular, end_from}
-use Rattle.index_layout.proofs.SlotLists.{taken-is, length-entry, length-regular, two, length-in}
+use Rattle.index_layout.proofs.SlotLists.{taken-is, length-entry, length-regular, two}
 
 -- the first slot of a directory, where the page has its tuple
 slot_again : (end : ℕ) (slot : Slot) (page front behind rest : List ℕ) → IsSlot slot → end < 65536 → length front + length (tuple_bytes slot) ≡ end → page ≡ front ++ (tuple_bytes slot ++ behind) → slot_in page (directory_entry end slot ++ rest) ≡ slot
