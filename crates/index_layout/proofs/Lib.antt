@@ -1,0 +1,12 @@
+pub mod Faults
+pub mod SlotLists
+pub mod SlotsRead
+pub mod Entries
+pub mod Walks
+pub mod PageKinds
+pub mod Reading
+pub mod Moves
+pub mod SlotWrites
+pub mod PageWrites
+pub mod Dropping
+pub mod SlotLaws

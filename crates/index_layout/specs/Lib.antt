@@ -1,0 +1,4 @@
+pub mod IndexPages
+pub mod IndexReading
+pub mod IndexFaults
+pub mod IndexWrites
