@@ -9,85 +9,50 @@ use std::test::Fail;
 use store_layout::Layout;
 
 /// The fields of the control page of `table t(a int8) rows_per_page 2` and `index i on t(a minmax) pages_per_range 1`, with 8
-/// blocks of the table, 4 of the index, 1 of statuses, 16 pages of log in each area and 256 frames.
-const FIELDS: [&[u8]; 21] = [
-    // The gate, the area byte, the mark and the format.
-    b"\x01\x00BRINSTOR\x00\x01",
-    // The blocks of the table, of the index and of the statuses, the pages of the log, the frames.
-    b"\x00\x00\x00\x08",
-    b"\x00\x00\x00\x04",
-    b"\x00\x00\x00\x01",
-    b"\x00\x00\x00\x10",
-    b"\x00\x00\x01\x00",
-    // One table and one index.
-    b"\x01\x01",
-    // The table, two rows per page, and one column.
-    b"t\x00\x00\x00\x00\x00\x00\x00\x00\x00\x00\x00\x00\x00\x00\x00",
-    b"\x00\x02",
-    b"\x01",
-    // The column, of int8.
-    b"a\x00\x00\x00\x00\x00\x00\x00\x00\x00\x00\x00\x00\x00\x00\x00",
-    b"\x01",
-    // The index, on table 0, one page per range, not autosummarize, on one column.
-    b"i\x00\x00\x00\x00\x00\x00\x00\x00\x00\x00\x00\x00\x00\x00\x00",
-    b"\x00",
-    b"\x00\x00\x00\x01",
-    b"\x00",
-    b"\x01",
-    // Column 0 by minmax, with no parameter and no hashes.
-    b"\x00",
-    b"\x01",
-    b"\x00\x00",
-    b"\x00",
-];
+/// blocks of the table, 4 of the index, 1 of statuses, 16 pages of log in each area and 256 frames: the head; the sizes; how
+/// many tables and indexes; the table's name, its rows per page and how many columns; the column's name and kind; the index's
+/// name, its table, its pages per range, whether it is autosummarize and how many columns; the column, its class, no parameter
+/// and no hashes.
+const FIELDS: &[u8] = b"\x01\x00BRINSTOR\x00\x01\
+\x00\x00\x00\x08\x00\x00\x00\x04\x00\x00\x00\x01\x00\x00\x00\x10\x00\x00\x01\x00\
+\x01\x01\
+t\x00\x00\x00\x00\x00\x00\x00\x00\x00\x00\x00\x00\x00\x00\x00\x00\x02\x01\
+a\x00\x00\x00\x00\x00\x00\x00\x00\x00\x00\x00\x00\x00\x00\x00\x01\
+i\x00\x00\x00\x00\x00\x00\x00\x00\x00\x00\x00\x00\x00\x00\x00\x00\x00\x00\x00\x01\x00\x01\
+\x00\x01\x00\x00\x00";
 
 /// 46 pages: the control page, twice 16 of log, and 1, 8 and 4 blocks.
 const SIZE: u64 = 376_832;
 
 /// The fields of a page with a second table `nets(r int8range,a inet) rows_per_page 3`, and the indexes
 /// `m on t(a multi 16)` and `wide on nets(r inclusion,a bloom 4096 3) pages_per_range 65536 autosummarize`.
-const FIELDS_OF_TWO: [&[u8]; 20] = [
-    b"\x01\x02BRINSTOR\x00\x01",
-    b"\x00\x00\x00\x08\x00\x00\x00\x04\x00\x00\x00\x01\x00\x00\x00\x10\x00\x00\x01\x00",
-    b"\x02\x02",
-    b"t\x00\x00\x00\x00\x00\x00\x00\x00\x00\x00\x00\x00\x00\x00\x00",
-    b"\x00\x02\x01",
-    b"a\x00\x00\x00\x00\x00\x00\x00\x00\x00\x00\x00\x00\x00\x00\x00",
-    b"\x01",
-    b"nets\x00\x00\x00\x00\x00\x00\x00\x00\x00\x00\x00\x00",
-    b"\x00\x03\x02",
-    b"r\x00\x00\x00\x00\x00\x00\x00\x00\x00\x00\x00\x00\x00\x00\x00",
-    b"\x02",
-    b"a\x00\x00\x00\x00\x00\x00\x00\x00\x00\x00\x00\x00\x00\x00\x00",
-    b"\x03",
-    b"m\x00\x00\x00\x00\x00\x00\x00\x00\x00\x00\x00\x00\x00\x00\x00",
-    b"\x00\x00\x00\x00\x80\x00\x01",
-    // Column 0 by multi, with the limit 16.
-    b"\x00\x02\x00\x10\x00",
-    b"wide\x00\x00\x00\x00\x00\x00\x00\x00\x00\x00\x00\x00",
-    b"\x01\x00\x01\x00\x00\x01\x02",
-    // Column 0 by inclusion.
-    b"\x00\x03\x00\x00\x00",
-    // Column 1 by bloom, with 4096 bits and 3 hashes.
-    b"\x01\x04\x10\x00\x03",
-];
+const FIELDS_OF_TWO: &[u8] = b"\x01\x02BRINSTOR\x00\x01\
+\x00\x00\x00\x08\x00\x00\x00\x04\x00\x00\x00\x01\x00\x00\x00\x10\x00\x00\x01\x00\
+\x02\x02\
+t\x00\x00\x00\x00\x00\x00\x00\x00\x00\x00\x00\x00\x00\x00\x00\x00\x02\x01\
+a\x00\x00\x00\x00\x00\x00\x00\x00\x00\x00\x00\x00\x00\x00\x00\x01\
+nets\x00\x00\x00\x00\x00\x00\x00\x00\x00\x00\x00\x00\x00\x03\x02\
+r\x00\x00\x00\x00\x00\x00\x00\x00\x00\x00\x00\x00\x00\x00\x00\x02\
+a\x00\x00\x00\x00\x00\x00\x00\x00\x00\x00\x00\x00\x00\x00\x00\x03\
+m\x00\x00\x00\x00\x00\x00\x00\x00\x00\x00\x00\x00\x00\x00\x00\x00\x00\x00\x00\x80\x00\x01\
+\x00\x02\x00\x10\x00\
+wide\x00\x00\x00\x00\x00\x00\x00\x00\x00\x00\x00\x00\x01\x00\x01\x00\x00\x01\x02\
+\x00\x03\x00\x00\x00\
+\x01\x04\x10\x00\x03";
 
 /// 58 pages: twice the blocks of tables and indexes.
 const SIZE_OF_TWO: u64 = 475_136;
 
 /// A page: its fields, and zeros behind them.
-fn by_hand(alloc: Global, fields: &[&[u8]]) -> Result<Vec<u8>, AllocError> {
-    let mut page = Vec::new(alloc);
-    for field in fields {
-        page.extend_from_slice(field)?;
-    }
+fn by_hand(alloc: Global, fields: &[u8]) -> Result<Vec<u8>, AllocError> {
+    let mut page = fields.to_vec(alloc)?;
     page.resize(PAGE_SIZE, 0)?;
     Ok(page)
 }
 
 /// The first page with that byte there, where it has the place.
 fn changed(alloc: Global, at: usize, byte: u8) -> Result<Vec<u8>, AllocError> {
-    let mut page = by_hand(alloc, &FIELDS)?;
+    let mut page = by_hand(alloc, FIELDS)?;
     if at < page.len() {
         page[at] = byte;
     }
@@ -149,13 +114,19 @@ fn refusal(
     Ok(read(alloc, page.as_slice(), size).err())
 }
 
+/// Whether the control page of the layout, with that area byte, is these bytes.
+fn is_written_as(layout: &Layout, area: u8, bytes: &[u8]) -> bool {
+    let mut page = [9; PAGE_SIZE];
+    write(layout, OPEN, area, &mut page);
+    page.as_slice() == bytes
+}
+
 #[test]
 fn written_as_by_hand(rt: HostRuntime) -> Result<(), Fail> {
     let layout = layout(rt.alloc()).ok_or("no layout")?;
     assert_eq!(rt; layout.disk_size(), SIZE);
-    let mut page = [9; PAGE_SIZE];
-    write(&layout, OPEN, 0, &mut page);
-    assert!(rt; page.as_slice() == by_hand(rt.alloc(), &FIELDS)?.as_slice());
+    let page = by_hand(rt.alloc(), FIELDS)?;
+    assert!(rt; is_written_as(&layout, 0, page.as_slice()));
     Ok(())
 }
 
@@ -165,9 +136,12 @@ fn read_from_bytes_by_hand(rt: HostRuntime) -> Result<(), Fail> {
     assert!(rt; is_open(page.as_slice()));
     assert_eq!(rt; area_of(page.as_slice()), 1);
     let layout = read(rt.alloc(), page.as_slice(), SIZE)?;
-    let mut again = [9; PAGE_SIZE];
-    write(&layout, OPEN, 7, &mut again);
-    assert!(rt; again.as_slice() == page.as_slice());
+    assert!(rt; is_written_as(&layout, 7, page.as_slice()));
+    Ok(())
+}
+
+#[test]
+fn other_bytes_are_refused(rt: HostRuntime) -> Result<(), Fail> {
     let no_store = Some(ControlFault::NoStore);
     assert_eq!(rt; refusal(rt.alloc(), 1, 7, SIZE)?, None);
     assert_eq!(rt; refusal(rt.alloc(), 1, 7, SIZE + 1)?, no_store);
@@ -178,40 +152,49 @@ fn read_from_bytes_by_hand(rt: HostRuntime) -> Result<(), Fail> {
     Ok(())
 }
 
-#[test]
-fn two_tables_are_read(rt: HostRuntime) -> Result<(), Fail> {
-    let page = by_hand(rt.alloc(), &FIELDS_OF_TWO)?;
-    assert_eq!(rt; area_of(page.as_slice()), 0);
-    let layout = read(rt.alloc(), page.as_slice(), SIZE_OF_TWO)?;
-    let schema = layout.schema();
-    let [_, nets] = schema.tables.as_slice() else {
-        return Err("two tables")?;
+/// The table `nets`.
+fn is_nets(table: &Table) -> bool {
+    let kinds = match table.columns.as_slice() {
+        [range, network] => range.kind == Kind::Span && network.kind == Kind::Net,
+        _ => false,
     };
-    assert!(rt; nets.name.as_bytes() == b"nets".as_slice());
-    assert_eq!(rt; nets.rows_per_page, 3);
-    let [range, network] = nets.columns.as_slice() else {
-        return Err("two columns")?;
-    };
-    assert_eq!(rt; (range.kind, network.kind), (Kind::Span, Kind::Net));
-    let [multi, wide] = schema.indexes.as_slice() else {
-        return Err("two indexes")?;
-    };
-    let [number] = multi.parts.as_slice() else {
-        return Err("one part")?;
-    };
-    assert_eq!(rt; number.class, Class::Multi { limit: 16 });
-    assert_eq!(rt;
-        (wide.table, wide.pages_per_range, wide.auto),
-        (1, 65536, true)
-    );
-    let [inclusion, bloom] = wide.parts.as_slice() else {
-        return Err("two parts")?;
-    };
-    assert_eq!(rt; inclusion.class, Class::Inclusion);
+    table.name.as_bytes() == b"nets".as_slice() && table.rows_per_page == 3 && kinds
+}
+
+/// The index `m`.
+fn is_multi(index: &Index) -> bool {
+    match index.parts.as_slice() {
+        [part] => part.class == Class::Multi { limit: 16 },
+        _ => false,
+    }
+}
+
+/// The index `wide`.
+fn is_wide(index: &Index) -> bool {
     let class = Class::Bloom {
         bits: 4096,
         hashes: 3,
     };
-    assert_eq!(rt; *bloom, Part { column: 1, class });
+    let classes = match index.parts.as_slice() {
+        [range, network] => range.class == Class::Inclusion && network.class == class,
+        _ => false,
+    };
+    index.table == 1 && index.pages_per_range == 65536 && index.auto && classes
+}
+
+/// The tables and indexes of the second page.
+fn are_two(schema: &Schema) -> bool {
+    match (schema.tables.as_slice(), schema.indexes.as_slice()) {
+        ([_, nets], [multi, wide]) => is_nets(nets) && is_multi(multi) && is_wide(wide),
+        _ => false,
+    }
+}
+
+#[test]
+fn two_tables_are_read(rt: HostRuntime) -> Result<(), Fail> {
+    let page = by_hand(rt.alloc(), FIELDS_OF_TWO)?;
+    assert_eq!(rt; area_of(page.as_slice()), 0);
+    let layout = read(rt.alloc(), page.as_slice(), SIZE_OF_TWO)?;
+    assert!(rt; are_two(layout.schema()));
     Ok(())
 }
