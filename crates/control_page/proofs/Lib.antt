@@ -1,0 +1,5 @@
+pub mod Padding
+pub mod Lists
+pub mod Fits
+pub mod Again
+pub mod Layouts

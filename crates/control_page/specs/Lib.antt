@@ -1,0 +1,4 @@
+pub mod ControlPage
+pub mod ControlBytes
+pub mod ControlReading
+pub mod ShortSchema

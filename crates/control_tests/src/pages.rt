@@ -1,0 +1,200 @@
+//! A control page written out by hand.
+
+use block_model::{
+    Class, Column, Index, Kind, Name, PAGE_SIZE, Part, Schema, Sequence, Sizes, Table,
+};
+use control_page::{ControlFault, OPEN, area_of, is_open, read, write};
+use std::alloc::{AllocError, Global};
+use std::test::Fail;
+use store_layout::Layout;
+
+/// The fields of the control page of `table t(a int8) rows_per_page 2` and `index i on t(a minmax) pages_per_range 1`, with 8
+/// blocks of the table, 4 of the index, 1 of statuses, 16 pages of log in each area and 256 frames: the head; the sizes; how
+/// many tables and indexes; the table's name, its rows per page and how many columns; the column's name and kind; the index's
+/// name, its table, its pages per range, whether it is autosummarize and how many columns; the column, its class, no parameter
+/// and no hashes.
+const FIELDS: &[u8] = b"\x01\x00BRINSTOR\x00\x01\
+\x00\x00\x00\x08\x00\x00\x00\x04\x00\x00\x00\x01\x00\x00\x00\x10\x00\x00\x01\x00\
+\x01\x01\
+t\x00\x00\x00\x00\x00\x00\x00\x00\x00\x00\x00\x00\x00\x00\x00\x00\x02\x01\
+a\x00\x00\x00\x00\x00\x00\x00\x00\x00\x00\x00\x00\x00\x00\x00\x01\
+i\x00\x00\x00\x00\x00\x00\x00\x00\x00\x00\x00\x00\x00\x00\x00\x00\x00\x00\x00\x01\x00\x01\
+\x00\x01\x00\x00\x00";
+
+/// 46 pages: the control page, twice 16 of log, and 1, 8 and 4 blocks.
+const SIZE: u64 = 376_832;
+
+/// The fields of a page with a second table `nets(r int8range,a inet) rows_per_page 3`, and the indexes
+/// `m on t(a multi 16)` and `wide on nets(r inclusion,a bloom 4096 3) pages_per_range 65536 autosummarize`.
+const FIELDS_OF_TWO: &[u8] = b"\x01\x02BRINSTOR\x00\x01\
+\x00\x00\x00\x08\x00\x00\x00\x04\x00\x00\x00\x01\x00\x00\x00\x10\x00\x00\x01\x00\
+\x02\x02\
+t\x00\x00\x00\x00\x00\x00\x00\x00\x00\x00\x00\x00\x00\x00\x00\x00\x02\x01\
+a\x00\x00\x00\x00\x00\x00\x00\x00\x00\x00\x00\x00\x00\x00\x00\x01\
+nets\x00\x00\x00\x00\x00\x00\x00\x00\x00\x00\x00\x00\x00\x03\x02\
+r\x00\x00\x00\x00\x00\x00\x00\x00\x00\x00\x00\x00\x00\x00\x00\x02\
+a\x00\x00\x00\x00\x00\x00\x00\x00\x00\x00\x00\x00\x00\x00\x00\x03\
+m\x00\x00\x00\x00\x00\x00\x00\x00\x00\x00\x00\x00\x00\x00\x00\x00\x00\x00\x00\x80\x00\x01\
+\x00\x02\x00\x10\x00\
+wide\x00\x00\x00\x00\x00\x00\x00\x00\x00\x00\x00\x00\x01\x00\x01\x00\x00\x01\x02\
+\x00\x03\x00\x00\x00\
+\x01\x04\x10\x00\x03";
+
+/// 58 pages: twice the blocks of tables and indexes.
+const SIZE_OF_TWO: u64 = 475_136;
+
+/// A page: its fields, and zeros behind them.
+fn by_hand(alloc: Global, fields: &[u8]) -> Result<Vec<u8>, AllocError> {
+    let mut page = fields.to_vec(alloc)?;
+    page.resize(PAGE_SIZE, 0)?;
+    Ok(page)
+}
+
+/// The first page with that byte there, where it has the place.
+fn changed(alloc: Global, at: usize, byte: u8) -> Result<Vec<u8>, AllocError> {
+    let mut page = by_hand(alloc, FIELDS)?;
+    if at < page.len() {
+        page[at] = byte;
+    }
+    Ok(page)
+}
+
+/// The layout of these fields. `None` is want of memory, or a limit that is passed.
+fn layout(alloc: Global) -> Option<Layout> {
+    let mut columns = Sequence::new(alloc);
+    columns
+        .push(Column {
+            name: Name::new(b"a")?,
+            kind: Kind::Int,
+        })
+        .ok()?;
+    let mut tables = Sequence::new(alloc);
+    tables
+        .push(Table {
+            name: Name::new(b"t")?,
+            rows_per_page: 2,
+            columns,
+        })
+        .ok()?;
+    let mut parts = Sequence::new(alloc);
+    parts
+        .push(Part {
+            column: 0,
+            class: Class::MinMax,
+        })
+        .ok()?;
+    let mut indexes = Sequence::new(alloc);
+    indexes
+        .push(Index {
+            name: Name::new(b"i")?,
+            table: 0,
+            pages_per_range: 1,
+            auto: false,
+            parts,
+        })
+        .ok()?;
+    let sizes = Sizes {
+        heap_blocks: 8,
+        index_blocks: 4,
+        status_blocks: 1,
+        log_pages: 16,
+        frames: 256,
+    };
+    Layout::new(Schema { tables, indexes }, sizes).ok()
+}
+
+/// Why the page with that byte there is no store's on a disk of that size; `None` where it is a store's.
+fn refusal(
+    alloc: Global,
+    at: usize,
+    byte: u8,
+    size: u64,
+) -> Result<Option<ControlFault>, AllocError> {
+    let page = changed(alloc, at, byte)?;
+    Ok(read(alloc, page.as_slice(), size).err())
+}
+
+/// Whether the control page of the layout, with that area byte, is these bytes.
+fn is_written_as(layout: &Layout, area: u8, bytes: &[u8]) -> bool {
+    let mut page = [9; PAGE_SIZE];
+    write(layout, OPEN, area, &mut page);
+    page.as_slice() == bytes
+}
+
+#[test]
+fn written_as_by_hand(rt: HostRuntime) -> Result<(), Fail> {
+    let layout = layout(rt.alloc()).ok_or("no layout")?;
+    assert_eq!(rt; layout.disk_size(), SIZE);
+    let page = by_hand(rt.alloc(), FIELDS)?;
+    assert!(rt; is_written_as(&layout, 0, page.as_slice()));
+    Ok(())
+}
+
+#[test]
+fn read_from_bytes_by_hand(rt: HostRuntime) -> Result<(), Fail> {
+    let page = changed(rt.alloc(), 1, 7)?;
+    assert!(rt; is_open(page.as_slice()));
+    assert_eq!(rt; area_of(page.as_slice()), 1);
+    let layout = read(rt.alloc(), page.as_slice(), SIZE)?;
+    assert!(rt; is_written_as(&layout, 7, page.as_slice()));
+    Ok(())
+}
+
+#[test]
+fn other_bytes_are_refused(rt: HostRuntime) -> Result<(), Fail> {
+    let no_store = Some(ControlFault::NoStore);
+    assert_eq!(rt; refusal(rt.alloc(), 1, 7, SIZE)?, None);
+    assert_eq!(rt; refusal(rt.alloc(), 1, 7, SIZE + 1)?, no_store);
+    // The gate, a byte behind a name, a column past the table's, a parameter of minmax, the last byte of the page.
+    for (at, byte) in [(0, 2), (36, 1), (93, 1), (96, 1), (8191, 1)] {
+        assert_eq!(rt; refusal(rt.alloc(), at, byte, SIZE)?, no_store);
+    }
+    Ok(())
+}
+
+/// The table `nets`.
+fn is_nets(table: &Table) -> bool {
+    let kinds = match table.columns.as_slice() {
+        [range, network] => range.kind == Kind::Span && network.kind == Kind::Net,
+        _ => false,
+    };
+    table.name.as_bytes() == b"nets".as_slice() && table.rows_per_page == 3 && kinds
+}
+
+/// The index `m`.
+fn is_multi(index: &Index) -> bool {
+    match index.parts.as_slice() {
+        [part] => part.class == Class::Multi { limit: 16 },
+        _ => false,
+    }
+}
+
+/// The index `wide`.
+fn is_wide(index: &Index) -> bool {
+    let class = Class::Bloom {
+        bits: 4096,
+        hashes: 3,
+    };
+    let classes = match index.parts.as_slice() {
+        [range, network] => range.class == Class::Inclusion && network.class == class,
+        _ => false,
+    };
+    index.table == 1 && index.pages_per_range == 65536 && index.auto && classes
+}
+
+/// The tables and indexes of the second page.
+fn are_two(schema: &Schema) -> bool {
+    match (schema.tables.as_slice(), schema.indexes.as_slice()) {
+        ([_, nets], [multi, wide]) => is_nets(nets) && is_multi(multi) && is_wide(wide),
+        _ => false,
+    }
+}
+
+#[test]
+fn two_tables_are_read(rt: HostRuntime) -> Result<(), Fail> {
+    let page = by_hand(rt.alloc(), FIELDS_OF_TWO)?;
+    assert_eq!(rt; area_of(page.as_slice()), 0);
+    let layout = read(rt.alloc(), page.as_slice(), SIZE_OF_TWO)?;
+    assert!(rt; are_two(layout.schema()));
+    Ok(())
+}
