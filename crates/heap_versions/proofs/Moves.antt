@@ -1,5 +1,5 @@
 -- What calls that change no page make of the whole.
-use Rattle.std.proofs.Common.{◌≡◌, ◌<◌, ℕ, List, [], length, cond, Option, Some, IfSome, refl, ap, sym, subst, ◌∙◌}
+use Rattle.std.proofs.Common.{◌≡◌, ◌<◌, ℕ, List, [], length, set, cond, Option, Some, IfSome, refl, ap, sym, subst, ◌∙◌}
 use Rattle.std.specs.FinMap.{get}
 use Rattle.std.specs.Option.{IsSome}
 use Rattle.block_model.specs.DatabaseState.{OpenTransaction}
@@ -55,6 +55,14 @@ pub seen_of : {D : Type 0} (P : View D → ℕ → Type 0) (store : View D) (ss 
 seen_of P store ss os room n o s view was holds =
     let there = get_open (all_versions (shown_tables store.layout store.pages)) ss os n o s.database (database_is view) was in
     subst (λ (x : Option OpenTransaction). IfSome x (λ x. P s.store x.t)) (sym there) (subst (λ v. P v o.t) (store_is view) holds)
+
+-- a status written at a transaction's number, as they are seen
+pub statuses_seen : {D : Type 0} (store : View D) (ss : List Status) (os : List (Option Open)) (room n : ℕ) (o : Open) (s : HeapState D) (written meant : Status) → shown_heap store ss os room ≡ s → transaction_of os n ≡ Some o → written ≡ meant
+    → IfSome (get s.database.sessions n) (λ x. set ss o.t written ≡ set s.statuses x.t meant)
+statuses_seen {D} store ss os room n o s written meant view was same =
+    let there = get_open (all_versions (shown_tables store.layout store.pages)) ss os n o s.database (database_is view) was in
+    subst (λ (x : Option OpenTransaction). IfSome x (λ x. set ss o.t written ≡ set s.statuses x.t meant)) (sym there)
+    (ap (λ (e : Status). set ss o.t e) same ∙ ap (λ (s : HeapState D). set s.statuses o.t meant) view)
 
 -- an open transaction is one of its session, as they are seen
 pub has_one : {D : Type 0} (store : View D) (ss : List Status) (os : List (Option Open)) (room n : ℕ) (o : Open) (s : HeapState D) → shown_heap store ss os room ≡ s → transaction_of os n ≡ Some o → IsSome (get s.database.sessions n)

@@ -41,4 +41,4 @@ shown_tables layout pages = map (versions_of_table layout pages) (range_with_len
 -- what pages, statuses, open transactions and room for so many statuses are seen as
 abbrev pub shown_heap : {D : Type 0} → View D → List Status → List (Option Open) → ℕ → HeapState D
 shown_heap store statuses sessions room =
-    record { store = store; database = visible_state (all_versions (shown_tables store.layout store.pages)) statuses sessions; room = room }
+    record { store = store; database = visible_state (all_versions (shown_tables store.layout store.pages)) statuses sessions; statuses = statuses; room = room }

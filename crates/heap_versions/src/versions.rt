@@ -1,6 +1,6 @@
 //! Row versions over heap pages, with statuses and open transactions.
 
-ghost use Rattle.std.specs.Prelude.{◌≡◌, ◌≢◌, ◌+◌, ◌*◌, ◌<◌, ◌≤◌, None, Some, [], length, map, take, All, OnOk, OnErr, IfOk, IfErr, IfSome, IsSome, if◌then◌else◌, vec_capacity};
+ghost use Rattle.std.specs.Prelude.{◌≡◌, ◌≢◌, ◌∷◌, ◌++◌, slice_set, ◌+◌, ◌*◌, ◌<◌, ◌≤◌, None, Some, [], length, map, take, All, OnOk, OnErr, IfOk, IfErr, IfSome, IsSome, if◌then◌else◌, vec_capacity};
 ghost use Rattle.std.specs.FinMap as map_of;
 ghost use Rattle.block_model.specs.declared.place.Place.{Place as AnyPlace};
 ghost use Rattle.block_model.specs.declared.request.Request.TheVariants as requests;
@@ -112,6 +112,7 @@ impl<D: Disk + Drop> Model for HeapVersions<D> {
 impl<D: Disk + Drop> HeapVersions<D> {
     /// No rows and no transactions, on the pages of this layout over the disk, which is untouched. No page is started.
     pub fn plain(alloc: Global, disk: D, layout: Layout) -> Result<HeapVersions<D>, NoMemory>
+        ensures statuses { IfOk result (λ v. v.statuses ≡ Status.Unused ∷ []) }
         ensures database { IfOk result (λ v. v.database ≡ initial_state) }
         ensures disk { IfOk result (λ v. v.store.disk ≡ disk) }
         ensures layout { IfOk result (λ v. v.store.layout ≡ layout) }
@@ -174,6 +175,7 @@ impl<D: Disk + Drop> HeapVersions<D> {
 
     /// Makes room for a begin of each session.
     pub fn make_room(&mut self) -> Result<(), NoMemory>
+        ensures statuses { self.new.statuses ≡ self.old.statuses }
         ensures store { self.new.store ≡ self.old.store }
         ensures database { self.new.database ≡ self.old.database }
         ensures ok { OnOk result (MAX_SESSIONS ≤ self.new.room) }
@@ -191,6 +193,8 @@ impl<D: Disk + Drop> HeapVersions<D> {
         requires room { 0 < self.old.room }
         requires empty { active.items ≡ [] }
         requires numbers { MAX_SESSIONS ≤ vec_capacity active }
+        ensures statuses { self.new.statuses ≡ self.old.statuses ++ Status.Begun ∷ [] }
+        ensures number { result ≡ length self.old.statuses }
         ensures database { Tells D.told self.old.store → effect self.old.database (request_entry session 0 requests.Begin) ≡ (self.new.database, Begun result) }
         ensures stand { OneStands self.old.database self.new.database session standings.UnderWay }
         ensures store { self.new.store ≡ self.old.store }
@@ -220,6 +224,7 @@ impl<D: Disk + Drop> HeapVersions<D> {
         requires under_way { HasTransaction self.old.database session }
         requires table { table < length self.old.store.layout.schema.tables }
         requires kinds { HaveKinds (kinds_at self.old.store.layout table) values.now }
+        ensures statuses { self.new.statuses ≡ self.old.statuses }
         ensures database { IfOk result (λ placed. Tells D.told self.old.store → effect self.old.database (request_entry session table (requests.Put values.now)) ≡ (self.new.database, Inserted placed.id)) }
         // By the blocks that the table has.
         ensures place { IfOk result (λ placed. OfBlocks D.told self.old.store table (λ blocks. place_for self.old.store.layout.sizes.heap_blocks blocks ≡ Some placed.spot)) }
@@ -272,6 +277,7 @@ impl<D: Disk + Drop> HeapVersions<D> {
         requires table { query.now.table < length self.old.store.layout.schema.tables }
         requires blocks { All (λ block. block < self.old.store.layout.sizes.heap_blocks) blocks.now }
         requires covered { Tells D.told self.old.store → CoversMatches self.old.store.layout self.old.store.pages query.now blocks.now }
+        ensures statuses { self.new.statuses ≡ self.old.statuses }
         ensures found { IfOk result (λ rows. Tells D.told self.old.store → effect self.old.database (request_entry session query.now.table (requests.Look query.now)) ≡ (self.old.database, Found rows)) }
         ensures stand { StandAlike self.old.database self.new.database }
         ensures same { Tells D.told self.old.store → self.new.database ≡ self.old.database }
@@ -307,6 +313,7 @@ impl<D: Disk + Drop> HeapVersions<D> {
         requires table { query.now.table < length self.old.store.layout.schema.tables }
         requires blocks { All (λ block. block < self.old.store.layout.sizes.heap_blocks) blocks.now }
         requires covered { Tells D.told self.old.store → CoversMatches self.old.store.layout self.old.store.pages query.now blocks.now }
+        ensures statuses { self.new.statuses ≡ self.old.statuses }
         ensures hits { IfOk result (λ hits. Tells D.told self.old.store → AreHits self.new session query.now hits.items) }
         ensures stand { StandAlike self.old.database self.new.database }
         ensures within { IfOk result (λ hits. All (λ hit. hit.spot.block < self.old.store.layout.sizes.heap_blocks) hits.items) }
@@ -340,6 +347,7 @@ impl<D: Disk + Drop> HeapVersions<D> {
         requires table { table < length self.old.store.layout.schema.tables }
         requires block { hit.now.spot.block < self.old.store.layout.sizes.heap_blocks }
         requires hit { Tells D.told self.old.store → IsHit self.old session table hit.now }
+        ensures statuses { self.new.statuses ≡ self.old.statuses }
         ensures database { IfOk result (λ marking. Tells D.told self.old.store → effect self.old.database (mark_of session table hit.now) ≡ (self.new.database, marking_answer hit.now.id marking)) }
         // By the blocks that the table has.
         ensures marked { IfOk result (λ marking. marking ≡ Marking.Marked → IfSome (map_of.get self.old.database.sessions session) (λ x. OfBlocks D.told self.old.store table (MarksRow self.old.store.layout self.new.store.pages table hit.now.spot x.t))) }
@@ -406,6 +414,7 @@ impl<D: Disk + Drop> HeapVersions<D> {
         requires table { query.now.table < length self.old.store.layout.schema.tables }
         requires blocks { All (λ hit. hit.spot.block < self.old.store.layout.sizes.heap_blocks) hits.now }
         requires hits { Tells D.told self.old.store → AreHits self.old session query.now hits.now }
+        ensures statuses { self.new.statuses ≡ self.old.statuses }
         ensures ends { IfOk result (λ conflict. Tells D.told self.old.store → IfSome (map_of.get self.old.database.sessions session) (Ends self.old self.new session query.now hits.now conflict)) }
         ensures cut { IfErr result (λ fault. Tells D.told self.old.store → MarksFirst self.old.database self.new.database session query.now.table hits.now fault.marked) }
         ensures before { IfErr result (λ fault. fault.marked ≤ length hits.now) }
@@ -438,6 +447,7 @@ impl<D: Disk + Drop> HeapVersions<D> {
     /// The session's transaction fails. Takes no memory.
     pub fn fail(&mut self, session: u32)
         requires { HasTransaction self.old.database session }
+        ensures statuses { self.new.statuses ≡ self.old.statuses }
         ensures database { Tells D.told self.old.store → IfSome (map_of.get self.old.database.sessions session) (λ x. self.new.database ≡ after_failure self.old.database session x) }
         ensures stand { OneStands self.old.database self.new.database session standings.Failed }
         ensures store { self.new.store ≡ self.old.store }
@@ -449,6 +459,7 @@ impl<D: Disk + Drop> HeapVersions<D> {
     /// Commits the session's transaction, or rolls it back where it has failed; whether it was committed. Takes no memory.
     pub fn commit(&mut self, session: u32) -> bool
         requires { HasTransaction self.old.database session }
+        ensures statuses { IfSome (map_of.get self.old.database.sessions session) (λ x. self.new.statuses ≡ slice_set self.old.statuses x.t (if result then Status.Committed else Status.RolledBack)) }
         ensures database { Tells D.told self.old.store → effect self.old.database (request_entry session 0 requests.Commit) ≡ (self.new.database, if result then Committed else RolledBack) }
         ensures stand { OneStands self.old.database self.new.database session standings.Idle }
         ensures store { self.new.store ≡ self.old.store }
@@ -462,6 +473,7 @@ impl<D: Disk + Drop> HeapVersions<D> {
     /// Rolls the session's transaction back. Takes no memory.
     pub fn rollback(&mut self, session: u32)
         requires { HasTransaction self.old.database session }
+        ensures statuses { IfSome (map_of.get self.old.database.sessions session) (λ x. self.new.statuses ≡ slice_set self.old.statuses x.t Status.RolledBack) }
         ensures database { Tells D.told self.old.store → effect self.old.database (request_entry session 0 requests.Rollback) ≡ (self.new.database, RolledBack) }
         ensures stand { OneStands self.old.database self.new.database session standings.Idle }
         ensures store { self.new.store ≡ self.old.store }

@@ -487,6 +487,20 @@ fn full_journal_ends_the_run(rt: HostRuntime) -> Result<(), Fail> {
 }
 
 #[test]
+fn begins_and_rollbacks_fill_the_journal(rt: HostRuntime) -> Result<(), Fail> {
+    // They are 1048576 requests, as many as there may be, so the next begin is one too many.
+    let mut script = Vec::new(rt.alloc());
+    for _ in 0..524_288 {
+        script.extend_from_slice(b"s begin\ns rollback\n")?;
+    }
+    script.extend_from_slice(b"s begin\n")?;
+    let (status, sink) = written(rt.alloc(), WORDS, script, 1 << 24)?;
+    assert_eq!(rt; status, 8);
+    assert!(rt; sink.bytes().ends_with(b"\ns begun 524288\ns rolled back\n"));
+    Ok(())
+}
+
+#[test]
 fn missing_line_feed_and_long_line(rt: HostRuntime) -> Result<(), Fail> {
     check(&rt, SMALL, b"s1 begin", b"s1 begun 1\n")?;
     let long = vec![in rt.alloc(); b'x'; 65536]?;

@@ -1,6 +1,7 @@
-use Rattle.std.proofs.Common.{cond, not, set, None, sym, ◌∙◌, subst, ap, arith}
+use Rattle.std.proofs.Common.{◌≡◌, Bool, true, false, cond, not, set, None, refl, sym, ◌∙◌, subst, ap, arith}
 use Rattle.block_model.specs.RequestEffect as model
 use Rattle.snapshot_core.specs.declared.statuses.Status.{Status}
+use Rattle.snapshot_core.specs.declared.statuses.Status.TheVariants.{Committed, RolledBack}
 use Rattle.row_versions.specs.VisibleState.{all_versions, visible_state}
 use Rattle.row_versions.specs.SessionChanges.{ended}
 use Rattle.row_versions.proofs.Sights.{begun_known}
@@ -8,7 +9,7 @@ use Rattle.row_versions.proofs.Ends.{ended_stored, ended_not_begun, committed_ef
 use Rattle.row_versions.proofs.Copies.{rewritten, still_all, is_there}
 use Rattle.heap_versions.specs.ShownVersions.{shown_tables}
 use Rattle.heap_versions.specs.AreHeapVersions.{AreHeapVersions}
-use Rattle.heap_versions.proofs.Moves.{database_is, moved, tells_is}
+use Rattle.heap_versions.proofs.Moves.{database_is, moved, statuses_seen, tells_is}
 use Rattle.heap_versions.proofs.Standings.{one_changed}
 use Rattle.heap_versions.proofs.versions.HeapVersions.commit.Goals as goal
 
@@ -49,3 +50,14 @@ returns-clause-stand g c =
     let os = c.self.inside.sessions.items in
     let now = c.take_open-open.new.sessions.items in
     one_changed _ _ _ _ os now c.args.session None c.args.self.now.database (database_is c.self.view_is) (rewritten os now c.args.session c.take_open-open.result None c.take_open-open.ensures.was c.take_open-open.ensures.gone)
+
+-- what a transaction ends as, by whether it is committed
+ended_by : (failed : Bool) → ended failed ≡ cond (not failed) Committed RolledBack
+ended_by true = refl
+ended_by false = refl
+
+pub returns-clause-statuses : goal.returns-clause-statuses
+returns-clause-statuses g c =
+    let o = c.take_open-open.result in
+    statuses_seen c.self.inside.pages c.self.inside.statuses.items c.self.inside.sessions.items _ c.args.session o c.args.self.now c.ended.result (cond (not o.failed) Committed RolledBack) c.self.view_is c.take_open-open.ensures.was
+    (c.ended.ensures ∙ ended_by o.failed)

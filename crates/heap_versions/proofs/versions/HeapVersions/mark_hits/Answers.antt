@@ -38,6 +38,7 @@ hits-preserved g c =
       ready = c.in-Ok-mark.ensures.outcome.1;
       others = others_on g.D.Disk.told q.table first.store now.store new.store c.hits.invariant.others c.mark.ensures.others;
       room = c.mark.ensures.room ∙ c.hits.invariant.room;
+      statuses = c.mark.ensures.statuses ∙ c.hits.invariant.statuses;
       alike = alike_on first.database now.database new.database c.hits.invariant.alike (c.in-Ok-mark.ensures.stand c.in-Marked.is);
       rows = λ tells. keeps_rows_on g.D.Disk.told first.store now.store new.store q.table c.hits.invariant.others.leaves (c.hits.invariant.rows tells) (c.mark.ensures.rows (c.hits.invariant.others.leaves.tells ∙ tells));
       run = λ tells.

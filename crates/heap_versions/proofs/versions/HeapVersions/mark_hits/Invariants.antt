@@ -16,6 +16,7 @@ invariant-hits g l = record {
   ready : l.self.store.failed ≡ None;
   others : LeavesOthers g.D.Disk.told l.query.table l.initial.self.store l.self.store;
   room : l.self.room ≡ l.initial.self.room;
+  statuses : l.self.statuses ≡ l.initial.self.statuses;
   alike : StandAlike l.initial.self.database l.self.database;
   rows : Tells g.D.Disk.told l.initial.self.store → KeepsRows l.initial.self.store.layout l.initial.self.store.pages l.self.store.pages l.query.table;
   run : Tells g.D.Disk.told l.initial.self.store → MarkedSoFar l.initial.self l.self l.session l.query l.hits l.hit-index;

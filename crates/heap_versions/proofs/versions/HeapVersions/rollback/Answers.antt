@@ -1,11 +1,11 @@
-use Rattle.std.proofs.Common.{set, true, None, arith}
+use Rattle.std.proofs.Common.{set, refl, true, None, arith}
 use Rattle.snapshot_core.specs.declared.statuses.Status.TheVariants.{RolledBack}
 use Rattle.row_versions.specs.VisibleState.{all_versions}
 use Rattle.row_versions.proofs.Sights.{begun_known}
 use Rattle.row_versions.proofs.Ends.{ended_stored, ended_not_begun, rolled_effect}
 use Rattle.row_versions.proofs.Copies.{rewritten, still_all, is_there}
 use Rattle.heap_versions.specs.ShownVersions.{shown_tables}
-use Rattle.heap_versions.proofs.Moves.{database_is, moved, tells_is}
+use Rattle.heap_versions.proofs.Moves.{database_is, moved, statuses_seen, tells_is}
 use Rattle.heap_versions.proofs.Standings.{one_changed}
 use Rattle.heap_versions.proofs.versions.HeapVersions.rollback.Goals as goal
 
@@ -43,3 +43,6 @@ returns-clause-stand g c =
     let os = c.self.inside.sessions.items in
     let now = c.take_open-open.new.sessions.items in
     one_changed _ _ _ _ os now c.args.session None c.args.self.now.database (database_is c.self.view_is) (rewritten os now c.args.session c.take_open-open.result None c.take_open-open.ensures.was c.take_open-open.ensures.gone)
+
+pub returns-clause-statuses : goal.returns-clause-statuses
+returns-clause-statuses g c = statuses_seen c.self.inside.pages c.self.inside.statuses.items c.self.inside.sessions.items _ c.args.session c.take_open-open.result c.args.self.now RolledBack RolledBack c.self.view_is c.take_open-open.ensures.was refl
