@@ -10,5 +10,3 @@ mod sessions;
 mod snapshots;
 #[cfg(test)]
 mod summaries;
-#[cfg(test)]
-mod versions;

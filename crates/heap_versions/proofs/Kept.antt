@@ -1,29 +1,17 @@
 -- What a call that changes no page leaves.
-use Rattle.std.proofs.Common.{◌≡◌, List, Option, sym, subst, ◌∙◌}
+use Rattle.std.proofs.Common.{◌≡◌, List, Option, sym, ◌∙◌}
 use Rattle.std.specs.Prelude.{Result, Ok, Err, OnErr}
 use Rattle.disk_trait.specs.Told.{Told}
-use Rattle.store_layout.specs.DiskLayout.{DiskLayout}
 use Rattle.page_store.specs.Keeps.{Keeps, Leaves, Tells}
-use Rattle.page_store.specs.PageMap.{PageMap, View}
+use Rattle.page_store.specs.PageMap.{View}
 use Rattle.snapshot_core.specs.declared.statuses.Status.{Status}
 use Rattle.row_versions.specs.declared.sessions.Open.{Open}
 use Rattle.row_versions.specs.VisibleState.{all_versions, visible_state}
 use Rattle.heap_versions.specs.ShownVersions.{shown_tables}
-use Rattle.heap_versions.specs.AreHeapVersions.{AreOnPages, AreHeapVersions}
 
 -- a disk that tells its contents now told them before
 pub told_before : {D : Type 0} (told : D → Told) (old new : View D) → Leaves told old new → Tells told new → Tells told old
 told_before told old new leaves tells = sym leaves.tells ∙ tells
-
-pub kept_heap : {D : Type 0} (told : D → Told) (old new : View D) (ss : List Status) (os : List (Option Open)) → AreHeapVersions told old ss os → Keeps told old new → AreHeapVersions told new ss os
-kept_heap told old new ss os heap kept = record {
-  places = heap.places;
-  transactions = heap.transactions;
-  on_pages = λ tells.
-      let before = told_before told old new kept.leaves tells in
-      subst (λ (layout : DiskLayout). AreOnPages layout new.pages ss os) (sym kept.leaves.layout)
-      (subst (λ (pages : PageMap). AreOnPages old.layout pages ss os) (sym (kept.pages before)) (heap.on_pages before));
-}
 
 -- the database that is shown is the same
 pub kept_shown : {D : Type 0} (told : D → Told) (old new : View D) (ss : List Status) (os : List (Option Open)) → Keeps told old new → Tells told old

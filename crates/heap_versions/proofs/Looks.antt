@@ -1,5 +1,5 @@
 -- A call behind others of the page store.
-use Rattle.std.proofs.Common.{◌≡◌, ℕ, ◌+◌, ◌<◌, ◌≤◌, List, ◌++◌, map, take, length, get_or, refl, sym, ap, subst, ◌∙◌, arith, All}
+use Rattle.std.proofs.Common.{◌≡◌, ℕ, ◌+◌, ◌<◌, ◌≤◌, List, ◌++◌, map, take, length, get_or, sym, ap, subst, ◌∙◌, arith, All}
 use Rattle.std.specs.Prelude.{None, Some}
 use Rattle.std.specs.List.{flat_map}
 use Rattle.std.proofs.lemmas.List.Elements.{All-append, All-filter, All-map}
@@ -13,7 +13,7 @@ use Rattle.page_store.specs.declared.faults.MachineFault.TheVariants as faults
 use Rattle.page_store.specs.declared.faults.StoreError.{StoreError}
 use Rattle.page_store.specs.declared.faults.StoreError.TheVariants as errors
 use Rattle.page_store.specs.Keeps.{Keeps, Leaves, Tells, Untold}
-use Rattle.page_store.specs.Outcome.{IsReopen, NamesPage, Refused}
+use Rattle.page_store.specs.Outcome.{NamesPage, Refused}
 use Rattle.page_store.specs.PageMap.{PageMap, View}
 use Rattle.heap_rows.specs.declared.rows.Stored.{Stored}
 use Rattle.heap_rows.specs.Heaps.{relation_of, slots_a_page}
@@ -33,10 +33,6 @@ refused_behind told first mid new errors.Disk leaves none ready refused = (none,
 refused_behind told first mid new (errors.Reopen faults) leaves none ready refused = absurd (let both : None ≡ Some faults = sym ready ∙ refused.0 in cc)
 refused_behind told first mid new (errors.Damaged at) leaves none ready refused = (none, refused.1, omega (arith, leaves.faults, refused.2), λ tells. refused.3 (leaves.tells ∙ tells))
 
--- nothing is changed
-pub keeps_none : {D : Type 0} (told : D → Told) (store : View D) → Keeps told store store
-keeps_none told store = record { leaves = record { layout = refl; tells = refl; faults = omega arith; disk = refl }; pages = λ tells. refl }
-
 -- ---- what a loop of reads has come to
 
 -- the layout is that of the beginning
@@ -55,12 +51,6 @@ names_block layout other table block errors.Disk same below names = tt
 names_block layout other table block (errors.Reopen faults) same below names = tt
 names_block layout other table block (errors.Damaged at) same below names =
     (block, below, names ∙ ap (λ (layout : DiskLayout). page_offset layout (record { relation = relation_of table; block = block })) same)
-
--- an error that the beginning answers is of no page
-pub names_none : (layout : DiskLayout) (table : ℕ) (error : StoreError) → IsReopen error → NamesTable layout table (faults.Store error)
-names_none layout table errors.Disk reopen = tt
-names_none layout table (errors.Reopen faults) reopen = tt
-names_none layout table (errors.Damaged at) reopen = absurd reopen
 
 -- the rows of one block more
 pub read_more : {D : Type 0} (told : D → Told) (read : AreRead) (first now : View D) (ss : List Status) (o : Open) (q : Query) (started : (started : List (List Slot)) × HasBlocks first.layout first.pages q.table started) (blocks : List ℕ) (i e : ℕ) (rows : List Stored) (found found' : List Found)

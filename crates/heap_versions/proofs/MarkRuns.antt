@@ -41,9 +41,6 @@ pub record MarkedSoFar {D : Type 0} (old now : HeapState D) (n : ℕ) (q : Query
   pub first : MarksFirst old.database now.database n q.table hits i
   pub entries : (rows : List Row) → hit_ids hits ≡ row_ids rows → mark_entries old.database n q.table rows ≡ map (mark_of n q.table) (take i hits) ++ mark_entries now.database n q.table (drop i rows)
 
-pub none_marked : {D : Type 0} (old : HeapState D) (n : ℕ) (q : Query) (hits : List Hit) → All (IsHit old n q.table) hits → MarkedSoFar old old n q hits 0
-none_marked old n q hits stand = record { within = omega arith; stand = stand; first = record { state = refl; replies = refl }; entries = λ rows same. refl }
-
 -- ---- one mark more
 
 -- the row of the hit at a place

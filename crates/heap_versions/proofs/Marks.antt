@@ -1,9 +1,10 @@
 -- What a mark makes of the versions on pages.
-use Rattle.std.proofs.Common.{◌≡◌, true, false, ℕ, ◌<◌, List, [], ◌∷◌, ◌++◌, length, set, Option, Some, refl, sym, ap, subst, ◌∙◌, inl, inr}
+use Rattle.std.proofs.Common.{◌≡◌, Bool, true, false, cond, ℕ, ◌<◌, List, [], ◌∷◌, ◌++◌, length, set, Option, None, Some, refl, sym, ap, subst, ◌∙◌, inl, inr}
 use Rattle.std.specs.List.{flat_map}
 use Rattle.std.specs.Option.{is_some}
 use Rattle.std.specs.FinMap.{contains_key}
 use Rattle.std.proofs.lemmas.Bool.{cases_eq}
+use Rattle.std.proofs.lemmas.Map.Entries.{option_filter}
 use Rattle.disk_trait.specs.Told.{Told}
 use Rattle.block_model.specs.declared.place.Spot.{Spot}
 use Rattle.block_model.specs.declared.request.Request.TheVariants as requests
@@ -26,12 +27,11 @@ use Rattle.row_versions.specs.Marks.{conflicts, with_deleter}
 use Rattle.row_versions.specs.SessionChanges.{failed_open}
 use Rattle.row_versions.specs.StoredVersions.{stored, transaction_of}
 use Rattle.row_versions.specs.VisibleState.{all_versions, is_seen, visible_transaction, visible_state}
-use Rattle.row_versions.proofs.Stored.{AreDistinct, Puts, get-table_of}
-use Rattle.row_versions.proofs.AllTables.{found_mid, puts_deleter}
+use Rattle.row_versions.proofs.Stored.{AreDistinct, Puts, get-table_of, row_of}
+use Rattle.row_versions.proofs.Among.{found_mid, puts_deleter}
 use Rattle.row_versions.proofs.Copies.{Becomes, get_open}
 use Rattle.row_versions.proofs.Markings.{conflict_effect, free_effect, marked_stored}
 use Rattle.row_versions.proofs.Puttings.{failed_state}
-use Rattle.row_versions.proofs.Runs.{passes_there}
 use Rattle.heap_versions.specs.declared.versions.Hit.{Hit}
 use Rattle.heap_versions.specs.HeapState.{HeapState}
 use Rattle.heap_versions.specs.Hits.{IsHit, mark_of}
@@ -72,12 +72,20 @@ stored_there read layout pages table spot row blocks distinct below has at =
 
 -- ---- the hit of a session's transaction
 
+-- a version that is there where those that don't pass are left out passes
+passes_there : (p : Version → Bool) (v : Version) (o : Option Version) → o ≡ Some v → is_some (row_of (option_filter p o)) ≡ true → p v ≡ true
+passes_there p v o there e = test (p v) (sym (ap (λ (o : Option Version). is_some (row_of (option_filter p o))) there) ∙ e)
+  where
+    test : (b : Bool) → is_some (row_of (cond b (Some v) None)) ≡ true → b ≡ true
+    test true e = refl
+    test false e = e
+
 module _ {D : Type 0} (read : AreRead) (told : D → Told) (old : View D) (ss : List Status) (os : List (Option Open)) (room n table : ℕ) (hit : Hit) (o : Open) (heap : AreHeapVersions told old ss os) (was : transaction_of os n ≡ Some o)
     (below : table < length old.layout.schema.tables) (tells : Tells told old) (is_hit : IsHit (shown_heap old ss os room) n table hit) where
   distinct : AreDistinct (all_versions (shown_tables old.layout old.pages))
   distinct = (heap.on_pages tells).versions.stored.ids_differ
 
-  found : stored (all_versions (shown_tables old.layout old.pages)) is_hit.row.id ≡ Some (version_of table is_hit.row)
+  pub found : stored (all_versions (shown_tables old.layout old.pages)) is_hit.row.id ≡ Some (version_of table is_hit.row)
   found = stored_there read old.layout old.pages table hit.spot is_hit.row is_hit.blocks distinct below is_hit.has is_hit.there
 
   pub seen : is_seen ss o (version_of table is_hit.row) ≡ true

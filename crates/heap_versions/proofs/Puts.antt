@@ -30,7 +30,7 @@ use Rattle.row_versions.specs.SessionChanges.{with_next_k}
 use Rattle.row_versions.specs.StoredVersions.{stored, transaction_of, IsStored}
 use Rattle.row_versions.specs.VisibleState.{all_versions, visible_state}
 use Rattle.row_versions.proofs.Stored.{AreDistinct, Puts}
-use Rattle.row_versions.proofs.AllTables.{puts_new}
+use Rattle.row_versions.proofs.Among.{puts_new}
 use Rattle.row_versions.proofs.Copies.{Becomes, get_open, rewritten, still_all}
 use Rattle.row_versions.proofs.Puttings.{changed_stored, new_version, new_is_absent, put_effect, put_stored}
 use Rattle.heap_versions.specs.ShownVersions.{version_of, versions_on, versions_of_table, shown_heap, shown_tables}

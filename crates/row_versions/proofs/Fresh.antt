@@ -8,14 +8,13 @@ use Rattle.std.specs.FinMap.{empty, get-empty, same_map, nat_cmp-IsAntisymmetric
 use Rattle.std.proofs.lemmas.Bool.{false≢true}
 use Rattle.std.proofs.lemmas.List.{length-replicate}
 use Rattle.std.proofs.lemmas.List.Elements.{All-nil}
-use Rattle.block_model.specs.declared.row.Row.{Row}
 use Rattle.block_model.specs.DatabaseState.{initial_state}
 use Rattle.statements.specs.declared.limits.TheConstants.{MAX_SESSIONS}
 use Rattle.snapshot_core.specs.declared.statuses.Status.{Status}
 use Rattle.snapshot_core.specs.declared.statuses.Status.TheVariants.{Unused, Begun}
 use Rattle.row_versions.specs.declared.table.Version.{Version}
 use Rattle.row_versions.specs.declared.sessions.Open.{Open}
-use Rattle.row_versions.specs.VisibleState.{all_versions, stored_rows, status_of, table_of, is_of_commit, visible_transaction, visible_sessions, visible_state}
+use Rattle.row_versions.specs.VisibleState.{all_versions, status_of, table_of, is_of_commit, visible_transaction, visible_sessions, visible_state}
 use Rattle.row_versions.specs.StoredVersions.{transaction_of, versions_at, IsStored, AreVersions}
 use Rattle.row_versions.specs.Marks.{holds}
 use Rattle.row_versions.proofs.Copies.{get_visible}
@@ -33,10 +32,6 @@ nothing_at (suc n) (suc i) = nothing_at n i
 nothing_in : (n : ℕ) → all_versions (replicate n []) ≡ []
 nothing_in zero = refl
 nothing_in (suc n) = nothing_in n
-
-pub rows_of_none : (n : ℕ) → stored_rows (replicate n []) ≡ replicate n []
-rows_of_none zero = refl
-rows_of_none (suc n) = ap (λ (l : List (List Row)). [] ∷ l) (rows_of_none n)
 
 no_sessions : (n : ℕ) → visible_sessions (Unused ∷ []) [] (replicate n None) ≡ empty
 no_sessions n = same_map nat_cmp_total nat_cmp-IsAntisymmetric _ _ (λ m.

@@ -6,12 +6,9 @@ pub mod Sights
 pub mod Begins
 pub mod Ends
 pub mod Puttings
-pub mod AllTables
+pub mod Among
 pub mod Fresh
-pub mod MarkSteps
 pub mod Listed
-pub mod Chunked
 pub mod Finds
 pub mod Conflicts
 pub mod Markings
-pub mod Runs

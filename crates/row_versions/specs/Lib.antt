@@ -1,5 +1,4 @@
 pub mod Chunks
-pub mod CoversMatches
 pub mod VersionsState
 pub mod Hits
 pub mod VisibleState

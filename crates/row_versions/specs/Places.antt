@@ -1,5 +1,5 @@
 -- where rows stand among their table's
-use Rattle.std.specs.Prelude.{ℕ, ◌+◌, ◌*◌, Bool, ◌&&◌, List, [], ◌∷◌, take, drop, if◌then◌else◌}
+use Rattle.std.specs.Prelude.{ℕ, ◌+◌, Bool, ◌&&◌, List, [], ◌∷◌, if◌then◌else◌}
 use Rattle.block_model.specs.declared.row.Query.{Query}
 use Rattle.block_model.specs.RowMatches.{row_matches}
 use Rattle.snapshot_core.specs.declared.statuses.Status.{Status}
@@ -16,7 +16,3 @@ answers statuses o q v = is_seen statuses o v && row_matches q v.row
 abbrev pub places : (Version → Bool) → ℕ → List Version → List Hit
 places passes at [] = []
 places passes at (v ∷ vs) = if passes v then record { id = v.row.id; place = at } ∷ places passes (at + 1) vs else places passes (at + 1) vs
-
--- those of the rows of one block, where each block has as many rows as said
-abbrev pub places_in_block : (Version → Bool) → ℕ → List Version → ℕ → List Hit
-places_in_block passes rows_per_page versions block = places passes (block * rows_per_page) (take rows_per_page (drop (block * rows_per_page) versions))

@@ -12,7 +12,6 @@ use Rattle.snapshot_core.specs.declared.statuses.Status.TheVariants.{Unused}
 use Rattle.snapshot_core.specs.Visibility.{sees, is_committed}
 use Rattle.row_versions.specs.declared.table.Version.{Version}
 use Rattle.row_versions.specs.declared.sessions.Open.{Open}
-use Rattle.row_versions.specs.VersionsState.{VersionsState}
 
 -- the versions of all tables
 abbrev pub all_versions : List (List Version) → List Version
@@ -66,11 +65,6 @@ abbrev pub visible_state : List Version → List Status → List (Option Open) �
 visible_state versions statuses sessions =
     record { next = length statuses; table = table_of (is_of_commit statuses) versions; sessions = visible_sessions statuses versions sessions }
 
--- the rows of each table, in the order in which they were put
+-- the rows of each table's versions, in their order
 abbrev pub stored_rows : List (List Version) → List (List Row)
 stored_rows tables = map (λ versions. map (λ v. v.row) versions) tables
-
--- what tables, statuses, open transactions and room for so many statuses are seen as
-abbrev pub visible_versions : List (List Version) → List Status → List (Option Open) → ℕ → VersionsState
-visible_versions tables statuses sessions room =
-    record { database = visible_state (all_versions tables) statuses sessions; tables = stored_rows tables; room = room }

@@ -1,8 +1,7 @@
-//! What a transaction sees of row versions, and may delete.
+//! What a transaction sees of row versions.
 
 ghost use Rattle.std.specs.Prelude.{◌≡◌};
 ghost use Rattle.row_versions.specs.VisibleState.{status_of, sees_at, is_seen};
-ghost use Rattle.row_versions.specs.Marks.{conflicts};
 
 use crate::sessions::Open;
 use crate::table::Version;
@@ -43,16 +42,4 @@ pub fn is_seen(version: &Version, sees_undeleted: bool, statuses: &[Status], ope
     } else {
         sees_at(statuses, open, version.row.id.t, version.deleter)
     }
-}
-
-/// Whether the transaction numbered `own` can't delete the row: it is another's, and a third one has deleted it.
-pub fn conflicts(version: &Version, statuses: &[Status], own: u64) -> bool
-    ensures { result ≡ conflicts statuses.now own version.now }
-{
-    version.row.id.t != own
-        && version.deleter != own
-        && match status_of(statuses, version.deleter) {
-            Status::Begun | Status::Committed => true,
-            Status::Unused | Status::RolledBack => false,
-        }
 }

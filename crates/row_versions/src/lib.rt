@@ -1,12 +1,10 @@
-//! Row versions: for each table the rows in the order in which they were put, each with the transaction that deleted it; the
-//! status of each transaction; and the sessions' open transactions with their snapshots. They are seen as the database whose
-//! transactions each work on a copy of the tables, and each call is one request of it. It stands on block_model, statements and
-//! snapshot_core. The layer above uses `Versions`.
+//! Row versions: rows, each with the transaction that deleted it; the status of each transaction; and the sessions' open
+//! transactions with their snapshots. Here stands which database they show, whose transactions each work on a copy of the tables,
+//! what a transaction sees and may delete, and the calls that change the open transactions. It stands on block_model, statements
+//! and snapshot_core. The layer above, heap_versions, keeps the rows on pages.
 #![tactic(auto)]
 
-mod finding;
 mod judging;
-mod marking;
 mod sessions;
 mod standing;
 mod table;
@@ -19,4 +17,4 @@ pub use sessions::{
 };
 pub use standing::Standing;
 pub use table::Version;
-pub use versions::{Hit, Versions};
+pub use versions::Hit;

@@ -38,20 +38,17 @@ use Rattle.page_store.specs.Outcome.{Refused}
 use Rattle.page_store.specs.PageMap.{View}
 use Rattle.row_versions.specs.Hits.{delete_reply}
 use Rattle.row_versions.specs.VersionsState.{rows_at}
-use Rattle.row_versions.specs.VisibleState.{stored_rows}
 use Rattle.row_versions.specs.declared.standing.Standing.{Standing}
 use Rattle.row_versions.specs.declared.standing.Standing.TheVariants as standings
-use Rattle.heap_rows.specs.Heaps.{relation_of, slots_a_page}
-use Rattle.heap_rows.specs.HeapBlocks.{HasBlocks}
+use Rattle.heap_rows.specs.Heaps.{relation_of}
 use Rattle.heap_rows.specs.PutAnswers.{NamesTable}
 use Rattle.heap_rows.proofs.Heaps.{limit_is}
 use Rattle.heap_versions.specs.declared.versions.Hit.{Hit}
 use Rattle.heap_versions.specs.HeapState.{HeapState}
 use Rattle.heap_versions.specs.Hits.{mark_of}
 use Rattle.heap_versions.specs.HitMarks.{MarksFirst}
-use Rattle.heap_versions.specs.ShownVersions.{shown_tables}
 use Rattle.heap_versions.specs.Standings.{OneStands, StandAlike, stands}
-use Rattle.range_summaries.specs.Summarised.{AreOfSchema, AreSummaries}
+use Rattle.range_summaries.specs.Summarised.{AreOfSchema}
 use Rattle.session_core.specs.declared.limits.TheConstants.{MAX_PROMISED}
 use Rattle.session_core.specs.declared.faults.StoreFault.{StoreFault}
 use Rattle.session_core.specs.declared.faults.StoreFault.TheVariants as stops
@@ -61,33 +58,22 @@ use Rattle.session_core.specs.JournalState.{JournalState}
 use Rattle.session_core.specs.Promises.{begins_in, promised_to}
 use Rattle.session_core.specs.Steps.{HasFaultCause, IsPageOffset}
 use Rattle.session_core.specs.StoreFaults.{fault_of}
-use Rattle.session_core.specs.TablesKept.{AreOfLayout, AreTables, FillInOrder, ShowsAlike, StandInOrder, rows_on}
+use Rattle.session_core.specs.TablesKept.{AreOfLayout, AreTables, ShowsAlike, rows_on}
 use Rattle.session_core.proofs.Transactions.{IsUnderWay, IsWhole, idle, whole}
+use Rattle.session_core.proofs.OnPages.{HavePagesOf, same_rows}
 use Rattle.session_core.proofs.Promising.{at_most_three, promises_spent, promises_ample}
+use Rattle.session_core.proofs.Putting.{kept_tables}
 use Rattle.session_core.proofs.RowsByTable.{one_put, row_gained, marks_put_none}
 use Rattle.session_core.proofs.Standing.{refusal_stands, stands_idle, stands_whole}
 
 -- ---- the same pages
 
-abbrev pub rows_of_store : {D : Type 0} → View D → List (List Row)
-rows_of_store s = stored_rows (shown_tables s.layout s.pages)
-
-pub same_rows : {D : Type 0} (v v' : HeapState D) → v'.store ≡ v.store → rows_on v' ≡ rows_on v
-same_rows v v' same = ap rows_of_store same
-
-still_order : {D : Type 0} (v v' : HeapState D) (table : ℕ) → v'.store ≡ v.store → StandInOrder v table → StandInOrder v' table
-still_order {D} v v' table same h = record {
-  blocks = h.blocks;
-  has = subst (λ (s : View D). HasBlocks s.layout s.pages table h.blocks) (sym same) h.has;
-  in_order = subst (λ (s : View D). FillInOrder (slots_a_page s.layout table) table h.blocks (rows_at (rows_of_store s) table)) (sym same) h.in_order;
-}
+pub same_pages : {D : Type 0} (v v' : HeapState D) → v'.store ≡ v.store → HavePagesOf v v'
+same_pages v v' same = record { layout = ap (λ (s : View _). s.layout) same; pages = ap (λ (s : View _). s.pages) same }
 
 -- other statuses and open transactions over the same pages
 pub still_tables : {D : Type 0} (t : Tables D) (v : HeapState D) → v.store ≡ t.versions.store → AreTables t → AreTables (record t { versions = v })
-still_tables {D} t v same h = record {
-  summarised = subst (λ (s : View D). AreSummaries s.layout.schema (rows_of_store s) t.summaries) (sym same) h.summarised;
-  in_order = λ table below. still_order t.versions v table same (h.in_order table (subst (λ (s : View D). table < length s.layout.schema.tables) same below));
-}
+still_tables t v same h = kept_tables t (record t { versions = v }) (same_pages t.versions v same) h.summarised h.in_order
 
 pub still_layout : {D : Type 0} (t : Tables D) (v : HeapState D) → v.store ≡ t.versions.store → AreOfLayout t → AreOfLayout (record t { versions = v })
 still_layout {D} t v same h = subst (λ (s : View D). AreOfSchema s.layout.schema t.summaries) (sym same) h
@@ -138,7 +124,7 @@ pub went_still : {D : Type 0} (t : Tables D) (v : HeapState D) (j j' : JournalSt
 went_still t v j j' e answer sound same did entered none = record {
   effect = did;
   entered = entered;
-  rows = λ k. no_row (rows_on t.versions) (rows_on v) (same_rows t.versions v same) k ∙ ap (λ l. rows_at (rows_on t.versions) k ++ l) (sym (none k));
+  rows = λ k. no_row (rows_on t.versions) (rows_on v) (same_rows t.versions v (same_pages t.versions v same)) k ∙ ap (λ l. rows_at (rows_on t.versions) k ++ l) (sym (none k));
   sound = still_tables t v same sound;
 }
 
@@ -442,7 +428,7 @@ does_failing told t t₁ v j j₁ j' n statement short e answer refused reply wa
     (record {
       effect = did;
       entered = failing.entries ∙ ap (λ es. es ++ e ∷ []) before.entries;
-      rows = λ k. no_row (rows_on t.versions) (rows_on v) (same_rows t₁.versions v failing.store ∙ before.rows) k ∙ ap (λ l. rows_at (rows_on t.versions) k ++ l) (sym (want.none k));
+      rows = λ k. no_row (rows_on t.versions) (rows_on v) (same_rows t₁.versions v (same_pages t₁.versions v failing.store) ∙ before.rows) k ∙ ap (λ l. rows_at (rows_on t.versions) k ++ l) (sym (want.none k));
       sound = still_tables t₁ v failing.store before.sound;
     }) want.refused)
 

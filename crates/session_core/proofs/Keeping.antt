@@ -37,8 +37,9 @@ use Rattle.session_core.specs.StoreInvariant.{IsShown, IsStoreKept, store_with}
 use Rattle.session_core.specs.StoreState.{StoreState}
 use Rattle.session_core.specs.Submits.{refusal_behind}
 use Rattle.session_core.specs.TablesKept.{AreOfLayout, AreTables, MakesRoom, rows_on}
-use Rattle.session_core.proofs.Acting.{same_rows, still_layout, still_tables}
+use Rattle.session_core.proofs.Acting.{same_pages, still_layout, still_tables}
 use Rattle.session_core.proofs.LegalRequests.{requests_are_legal}
+use Rattle.session_core.proofs.OnPages.{same_rows}
 use Rattle.session_core.proofs.Promising.{shared, promised_to_all, begins_of_all, begins_changed, promised_appended, begins_appended, begins_at}
 use Rattle.session_core.proofs.RowsByTable.{rows_of_table-append}
 use Rattle.session_core.proofs.Standing.{refusal_stands}
@@ -100,7 +101,7 @@ kept_roomy {D} told t v j j' names hands h made =
       promises = omega (arith, h.promises, made.room);
       begins = omega (arith, h.begins, made.begins);
       shown = λ tells.
-          shown_alike t roomy (store_with t j names hands) (store_with t j names hands) (h.shown (subst (Tells told) made.store tells)) made.database (same_rows t.versions v made.store)
+          shown_alike t roomy (store_with t j names hands) (store_with t j names hands) (h.shown (subst (Tells told) made.store tells)) made.database (same_rows t.versions v (same_pages t.versions v made.store))
           (still_tables t v made.store (h.shown (subst (Tells told) made.store tells)).sound) refl refl refl;
     })
 
@@ -212,7 +213,7 @@ module _ {D : Type 0} (told : D → Told) (t : Tables D) (v : HeapState D) (j j'
     begins = still_begins;
     shown = λ tells.
         let was = h.shown (subst (Tells told) made.store tells) in
-        shown_alike t roomy (store_with t j names hands) (store_with t j names with_it) was made.database (same_rows t.versions v made.store) (still_tables t v made.store was.sound) refl refl refl;
+        shown_alike t roomy (store_with t j names hands) (store_with t j names with_it) was made.database (same_rows t.versions v (same_pages t.versions v made.store)) (still_tables t v made.store was.sound) refl refl refl;
   }
 
   pub kept_in_hand : (names' : List (List ℕ)) (hands' : List (Option Statement)) → names' ≡ names → hands' ≡ with_it → IsStoreKept told roomy j' (store_with roomy j' names' hands')

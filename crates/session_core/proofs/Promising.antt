@@ -115,6 +115,3 @@ promises_spent before room after room' less spent = λ others few had. omega ari
 -- there is room for all that is promised at most
 pub promises_ample : (before room after room' : ℕ) → after ≤ ENTRIES_A_SESSION → MAX_PROMISED ≤ room' → KeepsPromises before room after room'
 promises_ample before room after room' few ample = λ others most had. omega arith
-
-pub promises_alike : (before room after room' : ℕ) → after ≤ before → room ≤ room' → KeepsPromises before room after room'
-promises_alike before room after room' few ample = λ others most had. omega arith

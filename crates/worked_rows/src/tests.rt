@@ -270,6 +270,16 @@ fn second_delete_conflicts_and_fails(rt: HostRuntime) -> Result<(), Fail> {
 }
 
 #[test]
+fn rows_come_in_order_of_their_ids(rt: HostRuntime) -> Result<(), Fail> {
+    check(
+        &rt,
+        SMALL,
+        b"s1 begin\ns2 begin\ns2 insert t 7\ns1 insert t 8\ns1 commit\ns2 commit\ns3 begin\ns3 select t\n",
+        b"s1 begun 1\ns2 begun 2\ns2 inserted 2.0\ns1 inserted 1.0\ns1 committed\ns2 committed\ns3 begun 3\ns3 row 1.0 8\ns3 row 2.0 7\ns3 rows 2\n",
+    )
+}
+
+#[test]
 fn int8_limits_are_kept_and_passed(rt: HostRuntime) -> Result<(), Fail> {
     check(
         &rt,
