@@ -1,0 +1,4 @@
+mod Lists
+mod Gates
+mod Places
+mod Made

@@ -1,0 +1,4 @@
+pub mod FreshStore
+pub mod Gate
+pub mod Blank
+pub mod FormatAnswers
