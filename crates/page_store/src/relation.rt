@@ -16,7 +16,6 @@ use crate::fact_list::FactList;
 use crate::page_room::Room;
 use crate::pages::{change_at, start_at};
 use block_model::{NoMemory, Place};
-use index_layout::the_lowest_free_slot_has_room;
 use page_layout::{Form, Page, UNSTARTED, is_index, slots_are_read};
 use page_redo::Misfit;
 use std::alloc::Global;
@@ -116,7 +115,6 @@ impl Relation {
         ensures room { IsFirstRoom self.now.form (length self.now.pages) need past (page_in self.now.pages) result }
     {
         slots_are_read();
-        the_lowest_free_slot_has_room();
         if is_index(&self.form) {
             return self.facts.first_behind(need, past);
         }
