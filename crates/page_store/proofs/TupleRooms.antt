@@ -1,6 +1,6 @@
 -- The lowest page with room for a tuple, by groups of blocks.
-use Rattle.std.proofs.Common.{◌≡◌, ◌≢◌, ℕ, ◌+◌, ◌*◌, ◌/◌, ◌<◌, ◌≤◌, ◌⊎◌, ◌&&◌, Bool, true, false, List, length, get_or, set, refl, sym, ap, subst, ⊎_elim, ◌∙◌, arith}
-use Rattle.std.specs.Prelude.{Option, None, Some, ◌==◌, nat_le}
+use Rattle.std.proofs.Common.{◌≡◌, ◌≢◌, ℕ, ◌+◌, ◌*◌, ◌/◌, ◌<◌, ◌≤◌, ◌⊎◌, ◌&&◌, Bool, true, false, List, length, get_or, set, refl, sym, ap, ⊎_elim, ◌∙◌, arith}
+use Rattle.std.specs.Prelude.{◌==◌, nat_le}
 use Rattle.std.proofs.lemmas.Bool.{cases_eq, cases_lt, lt-leb}
 use Rattle.std.proofs.lemmas.List.{get_or_default, get_or_past, get_or-set_same, get_or-set_other}
 use Rattle.index_layout.specs.declared.format.TheConstants.{REGULAR}
