@@ -1,0 +1,6 @@
+pub mod TupleKinds
+pub mod PageWrites
+pub mod Targets
+pub mod Spots
+pub mod Found
+pub mod Onward
