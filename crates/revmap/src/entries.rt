@@ -111,7 +111,7 @@ fn set_found<D: Disk + Drop>(
     if block >= pages.layout().sizes().index_blocks {
         return Err(no_such_page(pages, index));
     }
-    match set_entry(pages, Place { relation, block }, entry_of(range ^ 1), spot) {
+    match set_entry(pages, Place { relation, block }, entry_of(range), spot) {
         Ok(()) => Ok(()),
         Err(error) => Err(error),
     }
