@@ -4,3 +4,4 @@ pub mod Targets
 pub mod Spots
 pub mod Found
 pub mod Onward
+pub mod Fitting

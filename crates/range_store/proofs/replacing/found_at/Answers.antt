@@ -1,9 +1,13 @@
-use Rattle.std.proofs.Common.{ℕ, ◌+◌, ◌*◌, ap, ◌∙◌, arith}
+use Rattle.std.proofs.Common.{ℕ, ◌+◌, ◌*◌, ◌<◌, ◌≤◌, ap, length, ◌∙◌, arith}
 use Rattle.byte_fields.specs.Fields.{field_at, number_of}
+use Rattle.index_layout.specs.IndexReading.{slots_of}
 use Rattle.range_store.proofs.Found.{directory_within, found_there, has_tuples}
 use Rattle.range_store.proofs.replacing.found_at.Goals as goal
 
+pub get_u16-requires : goal.get_u16-requires
+get_u16-requires c = ?
+
 pub returns : goal.returns
 returns c =
-    let below = omega (arith, c.slots.ensures, c.if-slot-slots.false) in
+    let below : c.args.slot < length (slots_of c.args.page.now) = omega arith in
     found_there c.args.page.now c.args.slot c.get_u16.result c.get_u16-2.result (has_tuples c.args.page.now c.args.slot below) below (c.get_u16.ensures.got ∙ ap (λ (n : ℕ). number_of (field_at c.args.page.now (32 + n * 4 + 2) 2)) c.from.ensures) (c.get_u16-2.ensures.got ∙ ap (λ (n : ℕ). number_of (field_at c.args.page.now (32 + n * 4) 2)) c.from.ensures)
