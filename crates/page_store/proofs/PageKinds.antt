@@ -5,7 +5,7 @@ use Rattle.std.proofs.lemmas.Bool.{cases_Bool, eq-eqb, eqb-true}
 use Rattle.std.proofs.lemmas.List.Sums.{sum_by-cons}
 use Rattle.page_layout.specs.declared.page.Form.{Form}
 use Rattle.page_layout.specs.declared.page.Form.TheVariants as forms
-use Rattle.index_layout.specs.IndexReading.{slots_of}
+use Rattle.index_layout.specs.IndexReading.{map_pages_of, number_at, slots_of}
 use Rattle.index_layout.specs.IndexWrites.{room_for_further, room_on}
 use Rattle.page_layout.specs.FreeSlots.{lowest_free}
 use Rattle.page_layout.specs.PageContents.{IsPageOf, IsStarted, IsUnstarted}
@@ -47,11 +47,17 @@ lowest-unstarted form page zeros = ap (λ (k : ℕ). cond (eqb k 0) None (lowest
 pub kind_without_room : (page : List ℕ) (kind : ℕ) → get_or page 0 0 ≡ kind → eqb kind 5 ≡ false → 0 ≡ room_on page
 kind_without_room page kind is other = sym (ap (λ (k : ℕ). cond (eqb k 5) (room_for_further (slots_of page)) 0) is ∙ ap (λ (b : Bool). cond b (room_for_further (slots_of page)) 0) other)
 
+-- one whose kind isn't that of a metapage counts no page of the map
+pub kind_without_maps : (page : List ℕ) (kind : ℕ) → get_or page 0 0 ≡ kind → eqb kind 3 ≡ false → 0 ≡ map_pages_of page
+unfolding map_pages_of
+kind_without_maps page kind is other = sym (ap (λ (k : ℕ). cond (eqb k 3) (number_at page 32 4) 0) is ∙ ap (λ (b : Bool). cond b (number_at page 32 4) 0) other)
+
 pub unstarted_facts : (form : Form) → facts_on form unstarted_page ≡ no_facts
 unstarted_facts form = λ i. record {
   kind = zero_kind unstarted_page unstarted_is i;
   lowest = lowest-unstarted form unstarted_page unstarted_is i;
   room = sym (kind_without_room unstarted_page 0 (zero_kind unstarted_page unstarted_is) refl) i;
+  maps = sym (kind_without_maps unstarted_page 0 (zero_kind unstarted_page unstarted_is) refl) i;
 }
 
 pub no_tuple_room : (form : Form) (page : List ℕ) → (IsOfIndex form → ⊥) → IsPageOf form page → 0 ≡ room_on page
@@ -59,6 +65,12 @@ no_tuple_room form page rows (inl zeros) = kind_without_room page 0 (zero_kind p
 no_tuple_room forms.Status page rows (inr started) = kind_without_room page 1 (ap (λ (l : List ℕ). get_or l 0 0) started.1.bytes.2) refl
 no_tuple_room (forms.Heap row count kinds format) page rows (inr started) = kind_without_room page 2 (heap_front (forms.Heap row count kinds format) page started.0 started.1) refl
 no_tuple_room forms.Index page rows (inr started) = absurd (rows tt)
+
+pub no_maps : (form : Form) (page : List ℕ) → (IsOfIndex form → ⊥) → IsPageOf form page → 0 ≡ map_pages_of page
+no_maps form page rows (inl zeros) = kind_without_maps page 0 (zero_kind page zeros) refl
+no_maps forms.Status page rows (inr started) = kind_without_maps page 1 (ap (λ (l : List ℕ). get_or l 0 0) started.1.bytes.2) refl
+no_maps (forms.Heap row count kinds format) page rows (inr started) = kind_without_maps page 2 (heap_front (forms.Heap row count kinds format) page started.0 started.1) refl
+no_maps forms.Index page rows (inr started) = absurd (rows tt)
 
 -- 1 for a started page, else 0
 abbrev weight : List ℕ → ℕ

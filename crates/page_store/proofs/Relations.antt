@@ -4,6 +4,7 @@ use Rattle.std.specs.Prelude.{Option, None, Some, IfSome, count_by, replicate, s
 use Rattle.std.proofs.lemmas.Bool.{cases_lt, cases_eq}
 use Rattle.std.proofs.lemmas.List.{get_or-replicate, get_or-set_same, get_or-set_other, get_or_past, length-replicate, length-set}
 use Rattle.std.proofs.lemmas.Option.{get_or_from_slice_get}
+use Rattle.index_layout.specs.IndexReading.{map_pages_of}
 use Rattle.index_layout.specs.IndexWrites.{room_on}
 use Rattle.page_layout.specs.declared.page.Form.{Form}
 use Rattle.page_layout.specs.declared.page.Form.TheVariants as forms
@@ -25,7 +26,7 @@ use Rattle.page_store.specs.Started.{AreFirst, is_started}
 use Rattle.page_store.proofs.FactsKept.{OneList}
 use Rattle.page_store.proofs.Filling.{count_alike, filled-filled, filled-set, filled_set-other, get_or-filled, length-filled, length-filled-set}
 use Rattle.page_store.proofs.PageKinds.{count_first, kind_started, kind_unstarted, unstarted_facts, unstarted_is, unstarted_kind}
-use Rattle.page_store.proofs.Rooms.{LeastRoom, RoomOfTuples, heap_looked_at, no_tuple, room_lower, room_of_slot, slot_found, tuple_room}
+use Rattle.page_store.proofs.Rooms.{heap_looked_at, no_tuple, room_lower, room_of_slot, slot_found, tuple_room}
 
 -- all pages of a relation
 abbrev pub all_pages : List (List ℕ) → List PageFacts → List (List ℕ)
@@ -146,6 +147,9 @@ module _ (form : Form) (pages : List (List ℕ)) (capacity : ℕ) (facts : List 
   pub rooms_are : (n : ℕ) → (facts_in facts n).room ≡ room_on (page_in (all_pages pages facts) n)
   rooms_are n = ap (λ (f : PageFacts). f.room) (facts_are n)
 
+  pub maps_are : (n : ℕ) → (facts_in facts n).maps ≡ map_pages_of (page_in (all_pages pages facts) n)
+  maps_are n = ap (λ (f : PageFacts). f.maps) (facts_are n)
+
   no_room : OneList → (IsOfIndex form → ⊥) → (need n : ℕ) → is_sought sought.Room (facts_in facts n) ≡ false → PageHasRoom form need (page_in (all_pages pages facts) n) → ⊥
   no_room one rows need n none = room_lower one form need (page_in (all_pages pages facts) n) rows (sym (ap has_slot (lowest_are n)) ∙ none)
 
@@ -188,25 +192,25 @@ module _ (form : Form) (pages : List (List ℕ)) (capacity : ℕ) (facts : List 
       (λ k high low. ap not (unstarted_kind (page_in (all_pages pages facts) k) (first.others k high low)))
 
 -- those of an index
-pub first_of_index : (form : Form) (pages : List (List ℕ)) (capacity : ℕ) (facts : List PageFacts) → IsRelation form pages capacity facts → IsOfIndex form → RoomOfTuples → LeastRoom → (need past : ℕ) (result : Option ℕ)
+pub first_of_index : (form : Form) (pages : List (List ℕ)) (capacity : ℕ) (facts : List PageFacts) → IsRelation form pages capacity facts → IsOfIndex form → (need past : ℕ) (result : Option ℕ)
     → IsFirstOfIndex facts need past result → IsFirstRoom form (length (all_pages pages facts)) need past (page_in (all_pages pages facts)) result
-first_of_index forms.Status pages capacity facts is index room least need past result first = absurd index
-first_of_index (forms.Heap row count kinds format) pages capacity facts is index room least need past result first = absurd index
-first_of_index forms.Index pages capacity facts is index room least need past (Some n) (inl first) = inl (record {
+first_of_index forms.Status pages capacity facts is index need past result first = absurd index
+first_of_index (forms.Heap row count kinds format) pages capacity facts is index need past result first = absurd index
+first_of_index forms.Index pages capacity facts is index need past (Some n) (inl first) = inl (record {
   below = omega (arith, first.there, length-all pages facts is.few);
   looked_at = first.behind;
-  room = tuple_room room need (facts_in facts n).room (page_in (all_pages pages facts) n) (rooms_are _ _ _ _ is n) first.takes;
-  lower = λ other low behind. no_tuple least need (facts_in facts other).room (page_in (all_pages pages facts) other) (rooms_are _ _ _ _ is other) (first.lower other behind low);
+  room = tuple_room need (facts_in facts n).kind (facts_in facts n).room (page_in (all_pages pages facts) n) (kinds_are _ _ _ _ is n) (rooms_are _ _ _ _ is n) first.takes;
+  lower = λ other low behind. no_tuple need (facts_in facts other).kind (facts_in facts other).room (page_in (all_pages pages facts) other) (kinds_are _ _ _ _ is other) (rooms_are _ _ _ _ is other) (first.lower other behind low);
 })
-first_of_index forms.Index pages capacity facts is index room least need past (Some n) (inr (none, below, lowest)) = inr (record {
+first_of_index forms.Index pages capacity facts is index need past (Some n) (inr (none, below, lowest)) = inr (record {
   below = omega (arith, below, length-all pages facts is.few);
   unstarted = is_unstarted _ _ _ _ is n (lowest.found below);
   lower = λ other low. isnt_unstarted _ _ _ _ is other (lowest.lower other low);
-  no_room = λ other behind. no_tuple least need (facts_in facts other).room (page_in (all_pages pages facts) other) (rooms_are _ _ _ _ is other) (none other behind);
+  no_room = λ other behind. no_tuple need (facts_in facts other).kind (facts_in facts other).room (page_in (all_pages pages facts) other) (kinds_are _ _ _ _ is other) (rooms_are _ _ _ _ is other) (none other behind);
 })
-first_of_index forms.Index pages capacity facts is index room least need past None (none, lowest) = record {
+first_of_index forms.Index pages capacity facts is index need past None (none, lowest) = record {
   started = λ n low. isnt_unstarted _ _ _ _ is n (lowest.lower n (omega (arith, low, length-all pages facts is.few)));
-  no_room = λ n behind. no_tuple least need (facts_in facts n).room (page_in (all_pages pages facts) n) (rooms_are _ _ _ _ is n) (none n behind);
+  no_room = λ n behind. no_tuple need (facts_in facts n).kind (facts_in facts n).room (page_in (all_pages pages facts) n) (kinds_are _ _ _ _ is n) (rooms_are _ _ _ _ is n) (none n behind);
 }
 
 pub first_within_index : (facts : List PageFacts) (need past : ℕ) (result : Option ℕ) → IsFirstOfIndex facts need past result → IfSome result (λ n. n < length facts)

@@ -1,10 +1,10 @@
 -- The room of a page, by its lowest free slot.
-use Rattle.std.proofs.Common.{◌≡◌, ℕ, ◌<◌, ◌≤◌, ◌&&◌, inl, inr, Bool, true, false, cond, eqb, List, get_or, refl, ap, ◌∙◌, arith}
-use Rattle.std.specs.Prelude.{Option, None, Some, nat_le, nat_lt}
-use Rattle.std.proofs.lemmas.Bool.{and_parts, le-leb, leb-true, lt-ltb, ltb-true}
+use Rattle.std.proofs.Common.{◌≡◌, ℕ, ◌&&◌, inl, inr, Bool, true, false, cond, eqb, List, get_or, refl, sym, ap, ◌∙◌, arith}
+use Rattle.std.specs.Prelude.{Option, None, Some, ◌==◌, nat_le}
+use Rattle.std.proofs.lemmas.Bool.{and_parts, eq-eqb, eqb-true, le-leb, leb-true}
 use Rattle.std.proofs.lemmas.Option.{slice_get-get_or, slice_get_within}
-use Rattle.index_layout.specs.IndexReading.{free_slot_of, slots_of}
-use Rattle.index_layout.specs.IndexWrites.{CanPut, room_on}
+use Rattle.index_layout.specs.declared.format.TheConstants.{REGULAR}
+use Rattle.index_layout.specs.IndexWrites.{room_on}
 use Rattle.page_layout.specs.declared.page.Form.{Form}
 use Rattle.page_layout.specs.declared.page.Form.TheVariants as forms
 use Rattle.page_layout.specs.FreeSlots.{lowest_free}
@@ -86,22 +86,15 @@ room_lower one form need page rows none room =
     let free = slot_of_room form need page rows room in
     free_not_none one form page free.0 free.1 (has_none (lowest_on form page) none)
 
--- a page of an index has room for a tuple that isn't greater than the greatest one
-abbrev pub RoomOfTuples : Type 0
-RoomOfTuples = (page : List ℕ) (size : ℕ) → 0 < size → size ≤ room_on page → CanPut page (free_slot_of (slots_of page)) size
+-- a page of an index has room for a tuple that isn't greater than its room, if it is of tuples
+pub tuple_room : (need kind room : ℕ) (page : List ℕ) → kind ≡ get_or page 0 0 → room ≡ room_on page → (kind == REGULAR) && nat_le need room ≡ true → PageHasRoom forms.Index need page
+tuple_room need kind room page of is takes =
+    let parts = and_parts (kind == REGULAR) (nat_le need room) takes in
+    (sym of ∙ eqb-true kind REGULAR parts.0, omega (arith, is, leb-true need room parts.1))
 
-abbrev pub LeastRoom : Type 0
-LeastRoom = (page : List ℕ) (n size : ℕ) → CanPut page n size → size ≤ room_on page
-
-pub tuple_room : RoomOfTuples → (need room : ℕ) (page : List ℕ) → room ≡ room_on page → nat_lt 0 need && nat_le need room ≡ true → PageHasRoom forms.Index need page
-tuple_room law need room page is takes =
-    let parts = and_parts (nat_lt 0 need) (nat_le need room) takes in
-    (free_slot_of (slots_of page), law page need (ltb-true 0 need parts.0) (omega (arith, is, leb-true need room parts.1)))
-
-pub no_tuple : LeastRoom → (need room : ℕ) (page : List ℕ) → room ≡ room_on page → nat_lt 0 need && nat_le need room ≡ false → PageHasRoom forms.Index need page → ⊥
-no_tuple law need room page is takes some =
-    let least = law page some.0 need some.1 in
-    let both : nat_lt 0 need && nat_le need room ≡ true = λ i. lt-ltb 0 need some.1.1 i && le-leb need room (omega (arith, is, least)) i in
+pub no_tuple : (need kind room : ℕ) (page : List ℕ) → kind ≡ get_or page 0 0 → room ≡ room_on page → (kind == REGULAR) && nat_le need room ≡ false → PageHasRoom forms.Index need page → ⊥
+no_tuple need kind room page of is takes some =
+    let both : (kind == REGULAR) && nat_le need room ≡ true = λ i. eq-eqb kind REGULAR (of ∙ some.0) i && le-leb need room (omega (arith, is, some.1)) i in
     absurd cc
 
 -- the room of a page by its lowest slot

@@ -6,7 +6,8 @@ ghost use Rattle.page_store.specs.Filled.{filled};
 ghost use Rattle.page_store.specs.PageFacts.{facts_in, no_facts};
 
 use crate::facts::{NO_FACTS, PageFacts};
-use crate::lowest::{Sought, first_behind, lowest};
+use crate::lowest::{Sought, lowest};
+use crate::tuple_room::{bound, first_behind, no_room};
 use block_model::NoMemory;
 use page_layout::UNSTARTED;
 use std::alloc::Global;
@@ -25,6 +26,8 @@ pub(crate) struct FactList {
     room: usize,
     /// The lowest block that isn't started, or the limit.
     unstarted: usize,
+    /// Of each group of blocks, a number of bytes that no page's room for a tuple exceeds.
+    most: Vec<u16>,
 }
 
 impl Model for FactList {
@@ -38,7 +41,7 @@ impl Model for FactList {
 
     ghost view = { λ a. filled no_facts a.limit a.items.items };
 
-    ghost invariant = { λ a. IsFactList a.limit a.items.items (vec_capacity a.items) a.started a.room a.unstarted };
+    ghost invariant = { λ a. IsFactList a.limit a.items.items (vec_capacity a.items) a.started a.room a.unstarted a.most.items };
 }
 
 impl FactList {
@@ -47,12 +50,14 @@ impl FactList {
         ensures { IfOk result (λ facts. facts ≡ replicate limit no_facts) }
     {
         let items = Vec::with_capacity(alloc, limit as usize)?;
+        let most = no_room(alloc, limit)?;
         Ok(FactList {
             limit,
             items,
             started: 0,
             room: limit as usize,
             unstarted: 0,
+            most,
         })
     }
 
@@ -73,10 +78,12 @@ impl FactList {
     {
         let limit = self.limit as usize;
         reach(&mut self.items, at);
+        let before = self.items[at].room;
         self.started = self.started - started(self.items[at]) + started(facts);
         self.items[at] = facts;
         self.room = lowest(&self.items, limit, Sought::Room, self.room, at);
         self.unstarted = lowest(&self.items, limit, Sought::Unstarted, self.unstarted, at);
+        bound(&mut self.most, &self.items, at, before);
     }
 
     /// How many pages are started.
@@ -106,7 +113,7 @@ impl FactList {
         ensures { IsFirstOfIndex self.now need past result }
     {
         let limit = self.limit as usize;
-        if let Some(block) = first_behind(&self.items, need, past) {
+        if let Some(block) = first_behind(&self.items, &self.most, need, past) {
             return Some(block as u32);
         }
         if self.unstarted < limit {

@@ -16,6 +16,7 @@ mod page_room;
 mod pages;
 mod relation;
 mod store;
+mod tuple_room;
 
 pub use faults::{MachineFault, StoreError};
 pub use forms::tables_have_forms;

@@ -1,4 +1,4 @@
-use Rattle.std.proofs.Common.{List, ℕ, sym, subst, ◌∙◌}
+use Rattle.std.proofs.Common.{sym, subst, ◌∙◌}
 use Rattle.std.proofs.lemmas.Option.{none-some}
 use Rattle.page_layout.specs.PageContents.{IsPageOf}
 use Rattle.page_layout.proofs.checking.check.Goals as goal

@@ -15,9 +15,8 @@ returns-then-is_index-clause-within c =
 
 pub returns-then-is_index-clause-room : goal.returns-then-is_index-clause-room
 returns-then-is_index-clause-room c =
-    let laws = c.the_lowest_free_slot_has_room.ensures in
     subst (λ (r : RelationState). IsFirstRoom r.form (length r.pages) c.args.need c.args.past (page_in r.pages) c.first_behind.result) c.self.view_is
-    (first_of_index _ _ _ _ c.self.invariant (c.if-is_index.ensures.index refl) laws.room laws.least c.args.need c.args.past c.first_behind.result c.first_behind.ensures)
+    (first_of_index _ _ _ _ c.self.invariant (c.if-is_index.ensures.index refl) c.args.need c.args.past c.first_behind.result c.first_behind.ensures)
 
 pub returns-clause-within : goal.returns-clause-within
 returns-clause-within c =
