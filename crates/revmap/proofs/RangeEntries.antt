@@ -7,6 +7,12 @@ use Rattle.block_model.specs.declared.place.Place.{Place}
 use Rattle.block_model.specs.declared.place.Spot.{Spot}
 use Rattle.store_layout.specs.DiskLayout.{DiskLayout}
 use Rattle.disk_trait.specs.Told.{Told}
+use Rattle.page_layout.specs.declared.page.Form.{Form}
+use Rattle.page_layout.specs.declared.page.Form.TheVariants as forms
+use Rattle.page_layout.specs.PageContents.{IsPageOf}
+use Rattle.page_layout.specs.PageWrites.{IsOfIndex}
+use Rattle.wal_record.specs.Changes.{MapSet}
+use Rattle.page_store.specs.Forms.{FitsIn, IsPageIn, form_of}
 use Rattle.page_store.specs.declared.faults.StoreError.{StoreError}
 use Rattle.page_store.specs.declared.faults.StoreError.TheVariants as errors
 use Rattle.page_store.specs.Keeps.{Keeps, Tells}
@@ -72,6 +78,11 @@ sets_range told index range relation block entry spot old new one at on number t
     let here : IsMap (set (entries_of (f block)) entry spot) (g block) = subst (λ (r : ℕ). IsMap (set (entries_of (block_at old.pages r block)) entry spot) (block_at new.pages r block)) at is in
     let there : IsMap (set (entries_of (f (map_page_of range))) entry spot) (g (map_page_of range)) = subst (λ (b : ℕ). IsMap (set (entries_of (f b)) entry spot) (g b)) on here in
     at_range told index range spot old new one stay holds (subst (λ (n : ℕ). IsMap (set (entries_of (f (map_page_of range))) n spot) (g (map_page_of range))) number there)
+
+-- a page of the map takes an entry
+pub takes_entry : (layout : DiskLayout) (place : Place) (page : List ℕ) (entry : ℕ) (spot : Spot) → form_of layout place.relation ≡ forms.Index → IsPageIn layout place.relation page → slice_index page 0 ≡ MAP → entry < MAP_ENTRIES → FitsIn layout place.relation page (MapSet place entry spot)
+takes_entry layout place page entry spot form is map within =
+    ((subst (λ (f : Form). IsOfIndex f) (sym form) tt, subst (λ (f : Form). IsPageOf f page) form is), map, within)
 
 -- damage of a page of the index
 pub names_index : (layout : DiskLayout) (index relation block : ℕ) (error : StoreError) → relation ≡ relation_of layout index → block < layout.sizes.index_blocks → NamesPage layout (record { relation = relation; block = block }) error → NamesIndex layout index error

@@ -77,6 +77,7 @@ pub(crate) fn set_entry<D: Disk + Drop>(
     ensures at { IfErr result (NamesPage pages.old.layout place) }
     ensures outcome { Outcome D.told (Untold D.told pages.old) pages.old pages.new result }
 {
+    pages.known();
     let spot = logged_spot(spot);
     pages.change(place, &Change::MapSet { place, entry, spot })
 }

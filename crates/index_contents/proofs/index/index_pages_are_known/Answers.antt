@@ -7,5 +7,5 @@ use Rattle.index_contents.proofs.index.index_pages_are_known.Goals as goal
 pub returns : goal.returns
 returns c = λ layout relation page form is. elim (subst (λ (f : Form). IsPageOf f page) form is) [
   | inl zeros ↦ Unstarted zeros
-  | inr started ↦ absurd started
+  | inr started ↦ started.0
 ]

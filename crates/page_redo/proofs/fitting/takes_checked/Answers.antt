@@ -41,7 +41,7 @@ pub returns-in-MapSet-clause-misfits : goal.returns-in-MapSet-clause-misfits
 returns-in-MapSet-clause-misfits c = λ e fits. c.can_set_entry.ensures.isnt e (subst (λ (change : Change). Fits c.args.form.now c.args.page.now (logged change)) c.in-MapSet.is fits)
 
 pub returns-in-MetaSet-clause-fits : goal.returns-in-MetaSet-clause-fits
-returns-in-MetaSet-clause-fits c = λ e. subst (λ (change : Change). Fits c.args.form.now c.args.page.now (logged change)) (sym c.in-MetaSet.is) (c.is_of_kind-2.ensures.is e)
+returns-in-MetaSet-clause-fits c = λ e. subst (λ (change : Change). Fits c.args.form.now c.args.page.now (logged change)) (sym c.in-MetaSet.is) (c.is_of_kind-in-MetaSet.ensures.is e)
 
 pub returns-in-MetaSet-clause-misfits : goal.returns-in-MetaSet-clause-misfits
-returns-in-MetaSet-clause-misfits c = λ e fits. c.is_of_kind-2.ensures.isnt e (subst (λ (change : Change). Fits c.args.form.now c.args.page.now (logged change)) c.in-MetaSet.is fits)
+returns-in-MetaSet-clause-misfits c = λ e fits. c.is_of_kind-in-MetaSet.ensures.isnt e (subst (λ (change : Change). Fits c.args.form.now c.args.page.now (logged change)) c.in-MetaSet.is fits)

@@ -9,10 +9,10 @@ pub returns-in-Status-clause-isnt : goal.returns-in-Status-clause-isnt
 returns-in-Status-clause-isnt c = λ e start. no_start c.args.kind (subst (λ (f : Form). IsStart f c.args.kind) c.in-Status.is start)
 
 pub returns-in-Heap-clause-is : goal.returns-in-Heap-clause-is
-returns-in-Heap-clause-is c = λ e. subst (λ (f : Form). IsStart f c.args.kind) (sym c.in-Heap.is) (heap_start _ _ _ _ c.args.kind (eqb-true c.args.kind 2 e))
+returns-in-Heap-clause-is c = λ e. subst (λ (f : Form). IsStart f c.args.kind) (sym c.in-Heap.is) (heap_start c.in-Heap.row c.in-Heap.slots c.in-Heap.kinds c.in-Heap.format c.args.kind (eqb-true c.args.kind 2 e))
 
 pub returns-in-Heap-clause-isnt : goal.returns-in-Heap-clause-isnt
-returns-in-Heap-clause-isnt c = λ e start. eqb-false c.args.kind 2 e (heap_only _ _ _ _ c.args.kind (subst (λ (f : Form). IsStart f c.args.kind) c.in-Heap.is start))
+returns-in-Heap-clause-isnt c = λ e start. eqb-false c.args.kind 2 e (heap_only c.in-Heap.row c.in-Heap.slots c.in-Heap.kinds c.in-Heap.format c.args.kind (subst (λ (f : Form). IsStart f c.args.kind) c.in-Heap.is start))
 
 pub returns-in-Index-clause-is : goal.returns-in-Index-clause-is
 returns-in-Index-clause-is c = λ e. subst (λ (f : Form). IsStart f c.args.kind) (sym c.in-Index.is) (index_start c.args.kind (sym c.is_index_start.ensures ∙ e))
