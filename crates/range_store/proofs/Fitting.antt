@@ -3,6 +3,7 @@ use Rattle.std.proofs.Common.{◌≡◌, ℕ, ◌+◌, ◌*◌, ◌/◌, ◌%◌
 use Rattle.std.specs.Prelude.{slice_index, Option, None, Some, Result, Ok, Err, OnOk, if◌then◌else◌}
 use Rattle.std.specs.Int.{bytes_high_first}
 use Rattle.std.proofs.lemmas.Bool.{le-leb, lt-ltb}
+use Rattle.std.proofs.lemmas.Option.{slice_get-get_or}
 use Rattle.block_model.specs.declared.place.Place.{Place}
 use Rattle.store_layout.specs.DiskLayout.{DiskLayout}
 use Rattle.page_layout.specs.declared.page.Form.{Form}
@@ -100,5 +101,5 @@ can_replace old mid slot expect size same some takes =
     (
       takes.1,
       some,
-      (expect, slice_get-get_or (slots_of old) slot None inside ∙ ap (Some {A = Slot}) takes.0, subst (λ (n : ℕ). size ≤ n) (room_there old slot expect takes.1 takes.0) takes.2),
+      (expect, slice_get-get_or (slots_of old) slot None inside ∙ ap (λ (t : Slot). Some t) takes.0, subst (λ (n : ℕ). size ≤ n) (room_there old slot expect takes.1 takes.0) takes.2),
     )

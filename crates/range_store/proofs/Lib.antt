@@ -5,3 +5,4 @@ pub mod Spots
 pub mod Found
 pub mod Onward
 pub mod Fitting
+pub mod Misfits

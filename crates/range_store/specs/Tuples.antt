@@ -66,6 +66,11 @@ MisfitsOn page slot expect size (faults.Changed found at) = (tuple_on page slot 
 MisfitsOn page slot expect size (faults.Full need most_free) = (tuple_on page slot ≡ Some expect) × (most_free < size) × (need ≡ size) × (most_free ≡ room_in_place page slot)
 MisfitsOn page slot expect size (faults.Store error) = Unit {0}
 
+-- other bytes, or want of room: no refusal of the page store
+abbrev pub IsMisfit : SwapFault → Type 0
+IsMisfit (faults.Store error) = ⊥
+IsMisfit fault = Unit {0}
+
 -- the tuple in the slot has that length and place on the page
 abbrev pub IsFound : List ℕ → ℕ → SwapFault → Type 0
 IsFound page slot (faults.Changed found at) = tuple_on page slot ≡ tuple_from page at found

@@ -24,7 +24,6 @@ pub fn room_for<D: Disk + Drop>(pages: &PageStore<D>, index: u8, bytes: u16) -> 
     ensures target { IfSome result (λ block. Tells D.told pages.now → IsTarget (contents pages.now.layout pages.now.pages index).pages bytes block) }
     ensures none { result ≡ None → Tells D.told pages.now → (block : ℕ) → IsTarget (contents pages.now.layout pages.now.pages index).pages bytes block → ⊥ }
 {
-    pages.known();
     let relation = relation_of(pages.layout(), index);
     first_target(pages, relation, bytes)
 }
@@ -36,6 +35,7 @@ fn first_target<D: Disk + Drop>(pages: &PageStore<D>, relation: u8, need: u16) -
     ensures within { IfSome result (λ block. block < block_limit pages.now.layout relation) }
     ensures first { Tells D.told pages.now → IsFirstTarget (block_limit pages.now.layout relation) (block_at pages.now.pages relation) need result }
 {
+    pages.known();
     let past = pages.map_pages(relation);
     pages.first_room(relation, need, past)
 }

@@ -5,7 +5,18 @@ use Rattle.range_store.proofs.Found.{directory_within, found_there, has_tuples}
 use Rattle.range_store.proofs.replacing.found_at.Goals as goal
 
 pub get_u16-requires : goal.get_u16-requires
-get_u16-requires c = ?
+get_u16-requires c =
+    let page = c.args.page.now in
+    let below : c.args.slot < length (slots_of page) = omega arith in
+    let within = directory_within page c.args.slot (c.an_index_page_has_one_list.ensures.regular page c.requires.page) below in
+    record { within = omega (arith, within) }
+
+pub get_u16-requires-2 : goal.get_u16-requires-2
+get_u16-requires-2 c =
+    let page = c.args.page.now in
+    let below : c.args.slot < length (slots_of page) = omega arith in
+    let within = directory_within page c.args.slot (c.an_index_page_has_one_list.ensures.regular page c.requires.page) below in
+    record { within = omega (arith, within) }
 
 pub returns : goal.returns
 returns c =
