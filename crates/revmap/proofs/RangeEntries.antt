@@ -13,10 +13,7 @@ use Rattle.page_layout.specs.PageContents.{IsPageOf}
 use Rattle.page_layout.specs.PageWrites.{IsOfIndex}
 use Rattle.wal_record.specs.Changes.{MapSet}
 use Rattle.page_store.specs.Forms.{FitsIn, IsPageIn, form_of}
-use Rattle.page_store.specs.declared.faults.StoreError.{StoreError}
-use Rattle.page_store.specs.declared.faults.StoreError.TheVariants as errors
-use Rattle.page_store.specs.Keeps.{Keeps, Tells}
-use Rattle.page_store.specs.Outcome.{NamesPage}
+use Rattle.page_store.specs.Keeps.{Tells}
 use Rattle.page_store.specs.PageMap.{PageMap, View, block_at, page_at, unstarted_page}
 use Rattle.index_layout.specs.declared.format.TheConstants.{MAP, MAP_ENTRIES}
 use Rattle.index_layout.specs.IndexPages.{IsMap}
@@ -27,7 +24,7 @@ use Rattle.index_contents.specs.IndexChanges.{LeavesOtherPages, SetsEntry}
 use Rattle.index_contents.specs.MapLaws.{is_of_map, sets_entry}
 use Rattle.index_contents.specs.PageLaws.{StayBeside, blocks_stay}
 use Rattle.index_contents.specs.Reading.{counted_entry, is_map, no_entry, unstarted_kind}
-use Rattle.revmap.specs.MapEntries.{HoldsRange, NamesIndex}
+use Rattle.revmap.specs.MapEntries.{HoldsRange}
 
 -- the page that holds a range is of the map
 pub holds_map : (layout : DiskLayout) (pages : PageMap) (index range relation block : ℕ) → relation ≡ relation_of layout index → block ≡ map_page_of range → HoldsRange (contents layout pages index).pages range → slice_index (block_at pages relation block) 0 ≡ MAP
@@ -84,20 +81,12 @@ pub takes_entry : (layout : DiskLayout) (place : Place) (page : List ℕ) (entry
 takes_entry layout place page entry spot form is map within =
     ((subst (λ (f : Form). IsOfIndex f) (sym form) tt, subst (λ (f : Form). IsPageOf f page) form is), map, within)
 
--- damage of a page of the index
-pub names_index : (layout : DiskLayout) (index relation block : ℕ) (error : StoreError) → relation ≡ relation_of layout index → block < layout.sizes.index_blocks → NamesPage layout (record { relation = relation; block = block }) error → NamesIndex layout index error
-names_index layout index relation block errors.Disk at below names = tt
-names_index layout index relation block (errors.Reopen faults) at below names = tt
-names_index layout index relation block (errors.Damaged byte) at below names =
-    (block, below, subst (λ (r : ℕ). NamesPage layout (record { relation = r; block = block }) (errors.Damaged byte)) at names)
-
--- the entry of a range, which a counted page holds, as it was read after the number of them
-pub entry_after : {D : Type 0} (told : D → Told) (index range relation block number counted : ℕ) (entry : Option Spot) (old mid : View D) → relation ≡ relation_of old.layout index → block ≡ map_page_of range → number ≡ range % MAP_ENTRIES → Keeps told old mid → Tells told old
-    → counted ≡ map_pages_of (block_at old.pages relation 0) → block ≤ counted → (Tells told mid → entry ≡ slice_index_or (entries_of (block_at mid.pages relation block)) number None) → (contents old.layout old.pages index).entry range ≡ entry
-entry_after told index range relation block number counted entry old mid at on of kept tells is above read =
-    let found : entry_on (block_at old.pages relation (map_page_of range)) range ≡ entry = ap (λ (b : ℕ). entry_on (block_at old.pages relation b) range) (sym on) ∙ ap (λ (n : ℕ). slice_index_or (entries_of (block_at old.pages relation block)) n None) (sym of)
-    ∙ ap (λ (pages : PageMap). slice_index_or (entries_of (block_at pages relation block)) number None) (sym (kept.pages tells)) ∙ sym (read (kept.leaves.tells ∙ tells)) in
-    counted_entry old.layout old.pages index range relation counted entry at is (omega (arith, above, on)) found
+-- the entry of a range, which a counted page holds, as it was read there
+pub entry_read : (layout : DiskLayout) (pages : PageMap) (index range relation block number counted : ℕ) (entry : Option Spot) → relation ≡ relation_of layout index → block ≡ map_page_of range → number ≡ range % MAP_ENTRIES
+    → counted ≡ map_pages_of (block_at pages relation 0) → block ≤ counted → entry ≡ slice_index_or (entries_of (block_at pages relation block)) number None → (contents layout pages index).entry range ≡ entry
+entry_read layout pages index range relation block number counted entry at on of is above read =
+    let found : entry_on (block_at pages relation (map_page_of range)) range ≡ entry = ap (λ (b : ℕ). entry_on (block_at pages relation b) range) (sym on) ∙ ap (λ (n : ℕ). slice_index_or (entries_of (block_at pages relation block)) n None) (sym of) ∙ sym read in
+    counted_entry layout pages index range relation counted entry at is (omega (arith, above, on)) found
 
 -- one that a page behind the last one would hold
 pub entry_past : (layout : DiskLayout) (pages : PageMap) (index range relation block counted : ℕ) → relation ≡ relation_of layout index → block ≡ map_page_of range → counted ≡ map_pages_of (block_at pages relation 0) → block ≤ counted → block_at pages relation block ≡ unstarted_page

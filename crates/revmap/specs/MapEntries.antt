@@ -1,12 +1,11 @@
 -- what the calls on the entries of a map answer
-use Rattle.std.specs.Prelude.{◌≡◌, ◌≢◌, ℕ, ◌+◌, ◌<◌, ◌≤◌, Option, None, Some, IfSome, Result, Ok, Err}
+use Rattle.std.specs.Prelude.{◌≡◌, ◌≢◌, ◌⊎◌, ℕ, ◌<◌, ◌≤◌, Option, None, Some, IfSome, Result, Ok, Err}
 use Rattle.block_model.specs.declared.place.Spot.{Spot}
-use Rattle.store_layout.specs.DiskLayout.{DiskLayout, page_offset}
+use Rattle.store_layout.specs.DiskLayout.{DiskLayout}
 use Rattle.disk_trait.specs.Told.{Told}
 use Rattle.page_store.specs.declared.faults.StoreError.{StoreError}
-use Rattle.page_store.specs.declared.faults.StoreError.TheVariants as errors
 use Rattle.page_store.specs.Keeps.{Untold}
-use Rattle.page_store.specs.Outcome.{Outcome, Refused}
+use Rattle.page_store.specs.Outcome.{NamesPage, Outcome, Refused}
 use Rattle.page_store.specs.PageMap.{View}
 use Rattle.coverage.specs.IndexView.{Mapping, Pages, map_page_of}
 use Rattle.index_contents.specs.IndexContents.{IndexContents, relation_of}
@@ -26,14 +25,14 @@ abbrev pub ShowsOther : IndexContents → ℕ → Option Spot → SetFault → T
 ShowsOther c range expect (faults.Changed now) = (c.entry range ≡ now) × (now ≢ expect)
 ShowsOther c range expect (faults.Store error) = Unit {0}
 
--- damage is told by the byte at which a page of the index begins
-abbrev pub NamesIndex : DiskLayout → ℕ → StoreError → Type 0
-NamesIndex layout index (errors.Damaged at) = (block : ℕ) × (block < layout.sizes.index_blocks) × (at ≡ page_offset layout (record { relation = relation_of layout index; block = block }))
-NamesIndex layout index error = Unit {0}
+-- damage is told by the byte at which the metapage begins, or the page of the map that holds the range
+abbrev pub NamesMap : DiskLayout → ℕ → ℕ → StoreError → Type 0
+NamesMap layout index range error = NamesPage layout (record { relation = relation_of layout index; block = 0 }) error
+    ⊎ NamesPage layout (record { relation = relation_of layout index; block = map_page_of range }) error
 
-abbrev pub FaultNamesIndex : DiskLayout → ℕ → SetFault → Type 0
-FaultNamesIndex layout index (faults.Changed now) = Unit {0}
-FaultNamesIndex layout index (faults.Store error) = NamesIndex layout index error
+abbrev pub FaultNamesMap : DiskLayout → ℕ → ℕ → SetFault → Type 0
+FaultNamesMap layout index range (faults.Changed now) = Unit {0}
+FaultNamesMap layout index range (faults.Store error) = NamesMap layout index range error
 
 -- A set is done or refused as the page store does or refuses. Another entry is told only where no disk fault was kept.
 abbrev pub SetOutcome : {D T : Type 0} → (D → Told) → View D → View D → Result T SetFault → Type 0

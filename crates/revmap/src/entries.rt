@@ -10,10 +10,10 @@ ghost use Rattle.index_contents.specs.IndexContents.{contents, relation_of};
 ghost use Rattle.index_contents.specs.IndexChanges.{LeavesOthers, SetsEntry};
 ghost use Rattle.index_layout.specs.declared.format.TheConstants.{MAP_ENTRIES};
 ghost use Rattle.coverage.specs.IndexView.{map_page_of};
-ghost use Rattle.revmap.specs.MapEntries.{FaultNamesIndex, HoldsRange, IsNameable, NamesIndex, SetOutcome, ShowsOther};
+ghost use Rattle.revmap.specs.MapEntries.{FaultNamesMap, HoldsRange, IsNameable, NamesMap, SetOutcome, ShowsOther};
 
 use crate::faults::SetFault;
-use crate::map_pages::{counted, entry_at, set_entry};
+use crate::map_pages::{entry_at, set_entry};
 use block_model::{Place, Spot};
 use disk_trait::Disk;
 use index_contents::relation_of;
@@ -32,22 +32,17 @@ pub fn entry<D: Disk + Drop>(
     requires index { index < length pages.old.layout.schema.indexes }
     ensures entry { IfOk result (λ entry. Tells D.told pages.old → (contents pages.old.layout pages.old.pages index).entry range ≡ entry) }
     ensures kept { Keeps D.told pages.old pages.new }
-    ensures at { IfErr result (NamesIndex pages.old.layout index) }
+    ensures at { IfErr result (NamesPage pages.old.layout (record { relation = relation_of pages.old.layout index; block = map_page_of range })) }
     ensures outcome { Outcome D.told (Untold D.told pages.old) pages.old pages.new result }
 {
-    pages.known();
-    pages.layout().known();
-    let relation = relation_of(pages.layout(), index);
-    let metapage = Place {
-        relation,
-        block: METAPAGE,
-    };
-    let counted = match counted(pages, metapage) {
-        Ok(counted) => counted,
+    match pages.ready() {
+        Ok(()) => {}
         Err(error) => return Err(error),
-    };
+    }
+    pages.known();
+    let relation = relation_of(pages.layout(), index);
     let block = map_page_of(range);
-    if block > counted {
+    if block > pages.map_pages(relation) {
         return Ok(None);
     }
     if block >= pages.layout().sizes().index_blocks {
@@ -76,7 +71,7 @@ pub fn set<D: Disk + Drop>(
     ensures changed { IfErr result (λ fault. Tells D.told pages.old → ShowsOther (contents pages.old.layout pages.old.pages index) range expect fault) }
     ensures kept { OnErr result (Keeps D.told pages.old pages.new) }
     ensures others { LeavesOthers D.told index pages.old pages.new }
-    ensures at { IfErr result (FaultNamesIndex pages.old.layout index) }
+    ensures at { IfErr result (FaultNamesMap pages.old.layout index range) }
     ensures outcome { SetOutcome D.told pages.old pages.new result }
 {
     match entry(pages, index, range) {
@@ -106,7 +101,7 @@ fn set_found<D: Disk + Drop>(
     ensures set { OnOk result (Tells D.told pages.old → SetsEntry (contents pages.old.layout pages.old.pages index) (contents pages.old.layout pages.new.pages index) range ((contents pages.old.layout pages.old.pages index).entry range) spot) }
     ensures kept { OnErr result (Keeps D.told pages.old pages.new) }
     ensures others { LeavesOthers D.told index pages.old pages.new }
-    ensures at { IfErr result (NamesIndex pages.old.layout index) }
+    ensures at { IfErr result (NamesMap pages.old.layout index range) }
     ensures outcome { Outcome D.told (Untold D.told pages.old) pages.old pages.new result }
 {
     an_index_page_has_one_list();
@@ -141,7 +136,7 @@ fn entry_of(range: u32) -> u16
 fn no_such_page<D: Disk + Drop>(pages: &PageStore<D>, index: u8) -> StoreError
     requires index { index < length pages.now.layout.schema.indexes }
     requires untold { Untold D.told pages.now }
-    ensures at { NamesIndex pages.now.layout index result }
+    ensures at { NamesPage pages.now.layout (record { relation = relation_of pages.now.layout index; block = 0 }) result }
     ensures outcome { Refused D.told (Untold D.told pages.now) pages.now pages.now result }
 {
     pages.layout().known();

@@ -9,34 +9,14 @@ ghost use Rattle.page_store.specs.Outcome.{NamesPage, Outcome};
 ghost use Rattle.page_store.specs.PageMap.{block_at, page_at};
 ghost use Rattle.index_layout.specs.declared.format.TheConstants.{MAP, MAP_ENTRIES};
 ghost use Rattle.index_layout.specs.IndexPages.{IsMap};
-ghost use Rattle.index_layout.specs.IndexReading.{entries_of, map_pages_of};
+ghost use Rattle.index_layout.specs.IndexReading.{entries_of};
 ghost use Rattle.index_contents.specs.IndexChanges.{LeavesOtherPages};
 ghost use Rattle.revmap.specs.MapEntries.{IsNameable};
 
 use block_model::{Place, Spot};
 use disk_trait::Disk;
-use index_contents::index_pages_are_known;
 use page_store::{PageStore, StoreError};
 use wal_record::Change;
-
-/// How many pages of the map the page counts.
-pub(crate) fn counted<D: Disk + Drop>(
-    pages: &mut PageStore<D>,
-    place: Place,
-) -> Result<u32, StoreError>
-    requires place { IsPlace pages.old.layout place }
-    requires form { form_of pages.old.layout place.relation ≡ forms.Index }
-    ensures counted { IfOk result (λ number. Tells D.told pages.old → number ≡ map_pages_of (page_at pages.old.pages place)) }
-    ensures kept { Keeps D.told pages.old pages.new }
-    ensures at { IfErr result (NamesPage pages.old.layout place) }
-    ensures outcome { Outcome D.told (Untold D.told pages.old) pages.old pages.new result }
-{
-    index_pages_are_known();
-    match pages.read(place) {
-        Ok(page) => Ok(index_layout::map_pages(page.as_bytes())),
-        Err(error) => Err(error),
-    }
-}
 
 /// That entry of the page; none where it isn't of the map.
 pub(crate) fn entry_at<D: Disk + Drop>(
@@ -52,9 +32,8 @@ pub(crate) fn entry_at<D: Disk + Drop>(
     ensures at { IfErr result (NamesPage pages.old.layout place) }
     ensures outcome { Outcome D.told (Untold D.told pages.old) pages.old pages.new result }
 {
-    index_pages_are_known();
     match pages.read(place) {
-        Ok(page) => Ok(index_layout::entry_at(page.as_bytes(), entry)),
+        Ok(page) => Ok(page_layout::entry_at(page, entry)),
         Err(error) => Err(error),
     }
 }

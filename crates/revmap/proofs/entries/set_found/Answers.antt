@@ -5,7 +5,7 @@ use Rattle.page_store.specs.PageMap.{block_limit}
 use Rattle.index_contents.specs.IndexContents.{relation_of}
 use Rattle.index_contents.specs.Calls.{past_the_limit}
 use Rattle.index_contents.specs.PageLaws.{leaves_others}
-use Rattle.revmap.proofs.RangeEntries.{holds_map, names_index, no_map_there, sets_range}
+use Rattle.revmap.proofs.RangeEntries.{holds_map, no_map_there, sets_range}
 use Rattle.revmap.proofs.entries.set_found.Goals as goal
 
 pub no_such_page-requires-clause-untold : goal.no_such_page-requires-clause-untold
@@ -31,8 +31,3 @@ returns-in-Ok-clause-others g c = leaves_others g.D.Disk.told c.args.index (reco
 
 pub returns-in-Err-clause-others : goal.returns-in-Err-clause-others
 returns-in-Err-clause-others g c = leaves_others g.D.Disk.told c.args.index (record { relation = c.relation_of-relation.result; block = c.map_page_of-block.result }) c.args.pages.now c.set_entry.new.pages (c.relation_of-relation.ensures.number ∙ ap (λ (l : DiskLayout). relation_of l c.args.index) c.layout.ensures) c.set_entry.ensures.others
-
-pub returns-in-Err-clause-at : goal.returns-in-Err-clause-at
-returns-in-Err-clause-at g c =
-    let blocks = c.sizes.ensures ∙ ap (λ (l : DiskLayout). l.sizes) c.layout-2.ensures in
-    names_index c.args.pages.now.layout c.args.index c.relation_of-relation.result c.map_page_of-block.result c.in-Err.error (c.relation_of-relation.ensures.number ∙ ap (λ (l : DiskLayout). relation_of l c.args.index) c.layout.ensures) (omega (arith, c.if-block-sizes.false, ap (λ (s : Sizes). s.index_blocks) blocks)) c.in-Err.ensures.at

@@ -1,6 +1,0 @@
-use Rattle.std.proofs.Common.{sym, subst}
-use Rattle.index_layout.specs.IndexPages.{IsIndexPage}
-use Rattle.revmap.proofs.map_pages.counted.Goals as goal
-
-pub map_pages-requires : goal.map_pages-requires
-map_pages-requires g c = subst IsIndexPage (sym c.as_bytes.ensures.bytes) (c.index_pages_are_known.ensures c.args.pages.now.layout c.args.place.relation c.in-Ok.page.now c.requires.form c.in-Ok.ensures.form)
