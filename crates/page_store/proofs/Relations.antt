@@ -101,14 +101,15 @@ module _ (form : Form) (pages new : List (List ℕ)) (at : ℕ) (facts noted : L
         (cases_eq n at);
   }
 
-  pub relation_changed : (changes : List LoggedChange) → Redone form (page_in pages at) changes (page_in new at)
+  pub relation_changed : (changes : List LoggedChange) → Redone form (page_in pages at) changes (page_in new at) → IsPageOf form (page_in new at)
       → RelationChanged at changes (record { form = form; pages = all_pages pages facts }) (record { form = form; pages = all_pages new noted })
-  relation_changed changes redone =
+  relation_changed changes redone passes =
       let was = page-all pages facts at in
       let now = page-all new noted at in
       record {
         form = refl;
         redone = subst (λ (p : List ℕ). Redone form p changes (page_in (all_pages new noted) at)) (sym was) (subst (Redone form (page_in pages at) changes) (sym now) redone);
+        passes = subst (IsPageOf form) (sym now) passes;
         pages =
             ap (λ (k : ℕ). filled unstarted_page k new) same_count
             ∙ ap (filled unstarted_page (length facts)) is_new

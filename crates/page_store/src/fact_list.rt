@@ -78,12 +78,12 @@ impl FactList {
     {
         let limit = self.limit as usize;
         reach(&mut self.items, at);
-        let before = self.items[at].room;
-        self.started = self.started - started(self.items[at]) + started(facts);
+        let before = self.items[at];
+        self.started = self.started - started(before) + started(facts);
         self.items[at] = facts;
         self.room = lowest(&self.items, limit, Sought::Room, self.room, at);
         self.unstarted = lowest(&self.items, limit, Sought::Unstarted, self.unstarted, at);
-        bound(&mut self.most, &self.items, at, before);
+        bound(&mut self.most, &self.items, at, before.room);
     }
 
     /// How many pages are started.
@@ -113,8 +113,9 @@ impl FactList {
         ensures { IsFirstOfIndex self.now need past result }
     {
         let limit = self.limit as usize;
-        if let Some(block) = first_behind(&self.items, &self.most, need, past) {
-            return Some(block as u32);
+        match first_behind(&self.items, &self.most, need, past) {
+            Some(block) => return Some(block as u32),
+            None => {}
         }
         if self.unstarted < limit {
             return Some(self.unstarted as u32);

@@ -118,6 +118,16 @@ fn first_misfit(page: &mut Page, changes: &[Change<'_>]) -> Option<u8> {
     None
 }
 
+/// A page of two slots, with offset and length of each, and the last three bytes of the page.
+fn two_slots(directory: &[u8; 8], last: &[u8; 3]) -> [u8; 8192] {
+    let mut bytes = [0; 8192];
+    bytes[0] = 5;
+    bytes[3] = 2;
+    bytes[32..40].copy_from_slice(directory);
+    bytes[8189..].copy_from_slice(last);
+    bytes
+}
+
 #[test]
 fn pages_of_an_index_take_tuples(rt: HostRuntime) {
     let place = PLACE;
@@ -141,17 +151,12 @@ fn pages_of_an_index_take_tuples(rt: HostRuntime) {
         },
     ];
     assert_eq!(rt; first_misfit(&mut page, &puts), None);
-    let mut bytes = [0; 8192];
-    bytes[0] = 5;
-    bytes[3] = 2;
-    bytes[32..40].copy_from_slice(&[31, 255, 0, 1, 31, 253, 0, 2]);
-    bytes[8189..].copy_from_slice(b"xyd");
+    let bytes = two_slots(&[31, 255, 0, 1, 31, 253, 0, 2], b"xyd");
     assert_eq!(rt; page.as_bytes(), bytes.as_slice());
     let slots = &[0, 0];
     let drop = Change::TupleDrop { place, slots };
     assert_eq!(rt; misfit(&mut page, &drop, Form::Index), None);
-    bytes[32..40].copy_from_slice(&[0, 0, 0, 0, 31, 254, 0, 2]);
-    bytes[8189..].copy_from_slice(b"\0xy");
+    let bytes = two_slots(&[0, 0, 0, 0, 31, 254, 0, 2], b"\0xy");
     assert_eq!(rt; page.as_bytes(), bytes.as_slice());
 }
 
