@@ -2,14 +2,16 @@
 use Rattle.std.proofs.Common.{◌≡◌, ◌≢◌, inl, inr, ℕ, zero, suc, ◌+◌, ◌*◌, ◌<◌, ◌≤◌, ◌==◌, Bool, true, false, List, [], ◌∷◌, length, take, drop, get_or, refl, sym, ap, ◌∙◌, arith}
 use Rattle.std.specs.Prelude.{slice_index, slice_index_or, Option, None, Some, if◌then◌else◌}
 use Rattle.std.proofs.lemmas.List.{drop-drop, get_or_past}
-use Rattle.std.proofs.lemmas.Bool.{cases_eq, ne_eqb}
+use Rattle.std.proofs.lemmas.Bool.{cases_eq, le-ltb, lt-ltb, ne_eqb}
 use Rattle.std.proofs.lemmas.Option.{none-some}
 use Rattle.byte_fields.specs.Fields.{field_at, number_of}
 use Rattle.index_layout.specs.declared.format.TheConstants.{REGULAR}
 use Rattle.index_layout.specs.IndexPages.{IsRegular, Slot, taken, tuple_bytes}
 use Rattle.index_layout.specs.IndexReading.{free_of, is_regular, number_at, slot_in, slots_in, slots_of}
 use Rattle.index_contents.specs.IndexContents.{beside, room_in_place, tuple_on}
-use Rattle.range_store.specs.Tuples.{tuple_from}
+use Rattle.index_contents.specs.Reading.{unstarted_kind}
+use Rattle.page_store.specs.PageMap.{unstarted_page}
+use Rattle.range_store.specs.Tuples.{place_on, tuple_from}
 use Rattle.range_store.proofs.PageWrites.{used_below}
 
 -- a slot that is read from its own four bytes
@@ -103,3 +105,18 @@ takes_some page slot need some room = elim (cases_eq (slice_index page 0) REGULA
   | inl is ↦ is
   | inr apart ↦ let none = no_room_there page slot apart in absurd (omega (arith, some, room, none))
 ]
+
+-- where a slot's tuple begins
+pub place_there : (page : List ℕ) (slot at : ℕ) → slot < length (slots_of page) → at ≡ number_of (field_at page (32 + slot * 4) 2) → at ≡ place_on page slot
+place_there page slot at below begins = begins ∙ sym (ap (λ (b : Bool). if b then number_at page (32 + slot * 4) 2 else 0) (lt-ltb slot (length (slots_of page)) below))
+
+pub no_place : (page : List ℕ) (slot : ℕ) → length (slots_of page) ≤ slot → 0 ≡ place_on page slot
+no_place page slot past = sym (ap (λ (b : Bool). if b then number_at page (32 + slot * 4) 2 else 0) (le-ltb slot (length (slots_of page)) past))
+
+pub no_slots_unstarted : length (slots_of unstarted_page) ≡ 0
+unfolding slots_of
+no_slots_unstarted = ap (λ (k : ℕ). length {A = Slot} (if is_regular k then slots_in unstarted_page (number_at unstarted_page 2 2) (drop 32 unstarted_page) else [])) unstarted_kind
+
+-- a page that the index can't have has no tuple and no place for one
+pub nothing_past : (page : List ℕ) (slot : ℕ) → page ≡ unstarted_page → 0 ≡ place_on page slot
+nothing_past page slot past = no_place page slot (let none = ap (λ (p : List ℕ). length (slots_of p)) past ∙ no_slots_unstarted in omega (arith, none))

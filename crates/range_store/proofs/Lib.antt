@@ -4,3 +4,5 @@ pub mod Targets
 pub mod Spots
 pub mod Found
 pub mod Onward
+pub mod Fitting
+pub mod Misfits

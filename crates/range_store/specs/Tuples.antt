@@ -1,5 +1,5 @@
 -- what the calls on the tuples of an index answer
-use Rattle.std.specs.Prelude.{◌≡◌, ◌≢◌, ◌⊎◌, ℕ, ◌≤◌, ◌<◌, ◌==◌, List, length, slice_index, Option, None, Some, Result, Ok, Err, if◌then◌else◌}
+use Rattle.std.specs.Prelude.{◌≡◌, ◌≢◌, ◌⊎◌, ℕ, ◌+◌, ◌*◌, ◌≤◌, ◌<◌, ◌==◌, nat_lt, List, length, slice_index, Option, None, Some, Result, Ok, Err, if◌then◌else◌}
 use Rattle.block_model.specs.declared.place.Place.{Place}
 use Rattle.block_model.specs.declared.place.Spot.{Spot}
 use Rattle.byte_fields.specs.Fields.{field_at, number_of}
@@ -10,7 +10,7 @@ use Rattle.page_store.specs.Outcome.{NamesPage, Outcome, Refused}
 use Rattle.page_store.specs.PageMap.{View}
 use Rattle.index_layout.specs.declared.format.TheConstants.{REGULAR}
 use Rattle.index_layout.specs.IndexPages.{Slot}
-use Rattle.index_layout.specs.IndexReading.{free_slot_of, slots_of}
+use Rattle.index_layout.specs.IndexReading.{free_slot_of, number_at, slots_of}
 use Rattle.coverage.specs.IndexView.{Pages, Regular, most_bytes}
 use Rattle.coverage.specs.Verdicts.{IsPageUnstarted, MustMove}
 use Rattle.index_contents.specs.IndexContents.{IndexContents, relation_of, room_in_place, tuple_on}
@@ -33,10 +33,14 @@ TakesBytes pages need block = ((pages.kind block ≡ Regular) × (need ≤ pages
 abbrev pub tuple_from : List ℕ → ℕ → ℕ → Slot
 tuple_from page at size = if size == 0 then None else Some (field_at page at size)
 
+-- where the directory of a page has the tuple in a slot begin: 0 where the slot is free, and where there is no such slot
+abbrev pub place_on : List ℕ → ℕ → ℕ
+place_on page slot = if nat_lt slot (length (slots_of page)) then number_at page (32 + slot * 4) 2 else 0
+
 -- Why bytes aren't replaced: others stand at the spot, which are shown by their place on the page, or none; or those that are
 -- expected stand there, and the new ones have more than the most that may take their place, or the page takes none.
 abbrev pub ShowsMisfit : IndexContents → List ℕ → Spot → List ℕ → ℕ → SwapFault → Type 0
-ShowsMisfit c page x expect size (faults.Changed found at) = (c.bytes x ≡ tuple_from page at found) × (c.bytes x ≢ Some expect)
+ShowsMisfit c page x expect size (faults.Changed found at) = (c.bytes x ≡ tuple_from page at found) × (at ≡ place_on page x.slot) × (c.bytes x ≢ Some expect)
 ShowsMisfit c page x expect size (faults.Full need most_free) = (c.bytes x ≡ Some expect) × MustMove c.pages x size × (need ≡ size) × (most_free ≡ c.pages.room_at x)
 ShowsMisfit c page x expect size (faults.Store error) = Unit {0}
 
@@ -62,11 +66,16 @@ TakesInPlace page slot expect need = (tuple_on page slot ≡ Some expect) × (sl
 
 -- other bytes stand in the slot, or the new ones have no room in place of the expected ones
 abbrev pub MisfitsOn : List ℕ → ℕ → List ℕ → ℕ → SwapFault → Type 0
-MisfitsOn page slot expect size (faults.Changed found at) = (tuple_on page slot ≡ tuple_from page at found) × (tuple_on page slot ≢ Some expect)
+MisfitsOn page slot expect size (faults.Changed found at) = (tuple_on page slot ≡ tuple_from page at found) × (at ≡ place_on page slot) × (tuple_on page slot ≢ Some expect)
 MisfitsOn page slot expect size (faults.Full need most_free) = (tuple_on page slot ≡ Some expect) × (most_free < size) × (need ≡ size) × (most_free ≡ room_in_place page slot)
 MisfitsOn page slot expect size (faults.Store error) = Unit {0}
 
+-- other bytes, or want of room: no refusal of the page store
+abbrev pub IsMisfit : SwapFault → Type 0
+IsMisfit (faults.Store error) = ⊥
+IsMisfit fault = Unit {0}
+
 -- the tuple in the slot has that length and place on the page
 abbrev pub IsFound : List ℕ → ℕ → SwapFault → Type 0
-IsFound page slot (faults.Changed found at) = tuple_on page slot ≡ tuple_from page at found
+IsFound page slot (faults.Changed found at) = (tuple_on page slot ≡ tuple_from page at found) × (at ≡ place_on page slot)
 IsFound page slot fault = ⊥

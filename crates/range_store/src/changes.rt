@@ -16,7 +16,7 @@ ghost use Rattle.range_store.specs.Tuples.{IsTupleSize};
 
 use block_model::Place;
 use disk_trait::Disk;
-use index_layout::REGULAR;
+use index_layout::{REGULAR, an_index_page_has_one_list};
 use page_store::{PageStore, StoreError};
 use wal_record::Change;
 
@@ -36,6 +36,7 @@ pub(crate) fn put_tuple<D: Disk + Drop>(
     ensures at { IfErr result (NamesPage pages.old.layout place) }
     ensures outcome { Outcome D.told (Untold D.told pages.old) pages.old pages.new result }
 {
+    pages.known();
     pages.change(place, &Change::TuplePut { place, slot, bytes })
 }
 
@@ -54,6 +55,7 @@ pub(crate) fn start_with<D: Disk + Drop>(
     ensures at { IfErr result (NamesPage pages.old.layout place) }
     ensures outcome { Outcome D.told (Untold D.told pages.old) pages.old pages.new result }
 {
+    an_index_page_has_one_list();
     let put = Change::TuplePut {
         place,
         slot: 0,
@@ -78,6 +80,7 @@ pub(crate) fn replace_tuple<D: Disk + Drop>(
     ensures at { IfErr result (NamesPage pages.old.layout place) }
     ensures outcome { Outcome D.told (Untold D.told pages.old) pages.old pages.new result }
 {
+    pages.known();
     pages.change(place, &Change::TupleReplace { place, slot, bytes })
 }
 
@@ -97,6 +100,7 @@ pub(crate) fn drop_tuple<D: Disk + Drop>(
     ensures at { IfErr result (NamesPage pages.old.layout place) }
     ensures outcome { Outcome D.told (Untold D.told pages.old) pages.old pages.new result }
 {
+    pages.known();
     let slots = slot.to_be_bytes();
     pages.change(
         place,

@@ -12,7 +12,7 @@ ghost use Rattle.index_layout.specs.IndexPages.{IsIndexPage};
 ghost use Rattle.index_contents.specs.IndexContents.{contents, index_page, relation_of, room_in_place, tuple_on};
 ghost use Rattle.index_contents.specs.IndexChanges.{LeavesOtherPages, LeavesOthers, ReplacesBytes};
 ghost use Rattle.range_store.specs.PageTuples.{ReplacesOn};
-ghost use Rattle.range_store.specs.Tuples.{FaultNamesPlace, IsFound, IsTupleSize, MisfitsOn, ShowsMisfit, SwapOutcome, TakesInPlace};
+ghost use Rattle.range_store.specs.Tuples.{FaultNamesPlace, IsFound, IsMisfit, IsTupleSize, MisfitsOn, ShowsMisfit, SwapOutcome, TakesInPlace};
 
 use crate::changes::replace_tuple;
 use crate::faults::SwapFault;
@@ -109,6 +109,7 @@ fn misfit_at<D: Disk + Drop>(
     requires some { 0 < need }
     ensures none { IfOk result (λ fault. fault ≡ None → Tells D.told pages.old → TakesInPlace (page_at pages.old.pages place) slot expect.now need) }
     ensures some { IfOk result (λ fault. (f : SwapFault) → fault ≡ Some f → Tells D.told pages.old → MisfitsOn (page_at pages.old.pages place) slot expect.now need f) }
+    ensures misfit { IfOk result (λ fault. (f : SwapFault) → fault ≡ Some f → IsMisfit f) }
     ensures kept { Keeps D.told pages.old pages.new }
     ensures at { IfErr result (NamesPage pages.old.layout place) }
     ensures outcome { Outcome D.told (Untold D.told pages.old) pages.old pages.new result }
@@ -126,6 +127,7 @@ fn misfit_on(page: &Page, slot: u16, expect: &[u8], need: u16) -> Option<SwapFau
     requires some { 0 < need }
     ensures none { result ≡ None → TakesInPlace page.now slot expect.now need }
     ensures some { (fault : SwapFault) → result ≡ Some fault → MisfitsOn page.now slot expect.now need fault }
+    ensures misfit { (fault : SwapFault) → result ≡ Some fault → IsMisfit fault }
 {
     let bytes = page.as_bytes();
     let same = match index_layout::tuple_at(bytes, slot) {

@@ -6,7 +6,6 @@ ghost use Rattle.page_layout.specs.declared.page.Form.TheVariants as forms;
 ghost use Rattle.page_store.specs.Forms.{form_of};
 ghost use Rattle.page_store.specs.Keeps.{Tells};
 ghost use Rattle.page_store.specs.PageMap.{block_at, block_limit};
-ghost use Rattle.index_layout.specs.IndexReading.{map_pages_of};
 ghost use Rattle.index_contents.specs.IndexContents.{contents};
 ghost use Rattle.coverage.specs.IndexView.{Pages};
 ghost use Rattle.coverage.specs.Verdicts.{IsTarget};
@@ -25,7 +24,6 @@ pub fn room_for<D: Disk + Drop>(pages: &PageStore<D>, index: u8, bytes: u16) -> 
     ensures target { IfSome result (λ block. Tells D.told pages.now → IsTarget (contents pages.now.layout pages.now.pages index).pages bytes block) }
     ensures none { result ≡ None → Tells D.told pages.now → (block : ℕ) → IsTarget (contents pages.now.layout pages.now.pages index).pages bytes block → ⊥ }
 {
-    pages.known();
     let relation = relation_of(pages.layout(), index);
     first_target(pages, relation, bytes)
 }
@@ -37,18 +35,9 @@ fn first_target<D: Disk + Drop>(pages: &PageStore<D>, relation: u8, need: u16) -
     ensures within { IfSome result (λ block. block < block_limit pages.now.layout relation) }
     ensures first { Tells D.told pages.now → IsFirstTarget (block_limit pages.now.layout relation) (block_at pages.now.pages relation) need result }
 {
-    let past = map_pages(pages, relation);
+    pages.known();
+    let past = pages.map_pages(relation);
     pages.first_room(relation, need, past)
-}
-
-/// How many pages the metapage counts. Later: the page store tells it without a read.
-fn map_pages<D: Disk + Drop>(pages: &PageStore<D>, relation: u8) -> u32
-    requires relation { relation < length (relation_blocks pages.now.layout) }
-    ensures counted { Tells D.told pages.now → result ≡ map_pages_of (block_at pages.now.pages relation 0) }
-{
-    let _ = pages.layout();
-    let _ = relation;
-    0
 }
 
 /// The page for a further tuple takes it. Does nothing.

@@ -1,6 +1,6 @@
 //! Room for the bytes of one tuple.
 
-ghost use Rattle.std.specs.Prelude.{◌≡◌, ◌≤◌, [], IfOk, length};
+ghost use Rattle.std.specs.Prelude.{◌≡◌, ◌≤◌, [], IfOk, length, take};
 ghost use Rattle.block_model.specs.declared.limits.TheConstants.{PAGE_SIZE};
 
 use block_model::{NoMemory, PAGE_SIZE};
@@ -46,8 +46,16 @@ impl Scratch {
         requires { length bytes.now ≤ PAGE_SIZE }
         ensures { self.new ≡ bytes.now }
     {
-        let size = bytes.len();
-        self.room[..size].copy_from_slice(bytes);
-        self.held = size;
+        put_in_front(&mut self.room, bytes);
+        self.held = bytes.len();
     }
+}
+
+/// The bytes stand at the front of the room.
+fn put_in_front(room: &mut [u8], bytes: &[u8])
+    requires { length bytes.now ≤ length room.old }
+    ensures front { take (length bytes.now) room.new ≡ bytes.now }
+    ensures whole { length room.new ≡ length room.old }
+{
+    room[..bytes.len()].copy_from_slice(bytes);
 }

@@ -13,7 +13,7 @@ drop_tuple-requires-clause-regular g c = λ tells_now.
     let kept = c.has_slot.ensures.kept in
     let tells = sym kept.leaves.tells ∙ tells_now in
     let same = ap (λ (pages : PageMap). page_at pages c.args.place) (kept.pages tells) in
-    ap (λ (p : List ℕ). is_regular (slice_index p 0)) same ∙ has_tuples (page_at c.args.pages.now.pages c.args.place) c.args.slot (c.in-Ok-true.ensures.there tells refl)
+    ap (λ (p : List ℕ). is_regular (slice_index p 0)) same ∙ has_tuples (page_at c.args.pages.now.pages c.args.place) c.args.slot (c.in-Ok-true.ensures.there tells c.in-Ok-true.field-0-test)
 
 pub returns-in-Ok-clause-dropped : goal.returns-in-Ok-clause-dropped
 returns-in-Ok-clause-dropped g c = λ tells.
@@ -22,6 +22,6 @@ returns-in-Ok-clause-dropped g c = λ tells.
     let old = page_at c.args.pages.now.pages place in
     let new = page_at c.drop_tuple.new.pages.pages place in
     let same = ap (λ (pages : PageMap). page_at pages place) (kept.pages tells) in
-    let below = c.in-Ok-true.ensures.there tells refl in
+    let below = c.in-Ok-true.ensures.there tells c.in-Ok-true.field-0-test in
     drops_on old new c.args.slot c.an_index_page_has_one_list.ensures.slots c.a_put_changes_one_slot.ensures.trimmed (has_tuples old c.args.slot below) below
     (subst (λ (p : List ℕ). IsRegular (slice_index p 0) (trimmed (set (slots_of p) c.args.slot None)) new) same (c.in-Ok.ensures.dropped (kept.leaves.tells ∙ tells)))

@@ -1,6 +1,8 @@
 use Rattle.std.proofs.Common.{ℕ, List, ap, sym, subst, ◌∙◌, arith, ◌≡◌, ◌<◌, length}
 use Rattle.store_layout.specs.DiskLayout.{DiskLayout, relation_blocks}
 use Rattle.block_model.specs.declared.schema.Sizes.{Sizes}
+use Rattle.page_layout.specs.declared.page.Form.TheVariants as forms
+use Rattle.page_store.specs.Forms.{form_of}
 use Rattle.page_store.specs.PageMap.{block_limit}
 use Rattle.index_contents.specs.IndexContents.{relation_of}
 use Rattle.std.proofs.lemmas.Option.{none-some}
@@ -10,6 +12,9 @@ use Rattle.index_contents.specs.IndexContents.{tuple_on}
 use Rattle.index_contents.specs.Reading.{tuple_there}
 use Rattle.range_store.proofs.Spots.{none_past}
 use Rattle.range_store.proofs.reading.tuple_at.Goals as goal
+
+pub copy_tuple-requires : goal.copy_tuple-requires
+copy_tuple-requires g c = record { page = c.index_pages_are_known.ensures c.args.pages.now.layout c.relation_of-relation.result c.in-Ok-read.page.now (subst (λ (l : DiskLayout). form_of l c.relation_of-relation.result ≡ forms.Index) c.layout.ensures c.relation_of-relation.ensures.form) c.in-Ok-read.ensures.form }
 
 pub returns-in-Ok-clause-gone : goal.returns-in-Ok-clause-gone
 returns-in-Ok-clause-gone g c = λ tells is bytes stands of.

@@ -1,12 +1,13 @@
 use Rattle.std.proofs.Common.{ℕ, length, sym, subst, ◌∙◌, arith, ap, ◌≡◌, ◌<◌}
 use Rattle.store_layout.specs.DiskLayout.{DiskLayout, relation_blocks}
 use Rattle.block_model.specs.declared.schema.Sizes.{Sizes}
-use Rattle.page_store.specs.PageMap.{block_limit}
-use Rattle.index_contents.specs.IndexContents.{relation_of}
+use Rattle.page_store.specs.PageMap.{block_at, block_limit, unstarted_page}
+use Rattle.index_contents.specs.IndexContents.{index_page, relation_of}
 use Rattle.std.proofs.lemmas.Option.{none-some}
 use Rattle.index_contents.specs.Calls.{past_the_limit}
 use Rattle.index_contents.specs.PageLaws.{leaves_others}
 use Rattle.range_store.specs.Tuples.{FaultNamesPlace}
+use Rattle.range_store.proofs.Found.{nothing_past}
 use Rattle.range_store.proofs.Spots.{misfits_at, none_past, replaces_at}
 use Rattle.range_store.proofs.replacing.replace.Goals as goal
 
@@ -17,8 +18,10 @@ returns-in-Ok-clause-misfit g c = λ tells.
     let limit = subst (λ (l : DiskLayout). block_limit l c.relation_of-relation.result ≡ l.sizes.index_blocks) c.layout.ensures c.relation_of-relation.ensures.limit in
     let blocks = c.sizes.ensures ∙ ap (λ (l : DiskLayout). l.sizes) c.layout-2.ensures in
     let past = past_the_limit store.layout store.pages c.relation_of-relation.result c.args.spot.block c.known.ensures.whole there (omega (arith, limit, c.if-block-sizes.true, ap (λ (s : Sizes). s.index_blocks) blocks)) in
-    let none = none_past store.layout store.pages c.args.index c.relation_of-relation.result c.args.spot (c.relation_of-relation.ensures.number ∙ ap (λ (l : DiskLayout). relation_of l c.args.index) c.layout.ensures) past in
-    (none, λ stands. none-some _ (sym none ∙ stands))
+    let at = c.relation_of-relation.ensures.number ∙ ap (λ (l : DiskLayout). relation_of l c.args.index) c.layout.ensures in
+    let none = none_past store.layout store.pages c.args.index c.relation_of-relation.result c.args.spot at past in
+    let page = index_page store.layout store.pages c.args.index c.args.spot.block in
+    (none, nothing_past page c.args.spot.slot (subst (λ (r : ℕ). block_at store.pages r c.args.spot.block ≡ unstarted_page) at past), λ stands. none-some _ (sym none ∙ stands))
 
 pub returns-in-Ok-replace_on-clause-replaced : goal.returns-in-Ok-replace_on-clause-replaced
 returns-in-Ok-replace_on-clause-replaced g c = λ tells.
