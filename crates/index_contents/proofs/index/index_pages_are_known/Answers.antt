@@ -1,0 +1,11 @@
+use Rattle.std.proofs.Common.{inl, inr, List, ℕ, subst}
+use Rattle.page_layout.specs.declared.page.Form.{Form}
+use Rattle.page_layout.specs.PageContents.{IsPageOf}
+use Rattle.index_layout.specs.IndexPages.{IsIndexPage, Unstarted}
+use Rattle.index_contents.proofs.index.index_pages_are_known.Goals as goal
+
+pub returns : goal.returns
+returns c = λ layout relation page form is. elim (subst (λ (f : Form). IsPageOf f page) form is) [
+  | inl zeros ↦ Unstarted zeros
+  | inr started ↦ started.0
+]

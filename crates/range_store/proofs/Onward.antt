@@ -1,0 +1,48 @@
+-- A change of a page that was read before it.
+use Rattle.std.proofs.Common.{◌≡◌, ◌≢◌, ℕ, ◌<◌, ◌≤◌, ◌==◌, Bool, true, false, inl, inr, List, [], ◌∷◌, length, set, refl, sym, ap, subst, ◌∙◌, arith}
+use Rattle.std.specs.Prelude.{slice_index, slice_index_or, Option, None, Some, if◌then◌else◌}
+use Rattle.std.proofs.lemmas.Bool.{eqb-true}
+use Rattle.std.proofs.lemmas.Option.{none-some}
+use Rattle.index_layout.specs.declared.format.TheConstants.{REGULAR, UNSTARTED}
+use Rattle.index_layout.specs.IndexPages.{IsRegular, Slot}
+use Rattle.index_layout.specs.IndexReading.{free_slot_of, slots_of}
+use Rattle.index_layout.specs.IndexWrites.{CanPut, put_in, room_on}
+use Rattle.range_store.specs.PageTuples.{PutsOn, TakesOn}
+use Rattle.range_store.specs.Tuples.{slot_for}
+use Rattle.range_store.proofs.PageWrites.{HasOneList, puts_on, starts_on}
+
+same_number : (a b : ℕ) → Some a ≡ Some b → a ≡ b
+same_number a b e = cc
+
+-- a page with a slot for a further tuple takes tuples
+pub slot_is : (page : List ℕ) (slot : ℕ) → Some slot ≡ slot_for page → (slice_index page 0 ≡ REGULAR) × (slot ≡ free_slot_of (slots_of page))
+slot_is page slot is = on (slice_index page 0 == REGULAR) refl is
+  where
+    on : (b : Bool) → (slice_index page 0 == REGULAR) ≡ b → Some slot ≡ (if b then Some (free_slot_of (slots_of page)) else None) → (slice_index page 0 ≡ REGULAR) × (slot ≡ free_slot_of (slots_of page))
+    on true e some = (eqb-true (slice_index page 0) REGULAR e, same_number slot (free_slot_of (slots_of page)) some)
+    on false e some = absurd (none-some _ (sym some))
+
+-- and one that isn't started has none
+pub no_slot : (page : List ℕ) (size : ℕ) → None ≡ slot_for page → TakesOn page size → slice_index page 0 ≡ UNSTARTED
+no_slot page size none (inr unstarted) = unstarted
+no_slot page size none (inl regular) = absurd (none-some _ (none ∙ ap (λ (k : ℕ). if k == REGULAR then Some (free_slot_of (slots_of page)) else None) regular.0))
+
+-- there it has room
+pub can_put : (page : List ℕ) (slot size : ℕ) → ((p : List ℕ) (s : ℕ) → 0 < s → s ≤ room_on p → CanPut p (free_slot_of (slots_of p)) s) → 0 < size → Some slot ≡ slot_for page → TakesOn page size → CanPut page slot size
+can_put page slot size room some is (inl regular) = subst (λ (n : ℕ). CanPut page n size) (sym (slot_is page slot is).1) (room page size some regular.1)
+can_put page slot size room some is (inr unstarted) =
+    let kind : 0 ≡ 5 = sym unstarted ∙ (slot_is page slot is).0 in
+    absurd (omega (arith, kind))
+
+-- a tuple is put on the page as it was read
+pub puts_after : (old mid new : List ℕ) (slot : ℕ) (bytes : List ℕ) → HasOneList → ((list : List Slot) → slice_index_or list (free_slot_of list) None ≡ None) → ((list : List Slot) (n : ℕ) → n < free_slot_of list → slice_index_or list n None ≢ None)
+    → ((list : List Slot) → free_slot_of list ≤ length list) → ((list : List Slot) (n : ℕ) (tuple : List ℕ) → n ≤ length list → slice_index_or (put_in list n tuple) n None ≡ Some tuple)
+    → ((list : List Slot) (n m : ℕ) (tuple : List ℕ) → n ≤ length list → m ≢ n → slice_index_or (put_in list n tuple) m None ≡ slice_index_or list m None)
+    → mid ≡ old → Some slot ≡ slot_for old → IsRegular REGULAR (put_in (slots_of mid) slot bytes) new → PutsOn old new slot bytes
+puts_after old mid new slot bytes one free lowest within there others same is put =
+    let list : List Slot = slots_of old in
+    let first : ℕ = free_slot_of list in
+    let at = slot_is old slot is in
+    let here : IsRegular REGULAR (put_in list slot bytes) new = subst (λ (p : List ℕ). IsRegular REGULAR (put_in (slots_of p) slot bytes) new) same put in
+    subst (λ (n : ℕ). PutsOn old new n bytes) (sym at.1)
+    (puts_on old new bytes one at.0 (subst (λ (n : ℕ). IsRegular REGULAR (put_in list n bytes) new) at.1 here) (free list) (lowest list) (there list first bytes (within list)) (λ m apart. others list first m bytes (within list) apart))

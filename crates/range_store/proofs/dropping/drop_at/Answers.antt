@@ -1,0 +1,32 @@
+use Rattle.std.proofs.Common.{ℕ, subst, arith, ap, ◌∙◌, ◌≡◌, ◌<◌, length}
+use Rattle.store_layout.specs.DiskLayout.{DiskLayout, relation_blocks}
+use Rattle.block_model.specs.declared.schema.Sizes.{Sizes}
+use Rattle.page_store.specs.PageMap.{block_limit}
+use Rattle.index_contents.specs.IndexContents.{relation_of}
+use Rattle.page_store.specs.Outcome.{NamesPage}
+use Rattle.index_contents.specs.Calls.{past_the_limit}
+use Rattle.index_contents.specs.PageLaws.{leaves_others}
+use Rattle.range_store.proofs.Spots.{drops_at, none_drops, none_past}
+use Rattle.range_store.proofs.dropping.drop_at.Goals as goal
+
+pub returns-in-Ok-clause-dropped : goal.returns-in-Ok-clause-dropped
+returns-in-Ok-clause-dropped g c = λ tells.
+    let store = c.args.pages.now in
+    let there = subst (λ (l : DiskLayout). c.relation_of-relation.result < length (relation_blocks l)) c.layout.ensures c.relation_of-relation.ensures.there in
+    let limit = subst (λ (l : DiskLayout). block_limit l c.relation_of-relation.result ≡ l.sizes.index_blocks) c.layout.ensures c.relation_of-relation.ensures.limit in
+    let blocks = c.sizes.ensures ∙ ap (λ (l : DiskLayout). l.sizes) c.layout-2.ensures in
+    let past = past_the_limit store.layout store.pages c.relation_of-relation.result c.args.spot.block c.known.ensures.whole there (omega (arith, limit, c.if-block-sizes.true, ap (λ (s : Sizes). s.index_blocks) blocks)) in
+    none_drops store.layout store.pages c.args.index c.args.spot (none_past store.layout store.pages c.args.index c.relation_of-relation.result c.args.spot (c.relation_of-relation.ensures.number ∙ ap (λ (l : DiskLayout). relation_of l c.args.index) c.layout.ensures) past)
+
+pub returns-in-Ok-drop_on-clause-dropped : goal.returns-in-Ok-drop_on-clause-dropped
+returns-in-Ok-drop_on-clause-dropped g c = λ tells.
+    drops_at g.D.Disk.told c.args.index c.relation_of-relation.result c.args.spot c.args.pages.now c.drop_on.new.pages (c.relation_of-relation.ensures.number ∙ ap (λ (l : DiskLayout). relation_of l c.args.index) c.layout.ensures) tells c.drop_on.ensures.others (c.in-Ok-drop_on.ensures.dropped tells)
+
+pub returns-in-Ok-drop_on-clause-others : goal.returns-in-Ok-drop_on-clause-others
+returns-in-Ok-drop_on-clause-others g c = leaves_others g.D.Disk.told c.args.index (record { relation = c.relation_of-relation.result; block = c.args.spot.block }) c.args.pages.now c.drop_on.new.pages (c.relation_of-relation.ensures.number ∙ ap (λ (l : DiskLayout). relation_of l c.args.index) c.layout.ensures) c.drop_on.ensures.others
+
+pub returns-in-Err-drop_on-clause-others : goal.returns-in-Err-drop_on-clause-others
+returns-in-Err-drop_on-clause-others g c = leaves_others g.D.Disk.told c.args.index (record { relation = c.relation_of-relation.result; block = c.args.spot.block }) c.args.pages.now c.drop_on.new.pages (c.relation_of-relation.ensures.number ∙ ap (λ (l : DiskLayout). relation_of l c.args.index) c.layout.ensures) c.drop_on.ensures.others
+
+pub returns-in-Err-drop_on-clause-at : goal.returns-in-Err-drop_on-clause-at
+returns-in-Err-drop_on-clause-at g c = subst (λ (r : ℕ). NamesPage c.args.pages.now.layout (record { relation = r; block = c.args.spot.block }) c.in-Err-drop_on.error) (c.relation_of-relation.ensures.number ∙ ap (λ (l : DiskLayout). relation_of l c.args.index) c.layout.ensures) c.in-Err-drop_on.ensures.at

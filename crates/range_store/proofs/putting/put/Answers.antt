@@ -1,0 +1,27 @@
+use Rattle.std.proofs.Common.{ℕ, length, subst, ap, ◌∙◌}
+use Rattle.store_layout.specs.DiskLayout.{DiskLayout}
+use Rattle.index_contents.specs.IndexContents.{relation_of}
+use Rattle.block_model.specs.declared.place.Spot.{Spot}
+use Rattle.page_store.specs.Outcome.{NamesPage}
+use Rattle.index_contents.specs.PageLaws.{leaves_others}
+use Rattle.range_store.proofs.Spots.{puts_at, takes_on}
+use Rattle.range_store.proofs.putting.put.Goals as goal
+
+pub put_on-requires-clause-room : goal.put_on-requires-clause-room
+put_on-requires-clause-room g c = λ tells.
+    let store = c.args.pages.now in
+    takes_on store.layout store.pages c.args.index c.relation_of-relation.result c.args.block (length c.args.bytes.now) (c.relation_of-relation.ensures.number ∙ ap (λ (l : DiskLayout). relation_of l c.args.index) c.layout.ensures) (c.requires.room tells)
+
+pub returns-in-Ok-clause-put : goal.returns-in-Ok-clause-put
+returns-in-Ok-clause-put g c = λ tells.
+    let spot : Spot = record { block = c.args.block; slot = c.in-Ok.slot } in
+    puts_at g.D.Disk.told c.args.index c.relation_of-relation.result spot c.args.bytes.now c.args.pages.now c.put_on.new.pages (c.relation_of-relation.ensures.number ∙ ap (λ (l : DiskLayout). relation_of l c.args.index) c.layout.ensures) tells c.put_on.ensures.others (c.in-Ok.ensures.put tells)
+
+pub returns-in-Ok-clause-others : goal.returns-in-Ok-clause-others
+returns-in-Ok-clause-others g c = leaves_others g.D.Disk.told c.args.index (record { relation = c.relation_of-relation.result; block = c.args.block }) c.args.pages.now c.put_on.new.pages (c.relation_of-relation.ensures.number ∙ ap (λ (l : DiskLayout). relation_of l c.args.index) c.layout.ensures) c.put_on.ensures.others
+
+pub returns-in-Err-clause-others : goal.returns-in-Err-clause-others
+returns-in-Err-clause-others g c = leaves_others g.D.Disk.told c.args.index (record { relation = c.relation_of-relation.result; block = c.args.block }) c.args.pages.now c.put_on.new.pages (c.relation_of-relation.ensures.number ∙ ap (λ (l : DiskLayout). relation_of l c.args.index) c.layout.ensures) c.put_on.ensures.others
+
+pub returns-in-Err-clause-at : goal.returns-in-Err-clause-at
+returns-in-Err-clause-at g c = subst (λ (r : ℕ). NamesPage c.args.pages.now.layout (record { relation = r; block = c.args.block }) c.in-Err.error) (c.relation_of-relation.ensures.number ∙ ap (λ (l : DiskLayout). relation_of l c.args.index) c.layout.ensures) c.in-Err.ensures.at

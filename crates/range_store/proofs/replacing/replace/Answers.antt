@@ -1,0 +1,43 @@
+use Rattle.std.proofs.Common.{ℕ, length, sym, subst, ◌∙◌, arith, ap, ◌≡◌, ◌<◌}
+use Rattle.store_layout.specs.DiskLayout.{DiskLayout, relation_blocks}
+use Rattle.block_model.specs.declared.schema.Sizes.{Sizes}
+use Rattle.page_store.specs.PageMap.{block_at, block_limit, unstarted_page}
+use Rattle.index_contents.specs.IndexContents.{index_page, relation_of}
+use Rattle.std.proofs.lemmas.Option.{none-some}
+use Rattle.index_contents.specs.Calls.{past_the_limit}
+use Rattle.index_contents.specs.PageLaws.{leaves_others}
+use Rattle.range_store.specs.Tuples.{FaultNamesPlace}
+use Rattle.range_store.proofs.Found.{nothing_past}
+use Rattle.range_store.proofs.Spots.{misfits_at, none_past, replaces_at}
+use Rattle.range_store.proofs.replacing.replace.Goals as goal
+
+pub returns-in-Ok-clause-misfit : goal.returns-in-Ok-clause-misfit
+returns-in-Ok-clause-misfit g c = λ tells.
+    let store = c.args.pages.now in
+    let there = subst (λ (l : DiskLayout). c.relation_of-relation.result < length (relation_blocks l)) c.layout.ensures c.relation_of-relation.ensures.there in
+    let limit = subst (λ (l : DiskLayout). block_limit l c.relation_of-relation.result ≡ l.sizes.index_blocks) c.layout.ensures c.relation_of-relation.ensures.limit in
+    let blocks = c.sizes.ensures ∙ ap (λ (l : DiskLayout). l.sizes) c.layout-2.ensures in
+    let past = past_the_limit store.layout store.pages c.relation_of-relation.result c.args.spot.block c.known.ensures.whole there (omega (arith, limit, c.if-block-sizes.true, ap (λ (s : Sizes). s.index_blocks) blocks)) in
+    let at = c.relation_of-relation.ensures.number ∙ ap (λ (l : DiskLayout). relation_of l c.args.index) c.layout.ensures in
+    let none = none_past store.layout store.pages c.args.index c.relation_of-relation.result c.args.spot at past in
+    let page = index_page store.layout store.pages c.args.index c.args.spot.block in
+    (none, nothing_past page c.args.spot.slot (subst (λ (r : ℕ). block_at store.pages r c.args.spot.block ≡ unstarted_page) at past), λ stands. none-some _ (sym none ∙ stands))
+
+pub returns-in-Ok-replace_on-clause-replaced : goal.returns-in-Ok-replace_on-clause-replaced
+returns-in-Ok-replace_on-clause-replaced g c = λ tells.
+    let both = c.in-Ok-replace_on.ensures.replaced tells in
+    replaces_at g.D.Disk.told c.args.index c.relation_of-relation.result c.args.spot c.args.expect.now c.args.bytes.now c.args.pages.now c.replace_on.new.pages (c.relation_of-relation.ensures.number ∙ ap (λ (l : DiskLayout). relation_of l c.args.index) c.layout.ensures) tells c.replace_on.ensures.others both.0 both.1
+
+pub returns-in-Err-replace_on-clause-misfit : goal.returns-in-Err-replace_on-clause-misfit
+returns-in-Err-replace_on-clause-misfit g c = λ tells.
+    let store = c.args.pages.now in
+    misfits_at store.layout store.pages c.args.index c.relation_of-relation.result c.args.spot c.args.expect.now (length c.args.bytes.now) c.in-Err-replace_on.fault (c.relation_of-relation.ensures.number ∙ ap (λ (l : DiskLayout). relation_of l c.args.index) c.layout.ensures) (c.in-Err-replace_on.ensures.misfit tells)
+
+pub returns-in-Ok-replace_on-clause-others : goal.returns-in-Ok-replace_on-clause-others
+returns-in-Ok-replace_on-clause-others g c = leaves_others g.D.Disk.told c.args.index (record { relation = c.relation_of-relation.result; block = c.args.spot.block }) c.args.pages.now c.replace_on.new.pages (c.relation_of-relation.ensures.number ∙ ap (λ (l : DiskLayout). relation_of l c.args.index) c.layout.ensures) c.replace_on.ensures.others
+
+pub returns-in-Err-replace_on-clause-others : goal.returns-in-Err-replace_on-clause-others
+returns-in-Err-replace_on-clause-others g c = leaves_others g.D.Disk.told c.args.index (record { relation = c.relation_of-relation.result; block = c.args.spot.block }) c.args.pages.now c.replace_on.new.pages (c.relation_of-relation.ensures.number ∙ ap (λ (l : DiskLayout). relation_of l c.args.index) c.layout.ensures) c.replace_on.ensures.others
+
+pub returns-in-Err-replace_on-clause-at : goal.returns-in-Err-replace_on-clause-at
+returns-in-Err-replace_on-clause-at g c = subst (λ (r : ℕ). FaultNamesPlace c.args.pages.now.layout (record { relation = r; block = c.args.spot.block }) c.in-Err-replace_on.fault) (c.relation_of-relation.ensures.number ∙ ap (λ (l : DiskLayout). relation_of l c.args.index) c.layout.ensures) c.in-Err-replace_on.ensures.at

@@ -1,0 +1,4 @@
+pub mod Tuples
+pub mod Scratches
+pub mod PageTuples
+pub mod FirstTarget

@@ -1,0 +1,99 @@
+//! Dropping the tuple at a spot.
+
+ghost use Rattle.std.specs.Prelude.{◌≡◌, ◌<◌, ◌≤◌, Bool, true, false, None, length, slice_index, IfOk, IfErr, OnOk, OnErr};
+ghost use Rattle.store_layout.specs.DiskLayout.{IsPlace};
+ghost use Rattle.page_layout.specs.declared.page.Form.TheVariants as forms;
+ghost use Rattle.page_store.specs.Forms.{form_of};
+ghost use Rattle.page_store.specs.Keeps.{Keeps, Tells, Untold};
+ghost use Rattle.page_store.specs.Outcome.{NamesPage, Outcome};
+ghost use Rattle.page_store.specs.PageMap.{page_at};
+ghost use Rattle.index_layout.specs.IndexPages.{IsIndexPage};
+ghost use Rattle.index_layout.specs.IndexReading.{is_regular, slots_of};
+ghost use Rattle.index_contents.specs.IndexContents.{contents, relation_of};
+ghost use Rattle.index_contents.specs.IndexChanges.{DropsBytes, LeavesOtherPages, LeavesOthers};
+ghost use Rattle.range_store.specs.PageTuples.{DropsOn};
+
+use crate::changes::drop_tuple;
+use block_model::{Place, Spot};
+use disk_trait::Disk;
+use index_contents::{index_pages_are_known, relation_of};
+use index_layout::{a_put_changes_one_slot, an_index_page_has_one_list, slots};
+use page_layout::Page;
+use page_store::{PageStore, StoreError};
+
+/// The spot has no tuple any more, whatever stood there. After an error nothing is changed.
+pub fn drop_at<D: Disk + Drop>(
+    pages: &mut PageStore<D>,
+    index: u8,
+    spot: Spot,
+) -> Result<(), StoreError>
+    requires index { index < length pages.old.layout.schema.indexes }
+    ensures dropped { OnOk result (Tells D.told pages.old → DropsBytes (contents pages.old.layout pages.old.pages index) (contents pages.old.layout pages.new.pages index) spot) }
+    ensures kept { OnErr result (Keeps D.told pages.old pages.new) }
+    ensures others { LeavesOthers D.told index pages.old pages.new }
+    ensures at { IfErr result (NamesPage pages.old.layout (record { relation = relation_of pages.old.layout index; block = spot.block })) }
+    ensures outcome { Outcome D.told (Untold D.told pages.old) pages.old pages.new result }
+{
+    pages.known();
+    let relation = relation_of(pages.layout(), index);
+    let block = spot.block;
+    if block >= pages.layout().sizes().index_blocks {
+        // A page that the index can't have isn't started.
+        return match pages.ready() {
+            Ok(()) => Ok(()),
+            Err(error) => Err(error),
+        };
+    }
+    let place = Place { relation, block };
+    match drop_on(pages, place, spot.slot) {
+        Ok(()) => Ok(()),
+        Err(error) => Err(error),
+    }
+}
+
+/// The slot of the page has no tuple any more.
+fn drop_on<D: Disk + Drop>(
+    pages: &mut PageStore<D>,
+    place: Place,
+    slot: u16,
+) -> Result<(), StoreError>
+    requires place { IsPlace pages.old.layout place }
+    requires form { form_of pages.old.layout place.relation ≡ forms.Index }
+    ensures dropped { OnOk result (Tells D.told pages.old → DropsOn (page_at pages.old.pages place) (page_at pages.new.pages place) slot) }
+    ensures kept { OnErr result (Keeps D.told pages.old pages.new) }
+    ensures others { LeavesOtherPages D.told place pages.old pages.new }
+    ensures at { IfErr result (NamesPage pages.old.layout place) }
+    ensures outcome { Outcome D.told (Untold D.told pages.old) pages.old pages.new result }
+{
+    an_index_page_has_one_list();
+    a_put_changes_one_slot();
+    match has_slot(pages, place, slot) {
+        Ok(true) => match drop_tuple(pages, place, slot) {
+            Ok(()) => Ok(()),
+            Err(error) => Err(error),
+        },
+        Ok(false) => Ok(()),
+        Err(error) => Err(error),
+    }
+}
+
+/// Whether the page has the slot, free or not.
+fn has_slot<D: Disk + Drop>(
+    pages: &mut PageStore<D>,
+    place: Place,
+    slot: u16,
+) -> Result<bool, StoreError>
+    requires place { IsPlace pages.old.layout place }
+    requires form { form_of pages.old.layout place.relation ≡ forms.Index }
+    ensures there { IfOk result (λ there. Tells D.told pages.old → there ≡ true → slot < length (slots_of (page_at pages.old.pages place))) }
+    ensures absent { IfOk result (λ there. Tells D.told pages.old → there ≡ false → length (slots_of (page_at pages.old.pages place)) ≤ slot) }
+    ensures kept { Keeps D.told pages.old pages.new }
+    ensures at { IfErr result (NamesPage pages.old.layout place) }
+    ensures outcome { Outcome D.told (Untold D.told pages.old) pages.old pages.new result }
+{
+    index_pages_are_known();
+    match pages.read(place) {
+        Ok(page) => Ok(slot < slots(page.as_bytes())),
+        Err(error) => Err(error),
+    }
+}

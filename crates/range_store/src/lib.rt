@@ -1,0 +1,23 @@
+//! The tuples of an index at their spots. The layer above puts a tuple into the lowest free slot of a page by `put`, which page
+//! `room_for` finds; has one give way to another in its place by `replace`, which compares it first; drops it by `drop_at`; and
+//! copies it out by `tuple_at` into a `Scratch`, whose memory it takes once. It sees an index as what its pages have, a
+//! function of the pages of the store (index_contents). A call that answers an error leaves every page as it was, and none
+//! takes memory or copies a page. The crate stands on index_contents and page_store.
+#![tactic(auto)]
+
+mod changes;
+mod dropping;
+mod faults;
+mod putting;
+mod reading;
+mod replacing;
+mod room;
+mod scratch;
+
+pub use dropping::drop_at;
+pub use faults::SwapFault;
+pub use putting::put;
+pub use reading::tuple_at;
+pub use replacing::replace;
+pub use room::{a_target_takes_its_tuple, room_for};
+pub use scratch::Scratch;

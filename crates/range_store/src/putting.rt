@@ -1,0 +1,114 @@
+//! Putting a tuple on a page.
+
+ghost use Rattle.std.specs.Prelude.{◌≡◌, ◌<◌, ◌≤◌, Option, None, Some, length, IfOk, IfErr, OnErr};
+ghost use Rattle.store_layout.specs.DiskLayout.{IsPlace};
+ghost use Rattle.page_layout.specs.declared.page.Form.TheVariants as forms;
+ghost use Rattle.page_store.specs.Forms.{form_of};
+ghost use Rattle.page_store.specs.Keeps.{Keeps, Tells, Untold};
+ghost use Rattle.page_store.specs.Outcome.{NamesPage, Outcome};
+ghost use Rattle.page_store.specs.PageMap.{page_at};
+ghost use Rattle.index_layout.specs.IndexPages.{IsIndexPage};
+ghost use Rattle.index_contents.specs.IndexContents.{contents, relation_of};
+ghost use Rattle.index_contents.specs.IndexChanges.{LeavesOtherPages, LeavesOthers, PutsBytes};
+ghost use Rattle.range_store.specs.PageTuples.{PutsOn, TakesOn};
+ghost use Rattle.range_store.specs.Tuples.{IsTupleSize, TakesBytes, slot_for};
+
+use crate::changes::{put_tuple, start_with};
+use block_model::{Place, Spot};
+use disk_trait::Disk;
+use index_contents::{index_pages_are_known, relation_of};
+use index_layout::{
+    REGULAR, a_put_changes_one_slot, an_index_page_has_one_list, free_slot, kind_of,
+    the_lowest_free_slot_has_room,
+};
+use page_layout::Page;
+use page_store::{PageStore, StoreError};
+
+/// Puts a tuple into the lowest free slot of a page that takes it, else into its next one, and answers where it stands. A page that
+/// isn't started is started in the same change. After an error nothing is changed.
+pub fn put<D: Disk + Drop>(
+    pages: &mut PageStore<D>,
+    index: u8,
+    block: u32,
+    bytes: &[u8],
+) -> Result<Spot, StoreError>
+    requires index { index < length pages.old.layout.schema.indexes }
+    requires block { block < pages.old.layout.sizes.index_blocks }
+    requires size { IsTupleSize (length bytes.now) }
+    requires room { Tells D.told pages.old → TakesBytes (contents pages.old.layout pages.old.pages index).pages (length bytes.now) block }
+    ensures block { IfOk result (λ spot. spot.block ≡ block) }
+    ensures put { IfOk result (λ spot. Tells D.told pages.old → PutsBytes (contents pages.old.layout pages.old.pages index) (contents pages.old.layout pages.new.pages index) spot bytes.now) }
+    ensures kept { OnErr result (Keeps D.told pages.old pages.new) }
+    ensures others { LeavesOthers D.told index pages.old pages.new }
+    ensures at { IfErr result (NamesPage pages.old.layout (record { relation = relation_of pages.old.layout index; block = block })) }
+    ensures outcome { Outcome D.told (Untold D.told pages.old) pages.old pages.new result }
+{
+    let relation = relation_of(pages.layout(), index);
+    match put_on(pages, Place { relation, block }, bytes) {
+        Ok(slot) => Ok(Spot { block, slot }),
+        Err(error) => Err(error),
+    }
+}
+
+/// Puts a tuple into the lowest free slot of the page, else into its next one, and answers the slot.
+fn put_on<D: Disk + Drop>(
+    pages: &mut PageStore<D>,
+    place: Place,
+    bytes: &[u8],
+) -> Result<u16, StoreError>
+    requires place { IsPlace pages.old.layout place }
+    requires form { form_of pages.old.layout place.relation ≡ forms.Index }
+    requires size { IsTupleSize (length bytes.now) }
+    requires room { Tells D.told pages.old → TakesOn (page_at pages.old.pages place) (length bytes.now) }
+    ensures put { IfOk result (λ slot. Tells D.told pages.old → PutsOn (page_at pages.old.pages place) (page_at pages.new.pages place) slot bytes.now) }
+    ensures kept { OnErr result (Keeps D.told pages.old pages.new) }
+    ensures others { LeavesOtherPages D.told place pages.old pages.new }
+    ensures at { IfErr result (NamesPage pages.old.layout place) }
+    ensures outcome { Outcome D.told (Untold D.told pages.old) pages.old pages.new result }
+{
+    an_index_page_has_one_list();
+    a_put_changes_one_slot();
+    the_lowest_free_slot_has_room();
+    match next_slot(pages, place) {
+        Ok(Some(slot)) => match put_tuple(pages, place, slot, bytes) {
+            Ok(()) => Ok(slot),
+            Err(error) => Err(error),
+        },
+        Ok(None) => match start_with(pages, place, bytes) {
+            Ok(()) => Ok(0),
+            Err(error) => Err(error),
+        },
+        Err(error) => Err(error),
+    }
+}
+
+/// The lowest free slot of a page that takes tuples, else its next one; none of any other page.
+fn next_slot<D: Disk + Drop>(
+    pages: &mut PageStore<D>,
+    place: Place,
+) -> Result<Option<u16>, StoreError>
+    requires place { IsPlace pages.old.layout place }
+    requires form { form_of pages.old.layout place.relation ≡ forms.Index }
+    ensures slot { IfOk result (λ slot. Tells D.told pages.old → slot ≡ slot_for (page_at pages.old.pages place)) }
+    ensures kept { Keeps D.told pages.old pages.new }
+    ensures at { IfErr result (NamesPage pages.old.layout place) }
+    ensures outcome { Outcome D.told (Untold D.told pages.old) pages.old pages.new result }
+{
+    index_pages_are_known();
+    match pages.read(place) {
+        Ok(page) => Ok(slot_for(page)),
+        Err(error) => Err(error),
+    }
+}
+
+/// The slot for a further tuple, on a page that takes tuples.
+fn slot_for(page: &Page) -> Option<u16>
+    requires page { IsIndexPage page.now }
+    ensures { result ≡ slot_for page.now }
+{
+    let bytes = page.as_bytes();
+    if kind_of(bytes) != REGULAR {
+        return None;
+    }
+    Some(free_slot(bytes))
+}
