@@ -1,6 +1,6 @@
 -- The changes that pages of tuples take.
-use Rattle.std.proofs.Common.{◌≡◌, ℕ, ◌+◌, ◌*◌, ◌/◌, ◌%◌, ◌<◌, ◌≤◌, ◌==◌, ◌&&◌, Bool, true, false, inl, inr, List, [], ◌∷◌, length, set, nat_le, nat_lt, refl, sym, ap, subst, ◌∙◌, arith}
-use Rattle.std.specs.Prelude.{slice_index, Option, None, Some, Result, Ok, Err, OnOk, if◌then◌else◌}
+use Rattle.std.proofs.Common.{◌≡◌, ℕ, ◌+◌, ◌*◌, ◌/◌, ◌%◌, ◌<◌, ◌≤◌, ◌&&◌, Bool, true, inr, List, [], ◌∷◌, length, set, nat_le, nat_lt, refl, sym, ap, subst, ◌∙◌, arith}
+use Rattle.std.specs.Prelude.{slice_index, None, Some, Result, Ok, Err, OnOk}
 use Rattle.std.specs.Int.{bytes_high_first}
 use Rattle.std.proofs.lemmas.Bool.{le-leb, lt-ltb}
 use Rattle.std.proofs.lemmas.Option.{slice_get-get_or}
@@ -12,14 +12,13 @@ use Rattle.page_layout.specs.PageContents.{IsPageOf}
 use Rattle.page_layout.specs.PageWrites.{IsOfIndex}
 use Rattle.page_layout.specs.IndexLaws.{regular_page}
 use Rattle.index_layout.specs.declared.format.TheConstants.{REGULAR}
-use Rattle.index_layout.specs.IndexPages.{HasSlots, IsRegular, Slot, taken}
+use Rattle.index_layout.specs.IndexPages.{IsRegular, Slot, taken}
 use Rattle.index_layout.specs.IndexReading.{free_of, is_regular, slots_of}
 use Rattle.index_layout.specs.IndexWrites.{CanPut, CanReplace, IsRoom, are_ascending, dropped, put_in, trimmed}
-use Rattle.page_redo.specs.Redo.{Fits, IsIndexPageOf, Means, Redone}
+use Rattle.page_redo.specs.Redo.{IsIndexPageOf, Redone}
 use Rattle.page_store.specs.Changed.{redone_once, redone_twice}
 use Rattle.page_store.specs.Forms.{FitInTurn, FitsIn, IsPageIn, form_of}
-use Rattle.wal_record.specs.Changes.{LoggedChange, PageStart, TupleDrop, TuplePut, TupleReplace}
-use Rattle.coverage.specs.IndexView.{most_bytes}
+use Rattle.wal_record.specs.Changes.{PageStart, TupleDrop, TuplePut, TupleReplace}
 use Rattle.range_store.specs.Tuples.{IsTupleSize, TakesInPlace}
 use Rattle.range_store.proofs.Found.{room_there}
 use Rattle.range_store.proofs.PageWrites.{HasOneList, used_below}

@@ -1,8 +1,7 @@
 -- A change of a page that was read before it.
-use Rattle.std.proofs.Common.{◌≡◌, ◌≢◌, ℕ, ◌<◌, ◌≤◌, ◌==◌, Bool, true, false, inl, inr, List, [], ◌∷◌, length, set, refl, sym, ap, subst, ◌∙◌, arith}
-use Rattle.std.specs.Prelude.{slice_index, slice_index_or, Option, None, Some, if◌then◌else◌}
+use Rattle.std.proofs.Common.{◌≡◌, ◌≢◌, ℕ, ◌<◌, ◌≤◌, ◌==◌, Bool, true, false, inl, inr, List, length, refl, sym, ap, subst, ◌∙◌, arith}
+use Rattle.std.specs.Prelude.{slice_index, slice_index_or, None, Some, if◌then◌else◌}
 use Rattle.std.proofs.lemmas.Bool.{eqb-true}
-use Rattle.std.proofs.lemmas.Option.{none-some}
 use Rattle.index_layout.specs.declared.format.TheConstants.{REGULAR, UNSTARTED}
 use Rattle.index_layout.specs.IndexPages.{IsRegular, Slot}
 use Rattle.index_layout.specs.IndexReading.{free_slot_of, slots_of}
@@ -11,7 +10,7 @@ use Rattle.range_store.specs.PageTuples.{PutsOn, TakesOn}
 use Rattle.range_store.specs.declared.putting.Opening.{Opening}
 use Rattle.range_store.specs.declared.putting.Opening.TheVariants as openings
 use Rattle.range_store.specs.Tuples.{opening_of}
-use Rattle.range_store.proofs.PageWrites.{HasOneList, puts_on, starts_on}
+use Rattle.range_store.proofs.PageWrites.{HasOneList, puts_on}
 
 same_slot : (a b : ℕ) → openings.Slot a ≡ openings.Slot b → a ≡ b
 same_slot a b e = cc

@@ -1,5 +1,5 @@
 -- what the calls on the tuples of an index answer
-use Rattle.std.specs.Prelude.{◌≡◌, ◌≢◌, ◌⊎◌, ℕ, ◌+◌, ◌*◌, ◌≤◌, ◌<◌, ◌==◌, nat_lt, List, length, slice_index, Option, None, Some, Result, Ok, Err, if◌then◌else◌}
+use Rattle.std.specs.Prelude.{◌≡◌, ◌≢◌, ◌⊎◌, ℕ, ◌+◌, ◌*◌, ◌≤◌, ◌<◌, ◌==◌, nat_lt, List, length, slice_index, None, Some, Result, Ok, Err, if◌then◌else◌}
 use Rattle.block_model.specs.declared.place.Place.{Place}
 use Rattle.block_model.specs.declared.place.Spot.{Spot}
 use Rattle.byte_fields.specs.Fields.{field_at, number_of}
@@ -13,7 +13,7 @@ use Rattle.index_layout.specs.IndexPages.{Slot}
 use Rattle.index_layout.specs.IndexReading.{free_slot_of, number_at, slots_of}
 use Rattle.coverage.specs.IndexView.{Pages, Regular, most_bytes}
 use Rattle.coverage.specs.Verdicts.{IsPageUnstarted, MustMove}
-use Rattle.index_contents.specs.IndexContents.{IndexContents, relation_of, room_in_place, tuple_on}
+use Rattle.index_contents.specs.IndexContents.{IndexContents, room_in_place, tuple_on}
 use Rattle.range_store.specs.declared.putting.Opening.{Opening}
 use Rattle.range_store.specs.declared.putting.Opening.TheVariants as openings
 use Rattle.range_store.specs.declared.faults.SwapFault.{SwapFault}

@@ -1,4 +1,4 @@
-use Rattle.std.proofs.Common.{List, ℕ, subst, sym}
+use Rattle.std.proofs.Common.{subst, sym}
 use Rattle.index_layout.specs.IndexPages.{IsIndexPage}
 use Rattle.range_store.proofs.putting.opening_of.Goals as goal
 

@@ -1,5 +1,4 @@
-use Rattle.std.proofs.Common.{List, ℕ, length, ap, sym, ◌∙◌}
-use Rattle.std.specs.Prelude.{Some}
+use Rattle.std.proofs.Common.{length, ap, sym, ◌∙◌}
 use Rattle.page_store.specs.PageMap.{PageMap, page_at}
 use Rattle.range_store.proofs.Onward.{closed_takes_none, new_page_is, puts_after}
 use Rattle.range_store.proofs.PageWrites.{starts_on}

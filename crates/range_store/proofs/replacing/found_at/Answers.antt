@@ -1,4 +1,4 @@
-use Rattle.std.proofs.Common.{ℕ, ◌+◌, ◌*◌, ◌<◌, ◌≤◌, ap, length, ◌∙◌, arith}
+use Rattle.std.proofs.Common.{ℕ, ◌+◌, ◌*◌, ◌<◌, ap, length, ◌∙◌, arith}
 use Rattle.byte_fields.specs.Fields.{field_at, number_of}
 use Rattle.index_layout.specs.IndexReading.{slots_of}
 use Rattle.range_store.proofs.Found.{directory_within, found_there, has_tuples, place_there}

@@ -2,7 +2,7 @@ use Rattle.std.proofs.Common.{List, ℕ, length, set, ap, sym, subst, ◌∙◌}
 use Rattle.std.specs.Prelude.{Some}
 use Rattle.page_store.specs.PageMap.{PageMap, page_at}
 use Rattle.index_layout.specs.declared.format.TheConstants.{REGULAR}
-use Rattle.index_layout.specs.IndexPages.{IsRegular, Slot}
+use Rattle.index_layout.specs.IndexPages.{IsRegular}
 use Rattle.index_layout.specs.IndexReading.{slots_of}
 use Rattle.range_store.proofs.Fitting.{can_replace}
 use Rattle.range_store.proofs.Misfits.{misfit_names_none, misfit_told}
