@@ -1,6 +1,6 @@
 -- The changes that pages of tuples take.
-use Rattle.std.proofs.Common.{◌≡◌, ℕ, ◌+◌, ◌*◌, ◌/◌, ◌%◌, ◌<◌, ◌≤◌, ◌==◌, ◌&&◌, Bool, true, false, inl, inr, List, [], ◌∷◌, length, set, nat_le, nat_lt, refl, sym, ap, subst, ◌∙◌, arith}
-use Rattle.std.specs.Prelude.{slice_index, Option, None, Some, Result, Ok, Err, OnOk, if◌then◌else◌}
+use Rattle.std.proofs.Common.{◌≡◌, ℕ, ◌+◌, ◌*◌, ◌/◌, ◌%◌, ◌<◌, ◌≤◌, ◌&&◌, Bool, true, inr, List, [], ◌∷◌, length, set, nat_le, nat_lt, refl, sym, ap, subst, ◌∙◌, arith}
+use Rattle.std.specs.Prelude.{slice_index, None, Some, Result, Ok, Err, OnOk}
 use Rattle.std.specs.Int.{bytes_high_first}
 use Rattle.std.proofs.lemmas.Bool.{le-leb, lt-ltb}
 use Rattle.std.proofs.lemmas.Option.{slice_get-get_or}
@@ -12,14 +12,13 @@ use Rattle.page_layout.specs.PageContents.{IsPageOf}
 use Rattle.page_layout.specs.PageWrites.{IsOfIndex}
 use Rattle.page_layout.specs.IndexLaws.{regular_page}
 use Rattle.index_layout.specs.declared.format.TheConstants.{REGULAR}
-use Rattle.index_layout.specs.IndexPages.{HasSlots, IsRegular, Slot, taken}
+use Rattle.index_layout.specs.IndexPages.{IsRegular, Slot, taken}
 use Rattle.index_layout.specs.IndexReading.{free_of, is_regular, slots_of}
 use Rattle.index_layout.specs.IndexWrites.{CanPut, CanReplace, IsRoom, are_ascending, dropped, put_in, trimmed}
-use Rattle.page_redo.specs.Redo.{Fits, IsIndexPageOf, Means, Redone}
+use Rattle.page_redo.specs.Redo.{IsIndexPageOf, Redone}
 use Rattle.page_store.specs.Changed.{redone_once, redone_twice}
 use Rattle.page_store.specs.Forms.{FitInTurn, FitsIn, IsPageIn, form_of}
-use Rattle.wal_record.specs.Changes.{LoggedChange, PageStart, TupleDrop, TuplePut, TupleReplace}
-use Rattle.coverage.specs.IndexView.{most_bytes}
+use Rattle.wal_record.specs.Changes.{PageStart, TupleDrop, TuplePut, TupleReplace}
 use Rattle.range_store.specs.Tuples.{IsTupleSize, TakesInPlace}
 use Rattle.range_store.proofs.Found.{room_there}
 use Rattle.range_store.proofs.PageWrites.{HasOneList, used_below}
@@ -74,8 +73,7 @@ all_free = refl
 
 put_first : (page : List ℕ) (size : ℕ) → HasOneList → IsRegular REGULAR [] page → IsTupleSize size → CanPut page 0 size
 put_first page size one is tuple =
-    let none = no_slots page one is in
-    (
+    let none = no_slots page one is in (
       kind_of REGULAR [] page is,
       tuple.0,
       subst (λ (slots : List Slot). IsRoom slots 0 size) none (inr (refl, omega (arith, tuple.1, all_free))),
@@ -97,8 +95,7 @@ started_with form place old new bytes one redone =
 pub can_replace : (old mid : List ℕ) (slot : ℕ) (expect : List ℕ) (size : ℕ) → mid ≡ old → 0 < size → TakesInPlace old slot expect size → CanReplace mid slot size
 can_replace old mid slot expect size same some takes =
     let inside = used_below (slots_of old) slot expect takes.0 in
-    subst (λ (p : List ℕ). CanReplace p slot size) (sym same)
-    (
+    subst (λ (p : List ℕ). CanReplace p slot size) (sym same) (
       takes.1,
       some,
       (expect, slice_get-get_or (slots_of old) slot None inside ∙ ap (λ (t : Slot). Some t) takes.0, subst (λ (n : ℕ). size ≤ n) (room_there old slot expect takes.1 takes.0) takes.2),

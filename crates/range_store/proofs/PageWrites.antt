@@ -1,6 +1,6 @@
 -- What changes of one page make of its tuples.
-use Rattle.std.proofs.Common.{◌≡◌, ◌≢◌, ℕ, zero, suc, ◌+◌, ◌<◌, ◌≤◌, true, inl, inr, List, [], ◌∷◌, length, set, get_or, refl, sym, ap, ◌∙◌, arith}
-use Rattle.std.specs.Prelude.{slice_index, slice_index_or, Option, None, Some}
+use Rattle.std.proofs.Common.{◌≡◌, ◌≢◌, ℕ, zero, suc, ◌<◌, ◌≤◌, true, inl, inr, List, [], ◌∷◌, length, set, get_or, refl, sym, ap, ◌∙◌, arith}
+use Rattle.std.specs.Prelude.{slice_index, slice_index_or, None, Some}
 use Rattle.std.proofs.lemmas.Bool.{cases_lt}
 use Rattle.std.proofs.lemmas.List.{get_or_past, get_or-set_same, get_or-set_other}
 use Rattle.std.proofs.lemmas.Option.{none-some}
@@ -9,7 +9,6 @@ use Rattle.index_layout.specs.IndexPages.{HasSlots, IsRegular, Slot}
 use Rattle.index_layout.specs.IndexReading.{free_slot_of, is_regular, slots_of}
 use Rattle.index_layout.specs.IndexWrites.{put_in, trimmed}
 use Rattle.index_contents.specs.IndexContents.{tuple_on}
-use Rattle.index_contents.specs.PageLaws.{ChangesSlot}
 use Rattle.range_store.specs.PageTuples.{DropsOn, PutsOn, ReplacesOn}
 use Rattle.range_store.proofs.TupleKinds.{kind_of, regular_says_none, tuples_say_none, unstarted_has_none, unstarted_says_none}
 

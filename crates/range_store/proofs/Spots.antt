@@ -1,21 +1,18 @@
 -- The tuples of an index, by its pages.
-use Rattle.std.proofs.Common.{◌≡◌, ◌≢◌, ℕ, ◌<◌, ◌≤◌, inl, inr, List, length, refl, sym, ap, subst, ◌∙◌, arith}
-use Rattle.std.specs.Prelude.{slice_index, Option, None, Some}
+use Rattle.std.proofs.Common.{◌≡◌, ℕ, ◌<◌, ◌≤◌, inl, inr, List, length, sym, ap, subst, ◌∙◌}
+use Rattle.std.specs.Prelude.{slice_index, None}
 use Rattle.std.proofs.lemmas.Bool.{cases_eq}
-use Rattle.block_model.specs.declared.place.Place.{Place}
 use Rattle.block_model.specs.declared.place.Spot.{Spot}
 use Rattle.store_layout.specs.DiskLayout.{DiskLayout}
 use Rattle.disk_trait.specs.Told.{Told}
 use Rattle.page_store.specs.Keeps.{Tells}
 use Rattle.page_store.specs.PageMap.{PageMap, View, block_at, unstarted_page}
-use Rattle.index_layout.specs.declared.format.TheConstants.{REGULAR, UNSTARTED}
+use Rattle.index_layout.specs.declared.format.TheConstants.{REGULAR}
 use Rattle.index_layout.specs.IndexWrites.{room_on}
-use Rattle.coverage.specs.IndexView.{Regular}
-use Rattle.coverage.specs.Verdicts.{MustMove}
-use Rattle.index_contents.specs.IndexContents.{contents, contents_in, index_page, kind_at, relation_of, room_in_place, tuple_on}
+use Rattle.index_contents.specs.IndexContents.{contents, contents_in, index_page, relation_of, tuple_on}
 use Rattle.index_contents.specs.IndexChanges.{DropsBytes, LeavesOtherPages, PutsBytes, ReplacesBytes}
 use Rattle.index_contents.specs.Kinds.{is_regular_page, is_unstarted_page, regular_page}
-use Rattle.index_contents.specs.PageLaws.{IsNoMap, StayBeside, blocks_stay, drops_bytes, puts_bytes, replaces_bytes, stays_as_it_is}
+use Rattle.index_contents.specs.PageLaws.{StayBeside, blocks_stay, drops_bytes, puts_bytes, replaces_bytes, stays_as_it_is}
 use Rattle.index_contents.specs.Reading.{no_tuple, tuple_there}
 use Rattle.range_store.specs.declared.faults.SwapFault.{SwapFault}
 use Rattle.range_store.specs.declared.faults.SwapFault.TheVariants as faults

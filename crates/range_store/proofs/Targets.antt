@@ -1,5 +1,5 @@
 -- The first page for a further tuple, as coverage tells it.
-use Rattle.std.proofs.Common.{◌≡◌, ◌≢◌, ℕ, ◌<◌, ◌≤◌, inl, inr, List, refl, sym, ap, subst, ◌∙◌, arith}
+use Rattle.std.proofs.Common.{◌≡◌, ℕ, ◌<◌, inl, inr, List, refl, sym, subst}
 use Rattle.std.specs.Prelude.{slice_index, IfSome, Option, None, Some}
 use Rattle.std.proofs.lemmas.Bool.{cases_lt}
 use Rattle.store_layout.specs.DiskLayout.{DiskLayout}
@@ -10,13 +10,13 @@ use Rattle.page_layout.specs.SlotLaws.{unstarted_front}
 use Rattle.page_store.specs.FirstRoom.{IsFirstRoom}
 use Rattle.page_store.specs.PageMap.{PageMap, block_at}
 use Rattle.index_layout.specs.IndexReading.{map_pages_of}
-use Rattle.index_layout.specs.declared.format.TheConstants.{REGULAR, UNSTARTED}
-use Rattle.coverage.specs.IndexView.{Pages, Regular, Unstarted}
+use Rattle.index_layout.specs.declared.format.TheConstants.{UNSTARTED}
+use Rattle.coverage.specs.IndexView.{Pages}
 use Rattle.coverage.specs.Verdicts.{IsLowestNumber, IsPageUnstarted, IsTarget, OnNew, OnStarted, PageHasRoom}
-use Rattle.index_contents.specs.IndexContents.{contents, index_page, kind_at, map_kind, pages_in, relation_of}
+use Rattle.index_contents.specs.IndexContents.{contents, index_page, pages_in, relation_of}
 use Rattle.index_contents.specs.Kinds.{is_regular_page, is_unstarted_page, regular_page, unstarted_page_kind}
 use Rattle.range_store.specs.Tuples.{TakesBytes}
-use Rattle.range_store.specs.FirstTarget.{HasRoomIn, IsFirstTarget, IsLowestOf, IsUnstartedIn, NoneHasRoom}
+use Rattle.range_store.specs.FirstTarget.{HasRoomIn, IsFirstTarget, IsLowestOf, IsUnstartedIn}
 
 -- a page has room as coverage says it
 pub has_room : (limit : ℕ) (page : ℕ → List ℕ) (need block : ℕ) → HasRoomIn page need block → PageHasRoom (pages_in limit page) need block

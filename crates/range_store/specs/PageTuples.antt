@@ -2,7 +2,7 @@
 use Rattle.std.specs.Prelude.{◌≡◌, ◌≢◌, ◌⊎◌, ℕ, ◌<◌, ◌≤◌, List, slice_index, None, Some}
 use Rattle.index_layout.specs.declared.format.TheConstants.{REGULAR, UNSTARTED}
 use Rattle.index_layout.specs.IndexWrites.{room_on}
-use Rattle.index_contents.specs.IndexContents.{room_in_place, tuple_on}
+use Rattle.index_contents.specs.IndexContents.{tuple_on}
 use Rattle.index_contents.specs.PageLaws.{ChangesSlot, IsNoMap}
 
 -- a page takes so many bytes: it is one for tuples with that much room, or isn't started

@@ -1,4 +1,4 @@
-use Rattle.std.proofs.Common.{List, ℕ, refl, set, ap, sym, subst, ◌∙◌}
+use Rattle.std.proofs.Common.{List, ℕ, set, ap, sym, subst, ◌∙◌}
 use Rattle.std.specs.Prelude.{None, slice_index}
 use Rattle.page_store.specs.PageMap.{PageMap, page_at}
 use Rattle.index_layout.specs.IndexPages.{IsRegular}

@@ -1,4 +1,3 @@
-use Rattle.std.proofs.Common.{ℕ}
 use Rattle.page_store.specs.Forms.{form_of}
 use Rattle.page_store.specs.PageMap.{block_at, block_limit}
 use Rattle.range_store.proofs.Targets.{first_of_index}
