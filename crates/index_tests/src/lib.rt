@@ -6,3 +6,5 @@
 mod maps;
 #[cfg(test)]
 mod store;
+#[cfg(test)]
+mod tuples;

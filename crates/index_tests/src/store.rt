@@ -40,7 +40,7 @@ impl Model for Trial {
 
     ghost view = { λ a. 0 };
 
-    ghost invariant = { λ a. (length a.pages.layout.schema.indexes ≡ 2) × (relation_blocks a.pages.layout ≡ 1 ∷ 1 ∷ 8 ∷ 8 ∷ []) };
+    ghost invariant = { λ a. (length a.pages.layout.schema.indexes ≡ 2) × (a.pages.layout.sizes.index_blocks ≡ 8) × (relation_blocks a.pages.layout ≡ 1 ∷ 1 ∷ 8 ∷ 8 ∷ []) };
 }
 
 impl Trial {
@@ -105,6 +105,7 @@ impl Trial {
 #[tactic(auto, unfolding(store_layout::specs::DiskLayout::relation_blocks))]
 fn layout(alloc: Global) -> Option<Layout>
     ensures indexes { IfSome result (λ layout. length layout.schema.indexes ≡ 2) }
+    ensures limit { IfSome result (λ layout. layout.sizes.index_blocks ≡ 8) }
     ensures blocks { IfSome result (λ layout. relation_blocks layout ≡ 1 ∷ 1 ∷ 8 ∷ 8 ∷ []) }
 {
     let mut indexes = Sequence::new(alloc);

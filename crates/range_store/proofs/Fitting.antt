@@ -74,8 +74,7 @@ all_free = refl
 
 put_first : (page : List ℕ) (size : ℕ) → HasOneList → IsRegular REGULAR [] page → IsTupleSize size → CanPut page 0 size
 put_first page size one is tuple =
-    let none = no_slots page one is in
-    (
+    let none = no_slots page one is in (
       kind_of REGULAR [] page is,
       tuple.0,
       subst (λ (slots : List Slot). IsRoom slots 0 size) none (inr (refl, omega (arith, tuple.1, all_free))),
@@ -97,8 +96,7 @@ started_with form place old new bytes one redone =
 pub can_replace : (old mid : List ℕ) (slot : ℕ) (expect : List ℕ) (size : ℕ) → mid ≡ old → 0 < size → TakesInPlace old slot expect size → CanReplace mid slot size
 can_replace old mid slot expect size same some takes =
     let inside = used_below (slots_of old) slot expect takes.0 in
-    subst (λ (p : List ℕ). CanReplace p slot size) (sym same)
-    (
+    subst (λ (p : List ℕ). CanReplace p slot size) (sym same) (
       takes.1,
       some,
       (expect, slice_get-get_or (slots_of old) slot None inside ∙ ap (λ (t : Slot). Some t) takes.0, subst (λ (n : ℕ). size ≤ n) (room_there old slot expect takes.1 takes.0) takes.2),

@@ -8,27 +8,43 @@ use Rattle.index_layout.specs.IndexPages.{IsRegular, Slot}
 use Rattle.index_layout.specs.IndexReading.{free_slot_of, slots_of}
 use Rattle.index_layout.specs.IndexWrites.{CanPut, put_in, room_on}
 use Rattle.range_store.specs.PageTuples.{PutsOn, TakesOn}
-use Rattle.range_store.specs.Tuples.{slot_for}
+use Rattle.range_store.specs.declared.putting.Opening.{Opening}
+use Rattle.range_store.specs.declared.putting.Opening.TheVariants as openings
+use Rattle.range_store.specs.Tuples.{opening_of}
 use Rattle.range_store.proofs.PageWrites.{HasOneList, puts_on, starts_on}
 
-same_number : (a b : ℕ) → Some a ≡ Some b → a ≡ b
-same_number a b e = cc
+same_slot : (a b : ℕ) → openings.Slot a ≡ openings.Slot b → a ≡ b
+same_slot a b e = cc
+
+abbrev opening_by : ℕ → List Slot → Opening
+opening_by kind slots = if kind == REGULAR then openings.Slot (free_slot_of slots) else (if kind == UNSTARTED then openings.NewPage else openings.Closed)
 
 -- a page with a slot for a further tuple takes tuples
-pub slot_is : (page : List ℕ) (slot : ℕ) → Some slot ≡ slot_for page → (slice_index page 0 ≡ REGULAR) × (slot ≡ free_slot_of (slots_of page))
-slot_is page slot is = on (slice_index page 0 == REGULAR) refl is
+pub slot_is : (page : List ℕ) (slot : ℕ) → openings.Slot slot ≡ opening_of page → (slice_index page 0 ≡ REGULAR) × (slot ≡ free_slot_of (slots_of page))
+slot_is page slot is = on (slice_index page 0 == REGULAR) (slice_index page 0 == UNSTARTED) refl is
   where
-    on : (b : Bool) → (slice_index page 0 == REGULAR) ≡ b → Some slot ≡ (if b then Some (free_slot_of (slots_of page)) else None) → (slice_index page 0 ≡ REGULAR) × (slot ≡ free_slot_of (slots_of page))
-    on true e some = (eqb-true (slice_index page 0) REGULAR e, same_number slot (free_slot_of (slots_of page)) some)
-    on false e some = absurd (none-some _ (sym some))
+    on : (b d : Bool) → (slice_index page 0 == REGULAR) ≡ b → openings.Slot slot ≡ (if b then openings.Slot (free_slot_of (slots_of page)) else (if d then openings.NewPage else openings.Closed))
+        → (slice_index page 0 ≡ REGULAR) × (slot ≡ free_slot_of (slots_of page))
+    on true d e some = (eqb-true (slice_index page 0) REGULAR e, same_slot slot (free_slot_of (slots_of page)) some)
+    on false true e some = absurd cc
+    on false false e some = absurd cc
 
--- and one that isn't started has none
-pub no_slot : (page : List ℕ) (size : ℕ) → None ≡ slot_for page → TakesOn page size → slice_index page 0 ≡ UNSTARTED
-no_slot page size none (inr unstarted) = unstarted
-no_slot page size none (inl regular) = absurd (none-some _ (none ∙ ap (λ (k : ℕ). if k == REGULAR then Some (free_slot_of (slots_of page)) else None) regular.0))
+-- and one that is to be started isn't
+pub new_page_is : (page : List ℕ) → openings.NewPage ≡ opening_of page → slice_index page 0 ≡ UNSTARTED
+new_page_is page is = on (slice_index page 0 == REGULAR) (slice_index page 0 == UNSTARTED) refl is
+  where
+    on : (b d : Bool) → (slice_index page 0 == UNSTARTED) ≡ d → openings.NewPage ≡ (if b then openings.Slot (free_slot_of (slots_of page)) else (if d then openings.NewPage else openings.Closed)) → slice_index page 0 ≡ UNSTARTED
+    on true d e some = absurd cc
+    on false true e some = eqb-true (slice_index page 0) UNSTARTED e
+    on false false e some = absurd cc
+
+-- one that is closed takes none
+pub closed_takes_none : (page : List ℕ) (size : ℕ) → openings.Closed ≡ opening_of page → TakesOn page size → ⊥
+closed_takes_none page size closed (inl regular) = let e = ap (λ (k : ℕ). opening_by k (slots_of page)) regular.0 in absurd cc
+closed_takes_none page size closed (inr unstarted) = let e = ap (λ (k : ℕ). opening_by k (slots_of page)) unstarted in absurd cc
 
 -- there it has room
-pub can_put : (page : List ℕ) (slot size : ℕ) → ((p : List ℕ) (s : ℕ) → 0 < s → s ≤ room_on p → CanPut p (free_slot_of (slots_of p)) s) → 0 < size → Some slot ≡ slot_for page → TakesOn page size → CanPut page slot size
+pub can_put : (page : List ℕ) (slot size : ℕ) → ((p : List ℕ) (s : ℕ) → 0 < s → s ≤ room_on p → CanPut p (free_slot_of (slots_of p)) s) → 0 < size → openings.Slot slot ≡ opening_of page → TakesOn page size → CanPut page slot size
 can_put page slot size room some is (inl regular) = subst (λ (n : ℕ). CanPut page n size) (sym (slot_is page slot is).1) (room page size some regular.1)
 can_put page slot size room some is (inr unstarted) =
     let kind : 0 ≡ 5 = sym unstarted ∙ (slot_is page slot is).0 in
@@ -38,7 +54,7 @@ can_put page slot size room some is (inr unstarted) =
 pub puts_after : (old mid new : List ℕ) (slot : ℕ) (bytes : List ℕ) → HasOneList → ((list : List Slot) → slice_index_or list (free_slot_of list) None ≡ None) → ((list : List Slot) (n : ℕ) → n < free_slot_of list → slice_index_or list n None ≢ None)
     → ((list : List Slot) → free_slot_of list ≤ length list) → ((list : List Slot) (n : ℕ) (tuple : List ℕ) → n ≤ length list → slice_index_or (put_in list n tuple) n None ≡ Some tuple)
     → ((list : List Slot) (n m : ℕ) (tuple : List ℕ) → n ≤ length list → m ≢ n → slice_index_or (put_in list n tuple) m None ≡ slice_index_or list m None)
-    → mid ≡ old → Some slot ≡ slot_for old → IsRegular REGULAR (put_in (slots_of mid) slot bytes) new → PutsOn old new slot bytes
+    → mid ≡ old → openings.Slot slot ≡ opening_of old → IsRegular REGULAR (put_in (slots_of mid) slot bytes) new → PutsOn old new slot bytes
 puts_after old mid new slot bytes one free lowest within there others same is put =
     let list : List Slot = slots_of old in
     let first : ℕ = free_slot_of list in

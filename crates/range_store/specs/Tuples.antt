@@ -8,12 +8,14 @@ use Rattle.disk_trait.specs.Told.{Told}
 use Rattle.page_store.specs.Keeps.{Untold}
 use Rattle.page_store.specs.Outcome.{NamesPage, Outcome, Refused}
 use Rattle.page_store.specs.PageMap.{View}
-use Rattle.index_layout.specs.declared.format.TheConstants.{REGULAR}
+use Rattle.index_layout.specs.declared.format.TheConstants.{REGULAR, UNSTARTED}
 use Rattle.index_layout.specs.IndexPages.{Slot}
 use Rattle.index_layout.specs.IndexReading.{free_slot_of, number_at, slots_of}
 use Rattle.coverage.specs.IndexView.{Pages, Regular, most_bytes}
 use Rattle.coverage.specs.Verdicts.{IsPageUnstarted, MustMove}
 use Rattle.index_contents.specs.IndexContents.{IndexContents, relation_of, room_in_place, tuple_on}
+use Rattle.range_store.specs.declared.putting.Opening.{Opening}
+use Rattle.range_store.specs.declared.putting.Opening.TheVariants as openings
 use Rattle.range_store.specs.declared.faults.SwapFault.{SwapFault}
 use Rattle.range_store.specs.declared.faults.SwapFault.TheVariants as faults
 
@@ -56,9 +58,13 @@ SwapOutcome told old new (Ok done) = Outcome told (Untold told old) old new (Ok 
 SwapOutcome told old new (Err (faults.Store error)) = Refused told (Untold told old) old new error
 SwapOutcome told old new (Err fault) = Outcome told (Untold told old) old new (Ok fault)
 
--- the slot for a further tuple: the lowest free one, else the next one, on a page that takes tuples
-abbrev pub slot_for : List ℕ → Option ℕ
-slot_for page = if slice_index page 0 == REGULAR then Some (free_slot_of (slots_of page)) else None
+-- where a further tuple may stand: on a page that takes tuples in the lowest free slot, else in the next one; on one that isn't
+-- started in its first one; on no other page
+abbrev pub opening_of : List ℕ → Opening
+opening_of page =
+    if slice_index page 0 == REGULAR then openings.Slot (free_slot_of (slots_of page))
+    else (if slice_index page 0 == UNSTARTED then openings.NewPage
+    else openings.Closed)
 
 -- the expected bytes stand in the slot, and so many have room in their place
 abbrev pub TakesInPlace : List ℕ → ℕ → List ℕ → ℕ → Type 0

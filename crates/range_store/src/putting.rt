@@ -1,6 +1,6 @@
 //! Putting a tuple on a page.
 
-ghost use Rattle.std.specs.Prelude.{◌≡◌, ◌<◌, ◌≤◌, Option, None, Some, length, IfOk, IfErr, OnErr};
+ghost use Rattle.std.specs.Prelude.{◌≡◌, ◌<◌, length, IfOk, IfErr, OnErr};
 ghost use Rattle.store_layout.specs.DiskLayout.{IsPlace};
 ghost use Rattle.page_layout.specs.declared.page.Form.TheVariants as forms;
 ghost use Rattle.page_store.specs.Forms.{form_of};
@@ -11,18 +11,29 @@ ghost use Rattle.index_layout.specs.IndexPages.{IsIndexPage};
 ghost use Rattle.index_contents.specs.IndexContents.{contents, relation_of};
 ghost use Rattle.index_contents.specs.IndexChanges.{LeavesOtherPages, LeavesOthers, PutsBytes};
 ghost use Rattle.range_store.specs.PageTuples.{PutsOn, TakesOn};
-ghost use Rattle.range_store.specs.Tuples.{IsTupleSize, TakesBytes, slot_for};
+ghost use Rattle.range_store.specs.Tuples.{IsTupleSize, TakesBytes, opening_of};
 
 use crate::changes::{put_tuple, start_with};
 use block_model::{Place, Spot};
 use disk_trait::Disk;
 use index_contents::{index_pages_are_known, relation_of};
 use index_layout::{
-    REGULAR, a_put_changes_one_slot, an_index_page_has_one_list, free_slot, kind_of,
+    REGULAR, UNSTARTED, a_put_changes_one_slot, an_index_page_has_one_list, free_slot, kind_of,
     the_lowest_free_slot_has_room,
 };
 use page_layout::Page;
 use page_store::{PageStore, StoreError};
+
+/// Where a further tuple may stand on a page.
+#[derive(Clone, Copy, Debug)]
+enum Opening {
+    /// In this slot, the lowest free one, else the next one.
+    Slot(u16),
+    /// In the first slot of a page that is started for it.
+    NewPage,
+    /// Nowhere: the page is of the map, or is emptied for it.
+    Closed,
+}
 
 /// Puts a tuple into the lowest free slot of a page that takes it, else into its next one, and answers where it stands. A page that
 /// isn't started is started in the same change. After an error nothing is changed.
@@ -69,46 +80,48 @@ fn put_on<D: Disk + Drop>(
     an_index_page_has_one_list();
     a_put_changes_one_slot();
     the_lowest_free_slot_has_room();
-    match next_slot(pages, place) {
-        Ok(Some(slot)) => match put_tuple(pages, place, slot, bytes) {
+    match opening_at(pages, place) {
+        Ok(Opening::Slot(slot)) => match put_tuple(pages, place, slot, bytes) {
             Ok(()) => Ok(slot),
             Err(error) => Err(error),
         },
-        Ok(None) => match start_with(pages, place, bytes) {
+        Ok(Opening::NewPage) => match start_with(pages, place, bytes) {
             Ok(()) => Ok(0),
             Err(error) => Err(error),
         },
+        // No page of another kind is started anew.
+        Ok(Opening::Closed) => Err(StoreError::Damaged {
+            at: pages.layout().page_at(place),
+        }),
         Err(error) => Err(error),
     }
 }
 
-/// The lowest free slot of a page that takes tuples, else its next one; none of any other page.
-fn next_slot<D: Disk + Drop>(
-    pages: &mut PageStore<D>,
-    place: Place,
-) -> Result<Option<u16>, StoreError>
+/// Where a further tuple may stand on the page.
+fn opening_at<D: Disk + Drop>(pages: &mut PageStore<D>, place: Place) -> Result<Opening, StoreError>
     requires place { IsPlace pages.old.layout place }
     requires form { form_of pages.old.layout place.relation ≡ forms.Index }
-    ensures slot { IfOk result (λ slot. Tells D.told pages.old → slot ≡ slot_for (page_at pages.old.pages place)) }
+    ensures opening { IfOk result (λ opening. Tells D.told pages.old → opening ≡ opening_of (page_at pages.old.pages place)) }
     ensures kept { Keeps D.told pages.old pages.new }
     ensures at { IfErr result (NamesPage pages.old.layout place) }
     ensures outcome { Outcome D.told (Untold D.told pages.old) pages.old pages.new result }
 {
     index_pages_are_known();
     match pages.read(place) {
-        Ok(page) => Ok(slot_for(page)),
+        Ok(page) => Ok(opening_of(page)),
         Err(error) => Err(error),
     }
 }
 
-/// The slot for a further tuple, on a page that takes tuples.
-fn slot_for(page: &Page) -> Option<u16>
+/// The same of a page.
+fn opening_of(page: &Page) -> Opening
     requires page { IsIndexPage page.now }
-    ensures { result ≡ slot_for page.now }
+    ensures { result ≡ opening_of page.now }
 {
     let bytes = page.as_bytes();
-    if kind_of(bytes) != REGULAR {
-        return None;
+    match kind_of(bytes) {
+        REGULAR => Opening::Slot(free_slot(bytes)),
+        UNSTARTED => Opening::NewPage,
+        _ => Opening::Closed,
     }
-    Some(free_slot(bytes))
 }

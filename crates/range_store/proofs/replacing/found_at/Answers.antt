@@ -21,8 +21,7 @@ get_u16-requires-2 c =
 pub returns : goal.returns
 returns c =
     let below : c.args.slot < length (slots_of c.args.page.now) = omega arith in
-    let begins = c.get_u16-2.ensures.got ∙ ap (λ (n : ℕ). number_of (field_at c.args.page.now (32 + n * 4) 2)) c.from.ensures in
-    (
+    let begins = c.get_u16-2.ensures.got ∙ ap (λ (n : ℕ). number_of (field_at c.args.page.now (32 + n * 4) 2)) c.from.ensures in (
       found_there c.args.page.now c.args.slot c.get_u16.result c.get_u16-2.result (has_tuples c.args.page.now c.args.slot below) below (c.get_u16.ensures.got ∙ ap (λ (n : ℕ). number_of (field_at c.args.page.now (32 + n * 4 + 2) 2)) c.from.ensures) begins,
       place_there c.args.page.now c.args.slot c.get_u16-2.result below begins,
     )

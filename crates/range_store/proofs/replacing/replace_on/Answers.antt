@@ -22,11 +22,10 @@ returns-in-Ok-clause-replaced g c = λ tells.
     let place = c.args.place in
     let old = page_at c.args.pages.now.pages place in
     let new = page_at c.replace_tuple.new.pages.pages place in
-    let takes = c.in-Ok-None.ensures.none c.in-Ok-None.field-0-is tells in
-    (
+    let takes = c.in-Ok-None.ensures.none c.in-Ok-None.field-0-is tells in (
       takes,
       replaces_on old new c.args.slot c.args.expect.now c.args.bytes.now c.an_index_page_has_one_list.ensures.slots takes.1 takes.0
-      (subst (λ (p : List ℕ). IsRegular REGULAR (set (slots_of p) c.args.slot (Some c.args.bytes.now)) new) (ap (λ (pages : PageMap). page_at pages place) (kept.pages tells)) (c.in-Ok.ensures.replaced (kept.leaves.tells ∙ tells))),
+          (subst (λ (p : List ℕ). IsRegular REGULAR (set (slots_of p) c.args.slot (Some c.args.bytes.now)) new) (ap (λ (pages : PageMap). page_at pages place) (kept.pages tells)) (c.in-Ok.ensures.replaced (kept.leaves.tells ∙ tells))),
     )
 
 pub returns-in-Ok-Some-clause-at : goal.returns-in-Ok-Some-clause-at
