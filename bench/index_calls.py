@@ -2,9 +2,9 @@
 """Times calls on the pages of an index in memory: index_calls.py. No part of the gate.
 
 Builds a small program over revmap and range_store in a copy of the crates by LLVM at -O2, and runs it five times. The program isn't
-proved, so it has the checks of `rt try` in it, and a proved one is somewhat faster. The index has 16384 blocks: a metapage, 16 pages of
-the map, and tuples of 32 bytes on all others. Tells the best time of each call, the search for room where the first page has it, where
-the last one alone has it, and where none has.
+proved, so it has the checks of `rt try` in it, and a proved one is somewhat faster, most where bytes move. The index has 16384 blocks:
+a metapage, 16 pages of the map, 4096 full pages with 226 tuples of 32 bytes each, and a large tuple on all others. Tells the best time
+of each call; the search for room where the first page has it, where the last one alone has it, and where none has.
 """
 import os
 import pathlib
@@ -19,11 +19,12 @@ TOP = os.path.dirname(os.path.dirname(os.path.abspath(__file__)))
 CALLS = {
     "an entry that is set": 1_044_480,
     "an entry that is read": 1_044_480,
-    "a tuple that is put": 982_020,
-    "a tuple that is read": 982_020,
-    "a tuple that gives way to one as long": 982_020,
-    "a tuple that gives way to a longer one": 163_670,
-    "a tuple that is dropped": 163_670,
+    "a tuple that is put where there is room": 925_696,
+    "a tuple that is read": 925_696,
+    "a tuple that is read, of another page each time": 925_696,
+    "a tuple that gives way to one as long": 925_696,
+    "a tuple that is dropped amid a full page": 40_960,
+    "a tuple that gives way to a longer one there": 40_960,
     "room on the first page": 100_000,
     "room on the last page alone": 100_000,
     "room on no page": 100_000,
@@ -58,8 +59,9 @@ const TUPLES: u32 = 17;
 const RANGES: u32 = 16320;
 const ROUNDS: u32 = 64;
 
-/// How many tuples stand on each page.
-const ON_A_PAGE: u32 = 60;
+/// How many tuples fill a page, and how many pages they fill.
+const ON_A_PAGE: u32 = 226;
+const FULL: u32 = 4096;
 
 /// The layout of the table `t(a int8)` with an index.
 fn layout(alloc: Global) -> Option<Layout> {
@@ -128,16 +130,17 @@ fn tuple(range: u32, round: u8) -> [u8; 32] {
     bytes
 }
 
-/// The block of a tuple, one after the other, and its slot.
+/// Where the tuples stand, in order.
 fn spot(n: u32) -> Spot {
     Spot {
-        block: TUPLES + n % (BLOCKS - TUPLES),
-        slot: (n / (BLOCKS - TUPLES)) as u16,
+        block: TUPLES + n / ON_A_PAGE,
+        slot: (n % ON_A_PAGE) as u16,
     }
 }
 
+/// How many tuples there are.
 fn tuples() -> u32 {
-    (BLOCKS - TUPLES) * ON_A_PAGE
+    FULL * ON_A_PAGE
 }
 
 /// Names another spot for each range, in every round.
@@ -164,8 +167,12 @@ fn read_all(pages: &mut Store) -> bool {
     true
 }
 
+/// Puts the tuples, each on the page that is found for it.
 fn put_all(pages: &mut Store) -> bool {
     'puts: for n in 0..tuples() {
+        if room_for(pages, 0, 32) != Some(spot(n).block) {
+            return false;
+        }
         if put(pages, 0, spot(n).block, &tuple(n, 0)) != Ok(spot(n)) {
             return false;
         }
@@ -173,8 +180,10 @@ fn put_all(pages: &mut Store) -> bool {
     true
 }
 
-fn look_all(pages: &mut Store, scratch: &mut Scratch) -> bool {
-    'looks: for n in 0..tuples() {
+/// Reads each tuple, so many further on from one to the next.
+fn look_all(pages: &mut Store, scratch: &mut Scratch, step: u64) -> bool {
+    'looks: for i in 0..tuples() {
+        let n = (u64::from(i) * step % u64::from(tuples())) as u32;
         if tuple_at(pages, 0, spot(n), n, scratch) != Ok(true) {
             return false;
         }
@@ -191,9 +200,24 @@ fn replace_all(pages: &mut Store) -> bool {
     true
 }
 
-/// Of each page 10 tuples get longer, in turn; those behind them move.
+/// Ten tuples of each page, from that slot on: the tuple of that number.
+fn amid(i: u32, slot: u32) -> u32 {
+    i / 10 * ON_A_PAGE + slot + i % 10
+}
+
+fn drop_some(pages: &mut Store) -> bool {
+    'drops: for i in 0..FULL * 10 {
+        if drop_at(pages, 0, spot(amid(i, 100))).is_err() {
+            return false;
+        }
+    }
+    true
+}
+
+/// The tuples behind the longer one move.
 fn lengthen(pages: &mut Store) -> bool {
-    'swaps: for n in 0..(BLOCKS - TUPLES) * 10 {
+    'swaps: for i in 0..FULL * 10 {
+        let n = amid(i, 110);
         let mut bytes = [2; 40];
         bytes[..4].copy_from_slice(&n.to_be_bytes());
         if replace(pages, 0, spot(n), &tuple(n, 1), &bytes).is_err() {
@@ -203,9 +227,10 @@ fn lengthen(pages: &mut Store) -> bool {
     true
 }
 
-fn drop_some(pages: &mut Store) -> bool {
-    'drops: for n in 0..(BLOCKS - TUPLES) * 10 {
-        if drop_at(pages, 0, spot(n)).is_err() {
+/// Puts a large tuple on each page behind the full ones.
+fn fill_rest(pages: &mut Store) -> bool {
+    'puts: for block in TUPLES + FULL..BLOCKS {
+        if put(pages, 0, block, &[1; 4000]).is_err() {
             return false;
         }
     }
@@ -245,17 +270,21 @@ fn main(rt: HostRuntime) -> io::Result<()> {
     let puts = put_all(&mut pages);
     println!(rt; "took {}", start.elapsed(&rt)?.as_nanos())?;
     let start = Instant::now(&rt)?;
-    let looks = look_all(&mut pages, &mut scratch);
+    let looks = look_all(&mut pages, &mut scratch, 1);
+    println!(rt; "took {}", start.elapsed(&rt)?.as_nanos())?;
+    let start = Instant::now(&rt)?;
+    let others = look_all(&mut pages, &mut scratch, 22607);
     println!(rt; "took {}", start.elapsed(&rt)?.as_nanos())?;
     let start = Instant::now(&rt)?;
     let swaps = replace_all(&mut pages);
     println!(rt; "took {}", start.elapsed(&rt)?.as_nanos())?;
     let start = Instant::now(&rt)?;
-    let longer = lengthen(&mut pages);
-    println!(rt; "took {}", start.elapsed(&rt)?.as_nanos())?;
-    let start = Instant::now(&rt)?;
     let drops = drop_some(&mut pages);
     println!(rt; "took {}", start.elapsed(&rt)?.as_nanos())?;
+    let start = Instant::now(&rt)?;
+    let longer = lengthen(&mut pages);
+    println!(rt; "took {}", start.elapsed(&rt)?.as_nanos())?;
+    let filled = fill_rest(&mut pages);
     let start = Instant::now(&rt)?;
     let first = search(&pages, 32, Some(TUPLES));
     println!(rt; "took {}", start.elapsed(&rt)?.as_nanos())?;
@@ -266,8 +295,8 @@ fn main(rt: HostRuntime) -> io::Result<()> {
     let start = Instant::now(&rt)?;
     let none = search(&pages, 8157, None);
     println!(rt; "took {}", start.elapsed(&rt)?.as_nanos())?;
-    println!(rt; "done {} {} {} {} {}", sets, reads, puts, looks, swaps)?;
-    println!(rt; "done {} {} {} {} {}", longer, drops, first, emptied && last, none)
+    println!(rt; "done {} {} {} {} {}", sets, reads, puts, looks, others)?;
+    println!(rt; "done {} {} {} {} {}", swaps, drops, longer, filled && first, emptied && last && none)
 }
 """
 
