@@ -39,24 +39,21 @@ fn rows_are_put_marked_and_read(rt: HostRuntime) -> Result<(), Fail> {
     unstarted_tables_have_no_blocks();
     let first = RowId { t: 1, k: 0 };
     let second = RowId { t: 1, k: 1 };
-    assert_eq!(rt;
-        put_and_mark(&mut store, first, 9),
-        Some(Spot { block: 0, slot: 0 })
-    );
-    assert_eq!(rt;
+    let marked = put_and_mark(&mut store, first, 9);
+    assert_eq!(rt; marked, Some(Spot { block: 0, slot: 0 }));
+    let puts = [
         put(&mut store, 0, second, &[Value::Null]),
-        Ok(Spot { block: 1, slot: 0 })
-    );
-    assert_eq!(rt;
         put(&mut store, 0, second, &[Value::Null]),
-        Err(MachineFault::Full {
-            relation: 1,
-            number: 2,
-        })
-    );
+    ];
+    let full = MachineFault::Full {
+        relation: 1,
+        number: 2,
+    };
+    assert_eq!(rt; puts, [Ok(Spot { block: 1, slot: 0 }), Err(full)]);
     let mut values = Values::new();
     values.push(Value::Int(5));
-    assert_eq!(rt; rows_of(&mut store, 0, 0, &mut rows), Ok(()));
+    let read = rows_of(&mut store, 0, 0, &mut rows);
+    assert_eq!(rt; (read, blocks(&store, 0)), (Ok(()), 2));
     let stored = Stored {
         slot: 0,
         id: first,
@@ -64,6 +61,5 @@ fn rows_are_put_marked_and_read(rt: HostRuntime) -> Result<(), Fail> {
         values,
     };
     assert_eq!(rt; rows.as_slice(), [stored].as_slice());
-    assert_eq!(rt; blocks(&store, 0), 2);
     Ok(())
 }

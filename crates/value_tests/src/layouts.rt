@@ -241,24 +241,24 @@ fn sizes_are_kept_and_passed(rt: HostRuntime) -> Result<(), Fail> {
 
 /// A table of each name, with two columns of the last two names; an index of each name, on these columns of the second
 /// table.
-fn named(rt: &impl Abort, alloc: Global, names: &[&[u8]; 6], on: [u8; 2]) -> Result<Schema, Fail> {
+fn named(rt: &impl Abort, alloc: Global, names: &[&str; 6], on: [u8; 2]) -> Result<Schema, Fail> {
     let mut tables = Tables::new(alloc);
-    for bytes in &names[..2] {
+    for name in &names[..2] {
         let mut columns = Columns::new(alloc);
         for column in &names[4..] {
             columns.push(Column {
-                name: Name::new(column).expect(rt, "a name"),
+                name: Name::new(column.as_bytes()).expect(rt, "a name"),
                 kind: Kind::Int,
             })?;
         }
         tables.push(Table {
-            name: Name::new(bytes).expect(rt, "a name"),
+            name: Name::new(name.as_bytes()).expect(rt, "a name"),
             rows_per_page: 1,
             columns,
         })?;
     }
     let mut indexes = Indexes::new(alloc);
-    for bytes in &names[2..4] {
+    for name in &names[2..4] {
         let mut parts = Parts::new(alloc);
         for column in on {
             parts.push(Part {
@@ -267,7 +267,7 @@ fn named(rt: &impl Abort, alloc: Global, names: &[&[u8]; 6], on: [u8; 2]) -> Res
             })?;
         }
         indexes.push(Index {
-            name: Name::new(bytes).expect(rt, "a name"),
+            name: Name::new(name.as_bytes()).expect(rt, "a name"),
             table: 1,
             pages_per_range: 1,
             auto: false,
@@ -279,16 +279,16 @@ fn named(rt: &impl Abort, alloc: Global, names: &[&[u8]; 6], on: [u8; 2]) -> Res
 
 #[test]
 fn names_are_distinct(rt: HostRuntime) -> Result<(), Fail> {
-    let cases: [([&[u8]; 6], [u8; 2], u8); 9] = [
-        ([b"t", b"u", b"i", b"j", b"k", b"v"], [1, 0], 0),
-        ([b"t", b"u", b"i", b"j", b"i", b"status"], [1, 0], 0),
-        ([b"t", b"t", b"i", b"j", b"k", b"v"], [1, 0], 1),
-        ([b"t", b"u", b"i", b"i", b"k", b"v"], [1, 0], 1),
-        ([b"t", b"u", b"i", b"u", b"k", b"v"], [1, 0], 1),
-        ([b"t", b"status", b"i", b"j", b"k", b"v"], [1, 0], 1),
-        ([b"t", b"u", b"i", b"status", b"k", b"v"], [1, 0], 1),
-        ([b"t", b"u", b"i", b"j", b"k", b"k"], [1, 0], 2),
-        ([b"t", b"u", b"i", b"j", b"k", b"v"], [1, 1], 2),
+    let cases: [([&str; 6], [u8; 2], u8); 9] = [
+        (["t", "u", "i", "j", "k", "v"], [1, 0], 0),
+        (["t", "u", "i", "j", "i", "status"], [1, 0], 0),
+        (["t", "t", "i", "j", "k", "v"], [1, 0], 1),
+        (["t", "u", "i", "i", "k", "v"], [1, 0], 1),
+        (["t", "u", "i", "u", "k", "v"], [1, 0], 1),
+        (["t", "status", "i", "j", "k", "v"], [1, 0], 1),
+        (["t", "u", "i", "status", "k", "v"], [1, 0], 1),
+        (["t", "u", "i", "j", "k", "k"], [1, 0], 2),
+        (["t", "u", "i", "j", "k", "v"], [1, 1], 2),
     ];
     for (names, on, wanted) in cases {
         assert_eq!(rt; broken(named(&rt, rt.alloc(), &names, on)?, SIZES), wanted);
@@ -325,14 +325,16 @@ fn the_pages_of_a_relation_stand_behind_the_log_and_the_relations_before(
         frames: 16,
     };
     let small = layout(&rt, rt.alloc(), sizes)?;
-    assert_eq!(rt; small.disk_size(), 376832);
-    assert_eq!(rt; small.sizes(), sizes);
+    assert_eq!(rt; (small.disk_size(), small.sizes()), (376832, sizes));
     assert_eq!(rt; small.schema().tables.len(), 1);
-    assert_eq!(rt; offset(&small, 0, 0), 270336);
-    assert_eq!(rt; offset(&small, 1, 0), 278528);
-    assert_eq!(rt; offset(&small, 1, 7), 335872);
-    assert_eq!(rt; offset(&small, 2, 0), 344064);
-    assert_eq!(rt; offset(&small, 2, 3), 368640);
+    let offsets = [
+        offset(&small, 0, 0),
+        offset(&small, 1, 0),
+        offset(&small, 1, 7),
+        offset(&small, 2, 0),
+        offset(&small, 2, 3),
+    ];
+    assert_eq!(rt; offsets, [270336, 278528, 335872, 344064, 368640]);
     Ok(())
 }
 
