@@ -1,16 +1,16 @@
 -- one call of the page store after another, and where damage is told
-use Rattle.std.specs.Prelude.{◌≡◌, ◌≢◌, ℕ, ◌≤◌, ◌<◌, List, [], length, slice_index, Option, None, Some, Result, Ok, Err}
-use Rattle.std.proofs.Common.{refl, sym, ap, subst, ◌∙◌, get_or, arith}
+use Rattle.std.specs.Prelude.{◌≡◌, ℕ, ◌≤◌, ◌<◌, List, [], length, None, Result, Ok, Err}
+use Rattle.std.proofs.Common.{sym, ap, ◌∙◌, get_or, arith}
 use Rattle.std.proofs.lemmas.List.{get_or-map, get_or_past, length-map}
 use Rattle.std.proofs.lemmas.Option.{none-some}
-use Rattle.block_model.specs.Causes.{Rose, rose_earlier}
+use Rattle.block_model.specs.Causes.{rose_earlier}
 use Rattle.block_model.specs.declared.place.Place.{Place}
 use Rattle.store_layout.specs.DiskLayout.{DiskLayout, relation_blocks}
 use Rattle.disk_trait.specs.Told.{Told}
 use Rattle.page_store.specs.declared.faults.StoreError.{StoreError}
 use Rattle.page_store.specs.declared.faults.StoreError.TheVariants as errors
-use Rattle.page_store.specs.Keeps.{Keeps, Leaves, Tells, Untold, keeps_then}
-use Rattle.page_store.specs.Outcome.{NamesPage, Outcome, Refused}
+use Rattle.page_store.specs.Keeps.{Keeps, Untold, keeps_then}
+use Rattle.page_store.specs.Outcome.{Outcome, Refused}
 use Rattle.page_store.specs.PageMap.{IsWhole, PageMap, View, block_at, block_limit, page_at, unstarted_page}
 use Rattle.index_contents.specs.IndexChanges.{LeavesOtherPages}
 

@@ -1,8 +1,8 @@
 -- the byte that a page's kind is read from
-use Rattle.std.specs.Prelude.{◌≡◌, ◌≢◌, ℕ, ◌==◌, Bool, true, false, if◌then◌else◌}
+use Rattle.std.specs.Prelude.{◌≡◌, ℕ, ◌==◌, Bool, true, false, if◌then◌else◌}
 use Rattle.std.proofs.Common.{refl, ap, subst}
 use Rattle.std.proofs.lemmas.Bool.{eqb-true}
-use Rattle.index_layout.specs.declared.format.TheConstants.{UNSTARTED, META, MAP, REGULAR}
+use Rattle.index_layout.specs.declared.format.TheConstants.{UNSTARTED, REGULAR}
 use Rattle.coverage.specs.IndexView.{PageKind, Unstarted, Mapping, Regular, Emptying}
 use Rattle.index_contents.specs.IndexContents.{kind_at, map_kind}
 

@@ -1,13 +1,13 @@
 -- what a change of an entry makes of what the index has
-use Rattle.std.specs.Prelude.{◌≡◌, ◌≢◌, ◌⊎◌, ℕ, ◌+◌, ◌/◌, ◌%◌, ◌==◌, nat_le, Bool, true, false, List, [], drop, slice_index, slice_index_or, Option, None, Some, if◌then◌else◌}
-use Rattle.std.proofs.Common.{inl, inr, refl, sym, ap, ◌∙◌, arith}
+use Rattle.std.specs.Prelude.{◌≡◌, ◌≢◌, ℕ, ◌%◌, ◌==◌, nat_le, Bool, true, List, [], drop, slice_index, slice_index_or, Option, None, if◌then◌else◌}
+use Rattle.std.proofs.Common.{inl, inr, sym, ap, ◌∙◌, arith}
 use Rattle.std.proofs.lemmas.Bool.{cases_eq}
 use Rattle.block_model.specs.declared.place.Spot.{Spot}
-use Rattle.index_layout.specs.declared.format.TheConstants.{MAP, REGULAR, EVACUATED, MAP_ENTRIES}
+use Rattle.index_layout.specs.declared.format.TheConstants.{MAP, REGULAR, MAP_ENTRIES}
 use Rattle.index_layout.specs.IndexPages.{IsMap, Slot, map_bytes}
 use Rattle.index_layout.specs.IndexReading.{entries_of, free_of, is_regular, map_pages_of, number_at, slots_in, slots_of}
 use Rattle.index_layout.specs.IndexWrites.{room_for_further, room_on}
-use Rattle.coverage.specs.IndexView.{Pages, map_page_of}
+use Rattle.coverage.specs.IndexView.{map_page_of}
 use Rattle.index_contents.specs.IndexContents.{beside, contents_in, entry_in, entry_on, kind_at, pages_in, room_in_place, tuple_on}
 use Rattle.index_contents.specs.IndexChanges.{SetsEntry}
 use Rattle.index_contents.specs.PageLaws.{StayBeside}

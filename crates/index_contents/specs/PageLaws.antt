@@ -1,5 +1,5 @@
 -- what a change of one page of an index makes of what the index has
-use Rattle.std.specs.Prelude.{◌≡◌, ◌≢◌, ◌⊎◌, ℕ, ◌+◌, ◌%◌, ◌==◌, ◌≤◌, ◌<◌, nat_le, Bool, false, List, [], drop, length, slice_index, slice_index_or, Option, None, Some, if◌then◌else◌}
+use Rattle.std.specs.Prelude.{◌≡◌, ◌≢◌, ◌⊎◌, ℕ, ◌%◌, ◌==◌, ◌≤◌, ◌<◌, nat_le, Bool, false, List, [], drop, length, slice_index, slice_index_or, Option, None, Some, if◌then◌else◌}
 use Rattle.std.proofs.Common.{inl, inr, refl, sym, ap, ◌∙◌, arith}
 use Rattle.std.proofs.lemmas.Bool.{cases_eq, cases_lt}
 use Rattle.block_model.specs.declared.place.Place.{Place}
@@ -7,17 +7,15 @@ use Rattle.block_model.specs.declared.place.Spot.{Spot}
 use Rattle.store_layout.specs.DiskLayout.{DiskLayout}
 use Rattle.disk_trait.specs.Told.{Told}
 use Rattle.page_store.specs.Keeps.{Tells}
-use Rattle.page_store.specs.PageMap.{PageMap, View, block_at, page_at}
+use Rattle.page_store.specs.PageMap.{View}
 use Rattle.index_layout.specs.declared.format.TheConstants.{META, MAP, MAP_ENTRIES}
 use Rattle.index_layout.specs.IndexPages.{Slot}
 use Rattle.index_layout.specs.IndexReading.{entries_in, entries_of, map_pages_of, number_at}
 use Rattle.index_layout.specs.IndexWrites.{room_on}
-use Rattle.coverage.specs.IndexView.{PageKind, Regular, Pages, map_page_of}
-use Rattle.coverage.specs.Changes.{BecomesAt, ChangesAt}
+use Rattle.coverage.specs.IndexView.{PageKind, Regular, map_page_of}
 use Rattle.coverage.specs.Steps.{TurnsPage}
-use Rattle.coverage.specs.Verdicts.{IsFreeSlot, IsLowestNumber}
 use Rattle.index_contents.specs.IndexContents.{contents, contents_in, entry_in, entry_on, index_page, kind_at, pages_in, relation_of, room_in_place, tuple_on}
-use Rattle.index_contents.specs.IndexChanges.{DropsBytes, LeavesOtherPages, LeavesOthers, PutsBytes, ReplacesBytes, SetsEntry}
+use Rattle.index_contents.specs.IndexChanges.{DropsBytes, LeavesOtherPages, LeavesOthers, PutsBytes, ReplacesBytes}
 
 -- every page but the one of this block is as before
 abbrev pub StayBeside : ℕ → (ℕ → List ℕ) → (ℕ → List ℕ) → Type 0

@@ -1,6 +1,6 @@
 -- what an index has where its pages say it
-use Rattle.std.specs.Prelude.{◌≡◌, ◌≢◌, ℕ, suc, ◌+◌, ◌%◌, ◌==◌, ◌≤◌, ◌<◌, nat_le, Bool, true, false, List, [], drop, slice_index, slice_index_or, Option, None, Some, replicate, if◌then◌else◌}
-use Rattle.std.proofs.Common.{refl, sym, ap, subst, ◌∙◌, arith}
+use Rattle.std.specs.Prelude.{◌≡◌, ℕ, ◌+◌, ◌%◌, ◌≤◌, ◌<◌, Bool, List, [], drop, slice_index, slice_index_or, Option, None, if◌then◌else◌}
+use Rattle.std.proofs.Common.{refl, sym, ap, ◌∙◌, arith}
 use Rattle.std.proofs.lemmas.Bool.{le-leb, lt-leb, ne_eqb}
 use Rattle.std.proofs.lemmas.List.{get_or-replicate}
 use Rattle.block_model.specs.declared.limits.TheConstants.{PAGE_SIZE}
@@ -8,10 +8,9 @@ use Rattle.block_model.specs.declared.place.Spot.{Spot}
 use Rattle.store_layout.specs.DiskLayout.{DiskLayout}
 use Rattle.page_store.specs.PageMap.{PageMap, block_at, unstarted_page}
 use Rattle.index_layout.specs.declared.format.TheConstants.{UNSTARTED, META, MAP, MAP_ENTRIES}
-use Rattle.index_layout.specs.IndexPages.{Slot}
-use Rattle.index_layout.specs.IndexReading.{entries_of, is_regular, map_pages_of, number_at, slots_in, slots_of}
+use Rattle.index_layout.specs.IndexReading.{is_regular, map_pages_of, number_at, slots_in, slots_of}
 use Rattle.coverage.specs.IndexView.{Mapping, map_page_of}
-use Rattle.index_contents.specs.IndexContents.{contents, entry_in, entry_on, index_page, kind_at, map_kind, relation_of, tuple_on}
+use Rattle.index_contents.specs.IndexContents.{contents, entry_on, index_page, map_kind, relation_of, tuple_on}
 use Rattle.index_contents.specs.Kinds.{is_map_page}
 use Rattle.index_contents.specs.PageLaws.{no_map}
 

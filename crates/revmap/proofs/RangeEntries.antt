@@ -1,8 +1,9 @@
 -- An entry of the map, by its page.
-use Rattle.std.proofs.Common.{◌≡◌, ◌≢◌, ℕ, zero, suc, ◌+◌, ◌/◌, ◌%◌, ◌==◌, ◌<◌, ◌≤◌, true, List, [], drop, set, get_or, length, refl, sym, ap, subst, ◌∙◌, arith}
+use Rattle.std.proofs.Common.{◌≡◌, ◌≢◌, ℕ, zero, suc, ◌/◌, ◌%◌, ◌==◌, ◌<◌, ◌≤◌, Bool, inl, inr, List, [], drop, set, length, refl, sym, ap, subst, ◌∙◌, arith}
 use Rattle.std.specs.Prelude.{slice_index, slice_index_or, Option, None, Some, if◌then◌else◌}
-use Rattle.std.proofs.lemmas.Bool.{le-leb}
+use Rattle.std.proofs.lemmas.Bool.{cases_eq, cases_lt, le-leb, ne_eqb}
 use Rattle.std.proofs.lemmas.List.{get_or-set_same, get_or-set_other}
+use Rattle.std.proofs.lemmas.Option.{none-some}
 use Rattle.block_model.specs.declared.place.Place.{Place}
 use Rattle.block_model.specs.declared.place.Spot.{Spot}
 use Rattle.store_layout.specs.DiskLayout.{DiskLayout}
@@ -14,16 +15,16 @@ use Rattle.page_layout.specs.PageWrites.{IsOfIndex}
 use Rattle.wal_record.specs.Changes.{MapSet}
 use Rattle.page_store.specs.Forms.{FitsIn, IsPageIn, form_of}
 use Rattle.page_store.specs.Keeps.{Tells}
-use Rattle.page_store.specs.PageMap.{PageMap, View, block_at, page_at, unstarted_page}
+use Rattle.page_store.specs.PageMap.{PageMap, View, block_at, unstarted_page}
 use Rattle.index_layout.specs.declared.format.TheConstants.{MAP, MAP_ENTRIES}
 use Rattle.index_layout.specs.IndexPages.{IsMap}
 use Rattle.index_layout.specs.IndexReading.{entries_in, entries_of, map_pages_of}
-use Rattle.coverage.specs.IndexView.{Mapping, map_page_of}
-use Rattle.index_contents.specs.IndexContents.{contents, entry_in, entry_on, index_page, relation_of}
+use Rattle.coverage.specs.IndexView.{Emptying, IsPastMap, Mapping, map_page_of}
+use Rattle.index_contents.specs.IndexContents.{contents, entry_in, entry_on, index_page, kind_at, relation_of}
 use Rattle.index_contents.specs.IndexChanges.{LeavesOtherPages, SetsEntry}
 use Rattle.index_contents.specs.MapLaws.{is_of_map, sets_entry}
 use Rattle.index_contents.specs.PageLaws.{StayBeside, blocks_stay}
-use Rattle.index_contents.specs.Reading.{counted_entry, is_map, no_entry, unstarted_kind}
+use Rattle.index_contents.specs.Reading.{counted_entry, is_map, map_byte, no_entry, uncounted, unstarted_kind}
 use Rattle.revmap.specs.MapEntries.{HoldsRange}
 
 -- the page that holds a range is of the map
@@ -94,3 +95,27 @@ pub entry_past : (layout : DiskLayout) (pages : PageMap) (index range relation b
 entry_past layout pages index range relation block counted at on is above past =
     let found : entry_on (block_at pages relation (map_page_of range)) range ≡ None = ap (λ (b : ℕ). entry_on (block_at pages relation b) range) (sym on) ∙ ap (λ (p : List ℕ). entry_on p range) past ∙ no_entry range in
     counted_entry layout pages index range relation counted None at is (omega (arith, above, on)) found
+
+-- no entry is past the map
+pub past_is_none : (layout : DiskLayout) (pages : PageMap) (index range : ℕ) → IsPastMap (contents layout pages index).pages range → (contents layout pages index).entry range ≡ None
+unfolding contents
+past_is_none layout pages index range past = uncounted layout pages index range (relation_of layout index) (map_pages_of (index_page layout pages index 0)) refl refl past
+
+-- a page of another kind has no entry
+no_entries : (page : List ℕ) (range : ℕ) → slice_index page 0 ≢ MAP → entry_on page range ≡ None
+unfolding entries_of
+no_entries page range apart = ap (λ (b : Bool). slice_index_or {A = Option Spot} (if b then entries_in MAP_ENTRIES (drop 32 page) else []) (range % MAP_ENTRIES) None) (ne_eqb (slice_index page 0) MAP apart)
+
+-- one that names a spot is held
+pub named_is_held : (layout : DiskLayout) (pages : PageMap) (index range : ℕ) (spot : Spot) → (contents layout pages index).entry range ≡ Some spot → HoldsRange (contents layout pages index).pages range
+unfolding contents
+named_is_held layout pages index range spot named =
+    let f : ℕ → List ℕ = index_page layout pages index in
+    let block : ℕ = map_page_of range in
+    elim (cases_lt (map_pages_of (f 0)) block) [
+      | inl past ↦ absurd (none-some spot (sym (past_is_none layout pages index range past) ∙ named))
+      | inr counted ↦ elim (cases_eq (slice_index (f block) 0) MAP) [
+        | inl map ↦ (counted, ap (kind_at block) map ∙ ap (λ (k : ℕ). if MAP == k then Mapping else Emptying) (map_byte (range / 1020)))
+        | inr apart ↦ absurd (none-some spot (sym (counted_entry layout pages index range (relation_of layout index) (map_pages_of (f 0)) None refl refl counted (no_entries (f block) range apart)) ∙ named))
+      ]
+    ]

@@ -6,7 +6,9 @@
 
 mod entries;
 mod faults;
+mod laws;
 mod map_pages;
 
 pub use entries::{entry, set};
 pub use faults::SetFault;
+pub use laws::entries_stand_on_counted_pages;

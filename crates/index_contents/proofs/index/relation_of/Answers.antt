@@ -1,4 +1,4 @@
-use Rattle.std.proofs.Common.{ℕ, ◌+◌, List, length, ap, ◌∙◌, arith}
+use Rattle.std.proofs.Common.{ℕ, ◌+◌, ap, ◌∙◌, arith}
 use Rattle.store_layout.specs.RelationCounts.{count_relations}
 use Rattle.page_store.specs.Forms.{form_of}
 use Rattle.page_store.specs.PageMap.{block_limit}
