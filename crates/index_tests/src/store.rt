@@ -108,13 +108,11 @@ fn layout(alloc: Global) -> Option<Layout>
     ensures limit { IfSome result (λ layout. layout.sizes.index_blocks ≡ 8) }
     ensures blocks { IfSome result (λ layout. relation_blocks layout ≡ 1 ∷ 1 ∷ 8 ∷ 8 ∷ []) }
 {
+    let mut tables = Sequence::new(alloc);
+    tables.push(table(alloc)?).ok()?;
     let mut indexes = Sequence::new(alloc);
     indexes.push(index(alloc, b"i")?).ok()?;
     indexes.push(index(alloc, b"j")?).ok()?;
-    let schema = Schema {
-        tables: tables(alloc)?,
-        indexes,
-    };
     let sizes = Sizes {
         heap_blocks: 1,
         index_blocks: BLOCKS,
@@ -122,13 +120,11 @@ fn layout(alloc: Global) -> Option<Layout>
         log_pages: 16,
         frames: 16,
     };
-    Layout::new(schema, sizes).ok()
+    Layout::new(Schema { tables, indexes }, sizes).ok()
 }
 
-/// The table `t(a int8)` alone.
-fn tables(alloc: Global) -> Option<Sequence<Table>>
-    ensures { IfSome result (λ tables. length tables ≡ 1) }
-{
+/// The table `t(a int8)`.
+fn table(alloc: Global) -> Option<Table> {
     let mut columns = Sequence::new(alloc);
     columns
         .push(Column {
@@ -136,15 +132,11 @@ fn tables(alloc: Global) -> Option<Sequence<Table>>
             kind: Kind::Int,
         })
         .ok()?;
-    let mut tables = Sequence::new(alloc);
-    tables
-        .push(Table {
-            name: Name::new(b"t")?,
-            rows_per_page: 1,
-            columns,
-        })
-        .ok()?;
-    Some(tables)
+    Some(Table {
+        name: Name::new(b"t")?,
+        rows_per_page: 1,
+        columns,
+    })
 }
 
 /// An index of least and greatest values of the column.
