@@ -77,13 +77,20 @@ fn malformed_bytes_name_their_place(rt: HostRuntime) {
     let mut bytes = [0u8; 17];
     bytes[7] = 2;
     bytes[15] = 1;
-    let cases: [(&[u8], usize); 4] = [
-        (&bytes[..16], 8),
-        (&bytes[..15], 15),
-        (&bytes, 8),
-        (&[0; 17], 16),
-    ];
-    for (bytes, at) in cases {
-        assert_eq!(rt; class.decode(bytes, &mut summary), Err(Malformed { at }));
-    }
+    assert_eq!(rt;
+        class.decode(&bytes[..16], &mut summary),
+        Err(Malformed { at: 8 })
+    );
+    assert_eq!(rt;
+        class.decode(&bytes[..15], &mut summary),
+        Err(Malformed { at: 15 })
+    );
+    assert_eq!(rt;
+        class.decode(&bytes, &mut summary),
+        Err(Malformed { at: 8 })
+    );
+    assert_eq!(rt;
+        class.decode(&[0; 17], &mut summary),
+        Err(Malformed { at: 16 })
+    );
 }
