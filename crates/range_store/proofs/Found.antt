@@ -1,8 +1,8 @@
 -- The tuple in a slot by its entry of the directory, and its length.
-use Rattle.std.proofs.Common.{◌≡◌, ◌≢◌, inl, inr, ℕ, zero, suc, ◌+◌, ◌*◌, ◌<◌, ◌≤◌, ◌==◌, Bool, true, false, List, [], ◌∷◌, length, take, drop, get_or, refl, sym, ap, ◌∙◌, arith}
+use Rattle.std.proofs.Common.{◌≡◌, ◌≢◌, ℕ, zero, suc, ◌+◌, ◌*◌, ◌<◌, ◌≤◌, ◌==◌, Bool, true, false, List, [], ◌∷◌, length, take, drop, get_or, refl, sym, ap, ◌∙◌, arith}
 use Rattle.std.specs.Prelude.{slice_index, slice_index_or, None, Some, if◌then◌else◌}
 use Rattle.std.proofs.lemmas.List.{drop-drop}
-use Rattle.std.proofs.lemmas.Bool.{cases_eq, le-ltb, lt-ltb, ne_eqb}
+use Rattle.std.proofs.lemmas.Bool.{le-ltb, lt-ltb, ne_eqb}
 use Rattle.std.proofs.lemmas.Option.{none-some}
 use Rattle.byte_fields.specs.Fields.{field_at, number_of}
 use Rattle.index_layout.specs.declared.format.TheConstants.{REGULAR}
@@ -98,13 +98,6 @@ pub directory_within : (page : List ℕ) (slot : ℕ) → (is_regular (slice_ind
 directory_within page slot regular below =
     let room : taken (slots_of page) ≤ 8160 = (regular (has_tuples page slot below)).has.fit.room in
     omega (arith, room, below, four_each (slots_of page))
-
--- a page with room in place of a tuple takes tuples
-pub takes_some : (page : List ℕ) (slot need : ℕ) → 0 < need → need ≤ room_in_place page slot → slice_index page 0 ≡ REGULAR
-takes_some page slot need some room = elim (cases_eq (slice_index page 0) REGULAR) [
-  | inl is ↦ is
-  | inr apart ↦ let none = no_room_there page slot apart in absurd (omega (arith, some, room, none))
-]
 
 -- where a slot's tuple begins
 pub place_there : (page : List ℕ) (slot at : ℕ) → slot < length (slots_of page) → at ≡ number_of (field_at page (32 + slot * 4) 2) → at ≡ place_on page slot

@@ -1,11 +1,11 @@
 -- A change of a page that was read before it.
-use Rattle.std.proofs.Common.{◌≡◌, ◌≢◌, ℕ, ◌<◌, ◌≤◌, ◌==◌, Bool, true, false, inl, inr, List, length, refl, sym, ap, subst, ◌∙◌, arith}
+use Rattle.std.proofs.Common.{◌≡◌, ◌≢◌, ℕ, ◌<◌, ◌≤◌, ◌==◌, Bool, true, false, inl, inr, List, length, refl, sym, ap, subst}
 use Rattle.std.specs.Prelude.{slice_index, slice_index_or, None, Some, if◌then◌else◌}
 use Rattle.std.proofs.lemmas.Bool.{eqb-true}
 use Rattle.index_layout.specs.declared.format.TheConstants.{REGULAR, UNSTARTED}
 use Rattle.index_layout.specs.IndexPages.{IsRegular, Slot}
 use Rattle.index_layout.specs.IndexReading.{free_slot_of, slots_of}
-use Rattle.index_layout.specs.IndexWrites.{CanPut, put_in, room_on}
+use Rattle.index_layout.specs.IndexWrites.{put_in}
 use Rattle.range_store.specs.PageTuples.{PutsOn, TakesOn}
 use Rattle.range_store.specs.declared.putting.Opening.{Opening}
 use Rattle.range_store.specs.declared.putting.Opening.TheVariants as openings
@@ -41,13 +41,6 @@ new_page_is page is = on (slice_index page 0 == REGULAR) (slice_index page 0 == 
 pub closed_takes_none : (page : List ℕ) (size : ℕ) → openings.Closed ≡ opening_of page → TakesOn page size → ⊥
 closed_takes_none page size closed (inl regular) = let e = ap (λ (k : ℕ). opening_by k (slots_of page)) regular.0 in absurd cc
 closed_takes_none page size closed (inr unstarted) = let e = ap (λ (k : ℕ). opening_by k (slots_of page)) unstarted in absurd cc
-
--- there it has room
-pub can_put : (page : List ℕ) (slot size : ℕ) → ((p : List ℕ) (s : ℕ) → 0 < s → s ≤ room_on p → CanPut p (free_slot_of (slots_of p)) s) → 0 < size → openings.Slot slot ≡ opening_of page → TakesOn page size → CanPut page slot size
-can_put page slot size room some is (inl regular) = subst (λ (n : ℕ). CanPut page n size) (sym (slot_is page slot is).1) (room page size some regular.1)
-can_put page slot size room some is (inr unstarted) =
-    let kind : 0 ≡ 5 = sym unstarted ∙ (slot_is page slot is).0 in
-    absurd (omega (arith, kind))
 
 -- a tuple is put on the page as it was read
 pub puts_after : (old mid new : List ℕ) (slot : ℕ) (bytes : List ℕ) → HasOneList → ((list : List Slot) → slice_index_or list (free_slot_of list) None ≡ None) → ((list : List Slot) (n : ℕ) → n < free_slot_of list → slice_index_or list n None ≢ None)

@@ -1,5 +1,5 @@
 -- What changes of one page make of its tuples.
-use Rattle.std.proofs.Common.{◌≡◌, ◌≢◌, ℕ, zero, suc, ◌<◌, ◌≤◌, true, inl, inr, List, [], ◌∷◌, length, set, get_or, refl, sym, ap, ◌∙◌, arith}
+use Rattle.std.proofs.Common.{◌≡◌, ◌≢◌, ℕ, zero, suc, ◌<◌, true, inl, inr, List, [], ◌∷◌, length, set, get_or, refl, sym, ap, ◌∙◌, arith}
 use Rattle.std.specs.Prelude.{slice_index, slice_index_or, None, Some}
 use Rattle.std.proofs.lemmas.Bool.{cases_lt}
 use Rattle.std.proofs.lemmas.List.{get_or_past, get_or-set_same, get_or-set_other}
@@ -97,11 +97,3 @@ drops_on old new slot one trims is below put =
       };
       map = inr (tuples_say_none old is, tuples_say_none new (ap is_regular kind ∙ is));
     }
-
--- or was so
-pub free_on : (page : List ℕ) (slot : ℕ) → length (slots_of page) ≤ slot → DropsOn page page slot
-free_on page slot past = record {
-  kind = refl;
-  changes = record { now = get_or_past (slots_of page) slot None past; others = λ n apart. refl };
-  map = inl refl;
-}
