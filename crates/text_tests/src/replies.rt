@@ -1,8 +1,7 @@
 //! Replies.
 
 use block_model::{
-    Blocks, Name, Net, NoMemory, Point, Refusal, Reply, Row, RowId, Rows, Span8, Value, Values,
-    What,
+    Blocks, Name, Net, Point, Refusal, Reply, Row, RowId, Rows, Span8, Value, Values, What,
 };
 use reply_texts::{Dropped, render, render_dropped, render_moved, render_refusal, render_started};
 use std::alloc::Global;
@@ -50,6 +49,7 @@ fn rows_are_printed_with_their_values(rt: HostRuntime) -> Result<(), Fail> {
 
 #[test]
 fn replies_are_printed_exactly(rt: HostRuntime) -> Result<(), Fail> {
+    let index = name_of(b"i")?;
     let replies = [
         Reply::Begun { t: 7 },
         Reply::Inserted {
@@ -66,7 +66,7 @@ fn replies_are_printed_exactly(rt: HostRuntime) -> Result<(), Fail> {
             ranges: 3,
         },
         Reply::Worked {
-            index: name_of(b"i")?,
+            index,
             range: 4,
             count: 1,
         },
@@ -80,23 +80,24 @@ fn replies_are_printed_exactly(rt: HostRuntime) -> Result<(), Fail> {
     Ok(())
 }
 
-fn kept(alloc: Global, blocks: &[u32]) -> Result<Reply, NoMemory> {
+/// What is printed of the blocks.
+fn printed_blocks(alloc: Global, blocks: &[u32]) -> Result<Vec<u8>, Fail> {
     let blocks = Vec::from_slice(alloc, blocks)?;
-    Ok(Reply::Kept(Blocks::from_vec(blocks)))
+    rendered(alloc, &[Reply::Kept(Blocks::from_vec(blocks))])
 }
 
 #[test]
 fn blocks_are_printed_as_runs(rt: HostRuntime) -> Result<(), Fail> {
-    let alloc = rt.alloc();
-    let replies = [
-        kept(alloc, &[])?,
-        kept(alloc, &[0])?,
-        kept(alloc, &[0, 1])?,
-        kept(alloc, &[0, 2, 3, 4, 7, 8])?,
+    let cases: [(&[u32], &str); 4] = [
+        (&[], "s1 blocks none\n"),
+        (&[0], "s1 blocks 0\n"),
+        (&[0, 1], "s1 blocks 0-1\n"),
+        (&[0, 2, 3, 4, 7, 8], "s1 blocks 0 2-4 7-8\n"),
     ];
-    let out = rendered(alloc, &replies)?;
-    let expected = "s1 blocks none\ns1 blocks 0\ns1 blocks 0-1\ns1 blocks 0 2-4 7-8\n";
-    assert_eq!(rt; out.as_slice(), expected.as_bytes());
+    for (blocks, text) in cases {
+        let out = printed_blocks(rt.alloc(), blocks)?;
+        assert_eq!(rt; out.as_slice(), text.as_bytes());
+    }
     Ok(())
 }
 
@@ -107,36 +108,44 @@ fn refusals_of_a_session_are_printed_exactly(rt: HostRuntime) -> Result<(), Fail
     let number = 16;
     let page = What::Page { relation, block: 2 };
     let work = What::Work { table: relation };
-    let replies = [
-        Reply::Refused(Refusal::NoTransaction),
-        Reply::Refused(Refusal::UnderWay),
-        Reply::Refused(Refusal::Doomed),
-        Reply::Refused(Refusal::Conflict {
-            id: RowId { t: 1, k: 0 },
-        }),
-        Reply::Refused(Refusal::Full { relation, number }),
-        Reply::Refused(Refusal::Limit { limit: 64 }),
-        Reply::Refused(Refusal::Blocked { what: page, holder }),
-        Reply::Refused(Refusal::Blocked { what: work, holder }),
-        Reply::Refused(Refusal::InHand),
-        Reply::Refused(Refusal::Memory),
-        Reply::Refused(Refusal::NothingStarted),
+    let id = RowId { t: 1, k: 0 };
+    let cases = [
+        (Refusal::NoTransaction, "s1 error 4\n"),
+        (Refusal::UnderWay, "s1 error 5\n"),
+        (Refusal::Doomed, "s1 error 6\n"),
+        (Refusal::Conflict { id }, "s1 error 7 1.0\n"),
+        (Refusal::Full { relation, number }, "s1 error 8 t 16\n"),
+        (Refusal::Limit { limit: 64 }, "s1 error 10 64\n"),
+        (
+            Refusal::Blocked { what: page, holder },
+            "s1 error 11 page t 2 m\n",
+        ),
+        (
+            Refusal::Blocked { what: work, holder },
+            "s1 error 11 work t m\n",
+        ),
+        (Refusal::InHand, "s1 error 12\n"),
+        (Refusal::Memory, "s1 error 13\n"),
+        (Refusal::NothingStarted, "s1 error 14\n"),
     ];
-    let out = rendered(rt.alloc(), &replies)?;
-    let expected = "s1 error 4\ns1 error 5\ns1 error 6\ns1 error 7 1.0\ns1 error 8 t 16\n\
-        s1 error 10 64\ns1 error 11 page t 2 m\ns1 error 11 work t m\n\
-        s1 error 12\ns1 error 13\ns1 error 14\n";
-    assert_eq!(rt; out.as_slice(), expected.as_bytes());
+    for (refusal, text) in cases {
+        let out = rendered(rt.alloc(), &[Reply::Refused(refusal)])?;
+        assert_eq!(rt; out.as_slice(), text.as_bytes());
+    }
     Ok(())
 }
 
 #[test]
 fn refusals_of_a_line_name_no_session(rt: HostRuntime) -> Result<(), Fail> {
     let mut out = Vec::new(rt.alloc());
-    render_refusal(&Refusal::Syntax { at: 3 }, &mut out)?;
-    render_refusal(&Refusal::NoTable { at: 4 }, &mut out)?;
-    render_refusal(&Refusal::NoColumn { at: 5 }, &mut out)?;
-    render_refusal(&Refusal::NoIndex { at: 6 }, &mut out)?;
+    for refusal in [
+        Refusal::Syntax { at: 3 },
+        Refusal::NoTable { at: 4 },
+        Refusal::NoColumn { at: 5 },
+        Refusal::NoIndex { at: 6 },
+    ] {
+        render_refusal(&refusal, &mut out)?;
+    }
     let expected = b"- error 1 3\n- error 2 4\n- error 3 5\n- error 9 6\n";
     assert_eq!(rt; out.as_slice(), expected.as_slice());
     Ok(())
@@ -197,9 +206,9 @@ const POINTS: [(Point, &str); 22] = [
 #[test]
 fn each_point_has_its_word(rt: HostRuntime) -> Result<(), Fail> {
     let session = name_of(b"m")?;
-    for (point, word) in POINTS {
+    for (point, word) in &POINTS {
         let mut out = Vec::new(rt.alloc());
-        render_moved(&session, point, &mut out)?;
+        render_moved(&session, *point, &mut out)?;
         let expected = format!(in rt.alloc(); "m moved {word}\n")?;
         assert_eq!(rt; out.as_slice(), expected.as_bytes());
     }
