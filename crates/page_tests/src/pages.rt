@@ -98,9 +98,8 @@ fn faults_of_a_status_page_are_in_its_header(rt: HostRuntime) {
 #[test]
 fn a_page_of_zeros_is_of_every_form(rt: HostRuntime) {
     let page = Page::zeroed();
-    assert_eq!(rt; check(&page, Form::Status), Ok(()));
-    assert_eq!(rt; check(&page, heap()), Ok(()));
-    assert_eq!(rt; kind_of(&page), 0);
+    let checks = [check(&page, Form::Status), check(&page, heap())];
+    assert_eq!(rt; (checks, kind_of(&page)), ([Ok(()); 2], 0));
 }
 
 #[test]
@@ -167,23 +166,25 @@ fn table(rt: &impl Abort, alloc: Global) -> Result<Table, Fail>
 #[test]
 fn a_row_of_one_number_has_thirty_bytes(rt: HostRuntime) -> Result<(), Fail> {
     let table = table(&rt, rt.alloc())?;
-    assert_eq!(rt; row_size(&table, 1), 30);
+    let size = row_size(&table, 1);
     let id = RowId { t: 1, k: 0 };
     let mut out = [9; 30];
     encode_row(&table, 1, id, 0, &[Value::Int(5)], &mut out);
-    assert_eq!(rt; out, int8_rows::ROW);
+    assert_eq!(rt; (size, out), (30, int8_rows::ROW));
     let mut values = Values::new();
-    assert_eq!(rt; decode_row(&table, 1, &out, &mut values), (id, 0));
+    let (read, deleter) = decode_row(&table, 1, &out, &mut values);
+    assert_eq!(rt; (read, deleter), (id, 0));
     assert_eq!(rt; values.as_slice(), [Value::Int(5)].as_slice());
     Ok(())
 }
 
-/// How many slots are free, and the lowest one, where the page has no fault.
-fn free_of(page: &Page, form: &Form) -> Option<(u16, Option<u16>)>
+/// How many slots are free, and the lowest one, where the page of these bytes has no fault.
+fn free_of(bytes: &[u8; 8192], form: &Form) -> Option<(u16, Option<u16>)>
     requires { IsForm form.now }
 {
-    match check(page, *form) {
-        Ok(()) => Some((free_slots(page, *form), first_free(page, *form))),
+    let page = Page::from_bytes(bytes);
+    match check(&page, *form) {
+        Ok(()) => Some((free_slots(&page, *form), first_free(&page, *form))),
         Err(_) => None,
     }
 }
@@ -191,25 +192,15 @@ fn free_of(page: &Page, form: &Form) -> Option<(u16, Option<u16>)>
 #[test]
 fn free_slots_are_those_without_a_row(rt: HostRuntime) {
     let mut bytes = [0; 8192];
-    assert_eq!(rt;
-        free_of(&Page::from_bytes(&bytes), &heap()),
-        Some((0, None))
-    );
+    let unstarted = free_of(&bytes, &heap());
     bytes[0] = 2;
-    assert_eq!(rt;
-        free_of(&Page::from_bytes(&bytes), &heap()),
-        Some((2, Some(0)))
-    );
+    let empty = free_of(&bytes, &heap());
     bytes[32..85].copy_from_slice(&ROW);
-    assert_eq!(rt;
-        free_of(&Page::from_bytes(&bytes), &heap()),
-        Some((1, Some(1)))
-    );
+    let half = free_of(&bytes, &heap());
     bytes[85..138].copy_from_slice(&ROW);
-    assert_eq!(rt;
-        free_of(&Page::from_bytes(&bytes), &heap()),
-        Some((0, None))
-    );
+    let full = free_of(&bytes, &heap());
+    assert_eq!(rt; [unstarted, full], [Some((0, None)); 2]);
+    assert_eq!(rt; [empty, half], [Some((2, Some(0))), Some((1, Some(1)))]);
     assert_eq!(rt; slot_count(&heap()), 2);
 }
 
@@ -228,9 +219,9 @@ fn free_slots_are_looked_for_from_a_slot_on(rt: HostRuntime) {
     let mut bytes = [0; 8192];
     bytes[0] = 2;
     let page = Page::from_bytes(&bytes);
-    assert_eq!(rt; free_from(&page, &heap(), 0), Some(0));
-    assert_eq!(rt; free_from(&page, &heap(), 1), Some(1));
-    assert_eq!(rt; free_from(&page, &heap(), 2), None);
+    for (from, free) in [(0, Some(0)), (1, Some(1)), (2, None)] {
+        assert_eq!(rt; free_from(&page, &heap(), from), free);
+    }
 }
 
 #[test]

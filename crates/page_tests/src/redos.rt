@@ -40,13 +40,17 @@ fn heap_pages_take_rows_and_marks(rt: HostRuntime) {
         bytes: &ROW,
     };
     let start = Change::PageStart { place, kind: 2 };
-    assert_eq!(rt; misfit(&mut page, &put, heap()), Some(3));
-    assert_eq!(rt; misfit(&mut page, &start, heap()), None);
-    assert_eq!(rt; page.as_bytes(), bytes.as_slice());
-    assert_eq!(rt; misfit(&mut page, &put, heap()), None);
+    let begun = [
+        misfit(&mut page, &put, heap()),
+        misfit(&mut page, &start, heap()),
+    ];
+    let is_empty = page.as_bytes() == bytes.as_slice();
+    assert_eq!(rt; (begun, is_empty), ([Some(3), None], true));
+    let first = misfit(&mut page, &put, heap());
     bytes[62..92].copy_from_slice(&ROW);
-    assert_eq!(rt; page.as_bytes(), bytes.as_slice());
-    assert_eq!(rt; misfit(&mut page, &put, heap()), Some(3));
+    let is_put = page.as_bytes() == bytes.as_slice();
+    let again = misfit(&mut page, &put, heap());
+    assert_eq!(rt; (first, is_put, again), (None, true, Some(3)));
     for (slot, answer) in [(0, Some(4)), (1, None), (2, Some(4))] {
         let mark = Change::RowMark {
             place,
@@ -74,10 +78,11 @@ fn heap_pages_take_drops(rt: HostRuntime) {
         };
         assert_eq!(rt; misfit(&mut page, &drop, heap()), Some(5));
     }
-    assert_eq!(rt; page.as_bytes(), bytes.as_slice());
+    let is_same = page.as_bytes() == bytes.as_slice();
     let slots = &[0, 1];
     let drop = Change::RowsDrop { place, slots };
-    assert_eq!(rt; misfit(&mut page, &drop, heap()), None);
+    let tag = misfit(&mut page, &drop, heap());
+    assert_eq!(rt; (is_same, tag), (true, None));
     assert_eq!(rt; page.as_bytes(), empty.as_slice());
 }
 
@@ -97,13 +102,19 @@ fn whole_pages_and_statuses_are_set(rt: HostRuntime) {
         bytes: &bytes,
     };
     let evacuate = Change::Evacuate { place };
-    assert_eq!(rt; misfit(&mut page, &set, Form::Status), Some(13));
-    assert_eq!(rt; misfit(&mut page, &full, heap()), Some(1));
-    assert_eq!(rt; misfit(&mut page, &full, Form::Status), None);
-    assert_eq!(rt; page.as_bytes(), bytes.as_slice());
-    assert_eq!(rt; misfit(&mut page, &set, Form::Status), None);
-    assert_eq!(rt; misfit(&mut page, &evacuate, Form::Status), Some(9));
-    assert!(rt; fits(&page, &set, Form::Status));
+    let begun = [
+        misfit(&mut page, &set, Form::Status),
+        misfit(&mut page, &full, heap()),
+        misfit(&mut page, &full, Form::Status),
+    ];
+    let is_full = page.as_bytes() == bytes.as_slice();
+    assert_eq!(rt; (begun, is_full), ([Some(13), Some(1), None], true));
+    let changed = [
+        misfit(&mut page, &set, Form::Status),
+        misfit(&mut page, &evacuate, Form::Status),
+    ];
+    let fits = fits(&page, &set, Form::Status);
+    assert_eq!(rt; (changed, fits), ([None, Some(9)], true));
     bytes[33] = 8;
     assert_eq!(rt; page.as_bytes(), bytes.as_slice());
 }
@@ -280,12 +291,11 @@ fn checked_pages_take_what_fits(rt: HostRuntime) {
         slot: 1,
         bytes: &ROW,
     };
-    assert_eq!(rt; redone(&mut page, &put, &form), Some(Ok(())));
+    let first = redone(&mut page, &put, &form);
     bytes[62..92].copy_from_slice(&ROW);
-    assert_eq!(rt; page.as_bytes(), bytes.as_slice());
-    assert_eq!(rt;
-        redone(&mut page, &put, &form),
-        Some(Err(Misfit { tag: 3 }))
-    );
+    let is_put = page.as_bytes() == bytes.as_slice();
+    let again = redone(&mut page, &put, &form);
+    assert_eq!(rt; (first, is_put), (Some(Ok(())), true));
+    assert_eq!(rt; again, Some(Err(Misfit { tag: 3 })));
     assert_eq!(rt; page.as_bytes(), bytes.as_slice());
 }

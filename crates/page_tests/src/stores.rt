@@ -94,6 +94,15 @@ impl Trial {
         )
     }
 
+    /// Starts the page and takes both of its slots.
+    fn fill(&mut self, place: Place) -> bool
+        requires relation { place.relation ≡ 1 }
+        requires block { place.block < 3 }
+    {
+        let made = [self.start(place), self.put(place, 0), self.put(place, 1)];
+        made == [true; 3]
+    }
+
     /// Frees the second slot.
     fn free(&mut self, place: Place) -> bool
         requires relation { place.relation ≡ 1 }
@@ -133,11 +142,6 @@ impl Trial {
         }
     }
 
-    fn blocks(&self) -> u32 {
-        let _store = &self.store;
-        self.store.blocks(1)
-    }
-
     fn room(&self, place: Place) -> Room
         requires relation { place.relation ≡ 1 }
         requires block { place.block < 3 }
@@ -146,9 +150,10 @@ impl Trial {
         self.store.room_at(place)
     }
 
-    fn first_room(&self) -> Option<u32> {
+    /// How many blocks are started, and the lowest one with room.
+    fn state(&self) -> (u32, Option<u32>) {
         let _store = &self.store;
-        self.store.first_room(1, 30, 0)
+        (self.store.blocks(1), self.store.first_room(1, 30, 0))
     }
 }
 
@@ -156,45 +161,56 @@ impl Trial {
 fn pages_are_as_the_changes_made_them(rt: HostRuntime) -> Result<(), Fail> {
     let mut trial = Trial::new(rt.alloc()).ok_or("trial")?;
     let mut bytes = [0; 8192];
-    assert_eq!(rt; trial.has(FIRST, &bytes), true);
-    assert_eq!(rt; trial.put(FIRST, 0), false);
-    assert_eq!(rt; trial.start(FIRST), true);
-    assert_eq!(rt; trial.put(FIRST, 1), true);
-    assert_eq!(rt; trial.put(FIRST, 1), false);
+    let made = [
+        trial.has(FIRST, &bytes),
+        trial.put(FIRST, 0),
+        trial.start(FIRST),
+        trial.put(FIRST, 1),
+        trial.put(FIRST, 1),
+    ];
+    assert_eq!(rt; made, [true, false, true, true, false]);
     assert_eq!(rt; trial.store.ready(), Ok(()));
     bytes[0] = 2;
     bytes[62..92].copy_from_slice(&ROW);
-    assert_eq!(rt; trial.has(FIRST, &bytes), true);
-    assert_eq!(rt; trial.has(SECOND, &[0; 8192]), true);
-    assert_eq!(rt; trial.store.flush(), Ok(()));
-    assert_eq!(rt; trial.store.layout().sizes().heap_blocks, 3);
-    assert_eq!(rt; trial.store.into_disk().size(), 8192);
+    let pages = [trial.has(FIRST, &bytes), trial.has(SECOND, &[0; 8192])];
+    assert_eq!(rt; (pages, trial.store.flush()), ([true; 2], Ok(())));
+    let limit = trial.store.layout().sizes().heap_blocks;
+    assert_eq!(rt; (limit, trial.store.into_disk().size()), (3, 8192));
+    Ok(())
+}
+
+#[test]
+fn a_page_has_room_until_its_slots_are_taken(rt: HostRuntime) -> Result<(), Fail> {
+    let mut trial = Trial::new(rt.alloc()).ok_or("trial")?;
+    let unstarted = (trial.state(), trial.room(FIRST));
+    let made = [trial.start(FIRST), trial.put(FIRST, 0)];
+    let half = (trial.state(), trial.room(FIRST));
+    let filled = trial.put(FIRST, 1);
+    let full = (trial.state(), trial.room(FIRST));
+    assert_eq!(rt; (made, filled), ([true; 2], true));
+    assert_eq!(rt; unstarted, ((0, Some(0)), Room::NotStarted));
+    assert_eq!(rt; half, ((1, Some(0)), Room::Free(1)));
+    assert_eq!(rt; full, ((1, Some(1)), Room::Full));
     Ok(())
 }
 
 #[test]
 fn room_is_the_lowest_free_slot_or_unstarted_block(rt: HostRuntime) -> Result<(), Fail> {
     let mut trial = Trial::new(rt.alloc()).ok_or("trial")?;
-    assert_eq!(rt; (trial.blocks(), trial.first_room()), (0, Some(0)));
-    assert_eq!(rt; trial.room(FIRST), Room::NotStarted);
-    assert_eq!(rt; trial.start(FIRST) && trial.put(FIRST, 0), true);
-    assert_eq!(rt; (trial.blocks(), trial.first_room()), (1, Some(0)));
-    assert_eq!(rt; trial.room(FIRST), Room::Free(1));
-    assert_eq!(rt; trial.put(FIRST, 1), true);
-    assert_eq!(rt; (trial.blocks(), trial.first_room()), (1, Some(1)));
-    assert_eq!(rt; trial.room(FIRST), Room::Full);
+    assert_eq!(rt; trial.fill(FIRST), true);
     assert_eq!(rt; trial.start(THIRD), true);
-    assert_eq!(rt; (trial.blocks(), trial.first_room()), (2, Some(2)));
-    assert_eq!(rt; trial.put(THIRD, 0) && trial.put(THIRD, 1), true);
-    assert_eq!(rt; (trial.blocks(), trial.first_room()), (2, Some(1)));
-    assert_eq!(rt;
-        trial.start(SECOND) && trial.put(SECOND, 0) && trial.put(SECOND, 1),
-        true
-    );
-    assert_eq!(rt; (trial.blocks(), trial.first_room()), (3, None));
-    assert_eq!(rt; trial.empty(SECOND), true);
-    assert_eq!(rt; (trial.blocks(), trial.first_room()), (2, Some(1)));
-    assert_eq!(rt; trial.free(FIRST), true);
-    assert_eq!(rt; (trial.blocks(), trial.first_room()), (2, Some(0)));
+    let begun = trial.state();
+    let made = [trial.put(THIRD, 0), trial.put(THIRD, 1)];
+    let with_a_gap = trial.state();
+    let filled = trial.fill(SECOND);
+    let full = trial.state();
+    let emptied = trial.empty(SECOND);
+    let with_a_gap_again = trial.state();
+    let freed = trial.free(FIRST);
+    let done = [made[0], made[1], filled, emptied, freed];
+    assert_eq!(rt; done, [true; 5]);
+    assert_eq!(rt; [begun, with_a_gap], [(2, Some(2)), (2, Some(1))]);
+    assert_eq!(rt; [full, with_a_gap_again], [(3, None), (2, Some(1))]);
+    assert_eq!(rt; trial.state(), (2, Some(0)));
     Ok(())
 }
