@@ -22,18 +22,17 @@ fn asked(alloc: Global, op: Op, key: i64) -> Result<bool, NoMemory>
 }
 
 #[test]
-fn conditions_are_judged_by_the_least_and_the_greatest(rt: HostRuntime) {
+fn conditions_are_judged_by_the_least_and_the_greatest(rt: HostRuntime) -> Result<(), NoMemory> {
     let alloc = rt.alloc();
-    assert_eq!(rt; asked(alloc, Op::Lt, 5), Ok(false));
-    assert_eq!(rt; asked(alloc, Op::Lt, 6), Ok(true));
-    assert_eq!(rt; asked(alloc, Op::Le, 4), Ok(false));
-    assert_eq!(rt; asked(alloc, Op::Le, 5), Ok(true));
-    assert_eq!(rt; asked(alloc, Op::Eq, 8), Ok(true));
-    assert_eq!(rt; asked(alloc, Op::Eq, 10), Ok(false));
-    assert_eq!(rt; asked(alloc, Op::Ge, 9), Ok(true));
-    assert_eq!(rt; asked(alloc, Op::Ge, 10), Ok(false));
-    assert_eq!(rt; asked(alloc, Op::Gt, 8), Ok(true));
-    assert_eq!(rt; asked(alloc, Op::Gt, 9), Ok(false));
+    let judged = [
+        [asked(alloc, Op::Lt, 5)?, asked(alloc, Op::Lt, 6)?],
+        [asked(alloc, Op::Le, 4)?, asked(alloc, Op::Le, 5)?],
+        [asked(alloc, Op::Eq, 10)?, asked(alloc, Op::Eq, 8)?],
+        [asked(alloc, Op::Ge, 10)?, asked(alloc, Op::Ge, 9)?],
+        [asked(alloc, Op::Gt, 9)?, asked(alloc, Op::Gt, 8)?],
+    ];
+    assert_eq!(rt; judged, [[false, true]; 5]);
+    Ok(())
 }
 
 #[test]
@@ -41,16 +40,14 @@ fn nothing_yet_has_no_bytes_and_meets_no_condition(rt: HostRuntime) {
     let class = MinMax::new();
     let summary = class.empty(rt.alloc()).expect(&rt, "room");
     let mut out = [7u8; 16];
-    assert_eq!(rt; class.greatest_size(), 16);
-    assert_eq!(rt; class.encode(&summary, &mut out), 0);
-    assert_eq!(rt; out, [7; 16]);
-    assert!(rt; class.consistent(&summary, &[]));
+    let sizes = (class.greatest_size(), class.encode(&summary, &mut out));
+    assert_eq!(rt; (sizes, out), ((16, 0), [7; 16]));
     let cond = Cond {
         column: 0,
         op: Op::Le,
         key: Value::Int(1),
     };
-    assert!(rt; !class.consistent(&summary, &[cond]));
+    assert!(rt; class.consistent(&summary, &[]) && !class.consistent(&summary, &[cond]));
 }
 
 #[test]
@@ -61,13 +58,16 @@ fn summaries_are_written_and_read(rt: HostRuntime) {
     ];
     let mut summary = exact_summary(&[Value::Int(256), Value::Int(-2)]);
     let mut out = [7u8; 16];
-    assert_eq!(rt; class.encode(&summary, &mut out), 16);
-    assert_eq!(rt; out, wanted);
+    let size = class.encode(&summary, &mut out);
+    assert_eq!(rt; (size, out), (16, wanted));
     let mut again = Summary::new();
     assert_eq!(rt; class.decode(&wanted, &mut again), Ok(()));
-    assert!(rt; !class.union(&mut summary, &again));
-    assert!(rt; !class.add(&mut summary, &Value::Int(256)));
-    assert!(rt; class.add(&mut summary, &Value::Int(257)));
+    let changes = [
+        class.union(&mut summary, &again),
+        class.add(&mut summary, &Value::Int(256)),
+        class.add(&mut summary, &Value::Int(257)),
+    ];
+    assert_eq!(rt; changes, [false, false, true]);
 }
 
 #[test]

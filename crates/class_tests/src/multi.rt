@@ -150,8 +150,8 @@ fn elements_with_a_common_number_are_joined(rt: HostRuntime) {
     let mut other = class.empty(rt.alloc()).expect(&rt, "room");
     assert_eq!(rt; class.decode(&APART, &mut summary), Ok(()));
     assert_eq!(rt; summary.elements(), [interval(1, 5), point(7)].as_slice());
-    assert_eq!(rt; class.decode(&BETWEEN, &mut other), Ok(()));
-    assert!(rt; class.union(&mut summary, &other));
+    let read = class.decode(&BETWEEN, &mut other).is_ok();
+    assert!(rt; read && class.union(&mut summary, &other));
     assert_eq!(rt; summary.elements(), [interval(1, 7)].as_slice());
 }
 
@@ -160,15 +160,12 @@ fn summaries_are_written(rt: HostRuntime) {
     let class = Multi::new(8).expect(&rt, "limit");
     let mut summary = class.empty(rt.alloc()).expect(&rt, "room");
     let mut out = [9u8; 74];
-    assert_eq!(rt; class.greatest_size(), 74);
-    assert_eq!(rt; class.encode(&summary, &mut out), 2);
-    assert_eq!(rt; &out[..3], [0, 0, 9].as_slice());
-    assert!(rt; class.consistent(&summary, &[]));
-    assert!(rt; !finds(&class, &summary, 0));
-    assert_eq!(rt; class.decode(&APART, &mut summary), Ok(()));
-    assert_eq!(rt; class.encode(&summary, &mut out), 28);
-    assert_eq!(rt; &out[..28], APART.as_slice());
-    assert_eq!(rt; &out[28..], [9; 46].as_slice());
+    let sizes = (class.greatest_size(), class.encode(&summary, &mut out));
+    assert_eq!(rt; (sizes, &out[..3]), ((74, 2), [0, 0, 9].as_slice()));
+    assert!(rt; class.consistent(&summary, &[]) && !finds(&class, &summary, 0));
+    let read = class.decode(&APART, &mut summary).is_ok();
+    assert!(rt; read && class.encode(&summary, &mut out) == 28);
+    assert_eq!(rt; out.split_at(28), (APART.as_slice(), [9; 46].as_slice()));
 }
 
 #[test]

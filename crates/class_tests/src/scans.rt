@@ -42,13 +42,12 @@ fn explain_reads_range_tuples(rt: HostRuntime) -> Result<(), Fail> {
     let high = tuple(&rt, alloc, 100, 100)?;
     let tuples = [low, high];
     let at_six = given_blocks(alloc, &tuples, &[compared(0, Op::Eq, 6)], 2, 1)?;
-    assert_eq!(rt; at_six.as_slice(), [0].as_slice());
     let at_fifty = given_blocks(alloc, &tuples, &[compared(0, Op::Eq, 50)], 2, 1)?;
-    assert!(rt; at_fifty.is_empty());
     let from_seven = given_blocks(alloc, &tuples, &[compared(0, Op::Ge, 7)], 2, 1)?;
-    assert_eq!(rt; from_seven.as_slice(), [0, 1].as_slice());
     let all = given_blocks(alloc, &tuples, &[], 2, 1)?;
-    assert_eq!(rt; all.as_slice(), [0, 1].as_slice());
+    assert!(rt; at_six.as_slice() == [0].as_slice() && at_fifty.is_empty());
+    assert!(rt; from_seven.as_slice() == [0, 1].as_slice());
+    assert!(rt; all.as_slice() == [0, 1].as_slice());
     Ok(())
 }
 
@@ -59,9 +58,9 @@ fn the_last_range_may_be_partly_filled(rt: HostRuntime) -> Result<(), Fail> {
     let high = tuple(&rt, alloc, 100, 100)?;
     let tuples = [low, high];
     let below = given_blocks(alloc, &tuples, &[compared(0, Op::Lt, 50)], 3, 2)?;
-    assert_eq!(rt; below.as_slice(), [0, 1].as_slice());
     let above = given_blocks(alloc, &tuples, &[compared(0, Op::Gt, 50)], 3, 2)?;
-    assert_eq!(rt; above.as_slice(), [2].as_slice());
+    assert!(rt; below.as_slice() == [0, 1].as_slice());
+    assert!(rt; above.as_slice() == [2].as_slice());
     Ok(())
 }
 

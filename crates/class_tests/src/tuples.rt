@@ -121,9 +121,8 @@ fn tuples_are_restarted_and_copied(rt: HostRuntime) -> Result<(), Fail> {
     copy.copy_from(&tuple);
     assert!(rt; !copy.is_placeholder() && !copy.keeps(&[cond(0, Op::Eq, Value::Int(4))]));
     tuple.restart(9);
-    assert!(rt; tuple.is_placeholder());
-    assert_eq!(rt; tuple.range(), 9);
-    assert_eq!(rt; copy.range(), 0);
+    let ranges = (tuple.range(), copy.range());
+    assert!(rt; tuple.is_placeholder() && ranges == (9, 0));
     tuple.settle();
     assert!(rt; !tuple.keeps(&[]));
     Ok(())
@@ -134,12 +133,12 @@ fn united_tuples_have_what_either_had(rt: HostRuntime) -> Result<(), Fail> {
     let mut tuple = one(&rt, rt.alloc(), Kind::Int, Class::MinMax)?;
     let mut other = one(&rt, rt.alloc(), Kind::Int, Class::MinMax)?;
     tuple.settle();
-    assert!(rt; !tuple.keeps(&[]));
-    assert!(rt; !tuple.unite(&other));
+    let keeps = tuple.keeps(&[]);
+    assert!(rt; !keeps && !tuple.unite(&other));
     let _ = add_number(&mut other, 3);
-    assert!(rt; tuple.unite(&other));
-    assert!(rt; tuple.keeps(&[cond(0, Op::Eq, Value::Int(3))]));
-    assert!(rt; !tuple.keeps(&[cond(0, Op::IsNull, Value::Null)]));
+    let changes = tuple.unite(&other);
+    let of_nulls = tuple.keeps(&[cond(0, Op::IsNull, Value::Null)]);
+    assert!(rt; changes && tuple.keeps(&[cond(0, Op::Eq, Value::Int(3))]) && !of_nulls);
     Ok(())
 }
 
@@ -148,24 +147,29 @@ fn two_column_index_with_nulls(rt: HostRuntime) -> Result<(), Fail> {
     let net = Net::v4(10 << 24 | 1, 32).expect(&rt, "an address");
     let mut first = two(&rt, rt.alloc())?;
     let mut second = two(&rt, rt.alloc())?;
-    assert!(rt; add_both(&mut first, Some(1), None));
-    assert!(rt; add_both(&mut second, None, Some(net)));
+    let changes = add_both(&mut first, Some(1), None);
+    assert!(rt; changes && add_both(&mut second, None, Some(net)));
     first.settle();
     second.settle();
     let a_is_1 = cond(0, Op::Eq, Value::Int(1));
     let a_is_null = cond(0, Op::IsNull, Value::Null);
     let b_is_null = cond(1, Op::IsNull, Value::Null);
     let b_is_net = cond(1, Op::Eq, Value::Net(net));
-    assert!(rt; first.keeps(&[a_is_1]) && !second.keeps(&[a_is_1]));
-    assert!(rt; first.keeps(&[b_is_null]) && !second.keeps(&[b_is_null]));
-    assert!(rt; !first.keeps(&[a_is_null, b_is_net]) && second.keeps(&[a_is_null, b_is_net]));
-    assert!(rt; !first.keeps(&[a_is_1, b_is_net]) && !second.keeps(&[a_is_1, b_is_net]));
-    assert!(rt;
-        second.keeps(&[
-            cond(0, Op::IsNull, Value::Null),
-            cond(7, Op::Eq, Value::Int(1))
-        ])
-    );
+    let found = [
+        (first.keeps(&[a_is_1]), second.keeps(&[a_is_1])),
+        (first.keeps(&[b_is_null]), second.keeps(&[b_is_null])),
+        (
+            first.keeps(&[a_is_null, b_is_net]),
+            second.keeps(&[a_is_null, b_is_net]),
+        ),
+        (
+            first.keeps(&[a_is_1, b_is_net]),
+            second.keeps(&[a_is_1, b_is_net]),
+        ),
+    ];
+    let wanted = [(true, false), (true, false), (false, true), (false, false)];
+    assert_eq!(rt; found, wanted);
+    assert!(rt; second.keeps(&[a_is_null, cond(7, Op::Eq, Value::Int(1))]));
     Ok(())
 }
 
@@ -180,22 +184,19 @@ fn fault(tuple: &mut RangeTuple, bytes: &[u8]) -> Option<usize> {
 #[test]
 fn malformed_fields_are_named(rt: HostRuntime) -> Result<(), Fail> {
     let mut tuple = one(&rt, rt.alloc(), Kind::Int, Class::MinMax)?;
-    assert_eq!(rt; fault(&mut tuple, &[0, 0, 0, 0]), Some(4));
-    assert_eq!(rt; fault(&mut tuple, &[0, 0, 0, 0, 0, 1, 0, 1, 0]), Some(6));
-    assert_eq!(rt; fault(&mut tuple, &[0, 0, 0, 0, 0, 1, 0, 0, 9]), Some(8));
-    let cases = [
-        ([3, 0, 0, 0], None),
-        ([4, 0, 0, 0], Some(4)),
-        ([0, 0, 0, 0], Some(5)),
-        ([2, 2, 0, 16], Some(5)),
-        ([0, 4, 0, 0], Some(5)),
-        ([0, 2, 0, 0], Some(6)),
+    let cases: [(&[u8], Option<usize>); 9] = [
+        (&[0, 0, 0, 0], Some(4)),
+        (&[0, 0, 0, 0, 0, 1, 0, 1, 0], Some(6)),
+        (&[0, 0, 0, 0, 0, 1, 0, 0, 9], Some(8)),
+        (&[0, 0, 0, 0, 3, 0, 0, 0], None),
+        (&[0, 0, 0, 0, 4, 0, 0, 0], Some(4)),
+        (&[0, 0, 0, 0, 0, 0, 0, 0], Some(5)),
+        (&[0, 0, 0, 0, 2, 2, 0, 16], Some(5)),
+        (&[0, 0, 0, 0, 0, 4, 0, 0], Some(5)),
+        (&[0, 0, 0, 0, 0, 2, 0, 0], Some(6)),
     ];
-    for ([flags, state, high, low], wanted) in cases {
-        assert_eq!(rt;
-            fault(&mut tuple, &[0, 0, 0, 0, flags, state, high, low]),
-            wanted
-        );
+    for (bytes, wanted) in cases {
+        assert_eq!(rt; fault(&mut tuple, bytes), wanted);
     }
     Ok(())
 }
@@ -203,11 +204,9 @@ fn malformed_fields_are_named(rt: HostRuntime) -> Result<(), Fail> {
 #[test]
 fn a_fault_of_a_class_is_told_at_its_place(rt: HostRuntime) -> Result<(), Fail> {
     let mut tuple = one(&rt, rt.alloc(), Kind::Int, Class::Multi { limit: 8 })?;
-    assert_eq!(rt; fault(&mut tuple, &[0, 0, 0, 0, 0, 2, 0, 2, 0, 0]), None);
-    assert_eq!(rt;
-        fault(&mut tuple, &[0, 0, 0, 0, 0, 2, 0, 3, 0, 0, 0]),
-        Some(10)
-    );
+    let empty = fault(&mut tuple, &[0, 0, 0, 0, 0, 2, 0, 2, 0, 0]);
+    let longer = fault(&mut tuple, &[0, 0, 0, 0, 0, 2, 0, 3, 0, 0, 0]);
+    assert_eq!(rt; (empty, longer), (None, Some(10)));
     Ok(())
 }
 
@@ -230,7 +229,7 @@ fn conditions_that_stand_apart_are_judged_together(rt: HostRuntime) -> Result<()
     let mut tuple = two(&rt, rt.alloc())?;
     assert!(rt; add_both(&mut tuple, Some(5), Some(net)));
     tuple.settle();
-    assert_eq!(rt; keeps_apart(&rt, &tuple, 6), (true, true));
-    assert_eq!(rt; keeps_apart(&rt, &tuple, 5), (false, false));
+    let judged = [keeps_apart(&rt, &tuple, 6), keeps_apart(&rt, &tuple, 5)];
+    assert_eq!(rt; judged, [(true, true), (false, false)]);
     Ok(())
 }
