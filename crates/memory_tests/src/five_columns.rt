@@ -16,6 +16,34 @@ use range_tuple::RangeTuple;
 use std::alloc::Global;
 use std::process::Abort;
 
+const MINMAX: Part = Part {
+    column: 0,
+    class: Class::MinMax,
+};
+
+const MULTI: Part = Part {
+    column: 1,
+    class: Class::Multi { limit: 256 },
+};
+
+const RANGES: Part = Part {
+    column: 2,
+    class: Class::Inclusion,
+};
+
+const NETWORKS: Part = Part {
+    column: 3,
+    class: Class::Inclusion,
+};
+
+const BLOOM: Part = Part {
+    column: 4,
+    class: Class::Bloom {
+        bits: 16384,
+        hashes: 16,
+    },
+};
+
 /// The placeholder of range 0 of an index with these parts on a table with these columns.
 fn of_index(
     rt: &impl Abort,
@@ -76,31 +104,11 @@ pub(crate) fn placeholder(rt: &impl Abort, alloc: Global) -> Result<RangeTuple, 
         kind: Kind::Int,
     })?;
     let mut parts = Parts::new(alloc);
-    let multi = Class::Multi { limit: 256 };
-    let bloom = Class::Bloom {
-        bits: 16384,
-        hashes: 16,
-    };
-    parts.push(Part {
-        column: 0,
-        class: Class::MinMax,
-    })?;
-    parts.push(Part {
-        column: 1,
-        class: multi,
-    })?;
-    parts.push(Part {
-        column: 2,
-        class: Class::Inclusion,
-    })?;
-    parts.push(Part {
-        column: 3,
-        class: Class::Inclusion,
-    })?;
-    parts.push(Part {
-        column: 4,
-        class: bloom,
-    })?;
+    parts.push(MINMAX)?;
+    parts.push(MULTI)?;
+    parts.push(RANGES)?;
+    parts.push(NETWORKS)?;
+    parts.push(BLOOM)?;
     of_index(rt, alloc, columns, parts)
 }
 
