@@ -1,6 +1,6 @@
 //! Each call of a range tuple but `new`, with memory and without.
 
-ghost use Rattle.std.specs.Prelude.{◌≡◌};
+ghost use Rattle.std.specs.Prelude.{◌≡◌, IfOk};
 ghost use Rattle.memory_tests.specs.FiveColumns.{five_parts};
 ghost use Rattle.range_tuple.specs.Tuples.{parts_of};
 
@@ -8,6 +8,8 @@ use crate::all_memory::{AllMemory, Outcome};
 use crate::five_columns::{add_nulls, add_values, placeholder};
 use block_model::{Cond, Net, NoMemory, Op, Span8, Value};
 use range_tuple::{RangeTuple, ScanKeys};
+use std::alloc::Global;
+use std::process::Abort;
 
 /// The most bytes of a tuple of the index: 5, and 3 for each column beside 16, 2306, 18, 7 and 2048.
 const ROOM: usize = 4415;
@@ -71,23 +73,52 @@ fn call_each(tuple: &mut RangeTuple, other: &mut RangeTuple, net: Net) -> Option
     })
 }
 
+/// Two placeholders of the index.
+#[derive(Drop)]
+struct Pair {
+    tuple: RangeTuple,
+    other: RangeTuple,
+}
+
+fn two_placeholders(rt: &impl Abort, alloc: Global) -> Result<Pair, NoMemory>
+    ensures tuple { IfOk result (λ pair. parts_of pair.tuple.columns ≡ five_parts) }
+    ensures other { IfOk result (λ pair. parts_of pair.other.columns ≡ five_parts) }
+{
+    let tuple = placeholder(rt, alloc)?;
+    let other = placeholder(rt, alloc)?;
+    Ok(Pair { tuple, other })
+}
+
+/// How the calls get on with memory, without it, and with room that was given back, each with a pair of its own.
+fn outcome(
+    alloc: Global,
+    first: &mut Pair,
+    second: &mut Pair,
+    third: &mut Pair,
+    net: Net,
+) -> Result<Outcome, NoMemory>
+    requires first { (parts_of first.old.tuple.columns ≡ five_parts) × (parts_of first.old.other.columns ≡ five_parts) }
+    requires second { (parts_of second.old.tuple.columns ≡ five_parts) × (parts_of second.old.other.columns ≡ five_parts) }
+    requires third { (parts_of third.old.tuple.columns ≡ five_parts) × (parts_of third.old.other.columns ≡ five_parts) }
+{
+    let wanted = call_each(&mut first.tuple, &mut first.other, net);
+    let mut memory = AllMemory::take(alloc)?;
+    let was_left = memory.has_room(1);
+    let without = call_each(&mut second.tuple, &mut second.other, net);
+    let given_back = memory.give_back();
+    let again = call_each(&mut third.tuple, &mut third.other, net);
+    let are_same = wanted.is_some() && without == wanted && again == wanted;
+    Ok(memory.outcome(was_left, are_same, given_back))
+}
+
 #[test]
 fn range_tuples_take_no_memory(rt: HostRuntime) -> Result<(), NoMemory> {
     let alloc = rt.alloc();
     let net = Net::v4(10 << 24 | 1, 32).expect(&rt, "an address");
-    let (mut one, mut two) = (placeholder(&rt, alloc)?, placeholder(&rt, alloc)?);
-    let (mut three, mut four) = (placeholder(&rt, alloc)?, placeholder(&rt, alloc)?);
-    let (mut five, mut six) = (placeholder(&rt, alloc)?, placeholder(&rt, alloc)?);
-    let wanted = call_each(&mut one, &mut two, net);
-    let mut memory = AllMemory::take(alloc)?;
-    let was_left = memory.has_room(1);
-    let without = call_each(&mut three, &mut four, net);
-    let given_back = memory.give_back();
-    let again = call_each(&mut five, &mut six, net);
-    let are_same = wanted.is_some() && without == wanted && again == wanted;
-    assert_eq!(rt;
-        memory.outcome(was_left, are_same, given_back),
-        Outcome::NoMemoryIsTaken
-    );
+    let mut first = two_placeholders(&rt, alloc)?;
+    let mut second = two_placeholders(&rt, alloc)?;
+    let mut third = two_placeholders(&rt, alloc)?;
+    let found = outcome(alloc, &mut first, &mut second, &mut third, net)?;
+    assert_eq!(rt; found, Outcome::NoMemoryIsTaken);
     Ok(())
 }
