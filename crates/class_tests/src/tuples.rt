@@ -65,8 +65,8 @@ fn an_empty_placeholder_has_eight_bytes(rt: HostRuntime) -> Result<(), Fail> {
     wanted[..8].copy_from_slice(&[0, 0, 0, 0, 3, 0, 0, 0]);
     let mut out = [7u8; 24];
     assert_eq!(rt; tuple.greatest_size(), 24);
-    let size = tuple.encode(&mut out);
-    assert_eq!(rt; (size, out), (8, wanted));
+    assert_eq!(rt; tuple.encode(&mut out), 8);
+    assert_eq!(rt; out, wanted);
     assert!(rt; tuple.keeps(&[cond(0, Op::Eq, Value::Int(1))]));
     Ok(())
 }
@@ -77,21 +77,18 @@ fn a_final_minmax_tuple_has_24_bytes(rt: HostRuntime) -> Result<(), Fail> {
         0, 0, 0, 0, 0, 2, 0, 16, 0, 0, 0, 0, 0, 0, 0, 5, 0, 0, 0, 0, 0, 0, 0, 99,
     ];
     let mut tuple = one(&rt, rt.alloc(), Kind::Int, Class::MinMax)?;
-    let changes = [
-        add_number(&mut tuple, 99),
-        add_number(&mut tuple, 5),
-        add_number(&mut tuple, 7),
-    ];
-    assert_eq!(rt; changes, [true, true, false]);
+    assert!(rt; add_number(&mut tuple, 99));
+    assert!(rt; add_number(&mut tuple, 5));
+    assert!(rt; !add_number(&mut tuple, 7));
     tuple.settle();
     let mut out = [7u8; 24];
     assert_eq!(rt; tuple.greatest_size(), 24);
-    let size = tuple.encode(&mut out);
-    assert_eq!(rt; (size, out), (24, wanted));
+    assert_eq!(rt; tuple.encode(&mut out), 24);
+    assert_eq!(rt; out, wanted);
     let mut other = one(&rt, rt.alloc(), Kind::Int, Class::MinMax)?;
-    assert!(rt; other.decode(&wanted).is_ok());
-    let below = other.keeps(&[cond(0, Op::Lt, Value::Int(5))]);
-    assert!(rt; !below && other.keeps(&[cond(0, Op::Le, Value::Int(5))]));
+    assert_eq!(rt; other.decode(&wanted), Ok(()));
+    assert!(rt; !other.keeps(&[cond(0, Op::Lt, Value::Int(5))]));
+    assert!(rt; other.keeps(&[cond(0, Op::Le, Value::Int(5))]));
     Ok(())
 }
 
@@ -109,9 +106,9 @@ fn a_tuple_of_two_columns_has_states_then_lengths_then_summaries(
     assert!(rt; add_both(&mut tuple, Some(5), Some(net)));
     let mut out = [7u8; 34];
     assert_eq!(rt; tuple.greatest_size(), 34);
-    let size = tuple.encode(&mut out);
-    assert_eq!(rt; (size, out), (34, wanted));
-    assert!(rt; tuple.decode(&wanted).is_ok());
+    assert_eq!(rt; tuple.encode(&mut out), 34);
+    assert_eq!(rt; out, wanted);
+    assert_eq!(rt; tuple.decode(&wanted), Ok(()));
     Ok(())
 }
 

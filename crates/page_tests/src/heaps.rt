@@ -39,21 +39,24 @@ fn rows_are_put_marked_and_read(rt: HostRuntime) -> Result<(), Fail> {
     unstarted_tables_have_no_blocks();
     let first = RowId { t: 1, k: 0 };
     let second = RowId { t: 1, k: 1 };
-    let marked = put_and_mark(&mut store, first, 9);
-    assert_eq!(rt; marked, Some(Spot { block: 0, slot: 0 }));
-    let puts = [
+    assert_eq!(rt;
+        put_and_mark(&mut store, first, 9),
+        Some(Spot { block: 0, slot: 0 })
+    );
+    assert_eq!(rt;
         put(&mut store, 0, second, &[Value::Null]),
+        Ok(Spot { block: 1, slot: 0 })
+    );
+    assert_eq!(rt;
         put(&mut store, 0, second, &[Value::Null]),
-    ];
-    let full = MachineFault::Full {
-        relation: 1,
-        number: 2,
-    };
-    assert_eq!(rt; puts, [Ok(Spot { block: 1, slot: 0 }), Err(full)]);
+        Err(MachineFault::Full {
+            relation: 1,
+            number: 2,
+        })
+    );
     let mut values = Values::new();
     values.push(Value::Int(5));
-    let read = rows_of(&mut store, 0, 0, &mut rows);
-    assert_eq!(rt; (read, blocks(&store, 0)), (Ok(()), 2));
+    assert_eq!(rt; rows_of(&mut store, 0, 0, &mut rows), Ok(()));
     let stored = Stored {
         slot: 0,
         id: first,
@@ -61,5 +64,6 @@ fn rows_are_put_marked_and_read(rt: HostRuntime) -> Result<(), Fail> {
         values,
     };
     assert_eq!(rt; rows.as_slice(), [stored].as_slice());
+    assert_eq!(rt; blocks(&store, 0), 2);
     Ok(())
 }
