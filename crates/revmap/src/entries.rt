@@ -24,7 +24,8 @@ use page_store::{PageStore, StoreError};
 /// The block of the page that counts the pages of the map.
 const METAPAGE: u32 = 0;
 
-/// The entry of a range. None where the map names no spot for it, and where no counted page of the map holds it.
+/// The entry of a range. None where the map names no spot for it, and where no counted page of the map holds it. Damage is the
+/// page's; where the index can't have the page, Reopen is the only error.
 pub fn entry<D: Disk + Drop>(
     pages: &mut PageStore<D>,
     index: u8,
@@ -58,7 +59,8 @@ pub fn entry<D: Disk + Drop>(
 }
 
 /// The entry of a range becomes this one, which names no spot of the metapage. Changed exactly where the entry isn't the expected
-/// one; where it is, a counted page of the map has to hold it. After an error nothing is changed.
+/// one; where it is, a counted page of the map has to hold it. No other entry changes, and no other page, counted or not. After an
+/// error nothing is changed. Damage is the page's, or the metapage's where the index can't have the page.
 pub fn set<D: Disk + Drop>(
     pages: &mut PageStore<D>,
     index: u8,
