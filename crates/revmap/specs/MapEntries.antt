@@ -1,5 +1,6 @@
 -- what the calls on the entries of a map answer
-use Rattle.std.specs.Prelude.{◌≡◌, ◌≢◌, ◌⊎◌, ℕ, ◌<◌, ◌≤◌, Option, IfSome, Result, Ok, Err}
+use Rattle.std.specs.Prelude.{◌≡◌, ◌≢◌, ℕ, ◌%◌, ◌<◌, ◌≤◌, List, set, Option, IfSome, Result, Ok, Err}
+use Rattle.block_model.specs.declared.place.Place.{Place}
 use Rattle.block_model.specs.declared.place.Spot.{Spot}
 use Rattle.store_layout.specs.DiskLayout.{DiskLayout}
 use Rattle.disk_trait.specs.Told.{Told}
@@ -7,6 +8,9 @@ use Rattle.page_store.specs.declared.faults.StoreError.{StoreError}
 use Rattle.page_store.specs.Keeps.{Untold}
 use Rattle.page_store.specs.Outcome.{NamesPage, Outcome, Refused}
 use Rattle.page_store.specs.PageMap.{View}
+use Rattle.index_layout.specs.declared.format.TheConstants.{MAP_ENTRIES}
+use Rattle.index_layout.specs.IndexPages.{IsMap}
+use Rattle.index_layout.specs.IndexReading.{entries_of}
 use Rattle.coverage.specs.IndexView.{Mapping, Pages, map_page_of}
 use Rattle.index_contents.specs.IndexContents.{IndexContents, relation_of}
 use Rattle.revmap.specs.declared.faults.SetFault.{SetFault}
@@ -25,10 +29,19 @@ abbrev pub ShowsOther : IndexContents → ℕ → Option Spot → SetFault → T
 ShowsOther c range expect (faults.Changed now) = (c.entry range ≡ now) × (now ≢ expect)
 ShowsOther c range expect (faults.Store error) = Unit {0}
 
--- damage is told by the byte at which the metapage begins, or the page of the map that holds the range
-abbrev pub NamesMap : DiskLayout → ℕ → ℕ → StoreError → Type 0
-NamesMap layout index range error = NamesPage layout (record { relation = relation_of layout index; block = 0 }) error
-    ⊎ NamesPage layout (record { relation = relation_of layout index; block = map_page_of range }) error
+-- the place of the page of the map that holds the range, whether it is counted or not
+abbrev pub map_place : DiskLayout → ℕ → ℕ → Place
+map_place layout index range = record { relation = relation_of layout index; block = map_page_of range }
+
+-- the page of the map is the one from before, but for the range's entry, which becomes this one
+abbrev pub SetsOnPage : ℕ → Option Spot → List ℕ → List ℕ → Type 0
+SetsOnPage range entry old new = IsMap (set (entries_of old) (range % MAP_ENTRIES) entry) new
+
+-- Damage is told by the byte at which the page of the map that holds the range begins. Where the index can't have that page, it is
+-- the metapage's, which counts it.
+pub record NamesMap (layout : DiskLayout) (index range : ℕ) (error : StoreError) : Type 0 where
+  pub page : map_page_of range < layout.sizes.index_blocks → NamesPage layout (map_place layout index range) error
+  pub metapage : layout.sizes.index_blocks ≤ map_page_of range → NamesPage layout (record { relation = relation_of layout index; block = 0 }) error
 
 abbrev pub FaultNamesMap : DiskLayout → ℕ → ℕ → SetFault → Type 0
 FaultNamesMap layout index range (faults.Changed now) = Unit {0}

@@ -1,16 +1,17 @@
 //! Entries of the map.
 
-ghost use Rattle.std.specs.Prelude.{◌≡◌, ◌≢◌, ◌*◌, ◌/◌, ◌%◌, ◌+◌, ◌<◌, Option, true, false, length, IfOk, IfErr, OnOk, OnErr};
+ghost use Rattle.std.specs.Prelude.{◌≡◌, ◌≢◌, ◌*◌, ◌/◌, ◌%◌, ◌+◌, ◌<◌, ◌≤◌, Option, true, false, length, IfOk, IfErr, OnOk, OnErr};
 ghost use Rattle.store_layout.specs.DiskLayout.{IsPlace, page_offset};
 ghost use Rattle.page_layout.specs.declared.page.Form.TheVariants as forms;
 ghost use Rattle.page_store.specs.Forms.{form_of};
 ghost use Rattle.page_store.specs.Keeps.{Keeps, Tells, Untold};
-ghost use Rattle.page_store.specs.Outcome.{NamesPage, Outcome, Refused};
+ghost use Rattle.page_store.specs.Outcome.{IsReopen, NamesPage, Outcome, Refused};
+ghost use Rattle.page_store.specs.PageMap.{page_at};
 ghost use Rattle.index_contents.specs.IndexContents.{contents, relation_of};
-ghost use Rattle.index_contents.specs.IndexChanges.{LeavesOthers, SetsEntry};
+ghost use Rattle.index_contents.specs.IndexChanges.{LeavesOtherPages, LeavesOthers, SetsEntry};
 ghost use Rattle.index_layout.specs.declared.format.TheConstants.{MAP_ENTRIES};
 ghost use Rattle.coverage.specs.IndexView.{map_page_of};
-ghost use Rattle.revmap.specs.MapEntries.{FaultNamesMap, HoldsRange, IsNameable, NamesMap, SetOutcome, ShowsOther};
+ghost use Rattle.revmap.specs.MapEntries.{FaultNamesMap, HoldsRange, IsNameable, NamesMap, SetOutcome, SetsOnPage, ShowsOther, map_place};
 
 use crate::faults::SetFault;
 use crate::map_pages::{entry_at, set_entry};
@@ -23,7 +24,8 @@ use page_store::{PageStore, StoreError};
 /// The block of the page that counts the pages of the map.
 const METAPAGE: u32 = 0;
 
-/// The entry of a range. None where the map names no spot for it, and where no counted page of the map holds it.
+/// The entry of a range. None where the map names no spot for it, and where no counted page of the map holds it. Damage is the
+/// page's; where the index can't have the page, Reopen is the only error.
 pub fn entry<D: Disk + Drop>(
     pages: &mut PageStore<D>,
     index: u8,
@@ -32,7 +34,8 @@ pub fn entry<D: Disk + Drop>(
     requires index { index < length pages.old.layout.schema.indexes }
     ensures entry { IfOk result (λ entry. Tells D.told pages.old → (contents pages.old.layout pages.old.pages index).entry range ≡ entry) }
     ensures kept { Keeps D.told pages.old pages.new }
-    ensures at { IfErr result (NamesPage pages.old.layout (record { relation = relation_of pages.old.layout index; block = map_page_of range })) }
+    ensures at { IfErr result (NamesPage pages.old.layout (map_place pages.old.layout index range)) }
+    ensures reopen { IfErr result (λ error. pages.old.layout.sizes.index_blocks ≤ map_page_of range → IsReopen error) }
     ensures outcome { Outcome D.told (Untold D.told pages.old) pages.old pages.new result }
 {
     match pages.ready() {
@@ -56,7 +59,8 @@ pub fn entry<D: Disk + Drop>(
 }
 
 /// The entry of a range becomes this one, which names no spot of the metapage. Changed exactly where the entry isn't the expected
-/// one; where it is, a counted page of the map has to hold it. After an error nothing is changed.
+/// one; where it is, a counted page of the map has to hold it. No other entry changes, and no other page, counted or not. After an
+/// error nothing is changed. Damage is the page's, or the metapage's where the index can't have the page.
 pub fn set<D: Disk + Drop>(
     pages: &mut PageStore<D>,
     index: u8,
@@ -71,6 +75,8 @@ pub fn set<D: Disk + Drop>(
     ensures changed { IfErr result (λ fault. Tells D.told pages.old → ShowsOther (contents pages.old.layout pages.old.pages index) range expect fault) }
     ensures kept { OnErr result (Keeps D.told pages.old pages.new) }
     ensures others { LeavesOthers D.told index pages.old pages.new }
+    ensures page { OnOk result (Tells D.told pages.old → SetsOnPage range spot (page_at pages.old.pages (map_place pages.old.layout index range)) (page_at pages.new.pages (map_place pages.old.layout index range))) }
+    ensures pages { LeavesOtherPages D.told (map_place pages.old.layout index range) pages.old pages.new }
     ensures at { IfErr result (FaultNamesMap pages.old.layout index range) }
     ensures outcome { SetOutcome D.told pages.old pages.new result }
 {
@@ -101,6 +107,8 @@ fn set_found<D: Disk + Drop>(
     ensures set { OnOk result (Tells D.told pages.old → SetsEntry (contents pages.old.layout pages.old.pages index) (contents pages.old.layout pages.new.pages index) range ((contents pages.old.layout pages.old.pages index).entry range) spot) }
     ensures kept { OnErr result (Keeps D.told pages.old pages.new) }
     ensures others { LeavesOthers D.told index pages.old pages.new }
+    ensures page { OnOk result (Tells D.told pages.old → SetsOnPage range spot (page_at pages.old.pages (map_place pages.old.layout index range)) (page_at pages.new.pages (map_place pages.old.layout index range))) }
+    ensures pages { LeavesOtherPages D.told (map_place pages.old.layout index range) pages.old pages.new }
     ensures at { IfErr result (NamesMap pages.old.layout index range) }
     ensures outcome { Outcome D.told (Untold D.told pages.old) pages.old pages.new result }
 {
