@@ -1,7 +1,7 @@
 -- What changes of one page make of its tuples.
 use Rattle.std.proofs.Common.{◌≡◌, ◌≢◌, ℕ, zero, suc, ◌<◌, true, inl, inr, List, [], ◌∷◌, length, set, get_or, refl, sym, ap, ◌∙◌, arith}
 use Rattle.std.specs.Prelude.{slice_index, slice_index_or, None, Some}
-use Rattle.std.proofs.lemmas.Bool.{cases_lt}
+use Rattle.std.proofs.lemmas.Bool.{cases_lt, false≢true}
 use Rattle.std.proofs.lemmas.List.{get_or_past, get_or-set_same, get_or-set_other}
 use Rattle.std.proofs.lemmas.Option.{none-some}
 use Rattle.index_layout.specs.declared.format.TheConstants.{UNSTARTED, REGULAR}
@@ -96,4 +96,5 @@ drops_on old new slot one trims is below put =
         others = λ n apart. tuples_are one (slice_index old 0) (trimmed freed) new n put ∙ trims freed n ∙ get_or-set_other {A = Slot} (slots_of old) slot n None None apart;
       };
       map = inr (tuples_say_none old is, tuples_say_none new (ap is_regular kind ∙ is));
+      alone = λ none. absurd (false≢true (sym none ∙ is));
     }
