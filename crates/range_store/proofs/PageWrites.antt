@@ -84,9 +84,9 @@ replaces_on old new slot before after one is stood put =
     }
 
 -- a slot becomes free
-pub drops_on : (old new : List ℕ) (slot : ℕ) → HasOneList → ((list : List Slot) (m : ℕ) → slice_index_or (trimmed list) m None ≡ slice_index_or list m None) → is_regular (slice_index old 0) ≡ true → slot < length (slots_of old)
+pub drops_on : (old new : List ℕ) (slot : ℕ) → HasOneList → ((list : List Slot) (m : ℕ) → slice_index_or (trimmed list) m None ≡ slice_index_or list m None) → is_regular (slice_index old 0) ≡ true → slot < length (slots_of old) → tuple_on old slot ≢ None
     → IsRegular (slice_index old 0) (trimmed (set (slots_of old) slot None)) new → DropsOn old new slot
-drops_on old new slot one trims is below put =
+drops_on old new slot one trims is below used put =
     let freed : List Slot = set (slots_of old) slot None in
     let kind : slice_index new 0 ≡ slice_index old 0 = kind_of (slice_index old 0) (trimmed freed) new put in
     record {
@@ -97,4 +97,5 @@ drops_on old new slot one trims is below put =
       };
       map = inr (tuples_say_none old is, tuples_say_none new (ap is_regular kind ∙ is));
       alone = λ none. absurd (false≢true (sym none ∙ is));
+      free = λ none. absurd (used none);
     }

@@ -36,3 +36,4 @@ pub record DropsOn (old new : List ℕ) (slot : ℕ) : Type 0 where
   pub changes : ChangesSlot old new slot None
   pub map : (new ≡ old) ⊎ (IsNoMap old × IsNoMap new)
   pub alone : StaysWithoutTuples old new
+  pub free : tuple_on old slot ≡ None → new ≡ old

@@ -21,8 +21,8 @@ use index_layout::{a_put_changes_one_slot, an_index_page_has_one_list, tuple_at}
 use page_layout::Page;
 use page_store::{PageStore, StoreError};
 
-/// The spot has no tuple any more, whatever stood there. Where none did, and on a page that isn't one of tuples, nothing is changed,
-/// nor is it after an error.
+/// The spot has no tuple any more, whatever stood there. Where none did, and after an error, nothing is changed; so a page that isn't
+/// one of tuples stays as it is.
 pub fn drop_at<D: Disk + Drop>(
     pages: &mut PageStore<D>,
     index: u8,
@@ -30,6 +30,7 @@ pub fn drop_at<D: Disk + Drop>(
 ) -> Result<(), StoreError>
     requires index { index < length pages.old.layout.schema.indexes }
     ensures dropped { OnOk result (Tells D.told pages.old → DropsBytes (contents pages.old.layout pages.old.pages index) (contents pages.old.layout pages.new.pages index) spot) }
+    ensures free { OnOk result (Tells D.told pages.old → (contents pages.old.layout pages.old.pages index).bytes spot ≡ None → index_page pages.old.layout pages.new.pages index spot.block ≡ index_page pages.old.layout pages.old.pages index spot.block) }
     ensures alone { OnOk result (Tells D.told pages.old → StaysWithoutTuples (index_page pages.old.layout pages.old.pages index spot.block) (index_page pages.old.layout pages.new.pages index spot.block)) }
     ensures kept { OnErr result (Keeps D.told pages.old pages.new) }
     ensures others { LeavesOthers D.told index pages.old pages.new }

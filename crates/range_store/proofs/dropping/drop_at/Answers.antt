@@ -8,7 +8,7 @@ use Rattle.index_contents.specs.Calls.{past_the_limit}
 use Rattle.index_contents.specs.IndexChanges.{LeavesOtherPages}
 use Rattle.index_contents.specs.PageLaws.{leaves_others}
 use Rattle.range_store.specs.PageTuples.{StaysWithoutTuples}
-use Rattle.range_store.proofs.Spots.{drops_at, none_drops, none_past}
+use Rattle.range_store.proofs.Spots.{drops_at, none_changes, none_drops, none_past}
 use Rattle.range_store.proofs.dropping.drop_at.Goals as goal
 
 pub returns-in-Ok-clause-dropped : goal.returns-in-Ok-clause-dropped
@@ -47,3 +47,8 @@ pub returns-in-Ok-drop_on-clause-alone : goal.returns-in-Ok-drop_on-clause-alone
 returns-in-Ok-drop_on-clause-alone g c = λ tells.
     let store = c.args.pages.now in
     subst (λ (r : ℕ). StaysWithoutTuples (block_at store.pages r c.args.spot.block) (block_at c.drop_on.new.pages.pages r c.args.spot.block)) (c.relation_of-relation.ensures.number ∙ ap (λ (l : DiskLayout). relation_of l c.args.index) c.layout.ensures) (c.in-Ok-drop_on.ensures.dropped tells).alone
+
+pub returns-in-Ok-drop_on-clause-free : goal.returns-in-Ok-drop_on-clause-free
+returns-in-Ok-drop_on-clause-free g c = λ tells none.
+    let store = c.args.pages.now in
+    none_changes store.layout store.pages c.drop_on.new.pages.pages c.args.index c.relation_of-relation.result c.args.spot (c.relation_of-relation.ensures.number ∙ ap (λ (l : DiskLayout). relation_of l c.args.index) c.layout.ensures) (c.in-Ok-drop_on.ensures.dropped tells) none

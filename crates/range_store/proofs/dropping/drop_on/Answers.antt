@@ -22,8 +22,9 @@ returns-in-Ok-clause-dropped g c = λ tells.
     let old = page_at c.args.pages.now.pages place in
     let new = page_at c.drop_tuple.new.pages.pages place in
     let same = ap (λ (pages : PageMap). page_at pages place) (kept.pages tells) in
-    let below = slot_below old c.args.slot (c.in-Ok-true.ensures.there tells c.in-Ok-true.field-0-test) in
-    drops_on old new c.args.slot c.an_index_page_has_one_list.ensures.slots c.a_put_changes_one_slot.ensures.trimmed (has_tuples old c.args.slot below) below
+    let used = c.in-Ok-true.ensures.there tells c.in-Ok-true.field-0-test in
+    let below = slot_below old c.args.slot used in
+    drops_on old new c.args.slot c.an_index_page_has_one_list.ensures.slots c.a_put_changes_one_slot.ensures.trimmed (has_tuples old c.args.slot below) below used
     (subst (λ (p : List ℕ). IsRegular (slice_index p 0) (trimmed (set (slots_of p) c.args.slot None)) new) same (c.in-Ok.ensures.dropped (kept.leaves.tells ∙ tells)))
 
 pub drop_tuple-requires-clause-slot : goal.drop_tuple-requires-clause-slot
