@@ -208,7 +208,10 @@ fn full_pages_and_pages_without_tuples_stay(rt: HostRuntime) -> Result<(), Fail>
     ];
     assert_eq!(rt; puts, [true; 5]);
     // Every page that the index may have is started, and 8150 bytes of each are free, of which a second slot takes 4.
-    assert_eq!(rt; [trial.room_for(0, 8146), trial.room_for(0, 8147)], [Some(PAGE), None]);
+    assert_eq!(rt;
+        [trial.room_for(0, 8146), trial.room_for(0, 8147)],
+        [Some(PAGE), None]
+    );
     // A page that is being emptied takes no tuple, and its own may go.
     assert!(rt; trial.evacuate(PAGE));
     assert_eq!(rt;
