@@ -3,12 +3,13 @@
 ghost use Rattle.std.specs.Prelude.{◌<◌, ◌≤◌, length};
 
 use crate::store::{FIRST, Trial};
-use block_model::Spot;
+use block_model::{Place, Spot};
 use page_store::StoreError;
 use range_store::{Scratch, SwapFault};
 use std::fs;
 use std::fs::OpenOptions;
 use std::test::Fail;
+use wal_record::Change;
 
 /// The first page behind the two of the map, and its first two slots.
 const PAGE: u32 = 3;
@@ -81,6 +82,18 @@ impl Trial {
         requires { index < 2 }
     {
         range_store::room_for(&self.pages, index, bytes)
+    }
+
+    /// The page of the first index takes no more tuples.
+    fn evacuate(&mut self, block: u32) -> bool
+        requires { block < 8 }
+    {
+        let place = Place {
+            relation: FIRST,
+            block,
+        };
+        let evacuate = Change::Evacuate { place };
+        self.pages.change(place, &evacuate).is_ok()
     }
 }
 
@@ -173,5 +186,48 @@ fn tuples_are_replaced_and_dropped(rt: HostRuntime) -> Result<(), Fail> {
     assert_eq!(rt; trial.drop_at(0, A), Ok(()));
     assert!(rt; trial.has(FIRST, PAGE, 0, &[5, 0, 0, 0]));
     fs::remove_file(&rt, "swaps")?;
+    Ok(())
+}
+
+#[test]
+fn full_pages_and_pages_without_tuples_stay(rt: HostRuntime) -> Result<(), Fail> {
+    let file = OpenOptions::new()
+        .read(true)
+        .write(true)
+        .create(true)
+        .open(&rt, "closed")?;
+    let mut trial = Trial::new(rt.alloc(), file).ok_or("trial")?;
+    let mut out = Scratch::new(rt.alloc()).map_err(|_| "scratch")?;
+    assert!(rt; trial.start_map(FIRST));
+    let puts = [
+        trial.put(0, 3, &SEVEN).is_ok(),
+        trial.put(0, 4, &SEVEN).is_ok(),
+        trial.put(0, 5, &SEVEN).is_ok(),
+        trial.put(0, 6, &SEVEN).is_ok(),
+        trial.put(0, 7, &SEVEN).is_ok(),
+    ];
+    assert_eq!(rt; puts, [true; 5]);
+    // Every page that the index may have is started, and 8150 bytes of each are free, of which a second slot takes 4.
+    assert_eq!(rt;
+        [trial.room_for(0, 8146), trial.room_for(0, 8147)],
+        [Some(PAGE), None]
+    );
+    // A page that is being emptied takes no tuple, and its own may go.
+    assert!(rt; trial.evacuate(PAGE));
+    assert_eq!(rt;
+        trial.replace(0, A, &SEVEN, &LONGER),
+        Err(SwapFault::Full {
+            need: 9,
+            most_free: 0
+        })
+    );
+    assert_eq!(rt; trial.drop_at(0, A), Ok(()));
+    assert!(rt; trial.has(FIRST, PAGE, 0, &[6, 0, 0, 0]));
+    // A page of the map has no tuple, and stays.
+    let on_map = Spot { block: 1, slot: 0 };
+    assert_eq!(rt; trial.tuple_at(0, on_map, 7, &mut out), Ok(false));
+    assert_eq!(rt; trial.drop_at(0, on_map), Ok(()));
+    assert!(rt; trial.has(FIRST, 1, 0, &[4, 0, 0, 0]));
+    fs::remove_file(&rt, "closed")?;
     Ok(())
 }

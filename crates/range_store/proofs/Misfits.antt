@@ -1,5 +1,5 @@
 -- A replace that is refused for what stands on the page.
-use Rattle.std.specs.Prelude.{Ok, Err}
+use Rattle.std.specs.Prelude.{ℕ, ◌<◌, Ok, Err}
 use Rattle.block_model.specs.declared.place.Place.{Place}
 use Rattle.store_layout.specs.DiskLayout.{DiskLayout}
 use Rattle.disk_trait.specs.Told.{Told}
@@ -8,7 +8,7 @@ use Rattle.page_store.specs.Outcome.{Outcome}
 use Rattle.page_store.specs.PageMap.{View}
 use Rattle.range_store.specs.declared.faults.SwapFault.{SwapFault}
 use Rattle.range_store.specs.declared.faults.SwapFault.TheVariants as faults
-use Rattle.range_store.specs.Tuples.{FaultNamesPlace, IsMisfit, SwapOutcome}
+use Rattle.range_store.specs.Tuples.{FaultNamesPlace, IsMisfit, StandsWithin, SwapOutcome}
 
 -- it names no page
 pub misfit_names_none : (layout : DiskLayout) (place : Place) (fault : SwapFault) → IsMisfit fault → FaultNamesPlace layout place fault
@@ -21,3 +21,9 @@ pub misfit_told : {D : Type 0} (T S : Type 0) (told : D → Told) (old new : Vie
 misfit_told T S told old new value (faults.Changed found at) misfit outcome = outcome
 misfit_told T S told old new value (faults.Full need most_free) misfit outcome = outcome
 misfit_told T S told old new value (faults.Store error) misfit outcome = absurd misfit
+
+-- a tuple that has no room stands within the index where the page was looked at
+pub stands_within : (limit block : ℕ) (fault : SwapFault) → block < limit → StandsWithin limit block fault
+stands_within limit block (faults.Changed found at) within = tt
+stands_within limit block (faults.Full need most_free) within = within
+stands_within limit block (faults.Store error) within = tt

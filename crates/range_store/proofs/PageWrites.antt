@@ -1,7 +1,7 @@
 -- What changes of one page make of its tuples.
 use Rattle.std.proofs.Common.{◌≡◌, ◌≢◌, ℕ, zero, suc, ◌<◌, true, inl, inr, List, [], ◌∷◌, length, set, get_or, refl, sym, ap, ◌∙◌, arith}
 use Rattle.std.specs.Prelude.{slice_index, slice_index_or, None, Some}
-use Rattle.std.proofs.lemmas.Bool.{cases_lt}
+use Rattle.std.proofs.lemmas.Bool.{cases_lt, false≢true}
 use Rattle.std.proofs.lemmas.List.{get_or_past, get_or-set_same, get_or-set_other}
 use Rattle.std.proofs.lemmas.Option.{none-some}
 use Rattle.index_layout.specs.declared.format.TheConstants.{UNSTARTED, REGULAR}
@@ -84,9 +84,9 @@ replaces_on old new slot before after one is stood put =
     }
 
 -- a slot becomes free
-pub drops_on : (old new : List ℕ) (slot : ℕ) → HasOneList → ((list : List Slot) (m : ℕ) → slice_index_or (trimmed list) m None ≡ slice_index_or list m None) → is_regular (slice_index old 0) ≡ true → slot < length (slots_of old)
+pub drops_on : (old new : List ℕ) (slot : ℕ) → HasOneList → ((list : List Slot) (m : ℕ) → slice_index_or (trimmed list) m None ≡ slice_index_or list m None) → is_regular (slice_index old 0) ≡ true → slot < length (slots_of old) → tuple_on old slot ≢ None
     → IsRegular (slice_index old 0) (trimmed (set (slots_of old) slot None)) new → DropsOn old new slot
-drops_on old new slot one trims is below put =
+drops_on old new slot one trims is below used put =
     let freed : List Slot = set (slots_of old) slot None in
     let kind : slice_index new 0 ≡ slice_index old 0 = kind_of (slice_index old 0) (trimmed freed) new put in
     record {
@@ -96,4 +96,6 @@ drops_on old new slot one trims is below put =
         others = λ n apart. tuples_are one (slice_index old 0) (trimmed freed) new n put ∙ trims freed n ∙ get_or-set_other {A = Slot} (slots_of old) slot n None None apart;
       };
       map = inr (tuples_say_none old is, tuples_say_none new (ap is_regular kind ∙ is));
+      alone = λ none. absurd (false≢true (sym none ∙ is));
+      free = λ none. absurd (used none);
     }

@@ -96,6 +96,12 @@ pub drops_at : {D : Type 0} (told : D → Told) (index relation : ℕ) (spot : S
 drops_at told index relation spot old new at tells leaves drops =
     drops_there told index spot old new (blocks_stay told old.layout index (record { relation = relation; block = spot.block }) old new leaves tells) (subst (λ (r : ℕ). DropsOn (block_at old.pages r spot.block) (block_at new.pages r spot.block) spot.slot) at drops)
 
+-- a page stays where the spot has no tuple
+pub none_changes : (layout : DiskLayout) (old new : PageMap) (index relation : ℕ) (spot : Spot) → relation ≡ relation_of layout index → DropsOn (block_at old relation spot.block) (block_at new relation spot.block) spot.slot → (contents layout old index).bytes spot ≡ None
+    → index_page layout new index spot.block ≡ index_page layout old index spot.block
+none_changes layout old new index relation spot at drops none =
+    subst (λ (r : ℕ). block_at new r spot.block ≡ block_at old r spot.block) at (drops.free (tuple_there layout old index relation spot at ∙ none))
+
 -- nothing goes from a spot without a tuple
 pub none_drops : (layout : DiskLayout) (pages : PageMap) (index : ℕ) (spot : Spot) → (contents layout pages index).bytes spot ≡ None → DropsBytes (contents layout pages index) (contents layout pages index) spot
 unfolding contents

@@ -1,6 +1,7 @@
 -- what changes of one page make of its tuples
-use Rattle.std.specs.Prelude.{◌≡◌, ◌≢◌, ◌⊎◌, ℕ, ◌<◌, ◌≤◌, List, slice_index, None, Some}
+use Rattle.std.specs.Prelude.{◌≡◌, false, ◌≢◌, ◌⊎◌, ℕ, ◌<◌, ◌≤◌, List, slice_index, None, Some}
 use Rattle.index_layout.specs.declared.format.TheConstants.{REGULAR, UNSTARTED}
+use Rattle.index_layout.specs.IndexReading.{is_regular}
 use Rattle.index_layout.specs.IndexWrites.{room_on}
 use Rattle.index_contents.specs.IndexContents.{tuple_on}
 use Rattle.index_contents.specs.PageLaws.{ChangesSlot, IsNoMap}
@@ -25,8 +26,14 @@ pub record ReplacesOn (old new : List ℕ) (slot : ℕ) (before after : List ℕ
   pub stood : tuple_on old slot ≡ Some before
   pub changes : ChangesSlot old new slot (Some after)
 
+-- a page that isn't one of tuples stays as it is
+abbrev pub StaysWithoutTuples : List ℕ → List ℕ → Type 0
+StaysWithoutTuples old new = is_regular (slice_index old 0) ≡ false → new ≡ old
+
 -- the slot is free, on a page of the same kind; where it was so nothing changes
 pub record DropsOn (old new : List ℕ) (slot : ℕ) : Type 0 where
   pub kind : slice_index new 0 ≡ slice_index old 0
   pub changes : ChangesSlot old new slot None
   pub map : (new ≡ old) ⊎ (IsNoMap old × IsNoMap new)
+  pub alone : StaysWithoutTuples old new
+  pub free : tuple_on old slot ≡ None → new ≡ old

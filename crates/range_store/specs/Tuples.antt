@@ -9,7 +9,7 @@ use Rattle.page_store.specs.Keeps.{Untold}
 use Rattle.page_store.specs.Outcome.{NamesPage, Outcome, Refused}
 use Rattle.page_store.specs.PageMap.{View}
 use Rattle.index_layout.specs.declared.format.TheConstants.{REGULAR, UNSTARTED}
-use Rattle.index_layout.specs.IndexPages.{Slot}
+use Rattle.index_layout.specs.IndexPages.{Slot, tuple_bytes}
 use Rattle.index_layout.specs.IndexReading.{free_slot_of, number_at, slots_of}
 use Rattle.coverage.specs.IndexView.{Pages, Regular, most_bytes}
 use Rattle.coverage.specs.Verdicts.{IsPageUnstarted, MustMove}
@@ -39,10 +39,14 @@ tuple_from page at size = if size == 0 then None else Some (field_at page at siz
 abbrev pub place_on : List ℕ → ℕ → ℕ
 place_on page slot = if nat_lt slot (length (slots_of page)) then number_at page (32 + slot * 4) 2 else 0
 
--- Why bytes aren't replaced: others stand at the spot, which are shown by their place on the page, or none; or those that are
--- expected stand there, and the new ones have more than the most that may take their place, or the page takes none.
+-- how many bytes a slot's tuple has: none where it is free
+abbrev pub size_of : Slot → ℕ
+size_of slot = length (tuple_bytes slot)
+
+-- Why bytes aren't replaced: others stand at the spot, which are shown by their place on the page and how many they are, or none;
+-- or those that are expected stand there, and the new ones have more than the most that may take their place, or the page takes none.
 abbrev pub ShowsMisfit : IndexContents → List ℕ → Spot → List ℕ → ℕ → SwapFault → Type 0
-ShowsMisfit c page x expect size (faults.Changed found at) = (c.bytes x ≡ tuple_from page at found) × (at ≡ place_on page x.slot) × (c.bytes x ≢ Some expect)
+ShowsMisfit c page x expect size (faults.Changed found at) = (c.bytes x ≡ tuple_from page at found) × (found ≡ size_of (c.bytes x)) × (at ≡ place_on page x.slot) × (c.bytes x ≢ Some expect)
 ShowsMisfit c page x expect size (faults.Full need most_free) = (c.bytes x ≡ Some expect) × MustMove c.pages x size × (need ≡ size) × (most_free ≡ c.pages.room_at x)
 ShowsMisfit c page x expect size (faults.Store error) = Unit {0}
 
@@ -50,6 +54,11 @@ ShowsMisfit c page x expect size (faults.Store error) = Unit {0}
 abbrev pub FaultNamesPlace : DiskLayout → Place → SwapFault → Type 0
 FaultNamesPlace layout place (faults.Store error) = NamesPage layout place error
 FaultNamesPlace layout place fault = Unit {0}
+
+-- a tuple that has no room stands on a page that the index may have
+abbrev pub StandsWithin : ℕ → ℕ → SwapFault → Type 0
+StandsWithin limit block (faults.Full need most_free) = block < limit
+StandsWithin limit block fault = Unit {0}
 
 -- A replace is done or refused as the page store does or refuses. Other bytes, and want of room, are told only where no disk
 -- fault was kept.
@@ -72,7 +81,7 @@ TakesInPlace page slot expect need = (tuple_on page slot ≡ Some expect) × (sl
 
 -- other bytes stand in the slot, or the new ones have no room in place of the expected ones
 abbrev pub MisfitsOn : List ℕ → ℕ → List ℕ → ℕ → SwapFault → Type 0
-MisfitsOn page slot expect size (faults.Changed found at) = (tuple_on page slot ≡ tuple_from page at found) × (at ≡ place_on page slot) × (tuple_on page slot ≢ Some expect)
+MisfitsOn page slot expect size (faults.Changed found at) = (tuple_on page slot ≡ tuple_from page at found) × (found ≡ size_of (tuple_on page slot)) × (at ≡ place_on page slot) × (tuple_on page slot ≢ Some expect)
 MisfitsOn page slot expect size (faults.Full need most_free) = (tuple_on page slot ≡ Some expect) × (most_free < size) × (need ≡ size) × (most_free ≡ room_in_place page slot)
 MisfitsOn page slot expect size (faults.Store error) = Unit {0}
 
@@ -83,5 +92,5 @@ IsMisfit fault = Unit {0}
 
 -- the tuple in the slot has that length and place on the page
 abbrev pub IsFound : List ℕ → ℕ → SwapFault → Type 0
-IsFound page slot (faults.Changed found at) = (tuple_on page slot ≡ tuple_from page at found) × (at ≡ place_on page slot)
+IsFound page slot (faults.Changed found at) = (tuple_on page slot ≡ tuple_from page at found) × (found ≡ size_of (tuple_on page slot)) × (at ≡ place_on page slot)
 IsFound page slot fault = ⊥

@@ -1,6 +1,6 @@
 //! Dropping the tuple at a spot.
 
-ghost use Rattle.std.specs.Prelude.{◌≡◌, ◌<◌, ◌≤◌, Bool, true, false, None, length, slice_index, IfOk, IfErr, OnOk, OnErr};
+ghost use Rattle.std.specs.Prelude.{◌≡◌, ◌≢◌, ◌<◌, ◌≤◌, Bool, true, false, None, length, slice_index, IfOk, IfErr, OnOk, OnErr};
 ghost use Rattle.store_layout.specs.DiskLayout.{IsPlace};
 ghost use Rattle.page_layout.specs.declared.page.Form.TheVariants as forms;
 ghost use Rattle.page_store.specs.Forms.{form_of};
@@ -9,19 +9,20 @@ ghost use Rattle.page_store.specs.Outcome.{NamesPage, Outcome};
 ghost use Rattle.page_store.specs.PageMap.{page_at};
 ghost use Rattle.index_layout.specs.IndexPages.{IsIndexPage};
 ghost use Rattle.index_layout.specs.IndexReading.{is_regular, slots_of};
-ghost use Rattle.index_contents.specs.IndexContents.{contents, relation_of};
+ghost use Rattle.index_contents.specs.IndexContents.{contents, index_page, relation_of, tuple_on};
 ghost use Rattle.index_contents.specs.IndexChanges.{DropsBytes, LeavesOtherPages, LeavesOthers};
-ghost use Rattle.range_store.specs.PageTuples.{DropsOn};
+ghost use Rattle.range_store.specs.PageTuples.{DropsOn, StaysWithoutTuples};
 
 use crate::changes::drop_tuple;
 use block_model::{Place, Spot};
 use disk_trait::Disk;
 use index_contents::{index_pages_are_known, relation_of};
-use index_layout::{a_put_changes_one_slot, an_index_page_has_one_list, slots};
+use index_layout::{a_put_changes_one_slot, an_index_page_has_one_list, tuple_at};
 use page_layout::Page;
 use page_store::{PageStore, StoreError};
 
-/// The spot has no tuple any more, whatever stood there. After an error nothing is changed.
+/// The spot has no tuple any more, whatever stood there. Where none did, and after an error, nothing is changed; so a page that isn't
+/// one of tuples stays as it is.
 pub fn drop_at<D: Disk + Drop>(
     pages: &mut PageStore<D>,
     index: u8,
@@ -29,8 +30,11 @@ pub fn drop_at<D: Disk + Drop>(
 ) -> Result<(), StoreError>
     requires index { index < length pages.old.layout.schema.indexes }
     ensures dropped { OnOk result (Tells D.told pages.old → DropsBytes (contents pages.old.layout pages.old.pages index) (contents pages.old.layout pages.new.pages index) spot) }
+    ensures free { OnOk result (Tells D.told pages.old → (contents pages.old.layout pages.old.pages index).bytes spot ≡ None → index_page pages.old.layout pages.new.pages index spot.block ≡ index_page pages.old.layout pages.old.pages index spot.block) }
+    ensures alone { OnOk result (Tells D.told pages.old → StaysWithoutTuples (index_page pages.old.layout pages.old.pages index spot.block) (index_page pages.old.layout pages.new.pages index spot.block)) }
     ensures kept { OnErr result (Keeps D.told pages.old pages.new) }
     ensures others { LeavesOthers D.told index pages.old pages.new }
+    ensures pages { LeavesOtherPages D.told (record { relation = relation_of pages.old.layout index; block = spot.block }) pages.old pages.new }
     ensures at { IfErr result (NamesPage pages.old.layout (record { relation = relation_of pages.old.layout index; block = spot.block })) }
     ensures outcome { Outcome D.told (Untold D.told pages.old) pages.old pages.new result }
 {
@@ -67,7 +71,7 @@ fn drop_on<D: Disk + Drop>(
 {
     an_index_page_has_one_list();
     a_put_changes_one_slot();
-    match has_slot(pages, place, slot) {
+    match has_tuple(pages, place, slot) {
         Ok(true) => match drop_tuple(pages, place, slot) {
             Ok(()) => Ok(()),
             Err(error) => Err(error),
@@ -77,23 +81,23 @@ fn drop_on<D: Disk + Drop>(
     }
 }
 
-/// Whether the page has the slot, free or not.
-fn has_slot<D: Disk + Drop>(
+/// Whether the slot of the page has a tuple.
+fn has_tuple<D: Disk + Drop>(
     pages: &mut PageStore<D>,
     place: Place,
     slot: u16,
 ) -> Result<bool, StoreError>
     requires place { IsPlace pages.old.layout place }
     requires form { form_of pages.old.layout place.relation ≡ forms.Index }
-    ensures there { IfOk result (λ there. Tells D.told pages.old → there ≡ true → slot < length (slots_of (page_at pages.old.pages place))) }
-    ensures absent { IfOk result (λ there. Tells D.told pages.old → there ≡ false → length (slots_of (page_at pages.old.pages place)) ≤ slot) }
+    ensures there { IfOk result (λ there. Tells D.told pages.old → there ≡ true → tuple_on (page_at pages.old.pages place) slot ≢ None) }
+    ensures absent { IfOk result (λ there. Tells D.told pages.old → there ≡ false → tuple_on (page_at pages.old.pages place) slot ≡ None) }
     ensures kept { Keeps D.told pages.old pages.new }
     ensures at { IfErr result (NamesPage pages.old.layout place) }
     ensures outcome { Outcome D.told (Untold D.told pages.old) pages.old pages.new result }
 {
     index_pages_are_known();
     match pages.read(place) {
-        Ok(page) => Ok(slot < slots(page.as_bytes())),
+        Ok(page) => Ok(tuple_at(page.as_bytes(), slot).is_some()),
         Err(error) => Err(error),
     }
 }

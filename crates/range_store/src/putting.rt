@@ -51,6 +51,7 @@ pub fn put<D: Disk + Drop>(
     ensures put { IfOk result (λ spot. Tells D.told pages.old → PutsBytes (contents pages.old.layout pages.old.pages index) (contents pages.old.layout pages.new.pages index) spot bytes.now) }
     ensures kept { OnErr result (Keeps D.told pages.old pages.new) }
     ensures others { LeavesOthers D.told index pages.old pages.new }
+    ensures pages { LeavesOtherPages D.told (record { relation = relation_of pages.old.layout index; block = block }) pages.old pages.new }
     ensures at { IfErr result (NamesPage pages.old.layout (record { relation = relation_of pages.old.layout index; block = block })) }
     ensures outcome { Outcome D.told (Untold D.told pages.old) pages.old pages.new result }
 {

@@ -36,6 +36,7 @@ pub fn tuple_at<D: Disk + Drop>(
     ensures gone { IfOk result (λ there. Tells D.told pages.old → there ≡ false → (bytes : List ℕ) → (contents pages.old.layout pages.old.pages index).bytes spot ≡ Some bytes → IsOfRange bytes range → ⊥) }
     ensures same { IfOk result (λ there. there ≡ false → out.new ≡ out.old) }
     ensures unread { OnErr result (out.new ≡ out.old) }
+    ensures within { IfOk result (λ there. there ≡ true → spot.block < pages.old.layout.sizes.index_blocks) }
     ensures kept { Keeps D.told pages.old pages.new }
     ensures at { IfErr result (NamesPage pages.old.layout (record { relation = relation_of pages.old.layout index; block = spot.block })) }
     ensures outcome { Outcome D.told (Untold D.told pages.old) pages.old pages.new result }

@@ -12,7 +12,7 @@ ghost use Rattle.index_layout.specs.IndexPages.{IsIndexPage};
 ghost use Rattle.index_contents.specs.IndexContents.{contents, index_page, relation_of, room_in_place, tuple_on};
 ghost use Rattle.index_contents.specs.IndexChanges.{LeavesOtherPages, LeavesOthers, ReplacesBytes};
 ghost use Rattle.range_store.specs.PageTuples.{ReplacesOn};
-ghost use Rattle.range_store.specs.Tuples.{FaultNamesPlace, IsFound, IsMisfit, IsTupleSize, MisfitsOn, ShowsMisfit, SwapOutcome, TakesInPlace};
+ghost use Rattle.range_store.specs.Tuples.{FaultNamesPlace, IsFound, IsMisfit, IsTupleSize, MisfitsOn, ShowsMisfit, StandsWithin, SwapOutcome, TakesInPlace, size_of};
 
 use crate::changes::replace_tuple;
 use crate::faults::SwapFault;
@@ -24,12 +24,10 @@ use index_layout::{REGULAR, an_index_page_has_one_list, free_bytes, kind_of, slo
 use page_layout::Page;
 use page_store::{PageStore, StoreError};
 
-/// Where the directory of a page of tuples begins, how many bytes each slot has, and where the length stands in it.
+/// Where the directory of a page of tuples begins, and how many bytes each slot has.
 const DIRECTORY: usize = 32;
 
 const SLOT_SIZE: usize = 4;
-
-const LENGTH: usize = 2;
 
 /// The tuple at the spot, which is the expected one, gives way to this one in its place. Changed exactly where other bytes stand
 /// there, or none; Full exactly where the expected ones do, and the new ones have no room in their place, or the page takes no
@@ -44,9 +42,12 @@ pub fn replace<D: Disk + Drop>(
     requires index { index < length pages.old.layout.schema.indexes }
     requires size { IsTupleSize (length bytes.now) }
     ensures replaced { OnOk result (Tells D.told pages.old → ReplacesBytes (contents pages.old.layout pages.old.pages index) (contents pages.old.layout pages.new.pages index) spot expect.now bytes.now) }
+    ensures within { OnOk result (spot.block < pages.old.layout.sizes.index_blocks) }
+    ensures full { IfErr result (StandsWithin pages.old.layout.sizes.index_blocks spot.block) }
     ensures misfit { IfErr result (λ fault. Tells D.told pages.old → ShowsMisfit (contents pages.old.layout pages.old.pages index) (index_page pages.old.layout pages.old.pages index spot.block) spot expect.now (length bytes.now) fault) }
     ensures kept { OnErr result (Keeps D.told pages.old pages.new) }
     ensures others { LeavesOthers D.told index pages.old pages.new }
+    ensures pages { LeavesOtherPages D.told (record { relation = relation_of pages.old.layout index; block = spot.block }) pages.old pages.new }
     ensures at { IfErr result (FaultNamesPlace pages.old.layout (record { relation = relation_of pages.old.layout index; block = spot.block })) }
     ensures outcome { SwapOutcome D.told pages.old pages.new result }
 {
@@ -169,9 +170,20 @@ fn found_at(page: &[u8], slot: u16) -> SwapFault
         return SwapFault::Changed { size: 0, at: 0 };
     }
     an_index_page_has_one_list();
-    let entry = DIRECTORY + usize::from(slot) * SLOT_SIZE;
     SwapFault::Changed {
-        size: get_u16(page, entry + LENGTH),
-        at: get_u16(page, entry),
+        size: size_at(page, slot),
+        at: get_u16(page, DIRECTORY + usize::from(slot) * SLOT_SIZE),
+    }
+}
+
+/// How many bytes the tuple in the slot has: none where the slot is free.
+fn size_at(page: &[u8], slot: u16) -> u16
+    requires page { IsIndexPage page.now }
+    ensures { result ≡ size_of (tuple_on page.now slot) }
+{
+    an_index_page_has_one_list();
+    match index_layout::tuple_at(page, slot) {
+        Some(tuple) => tuple.len() as u16,
+        None => 0,
     }
 }

@@ -17,7 +17,8 @@ use index_contents::relation_of;
 use page_store::PageStore;
 
 /// The page for a tuple of so many bytes: the lowest one behind the map pages that takes tuples and has room, else the next one that
-/// isn't started, if the index may have it; else none. No device call.
+/// isn't started, if the index may have it; else none. A page on which no further tuple fits is one
+/// with room for 0 bytes. No device call.
 pub fn room_for<D: Disk + Drop>(pages: &PageStore<D>, index: u8, bytes: u16) -> Option<u32>
     requires index { index < length pages.now.layout.schema.indexes }
     ensures within { IfSome result (λ block. block < pages.now.layout.sizes.index_blocks) }

@@ -1,12 +1,14 @@
 use Rattle.std.proofs.Common.{ℕ, subst, arith, ap, ◌∙◌, ◌≡◌, ◌<◌, length}
 use Rattle.store_layout.specs.DiskLayout.{DiskLayout, relation_blocks}
 use Rattle.block_model.specs.declared.schema.Sizes.{Sizes}
-use Rattle.page_store.specs.PageMap.{block_limit}
+use Rattle.page_store.specs.PageMap.{block_at, block_limit}
 use Rattle.index_contents.specs.IndexContents.{relation_of}
 use Rattle.page_store.specs.Outcome.{NamesPage}
 use Rattle.index_contents.specs.Calls.{past_the_limit}
+use Rattle.index_contents.specs.IndexChanges.{LeavesOtherPages}
 use Rattle.index_contents.specs.PageLaws.{leaves_others}
-use Rattle.range_store.proofs.Spots.{drops_at, none_drops, none_past}
+use Rattle.range_store.specs.PageTuples.{StaysWithoutTuples}
+use Rattle.range_store.proofs.Spots.{drops_at, none_changes, none_drops, none_past}
 use Rattle.range_store.proofs.dropping.drop_at.Goals as goal
 
 pub returns-in-Ok-clause-dropped : goal.returns-in-Ok-clause-dropped
@@ -30,3 +32,23 @@ returns-in-Err-drop_on-clause-others g c = leaves_others g.D.Disk.told c.args.in
 
 pub returns-in-Err-drop_on-clause-at : goal.returns-in-Err-drop_on-clause-at
 returns-in-Err-drop_on-clause-at g c = subst (λ (r : ℕ). NamesPage c.args.pages.now.layout (record { relation = r; block = c.args.spot.block }) c.in-Err-drop_on.error) (c.relation_of-relation.ensures.number ∙ ap (λ (l : DiskLayout). relation_of l c.args.index) c.layout.ensures) c.in-Err-drop_on.ensures.at
+
+pub returns-in-Ok-drop_on-clause-pages : goal.returns-in-Ok-drop_on-clause-pages
+returns-in-Ok-drop_on-clause-pages g c =
+    let store = c.args.pages.now in
+    subst (λ (r : ℕ). LeavesOtherPages g.D.Disk.told (record { relation = r; block = c.args.spot.block }) store c.drop_on.new.pages) (c.relation_of-relation.ensures.number ∙ ap (λ (l : DiskLayout). relation_of l c.args.index) c.layout.ensures) c.drop_on.ensures.others
+
+pub returns-in-Err-drop_on-clause-pages : goal.returns-in-Err-drop_on-clause-pages
+returns-in-Err-drop_on-clause-pages g c =
+    let store = c.args.pages.now in
+    subst (λ (r : ℕ). LeavesOtherPages g.D.Disk.told (record { relation = r; block = c.args.spot.block }) store c.drop_on.new.pages) (c.relation_of-relation.ensures.number ∙ ap (λ (l : DiskLayout). relation_of l c.args.index) c.layout.ensures) c.drop_on.ensures.others
+
+pub returns-in-Ok-drop_on-clause-alone : goal.returns-in-Ok-drop_on-clause-alone
+returns-in-Ok-drop_on-clause-alone g c = λ tells.
+    let store = c.args.pages.now in
+    subst (λ (r : ℕ). StaysWithoutTuples (block_at store.pages r c.args.spot.block) (block_at c.drop_on.new.pages.pages r c.args.spot.block)) (c.relation_of-relation.ensures.number ∙ ap (λ (l : DiskLayout). relation_of l c.args.index) c.layout.ensures) (c.in-Ok-drop_on.ensures.dropped tells).alone
+
+pub returns-in-Ok-drop_on-clause-free : goal.returns-in-Ok-drop_on-clause-free
+returns-in-Ok-drop_on-clause-free g c = λ tells none.
+    let store = c.args.pages.now in
+    none_changes store.layout store.pages c.drop_on.new.pages.pages c.args.index c.relation_of-relation.result c.args.spot (c.relation_of-relation.ensures.number ∙ ap (λ (l : DiskLayout). relation_of l c.args.index) c.layout.ensures) (c.in-Ok-drop_on.ensures.dropped tells) none

@@ -3,6 +3,7 @@ use Rattle.store_layout.specs.DiskLayout.{DiskLayout}
 use Rattle.index_contents.specs.IndexContents.{relation_of}
 use Rattle.block_model.specs.declared.place.Spot.{Spot}
 use Rattle.page_store.specs.Outcome.{NamesPage}
+use Rattle.index_contents.specs.IndexChanges.{LeavesOtherPages}
 use Rattle.index_contents.specs.PageLaws.{leaves_others}
 use Rattle.range_store.proofs.Spots.{puts_at, takes_on}
 use Rattle.range_store.proofs.putting.put.Goals as goal
@@ -25,3 +26,13 @@ returns-in-Err-clause-others g c = leaves_others g.D.Disk.told c.args.index (rec
 
 pub returns-in-Err-clause-at : goal.returns-in-Err-clause-at
 returns-in-Err-clause-at g c = subst (λ (r : ℕ). NamesPage c.args.pages.now.layout (record { relation = r; block = c.args.block }) c.in-Err.error) (c.relation_of-relation.ensures.number ∙ ap (λ (l : DiskLayout). relation_of l c.args.index) c.layout.ensures) c.in-Err.ensures.at
+
+pub returns-in-Ok-clause-pages : goal.returns-in-Ok-clause-pages
+returns-in-Ok-clause-pages g c =
+    let store = c.args.pages.now in
+    subst (λ (r : ℕ). LeavesOtherPages g.D.Disk.told (record { relation = r; block = c.args.block }) store c.put_on.new.pages) (c.relation_of-relation.ensures.number ∙ ap (λ (l : DiskLayout). relation_of l c.args.index) c.layout.ensures) c.put_on.ensures.others
+
+pub returns-in-Err-clause-pages : goal.returns-in-Err-clause-pages
+returns-in-Err-clause-pages g c =
+    let store = c.args.pages.now in
+    subst (λ (r : ℕ). LeavesOtherPages g.D.Disk.told (record { relation = r; block = c.args.block }) store c.put_on.new.pages) (c.relation_of-relation.ensures.number ∙ ap (λ (l : DiskLayout). relation_of l c.args.index) c.layout.ensures) c.put_on.ensures.others

@@ -5,9 +5,11 @@ use Rattle.page_store.specs.PageMap.{block_at, block_limit, unstarted_page}
 use Rattle.index_contents.specs.IndexContents.{index_page, relation_of}
 use Rattle.std.proofs.lemmas.Option.{none-some}
 use Rattle.index_contents.specs.Calls.{past_the_limit}
+use Rattle.index_contents.specs.IndexChanges.{LeavesOtherPages}
 use Rattle.index_contents.specs.PageLaws.{leaves_others}
-use Rattle.range_store.specs.Tuples.{FaultNamesPlace}
+use Rattle.range_store.specs.Tuples.{FaultNamesPlace, size_of}
 use Rattle.range_store.proofs.Found.{nothing_past}
+use Rattle.range_store.proofs.Misfits.{stands_within}
 use Rattle.range_store.proofs.Spots.{misfits_at, none_past, replaces_at}
 use Rattle.range_store.proofs.replacing.replace.Goals as goal
 
@@ -21,7 +23,8 @@ returns-in-Ok-clause-misfit g c = λ tells.
     let at = c.relation_of-relation.ensures.number ∙ ap (λ (l : DiskLayout). relation_of l c.args.index) c.layout.ensures in
     let none = none_past store.layout store.pages c.args.index c.relation_of-relation.result c.args.spot at past in
     let page = index_page store.layout store.pages c.args.index c.args.spot.block in
-    (none, nothing_past page c.args.spot.slot (subst (λ (r : ℕ). block_at store.pages r c.args.spot.block ≡ unstarted_page) at past), λ stands. none-some _ (sym none ∙ stands))
+    let place = nothing_past page c.args.spot.slot (subst (λ (r : ℕ). block_at store.pages r c.args.spot.block ≡ unstarted_page) at past) in
+    (none, ap size_of (sym none), place, λ stands. none-some _ (sym none ∙ stands))
 
 pub returns-in-Ok-replace_on-clause-replaced : goal.returns-in-Ok-replace_on-clause-replaced
 returns-in-Ok-replace_on-clause-replaced g c = λ tells.
@@ -41,3 +44,19 @@ returns-in-Err-replace_on-clause-others g c = leaves_others g.D.Disk.told c.args
 
 pub returns-in-Err-replace_on-clause-at : goal.returns-in-Err-replace_on-clause-at
 returns-in-Err-replace_on-clause-at g c = subst (λ (r : ℕ). FaultNamesPlace c.args.pages.now.layout (record { relation = r; block = c.args.spot.block }) c.in-Err-replace_on.fault) (c.relation_of-relation.ensures.number ∙ ap (λ (l : DiskLayout). relation_of l c.args.index) c.layout.ensures) c.in-Err-replace_on.ensures.at
+
+pub returns-in-Ok-replace_on-clause-pages : goal.returns-in-Ok-replace_on-clause-pages
+returns-in-Ok-replace_on-clause-pages g c =
+    let store = c.args.pages.now in
+    subst (λ (r : ℕ). LeavesOtherPages g.D.Disk.told (record { relation = r; block = c.args.spot.block }) store c.replace_on.new.pages) (c.relation_of-relation.ensures.number ∙ ap (λ (l : DiskLayout). relation_of l c.args.index) c.layout.ensures) c.replace_on.ensures.others
+
+pub returns-in-Err-replace_on-clause-pages : goal.returns-in-Err-replace_on-clause-pages
+returns-in-Err-replace_on-clause-pages g c =
+    let store = c.args.pages.now in
+    subst (λ (r : ℕ). LeavesOtherPages g.D.Disk.told (record { relation = r; block = c.args.spot.block }) store c.replace_on.new.pages) (c.relation_of-relation.ensures.number ∙ ap (λ (l : DiskLayout). relation_of l c.args.index) c.layout.ensures) c.replace_on.ensures.others
+
+pub returns-in-Err-replace_on-clause-full : goal.returns-in-Err-replace_on-clause-full
+returns-in-Err-replace_on-clause-full g c =
+    let blocks = c.sizes.ensures ∙ ap (λ (l : DiskLayout). l.sizes) c.layout-2.ensures in
+    let within : c.args.spot.block < c.args.pages.now.layout.sizes.index_blocks = omega (arith, c.if-block-sizes.false, ap (λ (s : Sizes). s.index_blocks) blocks) in
+    stands_within c.args.pages.now.layout.sizes.index_blocks c.args.spot.block c.in-Err-replace_on.fault within
