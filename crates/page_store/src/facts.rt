@@ -11,19 +11,19 @@ use wal_record::Change;
 
 /// What is kept of a page beside the page: its kind, and its lowest free slot where it has one.
 #[derive(Clone, Copy)]
-pub(crate) struct PageFacts {
+pub struct PageFacts {
     pub kind: u8,
     pub lowest: Option<u16>,
 }
 
 /// Those of a page that isn't started.
-pub(crate) const NO_FACTS: PageFacts = PageFacts {
+pub const NO_FACTS: PageFacts = PageFacts {
     kind: UNSTARTED,
     lowest: None,
 };
 
 /// The facts of a page that passes its check.
-pub(crate) fn facts_of(page: &Page, form: &Form) -> PageFacts
+pub fn facts_of(page: &Page, form: &Form) -> PageFacts
     requires form { IsForm form.now }
     requires page { IsPageOf form.now page.now }
     ensures { result ≡ facts_on form.now page.now }
@@ -35,7 +35,7 @@ pub(crate) fn facts_of(page: &Page, form: &Form) -> PageFacts
 }
 
 /// The facts of a page that passes its check, after a change, where they were these before.
-pub(crate) fn facts_after(
+pub fn facts_after(
     page: &Page,
     form: &Form,
     change: &Change<'_>,
