@@ -8,3 +8,4 @@ pub mod Room
 pub mod Made
 pub mod StoreFacts
 pub mod Noted
+pub mod Begun

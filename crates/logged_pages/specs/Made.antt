@@ -1,5 +1,7 @@
 -- what a change makes of a page that is held
 use Rattle.std.specs.Prelude.{◌≡◌, ◌≢◌, ℕ, List, [], ◌∷◌, Some}
+use Rattle.block_model.specs.declared.place.Place.{Place}
+use Rattle.store_layout.specs.DiskLayout.{DiskLayout, page_offset}
 use Rattle.page_layout.specs.declared.page.Form.{Form}
 use Rattle.wal_record.specs.Changes.{LoggedChange}
 use Rattle.page_redo.specs.Redo.{Fits, Redone}
@@ -27,3 +29,8 @@ Misfits form number change pool = (page : List ℕ) → content_at pool number �
 abbrev pub IsOfDisk : StoreError → Type 0
 IsOfDisk (errors.Damaged at) = ⊥
 IsOfDisk error = Unit {0}
+
+-- damage of the page at the place
+abbrev pub IsDamaged : DiskLayout → Place → StoreError → Type 0
+IsDamaged layout place (errors.Damaged at) = at ≡ page_offset layout place
+IsDamaged layout place error = ⊥

@@ -1,6 +1,6 @@
 //! Pages of a disk with their log and their pool.
 
-ghost use Rattle.std.specs.Prelude.{◌≡◌, ◌⊎◌, ◌||◌, [], ◌∷◌, ◌+◌, ◌<◌, ◌≤◌, ℕ, List, IsTrue, Some, None, true, false, length, slice_index_or, IfOk, IfSome, IfErr, OnOk, OnErr, IsSome, option_copied};
+ghost use Rattle.std.specs.Prelude.{◌≡◌, ◌⊎◌, ◌||◌, [], ◌∷◌, ◌+◌, ◌*◌, ◌<◌, ◌≤◌, ℕ, List, IsTrue, Some, None, true, false, length, slice_index_or, IfOk, IfSome, IfErr, OnOk, OnErr, IsSome, option_copied};
 ghost use Rattle.store_layout.specs.DiskLayout.{IsPlace};
 ghost use Rattle.page_layout.specs.PageContents.{IsForm};
 ghost use Rattle.wal_record.specs.Changes.{logged, place_of};
@@ -19,7 +19,7 @@ ghost use Rattle.logged_pages.specs.Keeps.{Keeps, Leaves};
 ghost use Rattle.logged_pages.specs.LoggedState.{store_of};
 ghost use Rattle.logged_pages.specs.Standing.{IsStanding};
 ghost use Rattle.logged_pages.specs.Room.{HasLogRoom, HasRoom, IsDurable, IsEmptied, IsLoggable, bytes_for, bytes_with};
-ghost use Rattle.logged_pages.specs.Made.{IsOfDisk, MakesPage, Misfits};
+ghost use Rattle.logged_pages.specs.Made.{IsOfDisk, MakesPage};
 ghost use Rattle.logged_pages.specs.declared.logged.TheConstants.{MOST_BYTES};
 ghost use Rattle.change_buffer.specs.declared.buffer.TheConstants.{BUFFER_SIZE};
 ghost use Rattle.buffer_pool.specs.PoolState.{IsClean, IsDirty, held_at};
@@ -28,7 +28,7 @@ ghost use Rattle.buffer_pool.specs.NextDirty.{IsNextDirty};
 ghost use Rattle.disk_trait.specs.IsStable.{IsStable};
 ghost use Rattle.logged_pages.specs.Clean.{AreClean};
 
-use crate::places::{begin, read_page, redo_held};
+use crate::places::{HeldPlace, make_held, read_page};
 use block_model::{PAGE_SIZE, Place};
 use buffer_pool::Pool;
 use change_buffer::{BUFFER_SIZE, ChangeBuffer};
@@ -450,7 +450,7 @@ impl<D: Disk + Drop> LoggedPages<D> {
     pub fn make_room(&mut self, place: Place, begins: bool, size: usize) -> Result<(), StoreError>
         requires place { IsPlace self.old.layout place }
         requires failed { self.old.failed ≡ None }
-        requires few { size ≤ MOST_BYTES }
+        requires few { size ≤ 2 * MOST_BYTES }
         ensures kept { Keeps D.told (store_of D.told self.old) (store_of D.told self.new) }
         ensures outcome { Outcome D.told (Untold D.told (store_of D.told self.old)) (store_of D.told self.old) (store_of D.told self.new) result }
         ensures undamaged { IfErr result IsOfDisk }
@@ -465,7 +465,7 @@ impl<D: Disk + Drop> LoggedPages<D> {
     /// How many bytes a change of so many bytes of the page at the place takes.
     fn need(&self, place: Place, begins: bool, size: usize) -> usize
         requires place { IsPlace self.now.layout place }
-        requires few { size ≤ MOST_BYTES }
+        requires few { size ≤ 2 * MOST_BYTES }
         ensures { result ≡ bytes_with (is_marked self.now.marks self.now.layout place || begins) size }
     {
         if begins {
@@ -532,16 +532,16 @@ impl<D: Disk + Drop> LoggedPages<D> {
         requires own { place_of (logged change.now) ≡ place }
         requires form { form.now ≡ form_of self.old.layout place.relation }
         requires is { IsForm form.now }
+        requires fits { Tells D.told (store_of D.told self.old) → FitsIn self.old.layout place.relation (page_at (store_of D.told self.old).pages place) (logged change.now) }
         requires failed { self.old.failed ≡ None }
         requires held { IsSome (held_at self.old.pool (page_number self.old.layout place)) }
         requires loggable { IsLoggable (logged change.now) }
         requires room { HasRoom self.old.log self.old.waiting (bytes_for (is_marked self.old.marks self.old.layout place) (logged change.now)) }
         ensures leaves { Leaves D.told (store_of D.told self.old) (store_of D.told self.new) }
         ensures failed { self.new.failed ≡ None }
-        ensures kept { OnErr result (Keeps D.told (store_of D.told self.old) (store_of D.told self.new)) }
+        ensures untold { OnErr result (Untold D.told (store_of D.told self.old)) }
         ensures changed { OnOk result (Tells D.told (store_of D.told self.old) → Changed self.old.layout place (logged change.now ∷ []) (store_of D.told self.old).pages (store_of D.told self.new).pages) }
         ensures made { OnOk result (MakesPage form.now (page_number self.old.layout place) (logged change.now) self.old.pool self.new.pool) }
-        ensures misfit { OnErr result (Misfits form.now (page_number self.old.layout place) (logged change.now) self.old.pool) }
         ensures alike { OnErr result (HoldsAlike self.old.pool self.new.pool) }
         ensures waiting { OnOk result (length self.new.waiting.bytes ≡ length self.old.waiting.bytes + bytes_for (is_marked self.old.marks self.old.layout place) (logged change.now)) }
         ensures log { self.new.log ≡ self.old.log }
@@ -549,9 +549,13 @@ impl<D: Disk + Drop> LoggedPages<D> {
     {
         let number = number_of(&self.layout, place);
         let waits = self.log.used() + 1;
-        begin(&mut self.waiting, &mut self.marks, &mut self.pool, number, place, change);
-        redo_held(&mut self.pool, number, waits, change, form)?;
-        self.waiting.add(change);
-        Ok(())
+        make_held(
+            &mut self.waiting,
+            &mut self.marks,
+            &mut self.pool,
+            HeldPlace { place, number, waits },
+            form,
+            change,
+        )
     }
 }

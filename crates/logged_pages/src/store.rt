@@ -16,7 +16,7 @@ ghost use Rattle.page_store.specs.FirstRoom.{IsFirstRoomOf};
 ghost use Rattle.opened_pages.specs.Opens.{OpensAs};
 ghost use Rattle.logged_pages.specs.Keeps.{Keeps, Leaves};
 ghost use Rattle.logged_pages.specs.LoggedState.{store_of};
-ghost use Rattle.logged_pages.specs.StoreFacts.{AreFactsOf};
+ghost use Rattle.logged_pages.specs.StoreFacts.{AreKnown};
 
 use crate::change::{change_page, start_page};
 use crate::facts::hold;
@@ -42,13 +42,13 @@ impl<D: Disk + Drop> Model for PageStore<D> {
     ghost use Rattle.page_store.specs.Forms.{forms_of};
     ghost use Rattle.page_store.specs.PageMap.{View};
     ghost use Rattle.logged_pages.specs.LoggedState.{store_of};
-    ghost use Rattle.logged_pages.specs.StoreFacts.{AreFactsOf};
+    ghost use Rattle.logged_pages.specs.StoreFacts.{AreKnown};
 
     ghost Value = { View D };
 
     ghost view = { λ s. store_of D.told s.pages };
 
-    ghost invariant = { λ s. (s.forms.items ≡ forms_of s.pages.layout) × AreFactsOf (D.told s.pages.disk).tells_contents s.pages.layout s.pages.pool (store_of D.told s.pages).pages s.facts.items };
+    ghost invariant = { λ s. (s.forms.items ≡ forms_of s.pages.layout) × AreKnown D.told s.pages s.facts.items };
 }
 
 impl<D: Disk + Drop> PageStore<D> {
@@ -59,7 +59,7 @@ impl<D: Disk + Drop> PageStore<D> {
         facts: Vec<FactList>,
     ) -> PageStore<D>
         requires forms { forms.items ≡ forms_of pages.layout }
-        requires facts { AreFactsOf (D.told pages.disk).tells_contents pages.layout pages.pool (store_of D.told pages).pages facts.items }
+        requires facts { AreKnown D.told pages facts.items }
         ensures { result ≡ store_of D.told pages }
     {
         PageStore {

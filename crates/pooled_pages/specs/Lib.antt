@@ -3,3 +3,4 @@ pub mod ShownPages
 pub mod ShownLaws
 pub mod Safe
 pub mod InPool
+pub mod SafeLaws

@@ -19,16 +19,20 @@ use Rattle.pooled_pages.specs.PageNumbers.{page_number}
 abbrev pub is_marked : List Bool → DiskLayout → Place → Bool
 is_marked marks layout place = slice_index_or marks (page_number layout place) false
 
--- The log stands on the image with some frames. The changes that they hold, and those that wait, make the pages of those that stand
--- on the image; the first change of each page makes it whole; and a page is marked where there is one.
+-- The changes make these pages of those that stand on the image; the first change of each page makes it whole; and a page is marked
+-- where there is one.
+pub record Rebuilds (layout : DiskLayout) (marks : List Bool) (changes : List LoggedChange) (pages : PageMap) (image : List ℕ) : Type 0 where
+  pub places : AllByRecursion (λ change. IsPlace layout (place_of change)) changes
+  pub anew : (place : Place) → BeginAnew (changes_at place changes)
+  pub redone : (place : Place) → IsPlace layout place → Redone (form_of layout place.relation) (disk_page layout image place) (changes_at place changes) (page_at pages place)
+  pub marked : (place : Place) → IsPlace layout place → is_marked marks layout place ≡ true → 0 < length (changes_at place changes)
+  pub unmarked : (place : Place) → IsPlace layout place → is_marked marks layout place ≡ false → changes_at place changes ≡ []
+
+-- The log stands on the image with some frames, and the changes that they hold, with those that wait behind them, make these pages.
 pub record IsSafe (layout : DiskLayout) (log : Log) (marks : List Bool) (waiting : List LoggedChange) (pages : PageMap) (image : List ℕ) : Type 0 where
   pub frames : List LogFrame
   pub done : List LoggedChange
   pub control : HasControl layout (take PAGE_SIZE image)
   pub stands : Stands log frames image
   pub decoded : AreLogged frames done
-  pub places : AllByRecursion (λ change. IsPlace layout (place_of change)) (done ++ waiting)
-  pub anew : (place : Place) → BeginAnew (changes_at place (done ++ waiting))
-  pub redone : (place : Place) → IsPlace layout place → Redone (form_of layout place.relation) (disk_page layout image place) (changes_at place (done ++ waiting)) (page_at pages place)
-  pub marked : (place : Place) → IsPlace layout place → is_marked marks layout place ≡ true → 0 < length (changes_at place (done ++ waiting))
-  pub unmarked : (place : Place) → IsPlace layout place → is_marked marks layout place ≡ false → changes_at place (done ++ waiting) ≡ []
+  pub rebuilds : Rebuilds layout marks (done ++ waiting) pages image
