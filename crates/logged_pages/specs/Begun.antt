@@ -1,5 +1,6 @@
 -- a page that is begun in the log, and one that is redone in the pool
-use Rattle.std.specs.Prelude.{◌≡◌, ◌||◌, ℕ, Bool, true, List, [], ◌∷◌, ◌++◌, Some, set, slice_index_or, false}
+use Rattle.std.specs.Prelude.{◌≡◌, ◌||◌, ℕ, Bool, true, List, [], ◌∷◌, ◌++◌, Some, set, slice_index_or, false, length}
+use Rattle.block_model.specs.declared.limits.TheConstants.{PAGE_SIZE}
 use Rattle.std.specs.List.{AllByRecursion}
 use Rattle.block_model.specs.declared.place.Place.{Place}
 use Rattle.page_layout.specs.declared.page.Form.{Form}
@@ -16,6 +17,7 @@ pub record RedoesHeld (form : Form) (number waits : ℕ) (changes : List LoggedC
   pub after : List ℕ
   pub was : held_at old number ≡ Some before
   pub redone : Redone form before.content changes after
+  pub whole : length after ≡ PAGE_SIZE
   pub passes : IsPageOf form after
   pub is : new ≡ with_page old number (record { content = after; log = Some waits })
 
@@ -49,5 +51,6 @@ logged_for begun place page change = begin_with begun place page ++ change ∷ [
 pub record MakesHeld (form : Form) (place : Place) (number waits : ℕ) (change : LoggedChange) (old new : Touched) : Type 0 where
   pub redoes : RedoesHeld form number waits (change ∷ []) old.pool new.pool
   pub waiting : new.waiting ≡ with_changes old.waiting (logged_for (slice_index_or old.marks number false || is_anew change) place redoes.before.content change)
+  pub redone : Redone form redoes.before.content (logged_for (slice_index_or old.marks number false || is_anew change) place redoes.before.content change) redoes.after
   pub changes : AllByRecursion IsChange (logged_for (slice_index_or old.marks number false || is_anew change) place redoes.before.content change)
   pub marks : new.marks ≡ set old.marks number true

@@ -1,11 +1,7 @@
 -- what is held in a pool before and after a call
 use Rattle.std.specs.Prelude.{◌≡◌, ◌⊎◌, ℕ, List, Option, Some}
-use Rattle.std.specs.Option.{option_map}
-use Rattle.buffer_pool.specs.PoolState.{HeldPage, PoolState, held_at}
-
--- the bytes of the page of that number, where it is held
-abbrev pub content_at : PoolState → ℕ → Option (List ℕ)
-content_at pool number = option_map (λ held. held.content) (held_at pool number)
+use Rattle.buffer_pool.specs.PoolState.{PoolState}
+use Rattle.pooled_pages.specs.ShownPages.{content_at}
 
 -- the same pages are held, with the same bytes
 abbrev pub HoldsAlike : PoolState → PoolState → Type 0

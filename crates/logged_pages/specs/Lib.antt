@@ -9,3 +9,9 @@ pub mod Made
 pub mod StoreFacts
 pub mod Noted
 pub mod Begun
+pub mod Steps
+pub mod PoolSteps
+pub mod SetSteps
+pub mod LogSteps
+pub mod MakeSteps
+pub mod Exits

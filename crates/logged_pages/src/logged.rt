@@ -14,7 +14,8 @@ ghost use Rattle.change_buffer.specs.Waiting.{no_changes};
 ghost use Rattle.pooled_pages.specs.InPool.{HoldsPages};
 ghost use Rattle.pooled_pages.specs.PageNumbers.{page_number};
 ghost use Rattle.pooled_pages.specs.Safe.{is_marked};
-ghost use Rattle.logged_pages.specs.Contents.{AddsOnly, HoldsAlike, content_at};
+ghost use Rattle.logged_pages.specs.Contents.{AddsOnly, HoldsAlike};
+ghost use Rattle.pooled_pages.specs.ShownPages.{content_at};
 ghost use Rattle.logged_pages.specs.Keeps.{Keeps, Leaves};
 ghost use Rattle.logged_pages.specs.LoggedState.{store_of};
 ghost use Rattle.logged_pages.specs.Standing.{IsStanding};
@@ -35,12 +36,12 @@ use change_buffer::{BUFFER_SIZE, ChangeBuffer};
 use disk_trait::{Disk, DiskFault};
 use log_area::{AppendFault, LogArea};
 use page_layout::{Form, Page, check};
-use page_redo::Misfit;
+use page_redo::{Misfit, redo_forgets_a_page_begun_anew, redo_goes_on};
 use page_store::StoreError;
 use pooled_pages::number_of;
 use std::marker::Model;
-use store_layout::Layout;
-use wal_record::Change;
+use store_layout::{Layout, pages_fill_the_disk};
+use wal_record::{Change, no_change_begins_another};
 
 /// The bytes of a whole page, as a change.
 pub const FULL_PAGE_BYTES: usize = 8198;
@@ -155,6 +156,23 @@ impl<D: Disk + Drop> LoggedPages<D> {
         if self.waiting.len() == 0 {
             return Ok(());
         }
+        self.append()
+    }
+
+    /// Appends what waits to the log.
+    fn append(&mut self) -> Result<(), StoreError>
+        requires failed { self.old.failed ≡ None }
+        requires some { 0 < length self.old.waiting.bytes }
+        ensures undamaged { IfErr result IsOfDisk }
+        ensures kept { Keeps D.told (store_of D.told self.old) (store_of D.told self.new) }
+        ensures outcome { Outcome D.told (Untold D.told (store_of D.told self.old)) (store_of D.told self.old) (store_of D.told self.new) result }
+        ensures sure { OnOk result ((image : List ℕ) → IsTrue ((D.told self.new.disk).now image) → OpensAs self.new.layout image (store_of D.told self.new).pages) }
+        ensures empty { OnOk result (self.new.waiting ≡ no_changes) }
+        ensures pool { self.new.pool ≡ self.old.pool }
+        ensures marks { self.new.marks ≡ self.old.marks }
+    {
+        no_change_begins_another();
+        pages_fill_the_disk(&self.layout);
         let bytes = self.waiting.bytes();
         let count = self.waiting.count();
         match self.log.append(&mut self.disk, bytes, count) {
@@ -228,6 +246,9 @@ impl<D: Disk + Drop> LoggedPages<D> {
         ensures clean { OnOk result (IsClean self.new.pool number) }
         ensures dirty { (other log : ℕ) → IsDirty self.new.pool other log → IsDirty self.old.pool other log }
     {
+        no_change_begins_another();
+        redo_forgets_a_page_begun_anew();
+        pages_fill_the_disk(&self.layout);
         let durable = self.log.used() + 1;
         match self.pool.clean(&mut self.disk, 0, number, durable) {
             Ok(_) => Ok(()),
@@ -270,6 +291,8 @@ impl<D: Disk + Drop> LoggedPages<D> {
         ensures emptied { OnOk result (self.new.log.used ≡ 0) }
         ensures pool { self.new.pool ≡ self.old.pool }
     {
+        no_change_begins_another();
+        pages_fill_the_disk(&self.layout);
         match self.log.switch(&mut self.disk) {
             Ok(()) => {
                 self.marks.fill(false);
@@ -388,6 +411,7 @@ impl<D: Disk + Drop> LoggedPages<D> {
         ensures full { result ≡ false → (self.new ≡ self.old) × IsAllDirty self.old.pool (page_number self.old.layout place) }
         ensures refused { result ≡ false → (other : ℕ) → IsClean self.old.pool other → ⊥ }
     {
+        pages_fill_the_disk(&self.layout);
         let number = self.number_of(place);
         self.pool.set(number, page, None).is_ok()
     }
@@ -424,6 +448,9 @@ impl<D: Disk + Drop> LoggedPages<D> {
         ensures none { IfOk result (λ written. written ≡ false → self.new ≡ self.old) }
         ensures dirty { IfOk result (λ written. written ≡ false → self.old.waiting ≡ no_changes → (page log : ℕ) → IsDirty self.old.pool page log → ⊥) }
     {
+        no_change_begins_another();
+        redo_forgets_a_page_begun_anew();
+        pages_fill_the_disk(&self.layout);
         let durable = self.durable();
         match self.pool.clean_one(&mut self.disk, 0, durable) {
             Ok(written) => Ok(written),
@@ -547,6 +574,8 @@ impl<D: Disk + Drop> LoggedPages<D> {
         ensures log { self.new.log ≡ self.old.log }
         ensures marked { OnOk result (is_marked self.new.marks self.new.layout place ≡ true) }
     {
+        redo_goes_on();
+        pages_fill_the_disk(&self.layout);
         let number = number_of(&self.layout, place);
         let waits = self.log.used() + 1;
         make_held(

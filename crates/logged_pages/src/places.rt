@@ -2,6 +2,8 @@
 
 ghost use Rattle.std.specs.Prelude.{◌≡◌, ◌||◌, ◌^◌, [], ◌∷◌, ◌+◌, ◌<◌, ◌≤◌, IsTrue, IsSome, Some, true, false, length, take, drop, set, slice_index_or, OnOk, OnErr};
 ghost use Rattle.block_model.specs.Causes.{HasCause};
+ghost use Rattle.block_model.specs.declared.limits.TheConstants.{PAGE_SIZE};
+ghost use Rattle.byte_fields.specs.Fields.{AreBytes};
 ghost use Rattle.page_layout.specs.PageContents.{IsForm};
 ghost use Rattle.std.specs.List.{AllByRecursion};
 ghost use Rattle.wal_record.specs.Changes.{IsChange, logged};
@@ -49,7 +51,16 @@ pub fn redo_held(
     let Some(page) = pool.change(number, waits) else {
         unreachable!()
     };
-    redo_checked(page, change, *form)
+    match redo_checked(page, change, *form) {
+        Ok(()) => {
+            page.known();
+            Ok(())
+        }
+        Err(misfit) => {
+            page.known();
+            Err(misfit)
+        }
+    }
 }
 
 /// Where a page is held, and what it waits for once it is changed.
@@ -102,6 +113,7 @@ fn begin(
     requires room { length waiting.old.bytes + bytes_for begun (logged change.now) ≤ BUFFER_SIZE }
     ensures same { pool.new ≡ pool.old }
     ensures begun { (page : HeldPage) → held_at pool.old at.number ≡ Some page → waiting.new ≡ with_changes waiting.old (begin_with (begun || is_anew (logged change.now)) at.place page.content) }
+    ensures bytes { (page : HeldPage) → held_at pool.old at.number ≡ Some page → (begun || is_anew (logged change.now)) ≡ false → (length page.content ≡ PAGE_SIZE) × AreBytes page.content }
     ensures changes { (page : HeldPage) → held_at pool.old at.number ≡ Some page → AllByRecursion IsChange (begin_with (begun || is_anew (logged change.now)) at.place page.content) }
 {
     if begun {
@@ -113,6 +125,7 @@ fn begin(
     let Some(page) = pool.get(at.number) else {
         unreachable!()
     };
+    page.known();
     let place = at.place;
     let bytes = page.as_bytes();
     waiting.add(&Change::FullPage { place, bytes });

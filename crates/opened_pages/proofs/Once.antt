@@ -17,7 +17,7 @@ use Rattle.opened_pages.specs.Opens.{disk_page, Opens}
 cons_not : (x : ℕ) (xs : List ℕ) → x ∷ xs ≡ [] → ⊥
 cons_not x xs e = absurd cc
 
-some : (a : LoggedChange) (x : List ℕ) → bytes_of a ++ x ≡ [] → ⊥
+pub some : (a : LoggedChange) (x : List ℕ) → bytes_of a ++ x ≡ [] → ⊥
 unfolding bytes_of
 some (FullPage place bytes) x h = cons_not _ _ h
 some (PageStart place kind) x h = cons_not _ _ h

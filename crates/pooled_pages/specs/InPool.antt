@@ -1,5 +1,6 @@
 -- how the pages in a pool stand to the disk and the log
 use Rattle.std.specs.Prelude.{◌≡◌, ℕ, ◌+◌, ◌<◌, ◌≤◌, Bool, true, List, Some, None, length}
+use Rattle.block_model.specs.declared.limits.TheConstants.{PAGE_SIZE}
 use Rattle.block_model.specs.declared.place.Place.{Place}
 use Rattle.store_layout.specs.DiskLayout.{DiskLayout, IsPlace}
 use Rattle.log_area.specs.Log.{Log}
@@ -15,10 +16,17 @@ use Rattle.pooled_pages.specs.Safe.{is_marked}
 abbrev pub Holds : DiskLayout → PoolState → Place → HeldPage → Type 0
 Holds layout pool place held = held_at pool (page_number layout place) ≡ Some held
 
--- what is held is the page of a place, and passes the check of its form
+-- the page of a place, of so many bytes, that passes the check of its form
+pub record IsHeldPage (layout : DiskLayout) (at : ℕ) (bytes : List ℕ) : Type 0 where
+  pub place : Place
+  pub is : IsPlace layout place
+  pub number : page_number layout place ≡ at
+  pub whole : length bytes ≡ PAGE_SIZE
+  pub passes : IsPageIn layout place.relation bytes
+
+-- what is held are such pages
 abbrev pub HoldsPages : DiskLayout → PoolState → Type 0
-HoldsPages layout pool =
-    (number : ℕ) (held : HeldPage) → held_at pool number ≡ Some held → (place : Place) × IsPlace layout place × (page_number layout place ≡ number) × IsPageIn layout place.relation held.content
+HoldsPages layout pool = (number : ℕ) (held : HeldPage) → held_at pool number ≡ Some held → IsHeldPage layout number held.content
 
 -- No page waits for more than the frame to come. The number that a page waits for is that of the bytes that the log has once it is
 -- sure, and any greater one than those that it has stands for the frame to come.

@@ -11,10 +11,9 @@ use Rattle.control_page.specs.ControlPage.{HasControl, control_bytes, written_by
 use Rattle.disk_trait.specs.Torn.{Torn}
 use Rattle.disk_trait.specs.RangeLaws.{torn_apart}
 use Rattle.log_area.specs.Frames.{LogFrame, HoldsFrames}
-use Rattle.log_area.specs.Log.{Log, SameBeside, Stands, areas_end, chosen_area, gate_of}
+use Rattle.log_area.specs.Log.{Log, SameBeside, Stands, area_start, areas_end, chosen_area, gate_of}
 use Rattle.log_area.specs.Appended.{Appended, KeptOrAppended, grown}
 use Rattle.log_area.specs.Switched.{KeptOrSwitched, Switched, switched}
-use Rattle.log_area.proofs.Standing.{area_low}
 use Rattle.log_area.proofs.OneWay.{one_way}
 use Rattle.page_layout.specs.declared.page.Form.{Form}
 use Rattle.page_redo.specs.Redo.{ForgetPage, IsAnew, Redone}
@@ -142,7 +141,7 @@ control_tail : DiskLayout → List ℕ
 control_tail layout = drop 2 (control_bytes layout 1 0)
 
 control_is : (layout : DiskLayout) (area : ℕ) → control_bytes layout 1 area ≡ 1 ∷ area ∷ control_tail layout
-unfolding control_tail, control_bytes, written_bytes
+unfolding control_tail control_bytes written_bytes
 control_is layout area = refl
 
 same_control : (n : ℕ) (tail d c : List ℕ) (area : ℕ) → length c ≡ length d → take 1 c ≡ take 1 d → take n (drop 2 c) ≡ take n (drop 2 d) → take (suc (suc n)) d ≡ 1 ∷ area ∷ tail
@@ -166,6 +165,10 @@ control_beside layout room d c beside control = record {
 }
 
 -- An append
+
+area_low : (log : Log) → 8192 ≤ area_start log.room log.byte
+unfolding area_start
+area_low log = let behind : ℕ = log.room * (log.byte % 2) in omega arith
 
 -- in front of a log's gate nothing of the control page is torn
 front_of_gate : (log : Log) (n : ℕ) (d c : List ℕ) → Torn (gate_of log) n d c → take 8192 c ≡ take 8192 d

@@ -15,7 +15,7 @@ use Rattle.pooled_pages.specs.ShownPages.{pages_from, shown_page, shown_pages}
 
 -- a page begins at the multiple of its number
 pub offset_of : (layout : DiskLayout) (place : Place) → page_offset layout place ≡ PAGE_SIZE * page_number layout place
-unfolding page_offset, page_number
+unfolding page_offset page_number
 offset_of layout place = let blocks : ℕ = sum (take place.relation (relation_blocks layout)) in omega arith
 
 pub same_place : (p q : Place) → (p ≡ q) ⊎ (p ≢ q)
@@ -57,7 +57,9 @@ whole_from page first (limit ∷ limits) =
 -- the page at a place
 pub shown_at : (layout : DiskLayout) (pool : PoolState) (contents : List ℕ) (place : Place) → IsPlace layout place → page_at (shown_pages layout pool contents) place ≡ shown_page layout pool contents place
 unfolding shown_pages
-shown_at layout pool contents place is = from_at (shown_page layout pool contents) 0 (relation_blocks layout) place.relation place.block unstarted_page is.relation is.block
+shown_at layout pool contents place is =
+    from_at (shown_page layout pool contents) 0 (relation_blocks layout) place.relation place.block unstarted_page is.relation is.block
+    ∙ ap (λ (r : ℕ). shown_page layout pool contents (record { relation = r; block = place.block })) (let e : 0 + place.relation ≡ place.relation = omega arith in e)
 
 -- there is one for each
 pub shown_whole : (layout : DiskLayout) (pool : PoolState) (contents : List ℕ) → IsWhole layout (shown_pages layout pool contents)
