@@ -1,5 +1,5 @@
 -- A put, by the relation that the code found.
-use Rattle.std.proofs.Common.{◌≡◌, ℕ, ◌<◌, inl, inr, List, length, ap, subst, ◌∙◌}
+use Rattle.std.proofs.Common.{◌≡◌, ℕ, ◌<◌, List, length, ap, subst, ◌∙◌}
 use Rattle.std.specs.Prelude.{Option, None, Some}
 use Rattle.store_layout.specs.DiskLayout.{DiskLayout}
 use Rattle.disk_trait.specs.Told.{Told}
@@ -15,7 +15,7 @@ use Rattle.heap_rows.specs.Heaps.{relation_of, form_at, slots_a_page}
 use Rattle.heap_rows.specs.HeapBlocks.{HasBlocks}
 use Rattle.heap_rows.specs.IsTableFull.{IsTableFull}
 use Rattle.heap_rows.specs.LeavesOthers.{LeavesOtherPages}
-use Rattle.heap_rows.specs.RoomOnPage.{PageTakesRow, PutsRow}
+use Rattle.heap_rows.specs.RoomOnPage.{PutsRow}
 use Rattle.heap_rows.specs.RowPlaces.{ChangesSlot, place_for, slot_at, with_row}
 use Rattle.heap_rows.proofs.Heaps.{form_found, limit_is}
 use Rattle.heap_rows.proofs.TableBlocks.{IsHeap, IsRoomOf, OneList, full_blocks, full_not_first, put-blocks, put-place, room_of}
@@ -41,11 +41,6 @@ FirstRoom layout pages relation first = IsFirstRoom (form_of layout relation) (b
 room_in : {layout : DiskLayout} {table relation : ℕ} (found : Found layout table relation) (pages : PageMap) (first : Option ℕ) → FirstRoom layout pages relation first → IsRoomOf layout pages table first
 room_in {layout} {table} {relation} found pages first room =
     room_of layout pages table relation (form_of layout relation) (block_limit layout relation) first found.number (form_is found) (limit_is layout table relation found.number found.there) room
-
--- so the page there takes a row
-pub takes_row : (layout : DiskLayout) (pages : PageMap) (relation block : ℕ) → FirstRoom layout pages relation (Some block) → PageTakesRow (form_of layout relation) (block_at pages relation block)
-takes_row layout pages relation block (inl first) = inr first.room
-takes_row layout pages relation block (inr next) = inl next.unstarted
 
 -- the row was put into the page of the block
 abbrev PutsIn : DiskLayout → ℕ → PageMap → PageMap → ℕ → ℕ → StoredRow → Type 0

@@ -1,15 +1,17 @@
 -- What memory keeps of a relation's pages.
-use Rattle.std.proofs.Common.{◌≡◌, ℕ, ◌+◌, ◌-◌, ◌<◌, ◌≤◌, inl, inr, cond, List, [], length, set, get_or, refl, sym, ap, subst, ⊎_elim, ◌∙◌, arith}
+use Rattle.std.proofs.Common.{◌≡◌, ℕ, ◌+◌, ◌-◌, ◌/◌, ◌<◌, ◌≤◌, inl, inr, cond, List, [], length, set, get_or, refl, sym, ap, subst, ⊎_elim, ◌∙◌, arith}
 use Rattle.std.specs.Prelude.{None, Some, count_by}
 use Rattle.std.proofs.lemmas.Bool.{cases_lt}
 use Rattle.std.proofs.lemmas.List.Sums.{count_by-le-length, sum_by-set}
 use Rattle.page_store.specs.declared.facts.PageFacts.{PageFacts}
 use Rattle.page_store.specs.declared.lowest.Sought.{Sought}
 use Rattle.page_store.specs.declared.lowest.Sought.TheVariants as sought
-use Rattle.page_store.specs.FactLists.{IsFactList, IsFirstOf, NoneHasRoom, tells_started}
+use Rattle.page_store.specs.FactLists.{IsFactList, IsFirstBehind, IsFirstOf, IsFirstOfIndex, NoneBehind, NoneHasRoom, tells_started}
 use Rattle.page_store.specs.Filled.{filled}
 use Rattle.page_store.specs.Lowest.{IsLowest, is_sought}
 use Rattle.page_store.specs.PageFacts.{no_facts}
+use Rattle.page_store.specs.TupleRoom.{takes_bytes}
+use Rattle.page_store.specs.declared.tuple_room.TheConstants.{GROUP}
 use Rattle.page_store.proofs.Filling.{count-filled, get_or-filled, length-filled, length-filled-set}
 use Rattle.page_store.proofs.Soughts.{room_end, room_past, unstarted_end}
 
@@ -17,13 +19,15 @@ use Rattle.page_store.proofs.Soughts.{room_end, room_past, unstarted_end}
 abbrev pub weight : PageFacts → ℕ
 weight facts = cond (tells_started facts) 1 0
 
-pub new_list : (limit : ℕ) (facts : List PageFacts) (capacity : ℕ) → facts ≡ [] → limit ≤ capacity → IsFactList limit facts capacity 0 limit 0
-new_list limit facts capacity none reserved = subst (λ (l : List PageFacts). IsFactList limit l capacity 0 limit 0) (sym none) (record {
+pub new_list : (limit : ℕ) (facts : List PageFacts) (capacity : ℕ) (most : List ℕ) → facts ≡ [] → limit ≤ capacity → limit / GROUP < length most → IsFactList limit facts capacity 0 limit 0 most
+new_list limit facts capacity most none reserved groups = subst (λ (l : List PageFacts). IsFactList limit l capacity 0 limit 0 most) (sym none) (record {
   few = omega arith;
   reserved = reserved;
   counted = refl;
   lowest_room = room_end sought.Room [] limit 0 refl (omega arith) (λ other low. absurd (omega arith));
   lowest_unstarted = unstarted_end sought.Unstarted [] limit 0 refl (omega arith) (omega arith) (λ other low. absurd (omega arith));
+  groups = groups;
+  bounded = λ n. omega arith;
 })
 
 -- as many as there may be blocks
@@ -60,7 +64,7 @@ lowest-filled wanted facts limit k n same is = record {
   found = λ below. ap (is_sought wanted) (get_or-filled no_facts limit facts n) ∙ is.found (omega (arith, below, same));
 }
 
-module _ (limit : ℕ) (facts : List PageFacts) (capacity started room unstarted : ℕ) (is : IsFactList limit facts capacity started room unstarted) where
+module _ (limit : ℕ) (facts : List PageFacts) (capacity started room unstarted : ℕ) (most : List ℕ) (is : IsFactList limit facts capacity started room unstarted most) where
   whole : length (filled no_facts limit facts) ≡ limit
   whole = full_length limit facts is.few
 
@@ -79,6 +83,29 @@ module _ (limit : ℕ) (facts : List PageFacts) (capacity started room unstarted
   room_none none all =
       let last : unstarted ≡ length (filled no_facts limit facts) = omega (arith, all, whole, is.lowest_unstarted.within) in (
         none_has_room none,
+        subst (IsLowest sought.Unstarted (filled no_facts limit facts) (length (filled no_facts limit facts))) last
+            (lowest-filled sought.Unstarted facts limit (length (filled no_facts limit facts)) unstarted whole is.lowest_unstarted),
+      )
+
+  none_behind : (need past : ℕ) → NoneBehind facts need past → NoneBehind (filled no_facts limit facts) need past
+  none_behind need past none = λ n behind. ap (takes_bytes need) (get_or-filled no_facts limit facts n) ∙ none n behind
+
+  pub behind_some : (need past n : ℕ) → IsFirstBehind facts need past n → IsFirstOfIndex (filled no_facts limit facts) need past (Some n)
+  behind_some need past n first = inl (record {
+    there = omega (arith, first.there, is.few, whole);
+    behind = first.behind;
+    takes = ap (takes_bytes need) (get_or-filled no_facts limit facts n) ∙ first.takes;
+    lower = λ other behind low. ap (takes_bytes need) (get_or-filled no_facts limit facts other) ∙ first.lower other behind low;
+  })
+
+  pub behind_next : (need past : ℕ) → NoneBehind facts need past → unstarted < limit → IsFirstOfIndex (filled no_facts limit facts) need past (Some unstarted)
+  behind_next need past none below =
+      inr (none_behind need past none, omega (arith, below, whole), lowest-filled sought.Unstarted facts limit (length (filled no_facts limit facts)) unstarted whole is.lowest_unstarted)
+
+  pub behind_none : (need past : ℕ) → NoneBehind facts need past → limit ≤ unstarted → IsFirstOfIndex (filled no_facts limit facts) need past None
+  behind_none need past none all =
+      let last : unstarted ≡ length (filled no_facts limit facts) = omega (arith, all, whole, is.lowest_unstarted.within) in (
+        none_behind need past none,
         subst (IsLowest sought.Unstarted (filled no_facts limit facts) (length (filled no_facts limit facts))) last
             (lowest-filled sought.Unstarted facts limit (length (filled no_facts limit facts)) unstarted whole is.lowest_unstarted),
       )

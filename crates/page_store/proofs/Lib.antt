@@ -3,6 +3,7 @@ pub mod Filling
 pub mod PageKinds
 pub mod FactsKept
 pub mod Soughts
+pub mod TupleRooms
 pub mod FactLists
 pub mod Rooms
 pub mod Relations

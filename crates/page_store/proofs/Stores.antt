@@ -1,5 +1,5 @@
 -- The pages of all relations.
-use Rattle.std.proofs.Common.{◌≡◌, ◌≢◌, ℕ, zero, suc, ◌*◌, ◌/◌, ◌<◌, ◌≤◌, ◌&&◌, nat_le, true, List, [], ◌∷◌, ◌++◌, length, map, set, get_or, refl, sym, ap, subst, ⊎_elim, ◌∙◌, arith}
+use Rattle.std.proofs.Common.{◌≡◌, ◌≢◌, ℕ, zero, suc, ◌*◌, ◌/◌, ◌<◌, ◌≤◌, ◌&&◌, nat_le, inl, true, List, [], ◌∷◌, ◌++◌, length, map, set, get_or, refl, sym, ap, subst, ⊎_elim, ◌∙◌, arith}
 use Rattle.std.specs.Prelude.{Option, Some, IfSome, replicate, slice_get}
 use Rattle.std.specs.List.{All, list_all}
 use Rattle.std.specs.Str.{bytes_eq}
@@ -21,11 +21,11 @@ use Rattle.block_model.specs.RowSize.{row_size}
 use Rattle.page_layout.specs.declared.page.Form.{Form}
 use Rattle.page_layout.specs.declared.page.Form.TheVariants as forms
 use Rattle.page_layout.specs.HeapForms.{heap_form}
-use Rattle.page_layout.specs.PageContents.{IsUnstarted}
+use Rattle.page_layout.specs.PageContents.{IsPageOf, IsUnstarted}
 use Rattle.page_redo.specs.Redo.{Redone}
 use Rattle.wal_record.specs.Changes.{LoggedChange}
 use Rattle.page_store.specs.Changed.{Changed}
-use Rattle.page_store.specs.Forms.{HasForm, form_of, forms_of}
+use Rattle.page_store.specs.Forms.{HasForm, IsPageIn, form_of, forms_of}
 use Rattle.page_store.specs.PageMap.{IsWhole, PageMap, block_limit, page_at, page_in, unstarted_page}
 use Rattle.page_store.specs.Relations.{ChangesRelation, RelationState, empty_relation}
 use Rattle.page_store.specs.Store.{IsStore, empty_relations, map_of}
@@ -117,6 +117,26 @@ store_changed layout old new unstarted is place changes made =
     } in
     subst (λ (l : List RelationState). Changed layout place changes (map_of old) (map_of l)) (sym made.relations) all
 
+-- each page passes its check afterwards
+checked_after : (layout : DiskLayout) (old new : List RelationState) (unstarted : List ℕ) → IsStore layout old unstarted → (place : Place) (changes : List LoggedChange) → ChangesRelation place changes old new → (other : Place)
+    → IsPageIn layout other.relation (page_at (map_of new) other)
+checked_after layout old new unstarted is place changes made other =
+    let n = place.relation in
+    let within = slice_get_within old n made.before made.there in
+    let form = form_there layout old n made.before is.forms made.there in
+    let now : page_in made.after.pages place.block ≡ page_at (map_of new) place =
+    ap (λ (l : List (List ℕ)). page_in l place.block) (sym (own_pages old n made.after within)) ∙ ap (λ (l : List RelationState). page_at (map_of l) place) (sym made.relations) in
+    let here : IsPageIn layout place.relation (page_at (map_of new) place) = subst (IsPageOf (form_of layout n)) now (subst (λ (f : Form). IsPageOf f (page_in made.after.pages place.block)) form made.changed.passes) in
+    let there : other ≢ place → IsPageIn layout other.relation (page_at (map_of new) other) =
+    λ differ. subst (IsPageIn layout other.relation) (sym ((store_changed layout old new unstarted is place changes made).others other differ)) (is.checked other) in
+    ⊎_elim
+    (λ relation. ⊎_elim
+    (λ block. subst (λ (p : Place). IsPageIn layout p.relation (page_at (map_of new) p)) (λ i. record { relation = relation i; block = block i }) here)
+    (λ differ. there (λ same. differ (ap (λ (p : Place). p.block) (sym same))))
+    (cases_eq place.block other.block))
+    (λ differ. there (λ same. differ (ap (λ (p : Place). p.relation) (sym same))))
+    (cases_eq place.relation other.relation)
+
 pub store_kept : (layout : DiskLayout) (old new : List RelationState) (unstarted : List ℕ) → IsStore layout old unstarted → (place : Place) (changes : List LoggedChange) → ChangesRelation place changes old new → IsStore layout new unstarted
 store_kept layout old new unstarted is place changes made =
     let n = place.relation in
@@ -140,8 +160,34 @@ store_kept layout old new unstarted is place changes made =
           ∙ ap (set (map length (map_of old)) n) (sym count)
           ∙ set-get_or (map length (map_of old)) n (length made.after.pages)
           ∙ is.whole;
+      checked = λ other. subst (λ (l : List RelationState). IsPageIn layout other.relation (page_at (map_of l) other)) made.relations (checked_after layout old new unstarted is place changes made other);
       zeros = is.zeros;
     })
+
+-- relations in which no page is started
+
+-- each page of the relation isn't started
+abbrev IsEmpty : RelationState → Type 0
+IsEmpty relation = (block : ℕ) → page_in relation.pages block ≡ unstarted_page
+
+empty_is : (form : Form) (limit : ℕ) → IsEmpty (empty_relation form limit)
+empty_is form limit = λ block. ⊎_elim (λ low. get_or-replicate limit block unstarted_page unstarted_page low) (λ high. get_or_past (replicate limit unstarted_page) block unstarted_page (omega (arith, high, length-replicate limit unstarted_page))) (cases_lt block limit)
+
+nothing_in : (relations : List RelationState) (n block : ℕ) → All IsEmpty relations → page_in (get_or (map_of relations) n []) block ≡ unstarted_page
+nothing_in [] n block all = refl
+nothing_in (r ∷ relations) zero block all = all 0 r (omega arith) block
+nothing_in (r ∷ relations) (suc n) block all = nothing_in relations n block (λ k d low. all (suc k) d (omega arith))
+
+pub nothing_started : (layout : DiskLayout) (place : Place) → IsUnstarted (page_at (map_of (empty_relations layout)) place)
+unfolding empty_relations
+nothing_started layout place =
+    subst IsUnstarted
+    (sym (nothing_in (empty_relations layout) place.relation place.block
+    (All-cons IsEmpty (empty_relation forms.Status layout.sizes.status_blocks) _ (empty_is forms.Status layout.sizes.status_blocks)
+    (All-append IsEmpty (map (λ t. empty_relation (heap_form t) layout.sizes.heap_blocks) layout.schema.tables) (map (λ _. empty_relation forms.Index layout.sizes.index_blocks) layout.schema.indexes)
+    (All-map IsEmpty (λ (t : Table). empty_relation (heap_form t) layout.sizes.heap_blocks) layout.schema.tables (λ k d low. empty_is (heap_form (get_or layout.schema.tables k d)) layout.sizes.heap_blocks))
+    (All-map IsEmpty (λ (x : Index). empty_relation forms.Index layout.sizes.index_blocks) layout.schema.indexes (λ k d low. empty_is forms.Index layout.sizes.index_blocks))))))
+    unstarted_is
 
 -- a new store
 
@@ -174,33 +220,9 @@ new_store layout unstarted zeros =
           (λ i. length-replicate layout.sizes.status_blocks unstarted_page i
           ∷ (ap (map length) (map-append (λ (r : RelationState). r.pages) tables indexes) ∙ map-append (length {A = List ℕ}) (map_of tables) (map_of indexes)
           ∙ (λ j. table_limits layout.sizes.heap_blocks layout.schema.tables j ++ index_limits layout.sizes.index_blocks layout.schema.indexes j)) i);
+      checked = λ place. inl (nothing_started layout place);
       zeros = zeros;
     }
-
--- in which no page is started
-
--- each page of the relation isn't started
-abbrev IsEmpty : RelationState → Type 0
-IsEmpty relation = (block : ℕ) → page_in relation.pages block ≡ unstarted_page
-
-empty_is : (form : Form) (limit : ℕ) → IsEmpty (empty_relation form limit)
-empty_is form limit = λ block. ⊎_elim (λ low. get_or-replicate limit block unstarted_page unstarted_page low) (λ high. get_or_past (replicate limit unstarted_page) block unstarted_page (omega (arith, high, length-replicate limit unstarted_page))) (cases_lt block limit)
-
-nothing_in : (relations : List RelationState) (n block : ℕ) → All IsEmpty relations → page_in (get_or (map_of relations) n []) block ≡ unstarted_page
-nothing_in [] n block all = refl
-nothing_in (r ∷ relations) zero block all = all 0 r (omega arith) block
-nothing_in (r ∷ relations) (suc n) block all = nothing_in relations n block (λ k d low. all (suc k) d (omega arith))
-
-pub nothing_started : (layout : DiskLayout) (place : Place) → IsUnstarted (page_at (map_of (empty_relations layout)) place)
-unfolding empty_relations
-nothing_started layout place =
-    subst IsUnstarted
-    (sym (nothing_in (empty_relations layout) place.relation place.block
-    (All-cons IsEmpty (empty_relation forms.Status layout.sizes.status_blocks) _ (empty_is forms.Status layout.sizes.status_blocks)
-    (All-append IsEmpty (map (λ t. empty_relation (heap_form t) layout.sizes.heap_blocks) layout.schema.tables) (map (λ _. empty_relation forms.Index layout.sizes.index_blocks) layout.schema.indexes)
-    (All-map IsEmpty (λ (t : Table). empty_relation (heap_form t) layout.sizes.heap_blocks) layout.schema.tables (λ k d low. empty_is (heap_form (get_or layout.schema.tables k d)) layout.sizes.heap_blocks))
-    (All-map IsEmpty (λ (x : Index). empty_relation forms.Index layout.sizes.index_blocks) layout.schema.indexes (λ k d low. empty_is forms.Index layout.sizes.index_blocks))))))
-    unstarted_is
 
 -- the tables of a layout
 

@@ -1,5 +1,7 @@
 -- where the next row or tuple of a relation may stand, by the form, the limit and the pages of its blocks
-use Rattle.std.specs.Prelude.{ℕ, ◌<◌, ◌⊎◌, List, Option, Some, None}
+use Rattle.std.specs.Prelude.{◌≡◌, ℕ, ◌<◌, ◌≤◌, ◌⊎◌, List, Option, Some, None, slice_index}
+use Rattle.index_layout.specs.declared.format.TheConstants.{REGULAR}
+use Rattle.index_layout.specs.IndexWrites.{room_on}
 use Rattle.page_layout.specs.declared.page.Form.{Form}
 use Rattle.page_layout.specs.declared.page.Form.TheVariants as forms
 use Rattle.page_layout.specs.PageContents.{IsUnstarted}
@@ -8,8 +10,9 @@ use Rattle.page_store.specs.Forms.{form_of}
 use Rattle.page_store.specs.PageMap.{PageMap, block_at, block_limit}
 use Rattle.store_layout.specs.DiskLayout.{DiskLayout}
 
--- a page has room for that many bytes: in a heap a slot is free, whatever the bytes; of an index no page is started yet
+-- a page has room for that many bytes: one of tuples of an index, unless it is being evacuated, if a further tuple may have so many; one of a heap if a slot is free
 abbrev pub PageHasRoom : Form → ℕ → List ℕ → Type 0
+PageHasRoom forms.Index need page = (slice_index page 0 ≡ REGULAR) × (need ≤ room_on page)
 PageHasRoom form need page = (slot : ℕ) × IsFreeSlot form page slot
 
 -- the block is looked at: in an index it comes behind the map pages, of which there are `past`; elsewhere each one is

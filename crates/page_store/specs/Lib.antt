@@ -9,6 +9,7 @@ pub mod PageRoom
 pub mod Filled
 pub mod PageFacts
 pub mod Lowest
+pub mod TupleRoom
 pub mod FactLists
 pub mod Relations
 pub mod Store

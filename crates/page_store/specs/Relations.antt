@@ -31,6 +31,7 @@ pub record IsRelation (form : Form) (pages : List (List ℕ)) (capacity : ℕ) (
 pub record RelationChanged (block : ℕ) (changes : List LoggedChange) (old new : RelationState) : Type 0 where
   pub form : new.form ≡ old.form
   pub redone : Redone old.form (page_in old.pages block) changes (page_in new.pages block)
+  pub passes : IsPageOf old.form (page_in new.pages block)
   pub pages : new.pages ≡ set old.pages block (page_in new.pages block)
 
 -- what changes of the page at a place make of the relations

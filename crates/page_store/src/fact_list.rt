@@ -1,12 +1,13 @@
 //! What memory keeps of the pages of one relation, in a list of its own.
 
 ghost use Rattle.std.specs.Prelude.{◌≡◌, ◌+◌, ◌<◌, ◌≤◌, count_by, length, replicate, set, IfOk, if◌then◌else◌, vec_capacity};
-ghost use Rattle.page_store.specs.FactLists.{IsFirstOf, tells_started};
+ghost use Rattle.page_store.specs.FactLists.{IsFirstOf, IsFirstOfIndex, tells_started};
 ghost use Rattle.page_store.specs.Filled.{filled};
 ghost use Rattle.page_store.specs.PageFacts.{facts_in, no_facts};
 
 use crate::facts::{NO_FACTS, PageFacts};
 use crate::lowest::{Sought, lowest};
+use crate::tuple_room::{bound, first_behind, no_room};
 use block_model::NoMemory;
 use page_layout::UNSTARTED;
 use std::alloc::Global;
@@ -25,6 +26,8 @@ pub struct FactList {
     room: usize,
     /// The lowest block that isn't started, or the limit.
     unstarted: usize,
+    /// Of each group of blocks, a number of bytes that no page's room for a tuple exceeds.
+    most: Vec<u16>,
 }
 
 impl Model for FactList {
@@ -38,7 +41,7 @@ impl Model for FactList {
 
     ghost view = { λ a. filled no_facts a.limit a.items.items };
 
-    ghost invariant = { λ a. IsFactList a.limit a.items.items (vec_capacity a.items) a.started a.room a.unstarted };
+    ghost invariant = { λ a. IsFactList a.limit a.items.items (vec_capacity a.items) a.started a.room a.unstarted a.most.items };
 }
 
 impl FactList {
@@ -47,12 +50,14 @@ impl FactList {
         ensures { IfOk result (λ facts. facts ≡ replicate limit no_facts) }
     {
         let items = Vec::with_capacity(alloc, limit as usize)?;
+        let most = no_room(alloc, limit)?;
         Ok(FactList {
             limit,
             items,
             started: 0,
             room: limit as usize,
             unstarted: 0,
+            most,
         })
     }
 
@@ -73,10 +78,12 @@ impl FactList {
     {
         let limit = self.limit as usize;
         reach(&mut self.items, at);
-        self.started = self.started - started(self.items[at]) + started(facts);
+        let before = self.items[at];
+        self.started = self.started - started(before) + started(facts);
         self.items[at] = facts;
         self.room = lowest(&self.items, limit, Sought::Room, self.room, at);
         self.unstarted = lowest(&self.items, limit, Sought::Unstarted, self.unstarted, at);
+        bound(&mut self.most, &self.items, at, before.room);
     }
 
     /// How many pages are started.
@@ -94,6 +101,21 @@ impl FactList {
         let limit = self.limit as usize;
         if self.room < limit {
             return Some(self.room as u32);
+        }
+        if self.unstarted < limit {
+            return Some(self.unstarted as u32);
+        }
+        None
+    }
+
+    /// The lowest block behind that one whose page takes a tuple of `need` bytes, else the lowest one that isn't started.
+    pub fn first_behind(&self, need: u16, past: u32) -> Option<u32>
+        ensures { IsFirstOfIndex self.now need past result }
+    {
+        let limit = self.limit as usize;
+        match first_behind(&self.items, &self.most, need, past) {
+            Some(block) => return Some(block as u32),
+            None => {}
         }
         if self.unstarted < limit {
             return Some(self.unstarted as u32);

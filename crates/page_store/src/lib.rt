@@ -16,6 +16,7 @@ mod page_room;
 mod pages;
 mod relation;
 mod store;
+mod tuple_room;
 
 pub use fact_list::FactList;
 pub use facts::{NO_FACTS, PageFacts, facts_after, facts_of};

@@ -1,6 +1,7 @@
 //! The pages of one relation.
 
 ghost use Rattle.std.specs.Prelude.{◌≡◌, ◌<◌, ◌≤◌, ℕ, IfOk, IfSome, MatchOption, OnOk, OnErr, [], ◌∷◌, count_by, length};
+ghost use Rattle.index_layout.specs.IndexReading.{map_pages_of};
 ghost use Rattle.page_layout.specs.PageContents.{IsForm, IsPageOf};
 ghost use Rattle.page_redo.specs.Redo.{Fits};
 ghost use Rattle.wal_record.specs.Changes.{PageStart as LoggedStart, logged};
@@ -15,7 +16,7 @@ use crate::fact_list::FactList;
 use crate::page_room::Room;
 use crate::pages::{change_at, start_at};
 use block_model::{NoMemory, Place};
-use page_layout::{Form, Page, UNSTARTED, slots_are_read};
+use page_layout::{Form, Page, UNSTARTED, is_index, slots_are_read};
 use page_redo::Misfit;
 use std::alloc::Global;
 use std::marker::Model;
@@ -108,13 +109,23 @@ impl Relation {
         self.facts.started()
     }
 
-    /// The lowest block that has room, else the lowest one that isn't started.
-    pub fn first_room(&self) -> Option<u32>
+    /// The lowest block that has room for that many bytes, of an index behind `past`, else the lowest one that isn't started.
+    pub fn first_room(&self, need: u16, past: u32) -> Option<u32>
         ensures within { IfSome result (λ block. block < length self.now.pages) }
-        ensures room { (need past : ℕ) → IsFirstRoom self.now.form (length self.now.pages) need past (page_in self.now.pages) result }
+        ensures room { IsFirstRoom self.now.form (length self.now.pages) need past (page_in self.now.pages) result }
     {
         slots_are_read();
+        if is_index(&self.form) {
+            return self.facts.first_behind(need, past);
+        }
         self.facts.first_room()
+    }
+
+    /// How many pages of the map the metapage counts: 0 where block 0 is no metapage.
+    pub fn map_pages(&self) -> u32
+        ensures { result ≡ map_pages_of (page_in self.now.pages 0) }
+    {
+        self.facts.get(0).maps
     }
 
     /// What room the page of the block has for a row.

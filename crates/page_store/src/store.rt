@@ -3,6 +3,7 @@
 ghost use Rattle.std.specs.Prelude.{◌≡◌, ◌<◌, ◌≤◌, ℕ, None, true, false, [], ◌∷◌, length, slice_get, slice_index_or, IfOk, IfSome, IfErr, OnOk, OnErr};
 ghost use Rattle.store_layout.specs.DiskLayout.{IsPlace, relation_blocks};
 ghost use Rattle.block_model.specs.declared.place.Place.{Place as AnyPlace};
+ghost use Rattle.index_layout.specs.IndexReading.{map_pages_of};
 ghost use Rattle.page_layout.specs.PageContents.{IsForm, IsUnstarted};
 ghost use Rattle.wal_record.specs.Changes.{PageStart as LoggedStart, logged, place_of};
 ghost use Rattle.page_store.specs.PageMap.{IsWhole, block_at, block_limit, page_at};
@@ -52,7 +53,7 @@ impl<D: Disk + Drop> Model for PageStore<D> {
 
 impl<D: Disk + Drop> PageStore<D> {
     /// A store of this layout over the disk, which is untouched. No page is started. The memory of all pages is taken here, and no
-    /// other call takes any. Later: the store of tables makes one.
+    /// other call takes any.
     pub fn plain(alloc: Global, disk: D, layout: Layout) -> Result<PageStore<D>, NoMemory>
         ensures disk { IfOk result (λ store. store.disk ≡ disk) }
         ensures layout { IfOk result (λ store. store.layout ≡ layout) }
@@ -146,9 +147,11 @@ impl<D: Disk + Drop> PageStore<D> {
         Ok(())
     }
 
-    /// Does nothing; tells its caller that the map has each page of the layout.
+    /// Does nothing; tells its caller that the map has each page of the layout, and that each page passes the check of its
+    /// relation's form.
     pub fn known(&self)
         ensures whole { IsWhole self.now.layout self.now.pages }
+        ensures checked { (place : AnyPlace) → IsPageIn self.now.layout place.relation (page_at self.now.pages place) }
     {
         // The proof knows what holds of the fields once one of them is read.
         let _ = &self.layout;
@@ -172,16 +175,23 @@ impl<D: Disk + Drop> PageStore<D> {
     }
 
     /// The lowest block of the relation that has room, else the lowest one that isn't started, else none. Of a table a block has
-    /// room where a slot is free, and neither `need`, in bytes, nor `past`, the number of map pages, is looked at: a table passes
-    /// 0 for both. Later: an index, once its pages are started, passes both.
+    /// room where a slot is free, and neither `need` nor `past` is looked at: a table passes 0 for both. Of an index a block has
+    /// room that comes behind `past`, the number of map pages, and whose page takes a further tuple of `need` bytes. No page is
+    /// read: a look at one number for each 128 blocks, and at what is kept of the pages of those that may have room.
     pub fn first_room(&self, relation: u8, need: u16, past: u32) -> Option<u32>
         requires relation { relation < length (relation_blocks self.now.layout) }
         ensures within { IfSome result (λ block. block < block_limit self.now.layout relation) }
         ensures room { Tells D.told self.now → IsFirstRoomOf self.now.layout self.now.pages relation need past result }
     {
-        // They decide nothing of a table, and no page of an index is started.
-        let _ = (need, past);
-        self.relation_at(relation).first_room()
+        self.relation_at(relation).first_room(need, past)
+    }
+
+    /// How many pages of the map the metapage of the index counts: 0 where block 0 is no metapage, as in a table. No page is read.
+    pub fn map_pages(&self, relation: u8) -> u32
+        requires relation { relation < length (relation_blocks self.now.layout) }
+        ensures counted { Tells D.told self.now → result ≡ map_pages_of (block_at self.now.pages relation 0) }
+    {
+        self.relation_at(relation).map_pages()
     }
 
     /// What room the page at the place has for a row. No device call.

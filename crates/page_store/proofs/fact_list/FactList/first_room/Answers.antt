@@ -6,10 +6,10 @@ use Rattle.page_store.proofs.FactLists.{room_none, room_next, room_some}
 use Rattle.page_store.proofs.fact_list.FactList.first_room.Goals as goal
 
 pub returns-then-self-limit : goal.returns-then-self-limit
-returns-then-self-limit c = subst (λ (l : List PageFacts). IsFirstOf l (Some c.self.inside.room)) c.self.view_is (room_some _ _ _ _ _ _ c.self.invariant c.if-self-limit.true)
+returns-then-self-limit c = subst (λ (l : List PageFacts). IsFirstOf l (Some c.self.inside.room)) c.self.view_is (room_some _ _ _ _ _ _ _ c.self.invariant c.if-self-limit.true)
 
 pub returns-then-self-limit-2 : goal.returns-then-self-limit-2
-returns-then-self-limit-2 c = subst (λ (l : List PageFacts). IsFirstOf l (Some c.self.inside.unstarted)) c.self.view_is (room_next _ _ _ _ _ _ c.self.invariant c.if-self-limit.false c.if-self-limit-2.true)
+returns-then-self-limit-2 c = subst (λ (l : List PageFacts). IsFirstOf l (Some c.self.inside.unstarted)) c.self.view_is (room_next _ _ _ _ _ _ _ c.self.invariant c.if-self-limit.false c.if-self-limit-2.true)
 
 pub returns : goal.returns
-returns c = subst (λ (l : List PageFacts). IsFirstOf l None) c.self.view_is (room_none _ _ _ _ _ _ c.self.invariant c.if-self-limit.false c.if-self-limit-2.false)
+returns c = subst (λ (l : List PageFacts). IsFirstOf l None) c.self.view_is (room_none _ _ _ _ _ _ _ c.self.invariant c.if-self-limit.false c.if-self-limit-2.false)

@@ -5,7 +5,7 @@ use Rattle.page_store.proofs.Filling.{filled-nil}
 use Rattle.page_store.proofs.fact_list.FactList.new.Goals as goal
 
 pub invariant_of-result : goal.invariant_of-result
-invariant_of-result c = new_list c.args.limit c.in_ok-items.items.items _ c.in_ok-items.ensures.items (omega (arith, c.in_ok-items.ensures.exact))
+invariant_of-result c = new_list c.args.limit c.in_ok-items.items.items _ c.in_ok-most.most.items c.in_ok-items.ensures.items (omega (arith, c.in_ok-items.ensures.exact)) c.in_ok-most.ensures.groups
 
 pub returns : goal.returns
 returns c = filled-nil no_facts c.args.limit c.in_ok-items.items.items c.in_ok-items.ensures.items

@@ -1,12 +1,13 @@
-use Rattle.std.proofs.Common.{◌∙◌, ◌<◌, List, length, set, refl, ap, subst, arith}
+use Rattle.std.proofs.Common.{◌≡◌, ◌∙◌, ◌<◌, List, length, set, refl, ap, subst, arith}
 use Rattle.std.proofs.lemmas.List.{get_or_default}
 use Rattle.page_store.specs.declared.facts.PageFacts.{PageFacts}
 use Rattle.page_store.specs.declared.lowest.Sought.TheVariants as sought
 use Rattle.page_store.specs.Filled.{filled}
 use Rattle.page_store.specs.Lowest.{IsLowest}
-use Rattle.page_store.specs.PageFacts.{no_facts}
+use Rattle.page_store.specs.PageFacts.{facts_in, no_facts}
+use Rattle.page_store.specs.TupleRoom.{AreBounded}
 use Rattle.page_store.proofs.FactLists.{full_length, recounted, weight}
-use Rattle.page_store.proofs.Filling.{filled-set}
+use Rattle.page_store.proofs.Filling.{filled-set, filled_set-other, read-filled}
 use Rattle.page_store.proofs.Soughts.{found_kept, lower_kept}
 use Rattle.page_store.proofs.fact_list.FactList.note.Goals as goal
 
@@ -19,7 +20,7 @@ overflow_sub-self c =
     let limit = c.self.inside.limit in
     let reached = c.reach.new.items.items in
     let below : c.args.at < limit = omega (arith, c.requires, ap (length {A = PageFacts}) c.self.view_is, full_length limit old c.self.invariant.few) in
-    let before = c.started.ensures ∙ ap weight (c.index.ensures ∙ get_or_default reached c.args.at c.index.result.now no_facts c.reach.ensures.there) in
+    let before = c.started.ensures ∙ ap weight (c.index-before.ensures ∙ get_or_default reached c.args.at c.index-before.result.now no_facts c.reach.ensures.there) in
     let count = recounted limit old reached (set reached c.args.at c.args.facts) c.args.at c.args.facts c.self.inside.started c.started.result (weight c.args.facts) below c.self.invariant.few c.reach.ensures.items refl c.self.invariant.counted before refl in
     count.less
 
@@ -29,7 +30,7 @@ overflow_add-self c =
     let limit = c.self.inside.limit in
     let reached = c.reach.new.items.items in
     let below : c.args.at < limit = omega (arith, c.requires, ap (length {A = PageFacts}) c.self.view_is, full_length limit old c.self.invariant.few) in
-    let before = c.started.ensures ∙ ap weight (c.index.ensures ∙ get_or_default reached c.args.at c.index.result.now no_facts c.reach.ensures.there) in
+    let before = c.started.ensures ∙ ap weight (c.index-before.ensures ∙ get_or_default reached c.args.at c.index-before.result.now no_facts c.reach.ensures.there) in
     let count = recounted limit old reached (set reached c.args.at c.args.facts) c.args.at c.args.facts c.self.inside.started c.started.result c.started-2.result below c.self.invariant.few c.reach.ensures.items refl c.self.invariant.counted before c.started-2.ensures in
     omega (arith, count.most, c.self.ranges)
 
@@ -39,7 +40,7 @@ lowest-self-inside-requires-clause-few c =
     let limit = c.self.inside.limit in
     let reached = c.reach.new.items.items in
     let below : c.args.at < limit = omega (arith, c.requires, ap (length {A = PageFacts}) c.self.view_is, full_length limit old c.self.invariant.few) in
-    let before = c.started.ensures ∙ ap weight (c.index.ensures ∙ get_or_default reached c.args.at c.index.result.now no_facts c.reach.ensures.there) in
+    let before = c.started.ensures ∙ ap weight (c.index-before.ensures ∙ get_or_default reached c.args.at c.index-before.result.now no_facts c.reach.ensures.there) in
     let count = recounted limit old reached (set reached c.args.at c.args.facts) c.args.at c.args.facts c.self.inside.started c.started.result c.started-2.result below c.self.invariant.few c.reach.ensures.items refl c.self.invariant.counted before c.started-2.ensures in
     omega (arith, count.few, ap (length {A = PageFacts}) c.deref.ensures.value)
 
@@ -57,7 +58,7 @@ lowest-self-inside-requires-2-clause-few c =
     let limit = c.self.inside.limit in
     let reached = c.reach.new.items.items in
     let below : c.args.at < limit = omega (arith, c.requires, ap (length {A = PageFacts}) c.self.view_is, full_length limit old c.self.invariant.few) in
-    let before = c.started.ensures ∙ ap weight (c.index.ensures ∙ get_or_default reached c.args.at c.index.result.now no_facts c.reach.ensures.there) in
+    let before = c.started.ensures ∙ ap weight (c.index-before.ensures ∙ get_or_default reached c.args.at c.index-before.result.now no_facts c.reach.ensures.there) in
     let count = recounted limit old reached (set reached c.args.at c.args.facts) c.args.at c.args.facts c.self.inside.started c.started.result c.started-2.result below c.self.invariant.few c.reach.ensures.items refl c.self.invariant.counted before c.started-2.ensures in
     omega (arith, count.few, ap (length {A = PageFacts}) c.deref-2.ensures.value)
 
@@ -69,13 +70,30 @@ pub lowest-self-inside-requires-2-clause-found : goal.lowest-self-inside-require
 lowest-self-inside-requires-2-clause-found c =
     found_kept sought.Unstarted c.self.inside.items.items c.deref-2.result.now c.self.inside.limit c.self.inside.unstarted c.args.at c.args.facts c.self.invariant.lowest_unstarted (c.deref-2.ensures.value ∙ ap (λ (l : List PageFacts). set l c.args.at c.args.facts) c.reach.ensures.items)
 
+pub bound-requires-clause-group : goal.bound-requires-clause-group
+bound-requires-clause-group c =
+    let below : c.args.at < c.self.inside.limit = omega (arith, c.requires, ap (length {A = PageFacts}) c.self.view_is, full_length c.self.inside.limit c.self.inside.items.items c.self.invariant.few) in
+    omega (arith, below, c.self.invariant.groups)
+
+pub bound-requires-clause-before : goal.bound-requires-clause-before
+bound-requires-clause-before c =
+    let read = read-filled no_facts c.self.inside.items.items c.reach.new.items.items c.args.at c.index-before.result.now c.reach.ensures.items c.index-before.ensures in
+    omega (arith, ap (λ (f : PageFacts). f.room) read, c.self.invariant.bounded c.args.at)
+
+pub bound-requires-clause-others : goal.bound-requires-clause-others
+bound-requires-clause-others c = λ n differ.
+    let old = c.self.inside.items.items in
+    let same : facts_in c.deref-3.result.now n ≡ facts_in old n =
+    ap (λ (l : List PageFacts). facts_in l n) (c.deref-3.ensures.value ∙ ap (λ (l : List PageFacts). set l c.args.at c.args.facts) c.reach.ensures.items) ∙ filled_set-other no_facts old c.args.at c.args.facts n differ in
+    omega (arith, ap (λ (f : PageFacts). f.room) same, c.self.invariant.bounded n)
+
 pub invariant_of-self : goal.invariant_of-self
 invariant_of-self c =
     let old = c.self.inside.items.items in
     let limit = c.self.inside.limit in
     let reached = c.reach.new.items.items in
     let below : c.args.at < limit = omega (arith, c.requires, ap (length {A = PageFacts}) c.self.view_is, full_length limit old c.self.invariant.few) in
-    let before = c.started.ensures ∙ ap weight (c.index.ensures ∙ get_or_default reached c.args.at c.index.result.now no_facts c.reach.ensures.there) in
+    let before = c.started.ensures ∙ ap weight (c.index-before.ensures ∙ get_or_default reached c.args.at c.index-before.result.now no_facts c.reach.ensures.there) in
     let count = recounted limit old reached (set reached c.args.at c.args.facts) c.args.at c.args.facts c.self.inside.started c.started.result c.started-2.result below c.self.invariant.few c.reach.ensures.items refl c.self.invariant.counted before c.started-2.ensures in
     record {
       few = count.few;
@@ -83,6 +101,8 @@ invariant_of-self c =
       counted = count.sum;
       lowest_room = subst (λ (l : List PageFacts). IsLowest sought.Room l limit c.lowest-self-inside.result) c.deref.ensures.value c.lowest-self-inside.ensures;
       lowest_unstarted = subst (λ (l : List PageFacts). IsLowest sought.Unstarted l limit c.lowest-self-inside-2.result) c.deref-2.ensures.value c.lowest-self-inside-2.ensures;
+      groups = omega (arith, c.self.invariant.groups, c.bound.ensures.groups);
+      bounded = subst (AreBounded c.bound.new.most.items) c.deref-3.ensures.value c.bound.ensures.bounded;
     }
 
 pub returns : goal.returns

@@ -6,7 +6,7 @@ use Rattle.page_store.proofs.FactLists.{started_all, started_few}
 use Rattle.page_store.proofs.fact_list.FactList.started.Goals as goal
 
 pub returns-clause-within : goal.returns-clause-within
-returns-clause-within c = subst (λ (l : List PageFacts). c.self.inside.started ≤ length l) c.self.view_is (started_few _ _ _ _ _ _ c.self.invariant)
+returns-clause-within c = subst (λ (l : List PageFacts). c.self.inside.started ≤ length l) c.self.view_is (started_few _ _ _ _ _ _ _ c.self.invariant)
 
 pub returns-clause-count : goal.returns-clause-count
-returns-clause-count c = subst (λ (l : List PageFacts). c.self.inside.started ≡ count_by tells_started l) c.self.view_is (started_all _ _ _ _ _ _ c.self.invariant)
+returns-clause-count c = subst (λ (l : List PageFacts). c.self.inside.started ≡ count_by tells_started l) c.self.view_is (started_all _ _ _ _ _ _ _ c.self.invariant)

@@ -23,4 +23,4 @@ returns-clause-changed c =
     let changes : List LoggedChange = PageStart c.args.place c.args.kind ∷ logged c.args.change.now ∷ [] in
     let new : RelationState = record { form = c.self.inside.form; pages = all_pages c.start_at.new.pages.items c.note.new.self } in
     subst (λ (r : RelationState). RelationChanged c.args.place.block changes r new) c.self.view_is
-    (relation_changed c.self.inside.form c.self.inside.pages.items c.start_at.new.pages.items c.args.place.block c.self.inside.facts c.note.new.self c.in_ok-facts.facts below c.in_ok-facts.ensures.others c.note.ensures changes c.in_ok-facts.ensures.redone)
+    (relation_changed c.self.inside.form c.self.inside.pages.items c.start_at.new.pages.items c.args.place.block c.self.inside.facts c.note.new.self c.in_ok-facts.facts below c.in_ok-facts.ensures.others c.note.ensures changes c.in_ok-facts.ensures.redone c.in_ok-facts.ensures.passes)
