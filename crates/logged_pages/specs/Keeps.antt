@@ -30,11 +30,14 @@ module _ {D : Type 0} (told : D → Told) (old mid new : View D) (first : Keeps 
       let come = first.leaves.survives.images there.0 there.1 in
       let pages = first.pages (first.leaves.survives.seen come.0 come.1) in
       let step : OpensToOr old.layout old.pages there.0 image =
-      subst (λ (l : DiskLayout). OpensToOr l old.pages there.0 image) first.leaves.layout (subst (λ (m : PageMap). OpensToOr mid.layout m there.0 image) pages there.2) in
-      (come.0, come.1, ⊎_elim (λ (now : OpensAs old.layout image old.pages). inl now)
-      (λ (more : (others : PageMap) → OpensAs old.layout there.0 others → OpensAs old.layout image others). ⊎_elim
-      (λ (was : OpensAs old.layout there.0 old.pages). inl (more old.pages was))
-      (λ (was : (others : PageMap) → OpensAs old.layout come.0 others → OpensAs old.layout there.0 others). inr (λ others opens. more others (was others opens))) come.2) step)
+      subst (λ (l : DiskLayout). OpensToOr l old.pages there.0 image) first.leaves.layout (subst (λ (m : PageMap). OpensToOr mid.layout m there.0 image) pages there.2) in (
+        come.0,
+        come.1,
+        ⊎_elim (λ (now : OpensAs old.layout image old.pages). inl now)
+            (λ (more : (others : PageMap) → OpensAs old.layout there.0 others → OpensAs old.layout image others). ⊎_elim
+            (λ (was : OpensAs old.layout there.0 old.pages). inl (more old.pages was))
+            (λ (was : (others : PageMap) → OpensAs old.layout come.0 others → OpensAs old.layout there.0 others). inr (λ others opens. more others (was others opens))) come.2) step,
+      )
 
   survives_on : Survives told old new
   survives_on = record {
@@ -44,10 +47,10 @@ module _ {D : Type 0} (told : D → Told) (old mid new : View D) (first : Keeps 
       tells_images = second.survives.moments.tells_images ∙ first.leaves.survives.moments.tells_images;
       later = omega (arith, second.survives.moments.later, first.leaves.survives.moments.later);
       each = λ image since.
-        ⊎_elim (first.leaves.survives.moments.each image) (further image) (second.survives.moments.earlier (told old.disk).moment image first.leaves.survives.moments.later since);
+          ⊎_elim (first.leaves.survives.moments.each image) (further image) (second.survives.moments.earlier (told old.disk).moment image first.leaves.survives.moments.later since);
       earlier = λ t image le since.
-        ⊎_elim (first.leaves.survives.moments.earlier t image le) (λ there. inr (further image there))
-        (second.survives.moments.earlier t image (omega (arith, le, first.leaves.survives.moments.later)) since);
+          ⊎_elim (first.leaves.survives.moments.earlier t image le) (λ there. inr (further image there))
+          (second.survives.moments.earlier t image (omega (arith, le, first.leaves.survives.moments.later)) since);
     };
     images = λ image now. further image (second.survives.images image now);
     seen = first.leaves.survives.seen;

@@ -15,3 +15,5 @@ pub mod SetSteps
 pub mod LogSteps
 pub mod MakeSteps
 pub mod Exits
+pub mod Loggable
+pub mod FactSteps

@@ -56,18 +56,18 @@ sync_standing layout log pool marks waiting failed old new size tells contents i
   waits = standing.waits;
   checked = λ now place is. subst (λ (c : List ℕ). IsPageIn layout place.relation (shown_page layout pool c place)) (sym contents) (standing.checked (sym tells ∙ now) place is);
   sound = λ none now.
-    let sound = standing.sound refl (sym tells ∙ now) in
-    record {
-      changes = sound.changes;
-      bytes = sound.bytes;
-      count = sound.count;
-      pooled = record {
-        clean = λ place held is there log. sound.pooled.clean place held is there log ∙ ap (λ (c : List ℕ). disk_page layout c place) (sym contents);
-        dirty = sound.pooled.dirty;
-        waits = sound.pooled.waits;
+      let sound = standing.sound refl (sym tells ∙ now) in
+      record {
+        changes = sound.changes;
+        bytes = sound.bytes;
+        count = sound.count;
+        pooled = record {
+          clean = λ place held is there log. sound.pooled.clean place held is there log ∙ ap (λ (c : List ℕ). disk_page layout c place) (sym contents);
+          dirty = sound.pooled.dirty;
+          waits = sound.pooled.waits;
+        };
+        safe = λ image there. subst (λ (c : List ℕ). IsSafe layout log marks sound.changes (shown_pages layout pool c) image) (sym contents) (sound.safe image (images none image there));
       };
-      safe = λ image there. subst (λ (c : List ℕ). IsSafe layout log marks sound.changes (shown_pages layout pool c) image) (sym contents) (sound.safe image (images none image there));
-    };
 }
 
 -- The log is begun anew in its other area
@@ -126,23 +126,23 @@ module _ (one : OneByOne) (layout : DiskLayout) (fill : PagesFillDisk layout) (l
     waits = λ number waits held there is. absurd (all number waits (held, there, is));
     checked = switch_checked tells kept;
     sound = λ failed now.
-      let was : IsTrue old.tells_contents = sym tells ∙ now in
-      let sound = standing.sound refl was in
-      let same = beside_same old.contents new.contents (kept was).beside in
-      record {
-        changes = [];
-        bytes = refl;
-        count = refl;
-        pooled = record {
-          clean = λ place held is there log. sound.pooled.clean place held is there log ∙ sym (same place is);
-          dirty = λ place held waits is there log. absurd (all (page_number layout place) waits (held, there, log));
-          waits = λ place is some. absurd (omega (arith, some));
+        let was : IsTrue old.tells_contents = sym tells ∙ now in
+        let sound = standing.sound refl was in
+        let same = beside_same old.contents new.contents (kept was).beside in
+        record {
+          changes = [];
+          bytes = refl;
+          count = refl;
+          pooled = record {
+            clean = λ place held is there log. sound.pooled.clean place held is there log ∙ sym (same place is);
+            dirty = λ place held waits is there log. absurd (all (page_number layout place) waits (held, there, log));
+            waits = λ place is some. absurd (omega (arith, some));
+          };
+          safe = λ image there.
+              let come = images image there in
+              subst (λ (p : PageMap). IsSafe layout (switched log) cleared [] p image) (sym (switch_pages (kept was)))
+              (switched_safe layout fill log marks cleared (shown_pages layout pool old.contents) standing.area none come.0 image come.2 (stored_in need come.0 come.1) (none_wait sound come.0 (sound.safe come.0 come.1)));
         };
-        safe = λ image there.
-          let come = images image there in
-          subst (λ (p : PageMap). IsSafe layout (switched log) cleared [] p image) (sym (switch_pages (kept was)))
-          (switched_safe layout fill log marks cleared (shown_pages layout pool old.contents) standing.area none come.0 image come.2 (stored_in need come.0 come.1) (none_wait sound come.0 (sound.safe come.0 come.1)));
-      };
   }
 
   pub switch_failed : (faults : ℕ) → new.size ≡ old.size → new.tells_contents ≡ old.tells_contents → (IsTrue old.tells_contents → KeptOrSwitched log old.contents new.contents) → IsStanding new layout log pool marks no_changes (Some faults)

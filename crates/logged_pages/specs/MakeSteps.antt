@@ -50,10 +50,10 @@ same_test p q e = and_from (p.relation == q.relation) (p.block == q.block) (eq-e
 other_test : (p q : Place) → p ≢ q → (p.relation == q.relation && p.block == q.block) ≡ false
 other_test p q other = ⊎_elim
     (λ (yes : (p.relation == q.relation && p.block == q.block) ≡ true).
-      let parts = and_parts (p.relation == q.relation) (p.block == q.block) yes in
-      let r = eqb-true p.relation q.relation parts.0 in
-      let b = eqb-true p.block q.block parts.1 in
-      absurd (other (λ i. record { relation = r i; block = b i })))
+    let parts = and_parts (p.relation == q.relation) (p.block == q.block) yes in
+    let r = eqb-true p.relation q.relation parts.0 in
+    let b = eqb-true p.block q.block parts.1 in
+    absurd (other (λ i. record { relation = r i; block = b i })))
     (λ no. no)
     (cases_Bool (p.relation == q.relation && p.block == q.block))
 
@@ -93,9 +93,9 @@ module _ (behind : GoesBehind) (layout : DiskLayout) (fill : PagesFillDisk layou
   begins = ⊎_elim
       (λ (yes : is_marked marks layout place ≡ true). begin_append (changes_at place xs) cs (rebuilds.marked place is yes) (rebuilds.anew place))
       (λ (anew : BeginAnew cs). ⊎_elim
-        (λ (yes : is_marked marks layout place ≡ true). begin_append (changes_at place xs) cs (rebuilds.marked place is yes) (rebuilds.anew place))
-        (λ (no : is_marked marks layout place ≡ false). subst (λ (l : List LoggedChange). BeginAnew (l ++ cs)) (sym (rebuilds.unmarked place is no)) anew)
-        (cases_Bool (is_marked marks layout place)))
+      (λ (yes : is_marked marks layout place ≡ true). begin_append (changes_at place xs) cs (rebuilds.marked place is yes) (rebuilds.anew place))
+      (λ (no : is_marked marks layout place ≡ false). subst (λ (l : List LoggedChange). BeginAnew (l ++ cs)) (sym (rebuilds.unmarked place is no)) anew)
+      (cases_Bool (is_marked marks layout place)))
       begun
 
   pub rebuilds_more : Rebuilds layout (set marks (page_number layout place) true) (xs ++ cs) after image
@@ -195,15 +195,15 @@ at_agree layout pool other contents q agree =
     let also : length two ≡ length (relation_blocks layout) = relations_in layout two (shown_whole layout other contents) in
     ⊎_elim
     (λ (low : q.relation < length (relation_blocks layout)). ⊎_elim
-      (λ (small : q.block < block_limit layout q.relation).
-        let is : IsPlace layout q = record { relation = low; block = small } in
-        shown_at layout pool contents q is ∙ agree is ∙ sym (shown_at layout other contents q is))
-      (λ (past : block_limit layout q.relation ≤ q.block).
-        get_or_past (get_or one q.relation []) q.block unstarted_page (omega (arith, past, blocks_in layout one q.relation (shown_whole layout pool contents) (omega (arith, low, long))))
-        ∙ sym (get_or_past (get_or two q.relation []) q.block unstarted_page (omega (arith, past, blocks_in layout two q.relation (shown_whole layout other contents) (omega (arith, low, also))))))
-      (cases_lt q.block (block_limit layout q.relation)))
+    (λ (small : q.block < block_limit layout q.relation).
+    let is : IsPlace layout q = record { relation = low; block = small } in
+    shown_at layout pool contents q is ∙ agree is ∙ sym (shown_at layout other contents q is))
+    (λ (past : block_limit layout q.relation ≤ q.block).
+    get_or_past (get_or one q.relation []) q.block unstarted_page (omega (arith, past, blocks_in layout one q.relation (shown_whole layout pool contents) (omega (arith, low, long))))
+    ∙ sym (get_or_past (get_or two q.relation []) q.block unstarted_page (omega (arith, past, blocks_in layout two q.relation (shown_whole layout other contents) (omega (arith, low, also))))))
+    (cases_lt q.block (block_limit layout q.relation)))
     (λ (past : length (relation_blocks layout) ≤ q.relation).
-      ap (λ (l : List (List ℕ)). get_or l q.block unstarted_page) (get_or_past one q.relation [] (omega (arith, past, long)) ∙ sym (get_or_past two q.relation [] (omega (arith, past, also)))))
+    ap (λ (l : List (List ℕ)). get_or l q.block unstarted_page) (get_or_past one q.relation [] (omega (arith, past, long)) ∙ sym (get_or_past two q.relation [] (omega (arith, past, also)))))
     (cases_lt q.relation (length (relation_blocks layout)))
 
 -- The change is made
@@ -279,12 +279,12 @@ module _ (behind : GoesBehind) (layout : DiskLayout) (fill : PagesFillDisk layou
     room = λ some. omega (arith, room.area, length_now);
     held = λ q h got. ⊎_elim
         (λ (now : (q ≡ page_number layout place) × (h ≡ record { content = makes.redoes.after; log = Some (log.used + 1) })).
-          record { place = place; is = is; number = sym now.0; whole = subst (λ (x : HeldPage). length x.content ≡ PAGE_SIZE) (sym now.1) makes.redoes.whole; passes = subst (λ (x : HeldPage). IsPageIn layout place.relation x.content) (sym now.1) makes.redoes.passes })
+        record { place = place; is = is; number = sym now.0; whole = subst (λ (x : HeldPage). length x.content ≡ PAGE_SIZE) (sym now.1) makes.redoes.whole; passes = subst (λ (x : HeldPage). IsPageIn layout place.relation x.content) (sym now.1) makes.redoes.passes })
         (λ (was : (q ≢ page_number layout place) × (held_at old.pool q ≡ Some h)). standing.held q h was.1)
         (held_now q h got);
     waits = λ q waits h got log_is. ⊎_elim
         (λ (now : (q ≡ page_number layout place) × (h ≡ record { content = makes.redoes.after; log = Some (log.used + 1) })).
-          let e = same_Some waits (log.used + 1) (sym log_is ∙ ap (λ (x : HeldPage). x.log) now.1) in omega (arith, e))
+        let e = same_Some waits (log.used + 1) (sym log_is ∙ ap (λ (x : HeldPage). x.log) now.1) in omega (arith, e))
         (λ (was : (q ≢ page_number layout place) × (held_at old.pool q ≡ Some h)). standing.waits q waits h was.1 log_is)
         (held_now q h got);
     checked = λ tells q isq. ⊎_elim
@@ -292,48 +292,48 @@ module _ (behind : GoesBehind) (layout : DiskLayout) (fill : PagesFillDisk layou
         (λ (other : q ≢ place). subst (IsPageIn layout q.relation) (sym (shown_else q isq other)) (standing.checked tells q isq))
         (same_place q place);
     sound = λ none tells.
-      let sound = standing.sound refl tells in
-      record {
-        changes = sound.changes ++ logged_for (is_marked old.marks layout place || is_anew change) place makes.redoes.before.content change;
-        bytes = subst (λ (w : Waiting). AreChangesOf w.bytes (sound.changes ++ logged_for (is_marked old.marks layout place || is_anew change) place makes.redoes.before.content change)) (sym makes.waiting)
-            (all_more old.waiting sound.changes (logged_for (is_marked old.marks layout place || is_anew change) place makes.redoes.before.content change) sound.bytes makes.changes);
-        count = ap (λ (w : Waiting). w.count) makes.waiting ∙ count_more old.waiting (logged_for (is_marked old.marks layout place || is_anew change) place makes.redoes.before.content change)
-            ∙ (let e = length-append sound.changes (logged_for (is_marked old.marks layout place || is_anew change) place makes.redoes.before.content change) in omega (arith, e, sound.count));
-        pooled = record {
-          clean = λ q h isq got log_is. ⊎_elim
-              (λ (now : (page_number layout q ≡ page_number layout place) × (h ≡ record { content = makes.redoes.after; log = Some (log.used + 1) })). absurd (none_Some (log.used + 1) (sym log_is ∙ ap (λ (x : HeldPage). x.log) now.1)))
-              (λ (was : (page_number layout q ≢ page_number layout place) × (held_at old.pool (page_number layout q) ≡ Some h)). sound.pooled.clean q h isq was.1 log_is)
-              (held_now (page_number layout q) h got);
-          dirty = λ q h waits isq got log_is. ⊎_elim
-              (λ (e : q ≡ place). ap (is_marked new.marks layout) e ∙ mark_own)
-              (λ (other : q ≢ place). mark_else q isq other ∙ sound.pooled.dirty q h waits isq (sym (put_else (page_number layout q) (apart_of q isq other)) ∙ got) log_is)
-              (same_place q place);
-          waits = λ q isq some. ⊎_elim
-              (λ (e : q ≡ place). (record { content = makes.redoes.after; log = Some (log.used + 1) }, ap (λ (p : Place). held_at new.pool (page_number layout p)) e ∙ put_own, refl))
-              (λ (other : q ≢ place).
+        let sound = standing.sound refl tells in
+        record {
+          changes = sound.changes ++ logged_for (is_marked old.marks layout place || is_anew change) place makes.redoes.before.content change;
+          bytes = subst (λ (w : Waiting). AreChangesOf w.bytes (sound.changes ++ logged_for (is_marked old.marks layout place || is_anew change) place makes.redoes.before.content change)) (sym makes.waiting)
+              (all_more old.waiting sound.changes (logged_for (is_marked old.marks layout place || is_anew change) place makes.redoes.before.content change) sound.bytes makes.changes);
+          count = ap (λ (w : Waiting). w.count) makes.waiting ∙ count_more old.waiting (logged_for (is_marked old.marks layout place || is_anew change) place makes.redoes.before.content change)
+              ∙ (let e = length-append sound.changes (logged_for (is_marked old.marks layout place || is_anew change) place makes.redoes.before.content change) in omega (arith, e, sound.count));
+          pooled = record {
+            clean = λ q h isq got log_is. ⊎_elim
+                (λ (now : (page_number layout q ≡ page_number layout place) × (h ≡ record { content = makes.redoes.after; log = Some (log.used + 1) })). absurd (none_Some (log.used + 1) (sym log_is ∙ ap (λ (x : HeldPage). x.log) now.1)))
+                (λ (was : (page_number layout q ≢ page_number layout place) × (held_at old.pool (page_number layout q) ≡ Some h)). sound.pooled.clean q h isq was.1 log_is)
+                (held_now (page_number layout q) h got);
+            dirty = λ q h waits isq got log_is. ⊎_elim
+                (λ (e : q ≡ place). ap (is_marked new.marks layout) e ∙ mark_own)
+                (λ (other : q ≢ place). mark_else q isq other ∙ sound.pooled.dirty q h waits isq (sym (put_else (page_number layout q) (apart_of q isq other)) ∙ got) log_is)
+                (same_place q place);
+            waits = λ q isq some. ⊎_elim
+                (λ (e : q ≡ place). (record { content = makes.redoes.after; log = Some (log.used + 1) }, ap (λ (p : Place). held_at new.pool (page_number layout p)) e ∙ put_own, refl))
+                (λ (other : q ≢ place).
                 let none_more = at_other place q (logged_for (is_marked old.marks layout place || is_anew change) place makes.redoes.before.content change) (logged_at (is_marked old.marks layout place || is_anew change) place makes.redoes.before.content change own) other in
                 let same = at_append q sound.changes (logged_for (is_marked old.marks layout place || is_anew change) place makes.redoes.before.content change) ∙ ap (λ (l : List LoggedChange). changes_at q sound.changes ++ l) none_more ∙ append-nil (changes_at q sound.changes) in
                 let waits = sound.pooled.waits q isq (subst (λ (l : List LoggedChange). 0 < length l) same some) in
                 (waits.0, put_else (page_number layout q) (apart_of q isq other) ∙ waits.1, waits.2))
-              (same_place q place);
-        };
-        safe = λ image now.
-          let safe = sound.safe image now in
-          record {
-            frames = safe.frames;
-            done = safe.done;
-            control = safe.control;
-            stands = safe.stands;
-            decoded = safe.decoded;
-            rebuilds = subst (λ (l : List LoggedChange). Rebuilds layout new.marks l (shown_pages layout new.pool disk.contents) image) (append_assoc safe.done sound.changes (logged_for (is_marked old.marks layout place || is_anew change) place makes.redoes.before.content change))
-                (subst (λ (m : List Bool). Rebuilds layout m ((safe.done ++ sound.changes) ++ logged_for (is_marked old.marks layout place || is_anew change) place makes.redoes.before.content change) (shown_pages layout new.pool disk.contents) image) (sym makes.marks)
-                (rebuilds_more behind layout fill old.marks place is low (safe.done ++ sound.changes) (logged_for (is_marked old.marks layout place || is_anew change) place makes.redoes.before.content change)
-                (logged_at (is_marked old.marks layout place || is_anew change) place makes.redoes.before.content change own) (logged_some (is_marked old.marks layout place || is_anew change) place makes.redoes.before.content change)
-                (shown_pages layout old.pool disk.contents) (shown_pages layout new.pool disk.contents) image
-                (subst (λ (p : List ℕ). Redone (form_of layout place.relation) p (logged_for (is_marked old.marks layout place || is_anew change) place makes.redoes.before.content change) (page_at (shown_pages layout new.pool disk.contents) place)) (sym at_was)
-                (subst (Redone (form_of layout place.relation) makes.redoes.before.content (logged_for (is_marked old.marks layout place || is_anew change) place makes.redoes.before.content change)) (sym at_own_place) makes.redone))
-                (λ q isq other. shown_at layout new.pool disk.contents q isq ∙ shown_else q isq other ∙ sym (shown_at layout old.pool disk.contents q isq))
-                (logged_begins (is_marked old.marks layout place) place makes.redoes.before.content change) safe.rebuilds));
+                (same_place q place);
           };
-      };
+          safe = λ image now.
+              let safe = sound.safe image now in
+              record {
+                frames = safe.frames;
+                done = safe.done;
+                control = safe.control;
+                stands = safe.stands;
+                decoded = safe.decoded;
+                rebuilds = subst (λ (l : List LoggedChange). Rebuilds layout new.marks l (shown_pages layout new.pool disk.contents) image) (append_assoc safe.done sound.changes (logged_for (is_marked old.marks layout place || is_anew change) place makes.redoes.before.content change))
+                    (subst (λ (m : List Bool). Rebuilds layout m ((safe.done ++ sound.changes) ++ logged_for (is_marked old.marks layout place || is_anew change) place makes.redoes.before.content change) (shown_pages layout new.pool disk.contents) image) (sym makes.marks)
+                    (rebuilds_more behind layout fill old.marks place is low (safe.done ++ sound.changes) (logged_for (is_marked old.marks layout place || is_anew change) place makes.redoes.before.content change)
+                    (logged_at (is_marked old.marks layout place || is_anew change) place makes.redoes.before.content change own) (logged_some (is_marked old.marks layout place || is_anew change) place makes.redoes.before.content change)
+                    (shown_pages layout old.pool disk.contents) (shown_pages layout new.pool disk.contents) image
+                    (subst (λ (p : List ℕ). Redone (form_of layout place.relation) p (logged_for (is_marked old.marks layout place || is_anew change) place makes.redoes.before.content change) (page_at (shown_pages layout new.pool disk.contents) place)) (sym at_was)
+                    (subst (Redone (form_of layout place.relation) makes.redoes.before.content (logged_for (is_marked old.marks layout place || is_anew change) place makes.redoes.before.content change)) (sym at_own_place) makes.redone))
+                    (λ q isq other. shown_at layout new.pool disk.contents q isq ∙ shown_else q isq other ∙ sym (shown_at layout old.pool disk.contents q isq))
+                    (logged_begins (is_marked old.marks layout place) place makes.redoes.before.content change) safe.rebuilds));
+              };
+        };
   }

@@ -101,22 +101,22 @@ module _ (one : OneByOne) (forgets : Forgets) (layout : DiskLayout) (fill : Page
   unwaiting : (sound : IsSound old layout log pool marks waiting) → changes_at page.place sound.changes ≡ []
   unwaiting sound = ⊎_elim (λ (none : changes_at page.place sound.changes ≡ []). none)
       (λ (some : 0 < length (changes_at page.place sound.changes)).
-        let waits = sound.pooled.waits page.place page.is some in
-        let same : waits.0 ≡ held = same_Some waits.0 held (sym waits.1 ∙ there) in
-        let number : log.used + 1 ≡ it.log = same_Some (log.used + 1) it.log (sym waits.2 ∙ ap (λ (h : HeldPage). h.log) same ∙ it.dirty) in
-        absurd (⊎_elim (λ (is : durable ≡ log.used). omega (arith, is, number, it.within))
-        (λ (is : (waiting ≡ no_changes) × (durable ≡ log.used + 1)).
-          let none = no_bytes sound.changes (subst (λ (w : Waiting). AreChangesOf w.bytes sound.changes) is.0 sound.bytes) in
-          let few : 0 < 0 = subst (λ (l : List LoggedChange). 0 < length (changes_at page.place l)) none some in
-          omega (arith, few)) sure))
+      let waits = sound.pooled.waits page.place page.is some in
+      let same : waits.0 ≡ held = same_Some waits.0 held (sym waits.1 ∙ there) in
+      let number : log.used + 1 ≡ it.log = same_Some (log.used + 1) it.log (sym waits.2 ∙ ap (λ (h : HeldPage). h.log) same ∙ it.dirty) in
+      absurd (⊎_elim (λ (is : durable ≡ log.used). omega (arith, is, number, it.within))
+      (λ (is : (waiting ≡ no_changes) × (durable ≡ log.used + 1)).
+      let none = no_bytes sound.changes (subst (λ (w : Waiting). AreChangesOf w.bytes sound.changes) is.0 sound.bytes) in
+      let few : 0 < 0 = subst (λ (l : List LoggedChange). 0 < length (changes_at page.place l)) none some in
+      omega (arith, few)) sure))
       (none_or_some (changes_at page.place sound.changes))
 
   -- the pages stay
   pub write_shown : (after : PoolState) → HoldsAlike pool after → Torn (place_of 0 number) PAGE_SIZE old.contents new.contents → (q : Place) → IsPlace layout q → shown_page layout after new.contents q ≡ shown_page layout pool old.contents q
   write_shown after alike torn q isq = ap (λ (o : Option (List ℕ)). unwrap_or o (disk_page layout new.contents q)) (alike (page_number layout q)) ∙ ⊎_elim
       (λ (e : q ≡ page.place).
-        let here : content_at pool (page_number layout q) ≡ Some held.content = ap (λ (p : Place). content_at pool (page_number layout p)) e ∙ ap (option_map (λ (h : HeldPage). h.content)) there in
-        ap (λ (o : Option (List ℕ)). unwrap_or o (disk_page layout new.contents q)) here ∙ sym (ap (λ (o : Option (List ℕ)). unwrap_or o (disk_page layout old.contents q)) here))
+      let here : content_at pool (page_number layout q) ≡ Some held.content = ap (λ (p : Place). content_at pool (page_number layout p)) e ∙ ap (option_map (λ (h : HeldPage). h.content)) there in
+      ap (λ (o : Option (List ℕ)). unwrap_or o (disk_page layout new.contents q)) here ∙ sym (ap (λ (o : Option (List ℕ)). unwrap_or o (disk_page layout old.contents q)) here))
       (λ (other : q ≢ page.place). ap (unwrap_or (content_at pool (page_number layout q))) (others_same old.contents new.contents torn q isq other))
       (same_place q page.place)
 
@@ -141,6 +141,15 @@ module _ (one : OneByOne) (forgets : Forgets) (layout : DiskLayout) (fill : Page
       (λ (apart : q ≢ number). inr (apart, sym (put_apart pool number q (record held { log = None }) apart) ∙ got))
       (cases_eq q number)
 
+  -- what was written stands there
+  stands_there : new.contents ≡ spliced old.contents (place_of 0 number) held.content → length old.contents ≡ old.size → disk_page layout new.contents page.place ≡ held.content
+  unfolding disk_page
+  stands_there is long =
+      ap (λ (k : ℕ). take PAGE_SIZE (drop k new.contents)) (sym at)
+      ∙ ap (λ (c : List ℕ). take PAGE_SIZE (drop (place_of 0 number) c)) is
+      ∙ ap (λ (n : ℕ). take n (drop (place_of 0 number) (spliced old.contents (place_of 0 number) held.content))) (sym page.whole)
+      ∙ spliced_field old.contents (place_of 0 number) held.content (omega (arith, page.whole, at, fill.ends page.place page.is, long, standing.size))
+
   -- once it is written it is clean
   pub write_standing : (writes : WritesAt (place_of 0 number) old new) → (IsTrue old.tells_contents → new.contents ≡ spliced old.contents (place_of 0 number) held.content) → (IsTrue old.tells_contents → length old.contents ≡ old.size)
       → IsStanding new layout log cleaned marks waiting None
@@ -160,48 +169,43 @@ module _ (one : OneByOne) (forgets : Forgets) (layout : DiskLayout) (fill : Page
         (cleaned_holds q h got);
     checked = write_checked cleaned cleaned_alike writes;
     sound = λ none now.
-      let was : IsTrue old.tells_contents = sym writes.moments.tells_contents ∙ now in
-      let sound = standing.sound refl was in
-      let torn = writes.others was in
-      record {
-        changes = sound.changes;
-        bytes = sound.bytes;
-        count = sound.count;
-        pooled = record {
-          clean = λ q h isq got log. ⊎_elim
-              (λ (e : q ≡ page.place).
+        let was : IsTrue old.tells_contents = sym writes.moments.tells_contents ∙ now in
+        let sound = standing.sound refl was in
+        let torn = writes.others was in
+        record {
+          changes = sound.changes;
+          bytes = sound.bytes;
+          count = sound.count;
+          pooled = record {
+            clean = λ q h isq got log. ⊎_elim
+                (λ (e : q ≡ page.place).
                 let own : h ≡ record held { log = None } = same_Some h (record held { log = None }) (sym got ∙ ap (λ (p : Place). held_at cleaned (page_number layout p)) e ∙ ap (held_at cleaned) page.number ∙ put_here pool number (record held { log = None })) in
-                ap (λ (x : HeldPage). x.content) own ∙ sym (ap (disk_page layout new.contents) e ∙ stands (written was) (fit was)))
-              (λ (other : q ≢ page.place).
+                ap (λ (x : HeldPage). x.content) own ∙ sym (ap (disk_page layout new.contents) e ∙ stands_there (written was) (fit was)))
+                (λ (other : q ≢ page.place).
                 sound.pooled.clean q h isq (sym (put_apart pool number (page_number layout q) (record held { log = None }) (λ same. other (one_number layout fill q page.place isq page.is (same ∙ sym page.number)))) ∙ got) log
                 ∙ sym (others_same old.contents new.contents torn q isq other))
-              (same_place q page.place);
-          dirty = λ q h waits isq got log. ⊎_elim
-              (λ (own : (page_number layout q ≡ number) × (h ≡ record held { log = None })). absurd (none_Some waits (sym (ap (λ (x : HeldPage). x.log) own.1) ∙ log)))
-              (λ (other : (page_number layout q ≢ number) × (held_at pool (page_number layout q) ≡ Some h)). sound.pooled.dirty q h waits isq other.1 log)
-              (cleaned_holds (page_number layout q) h got);
-          waits = λ q isq some.
-            let waits = sound.pooled.waits q isq some in
-            (waits.0, put_apart pool number (page_number layout q) (record held { log = None })
-              (λ same.
-                let e = one_number layout fill q page.place isq page.is (same ∙ sym page.number) in
-                let few : 0 < 0 = subst (λ (l : List LoggedChange). 0 < length l) (ap (λ (p : Place). changes_at p sound.changes) e ∙ unwaiting sound) some in
-                omega (arith, few)) ∙ waits.1, waits.2);
+                (same_place q page.place);
+            dirty = λ q h waits isq got log. ⊎_elim
+                (λ (own : (page_number layout q ≡ number) × (h ≡ record held { log = None })). absurd (none_Some waits (sym (ap (λ (x : HeldPage). x.log) own.1) ∙ log)))
+                (λ (other : (page_number layout q ≢ number) × (held_at pool (page_number layout q) ≡ Some h)). sound.pooled.dirty q h waits isq other.1 log)
+                (cleaned_holds (page_number layout q) h got);
+            waits = λ q isq some.
+                let waits = sound.pooled.waits q isq some in (
+                  waits.0,
+                  put_apart pool number (page_number layout q) (record held { log = None })
+                      (λ same.
+                      let e = one_number layout fill q page.place isq page.is (same ∙ sym page.number) in
+                      let few : 0 < 0 = subst (λ (l : List LoggedChange). 0 < length l) (ap (λ (p : Place). changes_at p sound.changes) e ∙ unwaiting sound) some in
+                      omega (arith, few)) ∙ waits.1,
+                  waits.2,
+                );
+          };
+          safe = λ image there.
+              let come = writes.images image there in
+              subst (λ (p : PageMap). IsSafe layout log marks sound.changes p image) (sym (write_pages cleaned cleaned_alike torn))
+              (torn_safe layout fill log marks sound.changes (shown_pages layout pool old.contents) standing.area forgets page.place page.is come.0 image (torn_at come.0 image come.2) (marked sound) (sound.safe come.0 come.1));
         };
-        safe = λ image there.
-          let come = writes.images image there in
-          subst (λ (p : PageMap). IsSafe layout log marks sound.changes p image) (sym (write_pages cleaned cleaned_alike torn))
-          (torn_safe layout fill log marks sound.changes (shown_pages layout pool old.contents) standing.area forgets page.place page.is come.0 image (torn_at come.0 image come.2) (marked sound) (sound.safe come.0 come.1));
-      };
   }
-    where
-      stands : new.contents ≡ spliced old.contents (place_of 0 number) held.content → length old.contents ≡ old.size → disk_page layout new.contents page.place ≡ held.content
-      unfolding disk_page
-      stands is long =
-          ap (λ (k : ℕ). take PAGE_SIZE (drop k new.contents)) (sym at)
-          ∙ ap (λ (c : List ℕ). take PAGE_SIZE (drop (place_of 0 number) c)) is
-          ∙ ap (λ (n : ℕ). take n (drop (place_of 0 number) (spliced old.contents (place_of 0 number) held.content))) (sym page.whole)
-          ∙ spliced_field old.contents (place_of 0 number) held.content (omega (arith, page.whole, at, fill.ends page.place page.is, long, standing.size))
 
   -- where it fails the store fails
   pub write_failed : (faults : ℕ) → (writes : WritesAt (place_of 0 number) old new) → IsStanding new layout log pool marks waiting (Some faults)

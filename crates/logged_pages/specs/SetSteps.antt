@@ -58,11 +58,11 @@ module _ (layout : DiskLayout) (fill : PagesFillDisk layout) (log : Log) (pool a
   elsewhere q apart = ⊎_elim
       (λ (kept : _). inl (ap (λ (p : PoolState). held_at p q) kept.1 ∙ get_put_apart nat_cmp_total pool.pages (page_number layout place) q clean_page (numbers_apart q (page_number layout place) apart)))
       (λ (gone : _).
-        let other = ap (λ (p : PoolState). held_at p q) gone.4 ∙ get_put_apart nat_cmp_total (map.remove pool.pages gone.0) (page_number layout place) q clean_page (numbers_apart q (page_number layout place) apart) in
-        ⊎_elim
-        (λ (e : q ≡ gone.0). inr (other ∙ ap (λ (n : ℕ). map.get (map.remove pool.pages gone.0) n) e ∙ get_removed_here nat_cmp_total pool.pages gone.0, subst (IsClean pool) (sym e) gone.3))
-        (λ (differ : q ≢ gone.0). inl (other ∙ get_removed_apart nat_cmp_total pool.pages gone.0 q (numbers_apart q gone.0 differ)))
-        (cases_eq q gone.0))
+      let other = ap (λ (p : PoolState). held_at p q) gone.4 ∙ get_put_apart nat_cmp_total (map.remove pool.pages gone.0) (page_number layout place) q clean_page (numbers_apart q (page_number layout place) apart) in
+      ⊎_elim
+      (λ (e : q ≡ gone.0). inr (other ∙ ap (λ (n : ℕ). map.get (map.remove pool.pages gone.0) n) e ∙ get_removed_here nat_cmp_total pool.pages gone.0, subst (IsClean pool) (sym e) gone.3))
+      (λ (differ : q ≢ gone.0). inl (other ∙ get_removed_apart nat_cmp_total pool.pages gone.0 q (numbers_apart q gone.0 differ)))
+      (cases_eq q gone.0))
       sets
 
   -- the pages stay
@@ -72,16 +72,16 @@ module _ (layout : DiskLayout) (fill : PagesFillDisk layout) (log : Log) (pool a
   set_shown : IsTrue disk.tells_contents → (q : Place) → IsPlace layout q → shown_page layout after disk.contents q ≡ shown_page layout pool disk.contents q
   set_shown tells q isq = ⊎_elim
       (λ (e : q ≡ place).
-        ap (shown_page layout after disk.contents) e
-        ∙ ap (λ (o : Option HeldPage). unwrap_or (option_map (λ (h : HeldPage). h.content) o) (disk_page layout disk.contents place)) here
-        ∙ stored tells ∙ shown_at layout pool disk.contents place is ∙ ap (shown_page layout pool disk.contents) (sym e))
+      ap (shown_page layout after disk.contents) e
+      ∙ ap (λ (o : Option HeldPage). unwrap_or (option_map (λ (h : HeldPage). h.content) o) (disk_page layout disk.contents place)) here
+      ∙ stored tells ∙ shown_at layout pool disk.contents place is ∙ ap (shown_page layout pool disk.contents) (sym e))
       (λ (differ : q ≢ place). ⊎_elim
-        (λ (same : held_at after (page_number layout q) ≡ held_at pool (page_number layout q)). ap (λ (o : Option HeldPage). unwrap_or (option_map (λ (h : HeldPage). h.content) o) (disk_page layout disk.contents q)) same)
-        (λ (gone : (held_at after (page_number layout q) ≡ None) × IsClean pool (page_number layout q)).
-          ap (λ (o : Option HeldPage). unwrap_or (option_map (λ (h : HeldPage). h.content) o) (disk_page layout disk.contents q)) gone.0
-          ∙ sym ((standing.sound refl tells).pooled.clean q gone.1.0 isq gone.1.1 gone.1.2)
-          ∙ sym (ap (λ (o : Option HeldPage). unwrap_or (option_map (λ (h : HeldPage). h.content) o) (disk_page layout disk.contents q)) gone.1.1))
-        (elsewhere (page_number layout q) (λ same. differ (one_number layout fill q place isq is same))))
+      (λ (same : held_at after (page_number layout q) ≡ held_at pool (page_number layout q)). ap (λ (o : Option HeldPage). unwrap_or (option_map (λ (h : HeldPage). h.content) o) (disk_page layout disk.contents q)) same)
+      (λ (gone : (held_at after (page_number layout q) ≡ None) × IsClean pool (page_number layout q)).
+      ap (λ (o : Option HeldPage). unwrap_or (option_map (λ (h : HeldPage). h.content) o) (disk_page layout disk.contents q)) gone.0
+      ∙ sym ((standing.sound refl tells).pooled.clean q gone.1.0 isq gone.1.1 gone.1.2)
+      ∙ sym (ap (λ (o : Option HeldPage). unwrap_or (option_map (λ (h : HeldPage). h.content) o) (disk_page layout disk.contents q)) gone.1.1))
+      (elsewhere (page_number layout q) (λ same. differ (one_number layout fill q place isq is same))))
       (same_place q place)
 
   pub set_pages : IsTrue disk.tells_contents → shown_pages layout after disk.contents ≡ shown_pages layout pool disk.contents
@@ -102,28 +102,31 @@ module _ (layout : DiskLayout) (fill : PagesFillDisk layout) (log : Log) (pool a
         (λ (other : held_at pool q ≡ Some it). standing.waits q waits it other log) (held_then q it got);
     checked = λ tells q isq. subst (IsPageIn layout q.relation) (sym (set_shown tells q isq)) (standing.checked tells q isq);
     sound = λ none tells.
-      let sound = standing.sound refl tells in
-      record {
-        changes = sound.changes;
-        bytes = sound.bytes;
-        count = sound.count;
-        pooled = record {
-          clean = λ q it isq got log. ⊎_elim
-              (λ (own : (page_number layout q ≡ page_number layout place) × (clean_page ≡ it)).
+        let sound = standing.sound refl tells in
+        record {
+          changes = sound.changes;
+          bytes = sound.bytes;
+          count = sound.count;
+          pooled = record {
+            clean = λ q it isq got log. ⊎_elim
+                (λ (own : (page_number layout q ≡ page_number layout place) × (clean_page ≡ it)).
                 sym (ap (λ (h : HeldPage). h.content) own.1) ∙ stored_page tells ∙ ap (disk_page layout disk.contents) (sym (one_number layout fill q place isq is own.0)))
-              (λ (other : held_at pool (page_number layout q) ≡ Some it). sound.pooled.clean q it isq other log) (held_then (page_number layout q) it got);
-          dirty = λ q it waits isq got log. ⊎_elim
-              (λ (own : (page_number layout q ≡ page_number layout place) × (clean_page ≡ it)). absurd (none_Some waits (ap (λ (h : HeldPage). h.log) own.1 ∙ log)))
-              (λ (other : held_at pool (page_number layout q) ≡ Some it). sound.pooled.dirty q it waits isq other log) (held_then (page_number layout q) it got);
-          waits = λ q isq some.
-            let waits = sound.pooled.waits q isq some in
-            (waits.0, ⊎_elim
-              (λ (same : held_at after (page_number layout q) ≡ held_at pool (page_number layout q)). same ∙ waits.1)
-              (λ (gone : (held_at after (page_number layout q) ≡ None) × IsClean pool (page_number layout q)).
-                let it = same_Some gone.1.0 waits.0 (sym gone.1.1 ∙ waits.1) in
-                absurd (none_Some (log.used + 1) (sym gone.1.2 ∙ ap (λ (h : HeldPage). h.log) it ∙ waits.2)))
-              (elsewhere (page_number layout q) (λ same. none_Some waits.0 (sym absent ∙ ap (held_at pool) (sym same) ∙ waits.1))), waits.2);
+                (λ (other : held_at pool (page_number layout q) ≡ Some it). sound.pooled.clean q it isq other log) (held_then (page_number layout q) it got);
+            dirty = λ q it waits isq got log. ⊎_elim
+                (λ (own : (page_number layout q ≡ page_number layout place) × (clean_page ≡ it)). absurd (none_Some waits (ap (λ (h : HeldPage). h.log) own.1 ∙ log)))
+                (λ (other : held_at pool (page_number layout q) ≡ Some it). sound.pooled.dirty q it waits isq other log) (held_then (page_number layout q) it got);
+            waits = λ q isq some.
+                let waits = sound.pooled.waits q isq some in (
+                  waits.0,
+                  ⊎_elim
+                      (λ (same : held_at after (page_number layout q) ≡ held_at pool (page_number layout q)). same ∙ waits.1)
+                      (λ (gone : (held_at after (page_number layout q) ≡ None) × IsClean pool (page_number layout q)).
+                      let it = same_Some gone.1.0 waits.0 (sym gone.1.1 ∙ waits.1) in
+                      absurd (none_Some (log.used + 1) (sym gone.1.2 ∙ ap (λ (h : HeldPage). h.log) it ∙ waits.2)))
+                      (elsewhere (page_number layout q) (λ same. none_Some waits.0 (sym absent ∙ ap (held_at pool) (sym same) ∙ waits.1))),
+                  waits.2,
+                );
+          };
+          safe = λ image now. subst (λ (p : PageMap). IsSafe layout log marks sound.changes p image) (sym (set_pages tells)) (sound.safe image now);
         };
-        safe = λ image now. subst (λ (p : PageMap). IsSafe layout log marks sound.changes p image) (sym (set_pages tells)) (sound.safe image now);
-      };
   }

@@ -140,23 +140,23 @@ module _ (one : OneByOne) (layout : DiskLayout) (fill : PagesFillDisk layout) (l
     waits = λ number waits held there is. omega (arith, standing.waits number waits held there is);
     checked = append_checked tells kept;
     sound = λ none now.
-      let was : IsTrue old.tells_contents = sym tells ∙ now in
-      let sound = standing.sound refl was in
-      let same = beside_same old.contents new.contents (kept was).beside in
-      record {
-        changes = [];
-        bytes = refl;
-        count = refl;
-        pooled = record {
-          clean = λ place held is there none. sound.pooled.clean place held is there none ∙ sym (same place is);
-          dirty = sound.pooled.dirty;
-          waits = λ place is some. absurd (omega (arith, some));
+        let was : IsTrue old.tells_contents = sym tells ∙ now in
+        let sound = standing.sound refl was in
+        let same = beside_same old.contents new.contents (kept was).beside in
+        record {
+          changes = [];
+          bytes = refl;
+          count = refl;
+          pooled = record {
+            clean = λ place held is there none. sound.pooled.clean place held is there none ∙ sym (same place is);
+            dirty = sound.pooled.dirty;
+            waits = λ place is some. absurd (omega (arith, some));
+          };
+          safe = λ image there.
+              let come = images image there in
+              subst (λ (p : PageMap). IsSafe layout (grown log frame) marks [] p image) (sym (append_pages (kept was)))
+              (appended_safe layout fill log marks sound.changes pages frame standing.area sound.bytes sound.count come.0 image come.2 (sound.safe come.0 come.1));
         };
-        safe = λ image there.
-          let come = images image there in
-          subst (λ (p : PageMap). IsSafe layout (grown log frame) marks [] p image) (sym (append_pages (kept was)))
-          (appended_safe layout fill log marks sound.changes pages frame standing.area sound.bytes sound.count come.0 image come.2 (sound.safe come.0 come.1));
-      };
   }
 
   -- where it fails the store fails

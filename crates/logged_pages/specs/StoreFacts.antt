@@ -4,13 +4,14 @@ use Rattle.block_model.specs.declared.place.Place.{Place}
 use Rattle.store_layout.specs.DiskLayout.{DiskLayout, IsPlace, relation_blocks}
 use Rattle.page_layout.specs.declared.page.Form.{Form}
 use Rattle.page_layout.specs.PageContents.{HasSlot}
-use Rattle.buffer_pool.specs.PoolState.{HeldPage, PoolState}
+use Rattle.buffer_pool.specs.PoolState.{PoolState}
 use Rattle.page_store.specs.declared.facts.PageFacts.{PageFacts}
 use Rattle.page_store.specs.Forms.{form_of, forms_of}
 use Rattle.page_store.specs.PageFacts.{facts_in, facts_on}
 use Rattle.page_store.specs.PageMap.{PageMap, page_at}
 use Rattle.disk_trait.specs.Told.{Told}
-use Rattle.pooled_pages.specs.InPool.{Holds}
+use Rattle.pooled_pages.specs.PageNumbers.{page_number}
+use Rattle.pooled_pages.specs.ShownPages.{content_at}
 use Rattle.logged_pages.specs.LoggedState.{LoggedState, store_of}
 
 -- of each relation the facts of its pages, by their blocks
@@ -30,7 +31,7 @@ IsSlotOf form (Some slot) = HasSlot form slot
 -- Each page of the layout has its facts. They are those of what is held, and where the disk tells its contents those of each page.
 pub record AreFactsOf (tells : Bool) (layout : DiskLayout) (pool : PoolState) (pages : PageMap) (facts : List (List PageFacts)) : Type 0 where
   pub whole : map length facts ≡ relation_blocks layout
-  pub held : (place : Place) (held : HeldPage) → IsPlace layout place → Holds layout pool place held → facts_at facts place ≡ facts_on (form_of layout place.relation) held.content
+  pub held : (place : Place) (bytes : List ℕ) → IsPlace layout place → content_at pool (page_number layout place) ≡ Some bytes → facts_at facts place ≡ facts_on (form_of layout place.relation) bytes
   pub known : IsTrue tells → (place : Place) → IsPlace layout place → facts_at facts place ≡ facts_on (form_of layout place.relation) (page_at pages place)
   pub slots : (place : Place) → IsPlace layout place → IsSlotOf (form_of layout place.relation) (facts_at facts place).lowest
 

@@ -84,7 +84,13 @@ pub fn start_page<D: Disk + Drop>(
         return Err(damaged(pages, place));
     }
     pages.make_room(place, true, START_BYTES + size(change))?;
-    make(pages, facts, forms, place, &Change::PageStart { place, kind })?;
+    make(
+        pages,
+        facts,
+        forms,
+        place,
+        &Change::PageStart { place, kind },
+    )?;
     make(pages, facts, forms, place, change)
 }
 

@@ -549,12 +549,7 @@ impl<D: Disk + Drop> LoggedPages<D> {
 
     /// Makes the change of the page at the place, which is held, and lets it wait for the log: behind the page as it was where
     /// the log hasn't begun it and the change doesn't. Where it doesn't fit nothing is changed.
-    pub fn make(
-        &mut self,
-        place: Place,
-        form: &Form,
-        change: &Change<'_>,
-    ) -> Result<(), Misfit>
+    pub fn make(&mut self, place: Place, form: &Form, change: &Change<'_>) -> Result<(), Misfit>
         requires place { IsPlace self.old.layout place }
         requires own { place_of (logged change.now) ≡ place }
         requires form { form.now ≡ form_of self.old.layout place.relation }
@@ -582,7 +577,11 @@ impl<D: Disk + Drop> LoggedPages<D> {
             &mut self.waiting,
             &mut self.marks,
             &mut self.pool,
-            HeldPlace { place, number, waits },
+            HeldPlace {
+                place,
+                number,
+                waits,
+            },
             form,
             change,
         )

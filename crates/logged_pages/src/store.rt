@@ -121,7 +121,14 @@ impl<D: Disk + Drop> PageStore<D> {
         ensures at { IfErr result (λ error. NamesPage self.old.layout place error) }
         ensures outcome { Outcome D.told (Untold D.told self.old) self.old self.new result }
     {
-        start_page(&mut self.pages, &mut self.facts, &self.forms, place, kind, change)
+        start_page(
+            &mut self.pages,
+            &mut self.facts,
+            &self.forms,
+            place,
+            kind,
+            change,
+        )
     }
 
     /// Makes every change so far durable. Where none waits no device call is made. Later: a commit calls it.
