@@ -1,6 +1,6 @@
 //! The buffer of changes.
 
-ghost use Rattle.std.specs.Prelude.{◌≡◌, ◌≤◌, ◌+◌, ◌*◌, ◌++◌, [], length, take, IfOk};
+ghost use Rattle.std.specs.Prelude.{◌≡◌, ◌≤◌, ◌<◌, ◌+◌, ◌*◌, ◌++◌, [], length, take, true, false, IfOk};
 ghost use Rattle.wal_record.specs.Changes.{HasSizes, IsChange, logged};
 ghost use Rattle.wal_record.specs.ChangeBytes.{bytes_of};
 ghost use Rattle.change_buffer.specs.Waiting.{no_changes, with_change};
@@ -75,6 +75,14 @@ impl ChangeBuffer {
         ensures few { result ≤ BUFFER_SIZE }
     {
         self.used
+    }
+
+    /// Whether no change waits.
+    pub fn is_empty(&self) -> bool
+        ensures empty { result ≡ true → self.now ≡ no_changes }
+        ensures some { result ≡ false → 0 < length self.now.bytes }
+    {
+        self.used == 0
     }
 
     /// How many changes wait.

@@ -110,6 +110,7 @@ impl LogArea {
     pub fn used(&self) -> u64
         ensures used { result ≡ self.now.used }
         ensures within { result < self.now.room }
+        ensures small { result < 2 ^ 25 }
     {
         self.used
     }
@@ -141,6 +142,7 @@ impl LogArea {
         ensures written { OnOk result (IsTrue (D.told disk.old).tells_contents → Appended self.old (record { changes = changes.now; count = count }) (D.told disk.old).contents (D.told disk.new).contents) }
         ensures contents { IsTrue (D.told disk.old).tells_contents → KeptOrAppended self.old (record { changes = changes.now; count = count }) (D.told disk.old).contents (D.told disk.new).contents }
         ensures answers { AppendAnswers self.old (length changes.now) (D.told disk.old).faults (D.told disk.new).faults result }
+        ensures later { (D.told disk.old).faults ≤ (D.told disk.new).faults }
     {
         let need = (HEAD + changes.len() + 1) as u64;
         let left = self.room - self.used;

@@ -11,12 +11,15 @@ use Rattle.disk_trait.specs.Throughout.{Throughout}
 use Rattle.disk_trait.specs.Told.{Told}
 use Rattle.disk_trait.specs.Torn.{Torn}
 use Rattle.log_area.specs.Log.{ComesBy, Log}
-use Rattle.log_area.specs.Appended.{KeptOrAppended}
+use Rattle.log_area.specs.Appended.{Appended, KeptOrAppended, grown}
+use Rattle.log_area.specs.Frames.{LogFrame}
+use Rattle.disk_trait.specs.Follows.{Follows}
 use Rattle.log_area.specs.Switched.{KeptOrSwitched}
-use Rattle.buffer_pool.specs.PoolState.{HeldPage, PoolState}
-use Rattle.buffer_pool.specs.WritesPage.{IsCleanable, WritesAt, place_of}
+use Rattle.buffer_pool.specs.PoolState.{HeldPage, PoolState, held_at}
+use Rattle.buffer_pool.specs.WritesPage.{IsCleanable, LieWithin, WritesAt, place_of}
 use Rattle.change_buffer.specs.Waiting.{Waiting, no_changes}
 use Rattle.pooled_pages.specs.Safe.{is_marked}
+use Rattle.pooled_pages.specs.ShownLaws.{offset_of}
 use Rattle.pooled_pages.specs.ShownPages.{shown_pages}
 use Rattle.logged_pages.specs.Clean.{AreClean}
 use Rattle.logged_pages.specs.Contents.{HoldsAlike}
@@ -26,7 +29,19 @@ use Rattle.logged_pages.specs.LogSteps.{IsSame, same_opens, switch_opens, switch
 use Rattle.logged_pages.specs.PoolSteps.{Forgets, write_moments, write_opens, write_pages}
 use Rattle.logged_pages.specs.Room.{IsDurable}
 use Rattle.logged_pages.specs.Standing.{IsStanding}
-use Rattle.logged_pages.specs.Steps.{DiskLaws, OneByOne, append_opens, append_pages, keeps_by, keeps_still}
+use Rattle.logged_pages.specs.Steps.{DiskLaws, OneByOne, append_failed, append_standing, append_opens, append_pages, keeps_by, keeps_still}
+
+-- the pages that are held lie on the disk
+pub lie_within : (disk : Told) (layout : DiskLayout) (log : Log) (pool : PoolState) (marks : List Bool) (waiting : Waiting) (failed : Option ℕ) → PagesFillDisk layout → IsStanding disk layout log pool marks waiting failed → LieWithin pool 0 disk.size
+lie_within disk layout log pool marks waiting failed fill standing number held there =
+    let page = standing.held number held there in
+    omega (arith, offset_of layout page.place, page.number, fill.ends page.place page.is, standing.size)
+
+-- and each has a mark
+pub number_within : (disk : Told) (layout : DiskLayout) (log : Log) (pool : PoolState) (marks : List Bool) (waiting : Waiting) (failed : Option ℕ) → PagesFillDisk layout → IsStanding disk layout log pool marks waiting failed → (number : ℕ) (held : HeldPage) → held_at pool number ≡ Some held → number < length marks
+number_within disk layout log pool marks waiting failed fill standing number held there =
+    let page = standing.held number held there in
+    omega (arith, offset_of layout page.place, page.number, fill.ends page.place page.is, standing.marked)
 
 module _ {D : Type 0} (told : D → Told) (laws : DiskLaws told) where
   -- nothing was done
@@ -42,6 +57,35 @@ module _ {D : Type 0} (told : D → Told) (laws : DiskLaws told) where
         (KeptOrAppended s.log (record { changes = s.waiting.bytes; count = s.waiting.count })) refl later all
         (λ before image now change. append_opens one s.layout fill s.log s.pool s.marks s.waiting (told s.disk) (told d) standing (laws.need s.disk) before image now change)
         (λ tells. append_pages one s.layout fill s.log s.pool s.marks s.waiting (told s.disk) (told d) standing (kept tells))
+
+    -- an append that is done
+    pub append_done : (frame : LogFrame) (log : Log) (waiting : Waiting) (failed : Option ℕ) → frame ≡ record { changes = s.waiting.bytes; count = s.waiting.count } → log ≡ grown s.log frame → waiting ≡ no_changes → failed ≡ None
+        → Throughout (told s.disk) (told d) (ComesBy (KeptOrAppended s.log frame) (told s.disk)) → (IsTrue (told s.disk).tells_contents → KeptOrAppended s.log frame (told s.disk).contents (told d).contents)
+        → Follows (Appended s.log frame) (told s.disk) (told d) → IsStanding (told d) s.layout log s.pool s.marks waiting failed
+    append_done frame log waiting failed own is empty none all kept images =
+        subst (λ (f : Option ℕ). IsStanding (told d) s.layout log s.pool s.marks waiting f) (sym none)
+        (subst (λ (w : Waiting). IsStanding (told d) s.layout log s.pool s.marks w None) (sym empty)
+        (subst (λ (l : Log). IsStanding (told d) s.layout l s.pool s.marks no_changes None) (sym (is ∙ ap (grown s.log) own))
+        (append_standing one s.layout fill s.log s.pool s.marks s.waiting (told s.disk) (told d) standing all.size all.tells_contents (laws.need s.disk)
+        (λ tells. subst (λ (f : LogFrame). KeptOrAppended s.log f (told s.disk).contents (told d).contents) own (kept tells))
+        (subst (λ (f : LogFrame). Follows (Appended s.log f) (told s.disk) (told d)) own images))))
+
+    -- one that failed
+    pub append_broke : (frame : LogFrame) (log : Log) (waiting : Waiting) (faults : ℕ) → frame ≡ record { changes = s.waiting.bytes; count = s.waiting.count } → log ≡ s.log → waiting ≡ s.waiting
+        → Throughout (told s.disk) (told d) (ComesBy (KeptOrAppended s.log frame) (told s.disk)) → (IsTrue (told s.disk).tells_contents → KeptOrAppended s.log frame (told s.disk).contents (told d).contents)
+        → IsStanding (told d) s.layout log s.pool s.marks waiting (Some faults)
+    append_broke frame log waiting faults own is same all kept =
+        subst (λ (w : Waiting). IsStanding (told d) s.layout log s.pool s.marks w (Some faults)) (sym same)
+        (subst (λ (l : Log). IsStanding (told d) s.layout l s.pool s.marks s.waiting (Some faults)) (sym is)
+        (append_failed one s.layout fill s.log s.pool s.marks s.waiting (told s.disk) (told d) standing faults all.size all.tells_contents
+        (λ tells. subst (λ (f : LogFrame). KeptOrAppended s.log f (told s.disk).contents (told d).contents) own (kept tells))))
+
+    pub appended_keeps : (frame : LogFrame) (log : Log) (waiting : Waiting) (failed : Option ℕ) → frame ≡ record { changes = s.waiting.bytes; count = s.waiting.count }
+        → Throughout (told s.disk) (told d) (ComesBy (KeptOrAppended s.log frame) (told s.disk)) → (IsTrue (told s.disk).tells_contents → KeptOrAppended s.log frame (told s.disk).contents (told d).contents)
+        → Keeps told (store_of told s) (store_of told (record { disk = d; layout = s.layout; log = log; pool = s.pool; marks = s.marks; waiting = waiting; failed = failed }))
+    appended_keeps frame log waiting failed own all kept =
+        append_keeps log waiting failed (subst (λ (f : LogFrame). Throughout (told s.disk) (told d) (ComesBy (KeptOrAppended s.log f) (told s.disk))) own all)
+        (λ tells. subst (λ (f : LogFrame). KeptOrAppended s.log f (told s.disk).contents (told d).contents) own (kept tells))
 
     pub write_keeps : (forgets : Forgets) (durable number : ℕ) (held : HeldPage) (sure : IsDurable s.log s.waiting durable) (it : IsCleanable s.pool durable number held) (after : PoolState) (failed : Option ℕ) → HoldsAlike s.pool after
         → WritesAt (place_of 0 number) (told s.disk) (told d) → Keeps told (store_of told s) (store_of told (record { disk = d; layout = s.layout; log = s.log; pool = after; marks = s.marks; waiting = s.waiting; failed = failed }))

@@ -17,3 +17,7 @@ pub mod MakeSteps
 pub mod Exits
 pub mod Loggable
 pub mod FactSteps
+pub mod Joining
+pub mod CleanExits
+pub mod SetExits
+pub mod MakeExits

@@ -50,7 +50,7 @@ sync_standing layout log pool marks waiting failed old new size tells contents i
   size = size ∙ standing.size;
   area = standing.area;
   frames = standing.frames;
-  marks = standing.marks;
+  marked = standing.marked;
   room = standing.room;
   held = standing.held;
   waits = standing.waits;
@@ -120,7 +120,7 @@ module _ (one : OneByOne) (layout : DiskLayout) (fill : PagesFillDisk layout) (l
     size = size ∙ standing.size;
     area = standing.area;
     frames = standing.frames;
-    marks = ap (λ (n : ℕ). 8192 * n) long ∙ standing.marks;
+    marked = ap (λ (n : ℕ). 8192 * n) long ∙ standing.marked;
     room = λ some. absurd (omega (arith, some));
     held = standing.held;
     waits = λ number waits held there is. absurd (all number waits (held, there, is));
@@ -150,7 +150,7 @@ module _ (one : OneByOne) (layout : DiskLayout) (fill : PagesFillDisk layout) (l
     size = size ∙ standing.size;
     area = standing.area;
     frames = standing.frames;
-    marks = standing.marks;
+    marked = standing.marked;
     room = standing.room;
     held = standing.held;
     waits = standing.waits;

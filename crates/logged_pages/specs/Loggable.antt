@@ -10,7 +10,7 @@ use Rattle.block_model.specs.RowSize.{row_size}
 use Rattle.byte_fields.specs.Fields.{length-number}
 use Rattle.index_layout.specs.IndexPages.{IsIndexPage, IsRegular, Slot, taken, tuple_bytes}
 use Rattle.index_layout.specs.IndexReading.{is_regular, slots_of}
-use Rattle.index_layout.specs.IndexWrites.{CanDrop, CanPut, CanReplace, are_ascending as tuples_ascend}
+use Rattle.index_layout.specs.IndexWrites.{CanDrop, CanPut, CanReplace, IsRoom, are_ascending as tuples_ascend}
 use Rattle.index_layout.proofs.Reading.{regular_of}
 use Rattle.page_layout.specs.declared.page.Form.{Form}
 use Rattle.page_layout.specs.declared.page.Form.TheVariants as forms
@@ -36,10 +36,10 @@ slots_length slots = let count : ℕ = length slots / 2 in omega (arith, length-
 
 pub few_ascend : (least count : ℕ) (slots : List ℕ) → least ≤ count → are_ascending least count slots ≡ true → (length slots % 2 ≡ 0) × (length slots + 2 * least ≤ 2 * count)
 unfolding are_ascending
-few_ascend least count [] low yes = (refl, omega (arith, low))
-few_ascend least count (high ∷ []) low yes = absurd (false≢true yes)
-few_ascend least count (high ∷ byte ∷ slots) low yes =
-    let parts = and_parts (nat_le least (high * 256 + byte) && nat_lt (high * 256 + byte) count) (are_ascending (high * 256 + byte + 1) count slots) yes in
+few_ascend least count [] low holds = (refl, omega (arith, low))
+few_ascend least count (high ∷ []) low holds = absurd (false≢true holds)
+few_ascend least count (high ∷ byte ∷ slots) low holds =
+    let parts = and_parts (nat_le least (high * 256 + byte) && nat_lt (high * 256 + byte) count) (are_ascending (high * 256 + byte + 1) count slots) holds in
     let here = and_parts (nat_le least (high * 256 + byte)) (nat_lt (high * 256 + byte) count) parts.0 in
     let above = leb-true least (high * 256 + byte) here.0 in
     let below = ltb-true (high * 256 + byte) count here.1 in
@@ -48,10 +48,10 @@ few_ascend least count (high ∷ byte ∷ slots) low yes =
 
 pub few_tuples_ascend : (least count : ℕ) (slots : List ℕ) → least ≤ count → tuples_ascend least count slots ≡ true → (length slots % 2 ≡ 0) × (length slots + 2 * least ≤ 2 * count)
 unfolding tuples_ascend
-few_tuples_ascend least count [] low yes = (refl, omega (arith, low))
-few_tuples_ascend least count (high ∷ []) low yes = absurd (false≢true yes)
-few_tuples_ascend least count (high ∷ byte ∷ slots) low yes =
-    let parts = and_parts (nat_le least (high * 256 + byte) && nat_lt (high * 256 + byte) count) (tuples_ascend (high * 256 + byte + 1) count slots) yes in
+few_tuples_ascend least count [] low holds = (refl, omega (arith, low))
+few_tuples_ascend least count (high ∷ []) low holds = absurd (false≢true holds)
+few_tuples_ascend least count (high ∷ byte ∷ slots) low holds =
+    let parts = and_parts (nat_le least (high * 256 + byte) && nat_lt (high * 256 + byte) count) (tuples_ascend (high * 256 + byte + 1) count slots) holds in
     let here = and_parts (nat_le least (high * 256 + byte)) (nat_lt (high * 256 + byte) count) parts.0 in
     let above = leb-true least (high * 256 + byte) here.0 in
     let below = ltb-true (high * 256 + byte) count here.1 in
@@ -80,6 +80,10 @@ count_in count row some room = grind arith
 row_in : (count row : ℕ) → 1 ≤ count → count * row ≤ 8160 → row ≤ 8160
 row_in count row some room = grind arith
 
+room_small : (slots : List Slot) (n size : ℕ) → IsRoom slots n size → size ≤ 8160
+room_small slots n size (inl free) = omega (arith, free.1)
+room_small slots n size (inr next) = omega (arith, next.1)
+
 pub fits_loggable : (form : Form) (page : List ℕ) (change : LoggedChange) → IsForm form → Fits form page change → IsLoggable change
 unfolding bytes_of
 fits_loggable form page (FullPage place bytes) is fits = record { sizes = fits.0; few = omega (arith, fits.0, tagged_length 1 place bytes) }
@@ -105,12 +109,12 @@ fits_loggable form page (RowsDrop place slots) is fits =
     count_of (forms.Heap row count kinds format) is = count_in count row (omega (arith, is.0)) is.1
     count_of forms.Index is = omega arith
 fits_loggable form page (TuplePut place slot bytes) is fits =
-    let small : length bytes ≤ 8160 = ⊎_elim (λ (free : _). omega (arith, free.1)) (λ (next : _). omega (arith, next.1)) fits.1.2.1 in
+    let small : length bytes ≤ 8160 = room_small (slots_of page) slot (length bytes) fits.1.2 in
     record { sizes = omega (arith, small); few = omega (arith, small, tagged_length 6 place (put_bytes slot bytes), put_length slot bytes) }
 fits_loggable form page (TupleReplace place slot bytes) is fits =
-    let own = tuple_takes (slots_of page) slot fits.1.2.1.0 fits.1.2.1.1 in
+    let own = tuple_takes (slots_of page) slot fits.1.2.0 fits.1.2.1 in
     let room = regular page fits.0.1 fits.1.0 in
-    let small : length bytes ≤ 16320 = omega (arith, fits.1.2.1.2, own, room) in
+    let small : length bytes ≤ 16320 = omega (arith, fits.1.2.2, own, room) in
     record { sizes = omega (arith, small); few = omega (arith, small, tagged_length 7 place (put_bytes slot bytes), put_length slot bytes) }
 fits_loggable form page (TupleDrop place slots) is fits =
     let few = few_tuples_ascend 0 (length (slots_of page)) slots (omega arith) fits.1.1 in

@@ -150,7 +150,7 @@ pub bytes_more : (waiting : Waiting) (marked : Bool) (place : Place) (page : Lis
 bytes_more waiting marked place page change whole = by (marked || is_anew change)
   where
     by : (begun : Bool) → length (with_changes waiting (logged_for begun place page change)).bytes ≡ length waiting.bytes + (cond begun 0 8198 + length (bytes_of change))
-    by true = length-append waiting.bytes (bytes_of change)
+    by true = omega (arith, length-append waiting.bytes (bytes_of change))
     by false = omega (arith, full_length place page whole, length-append waiting.bytes (bytes_of (FullPage place page)), length-append (waiting.bytes ++ bytes_of (FullPage place page)) (bytes_of change))
 
 anew_is : (c : LoggedChange) → is_anew c ≡ true → IsAnew c
@@ -221,10 +221,10 @@ module _ (behind : GoesBehind) (layout : DiskLayout) (fill : PagesFillDisk layou
   abbrev cs : List LoggedChange
   cs = logged_for (is_marked old.marks layout place || is_anew change) place makes.redoes.before.content change
 
-  put_own : held_at new.pool number ≡ Some made
+  pub put_own : held_at new.pool number ≡ Some made
   put_own = ap (λ (p : PoolState). held_at p (page_number layout place)) makes.redoes.is ∙ put_here old.pool (page_number layout place) (record { content = makes.redoes.after; log = Some (log.used + 1) })
 
-  put_else : (q : ℕ) → q ≢ number → held_at new.pool q ≡ held_at old.pool q
+  pub put_else : (q : ℕ) → q ≢ number → held_at new.pool q ≡ held_at old.pool q
   put_else q apart = ap (λ (p : PoolState). held_at p q) makes.redoes.is ∙ put_apart old.pool (page_number layout place) q (record { content = makes.redoes.after; log = Some (log.used + 1) }) apart
 
   apart_of : (q : Place) → IsPlace layout q → q ≢ place → page_number layout q ≢ page_number layout place
@@ -252,7 +252,7 @@ module _ (behind : GoesBehind) (layout : DiskLayout) (fill : PagesFillDisk layou
     others = λ q other. at_agree layout new.pool old.pool disk.contents q (λ isq. shown_else q isq other);
   }
 
-  mark_own : is_marked new.marks layout place ≡ true
+  pub mark_own : is_marked new.marks layout place ≡ true
   mark_own = ap (λ (l : List Bool). is_marked l layout place) makes.marks ∙ get_or-set_same old.marks (page_number layout place) true false low
 
   mark_else : (q : Place) → IsPlace layout q → q ≢ place → is_marked new.marks layout q ≡ is_marked old.marks layout q
@@ -265,7 +265,7 @@ module _ (behind : GoesBehind) (layout : DiskLayout) (fill : PagesFillDisk layou
       (λ (apart : q ≢ page_number layout place). inr (apart, sym (put_else q apart) ∙ got))
       (cases_eq q (page_number layout place))
 
-  length_now : length new.waiting.bytes ≡ length old.waiting.bytes + bytes_for (is_marked old.marks layout place) change
+  pub length_now : length new.waiting.bytes ≡ length old.waiting.bytes + bytes_for (is_marked old.marks layout place) change
   length_now =
       let page = standing.held (page_number layout place) makes.redoes.before makes.redoes.was in
       ap (λ (w : Waiting). length w.bytes) makes.waiting ∙ bytes_more old.waiting (is_marked old.marks layout place) place makes.redoes.before.content change page.whole
@@ -275,7 +275,7 @@ module _ (behind : GoesBehind) (layout : DiskLayout) (fill : PagesFillDisk layou
     size = standing.size;
     area = standing.area;
     frames = frames ∙ standing.frames;
-    marks = ap (λ (l : List Bool). 8192 * length l) makes.marks ∙ ap (λ (n : ℕ). 8192 * n) (length-set old.marks (page_number layout place) true) ∙ standing.marks;
+    marked = ap (λ (l : List Bool). 8192 * length l) makes.marks ∙ ap (λ (n : ℕ). 8192 * n) (length-set old.marks (page_number layout place) true) ∙ standing.marked;
     room = λ some. omega (arith, room.area, length_now);
     held = λ q h got. ⊎_elim
         (λ (now : (q ≡ page_number layout place) × (h ≡ record { content = makes.redoes.after; log = Some (log.used + 1) })).

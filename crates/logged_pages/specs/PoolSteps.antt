@@ -128,7 +128,7 @@ module _ (one : OneByOne) (forgets : Forgets) (layout : DiskLayout) (fill : Page
       let was : IsTrue old.tells_contents = sym writes.moments.tells_contents ∙ now in
       subst (IsPageIn layout place.relation) (sym (write_shown after alike (writes.others was) place is)) (standing.checked was place is)
 
-  cleaned : PoolState
+  abbrev pub cleaned : PoolState
   cleaned = with_page pool number (record held { log = None })
 
   pub cleaned_alike : HoldsAlike pool cleaned
@@ -157,7 +157,7 @@ module _ (one : OneByOne) (forgets : Forgets) (layout : DiskLayout) (fill : Page
     size = writes.moments.size ∙ standing.size;
     area = standing.area;
     frames = standing.frames;
-    marks = standing.marks;
+    marked = standing.marked;
     room = standing.room;
     held = λ q h got. ⊎_elim
         (λ (own : (q ≡ number) × (h ≡ record held { log = None })). subst (λ (n : ℕ). IsHeldPage layout n h.content) (sym own.0) (subst (λ (x : HeldPage). IsHeldPage layout number x.content) (sym own.1) page))
@@ -213,7 +213,7 @@ module _ (one : OneByOne) (forgets : Forgets) (layout : DiskLayout) (fill : Page
     size = writes.moments.size ∙ standing.size;
     area = standing.area;
     frames = standing.frames;
-    marks = standing.marks;
+    marked = standing.marked;
     room = standing.room;
     held = standing.held;
     waits = standing.waits;

@@ -32,7 +32,7 @@ use Rattle.logged_pages.specs.Standing.{IsSound, IsStanding}
 module _ (layout : DiskLayout) (fill : PagesFillDisk layout) (log : Log) (pool after : PoolState) (marks : List Bool) (waiting : Waiting) (disk : Told) (standing : IsStanding disk layout log pool marks waiting None)
     (place : Place) (is : IsPlace layout place) (bytes : List ℕ) (whole : length bytes ≡ PAGE_SIZE) (passes : IsPageIn layout place.relation bytes) (absent : held_at pool (page_number layout place) ≡ None)
     (stored : IsTrue disk.tells_contents → bytes ≡ page_at (shown_pages layout pool disk.contents) place) (sets : SetsPage pool (page_number layout place) (record { content = bytes; log = None }) after) where
-  clean_page : HeldPage
+  abbrev pub clean_page : HeldPage
   clean_page = record { content = bytes; log = None }
 
   -- what is held then
@@ -47,7 +47,7 @@ module _ (layout : DiskLayout) (fill : PagesFillDisk layout) (log : Log) (pool a
       from (Some it) is = ⊎_elim (λ (own : (q ≡ page_number layout place) × (clean_page ≡ it)). inl own.0)
           (λ (other : held_at pool q ≡ Some it). inr (ap (option_map (λ (h : HeldPage). h.content)) (other ∙ sym is) ∙ got)) (held_then q it is)
 
-  here : held_at after (page_number layout place) ≡ Some clean_page
+  pub here : held_at after (page_number layout place) ≡ Some clean_page
   here = ⊎_elim
       (λ (kept : _). ap (λ (p : PoolState). held_at p (page_number layout place)) kept.1 ∙ get_put_here nat_cmp_total pool.pages (page_number layout place) clean_page)
       (λ (gone : _). ap (λ (p : PoolState). held_at p (page_number layout place)) gone.4 ∙ get_put_here nat_cmp_total (map.remove pool.pages gone.0) (page_number layout place) clean_page)
@@ -92,7 +92,7 @@ module _ (layout : DiskLayout) (fill : PagesFillDisk layout) (log : Log) (pool a
     size = standing.size;
     area = standing.area;
     frames = frames ∙ standing.frames;
-    marks = standing.marks;
+    marked = standing.marked;
     room = standing.room;
     held = λ q it got. ⊎_elim
         (λ (own : (q ≡ page_number layout place) × (clean_page ≡ it)). record { place = place; is = is; number = sym own.0; whole = subst (λ (h : HeldPage). length h.content ≡ PAGE_SIZE) own.1 whole; passes = subst (λ (h : HeldPage). IsPageIn layout place.relation h.content) own.1 passes })

@@ -29,7 +29,7 @@ pub record IsStanding (disk : Told) (layout : DiskLayout) (log : Log) (pool : Po
   pub size : disk.size ≡ disk_size layout
   pub area : log.room ≡ area_size layout
   pub frames : pool.frames ≡ layout.sizes.frames
-  pub marks : PAGE_SIZE * length marks ≡ disk_size layout
+  pub marked : PAGE_SIZE * length marks ≡ disk_size layout
   pub room : 0 < length waiting.bytes → needed (length waiting.bytes) ≤ left_in log
   pub held : HoldsPages layout pool
   pub waits : WaitsAtMost log pool

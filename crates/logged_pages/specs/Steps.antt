@@ -2,13 +2,13 @@
 use Rattle.std.proofs.Common.{◌≡◌, ◌≢◌, ◌⊎◌, inl, inr, ⊎_elim, ℕ, ◌+◌, ◌*◌, ◌<◌, ◌≤◌, Bool, true, false, List, [], ◌∷◌, ◌++◌, length, take, drop, get_or, refl, sym, ap, subst, ◌∙◌, arith}
 use Rattle.std.specs.Prelude.{IsTrue, Option, None, Some, unwrap_or}
 use Rattle.block_model.specs.declared.place.Place.{Place}
-use Rattle.store_layout.specs.DiskLayout.{DiskLayout, IsPlace, area_size}
+use Rattle.store_layout.specs.DiskLayout.{DiskLayout, IsPlace, area_size, disk_size}
 use Rattle.store_layout.specs.PagesFillDisk.{PagesFillDisk}
 use Rattle.disk_trait.specs.Told.{Told}
 use Rattle.disk_trait.specs.Follows.{Follows}
 use Rattle.disk_trait.specs.Throughout.{Throughout}
 use Rattle.disk_trait.specs.ThroughoutLaws.{started, weaker}
-use Rattle.log_area.specs.Log.{ComesBy, Log, SameBeside}
+use Rattle.log_area.specs.Log.{ComesBy, Log, SameBeside, areas_end}
 use Rattle.log_area.specs.Frames.{LogFrame}
 use Rattle.log_area.specs.Appended.{Appended, KeptOrAppended, grown}
 use Rattle.wal_record.specs.Changes.{IsChange, LoggedChange}
@@ -75,22 +75,22 @@ module _ {D : Type 0} (told : D → Told) (laws : DiskLaws told) where
       }
 
   -- a step that makes no device call
+  pub leaves_still : (old new : LoggedState D) → new.layout ≡ old.layout → new.disk ≡ old.disk → Leaves told (store_of told old) (store_of told new)
+  leaves_still old new layout disk = record {
+    layout = layout;
+    tells = ap (λ (d : D). (told d).tells_contents) disk;
+    faults = omega (arith, ap (λ (d : D). (told d).faults) disk);
+    survives = record {
+      moments = subst (λ (d : D). Throughout (told old.disk) (told d) (Reaches old.layout (told old.disk) (store_of told old).pages)) (sym disk)
+          (started (told old.disk) (Reaches old.layout (told old.disk) (store_of told old).pages) (λ image since. reach_same old.layout (told old.disk) (store_of told old).pages image (laws.only old.disk image since)));
+      images = subst (λ (d : D). (image : List ℕ) → IsTrue ((told d).now image) → Reaches old.layout (told old.disk) (store_of told old).pages image) (sym disk) (reach_same old.layout (told old.disk) (store_of told old).pages);
+      seen = laws.need old.disk;
+    };
+  }
+
   pub keeps_still : (old new : LoggedState D) → new.layout ≡ old.layout → new.disk ≡ old.disk → (IsTrue (told old.disk).tells_contents → (store_of told new).pages ≡ (store_of told old).pages)
       → Keeps told (store_of told old) (store_of told new)
-  keeps_still old new layout disk pages = record {
-    leaves = record {
-      layout = layout;
-      tells = ap (λ (d : D). (told d).tells_contents) disk;
-      faults = omega (arith, ap (λ (d : D). (told d).faults) disk);
-      survives = record {
-        moments = subst (λ (d : D). Throughout (told old.disk) (told d) (Reaches old.layout (told old.disk) (store_of told old).pages)) (sym disk)
-            (started (told old.disk) (Reaches old.layout (told old.disk) (store_of told old).pages) (λ image since. reach_same old.layout (told old.disk) (store_of told old).pages image (laws.only old.disk image since)));
-        images = subst (λ (d : D). (image : List ℕ) → IsTrue ((told d).now image) → Reaches old.layout (told old.disk) (store_of told old).pages image) (sym disk) (reach_same old.layout (told old.disk) (store_of told old).pages);
-        seen = laws.need old.disk;
-      };
-    };
-    pages = pages;
-  }
+  keeps_still old new layout disk pages = record { leaves = leaves_still old new layout disk; pages = pages }
 
 -- The pages that are shown
 
@@ -134,7 +134,7 @@ module _ (one : OneByOne) (layout : DiskLayout) (fill : PagesFillDisk layout) (l
     size = size ∙ standing.size;
     area = standing.area;
     frames = standing.frames;
-    marks = standing.marks;
+    marked = standing.marked;
     room = λ some. absurd (omega (arith, some));
     held = standing.held;
     waits = λ number waits held there is. omega (arith, standing.waits number waits held there is);
@@ -165,7 +165,7 @@ module _ (one : OneByOne) (layout : DiskLayout) (fill : PagesFillDisk layout) (l
     size = size ∙ standing.size;
     area = standing.area;
     frames = standing.frames;
-    marks = standing.marks;
+    marked = standing.marked;
     room = standing.room;
     held = standing.held;
     waits = standing.waits;
@@ -193,3 +193,8 @@ none_waits layout log pool marks disk standing need image now =
     let sound = standing.sound refl tells in
     opens_safe layout log marks (shown_pages layout pool disk.contents) image standing.area (shown_whole layout pool disk.contents) (checked_map layout pool disk.contents (standing.checked tells))
     (subst (λ (l : List LoggedChange). IsSafe layout log marks l (shown_pages layout pool disk.contents) image) (no_bytes sound.changes sound.bytes) (sound.safe image now))
+
+-- the areas of the log lie on the disk
+pub areas_fit : (layout : DiskLayout) → areas_end (area_size layout) ≤ disk_size layout
+unfolding disk_size
+areas_fit layout = omega arith

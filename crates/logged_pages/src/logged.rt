@@ -153,7 +153,7 @@ impl<D: Disk + Drop> LoggedPages<D> {
         ensures marks { self.new.marks ≡ self.old.marks }
     {
         self.ready()?;
-        if self.waiting.len() == 0 {
+        if self.waiting.is_empty() {
             return Ok(());
         }
         self.append()
@@ -268,6 +268,8 @@ impl<D: Disk + Drop> LoggedPages<D> {
         ensures same { self.new ≡ record self.old { disk = self.new.disk; failed = self.new.failed } }
         ensures stable { OnOk result (IsStable (D.told self.new.disk)) }
     {
+        no_change_begins_another();
+        pages_fill_the_disk(&self.layout);
         match self.disk.sync() {
             Ok(()) => Ok(()),
             Err(DiskFault) => {
@@ -412,8 +414,12 @@ impl<D: Disk + Drop> LoggedPages<D> {
         ensures refused { result ≡ false → (other : ℕ) → IsClean self.old.pool other → ⊥ }
     {
         pages_fill_the_disk(&self.layout);
-        let number = self.number_of(place);
-        self.pool.set(number, page, None).is_ok()
+        page.known();
+        let number = number_of(&self.layout, place);
+        match self.pool.set(number, page, None) {
+            Ok(()) => true,
+            Err(_) => false,
+        }
     }
 
     /// Writes a dirty page to its place, so that one is clean, where each frame holds a dirty one. What waits is flushed first
@@ -466,7 +472,7 @@ impl<D: Disk + Drop> LoggedPages<D> {
         ensures { IsDurable self.now.log self.now.waiting result }
     {
         let used = self.log.used();
-        if self.waiting.len() == 0 {
+        if self.waiting.is_empty() {
             return used + 1;
         }
         used
