@@ -2,13 +2,17 @@
 use Rattle.std.proofs.Common.{◌≡◌, ◌≢◌, ◌⊎◌, inl, inr, ⊎_elim, ℕ, ◌+◌, ◌<◌, ◌≤◌, Bool, true, false, List, [], ◌∷◌, length, refl, sym, ap, subst, ◌∙◌, arith}
 use Rattle.std.specs.Prelude.{IsTrue, Option, None, Some, Result, Ok, Err}
 use Rattle.std.specs.Option.{option_map}
-use Rattle.std.proofs.lemmas.Bool.{cases_eq}
+use Rattle.std.proofs.lemmas.Bool.{cases_eq, cases_lt}
 use Rattle.block_model.specs.NumberMaps.{none_Some, same_Some}
 use Rattle.store_layout.specs.PagesFillDisk.{PagesFillDisk}
 use Rattle.disk_trait.specs.Told.{Told}
 use Rattle.disk_trait.specs.declared.disk.DiskFault.{DiskFault}
+use Rattle.buffer_pool.specs.NextDirty.{IsNextDirty}
 use Rattle.buffer_pool.specs.PoolState.{HeldPage, PoolState, IsClean, IsDirty, held_at, with_page}
 use Rattle.buffer_pool.specs.WritesPage.{Cleans, CleansOne, CleansPage, Fails, FindsNone, WritesAt, place_of}
+use Rattle.log_area.specs.Log.{Log}
+use Rattle.change_buffer.specs.Waiting.{Waiting, no_changes}
+use Rattle.logged_pages.specs.Clean.{AreClean}
 use Rattle.logged_pages.specs.Contents.{HoldsAlike}
 use Rattle.logged_pages.specs.Exits.{read_keeps, write_keeps}
 use Rattle.logged_pages.specs.Keeps.{Keeps}
@@ -87,3 +91,39 @@ module _ {D : Type 0} (told : D → Told) (laws : DiskLaws told) (one : OneByOne
   pub one_clean : (b : Bool) → CleansOne s.pool pool 0 durable (told s.disk) (told d) (Ok b) → b ≡ true → (other : ℕ) × IsClean pool other
   one_clean true it e = (it.page, (cleaned_leaves it).1)
   one_clean false it e = absurd cc
+
+-- A walk over the dirty pages
+
+pub not_both : (pool : PoolState) (number waits : ℕ) → IsClean pool number → IsDirty pool number waits → ⊥
+not_both pool number waits clean dirty =
+    let same = same_Some clean.0 dirty.0 (sym clean.1 ∙ dirty.1) in
+    none_Some waits (sym clean.2 ∙ ap (λ (h : HeldPage). h.log) same ∙ dirty.2)
+
+-- none is left below the next one
+pub below_more : (mid new : PoolState) (from next : ℕ) → ((number waits : ℕ) → number < from → IsDirty mid number waits → ⊥) → IsNextDirty mid from (Some next) → IsClean new next → ((other log : ℕ) → IsDirty new other log → IsDirty mid other log)
+    → (number waits : ℕ) → number < next + 1 → IsDirty new number waits → ⊥
+below_more mid new from next below is clean less number waits low dirty = ⊎_elim
+    (λ (e : number ≡ next). not_both new next waits clean (subst (λ (n : ℕ). IsDirty new n waits) e dirty))
+    (λ (apart : number ≢ next). ⊎_elim
+    (λ (early : number < from). below number waits early (less number waits dirty))
+    (λ (late : from ≤ number). omega (arith, is.2 number waits late (less number waits dirty), low, apart))
+    (cases_lt number from))
+    (cases_eq number next)
+
+-- none is left at all
+pub all_clean : (pool : PoolState) (from : ℕ) → ((number waits : ℕ) → number < from → IsDirty pool number waits → ⊥) → IsNextDirty pool from None → AreClean pool
+all_clean pool from below none number waits dirty = ⊎_elim (λ (early : number < from). below number waits early dirty) (λ (late : from ≤ number). none number waits late dirty) (cases_lt number from)
+
+-- where none is cleaned the pool is as it was, and none is dirty that waits for what is durable
+
+pub one_none : (old pool : PoolState) (durable : ℕ) (disk after : Told) (b : Bool) → CleansOne old pool 0 durable disk after (Ok b) → b ≡ false → pool ≡ old
+one_none old pool durable disk after true it e = absurd cc
+one_none old pool durable disk after false it e = it.same
+
+pub one_dirty : (old pool : PoolState) (durable : ℕ) (disk after : Told) (b : Bool) → CleansOne old pool 0 durable disk after (Ok b) → b ≡ false → {n : ℕ} → (page log : ℕ) → IsDirty old page log → log ≤ n → durable ≡ n → ⊥
+one_dirty old pool durable disk after true it e page log dirty within is = absurd cc
+one_dirty old pool durable disk after false it e page log dirty within is = omega (arith, it.none page log dirty, within, is)
+
+pub durable_all : (log : Log) (waiting : Waiting) (durable : ℕ) → IsDurable log waiting durable → waiting ≡ no_changes → durable ≡ log.used + 1
+durable_all log waiting durable (inl is) empty = let none : length waiting.bytes ≡ 0 = ap (λ (w : Waiting). length w.bytes) empty in absurd (omega (arith, none, is.1))
+durable_all log waiting durable (inr is) empty = is.1

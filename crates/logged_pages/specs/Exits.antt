@@ -1,6 +1,6 @@
 -- what each step keeps of the store
-use Rattle.std.proofs.Common.{◌≡◌, ◌≢◌, inl, inr, ℕ, ◌<◌, ◌≤◌, Bool, true, false, List, [], ◌∷◌, length, refl, sym, ap, subst, ◌∙◌, arith}
-use Rattle.std.specs.Prelude.{IsTrue, Option, None, Some}
+use Rattle.std.proofs.Common.{◌≡◌, ◌≢◌, inl, inr, ℕ, ◌+◌, ◌^◌, ◌<◌, ◌≤◌, Bool, true, false, List, [], ◌∷◌, length, refl, sym, ap, subst, ◌∙◌, arith}
+use Rattle.std.specs.Prelude.{IfSome, IsTrue, Option, None, Some}
 use Rattle.block_model.specs.declared.limits.TheConstants.{PAGE_SIZE}
 use Rattle.block_model.specs.declared.place.Place.{Place}
 use Rattle.store_layout.specs.DiskLayout.{DiskLayout, IsPlace}
@@ -15,6 +15,7 @@ use Rattle.log_area.specs.Appended.{Appended, KeptOrAppended, grown}
 use Rattle.log_area.specs.Frames.{LogFrame}
 use Rattle.disk_trait.specs.Follows.{Follows}
 use Rattle.log_area.specs.Switched.{KeptOrSwitched}
+use Rattle.buffer_pool.specs.NextDirty.{IsNextDirty}
 use Rattle.buffer_pool.specs.PoolState.{HeldPage, PoolState, held_at}
 use Rattle.buffer_pool.specs.WritesPage.{IsCleanable, LieWithin, WritesAt, place_of}
 use Rattle.change_buffer.specs.Waiting.{Waiting, no_changes}
@@ -42,6 +43,18 @@ pub number_within : (disk : Told) (layout : DiskLayout) (log : Log) (pool : Pool
 number_within disk layout log pool marks waiting failed fill standing number held there =
     let page = standing.held number held there in
     omega (arith, offset_of layout page.place, page.number, fill.ends page.place page.is, standing.marked)
+
+pub next_within : (disk : Told) (layout : DiskLayout) (log : Log) (pool : PoolState) (marks : List Bool) (waiting : Waiting) (failed : Option ℕ) → PagesFillDisk layout → IsStanding disk layout log pool marks waiting failed → (from : ℕ) (next : Option ℕ) → IsNextDirty pool from next
+    → IfSome next (λ number. number < length marks)
+next_within disk layout log pool marks waiting failed fill standing from None next = tt
+next_within disk layout log pool marks waiting failed fill standing from (Some number) next = number_within disk layout log pool marks waiting failed fill standing number next.1.1.0 next.1.1.1
+
+pub next_small : (disk : Told) (layout : DiskLayout) (log : Log) (pool : PoolState) (marks : List Bool) (waiting : Waiting) (failed : Option ℕ) → PagesFillDisk layout → IsStanding disk layout log pool marks waiting failed → disk.size < 2 ^ 64 → (from : ℕ) (next : Option ℕ) → IsNextDirty pool from next
+    → IfSome next (λ number. number + 1 < 2 ^ 64)
+next_small disk layout log pool marks waiting failed fill standing small from None next = tt
+next_small disk layout log pool marks waiting failed fill standing small from (Some number) next =
+    let within = number_within disk layout log pool marks waiting failed fill standing number next.1.1.0 next.1.1.1 in
+    omega (arith, within, standing.marked, standing.size, small)
 
 module _ {D : Type 0} (told : D → Told) (laws : DiskLaws told) where
   -- nothing was done

@@ -21,3 +21,6 @@ pub mod Joining
 pub mod CleanExits
 pub mod SetExits
 pub mod MakeExits
+pub mod RelationSteps
+pub mod FullPool
+pub mod HeldSteps

@@ -2,6 +2,9 @@
 use Rattle.std.proofs.Common.{◌≡◌, ◌≢◌, ◌⊎◌, inl, inr, ⊎_elim, ℕ, ◌+◌, ◌*◌, ◌<◌, ◌≤◌, Bool, true, false, List, [], length, drop, get_or, refl, sym, ap, subst, ◌∙◌, arith}
 use Rattle.std.specs.Prelude.{IsTrue, Option, None, Some, unwrap_or}
 use Rattle.std.specs.Option.{option_map}
+use Rattle.std.specs.Prelude.{replicate}
+use Rattle.std.proofs.lemmas.Bool.{cases_lt}
+use Rattle.std.proofs.lemmas.List.{get_or-replicate, get_or_past, length-replicate}
 use Rattle.block_model.specs.declared.place.Place.{Place}
 use Rattle.block_model.specs.NumberMaps.{none_Some}
 use Rattle.store_layout.specs.DiskLayout.{DiskLayout, IsPlace}
@@ -157,3 +160,19 @@ module _ (one : OneByOne) (layout : DiskLayout) (fill : PagesFillDisk layout) (l
     checked = switch_checked tells kept;
     sound = λ failed now. absurd cc;
   }
+
+-- marks that are all taken away
+
+unfoldable pub all_false : List Bool → List Bool
+all_false marks = replicate (length marks) false
+
+pub length_false : (marks : List Bool) → length (all_false marks) ≡ length marks
+unfolding all_false
+length_false marks = length-replicate (length marks) false
+
+pub all_unmarked : (layout : DiskLayout) (marks : List Bool) (place : Place) → IsPlace layout place → is_marked (all_false marks) layout place ≡ false
+unfolding all_false
+all_unmarked layout marks place is = ⊎_elim
+    (λ (low : page_number layout place < length marks). get_or-replicate (length marks) (page_number layout place) false false low)
+    (λ (past : length marks ≤ page_number layout place). get_or_past (replicate (length marks) false) (page_number layout place) false (omega (arith, past, length-replicate (length marks) false)))
+    (cases_lt (page_number layout place) (length marks))

@@ -141,7 +141,7 @@ pub count_more : (waiting : Waiting) (cs : List LoggedChange) → (with_changes 
 count_more waiting [] = omega arith
 count_more waiting (c ∷ cs) = omega (arith, count_more (with_change waiting c) cs)
 
-full_length : (place : Place) (page : List ℕ) → length page ≡ PAGE_SIZE → length (bytes_of (FullPage place page)) ≡ 8198
+pub full_length : (place : Place) (page : List ℕ) → length page ≡ PAGE_SIZE → length (bytes_of (FullPage place page)) ≡ 8198
 unfolding bytes_of
 full_length place page whole = omega (arith, whole, length-append (place_bytes place) page)
 

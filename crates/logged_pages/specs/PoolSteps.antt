@@ -104,7 +104,7 @@ module _ (one : OneByOne) (forgets : Forgets) (layout : DiskLayout) (fill : Page
       let waits = sound.pooled.waits page.place page.is some in
       let same : waits.0 ≡ held = same_Some waits.0 held (sym waits.1 ∙ there) in
       let number : log.used + 1 ≡ it.log = same_Some (log.used + 1) it.log (sym waits.2 ∙ ap (λ (h : HeldPage). h.log) same ∙ it.dirty) in
-      absurd (⊎_elim (λ (is : durable ≡ log.used). omega (arith, is, number, it.within))
+      absurd (⊎_elim (λ (is : (durable ≡ log.used) × (0 < length waiting.bytes)). omega (arith, is.0, number, it.within))
       (λ (is : (waiting ≡ no_changes) × (durable ≡ log.used + 1)).
       let none = no_bytes sound.changes (subst (λ (w : Waiting). AreChangesOf w.bytes sound.changes) is.0 sound.bytes) in
       let few : 0 < 0 = subst (λ (l : List LoggedChange). 0 < length (changes_at page.place l)) none some in

@@ -1,5 +1,5 @@
 -- the room that a change needs in the buffer and in the log
-use Rattle.std.specs.Prelude.{◌≡◌, ◌⊎◌, ℕ, ◌+◌, ◌≤◌, ◌||◌, Bool, true, false, List, [], ◌∷◌, ◌++◌, length, if◌then◌else◌}
+use Rattle.std.specs.Prelude.{◌≡◌, ◌⊎◌, ℕ, ◌+◌, ◌<◌, ◌≤◌, ◌||◌, Bool, true, false, List, [], ◌∷◌, ◌++◌, length, if◌then◌else◌}
 use Rattle.block_model.specs.declared.place.Place.{Place}
 use Rattle.store_layout.specs.DiskLayout.{DiskLayout}
 use Rattle.change_buffer.specs.declared.buffer.TheConstants.{BUFFER_SIZE}
@@ -37,7 +37,7 @@ pub record IsLoggable (change : LoggedChange) : Type 0 where
 
 -- pages that wait for at most this number wait for nothing that isn't durable
 abbrev pub IsDurable : Log → Waiting → ℕ → Type 0
-IsDurable log waiting number = (number ≡ log.used) ⊎ ((waiting ≡ no_changes) × (number ≡ log.used + 1))
+IsDurable log waiting number = ((number ≡ log.used) × (0 < length waiting.bytes)) ⊎ ((waiting ≡ no_changes) × (number ≡ log.used + 1))
 
 -- nothing was done, and so many bytes more fit the area
 abbrev pub HasLogRoom : {D : Type 0} → ℕ → LoggedState D → LoggedState D → Type 0

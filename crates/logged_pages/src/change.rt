@@ -19,7 +19,7 @@ ghost use Rattle.logged_pages.specs.Noted.{MadeOfFacts, NotesHeld};
 ghost use Rattle.logged_pages.specs.Made.{IsDamaged};
 ghost use Rattle.page_layout.specs.PageContents.{IsForm};
 
-use crate::facts::{hold, note};
+use crate::facts::{facts_of_place, hold, note};
 use crate::logged::{LoggedPages, MOST_BYTES};
 use block_model::{PAGE_SIZE, Place};
 use disk_trait::Disk;
@@ -152,14 +152,6 @@ fn note_changed<D: Disk + Drop>(
     };
     let found = facts_after(page, form, change, old);
     note(facts, place, found);
-}
-
-/// The facts of the page at the place.
-fn facts_of_place(facts: &Vec<FactList>, place: Place) -> PageFacts
-    requires { place.relation < length facts.now.items }
-    ensures { result ≡ facts_at facts.now.items place }
-{
-    facts[usize::from(place.relation)].get(place.block as usize)
 }
 
 /// Damage of the page at the place.

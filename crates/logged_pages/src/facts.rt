@@ -2,6 +2,8 @@
 
 ghost use Rattle.std.specs.Prelude.{◌≡◌, ◌<◌, ◌≤◌, IsSome, length, set, slice_index_or, IfOk, IfErr, OnOk, OnErr, []};
 ghost use Rattle.store_layout.specs.DiskLayout.{IsPlace};
+ghost use Rattle.page_layout.specs.PageWrites.{IsOfIndex};
+ghost use Rattle.page_store.specs.FactLists.{IsFirstOf, IsFirstOfIndex};
 ghost use Rattle.page_store.specs.Forms.{form_of, forms_of};
 ghost use Rattle.page_store.specs.Keeps.{Untold};
 ghost use Rattle.page_store.specs.Outcome.{NamesPage, Outcome};
@@ -9,13 +11,13 @@ ghost use Rattle.buffer_pool.specs.PoolState.{held_at};
 ghost use Rattle.pooled_pages.specs.PageNumbers.{page_number};
 ghost use Rattle.logged_pages.specs.Keeps.{Keeps};
 ghost use Rattle.logged_pages.specs.LoggedState.{store_of};
-ghost use Rattle.logged_pages.specs.StoreFacts.{AreKnown, IsFactPlace};
+ghost use Rattle.logged_pages.specs.StoreFacts.{AreKnown, IsFactPlace, facts_at};
 ghost use Rattle.logged_pages.specs.Noted.{NotesHeld, noted};
 
 use crate::logged::LoggedPages;
 use block_model::Place;
 use disk_trait::Disk;
-use page_layout::Form;
+use page_layout::{Form, is_index};
 use page_store::{FactList, PageFacts, StoreError, facts_of};
 
 /// Holds the page at the place, so that its facts are known.
@@ -69,4 +71,24 @@ pub fn note(facts: &mut Vec<FactList>, place: Place, found: PageFacts)
 {
     let at = usize::from(place.relation);
     facts[at].note(place.block as usize, found);
+}
+
+/// The facts of the page at the place.
+pub fn facts_of_place(facts: &Vec<FactList>, place: Place) -> PageFacts
+    requires { place.relation < length facts.now.items }
+    ensures { result ≡ facts_at facts.now.items place }
+{
+    facts[usize::from(place.relation)].get(place.block as usize)
+}
+
+/// The lowest block that has room by these facts of pages of the form, of an index behind `past` and for that many bytes, else
+/// the lowest one that isn't started.
+pub fn first_room_in(facts: &FactList, form: &Form, need: u16, past: u32) -> Option<u32>
+    ensures index { IsOfIndex form.now → IsFirstOfIndex facts.now need past result }
+    ensures rows { (IsOfIndex form.now → ⊥) → IsFirstOf facts.now result }
+{
+    if is_index(form) {
+        return facts.first_behind(need, past);
+    }
+    facts.first_room()
 }

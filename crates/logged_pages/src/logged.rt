@@ -1,7 +1,8 @@
 //! Pages of a disk with their log and their pool.
 
-ghost use Rattle.std.specs.Prelude.{◌≡◌, ◌⊎◌, ◌||◌, [], ◌∷◌, ◌+◌, ◌*◌, ◌<◌, ◌≤◌, ℕ, List, IsTrue, Some, None, true, false, length, slice_index_or, IfOk, IfSome, IfErr, OnOk, OnErr, IsSome, option_copied};
-ghost use Rattle.store_layout.specs.DiskLayout.{IsPlace};
+ghost use Rattle.std.specs.Prelude.{◌≡◌, ◌⊎◌, ◌||◌, [], ◌∷◌, ◌+◌, ◌*◌, ◌^◌, ◌<◌, ◌≤◌, ℕ, List, IsTrue, Some, None, true, false, length, slice_index_or, IfOk, IfSome, IfErr, OnOk, OnErr, IsSome, option_copied};
+ghost use Rattle.block_model.specs.declared.place.Place.{Place as AnyPlace};
+ghost use Rattle.store_layout.specs.DiskLayout.{IsPlace, area_size};
 ghost use Rattle.page_layout.specs.PageContents.{IsForm};
 ghost use Rattle.wal_record.specs.Changes.{logged, place_of};
 ghost use Rattle.page_store.specs.Forms.{FitsIn, IsPageIn, form_of};
@@ -117,6 +118,17 @@ impl<D: Disk + Drop> LoggedPages<D> {
         self.disk
     }
 
+    /// Does nothing; tells its caller that each page passes the check of its form, where the disk tells its contents, and how many
+    /// frames there are.
+    pub fn known(&self)
+        ensures frames { self.now.pool.frames ≡ self.now.layout.sizes.frames }
+        ensures area { self.now.log.room ≡ area_size self.now.layout }
+        ensures checked { Tells D.told (store_of D.told self.now) → (place : AnyPlace) → IsPlace self.now.layout place → IsPageIn self.now.layout place.relation (page_at (store_of D.told self.now).pages place) }
+    {
+        // The proof knows what holds of the fields once one of them is read.
+        let _ = &self.layout;
+    }
+
     /// Reopen where the disk failed in an earlier call. No device call.
     pub fn ready(&self) -> Result<(), StoreError>
         ensures reopen { IfErr result IsReopen }
@@ -228,7 +240,10 @@ impl<D: Disk + Drop> LoggedPages<D> {
         ensures same { self.new ≡ self.old }
         ensures next { IsNextDirty self.old.pool from result }
         ensures within { IfSome result (λ number. number < length self.old.marks) }
+        ensures small { IfSome result (λ number. number + 1 < 2 ^ 64) }
     {
+        pages_fill_the_disk(&self.layout);
+        let _size = self.disk.size();
         self.pool.next_dirty(from)
     }
 
@@ -386,6 +401,7 @@ impl<D: Disk + Drop> LoggedPages<D> {
         ensures page { IfOk result (λ page. Tells D.told (store_of D.told self.new) → page ≡ page_at (store_of D.told self.new).pages place) }
         ensures passes { IfOk result (λ page. IsPageIn self.new.layout place.relation page) }
     {
+        pages_fill_the_disk(&self.layout);
         let at = self.layout.page_at(place);
         let mut bytes = [0u8; PAGE_SIZE];
         if let Err(DiskFault) = read_page(&mut self.disk, at, &mut bytes) {
@@ -416,10 +432,10 @@ impl<D: Disk + Drop> LoggedPages<D> {
         pages_fill_the_disk(&self.layout);
         page.known();
         let number = number_of(&self.layout, place);
-        match self.pool.set(number, page, None) {
-            Ok(()) => true,
-            Err(_) => false,
+        if let Err(_) = self.pool.set(number, page, None) {
+            return false;
         }
+        true
     }
 
     /// Writes a dirty page to its place, so that one is clean, where each frame holds a dirty one. What waits is flushed first
@@ -433,6 +449,8 @@ impl<D: Disk + Drop> LoggedPages<D> {
         ensures alike { HoldsAlike self.old.pool self.new.pool }
         ensures clean { OnOk result ((other : ℕ) × IsClean self.new.pool other) }
     {
+        self.known();
+        self.layout().known();
         if self.clean_one()? {
             return Ok(());
         }
@@ -451,7 +469,7 @@ impl<D: Disk + Drop> LoggedPages<D> {
         ensures undamaged { IfErr result IsOfDisk }
         ensures alike { HoldsAlike self.old.pool self.new.pool }
         ensures clean { IfOk result (λ written. written ≡ true → (other : ℕ) × IsClean self.new.pool other) }
-        ensures none { IfOk result (λ written. written ≡ false → self.new ≡ self.old) }
+        ensures none { IfOk result (λ written. written ≡ false → self.new.pool ≡ self.old.pool) }
         ensures dirty { IfOk result (λ written. written ≡ false → self.old.waiting ≡ no_changes → (page log : ℕ) → IsDirty self.old.pool page log → ⊥) }
     {
         no_change_begins_another();
@@ -490,6 +508,8 @@ impl<D: Disk + Drop> LoggedPages<D> {
         ensures alike { HoldsAlike self.old.pool self.new.pool }
         ensures room { OnOk result (HasRoom self.new.log self.new.waiting (bytes_with (is_marked self.new.marks self.new.layout place || begins) size)) }
     {
+        self.known();
+        self.layout().known();
         let need = self.need(place, begins, size);
         self.make_buffer_room(need)?;
         self.make_log_room(need)
@@ -590,6 +610,7 @@ impl<D: Disk + Drop> LoggedPages<D> {
             },
             form,
             change,
-        )
+        )?;
+        Ok(())
     }
 }

@@ -13,18 +13,19 @@ ghost use Rattle.page_store.specs.Outcome.{IsReopen, NamesPage, Outcome};
 ghost use Rattle.page_store.specs.PageRoom.{IsRoom, NamesSlot};
 ghost use Rattle.page_store.specs.Started.{AreFirst, started_count};
 ghost use Rattle.page_store.specs.FirstRoom.{IsFirstRoomOf};
+ghost use Rattle.index_layout.specs.IndexReading.{map_pages_of};
 ghost use Rattle.opened_pages.specs.Opens.{OpensAs};
 ghost use Rattle.logged_pages.specs.Keeps.{Keeps, Leaves};
 ghost use Rattle.logged_pages.specs.LoggedState.{store_of};
 ghost use Rattle.logged_pages.specs.StoreFacts.{AreKnown};
 
 use crate::change::{change_page, start_page};
-use crate::facts::hold;
+use crate::facts::{facts_of_place, first_room_in, hold};
 use crate::logged::LoggedPages;
 use block_model::Place;
 use disk_trait::Disk;
 use page_layout::{Form, Page, UNSTARTED};
-use page_store::{FactList, Room, StoreError};
+use page_store::{FactList, Room, StoreError, tables_have_forms};
 use std::marker::Model;
 use store_layout::Layout;
 use wal_record::Change;
@@ -157,12 +158,13 @@ impl<D: Disk + Drop> PageStore<D> {
         self.pages.ready()
     }
 
-    /// Does nothing; tells its caller that the map has each page of the layout.
+    /// Does nothing; tells its caller that the map has each page of the layout, and that each page passes the check of its
+    /// relation's form.
     pub fn known(&self)
         ensures whole { IsWhole self.now.layout self.now.pages }
+        ensures checked { Tells D.told self.now → (place : AnyPlace) → IsPageIn self.now.layout place.relation (page_at self.now.pages place) }
     {
-        // The proof knows what holds of the fields once one of them is read.
-        let _ = &self.forms;
+        self.pages.known();
     }
 
     /// The tables, indexes and sizes.
@@ -179,22 +181,35 @@ impl<D: Disk + Drop> PageStore<D> {
         ensures count { Tells D.told self.now → result ≡ started_count self.now.pages relation }
         ensures first { Tells D.told self.now → (n : ℕ) → AreFirst (block_limit self.now.layout relation) (block_at self.now.pages relation) n → result ≡ n }
     {
+        self.pages.known();
         let facts = &self.facts;
         facts[usize::from(relation)].started()
     }
 
     /// The lowest block of the relation that has room, else the lowest one that isn't started, else none. Of a table a block has
-    /// room where a slot is free, and neither `need`, in bytes, nor `past`, the number of map pages, is looked at: a table passes
-    /// 0 for both. Later: an index, once its pages are started, passes both.
+    /// room where a slot is free, and neither `need` nor `past` is looked at: a table passes 0 for both. Of an index a block has
+    /// room that comes behind `past`, the number of map pages, and whose page takes a further tuple of `need` bytes. No page is
+    /// read: a look at one number for each 128 blocks, and at what is kept of the pages of those that may have room.
     pub fn first_room(&self, relation: u8, need: u16, past: u32) -> Option<u32>
         requires relation { relation < length (relation_blocks self.now.layout) }
         ensures within { IfSome result (λ block. block < block_limit self.now.layout relation) }
         ensures room { Tells D.told self.now → IsFirstRoomOf self.now.layout self.now.pages relation need past result }
     {
-        // They decide nothing of a table, and no page of an index is started.
-        let _ = (need, past);
+        self.pages.known();
+        let at = usize::from(relation);
         let facts = &self.facts;
-        facts[usize::from(relation)].first_room()
+        let forms = &self.forms;
+        first_room_in(&facts[at], &forms[at], need, past)
+    }
+
+    /// How many pages of the map the metapage of the index counts: 0 where block 0 is no metapage, as in a table. No page is read.
+    pub fn map_pages(&self, relation: u8) -> u32
+        requires relation { relation < length (relation_blocks self.now.layout) }
+        ensures counted { Tells D.told self.now → result ≡ map_pages_of (block_at self.now.pages relation 0) }
+    {
+        self.pages.known();
+        let facts = &self.facts;
+        facts[usize::from(relation)].get(0).maps
     }
 
     /// What room the page at the place has for a row. No device call.
@@ -203,8 +218,8 @@ impl<D: Disk + Drop> PageStore<D> {
         ensures room { Tells D.told self.now → IsRoom (form_of self.now.layout place.relation) (page_at self.now.pages place) result }
         ensures slot { NamesSlot (form_of self.now.layout place.relation) result }
     {
-        let facts = &self.facts;
-        let facts = facts[usize::from(place.relation)].get(place.block as usize);
+        self.pages.known();
+        let facts = facts_of_place(&self.facts, place);
         if facts.kind == UNSTARTED {
             return Room::NotStarted;
         }
@@ -220,6 +235,7 @@ impl<D: Disk + Drop> PageStore<D> {
         ensures form { result ≡ form_of self.now.layout relation }
         ensures is { IsForm result }
     {
+        tables_have_forms(self.pages.layout());
         let forms = &self.forms;
         forms[usize::from(relation)]
     }
