@@ -8,7 +8,7 @@ ghost use Rattle.disk_trait.specs.IsStable.{IsStable};
 ghost use Rattle.store_layout.specs.DiskLayout.{area_size, disk_size};
 ghost use Rattle.log_area.specs.Frames.{LogFrame};
 ghost use Rattle.log_area.specs.Log.{Log, Stands, ComesBy, area_start, areas_end};
-ghost use Rattle.log_area.specs.Appended.{Appended, KeptOrAppended, AppendAnswers, grown};
+ghost use Rattle.log_area.specs.Appended.{Appended, KeptOrAppended, AppendAnswers, grown, left_in};
 ghost use Rattle.log_area.specs.Switched.{Switched, KeptOrSwitched, switched};
 ghost use Rattle.log_area.specs.Started.{StartCause};
 
@@ -106,6 +106,22 @@ impl LogArea {
         Ok((log, frames))
     }
 
+    /// How many bytes of the chosen area the frames take.
+    pub fn used(&self) -> u64
+        ensures used { result ≡ self.now.used }
+        ensures within { result < self.now.room }
+        ensures small { result < 2 ^ 25 }
+    {
+        self.used
+    }
+
+    /// How many bytes of the chosen area are left for frames, from the closed gate on.
+    pub fn left(&self) -> u64
+        ensures left { result ≡ left_in self.now }
+    {
+        self.room - self.used
+    }
+
     /// Appends a frame of these changes: writes it behind the closed gate with a closed gate behind it, syncs, opens the gate
     /// and syncs. Takes no memory. `NoRoom` exactly where it needs more than is left, and then nothing is done; `Disk` where
     /// the disk failed in this call.
@@ -126,6 +142,7 @@ impl LogArea {
         ensures written { OnOk result (IsTrue (D.told disk.old).tells_contents → Appended self.old (record { changes = changes.now; count = count }) (D.told disk.old).contents (D.told disk.new).contents) }
         ensures contents { IsTrue (D.told disk.old).tells_contents → KeptOrAppended self.old (record { changes = changes.now; count = count }) (D.told disk.old).contents (D.told disk.new).contents }
         ensures answers { AppendAnswers self.old (length changes.now) (D.told disk.old).faults (D.told disk.new).faults result }
+        ensures later { (D.told disk.old).faults ≤ (D.told disk.new).faults }
     {
         let need = (HEAD + changes.len() + 1) as u64;
         let left = self.room - self.used;
