@@ -1,0 +1,5 @@
+pub mod Changes
+pub mod Places
+pub mod Images
+pub mod Steps
+pub mod Frames

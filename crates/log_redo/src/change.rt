@@ -1,0 +1,54 @@
+//! One change of a log.
+
+ghost use Rattle.std.specs.Prelude.{◌≡◌, OnOk, length};
+ghost use Rattle.wal_record.specs.Changes.{logged};
+ghost use Rattle.log_redo.specs.PooledPages.{IsReady, page_count};
+ghost use Rattle.log_redo.specs.Redoing.{KeepsMoments};
+ghost use Rattle.log_redo.specs.RedoesChange.{ChangeCause, RedoesChange};
+
+use crate::fault::Stop;
+use crate::page::{is_anew, place_of, redo_page};
+use crate::place::{is_place, page_number};
+use buffer_pool::Pool;
+use disk_trait::Disk;
+use page_redo::{redo_forgets_a_page_begun_anew, redo_goes_on, redo_is_a_function};
+use store_layout::{Layout, pages_fill_the_disk};
+use wal_record::Change;
+
+/// Makes the change on its page, which is marked then. Amiss where the change is of no page of the layout, is the first one of its
+/// page and doesn't make it whole, or doesn't fit.
+pub(crate) fn redo_change<D: Disk>(
+    disk: &mut D,
+    layout: &Layout,
+    pool: &mut Pool,
+    marks: &mut [bool],
+    change: &Change<'_>,
+) -> Result<(), Stop>
+    requires ready { IsReady layout.now (D.told disk.old).size pool.old }
+    requires marks { length marks.old ≡ page_count layout.now }
+    ensures ready { IsReady layout.now (D.told disk.new).size pool.new }
+    ensures redone { OnOk result (RedoesChange layout.now (logged change.now) (D.told disk.old) pool.old marks.old (D.told disk.new) pool.new marks.new) }
+    ensures any_moment { KeepsMoments layout.now (D.told disk.old) pool.old (D.told disk.new) }
+    ensures cause { ChangeCause layout.now (logged change.now) (D.told disk.old) pool.old marks.old (D.told disk.new) result }
+{
+    pages_fill_the_disk(layout);
+    redo_forgets_a_page_begun_anew();
+    redo_goes_on();
+    redo_is_a_function();
+    let place = place_of(change);
+    if !is_place(layout, place) {
+        return Err(Stop::Amiss);
+    }
+    let at = page_number(layout, place) as usize;
+    let begun = marks[at];
+    if !begun && !is_anew(change) {
+        return Err(Stop::Amiss);
+    }
+    match redo_page(disk, layout, pool, place, change) {
+        Ok(()) => {
+            marks[at] = true;
+            Ok(())
+        }
+        Err(stop) => Err(stop),
+    }
+}

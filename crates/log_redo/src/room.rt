@@ -1,0 +1,43 @@
+//! Room in a pool.
+
+ghost use Rattle.std.specs.Prelude.{◌≡◌, ◌≤◌, OnOk, OnErr};
+ghost use Rattle.block_model.specs.Causes.{HasCause};
+ghost use Rattle.buffer_pool.specs.WritesPage.{LieWithin};
+ghost use Rattle.log_redo.specs.Holds.{AreDurable, Holds, MayWrite};
+
+use buffer_pool::Pool;
+use disk_trait::{Disk, DiskFault};
+use page_layout::Page;
+
+/// The number of each log change that is redone: all are durable.
+pub(crate) const DURABLE: u64 = 0;
+
+/// Holds the page of that number as a dirty one whose log is durable. Where each frame holds a dirty page, one is written to its
+/// place first. A fault comes where the disk failed in this call, and then the pool is as it was.
+pub(crate) fn hold<D: Disk>(
+    disk: &mut D,
+    at: u64,
+    pool: &mut Pool,
+    number: u64,
+    page: &Page,
+) -> Result<(), DiskFault>
+    requires within { LieWithin pool.old at (D.told disk.old).size }
+    requires durable { AreDurable pool.old }
+    requires frames { 1 ≤ pool.old.frames }
+    ensures held { OnOk result (Holds at number page.now (D.told disk.old) pool.old (D.told disk.new) pool.new) }
+    ensures same { OnErr result (pool.new ≡ pool.old) }
+    // What a crash leaves, also after a fault.
+    ensures writes { MayWrite at (D.told disk.old) pool.old (D.told disk.new) }
+    ensures cause { HasCause (D.told disk.old).faults (D.told disk.new).faults result }
+{
+    pool.known();
+    match pool.set(number, page, Some(DURABLE)) {
+        Ok(()) => return Ok(()),
+        Err(_) => {}
+    }
+    pool.clean_one(disk, at, DURABLE)?;
+    match pool.set(number, page, Some(DURABLE)) {
+        Ok(()) => Ok(()),
+        Err(_) => unreachable!(),
+    }
+}
