@@ -1,9 +1,8 @@
 //! A control page written out by hand.
 
-use block_model::{
-    Class, Column, Index, Kind, Name, PAGE_SIZE, Part, Schema, Sequence, Sizes, Table,
-};
+use block_model::{Class, Index, Kind, PAGE_SIZE, Schema, Sizes, Table};
 use control_page::{ControlFault, OPEN, area_of, is_open, read, write};
+use small_layouts::{LEAST, indexed_layout};
 use std::alloc::{AllocError, Global};
 use std::test::Fail;
 use store_layout::Layout;
@@ -61,46 +60,13 @@ fn changed(alloc: Global, at: usize, byte: u8) -> Result<Vec<u8>, AllocError> {
 
 /// The layout of these fields. `None` is want of memory, or a limit that is passed.
 fn layout(alloc: Global) -> Option<Layout> {
-    let mut columns = Sequence::new(alloc);
-    columns
-        .push(Column {
-            name: Name::new(b"a")?,
-            kind: Kind::Int,
-        })
-        .ok()?;
-    let mut tables = Sequence::new(alloc);
-    tables
-        .push(Table {
-            name: Name::new(b"t")?,
-            rows_per_page: 2,
-            columns,
-        })
-        .ok()?;
-    let mut parts = Sequence::new(alloc);
-    parts
-        .push(Part {
-            column: 0,
-            class: Class::MinMax,
-        })
-        .ok()?;
-    let mut indexes = Sequence::new(alloc);
-    indexes
-        .push(Index {
-            name: Name::new(b"i")?,
-            table: 0,
-            pages_per_range: 1,
-            auto: false,
-            parts,
-        })
-        .ok()?;
     let sizes = Sizes {
         heap_blocks: 8,
         index_blocks: 4,
-        status_blocks: 1,
-        log_pages: 16,
         frames: 256,
+        ..LEAST
     };
-    Layout::new(Schema { tables, indexes }, sizes).ok()
+    indexed_layout(alloc, 2, sizes)
 }
 
 /// Why the page with that byte there is no store's on a disk of that size; `None` where it is a store's.

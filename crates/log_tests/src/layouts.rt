@@ -3,42 +3,15 @@
 ghost use Rattle.std.specs.Prelude.{◌≤◌, IfSome};
 ghost use Rattle.log_area.specs.Log.{areas_end};
 
-use block_model::{Column, Kind, Name, Schema, Sequence, Sizes, Table};
 use disk_trait::{Disk, DiskFault};
 use log_area::{AppendFault, Frames, LogArea, LogFault};
+use small_layouts::{LEAST, table_layout};
 use std::alloc::Global;
 use store_layout::Layout;
 
-/// The layout of the table `t(c int8)` of one block, with log areas of 16 pages. `None` is want of memory, or a limit that is
-/// passed.
+/// The layout of one table, of the least sizes.
 pub fn small_layout(alloc: Global) -> Option<Layout> {
-    let mut columns = Sequence::new(alloc);
-    columns
-        .push(Column {
-            name: Name::new(b"c")?,
-            kind: Kind::Int,
-        })
-        .ok()?;
-    let mut tables = Sequence::new(alloc);
-    tables
-        .push(Table {
-            name: Name::new(b"t")?,
-            rows_per_page: 1,
-            columns,
-        })
-        .ok()?;
-    let schema = Schema {
-        tables,
-        indexes: Sequence::new(alloc),
-    };
-    let sizes = Sizes {
-        heap_blocks: 1,
-        index_blocks: 3,
-        status_blocks: 1,
-        log_pages: 16,
-        frames: 16,
-    };
-    Layout::new(schema, sizes).ok()
+    table_layout(alloc, 1, LEAST)
 }
 
 /// Starts the log of a disk that is large enough.

@@ -4,7 +4,7 @@ pub mod Faults
 pub mod Columns
 pub mod Values
 pub mod Rows
-pub mod Slots
+pub mod HeapSlots
 pub mod Pages
 pub mod OnPages
 pub mod SlotsRead

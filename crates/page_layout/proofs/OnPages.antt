@@ -13,7 +13,7 @@ use Rattle.page_layout.specs.RowReading.{row_in}
 use Rattle.page_layout.specs.RowFaults.{row_fault}
 use Rattle.page_layout.specs.PageWrites.{RowHasBytes}
 use Rattle.page_layout.specs.PageContents.{Slot, IsSlot, AreSlots, slot_bytes, slots_bytes, heap_bytes, IsHeap, IsUnstarted, IsPageOf, IsForm, HasSlot, HasSlots, IsRowOf, used_bytes, row_bytes_in, used_in, status_in, statuses}
-use Rattle.page_layout.proofs.Slots.{length-slot}
+use Rattle.page_layout.proofs.HeapSlots.{length-slot}
 use Rattle.page_layout.proofs.Pages.{row_room, next_row}
 use Rattle.page_layout.proofs.Rows.{row_again, row_passes, length-row}
 

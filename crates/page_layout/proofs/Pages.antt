@@ -10,10 +10,12 @@ use Rattle.byte_fields.specs.Fields.{AreBytes, AreBytes-drop}
 use Rattle.page_layout.specs.declared.page.Form.{Form}
 use Rattle.page_layout.specs.declared.page.Form.TheVariants as forms
 use Rattle.page_layout.specs.RowFaults.{first_of, shifted, slot_fault}
+use Rattle.index_layout.specs.IndexFaults.{index_fault}
 use Rattle.page_layout.specs.PageContents.{slots_bytes, header_bytes, heap_bytes, IsStarted, IsPageOf, IsForm, HasFewColumns, statuses}
-use Rattle.page_layout.specs.PageFaults.{zeros_fault, slots_fault, has_page_kind, started_fault, page_fault}
+use Rattle.page_layout.specs.PageFaults.{zeros_fault, slots_fault, has_page_kind, started_fault, rows_fault, page_fault}
+use Rattle.page_layout.specs.PageWrites.{IsOfIndex}
 use Rattle.page_layout.proofs.Faults.{first_none, shifted-none}
-use Rattle.page_layout.proofs.Slots.{zeros_take, zeros_pass, slots-take, slots-pass}
+use Rattle.page_layout.proofs.HeapSlots.{zeros_take, zeros_pass, slots-take, slots-pass}
 
 -- the slots are walked one by one
 
@@ -72,13 +74,13 @@ parts_of x c len f =
     let zeros : take 31 c ≡ replicate 31 0 = zeros_take (take 31 c) f ∙ ap (λ (n : ℕ). replicate n 0) (length-take-le 31 c (omega arith)) in
     ap (λ (l : List ℕ). x ∷ l) (sym (take-append-drop 31 c) ∙ ap (λ (l : List ℕ). l ++ drop 31 c) zeros)
 
-started_takes : (form : Form) (x : ℕ) (c : List ℕ) → IsForm form → HasFewColumns form → length (x ∷ c) ≡ 8192 → AreBytes (x ∷ c) → has_page_kind form x ≡ true → started_fault form (x ∷ c) ≡ None → IsStarted form (x ∷ c)
+started_takes : (form : Form) (x : ℕ) (c : List ℕ) → (IsOfIndex form → ⊥) → IsForm form → HasFewColumns form → length (x ∷ c) ≡ 8192 → AreBytes (x ∷ c) → has_page_kind form x ≡ true → started_fault form (x ∷ c) ≡ None → IsStarted form (x ∷ c)
 unfolding started_fault heap_bytes
-started_takes forms.Status x c is few len small kind f =
+started_takes forms.Status x c rows is few len small kind f =
     let parts = first_none (shifted 1 (zeros_fault (take 31 c))) None f in
     let whole = parts_of x c len (shifted-none 1 _ parts.0) in
     (statuses (drop 31 c), record { bytes = (drop 31 c, omega (arith, length-drop 31 c), whole ∙ ap (λ (k : ℕ). header_bytes k ++ drop 31 c) (eqb-true x 1 kind), refl) })
-started_takes (forms.Heap row count ks format) x c is few len small kind f =
+started_takes (forms.Heap row count ks format) x c rows is few len small kind f =
     let body = drop 31 c in
     let parts = first_none (shifted 1 (zeros_fault (take 31 c))) (shifted 32 (slots_fault ks count body)) f in
     let whole = parts_of x c len (shifted-none 1 _ parts.0) in
@@ -93,44 +95,55 @@ started_takes (forms.Heap row count ks format) x c is few len small kind f =
         bytes = whole ∙ (λ i. header_bytes (eqb-true x 2 kind i) ++ sym t.1.1.written i) ∙ ap (λ (n : ℕ). header_bytes 2 ++ (slots_bytes ks t.0 ++ replicate n 0)) zeros;
       },
     )
-started_takes forms.Index x c is few len small kind f = absurd cc
+started_takes forms.Index x c rows is few len small kind f = absurd (rows tt)
 
-by_kind : (form : Form) (x : ℕ) (c : List ℕ) (unstarted started : Bool) → eqb x 0 ≡ unstarted → has_page_kind form x ≡ started → IsForm form → HasFewColumns form → length (x ∷ c) ≡ 8192 → AreBytes (x ∷ c)
+by_kind : (form : Form) (x : ℕ) (c : List ℕ) (unstarted started : Bool) → eqb x 0 ≡ unstarted → has_page_kind form x ≡ started → (IsOfIndex form → ⊥) → IsForm form → HasFewColumns form → length (x ∷ c) ≡ 8192 → AreBytes (x ∷ c)
     → cond unstarted (zeros_fault (x ∷ c)) (cond started (started_fault form (x ∷ c)) (Some 0)) ≡ None → IsPageOf form (x ∷ c)
-by_kind form x c true started eu es is few len small f = inl (zeros_take (x ∷ c) f ∙ ap (λ (n : ℕ). replicate n 0) len)
-by_kind form x c false true eu es is few len small f = inr (started_takes form x c is few len small es f)
-by_kind form x c false false eu es is few len small f = absurd cc
+by_kind form x c true started eu es rows is few len small f = inl (zeros_take (x ∷ c) f ∙ ap (λ (n : ℕ). replicate n 0) len)
+by_kind form x c false true eu es rows is few len small f = inr (started_takes form x c rows is few len small es f)
+by_kind form x c false false eu es rows is few len small f = absurd cc
 
 -- what has no fault is a page of its form
-pub page_takes : (form : Form) (page : List ℕ) → IsForm form → HasFewColumns form → length page ≡ 8192 → AreBytes page → page_fault form page ≡ None → IsPageOf form page
-unfolding page_fault
-page_takes form [] is few len small f = absurd (omega arith)
-page_takes form (x ∷ c) is few len small f = by_kind form x c (eqb x 0) (has_page_kind form x) refl refl is few len small f
+pub rows_takes : (form : Form) (page : List ℕ) → (IsOfIndex form → ⊥) → IsForm form → HasFewColumns form → length page ≡ 8192 → AreBytes page → rows_fault form page ≡ None → IsPageOf form page
+unfolding rows_fault
+rows_takes form [] rows is few len small f = absurd (omega arith)
+rows_takes form (x ∷ c) rows is few len small f = by_kind form x c (eqb x 0) (has_page_kind form x) refl refl rows is few len small f
 
-zeros_page : (form : Form) (n : ℕ) → page_fault form (replicate (suc n) 0) ≡ None
-unfolding page_fault
+zeros_page : (form : Form) (n : ℕ) → rows_fault form (replicate (suc n) 0) ≡ None
+unfolding rows_fault
 zeros_page form n = zeros_pass (suc n)
 
-unstarted_passes : (form : Form) (n : ℕ) → 0 < n → page_fault form (replicate n 0) ≡ None
+unstarted_passes : (form : Form) (n : ℕ) → 0 < n → rows_fault form (replicate n 0) ≡ None
 unstarted_passes form zero some = absurd (omega arith)
 unstarted_passes form (suc n) some = zeros_page form n
 
-started_passes : (form : Form) (page : List ℕ) → IsForm form → HasFewColumns form → IsStarted form page → page_fault form page ≡ None
-unfolding page_fault started_fault heap_bytes
-started_passes forms.Status page is few started =
+started_passes : (form : Form) (page : List ℕ) → (IsOfIndex form → ⊥) → IsForm form → HasFewColumns form → IsStarted form page → rows_fault form page ≡ None
+unfolding rows_fault started_fault heap_bytes
+started_passes forms.Status page rows is few started =
     let body = started.1.bytes.0 in
-    ap (page_fault forms.Status) started.1.bytes.2 ∙ ap (λ (o : Option ℕ). first_of (shifted 1 o) None) (zeros_pass 31)
-started_passes (forms.Heap row count ks format) page is few started =
+    ap (rows_fault forms.Status) started.1.bytes.2 ∙ ap (λ (o : Option ℕ). first_of (shifted 1 o) None) (zeros_pass 31)
+started_passes (forms.Heap row count ks format) page rows is few started =
     let slots = started.0 in
     let zeros = 8160 - length (slots_bytes ks slots) in
     let body = slots_bytes ks slots ++ replicate zeros 0 in
-    ap (page_fault (forms.Heap row count ks format)) started.1.bytes
+    ap (rows_fault (forms.Heap row count ks format)) started.1.bytes
     ∙ ap (λ (o : Option ℕ). first_of (shifted 1 o) (shifted 32 (slots_fault ks count body))) (zeros_pass 31)
     ∙ ap (λ (n : ℕ). shifted 32 (slots_fault ks n body)) (sym started.1.counted)
     ∙ ap (shifted 32) (slots-pass ks slots zeros few started.1.are)
-started_passes forms.Index page is few started = absurd started
+started_passes forms.Index page rows is few started = absurd (rows tt)
 
 -- a page of its form has no fault
-pub page_passes : (form : Form) (page : List ℕ) (n : ℕ) → n ≡ 8192 → IsForm form → HasFewColumns form → IsPageOf form page → page_fault form page ≡ None
-page_passes form page n is_long is few (inl zeros) = ap (page_fault form) (zeros ∙ ap (λ (k : ℕ). replicate k 0) (sym is_long)) ∙ unstarted_passes form n (omega arith)
-page_passes form page n is_long is few (inr started) = started_passes form page is few started
+pub rows_passes : (form : Form) (page : List ℕ) (n : ℕ) → n ≡ 8192 → (IsOfIndex form → ⊥) → IsForm form → HasFewColumns form → IsPageOf form page → rows_fault form page ≡ None
+rows_passes form page n is_long rows is few (inl zeros) = ap (rows_fault form) (zeros ∙ ap (λ (k : ℕ). replicate k 0) (sym is_long)) ∙ unstarted_passes form n (omega arith)
+rows_passes form page n is_long rows is few (inr started) = started_passes form page rows is few started
+
+-- the fault of a page is that of its form
+pub rows_same : (form : Form) (page : List ℕ) → (IsOfIndex form → ⊥) → rows_fault form page ≡ page_fault form page
+rows_same forms.Status page rows = refl
+rows_same (forms.Heap row count ks format) page rows = refl
+rows_same forms.Index page rows = absurd (rows tt)
+
+pub index_same : (form : Form) (page : List ℕ) → IsOfIndex form → index_fault page ≡ page_fault form page
+index_same forms.Status page index = absurd index
+index_same (forms.Heap row count ks format) page index = absurd index
+index_same forms.Index page index = refl

@@ -1,5 +1,5 @@
 -- The slots of a page are those that are read from its bytes.
-use Rattle.std.proofs.Common.{◌≡◌, ℕ, zero, suc, ◌-◌, inl, inr, cond, eqb, List, [], ◌∷◌, ◌++◌, length, take, drop, get_or, refl, sym, ap, subst, ◌∙◌, append_assoc, arith}
+use Rattle.std.proofs.Common.{◌≡◌, ℕ, zero, suc, ◌-◌, inl, inr, Bool, true, false, cond, eqb, List, [], ◌∷◌, ◌++◌, length, take, drop, get_or, refl, sym, ap, subst, ◌∙◌, append_assoc, arith}
 use Rattle.std.specs.Prelude.{Option, None, Some, replicate}
 use Rattle.std.proofs.lemmas.List.{take_at, drop_at, drop-replicate, get_or-replicate}
 use Rattle.block_model.specs.declared.value.Kind.{Kind}
@@ -10,10 +10,11 @@ use Rattle.page_layout.specs.RowBytes.{head_bytes, row_bytes}
 use Rattle.page_layout.specs.RowReading.{row_in}
 use Rattle.page_layout.specs.FreeSlots.{slot_count, free_count, lowest_free, lowest_free_from}
 use Rattle.page_layout.specs.PageContents.{Slot, IsSlot, AreSlots, slot_bytes, slots_bytes, heap_bytes, IsHeap, IsUnstarted, IsStarted, IsPageOf, HasSlots}
+use Rattle.page_layout.specs.PageFaults.{has_page_kind}
 use Rattle.page_layout.specs.PageWrites.{IsOfHeap}
 use Rattle.page_layout.specs.SlotsOnPage.{slot_in, slots_in, slots_on, free_on, lowest_on}
-use Rattle.page_layout.specs.SlotLaws.{heap_front, unstarted_front, lowest_from}
-use Rattle.page_layout.proofs.Slots.{length-slot}
+use Rattle.page_layout.specs.SlotLaws.{heap_front, started_front, unstarted_front, lowest_from}
+use Rattle.page_layout.proofs.HeapSlots.{length-slot}
 use Rattle.page_layout.proofs.Rows.{row_again}
 
 -- a slot is read from its bytes
@@ -78,12 +79,16 @@ unstarted_free forms.Index page n is_long zeros = refl
 
 -- what is counted on a page, by its kind
 
+either : {A : Type 0} (b : Bool) (x : A) → x ≡ cond b x x
+either true x = refl
+either false x = refl
+
 -- a page whose kind isn't that of a heap has no slot that counts as free
 pub none_free : (form : Form) (page : List ℕ) (kind : ℕ) → kind ≡ get_or page 0 0 → (kind ≡ 2 → ⊥) → IsPageOf form page → 0 ≡ free_on form page
 none_free form page kind is other (inl zeros) = ap (λ (x : ℕ). cond (eqb x 0) 0 (free_count (slots_on form page))) (sym (unstarted_front page 8192 refl zeros))
 none_free forms.Status page kind is other (inr started) = ap (λ (x : ℕ). cond (eqb x 0) 0 0) (sym (ap (λ (l : List ℕ). get_or l 0 0) started.1.bytes.2))
 none_free (forms.Heap row count ks format) page kind is other (inr started) = absurd (other (is ∙ heap_front (forms.Heap row count ks format) page started.0 started.1))
-none_free forms.Index page kind is other (inr started) = absurd started
+none_free forms.Index page kind is other (inr started) = either (eqb (get_or page 0 0) 0) 0
 
 -- a page of a heap's kind is a started heap page
 pub heap_has : (form : Form) (page : List ℕ) (kind : ℕ) → kind ≡ get_or page 0 0 → kind ≡ 2 → IsPageOf form page → HasSlots form page (slots_on form page)
@@ -92,19 +97,21 @@ heap_has forms.Status page kind is two (inr started) =
     let front : get_or page 0 0 ≡ 1 = ap (λ (l : List ℕ). get_or l 0 0) started.1.bytes.2 in
     absurd (omega (arith, is, two, front))
 heap_has (forms.Heap row count ks format) page kind is two (inr started) = started_has (forms.Heap row count ks format) page tt started
-heap_has forms.Index page kind is two (inr started) = absurd started
+heap_has forms.Index page kind is two (inr started) =
+    let none : true ≡ false = sym (started_front forms.Index page started) ∙ ap (has_page_kind forms.Index) (sym is ∙ two) in
+    absurd cc
 
 -- the count of its free slots
 pub free_here : (form : Form) (page : List ℕ) (kind n : ℕ) → kind ≡ get_or page 0 0 → kind ≡ 2 → n ≡ free_count (slots_on form page) → n ≡ free_on form page
 free_here form page kind n is two e = e ∙ ap (λ (x : ℕ). cond (eqb x 0) 0 (free_count (slots_on form page))) (sym two ∙ is)
 
 -- and the lowest of them, found from the first slot on
-pub lowest_here : (form : Form) (page : List ℕ) (found : Option ℕ) → IsPageOf form page → ((slots : List Slot) → HasSlots form page slots → found ≡ lowest_free_from 0 slots) → (IsUnstarted page → found ≡ None) → (form ≡ forms.Status → found ≡ None) → found ≡ lowest_on form page
-lowest_here form page found (inl zeros) contents unstarted statuses = unstarted zeros ∙ ap (λ (x : ℕ). cond (eqb x 0) None (lowest_free (slots_on form page))) (sym (unstarted_front page 8192 refl zeros))
-lowest_here forms.Status page found (inr started) contents unstarted statuses = statuses refl ∙ ap (λ (x : ℕ). cond (eqb x 0) None None) (sym (ap (λ (l : List ℕ). get_or l 0 0) started.1.bytes.2))
-lowest_here (forms.Heap row count ks format) page found (inr started) contents unstarted statuses =
+pub lowest_here : (form : Form) (page : List ℕ) (found : Option ℕ) → IsPageOf form page → ((slots : List Slot) → HasSlots form page slots → found ≡ lowest_free_from 0 slots) → (IsUnstarted page → found ≡ None) → (form ≡ forms.Status → found ≡ None) → (form ≡ forms.Index → found ≡ None) → found ≡ lowest_on form page
+lowest_here form page found (inl zeros) contents unstarted statuses index = unstarted zeros ∙ ap (λ (x : ℕ). cond (eqb x 0) None (lowest_free (slots_on form page))) (sym (unstarted_front page 8192 refl zeros))
+lowest_here forms.Status page found (inr started) contents unstarted statuses index = statuses refl ∙ ap (λ (x : ℕ). cond (eqb x 0) None None) (sym (ap (λ (l : List ℕ). get_or l 0 0) started.1.bytes.2))
+lowest_here (forms.Heap row count ks format) page found (inr started) contents unstarted statuses index =
     let form = forms.Heap row count ks format in
     contents (slots_on form page) (started_has form page tt started)
     ∙ lowest_from 0 (slots_on form page) (λ slot below. absurd (omega arith))
     ∙ ap (λ (x : ℕ). cond (eqb x 0) None (lowest_free (slots_on form page))) (sym (heap_front form page started.0 started.1))
-lowest_here forms.Index page found (inr started) contents unstarted statuses = absurd started
+lowest_here forms.Index page found (inr started) contents unstarted statuses index = index refl ∙ either (eqb (get_or page 0 0) 0) None

@@ -11,7 +11,7 @@ use Rattle.page_layout.specs.declared.page.Form.TheVariants as forms
 use Rattle.page_layout.specs.RowBytes.{StoredRow, IsRow, head_bytes, row_bytes}
 use Rattle.page_layout.specs.PageContents.{IsForm, HasSlot, HasSlots, IsRowOf, Slot, IsSlot, AreSlots, slot_bytes, slots_bytes, header_bytes, heap_bytes, IsHeap, statuses, IsStatusPage}
 use Rattle.page_layout.specs.PageWrites.{IsEmptyHeap, IsOfHeap, RowHasBytes, marked, put_status}
-use Rattle.page_layout.proofs.Slots.{length-slot, length-slots}
+use Rattle.page_layout.proofs.HeapSlots.{length-slot, length-slots}
 use Rattle.page_layout.proofs.Rows.{length-row}
 use Rattle.page_layout.proofs.Pages.{row_room, next_row}
 use borrow.Rule.Slice.PartMut.{put_mid}

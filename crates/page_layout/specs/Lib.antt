@@ -4,6 +4,7 @@ pub mod RowFaults
 pub mod PageContents
 pub mod FreeSlots
 pub mod SlotsOnPage
+pub mod IndexLaws
 pub mod SlotLaws
 pub mod PageFaults
 pub mod PageWrites

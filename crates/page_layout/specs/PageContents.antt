@@ -1,9 +1,11 @@
 -- pages as lists
-use Rattle.std.specs.Prelude.{◌≡◌, ℕ, ◌-◌, ◌*◌, ◌/◌, ◌%◌, ◌<◌, ◌≤◌, ◌⊎◌, List, [], ◌∷◌, ◌++◌, length, Option, None, Some, replicate, slice_get, slice_index, ◌==◌, if◌then◌else◌}
+use Rattle.std.specs.Prelude.{◌≡◌, ◌≢◌, ℕ, ◌-◌, ◌*◌, ◌/◌, ◌%◌, ◌<◌, ◌≤◌, ◌⊎◌, List, [], ◌∷◌, ◌++◌, length, Option, None, Some, replicate, slice_get, slice_index, ◌==◌, if◌then◌else◌}
 use Rattle.block_model.specs.declared.limits.TheConstants.{PAGE_ROOM, PAGE_SIZE}
 use Rattle.block_model.specs.declared.value.Kind.{Kind}
 use Rattle.block_model.specs.RowSize.{row_size}
 use Rattle.store_layout.specs.declared.layout.TheConstants.{FORMAT}
+use Rattle.index_layout.specs.declared.format.TheConstants.{UNSTARTED}
+use Rattle.index_layout.specs.IndexPages.{IsIndexPage}
 use Rattle.page_layout.specs.declared.page.Form.{Form}
 use Rattle.page_layout.specs.declared.page.Form.TheVariants as forms
 use Rattle.page_layout.specs.RowBytes.{StoredRow, IsRow, IsRowBytes, row_bytes}
@@ -65,11 +67,15 @@ pub record IsStatusPage (page : List ℕ) (entries : List ℕ) : Type 0 where
 abbrev pub IsUnstarted : List ℕ → Type 0
 IsUnstarted page = page ≡ replicate PAGE_SIZE 0
 
--- a page of its form that is started; no page of an index is started yet
+-- a page of an index that is started: a metapage, a page of the map, or one of tuples
+abbrev pub IsStartedIndex : List ℕ → Type 0
+IsStartedIndex page = IsIndexPage page × (slice_index page 0 ≢ UNSTARTED)
+
+-- a page of its form that is started
 abbrev pub IsStarted : Form → List ℕ → Type 0
 IsStarted forms.Status page = (entries : List ℕ) × IsStatusPage page entries
 IsStarted (forms.Heap row count kinds format) page = (slots : List Slot) × IsHeap kinds count slots page
-IsStarted forms.Index page = ⊥
+IsStarted forms.Index page = IsStartedIndex page
 
 abbrev pub IsPageOf : Form → List ℕ → Type 0
 IsPageOf form page = IsUnstarted page ⊎ IsStarted form page

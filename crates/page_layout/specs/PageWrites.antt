@@ -18,6 +18,12 @@ IsOfHeap forms.Status = ⊥
 IsOfHeap (forms.Heap size count kinds format) = Unit {0}
 IsOfHeap forms.Index = ⊥
 
+-- the form of an index's pages
+abbrev pub IsOfIndex : Form → Type 0
+IsOfIndex forms.Status = ⊥
+IsOfIndex (forms.Heap size count kinds format) = ⊥
+IsOfIndex forms.Index = Unit {0}
+
 -- a heap page whose slots are all free
 abbrev pub IsEmptyHeap : Form → List ℕ → Type 0
 IsEmptyHeap forms.Status page = ⊥

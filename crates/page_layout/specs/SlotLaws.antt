@@ -1,5 +1,5 @@
 -- laws of the kind of a page, of what reading a slot tells, and of the lowest free slot
-use Rattle.std.proofs.Common.{◌≡◌, ℕ, zero, suc, ◌+◌, ◌-◌, ◌<◌, ◌≤◌, inr, Bool, true, false, cond, ltb, eqb, List, [], ◌∷◌, length, set, drop, get_or, refl, sym, ap, ◌∙◌, arith}
+use Rattle.std.proofs.Common.{◌≡◌, ◌≢◌, ℕ, zero, suc, ◌+◌, ◌-◌, ◌<◌, ◌≤◌, inr, Bool, true, false, cond, ltb, eqb, List, [], ◌∷◌, length, set, drop, get_or, refl, sym, ap, ⊎_elim, ◌∙◌, arith}
 use Rattle.std.specs.Prelude.{Option, None, Some, replicate, slice_get}
 use Rattle.std.specs.List.{position_or_len}
 use Rattle.std.specs.Option.{option_map}
@@ -8,8 +8,10 @@ use Rattle.std.proofs.lemmas.List.{get_or-replicate, get_or-drop, length-drop}
 use Rattle.std.proofs.lemmas.List.Sums.{position_or_len_is, fails_before_first, passes_at_first}
 use Rattle.std.proofs.lemmas.Option.{get_or_from_slice_get, slice_get_within}
 use Rattle.block_model.specs.declared.value.Kind.{Kind}
+use Rattle.index_layout.specs.IndexPages.{IsIndexPage, Map, Meta, Regular, Unstarted}
 use Rattle.page_layout.specs.declared.page.Form.{Form}
 use Rattle.page_layout.specs.declared.page.Form.TheVariants as forms
+use Rattle.page_layout.specs.IndexLaws.{map_front, meta_front, regular_front}
 use Rattle.page_layout.specs.RowBytes.{StoredRow}
 use Rattle.page_layout.specs.PageContents.{Slot, HasSlots, IsPageOf, IsRowOf, IsStarted, IsUnstarted, heap_bytes, row_bytes_in, used_bytes}
 use Rattle.page_layout.specs.PageFaults.{has_page_kind}
@@ -30,12 +32,20 @@ heap_front forms.Index page slots has = absurd has
 pub unstarted_front : (page : List ℕ) (n : ℕ) → n ≡ 8192 → IsUnstarted page → get_or page 0 0 ≡ 0
 unstarted_front page n is_long zeros = ap (λ (l : List ℕ). get_or l 0 0) (zeros ∙ ap (λ (k : ℕ). replicate k 0) (sym is_long)) ∙ get_or-replicate n 0 0 0 (omega arith)
 
+-- a started page of an index has one of its kinds
+index_front : (page : List ℕ) → IsIndexPage page → get_or page 0 0 ≢ 0 → has_page_kind forms.Index (get_or page 0 0) ≡ true
+index_front page (Unstarted zeros) some = absurd (some (unstarted_front page 8192 refl zeros))
+index_front page (Meta pages is) some = ap (has_page_kind forms.Index) (meta_front pages page is)
+index_front page (Map entries is) some = ap (has_page_kind forms.Index) (map_front entries page is)
+index_front page (Regular kind slots is) some =
+    ⊎_elim (λ five. ap (has_page_kind forms.Index) (regular_front kind slots page is ∙ five)) (λ six. ap (has_page_kind forms.Index) (regular_front kind slots page is ∙ six)) is.has.of
+
 -- a started page has a kind of its form
 pub started_front : (form : Form) (page : List ℕ) → IsStarted form page → has_page_kind form (get_or page 0 0) ≡ true
 unfolding heap_bytes
 started_front forms.Status page started = ap (λ (l : List ℕ). eqb (get_or l 0 0) 1) started.1.bytes.2
 started_front (forms.Heap row count ks format) page started = ap (λ (l : List ℕ). eqb (get_or l 0 0) 2) started.1.bytes
-started_front forms.Index page started = absurd started
+started_front forms.Index page started = index_front page started.0 started.1
 
 -- 0 is no kind of a started page
 kind_zero : (form : Form) → has_page_kind form 0 ≡ false

@@ -4,12 +4,15 @@ ghost use Rattle.std.specs.Prelude.{◌≡◌, ◌*◌, ◌≤◌, ◌<◌, leng
 ghost use Rattle.block_model.specs.declared.limits.TheConstants.{PAGE_ROOM, PAGE_SIZE};
 ghost use Rattle.block_model.specs.RowSize.{row_size};
 ghost use Rattle.page_layout.specs.PageContents.{HasFewColumns, IsForm, IsPageOf};
-ghost use Rattle.page_layout.specs.PageFaults.{body_fault, has_page_kind, page_fault, slots_fault, started_fault, zeros_fault};
+ghost use Rattle.index_layout.specs.IndexFaults.{index_fault};
+ghost use Rattle.page_layout.specs.PageFaults.{body_fault, has_page_kind, page_fault, rows_fault, slots_fault, started_fault, zeros_fault};
 
-use crate::format::{HEAP, STATUS, UNSTARTED};
+use crate::format::{HEAP, STATUS};
+use crate::index_readers::is_index;
 use crate::page::{Form, HEADER, Page, PageFault, bytes_known};
 use crate::slot::slot_fault;
 use block_model::{Kind, PAGE_SIZE};
+use index_layout::{EVACUATED, MAP, META, REGULAR, UNSTARTED, first_fault};
 
 /// Whether the page is one of the form, whose slots are of the size of a row and fit a page; a page that isn't started is
 /// one of every form. The fault is the lowest place of a field whose rule is broken.
@@ -20,7 +23,6 @@ pub fn check(page: &Page, form: Form) -> Result<(), PageFault>
     ensures passed { OnOk result (IsPageOf form page.now) }
     ensures refused { OnErr result (IsPageOf form page.now → ⊥) }
 {
-    page.known();
     form_known(&form);
     match page_fault(page.as_bytes(), &form) {
         Some(at) => Err(PageFault { at: at as u16 }),
@@ -37,7 +39,6 @@ pub fn is_page(bytes: &[u8], form: Form) -> bool
     if bytes.len() != PAGE_SIZE {
         return false;
     }
-    bytes_known(bytes);
     form_known(&form);
     match page_fault(bytes, &form) {
         Some(_) => false,
@@ -45,12 +46,43 @@ pub fn is_page(bytes: &[u8], form: Form) -> bool
     }
 }
 
-#[tactic(auto, unfolding(crate::specs::PageFaults::page_fault))]
+/// The lowest place of a field whose rule is broken; None exactly where the bytes are a page of the form.
 fn page_fault(page: &[u8], form: &Form) -> Option<usize>
     requires form { IsForm form.now }
     requires few { HasFewColumns form.now }
     requires whole { length page.now ≡ PAGE_SIZE }
     ensures fault { result ≡ page_fault form.now page.now }
+    ensures within { IfSome result (λ at. at < PAGE_SIZE) }
+    ensures passed { result ≡ None → IsPageOf form.now page.now }
+    ensures refused { IsPageOf form.now page.now → result ≡ None }
+{
+    bytes_known(page);
+    if is_index(form) {
+        return index_fault(page);
+    }
+    rows_fault(page, form)
+}
+
+/// That of a page of an index.
+fn index_fault(page: &[u8]) -> Option<usize>
+    requires whole { length page.now ≡ PAGE_SIZE }
+    ensures fault { result ≡ index_fault page.now }
+    ensures within { IfSome result (λ at. at < PAGE_SIZE) }
+    ensures passed { result ≡ None → IsPageOf Form.Index page.now }
+    ensures refused { IsPageOf Form.Index page.now → result ≡ None }
+{
+    match first_fault(page) {
+        Some(at) => Some(usize::from(at)),
+        None => None,
+    }
+}
+
+/// That of a page of statuses or of a heap.
+#[tactic(auto, unfolding(crate::specs::PageFaults::rows_fault))]
+fn rows_fault(page: &[u8], form: &Form) -> Option<usize>
+    requires form { IsForm form.now }
+    requires whole { length page.now ≡ PAGE_SIZE }
+    ensures fault { result ≡ rows_fault form.now page.now }
     ensures within { IfSome result (λ at. at < PAGE_SIZE) }
 {
     let kind = page[0];
@@ -70,7 +102,7 @@ fn has_page_kind(form: &Form, kind: u8) -> bool
     match form {
         Form::Status => kind == STATUS,
         Form::Heap { .. } => kind == HEAP,
-        Form::Index => false,
+        Form::Index => kind == META || kind == MAP || kind == REGULAR || kind == EVACUATED,
     }
 }
 

@@ -1,8 +1,5 @@
 //! Numbers of the format of pages.
 
-/// The kind of a page that isn't started.
-pub const UNSTARTED: u8 = 0;
-
 /// The kind of a page of statuses.
 pub const STATUS: u8 = 1;
 

@@ -28,6 +28,7 @@ pub fn free_slots(page: &Page, form: Form) -> u16
     ensures contents { (slots : List Slot) → HasSlots form page.now slots → result ≡ free_count slots }
     ensures unstarted { IsUnstarted page.now → result ≡ 0 }
     ensures statuses { form ≡ Form.Status → result ≡ 0 }
+    ensures index { form ≡ Form.Index → result ≡ 0 }
 {
     let mut free = 0;
     if kind_of(page) != HEAP {
@@ -52,6 +53,7 @@ pub fn first_free(page: &Page, form: Form) -> Option<u16>
     ensures within { IfSome result (HasSlot form) }
     ensures unstarted { IsUnstarted page.now → result ≡ None }
     ensures statuses { form ≡ Form.Status → result ≡ None }
+    ensures index { form ≡ Form.Index → result ≡ None }
 {
     first_free_from(page, form, 0)
 }
@@ -65,6 +67,7 @@ pub fn first_free_from(page: &Page, form: Form, from: u16) -> Option<u16>
     ensures within { IfSome result (HasSlot form) }
     ensures unstarted { IsUnstarted page.now → result ≡ None }
     ensures statuses { form ≡ Form.Status → result ≡ None }
+    ensures index { form ≡ Form.Index → result ≡ None }
 {
     if kind_of(page) != HEAP {
         return None;

@@ -15,7 +15,7 @@ pub(crate) const HEADER: usize = 32;
 /// A page, seen as its bytes.
 #[derive(Debug, Drop)]
 pub struct Page {
-    bytes: [u8; PAGE_SIZE],
+    pub(crate) bytes: [u8; PAGE_SIZE],
 }
 
 impl Model for Page {
@@ -93,7 +93,7 @@ pub(crate) fn bytes_known(bytes: &[u8])
 }
 
 /// What a page of a relation is: statuses; the heap of a table with the bytes of its rows, the slots of a page, the kinds
-/// of its columns, and the format of the store; or a page of an index, of which none is started yet.
+/// of its columns, and the format of the store; or a page of an index.
 #[derive(Clone, Copy, Debug, PartialEq, Eq)]
 pub enum Form {
     Status,

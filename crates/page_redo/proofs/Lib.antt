@@ -1,2 +1,4 @@
 pub mod Pages
 pub mod Slots
+pub mod Starts
+pub mod FitPages

@@ -1,17 +1,23 @@
 -- Pages by their kind, and slots by what is read of them.
-use Rattle.std.proofs.Common.{◌≡◌, ℕ, suc, ◌+◌, ◌/◌, ◌%◌, ◌<◌, inr, List, [], ◌∷◌, ◌++◌, drop, get_or, refl, sym, ap, subst, ◌∙◌, arith}
-use Rattle.std.specs.Prelude.{None, replicate}
+use Rattle.std.proofs.Common.{◌≡◌, ℕ, suc, ◌+◌, ◌/◌, ◌%◌, ◌<◌, inr, Bool, true, false, eqb, MatchBool, List, [], ◌∷◌, ◌++◌, drop, get_or, refl, sym, ap, subst, ◌∙◌, arith}
+use Rattle.std.specs.Prelude.{Option, None, replicate}
 use Rattle.std.proofs.lemmas.List.{get_or-drop}
+use Rattle.block_model.specs.declared.place.Spot.{Spot}
 use Rattle.byte_fields.specs.Fields.{AreBytes}
 use Rattle.wal_record.specs.Changes.{LoggedChange, FullPage, PageStart, RowPut, RowMark, RowsDrop, TuplePut, TupleReplace, TupleDrop, Evacuate, MapPage, MapSet, MetaSet, StatusSet}
 use Rattle.page_layout.specs.declared.page.Form.{Form}
 use Rattle.page_layout.specs.declared.page.Form.TheVariants as forms
 use Rattle.page_layout.specs.PageContents.{Slot, HasSlots, IsPageOf, IsStatusPage, header_bytes, statuses}
-use Rattle.page_layout.specs.PageWrites.{IsEmptyHeap}
+use Rattle.page_layout.specs.PageWrites.{IsEmptyHeap, IsOfHeap, IsOfIndex}
+use Rattle.index_layout.specs.IndexPages.{IsMap, IsRegular}
+use Rattle.page_layout.specs.IndexLaws.{index_page_of, map_page, meta_page, regular_page}
 use Rattle.page_layout.specs.SlotLaws.{has_page, row_has}
 use Rattle.page_redo.specs.Redo.{Fits, IsAnew, IsOfStatuses, Means, Redone}
 
 -- lists of changes
+
+abbrev pub no_entries : List (Option Spot)
+no_entries = replicate 1020 None
 
 byte-same : (b c : ℕ) → b < 256 → c < 256 → b % 4 ≡ c % 4 → b / 4 % 4 ≡ c / 4 % 4 → b / 16 % 4 ≡ c / 16 % 4 → b / 64 % 4 ≡ c / 64 % 4 → b ≡ c
 byte-same b c small below p q r s = omega arith
@@ -44,48 +50,59 @@ heap_same forms.Status a b slots ha hb = absurd ha
 heap_same (forms.Heap row count ks format) a b slots ha hb = ha.bytes ∙ sym hb.bytes
 heap_same forms.Index a b slots ha hb = absurd ha
 
-empty-same : (form : Form) (a b : List ℕ) → IsEmptyHeap form a → IsEmptyHeap form b → a ≡ b
-empty-same forms.Status a b ha hb = absurd ha
-empty-same (forms.Heap row count ks format) a b ha hb = ha.bytes ∙ sym hb.bytes
-empty-same forms.Index a b ha hb = absurd ha
+heap_empty-same : (form : Form) (a b : List ℕ) → IsEmptyHeap form a → IsEmptyHeap form b → a ≡ b
+heap_empty-same forms.Status a b ha hb = absurd ha
+heap_empty-same (forms.Heap row count ks format) a b ha hb = ha.bytes ∙ sym hb.bytes
+heap_empty-same forms.Index a b ha hb = absurd ha
+
+-- pages as they are started
+started_same : (form : Form) (heap map : Bool) (a b : List ℕ) → MatchBool heap (IsEmptyHeap form a) (MatchBool map (IsMap no_entries a) (IsRegular 5 [] a)) → MatchBool heap (IsEmptyHeap form b) (MatchBool map (IsMap no_entries b) (IsRegular 5 [] b)) → a ≡ b
+started_same form true map a b ha hb = heap_empty-same form a b ha hb
+started_same form false true a b ha hb = ha.bytes ∙ sym hb.bytes
+started_same form false false a b ha hb = ha.has.bytes ∙ sym hb.has.bytes
 
 step_same : (form : Form) (page a b : List ℕ) (change : LoggedChange) → AreBytes a → AreBytes b → Fits form page change → Means form page change a → Means form page change b → a ≡ b
 step_same form page a b (FullPage place bytes) sa sb fit ma mb = ma ∙ sym mb
-step_same form page a b (PageStart place kind) sa sb fit ma mb = empty-same form a b ma mb
+step_same form page a b (PageStart place kind) sa sb fit ma mb = started_same form (eqb kind 2) (eqb kind 4) a b ma mb
 step_same form page a b (RowPut place slot bytes) sa sb fit ma mb = let r = row_has form bytes fit.1 in heap_same form a b _ (ma fit.0.0 r.0 fit.0.1 r.1) (mb fit.0.0 r.0 fit.0.1 r.1)
 step_same form page a b (RowMark place slot deleter) sa sb fit ma mb = heap_same form a b _ (ma fit.0 fit.1 fit.2 fit.3) (mb fit.0 fit.1 fit.2 fit.3)
 step_same form page a b (RowsDrop place bytes) sa sb fit ma mb = heap_same form a b _ (ma fit.0.0 fit.0.1) (mb fit.0.0 fit.0.1)
 step_same form page a b (StatusSet place entry status) sa sb fit ma mb = let e = entries_of form page fit.0 in status_same a b _ sa sb (ma e.0 e.1) (mb e.0 e.1)
-step_same form page a b (TuplePut place slot bytes) sa sb fit ma mb = absurd fit
-step_same form page a b (TupleReplace place slot bytes) sa sb fit ma mb = absurd fit
-step_same form page a b (TupleDrop place slots) sa sb fit ma mb = absurd fit
-step_same form page a b (Evacuate place) sa sb fit ma mb = absurd fit
-step_same form page a b (MapPage place) sa sb fit ma mb = absurd fit
-step_same form page a b (MapSet place entry spot) sa sb fit ma mb = absurd fit
-step_same form page a b (MetaSet place maps) sa sb fit ma mb = absurd fit
+step_same form page a b (TuplePut place slot bytes) sa sb fit ma mb = ma.has.bytes ∙ sym mb.has.bytes
+step_same form page a b (TupleReplace place slot bytes) sa sb fit ma mb = ma.has.bytes ∙ sym mb.has.bytes
+step_same form page a b (TupleDrop place slots) sa sb fit ma mb = ma.has.bytes ∙ sym mb.has.bytes
+step_same form page a b (Evacuate place) sa sb fit ma mb = ma.has.bytes ∙ sym mb.has.bytes
+step_same form page a b (MapPage place) sa sb fit ma mb = ma.bytes ∙ sym mb.bytes
+step_same form page a b (MapSet place entry spot) sa sb fit ma mb = ma.bytes ∙ sym mb.bytes
+step_same form page a b (MetaSet place maps) sa sb fit ma mb = ma.bytes ∙ sym mb.bytes
 
 empty-page : (form : Form) (page : List ℕ) → IsEmptyHeap form page → IsPageOf form page
 empty-page forms.Status page is = absurd is
 empty-page (forms.Heap row count ks format) page is = inr (replicate count None, is)
 empty-page forms.Index page is = absurd is
 
+started_page : (form : Form) (heap map : Bool) (page : List ℕ) → MatchBool heap (IsOfHeap form) (IsOfIndex form) → MatchBool heap (IsEmptyHeap form page) (MatchBool map (IsMap no_entries page) (IsRegular 5 [] page)) → IsPageOf form page
+started_page form true map page of is = empty-page form page is
+started_page form false true page of is = index_page_of form page of (map_page no_entries page is)
+started_page form false false page of is = index_page_of form page of (regular_page 5 [] page is)
+
 -- a change that fits makes a page that passes its check
 pub changed_page : (form : Form) (old new : List ℕ) (change : LoggedChange) → Fits form old change → Means form old change new → IsPageOf form new
 changed_page form old new (FullPage place bytes) fit means = subst (IsPageOf form) (sym means) fit.1
-changed_page form old new (PageStart place kind) fit means = empty-page form new means
+changed_page form old new (PageStart place kind) fit means = started_page form (eqb kind 2) (eqb kind 4) new fit.0 means
 changed_page form old new (RowPut place slot bytes) fit means = let r = row_has form bytes fit.1 in has_page form new _ (means fit.0.0 r.0 fit.0.1 r.1)
 changed_page form old new (RowMark place slot deleter) fit means = has_page form new _ (means fit.0 fit.1 fit.2 fit.3)
 changed_page form old new (RowsDrop place bytes) fit means = has_page form new _ (means fit.0.0 fit.0.1)
 changed_page forms.Status old new (StatusSet place entry status) fit means = inr (_, means fit.0.0 fit.0.1)
 changed_page (forms.Heap row count ks format) old new (StatusSet place entry status) fit means = absurd fit.0
 changed_page forms.Index old new (StatusSet place entry status) fit means = absurd fit.0
-changed_page form old new (TuplePut place slot bytes) fit means = absurd fit
-changed_page form old new (TupleReplace place slot bytes) fit means = absurd fit
-changed_page form old new (TupleDrop place slots) fit means = absurd fit
-changed_page form old new (Evacuate place) fit means = absurd fit
-changed_page form old new (MapPage place) fit means = absurd fit
-changed_page form old new (MapSet place entry spot) fit means = absurd fit
-changed_page form old new (MetaSet place maps) fit means = absurd fit
+changed_page form old new (TuplePut place slot bytes) fit means = index_page_of form new fit.0.0 (regular_page _ _ new means)
+changed_page form old new (TupleReplace place slot bytes) fit means = index_page_of form new fit.0.0 (regular_page _ _ new means)
+changed_page form old new (TupleDrop place slots) fit means = index_page_of form new fit.0.0 (regular_page _ _ new means)
+changed_page form old new (Evacuate place) fit means = index_page_of form new fit.0.0 (regular_page _ _ new means)
+changed_page form old new (MapPage place) fit means = index_page_of form new fit.0.0 (map_page _ new means)
+changed_page form old new (MapSet place entry spot) fit means = index_page_of form new fit.0.0 (map_page _ new means)
+changed_page form old new (MetaSet place maps) fit means = index_page_of form new fit.0.0 (meta_page maps new means)
 
 pub redone_same : (form : Form) (page a b : List ℕ) (changes : List LoggedChange) → Redone form page changes a → Redone form page changes b → a ≡ b
 redone_same form page a b [] ra rb = ra ∙ sym rb

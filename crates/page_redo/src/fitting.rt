@@ -4,11 +4,16 @@ ghost use Rattle.std.specs.Prelude.{◌≡◌, ◌↔◌, ◌<◌, ◌≤◌, So
 ghost use Rattle.page_layout.specs.declared.format.TheConstants.{STATUS_ENTRIES};
 ghost use Rattle.page_layout.specs.PageContents.{HasSlot, IsForm, IsPageOf, IsRowOf};
 ghost use Rattle.page_layout.specs.FreeSlots.{slot_count};
-ghost use Rattle.page_redo.specs.Redo.{Fits, IsFreeSlot, IsHeapPage, IsOfStatuses, IsStart, IsUsedSlot, are_ascending};
+ghost use Rattle.page_redo.specs.Redo.{Fits, IsFreeSlot, IsHeapPage, IsOfStatuses, IsUsedSlot, are_ascending};
 ghost use Rattle.wal_record.specs.Changes.{logged};
 
+use crate::index_fitting::{
+    can_drop_tuples, can_put_tuple, can_replace_tuple, can_set_entry, can_turn, is_of_kind,
+    is_start,
+};
 use page_layout::{
-    Form, HEAP, Page, STATUS, STATUS_ENTRIES, check, is_page, is_row, kind_of, row_at, slot_count,
+    Form, HEAP, META, Page, REGULAR, STATUS, STATUS_ENTRIES, check, is_page, is_row, kind_of,
+    row_at, slot_count,
 };
 use wal_record::Change;
 
@@ -54,18 +59,14 @@ pub(crate) fn takes_checked(page: &Page, change: &Change<'_>, form: &Form) -> bo
         Change::RowPut { slot, bytes, .. } => can_put(page, form, slot, bytes),
         Change::RowMark { slot, .. } => is_used(page, form, slot),
         Change::RowsDrop { slots, .. } => can_drop(page, form, slots),
+        Change::TuplePut { slot, bytes, .. } => can_put_tuple(page, form, slot, bytes),
+        Change::TupleReplace { slot, bytes, .. } => can_replace_tuple(page, form, slot, bytes),
+        Change::TupleDrop { slots, .. } => can_drop_tuples(page, form, slots),
+        Change::Evacuate { .. } => is_of_kind(page, form, REGULAR),
+        Change::MapPage { .. } => can_turn(page, form),
+        Change::MapSet { entry, .. } => can_set_entry(page, form, entry),
+        Change::MetaSet { .. } => is_of_kind(page, form, META),
         Change::StatusSet { entry, status, .. } => can_set(page, form, entry, status),
-        _ => false,
-    }
-}
-
-fn is_start(kind: u8, form: &Form) -> bool
-    ensures is { result ≡ true → IsStart form.now kind }
-    ensures isnt { result ≡ false → IsStart form.now kind → ⊥ }
-{
-    match form {
-        Form::Status | Form::Index => false,
-        Form::Heap { .. } => kind == HEAP,
     }
 }
 

@@ -5,6 +5,7 @@
 #![tactic(auto)]
 
 mod fitting;
+mod index_fitting;
 mod laws;
 mod redoing;
 mod tag;

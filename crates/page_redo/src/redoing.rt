@@ -3,13 +3,17 @@
 ghost use Rattle.std.specs.Prelude.{◌≡◌, ◌≤◌, length, set, slice_index, List, true, IfErr, OnOk};
 ghost use Rattle.page_layout.specs.FreeSlots.{slot_count};
 ghost use Rattle.page_layout.specs.PageContents.{HasSlot, HasSlots, IsForm, IsPageOf, IsRowOf, Slot};
-ghost use Rattle.page_redo.specs.Redo.{Fits, Means, are_ascending, dropped};
+ghost use Rattle.page_redo.specs.Redo.{Fits, IsEmptyPage, IsStart, Means, are_ascending, dropped};
 ghost use Rattle.wal_record.specs.ChangeBytes.{bytes_of};
 ghost use Rattle.wal_record.specs.Changes.{logged};
 
 use crate::fitting::{takes, takes_checked};
 use crate::tag::tag_of;
-use page_layout::{Form, Page, clear_slot, mark_row, put_row, set_status, start_heap};
+use page_layout::{
+    Form, HEAP, MAP, Page, clear_slot, drop_tuples, evacuate, mark_row, put_row, put_tuple,
+    replace_tuple, set_entry, set_map_pages, set_status, start_heap, start_map, start_regular,
+    turn_to_map,
+};
 use wal_record::Change;
 
 /// The change of that tag doesn't fit the page.
@@ -67,12 +71,31 @@ fn make(page: &mut Page, change: &Change<'_>, form: &Form)
 {
     match *change {
         Change::FullPage { bytes, .. } => page.replace(bytes),
-        Change::PageStart { .. } => start_heap(page, *form),
+        Change::PageStart { kind, .. } => start(page, form, kind),
         Change::RowPut { slot, bytes, .. } => put_row(page, *form, slot, bytes),
         Change::RowMark { slot, deleter, .. } => mark_row(page, *form, slot, deleter),
         Change::RowsDrop { slots, .. } => drop_rows(page, form, 0, slots),
+        Change::TuplePut { slot, bytes, .. } => put_tuple(page, slot, bytes),
+        Change::TupleReplace { slot, bytes, .. } => replace_tuple(page, slot, bytes),
+        Change::TupleDrop { slots, .. } => drop_tuples(page, slots),
+        Change::Evacuate { .. } => evacuate(page),
+        Change::MapPage { .. } => turn_to_map(page),
+        Change::MapSet { entry, spot, .. } => set_entry(page, entry, spot),
+        Change::MetaSet { maps, .. } => set_map_pages(page, maps),
         Change::StatusSet { entry, status, .. } => set_status(page, entry, status),
-        _ => unreachable!(),
+    }
+}
+
+/// Whatever bytes stand there, they become an empty page of the kind.
+fn start(page: &mut Page, form: &Form, kind: u8)
+    requires form { IsForm form.now }
+    requires start { IsStart form.now kind }
+    ensures { IsEmptyPage form.now kind page.new }
+{
+    match kind {
+        HEAP => start_heap(page, *form),
+        MAP => start_map(page),
+        _ => start_regular(page),
     }
 }
 

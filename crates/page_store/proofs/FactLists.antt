@@ -6,7 +6,7 @@ use Rattle.std.proofs.lemmas.List.Sums.{count_by-le-length, sum_by-set}
 use Rattle.page_store.specs.declared.facts.PageFacts.{PageFacts}
 use Rattle.page_store.specs.declared.lowest.Sought.{Sought}
 use Rattle.page_store.specs.declared.lowest.Sought.TheVariants as sought
-use Rattle.page_store.specs.FactLists.{IsFactList, IsFirstOf, NoneHasRoom, tells_started}
+use Rattle.page_store.specs.FactLists.{IsFactList, IsFirstBehind, IsFirstOf, IsFirstOfIndex, NoneBehind, NoneHasRoom, takes_bytes, tells_started}
 use Rattle.page_store.specs.Filled.{filled}
 use Rattle.page_store.specs.Lowest.{IsLowest, is_sought}
 use Rattle.page_store.specs.PageFacts.{no_facts}
@@ -79,6 +79,29 @@ module _ (limit : ℕ) (facts : List PageFacts) (capacity started room unstarted
   room_none none all =
       let last : unstarted ≡ length (filled no_facts limit facts) = omega (arith, all, whole, is.lowest_unstarted.within) in (
         none_has_room none,
+        subst (IsLowest sought.Unstarted (filled no_facts limit facts) (length (filled no_facts limit facts))) last
+            (lowest-filled sought.Unstarted facts limit (length (filled no_facts limit facts)) unstarted whole is.lowest_unstarted),
+      )
+
+  none_behind : (need past : ℕ) → NoneBehind facts need past → NoneBehind (filled no_facts limit facts) need past
+  none_behind need past none = λ n behind. ap (takes_bytes need) (get_or-filled no_facts limit facts n) ∙ none n behind
+
+  pub behind_some : (need past n : ℕ) → IsFirstBehind facts need past n → IsFirstOfIndex (filled no_facts limit facts) need past (Some n)
+  behind_some need past n first = inl (record {
+    there = omega (arith, first.there, is.few, whole);
+    behind = first.behind;
+    takes = ap (takes_bytes need) (get_or-filled no_facts limit facts n) ∙ first.takes;
+    lower = λ other behind low. ap (takes_bytes need) (get_or-filled no_facts limit facts other) ∙ first.lower other behind low;
+  })
+
+  pub behind_next : (need past : ℕ) → NoneBehind facts need past → unstarted < limit → IsFirstOfIndex (filled no_facts limit facts) need past (Some unstarted)
+  behind_next need past none below =
+      inr (none_behind need past none, omega (arith, below, whole), lowest-filled sought.Unstarted facts limit (length (filled no_facts limit facts)) unstarted whole is.lowest_unstarted)
+
+  pub behind_none : (need past : ℕ) → NoneBehind facts need past → limit ≤ unstarted → IsFirstOfIndex (filled no_facts limit facts) need past None
+  behind_none need past none all =
+      let last : unstarted ≡ length (filled no_facts limit facts) = omega (arith, all, whole, is.lowest_unstarted.within) in (
+        none_behind need past none,
         subst (IsLowest sought.Unstarted (filled no_facts limit facts) (length (filled no_facts limit facts))) last
             (lowest-filled sought.Unstarted facts limit (length (filled no_facts limit facts)) unstarted whole is.lowest_unstarted),
       )

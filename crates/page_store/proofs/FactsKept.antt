@@ -1,10 +1,11 @@
 -- What is kept of a page after a put and after a mark.
-use Rattle.std.proofs.Common.{◌≡◌, ℕ, cond, eqb, ltb, List, get_or, set, sym, ap, subst, ◌∙◌, arith}
+use Rattle.std.proofs.Common.{◌≡◌, ℕ, cond, eqb, ltb, List, get_or, set, refl, sym, ap, subst, ◌∙◌, arith}
 use Rattle.std.specs.Prelude.{Option, None, Some, slice_get}
 use Rattle.std.proofs.lemmas.List.{length-set}
 use Rattle.std.proofs.lemmas.List.Folds.{position_or_len-set}
 use Rattle.std.proofs.lemmas.Option.{get_or_from_slice_get}
 use Rattle.block_model.specs.declared.place.Place.{Place}
+use Rattle.index_layout.specs.IndexWrites.{room_on}
 use Rattle.page_layout.specs.declared.page.Form.{Form}
 use Rattle.page_layout.specs.FreeSlots.{AreUsedBelow, is_free, lowest_free, lowest_free_from}
 use Rattle.page_layout.specs.PageContents.{Slot, HasSlots}
@@ -15,6 +16,7 @@ use Rattle.page_layout.specs.SlotsOnPage.{lowest_on, slots_on}
 use Rattle.wal_record.specs.Changes.{RowPut, RowMark}
 use Rattle.page_store.specs.declared.facts.PageFacts.{PageFacts}
 use Rattle.page_store.specs.PageFacts.{HasPutInto, IsMadeFrom, facts_on}
+use Rattle.page_store.proofs.PageKinds.{kind_without_room}
 
 -- the slots of a page are those that are read of its bytes
 abbrev pub OneList : Type 0
@@ -29,6 +31,10 @@ same-kind : (form : Form) (before page : List ℕ) (slots others : List Slot) (f
 same-kind form before page slots others facts known has had =
     ap (λ (f : PageFacts). f.kind) known ∙ heap_front form before slots has ∙ sym (heap_front form page others had)
 
+-- a heap page takes no tuple
+pub heap-room : (form : Form) (page : List ℕ) (slots : List Slot) → HasSlots form page slots → 0 ≡ room_on page
+heap-room form page slots has = kind_without_room page 2 (heap_front form page slots has) refl
+
 -- a put
 
 pub put-kind : (form : Form) (place : Place) (slot : ℕ) (bytes page : List ℕ) (facts : PageFacts) → IsMadeFrom form facts (RowPut place slot bytes) page → facts.kind ≡ get_or page 0 0
@@ -36,6 +42,12 @@ put-kind form place slot bytes page facts made =
     let row = row_has form bytes made.fits.1 in
     let slots = made.fits.0.0 in
     same-kind form made.before page slots (set slots slot (Some row.0)) facts made.known made.fits.0.1 (made.means slots row.0 made.fits.0.1 row.1)
+
+pub put-room : (form : Form) (place : Place) (slot : ℕ) (bytes page : List ℕ) (facts : PageFacts) → IsMadeFrom form facts (RowPut place slot bytes) page → 0 ≡ room_on page
+put-room form place slot bytes page facts made =
+    let row = row_has form bytes made.fits.1 in
+    let slots = made.fits.0.0 in
+    heap-room form page (set slots slot (Some row.0)) (made.means slots row.0 made.fits.0.1 row.1)
 
 pub put_into : OneList → (form : Form) (place : Place) (slot : ℕ) (bytes page : List ℕ) (facts : PageFacts) → IsMadeFrom form facts (RowPut place slot bytes) page → HasPutInto form slot facts.lowest page
 put_into one form place slot bytes page facts made =
@@ -77,4 +89,6 @@ mark_facts one form place slot deleter page facts made =
     ∙ sym (lowest_started form made.before slots had (one form made.before slots had))
     ∙ sym (mark_lowest slots slot row other made.fits.3)
     ∙ lowest_started form page (set slots slot (Some other)) now (one form page (set slots slot (Some other)) now) in
-    λ i. record { kind = kind i; lowest = lowest i }
+    let room : facts.room ≡ room_on page =
+    ap (λ (f : PageFacts). f.room) made.known ∙ sym (heap-room form made.before slots had) ∙ heap-room form page (set slots slot (Some other)) now in
+    λ i. record { kind = kind i; lowest = lowest i; room = room i }

@@ -1,12 +1,15 @@
 -- Whether a page is started, by its kind.
-use Rattle.std.proofs.Common.{◌≡◌, ℕ, zero, suc, ◌<◌, ◌≤◌, inl, inr, Bool, true, false, cond, eqb, not, List, [], ◌∷◌, length, get_or, refl, ap, ⊎_elim, arith}
+use Rattle.std.proofs.Common.{◌≡◌, ℕ, zero, suc, ◌<◌, ◌≤◌, inl, inr, Bool, true, false, cond, eqb, not, List, [], ◌∷◌, length, get_or, refl, sym, ap, ⊎_elim, ◌∙◌, arith}
 use Rattle.std.specs.Prelude.{None, count_by}
-use Rattle.std.proofs.lemmas.Bool.{cases_Bool, eq-eqb}
+use Rattle.std.proofs.lemmas.Bool.{cases_Bool, eq-eqb, eqb-true}
 use Rattle.std.proofs.lemmas.List.Sums.{sum_by-cons}
 use Rattle.page_layout.specs.declared.page.Form.{Form}
 use Rattle.page_layout.specs.declared.page.Form.TheVariants as forms
+use Rattle.index_layout.specs.IndexReading.{slots_of}
+use Rattle.index_layout.specs.IndexWrites.{room_for_further, room_on}
 use Rattle.page_layout.specs.FreeSlots.{lowest_free}
 use Rattle.page_layout.specs.PageContents.{IsPageOf, IsStarted, IsUnstarted}
+use Rattle.page_layout.specs.PageWrites.{IsOfIndex}
 use Rattle.page_layout.specs.SlotLaws.{heap_front, unstarted_front}
 use Rattle.page_layout.specs.SlotsOnPage.{lowest_on, slots_on}
 use Rattle.page_store.specs.PageFacts.{facts_on, no_facts}
@@ -26,7 +29,7 @@ unstarted_kind page zeros = eq-eqb (get_or page 0 0) 0 (zero_kind page zeros)
 pub started_kind : (form : Form) (page : List ℕ) → IsStarted form page → eqb (get_or page 0 0) 0 ≡ false
 started_kind forms.Status page started = ap (λ (l : List ℕ). eqb (get_or l 0 0) 0) started.1.bytes.2
 started_kind (forms.Heap row count kinds format) page started = ap (λ (k : ℕ). eqb k 0) (heap_front (forms.Heap row count kinds format) page started.0 started.1)
-started_kind forms.Index page started = absurd started
+started_kind forms.Index page started = ⊎_elim (λ zero. absurd (started.1 (eqb-true (get_or page 0 0) 0 zero))) (λ other. other) (cases_Bool (eqb (get_or page 0 0) 0))
 
 pub kind_unstarted : (form : Form) (page : List ℕ) → IsPageOf form page → eqb (get_or page 0 0) 0 ≡ true → IsUnstarted page
 kind_unstarted form page (inl zeros) kind = zeros
@@ -40,8 +43,22 @@ kind_started form page of_form some =
 pub lowest-unstarted : (form : Form) (page : List ℕ) → IsUnstarted page → lowest_on form page ≡ None
 lowest-unstarted form page zeros = ap (λ (k : ℕ). cond (eqb k 0) None (lowest_free (slots_on form page))) (zero_kind page zeros)
 
+-- a page whose kind isn't that of an index takes no tuple
+pub kind_without_room : (page : List ℕ) (kind : ℕ) → get_or page 0 0 ≡ kind → eqb kind 5 ≡ false → 0 ≡ room_on page
+kind_without_room page kind is other = sym (ap (λ (k : ℕ). cond (eqb k 5) (room_for_further (slots_of page)) 0) is ∙ ap (λ (b : Bool). cond b (room_for_further (slots_of page)) 0) other)
+
 pub unstarted_facts : (form : Form) → facts_on form unstarted_page ≡ no_facts
-unstarted_facts form = λ i. record { kind = zero_kind unstarted_page unstarted_is i; lowest = lowest-unstarted form unstarted_page unstarted_is i }
+unstarted_facts form = λ i. record {
+  kind = zero_kind unstarted_page unstarted_is i;
+  lowest = lowest-unstarted form unstarted_page unstarted_is i;
+  room = sym (kind_without_room unstarted_page 0 (zero_kind unstarted_page unstarted_is) refl) i;
+}
+
+pub no_tuple_room : (form : Form) (page : List ℕ) → (IsOfIndex form → ⊥) → IsPageOf form page → 0 ≡ room_on page
+no_tuple_room form page rows (inl zeros) = kind_without_room page 0 (zero_kind page zeros) refl
+no_tuple_room forms.Status page rows (inr started) = kind_without_room page 1 (ap (λ (l : List ℕ). get_or l 0 0) started.1.bytes.2) refl
+no_tuple_room (forms.Heap row count kinds format) page rows (inr started) = kind_without_room page 2 (heap_front (forms.Heap row count kinds format) page started.0 started.1) refl
+no_tuple_room forms.Index page rows (inr started) = absurd (rows tt)
 
 -- 1 for a started page, else 0
 abbrev weight : List ℕ → ℕ

@@ -4,14 +4,17 @@ use Rattle.std.specs.Prelude.{Option, None, Some, IfSome, count_by, replicate, s
 use Rattle.std.proofs.lemmas.Bool.{cases_lt, cases_eq}
 use Rattle.std.proofs.lemmas.List.{get_or-replicate, get_or-set_same, get_or-set_other, get_or_past, length-replicate, length-set}
 use Rattle.std.proofs.lemmas.Option.{get_or_from_slice_get}
+use Rattle.index_layout.specs.IndexWrites.{room_on}
 use Rattle.page_layout.specs.declared.page.Form.{Form}
+use Rattle.page_layout.specs.declared.page.Form.TheVariants as forms
 use Rattle.page_layout.specs.PageContents.{IsForm, IsPageOf, IsUnstarted}
+use Rattle.page_layout.specs.PageWrites.{IsOfIndex}
 use Rattle.page_layout.specs.SlotsOnPage.{lowest_on}
 use Rattle.page_redo.specs.Redo.{Redone}
 use Rattle.wal_record.specs.Changes.{LoggedChange}
 use Rattle.page_store.specs.declared.facts.PageFacts.{PageFacts}
 use Rattle.page_store.specs.declared.lowest.Sought.TheVariants as sought
-use Rattle.page_store.specs.FactLists.{IsFirstOf, tells_started}
+use Rattle.page_store.specs.FactLists.{IsFirstOf, IsFirstOfIndex, tells_started}
 use Rattle.page_store.specs.Filled.{filled}
 use Rattle.page_store.specs.FirstRoom.{IsFirstRoom, PageHasRoom}
 use Rattle.page_store.specs.Lowest.{has_slot, is_sought}
@@ -22,7 +25,7 @@ use Rattle.page_store.specs.Started.{AreFirst, is_started}
 use Rattle.page_store.proofs.FactsKept.{OneList}
 use Rattle.page_store.proofs.Filling.{count_alike, filled-filled, filled-set, filled_set-other, get_or-filled, length-filled, length-filled-set}
 use Rattle.page_store.proofs.PageKinds.{count_first, kind_started, kind_unstarted, unstarted_facts, unstarted_is, unstarted_kind}
-use Rattle.page_store.proofs.Rooms.{heap_looked_at, room_found, room_lower}
+use Rattle.page_store.proofs.Rooms.{LeastRoom, RoomOfTuples, heap_looked_at, no_tuple, room_lower, room_of_slot, slot_found, tuple_room}
 
 -- all pages of a relation
 abbrev pub all_pages : List (List ℕ) → List PageFacts → List (List ℕ)
@@ -140,8 +143,11 @@ module _ (form : Form) (pages : List (List ℕ)) (capacity : ℕ) (facts : List 
   pub kinds_are : (n : ℕ) → (facts_in facts n).kind ≡ get_or (page_in (all_pages pages facts) n) 0 0
   kinds_are n = ap (λ (f : PageFacts). f.kind) (facts_are n)
 
-  no_room : OneList → (need n : ℕ) → is_sought sought.Room (facts_in facts n) ≡ false → PageHasRoom form need (page_in (all_pages pages facts) n) → ⊥
-  no_room one need n none = room_lower one form need (page_in (all_pages pages facts) n) (sym (ap has_slot (lowest_are n)) ∙ none)
+  pub rooms_are : (n : ℕ) → (facts_in facts n).room ≡ room_on (page_in (all_pages pages facts) n)
+  rooms_are n = ap (λ (f : PageFacts). f.room) (facts_are n)
+
+  no_room : OneList → (IsOfIndex form → ⊥) → (need n : ℕ) → is_sought sought.Room (facts_in facts n) ≡ false → PageHasRoom form need (page_in (all_pages pages facts) n) → ⊥
+  no_room one rows need n none = room_lower one form need (page_in (all_pages pages facts) n) rows (sym (ap has_slot (lowest_are n)) ∙ none)
 
   pub is_unstarted : (n : ℕ) → is_sought sought.Unstarted (facts_in facts n) ≡ true → IsUnstarted (page_in (all_pages pages facts) n)
   is_unstarted n kind = kind_unstarted form (page_in (all_pages pages facts) n) (page_is n) (sym (ap (λ (k : ℕ). eqb k 0) (kinds_are n)) ∙ kind)
@@ -152,24 +158,24 @@ module _ (form : Form) (pages : List (List ℕ)) (capacity : ℕ) (facts : List 
   whole : length (all_pages pages facts) ≡ length facts
   whole = length-all pages facts is.few
 
-  pub first_of_pages : OneList → (need past : ℕ) (result : Option ℕ) → IsFirstOf facts result → IsFirstRoom form (length (all_pages pages facts)) need past (page_in (all_pages pages facts)) result
-  first_of_pages one need past (Some n) (below, inl lowest) =
-      let room = room_found one form need (page_in (all_pages pages facts) n) (page_is n) (sym (ap has_slot (lowest_are n)) ∙ lowest.found below) in
+  pub first_of_pages : OneList → (IsOfIndex form → ⊥) → (need past : ℕ) (result : Option ℕ) → IsFirstOf facts result → IsFirstRoom form (length (all_pages pages facts)) need past (page_in (all_pages pages facts)) result
+  first_of_pages one rows need past (Some n) (below, inl lowest) =
+      let free = slot_found one form (page_in (all_pages pages facts) n) (page_is n) (sym (ap has_slot (lowest_are n)) ∙ lowest.found below) in
       inl (record {
         below = omega (arith, below, whole);
-        looked_at = heap_looked_at form (page_in (all_pages pages facts) n) past room.0 n room.1;
-        room = room;
-        lower = λ other low _. no_room one need other (lowest.lower other low);
+        looked_at = heap_looked_at form (page_in (all_pages pages facts) n) past free.0 n free.1;
+        room = room_of_slot form need (page_in (all_pages pages facts) n) rows free.0 free.1;
+        lower = λ other low _. no_room one rows need other (lowest.lower other low);
       })
-  first_of_pages one need past (Some n) (below, inr (none, lowest)) = inr (record {
+  first_of_pages one rows need past (Some n) (below, inr (none, lowest)) = inr (record {
     below = omega (arith, below, whole);
     unstarted = is_unstarted n (lowest.found below);
     lower = λ other low. isnt_unstarted other (lowest.lower other low);
-    no_room = λ other _. no_room one need other (none other);
+    no_room = λ other _. no_room one rows need other (none other);
   })
-  first_of_pages one need past None (none, lowest) = record {
+  first_of_pages one rows need past None (none, lowest) = record {
     started = λ n low. isnt_unstarted n (lowest.lower n (omega (arith, low, whole)));
-    no_room = λ n _. no_room one need n (none n);
+    no_room = λ n _. no_room one rows need n (none n);
   }
 
   pub started_same : count_by is_started (all_pages pages facts) ≡ count_by tells_started facts
@@ -180,6 +186,33 @@ module _ (form : Form) (pages : List (List ℕ)) (capacity : ℕ) (facts : List 
       sym started_same
       ∙ count_first (all_pages pages facts) n first.within (λ k low. kind_started form (page_in (all_pages pages facts) k) (page_is k) (first.started k low))
       (λ k high low. ap not (unstarted_kind (page_in (all_pages pages facts) k) (first.others k high low)))
+
+-- those of an index
+pub first_of_index : (form : Form) (pages : List (List ℕ)) (capacity : ℕ) (facts : List PageFacts) → IsRelation form pages capacity facts → IsOfIndex form → RoomOfTuples → LeastRoom → (need past : ℕ) (result : Option ℕ)
+    → IsFirstOfIndex facts need past result → IsFirstRoom form (length (all_pages pages facts)) need past (page_in (all_pages pages facts)) result
+first_of_index forms.Status pages capacity facts is index room least need past result first = absurd index
+first_of_index (forms.Heap row count kinds format) pages capacity facts is index room least need past result first = absurd index
+first_of_index forms.Index pages capacity facts is index room least need past (Some n) (inl first) = inl (record {
+  below = omega (arith, first.there, length-all pages facts is.few);
+  looked_at = first.behind;
+  room = tuple_room room need (facts_in facts n).room (page_in (all_pages pages facts) n) (rooms_are _ _ _ _ is n) first.takes;
+  lower = λ other low behind. no_tuple least need (facts_in facts other).room (page_in (all_pages pages facts) other) (rooms_are _ _ _ _ is other) (first.lower other behind low);
+})
+first_of_index forms.Index pages capacity facts is index room least need past (Some n) (inr (none, below, lowest)) = inr (record {
+  below = omega (arith, below, length-all pages facts is.few);
+  unstarted = is_unstarted _ _ _ _ is n (lowest.found below);
+  lower = λ other low. isnt_unstarted _ _ _ _ is other (lowest.lower other low);
+  no_room = λ other behind. no_tuple least need (facts_in facts other).room (page_in (all_pages pages facts) other) (rooms_are _ _ _ _ is other) (none other behind);
+})
+first_of_index forms.Index pages capacity facts is index room least need past None (none, lowest) = record {
+  started = λ n low. isnt_unstarted _ _ _ _ is n (lowest.lower n (omega (arith, low, length-all pages facts is.few)));
+  no_room = λ n behind. no_tuple least need (facts_in facts n).room (page_in (all_pages pages facts) n) (rooms_are _ _ _ _ is n) (none n behind);
+}
+
+pub first_within_index : (facts : List PageFacts) (need past : ℕ) (result : Option ℕ) → IsFirstOfIndex facts need past result → IfSome result (λ n. n < length facts)
+first_within_index facts need past None first = tt
+first_within_index facts need past (Some n) (inl first) = first.there
+first_within_index facts need past (Some n) (inr next) = next.1
 
 pub first_within : (facts : List PageFacts) (result : Option ℕ) → IsFirstOf facts result → IfSome result (λ n. n < length facts)
 first_within facts None first = tt

@@ -1,11 +1,15 @@
 -- The room of a page, by its lowest free slot.
-use Rattle.std.proofs.Common.{◌≡◌, ℕ, inl, inr, Bool, true, false, cond, eqb, List, get_or, refl, ap, ◌∙◌, arith}
-use Rattle.std.specs.Prelude.{Option, None, Some}
+use Rattle.std.proofs.Common.{◌≡◌, ℕ, ◌<◌, ◌≤◌, ◌&&◌, inl, inr, Bool, true, false, cond, eqb, List, get_or, refl, ap, ◌∙◌, arith}
+use Rattle.std.specs.Prelude.{Option, None, Some, nat_le, nat_lt}
+use Rattle.std.proofs.lemmas.Bool.{and_parts, le-leb, leb-true, lt-ltb, ltb-true}
 use Rattle.std.proofs.lemmas.Option.{slice_get-get_or, slice_get_within}
+use Rattle.index_layout.specs.IndexReading.{free_slot_of, slots_of}
+use Rattle.index_layout.specs.IndexWrites.{CanPut, room_on}
 use Rattle.page_layout.specs.declared.page.Form.{Form}
 use Rattle.page_layout.specs.declared.page.Form.TheVariants as forms
 use Rattle.page_layout.specs.FreeSlots.{lowest_free}
 use Rattle.page_layout.specs.PageContents.{HasSlot, HasSlots, IsPageOf, Slot}
+use Rattle.page_layout.specs.PageWrites.{IsOfIndex}
 use Rattle.page_layout.specs.SlotLaws.{free_found, free_slot, lowest_is}
 use Rattle.page_layout.specs.SlotsOnPage.{lowest_on}
 use Rattle.page_redo.specs.Redo.{IsFreeSlot}
@@ -21,17 +25,18 @@ free_on_slots form page slots slot has lowest =
     let is = lowest_is slots slot lowest in
     (slots, has, slice_get-get_or slots slot None is.within ∙ ap Some (free_slot (get_or slots slot None) is.free))
 
+-- a page without slots of rows has none
+no_slots : (slot : ℕ) (b : Bool) → cond b None None ≡ Some slot → ⊥
+no_slots slot true e = absurd cc
+no_slots slot false e = absurd cc
+
 pub free_there : OneList → (form : Form) (page : List ℕ) (slot : ℕ) → IsPageOf form page → lowest_on form page ≡ Some slot → IsFreeSlot form page slot
 free_there one form page slot (inl zeros) lowest = absurd (let none = lowest-unstarted form page zeros in cc)
-free_there one forms.Status page slot (inr started) lowest = absurd (status_none (eqb (get_or page 0 0) 0) lowest)
-  where
-    status_none : (b : Bool) → cond b None None ≡ Some slot → ⊥
-    status_none true e = absurd cc
-    status_none false e = absurd cc
+free_there one forms.Status page slot (inr started) lowest = absurd (no_slots slot (eqb (get_or page 0 0) 0) lowest)
 free_there one (forms.Heap row count kinds format) page slot (inr started) lowest =
     let form = forms.Heap row count kinds format in
     free_on_slots form page started.0 slot started.1 (lowest_started form page started.0 started.1 (one form page started.0 started.1) ∙ lowest)
-free_there one forms.Index page slot (inr started) lowest = absurd started
+free_there one forms.Index page slot (inr started) lowest = absurd (no_slots slot (eqb (get_or page 0 0) 0) lowest)
 
 -- one that has a free slot has a lowest one
 pub free_not_none : OneList → (form : Form) (page : List ℕ) (slot : ℕ) → IsFreeSlot form page slot → lowest_on form page ≡ None → ⊥
@@ -60,13 +65,44 @@ has_none : (o : Option ℕ) → has_slot o ≡ false → o ≡ None
 has_none None e = refl
 has_none (Some slot) e = absurd cc
 
-pub room_found : OneList → (form : Form) (need : ℕ) (page : List ℕ) → IsPageOf form page → has_slot (lowest_on form page) ≡ true → PageHasRoom form need page
-room_found one form need page of_form has =
+-- a page of statuses or of a heap has room where a slot is free
+pub room_of_slot : (form : Form) (need : ℕ) (page : List ℕ) → (IsOfIndex form → ⊥) → (slot : ℕ) → IsFreeSlot form page slot → PageHasRoom form need page
+room_of_slot forms.Status need page rows slot free = (slot, free)
+room_of_slot (forms.Heap row count kinds format) need page rows slot free = (slot, free)
+room_of_slot forms.Index need page rows slot free = absurd (rows tt)
+
+slot_of_room : (form : Form) (need : ℕ) (page : List ℕ) → (IsOfIndex form → ⊥) → PageHasRoom form need page → (slot : ℕ) × IsFreeSlot form page slot
+slot_of_room forms.Status need page rows room = room
+slot_of_room (forms.Heap row count kinds format) need page rows room = room
+slot_of_room forms.Index need page rows room = absurd (rows tt)
+
+pub slot_found : OneList → (form : Form) (page : List ℕ) → IsPageOf form page → has_slot (lowest_on form page) ≡ true → (slot : ℕ) × IsFreeSlot form page slot
+slot_found one form page of_form has =
     let found = has_found (lowest_on form page) has in
     (found.0, free_there one form page found.0 of_form found.1)
 
-pub room_lower : OneList → (form : Form) (need : ℕ) (page : List ℕ) → has_slot (lowest_on form page) ≡ false → PageHasRoom form need page → ⊥
-room_lower one form need page none room = free_not_none one form page room.0 room.1 (has_none (lowest_on form page) none)
+pub room_lower : OneList → (form : Form) (need : ℕ) (page : List ℕ) → (IsOfIndex form → ⊥) → has_slot (lowest_on form page) ≡ false → PageHasRoom form need page → ⊥
+room_lower one form need page rows none room =
+    let free = slot_of_room form need page rows room in
+    free_not_none one form page free.0 free.1 (has_none (lowest_on form page) none)
+
+-- a page of an index has room for a tuple that isn't greater than the greatest one
+abbrev pub RoomOfTuples : Type 0
+RoomOfTuples = (page : List ℕ) (size : ℕ) → 0 < size → size ≤ room_on page → CanPut page (free_slot_of (slots_of page)) size
+
+abbrev pub LeastRoom : Type 0
+LeastRoom = (page : List ℕ) (n size : ℕ) → CanPut page n size → size ≤ room_on page
+
+pub tuple_room : RoomOfTuples → (need room : ℕ) (page : List ℕ) → room ≡ room_on page → nat_lt 0 need && nat_le need room ≡ true → PageHasRoom forms.Index need page
+tuple_room law need room page is takes =
+    let parts = and_parts (nat_lt 0 need) (nat_le need room) takes in
+    (free_slot_of (slots_of page), law page need (ltb-true 0 need parts.0) (omega (arith, is, leb-true need room parts.1)))
+
+pub no_tuple : LeastRoom → (need room : ℕ) (page : List ℕ) → room ≡ room_on page → nat_lt 0 need && nat_le need room ≡ false → PageHasRoom forms.Index need page → ⊥
+no_tuple law need room page is takes some =
+    let least = law page some.0 need some.1 in
+    let both : nat_lt 0 need && nat_le need room ≡ true = λ i. lt-ltb 0 need some.1.1 i && le-leb need room (omega (arith, is, least)) i in
+    absurd cc
 
 -- the room of a page by its lowest slot
 

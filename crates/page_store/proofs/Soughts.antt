@@ -1,10 +1,11 @@
 -- The lowest block that is sought.
-use Rattle.std.proofs.Common.{◌≡◌, ◌≢◌, ℕ, ◌+◌, ◌<◌, ◌≤◌, Bool, true, false, List, length, get_or, set, sym, ap, ⊎_elim, ◌∙◌, arith}
+use Rattle.std.proofs.Common.{◌≡◌, ◌≢◌, ℕ, zero, suc, ◌+◌, ◌<◌, ◌≤◌, Bool, true, false, List, length, get_or, set, refl, sym, ap, ⊎_elim, ◌∙◌, arith}
 use Rattle.std.proofs.lemmas.Bool.{cases_lt}
 use Rattle.std.proofs.lemmas.List.{get_or_default, get_or_past}
 use Rattle.page_store.specs.declared.facts.PageFacts.{PageFacts}
 use Rattle.page_store.specs.declared.lowest.Sought.{Sought}
 use Rattle.page_store.specs.declared.lowest.Sought.TheVariants as sought
+use Rattle.page_store.specs.FactLists.{NoneBehind, takes_bytes}
 use Rattle.page_store.specs.Filled.{filled}
 use Rattle.page_store.specs.Lowest.{IsLowest, is_sought}
 use Rattle.page_store.specs.PageFacts.{facts_in, no_facts}
@@ -35,6 +36,19 @@ unstarted_end wanted facts limit n is all few lower = record {
   lower = λ other low. lower other (omega (arith, low, all));
   found = λ below. ap (λ (s : Sought). is_sought s (facts_in facts (length facts))) is ∙ ap (is_sought sought.Unstarted) (get_or_past facts (length facts) no_facts (omega arith));
 }
+
+-- facts of a page that isn't started take no tuple
+no_bytes : (need : ℕ) → takes_bytes need no_facts ≡ false
+no_bytes zero = refl
+no_bytes (suc need) = refl
+
+-- none is found behind a block
+pub none_end : (facts : List PageFacts) (need past n : ℕ) → length facts ≤ n → ((other : ℕ) → past < other → other < n → takes_bytes need (facts_in facts other) ≡ false) → NoneBehind facts need past
+none_end facts need past n all lower = λ other behind.
+    ⊎_elim
+    (λ inside. lower other behind (omega (arith, inside, all)))
+    (λ beyond. ap (takes_bytes need) (get_or_past facts other no_facts beyond) ∙ no_bytes need)
+    (cases_lt other (length facts))
 
 -- after a change of the block at a place
 

@@ -1,5 +1,5 @@
 -- what memory keeps of the pages of one relation
-use Rattle.std.specs.Prelude.{◌≡◌, ℕ, ◌≤◌, ◌<◌, ◌==◌, ◌⊎◌, not, Bool, false, List, Option, Some, None, length, count_by}
+use Rattle.std.specs.Prelude.{◌≡◌, ℕ, ◌≤◌, ◌<◌, ◌==◌, ◌⊎◌, ◌&&◌, nat_le, nat_lt, not, Bool, true, false, List, Option, Some, None, length, count_by}
 use Rattle.page_store.specs.declared.facts.PageFacts.{PageFacts}
 use Rattle.page_store.specs.declared.lowest.Sought.TheVariants as sought
 use Rattle.page_store.specs.Lowest.{IsLowest, is_sought}
@@ -26,3 +26,28 @@ NoneHasRoom facts = (n : ℕ) → is_sought sought.Room (facts_in facts n) ≡ f
 abbrev pub IsFirstOf : List PageFacts → Option ℕ → Type 0
 IsFirstOf facts (Some n) = (n < length facts) × ((IsLowest sought.Room facts (length facts) n) ⊎ (NoneHasRoom facts × IsLowest sought.Unstarted facts (length facts) n))
 IsFirstOf facts None = NoneHasRoom facts × IsLowest sought.Unstarted facts (length facts) (length facts)
+
+-- the page takes a tuple of that many bytes
+abbrev pub takes_bytes : ℕ → PageFacts → Bool
+takes_bytes need facts = nat_lt 0 need && nat_le need facts.room
+
+-- the lowest of the blocks behind that one whose page takes them
+pub record IsFirstBehind (facts : List PageFacts) (need past n : ℕ) : Type 0 where
+  pub there : n < length facts
+  pub behind : past < n
+  pub takes : takes_bytes need (facts_in facts n) ≡ true
+  pub lower : (other : ℕ) → past < other → other < n → takes_bytes need (facts_in facts other) ≡ false
+
+-- no page of a block behind that one takes them
+abbrev pub NoneBehind : List PageFacts → ℕ → ℕ → Type 0
+NoneBehind facts need past = (n : ℕ) → past < n → takes_bytes need (facts_in facts n) ≡ false
+
+-- what is found in a list of facts
+abbrev pub IsFoundBehind : List PageFacts → ℕ → ℕ → Option ℕ → Type 0
+IsFoundBehind facts need past (Some n) = IsFirstBehind facts need past n
+IsFoundBehind facts need past None = NoneBehind facts need past
+
+-- that block, else the lowest one that isn't started, else none
+abbrev pub IsFirstOfIndex : List PageFacts → ℕ → ℕ → Option ℕ → Type 0
+IsFirstOfIndex facts need past (Some n) = IsFirstBehind facts need past n ⊎ (NoneBehind facts need past × (n < length facts) × IsLowest sought.Unstarted facts (length facts) n)
+IsFirstOfIndex facts need past None = NoneBehind facts need past × IsLowest sought.Unstarted facts (length facts) (length facts)

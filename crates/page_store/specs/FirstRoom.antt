@@ -1,5 +1,6 @@
 -- where the next row or tuple of a relation may stand, by the form, the limit and the pages of its blocks
 use Rattle.std.specs.Prelude.{ℕ, ◌<◌, ◌⊎◌, List, Option, Some, None}
+use Rattle.index_layout.specs.IndexWrites.{CanPut}
 use Rattle.page_layout.specs.declared.page.Form.{Form}
 use Rattle.page_layout.specs.declared.page.Form.TheVariants as forms
 use Rattle.page_layout.specs.PageContents.{IsUnstarted}
@@ -8,8 +9,9 @@ use Rattle.page_store.specs.Forms.{form_of}
 use Rattle.page_store.specs.PageMap.{PageMap, block_at, block_limit}
 use Rattle.store_layout.specs.DiskLayout.{DiskLayout}
 
--- a page has room for that many bytes: in a heap a slot is free, whatever the bytes; of an index no page is started yet
+-- a page has room for that many bytes: one of an index in a slot that takes a tuple of them, in a heap in each free slot
 abbrev pub PageHasRoom : Form → ℕ → List ℕ → Type 0
+PageHasRoom forms.Index need page = (slot : ℕ) × CanPut page slot need
 PageHasRoom form need page = (slot : ℕ) × IsFreeSlot form page slot
 
 -- the block is looked at: in an index it comes behind the map pages, of which there are `past`; elsewhere each one is

@@ -18,7 +18,7 @@ pub record HasForm (table : Table) : Type 0 where
 unfoldable pub forms_of : DiskLayout → List Form
 forms_of layout = forms.Status ∷ map heap_form layout.schema.tables ++ map (λ _. forms.Index) layout.schema.indexes
 
--- the form of the relation; behind the last one it is that of an index, of which no page is started yet
+-- the form of the relation; behind the last one it is that of an index
 abbrev pub form_of : DiskLayout → ℕ → Form
 form_of layout relation = slice_index_or (forms_of layout) relation forms.Index
 

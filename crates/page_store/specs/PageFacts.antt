@@ -1,5 +1,6 @@
 -- what memory keeps of a page, apart from the page
 use Rattle.std.specs.Prelude.{◌≡◌, ℕ, List, Option, None, Some, slice_index, slice_index_or}
+use Rattle.index_layout.specs.IndexWrites.{room_on}
 use Rattle.page_layout.specs.declared.page.Form.{Form}
 use Rattle.page_layout.specs.FreeSlots.{AreUsedBelow}
 use Rattle.page_layout.specs.PageContents.{HasSlots}
@@ -8,13 +9,13 @@ use Rattle.page_redo.specs.Redo.{Fits, Means}
 use Rattle.wal_record.specs.Changes.{LoggedChange}
 use Rattle.page_store.specs.declared.facts.PageFacts.{PageFacts}
 
--- its kind and its lowest free slot
+-- its kind, its lowest free slot, and the bytes of the greatest further tuple that it takes
 abbrev pub facts_on : Form → List ℕ → PageFacts
-facts_on form page = record { kind = slice_index page 0; lowest = lowest_on form page }
+facts_on form page = record { kind = slice_index page 0; lowest = lowest_on form page; room = room_on page }
 
 -- those of a page that isn't started
 abbrev pub no_facts : PageFacts
-no_facts = record { kind = 0; lowest = None }
+no_facts = record { kind = 0; lowest = None; room = 0 }
 
 -- the facts of the block of that number
 abbrev pub facts_in : List PageFacts → ℕ → PageFacts

@@ -1,12 +1,12 @@
 //! What memory keeps of the pages of one relation, in a list of its own.
 
 ghost use Rattle.std.specs.Prelude.{◌≡◌, ◌+◌, ◌<◌, ◌≤◌, count_by, length, replicate, set, IfOk, if◌then◌else◌, vec_capacity};
-ghost use Rattle.page_store.specs.FactLists.{IsFirstOf, tells_started};
+ghost use Rattle.page_store.specs.FactLists.{IsFirstOf, IsFirstOfIndex, tells_started};
 ghost use Rattle.page_store.specs.Filled.{filled};
 ghost use Rattle.page_store.specs.PageFacts.{facts_in, no_facts};
 
 use crate::facts::{NO_FACTS, PageFacts};
-use crate::lowest::{Sought, lowest};
+use crate::lowest::{Sought, first_behind, lowest};
 use block_model::NoMemory;
 use page_layout::UNSTARTED;
 use std::alloc::Global;
@@ -94,6 +94,20 @@ impl FactList {
         let limit = self.limit as usize;
         if self.room < limit {
             return Some(self.room as u32);
+        }
+        if self.unstarted < limit {
+            return Some(self.unstarted as u32);
+        }
+        None
+    }
+
+    /// The lowest block behind that one whose page takes a tuple of `need` bytes, else the lowest one that isn't started.
+    pub fn first_behind(&self, need: u16, past: u32) -> Option<u32>
+        ensures { IsFirstOfIndex self.now need past result }
+    {
+        let limit = self.limit as usize;
+        if let Some(block) = first_behind(&self.items, need, past) {
+            return Some(block as u32);
         }
         if self.unstarted < limit {
             return Some(self.unstarted as u32);

@@ -1,25 +1,31 @@
 //! What memory keeps of a page.
 
 ghost use Rattle.std.specs.Prelude.{◌≡◌};
+ghost use Rattle.index_layout.specs.IndexWrites.{room_on};
 ghost use Rattle.page_layout.specs.PageContents.{IsForm, IsPageOf};
 ghost use Rattle.page_layout.specs.SlotsOnPage.{lowest_on};
 ghost use Rattle.wal_record.specs.Changes.{logged};
 ghost use Rattle.page_store.specs.PageFacts.{HasPutInto, IsMadeFrom, facts_on};
 
-use page_layout::{Form, Page, UNSTARTED, first_free, first_free_from, kind_of, slots_are_read};
+use page_layout::{
+    Form, Page, UNSTARTED, first_free, first_free_from, is_index, kind_of, room_for, slots_are_read,
+};
 use wal_record::Change;
 
-/// What is kept of a page beside the page: its kind, and its lowest free slot where it has one.
+/// What is kept of a page beside the page: its kind, its lowest free slot where it has one, and of an index the bytes of the
+/// greatest further tuple that it takes.
 #[derive(Clone, Copy)]
 pub(crate) struct PageFacts {
     pub kind: u8,
     pub lowest: Option<u16>,
+    pub room: u16,
 }
 
 /// Those of a page that isn't started.
 pub(crate) const NO_FACTS: PageFacts = PageFacts {
     kind: UNSTARTED,
     lowest: None,
+    room: 0,
 };
 
 /// The facts of a page that passes its check.
@@ -31,7 +37,19 @@ pub(crate) fn facts_of(page: &Page, form: &Form) -> PageFacts
     PageFacts {
         kind: kind_of(page),
         lowest: first_free(page, *form),
+        room: room_of(page, form),
     }
+}
+
+/// The bytes of the greatest further tuple that a page which passes its check takes: 0 where it isn't of an index.
+fn room_of(page: &Page, form: &Form) -> u16
+    requires { IsPageOf form.now page.now }
+    ensures { result ≡ room_on page.now }
+{
+    if !is_index(form) {
+        return 0;
+    }
+    room_for(page)
 }
 
 /// The facts of a page that passes its check, after a change, where they were these before.
@@ -51,6 +69,7 @@ pub(crate) fn facts_after(
         Change::RowPut { slot, .. } => PageFacts {
             kind: old.kind,
             lowest: lowest_after_put(page, form, slot, old.lowest),
+            room: 0,
         },
         Change::RowMark { .. } => *old,
         _ => facts_of(page, form),

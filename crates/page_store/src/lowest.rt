@@ -1,6 +1,7 @@
 //! The lowest block that has room, or that isn't started.
 
 ghost use Rattle.std.specs.Prelude.{◌≡◌, ◌≢◌, ◌<◌, ◌≤◌, ℕ, length, true, false};
+ghost use Rattle.page_store.specs.FactLists.{IsFoundBehind, takes_bytes};
 ghost use Rattle.page_store.specs.Lowest.{IsLowest, is_sought};
 ghost use Rattle.page_store.specs.PageFacts.{facts_in};
 
@@ -68,4 +69,22 @@ fn first_from(facts: &[PageFacts], limit: usize, sought: Sought, from: usize) ->
         Sought::Room => limit,
         Sought::Unstarted => facts.len(),
     }
+}
+
+/// The lowest block behind that one whose page takes a tuple of `need` bytes, by a look at each one's facts.
+pub(crate) fn first_behind(facts: &[PageFacts], need: u16, past: u32) -> Option<usize>
+    ensures { IsFoundBehind facts.now need past result }
+{
+    'candidates: for n in past as usize + 1..facts.len() {
+        if takes_bytes(facts[n], need) {
+            return Some(n);
+        }
+    }
+    None
+}
+
+fn takes_bytes(facts: PageFacts, need: u16) -> bool
+    ensures { result ≡ takes_bytes need facts }
+{
+    0 < need && need <= facts.room
 }

@@ -15,7 +15,8 @@ use crate::fact_list::FactList;
 use crate::page_room::Room;
 use crate::pages::{change_at, start_at};
 use block_model::{NoMemory, Place};
-use page_layout::{Form, Page, UNSTARTED, slots_are_read};
+use index_layout::the_lowest_free_slot_has_room;
+use page_layout::{Form, Page, UNSTARTED, is_index, slots_are_read};
 use page_redo::Misfit;
 use std::alloc::Global;
 use std::marker::Model;
@@ -108,12 +109,16 @@ impl Relation {
         self.facts.started()
     }
 
-    /// The lowest block that has room, else the lowest one that isn't started.
-    pub fn first_room(&self) -> Option<u32>
+    /// The lowest block that has room for that many bytes, of an index behind `past`, else the lowest one that isn't started.
+    pub fn first_room(&self, need: u16, past: u32) -> Option<u32>
         ensures within { IfSome result (λ block. block < length self.now.pages) }
-        ensures room { (need past : ℕ) → IsFirstRoom self.now.form (length self.now.pages) need past (page_in self.now.pages) result }
+        ensures room { IsFirstRoom self.now.form (length self.now.pages) need past (page_in self.now.pages) result }
     {
         slots_are_read();
+        the_lowest_free_slot_has_room();
+        if is_index(&self.form) {
+            return self.facts.first_behind(need, past);
+        }
         self.facts.first_room()
     }
 

@@ -172,16 +172,15 @@ impl<D: Disk + Drop> PageStore<D> {
     }
 
     /// The lowest block of the relation that has room, else the lowest one that isn't started, else none. Of a table a block has
-    /// room where a slot is free, and neither `need`, in bytes, nor `past`, the number of map pages, is looked at: a table passes
-    /// 0 for both. Later: an index, once its pages are started, passes both.
+    /// room where a slot is free, and neither `need` nor `past` is looked at: a table passes 0 for both. Of an index a block has
+    /// room that comes behind `past`, the number of map pages, and whose page takes a further tuple of `need` bytes. No page is
+    /// read.
     pub fn first_room(&self, relation: u8, need: u16, past: u32) -> Option<u32>
         requires relation { relation < length (relation_blocks self.now.layout) }
         ensures within { IfSome result (λ block. block < block_limit self.now.layout relation) }
         ensures room { Tells D.told self.now → IsFirstRoomOf self.now.layout self.now.pages relation need past result }
     {
-        // They decide nothing of a table, and no page of an index is started.
-        let _ = (need, past);
-        self.relation_at(relation).first_room()
+        self.relation_at(relation).first_room(need, past)
     }
 
     /// What room the page at the place has for a row. No device call.

@@ -1,4 +1,4 @@
-//! Status and heap pages.
+//! Pages of statuses, of a heap and of an index.
 
 ghost use Rattle.std.specs.Prelude.{◌≡◌, ◌∷◌, [], length, map, IfOk};
 ghost use Rattle.block_model.specs.declared.value.Kind.TheVariants as kinds;
@@ -8,8 +8,8 @@ use crate::columns::column;
 use crate::int8_rows;
 use block_model::{Columns, Kind, Kinds, Name, RowId, Table, Value, Values};
 use page_layout::{
-    Form, Page, check, decode_row, encode_row, first_free, first_free_from, free_slots, kind_of,
-    row_at, row_size, slot_count, status_at, write_row,
+    Form, Page, check, decode_row, encode_row, first_free, first_free_from, free_bytes, free_slot,
+    free_slots, kind_of, row_at, row_size, slot_count, slots, status_at, tuple_at, write_row,
 };
 use std::alloc::Global;
 use std::process::Abort;
@@ -247,11 +247,82 @@ fn a_row_is_written_by_the_form_of_its_page(rt: HostRuntime) {
     assert_eq!(rt; out, int8_rows::ROW);
 }
 
+/// Of an index, a byte of its page, what stands there, and the place of the fault.
+const TUPLE_FAULTS: [(usize, u8, u16); 16] = [
+    (0, 0, 3),
+    (0, 1, 0),
+    (0, 2, 0),
+    (0, 4, 3),
+    (0, 7, 0),
+    (1, 1, 1),
+    (2, 8, 2),
+    (3, 1, 34),
+    (3, 3, 42),
+    (31, 9, 31),
+    (33, 1, 32),
+    (35, 1, 32),
+    (37, 252, 36),
+    (39, 0, 36),
+    (40, 1, 40),
+    (8188, 1, 8188),
+];
+
+/// A free slot and one with three bytes, which end the page.
+fn tuples() -> [u8; 8192] {
+    let mut bytes = [0; 8192];
+    bytes[0] = 5;
+    bytes[3] = 2;
+    bytes[36..40].copy_from_slice(&[31, 253, 0, 3]);
+    bytes[8189..].copy_from_slice(b"abc");
+    bytes
+}
+
 #[test]
-fn no_page_of_an_index_is_started(rt: HostRuntime) {
+fn faults_of_a_page_of_tuples_are_at_their_fields(rt: HostRuntime) {
+    let bytes = tuples();
+    assert_eq!(rt; fault_with(&bytes, 0, 5, Form::Index), None);
+    assert_eq!(rt; fault_with(&bytes, 0, 6, Form::Index), None);
+    for (at, byte, fault) in TUPLE_FAULTS {
+        assert_eq!(rt; fault_with(&bytes, at, byte, Form::Index), Some(fault));
+    }
+}
+
+#[test]
+fn pages_of_an_index_have_kinds_of_their_own(rt: HostRuntime) {
     let bytes = [0; 8192];
-    assert_eq!(rt; fault_with(&bytes, 0, 0, Form::Index), None);
-    assert_eq!(rt; fault_with(&bytes, 0, 2, Form::Index), Some(0));
-    assert_eq!(rt; fault_with(&bytes, 0, 5, Form::Index), Some(0));
+    for (kind, fault) in [
+        (0, None),
+        (1, Some(0)),
+        (2, Some(0)),
+        (3, None),
+        (4, None),
+        (5, None),
+        (6, None),
+        (7, Some(0)),
+    ] {
+        assert_eq!(rt; fault_with(&bytes, 0, kind, Form::Index), fault);
+    }
     assert_eq!(rt; fault_with(&bytes, 9, 1, Form::Index), Some(9));
+}
+
+/// Slots, the tuple of slot 1, free bytes and the lowest free slot, where the page has no fault.
+fn tuples_of(page: &Page) -> Option<(u16, Option<&[u8]>, u16, u16)> {
+    match check(page, Form::Index) {
+        Ok(()) => Some((
+            slots(page),
+            tuple_at(page, 1),
+            free_bytes(page),
+            free_slot(page),
+        )),
+        Err(_) => None,
+    }
+}
+
+#[test]
+fn tuples_stand_in_their_slots(rt: HostRuntime) {
+    let page = Page::from_bytes(&tuples());
+    assert_eq!(rt;
+        tuples_of(&page),
+        Some((2, Some(b"abc".as_slice()), 8149, 0))
+    );
 }

@@ -3,7 +3,7 @@
 ghost use Rattle.page_layout.specs.PageContents.{IsForm};
 
 use crate::int8_rows::{ROW, heap};
-use block_model::Place;
+use block_model::{Place, Spot};
 use page_layout::{Form, Page, check};
 use page_redo::{Misfit, fits, redo, redo_checked};
 use wal_record::Change;
@@ -105,6 +105,157 @@ fn whole_pages_and_statuses_are_set(rt: HostRuntime) {
     assert_eq!(rt; misfit(&mut page, &evacuate, Form::Status), Some(9));
     assert!(rt; fits(&page, &set, Form::Status));
     bytes[33] = 8;
+    assert_eq!(rt; page.as_bytes(), bytes.as_slice());
+}
+
+/// Makes changes on a page of an index, one after the other, up to the first that doesn't fit, whose tag it answers.
+fn first_misfit(page: &mut Page, changes: &[Change<'_>]) -> Option<u8> {
+    for change in changes {
+        if let Some(tag) = misfit(page, change, Form::Index) {
+            return Some(tag);
+        }
+    }
+    None
+}
+
+/// A page of two slots, with offset and length of each, and the last three bytes of the page.
+fn two_slots(directory: &[u8; 8], last: &[u8; 3]) -> [u8; 8192] {
+    let mut bytes = [0; 8192];
+    bytes[0] = 5;
+    bytes[3] = 2;
+    bytes[32..40].copy_from_slice(directory);
+    bytes[8189..].copy_from_slice(last);
+    bytes
+}
+
+#[test]
+fn pages_of_an_index_take_tuples(rt: HostRuntime) {
+    let place = PLACE;
+    let mut page = Page::from_bytes(&[7; 8192]);
+    let puts = [
+        Change::PageStart { place, kind: 5 },
+        Change::TuplePut {
+            place,
+            slot: 0,
+            bytes: b"abc",
+        },
+        Change::TuplePut {
+            place,
+            slot: 1,
+            bytes: b"xy",
+        },
+        Change::TupleReplace {
+            place,
+            slot: 0,
+            bytes: b"d",
+        },
+    ];
+    assert_eq!(rt; first_misfit(&mut page, &puts), None);
+    let bytes = two_slots(&[31, 255, 0, 1, 31, 253, 0, 2], b"xyd");
+    assert_eq!(rt; page.as_bytes(), bytes.as_slice());
+    let slots = &[0, 0];
+    let drop = Change::TupleDrop { place, slots };
+    assert_eq!(rt; misfit(&mut page, &drop, Form::Index), None);
+    let bytes = two_slots(&[0, 0, 0, 0, 31, 254, 0, 2], b"\0xy");
+    assert_eq!(rt; page.as_bytes(), bytes.as_slice());
+}
+
+#[test]
+fn a_page_of_tuples_becomes_one_of_the_map(rt: HostRuntime) {
+    let place = PLACE;
+    let mut page = Page::from_bytes(&[7; 8192]);
+    let slots = &[0, 0];
+    let changes = [
+        Change::PageStart { place, kind: 5 },
+        Change::TuplePut {
+            place,
+            slot: 0,
+            bytes: b"abc",
+        },
+        Change::Evacuate { place },
+        Change::TupleDrop { place, slots },
+        Change::MapPage { place },
+        Change::MapSet {
+            place,
+            entry: 1019,
+            spot: Spot { block: 17, slot: 2 },
+        },
+    ];
+    assert_eq!(rt; first_misfit(&mut page, &changes), None);
+    let mut bytes = [0; 8192];
+    bytes[0] = 4;
+    bytes[8184..].copy_from_slice(&[0, 0, 0, 17, 0, 2, 0, 0]);
+    assert_eq!(rt; page.as_bytes(), bytes.as_slice());
+}
+
+#[test]
+fn the_metapage_takes_a_number_of_map_pages(rt: HostRuntime) {
+    let mut bytes = [0; 8192];
+    bytes[0] = 3;
+    let mut page = Page::from_bytes(&bytes);
+    let set = Change::MetaSet {
+        place: PLACE,
+        maps: 6,
+    };
+    assert_eq!(rt; misfit(&mut page, &set, Form::Index), None);
+    bytes[35] = 6;
+    assert_eq!(rt; page.as_bytes(), bytes.as_slice());
+}
+
+#[test]
+fn an_empty_page_of_tuples_takes_no_other_changes(rt: HostRuntime) {
+    let place = PLACE;
+    let mut bytes = [0; 8192];
+    bytes[0] = 5;
+    let mut page = Page::from_bytes(&bytes);
+    let spot = Spot { block: 17, slot: 2 };
+    let long = [1; 8157];
+    for (change, tag) in [
+        (Change::PageStart { place, kind: 2 }, 2),
+        (
+            Change::TuplePut {
+                place,
+                slot: 1,
+                bytes: b"abc",
+            },
+            6,
+        ),
+        (
+            Change::TuplePut {
+                place,
+                slot: 0,
+                bytes: &long,
+            },
+            6,
+        ),
+        (
+            Change::TupleReplace {
+                place,
+                slot: 0,
+                bytes: b"abc",
+            },
+            7,
+        ),
+        (
+            Change::TupleDrop {
+                place,
+                slots: &[0, 0],
+            },
+            8,
+        ),
+        (Change::MapPage { place }, 10),
+        (
+            Change::MapSet {
+                place,
+                entry: 0,
+                spot,
+            },
+            11,
+        ),
+        (Change::MetaSet { place, maps: 6 }, 12),
+    ] {
+        assert_eq!(rt; misfit(&mut page, &change, Form::Index), Some(tag));
+    }
     assert_eq!(rt; page.as_bytes(), bytes.as_slice());
 }
 

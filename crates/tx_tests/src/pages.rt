@@ -4,45 +4,24 @@ ghost use Rattle.std.specs.Prelude.{◌≡◌, ◌<◌, true, IfSome};
 ghost use Rattle.page_store.specs.Keeps.{Tells};
 ghost use Rattle.tx_table.specs.Statuses.{IsStartedBlock};
 
-use block_model::{Column, Kind, Name, PAGE_SIZE, Place, Schema, Sequence, Sizes, Table};
+use block_model::{PAGE_SIZE, Place, Sizes};
 use disk_trait::{Disk, SteadyDisk};
 use page_layout::{Form, Page, STATUS, check, kind_of};
 use page_store::PageStore;
+use small_layouts::{LEAST, table_layout};
 use std::alloc::Global;
 use store_layout::Layout;
 use wal_record::Change;
 
-/// The layout of the table `t(a int8)`, with so many blocks of statuses.
+/// The layout of one table, with so many blocks of statuses.
 fn layout(alloc: Global, status_blocks: u32) -> Option<Layout>
     ensures { IfSome result (λ layout. layout.sizes.status_blocks ≡ status_blocks) }
 {
-    let mut columns = Sequence::new(alloc);
-    columns
-        .push(Column {
-            name: Name::new(b"a")?,
-            kind: Kind::Int,
-        })
-        .ok()?;
-    let mut tables = Sequence::new(alloc);
-    tables
-        .push(Table {
-            name: Name::new(b"t")?,
-            rows_per_page: 1,
-            columns,
-        })
-        .ok()?;
-    let schema = Schema {
-        tables,
-        indexes: Sequence::new(alloc),
-    };
     let sizes = Sizes {
-        heap_blocks: 1,
-        index_blocks: 3,
         status_blocks,
-        log_pages: 16,
-        frames: 16,
+        ..LEAST
     };
-    Layout::new(schema, sizes).ok()
+    table_layout(alloc, 1, sizes)
 }
 
 /// A store with so many blocks of statuses, none of which is started.

@@ -1,7 +1,7 @@
 use Rattle.std.proofs.Common.{ap, subst}
 use Rattle.wal_record.specs.Changes.{LoggedChange, logged}
 use Rattle.page_store.specs.PageFacts.{IsMadeFrom}
-use Rattle.page_store.proofs.FactsKept.{mark_facts, put-kind, put_into}
+use Rattle.page_store.proofs.FactsKept.{mark_facts, put-kind, put-room, put_into}
 use Rattle.page_store.proofs.facts.facts_after.Goals as goal
 
 pub lowest_after_put-requires-clause-put : goal.lowest_after_put-requires-clause-put
@@ -13,7 +13,8 @@ pub returns-in-RowPut : goal.returns-in-RowPut
 returns-in-RowPut c =
     let made = subst (λ (change : LoggedChange). IsMadeFrom c.args.form.now c.args.old.now change c.args.page.now) (ap logged c.in-RowPut.is) c.requires.made in
     let kind = put-kind c.args.form.now c.in-RowPut.place c.in-RowPut.slot c.in-RowPut.bytes.now c.args.page.now c.args.old.now made in
-    λ i. record { kind = kind i; lowest = c.lowest_after_put.ensures i }
+    let room = put-room c.args.form.now c.in-RowPut.place c.in-RowPut.slot c.in-RowPut.bytes.now c.args.page.now c.args.old.now made in
+    λ i. record { kind = kind i; lowest = c.lowest_after_put.ensures i; room = room i }
 
 pub returns-in-RowMark : goal.returns-in-RowMark
 returns-in-RowMark c =

@@ -12,4 +12,4 @@ returns-clause-room g c = λ tells.
     let result = c.first_room.result in
     subst (λ (form : Form). IsFirstRoom form (block_limit store.layout n) c.args.need c.args.past (block_at store.pages n) result) c.relation_at.ensures.form
     (subst (λ (k : ℕ). IsFirstRoom relation.form k c.args.need c.args.past (block_at store.pages n) result) c.relation_at.ensures.limit
-    (subst (λ (l : List (List ℕ)). IsFirstRoom relation.form (length relation.pages) c.args.need c.args.past (page_in l) result) c.relation_at.ensures.pages (c.first_room.ensures.room c.args.need c.args.past)))
+    (subst (λ (l : List (List ℕ)). IsFirstRoom relation.form (length relation.pages) c.args.need c.args.past (page_in l) result) c.relation_at.ensures.pages c.first_room.ensures.room))

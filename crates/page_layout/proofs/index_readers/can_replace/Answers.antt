@@ -1,0 +1,9 @@
+use Rattle.std.proofs.Common.{List, ℕ, sym, subst}
+use Rattle.index_layout.specs.IndexWrites.{CanReplace}
+use Rattle.page_layout.proofs.index_readers.can_replace.Goals as goal
+
+pub returns-clause-can : goal.returns-clause-can
+returns-clause-can c = λ e. subst (λ (p : List ℕ). CanReplace p c.args.slot c.args.size) c.index_bytes.ensures.bytes (c.can_replace.ensures.can e)
+
+pub returns-clause-cannot : goal.returns-clause-cannot
+returns-clause-cannot c = λ e can. c.can_replace.ensures.cannot e (subst (λ (p : List ℕ). CanReplace p c.args.slot c.args.size) (sym c.index_bytes.ensures.bytes) can)

@@ -1,0 +1,7 @@
+use Rattle.std.proofs.Common.{sym, subst}
+use Rattle.index_layout.specs.IndexPages.{IsIndexPage}
+use Rattle.page_layout.specs.IndexLaws.{page_index}
+use Rattle.page_layout.proofs.index_writers.set_map_pages.Goals as goal
+
+pub set_map_pages-requires-clause-page : goal.set_map_pages-requires-clause-page
+set_map_pages-requires-clause-page c = subst IsIndexPage (sym c.page.view_is) (page_index c.args.page.now c.requires.page)
