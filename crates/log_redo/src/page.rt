@@ -130,7 +130,13 @@ fn redo_absent<D: Disk>(
     let Ok(()) = redo(&mut page, change, form_of(layout, place.relation)) else {
         return Err(Stop::Amiss);
     };
-    match hold(disk, first_offset(layout), pool, page_number(layout, place), &page) {
+    match hold(
+        disk,
+        first_offset(layout),
+        pool,
+        page_number(layout, place),
+        &page,
+    ) {
         Ok(()) => Ok(()),
         Err(DiskFault) => Err(Stop::Disk),
     }
