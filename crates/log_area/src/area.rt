@@ -8,7 +8,7 @@ ghost use Rattle.disk_trait.specs.IsStable.{IsStable};
 ghost use Rattle.store_layout.specs.DiskLayout.{area_size, disk_size};
 ghost use Rattle.log_area.specs.Frames.{LogFrame, row_of};
 ghost use Rattle.log_area.specs.Log.{Log, Stands, ComesBy, area_start, areas_end};
-ghost use Rattle.log_area.specs.Appended.{Appended, KeptOrAppended, AppendAnswers, grown};
+ghost use Rattle.log_area.specs.Appended.{Appended, KeptOrAppended, AppendAnswers, grown, left_in};
 ghost use Rattle.log_area.specs.Switched.{Switched, KeptOrSwitched, switched};
 ghost use Rattle.log_area.specs.Started.{StartCause};
 
@@ -105,6 +105,21 @@ impl LogArea {
             buffer,
         };
         Ok((log, frames))
+    }
+
+    /// How many bytes of the chosen area the frames take.
+    pub fn used(&self) -> u64
+        ensures used { result ≡ self.now.used }
+        ensures within { result < self.now.room }
+    {
+        self.used
+    }
+
+    /// How many bytes of the chosen area are left for frames, from the closed gate on.
+    pub fn left(&self) -> u64
+        ensures left { result ≡ left_in self.now }
+    {
+        self.room - self.used
     }
 
     /// Appends a frame of these changes: writes it behind the closed gate with a closed gate behind it, syncs, opens the gate

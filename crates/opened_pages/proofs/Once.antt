@@ -33,8 +33,8 @@ some (MapSet place entry spot) x h = cons_not _ _ h
 some (MetaSet place maps) x h = cons_not _ _ h
 some (StatusSet place entry status) x h = cons_not _ _ h
 
--- by the laws of the layers below: no change's bytes begin those of another, and what changes make of a page is one page
-module _ (one : (a b : LoggedChange) (x y : List ℕ) → IsChange a → IsChange b → bytes_of a ++ x ≡ bytes_of b ++ y → (a ≡ b) × (x ≡ y)) (redo : (form : Form) (page a b : List ℕ) (changes : List LoggedChange) → Redone form page changes a → Redone form page changes b → a ≡ b) where
+-- by the law of the layer below: no change's bytes begin those of another
+module _ (one : (a b : LoggedChange) (x y : List ℕ) → IsChange a → IsChange b → bytes_of a ++ x ≡ bytes_of b ++ y → (a ≡ b) × (x ≡ y)) where
   changes_once : (bytes : List ℕ) (xs ys : List LoggedChange) → AreChangesOf bytes xs → AreChangesOf bytes ys → xs ≡ ys
   changes_once bytes [] [] a b = refl
   changes_once bytes [] (y ∷ ys) a b = absurd (some y b.0 (sym b.2 ∙ a))
@@ -43,14 +43,17 @@ module _ (one : (a b : LoggedChange) (x y : List ℕ) → IsChange a → IsChang
       let same = one x y a.0 b.0 a.1 b.1 (sym a.2 ∙ b.2) in
       ap (λ (c : LoggedChange). c ∷ xs) same.0 ∙ ap (λ (l : List LoggedChange). y ∷ l) (changes_once b.0 xs ys (subst (λ (r : List ℕ). AreChangesOf r xs) same.1 a.3) b.3)
 
-  logged_once : (fs : List LogFrame) (xs ys : List LoggedChange) → AreLogged fs xs → AreLogged fs ys → xs ≡ ys
+  -- frames hold one list of changes
+  pub logged_once : (fs : List LogFrame) (xs ys : List LoggedChange) → AreLogged fs xs → AreLogged fs ys → xs ≡ ys
   logged_once [] xs ys a b = a ∙ sym b
   logged_once (f ∷ fs) xs ys a b =
       a.5 ∙ ap (λ (l : List LoggedChange). l ++ a.1) (changes_once f.changes a.0 b.0 a.2 b.2) ∙ ap (λ (l : List LoggedChange). b.0 ++ l) (logged_once fs a.1 b.1 a.4 b.4) ∙ sym b.5
 
+-- and what changes make of a page is one page
+module _ (one : (a b : LoggedChange) (x y : List ℕ) → IsChange a → IsChange b → bytes_of a ++ x ≡ bytes_of b ++ y → (a ≡ b) × (x ≡ y)) (redo : (form : Form) (page a b : List ℕ) (changes : List LoggedChange) → Redone form page changes a → Redone form page changes b → a ≡ b) where
   pub opens_once : (layout : DiskLayout) (image : List ℕ) → OpensInOneWay (chosen_area (area_size layout) image) → (a b : PageMap) → Opens layout image a → Opens layout image b → (place : Place) → IsPlace layout place → page_at a place ≡ page_at b place
   opens_once layout image way a b oa ob place is =
       let frames : oa.frames ≡ ob.frames = way.frames oa.frames ob.frames oa.opened ob.opened in
-      let changes : oa.changes ≡ ob.changes = logged_once ob.frames oa.changes ob.changes (subst (λ (fs : List LogFrame). AreLogged fs oa.changes) frames oa.decoded) ob.decoded in
+      let changes : oa.changes ≡ ob.changes = logged_once one ob.frames oa.changes ob.changes (subst (λ (fs : List LogFrame). AreLogged fs oa.changes) frames oa.decoded) ob.decoded in
       redo (form_of layout place.relation) (disk_page layout image place) (page_at a place) (page_at b place) (changes_at place ob.changes)
       (subst (λ (cs : List LoggedChange). Redone (form_of layout place.relation) (disk_page layout image place) (changes_at place cs) (page_at a place)) changes (oa.redone place is)) (ob.redone place is)

@@ -22,7 +22,7 @@ parity : (b : ℕ) → (b % 2 ≡ 0) ⊎ (b % 2 ≡ 1)
 parity b = grind arith
 
 -- a byte and a field of what two lists have in common
-same_byte : (n : ℕ) (xs ys : List ℕ) (i : ℕ) → i < n → take n xs ≡ take n ys → get_or xs i 0 ≡ get_or ys i 0
+pub same_byte : (n : ℕ) (xs ys : List ℕ) (i : ℕ) → i < n → take n xs ≡ take n ys → get_or xs i 0 ≡ get_or ys i 0
 same_byte n xs ys i within same = sym (get_or-take n xs i 0 within) ∙ ap (λ (l : List ℕ). get_or l i 0) same ∙ get_or-take n ys i 0 within
 
 same_field : (at n m : ℕ) (xs ys : List ℕ) → at + n ≤ m → take m xs ≡ take m ys → field_at xs at n ≡ field_at ys at n
@@ -32,7 +32,7 @@ same_field at n m xs ys within same =
     ∙ drop-take at n ys
 
 -- images with the same control page and the same log choose the same area
-area_same : (room : ℕ) (xs ys : List ℕ) → take (8192 + 2 * room) xs ≡ take (8192 + 2 * room) ys → chosen_area room xs ≡ chosen_area room ys
+pub area_same : (room : ℕ) (xs ys : List ℕ) → take (8192 + 2 * room) xs ≡ take (8192 + 2 * room) ys → chosen_area room xs ≡ chosen_area room ys
 unfolding area_start
 area_same room xs ys same =
     let side : slice_index xs 1 ≡ slice_index ys 1 = same_byte (8192 + 2 * room) xs ys 1 (omega arith) same in
@@ -55,7 +55,7 @@ same_place p q = elim (cases_eq q.relation p.relation) [
 ]
 
 module _ (forgets : (form : Form) (change : LoggedChange) (changes : List LoggedChange) → IsAnew change → ForgetPage form (change ∷ changes)) where
-  redo_any : (form : Form) (cs : List LoggedChange) (x y new : List ℕ) → 0 < length cs → BeginAnew cs → Redone form x cs new → Redone form y cs new
+  pub redo_any : (form : Form) (cs : List LoggedChange) (x y new : List ℕ) → 0 < length cs → BeginAnew cs → Redone form x cs new → Redone form y cs new
   redo_any form [] x y new touched begun r = absurd (omega (arith, touched))
   redo_any form (c ∷ cs) x y new touched begun r = forgets form c cs begun x y new r
 
