@@ -31,10 +31,10 @@ pub at_other : (place : Place) (c : LoggedChange) (cs : List LoggedChange) → p
 at_other place c cs other =
     let here = (place_of c).relation == place.relation && (place_of c).block == place.block in
     elim (cases_Bool here) [
-      | inl yes ↦
-          let parts = and_parts ((place_of c).relation == place.relation) ((place_of c).block == place.block) yes in
+      | inl same ↦
+          let parts = and_parts ((place_of c).relation == place.relation) ((place_of c).block == place.block) same in
           absurd (other (λ i. record { relation = eqb-true (place_of c).relation place.relation parts.0 i; block = eqb-true (place_of c).block place.block parts.1 i }))
-      | inr no ↦ ap (λ (b : Bool). cond b (c ∷ changes_at place cs) (changes_at place cs)) no
+      | inr apart ↦ ap (λ (b : Bool). cond b (c ∷ changes_at place cs) (changes_at place cs)) apart
     ]
 
 pub same_place : (p q : Place) → (q ≡ p) ⊎ (q ≢ p)

@@ -22,12 +22,15 @@ use Rattle.buffer_pool.specs.SetsPage.{SetsPage}
 use Rattle.buffer_pool.specs.SetLaws.{held_after}
 use Rattle.opened_pages.specs.LoggedChanges.{BeginAnew, changes_at}
 use Rattle.opened_pages.specs.Opens.{disk_page}
-use Rattle.log_redo.specs.PooledPages.{HoldsPages, IsHeldPage, page_number, pooled_page}
+use Rattle.log_redo.specs.PooledPages.{HoldsPages, IsHeldPage}
+use Rattle.pooled_pages.specs.PageNumbers.{page_number}
+use Rattle.pooled_pages.specs.ShownLaws.{one_number}
+use Rattle.pooled_pages.specs.ShownPages.{shown_page}
 use Rattle.log_redo.specs.RedoesPage.{DoesNotFit, IsPageBefore}
 use Rattle.log_redo.specs.Redoing.{AreFirstOf, AreMarked, MakePages, Redoing}
 use Rattle.log_redo.proofs.Changes.{all_append, all_behind, at_other, at_own, begin_front, changes_at-append, none_or_some, same_place}
 use Rattle.log_redo.proofs.Images.{kept_more}
-use Rattle.log_redo.proofs.Places.{one_place, pooled_absent, pooled_held, pooled_same}
+use Rattle.log_redo.proofs.Places.{pooled_absent, pooled_held, pooled_same}
 
 -- ---- what changes of a page make
 
@@ -60,7 +63,7 @@ module _ (forgets : (form : Form) (change : LoggedChange) (changes : List Logged
       → Redone (form_of layout place.relation) (disk_page layout start.contents place) (changes_at place (done ++ c ∷ [])) made
   made_of layout frames start disk done pool place c page made is own r before fits means bytes tells =
       let form = form_of layout place.relation in
-      let now = pooled_page layout disk.contents pool place in
+      let now = shown_page layout pool disk.contents place in
       let last : Redone form page (c ∷ []) made = (made, bytes, fits, means, refl) in
       let mine : Redone form now (c ∷ []) made = ⊎_elim (λ anew. forgets form c [] anew page now made last) (λ is_now. subst (λ (p : List ℕ). Redone form p (c ∷ []) made) is_now last) (before tells) in
       subst (λ (l : List LoggedChange). Redone form (disk_page layout start.contents place) l made) (sym (at_push place done c [] own))
@@ -73,7 +76,7 @@ module _ (forgets : (form : Form) (change : LoggedChange) (changes : List Logged
   cannot_fit layout frames start disk done pool place c is own r not tells more pages make =
       let form = form_of layout place.relation in
       let base = disk_page layout start.contents place in
-      let now = pooled_page layout disk.contents pool place in
+      let now = shown_page layout pool disk.contents place in
       let s = redone_split form base (pages place) (changes_at place done) (c ∷ changes_at place more) (subst (λ (l : List LoggedChange). Redone form base l (pages place)) (at_push place done c more own) (make.redone place is)) in
       let same : s.0 ≡ now = once form base s.0 now (changes_at place done) s.1 ((r.pages tells).redone place is) in
       let rest : Redone form now (c ∷ changes_at place more) (pages place) = subst (λ (p : List ℕ). Redone form p (c ∷ changes_at place more) (pages place)) same s.2 in
@@ -103,12 +106,12 @@ module _ (layout : DiskLayout) (fill : PagesFillDisk layout) (mid new : PoolStat
       ⊎ ((x : HeldPage) × (held_at mid (page_number layout other) ≡ Some x) × (x.log ≡ None) × (held_at new (page_number layout other) ≡ None))
   other_held other iso apart (inl kept) =
       inl (ap (λ (p : PoolState). held_at p (page_number layout other)) kept.1
-      ∙ get_put_apart nat_cmp_total mid.pages (page_number layout place) (page_number layout other) held (numbers_apart (page_number layout other) (page_number layout place) (λ e. apart (one_place layout fill other place iso is e))))
+      ∙ get_put_apart nat_cmp_total mid.pages (page_number layout place) (page_number layout other) held (numbers_apart (page_number layout other) (page_number layout place) (λ e. apart (one_number layout fill other place iso is e))))
   other_held other iso apart (inr gone) =
       let n = page_number layout other in
       let put : held_at new n ≡ map.get (map.remove mid.pages gone.0) n =
       ap (λ (p : PoolState). held_at p n) gone.4
-      ∙ get_put_apart nat_cmp_total (map.remove mid.pages gone.0) (page_number layout place) n held (numbers_apart n (page_number layout place) (λ e. apart (one_place layout fill other place iso is e))) in
+      ∙ get_put_apart nat_cmp_total (map.remove mid.pages gone.0) (page_number layout place) n held (numbers_apart n (page_number layout place) (λ e. apart (one_number layout fill other place iso is e))) in
       elim (cases_eq n gone.0) [
         | inl e ↦ inr (gone.3.0, ap (held_at mid) e ∙ gone.3.1, gone.3.2, put ∙ ap (map.get (map.remove mid.pages gone.0)) e ∙ get_removed_here nat_cmp_total mid.pages gone.0)
         | inr no ↦ inl (put ∙ get_removed_apart nat_cmp_total mid.pages gone.0 n (numbers_apart n gone.0 no))
@@ -117,7 +120,7 @@ module _ (layout : DiskLayout) (fill : PagesFillDisk layout) (mid new : PoolStat
   -- and its content is the same
   other_pooled : (contents : List ℕ) (other : Place) → IsPlace layout other → other ≢ place
       → ((x : HeldPage) → held_at mid (page_number layout other) ≡ Some x → x.log ≡ None → x.content ≡ disk_page layout contents other)
-      → pooled_page layout contents new other ≡ pooled_page layout contents mid other
+      → shown_page layout new contents other ≡ shown_page layout mid contents other
   other_pooled contents other iso apart clean =
       ⊎_elim (λ (same : held_at new (page_number layout other) ≡ held_at mid (page_number layout other)). pooled_same layout contents contents mid new other same refl)
       (λ (gone : (x : HeldPage) × (held_at mid (page_number layout other) ≡ Some x) × (x.log ≡ None) × (held_at new (page_number layout other) ≡ None)).
@@ -148,17 +151,17 @@ module _ (layout : DiskLayout) (fill : PagesFillDisk layout) (mid new : PoolStat
               ];
               redone = λ q isq. elim (same_place place q) [
                 | inl e ↦
-                    subst (λ (p : Place). Redone (form_of layout p.relation) (disk_page layout start.contents p) (changes_at p all) (pooled_page layout disk.contents new p)) (sym e)
+                    subst (λ (p : Place). Redone (form_of layout p.relation) (disk_page layout start.contents p) (changes_at p all) (shown_page layout new disk.contents p)) (sym e)
                     (subst (Redone (form_of layout place.relation) (disk_page layout start.contents place) (changes_at place all)) (sym (pooled_held layout disk.contents new place held (set_here mid new (page_number layout place) held sets))) (made tells))
                 | inr other ↦
-                    subst (λ (l : List LoggedChange). Redone (form_of layout q.relation) (disk_page layout start.contents q) l (pooled_page layout disk.contents new q)) (sym (at_push_other q done c (λ e. other (sym e ∙ own))))
+                    subst (λ (l : List LoggedChange). Redone (form_of layout q.relation) (disk_page layout start.contents q) l (shown_page layout new disk.contents q)) (sym (at_push_other q done c (λ e. other (sym e ∙ own))))
                     (subst (Redone (form_of layout q.relation) (disk_page layout start.contents q) (changes_at q done)) (sym (other_pooled disk.contents q isq other (λ x. r.clean tells q x isq))) (was.redone q isq))
               ];
             };
         touched = λ q x isq got.
             ⊎_elim
             (λ (mine : (page_number layout q ≡ page_number layout place) × (held ≡ x)).
-            subst (λ (l : List LoggedChange). 0 < length l) (sym (at_push q done c [] (own ∙ sym (one_place layout fill q place isq is mine.0)))) (some_push (changes_at q done) c))
+            subst (λ (l : List LoggedChange). 0 < length l) (sym (at_push q done c [] (own ∙ sym (one_number layout fill q place isq is mine.0)))) (some_push (changes_at q done) c))
             (λ (was : held_at mid (page_number layout q) ≡ Some x).
             subst (λ (l : List LoggedChange). 0 < length l) (sym (changes_at-append q done (c ∷ []))) (some_front (changes_at q done) (changes_at q (c ∷ [])) (r.touched q x isq was)))
             (held_after mid new (page_number layout place) held sets (page_number layout q) x got);
@@ -187,12 +190,12 @@ marked_more layout fill done marks place c is own within are = record {
     | inl e ↦ subst (λ (l : List LoggedChange). 0 < length l) (sym (at_push q done c [] (own ∙ sym e))) (some_push (changes_at q done) c)
     | inr other ↦
         subst (λ (l : List LoggedChange). 0 < length l) (sym (at_push_other q done c (λ e. other (sym e ∙ own))))
-        (are.marked q isq (sym (get_or-set_other marks (page_number layout place) (page_number layout q) true false (λ e. other (one_place layout fill q place isq is e))) ∙ on))
+        (are.marked q isq (sym (get_or-set_other marks (page_number layout place) (page_number layout q) true false (λ e. other (one_number layout fill q place isq is e))) ∙ on))
   ];
   unmarked = λ q isq off. elim (same_place place q) [
     | inl e ↦ absurd (false≢true (sym off ∙ ap (λ (p : Place). get_or (set marks (page_number layout place) true) (page_number layout p) false) e ∙ get_or-set_same marks (page_number layout place) true false within))
     | inr other ↦
         at_push_other q done c (λ e. other (sym e ∙ own))
-        ∙ are.unmarked q isq (sym (get_or-set_other marks (page_number layout place) (page_number layout q) true false (λ e. other (one_place layout fill q place isq is e))) ∙ off)
+        ∙ are.unmarked q isq (sym (get_or-set_other marks (page_number layout place) (page_number layout q) true false (λ e. other (one_number layout fill q place isq is e))) ∙ off)
   ];
 }

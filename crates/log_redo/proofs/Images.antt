@@ -22,7 +22,7 @@ use Rattle.buffer_pool.specs.WritesPage.{place_of}
 use Rattle.opened_pages.specs.LoggedChanges.{AreLogged, BeginAnew, changes_at}
 use Rattle.opened_pages.specs.Opens.{disk_page, Opens, OpensAs}
 use Rattle.opened_pages.specs.Reaches.{OpensLike}
-use Rattle.log_redo.specs.PooledPages.{page_number}
+use Rattle.pooled_pages.specs.PageNumbers.{page_number}
 use Rattle.log_redo.specs.Redoing.{AreFirstOf, HasLog, KeepsTheRest}
 use Rattle.log_redo.proofs.Changes.{changes_at-append, front_none, none_or_some, same_place}
 use Rattle.log_redo.proofs.Places.{offset_of_number, other_page}
@@ -71,9 +71,9 @@ kept_more layout done more first image kept = record {
 }
 
 pub kept_torn : (layout : DiskLayout) → PagesFillDisk layout → (done : List LoggedChange) (first image torn : List ℕ) (written : Place) → IsPlace layout written → 0 < length (changes_at written done)
-    → Torn (place_of (first_offset layout) (page_number layout written)) PAGE_SIZE image torn → KeepsTheRest layout done first image → KeepsTheRest layout done first torn
+    → Torn (place_of 0 (page_number layout written)) PAGE_SIZE image torn → KeepsTheRest layout done first image → KeepsTheRest layout done first torn
 kept_torn layout fill done first image torn written is touched tears kept =
-    let at = place_of (first_offset layout) (page_number layout written) in
+    let at = place_of 0 (page_number layout written) in
     let behind : first_offset layout ≤ at = omega (arith, fill.begins written is, offset_of_number layout written) in
     record {
       log = sym (take-take (first_offset layout) at torn behind) ∙ ap (take (first_offset layout)) tears.before ∙ take-take (first_offset layout) at image behind ∙ kept.log;
@@ -94,7 +94,7 @@ module _ (one_layout : (page : List ℕ) (a b : DiskLayout) → HasControl a pag
     opens_still : (image : List ℕ) (pages : PageMap) → IsTrue start.tells_contents → KeepsTheRest layout done start.contents image → OpensAs layout start.contents pages → OpensAs layout image pages
     opens_still image pages tells kept was =
         let o = was.opens in
-        let frames_are : o.frames ≡ frames = (ways (chosen_area (area_size layout) start.contents)).frames o.frames frames o.opened (log.frames tells) in
+        let frames_are : o.frames ≡ frames = (ways (chosen_area (area_size layout) start.contents)).frames o.frames frames o.opened (log.holds tells) in
         let all = first o.changes (subst (λ (fs : List LogFrame). AreLogged fs o.changes) frames_are o.decoded) in
         record {
           control = subst (HasControl layout) (sym (control_same layout image start.contents kept.log)) was.control;

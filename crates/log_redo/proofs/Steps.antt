@@ -8,7 +8,7 @@ use Rattle.std.proofs.lemmas.Cmp.{nat_cmp_total}
 use Rattle.block_model.specs.declared.limits.TheConstants.{PAGE_SIZE}
 use Rattle.block_model.specs.declared.place.Place.{Place}
 use Rattle.block_model.specs.NumberMaps.{found_after_put, get_put_apart, get_put_here, get_removed_apart, get_removed_here, none_Some, numbers_apart, same_Some}
-use Rattle.store_layout.specs.DiskLayout.{DiskLayout, IsPlace, disk_size, first_offset}
+use Rattle.store_layout.specs.DiskLayout.{DiskLayout, IsPlace, disk_size}
 use Rattle.store_layout.specs.PagesFillDisk.{PagesFillDisk}
 use Rattle.byte_fields.specs.Fields.{AreBytes}
 use Rattle.control_page.specs.ControlPage.{HasControl}
@@ -31,12 +31,15 @@ use Rattle.opened_pages.specs.LoggedChanges.{BeginAnew, changes_at}
 use Rattle.opened_pages.specs.Opens.{disk_page}
 use Rattle.opened_pages.specs.Reaches.{OpensAsBefore, OpensLike}
 use Rattle.log_redo.specs.Holds.{MayClean, MayWrite}
-use Rattle.log_redo.specs.PooledPages.{HoldsPages, IsHeldPage, page_number, pooled_page}
+use Rattle.log_redo.specs.PooledPages.{HoldsPages, IsHeldPage}
+use Rattle.pooled_pages.specs.PageNumbers.{page_number}
+use Rattle.pooled_pages.specs.ShownLaws.{one_number}
+use Rattle.pooled_pages.specs.ShownPages.{shown_page}
 use Rattle.log_redo.specs.RedoesPage.{IsPageBefore}
 use Rattle.log_redo.specs.Redoing.{AreFirstOf, AreMarked, KeepsTheRest, MakePages, Redoing}
 use Rattle.log_redo.proofs.Changes.{all_append, all_behind, at_other, at_own, begin_front, changes_at-append, none_or_some, same_place}
 use Rattle.log_redo.proofs.Images.{kept_more, kept_torn, opens_like}
-use Rattle.log_redo.proofs.Places.{one_place, other_page, pooled_absent, pooled_held, pooled_same, written_page}
+use Rattle.log_redo.proofs.Places.{other_page, pooled_absent, pooled_held, pooled_same, written_page}
 
 -- ---- a read: only the count of faults changes
 
@@ -64,7 +67,7 @@ redoing_read layout frames start done disk after pool same r = subst (λ (t : To
 module _ (one_layout : (page : List ℕ) (a b : DiskLayout) → HasControl a page → HasControl b page → a ≡ b) (ways : (area : List ℕ) → OpensInOneWay area) (forgets : (form : Form) (change : LoggedChange) (changes : List LoggedChange) → IsAnew change → ForgetPage form (change ∷ changes)) where
   pub moments_written : (layout : DiskLayout) → PagesFillDisk layout → (frames : List LogFrame) (start : Told) (done : List LoggedChange) (disk after : Told) (pool : PoolState)
       → ((t : ℕ) (c : List ℕ) → t ≤ disk.moment → IsTrue (disk.now c) → IsTrue (disk.since t c))
-      → HoldsPages layout pool → MayWrite (first_offset layout) disk pool after → Redoing layout frames start done disk pool → Throughout start after (OpensAsBefore start)
+      → HoldsPages layout pool → MayWrite disk pool after → Redoing layout frames start done disk pool → Throughout start after (OpensAsBefore start)
   moments_written layout fill frames start done disk after pool counts held (inl same) r = subst (λ (t : Told). Throughout start t (OpensAsBefore start)) (sym same) r.moments
   moments_written layout fill frames start done disk after pool counts held (inr wrote) r =
       let cleanable = wrote.2 in
@@ -74,7 +77,7 @@ module _ (one_layout : (page : List ℕ) (a b : DiskLayout) → HasControl a pag
       let d = wrote.3.images image now in
       let was = r.moments.each d.0 (counts start.moment d.0 r.moments.later d.1) in
       let touched = r.touched one.place wrote.1 one.is (ap (held_at pool) (sym one.number_is) ∙ cleanable.held) in
-      let kept = kept_torn layout fill done start.contents d.0 image one.place one.is touched (subst (λ (n : ℕ). Torn (writes.place_of (first_offset layout) n) PAGE_SIZE d.0 image) one.number_is d.2) (r.images d.0 d.1) in
+      let kept = kept_torn layout fill done start.contents d.0 image one.place one.is touched (subst (λ (n : ℕ). Torn (writes.place_of 0 n) PAGE_SIZE d.0 image) one.number_is d.2) (r.images d.0 d.1) in
       (was.0, was.1, opens_like one_layout ways forgets layout frames start done r.log r.first was.0 image was.1 kept))
 
 -- what is held once a page is clean: it, as a clean page, or what was held before
@@ -89,16 +92,16 @@ cleaned_other : (pool mid : PoolState) (page : ℕ) (held : HeldPage) (number : 
 cleaned_other pool mid page held number is other =
     ap (λ (p : PoolState). held_at p number) is ∙ get_put_apart nat_cmp_total pool.pages page number (record held { log = None }) (numbers_apart number page other)
 
-module _ (layout : DiskLayout) (fill : PagesFillDisk layout) (disk after : Told) (pool mid : PoolState) (c : writes.Cleans pool mid (first_offset layout) 0 disk after) (one : IsHeldPage layout c.page c.held) where
+module _ (layout : DiskLayout) (fill : PagesFillDisk layout) (disk after : Told) (pool mid : PoolState) (c : writes.Cleans pool mid 0 0 disk after) (one : IsHeldPage layout c.page c.held) where
   -- the number of another page
   apart : (place : Place) → IsPlace layout place → place ≢ one.place → page_number layout place ≡ c.page → ⊥
-  apart place is other same = other (one_place layout fill place one.place is one.is (same ∙ one.number_is))
+  apart place is other same = other (one_number layout fill place one.place is one.is (same ∙ one.number_is))
 
   here : page_number layout one.place ≡ c.page
   here = sym one.number_is
 
   -- the pages are the same
-  cleaned_page : IsTrue disk.tells_contents → disk_size layout ≤ length disk.contents → (place : Place) → IsPlace layout place → pooled_page layout after.contents mid place ≡ pooled_page layout disk.contents pool place
+  cleaned_page : IsTrue disk.tells_contents → disk_size layout ≤ length disk.contents → (place : Place) → IsPlace layout place → shown_page layout mid after.contents place ≡ shown_page layout pool disk.contents place
   cleaned_page tells size place is = elim (same_place one.place place) [
     | inl e ↦
         let at : page_number layout place ≡ c.page = ap (page_number layout) e ∙ here in
@@ -106,7 +109,7 @@ module _ (layout : DiskLayout) (fill : PagesFillDisk layout) (disk after : Told)
         ∙ sym (pooled_held layout disk.contents pool place c.held (ap (held_at pool) at ∙ c.cleanable.held))
     | inr other ↦
         pooled_same layout disk.contents after.contents pool mid place (cleaned_other pool mid c.page c.held (page_number layout place) c.clean (apart place is other))
-        (other_page layout fill place one.place disk.contents after.contents is one.is other (subst (λ (n : ℕ). Torn (writes.place_of (first_offset layout) n) PAGE_SIZE disk.contents after.contents) one.number_is (c.writes.others tells)))
+        (other_page layout fill place one.place disk.contents after.contents is one.is other (subst (λ (n : ℕ). Torn (writes.place_of 0 n) PAGE_SIZE disk.contents after.contents) one.number_is (c.writes.others tells)))
   ]
 
   pub redoing_cleaned : (frames : List LogFrame) (start : Told) (done : List LoggedChange) → (IsTrue disk.tells_contents → disk_size layout ≤ length disk.contents)
@@ -135,18 +138,18 @@ module _ (layout : DiskLayout) (fill : PagesFillDisk layout) (disk after : Told)
             ⊎_elim
             (λ (own : (page_number layout place ≡ c.page) × (record c.held { log = None } ≡ x)).
             ap (λ (h : HeldPage). h.content) (sym own.1)
-            ∙ sym (written_page layout fill place disk.contents after.contents c.held.content is (size (told tells)) one.whole (subst (λ (n : ℕ). after.contents ≡ spliced disk.contents (writes.place_of (first_offset layout) n) c.held.content) (sym own.0) wrote)))
+            ∙ sym (written_page layout fill place disk.contents after.contents c.held.content is (size (told tells)) one.whole (subst (λ (n : ℕ). after.contents ≡ spliced disk.contents (writes.place_of 0 n) c.held.content) (sym own.0) wrote)))
             (λ (other : (page_number layout place ≡ c.page → ⊥) × (held_at pool (page_number layout place) ≡ Some x)).
             r.clean (told tells) place x is other.1 none
             ∙ sym (other_page layout fill place one.place disk.contents after.contents is one.is (λ same. other.0 (ap (page_number layout) same ∙ here))
-            (subst (λ (n : ℕ). Torn (writes.place_of (first_offset layout) n) PAGE_SIZE disk.contents after.contents) one.number_is (c.writes.others (told tells)))))
+            (subst (λ (n : ℕ). Torn (writes.place_of 0 n) PAGE_SIZE disk.contents after.contents) one.number_is (c.writes.others (told tells)))))
             (cleaned_held pool mid c.page c.held (page_number layout place) x c.clean got);
         contents = λ tells.
             kept_torn layout fill done start.contents disk.contents after.contents one.place one.is touched
-            (subst (λ (n : ℕ). Torn (writes.place_of (first_offset layout) n) PAGE_SIZE disk.contents after.contents) one.number_is (c.writes.others (told tells))) (r.contents (told tells));
+            (subst (λ (n : ℕ). Torn (writes.place_of 0 n) PAGE_SIZE disk.contents after.contents) one.number_is (c.writes.others (told tells))) (r.contents (told tells));
         images = λ image now.
             let d = c.writes.images image now in
-            kept_torn layout fill done start.contents d.0 image one.place one.is touched (subst (λ (n : ℕ). Torn (writes.place_of (first_offset layout) n) PAGE_SIZE d.0 image) one.number_is d.2) (r.images d.0 d.1);
+            kept_torn layout fill done start.contents d.0 image one.place one.is touched (subst (λ (n : ℕ). Torn (writes.place_of 0 n) PAGE_SIZE d.0 image) one.number_is d.2) (r.images d.0 d.1);
         moments = moments;
       }
 

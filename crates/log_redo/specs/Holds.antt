@@ -10,15 +10,15 @@ abbrev pub AreDurable : PoolState → Type 0
 AreDurable pool = (number : ℕ) (held : HeldPage) → held_at pool number ≡ Some held → (held.log ≡ None) ⊎ (held.log ≡ Some 0)
 
 -- nothing was written, or one page, which is clean then
-abbrev pub MayClean : ℕ → Told → PoolState → Told → PoolState → Type 0
-MayClean at disk pool after new = ((after ≡ disk) × (new ≡ pool)) ⊎ Cleans pool new at 0 disk after
+abbrev pub MayClean : Told → PoolState → Told → PoolState → Type 0
+MayClean disk pool after new = ((after ≡ disk) × (new ≡ pool)) ⊎ Cleans pool new 0 0 disk after
 
 -- the page of that number is held as a dirty one whose log is durable, once one other may have been written
-pub record Holds (at number : ℕ) (page : List ℕ) (disk : Told) (pool : PoolState) (after : Told) (new : PoolState) : Type 0 where
+pub record Holds (number : ℕ) (page : List ℕ) (disk : Told) (pool : PoolState) (after : Told) (new : PoolState) : Type 0 where
   pub mid : PoolState
-  pub cleans : MayClean at disk pool after mid
+  pub cleans : MayClean disk pool after mid
   pub sets : SetsPage mid number (record { content = page; log = Some 0 }) new
 
 -- nothing was written, or a dirty page was, whether all of it came or not
-abbrev pub MayWrite : ℕ → Told → PoolState → Told → Type 0
-MayWrite at disk pool after = (after ≡ disk) ⊎ ((page : ℕ) × (held : HeldPage) × IsCleanable pool 0 page held × WritesAt (place_of at page) disk after)
+abbrev pub MayWrite : Told → PoolState → Told → Type 0
+MayWrite disk pool after = (after ≡ disk) ⊎ ((page : ℕ) × (held : HeldPage) × IsCleanable pool 0 page held × WritesAt (place_of 0 page) disk after)

@@ -2,7 +2,7 @@
 use Rattle.std.specs.Prelude.{◌≡◌, ◌⊎◌, ◌≤◌, ℕ, IsTrue, List, Some, Result, Ok, Err}
 use Rattle.block_model.specs.Causes.{Rose}
 use Rattle.block_model.specs.declared.place.Place.{Place}
-use Rattle.store_layout.specs.DiskLayout.{DiskLayout, first_offset}
+use Rattle.store_layout.specs.DiskLayout.{DiskLayout}
 use Rattle.byte_fields.specs.Fields.{AreBytes}
 use Rattle.disk_trait.specs.Told.{Told}
 use Rattle.wal_record.specs.Changes.{LoggedChange}
@@ -11,15 +11,16 @@ use Rattle.page_redo.specs.Redo.{Fits, IsAnew, Means}
 use Rattle.page_store.specs.Forms.{form_of}
 use Rattle.buffer_pool.specs.PoolState.{HeldPage, PoolState, held_at, with_page}
 use Rattle.log_redo.specs.Holds.{Holds}
-use Rattle.log_redo.specs.PooledPages.{page_number, pooled_page}
+use Rattle.pooled_pages.specs.PageNumbers.{page_number}
+use Rattle.pooled_pages.specs.ShownPages.{shown_page}
 use Rattle.log_redo.specs.declared.fault.Stop.{Stop}
 use Rattle.log_redo.specs.declared.fault.Stop.TheVariants.{Amiss, Disk}
 
 -- the page is that of pool and disk, where the disk tells it; a change that makes the whole page may go by any
 abbrev pub IsPageBefore : DiskLayout → Place → LoggedChange → Told → PoolState → List ℕ → Type 0
-IsPageBefore layout place change disk pool page = IsTrue disk.tells_contents → IsAnew change ⊎ (page ≡ pooled_page layout disk.contents pool place)
+IsPageBefore layout place change disk pool page = IsTrue disk.tells_contents → IsAnew change ⊎ (page ≡ shown_page layout pool disk.contents place)
 
--- the change is made of the page at the place, which the pool holds as a dirty one then
+-- the change is made of the page at the place, which is read if it isn't held, and which the pool holds as a dirty one then
 pub record RedoesPage (layout : DiskLayout) (place : Place) (change : LoggedChange) (disk : Told) (pool : PoolState) (after : Told) (new : PoolState) : Type 0 where
   pub page : List ℕ
   pub made : List ℕ
@@ -27,7 +28,9 @@ pub record RedoesPage (layout : DiskLayout) (place : Place) (change : LoggedChan
   pub fits : Fits (form_of layout place.relation) page change
   pub means : Means (form_of layout place.relation) page change made
   pub bytes : AreBytes made
-  pub holds : Holds (first_offset layout) (page_number layout place) made disk pool after new
+  pub read : Told
+  pub still : read ≡ record disk { faults = read.faults }
+  pub holds : Holds (page_number layout place) made read pool after new
 
 -- the change doesn't fit the page at the place
 pub record DoesNotFit (layout : DiskLayout) (place : Place) (change : LoggedChange) (disk : Told) (pool : PoolState) : Type 0 where

@@ -1,5 +1,5 @@
 -- a log of which the first changes are redone
-use Rattle.std.specs.Prelude.{◌≡◌, ℕ, ◌<◌, Bool, true, false, IsTrue, List, [], ◌∷◌, ◌++◌, Some, None, length, take, slice_index_or}
+use Rattle.std.specs.Prelude.{◌≡◌, ℕ, ◌<◌, Bool, true, false, IsTrue, List, [], ◌∷◌, ◌++◌, Some, None, length, take}
 use Rattle.std.specs.List.{AllByRecursion}
 use Rattle.block_model.specs.declared.limits.TheConstants.{PAGE_SIZE}
 use Rattle.block_model.specs.declared.place.Place.{Place}
@@ -17,7 +17,9 @@ use Rattle.buffer_pool.specs.PoolState.{HeldPage, PoolState, held_at}
 use Rattle.opened_pages.specs.LoggedChanges.{AreLogged, BeginAnew, changes_at}
 use Rattle.opened_pages.specs.Opens.{disk_page}
 use Rattle.opened_pages.specs.Reaches.{OpensAsBefore}
-use Rattle.log_redo.specs.PooledPages.{page_number, pooled_page}
+use Rattle.pooled_pages.specs.PageNumbers.{page_number}
+use Rattle.pooled_pages.specs.Safe.{is_marked}
+use Rattle.pooled_pages.specs.ShownPages.{shown_page}
 
 -- the changes are of pages of the layout, the first one of each page makes it whole, and they make these pages of an image's
 pub record MakePages (layout : DiskLayout) (image : List ℕ) (changes : List LoggedChange) (page : Place → List ℕ) : Type 0 where
@@ -39,7 +41,7 @@ pub record HasLog (layout : DiskLayout) (frames : List LogFrame) (disk : Told) :
   pub stable : IsStable disk
   pub tells : (image : List ℕ) → IsTrue (disk.now image) → IsTrue disk.tells_contents
   pub control : IsTrue disk.tells_contents → HasControl layout (take PAGE_SIZE disk.contents)
-  pub frames : IsTrue disk.tells_contents → HoldsFrames (chosen_area (area_size layout) disk.contents) frames
+  pub holds : IsTrue disk.tells_contents → HoldsFrames (chosen_area (area_size layout) disk.contents) frames
 
 -- Of the log of a disk as it was at the start the first changes are redone: they make the pages of pool and disk. Each page that
 -- is held is named by one, and a clean one is as it stands on the disk. What stands there elsewhere is as it was, and each image
@@ -47,7 +49,7 @@ pub record HasLog (layout : DiskLayout) (frames : List LogFrame) (disk : Told) :
 pub record Redoing (layout : DiskLayout) (frames : List LogFrame) (start : Told) (done : List LoggedChange) (disk : Told) (pool : PoolState) : Type 0 where
   pub log : HasLog layout frames start
   pub first : AreFirstOf frames done
-  pub pages : IsTrue disk.tells_contents → MakePages layout start.contents done (pooled_page layout disk.contents pool)
+  pub pages : IsTrue disk.tells_contents → MakePages layout start.contents done (shown_page layout pool disk.contents)
   pub touched : (place : Place) (held : HeldPage) → IsPlace layout place → held_at pool (page_number layout place) ≡ Some held → 0 < length (changes_at place done)
   pub clean : IsTrue disk.tells_contents → (place : Place) (held : HeldPage) → IsPlace layout place → held_at pool (page_number layout place) ≡ Some held → held.log ≡ None → held.content ≡ disk_page layout disk.contents place
   pub contents : IsTrue disk.tells_contents → KeepsTheRest layout done start.contents disk.contents
@@ -56,8 +58,8 @@ pub record Redoing (layout : DiskLayout) (frames : List LogFrame) (start : Told)
 
 -- exactly the pages that changes name are marked
 pub record AreMarked (layout : DiskLayout) (done : List LoggedChange) (marks : List Bool) : Type 0 where
-  pub marked : (place : Place) → IsPlace layout place → slice_index_or marks (page_number layout place) false ≡ true → 0 < length (changes_at place done)
-  pub unmarked : (place : Place) → IsPlace layout place → slice_index_or marks (page_number layout place) false ≡ false → changes_at place done ≡ []
+  pub marked : (place : Place) → IsPlace layout place → is_marked marks layout place ≡ true → 0 < length (changes_at place done)
+  pub unmarked : (place : Place) → IsPlace layout place → is_marked marks layout place ≡ false → changes_at place done ≡ []
 
 -- whatever of a log is redone, each image at every moment since opens as one of its start did
 abbrev pub KeepsMoments : DiskLayout → Told → PoolState → Told → Type 0

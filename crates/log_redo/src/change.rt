@@ -1,17 +1,20 @@
 //! One change of a log.
 
-ghost use Rattle.std.specs.Prelude.{◌≡◌, OnOk, length};
+ghost use Rattle.std.specs.Prelude.{◌≡◌, ◌*◌, OnOk, length};
 ghost use Rattle.wal_record.specs.Changes.{logged};
-ghost use Rattle.log_redo.specs.PooledPages.{IsReady, page_count};
+ghost use Rattle.log_redo.specs.PooledPages.{IsReady};
+ghost use Rattle.block_model.specs.declared.limits.TheConstants.{PAGE_SIZE};
+ghost use Rattle.store_layout.specs.DiskLayout.{disk_size};
 ghost use Rattle.log_redo.specs.Redoing.{KeepsMoments};
 ghost use Rattle.log_redo.specs.RedoesChange.{ChangeCause, RedoesChange};
 
 use crate::fault::Stop;
 use crate::page::{is_anew, place_of, redo_page};
-use crate::place::{is_place, page_number};
+use crate::place::is_place;
 use buffer_pool::Pool;
 use disk_trait::Disk;
 use page_redo::{redo_forgets_a_page_begun_anew, redo_goes_on, redo_is_a_function};
+use pooled_pages::number_of;
 use store_layout::{Layout, pages_fill_the_disk};
 use wal_record::Change;
 
@@ -25,7 +28,7 @@ pub(crate) fn redo_change<D: Disk>(
     change: &Change<'_>,
 ) -> Result<(), Stop>
     requires ready { IsReady layout.now (D.told disk.old).size pool.old }
-    requires marks { length marks.old ≡ page_count layout.now }
+    requires marks { PAGE_SIZE * length marks.old ≡ disk_size layout.now }
     ensures ready { IsReady layout.now (D.told disk.new).size pool.new }
     ensures redone { OnOk result (RedoesChange layout.now (logged change.now) (D.told disk.old) pool.old marks.old (D.told disk.new) pool.new marks.new) }
     ensures any_moment { KeepsMoments layout.now (D.told disk.old) pool.old (D.told disk.new) }
@@ -39,7 +42,7 @@ pub(crate) fn redo_change<D: Disk>(
     if !is_place(layout, place) {
         return Err(Stop::Amiss);
     }
-    let at = page_number(layout, place) as usize;
+    let at = number_of(layout, place) as usize;
     let begun = marks[at];
     if !begun && !is_anew(change) {
         return Err(Stop::Amiss);

@@ -1,8 +1,10 @@
 //! The frames of a log, one after the other.
 
-ghost use Rattle.std.specs.Prelude.{◌≡◌, ◌+◌, ◌<◌, ◌^◌, OnOk, length};
+ghost use Rattle.std.specs.Prelude.{◌≡◌, ◌+◌, ◌*◌, ◌<◌, ◌^◌, OnOk, length};
 ghost use Rattle.log_area.specs.Frames.{row_of};
-ghost use Rattle.log_redo.specs.PooledPages.{IsReady, page_count};
+ghost use Rattle.log_redo.specs.PooledPages.{IsReady};
+ghost use Rattle.block_model.specs.declared.limits.TheConstants.{PAGE_SIZE};
+ghost use Rattle.store_layout.specs.DiskLayout.{disk_size};
 ghost use Rattle.log_redo.specs.RedoesFrame.{FrameCause, KeepsMomentsOfFrame, KeepsMomentsOfLog, LogCause, RedoesFrame, RedoesLog};
 
 use crate::change::redo_change;
@@ -30,7 +32,7 @@ pub fn redo<D: Disk>(
     marks: &mut [bool],
 ) -> Result<(), RedoFault>
     requires ready { IsReady layout.now (D.told disk.old).size pool.old }
-    requires marks { length marks.old ≡ page_count layout.now }
+    requires marks { PAGE_SIZE * length marks.old ≡ disk_size layout.now }
     requires row { area + length (row_of frames.now) < 2 ^ 32 }
     ensures ready { IsReady layout.now (D.told disk.new).size pool.new }
     // The pages are those of the frames' changes, made one after the other.
@@ -62,7 +64,7 @@ fn redo_frame<D: Disk>(
     count: u16,
 ) -> Result<(), Stop>
     requires ready { IsReady layout.now (D.told disk.old).size pool.old }
-    requires marks { length marks.old ≡ page_count layout.now }
+    requires marks { PAGE_SIZE * length marks.old ≡ disk_size layout.now }
     ensures ready { IsReady layout.now (D.told disk.new).size pool.new }
     ensures redone { OnOk result (RedoesFrame layout.now (record { changes = changes.now; count = count }) (D.told disk.old) pool.old marks.old (D.told disk.new) pool.new marks.new) }
     ensures any_moment { KeepsMomentsOfFrame layout.now (record { changes = changes.now; count = count }) (D.told disk.old) pool.old marks.old (D.told disk.new) }

@@ -2,7 +2,7 @@
 //! pages back where they don't all fit. The layer above opens the log's area, hands over its frames, and gets pool and disk
 //! with the pages that the changes make. At every moment each image of the disk opens as it did at the start, since each page
 //! that is written is one that the log begins anew. Damage is answered exactly at a frame that isn't of its form. It stands on
-//! log_area, wal_record, page_redo, buffer_pool and opened_pages, whose words say what an image opens to. A log of which the first
+//! log_area, wal_record, page_redo, buffer_pool, opened_pages and pooled_pages, whose words say what an image opens to. A log of which the first
 //! changes are redone is specs/Redoing.antt.
 #![tactic(auto)]
 
@@ -15,4 +15,4 @@ mod room;
 
 pub use fault::RedoFault;
 pub use frames::redo;
-pub use place::{form_of, is_place, page_count, page_number};
+pub use place::{form_of, is_place};

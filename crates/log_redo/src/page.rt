@@ -11,18 +11,22 @@ ghost use Rattle.store_layout.specs.DiskLayout.{IsPlace, disk_size};
 ghost use Rattle.wal_record.specs.Changes.{logged, place_of};
 ghost use Rattle.buffer_pool.specs.PoolState.{held_at};
 ghost use Rattle.opened_pages.specs.Opens.{disk_page};
-ghost use Rattle.log_redo.specs.PooledPages.{HoldsPages, IsReady, page_number};
+ghost use Rattle.log_redo.specs.PooledPages.{HoldsPages, IsReady};
+ghost use Rattle.pooled_pages.specs.PageNumbers.{page_number};
 ghost use Rattle.log_redo.specs.Redoing.{KeepsMoments};
 ghost use Rattle.log_redo.specs.RedoesPage.{ChangesHeld, PageCause, RedoesPage};
 
 use crate::fault::Stop;
-use crate::place::{first_offset, form_of, page_number};
+use crate::place::form_of;
 use crate::room::{DURABLE, hold};
 use block_model::{PAGE_SIZE, Place};
 use buffer_pool::Pool;
+use control_page::one_layout;
 use disk_trait::{Disk, DiskFault};
-use page_layout::{Form, Page};
-use page_redo::{Misfit, redo, redo_checked};
+use log_area::an_area_opens_in_one_way;
+use page_layout::Page;
+use page_redo::{Misfit, redo, redo_checked, redo_forgets_a_page_begun_anew};
+use pooled_pages::number_of;
 use store_layout::{Layout, pages_fill_the_disk};
 use wal_record::Change;
 
@@ -97,8 +101,9 @@ fn redo_held(
     ensures changed { IfSome result (ChangesHeld layout.now place (logged change.now) pool.old pool.new) }
     ensures absent { IfNone result ((held_at pool.old (page_number layout.now place) ≡ None) × (pool.new ≡ pool.old)) }
 {
+    pages_fill_the_disk(layout);
     let form = form_of(layout, place.relation);
-    match pool.change(page_number(layout, place), DURABLE) {
+    match pool.change(number_of(layout, place), DURABLE) {
         Some(page) => {
             let result = redo_checked(page, change, form);
             page.known();
@@ -124,19 +129,19 @@ fn redo_absent<D: Disk>(
     ensures any_moment { KeepsMoments layout.now (D.told disk.old) pool.old (D.told disk.new) }
     ensures cause { PageCause layout.now place (logged change.now) (D.told disk.old) pool.old (D.told disk.new) result }
 {
+    pages_fill_the_disk(layout);
+    one_layout();
+    an_area_opens_in_one_way();
+    redo_forgets_a_page_begun_anew();
+    let _size = disk.size();
     let Ok(mut page) = page_before(disk, layout, place, change) else {
         return Err(Stop::Disk);
     };
     let Ok(()) = redo(&mut page, change, form_of(layout, place.relation)) else {
         return Err(Stop::Amiss);
     };
-    match hold(
-        disk,
-        first_offset(layout),
-        pool,
-        page_number(layout, place),
-        &page,
-    ) {
+    page.known();
+    match hold(disk, pool, number_of(layout, place), &page) {
         Ok(()) => Ok(()),
         Err(DiskFault) => Err(Stop::Disk),
     }

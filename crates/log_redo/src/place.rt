@@ -1,15 +1,14 @@
-//! Places of pages, their numbers and their forms.
+//! Places of pages, and their forms.
 
 ghost use Rattle.std.specs.Prelude.{◌≡◌, ◌<◌, length, slice_index, true, false};
 ghost use Rattle.page_layout.specs.PageContents.{IsForm};
 ghost use Rattle.page_store.specs.Forms.{form_of};
-ghost use Rattle.store_layout.specs.DiskLayout.{IsPlace, first_offset, relation_blocks};
-ghost use Rattle.log_redo.specs.PooledPages.{page_count, page_number};
+ghost use Rattle.store_layout.specs.DiskLayout.{IsPlace, relation_blocks};
 
-use block_model::{PAGE_SIZE, Place};
+use block_model::Place;
 use page_layout::{Form, heap_form};
 use page_store::tables_have_forms;
-use store_layout::{Layout, pages_fill_the_disk};
+use store_layout::Layout;
 
 /// Whether the layout has the place.
 pub fn is_place(layout: &Layout, place: Place) -> bool
@@ -20,32 +19,6 @@ pub fn is_place(layout: &Layout, place: Place) -> bool
         return false;
     }
     place.block < blocks_of(layout, place.relation)
-}
-
-/// The number of the page at a place.
-pub fn page_number(layout: &Layout, place: Place) -> u64
-    requires { IsPlace layout.now place }
-    ensures number { result ≡ page_number layout.now place }
-    ensures within { result < page_count layout.now }
-{
-    pages_fill_the_disk(layout);
-    (layout.page_at(place) - first_offset(layout)) / PAGE_SIZE as u64
-}
-
-/// How many pages the layout has.
-pub fn page_count(layout: &Layout) -> u64
-    ensures { result ≡ page_count layout.now }
-{
-    (layout.disk_size() - first_offset(layout)) / PAGE_SIZE as u64
-}
-
-/// The byte of the disk at which the first page begins.
-pub(crate) fn first_offset(layout: &Layout) -> u64
-    ensures { result ≡ first_offset layout.now }
-{
-    layout.known();
-    pages_fill_the_disk(layout);
-    layout.area_at(1) + layout.area_size()
 }
 
 /// The form of the pages of a relation.
