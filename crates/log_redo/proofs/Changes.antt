@@ -66,6 +66,10 @@ pub all_append : (P : LoggedChange → Type 0) (xs ys : List LoggedChange) → A
 all_append P [] ys a b = b
 all_append P (x ∷ xs) ys a b = (a.0, all_append P xs ys a.1 b)
 
+pub all_front : (P : LoggedChange → Type 0) (xs ys : List LoggedChange) → AllByRecursion P (xs ++ ys) → AllByRecursion P xs
+all_front P [] ys a = tt
+all_front P (x ∷ xs) ys a = (a.0, all_front P xs ys a.1)
+
 pub all_behind : (P : LoggedChange → Type 0) (xs ys : List LoggedChange) → AllByRecursion P (xs ++ ys) → AllByRecursion P ys
 all_behind P [] ys a = a
 all_behind P (x ∷ xs) ys a = all_behind P xs ys a.1

@@ -27,7 +27,7 @@ use Rattle.pooled_pages.specs.PageNumbers.{page_number}
 use Rattle.pooled_pages.specs.ShownLaws.{one_number}
 use Rattle.pooled_pages.specs.ShownPages.{shown_page}
 use Rattle.log_redo.specs.RedoesPage.{DoesNotFit, IsPageBefore}
-use Rattle.log_redo.specs.Redoing.{AreFirstOf, AreMarked, MakePages, Redoing}
+use Rattle.log_redo.specs.Redoing.{AreFirstOf, AreMarked, CanBeRedone, Redoing}
 use Rattle.log_redo.proofs.Changes.{all_append, all_behind, at_other, at_own, begin_front, changes_at-append, none_or_some, same_place}
 use Rattle.log_redo.proofs.Images.{kept_more}
 use Rattle.log_redo.proofs.Places.{pooled_absent, pooled_held, pooled_same}
@@ -35,7 +35,7 @@ use Rattle.log_redo.proofs.Places.{pooled_absent, pooled_held, pooled_same}
 -- ---- what changes of a page make
 
 -- changes one after the other, taken apart
-redone_split : (form : Form) (page new : List ℕ) (xs ys : List LoggedChange) → Redone form page (xs ++ ys) new → (mid : List ℕ) × Redone form page xs mid × Redone form mid ys new
+pub redone_split : (form : Form) (page new : List ℕ) (xs ys : List LoggedChange) → Redone form page (xs ++ ys) new → (mid : List ℕ) × Redone form page xs mid × Redone form mid ys new
 redone_split form page new [] ys r = (page, refl, r)
 redone_split form page new (x ∷ xs) ys r = let s = redone_split form r.0 new xs ys r.4 in (s.0, (r.0, r.1, r.2, r.3, s.1), s.2)
 
@@ -72,25 +72,26 @@ module _ (forgets : (form : Form) (change : LoggedChange) (changes : List Logged
   -- a change that doesn't fit the page can't be the next
   pub cannot_fit : (layout : DiskLayout) (frames : List LogFrame) (start disk : Told) (done : List LoggedChange) (pool : PoolState) (place : Place) (c : LoggedChange)
       → IsPlace layout place → place_of c ≡ place → Redoing layout frames start done disk pool → DoesNotFit layout place c disk pool → IsTrue disk.tells_contents
-      → (more : List LoggedChange) (pages : Place → List ℕ) → MakePages layout start.contents (done ++ c ∷ more) pages → ⊥
-  cannot_fit layout frames start disk done pool place c is own r not tells more pages make =
+      → (more : List LoggedChange) → CanBeRedone layout start.contents (done ++ c ∷ more) → ⊥
+  cannot_fit layout frames start disk done pool place c is own r not tells more make =
+      let all = make.fit place is in
       let form = form_of layout place.relation in
       let base = disk_page layout start.contents place in
       let now = shown_page layout pool disk.contents place in
-      let s = redone_split form base (pages place) (changes_at place done) (c ∷ changes_at place more) (subst (λ (l : List LoggedChange). Redone form base l (pages place)) (at_push place done c more own) (make.redone place is)) in
+      let s = redone_split form base all.0 (changes_at place done) (c ∷ changes_at place more) (subst (λ (l : List LoggedChange). Redone form base l all.0) (at_push place done c more own) all.1) in
       let same : s.0 ≡ now = once form base s.0 now (changes_at place done) s.1 ((r.pages tells).redone place is) in
-      let rest : Redone form now (c ∷ changes_at place more) (pages place) = subst (λ (p : List ℕ). Redone form p (c ∷ changes_at place more) (pages place)) same s.2 in
-      not.misfit (⊎_elim (λ anew. (forgets form c (changes_at place more) anew now not.page (pages place) rest).2) (λ is_now. subst (λ (p : List ℕ). Fits form p c) (sym is_now) rest.2) (not.before tells))
+      let rest : Redone form now (c ∷ changes_at place more) all.0 = subst (λ (p : List ℕ). Redone form p (c ∷ changes_at place more) all.0) same s.2 in
+      not.misfit (⊎_elim (λ anew. (forgets form c (changes_at place more) anew now not.page all.0 rest).2) (λ is_now. subst (λ (p : List ℕ). Fits form p c) (sym is_now) rest.2) (not.before tells))
 
 -- a change of no page of the layout can't be the next
-pub cannot_stand : (layout : DiskLayout) (image : List ℕ) (done : List LoggedChange) (c : LoggedChange) → (IsPlace layout (place_of c) → ⊥) → (more : List LoggedChange) (pages : Place → List ℕ)
-    → MakePages layout image (done ++ c ∷ more) pages → ⊥
-cannot_stand layout image done c not more pages make = not (all_behind (λ (x : LoggedChange). IsPlace layout (place_of x)) done (c ∷ more) make.places).0
+pub cannot_stand : (layout : DiskLayout) (image : List ℕ) (done : List LoggedChange) (c : LoggedChange) → (IsPlace layout (place_of c) → ⊥) → (more : List LoggedChange)
+    → CanBeRedone layout image (done ++ c ∷ more) → ⊥
+cannot_stand layout image done c not more make = not (all_behind (λ (x : LoggedChange). IsPlace layout (place_of x)) done (c ∷ more) make.places).0
 
 -- the first one of a page can't be one that doesn't make it whole
-pub cannot_begin : (layout : DiskLayout) (image : List ℕ) (done : List LoggedChange) (c : LoggedChange) → changes_at (place_of c) done ≡ [] → (IsAnew c → ⊥) → (more : List LoggedChange) (pages : Place → List ℕ)
-    → MakePages layout image (done ++ c ∷ more) pages → ⊥
-cannot_begin layout image done c none not more pages make =
+pub cannot_begin : (layout : DiskLayout) (image : List ℕ) (done : List LoggedChange) (c : LoggedChange) → changes_at (place_of c) done ≡ [] → (IsAnew c → ⊥) → (more : List LoggedChange)
+    → CanBeRedone layout image (done ++ c ∷ more) → ⊥
+cannot_begin layout image done c none not more make =
     not (subst BeginAnew (at_push (place_of c) done c more refl ∙ ap (λ (l : List LoggedChange). l ++ c ∷ changes_at (place_of c) more) none) (make.anew (place_of c)))
 
 -- ---- what a pool holds once a page is set

@@ -31,7 +31,7 @@ parity : (b : ℕ) → (b % 2 ≡ 0) ⊎ (b % 2 ≡ 1)
 parity b = grind arith
 
 -- a byte and a field of what two lists have in common
-same_byte : (n : ℕ) (xs ys : List ℕ) (i : ℕ) → i < n → take n xs ≡ take n ys → get_or xs i 0 ≡ get_or ys i 0
+pub same_byte : (n : ℕ) (xs ys : List ℕ) (i : ℕ) → i < n → take n xs ≡ take n ys → get_or xs i 0 ≡ get_or ys i 0
 same_byte n xs ys i within same = sym (get_or-take n xs i 0 within) ∙ ap (λ (l : List ℕ). get_or l i 0) same ∙ get_or-take n ys i 0 within
 
 same_field : (at n m : ℕ) (xs ys : List ℕ) → at + n ≤ m → take m xs ≡ take m ys → field_at xs at n ≡ field_at ys at n
@@ -83,13 +83,14 @@ kept_torn layout fill done first image torn written is touched tears kept =
           ∙ kept.pages place isp none;
     }
 
+-- changes that begin a page anew make the same of any page
+pub redo_any : ((form : Form) (change : LoggedChange) (changes : List LoggedChange) → IsAnew change → ForgetPage form (change ∷ changes)) → (form : Form) (cs : List LoggedChange) (x y new : List ℕ) → 0 < length cs → BeginAnew cs → Redone form x cs new → Redone form y cs new
+redo_any forgets form [] x y new touched begun r = absurd (omega (arith, touched))
+redo_any forgets form (c ∷ cs) x y new touched begun r = forgets form c cs begun x y new r
+
 -- ---- what it opens to
 
 module _ (one_layout : (page : List ℕ) (a b : DiskLayout) → HasControl a page → HasControl b page → a ≡ b) (ways : (area : List ℕ) → OpensInOneWay area) (forgets : (form : Form) (change : LoggedChange) (changes : List LoggedChange) → IsAnew change → ForgetPage form (change ∷ changes)) where
-  redo_any : (form : Form) (cs : List LoggedChange) (x y new : List ℕ) → 0 < length cs → BeginAnew cs → Redone form x cs new → Redone form y cs new
-  redo_any form [] x y new touched begun r = absurd (omega (arith, touched))
-  redo_any form (c ∷ cs) x y new touched begun r = forgets form c cs begun x y new r
-
   module _ (layout : DiskLayout) (frames : List LogFrame) (start : Told) (done : List LoggedChange) (log : HasLog layout frames start) (first : AreFirstOf frames done) where
     opens_still : (image : List ℕ) (pages : PageMap) → IsTrue start.tells_contents → KeepsTheRest layout done start.contents image → OpensAs layout start.contents pages → OpensAs layout image pages
     opens_still image pages tells kept was =
@@ -112,7 +113,7 @@ module _ (one_layout : (page : List ℕ) (a b : DiskLayout) → HasControl a pag
                   | inl none ↦ subst (λ (page : List ℕ). Redone form page own (page_at pages place)) (sym (kept.pages place is none)) (o.redone place is)
                   | inr some ↦
                       let more : own ≡ changes_at place done ++ changes_at place all.0 = ap (changes_at place) all.1 ∙ changes_at-append place done all.0 in
-                      redo_any form own (disk_page layout start.contents place) (disk_page layout image place) (page_at pages place)
+                      redo_any forgets form own (disk_page layout start.contents place) (disk_page layout image place) (page_at pages place)
                       (omega (arith, some, ap (length {A = LoggedChange}) more, length_front (changes_at place done) (changes_at place all.0))) (o.anew place) (o.redone place is)
                 ];
             checked = o.checked;

@@ -6,3 +6,6 @@ pub mod Rooms
 pub mod Steps
 pub mod Changing
 pub mod Pooling
+pub mod Making
+pub mod InFrames
+pub mod Logs

@@ -1,6 +1,7 @@
 -- pages by their numbers, in a pool and on a disk
 use Rattle.std.proofs.Common.{◌≡◌, ◌≢◌, ◌⊎◌, inl, inr, ℕ, ◌+◌, ◌*◌, ◌<◌, ◌≤◌, List, ◌++◌, length, take, drop, refl, sym, ◌∙◌, ap, subst, ⊎_elim, arith, append_assoc}
-use Rattle.std.specs.Prelude.{None, Some, Option, IsTrue}
+use Rattle.std.specs.Prelude.{None, Some, Option, unwrap_or}
+use Rattle.std.specs.Option.{option_map}
 use Rattle.std.proofs.lemmas.List.{take_at, drop_at, length-take-le}
 use Rattle.block_model.specs.declared.limits.TheConstants.{PAGE_SIZE}
 use Rattle.block_model.specs.declared.place.Place.{Place}
@@ -16,7 +17,7 @@ use Rattle.opened_pages.specs.Opens.{disk_page}
 use Rattle.log_redo.specs.Holds.{AreDurable}
 use Rattle.pooled_pages.specs.PageNumbers.{page_number}
 use Rattle.pooled_pages.specs.ShownLaws.{offset_of}
-use Rattle.pooled_pages.specs.ShownPages.{held_or, shown_page}
+use Rattle.pooled_pages.specs.ShownPages.{content_at, shown_page}
 use Rattle.log_redo.specs.PooledPages.{HoldsPages, IsHeldPage}
 
 -- a page begins where its number says
@@ -24,16 +25,16 @@ pub offset_of_number : (layout : DiskLayout) (place : Place) → page_offset lay
 offset_of_number layout place = omega (arith, offset_of layout place)
 
 pub pooled_held : (layout : DiskLayout) (contents : List ℕ) (pool : PoolState) (place : Place) (held : HeldPage) → held_at pool (page_number layout place) ≡ Some held → shown_page layout pool contents place ≡ held.content
-pooled_held layout contents pool place held got = ap (λ (o : Option HeldPage). held_or o (disk_page layout contents place)) got
+pooled_held layout contents pool place held got = ap (λ (o : Option HeldPage). unwrap_or (option_map (λ (h : HeldPage). h.content) o) (disk_page layout contents place)) got
 
 pub pooled_absent : (layout : DiskLayout) (contents : List ℕ) (pool : PoolState) (place : Place) → held_at pool (page_number layout place) ≡ None → shown_page layout pool contents place ≡ disk_page layout contents place
-pooled_absent layout contents pool place got = ap (λ (o : Option HeldPage). held_or o (disk_page layout contents place)) got
+pooled_absent layout contents pool place got = ap (λ (o : Option HeldPage). unwrap_or (option_map (λ (h : HeldPage). h.content) o) (disk_page layout contents place)) got
 
 -- the same is held of the page, and the same stands on the disk
 pub pooled_same : (layout : DiskLayout) (contents others : List ℕ) (pool new : PoolState) (place : Place) → held_at new (page_number layout place) ≡ held_at pool (page_number layout place)
     → disk_page layout others place ≡ disk_page layout contents place → shown_page layout new others place ≡ shown_page layout pool contents place
 pooled_same layout contents others pool new place held disk =
-    ap (λ (o : Option HeldPage). held_or o (disk_page layout others place)) held ∙ ap (held_or (held_at pool (page_number layout place))) disk
+    ap (λ (o : Option HeldPage). unwrap_or (option_map (λ (h : HeldPage). h.content) o) (disk_page layout others place)) held ∙ ap (unwrap_or (content_at pool (page_number layout place))) disk
 
 -- what was put there stands there
 spliced_field : (old : List ℕ) (at : ℕ) (bytes : List ℕ) → at ≤ length old → field_at (spliced old at bytes) at (length bytes) ≡ bytes

@@ -47,21 +47,23 @@ held_checked layout fill pool place held is all got =
 pub sets_held : (pool : PoolState) (number : ℕ) (held new : HeldPage) → held_at pool number ≡ Some held → SetsPage pool number new (with_page pool number new)
 sets_held pool number held new got = inl (inl (subst (λ (found : Option HeldPage). IsSome found) (sym got) tt), refl)
 
-pub changes_held : (layout : DiskLayout) (place : Place) (change : LoggedChange) (pool : PoolState) (form : Form) (held : HeldPage) (made : List ℕ) (number : ℕ) (result : Result Unit Misfit)
-    → form ≡ form_of layout place.relation → number ≡ page_number layout place → held_at pool number ≡ Some held → AreBytes made
-    → OnOk result (Fits form held.content change) → OnOk result (Means form held.content change made) → IfErr result (λ e. Fits form held.content change → ⊥)
+pub changes_held : (layout : DiskLayout) (place : Place) (change : LoggedChange) (pool : PoolState) (form : Form) (held : HeldPage) (page made : List ℕ) (number : ℕ) (result : Result Unit Misfit)
+    → form ≡ form_of layout place.relation → number ≡ page_number layout place → held_at pool number ≡ Some held → page ≡ held.content → AreBytes made
+    → OnOk result (Fits form page change) → OnOk result (Means form page change made) → IfErr result (λ e. Fits form page change → ⊥)
     → ChangesHeld layout place change pool (with_page pool number (record { content = made; log = Some 0 })) result
-changes_held layout place change pool form held made number (Ok done) same at got bytes fits means misfit = (
-  held,
-  made,
-  ap (held_at pool) (sym at) ∙ got,
-  subst (λ (f : Form). Fits f held.content change) same fits,
-  subst (λ (f : Form). Means f held.content change made) same means,
-  bytes,
-  ap (λ (n : ℕ). with_page pool n (record { content = made; log = Some 0 })) at,
-)
-changes_held layout place change pool form held made number (Err e) same at got bytes fits means misfit =
-    (held, ap (held_at pool) (sym at) ∙ got, λ fit. misfit (subst (λ (f : Form). Fits f held.content change) (sym same) fit))
+changes_held layout place change pool form held page made number (Ok done) same at got is bytes fits means misfit =
+    let fit = subst (λ (p : List ℕ). Fits form p change) is fits in
+    let mean = subst (λ (p : List ℕ). Means form p change made) is means in (
+      held,
+      made,
+      ap (held_at pool) (sym at) ∙ got,
+      subst (λ (f : Form). Fits f held.content change) same fit,
+      subst (λ (f : Form). Means f held.content change made) same mean,
+      bytes,
+      ap (λ (n : ℕ). with_page pool n (record { content = made; log = Some 0 })) at,
+    )
+changes_held layout place change pool form held page made number (Err e) same at got is bytes fits means misfit =
+    (held, ap (held_at pool) (sym at) ∙ got, λ fit. misfit (subst (λ (p : List ℕ). Fits form p change) (sym is) (subst (λ (f : Form). Fits f held.content change) (sym same) fit)))
 
 -- ---- by the answer
 

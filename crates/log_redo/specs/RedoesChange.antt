@@ -1,13 +1,12 @@
 -- one change of a log
 use Rattle.std.specs.Prelude.{◌≡◌, ◌≤◌, ℕ, IsTrue, Bool, List, [], ◌∷◌, ◌++◌, Result, Ok, Err}
 use Rattle.block_model.specs.Causes.{Rose}
-use Rattle.block_model.specs.declared.place.Place.{Place}
 use Rattle.store_layout.specs.DiskLayout.{DiskLayout}
 use Rattle.disk_trait.specs.Told.{Told}
 use Rattle.log_area.specs.Frames.{LogFrame}
 use Rattle.wal_record.specs.Changes.{LoggedChange}
 use Rattle.buffer_pool.specs.PoolState.{PoolState}
-use Rattle.log_redo.specs.Redoing.{AreFirstOf, AreMarked, MakePages, Redoing}
+use Rattle.log_redo.specs.Redoing.{AreFirstOf, AreMarked, CanBeRedone, Redoing}
 use Rattle.log_redo.specs.declared.fault.Stop.{Stop}
 use Rattle.log_redo.specs.declared.fault.Stop.TheVariants.{Amiss, Disk}
 
@@ -21,7 +20,7 @@ RedoesChange layout change disk pool marks after new marked =
 abbrev pub CannotBeNext : DiskLayout → LoggedChange → Told → PoolState → List Bool → Type 0
 CannotBeNext layout change disk pool marks =
     (frames : List LogFrame) (start : Told) (done : List LoggedChange) → Redoing layout frames start done disk pool → AreMarked layout done marks → IsTrue disk.tells_contents
-    → (more : List LoggedChange) (page : Place → List ℕ) → MakePages layout start.contents (done ++ change ∷ more) page → ⊥
+    → (more : List LoggedChange) → CanBeRedone layout start.contents (done ++ change ∷ more) → ⊥
 
 -- by the answer: the disk's count didn't fall; the change can't stand there; the count rose
 abbrev pub ChangeCause : {T : Type 0} → DiskLayout → LoggedChange → Told → PoolState → List Bool → Told → Result T Stop → Type 0

@@ -27,6 +27,12 @@ pub record MakePages (layout : DiskLayout) (image : List ℕ) (changes : List Lo
   pub anew : (place : Place) → BeginAnew (changes_at place changes)
   pub redone : (place : Place) → IsPlace layout place → Redone (form_of layout place.relation) (disk_page layout image place) (changes_at place changes) (page place)
 
+-- the changes are of pages of the layout, the first one of each page makes it whole, and they fit, one after the other
+pub record CanBeRedone (layout : DiskLayout) (image : List ℕ) (changes : List LoggedChange) : Type 0 where
+  pub places : AllByRecursion (λ change. IsPlace layout (place_of change)) changes
+  pub anew : (place : Place) → BeginAnew (changes_at place changes)
+  pub fit : (place : Place) → IsPlace layout place → (page : List ℕ) × Redone (form_of layout place.relation) (disk_page layout image place) (changes_at place changes) page
+
 -- the image has the control page and the log of the first one, and each of its pages that no change names
 pub record KeepsTheRest (layout : DiskLayout) (changes : List LoggedChange) (first image : List ℕ) : Type 0 where
   pub log : take (first_offset layout) image ≡ take (first_offset layout) first

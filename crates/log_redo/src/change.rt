@@ -1,6 +1,7 @@
 //! One change of a log.
 
-ghost use Rattle.std.specs.Prelude.{◌≡◌, ◌*◌, OnOk, length};
+ghost use Rattle.std.specs.Prelude.{◌≡◌, ◌⊎◌, ◌*◌, OnOk, length, true, false};
+ghost use Rattle.page_redo.specs.Redo.{IsAnew};
 ghost use Rattle.wal_record.specs.Changes.{logged};
 ghost use Rattle.log_redo.specs.PooledPages.{IsReady};
 ghost use Rattle.block_model.specs.declared.limits.TheConstants.{PAGE_SIZE};
@@ -30,6 +31,7 @@ pub(crate) fn redo_change<D: Disk>(
     requires ready { IsReady layout.now (D.told disk.old).size pool.old }
     requires marks { PAGE_SIZE * length marks.old ≡ disk_size layout.now }
     ensures ready { IsReady layout.now (D.told disk.new).size pool.new }
+    ensures frames { pool.new.frames ≡ pool.old.frames }
     ensures redone { OnOk result (RedoesChange layout.now (logged change.now) (D.told disk.old) pool.old marks.old (D.told disk.new) pool.new marks.new) }
     ensures any_moment { KeepsMoments layout.now (D.told disk.old) pool.old (D.told disk.new) }
     ensures cause { ChangeCause layout.now (logged change.now) (D.told disk.old) pool.old marks.old (D.told disk.new) result }
@@ -43,8 +45,7 @@ pub(crate) fn redo_change<D: Disk>(
         return Err(Stop::Amiss);
     }
     let at = number_of(layout, place) as usize;
-    let begun = marks[at];
-    if !begun && !is_anew(change) {
+    if !may_stand(marks[at], change) {
         return Err(Stop::Amiss);
     }
     match redo_page(disk, layout, pool, place, change) {
@@ -54,4 +55,16 @@ pub(crate) fn redo_change<D: Disk>(
         }
         Err(stop) => Err(stop),
     }
+}
+
+/// Whether the change may stand there: its page was begun, or it makes the whole page.
+fn may_stand(begun: bool, change: &Change<'_>) -> bool
+    ensures may { result ≡ true → (begun ≡ true) ⊎ IsAnew (logged change.now) }
+    ensures begun { result ≡ false → begun ≡ false }
+    ensures whole { result ≡ false → IsAnew (logged change.now) → ⊥ }
+{
+    if begun {
+        return true;
+    }
+    is_anew(change)
 }

@@ -35,6 +35,7 @@ pub fn redo<D: Disk>(
     requires marks { PAGE_SIZE * length marks.old ≡ disk_size layout.now }
     requires row { area + length (row_of frames.now) < 2 ^ 32 }
     ensures ready { IsReady layout.now (D.told disk.new).size pool.new }
+    ensures frames { pool.new.frames ≡ pool.old.frames }
     // The pages are those of the frames' changes, made one after the other.
     ensures redone { OnOk result (RedoesLog layout.now frames.now (D.told disk.old) pool.old marks.old (D.told disk.new) pool.new marks.new) }
     // Also where a frame is damaged, or the disk fails.
@@ -66,6 +67,7 @@ fn redo_frame<D: Disk>(
     requires ready { IsReady layout.now (D.told disk.old).size pool.old }
     requires marks { PAGE_SIZE * length marks.old ≡ disk_size layout.now }
     ensures ready { IsReady layout.now (D.told disk.new).size pool.new }
+    ensures frames { pool.new.frames ≡ pool.old.frames }
     ensures redone { OnOk result (RedoesFrame layout.now (record { changes = changes.now; count = count }) (D.told disk.old) pool.old marks.old (D.told disk.new) pool.new marks.new) }
     ensures any_moment { KeepsMomentsOfFrame layout.now (record { changes = changes.now; count = count }) (D.told disk.old) pool.old marks.old (D.told disk.new) }
     ensures cause { FrameCause layout.now (record { changes = changes.now; count = count }) (D.told disk.old) pool.old marks.old (D.told disk.new) result }

@@ -76,14 +76,17 @@ pub(crate) fn redo_page<D: Disk>(
     requires place { IsPlace layout.now place }
     requires ready { IsReady layout.now (D.told disk.old).size pool.old }
     ensures ready { IsReady layout.now (D.told disk.new).size pool.new }
+    ensures frames { pool.new.frames ≡ pool.old.frames }
     ensures redone { OnOk result (RedoesPage layout.now place (logged change.now) (D.told disk.old) pool.old (D.told disk.new) pool.new) }
     ensures any_moment { KeepsMoments layout.now (D.told disk.old) pool.old (D.told disk.new) }
     ensures cause { PageCause layout.now place (logged change.now) (D.told disk.old) pool.old (D.told disk.new) result }
 {
-    match redo_held(layout, pool, place, change) {
-        Some(Ok(())) => Ok(()),
-        Some(Err(_)) => Err(Stop::Amiss),
-        None => redo_absent(disk, layout, pool, place, change),
+    let Some(result) = redo_held(layout, pool, place, change) else {
+        return redo_absent(disk, layout, pool, place, change);
+    };
+    match result {
+        Ok(()) => Ok(()),
+        Err(_) => Err(Stop::Amiss),
     }
 }
 
@@ -125,6 +128,7 @@ fn redo_absent<D: Disk>(
     requires ready { IsReady layout.now (D.told disk.old).size pool.old }
     requires absent { held_at pool.old (page_number layout.now place) ≡ None }
     ensures ready { IsReady layout.now (D.told disk.new).size pool.new }
+    ensures frames { pool.new.frames ≡ pool.old.frames }
     ensures redone { OnOk result (RedoesPage layout.now place (logged change.now) (D.told disk.old) pool.old (D.told disk.new) pool.new) }
     ensures any_moment { KeepsMoments layout.now (D.told disk.old) pool.old (D.told disk.new) }
     ensures cause { PageCause layout.now place (logged change.now) (D.told disk.old) pool.old (D.told disk.new) result }
@@ -169,7 +173,7 @@ fn page_before<D: Disk>(
 }
 
 /// The page that begins at a byte of the disk.
-pub(crate) fn read_page<D: Disk>(disk: &mut D, at: u64) -> Result<Page, DiskFault>
+pub fn read_page<D: Disk>(disk: &mut D, at: u64) -> Result<Page, DiskFault>
     requires { at + PAGE_SIZE ≤ (D.told disk.old).size }
     ensures page { IfOk result (λ page. IsTrue (D.told disk.old).tells_contents → page ≡ field_at (D.told disk.old).contents at PAGE_SIZE) }
     ensures same { D.told disk.new ≡ record (D.told disk.old) { faults = (D.told disk.new).faults } }

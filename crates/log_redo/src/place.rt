@@ -40,7 +40,7 @@ pub fn form_of(layout: &Layout, relation: u8) -> Form
 }
 
 /// How many relations the layout has: the statuses, the tables and the indexes.
-fn count_relations(layout: &Layout) -> u8
+pub fn count_relations(layout: &Layout) -> u8
     ensures { result ≡ length (relation_blocks layout.now) }
 {
     layout.known();
@@ -49,7 +49,7 @@ fn count_relations(layout: &Layout) -> u8
 }
 
 /// How many blocks a relation may have.
-fn blocks_of(layout: &Layout, relation: u8) -> u32
+pub fn blocks_of(layout: &Layout, relation: u8) -> u32
     requires { relation < length (relation_blocks layout.now) }
     ensures { result ≡ slice_index (relation_blocks layout.now) relation }
 {

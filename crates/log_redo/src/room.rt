@@ -27,6 +27,7 @@ pub(crate) fn hold<D: Disk>(
     requires durable { AreDurable pool.old }
     requires frames { 1 ≤ pool.old.frames }
     ensures held { OnOk result (Holds number page.now (D.told disk.old) pool.old (D.told disk.new) pool.new) }
+    ensures frames { pool.new.frames ≡ pool.old.frames }
     ensures same { OnErr result (pool.new ≡ pool.old) }
     // What a crash leaves, also after a fault.
     ensures writes { MayWrite (D.told disk.old) pool.old (D.told disk.new) }

@@ -1,0 +1,6 @@
+pub mod Damaged
+pub mod StartCauses
+pub mod Opened
+pub mod Judged
+pub mod PageCauses
+pub mod Orders
