@@ -115,7 +115,7 @@ module _ (layout : DiskLayout) (fill : PagesFillDisk layout) (mid new : PoolStat
       ∙ get_put_apart nat_cmp_total (map.remove mid.pages gone.0) (page_number layout place) n held (numbers_apart n (page_number layout place) (λ e. apart (one_number layout fill other place iso is e))) in
       elim (cases_eq n gone.0) [
         | inl e ↦ inr (gone.3.0, ap (held_at mid) e ∙ gone.3.1, gone.3.2, put ∙ ap (map.get (map.remove mid.pages gone.0)) e ∙ get_removed_here nat_cmp_total mid.pages gone.0)
-        | inr no ↦ inl (put ∙ get_removed_apart nat_cmp_total mid.pages gone.0 n (numbers_apart n gone.0 no))
+        | inr differs ↦ inl (put ∙ get_removed_apart nat_cmp_total mid.pages gone.0 n (numbers_apart n gone.0 differs))
       ]
 
   -- and its content is the same

@@ -47,6 +47,17 @@ in_frame layout frame old pool marks = record {
 front_is : (bytes front : List ℕ) → IsFront front bytes → take (length front) bytes ≡ front
 front_is bytes front is = ap (take (length front)) is.1 ∙ take-append_seam front is.0
 
+-- a change that begins the bytes behind an offset ends within them
+pub some_size : (c : LoggedChange) → 0 < length (bytes_of c)
+some_size c = some_length (bytes_of c) (λ none. some_bytes c [] (append-nil (bytes_of c) ∙ none))
+  where
+    some_length : (l : List ℕ) → (l ≡ [] → ⊥) → 0 < length l
+    some_length [] not = absurd (not refl)
+    some_length (x ∷ l) not = omega arith
+
+pub reach_of : (bytes : List ℕ) (at : ℕ) (c : LoggedChange) → IsFront (bytes_of c) (drop at bytes) → at < length bytes → at + length (bytes_of c) ≤ length bytes
+reach_of bytes at c front within = omega (arith, within, length-drop at bytes, ap (length {A = ℕ}) front.1, length-append (bytes_of c) front.0)
+
 module _ (one : NoneBeginsAnother) where
   -- changes in a frame are the next ones of the log
   first_in_frame : (before behind : List LogFrame) (frame : LogFrame) (done own : List LoggedChange) (front rest : List ℕ) → AreLogged before done → frame.changes ≡ front ++ rest → AreChangesOf front own → AreFirstOf (before ++ frame ∷ behind) (done ++ own)

@@ -9,3 +9,4 @@ pub mod Pooling
 pub mod Making
 pub mod InFrames
 pub mod Logs
+pub mod Answering

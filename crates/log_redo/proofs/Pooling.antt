@@ -45,7 +45,7 @@ held_checked layout fill pool place held is all got =
 
 -- the page was held already
 pub sets_held : (pool : PoolState) (number : ℕ) (held new : HeldPage) → held_at pool number ≡ Some held → SetsPage pool number new (with_page pool number new)
-sets_held pool number held new got = inl (inl (subst (λ (found : Option HeldPage). IsSome found) (sym got) tt), refl)
+sets_held pool number held new got = inl (inl (subst (λ (found : Option HeldPage). IsSome found) (sym got) refl), refl)
 
 pub changes_held : (layout : DiskLayout) (place : Place) (change : LoggedChange) (pool : PoolState) (form : Form) (held : HeldPage) (page made : List ℕ) (number : ℕ) (result : Result Unit Misfit)
     → form ≡ form_of layout place.relation → number ≡ page_number layout place → held_at pool number ≡ Some held → page ≡ held.content → AreBytes made

@@ -4,7 +4,7 @@ use Rattle.std.specs.Prelude.{Option, None, Some, IsSome, Result, Ok, Err}
 use Rattle.std.specs.Ordering.{eq_by_cmp, nat_cmp}
 use Rattle.std.specs.FinMap as map
 use Rattle.std.specs.FinMap.{entries, get-entries, len-entries}
-use Rattle.std.proofs.lemmas.Bool.{cond-true}
+use Rattle.std.proofs.lemmas.Bool.{cond-true, false≢true}
 use Rattle.std.proofs.lemmas.Cmp.{nat_cmp_total, eq_by_cmp_equiv}
 use Rattle.block_model.specs.NumberMaps.{get_put_here}
 use Rattle.disk_trait.specs.Told.{Told}
@@ -24,12 +24,12 @@ some_held : (pool : PoolState) → 1 ≤ map.len pool.pages → (number : ℕ) �
 some_held pool some = some_entry pool.pages (entries pool.pages) refl (omega (arith, some, len-entries pool.pages))
 
 not_none : (log : Option ℕ) → log ≡ None → IsSome log → ⊥
-not_none log is some = subst IsSome is some
+not_none log is some = absurd (false≢true (subst IsSome is some))
 
 -- where all pages were dirty one could be written, and then not all are
 pub one_is_clean : (pool mid : PoolState) (number : ℕ) (disk after : Told) (done : Bool) → AreDurable pool → 1 ≤ pool.frames → IsAllDirty pool number → CleansOne pool mid 0 0 disk after (Ok done) → IsAllDirty mid number → ⊥
 one_is_clean pool mid number disk after true durable frames all c again =
-    again.dirty c.page (record c.held { log = None }) (ap (λ (p : PoolState). held_at p c.page) c.clean ∙ get_put_here nat_cmp_total pool.pages c.page (record c.held { log = None }))
+    absurd (false≢true (again.dirty c.page (record c.held { log = None }) (ap (λ (p : PoolState). held_at p c.page) c.clean ∙ get_put_here nat_cmp_total pool.pages c.page (record c.held { log = None }))))
 one_is_clean pool mid number disk after false durable frames all c again =
     let one = some_held pool (omega (arith, all.full, frames)) in
     ⊎_elim (λ (none : one.1.log ≡ None). not_none one.1.log none (all.dirty one.0 one.1 one.2))

@@ -60,6 +60,11 @@ RedoesLog layout frames disk pool marks after new marked =
 abbrev pub KeepsMomentsOfLog : DiskLayout → List LogFrame → Told → PoolState → List Bool → Told → Type 0
 KeepsMomentsOfLog layout frames disk pool marks after = (start : Told) → AreRedone layout frames [] start disk pool marks → Throughout start after (OpensAsBefore start)
 
+-- the fault of a frame whose gate is that byte
+abbrev pub fault_of : Stop → ℕ → RedoFault
+fault_of stops.Amiss gate = faults.Damaged gate
+fault_of stops.Disk gate = faults.Disk
+
 -- by the answer: the disk's count didn't fall; a frame isn't of its form; the count rose
 abbrev pub LogCause : {T : Type 0} → DiskLayout → ℕ → List LogFrame → Told → PoolState → List Bool → Told → Result T RedoFault → Type 0
 LogCause layout area frames disk pool marks after (Ok done) = disk.faults ≤ after.faults

@@ -5,7 +5,7 @@ ghost use Rattle.log_area.specs.Frames.{row_of};
 ghost use Rattle.log_redo.specs.PooledPages.{IsReady};
 ghost use Rattle.block_model.specs.declared.limits.TheConstants.{PAGE_SIZE};
 ghost use Rattle.store_layout.specs.DiskLayout.{disk_size};
-ghost use Rattle.log_redo.specs.RedoesFrame.{FrameCause, KeepsMomentsOfFrame, KeepsMomentsOfLog, LogCause, RedoesFrame, RedoesLog};
+ghost use Rattle.log_redo.specs.RedoesFrame.{FrameCause, KeepsMomentsOfFrame, KeepsMomentsOfLog, LogCause, RedoesFrame, RedoesLog, fault_of};
 
 use crate::change::redo_change;
 use crate::fault::{RedoFault, Stop};
@@ -47,12 +47,21 @@ pub fn redo<D: Disk>(
         let (changes, count) = frames.frame(at);
         match redo_frame(disk, layout, pool, marks, changes, count) {
             Ok(()) => {}
-            Err(Stop::Amiss) => return Err(RedoFault::Damaged { at: gate }),
-            Err(Stop::Disk) => return Err(RedoFault::Disk),
+            Err(stop) => return Err(fault_at(stop, gate)),
         }
         gate += HEAD + changes.len() as u64;
     }
     Ok(())
+}
+
+/// The fault of a frame whose gate is that byte.
+fn fault_at(stop: Stop, gate: u64) -> RedoFault
+    ensures { result ≡ fault_of stop gate }
+{
+    match stop {
+        Stop::Amiss => RedoFault::Damaged { at: gate },
+        Stop::Disk => RedoFault::Disk,
+    }
 }
 
 /// Redoes the changes of a frame, whose bytes these are, and which are so many.
@@ -76,17 +85,17 @@ fn redo_frame<D: Disk>(
     let mut at = 0usize;
     let mut left = count;
     'changes: while at < changes.len() {
-        let Ok((change, size)) = decode(&changes[at..]) else {
+        let Ok(read) = decode(&changes[at..]) else {
             return Err(Stop::Amiss);
         };
         if left == 0 {
             return Err(Stop::Amiss);
         }
-        match redo_change(disk, layout, pool, marks, &change) {
+        match redo_change(disk, layout, pool, marks, &read.0) {
             Ok(()) => {}
             Err(stop) => return Err(stop),
         }
-        at += size;
+        at += read.1;
         left -= 1;
     }
     if left > 0 {

@@ -4,6 +4,7 @@ ghost use Rattle.std.specs.Prelude.{◌≡◌, ◌↔◌, ◌+◌, ◌^◌, ◌<
 ghost use Rattle.block_model.specs.Causes.{HasCause};
 ghost use Rattle.store_layout.specs.DiskLayout.{IsPlace, disk_size, relation_blocks};
 ghost use Rattle.opened_pages.specs.PageOrder.{AreInOrder};
+ghost use Rattle.page_store.specs.PageMap.{block_at};
 ghost use Rattle.pooled_pages.specs.ShownPages.{shown_page, shown_pages};
 ghost use Rattle.store_opening.specs.Judged.{AreJudged};
 ghost use Rattle.store_opening.specs.Orders.{AreFirstStarted, HasIndexKinds, MayStand, OrderCause, kind_in};
@@ -116,8 +117,8 @@ fn judge_index<D: Disk>(
     requires relation { relation < length (relation_blocks layout.now) }
     requires some { 3 ≤ slice_index (relation_blocks layout.now) relation }
     requires kinds { AreJudgedIn layout.now pool.old (D.told disk.old) relation (slice_index (relation_blocks layout.now) relation) kinds.now }
-    ensures none { IfOk result (λ broken. IfNone broken (IsTrue (D.told disk.old).tells_contents → IsIndexInOrder (slice_index (relation_blocks layout.now) relation) (λ block. shown_page layout.now pool.old (D.told disk.old).contents (record { relation = relation; block = block })))) }
-    ensures some { IfOk result (λ broken. IfSome broken (λ at. (at < slice_index (relation_blocks layout.now) relation) × (IsTrue (D.told disk.old).tells_contents → IsIndexInOrder (slice_index (relation_blocks layout.now) relation) (λ block. shown_page layout.now pool.old (D.told disk.old).contents (record { relation = relation; block = block })) → ⊥))) }
+    ensures none { IfOk result (λ broken. IfNone broken (IsTrue (D.told disk.old).tells_contents → IsIndexInOrder (slice_index (relation_blocks layout.now) relation) (block_at (shown_pages layout.now pool.old (D.told disk.old).contents) relation))) }
+    ensures some { IfOk result (λ broken. IfSome broken (λ at. (at < slice_index (relation_blocks layout.now) relation) × (IsTrue (D.told disk.old).tells_contents → IsIndexInOrder (slice_index (relation_blocks layout.now) relation) (block_at (shown_pages layout.now pool.old (D.told disk.old).contents) relation) → ⊥))) }
     ensures pool { pool.new ≡ pool.old }
     ensures same { D.told disk.new ≡ record (D.told disk.old) { faults = (D.told disk.new).faults } }
     ensures cause { HasCause (D.told disk.old).faults (D.told disk.new).faults result }

@@ -40,4 +40,5 @@ returns-in-Some-clause-changed c =
     c.form_of-form.ensures.form c.number_of.ensures.number lent.1 lent.2 c.known.ensures.small c.redo_checked-result.ensures.fitted c.redo_checked-result.ensures.done c.redo_checked-result.ensures.misfit
 
 pub returns-in-None-clause-absent : goal.returns-in-None-clause-absent
-returns-in-None-clause-absent c = ?
+returns-in-None-clause-absent c =
+    (ap (held_at c.args.pool.now) (sym c.number_of.ensures.number) ∙ none_held (held_at c.args.pool.now c.number_of.result) c.in-None.ensures.page, refl)
