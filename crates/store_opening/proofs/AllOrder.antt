@@ -14,7 +14,7 @@ use Rattle.opened_pages.specs.PageOrder.{AreInOrder, IsIndexInOrder, StartsFirst
 use Rattle.pooled_pages.specs.ShownLaws.{shown_at}
 use Rattle.pooled_pages.specs.ShownPages.{shown_page, shown_pages}
 use Rattle.store_opening.specs.Judged.{AreJudged, AreJudgedIn, IsJudged}
-use Rattle.store_opening.specs.Orders.{AreFirstStarted, kind_in}
+use Rattle.store_opening.specs.Orders.{AreFirstStarted, OrderedAt, kind_in}
 
 -- the kind that was noted is that of the page that is shown
 pub kind_shown : (layout : DiskLayout) (pool : PoolState) (disk : Told) (place : Place) (facts : PageFacts) → IsPlace layout place → IsTrue disk.tells_contents → IsJudged layout pool disk place facts
@@ -40,12 +40,6 @@ pub record OrderedBelow (layout : DiskLayout) (pages : PageMap) (n : ℕ) : Type
 
 pub none_ordered : (layout : DiskLayout) (pages : PageMap) → OrderedBelow layout pages 0
 none_ordered layout pages = record { statuses = λ some. absurd (omega (arith, some)); tables = λ table low. absurd (omega (arith, low)); indexes = λ index low. absurd (omega (arith, low)) }
-
--- what is wanted of one relation
-pub record OrderedAt (layout : DiskLayout) (pages : PageMap) (n : ℕ) : Type 0 where
-  pub statuses : n ≡ 0 → (block : ℕ) → block < block_limit layout n → kind_of (block_at pages n block) ≡ 1
-  pub tables : 0 < n → n ≤ length layout.schema.tables → StartsFirst (block_limit layout n) (block_at pages n)
-  pub indexes : length layout.schema.tables < n → IsIndexInOrder (block_limit layout n) (block_at pages n)
 
 pub ordered_more : (layout : DiskLayout) (pages : PageMap) (n : ℕ) → OrderedBelow layout pages n → OrderedAt layout pages n → OrderedBelow layout pages (n + 1)
 ordered_more layout pages n below here = record {

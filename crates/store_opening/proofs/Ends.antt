@@ -67,7 +67,7 @@ module _ (forgets : (form : Form) (change : LoggedChange) (changes : List Logged
   stands_kept image kept stands = record {
     side = ap (λ (b : ℕ). b % 2) (same_byte (first_offset layout) image start.contents 1 (omega arith) kept.log) ∙ stands.side;
     holds = subst (λ (room : ℕ). HoldsFrames (chosen_area room image) frames) (sym area)
-      (subst (λ (l : List ℕ). HoldsFrames l frames) (sym (area_same layout image start.contents kept.log)) (subst (λ (room : ℕ). HoldsFrames (chosen_area room start.contents) frames) area stands.holds));
+        (subst (λ (l : List ℕ). HoldsFrames l frames) (sym (area_same layout image start.contents kept.log)) (subst (λ (room : ℕ). HoldsFrames (chosen_area room start.contents) frames) area stands.holds));
     used = stands.used;
   }
 
@@ -107,7 +107,7 @@ module _ (forgets : (form : Form) (change : LoggedChange) (changes : List Logged
   in_pool tells = record {
     clean = λ place held is got none. r.redoing.clean tells place held is got none;
     dirty = λ place held waits is got log. ⊎_elim (λ (on : is_marked marks layout place ≡ true). on)
-      (λ (off : is_marked marks layout place ≡ false). absurd (let some = r.redoing.touched place held is got in omega (arith, some, ap (length {A = LoggedChange}) (r.marked.unmarked place is off)))) (cases_Bool (is_marked marks layout place));
+        (λ (off : is_marked marks layout place ≡ false). absurd (let some = r.redoing.touched place held is got in omega (arith, some, ap (length {A = LoggedChange}) (r.marked.unmarked place is off)))) (cases_Bool (is_marked marks layout place));
     waits = λ place is none. absurd (omega (arith, none));
   }
 

@@ -5,3 +5,4 @@ pub mod Joining
 pub mod PagesJudged
 pub mod IndexOrder
 pub mod AllOrder
+pub mod Finishing

@@ -4,3 +4,4 @@ pub mod Opened
 pub mod Judged
 pub mod PageCauses
 pub mod Orders
+pub mod Begun

@@ -1,5 +1,5 @@
 -- the order of pages, by their kinds
-use Rattle.std.specs.Prelude.{◌≡◌, ◌≢◌, ◌⊎◌, ◌+◌, ◌≤◌, ◌<◌, ◌==◌, nat_le, if◌then◌else◌, ℕ, IsTrue, List, Result, Ok, Err}
+use Rattle.std.specs.Prelude.{◌≡◌, ◌≢◌, ◌⊎◌, ◌+◌, ◌≤◌, ◌<◌, ◌==◌, nat_le, if◌then◌else◌, ℕ, IsTrue, List, length, Result, Ok, Err}
 use Rattle.block_model.specs.Causes.{Rose}
 use Rattle.block_model.specs.declared.place.Place.{Place}
 use Rattle.store_layout.specs.DiskLayout.{DiskLayout, IsPlace, page_offset}
@@ -7,7 +7,8 @@ use Rattle.disk_trait.specs.Told.{Told}
 use Rattle.page_store.specs.declared.facts.PageFacts.{PageFacts}
 use Rattle.page_store.specs.PageFacts.{facts_in}
 use Rattle.buffer_pool.specs.PoolState.{PoolState}
-use Rattle.opened_pages.specs.PageOrder.{AreInOrder}
+use Rattle.page_store.specs.PageMap.{PageMap, block_at, block_limit}
+use Rattle.opened_pages.specs.PageOrder.{AreInOrder, IsIndexInOrder, StartsFirst, kind_of}
 use Rattle.pooled_pages.specs.ShownPages.{shown_pages}
 use Rattle.store_opening.specs.declared.fault.StartFault.{StartFault}
 use Rattle.store_opening.specs.declared.fault.StartFault.TheVariants.{NoStore, Damaged, Disk, Memory}
@@ -33,6 +34,12 @@ MayStand maps block kind =
 pub record HasIndexKinds (limit maps : ℕ) (facts : List PageFacts) : Type 0 where
   pub kinds : (block : ℕ) → block < limit → MayStand maps block (kind_in facts block)
   pub first : AreFirstStarted limit facts
+
+-- the pages of one relation stand in order: statuses are started, of a table the first ones, and an index is in order
+pub record OrderedAt (layout : DiskLayout) (pages : PageMap) (n : ℕ) : Type 0 where
+  pub statuses : n ≡ 0 → (block : ℕ) → block < block_limit layout n → kind_of (block_at pages n block) ≡ 1
+  pub tables : 0 < n → n ≤ length layout.schema.tables → StartsFirst (block_limit layout n) (block_at pages n)
+  pub indexes : length layout.schema.tables < n → IsIndexInOrder (block_limit layout n) (block_at pages n)
 
 -- the pages aren't in order, and one of them begins at this byte
 pub record HasOrderAmiss (layout : DiskLayout) (pool : PoolState) (contents : List ℕ) (at : ℕ) : Type 0 where

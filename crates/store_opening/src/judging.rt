@@ -1,14 +1,18 @@
 //! The pages of a disk, judged one after the other.
 
-ghost use Rattle.std.specs.Prelude.{◌≡◌, ◌<◌, IsTrue, IfOk, length, slice_index};
+ghost use Rattle.std.specs.Prelude.{◌≡◌, ◌<◌, IsTrue, IfOk, OnOk, length, slice_index};
 ghost use Rattle.page_layout.specs.PageContents.{IsForm};
 ghost use Rattle.page_store.specs.Forms.{form_of};
 ghost use Rattle.store_layout.specs.DiskLayout.{IsPlace, disk_size, relation_blocks};
 ghost use Rattle.store_opening.specs.Judged.{AreJudged, AreJudgedIn, IsJudged};
 ghost use Rattle.store_opening.specs.PageCauses.{PageCause};
 ghost use Rattle.log_redo.specs.PooledPages.{HoldsPages};
+ghost use Rattle.opened_pages.specs.PageOrder.{AreInOrder};
+ghost use Rattle.pooled_pages.specs.ShownPages.{shown_pages};
+ghost use Rattle.store_opening.specs.StartCauses.{JudgeCause};
 
 use crate::fault::StartFault;
+use crate::order::judge_order;
 use block_model::Place;
 use buffer_pool::Pool;
 use disk_trait::Disk;
@@ -19,9 +23,34 @@ use pooled_pages::number_of;
 use std::alloc::Global;
 use store_layout::{Layout, pages_fill_the_disk};
 
+/// The facts of all pages, each of which passes its check and stands in order.
+pub fn judge<D: Disk>(
+    alloc: Global,
+    disk: &mut D,
+    layout: &Layout,
+    pool: &mut Pool,
+) -> Result<Vec<FactList>, StartFault>
+    requires size { (D.told disk.old).size ≡ disk_size layout.now }
+    requires held { HoldsPages layout.now pool.old }
+    ensures judged { IfOk result (λ facts. AreJudged layout.now pool.old facts.items (D.told disk.old)) }
+    ensures order { OnOk result (IsTrue (D.told disk.old).tells_contents → AreInOrder layout.now (shown_pages layout.now pool.old (D.told disk.old).contents)) }
+    ensures pool { pool.new ≡ pool.old }
+    ensures same { D.told disk.new ≡ record (D.told disk.old) { faults = (D.told disk.new).faults } }
+    ensures cause { JudgeCause layout.now pool.old (D.told disk.old) (D.told disk.new) result }
+{
+    let facts = match judge_pages(alloc, disk, layout, pool) {
+        Ok(facts) => facts,
+        Err(fault) => return Err(fault),
+    };
+    match judge_order(disk, layout, pool, &facts) {
+        Ok(()) => Ok(facts),
+        Err(fault) => Err(fault),
+    }
+}
+
 /// The facts of all pages of the relations: each page is read once, where it isn't held, and checked. `Damaged` where a page doesn't
 /// pass the check of its form.
-pub fn judge_pages<D: Disk>(
+fn judge_pages<D: Disk>(
     alloc: Global,
     disk: &mut D,
     layout: &Layout,

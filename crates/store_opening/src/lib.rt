@@ -5,12 +5,14 @@
 //! specs/Damaged.antt.
 #![tactic(auto)]
 
+mod beginning;
 mod control;
 mod fault;
 mod judging;
 mod laws;
 mod opening;
 mod order;
+mod redoing;
 
 pub use fault::StartFault;
 pub use laws::a_store_is_not_damaged;

@@ -7,7 +7,7 @@ ghost use Rattle.opened_pages.specs.PageOrder.{AreInOrder};
 ghost use Rattle.page_store.specs.PageMap.{block_at};
 ghost use Rattle.pooled_pages.specs.ShownPages.{shown_page, shown_pages};
 ghost use Rattle.store_opening.specs.Judged.{AreJudged};
-ghost use Rattle.store_opening.specs.Orders.{AreFirstStarted, HasIndexKinds, MayStand, OrderCause, kind_in};
+ghost use Rattle.store_opening.specs.Orders.{AreFirstStarted, HasIndexKinds, MayStand, OrderCause, OrderedAt, kind_in};
 ghost use Rattle.store_opening.specs.Judged.{AreJudgedIn};
 ghost use Rattle.opened_pages.specs.PageOrder.{IsIndexInOrder};
 ghost use Rattle.opened_pages.specs.FreshStore.{empty_page};
@@ -51,19 +51,11 @@ pub fn judge_order<D: Disk>(
     ensures same { D.told disk.new ≡ record (D.told disk.old) { faults = (D.told disk.new).faults } }
     ensures cause { OrderCause layout.now pool.old (D.told disk.old) (D.told disk.new) result }
 {
-    let tables = layout.schema().tables.len();
+    let _size = disk.size();
     'relations: for relation in 0..count_relations(layout) {
         let kinds = &facts[usize::from(relation)];
-        let limit = blocks_of(layout, relation);
-        let broken = if relation == STATUSES {
-            unstarted_status(kinds, limit)
-        } else if usize::from(relation) <= tables {
-            started_late(kinds, limit)
-        } else {
-            match judge_index(disk, layout, pool, kinds, relation) {
-                Ok(broken) => broken,
-                Err(DiskFault) => return Err(StartFault::Disk),
-            }
+        let Ok(broken) = broken_order(disk, layout, pool, kinds, relation) else {
+            return Err(StartFault::Disk);
         };
         if let Some(block) = broken {
             let at = layout.page_at(Place { relation, block });
@@ -71,6 +63,34 @@ pub fn judge_order<D: Disk>(
         }
     }
     Ok(())
+}
+
+/// The first block of a relation whose page breaks the order.
+fn broken_order<D: Disk>(
+    disk: &mut D,
+    layout: &Layout,
+    pool: &mut Pool,
+    kinds: &FactList,
+    relation: u8,
+) -> Result<Option<u32>, DiskFault>
+    requires size { (D.told disk.old).size ≡ disk_size layout.now }
+    requires held { HoldsPages layout.now pool.old }
+    requires relation { relation < length (relation_blocks layout.now) }
+    requires kinds { AreJudgedIn layout.now pool.old (D.told disk.old) relation (slice_index (relation_blocks layout.now) relation) kinds.now }
+    ensures none { IfOk result (λ broken. IfNone broken (IsTrue (D.told disk.old).tells_contents → OrderedAt layout.now (shown_pages layout.now pool.old (D.told disk.old).contents) relation)) }
+    ensures some { IfOk result (λ broken. IfSome broken (λ block. (block < slice_index (relation_blocks layout.now) relation) × (IsTrue (D.told disk.old).tells_contents → OrderedAt layout.now (shown_pages layout.now pool.old (D.told disk.old).contents) relation → ⊥))) }
+    ensures pool { pool.new ≡ pool.old }
+    ensures same { D.told disk.new ≡ record (D.told disk.old) { faults = (D.told disk.new).faults } }
+    ensures cause { HasCause (D.told disk.old).faults (D.told disk.new).faults result }
+{
+    let limit = blocks_of(layout, relation);
+    if relation == STATUSES {
+        return Ok(unstarted_status(kinds, limit));
+    }
+    if usize::from(relation) <= layout.schema().tables.len() {
+        return Ok(started_late(kinds, limit));
+    }
+    broken_index(disk, layout, pool, kinds, relation)
 }
 
 /// The first block of the statuses that isn't started.
@@ -105,7 +125,7 @@ fn started_late(kinds: &FactList, limit: u32) -> Option<u32>
 }
 
 /// The block of the first page of an index that stands out of order.
-fn judge_index<D: Disk>(
+fn broken_index<D: Disk>(
     disk: &mut D,
     layout: &Layout,
     pool: &mut Pool,
@@ -115,7 +135,7 @@ fn judge_index<D: Disk>(
     requires size { (D.told disk.old).size ≡ disk_size layout.now }
     requires held { HoldsPages layout.now pool.old }
     requires relation { relation < length (relation_blocks layout.now) }
-    requires some { 3 ≤ slice_index (relation_blocks layout.now) relation }
+    requires past { length layout.now.schema.tables < relation }
     requires kinds { AreJudgedIn layout.now pool.old (D.told disk.old) relation (slice_index (relation_blocks layout.now) relation) kinds.now }
     ensures none { IfOk result (λ broken. IfNone broken (IsTrue (D.told disk.old).tells_contents → IsIndexInOrder (slice_index (relation_blocks layout.now) relation) (block_at (shown_pages layout.now pool.old (D.told disk.old).contents) relation))) }
     ensures some { IfOk result (λ broken. IfSome broken (λ at. (at < slice_index (relation_blocks layout.now) relation) × (IsTrue (D.told disk.old).tells_contents → IsIndexInOrder (slice_index (relation_blocks layout.now) relation) (block_at (shown_pages layout.now pool.old (D.told disk.old).contents) relation) → ⊥))) }
@@ -123,6 +143,8 @@ fn judge_index<D: Disk>(
     ensures same { D.told disk.new ≡ record (D.told disk.old) { faults = (D.told disk.new).faults } }
     ensures cause { HasCause (D.told disk.old).faults (D.told disk.new).faults result }
 {
+    layout.known();
+    let _size = disk.size();
     let limit = blocks_of(layout, relation);
     let block = META_BLOCK;
     let meta = shown(disk, layout, pool, Place { relation, block })?;

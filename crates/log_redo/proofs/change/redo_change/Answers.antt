@@ -54,7 +54,7 @@ returns-in-Err-clause-cause g c =
     let change = logged c.args.change.now in
     let place = c.place_of-place.result in
     let old = g.D.Disk.told c.args.disk.now in
-    change_cause layout place change old c.args.pool.now c.args.marks.now (g.D.Disk.told c.redo_page.new.disk) c.in-Err.stop
+    change_cause (Unit {0}) layout place change old c.args.pool.now c.args.marks.now (g.D.Disk.told c.redo_page.new.disk) c.in-Err.stop
     (λ not frames start done r marked tells more make.
     cannot_fit c.redo_forgets_a_page_begun_anew.ensures c.redo_goes_on.ensures c.redo_is_a_function.ensures layout frames start old done c.args.pool.now place change (c.if-not-is_place.ensures.is refl) (sym c.place_of-place.ensures) r not tells more make)
     c.in-Err.ensures.cause

@@ -52,7 +52,7 @@ pub returns-in-Err-clause-cause : goal.returns-in-Err-clause-cause
 returns-in-Err-clause-cause g c =
     let change = logged c.in-Ok.read.0 in
     let front : IsFront (bytes_of change) (drop c.changes.at c.args.changes.now) = subst (IsFront (bytes_of change)) (take_rest c.args.changes.now c.changes.at) c.in-Ok.ensures.front in
-    frame_cause c.args.layout.now (record { changes = c.args.changes.now; count = c.args.count }) change (g.D.Disk.told c.args.disk.now) (g.D.Disk.told c.changes.disk) c.args.pool.now c.changes.pool c.args.marks.now c.changes.marks (g.D.Disk.told c.redo_change.new.disk) c.in-Err.stop
+    frame_cause (Unit {0}) c.args.layout.now (record { changes = c.args.changes.now; count = c.args.count }) change (g.D.Disk.told c.args.disk.now) (g.D.Disk.told c.changes.disk) c.args.pool.now c.changes.pool c.args.marks.now c.changes.marks (g.D.Disk.told c.redo_change.new.disk) c.in-Err.stop
     c.changes.invariant.later
     (amiss_next c.no_change_begins_another.ensures c.args.layout.now (record { changes = c.args.changes.now; count = c.args.count }) (g.D.Disk.told c.args.disk.now) c.args.pool.now c.args.marks.now
     c.changes.at c.changes.left (g.D.Disk.told c.changes.disk) c.changes.pool c.changes.marks c.changes.invariant.redone change c.in-Ok.ensures.change front) c.in-Err.ensures.cause
