@@ -6,7 +6,7 @@ ghost use Rattle.disk_trait.specs.Throughout.{Throughout};
 ghost use Rattle.disk_trait.specs.Follows.{Follows};
 ghost use Rattle.disk_trait.specs.IsStable.{IsStable};
 ghost use Rattle.store_layout.specs.DiskLayout.{area_size, disk_size};
-ghost use Rattle.log_area.specs.Frames.{LogFrame};
+ghost use Rattle.log_area.specs.Frames.{LogFrame, row_of};
 ghost use Rattle.log_area.specs.Log.{Log, Stands, ComesBy, area_start, areas_end};
 ghost use Rattle.log_area.specs.Appended.{Appended, KeptOrAppended, AppendAnswers, grown, left_in};
 ghost use Rattle.log_area.specs.Switched.{Switched, KeptOrSwitched, switched};
@@ -73,6 +73,7 @@ impl LogArea {
     ) -> Result<(LogArea, Frames), LogFault>
         requires size { disk_size layout.now ≤ (D.told disk.old).size }
         ensures areas { IfOk result (λ r. (r.0.room ≡ area_size layout.now) × (areas_end r.0.room ≤ disk_size layout.now)) }
+        ensures within { IfOk result (λ r. length (row_of r.1) < r.0.room) }
         ensures byte { IfOk result (λ r. IsTrue (D.told disk.old).tells_contents → r.0.byte ≡ slice_index (D.told disk.old).contents 1) }
         ensures stands { IfOk result (λ r. IsTrue (D.told disk.old).tells_contents → Stands r.0 r.1 (D.told disk.old).contents) }
         ensures refused { IfErr result (StartCause (area_size layout.now) (D.told disk.old) (D.told disk.new)) }

@@ -8,10 +8,7 @@ ghost use Rattle.disk_trait.specs.Torn.{Torn};
 ghost use Rattle.page_store.specs.PageMap.{PageMap};
 ghost use Rattle.opened_pages.specs.LoggedChanges.{changes_at};
 ghost use Rattle.opened_pages.specs.Opens.{Opens};
-ghost use Rattle.store_layout.specs.DiskLayout.{area_size};
-ghost use Rattle.log_area.specs.Log.{chosen_area};
 
-use control_page::area_of;
 use log_area::an_area_opens_in_one_way;
 use page_redo::{redo_forgets_a_page_begun_anew, redo_is_a_function};
 use page_store::maps_with_the_same_pages_are_equal;
@@ -19,10 +16,10 @@ use store_layout::{Layout, pages_fill_the_disk};
 use wal_record::no_change_begins_another;
 
 /// An image opens to one map of pages.
-pub fn an_image_opens_to_one_map(layout: &Layout, image: &[u8])
-    ensures { (a b : PageMap) → Opens layout.now image.now a → Opens layout.now image.now b → a ≡ b }
+pub fn an_image_opens_to_one_map(layout: &Layout)
+    ensures { (image : List ℕ) (a b : PageMap) → Opens layout.now image a → Opens layout.now image b → a ≡ b }
 {
-    an_area_opens_in_one_way(chosen_area(layout, image));
+    an_area_opens_in_one_way();
     no_change_begins_another();
     redo_is_a_function();
     maps_with_the_same_pages_are_equal();
@@ -34,13 +31,4 @@ pub fn a_page_begun_anew_may_be_torn(layout: &Layout)
 {
     pages_fill_the_disk(layout);
     redo_forgets_a_page_begun_anew();
-}
-
-/// The area of the log that an image chooses, as far as the image has it.
-fn chosen_area<'a>(layout: &Layout, image: &'a [u8]) -> &'a [u8]
-    ensures { result.now ≡ chosen_area (area_size layout.now) image.now }
-{
-    let start = (layout.area_at(area_of(image)) as usize).min(image.len());
-    let behind = &image[start..];
-    &behind[..(layout.area_size() as usize).min(behind.len())]
 }
