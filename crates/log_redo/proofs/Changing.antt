@@ -22,7 +22,7 @@ use Rattle.buffer_pool.specs.SetsPage.{SetsPage}
 use Rattle.buffer_pool.specs.SetLaws.{held_after}
 use Rattle.opened_pages.specs.LoggedChanges.{BeginAnew, changes_at}
 use Rattle.opened_pages.specs.Opens.{disk_page}
-use Rattle.log_redo.specs.PooledPages.{HoldsPages, IsHeldPage}
+use Rattle.log_redo.specs.PooledPages.{HoldsDurablePages, IsDurablePage}
 use Rattle.pooled_pages.specs.PageNumbers.{page_number}
 use Rattle.pooled_pages.specs.ShownLaws.{one_number}
 use Rattle.pooled_pages.specs.ShownPages.{shown_page}
@@ -175,11 +175,11 @@ module _ (layout : DiskLayout) (fill : PagesFillDisk layout) (mid new : PoolStat
       }
 
   -- each page that is held then is one of the layout
-  pub pages_set : length held.content ≡ PAGE_SIZE → IsPageIn layout place.relation held.content → held.log ≡ Some 0 → HoldsPages layout mid → HoldsPages layout new
+  pub pages_set : length held.content ≡ PAGE_SIZE → IsPageIn layout place.relation held.content → held.log ≡ Some 0 → HoldsDurablePages layout mid → HoldsDurablePages layout new
   pages_set whole checked dirty before number x got =
       ⊎_elim
       (λ (mine : (number ≡ page_number layout place) × (held ≡ x)).
-      subst (IsHeldPage layout number) mine.1 (record { place = place; is = is; number_is = mine.0; whole = whole; checked = checked; durable = inr dirty }))
+      subst (IsDurablePage layout number) mine.1 (record { place = place; is = is; number = sym mine.0; whole = whole; passes = checked }, inr dirty))
       (λ (was : held_at mid number ≡ Some x). before number x was) (held_after mid new (page_number layout place) held sets number x got)
 
 -- ---- marks

@@ -11,9 +11,11 @@ use Rattle.log_area.specs.Frames.{LogFrame, frame_bytes, numbers_of, row_of}
 use Rattle.buffer_pool.specs.PoolState.{PoolState}
 use Rattle.opened_pages.specs.LoggedChanges.{AreLogged}
 use Rattle.opened_pages.specs.Reaches.{OpensAsBefore}
+use Rattle.block_model.specs.declared.place.Place.{Place}
 use Rattle.block_model.specs.NumberMaps.{none_Some, same_Some}
 use Rattle.log_redo.specs.Damage.{HasFrameAmiss}
-use Rattle.log_redo.specs.Redoing.{Redoing}
+use Rattle.pooled_pages.specs.ShownPages.{shown_page}
+use Rattle.log_redo.specs.Redoing.{CanBeRedone, MakePages, Redoing}
 use Rattle.log_redo.specs.RedoesFrame.{AreRedone, IsAmissNext, IsNextFrame, KeepsMomentsOfFrame, RedoesFrame}
 
 -- a list taken apart at one of its elements
@@ -47,6 +49,10 @@ length-row_take [] (suc at) = omega arith
 length-row_take (f ∷ fs) zero = omega arith
 length-row_take (f ∷ fs) (suc at) = omega (arith, length-row_take fs at, length-append (frame_bytes f) (row_of (take at fs)), length-append (frame_bytes f) (row_of fs))
 
+-- changes that make pages fit
+can_be_redone : (layout : DiskLayout) (image : List ℕ) (done : List LoggedChange) (page : Place → List ℕ) → MakePages layout image done page → CanBeRedone layout image done
+can_be_redone layout image done page makes = record { places = makes.places; anew = makes.anew; fit = λ place is. (page place, makes.redone place is) }
+
 module _ (layout : DiskLayout) (frames : List LogFrame) (at : ℕ) (frame : LogFrame) (is : slice_get frames at ≡ Some frame) (start : Told) (mid : Told) (pool : PoolState) (marks : List Bool) (so_far : AreRedone layout frames (take at frames) start mid pool marks) where
   next : IsNextFrame layout (take at frames) (drop (suc at) frames) frame start so_far.done mid pool marks
   next = record {
@@ -78,6 +84,7 @@ module _ (layout : DiskLayout) (frames : List LogFrame) (at : ℕ) (frame : LogF
     stands = split_at frames at frame is;
     gate = stands;
     logged = so_far.logged;
+    fit = can_be_redone layout start.contents so_far.done (shown_page layout pool mid.contents) (so_far.redoing.pages tells);
     amiss = amiss (take at frames) (drop (suc at) frames) start so_far.done next tells;
   }
 

@@ -15,24 +15,24 @@ use Rattle.buffer_pool.specs.WritesPage.{Cleans}
 use Rattle.opened_pages.specs.LoggedChanges.{changes_at}
 use Rattle.opened_pages.specs.Reaches.{OpensAsBefore}
 use Rattle.log_redo.specs.Holds.{MayClean}
-use Rattle.log_redo.specs.PooledPages.{HoldsPages}
+use Rattle.log_redo.specs.PooledPages.{HoldsDurablePages}
 use Rattle.log_redo.specs.RedoesPage.{RedoesPage}
 use Rattle.log_redo.specs.Redoing.{AreFirstOf, Redoing}
 use Rattle.log_redo.proofs.Changing.{made_of, redoing_set}
 use Rattle.log_redo.proofs.Steps.{redoing_cleaned, redoing_read}
 
 -- once a page was written, or none
-pub redoing_mid : (layout : DiskLayout) → PagesFillDisk layout → (frames : List LogFrame) (start : Told) (done : List LoggedChange) (disk after : Told) (pool mid : PoolState) → HoldsPages layout pool
+pub redoing_mid : (layout : DiskLayout) → PagesFillDisk layout → (frames : List LogFrame) (start : Told) (done : List LoggedChange) (disk after : Told) (pool mid : PoolState) → HoldsDurablePages layout pool
     → (IsTrue disk.tells_contents → disk_size layout ≤ length disk.contents) → Throughout start after (OpensAsBefore start) → MayClean disk pool after mid
     → Redoing layout frames start done disk pool → Redoing layout frames start done after mid
 redoing_mid layout fill frames start done disk after pool mid held size moments (inl none) r =
     subst (λ (p : PoolState). Redoing layout frames start done after p) (sym none.1) (subst (λ (t : Told). Redoing layout frames start done t pool) (sym none.0) r)
 redoing_mid layout fill frames start done disk after pool mid held size moments (inr c) r =
-    redoing_cleaned layout fill disk after pool mid c (held c.page c.held c.cleanable.held) frames start done size moments r
+    redoing_cleaned layout fill disk after pool mid c (held c.page c.held c.cleanable.held).0 frames start done size moments r
 
 module _ (forgets : (form : Form) (change : LoggedChange) (changes : List LoggedChange) → IsAnew change → ForgetPage form (change ∷ changes)) (goes_on : (form : Form) (page mid new : List ℕ) (first more : List LoggedChange) → Redone form page first mid → Redone form mid more new → Redone form page (first ++ more) new) (once : (form : Form) (page a b : List ℕ) (changes : List LoggedChange) → Redone form page changes a → Redone form page changes b → a ≡ b) where
   pub change_made : (layout : DiskLayout) → PagesFillDisk layout → (frames : List LogFrame) (start : Told) (done : List LoggedChange) (disk after : Told) (pool new : PoolState) (place : Place) (c : LoggedChange)
-      → IsPlace layout place → place_of c ≡ place → HoldsPages layout pool → (IsTrue disk.tells_contents → disk_size layout ≤ length disk.contents) → Throughout start after (OpensAsBefore start)
+      → IsPlace layout place → place_of c ≡ place → HoldsDurablePages layout pool → (IsTrue disk.tells_contents → disk_size layout ≤ length disk.contents) → Throughout start after (OpensAsBefore start)
       → (IsAnew c) ⊎ (0 < length (changes_at place done)) → RedoesPage layout place c disk pool after new → AreFirstOf frames (done ++ c ∷ [])
       → Redoing layout frames start done disk pool → Redoing layout frames start (done ++ c ∷ []) after new
   change_made layout fill frames start done disk after pool new place c is own held size moments begun redoes first r =

@@ -18,7 +18,7 @@ use Rattle.log_redo.specs.Holds.{AreDurable}
 use Rattle.pooled_pages.specs.PageNumbers.{page_number}
 use Rattle.pooled_pages.specs.ShownLaws.{offset_of}
 use Rattle.pooled_pages.specs.ShownPages.{content_at, shown_page}
-use Rattle.log_redo.specs.PooledPages.{HoldsPages, IsHeldPage}
+use Rattle.log_redo.specs.PooledPages.{HoldsDurablePages}
 
 -- a page begins where its number says
 pub offset_of_number : (layout : DiskLayout) (place : Place) → page_offset layout place ≡ place_of 0 (page_number layout place)
@@ -61,13 +61,13 @@ other_page layout fill place written old new is isw other torn =
     (subst (λ (k : ℕ). Torn k PAGE_SIZE old new) (sym (offset_of_number layout written)) torn)
 
 -- pages that are held lie on the disk
-pub lie_on_disk : (layout : DiskLayout) → PagesFillDisk layout → (pool : PoolState) (size : ℕ) → HoldsPages layout pool → size ≡ disk_size layout → LieWithin pool 0 size
+pub lie_on_disk : (layout : DiskLayout) → PagesFillDisk layout → (pool : PoolState) (size : ℕ) → HoldsDurablePages layout pool → size ≡ disk_size layout → LieWithin pool 0 size
 lie_on_disk layout fill pool size held is number page got =
-    let h = held number page got in
-    omega (arith, fill.ends h.place h.is, offset_of_number layout h.place, ap (place_of 0) h.number_is, is)
+    let h = (held number page got).0 in
+    omega (arith, fill.ends h.place h.is, offset_of_number layout h.place, ap (place_of 0) h.number, is)
 
-pub durable_pages : (layout : DiskLayout) (pool : PoolState) → HoldsPages layout pool → AreDurable pool
-durable_pages layout pool held number page got = (held number page got).durable
+pub durable_pages : (layout : DiskLayout) (pool : PoolState) → HoldsDurablePages layout pool → AreDurable pool
+durable_pages layout pool held number page got = (held number page got).1
 
 -- what was read where a page begins is the page
 pub read_there : (layout : DiskLayout) (place : Place) (contents page : List ℕ) (at : ℕ) → at ≡ page_offset layout place → page ≡ field_at contents at PAGE_SIZE → page ≡ disk_page layout contents place

@@ -22,7 +22,7 @@ use Rattle.pooled_pages.specs.PageNumbers.{page_number}
 use Rattle.pooled_pages.specs.ShownLaws.{one_number}
 use Rattle.pooled_pages.specs.ShownPages.{shown_page}
 use Rattle.log_redo.specs.Holds.{Holds, MayClean, MayWrite}
-use Rattle.log_redo.specs.PooledPages.{HoldsPages, IsHeldPage, IsReady}
+use Rattle.log_redo.specs.PooledPages.{HoldsDurablePages, IsReady}
 use Rattle.log_redo.specs.RedoesPage.{ChangesHeld, DoesNotFit, RedoesPage}
 use Rattle.log_redo.proofs.Changing.{pages_set}
 use Rattle.log_redo.proofs.Places.{pooled_absent, pooled_held}
@@ -38,10 +38,10 @@ none_held None e = refl
 none_held (Some held) e = absurd (none_Some held.content e)
 
 -- the page that is held at a place passes the check of its form
-pub held_checked : (layout : DiskLayout) → PagesFillDisk layout → (pool : PoolState) (place : Place) (held : HeldPage) → IsPlace layout place → HoldsPages layout pool → held_at pool (page_number layout place) ≡ Some held → IsPageIn layout place.relation held.content
+pub held_checked : (layout : DiskLayout) → PagesFillDisk layout → (pool : PoolState) (place : Place) (held : HeldPage) → IsPlace layout place → HoldsDurablePages layout pool → held_at pool (page_number layout place) ≡ Some held → IsPageIn layout place.relation held.content
 held_checked layout fill pool place held is all got =
-    let one = all (page_number layout place) held got in
-    subst (λ (p : Place). IsPageIn layout p.relation held.content) (one_number layout fill one.place place one.is is (sym one.number_is)) one.checked
+    let one = (all (page_number layout place) held got).0 in
+    subst (λ (p : Place). IsPageIn layout p.relation held.content) (one_number layout fill one.place place one.is is one.number) one.passes
 
 -- the page was held already
 pub sets_held : (pool : PoolState) (number : ℕ) (held new : HeldPage) → held_at pool number ≡ Some held → SetsPage pool number new (with_page pool number new)
@@ -100,10 +100,10 @@ frames_held number page disk pool after new h =
     ∙ ⊎_elim (λ (none : (after ≡ disk) × (h.mid ≡ pool)). ap (λ (p : PoolState). p.frames) none.1) (λ (c : Cleans pool h.mid 0 0 disk after). ap (λ (p : PoolState). p.frames) c.clean) h.cleans
 
 pub pages_held : (layout : DiskLayout) (fill : PagesFillDisk layout) (place : Place) (page : List ℕ) (disk : Told) (pool : PoolState) (after : Told) (new : PoolState) → IsPlace layout place → length page ≡ PAGE_SIZE → IsPageIn layout place.relation page
-    → Holds (page_number layout place) page disk pool after new → HoldsPages layout pool → HoldsPages layout new
+    → Holds (page_number layout place) page disk pool after new → HoldsDurablePages layout pool → HoldsDurablePages layout new
 pages_held layout fill place page disk pool after new is whole checked h held =
     pages_set layout fill h.mid new place is (record { content = page; log = Some 0 }) h.sets whole checked refl
-    (⊎_elim (λ (none : (after ≡ disk) × (h.mid ≡ pool)). subst (HoldsPages layout) (sym none.1) held) (λ (c : Cleans pool h.mid 0 0 disk after). pages_cleaned layout pool h.mid 0 disk after c held) h.cleans)
+    (⊎_elim (λ (none : (after ≡ disk) × (h.mid ≡ pool)). subst (HoldsDurablePages layout) (sym none.1) held) (λ (c : Cleans pool h.mid 0 0 disk after). pages_cleaned layout pool h.mid 0 disk after c held) h.cleans)
 
 pub size_written : (disk : Told) (pool : PoolState) (after : Told) → MayWrite disk pool after → after.size ≡ disk.size
 size_written disk pool after (inl same) = ap (λ (t : Told). t.size) same

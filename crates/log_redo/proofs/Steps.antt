@@ -31,7 +31,8 @@ use Rattle.opened_pages.specs.LoggedChanges.{BeginAnew, changes_at}
 use Rattle.opened_pages.specs.Opens.{disk_page}
 use Rattle.opened_pages.specs.Reaches.{OpensAsBefore, OpensLike}
 use Rattle.log_redo.specs.Holds.{MayClean, MayWrite}
-use Rattle.log_redo.specs.PooledPages.{HoldsPages, IsHeldPage}
+use Rattle.log_redo.specs.PooledPages.{HoldsDurablePages, IsDurablePage}
+use Rattle.pooled_pages.specs.InPool.{IsHeldPage}
 use Rattle.pooled_pages.specs.PageNumbers.{page_number}
 use Rattle.pooled_pages.specs.ShownLaws.{one_number}
 use Rattle.pooled_pages.specs.ShownPages.{shown_page}
@@ -67,17 +68,17 @@ redoing_read layout frames start done disk after pool same r = subst (λ (t : To
 module _ (one_layout : (page : List ℕ) (a b : DiskLayout) → HasControl a page → HasControl b page → a ≡ b) (ways : (area : List ℕ) → OpensInOneWay area) (forgets : (form : Form) (change : LoggedChange) (changes : List LoggedChange) → IsAnew change → ForgetPage form (change ∷ changes)) where
   pub moments_written : (layout : DiskLayout) → PagesFillDisk layout → (frames : List LogFrame) (start : Told) (done : List LoggedChange) (disk after : Told) (pool : PoolState)
       → ((t : ℕ) (c : List ℕ) → t ≤ disk.moment → IsTrue (disk.now c) → IsTrue (disk.since t c))
-      → HoldsPages layout pool → MayWrite disk pool after → Redoing layout frames start done disk pool → Throughout start after (OpensAsBefore start)
+      → HoldsDurablePages layout pool → MayWrite disk pool after → Redoing layout frames start done disk pool → Throughout start after (OpensAsBefore start)
   moments_written layout fill frames start done disk after pool counts held (inl same) r = subst (λ (t : Told). Throughout start t (OpensAsBefore start)) (sym same) r.moments
   moments_written layout fill frames start done disk after pool counts held (inr wrote) r =
       let cleanable = wrote.2 in
-      let one = held wrote.0 wrote.1 cleanable.held in
+      let one = (held wrote.0 wrote.1 cleanable.held).0 in
       goes_on start disk after (OpensAsBefore start) r.moments wrote.3.moments
       (λ image now.
       let d = wrote.3.images image now in
       let was = r.moments.each d.0 (counts start.moment d.0 r.moments.later d.1) in
-      let touched = r.touched one.place wrote.1 one.is (ap (held_at pool) (sym one.number_is) ∙ cleanable.held) in
-      let kept = kept_torn layout fill done start.contents d.0 image one.place one.is touched (subst (λ (n : ℕ). Torn (writes.place_of 0 n) PAGE_SIZE d.0 image) one.number_is d.2) (r.images d.0 d.1) in
+      let touched = r.touched one.place wrote.1 one.is (ap (held_at pool) one.number ∙ cleanable.held) in
+      let kept = kept_torn layout fill done start.contents d.0 image one.place one.is touched (subst (λ (n : ℕ). Torn (writes.place_of 0 n) PAGE_SIZE d.0 image) (sym one.number) d.2) (r.images d.0 d.1) in
       (was.0, was.1, opens_like one_layout ways forgets layout frames start done r.log r.first was.0 image was.1 kept))
 
 -- what is held once a page is clean: it, as a clean page, or what was held before
@@ -92,13 +93,13 @@ cleaned_other : (pool mid : PoolState) (page : ℕ) (held : HeldPage) (number : 
 cleaned_other pool mid page held number is other =
     ap (λ (p : PoolState). held_at p number) is ∙ get_put_apart nat_cmp_total pool.pages page number (record held { log = None }) (numbers_apart number page other)
 
-module _ (layout : DiskLayout) (fill : PagesFillDisk layout) (disk after : Told) (pool mid : PoolState) (c : writes.Cleans pool mid 0 0 disk after) (one : IsHeldPage layout c.page c.held) where
+module _ (layout : DiskLayout) (fill : PagesFillDisk layout) (disk after : Told) (pool mid : PoolState) (c : writes.Cleans pool mid 0 0 disk after) (one : IsHeldPage layout c.page c.held.content) where
   -- the number of another page
   apart : (place : Place) → IsPlace layout place → place ≢ one.place → page_number layout place ≡ c.page → ⊥
-  apart place is other same = other (one_number layout fill place one.place is one.is (same ∙ one.number_is))
+  apart place is other same = other (one_number layout fill place one.place is one.is (same ∙ (sym one.number)))
 
   here : page_number layout one.place ≡ c.page
-  here = sym one.number_is
+  here = one.number
 
   -- the pages are the same
   cleaned_page : IsTrue disk.tells_contents → disk_size layout ≤ length disk.contents → (place : Place) → IsPlace layout place → shown_page layout mid after.contents place ≡ shown_page layout pool disk.contents place
@@ -109,7 +110,7 @@ module _ (layout : DiskLayout) (fill : PagesFillDisk layout) (disk after : Told)
         ∙ sym (pooled_held layout disk.contents pool place c.held (ap (held_at pool) at ∙ c.cleanable.held))
     | inr other ↦
         pooled_same layout disk.contents after.contents pool mid place (cleaned_other pool mid c.page c.held (page_number layout place) c.clean (apart place is other))
-        (other_page layout fill place one.place disk.contents after.contents is one.is other (subst (λ (n : ℕ). Torn (writes.place_of 0 n) PAGE_SIZE disk.contents after.contents) one.number_is (c.writes.others tells)))
+        (other_page layout fill place one.place disk.contents after.contents is one.is other (subst (λ (n : ℕ). Torn (writes.place_of 0 n) PAGE_SIZE disk.contents after.contents) (sym one.number) (c.writes.others tells)))
   ]
 
   pub redoing_cleaned : (frames : List LogFrame) (start : Told) (done : List LoggedChange) → (IsTrue disk.tells_contents → disk_size layout ≤ length disk.contents)
@@ -142,23 +143,23 @@ module _ (layout : DiskLayout) (fill : PagesFillDisk layout) (disk after : Told)
             (λ (other : (page_number layout place ≡ c.page → ⊥) × (held_at pool (page_number layout place) ≡ Some x)).
             r.clean (told tells) place x is other.1 none
             ∙ sym (other_page layout fill place one.place disk.contents after.contents is one.is (λ same. other.0 (ap (page_number layout) same ∙ here))
-            (subst (λ (n : ℕ). Torn (writes.place_of 0 n) PAGE_SIZE disk.contents after.contents) one.number_is (c.writes.others (told tells)))))
+            (subst (λ (n : ℕ). Torn (writes.place_of 0 n) PAGE_SIZE disk.contents after.contents) (sym one.number) (c.writes.others (told tells)))))
             (cleaned_held pool mid c.page c.held (page_number layout place) x c.clean got);
         contents = λ tells.
             kept_torn layout fill done start.contents disk.contents after.contents one.place one.is touched
-            (subst (λ (n : ℕ). Torn (writes.place_of 0 n) PAGE_SIZE disk.contents after.contents) one.number_is (c.writes.others (told tells))) (r.contents (told tells));
+            (subst (λ (n : ℕ). Torn (writes.place_of 0 n) PAGE_SIZE disk.contents after.contents) (sym one.number) (c.writes.others (told tells))) (r.contents (told tells));
         images = λ image now.
             let d = c.writes.images image now in
-            kept_torn layout fill done start.contents d.0 image one.place one.is touched (subst (λ (n : ℕ). Torn (writes.place_of 0 n) PAGE_SIZE d.0 image) one.number_is d.2) (r.images d.0 d.1);
+            kept_torn layout fill done start.contents d.0 image one.place one.is touched (subst (λ (n : ℕ). Torn (writes.place_of 0 n) PAGE_SIZE d.0 image) (sym one.number) d.2) (r.images d.0 d.1);
         moments = moments;
       }
 
 -- each page that is held then was held before
-pub pages_cleaned : (layout : DiskLayout) (pool mid : PoolState) (at : ℕ) (disk after : Told) → writes.Cleans pool mid at 0 disk after → HoldsPages layout pool → HoldsPages layout mid
+pub pages_cleaned : (layout : DiskLayout) (pool mid : PoolState) (at : ℕ) (disk after : Told) → writes.Cleans pool mid at 0 disk after → HoldsDurablePages layout pool → HoldsDurablePages layout mid
 pages_cleaned layout pool mid at disk after c held number x got =
     ⊎_elim
     (λ (own : (number ≡ c.page) × (record c.held { log = None } ≡ x)).
-    let h = held c.page c.held c.cleanable.held in
-    subst (IsHeldPage layout number) own.1 (record { place = h.place; is = h.is; number_is = own.0 ∙ h.number_is; whole = h.whole; checked = h.checked; durable = inl refl }))
+    let h = (held c.page c.held c.cleanable.held).0 in
+    subst (IsDurablePage layout number) own.1 (record { place = h.place; is = h.is; number = h.number ∙ sym own.0; whole = h.whole; passes = h.passes }, inl refl))
     (λ (other : (number ≡ c.page → ⊥) × (held_at pool number ≡ Some x)). held number x other.1)
     (cleaned_held pool mid c.page c.held number x c.clean got)

@@ -20,4 +20,5 @@ pub record HasFrameAmiss (layout : DiskLayout) (image : List ℕ) (area : ℕ) (
   pub stands : frames ≡ before ++ frame ∷ behind
   pub gate : at ≡ area + length (row_of before)
   pub logged : AreLogged before done
+  pub fit : CanBeRedone layout image done
   pub amiss : IsAmiss layout image done frame

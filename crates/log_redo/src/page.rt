@@ -11,7 +11,7 @@ ghost use Rattle.store_layout.specs.DiskLayout.{IsPlace, disk_size};
 ghost use Rattle.wal_record.specs.Changes.{logged, place_of};
 ghost use Rattle.buffer_pool.specs.PoolState.{held_at};
 ghost use Rattle.opened_pages.specs.Opens.{disk_page};
-ghost use Rattle.log_redo.specs.PooledPages.{HoldsPages, IsReady};
+ghost use Rattle.log_redo.specs.PooledPages.{HoldsDurablePages, IsReady};
 ghost use Rattle.pooled_pages.specs.PageNumbers.{page_number};
 ghost use Rattle.log_redo.specs.Redoing.{KeepsMoments};
 ghost use Rattle.log_redo.specs.RedoesPage.{ChangesHeld, PageCause, RedoesPage};
@@ -98,8 +98,8 @@ fn redo_held(
     change: &Change<'_>,
 ) -> Option<Result<(), Misfit>>
     requires place { IsPlace layout.now place }
-    requires held { HoldsPages layout.now pool.old }
-    ensures held { HoldsPages layout.now pool.new }
+    requires held { HoldsDurablePages layout.now pool.old }
+    ensures held { HoldsDurablePages layout.now pool.new }
     ensures frames { pool.new.frames ≡ pool.old.frames }
     ensures changed { IfSome result (ChangesHeld layout.now place (logged change.now) pool.old pool.new) }
     ensures absent { IfNone result ((held_at pool.old (page_number layout.now place) ≡ None) × (pool.new ≡ pool.old)) }

@@ -1,9 +1,14 @@
 -- the order in which the pages of a relation stand
-use Rattle.std.specs.Prelude.{◌≡◌, ◌≢◌, ◌⊎◌, ℕ, ◌+◌, ◌<◌, ◌≤◌, List, length, slice_index}
+use Rattle.std.specs.Prelude.{◌≡◌, ◌≢◌, ◌⊎◌, ℕ, ◌+◌, ◌<◌, ◌≤◌, List, [], ◌∷◌, length, slice_index}
+use Rattle.block_model.specs.declared.limits.TheConstants.{PAGE_SIZE}
+use Rattle.block_model.specs.Padded.{padded}
 use Rattle.byte_fields.specs.Fields.{field_at, number_of}
 use Rattle.store_layout.specs.DiskLayout.{DiskLayout}
 use Rattle.page_store.specs.PageMap.{PageMap, block_at, block_limit}
-use Rattle.opened_pages.specs.FreshStore.{empty_page}
+
+-- an empty page of that kind, of which 0 is one that isn't started
+abbrev pub empty_page : ℕ → List ℕ
+empty_page kind = padded PAGE_SIZE 0 (kind ∷ [])
 
 -- the kind of a page, 0 where it isn't started
 abbrev pub kind_of : List ℕ → ℕ

@@ -6,7 +6,7 @@ use Rattle.page_store.specs.Forms.{form_of}
 use Rattle.wal_record.specs.Changes.{logged}
 use Rattle.buffer_pool.specs.PoolState.{HeldPage, PoolState, held_at, with_page}
 use Rattle.pooled_pages.specs.PageNumbers.{page_number}
-use Rattle.log_redo.specs.PooledPages.{HoldsPages}
+use Rattle.log_redo.specs.PooledPages.{HoldsDurablePages}
 use Rattle.log_redo.proofs.Changing.{pages_set}
 use Rattle.log_redo.proofs.Pooling.{changes_held, held_checked, lent_held, none_held, sets_held}
 use Rattle.log_redo.proofs.page.redo_held.Goals as goal
@@ -27,7 +27,7 @@ returns-in-Some-clause-held c =
     let new : HeldPage = record { content = made; log = Some 0 } in
     let lent = lent_held (held_at pool c.number_of.result) c.in-Some.page.now c.in-Some.ensures.page in
     let got : held_at pool (page_number layout c.args.place) ≡ Some lent.0 = ap (held_at pool) (sym c.number_of.ensures.number) ∙ lent.1 in
-    subst (λ (n : ℕ). HoldsPages layout (with_page pool n new)) (sym c.number_of.ensures.number)
+    subst (λ (n : ℕ). HoldsDurablePages layout (with_page pool n new)) (sym c.number_of.ensures.number)
     (pages_set layout c.pages_fill_the_disk.ensures pool (with_page pool (page_number layout c.args.place) new) c.args.place c.requires.place new (sets_held pool (page_number layout c.args.place) lent.0 new got) c.known.ensures.whole
     (subst (λ (form : Form). IsPageOf form made) c.form_of-form.ensures.form c.redo_checked-result.ensures.passes) refl c.requires.held)
 
