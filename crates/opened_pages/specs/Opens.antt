@@ -1,5 +1,5 @@
 -- the pages that an image of a disk opens to
-use Rattle.std.specs.Prelude.{ℕ, List, take, drop}
+use Rattle.std.specs.Prelude.{ℕ, List, take}
 use Rattle.std.specs.List.{AllByRecursion}
 use Rattle.block_model.specs.declared.limits.TheConstants.{PAGE_SIZE}
 use Rattle.block_model.specs.declared.place.Place.{Place}

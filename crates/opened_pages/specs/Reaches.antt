@@ -1,5 +1,5 @@
 -- what the images at the moments of a call open to, by the images that were there when it began
-use Rattle.std.specs.Prelude.{◌⊎◌, ℕ, IsTrue, List}
+use Rattle.std.specs.Prelude.{◌⊎◌, ℕ, List}
 use Rattle.store_layout.specs.DiskLayout.{DiskLayout}
 use Rattle.disk_trait.specs.Told.{Told}
 use Rattle.log_area.specs.Log.{ComesBy}

@@ -1,5 +1,5 @@
 -- the pages of a disk by their numbers
-use Rattle.std.specs.Prelude.{ℕ, ◌+◌, ◌*◌, List, sum, take}
+use Rattle.std.specs.Prelude.{ℕ, ◌+◌, ◌*◌, sum, take}
 use Rattle.block_model.specs.declared.place.Place.{Place}
 use Rattle.store_layout.specs.DiskLayout.{DiskLayout, relation_blocks}
 

@@ -1,12 +1,11 @@
 -- laws of images that lose nothing
-use Rattle.std.proofs.Common.{◌≡◌, ◌≢◌, ◌⊎◌, inl, inr, ⊎_elim, ℕ, suc, ◌+◌, ◌-◌, ◌*◌, ◌%◌, ◌<◌, ◌≤◌, Bool, true, false, cond, ◌&&◌, ◌==◌, List, [], ◌∷◌, ◌++◌, length, take, drop, get_or, refl, sym, ap, subst, ◌∙◌, arith, append_assoc, length-append}
+use Rattle.std.proofs.Common.{◌≡◌, ◌≢◌, inl, inr, ⊎_elim, ℕ, suc, ◌+◌, ◌-◌, ◌*◌, ◌%◌, ◌<◌, ◌≤◌, Bool, true, false, cond, ◌&&◌, ◌==◌, List, [], ◌∷◌, ◌++◌, length, take, drop, get_or, refl, sym, ap, subst, ◌∙◌, arith, append_assoc}
 use Rattle.std.specs.List.{AllByRecursion}
 use Rattle.std.proofs.lemmas.List.{append-nil, take-take, drop-drop}
 use Rattle.std.proofs.lemmas.Bool.{false≢true}
 use Rattle.block_model.specs.declared.place.Place.{Place}
-use Rattle.store_layout.specs.DiskLayout.{DiskLayout, IsPlace, area_size, first_offset, page_offset}
+use Rattle.store_layout.specs.DiskLayout.{DiskLayout, IsPlace, area_size, page_offset}
 use Rattle.store_layout.specs.PagesFillDisk.{PagesFillDisk}
-use Rattle.byte_fields.specs.Fields.{field_at}
 use Rattle.control_page.specs.ControlPage.{HasControl, control_bytes, written_bytes}
 use Rattle.disk_trait.specs.Torn.{Torn}
 use Rattle.disk_trait.specs.RangeLaws.{torn_apart}
@@ -21,7 +20,7 @@ use Rattle.page_store.specs.Forms.{IsPageIn, form_of}
 use Rattle.page_store.specs.PageMap.{IsWhole, PageMap, page_at}
 use Rattle.wal_record.specs.Changes.{IsChange, LoggedChange, place_of}
 use Rattle.wal_record.specs.ChangeBytes.{bytes_of}
-use Rattle.opened_pages.specs.LoggedChanges.{AreChangesOf, AreLogged, BeginAnew, changes_at}
+use Rattle.opened_pages.specs.LoggedChanges.{AreChangesOf, AreLogged, changes_at}
 use Rattle.opened_pages.specs.Opens.{Opens, OpensAs, disk_page}
 use Rattle.opened_pages.specs.Reaches.{OpensToOr}
 use Rattle.opened_pages.proofs.Once.{logged_once}

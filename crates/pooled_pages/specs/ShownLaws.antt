@@ -1,6 +1,5 @@
 -- laws of the pages of a store of which some are held in memory
-use Rattle.std.proofs.Common.{◌≡◌, ◌≢◌, ◌⊎◌, inl, inr, ⊎_elim, ℕ, zero, suc, ◌+◌, ◌*◌, ◌<◌, ◌≤◌, List, [], ◌∷◌, length, map, get_or, sum, take, refl, sym, ap, subst, ◌∙◌, arith}
-use Rattle.std.specs.List.{range_with_len}
+use Rattle.std.proofs.Common.{◌≡◌, ◌≢◌, ◌⊎◌, inl, inr, ⊎_elim, ℕ, zero, suc, ◌+◌, ◌*◌, ◌<◌, List, [], ◌∷◌, length, map, get_or, sum, take, refl, sym, ap, ◌∙◌, arith}
 use Rattle.std.proofs.lemmas.Bool.{cases_eq}
 use Rattle.std.proofs.lemmas.List.FromFn.{get_or-map-range_with_len, length-map-range_with_len}
 use Rattle.block_model.specs.declared.place.Place.{Place}
@@ -8,7 +7,7 @@ use Rattle.block_model.specs.declared.limits.TheConstants.{PAGE_SIZE}
 use Rattle.store_layout.specs.DiskLayout.{DiskLayout, IsPlace, page_offset, relation_blocks}
 use Rattle.store_layout.specs.PagesFillDisk.{AreApart, PagesFillDisk}
 use Rattle.buffer_pool.specs.PoolState.{PoolState}
-use Rattle.page_store.specs.PageMap.{IsWhole, PageMap, page_at, unstarted_page}
+use Rattle.page_store.specs.PageMap.{IsWhole, page_at, unstarted_page}
 use Rattle.page_store.proofs.Maps.{same_maps}
 use Rattle.pooled_pages.specs.PageNumbers.{page_number}
 use Rattle.pooled_pages.specs.ShownPages.{pages_from, shown_page, shown_pages}

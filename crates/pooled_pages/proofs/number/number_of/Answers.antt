@@ -1,5 +1,4 @@
-use Rattle.std.proofs.Common.{ap, ◌∙◌, ◌/◌, ◌*◌, ◌≡◌, ℕ, arith}
-use Rattle.pooled_pages.specs.PageNumbers.{page_number}
+use Rattle.std.proofs.Common.{◌∙◌, arith}
 use Rattle.pooled_pages.specs.ShownLaws.{offset_of}
 use Rattle.pooled_pages.proofs.number.number_of.Goals as goal
 
