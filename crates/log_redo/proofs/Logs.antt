@@ -8,6 +8,7 @@ use Rattle.store_layout.specs.DiskLayout.{DiskLayout}
 use Rattle.disk_trait.specs.Told.{Told}
 use Rattle.disk_trait.specs.Throughout.{Throughout}
 use Rattle.log_area.specs.Frames.{LogFrame, frame_bytes, numbers_of, row_of}
+use Rattle.wal_record.specs.Changes.{LoggedChange}
 use Rattle.buffer_pool.specs.PoolState.{PoolState}
 use Rattle.opened_pages.specs.LoggedChanges.{AreLogged}
 use Rattle.opened_pages.specs.Reaches.{OpensAsBefore}
