@@ -1,5 +1,5 @@
 mod Rows
-mod OneWay
+pub mod OneWay
 mod Standing
 mod Publishing
 mod Appending

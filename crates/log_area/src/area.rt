@@ -6,9 +6,9 @@ ghost use Rattle.disk_trait.specs.Throughout.{Throughout};
 ghost use Rattle.disk_trait.specs.Follows.{Follows};
 ghost use Rattle.disk_trait.specs.IsStable.{IsStable};
 ghost use Rattle.store_layout.specs.DiskLayout.{area_size, disk_size};
-ghost use Rattle.log_area.specs.Frames.{LogFrame};
+ghost use Rattle.log_area.specs.Frames.{LogFrame, row_of};
 ghost use Rattle.log_area.specs.Log.{Log, Stands, ComesBy, area_start, areas_end};
-ghost use Rattle.log_area.specs.Appended.{Appended, KeptOrAppended, AppendAnswers, grown};
+ghost use Rattle.log_area.specs.Appended.{Appended, KeptOrAppended, AppendAnswers, grown, left_in};
 ghost use Rattle.log_area.specs.Switched.{Switched, KeptOrSwitched, switched};
 ghost use Rattle.log_area.specs.Started.{StartCause};
 
@@ -73,6 +73,7 @@ impl LogArea {
     ) -> Result<(LogArea, Frames), LogFault>
         requires size { disk_size layout.now ≤ (D.told disk.old).size }
         ensures areas { IfOk result (λ r. (r.0.room ≡ area_size layout.now) × (areas_end r.0.room ≤ disk_size layout.now)) }
+        ensures within { IfOk result (λ r. length (row_of r.1) < r.0.room) }
         ensures byte { IfOk result (λ r. IsTrue (D.told disk.old).tells_contents → r.0.byte ≡ slice_index (D.told disk.old).contents 1) }
         ensures stands { IfOk result (λ r. IsTrue (D.told disk.old).tells_contents → Stands r.0 r.1 (D.told disk.old).contents) }
         ensures refused { IfErr result (StartCause (area_size layout.now) (D.told disk.old) (D.told disk.new)) }
@@ -106,6 +107,22 @@ impl LogArea {
         Ok((log, frames))
     }
 
+    /// How many bytes of the chosen area the frames take.
+    pub fn used(&self) -> u64
+        ensures used { result ≡ self.now.used }
+        ensures within { result < self.now.room }
+        ensures small { result < 2 ^ 25 }
+    {
+        self.used
+    }
+
+    /// How many bytes of the chosen area are left for frames, from the closed gate on.
+    pub fn left(&self) -> u64
+        ensures left { result ≡ left_in self.now }
+    {
+        self.room - self.used
+    }
+
     /// Appends a frame of these changes: writes it behind the closed gate with a closed gate behind it, syncs, opens the gate
     /// and syncs. Takes no memory. `NoRoom` exactly where it needs more than is left, and then nothing is done; `Disk` where
     /// the disk failed in this call.
@@ -126,6 +143,7 @@ impl LogArea {
         ensures written { OnOk result (IsTrue (D.told disk.old).tells_contents → Appended self.old (record { changes = changes.now; count = count }) (D.told disk.old).contents (D.told disk.new).contents) }
         ensures contents { IsTrue (D.told disk.old).tells_contents → KeptOrAppended self.old (record { changes = changes.now; count = count }) (D.told disk.old).contents (D.told disk.new).contents }
         ensures answers { AppendAnswers self.old (length changes.now) (D.told disk.old).faults (D.told disk.new).faults result }
+        ensures later { (D.told disk.old).faults ≤ (D.told disk.new).faults }
     {
         let need = (HEAD + changes.len() + 1) as u64;
         let left = self.room - self.used;

@@ -1,0 +1,12 @@
+pub mod Relations
+pub mod Changes
+pub mod Places
+pub mod Images
+pub mod Rooms
+pub mod Steps
+pub mod Changing
+pub mod Pooling
+pub mod Making
+pub mod InFrames
+pub mod Logs
+pub mod Answering

@@ -1,0 +1,33 @@
+-- what the images at the moments of a call open to, by the images that were there when it began
+use Rattle.std.specs.Prelude.{◌⊎◌, ℕ, List}
+use Rattle.store_layout.specs.DiskLayout.{DiskLayout}
+use Rattle.disk_trait.specs.Told.{Told}
+use Rattle.log_area.specs.Log.{ComesBy}
+use Rattle.page_store.specs.PageMap.{PageMap}
+use Rattle.opened_pages.specs.Opens.{OpensAs}
+
+-- the image opens to what that one opened to, whatever store that was
+abbrev pub OpensLike : List ℕ → List ℕ → Type 0
+OpensLike before image = (layout : DiskLayout) (pages : PageMap) → OpensAs layout before pages → OpensAs layout image pages
+
+-- the image comes from one that was there before, and opens to what that one did
+abbrev pub OpensAsBefore : Told → List ℕ → Type 0
+OpensAsBefore old image = ComesBy OpensLike old image
+
+-- it is an image of a store with this layout, and opens to these pages or to what the one that was there before did
+abbrev pub OpensToOr : DiskLayout → PageMap → List ℕ → List ℕ → Type 0
+OpensToOr layout pages before image =
+    OpensAs layout image pages ⊎ ((others : PageMap) → OpensAs layout before others → OpensAs layout image others)
+
+-- the image comes from one that was there before, and opens to these pages or to what that one did
+abbrev pub Reaches : DiskLayout → Told → PageMap → List ℕ → Type 0
+Reaches layout old pages image = ComesBy (OpensToOr layout pages) old image
+
+-- the same, where a call may leave any of several maps
+abbrev pub ReachesAny : DiskLayout → Told → (PageMap → Type 0) → List ℕ → Type 0
+ReachesAny layout old Leaves image =
+    ComesBy (λ before after. ((pages : PageMap) × Leaves pages × OpensAs layout after pages) ⊎ ((others : PageMap) → OpensAs layout before others → OpensAs layout after others)) old image
+
+-- the image is that of a store with this layout, and opens to pages that have P
+abbrev pub OpensWith : DiskLayout → (PageMap → Type 0) → List ℕ → Type 0
+OpensWith layout P image = (pages : PageMap) × OpensAs layout image pages × P pages
