@@ -1,5 +1,5 @@
 -- which refusals come of which
-use Rattle.std.proofs.Common.{◌≡◌, ℕ, ◌≤◌, Bool, List, [], arith}
+use Rattle.std.proofs.Common.{ℕ, ◌≤◌, Bool, List, [], arith}
 use Rattle.std.specs.Prelude.{IsTrue, Err}
 use Rattle.block_model.specs.Causes.{rose_earlier}
 use Rattle.block_model.specs.declared.place.Place.{Place}

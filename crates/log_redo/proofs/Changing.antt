@@ -1,6 +1,6 @@
 -- one step of a redo: a change
-use Rattle.std.proofs.Common.{◌≡◌, ◌≢◌, ◌⊎◌, inl, inr, ℕ, ◌+◌, ◌<◌, ◌≤◌, Bool, true, false, List, [], ◌∷◌, ◌++◌, length, get_or, set, refl, sym, ◌∙◌, ap, subst, ⊎_elim, arith}
-use Rattle.std.specs.Prelude.{IsTrue, None, Some, Option}
+use Rattle.std.proofs.Common.{◌≡◌, ◌≢◌, ◌⊎◌, inl, inr, ℕ, ◌<◌, Bool, true, false, List, [], ◌∷◌, ◌++◌, length, get_or, set, refl, sym, ◌∙◌, ap, subst, ⊎_elim, arith}
+use Rattle.std.specs.Prelude.{IsTrue, None, Some}
 use Rattle.std.specs.FinMap as map
 use Rattle.std.proofs.lemmas.Bool.{cases_eq, false≢true}
 use Rattle.std.proofs.lemmas.List.{append-nil, get_or-set_same, get_or-set_other}
@@ -17,7 +17,7 @@ use Rattle.page_layout.specs.declared.page.Form.{Form}
 use Rattle.wal_record.specs.Changes.{LoggedChange, place_of}
 use Rattle.page_redo.specs.Redo.{Fits, ForgetPage, IsAnew, Means, Redone}
 use Rattle.page_store.specs.Forms.{IsPageIn, form_of}
-use Rattle.buffer_pool.specs.PoolState.{HeldPage, PoolState, held_at, with_page, without_page}
+use Rattle.buffer_pool.specs.PoolState.{HeldPage, PoolState, held_at}
 use Rattle.buffer_pool.specs.SetsPage.{SetsPage}
 use Rattle.buffer_pool.specs.SetLaws.{held_after}
 use Rattle.opened_pages.specs.LoggedChanges.{BeginAnew, changes_at}

@@ -1,10 +1,10 @@
 -- images of a disk under a log of which the first changes are redone
-use Rattle.std.proofs.Common.{◌≡◌, ◌≢◌, ◌⊎◌, inl, inr, ℕ, ◌+◌, ◌*◌, ◌%◌, ◌<◌, ◌≤◌, List, [], ◌∷◌, ◌++◌, length, take, drop, slice_index, get_or, refl, sym, ◌∙◌, ap, subst, arith}
+use Rattle.std.proofs.Common.{◌≡◌, ◌⊎◌, inl, inr, ℕ, ◌+◌, ◌*◌, ◌%◌, ◌<◌, ◌≤◌, List, [], ◌∷◌, ◌++◌, length, take, drop, slice_index, get_or, refl, sym, ◌∙◌, ap, subst, arith}
 use Rattle.std.specs.Prelude.{IsTrue}
 use Rattle.std.proofs.lemmas.List.{get_or-take, take-take, drop-take}
 use Rattle.block_model.specs.declared.limits.TheConstants.{PAGE_SIZE}
 use Rattle.block_model.specs.declared.place.Place.{Place}
-use Rattle.store_layout.specs.DiskLayout.{DiskLayout, IsPlace, page_offset, first_offset, area_size}
+use Rattle.store_layout.specs.DiskLayout.{DiskLayout, IsPlace, first_offset, area_size}
 use Rattle.store_layout.specs.PagesFillDisk.{PagesFillDisk}
 use Rattle.byte_fields.specs.Fields.{field_at}
 use Rattle.control_page.specs.ControlPage.{HasControl}
@@ -20,11 +20,11 @@ use Rattle.page_store.specs.PageMap.{PageMap, page_at}
 use Rattle.page_store.specs.Forms.{form_of}
 use Rattle.buffer_pool.specs.WritesPage.{place_of}
 use Rattle.opened_pages.specs.LoggedChanges.{AreLogged, BeginAnew, changes_at}
-use Rattle.opened_pages.specs.Opens.{disk_page, Opens, OpensAs}
+use Rattle.opened_pages.specs.Opens.{disk_page, OpensAs}
 use Rattle.opened_pages.specs.Reaches.{OpensLike}
 use Rattle.pooled_pages.specs.PageNumbers.{page_number}
 use Rattle.log_redo.specs.Redoing.{AreFirstOf, HasLog, KeepsTheRest}
-use Rattle.log_redo.proofs.Changes.{changes_at-append, front_none, none_or_some, same_place}
+use Rattle.log_redo.proofs.Changes.{changes_at-append, front_none, none_or_some}
 use Rattle.log_redo.proofs.Places.{offset_of_number, other_page}
 
 parity : (b : ℕ) → (b % 2 ≡ 0) ⊎ (b % 2 ≡ 1)

@@ -1,22 +1,17 @@
 -- frames of a log, one after the other
-use Rattle.std.proofs.Common.{◌≡◌, ◌⊎◌, inl, inr, ℕ, zero, suc, ◌+◌, ◌-◌, ◌<◌, ◌≤◌, Bool, List, [], ◌∷◌, ◌++◌, length, take, drop, refl, sym, ◌∙◌, ap, subst, arith, append_assoc, length-append, length-drop}
-use Rattle.std.specs.Prelude.{IsTrue}
+use Rattle.std.proofs.Common.{◌≡◌, ℕ, ◌+◌, ◌-◌, ◌<◌, ◌≤◌, Bool, List, [], ◌∷◌, ◌++◌, length, take, drop, refl, sym, ◌∙◌, ap, subst, arith, append_assoc, length-append, length-drop}
 use Rattle.std.proofs.Math.Seq.{take-add, take-append_seam}
 use Rattle.std.proofs.lemmas.List.{append-nil, drop_all, take_all, take-append-drop}
-use Rattle.block_model.specs.declared.place.Place.{Place}
 use Rattle.store_layout.specs.DiskLayout.{DiskLayout}
 use Rattle.disk_trait.specs.Told.{Told}
-use Rattle.disk_trait.specs.Throughout.{Throughout}
 use Rattle.log_area.specs.Frames.{LogFrame}
 use Rattle.wal_record.specs.Changes.{IsChange, LoggedChange}
 use Rattle.wal_record.specs.ChangeBytes.{IsFront, bytes_of}
 use Rattle.buffer_pool.specs.PoolState.{PoolState}
 use Rattle.opened_pages.specs.LoggedChanges.{AreChangesOf, AreLogged}
-use Rattle.opened_pages.specs.Reaches.{OpensAsBefore}
-use Rattle.log_redo.specs.Damage.{IsAmiss}
 use Rattle.log_redo.specs.Redoing.{AreFirstOf, AreMarked, CanBeRedone, KeepsMoments, Redoing}
 use Rattle.log_redo.specs.RedoesChange.{CannotBeNext, RedoesChange}
-use Rattle.log_redo.specs.RedoesFrame.{AreRedone, IsAmissNext, IsNextFrame, KeepsMomentsOfFrame, RedoesFrame}
+use Rattle.log_redo.specs.RedoesFrame.{IsAmissNext, IsNextFrame, KeepsMomentsOfFrame, RedoesFrame}
 use Rattle.log_redo.proofs.Changes.{NoneBeginsAnother, changes_begin, changes_push, logged_append, logged_frame, logged_once, logged_split, some_bytes}
 
 -- the changes in front of an offset of the frame

@@ -1,6 +1,6 @@
 -- a change that is made
-use Rattle.std.proofs.Common.{◌≡◌, ◌⊎◌, inl, inr, ℕ, ◌<◌, ◌≤◌, Bool, true, false, List, [], ◌∷◌, ◌++◌, length, refl, sym, ◌∙◌, ap, subst, ⊎_elim, arith}
-use Rattle.std.specs.Prelude.{IsTrue, None, Some}
+use Rattle.std.proofs.Common.{◌≡◌, ◌⊎◌, inl, inr, ℕ, ◌<◌, ◌≤◌, List, [], ◌∷◌, ◌++◌, length, refl, sym, ◌∙◌, subst}
+use Rattle.std.specs.Prelude.{IsTrue, Some}
 use Rattle.block_model.specs.declared.place.Place.{Place}
 use Rattle.store_layout.specs.DiskLayout.{DiskLayout, IsPlace, disk_size}
 use Rattle.store_layout.specs.PagesFillDisk.{PagesFillDisk}
@@ -11,7 +11,6 @@ use Rattle.page_layout.specs.declared.page.Form.{Form}
 use Rattle.wal_record.specs.Changes.{LoggedChange, place_of}
 use Rattle.page_redo.specs.Redo.{ForgetPage, IsAnew, Redone}
 use Rattle.buffer_pool.specs.PoolState.{PoolState}
-use Rattle.buffer_pool.specs.WritesPage.{Cleans}
 use Rattle.opened_pages.specs.LoggedChanges.{changes_at}
 use Rattle.opened_pages.specs.Reaches.{OpensAsBefore}
 use Rattle.log_redo.specs.Holds.{MayClean}

@@ -1,16 +1,15 @@
 -- a change of a page in the pool
-use Rattle.std.proofs.Common.{◌≡◌, ◌⊎◌, inl, inr, ℕ, ◌+◌, ◌≤◌, Bool, List, [], length, refl, sym, ◌∙◌, ap, subst, ⊎_elim, arith}
-use Rattle.std.specs.Prelude.{Option, None, Some, IsTrue, OnOk, IfErr, IsSome, Result, Ok, Err}
+use Rattle.std.proofs.Common.{◌≡◌, inl, inr, ℕ, List, length, refl, sym, ◌∙◌, ap, subst, ⊎_elim}
+use Rattle.std.specs.Prelude.{Option, None, Some, OnOk, IfErr, IsSome, Result, Ok, Err}
 use Rattle.std.specs.Option.{option_map}
 use Rattle.block_model.specs.declared.limits.TheConstants.{PAGE_SIZE}
 use Rattle.block_model.specs.declared.place.Place.{Place}
 use Rattle.block_model.specs.NumberMaps.{none_Some, same_Some}
-use Rattle.store_layout.specs.DiskLayout.{DiskLayout, IsPlace, disk_size}
+use Rattle.store_layout.specs.DiskLayout.{DiskLayout, IsPlace}
 use Rattle.store_layout.specs.PagesFillDisk.{PagesFillDisk}
 use Rattle.byte_fields.specs.Fields.{AreBytes}
 use Rattle.disk_trait.specs.Told.{Told}
 use Rattle.page_layout.specs.declared.page.Form.{Form}
-use Rattle.page_layout.specs.PageContents.{IsPageOf}
 use Rattle.wal_record.specs.Changes.{LoggedChange}
 use Rattle.page_redo.specs.Redo.{Fits, Means}
 use Rattle.page_redo.specs.declared.redoing.Misfit.{Misfit}
@@ -20,12 +19,11 @@ use Rattle.buffer_pool.specs.SetsPage.{SetsPage}
 use Rattle.buffer_pool.specs.WritesPage.{Cleans}
 use Rattle.pooled_pages.specs.PageNumbers.{page_number}
 use Rattle.pooled_pages.specs.ShownLaws.{one_number}
-use Rattle.pooled_pages.specs.ShownPages.{shown_page}
-use Rattle.log_redo.specs.Holds.{Holds, MayClean, MayWrite}
-use Rattle.log_redo.specs.PooledPages.{HoldsDurablePages, IsReady}
+use Rattle.log_redo.specs.Holds.{Holds, MayWrite}
+use Rattle.log_redo.specs.PooledPages.{HoldsDurablePages}
 use Rattle.log_redo.specs.RedoesPage.{ChangesHeld, DoesNotFit, RedoesPage}
 use Rattle.log_redo.proofs.Changing.{pages_set}
-use Rattle.log_redo.proofs.Places.{pooled_absent, pooled_held}
+use Rattle.log_redo.proofs.Places.{pooled_held}
 use Rattle.log_redo.proofs.Steps.{pages_cleaned}
 
 -- what is lent is what is held

@@ -1,9 +1,8 @@
 -- relations of a layout: how many blocks each may have, and the form of its pages
-use Rattle.std.proofs.Common.{◌≡◌, ℕ, zero, suc, ◌+◌, ◌-◌, ◌<◌, ◌≤◌, List, [], ◌∷◌, ◌++◌, length, map, get_or, refl, sym, ◌∙◌, ap, arith}
+use Rattle.std.proofs.Common.{◌≡◌, ℕ, zero, suc, ◌+◌, ◌-◌, ◌<◌, ◌≤◌, List, [], ◌∷◌, ◌++◌, length, map, get_or, refl, ◌∙◌, ap, arith}
 use Rattle.std.specs.Prelude.{slice_index}
 use Rattle.block_model.specs.declared.schema.Table.{Table}
 use Rattle.store_layout.specs.DiskLayout.{DiskLayout, relation_blocks}
-use Rattle.page_layout.specs.declared.page.Form.{Form}
 use Rattle.page_layout.specs.declared.page.Form.TheVariants as forms
 use Rattle.page_layout.specs.HeapForms.{heap_form}
 use Rattle.page_store.specs.Forms.{form_of, forms_of}

@@ -1,5 +1,5 @@
 -- room in a pool
-use Rattle.std.proofs.Common.{◌≡◌, ◌⊎◌, inl, inr, ℕ, ◌<◌, ◌≤◌, Bool, true, false, List, [], ◌∷◌, length, refl, sym, ◌∙◌, ap, subst, ⊎_elim, arith}
+use Rattle.std.proofs.Common.{◌≡◌, inl, inr, ℕ, ◌<◌, ◌≤◌, Bool, true, false, List, [], ◌∷◌, length, refl, ◌∙◌, ap, subst, ⊎_elim, arith}
 use Rattle.std.specs.Prelude.{Option, None, Some, IsSome, Result, Ok, Err}
 use Rattle.std.specs.Ordering.{eq_by_cmp, nat_cmp}
 use Rattle.std.specs.FinMap as map
@@ -9,9 +9,9 @@ use Rattle.std.proofs.lemmas.Cmp.{nat_cmp_total, eq_by_cmp_equiv}
 use Rattle.block_model.specs.NumberMaps.{get_put_here}
 use Rattle.disk_trait.specs.Told.{Told}
 use Rattle.disk_trait.specs.declared.disk.DiskFault.{DiskFault}
-use Rattle.buffer_pool.specs.PoolState.{HeldPage, PoolState, IsDirty, held_at}
+use Rattle.buffer_pool.specs.PoolState.{HeldPage, PoolState, held_at}
 use Rattle.buffer_pool.specs.SetsPage.{IsAllDirty}
-use Rattle.buffer_pool.specs.WritesPage.{Cleans, CleansOne}
+use Rattle.buffer_pool.specs.WritesPage.{CleansOne}
 use Rattle.log_redo.specs.Holds.{AreDurable, MayClean, MayWrite}
 
 -- a map that isn't empty has a key

@@ -1,16 +1,12 @@
 -- one step of a redo: a page is read, written back, or changed
-use Rattle.std.proofs.Common.{◌≡◌, ◌≢◌, ◌⊎◌, inl, inr, ℕ, ◌+◌, ◌<◌, ◌≤◌, Bool, true, false, List, [], ◌∷◌, ◌++◌, length, get_or, set, refl, sym, ◌∙◌, ap, subst, ⊎_elim, arith}
-use Rattle.std.specs.Prelude.{IsTrue, None, Some, Option}
-use Rattle.std.specs.FinMap as map
-use Rattle.std.proofs.lemmas.Bool.{cases_eq, false≢true}
-use Rattle.std.proofs.lemmas.List.{append-nil, get_or-set_same, get_or-set_other}
+use Rattle.std.proofs.Common.{◌≡◌, ◌≢◌, ◌⊎◌, inl, inr, ℕ, ◌≤◌, List, ◌∷◌, length, refl, sym, ◌∙◌, ap, subst, ⊎_elim}
+use Rattle.std.specs.Prelude.{IsTrue, None, Some}
 use Rattle.std.proofs.lemmas.Cmp.{nat_cmp_total}
 use Rattle.block_model.specs.declared.limits.TheConstants.{PAGE_SIZE}
 use Rattle.block_model.specs.declared.place.Place.{Place}
-use Rattle.block_model.specs.NumberMaps.{found_after_put, get_put_apart, get_put_here, get_removed_apart, get_removed_here, none_Some, numbers_apart, same_Some}
+use Rattle.block_model.specs.NumberMaps.{found_after_put, get_put_apart, get_put_here, numbers_apart}
 use Rattle.store_layout.specs.DiskLayout.{DiskLayout, IsPlace, disk_size}
 use Rattle.store_layout.specs.PagesFillDisk.{PagesFillDisk}
-use Rattle.byte_fields.specs.Fields.{AreBytes}
 use Rattle.control_page.specs.ControlPage.{HasControl}
 use Rattle.disk_trait.specs.Told.{Told}
 use Rattle.disk_trait.specs.Spliced.{spliced}
@@ -20,27 +16,24 @@ use Rattle.disk_trait.specs.ThroughoutLaws.{goes_on}
 use Rattle.log_area.specs.Frames.{LogFrame}
 use Rattle.log_area.specs.OpensInOneWay.{OpensInOneWay}
 use Rattle.page_layout.specs.declared.page.Form.{Form}
-use Rattle.wal_record.specs.Changes.{LoggedChange, place_of}
-use Rattle.page_redo.specs.Redo.{Fits, ForgetPage, IsAnew, Means, Redone}
+use Rattle.wal_record.specs.Changes.{LoggedChange}
+use Rattle.page_redo.specs.Redo.{ForgetPage, IsAnew, Redone}
 use Rattle.page_store.specs.Forms.{form_of}
 use Rattle.buffer_pool.specs.PoolState.{HeldPage, PoolState, held_at, with_page}
-use Rattle.buffer_pool.specs.SetsPage.{SetsPage}
-use Rattle.buffer_pool.specs.SetLaws.{held_after}
 use Rattle.buffer_pool.specs.WritesPage as writes
-use Rattle.opened_pages.specs.LoggedChanges.{BeginAnew, changes_at}
+use Rattle.opened_pages.specs.LoggedChanges.{changes_at}
 use Rattle.opened_pages.specs.Opens.{disk_page}
-use Rattle.opened_pages.specs.Reaches.{OpensAsBefore, OpensLike}
-use Rattle.log_redo.specs.Holds.{MayClean, MayWrite}
+use Rattle.opened_pages.specs.Reaches.{OpensAsBefore}
+use Rattle.log_redo.specs.Holds.{MayWrite}
 use Rattle.log_redo.specs.PooledPages.{HoldsDurablePages, IsDurablePage}
 use Rattle.pooled_pages.specs.InPool.{IsHeldPage}
 use Rattle.pooled_pages.specs.PageNumbers.{page_number}
 use Rattle.pooled_pages.specs.ShownLaws.{one_number}
 use Rattle.pooled_pages.specs.ShownPages.{shown_page}
-use Rattle.log_redo.specs.RedoesPage.{IsPageBefore}
-use Rattle.log_redo.specs.Redoing.{AreFirstOf, AreMarked, KeepsTheRest, MakePages, Redoing}
-use Rattle.log_redo.proofs.Changes.{all_append, all_behind, at_other, at_own, begin_front, changes_at-append, none_or_some, same_place}
-use Rattle.log_redo.proofs.Images.{kept_more, kept_torn, opens_like}
-use Rattle.log_redo.proofs.Places.{other_page, pooled_absent, pooled_held, pooled_same, written_page}
+use Rattle.log_redo.specs.Redoing.{Redoing}
+use Rattle.log_redo.proofs.Changes.{same_place}
+use Rattle.log_redo.proofs.Images.{kept_torn, opens_like}
+use Rattle.log_redo.proofs.Places.{other_page, pooled_held, pooled_same, written_page}
 
 -- ---- a read: only the count of faults changes
 

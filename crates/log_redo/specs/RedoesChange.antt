@@ -1,5 +1,5 @@
 -- one change of a log
-use Rattle.std.specs.Prelude.{◌≡◌, ◌≤◌, ℕ, IsTrue, Bool, List, [], ◌∷◌, ◌++◌, Result, Ok, Err}
+use Rattle.std.specs.Prelude.{◌≤◌, IsTrue, Bool, List, [], ◌∷◌, ◌++◌, Result, Ok, Err}
 use Rattle.block_model.specs.Causes.{Rose}
 use Rattle.store_layout.specs.DiskLayout.{DiskLayout}
 use Rattle.disk_trait.specs.Told.{Told}

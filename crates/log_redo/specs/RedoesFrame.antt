@@ -1,5 +1,5 @@
 -- one frame of a log, and all of them
-use Rattle.std.specs.Prelude.{◌≡◌, ◌≤◌, ◌+◌, ℕ, IsTrue, Bool, List, [], ◌∷◌, ◌++◌, length, Result, Ok, Err}
+use Rattle.std.specs.Prelude.{◌≤◌, ℕ, IsTrue, Bool, List, [], ◌∷◌, ◌++◌, Result, Ok, Err}
 use Rattle.block_model.specs.Causes.{Rose}
 use Rattle.store_layout.specs.DiskLayout.{DiskLayout}
 use Rattle.disk_trait.specs.Told.{Told}

@@ -1,8 +1,8 @@
-use Rattle.std.proofs.Common.{◌≡◌, ◌⊎◌, inl, inr, ⊎_elim, ℕ, ◌*◌, ◌<◌, ◌≤◌, Bool, true, false, List, [], ◌∷◌, ◌++◌, length, get_or, set, refl, sym, ◌∙◌, ap, subst, arith}
+use Rattle.std.proofs.Common.{◌≡◌, ◌⊎◌, inl, inr, ⊎_elim, ℕ, ◌<◌, ◌≤◌, true, false, [], ◌∷◌, ◌++◌, length, get_or, set, refl, sym, ◌∙◌, ap, subst, arith}
 use Rattle.std.specs.Prelude.{IsTrue}
 use Rattle.block_model.specs.declared.place.Place.{Place}
 use Rattle.store_layout.specs.DiskLayout.{IsPlace, disk_size}
-use Rattle.wal_record.specs.Changes.{LoggedChange, logged, place_of}
+use Rattle.wal_record.specs.Changes.{logged, place_of}
 use Rattle.page_redo.specs.Redo.{IsAnew}
 use Rattle.opened_pages.specs.LoggedChanges.{changes_at}
 use Rattle.log_redo.specs.Redoing.{AreMarked}

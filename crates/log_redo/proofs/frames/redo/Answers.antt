@@ -1,6 +1,5 @@
-use Rattle.std.proofs.Common.{◌≡◌, ℕ, suc, ◌+◌, ◌*◌, ◌<◌, ◌≤◌, Bool, List, [], length, take, refl, sym, ◌∙◌, ap, subst, arith}
-use Rattle.std.specs.Prelude.{IsTrue, Err}
-use Rattle.disk_trait.specs.Told.{Told}
+use Rattle.std.proofs.Common.{◌≡◌, ℕ, suc, ◌+◌, ◌*◌, length, take, refl, sym, ◌∙◌, ap, subst, arith}
+use Rattle.std.specs.Prelude.{Err}
 use Rattle.log_area.specs.Frames.{LogFrame, row_of}
 use Rattle.log_redo.specs.RedoesFrame.{AreRedone, LogCause}
 use Rattle.log_redo.specs.declared.fault.RedoFault.{RedoFault}

@@ -1,11 +1,10 @@
-use Rattle.std.proofs.Common.{◌≡◌, ℕ, List, sym, ◌∙◌, ap, subst, arith}
-use Rattle.block_model.specs.declared.limits.TheConstants.{PAGE_SIZE}
+use Rattle.std.proofs.Common.{ℕ, ◌∙◌, ap, subst, arith}
 use Rattle.disk_trait.specs.Told.{Told}
 use Rattle.page_layout.specs.declared.page.Form.{Form}
 use Rattle.page_layout.specs.PageContents.{IsPageOf}
 use Rattle.log_redo.specs.Holds.{Holds}
 use Rattle.log_redo.proofs.Places.{durable_pages, lie_on_disk}
-use Rattle.log_redo.proofs.Pooling.{frames_held, pages_held, size_written}
+use Rattle.log_redo.proofs.Pooling.{pages_held, size_written}
 use Rattle.log_redo.proofs.Steps.{moments_written, redoing_read}
 use Rattle.log_redo.proofs.page.redo_absent.Goals as goal
 

@@ -1,10 +1,10 @@
 use Rattle.std.proofs.Common.{◌≡◌, ℕ, List, refl, sym, ◌∙◌, ap, subst}
-use Rattle.std.specs.Prelude.{Option, Some, None}
+use Rattle.std.specs.Prelude.{Some}
 use Rattle.page_layout.specs.declared.page.Form.{Form}
 use Rattle.page_layout.specs.PageContents.{IsPageOf}
 use Rattle.page_store.specs.Forms.{form_of}
 use Rattle.wal_record.specs.Changes.{logged}
-use Rattle.buffer_pool.specs.PoolState.{HeldPage, PoolState, held_at, with_page}
+use Rattle.buffer_pool.specs.PoolState.{HeldPage, held_at, with_page}
 use Rattle.pooled_pages.specs.PageNumbers.{page_number}
 use Rattle.log_redo.specs.PooledPages.{HoldsDurablePages}
 use Rattle.log_redo.proofs.Changing.{pages_set}

@@ -1,10 +1,7 @@
-use Rattle.std.proofs.Common.{◌≡◌, List, refl, sym, ◌∙◌, ap, subst, arith}
-use Rattle.std.specs.Prelude.{Ok, Err, Result}
+use Rattle.std.proofs.Common.{sym, subst, arith}
 use Rattle.wal_record.specs.Changes.{logged}
-use Rattle.page_redo.specs.declared.redoing.Misfit.{Misfit}
 use Rattle.buffer_pool.specs.PoolState.{PoolState}
-use Rattle.log_redo.specs.PooledPages.{IsReady}
-use Rattle.log_redo.specs.RedoesPage.{ChangesHeld, RedoesPage}
+use Rattle.log_redo.specs.RedoesPage.{ChangesHeld}
 use Rattle.log_redo.specs.Redoing.{Redoing}
 use Rattle.log_redo.proofs.Pooling.{misfits_held, redoes_held}
 use Rattle.log_redo.proofs.page.redo_page.Goals as goal

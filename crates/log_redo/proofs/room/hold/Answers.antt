@@ -1,9 +1,8 @@
-use Rattle.std.proofs.Common.{◌≡◌, inl, refl, sym, ◌∙◌, ap, subst}
+use Rattle.std.proofs.Common.{inl, refl, subst}
 use Rattle.std.specs.Prelude.{Ok}
-use Rattle.disk_trait.specs.Told.{Told}
 use Rattle.buffer_pool.specs.PoolState.{PoolState}
 use Rattle.buffer_pool.specs.WritesPage.{CleansOne}
-use Rattle.log_redo.proofs.Rooms.{may_clean, may_write, one_is_clean}
+use Rattle.log_redo.proofs.Rooms.{may_clean, one_is_clean}
 use Rattle.log_redo.proofs.room.hold.Goals as goal
 
 pub returns-in-Ok-clause-held : goal.returns-in-Ok-clause-held
