@@ -139,14 +139,13 @@ fn tuples_are_put_and_read(rt: HostRuntime) -> Result<(), Fail> {
 }
 
 #[test]
-fn tuples_are_replaced_and_dropped(rt: HostRuntime) -> Result<(), Fail> {
+fn tuples_give_way_to_others_in_their_place(rt: HostRuntime) -> Result<(), Fail> {
     let file = OpenOptions::new()
         .read(true)
         .write(true)
         .create(true)
         .open(&rt, "swaps")?;
     let mut trial = Trial::new(rt.alloc(), file).ok_or("trial")?;
-    let mut out = Scratch::new(rt.alloc()).map_err(|_| "scratch")?;
     assert!(rt; trial.start_map(FIRST));
     assert_eq!(rt; trial.put(0, PAGE, &SEVEN), Ok(A));
     assert_eq!(rt; trial.put(0, PAGE, &OTHER), Ok(B));
@@ -177,6 +176,22 @@ fn tuples_are_replaced_and_dropped(rt: HostRuntime) -> Result<(), Fail> {
     assert_eq!(rt; trial.replace(0, A, &SEVEN, &LONGER), Ok(()));
     assert!(rt; trial.has(FIRST, PAGE, 8175, &OTHER));
     assert!(rt; trial.has(FIRST, PAGE, 8183, &LONGER));
+    fs::remove_file(&rt, "swaps")?;
+    Ok(())
+}
+
+#[test]
+fn dropped_tuples_leave_their_slots(rt: HostRuntime) -> Result<(), Fail> {
+    let file = OpenOptions::new()
+        .read(true)
+        .write(true)
+        .create(true)
+        .open(&rt, "drops")?;
+    let mut trial = Trial::new(rt.alloc(), file).ok_or("trial")?;
+    let mut out = Scratch::new(rt.alloc()).map_err(|_| "scratch")?;
+    assert!(rt; trial.start_map(FIRST));
+    assert_eq!(rt; trial.put(0, PAGE, &SEVEN), Ok(A));
+    assert_eq!(rt; trial.put(0, PAGE, &OTHER), Ok(B));
     // The slot of the tuple that goes is the lowest free one; no slot is left once both are gone.
     assert_eq!(rt; trial.drop_at(0, A), Ok(()));
     assert_eq!(rt; trial.tuple_at(0, A, 7, &mut out), Ok(false));
@@ -185,7 +200,7 @@ fn tuples_are_replaced_and_dropped(rt: HostRuntime) -> Result<(), Fail> {
     assert!(rt; trial.has(FIRST, PAGE, 0, &[5, 0, 0, 1]));
     assert_eq!(rt; trial.drop_at(0, A), Ok(()));
     assert!(rt; trial.has(FIRST, PAGE, 0, &[5, 0, 0, 0]));
-    fs::remove_file(&rt, "swaps")?;
+    fs::remove_file(&rt, "drops")?;
     Ok(())
 }
 

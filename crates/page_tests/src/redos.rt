@@ -214,55 +214,47 @@ fn the_metapage_takes_a_number_of_map_pages(rt: HostRuntime) {
 }
 
 #[test]
-fn an_empty_page_of_tuples_takes_no_other_changes(rt: HostRuntime) {
+fn an_empty_page_of_tuples_takes_no_tuple_but_the_first(rt: HostRuntime) {
+    let place = PLACE;
+    let mut bytes = [0; 8192];
+    bytes[0] = 5;
+    let mut page = Page::from_bytes(&bytes);
+    let long = [1; 8157];
+    let put_behind = Change::TuplePut {
+        place,
+        slot: 1,
+        bytes: b"abc",
+    };
+    let put_long = Change::TuplePut {
+        place,
+        slot: 0,
+        bytes: &long,
+    };
+    let replace = Change::TupleReplace {
+        place,
+        slot: 0,
+        bytes: b"abc",
+    };
+    let slots = &[0, 0];
+    let drop = Change::TupleDrop { place, slots };
+    for (change, tag) in [(put_behind, 6), (put_long, 6), (replace, 7), (drop, 8)] {
+        assert_eq!(rt; misfit(&mut page, &change, Form::Index), Some(tag));
+    }
+    assert_eq!(rt; page.as_bytes(), bytes.as_slice());
+}
+
+#[test]
+fn an_empty_page_of_tuples_takes_no_change_of_other_kinds(rt: HostRuntime) {
     let place = PLACE;
     let mut bytes = [0; 8192];
     bytes[0] = 5;
     let mut page = Page::from_bytes(&bytes);
     let spot = Spot { block: 17, slot: 2 };
-    let long = [1; 8157];
+    let entry = 0;
     for (change, tag) in [
         (Change::PageStart { place, kind: 2 }, 2),
-        (
-            Change::TuplePut {
-                place,
-                slot: 1,
-                bytes: b"abc",
-            },
-            6,
-        ),
-        (
-            Change::TuplePut {
-                place,
-                slot: 0,
-                bytes: &long,
-            },
-            6,
-        ),
-        (
-            Change::TupleReplace {
-                place,
-                slot: 0,
-                bytes: b"abc",
-            },
-            7,
-        ),
-        (
-            Change::TupleDrop {
-                place,
-                slots: &[0, 0],
-            },
-            8,
-        ),
         (Change::MapPage { place }, 10),
-        (
-            Change::MapSet {
-                place,
-                entry: 0,
-                spot,
-            },
-            11,
-        ),
+        (Change::MapSet { place, entry, spot }, 11),
         (Change::MetaSet { place, maps: 6 }, 12),
     ] {
         assert_eq!(rt; misfit(&mut page, &change, Form::Index), Some(tag));
