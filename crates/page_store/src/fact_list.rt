@@ -15,7 +15,7 @@ use std::marker::Model;
 
 /// The facts of all pages that a relation may have, by their blocks.
 #[derive(Drop)]
-pub(crate) struct FactList {
+pub struct FactList {
     /// How many blocks it may have.
     limit: u32,
     /// The facts up to the last block that was changed.

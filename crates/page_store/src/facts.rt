@@ -17,7 +17,7 @@ use wal_record::Change;
 /// What is kept of a page beside the page: its kind, its lowest free slot where it has one, and of an index the bytes of the
 /// greatest further tuple that it takes and how many pages of the map it counts.
 #[derive(Clone, Copy)]
-pub(crate) struct PageFacts {
+pub struct PageFacts {
     pub kind: u8,
     pub lowest: Option<u16>,
     pub room: u16,
@@ -25,7 +25,7 @@ pub(crate) struct PageFacts {
 }
 
 /// Those of a page that isn't started.
-pub(crate) const NO_FACTS: PageFacts = PageFacts {
+pub const NO_FACTS: PageFacts = PageFacts {
     kind: UNSTARTED,
     lowest: None,
     room: 0,
@@ -33,7 +33,7 @@ pub(crate) const NO_FACTS: PageFacts = PageFacts {
 };
 
 /// The facts of a page that passes its check.
-pub(crate) fn facts_of(page: &Page, form: &Form) -> PageFacts
+pub fn facts_of(page: &Page, form: &Form) -> PageFacts
     requires form { IsForm form.now }
     requires page { IsPageOf form.now page.now }
     ensures { result ≡ facts_on form.now page.now }
@@ -69,7 +69,7 @@ fn maps_of(page: &Page, form: &Form) -> u32
 }
 
 /// The facts of a page that passes its check, after a change, where they were these before.
-pub(crate) fn facts_after(
+pub fn facts_after(
     page: &Page,
     form: &Form,
     change: &Change<'_>,

@@ -18,6 +18,8 @@ mod relation;
 mod store;
 mod tuple_room;
 
+pub use fact_list::FactList;
+pub use facts::{NO_FACTS, PageFacts, facts_after, facts_of};
 pub use faults::{MachineFault, StoreError};
 pub use forms::tables_have_forms;
 pub use laws::maps_with_the_same_pages_are_equal;
