@@ -1,6 +1,7 @@
 //! How one slot of a page gets another tuple: the tuples of the slots behind it move, and their offsets with them.
 
 ghost use Rattle.std.specs.Prelude.{◌≡◌, ◌+◌, ◌-◌, ◌*◌, ◌<◌, ◌≤◌, ◌++◌, ◌==◌, if◌then◌else◌, ℕ, List, length, take, drop, replicate, set, slice_index, slice_index_or, None};
+ghost use Rattle.std.specs.List.{copy_within};
 ghost use Rattle.block_model.specs.declared.limits.TheConstants.{PAGE_SIZE};
 ghost use Rattle.index_layout.specs.IndexPages.{HasSlots, tuple_bytes};
 ghost use Rattle.index_layout.specs.IndexReading.{free_of, slots_of};
@@ -9,6 +10,7 @@ ghost use borrow.Rule.Slice.PartMut.{put_mid};
 
 use crate::format::{HEADER, LENGTH, SLOT_SIZE};
 use crate::readers::{end_of, size_at};
+use block_model::PAGE_SIZE;
 use byte_fields::{get_u16, put_u16};
 
 /// The slot has the tuple afterwards, or is free where the tuple is empty. The other slots stay. A tuple of the length of the
@@ -38,6 +40,7 @@ fn place_tuple(page: &mut [u8], low: usize, start: usize, end: usize, tuple: &[u
     requires order { low ≤ start }
     requires ends { start ≤ end }
     requires within { end ≤ length page.old }
+    requires whole { length page.old ≡ PAGE_SIZE }
     requires room { length tuple.now ≤ low + (end - start) }
     // By the bytes that stand there before, where zeros lie below `low`.
     ensures placed { (front others old behind : List ℕ) (zeros : ℕ) → page.old ≡ front ++ (replicate zeros 0 ++ (others ++ (old ++ behind))) → length front + zeros ≡ low → low + length others ≡ start → start + length old ≡ end → length tuple.now ≤ zeros + length old
@@ -52,6 +55,7 @@ fn place_tuple(page: &mut [u8], low: usize, start: usize, end: usize, tuple: &[u
 fn move_bytes(page: &mut [u8], low: usize, start: usize, to: usize)
     requires order { low ≤ start }
     requires within { start ≤ length page.old }
+    requires whole { length page.old ≡ PAGE_SIZE }
     requires room { to + (start - low) ≤ length page.old }
     // By the bytes that stand there before, where zeros lie below `low`.
     ensures moved { (front rest : List ℕ) (zeros : ℕ) → page.old ≡ front ++ (replicate zeros 0 ++ rest) → length front + zeros ≡ low → length front ≤ to
@@ -60,11 +64,40 @@ fn move_bytes(page: &mut [u8], low: usize, start: usize, to: usize)
     if to == low {
         return;
     }
-    page.copy_within(low..start, to);
+    shift_bytes(page, low, start, to);
     if to < low {
         return;
     }
     clear(page, low, to);
+}
+
+/// The bytes from `low` to `start` stand from `to` on.
+fn shift_bytes(page: &mut [u8], low: usize, start: usize, to: usize)
+    requires order { low ≤ start }
+    requires within { start ≤ length page.old }
+    requires whole { length page.old ≡ PAGE_SIZE }
+    requires room { to + (start - low) ≤ length page.old }
+    ensures after { page.new ≡ copy_within page.old low start to }
+{
+    if low == start {
+        return;
+    }
+    shift_some(page, low, start, to);
+}
+
+/// The same. They go by way of another place: that is two copies of many bytes at once, and `copy_within` would move one byte after
+/// the other.
+fn shift_some(page: &mut [u8], low: usize, start: usize, to: usize)
+    requires order { low ≤ start }
+    requires within { start ≤ length page.old }
+    requires whole { length page.old ≡ PAGE_SIZE }
+    requires room { to + (start - low) ≤ length page.old }
+    ensures after { page.new ≡ copy_within page.old low start to }
+{
+    let size = start - low;
+    let mut held = [0; PAGE_SIZE];
+    held[..size].copy_from_slice(&page[low..start]);
+    page[to..to + size].copy_from_slice(&held[..size]);
 }
 
 /// Zeros stand in the bytes from one place up to another.

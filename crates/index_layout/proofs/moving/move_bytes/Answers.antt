@@ -9,10 +9,10 @@ returns-then-to-low c = record {
 
 pub returns-then-to-low-2 : goal.returns-then-to-low-2
 returns-then-to-low-2 c = record {
-  moved = λ front rest zeros is at room. c.copy_within.ensures.after ∙ moved_down c.args.page.now front rest zeros c.args.low c.args.start c.args.to (c.args.start - c.args.low) is at room (omega arith) refl;
+  moved = λ front rest zeros is at room. c.shift_bytes.ensures.after ∙ moved_down c.args.page.now front rest zeros c.args.low c.args.start c.args.to (c.args.start - c.args.low) is at room (omega arith) refl;
 }
 
 pub returns : goal.returns
 returns c = record {
-  moved = λ front rest zeros is at room. c.clear.ensures.cleared ∙ moved_up c.args.page.now c.copy_within.new.self front rest zeros c.args.low c.args.start c.args.to (c.args.start - c.args.low) (c.args.to - c.args.low) is at (omega arith) (omega arith) refl refl c.copy_within.ensures.after;
+  moved = λ front rest zeros is at room. c.clear.ensures.cleared ∙ moved_up c.args.page.now c.shift_bytes.new.page front rest zeros c.args.low c.args.start c.args.to (c.args.start - c.args.low) (c.args.to - c.args.low) is at (omega arith) (omega arith) refl refl c.shift_bytes.ensures.after;
 }

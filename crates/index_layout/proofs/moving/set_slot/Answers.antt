@@ -10,7 +10,7 @@ pub place_tuple-requires : goal.place_tuple-requires
 place_tuple-requires c =
     let slots = slots_of c.args.page.now in
     let s = place_sizes slots c.args.slot c.args.count c.end_of-low.result c.end_of-end.result c.size_at-size.result c.args.tuple.now (omega (arith, c.requires.slot, c.requires.count)) c.requires.page.fit c.requires.room c.requires.count c.size_at-size.ensures.size c.end_of-end.ensures c.end_of-low.ensures in
-    record { order = s.order; ends = omega arith; within = omega (arith, s.within, c.requires.whole); room = s.room }
+    record { order = s.order; ends = omega arith; within = omega (arith, s.within, c.requires.whole); whole = c.requires.whole; room = s.room }
 
 pub returns-then-size-tuple : goal.returns-then-size-tuple
 returns-then-size-tuple c =
