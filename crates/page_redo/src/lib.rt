@@ -1,7 +1,7 @@
 //! What each change of the log does to a page: `fits` says whether the page, as it stands, can take the change, and `redo`
 //! makes exactly the change's meaning there, or leaves the page as it was. A whole page and the start of a page fit
-//! whatever bytes stand there, so the log also mends pages that a stop tore. Laws say what lists of changes do. It stands on wal_record and
-//! page_layout. The table of the meanings is specs/Redo.antt.
+//! whatever bytes stand there, so the log also mends pages that a stop tore. Laws say what lists of changes do. It stands on
+//! wal_record, page_layout and, for the pages of an index, index_layout. The table of the meanings is specs/Redo.antt.
 #![tactic(auto)]
 
 mod fitting;

@@ -1,8 +1,8 @@
 //! Keeps the pages of all relations over a disk, so that the layers above speak of pages by their places and of no bytes of
 //! the disk. The layer above makes a store with all the memory that it ever takes, reads pages by `read`, changes them by
-//! `change` and `start_with`, and finds room by `first_room` and `room_at`. It sees the store as a map of places to pages,
-//! the record of specs/PageMap.antt, and each page as its slots. A read gives what the changes made, in order, and a call
-//! that answers an error leaves the map as it was. Every page passes the check of its relation's form. The pages stand in
+//! `change` and `start_with`, and asks `first_room`, `room_at` and `map_pages` without reading one. It sees the store as a map
+//! of places to pages, the record of specs/PageMap.antt. A read gives what the changes made, in order, and a call that
+//! answers an error leaves the map as it was. Every page passes the check of its relation's form (`known`). The pages stand in
 //! memory, and what is known of each page stands apart from it. The crate stands on page_layout, page_redo and a disk.
 #![tactic(auto)]
 
