@@ -31,16 +31,21 @@ fn second_delete_conflicts_and_fails(rt: HostRuntime) -> Result<(), Fail> {
     journal.push(entry(1, Request::Commit))?;
     let run = SerialModel::new(rt.alloc()).run(journal.as_slice())?;
     assert!(rt; run.end == End::Done);
-    let answers = run.answers.as_slice();
-    assert_eq!(rt; answers.len(), 9);
-    assert!(rt; matches!(answers.get(5), Some(Answered::Marked)));
     assert!(rt;
         matches!(
-            answers.get(6),
-            Some(Answered::Conflict(RowId { t: 1, k: 0 }))
+            run.answers.as_slice(),
+            [
+                _,
+                _,
+                _,
+                _,
+                _,
+                Answered::Marked,
+                Answered::Conflict(RowId { t: 1, k: 0 }),
+                Answered::RolledBack,
+                Answered::Committed
+            ]
         )
     );
-    assert!(rt; matches!(answers.get(7), Some(Answered::RolledBack)));
-    assert!(rt; matches!(answers.get(8), Some(Answered::Committed)));
     Ok(())
 }

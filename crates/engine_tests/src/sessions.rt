@@ -126,19 +126,19 @@ fn a_statement_in_hand_comes_first(rt: HostRuntime) -> Result<(), Fail> {
     let mut store = new_store(&rt, rt.alloc())?;
     let name = Name::new(b"s1").expect(&rt, "a name");
     let s1 = store.session(name).ok().expect(&rt, "memory");
-    assert!(rt; store.name_of(s1) == name);
-    assert!(rt; !store.in_hand(s1));
-    assert_eq!(rt;
-        store.submit(s1, Statement::Commit),
-        Err(Refusal::NoTransaction)
-    );
-    assert_eq!(rt; store.submit(s1, Statement::Begin), Ok(()));
-    assert!(rt; store.in_hand(s1));
-    assert_eq!(rt; store.submit(s1, Statement::Commit), Err(Refusal::InHand));
+    let is_named = store.name_of(s1) == name;
+    let was_in_hand = store.in_hand(s1);
+    let without = store.submit(s1, Statement::Commit);
+    let begin = store.submit(s1, Statement::Begin);
+    let is_in_hand = store.in_hand(s1);
+    let second = store.submit(s1, Statement::Commit);
+    assert_eq!(rt; (is_named, was_in_hand, is_in_hand), (true, false, true));
+    assert_eq!(rt; (without, begin), (Err(Refusal::NoTransaction), Ok(())));
+    assert_eq!(rt; second, Err(Refusal::InHand));
     let begun = store.step(s1);
     assert!(rt; matches!(begun, Ok(Step::Done(Reply::Begun { t: 1 }))));
-    assert_eq!(rt; store.submit(s1, Statement::Begin), Err(Refusal::UnderWay));
-    assert_eq!(rt; store.journal().len(), 1);
+    let again = store.submit(s1, Statement::Begin);
+    assert_eq!(rt; (again, store.journal().len()), (Err(Refusal::UnderWay), 1));
     Ok(())
 }
 

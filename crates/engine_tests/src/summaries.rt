@@ -211,14 +211,13 @@ fn two_column_index_with_nulls(rt: HostRuntime) -> Result<(), Fail> {
     let layout = layout(&rt, alloc, indexes)?;
     let puts = [(Some(1), None), (None, Some(1))];
     let a_is_one = explained(&rt, alloc, &layout, &puts, &[Where::NumberIs(1)])?;
-    assert_eq!(rt; a_is_one.as_slice(), [0].as_slice());
     let b_is_null = explained(&rt, alloc, &layout, &puts, &[Where::AddressIsNull])?;
-    assert_eq!(rt; b_is_null.as_slice(), [0].as_slice());
+    assert!(rt; a_is_one.as_slice() == [0].as_slice());
+    assert!(rt; b_is_null.as_slice() == [0].as_slice());
     let conds = [Where::NumberIsNull, Where::AddressIs(1)];
     let second = explained(&rt, alloc, &layout, &puts, &conds)?;
-    assert_eq!(rt; second.as_slice(), [1].as_slice());
     let conds = [Where::NumberIs(1), Where::AddressIs(1)];
     let neither = explained(&rt, alloc, &layout, &puts, &conds)?;
-    assert!(rt; neither.is_empty());
+    assert!(rt; second.as_slice() == [1].as_slice() && neither.is_empty());
     Ok(())
 }
