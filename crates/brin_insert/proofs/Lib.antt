@@ -1,0 +1,5 @@
+pub mod Stepping
+pub mod Swaps
+pub mod Copies
+pub mod Sizes
+pub mod Tables

@@ -1,0 +1,66 @@
+use Rattle.std.proofs.Common.{◌≡◌, ℕ, List, refl, sym, ap, subst, ◌∙◌}
+use Rattle.range_tuple.specs.TupleBytes.{tuple_bytes}
+use Rattle.index_contents.specs.IndexContents.{contents}
+use Rattle.std.proofs.Common.{length}
+use Rattle.range_store.specs.Tuples.{IsTupleSize}
+use Rattle.index_steps.specs.declared.swapping.Swapped.TheVariants as swaps
+use Rattle.index_steps.specs.IndexTuples.{seen, shape_of}
+use Rattle.index_steps.specs.ShownIndex.{lock_in}
+use Rattle.index_steps.specs.SwapAnswers.{SwapMakes}
+use Rattle.brin_insert.proofs.Swaps.{in_place, lost, put_elsewhere, swapped_as, waits}
+use Rattle.brin_insert.proofs.in_index.swap_in.Goals as goal
+
+pub returns-in-Ok-InPlace-clause-stepped : goal.returns-in-Ok-InPlace-clause-stepped
+returns-in-Ok-InPlace-clause-stepped g c = λ tells r.
+    let store = c.args.pages.now in
+    let at = c.args.at in
+    let shape = shape_of store.layout at.index in
+    let was = contents store.layout store.pages at.index in
+    let is = contents store.layout c.swap.new.pages.pages at.index in
+    let lock = lock_in store.layout c.args.locks.now at.index in
+    let locked = lock_in store.layout c.swap.new.locks at.index in
+    let swapped = rw c.in-Ok-InPlace.field-0-is at c.in-Ok-InPlace.ensures.swapped in
+    in_place shape at.actor at.range r was is lock locked c.args.spot c.args.copied.now (tuple_bytes c.args.tuple.now)
+    (swapped_as shape at.actor at.range was is lock locked c.args.spot _ c.args.copied.now _ (tuple_bytes c.args.tuple.now) swaps.InPlace c.bytes.ensures c.encode_to-size.ensures.bytes (swapped tells))
+
+pub returns-in-Ok-Differs-clause-stepped : goal.returns-in-Ok-Differs-clause-stepped
+returns-in-Ok-Differs-clause-stepped g c = λ tells r.
+    let store = c.args.pages.now in
+    let at = c.args.at in
+    let shape = shape_of store.layout at.index in
+    let was = contents store.layout store.pages at.index in
+    let is = contents store.layout c.swap.new.pages.pages at.index in
+    let lock = lock_in store.layout c.args.locks.now at.index in
+    let locked = lock_in store.layout c.swap.new.locks at.index in
+    let swapped = rw c.in-Ok-Differs.field-0-is at c.in-Ok-Differs.ensures.swapped in
+    lost shape at.actor at.range r was is lock locked c.args.spot c.args.copied.now (tuple_bytes c.args.tuple.now)
+    (swapped_as shape at.actor at.range was is lock locked c.args.spot _ c.args.copied.now _ (tuple_bytes c.args.tuple.now) swaps.Differs c.bytes.ensures c.encode_to-size.ensures.bytes (swapped tells))
+
+pub returns-in-Ok-Waits-clause-stepped : goal.returns-in-Ok-Waits-clause-stepped
+returns-in-Ok-Waits-clause-stepped g c = λ tells r.
+    let store = c.args.pages.now in
+    let at = c.args.at in
+    let shape = shape_of store.layout at.index in
+    let was = contents store.layout store.pages at.index in
+    let is = contents store.layout c.swap.new.pages.pages at.index in
+    let lock = lock_in store.layout c.args.locks.now at.index in
+    let locked = lock_in store.layout c.swap.new.locks at.index in
+    let swapped = rw c.in-Ok-Waits.field-0-is at c.in-Ok-Waits.ensures.swapped in
+    waits shape at.actor at.range r was is lock locked c.args.spot c.args.copied.now (tuple_bytes c.args.tuple.now) c.in-Ok-Waits.held
+    (swapped_as shape at.actor at.range was is lock locked c.args.spot _ c.args.copied.now _ (tuple_bytes c.args.tuple.now) (swaps.Waits c.in-Ok-Waits.held) c.bytes.ensures c.encode_to-size.ensures.bytes (swapped tells))
+
+pub returns-in-Ok-Moves-clause-stepped : goal.returns-in-Ok-Moves-clause-stepped
+returns-in-Ok-Moves-clause-stepped g c = λ tells r.
+    let store = c.args.pages.now in
+    let at = c.args.at in
+    let shape = shape_of store.layout at.index in
+    let was = contents store.layout store.pages at.index in
+    let is = contents store.layout c.swap.new.pages.pages at.index in
+    let lock = lock_in store.layout c.args.locks.now at.index in
+    let locked = lock_in store.layout c.swap.new.locks at.index in
+    let swapped = rw c.in-Ok-Moves.field-0-is at c.in-Ok-Moves.ensures.swapped in
+    put_elsewhere shape at.actor at.range r was is lock locked c.args.spot c.args.copied.now (tuple_bytes c.args.tuple.now) c.in-Ok-Moves.to
+    (swapped_as shape at.actor at.range was is lock locked c.args.spot _ c.args.copied.now _ (tuple_bytes c.args.tuple.now) (swaps.Moves c.in-Ok-Moves.to) c.bytes.ensures c.encode_to-size.ensures.bytes (swapped tells))
+
+pub swap-requires-clause-size : goal.swap-requires-clause-size
+swap-requires-clause-size g c = subst (λ (b : List ℕ). IsTupleSize (length b)) (sym c.encode_to-size.ensures.bytes) c.encode_to-size.ensures.size

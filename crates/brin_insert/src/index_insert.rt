@@ -1,0 +1,133 @@
+//! An insert's work in one index.
+
+ghost use Rattle.std.specs.Prelude.{◌≡◌, ◌+◌, ◌<◌, ◌≤◌, true, length, IfOk, IfErr, OnErr};
+ghost use Rattle.std.specs.List.{list_all};
+ghost use Rattle.block_model.specs.declared.limits.TheConstants.{MAX_TUPLE};
+ghost use Rattle.block_model.specs.declared.place.Spot.{Spot as AnySpot};
+ghost use Rattle.block_model.specs.declared.row.Row.{Row as AnyRow};
+ghost use Rattle.block_model.specs.ClassLimits.{class_is_lawful};
+ghost use Rattle.block_model.specs.IndexedColumns.{columns_of};
+ghost use Rattle.block_model.specs.TupleSize.{tuple_size};
+ghost use Rattle.page_store.specs.Keeps.{Keeps, Tells};
+ghost use Rattle.page_locks.specs.LockHolders.{count_of, holder};
+ghost use Rattle.range_tuple.specs.Tuples.{empty_placeholder, parts_of};
+ghost use Rattle.index_contents.specs.IndexContents.{contents, relation_of};
+ghost use Rattle.index_contents.specs.IndexChanges.{LeavesOthers};
+ghost use Rattle.index_steps.specs.IndexTuples.{TakesValues, classes_of, shape_of};
+ghost use Rattle.index_steps.specs.MoveEnds.{IsMoving};
+ghost use Rattle.index_steps.specs.SwapAnswers.{LeavesLocks, MachineOutcome};
+ghost use Rattle.brin_insert.specs.InsertSteps.{IsAtWork, Stepped, insert_at};
+ghost use Rattle.brin_insert.specs.StepAnswers.{BlockedWell, DamageAt, SaysFullIn, StepFull};
+
+use crate::in_index::step_in;
+use crate::stage::Stage;
+use block_model::{Index, NoMemory, Schema, Value};
+use disk_trait::Disk;
+use index_steps::Within;
+use page_locks::{Did, Locks};
+use page_store::{MachineFault, PageStore};
+use range_store::Scratch;
+use range_tuple::RangeTuple;
+use std::alloc::Global;
+use std::boxed::BoxedSlice;
+use std::marker::Model;
+
+/// An insert's work in one index: the stage that it is at, the tuple with the row, and room for that one's bytes. Made once an
+/// index, and taken for one row after the other.
+#[derive(Debug, Drop)]
+pub struct IndexInsert {
+    stage: Stage,
+    widened: RangeTuple,
+    room: BoxedSlice<u8>,
+}
+
+impl Model for IndexInsert {
+    ghost use Rattle.std.specs.Prelude.{◌≤◌, length};
+    ghost use Rattle.std.specs.Box.{boxed_slice_items};
+    ghost use Rattle.range_tuple.specs.Tuples.{tuple_room};
+    ghost use Rattle.brin_insert.specs.InsertHands.{InsertHand};
+
+    ghost Value = { InsertHand };
+
+    ghost view = { λ a. record { stage = a.stage; widened = a.widened } };
+
+    ghost invariant = { λ a. tuple_room a.widened.columns ≤ length (boxed_slice_items a.room) };
+}
+
+impl IndexInsert {
+    /// Before the first step in the index, which is one of a declared table within the limits. Takes all the memory that the work ever
+    /// needs.
+    pub fn new(alloc: Global, index: &Index, schema: &Schema) -> Result<IndexInsert, NoMemory>
+        requires columns { 0 < length index.now.parts }
+        requires classes { list_all (class_is_lawful (columns_of schema.now index.now)) index.now.parts ≡ true }
+        requires size { tuple_size (columns_of schema.now index.now) index.now.parts ≤ MAX_TUPLE }
+        ensures begins { IfOk result (λ insert. insert ≡ record { stage = Stage.Map; widened = empty_placeholder 0 (columns_of schema.now index.now) index.now.parts }) }
+    {
+        let widened = RangeTuple::new(alloc, index, schema, 0)?;
+        let room = vec![in alloc; 0u8; widened.greatest_size()]?;
+        Ok(IndexInsert {
+            stage: Stage::Map,
+            widened,
+            room: room.into_boxed_slice(),
+        })
+    }
+
+    /// Before the first step in the index, for another row.
+    pub fn begin(&mut self)
+        ensures { self.new ≡ record self.old { stage = Stage.Map } }
+    {
+        self.stage = Stage::Map;
+    }
+
+    /// The stage that it is at.
+    pub fn stage(&self) -> Stage
+        ensures { result ≡ self.now.stage }
+    {
+        self.stage
+    }
+
+    /// The next step in the index, for a row of these values whose heap block is of the range. `copied` has room for the bytes of the
+    /// tuple that the insert copies, and is its own between its steps. Where the step is blocked, nothing is changed; after an error
+    /// no page is. Takes no memory.
+    pub fn step<D: Disk + Drop>(
+        &mut self,
+        pages: &mut PageStore<D>,
+        locks: &mut Locks,
+        at: Within,
+        values: &[Value],
+        copied: &mut Scratch,
+    ) -> Result<Did, MachineFault>
+        requires index { at.index < length pages.old.layout.schema.indexes }
+        requires work { IsAtWork self.old.stage }
+        requires tuple { parts_of self.old.widened.columns ≡ classes_of (shape_of pages.old.layout at.index) }
+        requires takes { TakesValues (shape_of pages.old.layout at.index) values.now }
+        requires locks { count_of locks.old + 3 ≤ locks.old.limit }
+        requires moving { (x y : AnySpot) → self.old.stage ≡ Stage.Set x y → Tells D.told pages.old → IsMoving (shape_of pages.old.layout at.index) (contents pages.old.layout pages.old.pages at.index) at.range x y }
+        ensures stepped { IfOk result (λ did. Tells D.told pages.old → (r : AnyRow) → r.values ≡ values.now → Stepped (shape_of pages.old.layout at.index) at.actor at.range r (insert_at pages.old.layout pages.old.pages locks.old at.index self.old.stage copied.old self.old.widened) (insert_at pages.old.layout pages.new.pages locks.new at.index self.new.stage copied.new self.new.widened) did) }
+        ensures blocked { IfOk result (BlockedWell D.told at.index at.actor pages.old pages.new locks.old locks.new) }
+        ensures full { IfErr result (SaysFullIn pages.old.layout at.index (λ number. Tells D.told pages.old → StepFull (shape_of pages.old.layout at.index) at.actor at.range (insert_at pages.old.layout pages.old.pages locks.old at.index self.old.stage copied.old self.old.widened) number)) }
+        ensures others { LeavesOthers D.told at.index pages.old pages.new }
+        ensures locks { LeavesLocks (holder locks.old) (holder locks.new) (relation_of pages.old.layout at.index) at.actor }
+        ensures same_index { parts_of self.new.widened.columns ≡ parts_of self.old.widened.columns }
+        ensures kept { OnErr result (Keeps D.told pages.old pages.new) }
+        ensures outcome { MachineOutcome D.told (Tells D.told pages.old → DamageAt (shape_of pages.old.layout at.index) (contents pages.old.layout pages.old.pages at.index) at.range self.old.stage) pages.old pages.new result }
+    {
+        let stage = self.stage;
+        match step_in(
+            pages,
+            locks,
+            at,
+            stage,
+            values,
+            copied,
+            &mut self.widened,
+            &mut self.room,
+        ) {
+            Ok((stage, did)) => {
+                self.stage = stage;
+                Ok(did)
+            }
+            Err(fault) => Err(fault),
+        }
+    }
+}

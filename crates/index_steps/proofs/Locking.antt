@@ -1,0 +1,72 @@
+-- locks of an index's pages that are taken
+use Rattle.std.proofs.Common.{◌≡◌, ◌≢◌, ◌⊎◌, inl, inr, ⊎_elim, ℕ, List, [], ◌∷◌, Option, None, Some, refl, sym, ap, subst, ◌∙◌}
+use Rattle.std.proofs.lemmas.Option.{none-some, same_Some}
+use Rattle.block_model.specs.declared.place.Place.{Place}
+use Rattle.page_locks.specs.LockChanges.{GivesAll, IsFirstHeld, FirstHeld, LaterHeld, IsFreeFor, IsOneOf, TakesAll, page_of}
+use Rattle.coverage.specs.Changes.{IsFree, OwnLocks}
+use Rattle.coverage.specs.IndexView.{IndexView}
+use Rattle.coverage.specs.Knowing.{IsOneOf as IsAmong, LocksNone, LocksThese}
+use Rattle.coverage.specs.Verdicts.{First, IsFirstLocked, Later}
+use Rattle.index_steps.specs.SwapAnswers.{LeavesLocks}
+
+-- the two ways to say that a page is one of these
+pub among : (these : List ℕ) (p : ℕ) → IsOneOf these p → IsAmong these p
+among [] p one = one
+among (q ∷ more) p (inl is) = inl is
+among (q ∷ more) p (inr later) = inr (among more p later)
+
+pub one_of : (these : List ℕ) (p : ℕ) → IsAmong these p → IsOneOf these p
+one_of [] p one = one
+one_of (q ∷ more) p (inl is) = inl is
+one_of (q ∷ more) p (inr later) = inr (one_of more p later)
+
+module _ (relation s : ℕ) (h k : Place → Option ℕ) (these : List ℕ) (lock : ℕ → Option ℕ) (old : (page : ℕ) → lock page ≡ h (page_of relation page)) (takes : TakesAll h k relation these s) where
+  -- what other sessions lock stays theirs
+  pub takes_own : OwnLocks s lock (λ page. k (page_of relation page))
+  takes_own = record {
+    others = λ page n locked other. ⊎_elim
+        (λ (mine : (relation ≡ relation) × IsOneOf these page). absurd (other (takes.free page mine.1 n (sym (old page) ∙ locked))))
+        (λ (same : k (page_of relation page) ≡ h (page_of relation page)). same ∙ sym (old page) ∙ locked)
+        (takes.others (page_of relation page));
+    taken = λ page n locked other. ⊎_elim
+        (λ (mine : (relation ≡ relation) × IsOneOf these page). absurd (other (same_Some n s (sym locked ∙ takes.now page mine.1))))
+        (λ (same : k (page_of relation page) ≡ h (page_of relation page)). old page ∙ sym same ∙ locked)
+        (takes.others (page_of relation page));
+  }
+
+  pub takes_these : LocksNone lock s → LocksThese (λ page. k (page_of relation page)) s these
+  takes_these none = record {
+    locked = λ page one. takes.now page (one_of these page one);
+    only = λ page locked. ⊎_elim
+        (λ (mine : (relation ≡ relation) × IsOneOf these page). among these page mine.1)
+        (λ (same : k (page_of relation page) ≡ h (page_of relation page)). absurd (none page (old page ∙ sym same ∙ locked)))
+        (takes.others (page_of relation page));
+  }
+
+-- where the first page is free, it is one of the others that is held
+pub first_rest : (h : Place → Option ℕ) (relation s x : ℕ) (more : List ℕ) (q : ℕ) → IsFreeFor h s (page_of relation x) → IsFirstHeld h relation s (x ∷ more) q → IsFirstHeld h relation s more q
+first_rest h relation s x more q free (FirstHeld _ n _ locked other) = absurd (other (free n locked))
+first_rest h relation s x more q free (LaterHeld _ _ _ none later) = later
+
+-- the first page that is held is the first one that another session locks
+pub first_locked : (h : Place → Option ℕ) (relation s : ℕ) (lock : ℕ → Option ℕ) (pages : List ℕ) (q : ℕ) → ((page : ℕ) → lock page ≡ h (page_of relation page)) → IsFirstHeld h relation s pages q → IsFirstLocked lock s pages q
+first_locked h relation s lock _ _ old (FirstHeld p n more locked other) = First p more (n, old p ∙ locked, other)
+first_locked h relation s lock _ _ old (LaterHeld p q more none later) = Later p q more (λ n locked. none n (sym (old p) ∙ locked)) (first_locked h relation s lock more q old later)
+
+-- the locks of other relations stay
+pub takes_apart : (relation at s : ℕ) (h k : Place → Option ℕ) (these : List ℕ) → relation ≡ at → TakesAll h k relation these s → LeavesLocks h k at s
+takes_apart relation at s h k these is takes page other none = ⊎_elim
+    (λ (mine : (page.relation ≡ relation) × IsOneOf these page.block). absurd (other (mine.0 ∙ is)))
+    (λ (same : k page ≡ h page). same)
+    (takes.others page)
+
+pub gives_apart : (at s : ℕ) (h k : Place → Option ℕ) → GivesAll h k s → LeavesLocks h k at s
+gives_apart at s h k gives page other none = by_holder (h page) (k page) refl refl
+  where
+    by_holder : (a b : Option ℕ) → h page ≡ a → k page ≡ b → b ≡ a
+    by_holder None None was now = refl
+    by_holder None (Some m) was now = absurd (none-some m (sym was ∙ gives.only page m now))
+    by_holder (Some n) b was now = sym now ∙ gives.kept page n (λ same. none (was ∙ ap Some same)) was
+
+pub same_apart : (at s : ℕ) (h : Place → Option ℕ) → LeavesLocks h h at s
+same_apart at s h page other none = refl

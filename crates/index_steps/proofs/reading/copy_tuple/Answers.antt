@@ -1,0 +1,35 @@
+use Rattle.std.proofs.Common.{◌≡◌, ℕ, ◌<◌, ◌^◌, List, refl, sym, ap, subst, ◌∙◌, arith}
+use Rattle.index_contents.specs.IndexContents.{contents}
+use Rattle.range_tuple.specs.TupleReading.{read_of}
+use Rattle.range_tuple.specs.Tuples.{parts_of}
+use Rattle.std.specs.Prelude.{Err}
+use Rattle.index_steps.specs.IndexTuples.{shape_of}
+use Rattle.index_steps.proofs.Copying.{is_misread, names_page, shows_gone, shows_tuple}
+use Rattle.index_steps.proofs.reading.copy_tuple.Goals as goal
+
+pub returns-in-Ok-false-clause-gone : goal.returns-in-Ok-false-clause-gone
+returns-in-Ok-false-clause-gone g c = λ is tells.
+    let old = c.args.pages.now in
+    shows_gone (shape_of old.layout c.args.index) (contents old.layout old.pages c.args.index) c.args.range c.args.spot (omega arith) (c.in-Ok-false.ensures.gone tells c.in-Ok-false.field-0-test)
+
+pub returns-in-Err-clause-at : goal.returns-in-Err-clause-at
+returns-in-Err-clause-at g c = names_page c.args.pages.now.layout c.args.pages.now.layout c.args.index c.args.spot.block c.in-Err.error refl c.in-Err.ensures.at
+
+pub returns-in-Ok-clause-there : goal.returns-in-Ok-clause-there
+returns-in-Ok-clause-there g c = λ is tells.
+    let old = c.args.pages.now in
+    let found = c.in-Ok-true.ensures.there tells c.in-Ok-true.field-0-test in
+    shows_tuple (shape_of old.layout c.args.index) (contents old.layout old.pages c.args.index) c.args.range c.args.spot c.tuple_at.new.out found.0 found.1
+
+pub returns-in-Err-decode-clause-outcome : goal.returns-in-Err-decode-clause-outcome
+returns-in-Err-decode-clause-outcome g c =
+    let old = c.args.pages.now in
+    let done = c.in-Ok-true.ensures.outcome in (
+      done.0,
+      done.1,
+      done.2,
+      λ tells.
+          let found = c.in-Ok-true.ensures.there tells c.in-Ok-true.field-0-test in
+          is_misread (shape_of old.layout c.args.index) (contents old.layout old.pages c.args.index) (parts_of c.args.tuple.now.columns) c.args.range c.in-Err-decode.field-0.at c.args.spot c.tuple_at.new.out c.requires.tuple found.0 found.1
+          (subst (λ (bytes : List ℕ). read_of (parts_of c.args.tuple.now.columns) bytes ≡ Err c.in-Err-decode.field-0.at) c.bytes.ensures c.in-Err-decode.ensures.read),
+    )

@@ -1,0 +1,5 @@
+pub mod IndexTuples
+pub mod ShownIndex
+pub mod Readings
+pub mod SwapAnswers
+pub mod MoveEnds

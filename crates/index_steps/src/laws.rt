@@ -1,0 +1,59 @@
+//! What stays in an index, and what a row makes of its tuples, as laws on their definitions.
+
+ghost use Rattle.std.specs.Prelude.{◌≡◌, ℕ, nat_lt, true, List, length, Option, Some};
+ghost use Rattle.std.specs.List.{list_all};
+ghost use Rattle.block_model.specs.ClassLimits.{class_is_lawful};
+ghost use Rattle.block_model.specs.declared.schema.Part.{Part};
+ghost use Rattle.block_model.specs.declared.value.Value.{Value as AnyValue};
+ghost use Rattle.block_model.specs.declared.row.Row.{Row};
+ghost use Rattle.range_tuple.specs.TupleBytes.{tuple_bytes};
+ghost use Rattle.range_tuple.specs.Tuples.{Tuple, with_row};
+ghost use Rattle.coverage.specs.IndexView.{Building, IndexTuple, IndexView, IsTupleOf, range_of_block};
+ghost use Rattle.coverage.specs.IsCovered.{IndexState, IsIndexKept, index_view};
+ghost use Rattle.coverage.specs.IsSound.{IsSound};
+ghost use Rattle.coverage.specs.Knowing.{LocksNone};
+ghost use Rattle.coverage.specs.Statements.{Inserting, Moving};
+ghost use Rattle.coverage.specs.Steps.{ReadsIndex};
+ghost use Rattle.block_model.specs.declared.place.Spot.{Spot};
+ghost use Rattle.index_contents.specs.IndexContents.{IndexContents};
+ghost use Rattle.index_steps.specs.IndexTuples.{IndexShape, TakesValues, have_kinds, kinds_of, seen};
+ghost use Rattle.index_steps.specs.MoveEnds.{IsMoving};
+ghost use Rattle.index_steps.specs.Readings.{IsMisnamed, IsMisread, IsReadAs};
+ghost use Rattle.index_steps.specs.ShownIndex.{Shows};
+ghost use Rattle.index_steps.specs.SwapAnswers.{view_after};
+
+use range_tuple::values_of_a_kind_are_taken;
+
+/// Where neither pages nor locks change, the actor, which locks no page, has read the index. Does nothing.
+pub fn an_index_that_stays_is_read()
+    ensures { (shape : IndexShape) (c d : IndexContents) (lock locked : ℕ → Option ℕ) (w : IndexView) (s : ℕ) → Shows shape c lock w → d ≡ c → locked ≡ lock → LocksNone w.lock s
+        → (building : ℕ → Option Building) (loose : ℕ → Option Spot) → ReadsIndex s w (view_after shape d locked w building loose) }
+{}
+
+/// A row of the table that is added to a tuple of the index gives the tuple with the row. Does nothing.
+pub fn a_row_is_added_to_what_is_seen()
+    ensures { (shape : IndexShape) (c : IndexContents) (lock : ℕ → Option ℕ) (w : IndexView) (r : Row) (bytes : List ℕ) (t : Tuple) → Shows shape c lock w → IsReadAs shape bytes t → TakesValues shape r.values
+        → w.contents.added r (seen shape bytes) ≡ seen shape (tuple_bytes (with_row r.values t)) }
+{}
+
+/// In a sound index the map names tuples of their ranges, and a tuple of the index isn't misread: so no call tells damage for
+/// these causes. Does nothing.
+pub fn a_sound_index_is_not_misread()
+    ensures named { (shape : IndexShape) (c : IndexContents) (lock : ℕ → Option ℕ) (w : IndexView) (range : ℕ) → Shows shape c lock w → IsSound w → IsMisnamed c range → ⊥ }
+    ensures read { (shape : IndexShape) (c : IndexContents) (lock : ℕ → Option ℕ) (w : IndexView) (range : ℕ) (x : Spot) → Shows shape c lock w
+        → ((t : IndexTuple) → w.tuple x ≡ Some t → t.range ≡ range → IsTupleOf w t) → IsMisread shape c range x → ⊥ }
+{}
+
+/// What an insert in a move knows of an index that is kept. Does nothing.
+pub fn an_insert_knows_its_move()
+    ensures { (shape : IndexShape) (c : IndexContents) (lock : ℕ → Option ℕ) (w : IndexState) (s b k : ℕ) (r : Row) (x y : Spot) (old new : IndexTuple) → Shows shape c lock (index_view w) → IsIndexKept w
+        → w.statement s ≡ Inserting b k r (Moving x y old new) → IsMoving shape c (range_of_block (index_view w) b) x y }
+{}
+
+/// Each class of an index within the limits takes the values of a row of the table. Does nothing.
+pub fn rows_of_the_table_are_taken()
+    ensures { (shape : IndexShape) (values : List AnyValue) → list_all (λ (p : Part). nat_lt p.column (length shape.columns)) shape.parts ≡ true → list_all (class_is_lawful shape.columns) shape.parts ≡ true
+        → have_kinds (kinds_of shape) values ≡ true → TakesValues shape values }
+{
+    values_of_a_kind_are_taken();
+}

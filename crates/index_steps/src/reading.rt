@@ -1,0 +1,95 @@
+//! Reading the map, and copying the tuple of a range.
+
+ghost use Rattle.std.specs.Prelude.{◌≡◌, ◌<◌, true, false, length, IfOk, IfErr, IfSome};
+ghost use Rattle.page_store.specs.Keeps.{Keeps, Tells};
+ghost use Rattle.page_store.specs.declared.faults.StoreError.TheVariants as errors;
+ghost use Rattle.page_store.specs.Outcome.{Outcome};
+ghost use Rattle.range_tuple.specs.Tuples.{parts_of};
+ghost use Rattle.index_contents.specs.IndexContents.{contents};
+ghost use Rattle.index_steps.specs.IndexTuples.{classes_of, shape_of};
+ghost use Rattle.index_steps.specs.Readings.{HasRangeAt, IsMisnamed, IsMisread, IsReadAs, NamesPageOf, ShowsGone, ShowsTuple};
+
+use block_model::{Place, Spot};
+use disk_trait::Disk;
+use index_contents::relation_of;
+use page_store::{PageStore, StoreError};
+use range_store::{Scratch, tuple_at};
+use range_tuple::RangeTuple;
+use revmap::entry;
+
+/// The entry of the range; none where the map names no spot for it. Damaged, beside a disk that doesn't tell its contents, exactly
+/// where no tuple of the range stands at the spot that it names. `copied` may hold the bytes of one afterwards. Takes no memory.
+pub fn read_map<D: Disk + Drop>(
+    pages: &mut PageStore<D>,
+    index: u8,
+    range: u32,
+    copied: &mut Scratch,
+) -> Result<Option<Spot>, StoreError>
+    requires index { index < length pages.old.layout.schema.indexes }
+    ensures entry { IfOk result (λ entry. Tells D.told pages.old → (contents pages.old.layout pages.old.pages index).entry range ≡ entry) }
+    ensures stands { IfOk result (λ entry. IfSome entry (λ spot. Tells D.told pages.old → HasRangeAt (contents pages.old.layout pages.old.pages index) range spot)) }
+    ensures kept { Keeps D.told pages.old pages.new }
+    ensures at { IfErr result (NamesPageOf pages.old.layout index) }
+    ensures outcome { Outcome D.told (Tells D.told pages.old → IsMisnamed (contents pages.old.layout pages.old.pages index) range) pages.old pages.new result }
+{
+    let spot = match entry(pages, index, range) {
+        Ok(Some(spot)) => spot,
+        Ok(None) => return Ok(None),
+        Err(error) => return Err(error),
+    };
+    match tuple_at(pages, index, spot, range, copied) {
+        Ok(true) => Ok(Some(spot)),
+        Ok(false) => Err(StoreError::Damaged {
+            at: page_at(pages, index, spot.block),
+        }),
+        Err(error) => Err(error),
+    }
+}
+
+/// Whether a tuple of the range stands at the spot; `copied` holds its bytes then, and `tuple` is the one that they are. False
+/// exactly where none does. Damaged, beside a disk that doesn't tell its contents, exactly where bytes of the range stand there
+/// that are no tuple of the index. Takes no memory.
+pub fn copy_tuple<D: Disk + Drop>(
+    pages: &mut PageStore<D>,
+    index: u8,
+    range: u32,
+    spot: Spot,
+    copied: &mut Scratch,
+    tuple: &mut RangeTuple,
+) -> Result<bool, StoreError>
+    requires index { index < length pages.old.layout.schema.indexes }
+    requires tuple { parts_of tuple.old.columns ≡ classes_of (shape_of pages.old.layout index) }
+    ensures there { IfOk result (λ there. there ≡ true → Tells D.told pages.old → ShowsTuple (shape_of pages.old.layout index) (contents pages.old.layout pages.old.pages index) range spot copied.new) }
+    ensures read { IfOk result (λ there. there ≡ true → IsReadAs (shape_of pages.old.layout index) copied.new tuple.new) }
+    ensures gone { IfOk result (λ there. there ≡ false → Tells D.told pages.old → ShowsGone (shape_of pages.old.layout index) (contents pages.old.layout pages.old.pages index) range spot) }
+    ensures same_index { parts_of tuple.new.columns ≡ parts_of tuple.old.columns }
+    ensures kept { Keeps D.told pages.old pages.new }
+    ensures at { IfErr result (NamesPageOf pages.old.layout index) }
+    ensures outcome { Outcome D.told (Tells D.told pages.old → IsMisread (shape_of pages.old.layout index) (contents pages.old.layout pages.old.pages index) range spot) pages.old pages.new result }
+{
+    match tuple_at(pages, index, spot, range, copied) {
+        Ok(true) => {}
+        Ok(false) => return Ok(false),
+        Err(error) => return Err(error),
+    }
+    match tuple.decode(copied.bytes()) {
+        Ok(()) => Ok(true),
+        Err(_) => Err(StoreError::Damaged {
+            at: page_at(pages, index, spot.block),
+        }),
+    }
+}
+
+/// The byte of the disk at which the page begins; that of the index's last page for one that it can't have.
+pub(crate) fn page_at<D: Disk + Drop>(pages: &PageStore<D>, index: u8, block: u32) -> u64
+    requires index { index < length pages.now.layout.schema.indexes }
+    ensures { NamesPageOf pages.now.layout index (errors.Damaged result) }
+{
+    pages.layout().known();
+    let relation = relation_of(pages.layout(), index);
+    let last = pages.layout().sizes().index_blocks - 1;
+    pages.layout().page_at(Place {
+        relation,
+        block: block.min(last),
+    })
+}
