@@ -171,7 +171,6 @@ others_on told table old mid new first second = record {
     layout = second.leaves.layout ∙ first.leaves.layout;
     tells = second.leaves.tells ∙ first.leaves.tells;
     faults = omega (arith, second.leaves.faults, first.leaves.faults);
-    disk = second.leaves.disk ∙ first.leaves.disk;
   };
   pages = λ tells place other. second.pages (first.leaves.tells ∙ tells) place other ∙ first.pages tells place other;
   tables = λ tells other blocks apart has.
@@ -180,7 +179,7 @@ others_on told table old mid new first second = record {
 }
 
 pub others_none : {D : Type 0} (told : D → Told) (table : ℕ) (store : View D) → LeavesOthers told table store store
-others_none told table store = record { leaves = record { layout = refl; tells = refl; faults = omega arith; disk = refl }; pages = λ tells place other. refl; tables = λ tells other blocks apart has. has }
+others_none told table store = record { leaves = record { layout = refl; tells = refl; faults = omega arith }; pages = λ tells place other. refl; tables = λ tells other blocks apart has. has }
 
 -- the hit that is next
 pub next_hit : {D : Type 0} (old now : HeapState D) (n : ℕ) (q : Query) (hits : List Hit) (i : ℕ) (h : Hit) → i < length hits → MarkedSoFar old now n q hits i → IsHit now n q.table (get_or hits i h)

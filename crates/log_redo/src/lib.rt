@@ -16,4 +16,4 @@ mod room;
 pub use fault::RedoFault;
 pub use frames::redo;
 pub use page::read_page;
-pub use place::{blocks_of, count_relations, form_of, is_place};
+pub use place::{form_of, is_place};

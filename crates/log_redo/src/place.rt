@@ -1,6 +1,6 @@
 //! Places of pages, and their forms.
 
-ghost use Rattle.std.specs.Prelude.{◌≡◌, ◌<◌, length, slice_index, true, false};
+ghost use Rattle.std.specs.Prelude.{◌≡◌, ◌<◌, length, true, false};
 ghost use Rattle.page_layout.specs.PageContents.{IsForm};
 ghost use Rattle.page_store.specs.Forms.{form_of};
 ghost use Rattle.store_layout.specs.DiskLayout.{IsPlace, relation_blocks};
@@ -8,7 +8,7 @@ ghost use Rattle.store_layout.specs.DiskLayout.{IsPlace, relation_blocks};
 use block_model::Place;
 use page_layout::{Form, heap_form};
 use page_store::tables_have_forms;
-use store_layout::Layout;
+use store_layout::{Layout, blocks_of, count_relations};
 
 /// Whether the layout has the place.
 pub fn is_place(layout: &Layout, place: Place) -> bool
@@ -37,28 +37,4 @@ pub fn form_of(layout: &Layout, relation: u8) -> Form
         return Form::Index;
     }
     heap_form(&tables[relation - 1])
-}
-
-/// How many relations the layout has: the statuses, the tables and the indexes.
-pub fn count_relations(layout: &Layout) -> u8
-    ensures { result ≡ length (relation_blocks layout.now) }
-{
-    layout.known();
-    let schema = layout.schema();
-    (1 + schema.tables.len() + schema.indexes.len()) as u8
-}
-
-/// How many blocks a relation may have.
-pub fn blocks_of(layout: &Layout, relation: u8) -> u32
-    requires { relation < length (relation_blocks layout.now) }
-    ensures { result ≡ slice_index (relation_blocks layout.now) relation }
-{
-    let sizes = layout.sizes();
-    if relation == 0 {
-        return sizes.status_blocks;
-    }
-    if usize::from(relation) <= layout.schema().tables.len() {
-        return sizes.heap_blocks;
-    }
-    sizes.index_blocks
 }

@@ -13,12 +13,11 @@ abbrev pub Untold : {D : Type 0} → (D → Told) → View D → Type 0
 Untold told store = Tells told store → ⊥
 
 -- What every call leaves, whether it changes pages or not: the layout, and whether the disk tells its contents. Its count of
--- faults doesn't fall. While the pages stand in memory alone the disk stays as it is.
+-- faults doesn't fall.
 pub record Leaves {D : Type 0} (told : D → Told) (old new : View D) : Type 0 where
   pub layout : new.layout ≡ old.layout
   pub tells : (told new.disk).tells_contents ≡ (told old.disk).tells_contents
   pub faults : (told old.disk).faults ≤ (told new.disk).faults
-  pub disk : new.disk ≡ old.disk
 
 -- a call that changes no page leaves them too, where the disk tells its contents
 pub record Keeps {D : Type 0} (told : D → Told) (old new : View D) : Type 0 where
@@ -31,7 +30,6 @@ keeps_then told old mid new first second = record {
   layout = second.layout ∙ first.leaves.layout;
   tells = second.tells ∙ first.leaves.tells;
   faults = omega (arith, second.faults, first.leaves.faults);
-  disk = second.disk ∙ first.leaves.disk;
 }
 
 -- two calls that change no page

@@ -16,7 +16,7 @@ use Rattle.block_model.specs.declared.request.Tag.TheVariants as tags
 use Rattle.block_model.specs.declared.reply.Reply.{Reply}
 use Rattle.block_model.specs.declared.reply.Reply.TheVariants as replies
 use Rattle.block_model.specs.declared.reply.Refusal.TheVariants as refusals
-use Rattle.block_model.specs.Causes.{Rose}
+use Rattle.block_model.specs.Causes.{rose_earlier}
 use Rattle.block_model.specs.NumberMaps.{none_Some}
 use Rattle.block_model.specs.DatabaseState.{DatabaseState, OpenTransaction}
 use Rattle.block_model.specs.RequestEffect.{Answer, Begun, Inserted, Found, Marked, Committed, RolledBack, Full, NoMemory, effect, effect_at, effect_is, after_failure, after_request, reply_to, rows_found}
@@ -83,7 +83,6 @@ leaves_same told s s' same = record {
   layout = ap (λ (s : View _). s.layout) same;
   tells = ap (λ (s : View _). (told s.disk).tells_contents) same;
   faults = subst (λ (v : View _). (told s.disk).faults ≤ (told v.disk).faults) (sym same) (omega arith);
-  disk = ap (λ (s : View _). s.disk) same;
 }
 
 -- no table gains a row
@@ -271,7 +270,6 @@ leaves_on told a b c first second = record {
   layout = second.layout ∙ first.layout;
   tells = second.tells ∙ first.tells;
   faults = omega (arith, first.faults, second.faults);
-  disk = second.disk ∙ first.disk;
 }
 
 -- the disk still tells its contents
@@ -392,7 +390,7 @@ cause_of told s s' table error fault there names refused is = subst (HasFaultCau
 -- the cause of a fault behind a call that was done
 pub cause_behind : {D : Type 0} (told : D → Told) (s s₁ s' : View D) (fault : StoreFault) → s.failed ≡ None → s₁.failed ≡ None → Leaves told s s₁ → HasFaultCause told s₁ s' fault → HasFaultCause told s s' fault
 cause_behind told s s₁ s' (stops.Spent entries) none none₁ leaves h = λ ready. h none₁
-cause_behind told s s₁ s' stops.Disk none none₁ leaves h = (none, subst (λ (d : _). Rose (told d).faults (told s'.disk).faults) leaves.disk h.1, h.2)
+cause_behind told s s₁ s' stops.Disk none none₁ leaves h = (none, rose_earlier (told s.disk).faults (told s₁.disk).faults (told s'.disk).faults leaves.faults h.1, h.2)
 cause_behind told s s₁ s' (stops.Reopen faults) none none₁ leaves h = absurd (none_Some faults (sym none₁ ∙ h.0))
 cause_behind told s s₁ s' (stops.Damaged at) none none₁ leaves h =
     ((none, h.0.1, omega (arith, leaves.faults, h.0.2), λ tells. h.0.3 (still_tells told s s₁ leaves tells)), subst (λ (d : DiskLayout). IsPageOffset d at) leaves.layout h.1)

@@ -1,6 +1,6 @@
 //! The pages of a new store.
 
-ghost use Rattle.std.specs.Prelude.{◌≡◌, ◌<◌, ◌≤◌, IsTrue, take, replicate, slice_index, length, OnOk};
+ghost use Rattle.std.specs.Prelude.{◌≡◌, ◌<◌, ◌≤◌, IsTrue, take, replicate, length, OnOk};
 ghost use Rattle.block_model.specs.Causes.{HasCause};
 ghost use Rattle.block_model.specs.declared.limits.TheConstants.{PAGE_SIZE};
 ghost use Rattle.disk_trait.specs.Throughout.{Throughout};
@@ -14,7 +14,7 @@ use block_model::{PAGE_SIZE, Place};
 use disk_trait::{Disk, DiskFault};
 use index_layout::{start_map, start_meta};
 use page_layout::STATUS;
-use store_layout::{Layout, pages_fill_the_disk};
+use store_layout::{Layout, blocks_of, count_relations, pages_fill_the_disk};
 
 /// The block of an index that is its metapage.
 const META_BLOCK: u32 = 0;
@@ -94,28 +94,4 @@ fn fill_page(layout: &Layout, place: Place, page: &mut [u8])
     if place.block == MAP_BLOCK {
         start_map(page);
     }
-}
-
-/// How many relations the layout has: the statuses, the tables and the indexes.
-fn count_relations(layout: &Layout) -> u8
-    ensures { result ≡ length (relation_blocks layout.now) }
-{
-    layout.known();
-    let schema = layout.schema();
-    (1 + schema.tables.len() + schema.indexes.len()) as u8
-}
-
-/// How many blocks a relation may have.
-fn blocks_of(layout: &Layout, relation: u8) -> u32
-    requires { relation < length (relation_blocks layout.now) }
-    ensures { result ≡ slice_index (relation_blocks layout.now) relation }
-{
-    let sizes = layout.sizes();
-    if relation == 0 {
-        return sizes.status_blocks;
-    }
-    if usize::from(relation) <= layout.schema().tables.len() {
-        return sizes.heap_blocks;
-    }
-    sizes.index_blocks
 }

@@ -4,7 +4,9 @@
 #![tactic(auto)]
 
 mod layout;
+mod relations;
 
 pub use layout::{
     FORMAT, Layout, OverLimit, pages_fill_the_disk, the_first_broken_rule_is_the_least,
 };
+pub use relations::{blocks_of, count_relations};

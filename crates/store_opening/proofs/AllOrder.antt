@@ -2,7 +2,7 @@
 use Rattle.std.proofs.Common.{◌≡◌, inl, inr, ℕ, zero, suc, ◌+◌, ◌-◌, ◌<◌, ◌≤◌, List, length, refl, sym, ◌∙◌, ap, subst, arith}
 use Rattle.std.specs.Prelude.{IsTrue, IfNone, IfSome, None, Option, Some}
 use Rattle.byte_fields.specs.Fields.{field_at, number_of}
-use Rattle.log_redo.proofs.Relations.{blocks_of_index, blocks_of_statuses}
+use Rattle.store_layout.specs.RelationCounts.{blocks_of_index, blocks_of_statuses}
 use Rattle.store_layout.specs.RelationCounts.{count_relations}
 use Rattle.std.proofs.lemmas.Bool.{cases_eq}
 use Rattle.block_model.specs.declared.place.Place.{Place}

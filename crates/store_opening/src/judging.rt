@@ -16,12 +16,12 @@ use crate::order::judge_order;
 use block_model::Place;
 use buffer_pool::Pool;
 use disk_trait::Disk;
-use log_redo::{blocks_of, count_relations, form_of, read_page};
+use log_redo::{form_of, read_page};
 use page_layout::{Form, check};
 use page_store::{FactList, PageFacts, facts_of};
 use pooled_pages::number_of;
 use std::alloc::Global;
-use store_layout::{Layout, pages_fill_the_disk};
+use store_layout::{Layout, blocks_of, count_relations, pages_fill_the_disk};
 
 /// The facts of all pages, each of which passes its check and stands in order.
 pub fn judge<D: Disk>(

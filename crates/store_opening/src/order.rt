@@ -17,11 +17,11 @@ use block_model::Place;
 use buffer_pool::Pool;
 use byte_fields::get_u32;
 use disk_trait::{Disk, DiskFault};
-use log_redo::{blocks_of, count_relations, read_page};
+use log_redo::read_page;
 use page_layout::{EVACUATED, MAP, META, Page, REGULAR, STATUS, UNSTARTED};
 use page_store::FactList;
 use pooled_pages::number_of;
-use store_layout::{Layout, pages_fill_the_disk};
+use store_layout::{Layout, blocks_of, count_relations, pages_fill_the_disk};
 
 /// The relation of the statuses; the tables come next.
 const STATUSES: u8 = 0;

@@ -37,7 +37,6 @@ leaves_then told old mid new first second = record {
   layout = second.layout ∙ first.layout;
   tells = second.tells ∙ first.tells;
   faults = omega (arith, second.faults, first.faults);
-  disk = second.disk ∙ first.disk;
 }
 
 pub rest_then : {D : Type 0} (told : D → Told) (old mid new : View D) → LeavesRest told old mid → LeavesRest told mid new → LeavesRest told old new
@@ -49,7 +48,7 @@ rest_then told old mid new first second = record {
 
 -- nothing
 pub keeps_same : {D : Type 0} (told : D → Told) (store : View D) → Keeps told store store
-keeps_same told store = record { leaves = record { layout = refl; tells = refl; faults = omega arith; disk = refl }; pages = λ tells. refl }
+keeps_same told store = record { leaves = record { layout = refl; tells = refl; faults = omega arith }; pages = λ tells. refl }
 
 -- a call that changes no page leaves the rest
 pub rest_kept : {D : Type 0} (told : D → Told) (old new : View D) → Keeps told old new → LeavesRest told old new

@@ -1,9 +1,8 @@
 use Rattle.std.proofs.Common.{◌≡◌, ◌≤◌, ◌<◌, length, sym, ◌∙◌, ap, arith}
 use Rattle.block_model.specs.declared.schema.Schema.{Schema}
 use Rattle.block_model.specs.declared.schema.Sizes.{Sizes}
-use Rattle.store_layout.specs.RelationCounts.{count_relations}
-use Rattle.log_redo.proofs.Relations.{blocks_of_statuses, blocks_of_table, blocks_of_index}
-use Rattle.log_redo.proofs.place.blocks_of.Goals as goal
+use Rattle.store_layout.specs.RelationCounts.{blocks_of_index, blocks_of_statuses, blocks_of_table, count_relations}
+use Rattle.store_layout.proofs.relations.blocks_of.Goals as goal
 
 pub returns-then-relation-eq0 : goal.returns-then-relation-eq0
 returns-then-relation-eq0 c =

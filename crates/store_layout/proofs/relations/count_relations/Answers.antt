@@ -1,7 +1,7 @@
 use Rattle.std.proofs.Common.{length, ap, arith}
 use Rattle.block_model.specs.declared.schema.Schema.{Schema}
 use Rattle.store_layout.specs.RelationCounts.{count_relations}
-use Rattle.store_format.proofs.pages.count_relations.Goals as goal
+use Rattle.store_layout.proofs.relations.count_relations.Goals as goal
 
 pub returns : goal.returns
 returns c =
