@@ -1,7 +1,0 @@
-pub mod Damaged
-pub mod StartCauses
-pub mod Opened
-pub mod Judged
-pub mod PageCauses
-pub mod Orders
-pub mod Begun
