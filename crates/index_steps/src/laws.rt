@@ -16,7 +16,7 @@ ghost use Rattle.coverage.specs.Statements.{Inserting, Moving};
 ghost use Rattle.coverage.specs.Steps.{ReadsIndex};
 ghost use Rattle.block_model.specs.declared.place.Spot.{Spot};
 ghost use Rattle.index_contents.specs.IndexContents.{IndexContents};
-ghost use Rattle.index_steps.specs.IndexTuples.{IndexShape, TakesValues, have_kinds, kinds_of, seen};
+ghost use Rattle.index_steps.specs.IndexTuples.{IndexShape, TakesValues, are_values, have_kinds, kinds_of, seen};
 ghost use Rattle.index_steps.specs.MoveEnds.{IsMoving};
 ghost use Rattle.index_steps.specs.Readings.{IsMisnamed, IsMisread, IsReadAs};
 ghost use Rattle.index_steps.specs.ShownIndex.{Shows};
@@ -32,7 +32,7 @@ pub fn an_index_that_stays_is_read()
 
 /// A row of the table that is added to a tuple of the index gives the tuple with the row. Does nothing.
 pub fn a_row_is_added_to_what_is_seen()
-    ensures { (shape : IndexShape) (c : IndexContents) (lock : ℕ → Option ℕ) (w : IndexView) (r : Row) (bytes : List ℕ) (t : Tuple) → Shows shape c lock w → IsReadAs shape bytes t → TakesValues shape r.values
+    ensures { (shape : IndexShape) (c : IndexContents) (lock : ℕ → Option ℕ) (w : IndexView) (r : Row) (bytes : List ℕ) (t : Tuple) → Shows shape c lock w → IsReadAs shape bytes t → are_values (kinds_of shape) r.values ≡ true
         → w.contents.added r (seen shape bytes) ≡ seen shape (tuple_bytes (with_row r.values t)) }
 {}
 
