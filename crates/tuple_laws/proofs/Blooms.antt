@@ -1,12 +1,12 @@
 -- summaries of the bloom class
-use Rattle.std.proofs.Common.{◌≡◌, ℕ, ◌+◌, ◌*◌, ◌/◌, ◌%◌, ◌<◌, ◌≤◌, ◌==◌, Bool, true, false, List, [], ◌∷◌, length, fold, replicate, min, Option, Result, Ok, Err, refl, sym, ap, subst, ◌∙◌, arith}
+use Rattle.std.proofs.Common.{◌≡◌, ℕ, ◌+◌, ◌*◌, ◌<◌, ◌==◌, Bool, true, false, List, [], ◌∷◌, length, fold, min, Ok, Err, refl, sym, ap, subst, ◌∙◌, arith}
 use Rattle.std.specs.Prelude.{if◌then◌else◌}
 use Rattle.std.specs.List.{list_all}
 use Rattle.std.proofs.lemmas.Bool.{eqb-true}
 use Rattle.std.proofs.lemmas.List.{length-replicate}
 use Rattle.block_model.specs.declared.value.Value.{Value}
 use Rattle.byte_fields.specs.Fields.{AreBytes}
-use Rattle.opclass_bloom.specs.Bits.{IsSummary, is_set, nothing_set, united, with_position, with_value}
+use Rattle.opclass_bloom.specs.Bits.{IsSummary, is_set, united, with_position, with_value}
 use Rattle.opclass_bloom.specs.Encoding.{bytes_of, number_of, size_of}
 use Rattle.opclass_bloom.specs.Includes.{HasWords, Includes, has_all}
 use Rattle.opclass_bloom.specs.Kept.{bits_of}

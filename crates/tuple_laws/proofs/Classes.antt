@@ -1,9 +1,8 @@
 -- each class whose parameters are within their limits is sound
-use Rattle.std.proofs.Common.{◌≡◌, ℕ, ◌≤◌, ◌%◌, ◌==◌, ◌&&◌, Bool, true, false, refl, arith}
+use Rattle.std.proofs.Common.{◌≡◌, ℕ, ◌≤◌, ◌%◌, ◌==◌, ◌&&◌, true, refl}
 use Rattle.std.specs.Prelude.{nat_le}
 use Rattle.std.proofs.lemmas.Bool.{and_parts, eqb-true, leb-true}
-use Rattle.block_model.specs.ClassLimits.{class_is_lawful, has_lawful_parameters, is_within, takes_kind}
-use Rattle.block_model.specs.IndexedColumns.{kind_at}
+use Rattle.block_model.specs.ClassLimits.{has_lawful_parameters, is_within}
 use Rattle.block_model.specs.TupleSize.{summary_size}
 use Rattle.block_model.specs.declared.schema.Class.{Class}
 use Rattle.block_model.specs.declared.schema.Class.TheVariants as classes

@@ -9,7 +9,7 @@ use Rattle.block_model.specs.declared.schema.Part.{Part}
 use Rattle.block_model.specs.declared.value.Value.{Value}
 use Rattle.block_model.specs.declared.value.Value.TheVariants.{Int, Net, Null, Span}
 use Rattle.block_model.specs.IndexedColumns.{kind_at}
-use Rattle.opclass_any.specs.AnyClass.{add, bytes_of, class_of, empty, includes, is_of, takes, united}
+use Rattle.opclass_any.specs.AnyClass.{add, bytes_of, class_of, includes, united}
 use Rattle.opclass_any.specs.declared.classes.AnyClass.{AnyClass}
 use Rattle.opclass_any.specs.declared.classes.AnySummary.{AnySummary}
 use Rattle.range_tuple.specs.NullStates.{has_nulls, has_values, state_of}

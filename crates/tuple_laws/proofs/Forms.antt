@@ -1,5 +1,5 @@
 -- a class is sound where one of its forms is
-use Rattle.std.proofs.Common.{◌≡◌, ℕ, ◌<◌, List, Result, Ok, Err, refl, sym, ap, subst}
+use Rattle.std.proofs.Common.{◌≡◌, ℕ, ◌<◌, List, Result, Ok, Err, refl, sym, subst}
 use Rattle.block_model.specs.declared.value.Value.{Value}
 use Rattle.byte_fields.specs.Fields.{AreBytes}
 use Rattle.opclass_any.specs.AnyClass.{empty, greatest_size, is_of, kept_as, read_of, takes}

@@ -1,5 +1,5 @@
 -- summaries of the minmax class
-use Rattle.std.proofs.Common.{◌≡◌, ℕ, ℤ, ◌≤ℤ◌, ◌<◌, ◌≤◌, ◌==◌, Bool, true, false, List, [], ◌∷◌, ◌++◌, length, FitsSigned, Result, Ok, Err, refl, sym, ap, subst, ◌∙◌, arith}
+use Rattle.std.proofs.Common.{◌≡◌, ℕ, ℤ, ◌≤ℤ◌, ◌≤◌, ◌==◌, List, [], ◌∷◌, length, FitsSigned, Ok, Err, refl, ap, subst, arith}
 use Rattle.std.specs.Prelude.{int_lt, nat_lt}
 use Rattle.std.specs.Int.{w64, int_max, int_min}
 use Rattle.std.proofs.lemmas.Bool.{cond_both, eqb-true, ltb-false}
@@ -9,7 +9,7 @@ use Rattle.block_model.specs.declared.value.Value.{Value}
 use Rattle.block_model.specs.declared.value.Value.TheVariants.{Int, Net, Null, Span}
 use Rattle.byte_fields.specs.Fields.{AreBytes}
 use Rattle.byte_fields.specs.Int8.{int8_at, int8_bytes}
-use Rattle.opclass_minmax.specs.Bounds.{Between, Bounds, IsOrdered, IsSummary, NothingYet, united, widened, with_value}
+use Rattle.opclass_minmax.specs.Bounds.{Between, Bounds, IsOrdered, IsSummary, NothingYet, widened}
 use Rattle.opclass_minmax.specs.Encoding.{bytes_of}
 use Rattle.opclass_minmax.specs.Includes.{Includes, IsInt, IsWithin}
 use Rattle.opclass_minmax.specs.Reading.{both_in, read_of}

@@ -1,6 +1,6 @@
 -- summaries of the multi-minmax class
-use Rattle.std.proofs.Common.{◌≡◌, ℕ, zero, suc, ◌+◌, ◌*◌, ℤ, ◌<◌, ◌≤◌, true, false, List, [], ◌∷◌, ◌++◌, length, FitsSigned, Result, Ok, Err, refl, sym, ap, subst, ◌∙◌, arith, length-append}
-use Rattle.std.specs.Prelude.{if◌then◌else◌, int_lt}
+use Rattle.std.proofs.Common.{◌≡◌, ℕ, ℤ, ◌<◌, List, [], ◌∷◌, ◌++◌, length, FitsSigned, Result, Ok, Err, refl, sym, ap, subst, ◌∙◌, arith, length-append}
+use Rattle.std.specs.Prelude.{int_lt}
 use Rattle.std.specs.Int.{w64, bytes_high_first}
 use Rattle.std.specs.List.{flat_map}
 use Rattle.std.proofs.lemmas.Bool.{cond_both}
@@ -10,13 +10,12 @@ use Rattle.block_model.specs.declared.value.Value.TheVariants.{Int, Net, Null, S
 use Rattle.byte_fields.specs.Fields.{AreBytes, length-number}
 use Rattle.byte_fields.specs.Int8.{int8_bytes}
 use Rattle.opclass_multi.specs.declared.element.Element.{Element}
-use Rattle.opclass_multi.specs.Elements.{AreApart, count_of, holds, point}
+use Rattle.opclass_multi.specs.Elements.{holds, point}
 use Rattle.opclass_multi.specs.Encoding.{bytes_of, element_bytes, elements_bytes}
-use Rattle.opclass_multi.specs.Includes.{Includes, IsInt}
+use Rattle.opclass_multi.specs.Includes.{IsInt}
 use Rattle.opclass_multi.specs.Joined.{joined, with_element}
 use Rattle.opclass_multi.specs.Kept.{IsLimit, IsSummary, Kept, reduced_to, united, with_number}
 use Rattle.opclass_multi.specs.Reading.{kept_in, read_of as elements_read, summary_in}
-use Rattle.opclass_multi.specs.Reduced.{reduced}
 use Rattle.opclass_multi.proofs.Decoding.{IsRead, read_again, read_taken}
 use Rattle.opclass_multi.proofs.Widening.{apart_united, apart_widened, includes_more, number_held, number_keeps, united_keeps, united_takes, within_limit}
 use Rattle.opclass_multi.proofs.Writing.{length-elements}

@@ -1,16 +1,16 @@
 -- summaries of networks
-use Rattle.std.proofs.Common.{◌≡◌, ℕ, zero, suc, ◌+◌, ◌-◌, ◌%◌, ◌^◌, ◌<◌, ◌≤◌, ◌==◌, Bool, true, false, not, Option, None, Some, List, [], ◌∷◌, ◌++◌, length, Result, Ok, Err, refl, sym, ap, subst, ◌∙◌, arith}
-use Rattle.std.specs.Prelude.{if◌then◌else◌, nat_le, nat_lt, slice_index}
+use Rattle.std.proofs.Common.{◌≡◌, ℕ, zero, suc, ◌-◌, ◌%◌, ◌^◌, ◌<◌, ◌≤◌, Bool, true, false, not, None, Some, List, ◌∷◌, length, Ok, refl, sym, ap, subst, ◌∙◌, arith}
+use Rattle.std.specs.Prelude.{nat_lt, slice_index}
 use Rattle.std.proofs.lemmas.Bool.{cond-false, eqb-true, false≢true, le-ltb, leb-true, ltb-false}
 use Rattle.block_model.specs.declared.value.Kind.TheVariants as kinds
 use Rattle.block_model.specs.declared.value.Value.{Value}
 use Rattle.block_model.specs.declared.value.Value.TheVariants.{Int, Net, Null, Span}
-use Rattle.block_model.specs.Networks.{IsNetwork, Network, width_of}
+use Rattle.block_model.specs.Networks.{width_of}
 use Rattle.byte_fields.specs.Fields.{AreBytes, field_at, number_of, put-number}
 use Rattle.opclass_inclusion.specs.NetEncoding.{address_bytes, bytes_of, field_bytes, fields_of}
-use Rattle.opclass_inclusion.specs.NetFaults.{address_in_form, family_in_form, fault_in, field_end, field_fault, fields_in, has_network, prefix_in_form}
-use Rattle.opclass_inclusion.specs.NetHulls.{IsHull, IsSummary, of_network, united}
-use Rattle.opclass_inclusion.specs.NetIncludes.{Includes, IsNet}
+use Rattle.opclass_inclusion.specs.NetFaults.{address_in_form, family_in_form, fault_in, field_end, field_fault, fields_in, prefix_in_form}
+use Rattle.opclass_inclusion.specs.NetHulls.{IsSummary, of_network, united}
+use Rattle.opclass_inclusion.specs.NetIncludes.{IsNet}
 use Rattle.opclass_inclusion.specs.NetReading.{from_fields, read_of}
 use Rattle.opclass_inclusion.specs.declared.net_class.NetHull.{NetHull}
 use Rattle.opclass_inclusion.specs.declared.net_summary.NetSummary.{NetSummary}

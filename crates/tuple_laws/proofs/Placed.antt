@@ -1,5 +1,5 @@
 -- where nothing is out of form, all of it was read
-use Rattle.std.proofs.Common.{◌≡◌, ℕ, ◌==◌, Option, None, Some, Result, Ok, Err, refl}
+use Rattle.std.proofs.Common.{◌≡◌, ℕ, ◌==◌, Option, None, Some, Ok, refl}
 use Rattle.std.specs.Prelude.{min}
 use Rattle.std.proofs.lemmas.Bool.{eqb-true}
 use Rattle.opclass_inclusion.specs.Faults.{placed, read_unless}

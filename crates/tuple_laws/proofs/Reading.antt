@@ -1,27 +1,26 @@
 -- what reads as a tuple of an index is one, with those bytes
-use Rattle.std.proofs.Common.{◌≡◌, ℕ, zero, suc, ◌+◌, ◌*◌, ◌<◌, ◌≤◌, ◌^◌, ◌==◌, Bool, true, false, cond, Option, None, Some, List, [], ◌∷◌, ◌++◌, All, length, take, drop, Result, Ok, Err, refl, sym, ap, subst, ◌∙◌, arith}
-use Rattle.std.specs.Prelude.{nat_lt, slice_index}
+use Rattle.std.proofs.Common.{◌≡◌, ℕ, zero, suc, ◌+◌, ◌*◌, ◌<◌, ◌≤◌, ◌^◌, ◌==◌, Bool, true, false, Option, None, Some, List, [], ◌∷◌, ◌++◌, All, length, take, drop, Result, Ok, Err, refl, sym, ap, subst, ◌∙◌, arith}
+use Rattle.std.specs.Prelude.{nat_lt}
 use Rattle.std.specs.Int.{bytes_high_first}
-use Rattle.std.proofs.lemmas.Bool.{eqb-false, false≢true, ltb-false}
-use Rattle.std.proofs.lemmas.List.{drop-drop, drop_all, drop_more, length-drop, length-map, length-take-le, take-append-drop}
+use Rattle.std.proofs.lemmas.Bool.{false≢true, ltb-false}
+use Rattle.std.proofs.lemmas.List.{drop-drop, drop_all, drop_more, length-map, length-take-le, take-append-drop}
 use Rattle.std.proofs.Math.Seq.{take-add}
 use Rattle.std.proofs.lemmas.List.Elements.{All-cons, All-head, All-nil, All-tail}
 use Rattle.byte_fields.specs.Fields.{AreBytes, AreBytes-drop, AreBytes-take, bytes-number, field_at, length-field, number_of as spelt, put-number}
-use Rattle.opclass_any.specs.AnyClass.{bytes_of, empty, is_of, read_of as summary_of}
+use Rattle.opclass_any.specs.AnyClass.{bytes_of, empty, read_of as summary_of}
 use Rattle.opclass_any.specs.declared.classes.AnyClass.{AnyClass}
 use Rattle.opclass_any.specs.declared.classes.AnySummary.{AnySummary}
 use Rattle.range_tuple.specs.NullStates.{has_values, number_of}
 use Rattle.range_tuple.specs.TupleBytes.{columns_bytes, length_bytes, lengths_bytes, state_number, states_bytes, summaries_bytes, summary_bytes, tuple_bytes}
-use Rattle.range_tuple.specs.TupleFaults.{head_fault, length_at, length_is_wrong, state_at, state_is_wrong}
+use Rattle.range_tuple.specs.TupleFaults.{head_fault, length_at, state_at}
 use Rattle.range_tuple.specs.TupleReading.{behind, columns_in, columns_read, is_there, read_of, read_on, says_placeholder, some_in, state_in, summary_in, tuple_behind, tuple_in, whole}
-use Rattle.range_tuple.specs.Tuples.{IndexedColumn, IsColumn, IsSummaryIn, IsTuple, Tuple, part_of, parts_of, tuple_of}
+use Rattle.range_tuple.specs.Tuples.{IndexedColumn, IsColumn, IsSummaryIn, Tuple, part_of, parts_of, tuple_of}
 use Rattle.range_tuple.specs.declared.state.NullState.{NullState}
-use Rattle.range_tuple.specs.declared.state.NullState.TheVariants.{Both, Nothing, Nulls, Values}
 use Rattle.range_tuple.proofs.ColumnBytes.{summary_of_none, summary_of_values}
 use Rattle.range_tuple.proofs.HeadFaults.{IsHeadInForm, in_form, length_agrees, state_small}
 use Rattle.range_tuple.proofs.TupleRead.{bytes_found}
 use Rattle.tuple_laws.specs.SoundClasses.{IsSound}
-use Rattle.tuple_laws.specs.SoundTuples.{IsTupleOf, IsTupleSpelt}
+use Rattle.tuple_laws.specs.SoundTuples.{IsTupleSpelt}
 use Rattle.tuple_laws.proofs.Numbers.{by_cond, number_small}
 
 -- ---- one summary

@@ -1,8 +1,8 @@
 -- summaries of ranges
-use Rattle.std.proofs.Common.{◌≡◌, ℕ, zero, suc, ℤ, pos, ◌+◌, ◌<◌, ◌≤◌, ◌==◌, ◌||◌, ◌&&◌, Bool, true, false, not, cond, Option, None, Some, List, [], ◌∷◌, ◌++◌, length, FitsSigned, Result, Ok, Err, get_or, refl, sym, ap, subst, ◌∙◌, arith}
-use Rattle.std.specs.Prelude.{IfSome, if◌then◌else◌, int_lt, nat_lt, nat_le, slice_index, min}
+use Rattle.std.proofs.Common.{◌≡◌, ℕ, zero, suc, ℤ, pos, ◌+◌, ◌<◌, ◌≤◌, ◌==◌, ◌||◌, Bool, true, false, not, Option, None, Some, List, ◌∷◌, ◌++◌, length, FitsSigned, Ok, refl, sym, ap, subst, ◌∙◌, arith}
+use Rattle.std.specs.Prelude.{IfSome, int_lt, nat_lt, slice_index}
 use Rattle.std.specs.Ordering.{int_eq}
-use Rattle.std.specs.Int.{w64, int_max, int_min}
+use Rattle.std.specs.Int.{w64}
 use Rattle.std.proofs.lemmas.Bool.{and_parts, cond-false, cond_both, eqb-true, false≢true, le-ltb, ltb-false}
 use Rattle.std.proofs.lemmas.Int.{clamps, ints}
 use Rattle.block_model.specs.declared.value.Kind.TheVariants as kinds
@@ -12,10 +12,9 @@ use Rattle.block_model.specs.Ranges.{Between, Empty, IsRange, Range, leaves_room
 use Rattle.block_model.specs.ValuesOfKind.{HasBounds}
 use Rattle.byte_fields.specs.Fields.{AreBytes}
 use Rattle.byte_fields.specs.Int8.{int8_at, int8_bytes}
-use Rattle.opclass_inclusion.specs.Faults.{placed, read_unless}
 use Rattle.opclass_inclusion.specs.SpanEncoding.{bit, bytes_of, field_bytes, fields_of, is_infinite}
-use Rattle.opclass_inclusion.specs.SpanFaults.{fault_in, field_end, field_fault, fields_in, has_hull, has_lower, has_upper, lower_in_form, shape_in_form, upper_in_form}
-use Rattle.opclass_inclusion.specs.SpanHulls.{BoundFits, IsSummary, greatest_upper, hull_of, is_empty, least_lower, of_range, united, with_value}
+use Rattle.opclass_inclusion.specs.SpanFaults.{fault_in, field_end, field_fault, fields_in, lower_in_form, shape_in_form, upper_in_form}
+use Rattle.opclass_inclusion.specs.SpanHulls.{BoundFits, IsSummary, greatest_upper, hull_of, is_empty, least_lower, of_range, united}
 use Rattle.opclass_inclusion.specs.SpanIncludes.{Includes, IsSpan}
 use Rattle.opclass_inclusion.specs.SpanReading.{from_fields, read_of}
 use Rattle.opclass_inclusion.specs.declared.span_class.SpanHull.{SpanHull}

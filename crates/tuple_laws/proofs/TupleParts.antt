@@ -1,24 +1,21 @@
 -- tuples of an index: empty, with a row, united, and written
-use Rattle.std.proofs.Common.{◌≡◌, ℕ, zero, suc, ◌+◌, ◌<◌, ◌≤◌, ◌^◌, Bool, true, false, List, [], ◌∷◌, ◌++◌, All, length, map, get_or, slice_get, Some, Result, Ok, Err, refl, sym, ap, subst, ◌∙◌, arith}
+use Rattle.std.proofs.Common.{◌≡◌, ℕ, ◌<◌, ◌^◌, Bool, true, false, List, [], ◌∷◌, ◌++◌, All, length, map, get_or, refl, sym, ap, subst, ◌∙◌, arith}
 use Rattle.std.specs.Int.{bytes_high_first}
-use Rattle.std.specs.List.{flat_map, list_all}
+use Rattle.std.specs.List.{list_all}
 use Rattle.std.proofs.lemmas.List.{get_or-map, length-map}
 use Rattle.std.proofs.lemmas.List.Elements.{All-cons, All-head, All-map, All-nil, All-tail}
 use Rattle.block_model.specs.declared.schema.Column.{Column}
 use Rattle.block_model.specs.declared.schema.Part.{Part}
 use Rattle.block_model.specs.declared.value.Value.{Value}
-use Rattle.block_model.specs.IndexedColumns.{kind_at}
 use Rattle.byte_fields.specs.Fields.{AreBytes}
-use Rattle.opclass_any.specs.AnyClass.{bytes_of, class_of, is_of}
 use Rattle.opclass_any.specs.declared.classes.AnyClass.{AnyClass}
-use Rattle.opclass_any.specs.declared.classes.AnySummary.{AnySummary}
 use Rattle.range_tuple.specs.KeptColumns.{IsReadAgain, ReadsAgain}
 use Rattle.range_tuple.specs.NullStates.{has_values, number_of}
 use Rattle.range_tuple.specs.SameIndex.{parts-with_row, takes_by_parts}
 use Rattle.range_tuple.specs.TupleBytes.{columns_bytes, flags_of, length_bytes, lengths_bytes, state_number, states_bytes, summaries_bytes, summary_bytes, tuple_bytes}
-use Rattle.range_tuple.specs.TupleIncludes.{ColumnIncludes, ColumnTakes, TakesThere, TupleIncludes}
-use Rattle.range_tuple.specs.TupleReading.{is_there, read_of, tuple_in}
-use Rattle.range_tuple.specs.Tuples.{IndexedColumn, IsColumn, IsTuple, Tuple, empty_column, empty_tuple, has_nothing, part_of, parts_of, tuple_room, united_column, united_columns, united_tuple, with_row, with_row_at}
+use Rattle.range_tuple.specs.TupleIncludes.{ColumnIncludes, ColumnTakes}
+use Rattle.range_tuple.specs.TupleReading.{is_there, read_of}
+use Rattle.range_tuple.specs.Tuples.{IndexedColumn, IsColumn, IsTuple, Tuple, empty_column, empty_tuple, has_nothing, part_of, parts_of, united_column, united_columns, with_row_at}
 use Rattle.range_tuple.specs.declared.state.NullState.{NullState}
 use Rattle.range_tuple.specs.declared.state.NullState.TheVariants.{Both, Nothing, Nulls, Values}
 use Rattle.range_tuple.proofs.ByPlace.{nothing_included, parts-united}
@@ -29,7 +26,7 @@ use Rattle.range_tuple.proofs.WholeTuples.{flags_small}
 use Rattle.tuple_laws.specs.KnownValues.{IsKnown}
 use Rattle.tuple_laws.specs.SoundClasses.{IsSound}
 use Rattle.tuple_laws.specs.SoundTuples.{AreTaken, IsEmptyTuple, IsTupleOf, IsTupleWritten, UnitesTuples, WidensTuple}
-use Rattle.tuple_laws.proofs.Columns.{UnitesColumns, WidensRow, columns_unite, empty_is, row_widens}
+use Rattle.tuple_laws.proofs.Columns.{WidensRow, columns_unite, empty_is, row_widens}
 use Rattle.tuple_laws.proofs.Numbers.{byte_more, bytes_more, none_bytes, number_bytes}
 
 -- each class of the index is sound
@@ -101,7 +98,6 @@ record ManyUnite (columns others new : List IndexedColumn) : Type 0 where
   are : All IsColumn new
   first : (row : List Value) → All (ColumnIncludes row) columns → All (ColumnIncludes row) new
   second : (row : List Value) → All (ColumnIncludes row) others → All (ColumnIncludes row) new
-
 
 many_unite : (columns others : List IndexedColumn) → parts_of others ≡ parts_of columns → All HasSoundClass columns → All IsColumn columns → All IsColumn others → ManyUnite columns others (united_columns columns others)
 many_unite [] [] same sound of also = record { are = of; first = λ row within. within; second = λ row within. within }
