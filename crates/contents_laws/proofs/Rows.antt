@@ -44,7 +44,7 @@ known kinds.Span (Span r) is kinds.Span has = range r is
 known kinds.Span (Span r) is other has = absurd (false≢true has)
 known kinds.Net (Net n) is kinds.Net has = network n is
 known kinds.Net (Net n) is other has = absurd (false≢true has)
-known kind v is = absurd (false≢true is)
+known kind v is other has = absurd (false≢true is)
 
 has : (kind : Kind) (v : Value) → is_value_of kind v ≡ true → has_kind kind v ≡ true
 has kind Null is = refl
