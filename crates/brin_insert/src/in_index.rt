@@ -22,7 +22,7 @@ use disk_trait::Disk;
 use index_contents::relation_of;
 use index_steps::{
     Swapped, Within, a_row_is_added_to_what_is_seen, an_index_that_stays_is_read, copy_tuple,
-    drop_moved, lock_of_another, name_moved, read_map, swap,
+    drop_moved, lock_of_another, name_moved, read_map, swap, values_are_known,
 };
 use page_locks::{Did, Locks};
 use page_store::{MachineFault, PageStore};
@@ -73,6 +73,7 @@ pub(crate) fn copy<D: Disk + Drop>(
 {
     an_index_that_stays_is_read();
     a_row_is_added_to_what_is_seen();
+    values_are_known(values);
     match copy_tuple(pages, at.index, at.range, spot, copied, tuple) {
         Ok(true) => {}
         Ok(false) => return Ok((Stage::Map, Did::Moved(Point::Copy))),

@@ -1,5 +1,6 @@
 -- where an index is sound, neither its map nor its tuples are damaged
-use Rattle.std.proofs.Common.{◌≡◌, ℕ, List, Option, None, Some, refl, sym, ap, subst, ◌∙◌}
+use Rattle.std.proofs.Common.{◌≡◌, ℕ, Bool, true, false, List, Option, None, Some, refl, sym, ap, subst, ◌∙◌}
+use Rattle.std.specs.Prelude.{if◌then◌else◌}
 use Rattle.std.specs.Option.{option_map}
 use Rattle.std.proofs.lemmas.Option.{none-some}
 use Rattle.block_model.specs.declared.place.Spot.{Spot}
@@ -12,7 +13,7 @@ use Rattle.coverage.specs.IsSound.{IsSound}
 use Rattle.coverage.specs.Knowing.{Knows}
 use Rattle.coverage.specs.Statements.{Inserting, Moving, Statement}
 use Rattle.index_contents.specs.IndexContents.{IndexContents}
-use Rattle.index_steps.specs.IndexTuples.{IndexShape, classes_of, contents_of, seen}
+use Rattle.index_steps.specs.IndexTuples.{IndexShape, are_bytes, classes_of, contents_of, seen, tuple_said}
 use Rattle.index_steps.specs.MoveEnds.{IsMoving}
 use Rattle.index_steps.specs.Readings.{IsMisnamed, IsMisread}
 use Rattle.index_steps.specs.ShownIndex.{Shows}
@@ -26,9 +27,13 @@ not_misnamed shape c lock w range shows sound misnamed =
     misnamed.none by.bytes by.there (sym (seen_range shape by.bytes) ∙ sym (ap (λ (t : IndexTuple). t.range) by.is) ∙ there.2)
 
 -- what the classes read in bytes
-read_is : (shape : IndexShape) (bytes : List ℕ) → (contents_of shape).read bytes ≡ option_map (λ (t : Tuple). seen shape bytes) (tuple_in (classes_of shape) bytes)
+read_is : (shape : IndexShape) (bytes : List ℕ) → (contents_of shape).read bytes ≡ option_map (λ (t : Tuple). seen shape bytes) (tuple_said shape bytes)
 unfolding contents_of
 read_is shape bytes = refl
+
+none_said : (shape : IndexShape) (bytes : List ℕ) (b : Bool) → tuple_in (classes_of shape) bytes ≡ None → (if b then tuple_in (classes_of shape) bytes else None) ≡ None
+none_said shape bytes true misread = misread
+none_said shape bytes false misread = refl
 
 -- bytes of a tuple of the index are read
 pub not_misread : (shape : IndexShape) (c : IndexContents) (lock : ℕ → Option ℕ) (w : IndexView) (range : ℕ) (x : Spot) → Shows shape c lock w → ((t : IndexTuple) → w.tuple x ≡ Some t → t.range ≡ range → IsTupleOf w t) → IsMisread shape c range x → ⊥
@@ -39,7 +44,7 @@ not_misread shape c lock w range x shows of misread =
     ap (λ (contents : Contents). contents.read t.bytes) shows.contents
     ∙ ap (λ (bytes : List ℕ). (contents_of shape).read bytes) (seen_bytes shape misread.bytes)
     ∙ read_is shape misread.bytes
-    ∙ ap (option_map (λ (u : Tuple). seen shape misread.bytes)) misread.misread
+    ∙ ap (option_map (λ (u : Tuple). seen shape misread.bytes)) (none_said shape misread.bytes (are_bytes misread.bytes) misread.misread)
     in
     none-some t (sym none ∙ is.0.says)
 

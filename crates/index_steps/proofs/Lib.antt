@@ -5,3 +5,4 @@ pub mod Copying
 pub mod Replacing
 pub mod Damage
 pub mod Taken
+pub mod KnownValues

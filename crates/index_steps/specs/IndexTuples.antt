@@ -1,5 +1,6 @@
 -- the tuples of an index as the protocol of coverage sees them: what its operator classes make of bytes
-use Rattle.std.specs.Prelude.{◌≡◌, ℕ, ◌^◌, nat_lt, Bool, true, false, ◌&&◌, if◌then◌else◌, All, List, [], ◌∷◌, length, map, slice_get, slice_index_or, Option, None, Some}
+use Rattle.std.specs.Prelude.{◌≡◌, ℕ, ◌^◌, ◌==◌, nat_le, nat_lt, ℤ, Bool, true, false, ◌&&◌, if◌then◌else◌, All, List, [], ◌∷◌, length, map, slice_get, slice_index_or, Option, None, Some}
+use Rattle.std.specs.List.{list_all}
 use Rattle.std.specs.Option.{option_map}
 use Rattle.block_model.specs.declared.row.Cond.{Cond}
 use Rattle.block_model.specs.declared.row.Row.{Row}
@@ -7,11 +8,13 @@ use Rattle.block_model.specs.declared.schema.Column.{Column}
 use Rattle.block_model.specs.declared.schema.Index.{Index}
 use Rattle.block_model.specs.declared.schema.Part.{Part}
 use Rattle.block_model.specs.declared.value.Kind.{Kind}
+use Rattle.block_model.specs.declared.value.Kind.TheVariants as kinds
 use Rattle.block_model.specs.declared.value.Value.{Value}
-use Rattle.block_model.specs.declared.value.Value.TheVariants.{Null}
+use Rattle.block_model.specs.declared.value.Value.TheVariants.{Int, Net, Null, Span}
 use Rattle.block_model.specs.IndexedColumns.{columns_of}
 use Rattle.block_model.specs.TupleSize.{tuple_size}
-use Rattle.block_model.specs.ValuesOfKind.{has_kind}
+use Rattle.block_model.specs.Ranges.{Between, Empty, Range, leaves_room}
+use Rattle.block_model.specs.ValuesOfKind.{has_kind, is_int8}
 use Rattle.byte_fields.specs.Fields.{field_at, number_of}
 use Rattle.store_layout.specs.DiskLayout.{DiskLayout}
 use Rattle.opclass_any.specs.declared.classes.AnyClass.{AnyClass}
@@ -43,7 +46,7 @@ shape_of layout index = record { columns = columns_of layout.schema (index_at la
 unfoldable pub classes_of : IndexShape → List (ℕ × AnyClass)
 classes_of shape = parts_of (map (empty_column shape.columns) shape.parts)
 
--- one value of each kind
+-- each value was made as one of its kind
 abbrev pub have_kinds : List Kind → List Value → Bool
 have_kinds [] [] = true
 have_kinds (kind ∷ kinds) (v ∷ values) = has_kind kind v && have_kinds kinds values
@@ -52,9 +55,33 @@ have_kinds kinds values = false
 abbrev pub kinds_of : IndexShape → List Kind
 kinds_of shape = map (λ column. column.kind) shape.columns
 
--- The values of a row of the table. A row of other kinds is never put, and counts as one of nulls.
+-- a bound of a range is a number of int8
+abbrev pub is_bound : Option ℤ → Bool
+is_bound None = true
+is_bound (Some n) = is_int8 n
+
+-- a range that isn't empty has a number
+abbrev pub is_range : Range → Bool
+is_range Empty = true
+is_range (Between lower upper) = leaves_room lower upper && is_bound lower && is_bound upper
+
+-- the value is one of the kind: a number of int8, a range of such, or an address of 32 bits
+abbrev pub is_value_of : Kind → Value → Bool
+is_value_of kind Null = true
+is_value_of kinds.Int (Int n) = is_int8 n
+is_value_of kinds.Span (Span range) = is_range range
+is_value_of kinds.Net (Net n) = (n.family == 4) && nat_le n.prefix 32 && nat_lt n.address (2 ^ 32)
+is_value_of kind v = false
+
+-- one value of each kind
+abbrev pub are_values : List Kind → List Value → Bool
+are_values [] [] = true
+are_values (kind ∷ kinds) (v ∷ values) = is_value_of kind v && are_values kinds values
+are_values kinds values = false
+
+-- The values of a row of the table. One with other values is never put, and counts as a row of nulls.
 unfoldable pub row_values : IndexShape → Row → List Value
-row_values shape r = if have_kinds (kinds_of shape) r.values then r.values else map (λ kind. Null) (kinds_of shape)
+row_values shape r = if are_values (kinds_of shape) r.values then r.values else map (λ kind. Null) (kinds_of shape)
 
 -- the first four bytes are the number of the range; fewer are of none
 unfoldable pub range_said : List ℕ → ℕ
@@ -102,13 +129,21 @@ abbrev pub united_as : IndexShape → List ℕ → Option Tuple → IndexTuple
 united_as shape bytes None = seen shape bytes
 united_as shape bytes (Some other) = changed shape bytes (final_union other)
 
+-- numbers below 256
+abbrev pub are_bytes : List ℕ → Bool
+are_bytes bytes = list_all (λ byte. nat_lt byte 256) bytes
+
+-- the tuple of the index that bytes are; other numbers are none
+abbrev pub tuple_said : IndexShape → List ℕ → Option Tuple
+tuple_said shape bytes = if are_bytes bytes then tuple_in (classes_of shape) bytes else None
+
 -- what the operator classes of the index make of its tuples, and how long these are at most
 unfoldable pub contents_of : IndexShape → Contents
 contents_of shape = record {
   empty = λ range. seen shape (tuple_bytes (empty_placeholder range shape.columns shape.parts));
   added = λ r t. changed shape t.bytes (with_row (row_values shape r));
   united = λ t other. united_as shape t.bytes (tuple_in (classes_of shape) other.bytes);
-  read = λ bytes. option_map (λ _. seen shape bytes) (tuple_in (classes_of shape) bytes);
+  read = λ bytes. option_map (λ _. seen shape bytes) (tuple_said shape bytes);
   greatest = tuple_size shape.columns shape.parts;
   ranges = 2 ^ 32;
 }

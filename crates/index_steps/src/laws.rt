@@ -4,6 +4,7 @@ ghost use Rattle.std.specs.Prelude.{◌≡◌, ℕ, nat_lt, true, List, length, 
 ghost use Rattle.std.specs.List.{list_all};
 ghost use Rattle.block_model.specs.ClassLimits.{class_is_lawful};
 ghost use Rattle.block_model.specs.declared.schema.Part.{Part};
+ghost use Rattle.block_model.specs.declared.value.Kind.{Kind as AnyKind};
 ghost use Rattle.block_model.specs.declared.value.Value.{Value as AnyValue};
 ghost use Rattle.block_model.specs.declared.row.Row.{Row};
 ghost use Rattle.range_tuple.specs.TupleBytes.{tuple_bytes};
@@ -16,12 +17,13 @@ ghost use Rattle.coverage.specs.Statements.{Inserting, Moving};
 ghost use Rattle.coverage.specs.Steps.{ReadsIndex};
 ghost use Rattle.block_model.specs.declared.place.Spot.{Spot};
 ghost use Rattle.index_contents.specs.IndexContents.{IndexContents};
-ghost use Rattle.index_steps.specs.IndexTuples.{IndexShape, TakesValues, have_kinds, kinds_of, seen};
+ghost use Rattle.index_steps.specs.IndexTuples.{IndexShape, TakesValues, are_values, have_kinds, kinds_of, seen};
 ghost use Rattle.index_steps.specs.MoveEnds.{IsMoving};
 ghost use Rattle.index_steps.specs.Readings.{IsMisnamed, IsMisread, IsReadAs};
 ghost use Rattle.index_steps.specs.ShownIndex.{Shows};
 ghost use Rattle.index_steps.specs.SwapAnswers.{view_after};
 
+use block_model::Value;
 use range_tuple::values_of_a_kind_are_taken;
 
 /// Where neither pages nor locks change, the actor, which locks no page, has read the index. Does nothing.
@@ -32,7 +34,7 @@ pub fn an_index_that_stays_is_read()
 
 /// A row of the table that is added to a tuple of the index gives the tuple with the row. Does nothing.
 pub fn a_row_is_added_to_what_is_seen()
-    ensures { (shape : IndexShape) (c : IndexContents) (lock : ℕ → Option ℕ) (w : IndexView) (r : Row) (bytes : List ℕ) (t : Tuple) → Shows shape c lock w → IsReadAs shape bytes t → TakesValues shape r.values
+    ensures { (shape : IndexShape) (c : IndexContents) (lock : ℕ → Option ℕ) (w : IndexView) (r : Row) (bytes : List ℕ) (t : Tuple) → Shows shape c lock w → IsReadAs shape bytes t → are_values (kinds_of shape) r.values ≡ true
         → w.contents.added r (seen shape bytes) ≡ seen shape (tuple_bytes (with_row r.values t)) }
 {}
 
@@ -49,6 +51,15 @@ pub fn an_insert_knows_its_move()
     ensures { (shape : IndexShape) (c : IndexContents) (lock : ℕ → Option ℕ) (w : IndexState) (s b k : ℕ) (r : Row) (x y : Spot) (old new : IndexTuple) → Shows shape c lock (index_view w) → IsIndexKept w
         → w.statement s ≡ Inserting b k r (Moving x y old new) → IsMoving shape c (range_of_block (index_view w) b) x y }
 {}
+
+/// Does nothing; tells its caller that values which were made as those of columns of these kinds are values of them.
+pub fn values_are_known(values: &[Value])
+    ensures { (kinds : List AnyKind) → have_kinds kinds values.now ≡ true → are_values kinds values.now ≡ true }
+{
+    'values: for value in values {
+        value.known();
+    }
+}
 
 /// Each class of an index within the limits takes the values of a row of the table. Does nothing.
 pub fn rows_of_the_table_are_taken()

@@ -12,7 +12,7 @@ mod swapping;
 
 pub use laws::{
     a_row_is_added_to_what_is_seen, a_sound_index_is_not_misread, an_index_that_stays_is_read,
-    an_insert_knows_its_move, rows_of_the_table_are_taken,
+    an_insert_knows_its_move, rows_of_the_table_are_taken, values_are_known,
 };
 pub use moving::{drop_moved, name_moved};
 pub use reading::{copy_tuple, read_map};

@@ -11,7 +11,7 @@ use Rattle.range_tuple.specs.TupleBytes.{tuple_bytes}
 use Rattle.range_tuple.specs.TupleIncludes.{TakesThere}
 use Rattle.range_tuple.specs.Tuples.{with_row}
 use Rattle.index_contents.specs.IndexContents.{contents, relation_of}
-use Rattle.index_steps.specs.IndexTuples.{TakesValues, shape_of}
+use Rattle.index_steps.specs.IndexTuples.{are_values, kinds_of, shape_of}
 use Rattle.index_steps.specs.ShownIndex.{lock_in}
 use Rattle.brin_insert.proofs.Copies.{changes_seen, copied, is_gone, stays}
 use Rattle.brin_insert.proofs.in_index.copy.Goals as goal
@@ -43,7 +43,7 @@ returns-then-changed-clause-stepped g c = λ tells before r values.
     let same : is ≡ was = ap (λ (pages : PageMap). contents store.layout pages at.index) (c.copy_tuple.ensures.kept.pages tells) in
     copied shape at.actor at.range r was is lock before (tuple_bytes c.args.tuple.now) (λ w shows none. c.an_index_that_stays_is_read.ensures shape was is lock lock w at.actor shows same refl none)
     c.args.spot bytes t u (c.in-Ok-true.ensures.there c.in-Ok-true.field-0-test tells) read (c.add_row-changed.ensures.widened ∙ ap (λ (vs : List Value). with_row vs t) (sym values))
-    (λ w shows. c.a_row_is_added_to_what_is_seen.ensures shape was lock w r bytes t shows read (subst (λ (vs : List Value). TakesValues shape vs) (sym values) c.requires.takes))
+    (λ w shows. c.a_row_is_added_to_what_is_seen.ensures shape was lock w r bytes t shows read (subst (λ (vs : List Value). are_values (kinds_of shape) vs ≡ true) (sym values) (c.values_are_known.ensures (kinds_of shape) c.requires.takes.kinds)))
     (changes_seen shape bytes t u read.spelt (c.one_tuple.ensures.one u t c.known-2.ensures.tuple c.known.ensures.tuple c.add_row-changed.ensures.same_index refl))
     (inl (c.add_row-changed.ensures.changed c.if-changed.true))
 
@@ -64,7 +64,7 @@ returns-in-Some-clause-stepped g c = λ tells before r values.
     let relation : c.relation_of.result ≡ relation_of store.layout at.index = c.relation_of.ensures.number ∙ ap (λ (l : DiskLayout). relation_of l at.index) layout in
     copied shape at.actor at.range r was is lock before (tuple_bytes c.args.tuple.now) (λ w shows none. c.an_index_that_stays_is_read.ensures shape was is lock lock w at.actor shows same refl none)
     c.args.spot bytes t u (c.in-Ok-true.ensures.there c.in-Ok-true.field-0-test tells) read (c.add_row-changed.ensures.widened ∙ ap (λ (vs : List Value). with_row vs t) (sym values))
-    (λ w shows. c.a_row_is_added_to_what_is_seen.ensures shape was lock w r bytes t shows read (subst (λ (vs : List Value). TakesValues shape vs) (sym values) c.requires.takes))
+    (λ w shows. c.a_row_is_added_to_what_is_seen.ensures shape was lock w r bytes t shows read (subst (λ (vs : List Value). are_values (kinds_of shape) vs ≡ true) (sym values) (c.values_are_known.ensures (kinds_of shape) c.requires.takes.kinds)))
     (changes_seen shape bytes t u read.spelt (c.one_tuple.ensures.one u t c.known-2.ensures.tuple c.known.ensures.tuple c.add_row-changed.ensures.same_index refl))
     (inr (c.in-Some.field-0.by, ap (λ (n : ℕ). holder c.args.locks.now (page_of n c.args.spot.block)) (sym relation) ∙ c.in-Some.ensures.another.0, c.in-Some.ensures.another.1))
 
@@ -85,7 +85,7 @@ returns-in-None-clause-stepped g c = λ tells before r values.
     let relation : c.relation_of.result ≡ relation_of store.layout at.index = c.relation_of.ensures.number ∙ ap (λ (l : DiskLayout). relation_of l at.index) layout in
     stays shape at.actor at.range r was is lock before (tuple_bytes c.args.tuple.now) (λ w shows none. c.an_index_that_stays_is_read.ensures shape was is lock lock w at.actor shows same refl none)
     c.args.spot bytes t u (c.in-Ok-true.ensures.there c.in-Ok-true.field-0-test tells) read (c.add_row-changed.ensures.widened ∙ ap (λ (vs : List Value). with_row vs t) (sym values))
-    (λ w shows. c.a_row_is_added_to_what_is_seen.ensures shape was lock w r bytes t shows read (subst (λ (vs : List Value). TakesValues shape vs) (sym values) c.requires.takes))
+    (λ w shows. c.a_row_is_added_to_what_is_seen.ensures shape was lock w r bytes t shows read (subst (λ (vs : List Value). are_values (kinds_of shape) vs ≡ true) (sym values) (c.values_are_known.ensures (kinds_of shape) c.requires.takes.kinds)))
     (tuple_bytes u) (c.add_row-changed.ensures.same c.if-changed.false)
     (subst (λ (n : ℕ). IsFreeFor (holder c.args.locks.now) at.actor (page_of n c.args.spot.block)) relation c.in-None.ensures.free)
 

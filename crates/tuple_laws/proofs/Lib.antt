@@ -1,0 +1,12 @@
+pub mod Numbers
+pub mod Forms
+pub mod Placed
+pub mod MinMax
+pub mod Multi
+pub mod Spans
+pub mod Nets
+pub mod Blooms
+pub mod Classes
+pub mod Columns
+pub mod Reading
+pub mod TupleParts

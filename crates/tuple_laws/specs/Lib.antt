@@ -1,0 +1,3 @@
+pub mod KnownValues
+pub mod SoundClasses
+pub mod SoundTuples

@@ -1,0 +1,33 @@
+//! Laws of range tuples, whichever they are: what a row that is added makes of a tuple of an index, what a union makes of two, and
+//! what bytes tell of it. Each operator class has them of its summaries (`classes_are_sound`), and so an index has them of its
+//! tuples (`tuples_are_sound`). A call of range_tuple says them of the tuple that it is given; here they hold of all tuples and all
+//! bytes, as the protocol of an index asks. It stands on range_tuple and on the classes below it. Each function does nothing.
+#![tactic(auto)]
+
+ghost use Rattle.std.specs.Prelude.{◌≡◌, ℕ, true, List};
+ghost use Rattle.block_model.specs.ClassLimits.{has_lawful_parameters};
+ghost use Rattle.block_model.specs.TupleSize.{summary_size};
+ghost use Rattle.block_model.specs.declared.schema.Class.{Class};
+ghost use Rattle.block_model.specs.declared.value.Kind.{Kind};
+ghost use Rattle.opclass_any.specs.AnyClass.{class_of, greatest_size};
+ghost use Rattle.opclass_any.specs.declared.classes.AnyClass.{AnyClass};
+ghost use Rattle.tuple_laws.specs.SoundClasses.{IsSound, IsWithinLimits};
+ghost use Rattle.tuple_laws.specs.SoundTuples.{AreSoundTuples, IsIndexed};
+
+/// What a class within its limits makes of its summaries are summaries of it, which include what they have to; their bytes are read
+/// as them, and what is read is one, with those bytes.
+pub fn classes_are_sound()
+    ensures { (class : AnyClass) → IsWithinLimits class → IsSound class }
+{}
+
+/// The class of each kind whose parameters are lawful is within its limits, and its greatest summary is as long as the kind's.
+pub fn lawful_classes_are_within_limits()
+    ensures limits { (class : Class) (kind : Kind) → has_lawful_parameters class ≡ true → IsWithinLimits (class_of class kind) }
+    ensures size { (class : Class) (kind : Kind) → greatest_size (class_of class kind) ≡ summary_size class kind }
+{}
+
+/// What is made of the tuples of an index are tuples of it, which include what they have to; their bytes are read as them, and what
+/// reads as a tuple is one, with those bytes.
+pub fn tuples_are_sound()
+    ensures { (parts : List (ℕ × AnyClass)) → IsIndexed parts → AreSoundTuples parts }
+{}
