@@ -1,29 +1,37 @@
--- what a call leaves of a store
+-- what one call on pages with a log leaves of the store that they are
 use Rattle.std.specs.Prelude.{◌≡◌, ◌≤◌, ◌⊎◌, ℕ, IsTrue, List}
-use Rattle.std.proofs.Common.{◌∙◌, sym, subst, arith, inl, inr, ⊎_elim}
+use Rattle.std.proofs.Common.{◌∙◌, refl, sym, subst, arith, inl, inr, ⊎_elim}
 use Rattle.store_layout.specs.DiskLayout.{DiskLayout}
 use Rattle.disk_trait.specs.Told.{Told}
 use Rattle.disk_trait.specs.Throughout.{Throughout}
+use Rattle.disk_trait.specs.ThroughoutLaws.{weaker}
 use Rattle.page_store.specs.PageMap.{PageMap, View}
-use Rattle.page_store.specs.Keeps.{Tells}
+use Rattle.page_store.specs.Keeps.{Keeps, Leaves, Tells}
 use Rattle.opened_pages.specs.Opens.{OpensAs}
-use Rattle.opened_pages.specs.Reaches.{OpensToOr, Reaches}
+use Rattle.opened_pages.specs.Reaches.{OpensToOr, Reaches, ReachesAny}
 use Rattle.logged_pages.specs.Survives.{Survives}
+
+-- At every moment of the call, and once it is done, each image comes from one that was there when it began, and opens to the pages
+-- that the store had then or to what that one did. A disk that has an image tells its contents.
+pub record PagesSurvive {D : Type 0} (told : D → Told) (old new : View D) : Type 0 where
+  pub moments : Throughout (told old.disk) (told new.disk) (Reaches old.layout (told old.disk) old.pages)
+  pub images : (image : List ℕ) → IsTrue ((told new.disk).now image) → Reaches old.layout (told old.disk) old.pages image
+  pub seen : (image : List ℕ) → IsTrue ((told old.disk).now image) → Tells told old
 
 -- What every call leaves, whether it changes pages or not: the layout, and whether the disk tells its contents. Its count of
 -- faults doesn't fall. No image loses what was made sure.
-pub record Leaves {D : Type 0} (told : D → Told) (old new : View D) : Type 0 where
+pub record LeftStore {D : Type 0} (told : D → Told) (old new : View D) : Type 0 where
   pub layout : new.layout ≡ old.layout
   pub tells : (told new.disk).tells_contents ≡ (told old.disk).tells_contents
   pub faults : (told old.disk).faults ≤ (told new.disk).faults
-  pub survives : Survives told old new
+  pub survives : PagesSurvive told old new
 
 -- a call that changes no page leaves them too, where the disk tells its contents
-pub record Keeps {D : Type 0} (told : D → Told) (old new : View D) : Type 0 where
-  pub leaves : Leaves told old new
+pub record KeptPages {D : Type 0} (told : D → Told) (old new : View D) : Type 0 where
+  pub leaves : LeftStore told old new
   pub pages : Tells told old → new.pages ≡ old.pages
 
-module _ {D : Type 0} (told : D → Told) (old mid new : View D) (first : Keeps told old mid) (second : Leaves told mid new) where
+module _ {D : Type 0} (told : D → Told) (old mid new : View D) (first : KeptPages told old mid) (second : LeftStore told mid new) where
   -- what was reached from the store in between is reached from the first one
   further : (image : List ℕ) → Reaches mid.layout (told mid.disk) mid.pages image → Reaches old.layout (told old.disk) old.pages image
   further image there =
@@ -39,7 +47,7 @@ module _ {D : Type 0} (told : D → Told) (old mid new : View D) (first : Keeps 
             (λ (was : (others : PageMap) → OpensAs old.layout come.0 others → OpensAs old.layout there.0 others). inr (λ others opens. more others (was others opens))) come.2) step,
       )
 
-  survives_on : Survives told old new
+  survives_on : PagesSurvive told old new
   survives_on = record {
     moments = record {
       size = second.survives.moments.size ∙ first.leaves.survives.moments.size;
@@ -57,8 +65,8 @@ module _ {D : Type 0} (told : D → Told) (old mid new : View D) (first : Keeps 
   }
 
   -- a call that changes no page, and then any call
-  pub keeps_then : Leaves told old new
-  keeps_then = record {
+  pub kept_then : LeftStore told old new
+  kept_then = record {
     layout = second.layout ∙ first.leaves.layout;
     tells = second.tells ∙ first.leaves.tells;
     faults = omega (arith, second.faults, first.leaves.faults);
@@ -66,8 +74,32 @@ module _ {D : Type 0} (told : D → Told) (old mid new : View D) (first : Keeps 
   }
 
 -- two calls that change no page
-pub keeps_on : {D : Type 0} (told : D → Told) (old mid new : View D) → Keeps told old mid → Keeps told mid new → Keeps told old new
-keeps_on told old mid new first second = record {
-  leaves = keeps_then told old mid new first second.leaves;
+pub kept_on : {D : Type 0} (told : D → Told) (old mid new : View D) → KeptPages told old mid → KeptPages told mid new → KeptPages told old new
+kept_on told old mid new first second = record {
+  leaves = kept_then told old mid new first second.leaves;
   pages = λ tells. second.pages (first.leaves.tells ∙ tells) ∙ first.pages tells;
 }
+
+-- The same in the words of every store of pages
+
+module _ {D : Type 0} (told : D → Told) (old new : View D) where
+  pub leaves_of : LeftStore told old new → Leaves told old new
+  leaves_of left = record { layout = left.layout; tells = left.tells; faults = left.faults }
+
+  pub keeps_of : KeptPages told old new → Keeps told old new
+  keeps_of kept = record { leaves = leaves_of kept.leaves; pages = kept.pages }
+
+  -- the pages of the beginning are the only ones that the call passed
+  pub survives_of : LeftStore told old new → Survives told (λ pages. pages ≡ old.pages) old new
+  survives_of left =
+      let any : (image : List ℕ) → Reaches old.layout (told old.disk) old.pages image → ReachesAny old.layout (told old.disk) (λ pages. pages ≡ old.pages) image = λ image there. (
+        there.0,
+        there.1,
+        ⊎_elim (λ (opens : OpensAs old.layout image old.pages). inl (old.pages, refl, opens))
+            (λ (more : (others : PageMap) → OpensAs old.layout there.0 others → OpensAs old.layout image others). inr more) there.2,
+      ) in
+      record {
+        moments = weaker (told old.disk) (told new.disk) (Reaches old.layout (told old.disk) old.pages) (ReachesAny old.layout (told old.disk) (λ pages. pages ≡ old.pages)) left.survives.moments any;
+        images = λ image now. any image (left.survives.images image now);
+        seen = left.survives.seen;
+      }
