@@ -27,3 +27,4 @@ pub mod FullPool
 pub mod HeldSteps
 pub mod StoreReads
 pub mod KnownSteps
+pub mod Refused
