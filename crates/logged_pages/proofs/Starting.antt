@@ -21,7 +21,7 @@ use Rattle.store_opening.specs.StartCauses.{StartCause}
 use Rattle.store_opening.specs.declared.fault.StartFault.{StartFault}
 use Rattle.store_opening.specs.declared.fault.StartFault.TheVariants.{NoStore, Damaged, Disk, Memory}
 use Rattle.page_store.proofs.FactsKept.{OneList}
-use Rattle.logged_pages.specs.FactSteps.{slot_of_page}
+use Rattle.logged_pages.proofs.FactSteps.{slot_of_page}
 use Rattle.logged_pages.specs.Refused.{IsRefused}
 use Rattle.logged_pages.specs.Standing.{IsStanding}
 use Rattle.logged_pages.specs.StoreFacts.{AreFactsOf, IsSlotOf}
