@@ -24,15 +24,15 @@ use Rattle.log_area.specs.Log.{Log}
 use Rattle.log_area.specs.Appended.{left_in, needed}
 use Rattle.pooled_pages.specs.ShownPages.{content_at}
 use Rattle.logged_pages.specs.Contents.{HoldsAlike}
-use Rattle.logged_pages.specs.Keeps.{Keeps, Leaves}
+use Rattle.logged_pages.specs.KeptPages.{KeptPages, LeftStore}
 use Rattle.logged_pages.specs.Made.{IsDamaged, IsOfDisk}
 use Rattle.logged_pages.specs.Room.{HasRoom, IsLoggable, bytes_for, bytes_with}
 use Rattle.opened_pages.specs.Reaches.{Reaches}
-use Rattle.logged_pages.specs.Survives.{Survives}
+use Rattle.logged_pages.specs.KeptPages.{PagesSurvive}
 
 -- What is said of the pages after a call that changes none
 
-module _ {D : Type 0} (told : D → Told) (old mid : View D) (keeps : Keeps told old mid) (place : Place) where
+module _ {D : Type 0} (told : D → Told) (old mid : View D) (keeps : KeptPages told old mid) (place : Place) where
   pub place_from : IsPlace old.layout place → IsPlace mid.layout place
   place_from is = subst (λ (l : DiskLayout). IsPlace l place) (sym keeps.leaves.layout) is
 
@@ -72,10 +72,10 @@ module _ {D : Type 0} (told : D → Told) (old mid : View D) (keeps : Keeps told
   damaged_at (errors.Damaged at) damaged = damaged ∙ ap (λ (l : DiskLayout). page_offset l place) keeps.leaves.layout
 
 -- a call that tells that the disk doesn't tell its contents changes no page that is told
-pub untold_keeps : {D : Type 0} (told : D → Told) (old new : View D) → Leaves told old new → Untold told old → Keeps told old new
+pub untold_keeps : {D : Type 0} (told : D → Told) (old new : View D) → LeftStore told old new → Untold told old → KeptPages told old new
 untold_keeps told old new leaves untold = record { leaves = leaves; pages = λ tells. absurd (untold tells) }
 
-pub made_kept : {D T : Type 0} (told : D → Told) (old mid new : View D) → Keeps told old mid → Leaves told old new → (result : Result T StoreError) → OnErr result (Untold told mid) → OnErr result (Keeps told old new)
+pub made_kept : {D T : Type 0} (told : D → Told) (old mid new : View D) → KeptPages told old mid → LeftStore told old new → (result : Result T StoreError) → OnErr result (Untold told mid) → OnErr result (KeptPages told old new)
 made_kept told old mid new keeps leaves (Ok value) untold = tt
 made_kept told old mid new keeps leaves (Err error) untold = untold_keeps told old new leaves (λ tells. untold (keeps.leaves.tells ∙ tells))
 
@@ -133,7 +133,7 @@ second_fits layout place first second old mid turn one =
     (turn.1 (page_at mid place) (redone_once (form_of layout place.relation) (page_at old place) first (page_at mid place) one.redone)).0
 
 -- two changes in memory
-pub twice_leaves : {D : Type 0} (told : D → Told) (old mid new : View D) → Leaves told old mid → mid.disk ≡ old.disk → Leaves told mid new → new.disk ≡ mid.disk → Leaves told old new
+pub twice_leaves : {D : Type 0} (told : D → Told) (old mid new : View D) → LeftStore told old mid → mid.disk ≡ old.disk → LeftStore told mid new → new.disk ≡ mid.disk → LeftStore told old new
 twice_leaves {D} told old mid new first kept second still = record {
   layout = second.layout ∙ first.layout;
   tells = second.tells ∙ first.tells;
@@ -154,7 +154,7 @@ untold_back told old mid same (Err error) untold = λ tells. untold (same ∙ te
 pub damage_back : {T : Type 0} (old mid : DiskLayout) (place : Place) → mid ≡ old → (result : Result T StoreError) → IfErr result (IsDamaged mid place) → IfErr result (IsDamaged old place)
 damage_back old mid place same result damaged = subst (λ (l : DiskLayout). IfErr result (IsDamaged l place)) same damaged
 
-pub turn_changed : {D T : Type 0} (told : D → Told) (old room first new : View D) → Keeps told old room → (place : Place) (start change : LoggedChange) (result : Result T StoreError) → first.layout ≡ room.layout → (told first.disk).tells_contents ≡ (told room.disk).tells_contents
+pub turn_changed : {D T : Type 0} (told : D → Told) (old room first new : View D) → KeptPages told old room → (place : Place) (start change : LoggedChange) (result : Result T StoreError) → first.layout ≡ room.layout → (told first.disk).tells_contents ≡ (told room.disk).tells_contents
     → (Tells told room → Changed room.layout place (start ∷ []) room.pages first.pages) → OnOk result (Tells told first → Changed first.layout place (change ∷ []) first.pages new.pages) → OnOk result (Tells told old → Changed old.layout place (start ∷ change ∷ []) old.pages new.pages)
 turn_changed told old room first new keeps place start change (Ok value) layout same one two =
     changed_from told old room keeps place new (start ∷ change ∷ [])

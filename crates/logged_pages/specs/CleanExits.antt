@@ -15,7 +15,7 @@ use Rattle.change_buffer.specs.Waiting.{Waiting, no_changes}
 use Rattle.logged_pages.specs.Clean.{AreClean}
 use Rattle.logged_pages.specs.Contents.{HoldsAlike}
 use Rattle.logged_pages.specs.Exits.{read_keeps, write_keeps}
-use Rattle.logged_pages.specs.Keeps.{Keeps}
+use Rattle.logged_pages.specs.KeptPages.{KeptPages}
 use Rattle.logged_pages.specs.LoggedState.{LoggedState, store_of}
 use Rattle.logged_pages.specs.PoolSteps.{Forgets, cleaned_alike, put_apart, put_here, write_failed, write_standing}
 use Rattle.logged_pages.specs.Room.{IsDurable}
@@ -25,14 +25,14 @@ use Rattle.logged_pages.specs.Steps.{DiskLaws, OneByOne}
 -- what a page that was cleaned leaves
 pub record LeavesClean {D : Type 0} (told : D → Told) (s : LoggedState D) (d : D) (pool : PoolState) : Type 0 where
   pub standing : IsStanding (told d) s.layout s.log pool s.marks s.waiting None
-  pub keeps : Keeps told (store_of told s) (store_of told (record { disk = d; layout = s.layout; log = s.log; pool = pool; marks = s.marks; waiting = s.waiting; failed = s.failed }))
+  pub keeps : KeptPages told (store_of told s) (store_of told (record { disk = d; layout = s.layout; log = s.log; pool = pool; marks = s.marks; waiting = s.waiting; failed = s.failed }))
   pub alike : HoldsAlike s.pool pool
   pub dirty : (other log : ℕ) → IsDirty pool other log → IsDirty s.pool other log
 
 -- what a write that failed leaves
 pub record LeavesBroken {D : Type 0} (told : D → Told) (s : LoggedState D) (d : D) (pool : PoolState) (faults : ℕ) : Type 0 where
   pub standing : IsStanding (told d) s.layout s.log pool s.marks s.waiting (Some faults)
-  pub keeps : Keeps told (store_of told s) (store_of told (record { disk = d; layout = s.layout; log = s.log; pool = pool; marks = s.marks; waiting = s.waiting; failed = Some faults }))
+  pub keeps : KeptPages told (store_of told s) (store_of told (record { disk = d; layout = s.layout; log = s.log; pool = pool; marks = s.marks; waiting = s.waiting; failed = Some faults }))
   pub same : pool ≡ s.pool
 
 module _ {D : Type 0} (told : D → Told) (laws : DiskLaws told) (one : OneByOne) (forgets : Forgets) (s : LoggedState D) (fill : PagesFillDisk s.layout) (standing : IsStanding (told s.disk) s.layout s.log s.pool s.marks s.waiting None) (d : D) (later : (told s.disk).faults ≤ (told d).faults)
@@ -78,7 +78,7 @@ module _ {D : Type 0} (told : D → Told) (laws : DiskLaws told) (one : OneByOne
   pub untouched_leaves : pool ≡ s.pool → told d ≡ told s.disk → LeavesClean told s d pool
   untouched_leaves same untouched = record {
     standing = subst (λ (p : PoolState). IsStanding (told d) s.layout s.log p s.marks s.waiting None) (sym same) (subst (λ (t : Told). IsStanding t s.layout s.log s.pool s.marks s.waiting None) (sym untouched) standing);
-    keeps = subst (λ (p : PoolState). Keeps told (store_of told s) (store_of told (record { disk = d; layout = s.layout; log = s.log; pool = p; marks = s.marks; waiting = s.waiting; failed = s.failed }))) (sym same)
+    keeps = subst (λ (p : PoolState). KeptPages told (store_of told s) (store_of told (record { disk = d; layout = s.layout; log = s.log; pool = p; marks = s.marks; waiting = s.waiting; failed = s.failed }))) (sym same)
         (read_keeps told laws s d s.failed (untouched ∙ ap (λ (f : ℕ). record (told s.disk) { faults = f }) (ap (λ (t : Told). t.faults) (sym untouched))) later);
     alike = λ number. ap (λ (p : PoolState). option_map (λ (h : HeldPage). h.content) (held_at p number)) same;
     dirty = λ other log dirty. (dirty.0, sym (ap (λ (p : PoolState). held_at p other) same) ∙ dirty.1, dirty.2);

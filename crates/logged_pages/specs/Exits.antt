@@ -24,7 +24,7 @@ use Rattle.pooled_pages.specs.ShownLaws.{offset_of}
 use Rattle.pooled_pages.specs.ShownPages.{shown_pages}
 use Rattle.logged_pages.specs.Clean.{AreClean}
 use Rattle.logged_pages.specs.Contents.{HoldsAlike}
-use Rattle.logged_pages.specs.Keeps.{Keeps, Leaves}
+use Rattle.logged_pages.specs.KeptPages.{KeptPages, LeftStore}
 use Rattle.logged_pages.specs.LoggedState.{LoggedState, store_of}
 use Rattle.logged_pages.specs.LogSteps.{IsSame, same_opens, switch_opens, switch_pages, sync_moments}
 use Rattle.logged_pages.specs.PoolSteps.{Forgets, write_moments, write_opens, write_pages}
@@ -58,13 +58,13 @@ next_small disk layout log pool marks waiting failed fill standing small from (S
 
 module _ {D : Type 0} (told : D → Told) (laws : DiskLaws told) where
   -- nothing was done
-  pub keeps_all : (s : LoggedState D) → Keeps told (store_of told s) (store_of told s)
+  pub keeps_all : (s : LoggedState D) → KeptPages told (store_of told s) (store_of told s)
   keeps_all s = keeps_still told laws s s refl refl (λ tells. refl)
 
   module _ (one : OneByOne) (s : LoggedState D) (fill : PagesFillDisk s.layout) (standing : IsStanding (told s.disk) s.layout s.log s.pool s.marks s.waiting None) (d : D) (later : (told s.disk).faults ≤ (told d).faults) where
     pub append_keeps : (log : Log) (waiting : Waiting) (failed : Option ℕ) → Throughout (told s.disk) (told d) (ComesBy (KeptOrAppended s.log (record { changes = s.waiting.bytes; count = s.waiting.count })) (told s.disk))
         → (IsTrue (told s.disk).tells_contents → KeptOrAppended s.log (record { changes = s.waiting.bytes; count = s.waiting.count }) (told s.disk).contents (told d).contents)
-        → Keeps told (store_of told s) (store_of told (record { disk = d; layout = s.layout; log = log; pool = s.pool; marks = s.marks; waiting = waiting; failed = failed }))
+        → KeptPages told (store_of told s) (store_of told (record { disk = d; layout = s.layout; log = log; pool = s.pool; marks = s.marks; waiting = waiting; failed = failed }))
     append_keeps log waiting failed all kept =
         keeps_by told laws s (record { disk = d; layout = s.layout; log = log; pool = s.pool; marks = s.marks; waiting = waiting; failed = failed })
         (KeptOrAppended s.log (record { changes = s.waiting.bytes; count = s.waiting.count })) refl later all
@@ -95,13 +95,13 @@ module _ {D : Type 0} (told : D → Told) (laws : DiskLaws told) where
 
     pub appended_keeps : (frame : LogFrame) (log : Log) (waiting : Waiting) (failed : Option ℕ) → frame ≡ record { changes = s.waiting.bytes; count = s.waiting.count }
         → Throughout (told s.disk) (told d) (ComesBy (KeptOrAppended s.log frame) (told s.disk)) → (IsTrue (told s.disk).tells_contents → KeptOrAppended s.log frame (told s.disk).contents (told d).contents)
-        → Keeps told (store_of told s) (store_of told (record { disk = d; layout = s.layout; log = log; pool = s.pool; marks = s.marks; waiting = waiting; failed = failed }))
+        → KeptPages told (store_of told s) (store_of told (record { disk = d; layout = s.layout; log = log; pool = s.pool; marks = s.marks; waiting = waiting; failed = failed }))
     appended_keeps frame log waiting failed own all kept =
         append_keeps log waiting failed (subst (λ (f : LogFrame). Throughout (told s.disk) (told d) (ComesBy (KeptOrAppended s.log f) (told s.disk))) own all)
         (λ tells. subst (λ (f : LogFrame). KeptOrAppended s.log f (told s.disk).contents (told d).contents) own (kept tells))
 
     pub write_keeps : (forgets : Forgets) (durable number : ℕ) (held : HeldPage) (sure : IsDurable s.log s.waiting durable) (it : IsCleanable s.pool durable number held) (after : PoolState) (failed : Option ℕ) → HoldsAlike s.pool after
-        → WritesAt (place_of 0 number) (told s.disk) (told d) → Keeps told (store_of told s) (store_of told (record { disk = d; layout = s.layout; log = s.log; pool = after; marks = s.marks; waiting = s.waiting; failed = failed }))
+        → WritesAt (place_of 0 number) (told s.disk) (told d) → KeptPages told (store_of told s) (store_of told (record { disk = d; layout = s.layout; log = s.log; pool = after; marks = s.marks; waiting = s.waiting; failed = failed }))
     write_keeps forgets durable number held sure it after failed alike writes =
         keeps_by told laws s (record { disk = d; layout = s.layout; log = s.log; pool = after; marks = s.marks; waiting = s.waiting; failed = failed })
         (Torn (place_of 0 number) PAGE_SIZE) refl later (write_moments (place_of 0 number) (told s.disk) (told d) (laws.only s.disk) writes)
@@ -109,7 +109,7 @@ module _ {D : Type 0} (told : D → Told) (laws : DiskLaws told) where
         (λ tells. write_pages one forgets s.layout fill s.log s.pool s.marks s.waiting (told s.disk) (told d) standing durable number held sure it after alike (writes.others tells))
 
     pub sync_keeps : (failed : Option ℕ) → (told d).contents ≡ (told s.disk).contents → ((image : List ℕ) → IsTrue ((told d).now image) → IsTrue ((told s.disk).now image)) → GoesOn (told s.disk) (told d)
-        → Keeps told (store_of told s) (store_of told (record { disk = d; layout = s.layout; log = s.log; pool = s.pool; marks = s.marks; waiting = s.waiting; failed = failed }))
+        → KeptPages told (store_of told s) (store_of told (record { disk = d; layout = s.layout; log = s.log; pool = s.pool; marks = s.marks; waiting = s.waiting; failed = failed }))
     sync_keeps failed contents images time =
         keeps_by told laws s (record { disk = d; layout = s.layout; log = s.log; pool = s.pool; marks = s.marks; waiting = s.waiting; failed = failed })
         IsSame refl later (sync_moments (told s.disk) (told d) (laws.only s.disk) images time)
@@ -118,7 +118,7 @@ module _ {D : Type 0} (told : D → Told) (laws : DiskLaws told) where
 
     pub switch_keeps : (empty : s.waiting ≡ no_changes) (log : Log) (cleared : List Bool) (marks : List Bool) (failed : Option ℕ) → AreClean s.pool → IsStable (told s.disk) → ((place : Place) → IsPlace s.layout place → is_marked cleared s.layout place ≡ false)
         → length cleared ≡ length s.marks → Throughout (told s.disk) (told d) (ComesBy (KeptOrSwitched s.log) (told s.disk)) → (IsTrue (told s.disk).tells_contents → KeptOrSwitched s.log (told s.disk).contents (told d).contents)
-        → Keeps told (store_of told s) (store_of told (record { disk = d; layout = s.layout; log = log; pool = s.pool; marks = marks; waiting = s.waiting; failed = failed }))
+        → KeptPages told (store_of told s) (store_of told (record { disk = d; layout = s.layout; log = log; pool = s.pool; marks = marks; waiting = s.waiting; failed = failed }))
     switch_keeps empty log cleared marks failed clean stable none long all kept =
         let at_rest = subst (λ (w : Waiting). IsStanding (told s.disk) s.layout s.log s.pool s.marks w None) empty standing in
         keeps_by told laws s (record { disk = d; layout = s.layout; log = log; pool = s.pool; marks = marks; waiting = s.waiting; failed = failed })
@@ -128,7 +128,7 @@ module _ {D : Type 0} (told : D → Told) (laws : DiskLaws told) where
 
   -- a read of the disk
   pub read_keeps : (s : LoggedState D) (d : D) (failed : Option ℕ) → told d ≡ record (told s.disk) { faults = (told d).faults } → (told s.disk).faults ≤ (told d).faults
-      → Keeps told (store_of told s) (store_of told (record { disk = d; layout = s.layout; log = s.log; pool = s.pool; marks = s.marks; waiting = s.waiting; failed = failed }))
+      → KeptPages told (store_of told s) (store_of told (record { disk = d; layout = s.layout; log = s.log; pool = s.pool; marks = s.marks; waiting = s.waiting; failed = failed }))
   read_keeps s d failed same later =
       keeps_by told laws s (record { disk = d; layout = s.layout; log = s.log; pool = s.pool; marks = s.marks; waiting = s.waiting; failed = failed })
       IsSame refl later (subst (λ (t : Told). Throughout (told s.disk) t (ComesBy IsSame (told s.disk))) (sym same) (read_moments (told s.disk) (told d).faults (laws.only s.disk)))

@@ -20,7 +20,7 @@ use Rattle.pooled_pages.specs.ShownLaws.{one_number, shown_at}
 use Rattle.pooled_pages.specs.ShownPages.{content_at, shown_pages}
 use Rattle.logged_pages.specs.Contents.{AddsOnly, HoldsAlike}
 use Rattle.logged_pages.specs.FactSteps.{known_still, noted_known}
-use Rattle.logged_pages.specs.Keeps.{Keeps, Leaves}
+use Rattle.logged_pages.specs.KeptPages.{KeptPages, LeftStore}
 use Rattle.logged_pages.specs.LoggedState.{LoggedState, store_of}
 use Rattle.logged_pages.specs.Made.{MakesPage}
 use Rattle.logged_pages.specs.Noted.{noted}
@@ -33,7 +33,7 @@ module _ {D : Type 0} (told : D → Told) (old new : LoggedState D) (facts : Lis
       (subst (λ (d : DiskLayout). AreFactsOf (told old.disk).tells_contents d new.pool (store_of told new).pages l) (sym layout) are)
 
   -- nothing else is held
-  pub known_kept : Keeps told (store_of told old) (store_of told new) → HoldsAlike old.pool new.pool → AreKnown told new facts
+  pub known_kept : KeptPages told (store_of told old) (store_of told new) → HoldsAlike old.pool new.pool → AreKnown told new facts
   known_kept keeps alike =
       moved keeps.leaves.layout keeps.leaves.tells facts
       (known_still old.layout (told old.disk).tells_contents old.pool new.pool (store_of told old).pages (store_of told new).pages facts known keeps.pages (λ number b there. sym (alike number) ∙ there))
@@ -48,7 +48,7 @@ module _ {D : Type 0} (told : D → Told) (old new : LoggedState D) (facts : Lis
     elsewhere q isq apart same = apart (one_number old.layout fill q place isq is same)
 
     -- one page is held besides, and noted
-    pub known_added : Keeps told (store_of told old) (store_of told new) → AddsOnly (page_number old.layout place) old.pool new.pool → AreKnown told new (noted facts place (facts_on (form_of old.layout place.relation) bytes))
+    pub known_added : KeptPages told (store_of told old) (store_of told new) → AddsOnly (page_number old.layout place) old.pool new.pool → AreKnown told new (noted facts place (facts_on (form_of old.layout place.relation) bytes))
     known_added keeps adds =
         moved keeps.leaves.layout keeps.leaves.tells (noted facts place (facts_on (form_of old.layout place.relation) bytes))
         (noted_known old.layout (told old.disk).tells_contents old.pool new.pool (store_of told old).pages (store_of told new).pages facts place bytes known is one passes (λ tells. shown_there)

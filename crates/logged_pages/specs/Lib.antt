@@ -1,5 +1,5 @@
 pub mod Survives
-pub mod Keeps
+pub mod KeptPages
 pub mod LoggedState
 pub mod Standing
 pub mod Contents

@@ -27,7 +27,7 @@ use Rattle.pooled_pages.specs.ShownLaws.{one_number, shown_at}
 use Rattle.pooled_pages.specs.ShownPages.{content_at}
 use Rattle.logged_pages.specs.Begun.{HoldsOf, MakesHeld, RedoesHeld, Touched}
 use Rattle.logged_pages.specs.Contents.{HoldsAlike}
-use Rattle.logged_pages.specs.Keeps.{Leaves}
+use Rattle.logged_pages.specs.KeptPages.{LeftStore}
 use Rattle.logged_pages.specs.LoggedState.{LoggedState, store_of}
 use Rattle.logged_pages.specs.Made.{MakesPage, Misfits}
 use Rattle.logged_pages.specs.MakeSteps.{GoesBehind, length_now, make_changed, make_standing, mark_own, put_else, put_own}
@@ -63,7 +63,7 @@ content_passes told s failed fill standing place is bytes there = by (held_at s.
 
 pub record LeavesMade {D : Type 0} (told : D → Told) (s : LoggedState D) (place : Place) (change : LoggedChange) (waiting : Waiting) (marks : List Bool) (pool : PoolState) : Type 0 where
   pub standing : IsStanding (told s.disk) s.layout s.log pool marks waiting None
-  pub leaves : Leaves told (store_of told s) (store_of told (record { disk = s.disk; layout = s.layout; log = s.log; pool = pool; marks = marks; waiting = waiting; failed = s.failed }))
+  pub leaves : LeftStore told (store_of told s) (store_of told (record { disk = s.disk; layout = s.layout; log = s.log; pool = pool; marks = marks; waiting = waiting; failed = s.failed }))
   pub changed : Changed s.layout place (change ∷ []) (store_of told s).pages (store_of told (record { disk = s.disk; layout = s.layout; log = s.log; pool = pool; marks = marks; waiting = waiting; failed = s.failed })).pages
   pub made : MakesPage (form_of s.layout place.relation) (page_number s.layout place) change s.pool pool
   pub long : length waiting.bytes ≡ length s.waiting.bytes + bytes_for (is_marked s.marks s.layout place) change

@@ -19,7 +19,7 @@ use Rattle.pooled_pages.specs.PageNumbers.{page_number}
 use Rattle.pooled_pages.specs.ShownLaws.{shown_at}
 use Rattle.pooled_pages.specs.ShownPages.{shown_pages}
 use Rattle.logged_pages.specs.Contents.{AddsOnly}
-use Rattle.logged_pages.specs.Keeps.{Keeps}
+use Rattle.logged_pages.specs.KeptPages.{KeptPages}
 use Rattle.logged_pages.specs.LoggedState.{LoggedState, store_of}
 use Rattle.logged_pages.specs.SetSteps.{here, set_adds, set_pages, set_standing}
 use Rattle.logged_pages.specs.Standing.{IsStanding}
@@ -32,7 +32,7 @@ sets_frames old new number held (inr gone) = ap (λ (p : PoolState). p.frames) g
 
 pub record LeavesHeld {D : Type 0} (told : D → Told) (s : LoggedState D) (place : Place) (pool : PoolState) : Type 0 where
   pub standing : IsStanding (told s.disk) s.layout s.log pool s.marks s.waiting None
-  pub keeps : Keeps told (store_of told s) (store_of told (record { disk = s.disk; layout = s.layout; log = s.log; pool = pool; marks = s.marks; waiting = s.waiting; failed = s.failed }))
+  pub keeps : KeptPages told (store_of told s) (store_of told (record { disk = s.disk; layout = s.layout; log = s.log; pool = pool; marks = s.marks; waiting = s.waiting; failed = s.failed }))
   pub adds : AddsOnly (page_number s.layout place) s.pool pool
   pub held : IsSome (held_at pool (page_number s.layout place))
 

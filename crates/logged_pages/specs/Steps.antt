@@ -28,10 +28,10 @@ use Rattle.pooled_pages.specs.Safe.{IsSafe}
 use Rattle.pooled_pages.specs.SafeLaws.{SamePages, append_reaches, appended_safe, opens_safe, same_pages}
 use Rattle.pooled_pages.specs.ShownPages.{content_at, shown_page, shown_pages}
 use Rattle.pooled_pages.specs.ShownLaws.{same_shown, shown_at, shown_whole}
-use Rattle.logged_pages.specs.Keeps.{Keeps, Leaves}
+use Rattle.logged_pages.specs.KeptPages.{KeptPages, LeftStore}
 use Rattle.logged_pages.specs.LoggedState.{LoggedState, store_of}
 use Rattle.logged_pages.specs.Standing.{IsSound, IsStanding}
-use Rattle.logged_pages.specs.Survives.{Survives}
+use Rattle.logged_pages.specs.KeptPages.{PagesSurvive}
 
 -- the laws of a disk
 pub record DiskLaws {D : Type 0} (told : D → Told) : Type 0 where
@@ -57,7 +57,7 @@ module _ {D : Type 0} (told : D → Told) (laws : DiskLaws told) where
   pub keeps_by : (old new : LoggedState D) (Change : List ℕ → List ℕ → Type 0) → new.layout ≡ old.layout → (told old.disk).faults ≤ (told new.disk).faults
       → Throughout (told old.disk) (told new.disk) (ComesBy Change (told old.disk))
       → ((before image : List ℕ) → IsTrue ((told old.disk).now before) → Change before image → OpensToOr old.layout (store_of told old).pages before image)
-      → (IsTrue (told old.disk).tells_contents → (store_of told new).pages ≡ (store_of told old).pages) → Keeps told (store_of told old) (store_of told new)
+      → (IsTrue (told old.disk).tells_contents → (store_of told new).pages ≡ (store_of told old).pages) → KeptPages told (store_of told old) (store_of told new)
   keeps_by old new Change layout faults all opens pages =
       let reaches : (image : List ℕ) → ComesBy Change (told old.disk) image → Reaches old.layout (told old.disk) (store_of told old).pages image = λ image come. (come.0, come.1, opens come.0 image come.1 come.2) in
       record {
@@ -75,7 +75,7 @@ module _ {D : Type 0} (told : D → Told) (laws : DiskLaws told) where
       }
 
   -- a step that makes no device call
-  pub leaves_still : (old new : LoggedState D) → new.layout ≡ old.layout → new.disk ≡ old.disk → Leaves told (store_of told old) (store_of told new)
+  pub leaves_still : (old new : LoggedState D) → new.layout ≡ old.layout → new.disk ≡ old.disk → LeftStore told (store_of told old) (store_of told new)
   leaves_still old new layout disk = record {
     layout = layout;
     tells = ap (λ (d : D). (told d).tells_contents) disk;
@@ -89,7 +89,7 @@ module _ {D : Type 0} (told : D → Told) (laws : DiskLaws told) where
   }
 
   pub keeps_still : (old new : LoggedState D) → new.layout ≡ old.layout → new.disk ≡ old.disk → (IsTrue (told old.disk).tells_contents → (store_of told new).pages ≡ (store_of told old).pages)
-      → Keeps told (store_of told old) (store_of told new)
+      → KeptPages told (store_of told old) (store_of told new)
   keeps_still old new layout disk pages = record { leaves = leaves_still old new layout disk; pages = pages }
 
 -- The pages that are shown

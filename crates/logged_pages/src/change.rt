@@ -11,7 +11,7 @@ ghost use Rattle.page_store.specs.PageMap.{page_at};
 ghost use Rattle.buffer_pool.specs.PoolState.{held_at};
 ghost use Rattle.pooled_pages.specs.PageNumbers.{page_number};
 ghost use Rattle.pooled_pages.specs.Safe.{is_marked};
-ghost use Rattle.logged_pages.specs.Keeps.{Keeps, Leaves};
+ghost use Rattle.logged_pages.specs.KeptPages.{KeptPages, LeftStore};
 ghost use Rattle.logged_pages.specs.LoggedState.{store_of};
 ghost use Rattle.logged_pages.specs.Room.{HasRoom, IsLoggable, bytes_for, is_anew};
 ghost use Rattle.logged_pages.specs.StoreFacts.{AreKnown, IsFactPlace, facts_at};
@@ -45,8 +45,8 @@ pub fn change_page<D: Disk + Drop>(
     requires forms { forms.now.items ≡ forms_of pages.old.layout }
     requires facts { AreKnown D.told pages.old facts.old.items }
     ensures changed { OnOk result (Tells D.told (store_of D.told pages.old) → Changed pages.old.layout place (logged change.now ∷ []) (store_of D.told pages.old).pages (store_of D.told pages.new).pages) }
-    ensures kept { OnErr result (Keeps D.told (store_of D.told pages.old) (store_of D.told pages.new)) }
-    ensures leaves { Leaves D.told (store_of D.told pages.old) (store_of D.told pages.new) }
+    ensures kept { OnErr result (KeptPages D.told (store_of D.told pages.old) (store_of D.told pages.new)) }
+    ensures leaves { LeftStore D.told (store_of D.told pages.old) (store_of D.told pages.new) }
     ensures at { IfErr result (λ error. NamesPage pages.old.layout place error) }
     ensures outcome { Outcome D.told (Untold D.told (store_of D.told pages.old)) (store_of D.told pages.old) (store_of D.told pages.new) result }
     ensures facts { AreKnown D.told pages.new facts.new.items }
@@ -75,8 +75,8 @@ pub fn start_page<D: Disk + Drop>(
     requires forms { forms.now.items ≡ forms_of pages.old.layout }
     requires facts { AreKnown D.told pages.old facts.old.items }
     ensures changed { OnOk result (Tells D.told (store_of D.told pages.old) → Changed pages.old.layout place (LoggedStart place kind ∷ logged change.now ∷ []) (store_of D.told pages.old).pages (store_of D.told pages.new).pages) }
-    ensures kept { OnErr result (Keeps D.told (store_of D.told pages.old) (store_of D.told pages.new)) }
-    ensures leaves { Leaves D.told (store_of D.told pages.old) (store_of D.told pages.new) }
+    ensures kept { OnErr result (KeptPages D.told (store_of D.told pages.old) (store_of D.told pages.new)) }
+    ensures leaves { LeftStore D.told (store_of D.told pages.old) (store_of D.told pages.new) }
     ensures at { IfErr result (λ error. NamesPage pages.old.layout place error) }
     ensures outcome { Outcome D.told (Untold D.told (store_of D.told pages.old)) (store_of D.told pages.old) (store_of D.told pages.new) result }
     ensures facts { AreKnown D.told pages.new facts.new.items }
@@ -115,7 +115,7 @@ fn make<D: Disk + Drop>(
     requires loggable { IsLoggable (logged change.now) }
     requires room { HasRoom pages.old.log pages.old.waiting (bytes_for (is_marked pages.old.marks pages.old.layout place) (logged change.now)) }
     ensures changed { OnOk result (Tells D.told (store_of D.told pages.old) → Changed pages.old.layout place (logged change.now ∷ []) (store_of D.told pages.old).pages (store_of D.told pages.new).pages) }
-    ensures leaves { Leaves D.told (store_of D.told pages.old) (store_of D.told pages.new) }
+    ensures leaves { LeftStore D.told (store_of D.told pages.old) (store_of D.told pages.new) }
     ensures failed { pages.new.failed ≡ None }
     ensures refused { IfErr result (IsDamaged pages.old.layout place) }
     ensures untold { OnErr result (Untold D.told (store_of D.told pages.old)) }

@@ -10,7 +10,7 @@ ghost use Rattle.page_store.specs.Keeps.{Untold};
 ghost use Rattle.page_store.specs.Outcome.{NamesPage, Outcome};
 ghost use Rattle.buffer_pool.specs.PoolState.{held_at};
 ghost use Rattle.pooled_pages.specs.PageNumbers.{page_number};
-ghost use Rattle.logged_pages.specs.Keeps.{Keeps};
+ghost use Rattle.logged_pages.specs.KeptPages.{KeptPages};
 ghost use Rattle.logged_pages.specs.LoggedState.{store_of};
 ghost use Rattle.logged_pages.specs.StoreFacts.{AreKnown, IsFactPlace, facts_at};
 ghost use Rattle.logged_pages.specs.Noted.{NotesHeld, noted};
@@ -32,7 +32,7 @@ pub fn hold<D: Disk + Drop>(
     requires place { IsPlace pages.old.layout place }
     requires forms { forms.now.items ≡ forms_of pages.old.layout }
     requires facts { AreKnown D.told pages.old facts.old.items }
-    ensures kept { Keeps D.told (store_of D.told pages.old) (store_of D.told pages.new) }
+    ensures kept { KeptPages D.told (store_of D.told pages.old) (store_of D.told pages.new) }
     ensures outcome { Outcome D.told (Untold D.told (store_of D.told pages.old)) (store_of D.told pages.old) (store_of D.told pages.new) result }
     ensures at { IfErr result (λ error. NamesPage pages.old.layout place error) }
     ensures held { OnOk result (IsSome (held_at pages.new.pool (page_number pages.new.layout place))) }

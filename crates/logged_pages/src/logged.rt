@@ -17,7 +17,7 @@ ghost use Rattle.pooled_pages.specs.PageNumbers.{page_number};
 ghost use Rattle.pooled_pages.specs.Safe.{is_marked};
 ghost use Rattle.logged_pages.specs.Contents.{AddsOnly, HoldsAlike};
 ghost use Rattle.pooled_pages.specs.ShownPages.{content_at};
-ghost use Rattle.logged_pages.specs.Keeps.{Keeps, Leaves};
+ghost use Rattle.logged_pages.specs.KeptPages.{KeptPages, LeftStore};
 ghost use Rattle.logged_pages.specs.LoggedState.{store_of};
 ghost use Rattle.logged_pages.specs.Standing.{IsStanding};
 ghost use Rattle.logged_pages.specs.Room.{HasLogRoom, HasRoom, IsDurable, IsEmptied, IsLoggable, bytes_for, bytes_with};
@@ -157,7 +157,7 @@ impl<D: Disk + Drop> LoggedPages<D> {
     /// Makes every change so far durable. Where none waits no device call is made.
     pub fn flush(&mut self) -> Result<(), StoreError>
         ensures undamaged { IfErr result IsOfDisk }
-        ensures kept { Keeps D.told (store_of D.told self.old) (store_of D.told self.new) }
+        ensures kept { KeptPages D.told (store_of D.told self.old) (store_of D.told self.new) }
         ensures outcome { Outcome D.told (Untold D.told (store_of D.told self.old)) (store_of D.told self.old) (store_of D.told self.new) result }
         ensures sure { OnOk result ((image : List ℕ) → IsTrue ((D.told self.new.disk).now image) → OpensAs self.new.layout image (store_of D.told self.new).pages) }
         ensures empty { OnOk result (self.new.waiting ≡ no_changes) }
@@ -176,7 +176,7 @@ impl<D: Disk + Drop> LoggedPages<D> {
         requires failed { self.old.failed ≡ None }
         requires some { 0 < length self.old.waiting.bytes }
         ensures undamaged { IfErr result IsOfDisk }
-        ensures kept { Keeps D.told (store_of D.told self.old) (store_of D.told self.new) }
+        ensures kept { KeptPages D.told (store_of D.told self.old) (store_of D.told self.new) }
         ensures outcome { Outcome D.told (Untold D.told (store_of D.told self.old)) (store_of D.told self.old) (store_of D.told self.new) result }
         ensures sure { OnOk result ((image : List ℕ) → IsTrue ((D.told self.new.disk).now image) → OpensAs self.new.layout image (store_of D.told self.new).pages) }
         ensures empty { OnOk result (self.new.waiting ≡ no_changes) }
@@ -203,7 +203,7 @@ impl<D: Disk + Drop> LoggedPages<D> {
     /// Makes every change so far durable, writes each dirty page to its place, in order of the places, and begins the log anew.
     pub fn checkpoint(&mut self) -> Result<(), StoreError>
         ensures undamaged { IfErr result IsOfDisk }
-        ensures kept { Keeps D.told (store_of D.told self.old) (store_of D.told self.new) }
+        ensures kept { KeptPages D.told (store_of D.told self.old) (store_of D.told self.new) }
         ensures outcome { Outcome D.told (Untold D.told (store_of D.told self.old)) (store_of D.told self.old) (store_of D.told self.new) result }
         ensures sure { OnOk result ((image : List ℕ) → IsTrue ((D.told self.new.disk).now image) → OpensAs self.new.layout image (store_of D.told self.new).pages) }
         ensures empty { OnOk result (self.new.waiting ≡ no_changes) }
@@ -220,7 +220,7 @@ impl<D: Disk + Drop> LoggedPages<D> {
         requires failed { self.old.failed ≡ None }
         requires empty { self.old.waiting ≡ no_changes }
         ensures undamaged { IfErr result IsOfDisk }
-        ensures kept { Keeps D.told (store_of D.told self.old) (store_of D.told self.new) }
+        ensures kept { KeptPages D.told (store_of D.told self.old) (store_of D.told self.new) }
         ensures outcome { Outcome D.told (Untold D.told (store_of D.told self.old)) (store_of D.told self.old) (store_of D.told self.new) result }
         ensures empty { self.new.waiting ≡ no_changes }
         ensures alike { HoldsAlike self.old.pool self.new.pool }
@@ -253,7 +253,7 @@ impl<D: Disk + Drop> LoggedPages<D> {
         requires empty { self.old.waiting ≡ no_changes }
         requires dirty { (log : ℕ) × IsDirty self.old.pool number log }
         ensures undamaged { IfErr result IsOfDisk }
-        ensures kept { Keeps D.told (store_of D.told self.old) (store_of D.told self.new) }
+        ensures kept { KeptPages D.told (store_of D.told self.old) (store_of D.told self.new) }
         ensures outcome { Outcome D.told (Untold D.told (store_of D.told self.old)) (store_of D.told self.old) (store_of D.told self.new) result }
         ensures empty { self.new.waiting ≡ no_changes }
         ensures marks { self.new.marks ≡ self.old.marks }
@@ -278,7 +278,7 @@ impl<D: Disk + Drop> LoggedPages<D> {
     fn sync(&mut self) -> Result<(), StoreError>
         requires failed { self.old.failed ≡ None }
         ensures undamaged { IfErr result IsOfDisk }
-        ensures kept { Keeps D.told (store_of D.told self.old) (store_of D.told self.new) }
+        ensures kept { KeptPages D.told (store_of D.told self.old) (store_of D.told self.new) }
         ensures outcome { Outcome D.told (Untold D.told (store_of D.told self.old)) (store_of D.told self.old) (store_of D.told self.new) result }
         ensures same { self.new ≡ record self.old { disk = self.new.disk; failed = self.new.failed } }
         ensures stable { OnOk result (IsStable (D.told self.new.disk)) }
@@ -301,7 +301,7 @@ impl<D: Disk + Drop> LoggedPages<D> {
         requires clean { AreClean self.old.pool }
         requires stable { IsStable (D.told self.old.disk) }
         ensures undamaged { IfErr result IsOfDisk }
-        ensures kept { Keeps D.told (store_of D.told self.old) (store_of D.told self.new) }
+        ensures kept { KeptPages D.told (store_of D.told self.old) (store_of D.told self.new) }
         ensures outcome { Outcome D.told (Untold D.told (store_of D.told self.old)) (store_of D.told self.old) (store_of D.told self.new) result }
         ensures sure { OnOk result ((image : List ℕ) → IsTrue ((D.told self.new.disk).now image) → OpensAs self.new.layout image (store_of D.told self.new).pages) }
         ensures empty { self.new.waiting ≡ no_changes }
@@ -328,7 +328,7 @@ impl<D: Disk + Drop> LoggedPages<D> {
         requires place { IsPlace self.old.layout place }
         requires form { form.now ≡ form_of self.old.layout place.relation }
         requires is { IsForm form.now }
-        ensures kept { Keeps D.told (store_of D.told self.old) (store_of D.told self.new) }
+        ensures kept { KeptPages D.told (store_of D.told self.old) (store_of D.told self.new) }
         ensures outcome { Outcome D.told (Untold D.told (store_of D.told self.old)) (store_of D.told self.old) (store_of D.told self.new) result }
         ensures at { IfErr result (λ error. NamesPage self.old.layout place error) }
         ensures held { OnOk result (IsSome (held_at self.new.pool (page_number self.new.layout place))) }
@@ -371,7 +371,7 @@ impl<D: Disk + Drop> LoggedPages<D> {
         requires is { IsForm form.now }
         requires failed { self.old.failed ≡ None }
         requires absent { held_at self.old.pool (page_number self.old.layout place) ≡ None }
-        ensures kept { Keeps D.told (store_of D.told self.old) (store_of D.told self.new) }
+        ensures kept { KeptPages D.told (store_of D.told self.old) (store_of D.told self.new) }
         ensures outcome { Outcome D.told (Untold D.told (store_of D.told self.old)) (store_of D.told self.old) (store_of D.told self.new) result }
         ensures at { IfErr result (λ error. NamesPage self.old.layout place error) }
         ensures held { OnOk result (IsSome (held_at self.new.pool (page_number self.new.layout place))) }
@@ -396,7 +396,7 @@ impl<D: Disk + Drop> LoggedPages<D> {
         requires is { IsForm form.now }
         requires failed { self.old.failed ≡ None }
         requires absent { held_at self.old.pool (page_number self.old.layout place) ≡ None }
-        ensures kept { Keeps D.told (store_of D.told self.old) (store_of D.told self.new) }
+        ensures kept { KeptPages D.told (store_of D.told self.old) (store_of D.told self.new) }
         ensures outcome { Outcome D.told (Untold D.told (store_of D.told self.old)) (store_of D.told self.old) (store_of D.told self.new) result }
         ensures at { IfErr result (λ error. NamesPage self.old.layout place error) }
         ensures pool { self.new.pool ≡ self.old.pool }
@@ -424,7 +424,7 @@ impl<D: Disk + Drop> LoggedPages<D> {
         requires absent { held_at self.old.pool (page_number self.old.layout place) ≡ None }
         requires page { Tells D.told (store_of D.told self.old) → page.now ≡ page_at (store_of D.told self.old).pages place }
         requires passes { IsPageIn self.old.layout place.relation page.now }
-        ensures kept { Keeps D.told (store_of D.told self.old) (store_of D.told self.new) }
+        ensures kept { KeptPages D.told (store_of D.told self.old) (store_of D.told self.new) }
         ensures failed { self.new.failed ≡ None }
         ensures held { result ≡ true → IsSome (held_at self.new.pool (page_number self.new.layout place)) }
         ensures adds { AddsOnly (page_number self.old.layout place) self.old.pool self.new.pool }
@@ -445,7 +445,7 @@ impl<D: Disk + Drop> LoggedPages<D> {
     fn clean_some(&mut self) -> Result<(), StoreError>
         requires failed { self.old.failed ≡ None }
         requires full { (absent : ℕ) × IsAllDirty self.old.pool absent }
-        ensures kept { Keeps D.told (store_of D.told self.old) (store_of D.told self.new) }
+        ensures kept { KeptPages D.told (store_of D.told self.old) (store_of D.told self.new) }
         ensures outcome { Outcome D.told (Untold D.told (store_of D.told self.old)) (store_of D.told self.old) (store_of D.told self.new) result }
         ensures undamaged { IfErr result IsOfDisk }
         ensures alike { HoldsAlike self.old.pool self.new.pool }
@@ -466,7 +466,7 @@ impl<D: Disk + Drop> LoggedPages<D> {
     /// Writes a dirty page to its place whose log is durable, and says whether there is one.
     fn clean_one(&mut self) -> Result<bool, StoreError>
         requires failed { self.old.failed ≡ None }
-        ensures kept { Keeps D.told (store_of D.told self.old) (store_of D.told self.new) }
+        ensures kept { KeptPages D.told (store_of D.told self.old) (store_of D.told self.new) }
         ensures outcome { Outcome D.told (Untold D.told (store_of D.told self.old)) (store_of D.told self.old) (store_of D.told self.new) result }
         ensures undamaged { IfErr result IsOfDisk }
         ensures alike { HoldsAlike self.old.pool self.new.pool }
@@ -504,7 +504,7 @@ impl<D: Disk + Drop> LoggedPages<D> {
         requires place { IsPlace self.old.layout place }
         requires failed { self.old.failed ≡ None }
         requires few { size ≤ 2 * MOST_BYTES }
-        ensures kept { Keeps D.told (store_of D.told self.old) (store_of D.told self.new) }
+        ensures kept { KeptPages D.told (store_of D.told self.old) (store_of D.told self.new) }
         ensures outcome { Outcome D.told (Untold D.told (store_of D.told self.old)) (store_of D.told self.old) (store_of D.told self.new) result }
         ensures undamaged { IfErr result IsOfDisk }
         ensures alike { HoldsAlike self.old.pool self.new.pool }
@@ -546,7 +546,7 @@ impl<D: Disk + Drop> LoggedPages<D> {
     fn make_buffer_room(&mut self, need: usize) -> Result<(), StoreError>
         requires failed { self.old.failed ≡ None }
         requires few { need ≤ BUFFER_SIZE }
-        ensures kept { Keeps D.told (store_of D.told self.old) (store_of D.told self.new) }
+        ensures kept { KeptPages D.told (store_of D.told self.old) (store_of D.told self.new) }
         ensures outcome { Outcome D.told (Untold D.told (store_of D.told self.old)) (store_of D.told self.old) (store_of D.told self.new) result }
         ensures undamaged { IfErr result IsOfDisk }
         ensures pool { self.new.pool ≡ self.old.pool }
@@ -563,7 +563,7 @@ impl<D: Disk + Drop> LoggedPages<D> {
     fn make_log_room(&mut self, need: usize) -> Result<(), StoreError>
         requires failed { self.old.failed ≡ None }
         requires few { need ≤ BUFFER_SIZE }
-        ensures kept { Keeps D.told (store_of D.told self.old) (store_of D.told self.new) }
+        ensures kept { KeptPages D.told (store_of D.told self.old) (store_of D.told self.new) }
         ensures outcome { Outcome D.told (Untold D.told (store_of D.told self.old)) (store_of D.told self.old) (store_of D.told self.new) result }
         ensures undamaged { IfErr result IsOfDisk }
         ensures alike { HoldsAlike self.old.pool self.new.pool }
@@ -587,7 +587,7 @@ impl<D: Disk + Drop> LoggedPages<D> {
         requires held { IsSome (held_at self.old.pool (page_number self.old.layout place)) }
         requires loggable { IsLoggable (logged change.now) }
         requires room { HasRoom self.old.log self.old.waiting (bytes_for (is_marked self.old.marks self.old.layout place) (logged change.now)) }
-        ensures leaves { Leaves D.told (store_of D.told self.old) (store_of D.told self.new) }
+        ensures leaves { LeftStore D.told (store_of D.told self.old) (store_of D.told self.new) }
         ensures failed { self.new.failed ≡ None }
         ensures untold { OnErr result (Untold D.told (store_of D.told self.old)) }
         ensures changed { OnOk result (Tells D.told (store_of D.told self.old) → Changed self.old.layout place (logged change.now ∷ []) (store_of D.told self.old).pages (store_of D.told self.new).pages) }

@@ -17,7 +17,7 @@ use Rattle.pooled_pages.specs.Safe.{is_marked}
 use Rattle.logged_pages.specs.ChangeSteps.{alike_held, is_false, changed_from, changed_twice, damage_outcome, damaged_at, disk_at, fits_from, made_at, made_changed, made_kept, made_outcome, place_from, room_for, second_fits, start_length, start_loggable, turn_from, untold_from, untold_keeps}
 use Rattle.page_store.proofs.Lookups.{on_err}
 use Rattle.logged_pages.specs.Joining.{outcome_then}
-use Rattle.logged_pages.specs.Keeps.{Keeps, Leaves, keeps_on, keeps_then}
+use Rattle.logged_pages.specs.KeptPages.{KeptPages, LeftStore, kept_on, kept_then}
 use Rattle.logged_pages.specs.KnownSteps.{known_kept}
 use Rattle.logged_pages.specs.Loggable.{fits_loggable}
 use Rattle.logged_pages.specs.LoggedState.{LoggedState, store_of}
@@ -85,7 +85,7 @@ returns-in_err-make_room-clause-leaves g c =
     let mid : View g.row.D.Denot = store_of told held in
     let roomed : LoggedState g.row.D.Denot = c.make_room.new.self in
     let room : View g.row.D.Denot = store_of told roomed in
-    let keeps : Keeps told old room = keeps_on told old mid room c.hold.ensures.kept c.make_room.ensures.kept in
+    let keeps : KeptPages told old room = kept_on told old mid room c.hold.ensures.kept c.make_room.ensures.kept in
     keeps.leaves
 
 
@@ -101,7 +101,7 @@ returns-in_err-make_room-clause-facts g c =
     let mid : View g.row.D.Denot = store_of told held in
     let roomed : LoggedState g.row.D.Denot = c.make_room.new.self in
     let room : View g.row.D.Denot = store_of told roomed in
-    let keeps : Keeps told old room = keeps_on told old mid room c.hold.ensures.kept c.make_room.ensures.kept in
+    let keeps : KeptPages told old room = kept_on told old mid room c.hold.ensures.kept c.make_room.ensures.kept in
     known_kept told held roomed c.hold.new.facts.items c.hold.ensures.facts c.make_room.ensures.kept c.make_room.ensures.alike
 
 pub make-requires-clause-place : goal.make-requires-clause-place
@@ -115,7 +115,7 @@ make-requires-clause-place g c =
     let mid : View g.row.D.Denot = store_of told held in
     let roomed : LoggedState g.row.D.Denot = c.make_room.new.self in
     let room : View g.row.D.Denot = store_of told roomed in
-    let keeps : Keeps told old room = keeps_on told old mid room c.hold.ensures.kept c.make_room.ensures.kept in
+    let keeps : KeptPages told old room = kept_on told old mid room c.hold.ensures.kept c.make_room.ensures.kept in
     place_from told old room keeps place c.requires.place
 
 pub make-requires-clause-forms : goal.make-requires-clause-forms
@@ -129,7 +129,7 @@ make-requires-clause-forms g c =
     let mid : View g.row.D.Denot = store_of told held in
     let roomed : LoggedState g.row.D.Denot = c.make_room.new.self in
     let room : View g.row.D.Denot = store_of told roomed in
-    let keeps : Keeps told old room = keeps_on told old mid room c.hold.ensures.kept c.make_room.ensures.kept in
+    let keeps : KeptPages told old room = kept_on told old mid room c.hold.ensures.kept c.make_room.ensures.kept in
     c.requires.forms ∙ ap forms_of (sym keeps.leaves.layout)
 
 pub make-requires-clause-facts : goal.make-requires-clause-facts
@@ -143,7 +143,7 @@ make-requires-clause-facts g c =
     let mid : View g.row.D.Denot = store_of told held in
     let roomed : LoggedState g.row.D.Denot = c.make_room.new.self in
     let room : View g.row.D.Denot = store_of told roomed in
-    let keeps : Keeps told old room = keeps_on told old mid room c.hold.ensures.kept c.make_room.ensures.kept in
+    let keeps : KeptPages told old room = kept_on told old mid room c.hold.ensures.kept c.make_room.ensures.kept in
     known_kept told held roomed c.hold.new.facts.items c.hold.ensures.facts c.make_room.ensures.kept c.make_room.ensures.alike
 
 pub make-requires-clause-failed : goal.make-requires-clause-failed
@@ -157,7 +157,7 @@ make-requires-clause-failed g c =
     let mid : View g.row.D.Denot = store_of told held in
     let roomed : LoggedState g.row.D.Denot = c.make_room.new.self in
     let room : View g.row.D.Denot = store_of told roomed in
-    let keeps : Keeps told old room = keeps_on told old mid room c.hold.ensures.kept c.make_room.ensures.kept in
+    let keeps : KeptPages told old room = kept_on told old mid room c.hold.ensures.kept c.make_room.ensures.kept in
     c.in_ok-make_room.ensures.outcome.1
 
 pub make-requires-clause-held : goal.make-requires-clause-held
@@ -171,7 +171,7 @@ make-requires-clause-held g c =
     let mid : View g.row.D.Denot = store_of told held in
     let roomed : LoggedState g.row.D.Denot = c.make_room.new.self in
     let room : View g.row.D.Denot = store_of told roomed in
-    let keeps : Keeps told old room = keeps_on told old mid room c.hold.ensures.kept c.make_room.ensures.kept in
+    let keeps : KeptPages told old room = kept_on told old mid room c.hold.ensures.kept c.make_room.ensures.kept in
     alike_held held.pool roomed.pool c.make_room.ensures.alike (page_number roomed.layout place)
     (subst (λ (l : DiskLayout). IsSome (held_at held.pool (page_number l place))) (sym c.make_room.ensures.kept.leaves.layout) c.in_ok-hold.ensures.held)
 
@@ -186,7 +186,7 @@ make-requires-clause-fits g c =
     let mid : View g.row.D.Denot = store_of told held in
     let roomed : LoggedState g.row.D.Denot = c.make_room.new.self in
     let room : View g.row.D.Denot = store_of told roomed in
-    let keeps : Keeps told old room = keeps_on told old mid room c.hold.ensures.kept c.make_room.ensures.kept in
+    let keeps : KeptPages told old room = kept_on told old mid room c.hold.ensures.kept c.make_room.ensures.kept in
     fits_from told old room keeps place change c.requires.fits
 
 pub make-requires-clause-room : goal.make-requires-clause-room
@@ -200,7 +200,7 @@ make-requires-clause-room g c =
     let mid : View g.row.D.Denot = store_of told held in
     let roomed : LoggedState g.row.D.Denot = c.make_room.new.self in
     let room : View g.row.D.Denot = store_of told roomed in
-    let keeps : Keeps told old room = keeps_on told old mid room c.hold.ensures.kept c.make_room.ensures.kept in
+    let keeps : KeptPages told old room = kept_on told old mid room c.hold.ensures.kept c.make_room.ensures.kept in
     subst (λ (n : ℕ). HasRoom roomed.log roomed.waiting (bytes_with (is_marked roomed.marks roomed.layout place || is_anew change) n)) c.size.ensures
     (subst (λ (b : Bool). HasRoom roomed.log roomed.waiting (bytes_with (is_marked roomed.marks roomed.layout place || b) c.size.result)) c.is_anew.ensures c.in_ok-make_room.ensures.room)
 
@@ -215,7 +215,7 @@ returns-clause-changed g c =
     let mid : View g.row.D.Denot = store_of told held in
     let roomed : LoggedState g.row.D.Denot = c.make_room.new.self in
     let room : View g.row.D.Denot = store_of told roomed in
-    let keeps : Keeps told old room = keeps_on told old mid room c.hold.ensures.kept c.make_room.ensures.kept in
+    let keeps : KeptPages told old room = kept_on told old mid room c.hold.ensures.kept c.make_room.ensures.kept in
     let new : View g.row.D.Denot = store_of told c.make.new.pages in
     made_changed told old room keeps place new (change ∷ []) c.make.result c.make.ensures.changed
 
@@ -230,9 +230,9 @@ returns-clause-leaves g c =
     let mid : View g.row.D.Denot = store_of told held in
     let roomed : LoggedState g.row.D.Denot = c.make_room.new.self in
     let room : View g.row.D.Denot = store_of told roomed in
-    let keeps : Keeps told old room = keeps_on told old mid room c.hold.ensures.kept c.make_room.ensures.kept in
+    let keeps : KeptPages told old room = kept_on told old mid room c.hold.ensures.kept c.make_room.ensures.kept in
     let new : View g.row.D.Denot = store_of told c.make.new.pages in
-    keeps_then told old room new keeps c.make.ensures.leaves
+    kept_then told old room new keeps c.make.ensures.leaves
 
 pub returns-clause-kept : goal.returns-clause-kept
 returns-clause-kept g c =
@@ -245,9 +245,9 @@ returns-clause-kept g c =
     let mid : View g.row.D.Denot = store_of told held in
     let roomed : LoggedState g.row.D.Denot = c.make_room.new.self in
     let room : View g.row.D.Denot = store_of told roomed in
-    let keeps : Keeps told old room = keeps_on told old mid room c.hold.ensures.kept c.make_room.ensures.kept in
+    let keeps : KeptPages told old room = kept_on told old mid room c.hold.ensures.kept c.make_room.ensures.kept in
     let new : View g.row.D.Denot = store_of told c.make.new.pages in
-    made_kept told old room new keeps (keeps_then told old room new keeps c.make.ensures.leaves) c.make.result c.make.ensures.untold
+    made_kept told old room new keeps (kept_then told old room new keeps c.make.ensures.leaves) c.make.result c.make.ensures.untold
 
 pub returns-clause-at : goal.returns-clause-at
 returns-clause-at g c =
@@ -260,7 +260,7 @@ returns-clause-at g c =
     let mid : View g.row.D.Denot = store_of told held in
     let roomed : LoggedState g.row.D.Denot = c.make_room.new.self in
     let room : View g.row.D.Denot = store_of told roomed in
-    let keeps : Keeps told old room = keeps_on told old mid room c.hold.ensures.kept c.make_room.ensures.kept in
+    let keeps : KeptPages told old room = kept_on told old mid room c.hold.ensures.kept c.make_room.ensures.kept in
     let new : View g.row.D.Denot = store_of told c.make.new.pages in
     made_at told old room keeps place c.make.result c.make.ensures.refused
 
@@ -275,7 +275,7 @@ returns-clause-outcome g c =
     let mid : View g.row.D.Denot = store_of told held in
     let roomed : LoggedState g.row.D.Denot = c.make_room.new.self in
     let room : View g.row.D.Denot = store_of told roomed in
-    let keeps : Keeps told old room = keeps_on told old mid room c.hold.ensures.kept c.make_room.ensures.kept in
+    let keeps : KeptPages told old room = kept_on told old mid room c.hold.ensures.kept c.make_room.ensures.kept in
     let new : View g.row.D.Denot = store_of told c.make.new.pages in
     outcome_then told old room new c.make.result c.in_ok-hold.ensures.outcome.0 c.in_ok-make_room.ensures.outcome.1 keeps.leaves
     (made_outcome ⊤ told room new roomed.layout place c.make.result c.in_ok-make_room.ensures.outcome.1 c.make.ensures.failed c.make.ensures.leaves.faults c.make.ensures.refused c.make.ensures.untold)
@@ -291,5 +291,5 @@ returns-in_err-make_room-clause-kept g c =
     let mid : View g.row.D.Denot = store_of told held in
     let roomed : LoggedState g.row.D.Denot = c.make_room.new.self in
     let room : View g.row.D.Denot = store_of told roomed in
-    let keeps : Keeps told old room = keeps_on told old mid room c.hold.ensures.kept c.make_room.ensures.kept in
+    let keeps : KeptPages told old room = kept_on told old mid room c.hold.ensures.kept c.make_room.ensures.kept in
     on_err c.from_residual-in_err-make_room.result keeps

@@ -17,7 +17,7 @@ use Rattle.pooled_pages.specs.Safe.{is_marked}
 use Rattle.logged_pages.specs.ChangeSteps.{alike_held, is_false, twice_leaves, damage_back, room_second, room_start, turn_changed, untold_back, changed_from, changed_twice, damage_outcome, damaged_at, disk_at, fits_from, made_at, made_changed, made_kept, made_outcome, place_from, room_for, second_fits, start_length, start_loggable, turn_from, untold_from, untold_keeps}
 use Rattle.page_store.proofs.Lookups.{on_err}
 use Rattle.logged_pages.specs.Joining.{outcome_then}
-use Rattle.logged_pages.specs.Keeps.{Keeps, Leaves, keeps_on, keeps_then}
+use Rattle.logged_pages.specs.KeptPages.{KeptPages, LeftStore, kept_on, kept_then}
 use Rattle.logged_pages.specs.KnownSteps.{known_kept}
 use Rattle.logged_pages.specs.Loggable.{fits_loggable}
 use Rattle.logged_pages.specs.LoggedState.{LoggedState, store_of}
@@ -71,7 +71,7 @@ returns-in_err-make_room-clause-leaves g c =
     let mid : View g.row.D.Denot = store_of told held in
     let roomed : LoggedState g.row.D.Denot = c.make_room.new.self in
     let room : View g.row.D.Denot = store_of told roomed in
-    let keeps : Keeps told old room = keeps_on told old mid room c.hold.ensures.kept c.make_room.ensures.kept in
+    let keeps : KeptPages told old room = kept_on told old mid room c.hold.ensures.kept c.make_room.ensures.kept in
     keeps.leaves
 
 
@@ -87,7 +87,7 @@ returns-in_err-make_room-clause-facts g c =
     let mid : View g.row.D.Denot = store_of told held in
     let roomed : LoggedState g.row.D.Denot = c.make_room.new.self in
     let room : View g.row.D.Denot = store_of told roomed in
-    let keeps : Keeps told old room = keeps_on told old mid room c.hold.ensures.kept c.make_room.ensures.kept in
+    let keeps : KeptPages told old room = kept_on told old mid room c.hold.ensures.kept c.make_room.ensures.kept in
     known_kept told held roomed c.hold.new.facts.items c.hold.ensures.facts c.make_room.ensures.kept c.make_room.ensures.alike
 
 pub make-requires-clause-place : goal.make-requires-clause-place
@@ -101,7 +101,7 @@ make-requires-clause-place g c =
     let mid : View g.row.D.Denot = store_of told held in
     let roomed : LoggedState g.row.D.Denot = c.make_room.new.self in
     let room : View g.row.D.Denot = store_of told roomed in
-    let keeps : Keeps told old room = keeps_on told old mid room c.hold.ensures.kept c.make_room.ensures.kept in
+    let keeps : KeptPages told old room = kept_on told old mid room c.hold.ensures.kept c.make_room.ensures.kept in
     place_from told old room keeps place c.requires.place
 
 pub make-requires-clause-forms : goal.make-requires-clause-forms
@@ -115,7 +115,7 @@ make-requires-clause-forms g c =
     let mid : View g.row.D.Denot = store_of told held in
     let roomed : LoggedState g.row.D.Denot = c.make_room.new.self in
     let room : View g.row.D.Denot = store_of told roomed in
-    let keeps : Keeps told old room = keeps_on told old mid room c.hold.ensures.kept c.make_room.ensures.kept in
+    let keeps : KeptPages told old room = kept_on told old mid room c.hold.ensures.kept c.make_room.ensures.kept in
     c.requires.forms ∙ ap forms_of (sym keeps.leaves.layout)
 
 pub make-requires-clause-facts : goal.make-requires-clause-facts
@@ -129,7 +129,7 @@ make-requires-clause-facts g c =
     let mid : View g.row.D.Denot = store_of told held in
     let roomed : LoggedState g.row.D.Denot = c.make_room.new.self in
     let room : View g.row.D.Denot = store_of told roomed in
-    let keeps : Keeps told old room = keeps_on told old mid room c.hold.ensures.kept c.make_room.ensures.kept in
+    let keeps : KeptPages told old room = kept_on told old mid room c.hold.ensures.kept c.make_room.ensures.kept in
     known_kept told held roomed c.hold.new.facts.items c.hold.ensures.facts c.make_room.ensures.kept c.make_room.ensures.alike
 
 pub make-requires-clause-failed : goal.make-requires-clause-failed
@@ -143,7 +143,7 @@ make-requires-clause-failed g c =
     let mid : View g.row.D.Denot = store_of told held in
     let roomed : LoggedState g.row.D.Denot = c.make_room.new.self in
     let room : View g.row.D.Denot = store_of told roomed in
-    let keeps : Keeps told old room = keeps_on told old mid room c.hold.ensures.kept c.make_room.ensures.kept in
+    let keeps : KeptPages told old room = kept_on told old mid room c.hold.ensures.kept c.make_room.ensures.kept in
     c.in_ok-make_room.ensures.outcome.1
 
 pub make-requires-clause-held : goal.make-requires-clause-held
@@ -157,7 +157,7 @@ make-requires-clause-held g c =
     let mid : View g.row.D.Denot = store_of told held in
     let roomed : LoggedState g.row.D.Denot = c.make_room.new.self in
     let room : View g.row.D.Denot = store_of told roomed in
-    let keeps : Keeps told old room = keeps_on told old mid room c.hold.ensures.kept c.make_room.ensures.kept in
+    let keeps : KeptPages told old room = kept_on told old mid room c.hold.ensures.kept c.make_room.ensures.kept in
     alike_held held.pool roomed.pool c.make_room.ensures.alike (page_number roomed.layout place)
     (subst (λ (l : DiskLayout). IsSome (held_at held.pool (page_number l place))) (sym c.make_room.ensures.kept.leaves.layout) c.in_ok-hold.ensures.held)
 
@@ -172,7 +172,7 @@ make-requires-clause-fits g c =
     let mid : View g.row.D.Denot = store_of told held in
     let roomed : LoggedState g.row.D.Denot = c.make_room.new.self in
     let room : View g.row.D.Denot = store_of told roomed in
-    let keeps : Keeps told old room = keeps_on told old mid room c.hold.ensures.kept c.make_room.ensures.kept in
+    let keeps : KeptPages told old room = kept_on told old mid room c.hold.ensures.kept c.make_room.ensures.kept in
     λ tells. (turn_from told old room keeps place (PageStart place c.args.kind ∷ change ∷ []) c.requires.fits tells).0
 
 pub make-requires-clause-loggable : goal.make-requires-clause-loggable
@@ -186,7 +186,7 @@ make-requires-clause-loggable g c =
     let mid : View g.row.D.Denot = store_of told held in
     let roomed : LoggedState g.row.D.Denot = c.make_room.new.self in
     let room : View g.row.D.Denot = store_of told roomed in
-    let keeps : Keeps told old room = keeps_on told old mid room c.hold.ensures.kept c.make_room.ensures.kept in
+    let keeps : KeptPages told old room = kept_on told old mid room c.hold.ensures.kept c.make_room.ensures.kept in
     start_loggable place c.args.kind
 
 pub make-requires-clause-room : goal.make-requires-clause-room
@@ -200,7 +200,7 @@ make-requires-clause-room g c =
     let mid : View g.row.D.Denot = store_of told held in
     let roomed : LoggedState g.row.D.Denot = c.make_room.new.self in
     let room : View g.row.D.Denot = store_of told roomed in
-    let keeps : Keeps told old room = keeps_on told old mid room c.hold.ensures.kept c.make_room.ensures.kept in
+    let keeps : KeptPages told old room = kept_on told old mid room c.hold.ensures.kept c.make_room.ensures.kept in
     let start = PageStart place c.args.kind in
     room_start roomed.log roomed.waiting (is_marked roomed.marks roomed.layout place) place c.args.kind c.size.result c.in_ok-make_room.ensures.room
 
@@ -216,11 +216,11 @@ returns-in_err-make-clause-leaves g c =
     let mid : View g.row.D.Denot = store_of told held in
     let roomed : LoggedState g.row.D.Denot = c.make_room.new.self in
     let room : View g.row.D.Denot = store_of told roomed in
-    let keeps : Keeps told old room = keeps_on told old mid room c.hold.ensures.kept c.make_room.ensures.kept in
+    let keeps : KeptPages told old room = kept_on told old mid room c.hold.ensures.kept c.make_room.ensures.kept in
     let start = PageStart place c.args.kind in
     let begun : LoggedState g.row.D.Denot = c.make.new.pages in
     let first : View g.row.D.Denot = store_of told begun in
-    keeps_then told old room first keeps c.make.ensures.leaves
+    kept_then told old room first keeps c.make.ensures.leaves
 
 
 
@@ -235,7 +235,7 @@ make-requires-2-clause-place g c =
     let mid : View g.row.D.Denot = store_of told held in
     let roomed : LoggedState g.row.D.Denot = c.make_room.new.self in
     let room : View g.row.D.Denot = store_of told roomed in
-    let keeps : Keeps told old room = keeps_on told old mid room c.hold.ensures.kept c.make_room.ensures.kept in
+    let keeps : KeptPages told old room = kept_on told old mid room c.hold.ensures.kept c.make_room.ensures.kept in
     let start = PageStart place c.args.kind in
     let begun : LoggedState g.row.D.Denot = c.make.new.pages in
     let first : View g.row.D.Denot = store_of told begun in
@@ -254,7 +254,7 @@ make-requires-2-clause-forms g c =
     let mid : View g.row.D.Denot = store_of told held in
     let roomed : LoggedState g.row.D.Denot = c.make_room.new.self in
     let room : View g.row.D.Denot = store_of told roomed in
-    let keeps : Keeps told old room = keeps_on told old mid room c.hold.ensures.kept c.make_room.ensures.kept in
+    let keeps : KeptPages told old room = kept_on told old mid room c.hold.ensures.kept c.make_room.ensures.kept in
     let start = PageStart place c.args.kind in
     let begun : LoggedState g.row.D.Denot = c.make.new.pages in
     let first : View g.row.D.Denot = store_of told begun in
@@ -273,7 +273,7 @@ make-requires-2-clause-fits g c =
     let mid : View g.row.D.Denot = store_of told held in
     let roomed : LoggedState g.row.D.Denot = c.make_room.new.self in
     let room : View g.row.D.Denot = store_of told roomed in
-    let keeps : Keeps told old room = keeps_on told old mid room c.hold.ensures.kept c.make_room.ensures.kept in
+    let keeps : KeptPages told old room = kept_on told old mid room c.hold.ensures.kept c.make_room.ensures.kept in
     let start = PageStart place c.args.kind in
     let begun : LoggedState g.row.D.Denot = c.make.new.pages in
     let first : View g.row.D.Denot = store_of told begun in
@@ -293,7 +293,7 @@ make-requires-2-clause-room g c =
     let mid : View g.row.D.Denot = store_of told held in
     let roomed : LoggedState g.row.D.Denot = c.make_room.new.self in
     let room : View g.row.D.Denot = store_of told roomed in
-    let keeps : Keeps told old room = keeps_on told old mid room c.hold.ensures.kept c.make_room.ensures.kept in
+    let keeps : KeptPages told old room = kept_on told old mid room c.hold.ensures.kept c.make_room.ensures.kept in
     let start = PageStart place c.args.kind in
     let begun : LoggedState g.row.D.Denot = c.make.new.pages in
     let first : View g.row.D.Denot = store_of told begun in
@@ -312,13 +312,13 @@ returns-clause-changed g c =
     let mid : View g.row.D.Denot = store_of told held in
     let roomed : LoggedState g.row.D.Denot = c.make_room.new.self in
     let room : View g.row.D.Denot = store_of told roomed in
-    let keeps : Keeps told old room = keeps_on told old mid room c.hold.ensures.kept c.make_room.ensures.kept in
+    let keeps : KeptPages told old room = kept_on told old mid room c.hold.ensures.kept c.make_room.ensures.kept in
     let start = PageStart place c.args.kind in
     let begun : LoggedState g.row.D.Denot = c.make.new.pages in
     let first : View g.row.D.Denot = store_of told begun in
     let new : View g.row.D.Denot = store_of told c.make-2.new.pages in
-    let both : Leaves told room new = twice_leaves told room first new c.make.ensures.leaves c.make.ensures.disk c.make-2.ensures.leaves c.make-2.ensures.disk in
-    let leaves : Leaves told old new = keeps_then told old room new keeps both in
+    let both : LeftStore told room new = twice_leaves told room first new c.make.ensures.leaves c.make.ensures.disk c.make-2.ensures.leaves c.make-2.ensures.disk in
+    let leaves : LeftStore told old new = kept_then told old room new keeps both in
     let layout = c.make.ensures.leaves.layout in
     let tells = c.make.ensures.leaves.tells in
     turn_changed told old room first new keeps place start change c.make-2.result layout tells c.in_ok-make.ensures.changed c.make-2.ensures.changed
@@ -334,13 +334,13 @@ returns-clause-leaves g c =
     let mid : View g.row.D.Denot = store_of told held in
     let roomed : LoggedState g.row.D.Denot = c.make_room.new.self in
     let room : View g.row.D.Denot = store_of told roomed in
-    let keeps : Keeps told old room = keeps_on told old mid room c.hold.ensures.kept c.make_room.ensures.kept in
+    let keeps : KeptPages told old room = kept_on told old mid room c.hold.ensures.kept c.make_room.ensures.kept in
     let start = PageStart place c.args.kind in
     let begun : LoggedState g.row.D.Denot = c.make.new.pages in
     let first : View g.row.D.Denot = store_of told begun in
     let new : View g.row.D.Denot = store_of told c.make-2.new.pages in
-    let both : Leaves told room new = twice_leaves told room first new c.make.ensures.leaves c.make.ensures.disk c.make-2.ensures.leaves c.make-2.ensures.disk in
-    let leaves : Leaves told old new = keeps_then told old room new keeps both in
+    let both : LeftStore told room new = twice_leaves told room first new c.make.ensures.leaves c.make.ensures.disk c.make-2.ensures.leaves c.make-2.ensures.disk in
+    let leaves : LeftStore told old new = kept_then told old room new keeps both in
     let layout = c.make.ensures.leaves.layout in
     let tells = c.make.ensures.leaves.tells in
     leaves
@@ -356,13 +356,13 @@ returns-clause-kept g c =
     let mid : View g.row.D.Denot = store_of told held in
     let roomed : LoggedState g.row.D.Denot = c.make_room.new.self in
     let room : View g.row.D.Denot = store_of told roomed in
-    let keeps : Keeps told old room = keeps_on told old mid room c.hold.ensures.kept c.make_room.ensures.kept in
+    let keeps : KeptPages told old room = kept_on told old mid room c.hold.ensures.kept c.make_room.ensures.kept in
     let start = PageStart place c.args.kind in
     let begun : LoggedState g.row.D.Denot = c.make.new.pages in
     let first : View g.row.D.Denot = store_of told begun in
     let new : View g.row.D.Denot = store_of told c.make-2.new.pages in
-    let both : Leaves told room new = twice_leaves told room first new c.make.ensures.leaves c.make.ensures.disk c.make-2.ensures.leaves c.make-2.ensures.disk in
-    let leaves : Leaves told old new = keeps_then told old room new keeps both in
+    let both : LeftStore told room new = twice_leaves told room first new c.make.ensures.leaves c.make.ensures.disk c.make-2.ensures.leaves c.make-2.ensures.disk in
+    let leaves : LeftStore told old new = kept_then told old room new keeps both in
     let layout = c.make.ensures.leaves.layout in
     let tells = c.make.ensures.leaves.tells in
     made_kept told old room new keeps leaves c.make-2.result (untold_back told room first tells c.make-2.result c.make-2.ensures.untold)
@@ -378,13 +378,13 @@ returns-clause-at g c =
     let mid : View g.row.D.Denot = store_of told held in
     let roomed : LoggedState g.row.D.Denot = c.make_room.new.self in
     let room : View g.row.D.Denot = store_of told roomed in
-    let keeps : Keeps told old room = keeps_on told old mid room c.hold.ensures.kept c.make_room.ensures.kept in
+    let keeps : KeptPages told old room = kept_on told old mid room c.hold.ensures.kept c.make_room.ensures.kept in
     let start = PageStart place c.args.kind in
     let begun : LoggedState g.row.D.Denot = c.make.new.pages in
     let first : View g.row.D.Denot = store_of told begun in
     let new : View g.row.D.Denot = store_of told c.make-2.new.pages in
-    let both : Leaves told room new = twice_leaves told room first new c.make.ensures.leaves c.make.ensures.disk c.make-2.ensures.leaves c.make-2.ensures.disk in
-    let leaves : Leaves told old new = keeps_then told old room new keeps both in
+    let both : LeftStore told room new = twice_leaves told room first new c.make.ensures.leaves c.make.ensures.disk c.make-2.ensures.leaves c.make-2.ensures.disk in
+    let leaves : LeftStore told old new = kept_then told old room new keeps both in
     let layout = c.make.ensures.leaves.layout in
     let tells = c.make.ensures.leaves.tells in
     made_at told old room keeps place c.make-2.result (damage_back roomed.layout begun.layout place layout c.make-2.result c.make-2.ensures.refused)
@@ -400,13 +400,13 @@ returns-clause-outcome g c =
     let mid : View g.row.D.Denot = store_of told held in
     let roomed : LoggedState g.row.D.Denot = c.make_room.new.self in
     let room : View g.row.D.Denot = store_of told roomed in
-    let keeps : Keeps told old room = keeps_on told old mid room c.hold.ensures.kept c.make_room.ensures.kept in
+    let keeps : KeptPages told old room = kept_on told old mid room c.hold.ensures.kept c.make_room.ensures.kept in
     let start = PageStart place c.args.kind in
     let begun : LoggedState g.row.D.Denot = c.make.new.pages in
     let first : View g.row.D.Denot = store_of told begun in
     let new : View g.row.D.Denot = store_of told c.make-2.new.pages in
-    let both : Leaves told room new = twice_leaves told room first new c.make.ensures.leaves c.make.ensures.disk c.make-2.ensures.leaves c.make-2.ensures.disk in
-    let leaves : Leaves told old new = keeps_then told old room new keeps both in
+    let both : LeftStore told room new = twice_leaves told room first new c.make.ensures.leaves c.make.ensures.disk c.make-2.ensures.leaves c.make-2.ensures.disk in
+    let leaves : LeftStore told old new = kept_then told old room new keeps both in
     let layout = c.make.ensures.leaves.layout in
     let tells = c.make.ensures.leaves.tells in
     outcome_then told old room new c.make-2.result c.in_ok-hold.ensures.outcome.0 c.in_ok-make_room.ensures.outcome.1 keeps.leaves
@@ -423,5 +423,5 @@ returns-in_err-make_room-clause-kept g c =
     let mid : View g.row.D.Denot = store_of told held in
     let roomed : LoggedState g.row.D.Denot = c.make_room.new.self in
     let room : View g.row.D.Denot = store_of told roomed in
-    let keeps : Keeps told old room = keeps_on told old mid room c.hold.ensures.kept c.make_room.ensures.kept in
+    let keeps : KeptPages told old room = kept_on told old mid room c.hold.ensures.kept c.make_room.ensures.kept in
     on_err c.from_residual-in_err-make_room.result keeps

@@ -7,7 +7,7 @@ use Rattle.change_buffer.specs.Waiting.{Waiting}
 use Rattle.opened_pages.specs.Opens.{OpensAs}
 use Rattle.pooled_pages.specs.ShownPages.{shown_pages}
 use Rattle.logged_pages.specs.Exits.{append_broke, append_done, appended_keeps}
-use Rattle.logged_pages.specs.Keeps.{Keeps}
+use Rattle.logged_pages.specs.KeptPages.{KeptPages}
 use Rattle.logged_pages.specs.LoggedState.{LoggedState, store_of}
 use Rattle.logged_pages.specs.Standing.{IsStanding}
 use Rattle.logged_pages.specs.Steps.{DiskLaws, areas_fit, none_waits}
@@ -49,7 +49,7 @@ returns-in-Ok-clause-kept g c =
     let standing = subst (λ (f : Option ℕ). IsStanding (told s.disk) s.layout s.log s.pool s.marks s.waiting f) none c.self.invariant in
     let frame : LogFrame = record { changes = c.bytes-bytes.result.now; count = c.count-count.result } in
     let own : frame ≡ record { changes = s.waiting.bytes; count = s.waiting.count } = λ i. record { changes = c.bytes-bytes.ensures.bytes i; count = c.count-count.ensures.count i } in
-    subst (λ (x : LoggedState g.row.D.Denot). Keeps told (store_of told x) (store_of told (record { disk = c.append.new.disk; layout = s.layout; log = c.append.new.self; pool = s.pool; marks = s.marks; waiting = c.clear.new.self; failed = s.failed }))) c.self.view_is
+    subst (λ (x : LoggedState g.row.D.Denot). KeptPages told (store_of told x) (store_of told (record { disk = c.append.new.disk; layout = s.layout; log = c.append.new.self; pool = s.pool; marks = s.marks; waiting = c.clear.new.self; failed = s.failed }))) c.self.view_is
     (appended_keeps told laws c.no_change_begins_another.ensures s c.pages_fill_the_disk.ensures standing c.append.new.disk c.append.ensures.later frame c.append.new.self c.clear.new.self s.failed own c.append.ensures.any_moment c.append.ensures.contents)
 
 pub returns-in-Ok-clause-sure : goal.returns-in-Ok-clause-sure
@@ -74,5 +74,5 @@ returns-in-Err-Disk-clause-kept g c =
     let standing = subst (λ (f : Option ℕ). IsStanding (told s.disk) s.layout s.log s.pool s.marks s.waiting f) none c.self.invariant in
     let frame : LogFrame = record { changes = c.bytes-bytes.result.now; count = c.count-count.result } in
     let own : frame ≡ record { changes = s.waiting.bytes; count = s.waiting.count } = λ i. record { changes = c.bytes-bytes.ensures.bytes i; count = c.count-count.ensures.count i } in
-    subst (λ (x : LoggedState g.row.D.Denot). Keeps told (store_of told x) (store_of told (record { disk = c.append.new.disk; layout = s.layout; log = c.append.new.self; pool = s.pool; marks = s.marks; waiting = s.waiting; failed = Some c.faults.result }))) c.self.view_is
+    subst (λ (x : LoggedState g.row.D.Denot). KeptPages told (store_of told x) (store_of told (record { disk = c.append.new.disk; layout = s.layout; log = c.append.new.self; pool = s.pool; marks = s.marks; waiting = s.waiting; failed = Some c.faults.result }))) c.self.view_is
     (appended_keeps told laws c.no_change_begins_another.ensures s c.pages_fill_the_disk.ensures standing c.append.new.disk c.append.ensures.later frame c.append.new.self s.waiting (Some c.faults.result) own c.append.ensures.any_moment c.append.ensures.contents)

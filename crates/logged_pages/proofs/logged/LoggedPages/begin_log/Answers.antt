@@ -5,7 +5,7 @@ use Rattle.change_buffer.specs.Waiting.{Waiting, no_changes}
 use Rattle.opened_pages.specs.Opens.{OpensAs}
 use Rattle.pooled_pages.specs.ShownPages.{content_at, shown_pages}
 use Rattle.logged_pages.specs.Contents.{AddsOnly, HoldsAlike}
-use Rattle.logged_pages.specs.Keeps.{Keeps, Leaves, keeps_on}
+use Rattle.logged_pages.specs.KeptPages.{KeptPages, LeftStore, kept_on}
 use Rattle.logged_pages.specs.LoggedState.{LoggedState, store_of}
 use Rattle.logged_pages.specs.Room.{IsDurable}
 use Rattle.logged_pages.specs.Standing.{IsStanding}
@@ -68,7 +68,7 @@ returns-in-Ok-clause-kept g c =
     let at_rest = subst (λ (w : Waiting). IsStanding (told s.disk) s.layout s.log s.pool s.marks w None) empty standing in
     let clean : AreClean s.pool = subst (λ (x : LoggedState g.row.D.Denot). AreClean x.pool) (sym c.self.view_is) c.requires.clean in
     let stable : IsStable (told s.disk) = subst (λ (x : LoggedState g.row.D.Denot). IsStable (told x.disk)) (sym c.self.view_is) c.requires.stable in
-    subst (λ (x : LoggedState g.row.D.Denot). Keeps told (store_of told x) (store_of told (record { disk = c.switch.new.disk; layout = s.layout; log = c.switch.new.self; pool = s.pool; marks = c.fill.new.self.items; waiting = s.waiting; failed = s.failed }))) c.self.view_is
+    subst (λ (x : LoggedState g.row.D.Denot). KeptPages told (store_of told x) (store_of told (record { disk = c.switch.new.disk; layout = s.layout; log = c.switch.new.self; pool = s.pool; marks = c.fill.new.self.items; waiting = s.waiting; failed = s.failed }))) c.self.view_is
     (switch_keeps told laws c.no_change_begins_another.ensures s c.pages_fill_the_disk.ensures standing c.switch.new.disk c.switch.ensures.cause.later empty c.switch.new.self (all_false s.marks) c.fill.new.self.items s.failed clean stable (all_unmarked s.layout s.marks) (length_false s.marks) c.switch.ensures.any_moment c.switch.ensures.contents)
 
 pub returns-in-Ok-clause-sure : goal.returns-in-Ok-clause-sure
@@ -99,5 +99,5 @@ returns-in-Err-clause-kept g c =
     let at_rest = subst (λ (w : Waiting). IsStanding (told s.disk) s.layout s.log s.pool s.marks w None) empty standing in
     let clean : AreClean s.pool = subst (λ (x : LoggedState g.row.D.Denot). AreClean x.pool) (sym c.self.view_is) c.requires.clean in
     let stable : IsStable (told s.disk) = subst (λ (x : LoggedState g.row.D.Denot). IsStable (told x.disk)) (sym c.self.view_is) c.requires.stable in
-    subst (λ (x : LoggedState g.row.D.Denot). Keeps told (store_of told x) (store_of told (record { disk = c.switch.new.disk; layout = s.layout; log = c.switch.new.self; pool = s.pool; marks = s.marks; waiting = s.waiting; failed = Some c.faults.result }))) c.self.view_is
+    subst (λ (x : LoggedState g.row.D.Denot). KeptPages told (store_of told x) (store_of told (record { disk = c.switch.new.disk; layout = s.layout; log = c.switch.new.self; pool = s.pool; marks = s.marks; waiting = s.waiting; failed = Some c.faults.result }))) c.self.view_is
     (switch_keeps told laws c.no_change_begins_another.ensures s c.pages_fill_the_disk.ensures standing c.switch.new.disk c.switch.ensures.cause.later empty c.switch.new.self (all_false s.marks) s.marks (Some c.faults.result) clean stable (all_unmarked s.layout s.marks) (length_false s.marks) c.switch.ensures.any_moment c.switch.ensures.contents)

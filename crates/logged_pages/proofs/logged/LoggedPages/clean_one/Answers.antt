@@ -5,7 +5,7 @@ use Rattle.change_buffer.specs.Waiting.{Waiting, no_changes}
 use Rattle.opened_pages.specs.Opens.{OpensAs}
 use Rattle.pooled_pages.specs.ShownPages.{content_at, shown_pages}
 use Rattle.logged_pages.specs.Contents.{AddsOnly, HoldsAlike}
-use Rattle.logged_pages.specs.Keeps.{Keeps, Leaves, keeps_on}
+use Rattle.logged_pages.specs.KeptPages.{KeptPages, LeftStore, kept_on}
 use Rattle.logged_pages.specs.LoggedState.{LoggedState, store_of}
 use Rattle.logged_pages.specs.Room.{IsDurable}
 use Rattle.logged_pages.specs.Standing.{IsStanding}
@@ -38,7 +38,7 @@ returns-in-Ok-clause-kept g c =
     let standing = subst (λ (f : Option ℕ). IsStanding (told s.disk) s.layout s.log s.pool s.marks s.waiting f) none c.self.invariant in
     let sure : IsDurable s.log s.waiting c.durable-durable.result = subst (λ (x : LoggedState g.row.D.Denot). IsDurable x.log x.waiting c.durable-durable.result) (sym c.self.view_is) c.durable-durable.ensures in
     let all = one_cleaned told laws c.no_change_begins_another.ensures c.redo_forgets_a_page_begun_anew.ensures s c.pages_fill_the_disk.ensures standing c.clean_one.new.disk c.clean_one.ensures.cause.later c.clean_one.new.self c.durable-durable.result sure c.in-Ok.written c.in-Ok.ensures.cleans in
-    subst (λ (x : LoggedState g.row.D.Denot). Keeps told (store_of told x) (store_of told (record { disk = c.clean_one.new.disk; layout = s.layout; log = s.log; pool = c.clean_one.new.self; marks = s.marks; waiting = s.waiting; failed = s.failed }))) c.self.view_is
+    subst (λ (x : LoggedState g.row.D.Denot). KeptPages told (store_of told x) (store_of told (record { disk = c.clean_one.new.disk; layout = s.layout; log = s.log; pool = c.clean_one.new.self; marks = s.marks; waiting = s.waiting; failed = s.failed }))) c.self.view_is
     (all.keeps)
 
 pub returns-in-Ok-clause-alike : goal.returns-in-Ok-clause-alike
@@ -82,7 +82,7 @@ returns-in-Err-clause-kept g c =
     let standing = subst (λ (f : Option ℕ). IsStanding (told s.disk) s.layout s.log s.pool s.marks s.waiting f) none c.self.invariant in
     let sure : IsDurable s.log s.waiting c.durable-durable.result = subst (λ (x : LoggedState g.row.D.Denot). IsDurable x.log x.waiting c.durable-durable.result) (sym c.self.view_is) c.durable-durable.ensures in
     let all = failed_leaves told laws c.no_change_begins_another.ensures c.redo_forgets_a_page_begun_anew.ensures s c.pages_fill_the_disk.ensures standing c.clean_one.new.disk c.clean_one.ensures.cause.later c.clean_one.new.self c.durable-durable.result sure c.faults.result c.in-Err.ensures.cleans in
-    subst (λ (x : LoggedState g.row.D.Denot). Keeps told (store_of told x) (store_of told (record { disk = c.clean_one.new.disk; layout = s.layout; log = s.log; pool = c.clean_one.new.self; marks = s.marks; waiting = s.waiting; failed = Some c.faults.result }))) c.self.view_is
+    subst (λ (x : LoggedState g.row.D.Denot). KeptPages told (store_of told x) (store_of told (record { disk = c.clean_one.new.disk; layout = s.layout; log = s.log; pool = c.clean_one.new.self; marks = s.marks; waiting = s.waiting; failed = Some c.faults.result }))) c.self.view_is
     (all.keeps)
 
 pub returns-in-Err-clause-alike : goal.returns-in-Err-clause-alike

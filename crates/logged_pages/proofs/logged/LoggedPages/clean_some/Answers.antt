@@ -5,7 +5,7 @@ use Rattle.change_buffer.specs.Waiting.{Waiting, no_changes}
 use Rattle.opened_pages.specs.Opens.{OpensAs}
 use Rattle.pooled_pages.specs.ShownPages.{content_at, shown_pages}
 use Rattle.logged_pages.specs.Contents.{AddsOnly, HoldsAlike}
-use Rattle.logged_pages.specs.Keeps.{Keeps, Leaves, keeps_on}
+use Rattle.logged_pages.specs.KeptPages.{KeptPages, LeftStore, kept_on}
 use Rattle.logged_pages.specs.LoggedState.{LoggedState, store_of}
 use Rattle.logged_pages.specs.Room.{IsDurable}
 use Rattle.logged_pages.specs.Standing.{IsStanding}
@@ -17,19 +17,19 @@ use Rattle.logged_pages.proofs.logged.LoggedPages.clean_some.Goals as goal
 pub returns-in_err-flush-clause-kept : goal.returns-in_err-flush-clause-kept
 returns-in_err-flush-clause-kept g c =
     let told = g.D.Disk.told in
-    keeps_on told (store_of told c.args.self.now) (store_of told c.clean_one.new.self) (store_of told c.flush.new.self) c.clean_one.ensures.kept c.flush.ensures.kept
+    kept_on told (store_of told c.args.self.now) (store_of told c.clean_one.new.self) (store_of told c.flush.new.self) c.clean_one.ensures.kept c.flush.ensures.kept
 
 pub returns-in_err-clean_one-2-clause-kept : goal.returns-in_err-clean_one-2-clause-kept
 returns-in_err-clean_one-2-clause-kept g c =
     let told = g.D.Disk.told in
-    keeps_on told (store_of told c.args.self.now) (store_of told c.clean_one.new.self) (store_of told c.clean_one-2.new.self) c.clean_one.ensures.kept
-    (keeps_on told (store_of told c.clean_one.new.self) (store_of told c.flush.new.self) (store_of told c.clean_one-2.new.self) c.flush.ensures.kept c.clean_one-2.ensures.kept)
+    kept_on told (store_of told c.args.self.now) (store_of told c.clean_one.new.self) (store_of told c.clean_one-2.new.self) c.clean_one.ensures.kept
+    (kept_on told (store_of told c.clean_one.new.self) (store_of told c.flush.new.self) (store_of told c.clean_one-2.new.self) c.flush.ensures.kept c.clean_one-2.ensures.kept)
 
 pub returns-then-branch-2-clause-kept : goal.returns-then-branch-2-clause-kept
 returns-then-branch-2-clause-kept g c =
     let told = g.D.Disk.told in
-    keeps_on told (store_of told c.args.self.now) (store_of told c.clean_one.new.self) (store_of told c.clean_one-2.new.self) c.clean_one.ensures.kept
-    (keeps_on told (store_of told c.clean_one.new.self) (store_of told c.flush.new.self) (store_of told c.clean_one-2.new.self) c.flush.ensures.kept c.clean_one-2.ensures.kept)
+    kept_on told (store_of told c.args.self.now) (store_of told c.clean_one.new.self) (store_of told c.clean_one-2.new.self) c.clean_one.ensures.kept
+    (kept_on told (store_of told c.clean_one.new.self) (store_of told c.flush.new.self) (store_of told c.clean_one-2.new.self) c.flush.ensures.kept c.clean_one-2.ensures.kept)
 
 pub unreachable-requires : goal.unreachable-requires
 unreachable-requires g c =

@@ -5,7 +5,7 @@ use Rattle.change_buffer.specs.Waiting.{Waiting, no_changes}
 use Rattle.opened_pages.specs.Opens.{OpensAs}
 use Rattle.pooled_pages.specs.ShownPages.{content_at, shown_pages}
 use Rattle.logged_pages.specs.Contents.{AddsOnly, HoldsAlike}
-use Rattle.logged_pages.specs.Keeps.{Keeps, Leaves, keeps_on}
+use Rattle.logged_pages.specs.KeptPages.{KeptPages, LeftStore, kept_on}
 use Rattle.logged_pages.specs.LoggedState.{LoggedState, store_of}
 use Rattle.logged_pages.specs.Room.{IsDurable}
 use Rattle.logged_pages.specs.Standing.{IsStanding}
@@ -34,7 +34,7 @@ returns-in-Err-clause-kept g c =
     let standing = subst (λ (f : Option ℕ). IsStanding (told s.disk) s.layout s.log s.pool s.marks s.waiting f) none c.self.invariant in
     let same : told c.read_page.new.disk ≡ record (told s.disk) { faults = (told c.read_page.new.disk).faults } = c.read_page.ensures.same in
     let later = c.read_page.ensures.cause.later in
-    subst (λ (x : LoggedState g.row.D.Denot). Keeps told (store_of told x) (store_of told (record { disk = c.read_page.new.disk; layout = s.layout; log = s.log; pool = s.pool; marks = s.marks; waiting = s.waiting; failed = Some c.faults.result }))) c.self.view_is
+    subst (λ (x : LoggedState g.row.D.Denot). KeptPages told (store_of told x) (store_of told (record { disk = c.read_page.new.disk; layout = s.layout; log = s.log; pool = s.pool; marks = s.marks; waiting = s.waiting; failed = Some c.faults.result }))) c.self.view_is
     (read_keeps told laws s c.read_page.new.disk (Some c.faults.result) same later)
 
 pub invariant_of-self-in_default : goal.invariant_of-self-in_default
@@ -59,7 +59,7 @@ returns-in-Ok-clause-kept g c =
     let standing = subst (λ (f : Option ℕ). IsStanding (told s.disk) s.layout s.log s.pool s.marks s.waiting f) none c.self.invariant in
     let same : told c.read_page.new.disk ≡ record (told s.disk) { faults = (told c.read_page.new.disk).faults } = c.read_page.ensures.same in
     let later = c.read_page.ensures.cause.later in
-    subst (λ (x : LoggedState g.row.D.Denot). Keeps told (store_of told x) (store_of told (record { disk = c.read_page.new.disk; layout = s.layout; log = s.log; pool = s.pool; marks = s.marks; waiting = s.waiting; failed = s.failed }))) c.self.view_is
+    subst (λ (x : LoggedState g.row.D.Denot). KeptPages told (store_of told x) (store_of told (record { disk = c.read_page.new.disk; layout = s.layout; log = s.log; pool = s.pool; marks = s.marks; waiting = s.waiting; failed = s.failed }))) c.self.view_is
     (read_keeps told laws s c.read_page.new.disk s.failed same later)
 
 pub returns-in-Ok-clause-page : goal.returns-in-Ok-clause-page
@@ -86,7 +86,7 @@ returns-in-Err-check-clause-kept g c =
     let standing = subst (λ (f : Option ℕ). IsStanding (told s.disk) s.layout s.log s.pool s.marks s.waiting f) none c.self.invariant in
     let same : told c.read_page.new.disk ≡ record (told s.disk) { faults = (told c.read_page.new.disk).faults } = c.read_page.ensures.same in
     let later = c.read_page.ensures.cause.later in
-    subst (λ (x : LoggedState g.row.D.Denot). Keeps told (store_of told x) (store_of told (record { disk = c.read_page.new.disk; layout = s.layout; log = s.log; pool = s.pool; marks = s.marks; waiting = s.waiting; failed = s.failed }))) c.self.view_is
+    subst (λ (x : LoggedState g.row.D.Denot). KeptPages told (store_of told x) (store_of told (record { disk = c.read_page.new.disk; layout = s.layout; log = s.log; pool = s.pool; marks = s.marks; waiting = s.waiting; failed = s.failed }))) c.self.view_is
     (read_keeps told laws s c.read_page.new.disk s.failed same later)
 
 pub returns-in-Err-check-clause-outcome : goal.returns-in-Err-check-clause-outcome

@@ -5,7 +5,7 @@ use Rattle.change_buffer.specs.Waiting.{Waiting, no_changes}
 use Rattle.opened_pages.specs.Opens.{OpensAs}
 use Rattle.pooled_pages.specs.ShownPages.{content_at, shown_pages}
 use Rattle.logged_pages.specs.Contents.{AddsOnly, HoldsAlike}
-use Rattle.logged_pages.specs.Keeps.{Keeps, Leaves, keeps_on}
+use Rattle.logged_pages.specs.KeptPages.{KeptPages, LeftStore, kept_on}
 use Rattle.logged_pages.specs.LoggedState.{LoggedState, store_of}
 use Rattle.logged_pages.specs.Room.{IsDurable}
 use Rattle.logged_pages.specs.Standing.{IsStanding}

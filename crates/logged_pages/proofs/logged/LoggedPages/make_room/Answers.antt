@@ -5,7 +5,7 @@ use Rattle.change_buffer.specs.Waiting.{Waiting, no_changes}
 use Rattle.opened_pages.specs.Opens.{OpensAs}
 use Rattle.pooled_pages.specs.ShownPages.{content_at, shown_pages}
 use Rattle.logged_pages.specs.Contents.{AddsOnly, HoldsAlike}
-use Rattle.logged_pages.specs.Keeps.{Keeps, Leaves, keeps_on}
+use Rattle.logged_pages.specs.KeptPages.{KeptPages, LeftStore, kept_on}
 use Rattle.logged_pages.specs.LoggedState.{LoggedState, store_of}
 use Rattle.logged_pages.specs.Room.{IsDurable}
 use Rattle.logged_pages.specs.Standing.{IsStanding}
@@ -16,4 +16,4 @@ use Rattle.logged_pages.proofs.logged.LoggedPages.make_room.Goals as goal
 pub returns-clause-kept : goal.returns-clause-kept
 returns-clause-kept g c =
     let told = g.D.Disk.told in
-    keeps_on told (store_of told c.args.self.now) (store_of told c.make_buffer_room.new.self) (store_of told c.make_log_room.new.self) c.make_buffer_room.ensures.kept c.make_log_room.ensures.kept
+    kept_on told (store_of told c.args.self.now) (store_of told c.make_buffer_room.new.self) (store_of told c.make_log_room.new.self) c.make_buffer_room.ensures.kept c.make_log_room.ensures.kept

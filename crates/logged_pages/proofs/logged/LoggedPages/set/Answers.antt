@@ -5,7 +5,7 @@ use Rattle.change_buffer.specs.Waiting.{Waiting, no_changes}
 use Rattle.opened_pages.specs.Opens.{OpensAs}
 use Rattle.pooled_pages.specs.ShownPages.{content_at, shown_pages}
 use Rattle.logged_pages.specs.Contents.{AddsOnly, HoldsAlike}
-use Rattle.logged_pages.specs.Keeps.{Keeps, Leaves, keeps_on}
+use Rattle.logged_pages.specs.KeptPages.{KeptPages, LeftStore, kept_on}
 use Rattle.logged_pages.specs.LoggedState.{LoggedState, store_of}
 use Rattle.logged_pages.specs.Room.{IsDurable}
 use Rattle.logged_pages.specs.Standing.{IsStanding}
@@ -52,7 +52,7 @@ returns-clause-kept g c =
     let passes = subst (λ (x : LoggedState g.row.D.Denot). IsPageIn x.layout c.args.place.relation c.args.page.now) (sym c.self.view_is) c.requires.passes in
     let sets = subst (λ (n : ℕ). SetsPage s.pool n (record { content = c.args.page.now; log = None }) c.set.new.self) c.number_of-number.ensures.number c.in_default.ensures.set in
     let all = set_leaves told laws s c.pages_fill_the_disk.ensures standing c.args.place is c.args.page.now c.known.ensures.whole passes absent stored c.set.new.self sets in
-    subst (λ (x : LoggedState g.row.D.Denot). Keeps told (store_of told x) (store_of told (record { disk = s.disk; layout = s.layout; log = s.log; pool = c.set.new.self; marks = s.marks; waiting = s.waiting; failed = s.failed }))) c.self.view_is
+    subst (λ (x : LoggedState g.row.D.Denot). KeptPages told (store_of told x) (store_of told (record { disk = s.disk; layout = s.layout; log = s.log; pool = c.set.new.self; marks = s.marks; waiting = s.waiting; failed = s.failed }))) c.self.view_is
     (all.keeps)
 
 pub returns-clause-held : goal.returns-clause-held

@@ -5,7 +5,7 @@ use Rattle.change_buffer.specs.Waiting.{Waiting, no_changes}
 use Rattle.opened_pages.specs.Opens.{OpensAs}
 use Rattle.pooled_pages.specs.ShownPages.{content_at, shown_pages}
 use Rattle.logged_pages.specs.Contents.{AddsOnly, HoldsAlike}
-use Rattle.logged_pages.specs.Keeps.{Keeps, Leaves, keeps_on}
+use Rattle.logged_pages.specs.KeptPages.{KeptPages, LeftStore, kept_on}
 use Rattle.logged_pages.specs.LoggedState.{LoggedState, store_of}
 use Rattle.logged_pages.specs.Room.{IsDurable}
 use Rattle.logged_pages.specs.Standing.{IsStanding}
@@ -39,7 +39,7 @@ returns-in-Ok-clause-kept g c =
     let s : LoggedState g.row.D.Denot = record { disk = c.self.inside.disk; layout = c.self.inside.layout; log = c.self.inside.log; pool = c.self.inside.pool; marks = c.self.inside.marks.items; waiting = c.self.inside.waiting; failed = c.self.inside.failed } in
     let none : s.failed ≡ None = ap (λ (x : LoggedState g.row.D.Denot). x.failed) c.self.view_is ∙ c.requires.failed in
     let standing = subst (λ (f : Option ℕ). IsStanding (told s.disk) s.layout s.log s.pool s.marks s.waiting f) none c.self.invariant in
-    subst (λ (x : LoggedState g.row.D.Denot). Keeps told (store_of told x) (store_of told (record { disk = c.sync.new.self; layout = s.layout; log = s.log; pool = s.pool; marks = s.marks; waiting = s.waiting; failed = s.failed }))) c.self.view_is
+    subst (λ (x : LoggedState g.row.D.Denot). KeptPages told (store_of told x) (store_of told (record { disk = c.sync.new.self; layout = s.layout; log = s.log; pool = s.pool; marks = s.marks; waiting = s.waiting; failed = s.failed }))) c.self.view_is
     (sync_keeps told laws c.no_change_begins_another.ensures s c.pages_fill_the_disk.ensures standing c.sync.new.self c.sync.ensures.cause.later s.failed c.sync.ensures.same c.sync.ensures.images c.sync.ensures.moments)
 
 pub returns-in-Err-clause-kept : goal.returns-in-Err-clause-kept
@@ -49,5 +49,5 @@ returns-in-Err-clause-kept g c =
     let s : LoggedState g.row.D.Denot = record { disk = c.self.inside.disk; layout = c.self.inside.layout; log = c.self.inside.log; pool = c.self.inside.pool; marks = c.self.inside.marks.items; waiting = c.self.inside.waiting; failed = c.self.inside.failed } in
     let none : s.failed ≡ None = ap (λ (x : LoggedState g.row.D.Denot). x.failed) c.self.view_is ∙ c.requires.failed in
     let standing = subst (λ (f : Option ℕ). IsStanding (told s.disk) s.layout s.log s.pool s.marks s.waiting f) none c.self.invariant in
-    subst (λ (x : LoggedState g.row.D.Denot). Keeps told (store_of told x) (store_of told (record { disk = c.sync.new.self; layout = s.layout; log = s.log; pool = s.pool; marks = s.marks; waiting = s.waiting; failed = Some c.faults.result }))) c.self.view_is
+    subst (λ (x : LoggedState g.row.D.Denot). KeptPages told (store_of told x) (store_of told (record { disk = c.sync.new.self; layout = s.layout; log = s.log; pool = s.pool; marks = s.marks; waiting = s.waiting; failed = Some c.faults.result }))) c.self.view_is
     (sync_keeps told laws c.no_change_begins_another.ensures s c.pages_fill_the_disk.ensures standing c.sync.new.self c.sync.ensures.cause.later (Some c.faults.result) c.sync.ensures.same c.sync.ensures.images c.sync.ensures.moments)

@@ -5,7 +5,7 @@ use Rattle.change_buffer.specs.Waiting.{Waiting, no_changes}
 use Rattle.opened_pages.specs.Opens.{OpensAs}
 use Rattle.pooled_pages.specs.ShownPages.{content_at, shown_pages}
 use Rattle.logged_pages.specs.Contents.{AddsOnly, HoldsAlike}
-use Rattle.logged_pages.specs.Keeps.{Keeps, Leaves, keeps_on}
+use Rattle.logged_pages.specs.KeptPages.{KeptPages, LeftStore, kept_on}
 use Rattle.logged_pages.specs.LoggedState.{LoggedState, store_of}
 use Rattle.logged_pages.specs.Room.{IsDurable}
 use Rattle.logged_pages.specs.Standing.{IsStanding}
@@ -44,7 +44,7 @@ returns-in-Ok-clause-kept g c =
     let dirty = subst (λ (x : LoggedState g.row.D.Denot). (log : ℕ) × IsDirty x.pool c.args.number log) (sym c.self.view_is) c.requires.dirty in
     let all = page_cleaned told laws c.no_change_begins_another.ensures c.redo_forgets_a_page_begun_anew.ensures s c.pages_fill_the_disk.ensures standing c.clean.new.disk c.clean.ensures.cause.later c.clean.new.self (c.used-durable.result + 1) sure c.args.number c.in-Ok.field-0 c.in-Ok.ensures.cleans
     (λ log it. omega (arith, standing.waits c.args.number log it.0 it.1 it.2, c.used-durable.ensures.used)) dirty.0 dirty.1 in
-    subst (λ (x : LoggedState g.row.D.Denot). Keeps told (store_of told x) (store_of told (record { disk = c.clean.new.disk; layout = s.layout; log = s.log; pool = c.clean.new.self; marks = s.marks; waiting = s.waiting; failed = s.failed }))) c.self.view_is
+    subst (λ (x : LoggedState g.row.D.Denot). KeptPages told (store_of told x) (store_of told (record { disk = c.clean.new.disk; layout = s.layout; log = s.log; pool = c.clean.new.self; marks = s.marks; waiting = s.waiting; failed = s.failed }))) c.self.view_is
     (all.0.keeps)
 
 pub returns-in-Ok-clause-alike : goal.returns-in-Ok-clause-alike
@@ -113,7 +113,7 @@ returns-in-Err-clause-kept g c =
     let sure : IsDurable s.log s.waiting (c.used-durable.result + 1) = inr (empty, ap (λ (n : ℕ). n + 1) c.used-durable.ensures.used) in
     let dirty = subst (λ (x : LoggedState g.row.D.Denot). (log : ℕ) × IsDirty x.pool c.args.number log) (sym c.self.view_is) c.requires.dirty in
     let all = page_failed told laws c.no_change_begins_another.ensures c.redo_forgets_a_page_begun_anew.ensures s c.pages_fill_the_disk.ensures standing c.clean.new.disk c.clean.ensures.cause.later c.clean.new.self (c.used-durable.result + 1) sure c.args.number c.faults.result c.in-Err.field-0 c.in-Err.ensures.cleans in
-    subst (λ (x : LoggedState g.row.D.Denot). Keeps told (store_of told x) (store_of told (record { disk = c.clean.new.disk; layout = s.layout; log = s.log; pool = c.clean.new.self; marks = s.marks; waiting = s.waiting; failed = Some c.faults.result }))) c.self.view_is
+    subst (λ (x : LoggedState g.row.D.Denot). KeptPages told (store_of told x) (store_of told (record { disk = c.clean.new.disk; layout = s.layout; log = s.log; pool = c.clean.new.self; marks = s.marks; waiting = s.waiting; failed = Some c.faults.result }))) c.self.view_is
     (all.keeps)
 
 pub returns-in-Err-clause-alike : goal.returns-in-Err-clause-alike

@@ -5,7 +5,7 @@ use Rattle.change_buffer.specs.Waiting.{Waiting, no_changes}
 use Rattle.opened_pages.specs.Opens.{OpensAs}
 use Rattle.pooled_pages.specs.ShownPages.{content_at, shown_pages}
 use Rattle.logged_pages.specs.Contents.{AddsOnly, HoldsAlike}
-use Rattle.logged_pages.specs.Keeps.{Keeps, Leaves, keeps_on}
+use Rattle.logged_pages.specs.KeptPages.{KeptPages, LeftStore, kept_on}
 use Rattle.logged_pages.specs.LoggedState.{LoggedState, store_of}
 use Rattle.logged_pages.specs.Room.{IsDurable}
 use Rattle.logged_pages.specs.Standing.{IsStanding}
@@ -34,10 +34,10 @@ pub pages-preserved : goal.pages-preserved
 pages-preserved g c =
     let told = g.D.Disk.told in
     let laws : DiskLaws told = record { need = g.met.D.Disk.images_need_contents; counts = g.met.D.Disk.now_is_since; only = g.met.D.Disk.since_now_is_now; fit = g.met.D.Disk.contents_fit } in
-    let mid : Keeps told (store_of told c.args.self.now) (store_of told c.next_dirty.new.self) = subst (λ (x : LoggedState g.row.D.Denot). Keeps told (store_of told c.args.self.now) (store_of told x)) (sym c.next_dirty.ensures.same) c.pages.invariant.kept in
+    let mid : KeptPages told (store_of told c.args.self.now) (store_of told c.next_dirty.new.self) = subst (λ (x : LoggedState g.row.D.Denot). KeptPages told (store_of told c.args.self.now) (store_of told x)) (sym c.next_dirty.ensures.same) c.pages.invariant.kept in
     let same = c.next_dirty.ensures.same in
     record {
-      kept = keeps_on told (store_of told c.args.self.now) (store_of told c.next_dirty.new.self) (store_of told c.write.new.self) mid c.write.ensures.kept;
+      kept = kept_on told (store_of told c.args.self.now) (store_of told c.next_dirty.new.self) (store_of told c.write.new.self) mid c.write.ensures.kept;
       failed = c.in_ok-write.ensures.outcome.1;
       empty = c.write.ensures.empty;
       marks = c.write.ensures.marks ∙ ap (λ (x : LoggedState g.row.D.Denot). x.marks) same ∙ c.pages.invariant.marks;
@@ -50,9 +50,9 @@ pub returns-in_err-write-clause-kept : goal.returns-in_err-write-clause-kept
 returns-in_err-write-clause-kept g c =
     let told = g.D.Disk.told in
     let laws : DiskLaws told = record { need = g.met.D.Disk.images_need_contents; counts = g.met.D.Disk.now_is_since; only = g.met.D.Disk.since_now_is_now; fit = g.met.D.Disk.contents_fit } in
-    let mid : Keeps told (store_of told c.args.self.now) (store_of told c.next_dirty.new.self) = subst (λ (x : LoggedState g.row.D.Denot). Keeps told (store_of told c.args.self.now) (store_of told x)) (sym c.next_dirty.ensures.same) c.pages.invariant.kept in
+    let mid : KeptPages told (store_of told c.args.self.now) (store_of told c.next_dirty.new.self) = subst (λ (x : LoggedState g.row.D.Denot). KeptPages told (store_of told c.args.self.now) (store_of told x)) (sym c.next_dirty.ensures.same) c.pages.invariant.kept in
     let same = c.next_dirty.ensures.same in
-    keeps_on told (store_of told c.args.self.now) (store_of told c.next_dirty.new.self) (store_of told c.write.new.self) mid c.write.ensures.kept
+    kept_on told (store_of told c.args.self.now) (store_of told c.next_dirty.new.self) (store_of told c.write.new.self) mid c.write.ensures.kept
 
 pub returns-in_err-write-clause-alike : goal.returns-in_err-write-clause-alike
 returns-in_err-write-clause-alike g c =
@@ -62,9 +62,9 @@ pub returns-clause-kept : goal.returns-clause-kept
 returns-clause-kept g c =
     let told = g.D.Disk.told in
     let laws : DiskLaws told = record { need = g.met.D.Disk.images_need_contents; counts = g.met.D.Disk.now_is_since; only = g.met.D.Disk.since_now_is_now; fit = g.met.D.Disk.contents_fit } in
-    let mid : Keeps told (store_of told c.args.self.now) (store_of told c.next_dirty.new.self) = subst (λ (x : LoggedState g.row.D.Denot). Keeps told (store_of told c.args.self.now) (store_of told x)) (sym c.next_dirty.ensures.same) c.pages.invariant.kept in
+    let mid : KeptPages told (store_of told c.args.self.now) (store_of told c.next_dirty.new.self) = subst (λ (x : LoggedState g.row.D.Denot). KeptPages told (store_of told c.args.self.now) (store_of told x)) (sym c.next_dirty.ensures.same) c.pages.invariant.kept in
     let same = c.next_dirty.ensures.same in
-    keeps_on told (store_of told c.args.self.now) (store_of told c.next_dirty.new.self) (store_of told c.sync.new.self) mid c.sync.ensures.kept
+    kept_on told (store_of told c.args.self.now) (store_of told c.next_dirty.new.self) (store_of told c.sync.new.self) mid c.sync.ensures.kept
 
 pub returns-clause-alike : goal.returns-clause-alike
 returns-clause-alike g c =

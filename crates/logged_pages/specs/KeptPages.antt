@@ -8,22 +8,22 @@ use Rattle.page_store.specs.PageMap.{PageMap, View}
 use Rattle.page_store.specs.Keeps.{Tells}
 use Rattle.opened_pages.specs.Opens.{OpensAs}
 use Rattle.opened_pages.specs.Reaches.{OpensToOr, Reaches}
-use Rattle.logged_pages.specs.Survives.{Survives}
+use Rattle.logged_pages.specs.KeptPages.{PagesSurvive}
 
 -- What every call leaves, whether it changes pages or not: the layout, and whether the disk tells its contents. Its count of
 -- faults doesn't fall. No image loses what was made sure.
-pub record Leaves {D : Type 0} (told : D → Told) (old new : View D) : Type 0 where
+pub record LeftStore {D : Type 0} (told : D → Told) (old new : View D) : Type 0 where
   pub layout : new.layout ≡ old.layout
   pub tells : (told new.disk).tells_contents ≡ (told old.disk).tells_contents
   pub faults : (told old.disk).faults ≤ (told new.disk).faults
-  pub survives : Survives told old new
+  pub survives : PagesSurvive told old new
 
 -- a call that changes no page leaves them too, where the disk tells its contents
-pub record Keeps {D : Type 0} (told : D → Told) (old new : View D) : Type 0 where
-  pub leaves : Leaves told old new
+pub record KeptPages {D : Type 0} (told : D → Told) (old new : View D) : Type 0 where
+  pub leaves : LeftStore told old new
   pub pages : Tells told old → new.pages ≡ old.pages
 
-module _ {D : Type 0} (told : D → Told) (old mid new : View D) (first : Keeps told old mid) (second : Leaves told mid new) where
+module _ {D : Type 0} (told : D → Told) (old mid new : View D) (first : KeptPages told old mid) (second : LeftStore told mid new) where
   -- what was reached from the store in between is reached from the first one
   further : (image : List ℕ) → Reaches mid.layout (told mid.disk) mid.pages image → Reaches old.layout (told old.disk) old.pages image
   further image there =
@@ -39,7 +39,7 @@ module _ {D : Type 0} (told : D → Told) (old mid new : View D) (first : Keeps 
             (λ (was : (others : PageMap) → OpensAs old.layout come.0 others → OpensAs old.layout there.0 others). inr (λ others opens. more others (was others opens))) come.2) step,
       )
 
-  survives_on : Survives told old new
+  survives_on : PagesSurvive told old new
   survives_on = record {
     moments = record {
       size = second.survives.moments.size ∙ first.leaves.survives.moments.size;
@@ -57,8 +57,8 @@ module _ {D : Type 0} (told : D → Told) (old mid new : View D) (first : Keeps 
   }
 
   -- a call that changes no page, and then any call
-  pub keeps_then : Leaves told old new
-  keeps_then = record {
+  pub kept_then : LeftStore told old new
+  kept_then = record {
     layout = second.layout ∙ first.leaves.layout;
     tells = second.tells ∙ first.leaves.tells;
     faults = omega (arith, second.faults, first.leaves.faults);
@@ -66,8 +66,8 @@ module _ {D : Type 0} (told : D → Told) (old mid new : View D) (first : Keeps 
   }
 
 -- two calls that change no page
-pub keeps_on : {D : Type 0} (told : D → Told) (old mid new : View D) → Keeps told old mid → Keeps told mid new → Keeps told old new
-keeps_on told old mid new first second = record {
-  leaves = keeps_then told old mid new first second.leaves;
+pub kept_on : {D : Type 0} (told : D → Told) (old mid new : View D) → KeptPages told old mid → KeptPages told mid new → KeptPages told old new
+kept_on told old mid new first second = record {
+  leaves = kept_then told old mid new first second.leaves;
   pages = λ tells. second.pages (first.leaves.tells ∙ tells) ∙ first.pages tells;
 }
