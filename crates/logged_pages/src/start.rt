@@ -6,6 +6,7 @@ ghost use Rattle.page_store.specs.Keeps.{Tells};
 ghost use Rattle.opened_pages.specs.Opens.{OpensAs};
 ghost use Rattle.opened_pages.specs.PageOrder.{AreInOrder};
 ghost use Rattle.opened_pages.specs.Reaches.{OpensAsBefore};
+ghost use Rattle.store_opening.specs.StartCauses.{HasStore};
 ghost use Rattle.logged_pages.specs.Refused.{IsRefused};
 
 use crate::forms::forms_of;
@@ -26,6 +27,8 @@ impl<D: Disk + Drop> PageStore<D> {
     /// back with each refusal.
     pub fn start(alloc: Global, disk: D) -> Result<PageStore<D>, (StartFault, D)>
         ensures pages { IfOk result (λ store. IsTrue (D.told disk).tells_contents → OpensAs store.layout (D.told disk).contents store.pages) }
+        // So the disk has a store of this layout, and a refusal comes exactly where it has none or a damaged one.
+        ensures there { IfOk result (λ store. IsTrue (D.told disk).tells_contents → HasStore store.layout (D.told disk).size (D.told disk).contents) }
         ensures order { IfOk result (λ store. Tells D.told store → AreInOrder store.layout store.pages) }
         // Whatever a crash leaves now opens to these pages.
         ensures sure { IfOk result (λ store. (image : List ℕ) → IsTrue ((D.told store.disk).now image) → OpensAs store.layout image store.pages) }

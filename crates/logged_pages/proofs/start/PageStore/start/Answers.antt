@@ -8,6 +8,7 @@ use Rattle.opened_pages.specs.Opens.{OpensAs}
 use Rattle.opened_pages.specs.PageOrder.{AreInOrder}
 use Rattle.opened_pages.specs.Reaches.{OpensAsBefore}
 use Rattle.change_buffer.specs.Waiting.{Waiting}
+use Rattle.store_opening.specs.StartCauses.{HasStore}
 use Rattle.store_opening.specs.declared.opening.Opened.{Opened}
 use Rattle.logged_pages.specs.LoggedState.{LoggedState, store_of}
 use Rattle.logged_pages.specs.Standing.{IsStanding}
@@ -35,6 +36,12 @@ pub returns-clause-pages : goal.returns-clause-pages
 returns-clause-pages g c = λ tells.
     let old = g.D.Disk.told c.args.disk in
     subst (λ (v : View g.row.D.Denot). OpensAs v.layout old.contents v.pages) (sym (c.of_parts.ensures ∙ ap (store_of g.D.Disk.told) c.of_parts-pages.ensures)) (c.in-Ok.ensures.pages tells)
+
+pub returns-clause-there : goal.returns-clause-there
+returns-clause-there g c =
+    let old = g.D.Disk.told c.args.disk in
+    subst (λ (v : View g.row.D.Denot). IsTrue old.tells_contents → HasStore v.layout old.size old.contents) (sym (c.of_parts.ensures ∙ ap (store_of g.D.Disk.told) c.of_parts-pages.ensures))
+    (λ tells. record { control = (c.in-Ok.ensures.pages tells).control; sized = sym c.in-Ok.ensures.opened.size ∙ c.open.ensures.any_moment.size })
 
 pub returns-clause-order : goal.returns-clause-order
 returns-clause-order g c =
