@@ -59,9 +59,9 @@ fn shown(alloc: Global, disk: &MemoryDisk) -> Option<(Vec<u8>, Vec<u8>)> {
 
 /// Three pages are changed, one of them twice; two flushes and a checkpoint.
 fn three_pages(store: &mut PageStore<MemoryDisk>) -> Option<()> {
+    set_status(store, 1)?;
     start_heap(store, 1)?;
     start_heap(store, 0)?;
-    set_status(store, 1)?;
     set_status(store, 1)?;
     store.flush().ok()?;
     store.flush().ok()?;

@@ -1,6 +1,6 @@
 //! Stores that are opened again.
 
-use crate::stores::{STATUSES, disk_of, formatted, layout, set_status};
+use crate::stores::{STATUSES, byte_at, disk_of, formatted, layout, set_status};
 use disk_trait::{Disk, MemoryDisk};
 use logged_pages::PageStore;
 use std::alloc::Global;
@@ -39,17 +39,11 @@ fn statuses(alloc: Global, image: Vec<u8>) -> Option<u8> {
         Ok(store) => store,
         Err(_) => return None,
     };
-    if store.layout().sizes().status_blocks != 1 {
-        return None;
-    }
-    match store.read(STATUSES) {
-        Ok(page) => page.as_bytes().get(32).copied(),
-        Err(_) => None,
-    }
+    byte_at(&mut store, STATUSES, 32)
 }
 
 /// Whether a store that opens to these statuses has lost none of so many steps, and has the changes of no other.
-fn fits(done: u8, statuses: u8) -> bool {
+fn has_all(done: u8, statuses: u8) -> bool {
     match done {
         0 => statuses == 0 || statuses == 4,
         1 => statuses == 4 || statuses == 20,
@@ -68,7 +62,7 @@ fn a_store_opens_again_with_what_was_flushed(rt: HostRuntime) -> Result<(), Fail
         for pick in 0..4u64 {
             let left = disk.image(pick)?;
             let found = statuses(alloc, left).ok_or("store")?;
-            assert_eq!(rt; (call, pick, fits(done, found)), (call, pick, true));
+            assert_eq!(rt; (call, pick, has_all(done, found)), (call, pick, true));
         }
         most = done;
     }

@@ -85,6 +85,17 @@ pub fn make(store: &mut PageStore<MemoryDisk>, place: Place, change: &Change<'_>
     store.change(place, change).ok()
 }
 
+/// A byte of the page at the place.
+pub fn byte_at(store: &mut PageStore<MemoryDisk>, place: Place, at: usize) -> Option<u8> {
+    if !has_place(store.layout(), place) {
+        return None;
+    }
+    match store.read(place) {
+        Ok(page) => page.as_bytes().get(at).copied(),
+        Err(_) => None,
+    }
+}
+
 /// The transaction of that number is begun.
 pub fn set_status(store: &mut PageStore<MemoryDisk>, entry: u16) -> Option<()> {
     let place = STATUSES;
