@@ -16,3 +16,4 @@ pub mod FullPool
 pub mod HeldSteps
 pub mod StoreReads
 pub mod KnownSteps
+pub mod RoomSteps

@@ -36,9 +36,11 @@ use Rattle.logged_pages.proofs.KnownSteps.{known_added, known_changed, known_kep
 use Rattle.logged_pages.specs.Noted.{MadeOfFacts, NotesHeld, noted}
 use Rattle.logged_pages.proofs.change.make.Goals as goal
 
-pub index-form-requires : goal.index-form-requires
-index-form-requires g c =
-    omega (arith, c.requires.place.relation, forms_count c.args.pages.now.layout, ap (length {A = Form}) c.requires.forms, c.from.ensures)
+pub form_at-requires-clause-relation : goal.form_at-requires-clause-relation
+form_at-requires-clause-relation g c = subst (λ (l : DiskLayout). c.args.place.relation < length (relation_blocks l)) (sym c.layout-2.ensures) c.requires.place.relation
+
+pub form_at-requires-clause-forms : goal.form_at-requires-clause-forms
+form_at-requires-clause-forms g c = c.requires.forms ∙ ap forms_of (sym c.layout-2.ensures)
 
 pub make-requires-clause-form : goal.make-requires-clause-form
 make-requires-clause-form g c =
@@ -47,7 +49,7 @@ make-requires-clause-form g c =
     let facts = c.args.facts.now.items in
     let forms = c.args.forms.now.items in
     let place = c.args.place in
-    let own : c.index-form.result.now ≡ form_of old.layout place.relation = get_or_read forms _ _ (omega (arith, c.requires.place.relation, forms_count c.args.pages.now.layout, ap (length {A = Form}) c.requires.forms)) (c.index-form.ensures ∙ ap (λ (k : ℕ). get_or forms k c.index-form.result.now) c.from.ensures) forms_ix.Index ∙ ap (λ (l : List Form). get_or l c.args.place.relation forms_ix.Index) c.requires.forms in
+    let own : c.form_at-form.result.now ≡ form_of old.layout place.relation = c.form_at-form.ensures.form ∙ ap (λ (l : DiskLayout). form_of l c.args.place.relation) c.layout-2.ensures in
     own
 
 pub make-requires-clause-is : goal.make-requires-clause-is
@@ -57,9 +59,8 @@ make-requires-clause-is g c =
     let facts = c.args.facts.now.items in
     let forms = c.args.forms.now.items in
     let place = c.args.place in
-    let own : c.index-form.result.now ≡ form_of old.layout place.relation = get_or_read forms _ _ (omega (arith, c.requires.place.relation, forms_count c.args.pages.now.layout, ap (length {A = Form}) c.requires.forms)) (c.index-form.ensures ∙ ap (λ (k : ℕ). get_or forms k c.index-form.result.now) c.from.ensures) forms_ix.Index ∙ ap (λ (l : List Form). get_or l c.args.place.relation forms_ix.Index) c.requires.forms in
-    let tables = subst (λ (l : DiskLayout). All HasForm l.schema.tables) c.layout.ensures c.tables_have_forms.ensures.forms in
-    subst IsForm (sym own) (each_form old.layout tables place.relation)
+    let own : c.form_at-form.result.now ≡ form_of old.layout place.relation = c.form_at-form.ensures.form ∙ ap (λ (l : DiskLayout). form_of l c.args.place.relation) c.layout-2.ensures in
+    c.form_at-form.ensures.is
 
 pub note_changed-requires-clause-form : goal.note_changed-requires-clause-form
 note_changed-requires-clause-form g c =
@@ -68,9 +69,8 @@ note_changed-requires-clause-form g c =
     let facts = c.args.facts.now.items in
     let forms = c.args.forms.now.items in
     let place = c.args.place in
-    let own : c.index-form.result.now ≡ form_of old.layout place.relation = get_or_read forms _ _ (omega (arith, c.requires.place.relation, forms_count c.args.pages.now.layout, ap (length {A = Form}) c.requires.forms)) (c.index-form.ensures ∙ ap (λ (k : ℕ). get_or forms k c.index-form.result.now) c.from.ensures) forms_ix.Index ∙ ap (λ (l : List Form). get_or l c.args.place.relation forms_ix.Index) c.requires.forms in
-    let tables = subst (λ (l : DiskLayout). All HasForm l.schema.tables) c.layout.ensures c.tables_have_forms.ensures.forms in
-    subst IsForm (sym own) (each_form old.layout tables place.relation)
+    let own : c.form_at-form.result.now ≡ form_of old.layout place.relation = c.form_at-form.ensures.form ∙ ap (λ (l : DiskLayout). form_of l c.args.place.relation) c.layout-2.ensures in
+    c.form_at-form.ensures.is
 
 pub note_changed-requires-clause-held : goal.note_changed-requires-clause-held
 note_changed-requires-clause-held g c =
@@ -79,7 +79,7 @@ note_changed-requires-clause-held g c =
     let facts = c.args.facts.now.items in
     let forms = c.args.forms.now.items in
     let place = c.args.place in
-    let own : c.index-form.result.now ≡ form_of old.layout place.relation = get_or_read forms _ _ (omega (arith, c.requires.place.relation, forms_count c.args.pages.now.layout, ap (length {A = Form}) c.requires.forms)) (c.index-form.ensures ∙ ap (λ (k : ℕ). get_or forms k c.index-form.result.now) c.from.ensures) forms_ix.Index ∙ ap (λ (l : List Form). get_or l c.args.place.relation forms_ix.Index) c.requires.forms in
+    let own : c.form_at-form.result.now ≡ form_of old.layout place.relation = c.form_at-form.ensures.form ∙ ap (λ (l : DiskLayout). form_of l c.args.place.relation) c.layout-2.ensures in
     let new = c.make.new.self in
     let layout : new.layout ≡ old.layout = c.make.ensures.leaves.layout in
     let made = c.in-Ok.ensures.made in
@@ -92,7 +92,7 @@ note_changed-requires-clause-held g c =
         before = made.before;
         known = c.facts_of_place-old.ensures ∙ known;
         fits = made.redone.2;
-        means = redone_once c.index-form.result.now made.before (logged c.args.change.now) made.after made.redone;
+        means = redone_once c.form_at-form.result.now made.before (logged c.args.change.now) made.after made.redone;
       };
     }
 
@@ -103,12 +103,12 @@ returns-clause-facts g c =
     let facts = c.args.facts.now.items in
     let forms = c.args.forms.now.items in
     let place = c.args.place in
-    let own : c.index-form.result.now ≡ form_of old.layout place.relation = get_or_read forms _ _ (omega (arith, c.requires.place.relation, forms_count c.args.pages.now.layout, ap (length {A = Form}) c.requires.forms)) (c.index-form.ensures ∙ ap (λ (k : ℕ). get_or forms k c.index-form.result.now) c.from.ensures) forms_ix.Index ∙ ap (λ (l : List Form). get_or l c.args.place.relation forms_ix.Index) c.requires.forms in
+    let own : c.form_at-form.result.now ≡ form_of old.layout place.relation = c.form_at-form.ensures.form ∙ ap (λ (l : DiskLayout). form_of l c.args.place.relation) c.layout-2.ensures in
     let new = c.make.new.self in
     let layout : new.layout ≡ old.layout = c.make.ensures.leaves.layout in
     let made = c.in-Ok.ensures.made in
     let notes = c.note_changed.ensures.noted in
-    let fill = subst (λ (l : DiskLayout). PagesFillDisk l) c.layout-2.ensures c.pages_fill_the_disk.ensures in
+    let fill = subst (λ (l : DiskLayout). PagesFillDisk l) c.layout.ensures c.pages_fill_the_disk.ensures in
     let there = subst (λ (l : DiskLayout). content_at new.pool (page_number l place) ≡ Some notes.page) layout notes.held in
     let passes = subst (λ (f : Form). IsPageOf f notes.page) own notes.passes in
     let all = known_changed told old new facts c.requires.facts fill place c.requires.place c.slots_are_read.ensures.one notes.page passes there layout (logged c.args.change.now ∷ []) c.make.ensures.leaves.tells c.in-Ok.ensures.changed made.others in

@@ -2,7 +2,7 @@ use Rattle.std.proofs.Common.{◌≡◌, ◌≢◌, ◌⊎◌, inl, inr, ◌≤�
 use Rattle.std.specs.Prelude.{IsTrue, Option, None, Some, IsSome, ⊤}
 use Rattle.std.specs.List.{All}
 use Rattle.block_model.specs.declared.place.Place.{Place}
-use Rattle.store_layout.specs.DiskLayout.{DiskLayout, IsPlace}
+use Rattle.store_layout.specs.DiskLayout.{DiskLayout, IsPlace, relation_blocks}
 use Rattle.page_layout.specs.declared.page.Form.{Form}
 use Rattle.page_layout.specs.PageContents.{IsForm}
 use Rattle.wal_record.specs.ChangeBytes.{bytes_of}
@@ -26,8 +26,28 @@ use Rattle.logged_pages.specs.Room.{HasRoom, IsLoggable, bytes_for, bytes_with, 
 use Rattle.logged_pages.specs.StoreFacts.{AreKnown}
 use Rattle.logged_pages.proofs.change.start_page.Goals as goal
 
-pub returns-then-not-is_loggable-clause-at : goal.returns-then-not-is_loggable-clause-at
-returns-then-not-is_loggable-clause-at g c =
+pub form_at-requires-clause-relation : goal.form_at-requires-clause-relation
+form_at-requires-clause-relation g c = subst (λ (l : DiskLayout). c.args.place.relation < length (relation_blocks l)) (sym c.layout.ensures) c.requires.place.relation
+
+pub form_at-requires-clause-forms : goal.form_at-requires-clause-forms
+form_at-requires-clause-forms g c = c.requires.forms ∙ ap forms_of (sym c.layout.ensures)
+
+pub returns-then-not-takes_started-clause-outcome : goal.returns-then-not-takes_started-clause-outcome
+returns-then-not-takes_started-clause-outcome g c =
+    let told = g.D.Disk.told in
+    let place = c.args.place in
+    let change = logged c.args.change.now in
+    let begin : LoggedState g.row.D.Denot = c.args.pages.now in
+    let old : View g.row.D.Denot = store_of told begin in
+    let held : LoggedState g.row.D.Denot = c.hold.new.pages in
+    let mid : View g.row.D.Denot = store_of told held in
+    let form : c.form_at-form.result.now ≡ form_of begin.layout place.relation = c.form_at-form.ensures.form ∙ ap (λ (l : DiskLayout). form_of l c.args.place.relation) c.layout.ensures in
+    let untold : Untold told old = λ tells. c.takes_started.ensures.refuses (is_false c.takes_started.result c.if-not-takes_started.true) (page_at old.pages place)
+    (subst (λ (f : Form). FitInTurn f (page_at old.pages place) (PageStart place c.args.kind ∷ change ∷ [])) (sym form) (c.requires.fits tells)) in
+    outcome_then told old mid mid _ c.in_ok-hold.ensures.outcome.0 c.in_ok-hold.ensures.outcome.1 c.hold.ensures.kept.leaves (damage_outcome ⊤ told mid mid held.layout place c.damaged.result c.in_ok-hold.ensures.outcome.1 c.in_ok-hold.ensures.outcome.1 (omega arith) c.damaged.ensures (λ tells. untold (sym c.hold.ensures.kept.leaves.tells ∙ tells)))
+
+pub returns-then-not-takes_started-clause-at : goal.returns-then-not-takes_started-clause-at
+returns-then-not-takes_started-clause-at g c =
     let told = g.D.Disk.told in
     let place = c.args.place in
     let change = logged c.args.change.now in

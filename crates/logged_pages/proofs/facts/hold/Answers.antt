@@ -36,9 +36,11 @@ use Rattle.logged_pages.proofs.KnownSteps.{known_added, known_changed, known_kep
 use Rattle.logged_pages.specs.Noted.{MadeOfFacts, NotesHeld, noted}
 use Rattle.logged_pages.proofs.facts.hold.Goals as goal
 
-pub index-form-requires : goal.index-form-requires
-index-form-requires g c =
-    omega (arith, c.requires.place.relation, forms_count c.args.pages.now.layout, ap (length {A = Form}) c.requires.forms, c.from.ensures)
+pub form_at-requires-clause-relation : goal.form_at-requires-clause-relation
+form_at-requires-clause-relation g c = subst (λ (l : DiskLayout). c.args.place.relation < length (relation_blocks l)) (sym c.layout-2.ensures) c.requires.place.relation
+
+pub form_at-requires-clause-forms : goal.form_at-requires-clause-forms
+form_at-requires-clause-forms g c = c.requires.forms ∙ ap forms_of (sym c.layout-2.ensures)
 
 pub hold-requires-clause-form : goal.hold-requires-clause-form
 hold-requires-clause-form g c =
@@ -47,7 +49,7 @@ hold-requires-clause-form g c =
     let facts = c.args.facts.now.items in
     let forms = c.args.forms.now.items in
     let place = c.args.place in
-    let own : c.index-form.result.now ≡ form_of old.layout place.relation = get_or_read forms _ _ (omega (arith, c.requires.place.relation, forms_count c.args.pages.now.layout, ap (length {A = Form}) c.requires.forms)) (c.index-form.ensures ∙ ap (λ (k : ℕ). get_or forms k c.index-form.result.now) c.from.ensures) forms_ix.Index ∙ ap (λ (l : List Form). get_or l c.args.place.relation forms_ix.Index) c.requires.forms in
+    let own : c.form_at-form.result.now ≡ form_of old.layout place.relation = c.form_at-form.ensures.form ∙ ap (λ (l : DiskLayout). form_of l c.args.place.relation) c.layout-2.ensures in
     own
 
 pub hold-requires-clause-is : goal.hold-requires-clause-is
@@ -57,9 +59,8 @@ hold-requires-clause-is g c =
     let facts = c.args.facts.now.items in
     let forms = c.args.forms.now.items in
     let place = c.args.place in
-    let own : c.index-form.result.now ≡ form_of old.layout place.relation = get_or_read forms _ _ (omega (arith, c.requires.place.relation, forms_count c.args.pages.now.layout, ap (length {A = Form}) c.requires.forms)) (c.index-form.ensures ∙ ap (λ (k : ℕ). get_or forms k c.index-form.result.now) c.from.ensures) forms_ix.Index ∙ ap (λ (l : List Form). get_or l c.args.place.relation forms_ix.Index) c.requires.forms in
-    let tables = subst (λ (l : DiskLayout). All HasForm l.schema.tables) c.layout.ensures c.tables_have_forms.ensures.forms in
-    subst IsForm (sym own) (each_form old.layout tables place.relation)
+    let own : c.form_at-form.result.now ≡ form_of old.layout place.relation = c.form_at-form.ensures.form ∙ ap (λ (l : DiskLayout). form_of l c.args.place.relation) c.layout-2.ensures in
+    c.form_at-form.ensures.is
 
 pub returns-in_err-hold-clause-facts : goal.returns-in_err-hold-clause-facts
 returns-in_err-hold-clause-facts g c =
@@ -77,7 +78,7 @@ note_held-requires-clause-form g c =
     let facts = c.args.facts.now.items in
     let forms = c.args.forms.now.items in
     let place = c.args.place in
-    let own : c.index-form.result.now ≡ form_of old.layout place.relation = get_or_read forms _ _ (omega (arith, c.requires.place.relation, forms_count c.args.pages.now.layout, ap (length {A = Form}) c.requires.forms)) (c.index-form.ensures ∙ ap (λ (k : ℕ). get_or forms k c.index-form.result.now) c.from.ensures) forms_ix.Index ∙ ap (λ (l : List Form). get_or l c.args.place.relation forms_ix.Index) c.requires.forms in
+    let own : c.form_at-form.result.now ≡ form_of old.layout place.relation = c.form_at-form.ensures.form ∙ ap (λ (l : DiskLayout). form_of l c.args.place.relation) c.layout-2.ensures in
     own ∙ ap (λ (l : DiskLayout). form_of l c.args.place.relation) (sym c.hold.ensures.kept.leaves.layout)
 
 pub note_held-requires-clause-is : goal.note_held-requires-clause-is
@@ -87,9 +88,8 @@ note_held-requires-clause-is g c =
     let facts = c.args.facts.now.items in
     let forms = c.args.forms.now.items in
     let place = c.args.place in
-    let own : c.index-form.result.now ≡ form_of old.layout place.relation = get_or_read forms _ _ (omega (arith, c.requires.place.relation, forms_count c.args.pages.now.layout, ap (length {A = Form}) c.requires.forms)) (c.index-form.ensures ∙ ap (λ (k : ℕ). get_or forms k c.index-form.result.now) c.from.ensures) forms_ix.Index ∙ ap (λ (l : List Form). get_or l c.args.place.relation forms_ix.Index) c.requires.forms in
-    let tables = subst (λ (l : DiskLayout). All HasForm l.schema.tables) c.layout.ensures c.tables_have_forms.ensures.forms in
-    subst IsForm (sym own) (each_form old.layout tables place.relation)
+    let own : c.form_at-form.result.now ≡ form_of old.layout place.relation = c.form_at-form.ensures.form ∙ ap (λ (l : DiskLayout). form_of l c.args.place.relation) c.layout-2.ensures in
+    c.form_at-form.ensures.is
 
 pub note_held-requires-clause-facts : goal.note_held-requires-clause-facts
 note_held-requires-clause-facts g c =
@@ -107,11 +107,11 @@ returns-then-branch-clause-facts g c =
     let facts = c.args.facts.now.items in
     let forms = c.args.forms.now.items in
     let place = c.args.place in
-    let own : c.index-form.result.now ≡ form_of old.layout place.relation = get_or_read forms _ _ (omega (arith, c.requires.place.relation, forms_count c.args.pages.now.layout, ap (length {A = Form}) c.requires.forms)) (c.index-form.ensures ∙ ap (λ (k : ℕ). get_or forms k c.index-form.result.now) c.from.ensures) forms_ix.Index ∙ ap (λ (l : List Form). get_or l c.args.place.relation forms_ix.Index) c.requires.forms in
+    let own : c.form_at-form.result.now ≡ form_of old.layout place.relation = c.form_at-form.ensures.form ∙ ap (λ (l : DiskLayout). form_of l c.args.place.relation) c.layout-2.ensures in
     let new = c.hold.new.self in
     let notes = c.note_held.ensures.noted in
     let layout : new.layout ≡ old.layout = c.hold.ensures.kept.leaves.layout in
-    let fill = subst (λ (l : DiskLayout). PagesFillDisk l) c.layout-2.ensures c.pages_fill_the_disk.ensures in
+    let fill = subst (λ (l : DiskLayout). PagesFillDisk l) c.layout.ensures c.pages_fill_the_disk.ensures in
     let there = subst (λ (l : DiskLayout). content_at new.pool (page_number l place) ≡ Some notes.page) layout notes.held in
     let passes = subst (λ (f : Form). IsPageOf f notes.page) own notes.passes in
     let all = known_added told old new facts c.requires.facts fill place c.requires.place c.slots_are_read.ensures.one notes.page passes there layout c.hold.ensures.kept c.hold.ensures.adds in
