@@ -1,7 +1,7 @@
 -- fresh pages are of their forms
-use Rattle.std.proofs.Common.{◌≡◌, inl, inr, ℕ, zero, suc, ◌+◌, ◌<◌, ◌≤◌, List, [], ◌∷◌, ◌++◌, length, map, refl, sym, ◌∙◌, ap, subst, arith, lit<}
+use Rattle.std.proofs.Common.{◌≡◌, inl, inr, ℕ, zero, suc, ◌+◌, ◌<◌, ◌≤◌, ◌++◌, length, length-append, refl, sym, ◌∙◌, subst, arith, lit<}
 use Rattle.std.specs.Prelude.{None, replicate}
-use Rattle.std.proofs.lemmas.Bool.{cases_eq, cases_lt}
+use Rattle.std.proofs.lemmas.Bool.{cases_lt}
 use Rattle.std.proofs.lemmas.List.{length-replicate}
 use Rattle.block_model.specs.declared.place.Place.{Place}
 use Rattle.store_layout.specs.DiskLayout.{DiskLayout, IsPlace}
@@ -11,7 +11,7 @@ use Rattle.index_layout.specs.IndexPages.{AreEntries, Map, Meta, map_bytes, meta
 use Rattle.page_layout.specs.declared.page.Form.{Form}
 use Rattle.page_layout.specs.declared.page.Form.TheVariants as forms
 use Rattle.page_layout.specs.HeapForms.{heap_form}
-use Rattle.page_layout.specs.PageContents.{IsPageOf, IsUnstarted, statuses}
+use Rattle.page_layout.specs.PageContents.{IsPageOf, IsUnstarted, header_bytes, statuses}
 use Rattle.page_store.specs.Forms.{IsPageIn, form_of, forms_of}
 use Rattle.store_format.specs.FreshStore.{fresh_index_page, fresh_page, unstarted_page, unused_statuses}
 use Rattle.store_format.proofs.Places.{fresh_index, fresh_status, fresh_table, index_others}
@@ -30,11 +30,11 @@ no_entries (suc n) = (tt, no_entries n)
 
 meta_pass : IsPageOf forms.Index (meta_bytes 1)
 unfolding meta_bytes
-meta_pass = inr (Meta 1 (record { small = lit< tt; bytes = refl }), λ e. absurd cc)
+meta_pass = inr (Meta 1 (record { small = lit< tt; bytes = refl }), λ e. let three : 3 ≡ 0 = e in omega (arith, three))
 
 map_pass : IsPageOf forms.Index (map_bytes (replicate MAP_ENTRIES None))
 unfolding map_bytes
-map_pass = inr (Map (replicate MAP_ENTRIES None) (record { counted = length-replicate MAP_ENTRIES None; are = no_entries MAP_ENTRIES; bytes = refl }), λ e. absurd cc)
+map_pass = inr (Map (replicate MAP_ENTRIES None) (record { counted = length-replicate MAP_ENTRIES None; are = no_entries MAP_ENTRIES; bytes = refl }), λ e. let four : 4 ≡ 0 = e in omega (arith, four))
 
 index_pass : (block : ℕ) → IsPageOf forms.Index (fresh_index_page block)
 index_pass zero = meta_pass
@@ -68,6 +68,9 @@ pub fresh_passes : (layout : DiskLayout) (place : Place) → IsPlace layout plac
 fresh_passes layout place is = pass_at layout place.relation place.block is
 
 -- and whole
+length-filled : (kind n : ℕ) → length (header_bytes kind ++ replicate n 0) ≡ 32 + n
+length-filled kind n = omega (arith, length-append (header_bytes kind) (replicate n 0), length-replicate {A = ℕ} n 0)
+
 pub length-statuses : length unused_statuses ≡ 8192
 unfolding unused_statuses
-length-statuses = ap (λ (n : ℕ). 32 + n) (length-replicate 8160 0)
+length-statuses = length-filled 1 8160

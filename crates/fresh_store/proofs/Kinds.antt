@@ -1,16 +1,17 @@
 -- the kinds of fresh pages, and their order
-use Rattle.std.proofs.Common.{◌≡◌, ◌≢◌, ◌⊎◌, inl, inr, ℕ, zero, suc, ◌+◌, ◌<◌, ◌≤◌, List, length, get_or, refl, sym, ◌∙◌, ap, arith, lit<}
-use Rattle.std.specs.Prelude.{replicate, slice_index}
+use Rattle.std.proofs.Common.{◌≡◌, inl, inr, ℕ, zero, suc, ◌+◌, ◌<◌, ◌≤◌, List, length, get_or, refl, sym, ◌∙◌, ap, arith, lit<}
+use Rattle.std.specs.Prelude.{Option}
 use Rattle.std.proofs.lemmas.List.{get_or-replicate}
 use Rattle.block_model.specs.declared.place.Place.{Place}
-use Rattle.byte_fields.specs.Fields.{field_at, number-bytes}
+use Rattle.block_model.specs.declared.place.Spot.{Spot}
+use Rattle.byte_fields.specs.Fields.{number-bytes}
 use Rattle.store_layout.specs.DiskLayout.{DiskLayout, HasBoundedSizes, IsPlace, relation_blocks}
 use Rattle.store_layout.specs.RelationCounts.{blocks_of_index, blocks_of_statuses, count_relations}
 use Rattle.index_layout.specs.IndexPages.{map_bytes, meta_bytes}
 use Rattle.page_store.specs.PageMap.{block_at, block_limit}
 use Rattle.page_store.specs.PageMap as pages
-use Rattle.opened_pages.specs.PageOrder.{AreInOrder, IsIndexInOrder, IsOfTuples, StartsFirst, kind_of, map_pages}
-use Rattle.store_format.specs.FreshStore.{fresh_index_page, fresh_page, unstarted_page, unused_statuses}
+use Rattle.opened_pages.specs.PageOrder.{AreInOrder, IsIndexInOrder, StartsFirst, kind_of, map_pages}
+use Rattle.store_format.specs.FreshStore.{fresh_index_page, unstarted_page, unused_statuses}
 use Rattle.store_format.proofs.Places.{fresh_index, fresh_status, fresh_table, index_others}
 use Rattle.fresh_store.specs.FreshPages.{fresh_pages}
 use Rattle.fresh_store.proofs.Places.{fresh_at}
@@ -27,7 +28,7 @@ kind_meta : kind_of (meta_bytes 1) ≡ 3
 unfolding meta_bytes
 kind_meta = refl
 
-kind_map : (entries : _) → kind_of (map_bytes entries) ≡ 4
+kind_map : (entries : List (Option Spot)) → kind_of (map_bytes entries) ≡ 4
 unfolding map_bytes
 kind_map entries = refl
 

@@ -1,10 +1,10 @@
 -- what a new store opens to
-use Rattle.std.proofs.Common.{◌≡◌, inl, inr, ⊎_elim, ℕ, zero, suc, ◌+◌, ◌-◌, ◌*◌, ◌%◌, ◌<◌, ◌≤◌, List, [], ◌∷◌, length, take, drop, get_or, refl, sym, ◌∙◌, ap, subst, arith, lit<}
-use Rattle.std.specs.Prelude.{IsTrue, slice_index, sum}
+use Rattle.std.proofs.Common.{◌≡◌, inl, inr, ℕ, zero, suc, ◌+◌, ◌-◌, ◌*◌, ◌%◌, ◌<◌, List, [], ◌∷◌, length, take, drop, refl, sym, ◌∙◌, ap, subst, arith, lit<}
+use Rattle.std.specs.Prelude.{slice_index}
 use Rattle.std.proofs.lemmas.List.{get_or-take, length-drop, length-take}
 use Rattle.block_model.specs.declared.place.Place.{Place}
 use Rattle.byte_fields.specs.Fields.{field_at}
-use Rattle.store_layout.specs.DiskLayout.{DiskLayout, HasBoundedSizes, IsPlace, area_offset, area_size, first_offset, page_offset}
+use Rattle.store_layout.specs.DiskLayout.{DiskLayout, HasBoundedSizes, IsPlace, area_offset, area_size, page_offset}
 use Rattle.store_layout.specs.PagesFillDisk.{PagesFillDisk}
 use Rattle.store_layout.specs.RelationCounts.{blocks_of_statuses, count_relations}
 use Rattle.control_page.specs.ControlPage.{HasControl, control_bytes, written_bytes}
@@ -14,9 +14,9 @@ use Rattle.log_area.specs.Log.{area_start, chosen_area}
 use Rattle.page_store.specs.Forms.{IsPageIn}
 use Rattle.page_store.specs.PageMap.{unstarted_page}
 use Rattle.opened_pages.specs.Opens.{OpensAs, disk_page}
-use Rattle.store_format.specs.FreshStore.{IsClosed, IsFormatted, IsOldOrNew, fresh_page, unused_statuses}
+use Rattle.store_format.specs.FreshStore.{IsClosed, IsFormatted, IsOldOrNew}
 use Rattle.store_format.proofs.Places.{fresh_status}
-use Rattle.fresh_store.specs.FreshPages.{IsNoStore, IsOldOrFresh, fresh_pages}
+use Rattle.fresh_store.specs.FreshPages.{IsOldOrFresh, fresh_pages}
 use Rattle.fresh_store.proofs.Forms.{fresh_passes, length-statuses}
 use Rattle.fresh_store.proofs.Places.{fresh_at, fresh_whole}
 
@@ -26,11 +26,10 @@ unfolding control_bytes written_bytes
 area_byte layout = refl
 
 -- a field that isn't empty begins with a byte
-field_first : (bytes : List ℕ) (at n : ℕ) → at < length bytes → 0 < n → field_at bytes at n ≡ slice_index bytes at ∷ take (n - 1) (drop (at + 1) bytes)
-field_first [] at n low some = absurd (omega (arith, low))
-field_first (b ∷ bytes) zero zero low some = absurd (omega (arith, some))
-field_first (b ∷ bytes) zero (suc n) low some = refl
-field_first (b ∷ bytes) (suc at) n low some = field_first bytes at n (omega (arith, low)) some
+field_first : (bytes : List ℕ) (at n : ℕ) → at < length bytes → field_at bytes at (suc n) ≡ slice_index bytes at ∷ take n (drop (suc at) bytes)
+field_first [] at n low = absurd (omega (arith, low))
+field_first (b ∷ bytes) zero n low = refl
+field_first (b ∷ bytes) (suc at) n low = field_first bytes at n (omega (arith, low))
 
 module _ (layout : DiskLayout) (sizes : HasBoundedSizes layout) (fill : PagesFillDisk layout) (image : List ℕ) (made : IsFormatted layout image) where
   status_place : IsPlace layout (record { relation = 0; block = 0 })
@@ -51,8 +50,12 @@ module _ (layout : DiskLayout) (sizes : HasBoundedSizes layout) (fill : PagesFil
   unfolding area_start
   no_frames = record {
     gate = slice_index image (area_offset layout 0);
-    rest = take (area_size layout - 1) (drop (area_offset layout 0 + 1) image);
-    bytes = ap (λ (b : ℕ). field_at image (8192 + area_size layout * (b % 2)) (area_size layout)) chosen ∙ field_first image (area_offset layout 0) (area_size layout) (omega (arith, long)) (omega (arith, sizes.some_log_pages));
+    rest = take (area_size layout - 1) (drop (suc (area_offset layout 0)) image);
+    bytes =
+        let some : area_size layout ≡ suc (area_size layout - 1) = omega (arith, sizes.some_log_pages) in
+        ap (λ (b : ℕ). field_at image (8192 + area_size layout * (b % 2)) (area_size layout)) chosen
+        ∙ ap (field_at image (area_offset layout 0)) some
+        ∙ field_first image (area_offset layout 0) (area_size layout - 1) (omega (arith, long));
     closed = λ e. absurd (omega (arith, sym made.first_area ∙ e));
     fields = tt;
   }
