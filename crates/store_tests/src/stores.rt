@@ -17,6 +17,7 @@ use wal_record::Change;
 
 /// The calls that a test records, and the bytes that they write.
 const CALLS: u64 = 200;
+
 const BYTES: u64 = 1_000_000;
 
 /// The page of statuses.
