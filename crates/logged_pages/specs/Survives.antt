@@ -19,7 +19,7 @@ pub record Survives {D : Type 0} (told : D → Told) (Passed : PageMap → Type 
 
 module _ {D : Type 0} (told : D → Told) (First Then : PageMap → Type 0) (old mid new : View D) (layout : mid.layout ≡ old.layout) (first : Survives told First old mid) (second : Survives told Then mid new) where
   -- the pages that either of two runs of calls passed
-  Either : PageMap → Type 0
+  abbrev Either : PageMap → Type 0
   Either pages = First pages ⊎ Then pages
 
   less : (image : List ℕ) → ReachesAny old.layout (told old.disk) First image → ReachesAny old.layout (told old.disk) Either image
