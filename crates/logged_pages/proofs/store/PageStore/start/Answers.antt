@@ -14,7 +14,7 @@ use Rattle.logged_pages.specs.LoggedState.{LoggedState, store_of}
 use Rattle.logged_pages.specs.Standing.{IsStanding}
 use Rattle.logged_pages.specs.StoreFacts.{AreKnown}
 use Rattle.logged_pages.proofs.Starting.{known, refused, stands, sure}
-use Rattle.logged_pages.proofs.start.PageStore.start.Goals as goal
+use Rattle.logged_pages.proofs.store.PageStore.start.Goals as goal
 
 pub of_parts-pages-requires : goal.of_parts-pages-requires
 of_parts-pages-requires g c =
