@@ -1,0 +1,60 @@
+use Rattle.std.proofs.Common.{◌≡◌, ◌≢◌, ◌⊎◌, inl, inr, ◌≤◌, ◌<◌, ◌+◌, ℕ, Bool, true, false, List, [], ◌∷◌, length, get_or, refl, sym, ap, subst, ◌∙◌, arith}
+use Rattle.std.specs.Prelude.{IsTrue, Option, None, Some, count_by}
+use Rattle.std.specs.List.{All}
+use Rattle.std.proofs.lemmas.Bool.{eq-eqb}
+use Rattle.std.proofs.lemmas.List.{get_or_read}
+use Rattle.block_model.specs.declared.place.Place.{Place}
+use Rattle.store_layout.specs.DiskLayout.{DiskLayout, IsPlace, relation_blocks}
+use Rattle.index_layout.specs.IndexReading.{map_pages_of}
+use Rattle.page_layout.specs.declared.page.Form.{Form}
+use Rattle.page_layout.specs.declared.page.Form.TheVariants as forms_ix
+use Rattle.page_layout.specs.PageContents.{IsForm}
+use Rattle.page_layout.specs.PageWrites.{IsOfIndex}
+use Rattle.page_store.specs.declared.facts.PageFacts.{PageFacts}
+use Rattle.page_store.specs.declared.page_room.Room.TheVariants as rooms
+use Rattle.page_store.specs.FactLists.{IsFirstOf, IsFirstOfIndex, tells_started}
+use Rattle.page_store.specs.FirstRoom.{IsFirstRoomOf}
+use Rattle.page_store.specs.Forms.{HasForm, IsPageIn, form_of, forms_of}
+use Rattle.page_store.specs.Keeps.{Tells}
+use Rattle.page_store.specs.PageFacts.{facts_in}
+use Rattle.page_store.specs.PageMap.{IsWhole, View, block_at, block_limit, page_at}
+use Rattle.page_store.specs.PageRoom.{IsRoom, NamesSlot}
+use Rattle.page_store.specs.Started.{AreFirst, started_count}
+use Rattle.pooled_pages.specs.ShownLaws.{shown_whole}
+use Rattle.logged_pages.specs.LoggedState.{LoggedState, store_of}
+use Rattle.logged_pages.proofs.RelationSteps.{each_form, forms_count}
+use Rattle.logged_pages.specs.StoreFacts.{AreKnown, facts_at}
+use Rattle.logged_pages.proofs.StoreReads.{checked_all, facts_counted, facts_limit, room_free, room_full, room_unstarted, slot_named, state_count, state_first, state_maps, state_room}
+use Rattle.logged_pages.proofs.store.PageStore.form.Goals as goal
+
+pub index-requires : goal.index-requires
+index-requires g c =
+    let told = g.D.Disk.told in
+    let s = c.self.inside.pages in
+    let facts = c.self.inside.facts.items in
+    let known = c.self.invariant.1 in
+    let low : c.args.relation < length (relation_blocks s.layout) = subst (λ (v : View g.row.D.Denot). c.args.relation < length (relation_blocks v.layout)) (sym c.self.view_is) c.requires.relation in
+    omega (arith, low, forms_count s.layout, ap (length {A = Form}) c.self.invariant.0, c.from.ensures)
+
+pub returns-clause-form : goal.returns-clause-form
+returns-clause-form g c =
+    let told = g.D.Disk.told in
+    let s = c.self.inside.pages in
+    let facts = c.self.inside.facts.items in
+    let known = c.self.invariant.1 in
+    let low : c.args.relation < length (relation_blocks s.layout) = subst (λ (v : View g.row.D.Denot). c.args.relation < length (relation_blocks v.layout)) (sym c.self.view_is) c.requires.relation in
+    let forms = c.self.inside.forms.items in
+    subst (λ (v : View g.row.D.Denot). c.index.result.now ≡ form_of v.layout c.args.relation) c.self.view_is
+    (get_or_read forms _ _ (omega (arith, low, forms_count s.layout, ap (length {A = Form}) c.self.invariant.0)) (c.index.ensures ∙ ap (λ (k : ℕ). get_or forms k c.index.result.now) c.from.ensures) forms_ix.Index ∙ ap (λ (l : List Form). get_or l c.args.relation forms_ix.Index) c.self.invariant.0)
+
+pub returns-clause-is : goal.returns-clause-is
+returns-clause-is g c =
+    let told = g.D.Disk.told in
+    let s = c.self.inside.pages in
+    let facts = c.self.inside.facts.items in
+    let known = c.self.invariant.1 in
+    let low : c.args.relation < length (relation_blocks s.layout) = subst (λ (v : View g.row.D.Denot). c.args.relation < length (relation_blocks v.layout)) (sym c.self.view_is) c.requires.relation in
+    let forms = c.self.inside.forms.items in
+    let tables = subst (λ (l : DiskLayout). All HasForm l.schema.tables) c.layout.ensures c.tables_have_forms.ensures.forms in
+    let own : c.index.result.now ≡ form_of s.layout c.args.relation = get_or_read forms _ _ (omega (arith, low, forms_count s.layout, ap (length {A = Form}) c.self.invariant.0)) (c.index.ensures ∙ ap (λ (k : ℕ). get_or forms k c.index.result.now) c.from.ensures) forms_ix.Index ∙ ap (λ (l : List Form). get_or l c.args.relation forms_ix.Index) c.self.invariant.0 in
+    subst IsForm (sym own) (each_form s.layout tables c.args.relation)

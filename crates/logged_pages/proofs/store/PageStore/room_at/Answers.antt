@@ -1,0 +1,57 @@
+use Rattle.std.proofs.Common.{◌≡◌, ◌≢◌, ◌⊎◌, inl, inr, ◌≤◌, ◌<◌, ◌+◌, ℕ, Bool, true, false, List, [], ◌∷◌, length, get_or, refl, sym, ap, subst, ◌∙◌, arith}
+use Rattle.std.specs.Prelude.{IsTrue, Option, None, Some, count_by}
+use Rattle.std.specs.List.{All}
+use Rattle.std.proofs.lemmas.Bool.{eq-eqb}
+use Rattle.std.proofs.lemmas.List.{get_or_read}
+use Rattle.block_model.specs.declared.place.Place.{Place}
+use Rattle.store_layout.specs.DiskLayout.{DiskLayout, IsPlace, relation_blocks}
+use Rattle.index_layout.specs.IndexReading.{map_pages_of}
+use Rattle.page_layout.specs.declared.page.Form.{Form}
+use Rattle.page_layout.specs.PageContents.{IsForm}
+use Rattle.page_layout.specs.PageWrites.{IsOfIndex}
+use Rattle.page_store.specs.declared.facts.PageFacts.{PageFacts}
+use Rattle.page_store.specs.declared.page_room.Room.TheVariants as rooms
+use Rattle.page_store.specs.FactLists.{IsFirstOf, IsFirstOfIndex, tells_started}
+use Rattle.page_store.specs.FirstRoom.{IsFirstRoomOf}
+use Rattle.page_store.specs.Forms.{HasForm, IsPageIn, form_of, forms_of}
+use Rattle.page_store.specs.Keeps.{Tells}
+use Rattle.page_store.specs.PageFacts.{facts_in}
+use Rattle.page_store.specs.PageMap.{IsWhole, View, block_at, block_limit, page_at}
+use Rattle.page_store.specs.PageRoom.{IsRoom, NamesSlot}
+use Rattle.page_store.specs.Started.{AreFirst, started_count}
+use Rattle.pooled_pages.specs.ShownLaws.{shown_whole}
+use Rattle.logged_pages.specs.LoggedState.{LoggedState, store_of}
+use Rattle.logged_pages.proofs.RelationSteps.{each_form, forms_count}
+use Rattle.logged_pages.specs.StoreFacts.{AreKnown, facts_at}
+use Rattle.logged_pages.proofs.StoreReads.{checked_all, facts_counted, facts_limit, room_free, room_full, room_unstarted, slot_named, state_count, state_first, state_maps, state_room}
+use Rattle.logged_pages.proofs.store.PageStore.room_at.Goals as goal
+
+pub returns-then-facts-eq-UNSTARTED-clause-room : goal.returns-then-facts-eq-UNSTARTED-clause-room
+returns-then-facts-eq-UNSTARTED-clause-room g c =
+    let told = g.D.Disk.told in
+    let s = c.self.inside.pages in
+    let facts = c.self.inside.facts.items in
+    let known = c.self.invariant.1 in
+    let is : IsPlace s.layout c.args.place = subst (λ (v : View g.row.D.Denot). IsPlace v.layout c.args.place) (sym c.self.view_is) c.requires.place in
+    let found = c.facts_of_place-facts.ensures in
+    subst (λ (v : View g.row.D.Denot). Tells told v → IsRoom (form_of v.layout c.args.place.relation) (page_at v.pages c.args.place) rooms.NotStarted) c.self.view_is (λ tells. room_unstarted told s facts known c.known.ensures.checked c.slots_are_read.ensures.one c.args.place is tells (sym (ap (λ (f : PageFacts). f.kind) found) ∙ c.if-facts-eq-UNSTARTED.true))
+
+pub returns-in-Some-clause-room : goal.returns-in-Some-clause-room
+returns-in-Some-clause-room g c =
+    let told = g.D.Disk.told in
+    let s = c.self.inside.pages in
+    let facts = c.self.inside.facts.items in
+    let known = c.self.invariant.1 in
+    let is : IsPlace s.layout c.args.place = subst (λ (v : View g.row.D.Denot). IsPlace v.layout c.args.place) (sym c.self.view_is) c.requires.place in
+    let found = c.facts_of_place-facts.ensures in
+    subst (λ (v : View g.row.D.Denot). Tells told v → IsRoom (form_of v.layout c.args.place.relation) (page_at v.pages c.args.place) (rooms.Free c.in-Some.slot)) c.self.view_is (λ tells. room_free told s facts known c.known.ensures.checked c.slots_are_read.ensures.one c.args.place is tells c.in-Some.slot (sym (ap (λ (f : PageFacts). f.lowest) found) ∙ c.in-Some.is))
+
+pub returns-in-None-clause-room : goal.returns-in-None-clause-room
+returns-in-None-clause-room g c =
+    let told = g.D.Disk.told in
+    let s = c.self.inside.pages in
+    let facts = c.self.inside.facts.items in
+    let known = c.self.invariant.1 in
+    let is : IsPlace s.layout c.args.place = subst (λ (v : View g.row.D.Denot). IsPlace v.layout c.args.place) (sym c.self.view_is) c.requires.place in
+    let found = c.facts_of_place-facts.ensures in
+    subst (λ (v : View g.row.D.Denot). Tells told v → IsRoom (form_of v.layout c.args.place.relation) (page_at v.pages c.args.place) rooms.Full) c.self.view_is (λ tells. room_full told s facts known c.known.ensures.checked c.slots_are_read.ensures.one c.args.place is tells (λ none. c.if-facts-eq-UNSTARTED.false (ap (λ (f : PageFacts). f.kind) found ∙ none)) (sym (ap (λ (f : PageFacts). f.lowest) found) ∙ c.in-None.is))

@@ -1,0 +1,12 @@
+pub mod Survives
+pub mod KeptPages
+pub mod LoggedState
+pub mod Standing
+pub mod Contents
+pub mod Clean
+pub mod Room
+pub mod Made
+pub mod StoreFacts
+pub mod Noted
+pub mod Begun
+pub mod Refused

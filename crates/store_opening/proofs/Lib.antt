@@ -1,0 +1,11 @@
+pub mod Begins
+pub mod Ends
+pub mod Undamaged
+pub mod Joining
+pub mod Sizes
+pub mod PageJudged
+pub mod PagesJudged
+pub mod KindsStand
+pub mod IndexOrder
+pub mod AllOrder
+pub mod Finishing

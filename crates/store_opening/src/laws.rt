@@ -1,0 +1,23 @@
+//! What a store's disk is not.
+
+ghost use Rattle.std.specs.Prelude.{List, ℕ};
+ghost use Rattle.opened_pages.specs.Opens.{Opens};
+ghost use Rattle.opened_pages.specs.PageOrder.{AreInOrder};
+ghost use Rattle.page_store.specs.PageMap.{PageMap};
+ghost use Rattle.store_opening.specs.Damaged.{IsDamaged};
+
+use log_area::an_area_opens_in_one_way;
+use page_redo::redo_is_a_function;
+use page_store::maps_with_the_same_pages_are_equal;
+use store_layout::Layout;
+use wal_record::no_change_begins_another;
+
+/// An image of a store is not damaged: it opens to pages that stand in order, and then no frame and no page is amiss.
+pub fn a_store_is_not_damaged(layout: &Layout)
+    ensures { (image : List ℕ) (pages : PageMap) (at : ℕ) → Opens layout.now image pages → AreInOrder layout.now pages → IsDamaged layout.now image at → ⊥ }
+{
+    an_area_opens_in_one_way();
+    no_change_begins_another();
+    redo_is_a_function();
+    maps_with_the_same_pages_are_equal();
+}
