@@ -22,17 +22,17 @@ use Rattle.page_store.specs.PageRoom.{IsRoom, NamesSlot}
 use Rattle.page_store.specs.Started.{AreFirst, started_count}
 use Rattle.pooled_pages.specs.ShownLaws.{shown_whole}
 use Rattle.logged_pages.specs.LoggedState.{LoggedState, store_of}
-use Rattle.logged_pages.specs.RelationSteps.{each_form, forms_count}
+use Rattle.logged_pages.proofs.RelationSteps.{each_form, forms_count}
 use Rattle.logged_pages.specs.StoreFacts.{AreKnown, facts_at}
-use Rattle.logged_pages.specs.StoreReads.{checked_all, facts_counted, facts_limit, room_free, room_full, room_unstarted, slot_named, state_count, state_first, state_maps, state_room}
+use Rattle.logged_pages.proofs.StoreReads.{checked_all, facts_counted, facts_limit, room_free, room_full, room_unstarted, slot_named, state_count, state_first, state_maps, state_room}
 use Rattle.wal_record.specs.Changes.{logged}
 use Rattle.pooled_pages.specs.PageNumbers.{page_number}
 use Rattle.pooled_pages.specs.ShownPages.{content_at}
 use Rattle.page_store.specs.PageFacts.{facts_in, facts_on}
 use Rattle.page_store.specs.Changed.{redone_once}
 use Rattle.page_layout.specs.PageContents.{IsPageOf}
-use Rattle.logged_pages.specs.FactSteps.{fact_place}
-use Rattle.logged_pages.specs.KnownSteps.{known_added, known_changed, known_kept}
+use Rattle.logged_pages.proofs.FactSteps.{fact_place}
+use Rattle.logged_pages.proofs.KnownSteps.{known_added, known_changed, known_kept}
 use Rattle.logged_pages.specs.Noted.{MadeOfFacts, NotesHeld, noted}
 use Rattle.logged_pages.proofs.change.make.Goals as goal
 

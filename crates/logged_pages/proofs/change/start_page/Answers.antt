@@ -14,14 +14,14 @@ use Rattle.page_store.specs.PageMap.{PageMap, View, page_at}
 use Rattle.buffer_pool.specs.PoolState.{held_at}
 use Rattle.pooled_pages.specs.PageNumbers.{page_number}
 use Rattle.pooled_pages.specs.Safe.{is_marked}
-use Rattle.logged_pages.specs.ChangeSteps.{alike_held, is_false, twice_leaves, damage_back, room_second, room_start, turn_changed, untold_back, changed_from, changed_twice, damage_outcome, damaged_at, disk_at, fits_from, made_at, made_changed, made_kept, made_outcome, place_from, room_for, second_fits, start_length, start_loggable, turn_from, untold_from, untold_keeps}
+use Rattle.logged_pages.proofs.ChangeSteps.{alike_held, is_false, twice_leaves, damage_back, room_second, room_start, turn_changed, untold_back, changed_from, changed_twice, damage_outcome, damaged_at, disk_at, fits_from, made_at, made_changed, made_kept, made_outcome, place_from, room_for, second_fits, start_length, start_loggable, turn_from, untold_from, untold_keeps}
 use Rattle.page_store.proofs.Lookups.{on_err}
-use Rattle.logged_pages.specs.Joining.{outcome_then}
+use Rattle.logged_pages.proofs.Joining.{outcome_then}
 use Rattle.logged_pages.specs.KeptPages.{KeptPages, LeftStore, kept_on, kept_then}
-use Rattle.logged_pages.specs.KnownSteps.{known_kept}
-use Rattle.logged_pages.specs.Loggable.{fits_loggable}
+use Rattle.logged_pages.proofs.KnownSteps.{known_kept}
+use Rattle.logged_pages.proofs.Loggable.{fits_loggable}
 use Rattle.logged_pages.specs.LoggedState.{LoggedState, store_of}
-use Rattle.logged_pages.specs.RelationSteps.{each_form}
+use Rattle.logged_pages.proofs.RelationSteps.{each_form}
 use Rattle.logged_pages.specs.Room.{HasRoom, IsLoggable, bytes_for, bytes_with, is_anew}
 use Rattle.logged_pages.specs.StoreFacts.{AreKnown}
 use Rattle.logged_pages.proofs.change.start_page.Goals as goal

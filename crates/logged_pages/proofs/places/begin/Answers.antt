@@ -1,7 +1,7 @@
 use Rattle.std.proofs.Common.{◌≡◌, ◌||◌, Bool, true, false, sym, ap, ◌∙◌, length, arith}
 use Rattle.wal_record.specs.Changes.{logged}
 use Rattle.wal_record.specs.ChangeBytes.{bytes_of}
-use Rattle.logged_pages.specs.MakeSteps.{full_length}
+use Rattle.logged_pages.proofs.MakeSteps.{full_length}
 use Rattle.logged_pages.specs.Room.{bytes_for, bytes_with, is_anew}
 use Rattle.logged_pages.proofs.places.begin.Goals as goal
 

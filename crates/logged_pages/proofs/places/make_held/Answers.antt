@@ -3,7 +3,7 @@ use Rattle.std.proofs.lemmas.List.{get_or_read}
 use Rattle.wal_record.specs.Changes.{logged}
 use Rattle.wal_record.specs.ChangeBytes.{bytes_of}
 use Rattle.change_buffer.specs.Waiting.{Waiting}
-use Rattle.logged_pages.specs.HeldSteps.{begun_bytes, makes_held}
+use Rattle.logged_pages.proofs.HeldSteps.{begun_bytes, makes_held}
 use Rattle.logged_pages.specs.Room.{bytes_for}
 use Rattle.logged_pages.proofs.places.make_held.Goals as goal
 

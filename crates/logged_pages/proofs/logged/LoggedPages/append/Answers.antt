@@ -6,11 +6,11 @@ use Rattle.log_area.specs.Log.{areas_end}
 use Rattle.change_buffer.specs.Waiting.{Waiting}
 use Rattle.opened_pages.specs.Opens.{OpensAs}
 use Rattle.pooled_pages.specs.ShownPages.{shown_pages}
-use Rattle.logged_pages.specs.Exits.{append_broke, append_done, appended_keeps}
+use Rattle.logged_pages.proofs.Exits.{append_broke, append_done, appended_keeps}
 use Rattle.logged_pages.specs.KeptPages.{KeptPages}
 use Rattle.logged_pages.specs.LoggedState.{LoggedState, store_of}
 use Rattle.logged_pages.specs.Standing.{IsStanding}
-use Rattle.logged_pages.specs.Steps.{DiskLaws, areas_fit, none_waits}
+use Rattle.logged_pages.proofs.Steps.{DiskLaws, areas_fit, none_waits}
 use Rattle.logged_pages.proofs.logged.LoggedPages.append.Goals as goal
 
 pub append-requires : goal.append-requires

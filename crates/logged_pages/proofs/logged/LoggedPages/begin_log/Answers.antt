@@ -9,14 +9,14 @@ use Rattle.logged_pages.specs.KeptPages.{KeptPages, LeftStore, kept_on}
 use Rattle.logged_pages.specs.LoggedState.{LoggedState, store_of}
 use Rattle.logged_pages.specs.Room.{IsDurable}
 use Rattle.logged_pages.specs.Standing.{IsStanding}
-use Rattle.logged_pages.specs.Steps.{DiskLaws, areas_fit, none_waits}
+use Rattle.logged_pages.proofs.Steps.{DiskLaws, areas_fit, none_waits}
 use Rattle.std.specs.Prelude.{replicate}
 use Rattle.disk_trait.specs.IsStable.{IsStable}
 use Rattle.log_area.specs.Log.{Log}
 use Rattle.log_area.specs.Switched.{switched}
 use Rattle.logged_pages.specs.Clean.{AreClean}
-use Rattle.logged_pages.specs.Exits.{switch_keeps}
-use Rattle.logged_pages.specs.LogSteps.{all_false, all_unmarked, false_is, length_false, switch_failed, switch_standing}
+use Rattle.logged_pages.proofs.Exits.{switch_keeps}
+use Rattle.logged_pages.proofs.LogSteps.{all_false, all_unmarked, false_is, length_false, switch_failed, switch_standing}
 use Rattle.logged_pages.proofs.logged.LoggedPages.begin_log.Goals as goal
 
 pub switch-requires : goal.switch-requires

@@ -9,8 +9,8 @@ use Rattle.logged_pages.specs.KeptPages.{KeptPages, LeftStore, kept_on}
 use Rattle.logged_pages.specs.LoggedState.{LoggedState, store_of}
 use Rattle.logged_pages.specs.Room.{IsDurable}
 use Rattle.logged_pages.specs.Standing.{IsStanding}
-use Rattle.logged_pages.specs.Steps.{DiskLaws, areas_fit, none_waits}
-use Rattle.logged_pages.specs.Joining.{alike_on}
+use Rattle.logged_pages.proofs.Steps.{DiskLaws, areas_fit, none_waits}
+use Rattle.logged_pages.proofs.Joining.{alike_on}
 use Rattle.logged_pages.proofs.logged.LoggedPages.bring.Goals as goal
 
 pub returns-then-set-clause-kept : goal.returns-then-set-clause-kept

@@ -9,9 +9,9 @@ use Rattle.logged_pages.specs.KeptPages.{KeptPages, LeftStore, kept_on}
 use Rattle.logged_pages.specs.LoggedState.{LoggedState, store_of}
 use Rattle.logged_pages.specs.Room.{IsDurable}
 use Rattle.logged_pages.specs.Standing.{IsStanding}
-use Rattle.logged_pages.specs.Steps.{DiskLaws, areas_fit, none_waits}
-use Rattle.logged_pages.specs.CleanExits.{LeavesBroken, LeavesClean, durable_all, one_none, one_dirty, one_clean, one_cleaned, failed_leaves, page_cleaned, page_failed, untouched_leaves}
-use Rattle.logged_pages.specs.Exits.{keeps_all, lie_within, number_within}
+use Rattle.logged_pages.proofs.Steps.{DiskLaws, areas_fit, none_waits}
+use Rattle.logged_pages.proofs.CleanExits.{LeavesBroken, LeavesClean, durable_all, one_none, one_dirty, one_clean, one_cleaned, failed_leaves, page_cleaned, page_failed, untouched_leaves}
+use Rattle.logged_pages.proofs.Exits.{keeps_all, lie_within, number_within}
 use Rattle.logged_pages.proofs.logged.LoggedPages.clean_one.Goals as goal
 
 pub clean_one-requires : goal.clean_one-requires

@@ -9,9 +9,9 @@ use Rattle.logged_pages.specs.KeptPages.{KeptPages, LeftStore, kept_on}
 use Rattle.logged_pages.specs.LoggedState.{LoggedState, store_of}
 use Rattle.logged_pages.specs.Room.{IsDurable}
 use Rattle.logged_pages.specs.Standing.{IsStanding}
-use Rattle.logged_pages.specs.Steps.{DiskLaws, areas_fit, none_waits}
+use Rattle.logged_pages.proofs.Steps.{DiskLaws, areas_fit, none_waits}
 use Rattle.store_layout.specs.DiskLayout.{DiskLayout}
-use Rattle.logged_pages.specs.FullPool.{some_dirty}
+use Rattle.logged_pages.proofs.FullPool.{some_dirty}
 use Rattle.logged_pages.proofs.logged.LoggedPages.clean_some.Goals as goal
 
 pub returns-in_err-flush-clause-kept : goal.returns-in_err-flush-clause-kept

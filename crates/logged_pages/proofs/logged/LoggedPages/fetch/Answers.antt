@@ -9,7 +9,7 @@ use Rattle.logged_pages.specs.KeptPages.{KeptPages, LeftStore, kept_on}
 use Rattle.logged_pages.specs.LoggedState.{LoggedState, store_of}
 use Rattle.logged_pages.specs.Room.{IsDurable}
 use Rattle.logged_pages.specs.Standing.{IsStanding}
-use Rattle.logged_pages.specs.Steps.{DiskLaws, areas_fit, none_waits}
+use Rattle.logged_pages.proofs.Steps.{DiskLaws, areas_fit, none_waits}
 use Rattle.std.proofs.lemmas.List.{length-replicate}
 use Rattle.store_layout.specs.DiskLayout.{DiskLayout, IsPlace}
 use Rattle.disk_trait.specs.Told.{Told}
@@ -19,10 +19,10 @@ use Rattle.page_store.specs.Forms.{form_of}
 use Rattle.page_store.specs.PageMap.{page_at}
 use Rattle.page_store.specs.Keeps.{Tells}
 use Rattle.pooled_pages.specs.PageNumbers.{page_number}
-use Rattle.logged_pages.specs.Exits.{read_keeps}
-use Rattle.logged_pages.specs.LogSteps.{sync_standing}
-use Rattle.logged_pages.specs.SetExits.{fetched}
-use Rattle.logged_pages.specs.Steps.{checked_map}
+use Rattle.logged_pages.proofs.Exits.{read_keeps}
+use Rattle.logged_pages.proofs.LogSteps.{sync_standing}
+use Rattle.logged_pages.proofs.SetExits.{fetched}
+use Rattle.logged_pages.proofs.Steps.{checked_map}
 use Rattle.logged_pages.proofs.logged.LoggedPages.fetch.Goals as goal
 
 pub returns-in-Err-clause-kept : goal.returns-in-Err-clause-kept

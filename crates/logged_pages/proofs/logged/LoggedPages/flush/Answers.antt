@@ -9,8 +9,8 @@ use Rattle.logged_pages.specs.KeptPages.{KeptPages, LeftStore, kept_on}
 use Rattle.logged_pages.specs.LoggedState.{LoggedState, store_of}
 use Rattle.logged_pages.specs.Room.{IsDurable}
 use Rattle.logged_pages.specs.Standing.{IsStanding}
-use Rattle.logged_pages.specs.Steps.{DiskLaws, areas_fit, none_waits}
-use Rattle.logged_pages.specs.Exits.{keeps_all}
+use Rattle.logged_pages.proofs.Steps.{DiskLaws, areas_fit, none_waits}
+use Rattle.logged_pages.proofs.Exits.{keeps_all}
 use Rattle.logged_pages.proofs.logged.LoggedPages.flush.Goals as goal
 
 pub returns-then-is_empty-clause-sure : goal.returns-then-is_empty-clause-sure

@@ -9,15 +9,15 @@ use Rattle.logged_pages.specs.KeptPages.{KeptPages, LeftStore, kept_on}
 use Rattle.logged_pages.specs.LoggedState.{LoggedState, store_of}
 use Rattle.logged_pages.specs.Room.{IsDurable}
 use Rattle.logged_pages.specs.Standing.{IsStanding}
-use Rattle.logged_pages.specs.Steps.{DiskLaws, areas_fit, none_waits}
+use Rattle.logged_pages.proofs.Steps.{DiskLaws, areas_fit, none_waits}
 use Rattle.block_model.specs.declared.place.Place.{Place}
 use Rattle.store_layout.specs.DiskLayout.{IsPlace}
 use Rattle.page_store.specs.Forms.{IsPageIn}
 use Rattle.page_store.specs.Keeps.{Tells}
 use Rattle.page_store.specs.PageMap.{page_at}
 use Rattle.pooled_pages.specs.PageNumbers.{page_number}
-use Rattle.logged_pages.specs.MakeExits.{content_passes}
-use Rattle.logged_pages.specs.Steps.{checked_map}
+use Rattle.logged_pages.proofs.MakeExits.{content_passes}
+use Rattle.logged_pages.proofs.Steps.{checked_map}
 use Rattle.logged_pages.proofs.logged.LoggedPages.known.Goals as goal
 
 pub returns-clause-checked : goal.returns-clause-checked

@@ -9,7 +9,7 @@ use Rattle.logged_pages.specs.KeptPages.{KeptPages, LeftStore, kept_on}
 use Rattle.logged_pages.specs.LoggedState.{LoggedState, store_of}
 use Rattle.logged_pages.specs.Room.{IsDurable}
 use Rattle.logged_pages.specs.Standing.{IsStanding}
-use Rattle.logged_pages.specs.Steps.{DiskLaws, areas_fit, none_waits}
+use Rattle.logged_pages.proofs.Steps.{DiskLaws, areas_fit, none_waits}
 use Rattle.std.proofs.Common.{◌∷◌, []}
 use Rattle.std.specs.Prelude.{IsSome}
 use Rattle.store_layout.specs.DiskLayout.{DiskLayout, IsPlace}
@@ -24,7 +24,7 @@ use Rattle.pooled_pages.specs.PageNumbers.{page_number}
 use Rattle.pooled_pages.specs.Safe.{is_marked}
 use Rattle.logged_pages.specs.Begun.{HoldsOf, MakesHeld, RedoesHeld}
 use Rattle.logged_pages.specs.Made.{MakesPage, Misfits}
-use Rattle.logged_pages.specs.MakeExits.{LeavesMade, holds_of, made_leaves, misfit_alike, misfit_standing, misfit_untold}
+use Rattle.logged_pages.proofs.MakeExits.{LeavesMade, holds_of, made_leaves, misfit_alike, misfit_standing, misfit_untold}
 use Rattle.logged_pages.specs.Room.{HasRoom, bytes_for}
 use Rattle.logged_pages.proofs.logged.LoggedPages.make.Goals as goal
 

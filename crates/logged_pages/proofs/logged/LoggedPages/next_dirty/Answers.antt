@@ -9,10 +9,10 @@ use Rattle.logged_pages.specs.KeptPages.{KeptPages, LeftStore, kept_on}
 use Rattle.logged_pages.specs.LoggedState.{LoggedState, store_of}
 use Rattle.logged_pages.specs.Room.{IsDurable}
 use Rattle.logged_pages.specs.Standing.{IsStanding}
-use Rattle.logged_pages.specs.Steps.{DiskLaws, areas_fit, none_waits}
+use Rattle.logged_pages.proofs.Steps.{DiskLaws, areas_fit, none_waits}
 use Rattle.std.specs.Prelude.{IfSome}
 use Rattle.buffer_pool.specs.NextDirty.{IsNextDirty}
-use Rattle.logged_pages.specs.Exits.{next_small, next_within}
+use Rattle.logged_pages.proofs.Exits.{next_small, next_within}
 use Rattle.std.proofs.Common.{◌^◌}
 use Rattle.logged_pages.proofs.logged.LoggedPages.next_dirty.Goals as goal
 

@@ -9,15 +9,15 @@ use Rattle.logged_pages.specs.KeptPages.{KeptPages, LeftStore, kept_on}
 use Rattle.logged_pages.specs.LoggedState.{LoggedState, store_of}
 use Rattle.logged_pages.specs.Room.{IsDurable}
 use Rattle.logged_pages.specs.Standing.{IsStanding}
-use Rattle.logged_pages.specs.Steps.{DiskLaws, areas_fit, none_waits}
+use Rattle.logged_pages.proofs.Steps.{DiskLaws, areas_fit, none_waits}
 use Rattle.block_model.specs.declared.place.Place.{Place}
 use Rattle.store_layout.specs.DiskLayout.{IsPlace}
 use Rattle.buffer_pool.specs.SetsPage.{IsAllDirty, SetsPage}
 use Rattle.page_store.specs.Forms.{IsPageIn}
 use Rattle.page_store.specs.PageMap.{page_at}
 use Rattle.pooled_pages.specs.PageNumbers.{page_number}
-use Rattle.logged_pages.specs.SetExits.{LeavesHeld, none_clean, set_leaves}
-use Rattle.logged_pages.specs.Exits.{keeps_all}
+use Rattle.logged_pages.proofs.SetExits.{LeavesHeld, none_clean, set_leaves}
+use Rattle.logged_pages.proofs.Exits.{keeps_all}
 use Rattle.logged_pages.proofs.logged.LoggedPages.set.Goals as goal
 
 pub returns-in-Err-clause-refused : goal.returns-in-Err-clause-refused

@@ -9,9 +9,9 @@ use Rattle.logged_pages.specs.KeptPages.{KeptPages, LeftStore, kept_on}
 use Rattle.logged_pages.specs.LoggedState.{LoggedState, store_of}
 use Rattle.logged_pages.specs.Room.{IsDurable}
 use Rattle.logged_pages.specs.Standing.{IsStanding}
-use Rattle.logged_pages.specs.Steps.{DiskLaws, areas_fit, none_waits}
-use Rattle.logged_pages.specs.Exits.{keeps_all, sync_keeps}
-use Rattle.logged_pages.specs.LogSteps.{sync_standing}
+use Rattle.logged_pages.proofs.Steps.{DiskLaws, areas_fit, none_waits}
+use Rattle.logged_pages.proofs.Exits.{keeps_all, sync_keeps}
+use Rattle.logged_pages.proofs.LogSteps.{sync_standing}
 use Rattle.logged_pages.proofs.logged.LoggedPages.sync.Goals as goal
 
 pub invariant_of-self : goal.invariant_of-self

@@ -9,12 +9,12 @@ use Rattle.logged_pages.specs.KeptPages.{KeptPages, LeftStore, kept_on}
 use Rattle.logged_pages.specs.LoggedState.{LoggedState, store_of}
 use Rattle.logged_pages.specs.Room.{IsDurable}
 use Rattle.logged_pages.specs.Standing.{IsStanding}
-use Rattle.logged_pages.specs.Steps.{DiskLaws, areas_fit, none_waits}
+use Rattle.logged_pages.proofs.Steps.{DiskLaws, areas_fit, none_waits}
 use Rattle.buffer_pool.specs.NextDirty.{IsNextDirty}
 use Rattle.logged_pages.specs.Clean.{AreClean}
-use Rattle.logged_pages.specs.CleanExits.{all_clean, below_more, clean_at, on_ok}
-use Rattle.logged_pages.specs.Exits.{keeps_all}
-use Rattle.logged_pages.specs.Joining.{alike_on}
+use Rattle.logged_pages.proofs.CleanExits.{all_clean, below_more, clean_at, on_ok}
+use Rattle.logged_pages.proofs.Exits.{keeps_all}
+use Rattle.logged_pages.proofs.Joining.{alike_on}
 use Rattle.logged_pages.proofs.logged.LoggedPages.write_dirty.Goals as goal
 
 pub pages-init : goal.pages-init

@@ -22,9 +22,9 @@ use Rattle.page_store.specs.PageRoom.{IsRoom, NamesSlot}
 use Rattle.page_store.specs.Started.{AreFirst, started_count}
 use Rattle.pooled_pages.specs.ShownLaws.{shown_whole}
 use Rattle.logged_pages.specs.LoggedState.{LoggedState, store_of}
-use Rattle.logged_pages.specs.RelationSteps.{each_form, forms_count}
+use Rattle.logged_pages.proofs.RelationSteps.{each_form, forms_count}
 use Rattle.logged_pages.specs.StoreFacts.{AreKnown, facts_at}
-use Rattle.logged_pages.specs.StoreReads.{checked_all, facts_counted, facts_limit, room_free, room_full, room_unstarted, slot_named, state_count, state_first, state_maps, state_room}
+use Rattle.logged_pages.proofs.StoreReads.{checked_all, facts_counted, facts_limit, room_free, room_full, room_unstarted, slot_named, state_count, state_first, state_maps, state_room}
 use Rattle.logged_pages.proofs.store.PageStore.form.Goals as goal
 
 pub index-requires : goal.index-requires

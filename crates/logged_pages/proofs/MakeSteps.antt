@@ -31,7 +31,7 @@ use Rattle.pooled_pages.specs.SafeLaws.{all_append, at_append}
 use Rattle.pooled_pages.specs.ShownLaws.{one_number, same_place, shown_at, shown_whole}
 use Rattle.pooled_pages.specs.ShownPages.{content_at, shown_page, shown_pages}
 use Rattle.logged_pages.specs.Begun.{MakesHeld, RedoesHeld, Touched, begin_with, logged_for, with_changes}
-use Rattle.logged_pages.specs.PoolSteps.{put_apart, put_here}
+use Rattle.logged_pages.proofs.PoolSteps.{put_apart, put_here}
 use Rattle.logged_pages.specs.Room.{HasRoom, bytes_for, is_anew}
 use Rattle.logged_pages.specs.Standing.{IsSound, IsStanding}
 

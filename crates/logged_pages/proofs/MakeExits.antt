@@ -30,11 +30,11 @@ use Rattle.logged_pages.specs.Contents.{HoldsAlike}
 use Rattle.logged_pages.specs.KeptPages.{LeftStore}
 use Rattle.logged_pages.specs.LoggedState.{LoggedState, store_of}
 use Rattle.logged_pages.specs.Made.{MakesPage, Misfits}
-use Rattle.logged_pages.specs.MakeSteps.{GoesBehind, length_now, make_changed, make_standing, mark_own, put_else, put_own}
-use Rattle.logged_pages.specs.PoolSteps.{put_alike, put_apart, put_here}
+use Rattle.logged_pages.proofs.MakeSteps.{GoesBehind, length_now, make_changed, make_standing, mark_own, put_else, put_own}
+use Rattle.logged_pages.proofs.PoolSteps.{put_alike, put_apart, put_here}
 use Rattle.logged_pages.specs.Room.{HasRoom, bytes_for}
 use Rattle.logged_pages.specs.Standing.{IsStanding}
-use Rattle.logged_pages.specs.Steps.{DiskLaws, leaves_still}
+use Rattle.logged_pages.proofs.Steps.{DiskLaws, leaves_still}
 
 -- the page of a place that is held is one of its form
 pub holds_of : {D : Type 0} (told : D → Told) (s : LoggedState D) (failed : Option ℕ) → PagesFillDisk s.layout → IsStanding (told s.disk) s.layout s.log s.pool s.marks s.waiting failed → (place : Place) → IsPlace s.layout place → IsSome (held_at s.pool (page_number s.layout place))

@@ -14,13 +14,13 @@ use Rattle.log_area.specs.Log.{Log}
 use Rattle.change_buffer.specs.Waiting.{Waiting, no_changes}
 use Rattle.logged_pages.specs.Clean.{AreClean}
 use Rattle.logged_pages.specs.Contents.{HoldsAlike}
-use Rattle.logged_pages.specs.Exits.{read_keeps, write_keeps}
+use Rattle.logged_pages.proofs.Exits.{read_keeps, write_keeps}
 use Rattle.logged_pages.specs.KeptPages.{KeptPages}
 use Rattle.logged_pages.specs.LoggedState.{LoggedState, store_of}
-use Rattle.logged_pages.specs.PoolSteps.{Forgets, cleaned_alike, put_apart, put_here, write_failed, write_standing}
+use Rattle.logged_pages.proofs.PoolSteps.{Forgets, cleaned_alike, put_apart, put_here, write_failed, write_standing}
 use Rattle.logged_pages.specs.Room.{IsDurable}
 use Rattle.logged_pages.specs.Standing.{IsStanding}
-use Rattle.logged_pages.specs.Steps.{DiskLaws, OneByOne}
+use Rattle.logged_pages.proofs.Steps.{DiskLaws, OneByOne}
 
 -- what a page that was cleaned leaves
 pub record LeavesClean {D : Type 0} (told : D → Told) (s : LoggedState D) (d : D) (pool : PoolState) : Type 0 where

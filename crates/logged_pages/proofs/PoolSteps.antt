@@ -42,7 +42,7 @@ use Rattle.pooled_pages.specs.ShownPages.{content_at, shown_page, shown_pages}
 use Rattle.logged_pages.specs.Contents.{AddsOnly, HoldsAlike}
 use Rattle.logged_pages.specs.Room.{IsDurable}
 use Rattle.logged_pages.specs.Standing.{IsSound, IsStanding}
-use Rattle.logged_pages.specs.Steps.{OneByOne, no_bytes}
+use Rattle.logged_pages.proofs.Steps.{OneByOne, no_bytes}
 
 -- a change that makes the whole page forgets what stood there
 abbrev pub Forgets : Type 0

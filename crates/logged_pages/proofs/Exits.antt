@@ -26,11 +26,11 @@ use Rattle.logged_pages.specs.Clean.{AreClean}
 use Rattle.logged_pages.specs.Contents.{HoldsAlike}
 use Rattle.logged_pages.specs.KeptPages.{KeptPages, LeftStore}
 use Rattle.logged_pages.specs.LoggedState.{LoggedState, store_of}
-use Rattle.logged_pages.specs.LogSteps.{IsSame, same_opens, switch_opens, switch_pages, sync_moments}
-use Rattle.logged_pages.specs.PoolSteps.{Forgets, write_moments, write_opens, write_pages}
+use Rattle.logged_pages.proofs.LogSteps.{IsSame, same_opens, switch_opens, switch_pages, sync_moments}
+use Rattle.logged_pages.proofs.PoolSteps.{Forgets, write_moments, write_opens, write_pages}
 use Rattle.logged_pages.specs.Room.{IsDurable}
 use Rattle.logged_pages.specs.Standing.{IsStanding}
-use Rattle.logged_pages.specs.Steps.{DiskLaws, OneByOne, append_failed, append_standing, append_opens, append_pages, keeps_by, keeps_still}
+use Rattle.logged_pages.proofs.Steps.{DiskLaws, OneByOne, append_failed, append_standing, append_opens, append_pages, keeps_by, keeps_still}
 
 -- the pages that are held lie on the disk
 pub lie_within : (disk : Told) (layout : DiskLayout) (log : Log) (pool : PoolState) (marks : List Bool) (waiting : Waiting) (failed : Option ℕ) → PagesFillDisk layout → IsStanding disk layout log pool marks waiting failed → LieWithin pool 0 disk.size

@@ -32,7 +32,7 @@ use Rattle.pooled_pages.specs.ShownLaws.{shown_at, shown_whole}
 use Rattle.pooled_pages.specs.ShownPages.{content_at, shown_page, shown_pages}
 use Rattle.logged_pages.specs.Clean.{AreClean}
 use Rattle.logged_pages.specs.Standing.{IsSound, IsStanding}
-use Rattle.logged_pages.specs.Steps.{OneByOne, checked_map, no_bytes, pages_alike, shown_alike}
+use Rattle.logged_pages.proofs.Steps.{OneByOne, checked_map, no_bytes, pages_alike, shown_alike}
 
 -- the same image
 abbrev pub IsSame : List ℕ → List ℕ → Type 0

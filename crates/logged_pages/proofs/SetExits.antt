@@ -21,9 +21,9 @@ use Rattle.pooled_pages.specs.ShownPages.{shown_pages}
 use Rattle.logged_pages.specs.Contents.{AddsOnly}
 use Rattle.logged_pages.specs.KeptPages.{KeptPages}
 use Rattle.logged_pages.specs.LoggedState.{LoggedState, store_of}
-use Rattle.logged_pages.specs.SetSteps.{here, set_adds, set_pages, set_standing}
+use Rattle.logged_pages.proofs.SetSteps.{here, set_adds, set_pages, set_standing}
 use Rattle.logged_pages.specs.Standing.{IsStanding}
-use Rattle.logged_pages.specs.Steps.{DiskLaws, keeps_still}
+use Rattle.logged_pages.proofs.Steps.{DiskLaws, keeps_still}
 
 -- there are as many frames
 sets_frames : (old new : PoolState) (number : ℕ) (held : HeldPage) → SetsPage old number held new → new.frames ≡ old.frames

@@ -14,7 +14,7 @@ use Rattle.wal_record.specs.ChangeBytes.{bytes_of}
 use Rattle.buffer_pool.specs.PoolState.{HeldPage, PoolState, held_at}
 use Rattle.change_buffer.specs.Waiting.{Waiting, with_change}
 use Rattle.logged_pages.specs.Begun.{HoldsOf, MakesHeld, RedoesHeld, begin_with, logged_for, with_changes}
-use Rattle.logged_pages.specs.MakeSteps.{full_length}
+use Rattle.logged_pages.proofs.MakeSteps.{full_length}
 use Rattle.logged_pages.specs.Room.{bytes_for, bytes_with, is_anew}
 
 with_more : (begun : Bool) (waiting : Waiting) (place : Place) (page : List ℕ) (change : LoggedChange) → with_change (with_changes waiting (begin_with begun place page)) change ≡ with_changes waiting (logged_for begun place page change)
