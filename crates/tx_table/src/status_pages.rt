@@ -137,6 +137,7 @@ pub(crate) fn set_each<D: Disk + Drop>(
     ensures kept { IfErr result (KeepsUnlessDisk D.told pages.old pages.new) }
     ensures survives { Survives D.told (HasPart pages.old.layout pages.old.pages list.now status) pages.old pages.new }
     ensures rest { LeavesRest D.told pages.old pages.new }
+    ensures at { IfErr result (NamesStatuses pages.old.layout) }
     ensures outcome { Outcome D.told (Untold D.told pages.old) pages.old pages.new result }
 {
     match pages.ready() {
@@ -157,6 +158,7 @@ pub(crate) fn flush<D: Disk + Drop>(pages: &mut PageStore<D>) -> Result<(), Stor
     ensures durable { OnOk result (IsDurable D.told pages.new) }
     ensures kept { Keeps D.told pages.old pages.new }
     ensures survives { Survives D.told (IsBefore pages.old) pages.old pages.new }
+    ensures at { IfErr result (NamesStatuses pages.old.layout) }
     ensures outcome { Outcome D.told (Untold D.told pages.old) pages.old pages.new result }
 {
     pages.flush()

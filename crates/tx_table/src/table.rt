@@ -109,6 +109,7 @@ impl TxTable {
         ensures same { self.new ≡ self.old }
         ensures over { IsOver D.told self.new pages.new }
         ensures rest { LeavesRest D.told pages.old pages.new }
+        ensures at { IfErr result (NamesStatuses pages.old.layout) }
         ensures outcome { Outcome D.told (Untold D.told pages.old) pages.old pages.new result }
     {
         self.commit_all(pages, &[t])
@@ -137,6 +138,7 @@ impl TxTable {
         ensures same { self.new ≡ self.old }
         ensures over { IsOver D.told self.new pages.new }
         ensures rest { LeavesRest D.told pages.old pages.new }
+        ensures at { IfErr result (NamesStatuses pages.old.layout) }
         ensures outcome { Outcome D.told (Untold D.told pages.old) pages.old pages.new result }
     {
         match set_each(pages, list, Status::Committed) {
