@@ -1,6 +1,7 @@
 -- a change of a page in the pool, behind the page as it was
 use Rattle.std.proofs.Common.{◌≡◌, ℕ, ◌+◌, Bool, true, false, ◌||◌, cond, List, [], ◌∷◌, ◌++◌, length, set, get_or, refl, sym, ap, subst, ◌∙◌, arith, length-append}
 use Rattle.std.specs.Prelude.{Option, Some}
+use Rattle.std.proofs.lemmas.List.{set-set}
 use Rattle.std.specs.List.{AllByRecursion}
 use Rattle.block_model.specs.declared.limits.TheConstants.{PAGE_SIZE}
 use Rattle.block_model.specs.declared.place.Place.{Place}
@@ -13,7 +14,7 @@ use Rattle.wal_record.specs.Changes.{FullPage, IsChange, LoggedChange}
 use Rattle.wal_record.specs.ChangeBytes.{bytes_of}
 use Rattle.buffer_pool.specs.PoolState.{HeldPage, PoolState, held_at}
 use Rattle.change_buffer.specs.Waiting.{Waiting, with_change}
-use Rattle.logged_pages.specs.Begun.{HoldsOf, MakesHeld, RedoesHeld, begin_with, logged_for, with_changes}
+use Rattle.logged_pages.specs.Begun.{HoldsOf, MakesHeld, RedoesHeld, begin_with, logged_for, marked_from, with_changes}
 use Rattle.logged_pages.proofs.MakeSteps.{full_length}
 use Rattle.logged_pages.specs.Room.{bytes_for, bytes_with, is_anew}
 
@@ -59,3 +60,8 @@ makes_held form place number waits change waiting mid after marks pool other new
     (added ∙ ap (λ (w : Waiting). with_change w change) (begins page own.was) ∙ with_more (begun || is_anew change) waiting place page.content change)
     (redone_more (begun || is_anew change) form place page.content own.after change passes (bytes page own.was) own.redone)
     (all_more (begun || is_anew change) place page.content change (changes page own.was) is_change)
+
+-- the mark is set once
+pub marked_twice : (begun : Bool) (marks : List Bool) (number : ℕ) → set (marked_from begun marks number) number true ≡ set marks number true
+marked_twice true marks number = refl
+marked_twice false marks number = set-set marks number true true

@@ -18,3 +18,4 @@ pub mod HeldSteps
 pub mod StoreReads
 pub mod KnownSteps
 pub mod StoreWords
+pub mod RoomSteps

@@ -26,6 +26,11 @@ abbrev pub begin_with : Bool → Place → List ℕ → List LoggedChange
 begin_with true place page = []
 begin_with false place page = FullPage place page ∷ []
 
+-- the marks then
+abbrev pub marked_from : Bool → List Bool → ℕ → List Bool
+marked_from true marks number = marks
+marked_from false marks number = set marks number true
+
 -- a page of the form is held at the number
 pub record HoldsOf (form : Form) (number : ℕ) (pool : PoolState) : Type 0 where
   pub page : HeldPage

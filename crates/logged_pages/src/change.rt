@@ -1,6 +1,6 @@
 //! Changes of pages.
 
-ghost use Rattle.std.specs.Prelude.{◌≡◌, ◌≤◌, ◌<◌, ◌+◌, None, IsSome, true, false, [], ◌∷◌, length, IfErr, OnOk, OnErr};
+ghost use Rattle.std.specs.Prelude.{◌≡◌, ◌≤◌, ◌<◌, ◌+◌, ℕ, List, None, IsSome, true, false, [], ◌∷◌, length, IfErr, OnOk, OnErr};
 ghost use Rattle.store_layout.specs.DiskLayout.{IsPlace};
 ghost use Rattle.wal_record.specs.Changes.{AreSlots, HasSizes, PageStart as LoggedStart, logged, place_of};
 ghost use Rattle.page_store.specs.Changed.{Changed};
@@ -20,10 +20,12 @@ ghost use Rattle.logged_pages.specs.Made.{IsDamaged};
 ghost use Rattle.page_layout.specs.PageContents.{IsForm};
 
 use crate::facts::{facts_of_place, hold, note};
+use crate::forms::form_at;
 use crate::logged::{LoggedPages, MOST_BYTES};
 use block_model::{PAGE_SIZE, Place};
 use disk_trait::Disk;
-use page_layout::{Form, slots_are_read};
+use page_layout::{Form, Page, slots_are_read};
+use page_redo::{redo, redo_checked};
 use page_store::{FactList, PageFacts, StoreError, facts_after, tables_have_forms};
 use store_layout::pages_fill_the_disk;
 use wal_record::{Change, size};
@@ -81,19 +83,14 @@ pub fn start_page<D: Disk + Drop>(
     ensures outcome { Outcome D.told (Untold D.told (store_of D.told pages.old)) (store_of D.told pages.old) (store_of D.told pages.new) result }
     ensures facts { AreKnown D.told pages.new facts.new.items }
 {
-    tables_have_forms(pages.layout());
+    let form = form_at(forms, pages.layout(), place.relation);
     hold(pages, facts, forms, place)?;
-    if !is_loggable(change) {
+    if !takes_started(form, place, kind, change) {
         return Err(damaged(pages, place));
     }
     pages.make_room(place, true, START_BYTES + size(change))?;
-    make(
-        pages,
-        facts,
-        forms,
-        place,
-        &Change::PageStart { place, kind },
-    )?;
+    let start = Change::PageStart { place, kind };
+    make(pages, facts, forms, place, &start)?;
     make(pages, facts, forms, place, change)
 }
 
@@ -126,10 +123,9 @@ fn make<D: Disk + Drop>(
     ensures waiting { OnOk result (length pages.new.waiting.bytes ≡ length pages.old.waiting.bytes + bytes_for (is_marked pages.old.marks pages.old.layout place) (logged change.now)) }
     ensures marked { OnOk result (is_marked pages.new.marks pages.new.layout place ≡ true) }
 {
-    tables_have_forms(pages.layout());
     pages_fill_the_disk(pages.layout());
     slots_are_read();
-    let form = &forms[usize::from(place.relation)];
+    let form = form_at(forms, pages.layout(), place.relation);
     let old = facts_of_place(facts, place);
     let Ok(()) = pages.make(place, form, change) else {
         return Err(damaged(pages, place));
@@ -159,6 +155,23 @@ fn note_changed<D: Disk + Drop>(
     };
     let found = facts_after(page, form, change, old);
     note(facts, place, found);
+}
+
+/// Whether a page that is started as one of that kind takes the change.
+fn takes_started(form: &Form, place: Place, kind: u8, change: &Change<'_>) -> bool
+    requires form { IsForm form.now }
+    ensures takes { result ≡ true → IsLoggable (logged change.now) }
+    ensures refuses { result ≡ false → (page : List ℕ) → FitInTurn form.now page (LoggedStart place kind ∷ logged change.now ∷ []) → ⊥ }
+{
+    let mut page = Page::zeroed();
+    let start = Change::PageStart { place, kind };
+    if let Err(_) = redo(&mut page, &start, *form) {
+        return false;
+    }
+    match redo_checked(&mut page, change, *form) {
+        Ok(()) => true,
+        Err(_) => false,
+    }
 }
 
 /// Damage of the page at the place.

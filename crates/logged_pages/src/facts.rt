@@ -15,11 +15,12 @@ ghost use Rattle.logged_pages.specs.LoggedState.{store_of};
 ghost use Rattle.logged_pages.specs.StoreFacts.{AreKnown, IsFactPlace, facts_at};
 ghost use Rattle.logged_pages.specs.Noted.{NotesHeld, noted};
 
+use crate::forms::form_at;
 use crate::logged::LoggedPages;
 use block_model::Place;
 use disk_trait::Disk;
 use page_layout::{Form, is_index, slots_are_read};
-use page_store::{FactList, PageFacts, StoreError, facts_of, tables_have_forms};
+use page_store::{FactList, PageFacts, StoreError, facts_of};
 use store_layout::pages_fill_the_disk;
 
 /// Holds the page at the place, so that its facts are known.
@@ -38,10 +39,9 @@ pub fn hold<D: Disk + Drop>(
     ensures held { OnOk result (IsSome (held_at pages.new.pool (page_number pages.new.layout place))) }
     ensures facts { AreKnown D.told pages.new facts.new.items }
 {
-    tables_have_forms(pages.layout());
     pages_fill_the_disk(pages.layout());
     slots_are_read();
-    let form = &forms[usize::from(place.relation)];
+    let form = form_at(forms, pages.layout(), place.relation);
     if pages.hold(place, form)? {
         note_held(pages, facts, form, place);
     }

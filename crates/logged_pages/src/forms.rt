@@ -1,7 +1,9 @@
 //! The forms of the pages of a layout.
 
-ghost use Rattle.std.specs.Prelude.{◌≡◌, IfOk};
-ghost use Rattle.page_store.specs.Forms.{forms_of};
+ghost use Rattle.std.specs.Prelude.{◌≡◌, ◌<◌, length, IfOk};
+ghost use Rattle.store_layout.specs.DiskLayout.{relation_blocks};
+ghost use Rattle.page_layout.specs.PageContents.{IsForm};
+ghost use Rattle.page_store.specs.Forms.{form_of, forms_of};
 
 use block_model::NoMemory;
 use page_layout::{Form, heap_form};
@@ -28,4 +30,15 @@ pub fn forms_of(alloc: Global, layout: &Layout) -> Result<Vec<Form>, NoMemory>
         kinds.push_reserved(Form::Index);
     }
     Ok(kinds)
+}
+
+/// The form of the pages of the relation, among those of the layout.
+pub fn form_at<'a>(forms: &'a Vec<Form>, layout: &Layout, relation: u8) -> &'a Form
+    requires relation { relation < length (relation_blocks layout.now) }
+    requires forms { forms.now.items ≡ forms_of layout.now }
+    ensures form { result.now ≡ form_of layout.now relation }
+    ensures is { IsForm result.now }
+{
+    tables_have_forms(layout);
+    &forms[usize::from(relation)]
 }

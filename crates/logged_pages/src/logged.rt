@@ -514,7 +514,9 @@ impl<D: Disk + Drop> LoggedPages<D> {
         self.layout().known();
         let need = self.need(place, begins, size);
         self.make_buffer_room(need)?;
-        self.make_log_room(need)
+        self.make_log_room(need)?;
+        self.known();
+        Ok(())
     }
 
     /// How many bytes a change of so many bytes of the page at the place takes.

@@ -8,7 +8,7 @@ ghost use Rattle.page_layout.specs.PageContents.{IsForm};
 ghost use Rattle.std.specs.List.{AllByRecursion};
 ghost use Rattle.wal_record.specs.Changes.{IsChange, logged};
 ghost use Rattle.buffer_pool.specs.PoolState.{HeldPage, held_at};
-ghost use Rattle.logged_pages.specs.Begun.{HoldsOf, MakesHeld, RedoesHeld, begin_with, with_changes};
+ghost use Rattle.logged_pages.specs.Begun.{HoldsOf, MakesHeld, RedoesHeld, begin_with, marked_from, with_changes};
 ghost use Rattle.logged_pages.specs.Made.{Misfits};
 ghost use Rattle.logged_pages.specs.Room.{IsLoggable, bytes_for, is_anew};
 ghost use Rattle.change_buffer.specs.declared.buffer.TheConstants.{BUFFER_SIZE};
@@ -94,24 +94,29 @@ pub fn make_held(
     ensures few { length waiting.new.bytes ≤ length waiting.old.bytes + bytes_for (slice_index_or marks.old.items at.number false) (logged change.now) }
 {
     let begun = marks[at.number as usize];
-    begin(waiting, pool, at, begun, change);
+    begin(waiting, marks, pool, at, begun, change);
     redo_held(pool, at.number, at.waits, change, form)?;
     waiting.add(change);
     marks[at.number as usize] = true;
     Ok(())
 }
 
-/// Lets the page that is held there wait for the log as it is, where the log hasn't begun it and the change doesn't.
+/// Lets the page that is held there wait for the log as it is and marks it, where the log hasn't begun it and the change
+/// doesn't.
 fn begin(
     waiting: &mut ChangeBuffer,
+    marks: &mut Vec<bool>,
     pool: &mut Pool,
     at: HeldPlace,
     begun: bool,
     change: &Change<'_>,
 )
     requires held { (page : HeldPage) × (held_at pool.old at.number ≡ Some page) }
+    requires marks { at.number < length marks.old.items }
     requires room { length waiting.old.bytes + bytes_for begun (logged change.now) ≤ BUFFER_SIZE }
     ensures same { pool.new ≡ pool.old }
+    ensures marks { marks.new.items ≡ marked_from (begun || is_anew (logged change.now)) marks.old.items at.number }
+    ensures many { length marks.new.items ≡ length marks.old.items }
     ensures begun { (page : HeldPage) → held_at pool.old at.number ≡ Some page → waiting.new ≡ with_changes waiting.old (begin_with (begun || is_anew (logged change.now)) at.place page.content) }
     ensures bytes { (page : HeldPage) → held_at pool.old at.number ≡ Some page → (begun || is_anew (logged change.now)) ≡ false → (length page.content ≡ PAGE_SIZE) × AreBytes page.content }
     ensures changes { (page : HeldPage) → held_at pool.old at.number ≡ Some page → AllByRecursion IsChange (begin_with (begun || is_anew (logged change.now)) at.place page.content) }
@@ -129,4 +134,5 @@ fn begin(
     let place = at.place;
     let bytes = page.as_bytes();
     waiting.add(&Change::FullPage { place, bytes });
+    marks[at.number as usize] = true;
 }

@@ -69,12 +69,7 @@ fn maps_of(page: &Page, form: &Form) -> u32
 }
 
 /// The facts of a page that passes its check, after a change, where they were these before.
-pub fn facts_after(
-    page: &Page,
-    form: &Form,
-    change: &Change<'_>,
-    old: &PageFacts,
-) -> PageFacts
+pub fn facts_after(page: &Page, form: &Form, change: &Change<'_>, old: &PageFacts) -> PageFacts
     requires form { IsForm form.now }
     requires page { IsPageOf form.now page.now }
     requires made { IsMadeFrom form.now old.now (logged change.now) page.now }

@@ -1,29 +1,24 @@
-use Rattle.std.proofs.Common.{◌≡◌, ◌≢◌, ◌⊎◌, inl, inr, ◌≤◌, ◌<◌, ◌+◌, ◌||◌, ℕ, Bool, true, false, List, [], ◌∷◌, length, get_or, refl, sym, ap, subst, ◌∙◌, arith}
-use Rattle.std.specs.Prelude.{IsTrue, Option, None, Some, IsSome, ⊤}
+use Rattle.std.proofs.Common.{◌||◌, ℕ, Bool, [], ◌∷◌, sym, ap, subst, ◌∙◌, arith}
+use Rattle.std.specs.Prelude.{IsSome, ⊤}
 use Rattle.std.specs.List.{All}
-use Rattle.block_model.specs.declared.place.Place.{Place}
-use Rattle.store_layout.specs.DiskLayout.{DiskLayout, IsPlace}
-use Rattle.page_layout.specs.declared.page.Form.{Form}
+use Rattle.store_layout.specs.DiskLayout.{DiskLayout}
 use Rattle.page_layout.specs.PageContents.{IsForm}
-use Rattle.wal_record.specs.ChangeBytes.{bytes_of}
-use Rattle.wal_record.specs.Changes.{PageStart, logged}
-use Rattle.page_store.specs.Changed.{Changed}
-use Rattle.page_store.specs.Forms.{HasForm, FitsIn, FitInTurn, form_of, forms_of}
-use Rattle.page_store.specs.Keeps.{Tells, Untold}
-use Rattle.page_store.specs.PageMap.{PageMap, View, page_at}
+use Rattle.wal_record.specs.Changes.{logged}
+use Rattle.page_store.specs.Forms.{HasForm, form_of, forms_of}
+use Rattle.page_store.specs.Keeps.{Untold}
+use Rattle.page_store.specs.PageMap.{View, page_at}
 use Rattle.buffer_pool.specs.PoolState.{held_at}
 use Rattle.pooled_pages.specs.PageNumbers.{page_number}
 use Rattle.pooled_pages.specs.Safe.{is_marked}
-use Rattle.logged_pages.proofs.ChangeSteps.{alike_held, is_false, changed_from, changed_twice, damage_outcome, damaged_at, disk_at, fits_from, made_at, made_changed, made_kept, made_outcome, place_from, room_for, second_fits, start_length, start_loggable, turn_from, untold_from, untold_keeps}
+use Rattle.logged_pages.proofs.ChangeSteps.{alike_held, is_false, damage_outcome, damaged_at, fits_from, made_at, made_changed, made_kept, made_outcome, place_from}
 use Rattle.page_store.proofs.Lookups.{on_err}
 use Rattle.logged_pages.proofs.Joining.{outcome_then}
-use Rattle.logged_pages.specs.KeptPages.{KeptPages, LeftStore, kept_on, kept_then}
+use Rattle.logged_pages.specs.KeptPages.{KeptPages, kept_on, kept_then}
 use Rattle.logged_pages.proofs.KnownSteps.{known_kept}
 use Rattle.logged_pages.proofs.Loggable.{fits_loggable}
 use Rattle.logged_pages.specs.LoggedState.{LoggedState, store_of}
 use Rattle.logged_pages.proofs.RelationSteps.{each_form}
-use Rattle.logged_pages.specs.Room.{HasRoom, IsLoggable, bytes_for, bytes_with, is_anew}
-use Rattle.logged_pages.specs.StoreFacts.{AreKnown}
+use Rattle.logged_pages.specs.Room.{HasRoom, bytes_with, is_anew}
 use Rattle.logged_pages.proofs.change.change_page.Goals as goal
 
 pub returns-then-not-is_loggable-clause-outcome : goal.returns-then-not-is_loggable-clause-outcome
@@ -44,7 +39,6 @@ pub returns-then-not-is_loggable-clause-at : goal.returns-then-not-is_loggable-c
 returns-then-not-is_loggable-clause-at g c =
     let told = g.D.Disk.told in
     let place = c.args.place in
-    let change = logged c.args.change.now in
     let begin : LoggedState g.row.D.Denot = c.args.pages.now in
     let old : View g.row.D.Denot = store_of told begin in
     let held : LoggedState g.row.D.Denot = c.hold.new.pages in
@@ -55,7 +49,6 @@ pub damaged-requires : goal.damaged-requires
 damaged-requires g c =
     let told = g.D.Disk.told in
     let place = c.args.place in
-    let change = logged c.args.change.now in
     let begin : LoggedState g.row.D.Denot = c.args.pages.now in
     let old : View g.row.D.Denot = store_of told begin in
     let held : LoggedState g.row.D.Denot = c.hold.new.pages in
@@ -66,19 +59,15 @@ pub make_room-requires-clause-place : goal.make_room-requires-clause-place
 make_room-requires-clause-place g c =
     let told = g.D.Disk.told in
     let place = c.args.place in
-    let change = logged c.args.change.now in
     let begin : LoggedState g.row.D.Denot = c.args.pages.now in
     let old : View g.row.D.Denot = store_of told begin in
     let held : LoggedState g.row.D.Denot = c.hold.new.pages in
     let mid : View g.row.D.Denot = store_of told held in
     place_from told old mid c.hold.ensures.kept place c.requires.place
 
-
 pub returns-in_err-make_room-clause-leaves : goal.returns-in_err-make_room-clause-leaves
 returns-in_err-make_room-clause-leaves g c =
     let told = g.D.Disk.told in
-    let place = c.args.place in
-    let change = logged c.args.change.now in
     let begin : LoggedState g.row.D.Denot = c.args.pages.now in
     let old : View g.row.D.Denot = store_of told begin in
     let held : LoggedState g.row.D.Denot = c.hold.new.pages in
@@ -88,27 +77,17 @@ returns-in_err-make_room-clause-leaves g c =
     let keeps : KeptPages told old room = kept_on told old mid room c.hold.ensures.kept c.make_room.ensures.kept in
     keeps.leaves
 
-
-
 pub returns-in_err-make_room-clause-facts : goal.returns-in_err-make_room-clause-facts
 returns-in_err-make_room-clause-facts g c =
     let told = g.D.Disk.told in
-    let place = c.args.place in
-    let change = logged c.args.change.now in
-    let begin : LoggedState g.row.D.Denot = c.args.pages.now in
-    let old : View g.row.D.Denot = store_of told begin in
     let held : LoggedState g.row.D.Denot = c.hold.new.pages in
-    let mid : View g.row.D.Denot = store_of told held in
     let roomed : LoggedState g.row.D.Denot = c.make_room.new.self in
-    let room : View g.row.D.Denot = store_of told roomed in
-    let keeps : KeptPages told old room = kept_on told old mid room c.hold.ensures.kept c.make_room.ensures.kept in
     known_kept told held roomed c.hold.new.facts.items c.hold.ensures.facts c.make_room.ensures.kept c.make_room.ensures.alike
 
 pub make-requires-clause-place : goal.make-requires-clause-place
 make-requires-clause-place g c =
     let told = g.D.Disk.told in
     let place = c.args.place in
-    let change = logged c.args.change.now in
     let begin : LoggedState g.row.D.Denot = c.args.pages.now in
     let old : View g.row.D.Denot = store_of told begin in
     let held : LoggedState g.row.D.Denot = c.hold.new.pages in
@@ -121,8 +100,6 @@ make-requires-clause-place g c =
 pub make-requires-clause-forms : goal.make-requires-clause-forms
 make-requires-clause-forms g c =
     let told = g.D.Disk.told in
-    let place = c.args.place in
-    let change = logged c.args.change.now in
     let begin : LoggedState g.row.D.Denot = c.args.pages.now in
     let old : View g.row.D.Denot = store_of told begin in
     let held : LoggedState g.row.D.Denot = c.hold.new.pages in
@@ -135,43 +112,19 @@ make-requires-clause-forms g c =
 pub make-requires-clause-facts : goal.make-requires-clause-facts
 make-requires-clause-facts g c =
     let told = g.D.Disk.told in
-    let place = c.args.place in
-    let change = logged c.args.change.now in
-    let begin : LoggedState g.row.D.Denot = c.args.pages.now in
-    let old : View g.row.D.Denot = store_of told begin in
     let held : LoggedState g.row.D.Denot = c.hold.new.pages in
-    let mid : View g.row.D.Denot = store_of told held in
     let roomed : LoggedState g.row.D.Denot = c.make_room.new.self in
-    let room : View g.row.D.Denot = store_of told roomed in
-    let keeps : KeptPages told old room = kept_on told old mid room c.hold.ensures.kept c.make_room.ensures.kept in
     known_kept told held roomed c.hold.new.facts.items c.hold.ensures.facts c.make_room.ensures.kept c.make_room.ensures.alike
 
 pub make-requires-clause-failed : goal.make-requires-clause-failed
 make-requires-clause-failed g c =
-    let told = g.D.Disk.told in
-    let place = c.args.place in
-    let change = logged c.args.change.now in
-    let begin : LoggedState g.row.D.Denot = c.args.pages.now in
-    let old : View g.row.D.Denot = store_of told begin in
-    let held : LoggedState g.row.D.Denot = c.hold.new.pages in
-    let mid : View g.row.D.Denot = store_of told held in
-    let roomed : LoggedState g.row.D.Denot = c.make_room.new.self in
-    let room : View g.row.D.Denot = store_of told roomed in
-    let keeps : KeptPages told old room = kept_on told old mid room c.hold.ensures.kept c.make_room.ensures.kept in
     c.in_ok-make_room.ensures.outcome.1
 
 pub make-requires-clause-held : goal.make-requires-clause-held
 make-requires-clause-held g c =
-    let told = g.D.Disk.told in
     let place = c.args.place in
-    let change = logged c.args.change.now in
-    let begin : LoggedState g.row.D.Denot = c.args.pages.now in
-    let old : View g.row.D.Denot = store_of told begin in
     let held : LoggedState g.row.D.Denot = c.hold.new.pages in
-    let mid : View g.row.D.Denot = store_of told held in
     let roomed : LoggedState g.row.D.Denot = c.make_room.new.self in
-    let room : View g.row.D.Denot = store_of told roomed in
-    let keeps : KeptPages told old room = kept_on told old mid room c.hold.ensures.kept c.make_room.ensures.kept in
     alike_held held.pool roomed.pool c.make_room.ensures.alike (page_number roomed.layout place)
     (subst (λ (l : DiskLayout). IsSome (held_at held.pool (page_number l place))) (sym c.make_room.ensures.kept.leaves.layout) c.in_ok-hold.ensures.held)
 
@@ -191,16 +144,9 @@ make-requires-clause-fits g c =
 
 pub make-requires-clause-room : goal.make-requires-clause-room
 make-requires-clause-room g c =
-    let told = g.D.Disk.told in
     let place = c.args.place in
     let change = logged c.args.change.now in
-    let begin : LoggedState g.row.D.Denot = c.args.pages.now in
-    let old : View g.row.D.Denot = store_of told begin in
-    let held : LoggedState g.row.D.Denot = c.hold.new.pages in
-    let mid : View g.row.D.Denot = store_of told held in
     let roomed : LoggedState g.row.D.Denot = c.make_room.new.self in
-    let room : View g.row.D.Denot = store_of told roomed in
-    let keeps : KeptPages told old room = kept_on told old mid room c.hold.ensures.kept c.make_room.ensures.kept in
     subst (λ (n : ℕ). HasRoom roomed.log roomed.waiting (bytes_with (is_marked roomed.marks roomed.layout place || is_anew change) n)) c.size.ensures
     (subst (λ (b : Bool). HasRoom roomed.log roomed.waiting (bytes_with (is_marked roomed.marks roomed.layout place || b) c.size.result)) c.is_anew.ensures c.in_ok-make_room.ensures.room)
 
@@ -222,8 +168,6 @@ returns-clause-changed g c =
 pub returns-clause-leaves : goal.returns-clause-leaves
 returns-clause-leaves g c =
     let told = g.D.Disk.told in
-    let place = c.args.place in
-    let change = logged c.args.change.now in
     let begin : LoggedState g.row.D.Denot = c.args.pages.now in
     let old : View g.row.D.Denot = store_of told begin in
     let held : LoggedState g.row.D.Denot = c.hold.new.pages in
@@ -237,8 +181,6 @@ returns-clause-leaves g c =
 pub returns-clause-kept : goal.returns-clause-kept
 returns-clause-kept g c =
     let told = g.D.Disk.told in
-    let place = c.args.place in
-    let change = logged c.args.change.now in
     let begin : LoggedState g.row.D.Denot = c.args.pages.now in
     let old : View g.row.D.Denot = store_of told begin in
     let held : LoggedState g.row.D.Denot = c.hold.new.pages in
@@ -253,7 +195,6 @@ pub returns-clause-at : goal.returns-clause-at
 returns-clause-at g c =
     let told = g.D.Disk.told in
     let place = c.args.place in
-    let change = logged c.args.change.now in
     let begin : LoggedState g.row.D.Denot = c.args.pages.now in
     let old : View g.row.D.Denot = store_of told begin in
     let held : LoggedState g.row.D.Denot = c.hold.new.pages in
@@ -261,14 +202,12 @@ returns-clause-at g c =
     let roomed : LoggedState g.row.D.Denot = c.make_room.new.self in
     let room : View g.row.D.Denot = store_of told roomed in
     let keeps : KeptPages told old room = kept_on told old mid room c.hold.ensures.kept c.make_room.ensures.kept in
-    let new : View g.row.D.Denot = store_of told c.make.new.pages in
     made_at told old room keeps place c.make.result c.make.ensures.refused
 
 pub returns-clause-outcome : goal.returns-clause-outcome
 returns-clause-outcome g c =
     let told = g.D.Disk.told in
     let place = c.args.place in
-    let change = logged c.args.change.now in
     let begin : LoggedState g.row.D.Denot = c.args.pages.now in
     let old : View g.row.D.Denot = store_of told begin in
     let held : LoggedState g.row.D.Denot = c.hold.new.pages in
@@ -283,8 +222,6 @@ returns-clause-outcome g c =
 pub returns-in_err-make_room-clause-kept : goal.returns-in_err-make_room-clause-kept
 returns-in_err-make_room-clause-kept g c =
     let told = g.D.Disk.told in
-    let place = c.args.place in
-    let change = logged c.args.change.now in
     let begin : LoggedState g.row.D.Denot = c.args.pages.now in
     let old : View g.row.D.Denot = store_of told begin in
     let held : LoggedState g.row.D.Denot = c.hold.new.pages in

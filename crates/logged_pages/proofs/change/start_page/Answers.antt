@@ -1,36 +1,47 @@
-use Rattle.std.proofs.Common.{◌≡◌, ◌≢◌, ◌⊎◌, inl, inr, ◌≤◌, ◌<◌, ◌+◌, ◌||◌, ℕ, Bool, true, false, List, [], ◌∷◌, length, get_or, refl, sym, ap, subst, ◌∙◌, arith}
-use Rattle.std.specs.Prelude.{IsTrue, Option, None, Some, IsSome, ⊤}
-use Rattle.std.specs.List.{All}
-use Rattle.block_model.specs.declared.place.Place.{Place}
-use Rattle.store_layout.specs.DiskLayout.{DiskLayout, IsPlace}
+use Rattle.std.proofs.Common.{◌≡◌, ◌<◌, [], ◌∷◌, length, sym, ap, subst, ◌∙◌, arith}
+use Rattle.std.specs.Prelude.{IsSome, ⊤}
+use Rattle.store_layout.specs.DiskLayout.{DiskLayout, IsPlace, relation_blocks}
 use Rattle.page_layout.specs.declared.page.Form.{Form}
-use Rattle.page_layout.specs.PageContents.{IsForm}
-use Rattle.wal_record.specs.ChangeBytes.{bytes_of}
 use Rattle.wal_record.specs.Changes.{PageStart, logged}
 use Rattle.page_store.specs.Changed.{Changed}
-use Rattle.page_store.specs.Forms.{HasForm, FitsIn, FitInTurn, form_of, forms_of}
+use Rattle.page_store.specs.Forms.{FitsIn, FitInTurn, form_of, forms_of}
 use Rattle.page_store.specs.Keeps.{Tells, Untold}
-use Rattle.page_store.specs.PageMap.{PageMap, View, page_at}
+use Rattle.page_store.specs.PageMap.{View, page_at}
 use Rattle.buffer_pool.specs.PoolState.{held_at}
 use Rattle.pooled_pages.specs.PageNumbers.{page_number}
 use Rattle.pooled_pages.specs.Safe.{is_marked}
-use Rattle.logged_pages.proofs.ChangeSteps.{alike_held, is_false, twice_leaves, damage_back, room_second, room_start, turn_changed, untold_back, changed_from, changed_twice, damage_outcome, damaged_at, disk_at, fits_from, made_at, made_changed, made_kept, made_outcome, place_from, room_for, second_fits, start_length, start_loggable, turn_from, untold_from, untold_keeps}
+use Rattle.logged_pages.proofs.ChangeSteps.{alike_held, is_false, twice_leaves, damage_back, room_second, room_start, turn_changed, untold_back, damage_outcome, damaged_at, made_at, made_kept, made_outcome, place_from, second_fits, start_loggable, turn_from}
 use Rattle.page_store.proofs.Lookups.{on_err}
 use Rattle.logged_pages.proofs.Joining.{outcome_then}
 use Rattle.logged_pages.specs.KeptPages.{KeptPages, LeftStore, kept_on, kept_then}
 use Rattle.logged_pages.proofs.KnownSteps.{known_kept}
-use Rattle.logged_pages.proofs.Loggable.{fits_loggable}
 use Rattle.logged_pages.specs.LoggedState.{LoggedState, store_of}
-use Rattle.logged_pages.proofs.RelationSteps.{each_form}
-use Rattle.logged_pages.specs.Room.{HasRoom, IsLoggable, bytes_for, bytes_with, is_anew}
-use Rattle.logged_pages.specs.StoreFacts.{AreKnown}
 use Rattle.logged_pages.proofs.change.start_page.Goals as goal
 
-pub returns-then-not-is_loggable-clause-at : goal.returns-then-not-is_loggable-clause-at
-returns-then-not-is_loggable-clause-at g c =
+pub form_at-requires-clause-relation : goal.form_at-requires-clause-relation
+form_at-requires-clause-relation g c = subst (λ (l : DiskLayout). c.args.place.relation < length (relation_blocks l)) (sym c.layout.ensures) c.requires.place.relation
+
+pub form_at-requires-clause-forms : goal.form_at-requires-clause-forms
+form_at-requires-clause-forms g c = c.requires.forms ∙ ap forms_of (sym c.layout.ensures)
+
+pub returns-then-not-takes_started-clause-outcome : goal.returns-then-not-takes_started-clause-outcome
+returns-then-not-takes_started-clause-outcome g c =
     let told = g.D.Disk.told in
     let place = c.args.place in
     let change = logged c.args.change.now in
+    let begin : LoggedState g.row.D.Denot = c.args.pages.now in
+    let old : View g.row.D.Denot = store_of told begin in
+    let held : LoggedState g.row.D.Denot = c.hold.new.pages in
+    let mid : View g.row.D.Denot = store_of told held in
+    let form : c.form_at-form.result.now ≡ form_of begin.layout place.relation = c.form_at-form.ensures.form ∙ ap (λ (l : DiskLayout). form_of l c.args.place.relation) c.layout.ensures in
+    let untold : Untold told old = λ tells. c.takes_started.ensures.refuses (is_false c.takes_started.result c.if-not-takes_started.true) (page_at old.pages place)
+    (subst (λ (f : Form). FitInTurn f (page_at old.pages place) (PageStart place c.args.kind ∷ change ∷ [])) (sym form) (c.requires.fits tells)) in
+    outcome_then told old mid mid _ c.in_ok-hold.ensures.outcome.0 c.in_ok-hold.ensures.outcome.1 c.hold.ensures.kept.leaves (damage_outcome ⊤ told mid mid held.layout place c.damaged.result c.in_ok-hold.ensures.outcome.1 c.in_ok-hold.ensures.outcome.1 (omega arith) c.damaged.ensures (λ tells. untold (sym c.hold.ensures.kept.leaves.tells ∙ tells)))
+
+pub returns-then-not-takes_started-clause-at : goal.returns-then-not-takes_started-clause-at
+returns-then-not-takes_started-clause-at g c =
+    let told = g.D.Disk.told in
+    let place = c.args.place in
     let begin : LoggedState g.row.D.Denot = c.args.pages.now in
     let old : View g.row.D.Denot = store_of told begin in
     let held : LoggedState g.row.D.Denot = c.hold.new.pages in
@@ -41,7 +52,6 @@ pub damaged-requires : goal.damaged-requires
 damaged-requires g c =
     let told = g.D.Disk.told in
     let place = c.args.place in
-    let change = logged c.args.change.now in
     let begin : LoggedState g.row.D.Denot = c.args.pages.now in
     let old : View g.row.D.Denot = store_of told begin in
     let held : LoggedState g.row.D.Denot = c.hold.new.pages in
@@ -52,19 +62,15 @@ pub make_room-requires-clause-place : goal.make_room-requires-clause-place
 make_room-requires-clause-place g c =
     let told = g.D.Disk.told in
     let place = c.args.place in
-    let change = logged c.args.change.now in
     let begin : LoggedState g.row.D.Denot = c.args.pages.now in
     let old : View g.row.D.Denot = store_of told begin in
     let held : LoggedState g.row.D.Denot = c.hold.new.pages in
     let mid : View g.row.D.Denot = store_of told held in
     place_from told old mid c.hold.ensures.kept place c.requires.place
 
-
 pub returns-in_err-make_room-clause-leaves : goal.returns-in_err-make_room-clause-leaves
 returns-in_err-make_room-clause-leaves g c =
     let told = g.D.Disk.told in
-    let place = c.args.place in
-    let change = logged c.args.change.now in
     let begin : LoggedState g.row.D.Denot = c.args.pages.now in
     let old : View g.row.D.Denot = store_of told begin in
     let held : LoggedState g.row.D.Denot = c.hold.new.pages in
@@ -74,27 +80,17 @@ returns-in_err-make_room-clause-leaves g c =
     let keeps : KeptPages told old room = kept_on told old mid room c.hold.ensures.kept c.make_room.ensures.kept in
     keeps.leaves
 
-
-
 pub returns-in_err-make_room-clause-facts : goal.returns-in_err-make_room-clause-facts
 returns-in_err-make_room-clause-facts g c =
     let told = g.D.Disk.told in
-    let place = c.args.place in
-    let change = logged c.args.change.now in
-    let begin : LoggedState g.row.D.Denot = c.args.pages.now in
-    let old : View g.row.D.Denot = store_of told begin in
     let held : LoggedState g.row.D.Denot = c.hold.new.pages in
-    let mid : View g.row.D.Denot = store_of told held in
     let roomed : LoggedState g.row.D.Denot = c.make_room.new.self in
-    let room : View g.row.D.Denot = store_of told roomed in
-    let keeps : KeptPages told old room = kept_on told old mid room c.hold.ensures.kept c.make_room.ensures.kept in
     known_kept told held roomed c.hold.new.facts.items c.hold.ensures.facts c.make_room.ensures.kept c.make_room.ensures.alike
 
 pub make-requires-clause-place : goal.make-requires-clause-place
 make-requires-clause-place g c =
     let told = g.D.Disk.told in
     let place = c.args.place in
-    let change = logged c.args.change.now in
     let begin : LoggedState g.row.D.Denot = c.args.pages.now in
     let old : View g.row.D.Denot = store_of told begin in
     let held : LoggedState g.row.D.Denot = c.hold.new.pages in
@@ -107,8 +103,6 @@ make-requires-clause-place g c =
 pub make-requires-clause-forms : goal.make-requires-clause-forms
 make-requires-clause-forms g c =
     let told = g.D.Disk.told in
-    let place = c.args.place in
-    let change = logged c.args.change.now in
     let begin : LoggedState g.row.D.Denot = c.args.pages.now in
     let old : View g.row.D.Denot = store_of told begin in
     let held : LoggedState g.row.D.Denot = c.hold.new.pages in
@@ -121,43 +115,19 @@ make-requires-clause-forms g c =
 pub make-requires-clause-facts : goal.make-requires-clause-facts
 make-requires-clause-facts g c =
     let told = g.D.Disk.told in
-    let place = c.args.place in
-    let change = logged c.args.change.now in
-    let begin : LoggedState g.row.D.Denot = c.args.pages.now in
-    let old : View g.row.D.Denot = store_of told begin in
     let held : LoggedState g.row.D.Denot = c.hold.new.pages in
-    let mid : View g.row.D.Denot = store_of told held in
     let roomed : LoggedState g.row.D.Denot = c.make_room.new.self in
-    let room : View g.row.D.Denot = store_of told roomed in
-    let keeps : KeptPages told old room = kept_on told old mid room c.hold.ensures.kept c.make_room.ensures.kept in
     known_kept told held roomed c.hold.new.facts.items c.hold.ensures.facts c.make_room.ensures.kept c.make_room.ensures.alike
 
 pub make-requires-clause-failed : goal.make-requires-clause-failed
 make-requires-clause-failed g c =
-    let told = g.D.Disk.told in
-    let place = c.args.place in
-    let change = logged c.args.change.now in
-    let begin : LoggedState g.row.D.Denot = c.args.pages.now in
-    let old : View g.row.D.Denot = store_of told begin in
-    let held : LoggedState g.row.D.Denot = c.hold.new.pages in
-    let mid : View g.row.D.Denot = store_of told held in
-    let roomed : LoggedState g.row.D.Denot = c.make_room.new.self in
-    let room : View g.row.D.Denot = store_of told roomed in
-    let keeps : KeptPages told old room = kept_on told old mid room c.hold.ensures.kept c.make_room.ensures.kept in
     c.in_ok-make_room.ensures.outcome.1
 
 pub make-requires-clause-held : goal.make-requires-clause-held
 make-requires-clause-held g c =
-    let told = g.D.Disk.told in
     let place = c.args.place in
-    let change = logged c.args.change.now in
-    let begin : LoggedState g.row.D.Denot = c.args.pages.now in
-    let old : View g.row.D.Denot = store_of told begin in
     let held : LoggedState g.row.D.Denot = c.hold.new.pages in
-    let mid : View g.row.D.Denot = store_of told held in
     let roomed : LoggedState g.row.D.Denot = c.make_room.new.self in
-    let room : View g.row.D.Denot = store_of told roomed in
-    let keeps : KeptPages told old room = kept_on told old mid room c.hold.ensures.kept c.make_room.ensures.kept in
     alike_held held.pool roomed.pool c.make_room.ensures.alike (page_number roomed.layout place)
     (subst (λ (l : DiskLayout). IsSome (held_at held.pool (page_number l place))) (sym c.make_room.ensures.kept.leaves.layout) c.in_ok-hold.ensures.held)
 
@@ -177,39 +147,18 @@ make-requires-clause-fits g c =
 
 pub make-requires-clause-loggable : goal.make-requires-clause-loggable
 make-requires-clause-loggable g c =
-    let told = g.D.Disk.told in
     let place = c.args.place in
-    let change = logged c.args.change.now in
-    let begin : LoggedState g.row.D.Denot = c.args.pages.now in
-    let old : View g.row.D.Denot = store_of told begin in
-    let held : LoggedState g.row.D.Denot = c.hold.new.pages in
-    let mid : View g.row.D.Denot = store_of told held in
-    let roomed : LoggedState g.row.D.Denot = c.make_room.new.self in
-    let room : View g.row.D.Denot = store_of told roomed in
-    let keeps : KeptPages told old room = kept_on told old mid room c.hold.ensures.kept c.make_room.ensures.kept in
     start_loggable place c.args.kind
 
 pub make-requires-clause-room : goal.make-requires-clause-room
 make-requires-clause-room g c =
-    let told = g.D.Disk.told in
     let place = c.args.place in
-    let change = logged c.args.change.now in
-    let begin : LoggedState g.row.D.Denot = c.args.pages.now in
-    let old : View g.row.D.Denot = store_of told begin in
-    let held : LoggedState g.row.D.Denot = c.hold.new.pages in
-    let mid : View g.row.D.Denot = store_of told held in
     let roomed : LoggedState g.row.D.Denot = c.make_room.new.self in
-    let room : View g.row.D.Denot = store_of told roomed in
-    let keeps : KeptPages told old room = kept_on told old mid room c.hold.ensures.kept c.make_room.ensures.kept in
-    let start = PageStart place c.args.kind in
     room_start roomed.log roomed.waiting (is_marked roomed.marks roomed.layout place) place c.args.kind c.size.result c.in_ok-make_room.ensures.room
-
 
 pub returns-in_err-make-clause-leaves : goal.returns-in_err-make-clause-leaves
 returns-in_err-make-clause-leaves g c =
     let told = g.D.Disk.told in
-    let place = c.args.place in
-    let change = logged c.args.change.now in
     let begin : LoggedState g.row.D.Denot = c.args.pages.now in
     let old : View g.row.D.Denot = store_of told begin in
     let held : LoggedState g.row.D.Denot = c.hold.new.pages in
@@ -217,18 +166,14 @@ returns-in_err-make-clause-leaves g c =
     let roomed : LoggedState g.row.D.Denot = c.make_room.new.self in
     let room : View g.row.D.Denot = store_of told roomed in
     let keeps : KeptPages told old room = kept_on told old mid room c.hold.ensures.kept c.make_room.ensures.kept in
-    let start = PageStart place c.args.kind in
     let begun : LoggedState g.row.D.Denot = c.make.new.pages in
     let first : View g.row.D.Denot = store_of told begun in
     kept_then told old room first keeps c.make.ensures.leaves
-
-
 
 pub make-requires-2-clause-place : goal.make-requires-2-clause-place
 make-requires-2-clause-place g c =
     let told = g.D.Disk.told in
     let place = c.args.place in
-    let change = logged c.args.change.now in
     let begin : LoggedState g.row.D.Denot = c.args.pages.now in
     let old : View g.row.D.Denot = store_of told begin in
     let held : LoggedState g.row.D.Denot = c.hold.new.pages in
@@ -236,18 +181,12 @@ make-requires-2-clause-place g c =
     let roomed : LoggedState g.row.D.Denot = c.make_room.new.self in
     let room : View g.row.D.Denot = store_of told roomed in
     let keeps : KeptPages told old room = kept_on told old mid room c.hold.ensures.kept c.make_room.ensures.kept in
-    let start = PageStart place c.args.kind in
-    let begun : LoggedState g.row.D.Denot = c.make.new.pages in
-    let first : View g.row.D.Denot = store_of told begun in
     let layout = c.make.ensures.leaves.layout in
-    let one : Tells told first → Changed roomed.layout place (start ∷ []) room.pages first.pages = λ now. c.in_ok-make.ensures.changed (sym c.make.ensures.leaves.tells ∙ now) in
     subst (λ (l : DiskLayout). IsPlace l place) (sym layout) (place_from told old room keeps place c.requires.place)
 
 pub make-requires-2-clause-forms : goal.make-requires-2-clause-forms
 make-requires-2-clause-forms g c =
     let told = g.D.Disk.told in
-    let place = c.args.place in
-    let change = logged c.args.change.now in
     let begin : LoggedState g.row.D.Denot = c.args.pages.now in
     let old : View g.row.D.Denot = store_of told begin in
     let held : LoggedState g.row.D.Denot = c.hold.new.pages in
@@ -255,11 +194,7 @@ make-requires-2-clause-forms g c =
     let roomed : LoggedState g.row.D.Denot = c.make_room.new.self in
     let room : View g.row.D.Denot = store_of told roomed in
     let keeps : KeptPages told old room = kept_on told old mid room c.hold.ensures.kept c.make_room.ensures.kept in
-    let start = PageStart place c.args.kind in
-    let begun : LoggedState g.row.D.Denot = c.make.new.pages in
-    let first : View g.row.D.Denot = store_of told begun in
     let layout = c.make.ensures.leaves.layout in
-    let one : Tells told first → Changed roomed.layout place (start ∷ []) room.pages first.pages = λ now. c.in_ok-make.ensures.changed (sym c.make.ensures.leaves.tells ∙ now) in
     c.requires.forms ∙ ap forms_of (sym (layout ∙ keeps.leaves.layout))
 
 pub make-requires-2-clause-fits : goal.make-requires-2-clause-fits
@@ -284,21 +219,10 @@ make-requires-2-clause-fits g c =
 
 pub make-requires-2-clause-room : goal.make-requires-2-clause-room
 make-requires-2-clause-room g c =
-    let told = g.D.Disk.told in
     let place = c.args.place in
     let change = logged c.args.change.now in
-    let begin : LoggedState g.row.D.Denot = c.args.pages.now in
-    let old : View g.row.D.Denot = store_of told begin in
-    let held : LoggedState g.row.D.Denot = c.hold.new.pages in
-    let mid : View g.row.D.Denot = store_of told held in
     let roomed : LoggedState g.row.D.Denot = c.make_room.new.self in
-    let room : View g.row.D.Denot = store_of told roomed in
-    let keeps : KeptPages told old room = kept_on told old mid room c.hold.ensures.kept c.make_room.ensures.kept in
-    let start = PageStart place c.args.kind in
     let begun : LoggedState g.row.D.Denot = c.make.new.pages in
-    let first : View g.row.D.Denot = store_of told begun in
-    let layout = c.make.ensures.leaves.layout in
-    let one : Tells told first → Changed roomed.layout place (start ∷ []) room.pages first.pages = λ now. c.in_ok-make.ensures.changed (sym c.make.ensures.leaves.tells ∙ now) in
     room_second roomed.log begun.log roomed.waiting begun.waiting (is_marked roomed.marks roomed.layout place) (is_marked begun.marks begun.layout place) place c.args.kind change c.size.result c.size.ensures c.in_ok-make_room.ensures.room c.make.ensures.log c.in_ok-make.ensures.waiting c.in_ok-make.ensures.marked
 
 pub returns-clause-changed : goal.returns-clause-changed
@@ -317,8 +241,6 @@ returns-clause-changed g c =
     let begun : LoggedState g.row.D.Denot = c.make.new.pages in
     let first : View g.row.D.Denot = store_of told begun in
     let new : View g.row.D.Denot = store_of told c.make-2.new.pages in
-    let both : LeftStore told room new = twice_leaves told room first new c.make.ensures.leaves c.make.ensures.disk c.make-2.ensures.leaves c.make-2.ensures.disk in
-    let leaves : LeftStore told old new = kept_then told old room new keeps both in
     let layout = c.make.ensures.leaves.layout in
     let tells = c.make.ensures.leaves.tells in
     turn_changed told old room first new keeps place start change c.make-2.result layout tells c.in_ok-make.ensures.changed c.make-2.ensures.changed
@@ -326,8 +248,6 @@ returns-clause-changed g c =
 pub returns-clause-leaves : goal.returns-clause-leaves
 returns-clause-leaves g c =
     let told = g.D.Disk.told in
-    let place = c.args.place in
-    let change = logged c.args.change.now in
     let begin : LoggedState g.row.D.Denot = c.args.pages.now in
     let old : View g.row.D.Denot = store_of told begin in
     let held : LoggedState g.row.D.Denot = c.hold.new.pages in
@@ -335,21 +255,16 @@ returns-clause-leaves g c =
     let roomed : LoggedState g.row.D.Denot = c.make_room.new.self in
     let room : View g.row.D.Denot = store_of told roomed in
     let keeps : KeptPages told old room = kept_on told old mid room c.hold.ensures.kept c.make_room.ensures.kept in
-    let start = PageStart place c.args.kind in
     let begun : LoggedState g.row.D.Denot = c.make.new.pages in
     let first : View g.row.D.Denot = store_of told begun in
     let new : View g.row.D.Denot = store_of told c.make-2.new.pages in
     let both : LeftStore told room new = twice_leaves told room first new c.make.ensures.leaves c.make.ensures.disk c.make-2.ensures.leaves c.make-2.ensures.disk in
     let leaves : LeftStore told old new = kept_then told old room new keeps both in
-    let layout = c.make.ensures.leaves.layout in
-    let tells = c.make.ensures.leaves.tells in
     leaves
 
 pub returns-clause-kept : goal.returns-clause-kept
 returns-clause-kept g c =
     let told = g.D.Disk.told in
-    let place = c.args.place in
-    let change = logged c.args.change.now in
     let begin : LoggedState g.row.D.Denot = c.args.pages.now in
     let old : View g.row.D.Denot = store_of told begin in
     let held : LoggedState g.row.D.Denot = c.hold.new.pages in
@@ -357,13 +272,11 @@ returns-clause-kept g c =
     let roomed : LoggedState g.row.D.Denot = c.make_room.new.self in
     let room : View g.row.D.Denot = store_of told roomed in
     let keeps : KeptPages told old room = kept_on told old mid room c.hold.ensures.kept c.make_room.ensures.kept in
-    let start = PageStart place c.args.kind in
     let begun : LoggedState g.row.D.Denot = c.make.new.pages in
     let first : View g.row.D.Denot = store_of told begun in
     let new : View g.row.D.Denot = store_of told c.make-2.new.pages in
     let both : LeftStore told room new = twice_leaves told room first new c.make.ensures.leaves c.make.ensures.disk c.make-2.ensures.leaves c.make-2.ensures.disk in
     let leaves : LeftStore told old new = kept_then told old room new keeps both in
-    let layout = c.make.ensures.leaves.layout in
     let tells = c.make.ensures.leaves.tells in
     made_kept told old room new keeps leaves c.make-2.result (untold_back told room first tells c.make-2.result c.make-2.ensures.untold)
 
@@ -371,7 +284,6 @@ pub returns-clause-at : goal.returns-clause-at
 returns-clause-at g c =
     let told = g.D.Disk.told in
     let place = c.args.place in
-    let change = logged c.args.change.now in
     let begin : LoggedState g.row.D.Denot = c.args.pages.now in
     let old : View g.row.D.Denot = store_of told begin in
     let held : LoggedState g.row.D.Denot = c.hold.new.pages in
@@ -379,21 +291,14 @@ returns-clause-at g c =
     let roomed : LoggedState g.row.D.Denot = c.make_room.new.self in
     let room : View g.row.D.Denot = store_of told roomed in
     let keeps : KeptPages told old room = kept_on told old mid room c.hold.ensures.kept c.make_room.ensures.kept in
-    let start = PageStart place c.args.kind in
     let begun : LoggedState g.row.D.Denot = c.make.new.pages in
-    let first : View g.row.D.Denot = store_of told begun in
-    let new : View g.row.D.Denot = store_of told c.make-2.new.pages in
-    let both : LeftStore told room new = twice_leaves told room first new c.make.ensures.leaves c.make.ensures.disk c.make-2.ensures.leaves c.make-2.ensures.disk in
-    let leaves : LeftStore told old new = kept_then told old room new keeps both in
     let layout = c.make.ensures.leaves.layout in
-    let tells = c.make.ensures.leaves.tells in
     made_at told old room keeps place c.make-2.result (damage_back roomed.layout begun.layout place layout c.make-2.result c.make-2.ensures.refused)
 
 pub returns-clause-outcome : goal.returns-clause-outcome
 returns-clause-outcome g c =
     let told = g.D.Disk.told in
     let place = c.args.place in
-    let change = logged c.args.change.now in
     let begin : LoggedState g.row.D.Denot = c.args.pages.now in
     let old : View g.row.D.Denot = store_of told begin in
     let held : LoggedState g.row.D.Denot = c.hold.new.pages in
@@ -401,12 +306,10 @@ returns-clause-outcome g c =
     let roomed : LoggedState g.row.D.Denot = c.make_room.new.self in
     let room : View g.row.D.Denot = store_of told roomed in
     let keeps : KeptPages told old room = kept_on told old mid room c.hold.ensures.kept c.make_room.ensures.kept in
-    let start = PageStart place c.args.kind in
     let begun : LoggedState g.row.D.Denot = c.make.new.pages in
     let first : View g.row.D.Denot = store_of told begun in
     let new : View g.row.D.Denot = store_of told c.make-2.new.pages in
     let both : LeftStore told room new = twice_leaves told room first new c.make.ensures.leaves c.make.ensures.disk c.make-2.ensures.leaves c.make-2.ensures.disk in
-    let leaves : LeftStore told old new = kept_then told old room new keeps both in
     let layout = c.make.ensures.leaves.layout in
     let tells = c.make.ensures.leaves.tells in
     outcome_then told old room new c.make-2.result c.in_ok-hold.ensures.outcome.0 c.in_ok-make_room.ensures.outcome.1 keeps.leaves
@@ -415,8 +318,6 @@ returns-clause-outcome g c =
 pub returns-in_err-make_room-clause-kept : goal.returns-in_err-make_room-clause-kept
 returns-in_err-make_room-clause-kept g c =
     let told = g.D.Disk.told in
-    let place = c.args.place in
-    let change = logged c.args.change.now in
     let begin : LoggedState g.row.D.Denot = c.args.pages.now in
     let old : View g.row.D.Denot = store_of told begin in
     let held : LoggedState g.row.D.Denot = c.hold.new.pages in

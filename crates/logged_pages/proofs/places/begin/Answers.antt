@@ -1,4 +1,4 @@
-use Rattle.std.proofs.Common.{◌≡◌, ◌||◌, Bool, true, false, sym, ap, ◌∙◌, length, arith}
+use Rattle.std.proofs.Common.{◌≡◌, ◌||◌, Bool, false, sym, ap, ◌∙◌, length, arith}
 use Rattle.wal_record.specs.Changes.{logged}
 use Rattle.wal_record.specs.ChangeBytes.{bytes_of}
 use Rattle.logged_pages.proofs.MakeSteps.{full_length}

@@ -1,10 +1,11 @@
-use Rattle.std.proofs.Common.{◌≡◌, ◌≤◌, ◌+◌, ◌||◌, ℕ, Bool, true, false, List, length, get_or, refl, sym, ap, subst, ◌∙◌, arith, length-append}
+use Rattle.std.proofs.Common.{◌≡◌, ◌||◌, Bool, true, false, List, length, set, get_or, sym, ap, subst, ◌∙◌, arith, length-append}
 use Rattle.std.proofs.lemmas.List.{get_or_read}
 use Rattle.wal_record.specs.Changes.{logged}
 use Rattle.wal_record.specs.ChangeBytes.{bytes_of}
 use Rattle.change_buffer.specs.Waiting.{Waiting}
-use Rattle.logged_pages.proofs.HeldSteps.{begun_bytes, makes_held}
-use Rattle.logged_pages.specs.Room.{bytes_for}
+use Rattle.logged_pages.proofs.HeldSteps.{begun_bytes, makes_held, marked_twice}
+use Rattle.logged_pages.specs.Begun.{MakesHeld}
+use Rattle.logged_pages.specs.Room.{bytes_for, is_anew}
 use Rattle.logged_pages.proofs.places.make_held.Goals as goal
 
 pub returns-in_err-redo_held-clause-few : goal.returns-in_err-redo_held-clause-few
@@ -25,8 +26,13 @@ pub returns-clause-made : goal.returns-clause-made
 returns-clause-made c =
     let change = logged c.args.change.now in
     let begun : c.index-begun.result.now ≡ get_or c.args.marks.now.items c.args.at.number false = get_or_read c.args.marks.now.items _ _ c.requires.marks c.index-begun.ensures false in
-    makes_held c.args.form.now c.args.at.place c.args.at.number c.args.at.waits change c.args.waiting.now c.begin.new.waiting c.add.new.self c.args.marks.now.items c.args.pool.now c.begin.new.pool c.redo_held.new.pool c.index-begun.result.now begun c.begin.ensures.same c.requires.held
-    c.begin.ensures.begun c.begin.ensures.bytes c.begin.ensures.changes c.add.ensures.added c.add.ensures.change c.in_ok-redo_held.ensures.redone
+    let marks : set c.begin.new.marks.items c.args.at.number true ≡ set c.args.marks.now.items c.args.at.number true =
+    ap (λ (l : List Bool). set l c.args.at.number true) c.begin.ensures.marks ∙ marked_twice (c.index-begun.result.now || is_anew change) c.args.marks.now.items c.args.at.number in
+    subst
+    (λ (m : List Bool). MakesHeld c.args.form.now c.args.at.place c.args.at.number c.args.at.waits change (record { waiting = c.args.waiting.now; marks = c.args.marks.now.items; pool = c.args.pool.now }) (record { waiting = c.add.new.self; marks = m; pool = c.redo_held.new.pool }))
+    (sym marks)
+    (makes_held c.args.form.now c.args.at.place c.args.at.number c.args.at.waits change c.args.waiting.now c.begin.new.waiting c.add.new.self c.args.marks.now.items c.args.pool.now c.begin.new.pool c.redo_held.new.pool c.index-begun.result.now begun c.begin.ensures.same c.requires.held
+    c.begin.ensures.begun c.begin.ensures.bytes c.begin.ensures.changes c.add.ensures.added c.add.ensures.change c.in_ok-redo_held.ensures.redone)
 
 pub returns-clause-few : goal.returns-clause-few
 returns-clause-few c =

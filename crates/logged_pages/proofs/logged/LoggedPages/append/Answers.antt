@@ -1,11 +1,7 @@
-use Rattle.std.proofs.Common.{◌≡◌, ◌≤◌, ℕ, List, length, refl, sym, ap, subst, ◌∙◌, arith}
-use Rattle.std.specs.Prelude.{IsTrue, Option, None, Some}
-use Rattle.store_layout.specs.DiskLayout.{area_size, disk_size}
+use Rattle.std.proofs.Common.{◌≡◌, ℕ, refl, ap, subst, ◌∙◌, arith}
+use Rattle.std.specs.Prelude.{Option, None, Some}
 use Rattle.log_area.specs.Frames.{LogFrame}
-use Rattle.log_area.specs.Log.{areas_end}
 use Rattle.change_buffer.specs.Waiting.{Waiting}
-use Rattle.opened_pages.specs.Opens.{OpensAs}
-use Rattle.pooled_pages.specs.ShownPages.{shown_pages}
 use Rattle.logged_pages.proofs.Exits.{append_broke, append_done, appended_keeps}
 use Rattle.logged_pages.specs.KeptPages.{KeptPages}
 use Rattle.logged_pages.specs.LoggedState.{LoggedState, store_of}

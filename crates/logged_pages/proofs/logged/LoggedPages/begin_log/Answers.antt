@@ -1,16 +1,10 @@
-use Rattle.std.proofs.Common.{◌≡◌, ◌≢◌, ◌⊎◌, inl, inr, ◌≤◌, ◌<◌, ◌+◌, ℕ, Bool, true, false, List, length, refl, sym, ap, subst, ◌∙◌, arith}
-use Rattle.std.specs.Prelude.{IsTrue, Option, None, Some}
-use Rattle.buffer_pool.specs.PoolState.{HeldPage, PoolState, IsClean, IsDirty, held_at}
+use Rattle.std.proofs.Common.{◌≡◌, ℕ, Bool, List, sym, ap, subst, ◌∙◌, arith}
+use Rattle.std.specs.Prelude.{Option, None, Some}
 use Rattle.change_buffer.specs.Waiting.{Waiting, no_changes}
-use Rattle.opened_pages.specs.Opens.{OpensAs}
-use Rattle.pooled_pages.specs.ShownPages.{content_at, shown_pages}
-use Rattle.logged_pages.specs.Contents.{AddsOnly, HoldsAlike}
-use Rattle.logged_pages.specs.KeptPages.{KeptPages, LeftStore, kept_on}
+use Rattle.logged_pages.specs.KeptPages.{KeptPages}
 use Rattle.logged_pages.specs.LoggedState.{LoggedState, store_of}
-use Rattle.logged_pages.specs.Room.{IsDurable}
 use Rattle.logged_pages.specs.Standing.{IsStanding}
 use Rattle.logged_pages.proofs.Steps.{DiskLaws, areas_fit, none_waits}
-use Rattle.std.specs.Prelude.{replicate}
 use Rattle.disk_trait.specs.IsStable.{IsStable}
 use Rattle.log_area.specs.Log.{Log}
 use Rattle.log_area.specs.Switched.{switched}
@@ -45,7 +39,6 @@ invariant_of-self g c =
 pub invariant_of-self-in-Err : goal.invariant_of-self-in-Err
 invariant_of-self-in-Err g c =
     let told = g.D.Disk.told in
-    let laws : DiskLaws told = record { need = g.met.D.Disk.images_need_contents; counts = g.met.D.Disk.now_is_since; only = g.met.D.Disk.since_now_is_now; fit = g.met.D.Disk.contents_fit } in
     let s : LoggedState g.row.D.Denot = record { disk = c.self.inside.disk; layout = c.self.inside.layout; log = c.self.inside.log; pool = c.self.inside.pool; marks = c.self.inside.marks.items; waiting = c.self.inside.waiting; failed = c.self.inside.failed } in
     let none : s.failed ≡ None = ap (λ (x : LoggedState g.row.D.Denot). x.failed) c.self.view_is ∙ c.requires.failed in
     let standing = subst (λ (f : Option ℕ). IsStanding (told s.disk) s.layout s.log s.pool s.marks s.waiting f) none c.self.invariant in
@@ -65,7 +58,6 @@ returns-in-Ok-clause-kept g c =
     let none : s.failed ≡ None = ap (λ (x : LoggedState g.row.D.Denot). x.failed) c.self.view_is ∙ c.requires.failed in
     let standing = subst (λ (f : Option ℕ). IsStanding (told s.disk) s.layout s.log s.pool s.marks s.waiting f) none c.self.invariant in
     let empty : s.waiting ≡ no_changes = ap (λ (x : LoggedState g.row.D.Denot). x.waiting) c.self.view_is ∙ c.requires.empty in
-    let at_rest = subst (λ (w : Waiting). IsStanding (told s.disk) s.layout s.log s.pool s.marks w None) empty standing in
     let clean : AreClean s.pool = subst (λ (x : LoggedState g.row.D.Denot). AreClean x.pool) (sym c.self.view_is) c.requires.clean in
     let stable : IsStable (told s.disk) = subst (λ (x : LoggedState g.row.D.Denot). IsStable (told x.disk)) (sym c.self.view_is) c.requires.stable in
     subst (λ (x : LoggedState g.row.D.Denot). KeptPages told (store_of told x) (store_of told (record { disk = c.switch.new.disk; layout = s.layout; log = c.switch.new.self; pool = s.pool; marks = c.fill.new.self.items; waiting = s.waiting; failed = s.failed }))) c.self.view_is
@@ -96,7 +88,6 @@ returns-in-Err-clause-kept g c =
     let none : s.failed ≡ None = ap (λ (x : LoggedState g.row.D.Denot). x.failed) c.self.view_is ∙ c.requires.failed in
     let standing = subst (λ (f : Option ℕ). IsStanding (told s.disk) s.layout s.log s.pool s.marks s.waiting f) none c.self.invariant in
     let empty : s.waiting ≡ no_changes = ap (λ (x : LoggedState g.row.D.Denot). x.waiting) c.self.view_is ∙ c.requires.empty in
-    let at_rest = subst (λ (w : Waiting). IsStanding (told s.disk) s.layout s.log s.pool s.marks w None) empty standing in
     let clean : AreClean s.pool = subst (λ (x : LoggedState g.row.D.Denot). AreClean x.pool) (sym c.self.view_is) c.requires.clean in
     let stable : IsStable (told s.disk) = subst (λ (x : LoggedState g.row.D.Denot). IsStable (told x.disk)) (sym c.self.view_is) c.requires.stable in
     subst (λ (x : LoggedState g.row.D.Denot). KeptPages told (store_of told x) (store_of told (record { disk = c.switch.new.disk; layout = s.layout; log = c.switch.new.self; pool = s.pool; marks = s.marks; waiting = s.waiting; failed = Some c.faults.result }))) c.self.view_is

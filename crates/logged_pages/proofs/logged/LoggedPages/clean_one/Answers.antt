@@ -1,17 +1,16 @@
-use Rattle.std.proofs.Common.{◌≡◌, ◌≢◌, ◌⊎◌, inl, inr, ◌≤◌, ◌<◌, ◌+◌, ℕ, Bool, true, false, List, length, refl, sym, ap, subst, ◌∙◌, arith}
-use Rattle.std.specs.Prelude.{IsTrue, Option, None, Some}
-use Rattle.buffer_pool.specs.PoolState.{HeldPage, PoolState, IsClean, IsDirty, held_at}
-use Rattle.change_buffer.specs.Waiting.{Waiting, no_changes}
-use Rattle.opened_pages.specs.Opens.{OpensAs}
-use Rattle.pooled_pages.specs.ShownPages.{content_at, shown_pages}
-use Rattle.logged_pages.specs.Contents.{AddsOnly, HoldsAlike}
-use Rattle.logged_pages.specs.KeptPages.{KeptPages, LeftStore, kept_on}
+use Rattle.std.proofs.Common.{◌≡◌, ℕ, false, sym, ap, subst, ◌∙◌}
+use Rattle.std.specs.Prelude.{Option, None, Some}
+use Rattle.buffer_pool.specs.PoolState.{PoolState, IsDirty}
+use Rattle.change_buffer.specs.Waiting.{no_changes}
+use Rattle.pooled_pages.specs.ShownPages.{content_at}
+use Rattle.logged_pages.specs.Contents.{HoldsAlike}
+use Rattle.logged_pages.specs.KeptPages.{KeptPages}
 use Rattle.logged_pages.specs.LoggedState.{LoggedState, store_of}
 use Rattle.logged_pages.specs.Room.{IsDurable}
 use Rattle.logged_pages.specs.Standing.{IsStanding}
-use Rattle.logged_pages.proofs.Steps.{DiskLaws, areas_fit, none_waits}
-use Rattle.logged_pages.proofs.CleanExits.{LeavesBroken, LeavesClean, durable_all, one_none, one_dirty, one_clean, one_cleaned, failed_leaves, page_cleaned, page_failed, untouched_leaves}
-use Rattle.logged_pages.proofs.Exits.{keeps_all, lie_within, number_within}
+use Rattle.logged_pages.proofs.Steps.{DiskLaws}
+use Rattle.logged_pages.proofs.CleanExits.{durable_all, one_none, one_dirty, one_clean, one_cleaned, failed_leaves}
+use Rattle.logged_pages.proofs.Exits.{lie_within}
 use Rattle.logged_pages.proofs.logged.LoggedPages.clean_one.Goals as goal
 
 pub clean_one-requires : goal.clean_one-requires
@@ -99,17 +98,12 @@ returns-in-Err-clause-alike g c =
 pub returns-in-Ok-clause-none : goal.returns-in-Ok-clause-none
 returns-in-Ok-clause-none g c =
     let told = g.D.Disk.told in
-    let laws : DiskLaws told = record { need = g.met.D.Disk.images_need_contents; counts = g.met.D.Disk.now_is_since; only = g.met.D.Disk.since_now_is_now; fit = g.met.D.Disk.contents_fit } in
     let s : LoggedState g.row.D.Denot = record { disk = c.self.inside.disk; layout = c.self.inside.layout; log = c.self.inside.log; pool = c.self.inside.pool; marks = c.self.inside.marks.items; waiting = c.self.inside.waiting; failed = c.self.inside.failed } in
-    let none : s.failed ≡ None = ap (λ (x : LoggedState g.row.D.Denot). x.failed) c.self.view_is ∙ c.requires.failed in
-    let standing = subst (λ (f : Option ℕ). IsStanding (told s.disk) s.layout s.log s.pool s.marks s.waiting f) none c.self.invariant in
-    let sure : IsDurable s.log s.waiting c.durable-durable.result = subst (λ (x : LoggedState g.row.D.Denot). IsDurable x.log x.waiting c.durable-durable.result) (sym c.self.view_is) c.durable-durable.ensures in
     subst (λ (x : LoggedState g.row.D.Denot). c.in-Ok.written ≡ false → c.clean_one.new.self ≡ x.pool) c.self.view_is (one_none s.pool c.clean_one.new.self c.durable-durable.result (told s.disk) (told c.clean_one.new.disk) c.in-Ok.written c.in-Ok.ensures.cleans)
 
 pub returns-in-Ok-clause-dirty : goal.returns-in-Ok-clause-dirty
 returns-in-Ok-clause-dirty g c =
     let told = g.D.Disk.told in
-    let laws : DiskLaws told = record { need = g.met.D.Disk.images_need_contents; counts = g.met.D.Disk.now_is_since; only = g.met.D.Disk.since_now_is_now; fit = g.met.D.Disk.contents_fit } in
     let s : LoggedState g.row.D.Denot = record { disk = c.self.inside.disk; layout = c.self.inside.layout; log = c.self.inside.log; pool = c.self.inside.pool; marks = c.self.inside.marks.items; waiting = c.self.inside.waiting; failed = c.self.inside.failed } in
     let none : s.failed ≡ None = ap (λ (x : LoggedState g.row.D.Denot). x.failed) c.self.view_is ∙ c.requires.failed in
     let standing = subst (λ (f : Option ℕ). IsStanding (told s.disk) s.layout s.log s.pool s.marks s.waiting f) none c.self.invariant in

@@ -1,15 +1,11 @@
-use Rattle.std.proofs.Common.{◌≡◌, ◌≢◌, ◌⊎◌, inl, inr, ◌≤◌, ◌<◌, ◌+◌, ℕ, Bool, true, false, List, length, refl, sym, ap, subst, ◌∙◌, arith}
+use Rattle.std.proofs.Common.{◌≡◌, ◌≤◌, ℕ, List, sym, ap, subst, ◌∙◌}
 use Rattle.std.specs.Prelude.{IsTrue, Option, None, Some}
-use Rattle.buffer_pool.specs.PoolState.{HeldPage, PoolState, IsClean, IsDirty, held_at}
-use Rattle.change_buffer.specs.Waiting.{Waiting, no_changes}
-use Rattle.opened_pages.specs.Opens.{OpensAs}
-use Rattle.pooled_pages.specs.ShownPages.{content_at, shown_pages}
-use Rattle.logged_pages.specs.Contents.{AddsOnly, HoldsAlike}
-use Rattle.logged_pages.specs.KeptPages.{KeptPages, LeftStore, kept_on}
+use Rattle.buffer_pool.specs.PoolState.{held_at}
+use Rattle.pooled_pages.specs.ShownPages.{shown_pages}
+use Rattle.logged_pages.specs.KeptPages.{KeptPages}
 use Rattle.logged_pages.specs.LoggedState.{LoggedState, store_of}
-use Rattle.logged_pages.specs.Room.{IsDurable}
 use Rattle.logged_pages.specs.Standing.{IsStanding}
-use Rattle.logged_pages.proofs.Steps.{DiskLaws, areas_fit, none_waits}
+use Rattle.logged_pages.proofs.Steps.{DiskLaws}
 use Rattle.std.proofs.lemmas.List.{length-replicate}
 use Rattle.store_layout.specs.DiskLayout.{DiskLayout, IsPlace}
 use Rattle.disk_trait.specs.Told.{Told}
@@ -30,8 +26,6 @@ returns-in-Err-clause-kept g c =
     let told = g.D.Disk.told in
     let laws : DiskLaws told = record { need = g.met.D.Disk.images_need_contents; counts = g.met.D.Disk.now_is_since; only = g.met.D.Disk.since_now_is_now; fit = g.met.D.Disk.contents_fit } in
     let s : LoggedState g.row.D.Denot = record { disk = c.self.inside.disk; layout = c.self.inside.layout; log = c.self.inside.log; pool = c.self.inside.pool; marks = c.self.inside.marks.items; waiting = c.self.inside.waiting; failed = c.self.inside.failed } in
-    let none : s.failed ≡ None = ap (λ (x : LoggedState g.row.D.Denot). x.failed) c.self.view_is ∙ c.requires.failed in
-    let standing = subst (λ (f : Option ℕ). IsStanding (told s.disk) s.layout s.log s.pool s.marks s.waiting f) none c.self.invariant in
     let same : told c.read_page.new.disk ≡ record (told s.disk) { faults = (told c.read_page.new.disk).faults } = c.read_page.ensures.same in
     let later = c.read_page.ensures.cause.later in
     subst (λ (x : LoggedState g.row.D.Denot). KeptPages told (store_of told x) (store_of told (record { disk = c.read_page.new.disk; layout = s.layout; log = s.log; pool = s.pool; marks = s.marks; waiting = s.waiting; failed = Some c.faults.result }))) c.self.view_is
@@ -40,12 +34,10 @@ returns-in-Err-clause-kept g c =
 pub invariant_of-self-in_default : goal.invariant_of-self-in_default
 invariant_of-self-in_default g c =
     let told = g.D.Disk.told in
-    let laws : DiskLaws told = record { need = g.met.D.Disk.images_need_contents; counts = g.met.D.Disk.now_is_since; only = g.met.D.Disk.since_now_is_now; fit = g.met.D.Disk.contents_fit } in
     let s : LoggedState g.row.D.Denot = record { disk = c.self.inside.disk; layout = c.self.inside.layout; log = c.self.inside.log; pool = c.self.inside.pool; marks = c.self.inside.marks.items; waiting = c.self.inside.waiting; failed = c.self.inside.failed } in
     let none : s.failed ≡ None = ap (λ (x : LoggedState g.row.D.Denot). x.failed) c.self.view_is ∙ c.requires.failed in
     let standing = subst (λ (f : Option ℕ). IsStanding (told s.disk) s.layout s.log s.pool s.marks s.waiting f) none c.self.invariant in
     let same : told c.read_page.new.disk ≡ record (told s.disk) { faults = (told c.read_page.new.disk).faults } = c.read_page.ensures.same in
-    let later = c.read_page.ensures.cause.later in
     subst (λ (f : Option ℕ). IsStanding (told c.read_page.new.disk) s.layout s.log s.pool s.marks s.waiting f) (sym none)
     (sync_standing s.layout s.log s.pool s.marks s.waiting None (told s.disk) (told c.read_page.new.disk) (ap (λ (t : Told). t.size) same) (ap (λ (t : Told). t.tells_contents) same) (ap (λ (t : Told). t.contents) same)
     (λ _ image now. subst (λ (t : Told). IsTrue (t.now image)) same now) standing)
@@ -55,8 +47,6 @@ returns-in-Ok-clause-kept g c =
     let told = g.D.Disk.told in
     let laws : DiskLaws told = record { need = g.met.D.Disk.images_need_contents; counts = g.met.D.Disk.now_is_since; only = g.met.D.Disk.since_now_is_now; fit = g.met.D.Disk.contents_fit } in
     let s : LoggedState g.row.D.Denot = record { disk = c.self.inside.disk; layout = c.self.inside.layout; log = c.self.inside.log; pool = c.self.inside.pool; marks = c.self.inside.marks.items; waiting = c.self.inside.waiting; failed = c.self.inside.failed } in
-    let none : s.failed ≡ None = ap (λ (x : LoggedState g.row.D.Denot). x.failed) c.self.view_is ∙ c.requires.failed in
-    let standing = subst (λ (f : Option ℕ). IsStanding (told s.disk) s.layout s.log s.pool s.marks s.waiting f) none c.self.invariant in
     let same : told c.read_page.new.disk ≡ record (told s.disk) { faults = (told c.read_page.new.disk).faults } = c.read_page.ensures.same in
     let later = c.read_page.ensures.cause.later in
     subst (λ (x : LoggedState g.row.D.Denot). KeptPages told (store_of told x) (store_of told (record { disk = c.read_page.new.disk; layout = s.layout; log = s.log; pool = s.pool; marks = s.marks; waiting = s.waiting; failed = s.failed }))) c.self.view_is
@@ -65,12 +55,8 @@ returns-in-Ok-clause-kept g c =
 pub returns-in-Ok-clause-page : goal.returns-in-Ok-clause-page
 returns-in-Ok-clause-page g c =
     let told = g.D.Disk.told in
-    let laws : DiskLaws told = record { need = g.met.D.Disk.images_need_contents; counts = g.met.D.Disk.now_is_since; only = g.met.D.Disk.since_now_is_now; fit = g.met.D.Disk.contents_fit } in
     let s : LoggedState g.row.D.Denot = record { disk = c.self.inside.disk; layout = c.self.inside.layout; log = c.self.inside.log; pool = c.self.inside.pool; marks = c.self.inside.marks.items; waiting = c.self.inside.waiting; failed = c.self.inside.failed } in
-    let none : s.failed ≡ None = ap (λ (x : LoggedState g.row.D.Denot). x.failed) c.self.view_is ∙ c.requires.failed in
-    let standing = subst (λ (f : Option ℕ). IsStanding (told s.disk) s.layout s.log s.pool s.marks s.waiting f) none c.self.invariant in
     let same : told c.read_page.new.disk ≡ record (told s.disk) { faults = (told c.read_page.new.disk).faults } = c.read_page.ensures.same in
-    let later = c.read_page.ensures.cause.later in
     let is : IsPlace s.layout c.args.place = subst (λ (x : LoggedState g.row.D.Denot). IsPlace x.layout c.args.place) (sym c.self.view_is) c.requires.place in
     let absent = subst (λ (x : LoggedState g.row.D.Denot). held_at x.pool (page_number x.layout c.args.place) ≡ None) (sym c.self.view_is) c.requires.absent in
     let page_is = λ (tells : IsTrue (told s.disk).tells_contents). c.from_bytes-page.ensures ∙ fetched s.layout s.pool (told s.disk).contents c.args.place is absent c.read_page.new.bytes c.page_at-at.result _ (c.in_default.ensures.bytes tells) (length-replicate {A = ℕ} 8192 0) c.page_at-at.ensures in
@@ -82,8 +68,6 @@ returns-in-Err-check-clause-kept g c =
     let told = g.D.Disk.told in
     let laws : DiskLaws told = record { need = g.met.D.Disk.images_need_contents; counts = g.met.D.Disk.now_is_since; only = g.met.D.Disk.since_now_is_now; fit = g.met.D.Disk.contents_fit } in
     let s : LoggedState g.row.D.Denot = record { disk = c.self.inside.disk; layout = c.self.inside.layout; log = c.self.inside.log; pool = c.self.inside.pool; marks = c.self.inside.marks.items; waiting = c.self.inside.waiting; failed = c.self.inside.failed } in
-    let none : s.failed ≡ None = ap (λ (x : LoggedState g.row.D.Denot). x.failed) c.self.view_is ∙ c.requires.failed in
-    let standing = subst (λ (f : Option ℕ). IsStanding (told s.disk) s.layout s.log s.pool s.marks s.waiting f) none c.self.invariant in
     let same : told c.read_page.new.disk ≡ record (told s.disk) { faults = (told c.read_page.new.disk).faults } = c.read_page.ensures.same in
     let later = c.read_page.ensures.cause.later in
     subst (λ (x : LoggedState g.row.D.Denot). KeptPages told (store_of told x) (store_of told (record { disk = c.read_page.new.disk; layout = s.layout; log = s.log; pool = s.pool; marks = s.marks; waiting = s.waiting; failed = s.failed }))) c.self.view_is
@@ -92,11 +76,9 @@ returns-in-Err-check-clause-kept g c =
 pub returns-in-Err-check-clause-outcome : goal.returns-in-Err-check-clause-outcome
 returns-in-Err-check-clause-outcome g c =
     let told = g.D.Disk.told in
-    let laws : DiskLaws told = record { need = g.met.D.Disk.images_need_contents; counts = g.met.D.Disk.now_is_since; only = g.met.D.Disk.since_now_is_now; fit = g.met.D.Disk.contents_fit } in
     let s : LoggedState g.row.D.Denot = record { disk = c.self.inside.disk; layout = c.self.inside.layout; log = c.self.inside.log; pool = c.self.inside.pool; marks = c.self.inside.marks.items; waiting = c.self.inside.waiting; failed = c.self.inside.failed } in
     let none : s.failed ≡ None = ap (λ (x : LoggedState g.row.D.Denot). x.failed) c.self.view_is ∙ c.requires.failed in
     let standing = subst (λ (f : Option ℕ). IsStanding (told s.disk) s.layout s.log s.pool s.marks s.waiting f) none c.self.invariant in
-    let same : told c.read_page.new.disk ≡ record (told s.disk) { faults = (told c.read_page.new.disk).faults } = c.read_page.ensures.same in
     let later = c.read_page.ensures.cause.later in
     let is : IsPlace s.layout c.args.place = subst (λ (x : LoggedState g.row.D.Denot). IsPlace x.layout c.args.place) (sym c.self.view_is) c.requires.place in
     let absent = subst (λ (x : LoggedState g.row.D.Denot). held_at x.pool (page_number x.layout c.args.place) ≡ None) (sym c.self.view_is) c.requires.absent in

@@ -1,15 +1,11 @@
-use Rattle.std.proofs.Common.{◌≡◌, ◌≢◌, ◌⊎◌, inl, inr, ◌≤◌, ◌<◌, ◌+◌, ℕ, Bool, true, false, List, length, get_or, refl, sym, ap, subst, ◌∙◌, arith}
-use Rattle.std.specs.Prelude.{IsTrue, Option, None, Some}
-use Rattle.buffer_pool.specs.PoolState.{HeldPage, PoolState, IsClean, IsDirty, held_at}
-use Rattle.change_buffer.specs.Waiting.{Waiting, no_changes}
-use Rattle.opened_pages.specs.Opens.{OpensAs}
-use Rattle.pooled_pages.specs.ShownPages.{content_at, shown_pages}
-use Rattle.logged_pages.specs.Contents.{AddsOnly, HoldsAlike}
-use Rattle.logged_pages.specs.KeptPages.{KeptPages, LeftStore, kept_on}
+use Rattle.std.proofs.Common.{◌≡◌, ◌≤◌, ◌<◌, ◌+◌, ℕ, false, length, get_or, sym, ap, subst, ◌∙◌, arith}
+use Rattle.std.specs.Prelude.{IsTrue, Option, None}
+use Rattle.buffer_pool.specs.PoolState.{held_at}
+use Rattle.pooled_pages.specs.ShownPages.{shown_pages}
+use Rattle.logged_pages.specs.Contents.{HoldsAlike}
 use Rattle.logged_pages.specs.LoggedState.{LoggedState, store_of}
-use Rattle.logged_pages.specs.Room.{IsDurable}
 use Rattle.logged_pages.specs.Standing.{IsStanding}
-use Rattle.logged_pages.proofs.Steps.{DiskLaws, areas_fit, none_waits}
+use Rattle.logged_pages.proofs.Steps.{DiskLaws}
 use Rattle.std.proofs.Common.{◌∷◌, []}
 use Rattle.std.specs.Prelude.{IsSome}
 use Rattle.store_layout.specs.DiskLayout.{DiskLayout, IsPlace}
@@ -24,7 +20,7 @@ use Rattle.pooled_pages.specs.PageNumbers.{page_number}
 use Rattle.pooled_pages.specs.Safe.{is_marked}
 use Rattle.logged_pages.specs.Begun.{HoldsOf, MakesHeld, RedoesHeld}
 use Rattle.logged_pages.specs.Made.{MakesPage, Misfits}
-use Rattle.logged_pages.proofs.MakeExits.{LeavesMade, holds_of, made_leaves, misfit_alike, misfit_standing, misfit_untold}
+use Rattle.logged_pages.proofs.MakeExits.{holds_of, made_leaves, misfit_alike, misfit_standing, misfit_untold}
 use Rattle.logged_pages.specs.Room.{HasRoom, bytes_for}
 use Rattle.logged_pages.proofs.logged.LoggedPages.make.Goals as goal
 

@@ -1,19 +1,8 @@
-use Rattle.std.proofs.Common.{◌≡◌, ◌≢◌, ◌⊎◌, inl, inr, ◌≤◌, ◌<◌, ◌+◌, ℕ, Bool, true, false, List, length, refl, sym, ap, subst, ◌∙◌, arith}
-use Rattle.std.specs.Prelude.{IsTrue, Option, None, Some}
-use Rattle.buffer_pool.specs.PoolState.{HeldPage, PoolState, IsClean, IsDirty, held_at}
-use Rattle.change_buffer.specs.Waiting.{Waiting, no_changes}
-use Rattle.opened_pages.specs.Opens.{OpensAs}
-use Rattle.pooled_pages.specs.ShownPages.{content_at, shown_pages}
-use Rattle.logged_pages.specs.Contents.{AddsOnly, HoldsAlike}
-use Rattle.logged_pages.specs.KeptPages.{KeptPages, LeftStore, kept_on}
-use Rattle.logged_pages.specs.LoggedState.{LoggedState, store_of}
-use Rattle.logged_pages.specs.Room.{IsDurable}
-use Rattle.logged_pages.specs.Standing.{IsStanding}
-use Rattle.logged_pages.proofs.Steps.{DiskLaws, areas_fit, none_waits}
+use Rattle.std.proofs.Common.{◌<◌, length, subst, arith}
+use Rattle.logged_pages.specs.LoggedState.{LoggedState}
 use Rattle.std.specs.Prelude.{IfSome}
 use Rattle.buffer_pool.specs.NextDirty.{IsNextDirty}
 use Rattle.logged_pages.proofs.Exits.{next_small, next_within}
-use Rattle.std.proofs.Common.{◌^◌}
 use Rattle.logged_pages.proofs.logged.LoggedPages.next_dirty.Goals as goal
 
 pub returns-clause-next : goal.returns-clause-next

@@ -1,23 +1,16 @@
-use Rattle.std.proofs.Common.{◌≡◌, ◌≢◌, ◌⊎◌, inl, inr, ◌≤◌, ◌<◌, ◌+◌, ℕ, Bool, true, false, List, length, refl, sym, ap, subst, ◌∙◌, arith}
-use Rattle.std.specs.Prelude.{IsTrue, Option, None, Some}
-use Rattle.buffer_pool.specs.PoolState.{HeldPage, PoolState, IsClean, IsDirty, held_at}
-use Rattle.change_buffer.specs.Waiting.{Waiting, no_changes}
-use Rattle.opened_pages.specs.Opens.{OpensAs}
-use Rattle.pooled_pages.specs.ShownPages.{content_at, shown_pages}
-use Rattle.logged_pages.specs.Contents.{AddsOnly, HoldsAlike}
-use Rattle.logged_pages.specs.KeptPages.{KeptPages, LeftStore, kept_on}
+use Rattle.std.proofs.Common.{◌≡◌, ℕ, sym, ap, subst, ◌∙◌}
+use Rattle.std.specs.Prelude.{Option, None, Some}
+use Rattle.logged_pages.specs.KeptPages.{KeptPages}
 use Rattle.logged_pages.specs.LoggedState.{LoggedState, store_of}
-use Rattle.logged_pages.specs.Room.{IsDurable}
 use Rattle.logged_pages.specs.Standing.{IsStanding}
-use Rattle.logged_pages.proofs.Steps.{DiskLaws, areas_fit, none_waits}
-use Rattle.logged_pages.proofs.Exits.{keeps_all, sync_keeps}
+use Rattle.logged_pages.proofs.Steps.{DiskLaws}
+use Rattle.logged_pages.proofs.Exits.{sync_keeps}
 use Rattle.logged_pages.proofs.LogSteps.{sync_standing}
 use Rattle.logged_pages.proofs.logged.LoggedPages.sync.Goals as goal
 
 pub invariant_of-self : goal.invariant_of-self
 invariant_of-self g c =
     let told = g.D.Disk.told in
-    let laws : DiskLaws told = record { need = g.met.D.Disk.images_need_contents; counts = g.met.D.Disk.now_is_since; only = g.met.D.Disk.since_now_is_now; fit = g.met.D.Disk.contents_fit } in
     let s : LoggedState g.row.D.Denot = record { disk = c.self.inside.disk; layout = c.self.inside.layout; log = c.self.inside.log; pool = c.self.inside.pool; marks = c.self.inside.marks.items; waiting = c.self.inside.waiting; failed = c.self.inside.failed } in
     let none : s.failed ≡ None = ap (λ (x : LoggedState g.row.D.Denot). x.failed) c.self.view_is ∙ c.requires.failed in
     let standing = subst (λ (f : Option ℕ). IsStanding (told s.disk) s.layout s.log s.pool s.marks s.waiting f) none c.self.invariant in
@@ -26,7 +19,6 @@ invariant_of-self g c =
 pub invariant_of-self-in-Err : goal.invariant_of-self-in-Err
 invariant_of-self-in-Err g c =
     let told = g.D.Disk.told in
-    let laws : DiskLaws told = record { need = g.met.D.Disk.images_need_contents; counts = g.met.D.Disk.now_is_since; only = g.met.D.Disk.since_now_is_now; fit = g.met.D.Disk.contents_fit } in
     let s : LoggedState g.row.D.Denot = record { disk = c.self.inside.disk; layout = c.self.inside.layout; log = c.self.inside.log; pool = c.self.inside.pool; marks = c.self.inside.marks.items; waiting = c.self.inside.waiting; failed = c.self.inside.failed } in
     let none : s.failed ≡ None = ap (λ (x : LoggedState g.row.D.Denot). x.failed) c.self.view_is ∙ c.requires.failed in
     let standing = subst (λ (f : Option ℕ). IsStanding (told s.disk) s.layout s.log s.pool s.marks s.waiting f) none c.self.invariant in

@@ -1,17 +1,16 @@
-use Rattle.std.proofs.Common.{◌≡◌, ◌≢◌, ◌⊎◌, inl, inr, ◌≤◌, ◌<◌, ◌+◌, ℕ, Bool, true, false, List, length, refl, sym, ap, subst, ◌∙◌, arith}
-use Rattle.std.specs.Prelude.{IsTrue, Option, None, Some}
-use Rattle.buffer_pool.specs.PoolState.{HeldPage, PoolState, IsClean, IsDirty, held_at}
-use Rattle.change_buffer.specs.Waiting.{Waiting, no_changes}
-use Rattle.opened_pages.specs.Opens.{OpensAs}
-use Rattle.pooled_pages.specs.ShownPages.{content_at, shown_pages}
-use Rattle.logged_pages.specs.Contents.{AddsOnly, HoldsAlike}
-use Rattle.logged_pages.specs.KeptPages.{KeptPages, LeftStore, kept_on}
+use Rattle.std.proofs.Common.{◌≡◌, inr, ◌+◌, ℕ, sym, ap, subst, ◌∙◌, arith}
+use Rattle.std.specs.Prelude.{Option, None, Some}
+use Rattle.buffer_pool.specs.PoolState.{PoolState, IsDirty}
+use Rattle.change_buffer.specs.Waiting.{no_changes}
+use Rattle.pooled_pages.specs.ShownPages.{content_at}
+use Rattle.logged_pages.specs.Contents.{HoldsAlike}
+use Rattle.logged_pages.specs.KeptPages.{KeptPages}
 use Rattle.logged_pages.specs.LoggedState.{LoggedState, store_of}
 use Rattle.logged_pages.specs.Room.{IsDurable}
 use Rattle.logged_pages.specs.Standing.{IsStanding}
-use Rattle.logged_pages.proofs.Steps.{DiskLaws, areas_fit, none_waits}
-use Rattle.logged_pages.proofs.CleanExits.{LeavesBroken, LeavesClean, one_clean, one_cleaned, failed_leaves, page_cleaned, page_failed, untouched_leaves}
-use Rattle.logged_pages.proofs.Exits.{keeps_all, lie_within, number_within}
+use Rattle.logged_pages.proofs.Steps.{DiskLaws}
+use Rattle.logged_pages.proofs.CleanExits.{page_cleaned, page_failed}
+use Rattle.logged_pages.proofs.Exits.{lie_within}
 use Rattle.logged_pages.proofs.logged.LoggedPages.write.Goals as goal
 
 pub clean-requires : goal.clean-requires
@@ -98,7 +97,6 @@ invariant_of-self-in-Err g c =
     let standing = subst (λ (f : Option ℕ). IsStanding (told s.disk) s.layout s.log s.pool s.marks s.waiting f) none c.self.invariant in
     let empty : s.waiting ≡ no_changes = ap (λ (x : LoggedState g.row.D.Denot). x.waiting) c.self.view_is ∙ c.requires.empty in
     let sure : IsDurable s.log s.waiting (c.used-durable.result + 1) = inr (empty, ap (λ (n : ℕ). n + 1) c.used-durable.ensures.used) in
-    let dirty = subst (λ (x : LoggedState g.row.D.Denot). (log : ℕ) × IsDirty x.pool c.args.number log) (sym c.self.view_is) c.requires.dirty in
     let all = page_failed told laws c.no_change_begins_another.ensures c.redo_forgets_a_page_begun_anew.ensures s c.pages_fill_the_disk.ensures standing c.clean.new.disk c.clean.ensures.cause.later c.clean.new.self (c.used-durable.result + 1) sure c.args.number c.faults.result c.in-Err.field-0 c.in-Err.ensures.cleans in
     all.standing
 
@@ -111,7 +109,6 @@ returns-in-Err-clause-kept g c =
     let standing = subst (λ (f : Option ℕ). IsStanding (told s.disk) s.layout s.log s.pool s.marks s.waiting f) none c.self.invariant in
     let empty : s.waiting ≡ no_changes = ap (λ (x : LoggedState g.row.D.Denot). x.waiting) c.self.view_is ∙ c.requires.empty in
     let sure : IsDurable s.log s.waiting (c.used-durable.result + 1) = inr (empty, ap (λ (n : ℕ). n + 1) c.used-durable.ensures.used) in
-    let dirty = subst (λ (x : LoggedState g.row.D.Denot). (log : ℕ) × IsDirty x.pool c.args.number log) (sym c.self.view_is) c.requires.dirty in
     let all = page_failed told laws c.no_change_begins_another.ensures c.redo_forgets_a_page_begun_anew.ensures s c.pages_fill_the_disk.ensures standing c.clean.new.disk c.clean.ensures.cause.later c.clean.new.self (c.used-durable.result + 1) sure c.args.number c.faults.result c.in-Err.field-0 c.in-Err.ensures.cleans in
     subst (λ (x : LoggedState g.row.D.Denot). KeptPages told (store_of told x) (store_of told (record { disk = c.clean.new.disk; layout = s.layout; log = s.log; pool = c.clean.new.self; marks = s.marks; waiting = s.waiting; failed = Some c.faults.result }))) c.self.view_is
     (all.keeps)
@@ -125,7 +122,6 @@ returns-in-Err-clause-alike g c =
     let standing = subst (λ (f : Option ℕ). IsStanding (told s.disk) s.layout s.log s.pool s.marks s.waiting f) none c.self.invariant in
     let empty : s.waiting ≡ no_changes = ap (λ (x : LoggedState g.row.D.Denot). x.waiting) c.self.view_is ∙ c.requires.empty in
     let sure : IsDurable s.log s.waiting (c.used-durable.result + 1) = inr (empty, ap (λ (n : ℕ). n + 1) c.used-durable.ensures.used) in
-    let dirty = subst (λ (x : LoggedState g.row.D.Denot). (log : ℕ) × IsDirty x.pool c.args.number log) (sym c.self.view_is) c.requires.dirty in
     let all = page_failed told laws c.no_change_begins_another.ensures c.redo_forgets_a_page_begun_anew.ensures s c.pages_fill_the_disk.ensures standing c.clean.new.disk c.clean.ensures.cause.later c.clean.new.self (c.used-durable.result + 1) sure c.args.number c.faults.result c.in-Err.field-0 c.in-Err.ensures.cleans in
     subst (λ (x : LoggedState g.row.D.Denot). HoldsAlike x.pool c.clean.new.self) c.self.view_is (λ number. ap (λ (p : PoolState). content_at p number) all.same)
 
@@ -138,6 +134,5 @@ returns-in-Err-clause-dirty g c =
     let standing = subst (λ (f : Option ℕ). IsStanding (told s.disk) s.layout s.log s.pool s.marks s.waiting f) none c.self.invariant in
     let empty : s.waiting ≡ no_changes = ap (λ (x : LoggedState g.row.D.Denot). x.waiting) c.self.view_is ∙ c.requires.empty in
     let sure : IsDurable s.log s.waiting (c.used-durable.result + 1) = inr (empty, ap (λ (n : ℕ). n + 1) c.used-durable.ensures.used) in
-    let dirty = subst (λ (x : LoggedState g.row.D.Denot). (log : ℕ) × IsDirty x.pool c.args.number log) (sym c.self.view_is) c.requires.dirty in
     let all = page_failed told laws c.no_change_begins_another.ensures c.redo_forgets_a_page_begun_anew.ensures s c.pages_fill_the_disk.ensures standing c.clean.new.disk c.clean.ensures.cause.later c.clean.new.self (c.used-durable.result + 1) sure c.args.number c.faults.result c.in-Err.field-0 c.in-Err.ensures.cleans in
     subst (λ (x : LoggedState g.row.D.Denot). (other log : ℕ) → IsDirty c.clean.new.self other log → IsDirty x.pool other log) c.self.view_is (λ other log it. subst (λ (p : PoolState). IsDirty p other log) all.same it)

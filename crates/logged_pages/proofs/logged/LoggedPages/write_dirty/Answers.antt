@@ -1,20 +1,13 @@
-use Rattle.std.proofs.Common.{◌≡◌, ◌≢◌, ◌⊎◌, inl, inr, ◌≤◌, ◌<◌, ◌+◌, ℕ, Bool, true, false, List, length, refl, sym, ap, subst, ◌∙◌, arith}
-use Rattle.std.specs.Prelude.{IsTrue, Option, None, Some}
-use Rattle.buffer_pool.specs.PoolState.{HeldPage, PoolState, IsClean, IsDirty, held_at}
-use Rattle.change_buffer.specs.Waiting.{Waiting, no_changes}
-use Rattle.opened_pages.specs.Opens.{OpensAs}
-use Rattle.pooled_pages.specs.ShownPages.{content_at, shown_pages}
-use Rattle.logged_pages.specs.Contents.{AddsOnly, HoldsAlike}
-use Rattle.logged_pages.specs.KeptPages.{KeptPages, LeftStore, kept_on}
+use Rattle.std.proofs.Common.{refl, sym, ap, subst, ◌∙◌, arith}
+use Rattle.buffer_pool.specs.PoolState.{IsDirty}
+use Rattle.pooled_pages.specs.ShownPages.{content_at}
+use Rattle.logged_pages.specs.KeptPages.{KeptPages, kept_on}
 use Rattle.logged_pages.specs.LoggedState.{LoggedState, store_of}
-use Rattle.logged_pages.specs.Room.{IsDurable}
-use Rattle.logged_pages.specs.Standing.{IsStanding}
-use Rattle.logged_pages.proofs.Steps.{DiskLaws, areas_fit, none_waits}
+use Rattle.logged_pages.proofs.Steps.{DiskLaws}
 use Rattle.buffer_pool.specs.NextDirty.{IsNextDirty}
 use Rattle.logged_pages.specs.Clean.{AreClean}
-use Rattle.logged_pages.proofs.CleanExits.{all_clean, below_more, clean_at, on_ok}
+use Rattle.logged_pages.proofs.CleanExits.{below_more, clean_at, on_ok}
 use Rattle.logged_pages.proofs.Exits.{keeps_all}
-use Rattle.logged_pages.proofs.Joining.{alike_on}
 use Rattle.logged_pages.proofs.logged.LoggedPages.write_dirty.Goals as goal
 
 pub pages-init : goal.pages-init
@@ -33,7 +26,6 @@ pages-init g c =
 pub pages-preserved : goal.pages-preserved
 pages-preserved g c =
     let told = g.D.Disk.told in
-    let laws : DiskLaws told = record { need = g.met.D.Disk.images_need_contents; counts = g.met.D.Disk.now_is_since; only = g.met.D.Disk.since_now_is_now; fit = g.met.D.Disk.contents_fit } in
     let mid : KeptPages told (store_of told c.args.self.now) (store_of told c.next_dirty.new.self) = subst (λ (x : LoggedState g.row.D.Denot). KeptPages told (store_of told c.args.self.now) (store_of told x)) (sym c.next_dirty.ensures.same) c.pages.invariant.kept in
     let same = c.next_dirty.ensures.same in
     record {
@@ -49,9 +41,7 @@ pages-preserved g c =
 pub returns-in_err-write-clause-kept : goal.returns-in_err-write-clause-kept
 returns-in_err-write-clause-kept g c =
     let told = g.D.Disk.told in
-    let laws : DiskLaws told = record { need = g.met.D.Disk.images_need_contents; counts = g.met.D.Disk.now_is_since; only = g.met.D.Disk.since_now_is_now; fit = g.met.D.Disk.contents_fit } in
     let mid : KeptPages told (store_of told c.args.self.now) (store_of told c.next_dirty.new.self) = subst (λ (x : LoggedState g.row.D.Denot). KeptPages told (store_of told c.args.self.now) (store_of told x)) (sym c.next_dirty.ensures.same) c.pages.invariant.kept in
-    let same = c.next_dirty.ensures.same in
     kept_on told (store_of told c.args.self.now) (store_of told c.next_dirty.new.self) (store_of told c.write.new.self) mid c.write.ensures.kept
 
 pub returns-in_err-write-clause-alike : goal.returns-in_err-write-clause-alike
@@ -61,9 +51,7 @@ returns-in_err-write-clause-alike g c =
 pub returns-clause-kept : goal.returns-clause-kept
 returns-clause-kept g c =
     let told = g.D.Disk.told in
-    let laws : DiskLaws told = record { need = g.met.D.Disk.images_need_contents; counts = g.met.D.Disk.now_is_since; only = g.met.D.Disk.since_now_is_now; fit = g.met.D.Disk.contents_fit } in
     let mid : KeptPages told (store_of told c.args.self.now) (store_of told c.next_dirty.new.self) = subst (λ (x : LoggedState g.row.D.Denot). KeptPages told (store_of told c.args.self.now) (store_of told x)) (sym c.next_dirty.ensures.same) c.pages.invariant.kept in
-    let same = c.next_dirty.ensures.same in
     kept_on told (store_of told c.args.self.now) (store_of told c.next_dirty.new.self) (store_of told c.sync.new.self) mid c.sync.ensures.kept
 
 pub returns-clause-alike : goal.returns-clause-alike

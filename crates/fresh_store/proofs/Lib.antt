@@ -1,0 +1,4 @@
+pub mod Places
+pub mod Kinds
+pub mod Forms
+pub mod Opening
