@@ -1,4 +1,4 @@
-pub mod Places
-pub mod Kinds
-pub mod Forms
-pub mod Opening
+pub mod FreshPlaces
+pub mod FreshOrder
+pub mod FreshForms
+pub mod FreshOpens

@@ -96,10 +96,6 @@ made_outcome T told old new layout place (Err error) was is faults damaged untol
 
 -- What is held, and the room
 
-pub is_false : (b : Bool) → not b ≡ true → b ≡ false
-is_false true holds = cc
-is_false false holds = refl
-
 pub alike_held : (old new : PoolState) → HoldsAlike old new → (number : ℕ) → IsSome (held_at old number) → IsSome (held_at new number)
 alike_held old new alike number some = held_by (held_at old number) (held_at new number) (alike number) some
   where
@@ -171,13 +167,14 @@ pub room_start : (log : Log) (waiting : Waiting) (marked : Bool) (place : Place)
 room_start log waiting marked place kind size room =
     let all : HasRoom log waiting (0 + (7 + size)) = subst (λ (b : Bool). HasRoom log waiting (bytes_with b (7 + size))) (begun_or marked) room in
     subst (λ (b : Bool). HasRoom log waiting (bytes_with b (length (bytes_of (PageStart place kind))))) (sym (begun_or marked))
-    (room_for log waiting (0 + (7 + size)) (length (bytes_of (PageStart place kind))) (omega (arith, start_length place kind)) all)
+    (room_for log waiting (0 + (7 + size)) (0 + length (bytes_of (PageStart place kind))) (omega (arith, start_length place kind)) all)
 
 pub room_second : (log after : Log) (waiting more : Waiting) (marked begun : Bool) (place : Place) (kind : ℕ) (change : LoggedChange) (size : ℕ) → size ≡ length (bytes_of change) → HasRoom log waiting (bytes_with (marked || true) (7 + size)) → after ≡ log
     → length more.bytes ≡ length waiting.bytes + bytes_for marked (PageStart place kind) → begun ≡ true → HasRoom after more (bytes_for begun change)
 room_second log after waiting more marked begun place kind change size long room same grown is =
     let all : HasRoom log waiting (0 + (7 + size)) = subst (λ (b : Bool). HasRoom log waiting (bytes_with b (7 + size))) (begun_or marked) room in
-    let seven : bytes_for marked (PageStart place kind) ≡ 7 = ap (λ (b : Bool). bytes_with b (length (bytes_of (PageStart place kind)))) (begun_or marked) ∙ start_length place kind in
+    let own : bytes_for marked (PageStart place kind) ≡ 0 + length (bytes_of (PageStart place kind)) = ap (λ (b : Bool). bytes_with b (length (bytes_of (PageStart place kind)))) (begun_or marked) in
+    let seven : bytes_for marked (PageStart place kind) ≡ 7 = omega (arith, own, start_length place kind) in
     subst (λ (l : Log). HasRoom l more (bytes_for begun change)) (sym same)
     (subst (λ (b : Bool). HasRoom log more (bytes_for b change)) (sym is)
     (record { buffer = omega (arith, all.buffer, grown, seven, long); area = omega (arith, all.area, grown, seven, long) }))

@@ -1,4 +1,3 @@
-pub mod Starting
 pub mod ChangeSteps
 pub mod Steps
 pub mod PoolSteps
@@ -19,3 +18,4 @@ pub mod StoreReads
 pub mod KnownSteps
 pub mod StoreWords
 pub mod RoomSteps
+pub mod Starting

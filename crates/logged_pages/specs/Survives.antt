@@ -19,7 +19,7 @@ pub record Survives {D : Type 0} (told : D → Told) (Passed : PageMap → Type 
 
 module _ {D : Type 0} (told : D → Told) (First Then : PageMap → Type 0) (old mid new : View D) (layout : mid.layout ≡ old.layout) (first : Survives told First old mid) (second : Survives told Then mid new) where
   -- the pages that either of two runs of calls passed
-  Either : PageMap → Type 0
+  abbrev Either : PageMap → Type 0
   Either pages = First pages ⊎ Then pages
 
   less : (image : List ℕ) → ReachesAny old.layout (told old.disk) First image → ReachesAny old.layout (told old.disk) Either image
@@ -27,16 +27,16 @@ module _ {D : Type 0} (told : D → Told) (First Then : PageMap → Type 0) (old
     there.0,
     there.1,
     ⊎_elim (λ (passed : (pages : PageMap) × First pages × OpensAs old.layout image pages). inl (passed.0, inl passed.1, passed.2))
-        (λ (as : (others : PageMap) → OpensAs old.layout there.0 others → OpensAs old.layout image others). inr as) there.2,
+        (λ (more : (others : PageMap) → OpensAs old.layout there.0 others → OpensAs old.layout image others). inr more) there.2,
   )
 
   -- what an image of the store in between opens to, so does one that opens as it does
   on : (between image : List ℕ) → ((others : PageMap) → OpensAs old.layout between others → OpensAs old.layout image others) → ReachesAny old.layout (told old.disk) First between → ReachesAny old.layout (told old.disk) Either image
-  on between image as there = (
+  on between image more there = (
     there.0,
     there.1,
-    ⊎_elim (λ (passed : (pages : PageMap) × First pages × OpensAs old.layout between pages). inl (passed.0, inl passed.1, as passed.0 passed.2))
-        (λ (was : (others : PageMap) → OpensAs old.layout there.0 others → OpensAs old.layout between others). inr (λ others opens. as others (was others opens))) there.2,
+    ⊎_elim (λ (passed : (pages : PageMap) × First pages × OpensAs old.layout between pages). inl (passed.0, inl passed.1, more passed.0 passed.2))
+        (λ (was : (others : PageMap) → OpensAs old.layout there.0 others → OpensAs old.layout between others). inr (λ others opens. more others (was others opens))) there.2,
   )
 
   further : (image : List ℕ) → ReachesAny mid.layout (told mid.disk) Then image → ReachesAny old.layout (told old.disk) Either image
@@ -44,7 +44,7 @@ module _ {D : Type 0} (told : D → Told) (First Then : PageMap → Type 0) (old
       let come = first.images there.0 there.1 in
       let step = subst (λ (l : DiskLayout). ((pages : PageMap) × Then pages × OpensAs l image pages) ⊎ ((others : PageMap) → OpensAs l there.0 others → OpensAs l image others)) layout there.2 in
       ⊎_elim (λ (passed : (pages : PageMap) × Then pages × OpensAs old.layout image pages). (come.0, come.1, inl (passed.0, inr passed.1, passed.2)))
-      (λ (as : (others : PageMap) → OpensAs old.layout there.0 others → OpensAs old.layout image others). on there.0 image as come) step
+      (λ (more : (others : PageMap) → OpensAs old.layout there.0 others → OpensAs old.layout image others). on there.0 image more come) step
 
   -- two runs of calls
   pub survives_then : Survives told (λ pages. First pages ⊎ Then pages) old new
@@ -70,7 +70,7 @@ module _ {D : Type 0} (told : D → Told) (Passed : PageMap → Type 0) (old new
     there.0,
     there.1,
     ⊎_elim (λ (passed : (pages : PageMap) × Passed pages × OpensAs old.layout image pages). inl (passed.0, less (survives.seen there.0 there.1) passed.0 passed.1, passed.2))
-        (λ (as : (others : PageMap) → OpensAs old.layout there.0 others → OpensAs old.layout image others). inr as) there.2,
+        (λ (more : (others : PageMap) → OpensAs old.layout there.0 others → OpensAs old.layout image others). inr more) there.2,
   )
 
   -- what is passed may be told by less
@@ -85,7 +85,7 @@ module _ {D : Type 0} (told : D → Told) (Passed : PageMap → Type 0) (old new
   reached : (image : List ℕ) → ReachesAny old.layout (told old.disk) Passed image → OpensWith old.layout P image
   reached image there =
       ⊎_elim (λ (passed : (pages : PageMap) × Passed pages × OpensAs old.layout image pages). (passed.0, passed.2, has (survives.seen there.0 there.1) passed.0 passed.1))
-      (λ (as : (others : PageMap) → OpensAs old.layout there.0 others → OpensAs old.layout image others). let was = each there.0 there.1 in (was.0, as was.0 was.1, was.2)) there.2
+      (λ (more : (others : PageMap) → OpensAs old.layout there.0 others → OpensAs old.layout image others). let was = each there.0 there.1 in (was.0, more was.0 was.1, was.2)) there.2
 
   -- each image of the beginning opens to pages with P, and so do all that are passed: so it is at every moment of the calls
   pub each_moment_has : Throughout (told old.disk) (told new.disk) (OpensWith old.layout P)

@@ -7,6 +7,7 @@ ghost use Rattle.opened_pages.specs.Opens.{OpensAs};
 ghost use Rattle.opened_pages.specs.PageOrder.{AreInOrder};
 ghost use Rattle.opened_pages.specs.Reaches.{OpensAsBefore};
 ghost use Rattle.store_opening.specs.StartCauses.{HasStore};
+ghost use Rattle.store_opening.specs.Untouched.{IsUntouched};
 ghost use Rattle.logged_pages.specs.Refused.{IsRefused};
 
 use crate::forms::forms_of;
@@ -35,6 +36,8 @@ impl<D: Disk + Drop> PageStore<D> {
         ensures fresh { IfOk result (λ store. store.failed ≡ None) }
         // At every moment, also of a call that refuses.
         ensures any_moment { MatchResult result (λ store. Throughout (D.told disk) (D.told store.disk) (OpensAsBefore (D.told disk))) (λ e. Throughout (D.told disk) (D.told e.1) (OpensAsBefore (D.told disk))) }
+        // Where no store is there, nothing was written.
+        ensures untouched { IfErr result (λ e. e.0 ≡ StartFault.NoStore → IsUntouched (D.told disk) (D.told e.1)) }
         ensures refused { IfErr result (λ e. IsRefused (D.told disk) (D.told e.1) e.0) }
     {
         slots_are_read();

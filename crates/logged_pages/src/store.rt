@@ -83,12 +83,12 @@ impl<D: Disk + Drop> PageStore<D> {
         ensures at { IfErr result (λ error. NamesPage self.old.layout place error) }
         ensures* rests { sem 𝓛 (Rests (the_row D.row D.Disk) self.entry (λ s. Keeps D.told self.old s × Outcome D.told (Untold D.told self.old) self.old s result × Survives D.told (λ pages. pages ≡ self.old.pages) self.old s)) }
     {
-        hold(&mut self.pages, &mut self.facts, &self.forms, place)?;
+        match hold(&mut self.pages, &mut self.facts, &self.forms, place) {
+            Ok(()) => {}
+            Err(error) => return Err(error),
+        }
         self.pages.known();
-        let Some(page) = self.pages.page(place) else {
-            unreachable!()
-        };
-        Ok(page)
+        Ok(self.pages.page(place).unwrap())
     }
 
     /// Makes the change, which is one of the page at the place. It waits for the log until the next flush, or until the buffer or

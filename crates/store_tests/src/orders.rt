@@ -17,23 +17,26 @@ const MARKS: [(usize, u8, u8); 6] = [
     (1, 1, b'a'),
 ];
 
-/// What is sure and what was written when each call fails, from the first write on.
-const CHECKPOINT: [(&[u8], &[u8]); 12] = [
+/// What is sure and what was written after each write and each sync.
+const CHECKPOINT: [(&[u8], &[u8]); 14] = [
+    (b"", b""),
+    // The start syncs.
+    (b"", b""),
     // The flush writes the frame and syncs, opens its gate and syncs.
     (b"", b"c"),
-    (b"", b"c"),
+    (b"c", b"c"),
     (b"c", b"cg"),
-    (b"c", b"cg"),
+    (b"cg", b"cg"),
     // The second flush makes no call. The checkpoint writes each dirty page once, in order of place, and syncs.
     (b"cg", b"cgs"),
     (b"cg", b"cgsh"),
     (b"cg", b"cgshi"),
-    (b"cg", b"cgshi"),
+    (b"cgshi", b"cgshi"),
     // It closes the first gate of the other area and syncs, and chooses that area and syncs.
     (b"cgshi", b"cgshi"),
     (b"cgshi", b"cgshi"),
     (b"cgshi", b"cgshia"),
-    (b"cgshi", b"cgshia"),
+    (b"cgshia", b"cgshia"),
 ];
 
 /// The letters of what an image has.
@@ -68,28 +71,16 @@ fn three_pages(store: &mut PageStore<MemoryDisk>) -> Option<()> {
     store.checkpoint().ok()
 }
 
-/// A disk of this image on which these steps were made up to a call that failed.
-fn stopped_at(alloc: Global, image: &[u8], call: u64) -> Option<MemoryDisk> {
+/// A disk of this image on which these steps were made with so many writes and syncs, and whether all of them were.
+fn stopped_after(alloc: Global, image: &[u8], calls: u64) -> Option<(MemoryDisk, bool)> {
     let held = Vec::from_slice(alloc, image).ok()?;
-    let disk = disk_of(held, call)?;
+    let disk = disk_of(held, calls)?;
     let mut store = match PageStore::start(alloc, disk) {
         Ok(store) => store,
-        Err((_, disk)) => return Some(disk),
+        Err((_, disk)) => return Some((disk, false)),
     };
-    three_pages(&mut store);
-    Some(store.into_disk())
-}
-
-/// The number of the first call that writes. The sync and the reads of the start come before it, and those of three pages.
-fn first_write(alloc: Global, image: &[u8]) -> Option<u64> {
-    for call in 1..40u64 {
-        let disk = stopped_at(alloc, image, call)?;
-        let (_, written) = shown(alloc, &disk)?;
-        if !written.as_slice().is_empty() {
-            return Some(call);
-        }
-    }
-    None
+    let done = three_pages(&mut store).is_some();
+    Some((store.into_disk(), done))
 }
 
 #[test]
@@ -97,20 +88,24 @@ fn a_checkpoint_writes_pages_behind_their_log(rt: HostRuntime) -> Result<(), Fai
     let alloc = rt.alloc();
     let layout = layout(alloc, 2).ok_or("layout")?;
     let image = formatted(alloc, &layout).ok_or("format")?;
-    let mut call = first_write(alloc, image.as_slice()).ok_or("write")?;
+    let mut calls = 0u64;
+    let mut whole = false;
     for (sure, written) in CHECKPOINT {
-        let disk = stopped_at(alloc, image.as_slice(), call).ok_or("disk")?;
+        assert!(rt; !whole);
+        let (disk, done) = stopped_after(alloc, image.as_slice(), calls).ok_or("disk")?;
         let (old, new) = shown(alloc, &disk).ok_or("image")?;
         assert_eq!(rt; (old.as_slice(), new.as_slice()), (sure, written));
-        call = call.checked_add(1).ok_or("call")?;
+        whole = done;
+        calls = calls.checked_add(1).ok_or("calls")?;
     }
+    assert!(rt; whole);
     Ok(())
 }
 
-/// More pages than there are frames are changed, without a flush.
-fn many_pages(alloc: Global, image: &[u8], call: u64) -> Option<MemoryDisk> {
+/// A disk of this image on which more pages than there are frames were changed with so many writes and syncs, without a flush.
+fn many_pages(alloc: Global, image: &[u8], calls: u64) -> Option<MemoryDisk> {
     let held = Vec::from_slice(alloc, image).ok()?;
-    let disk = disk_of(held, call)?;
+    let disk = disk_of(held, calls)?;
     let mut store = match PageStore::start(alloc, disk) {
         Ok(store) => store,
         Err((_, disk)) => return Some(disk),
@@ -138,16 +133,14 @@ fn a_page_goes_once_its_log_is_sure(rt: HostRuntime) -> Result<(), Fail> {
     let alloc = rt.alloc();
     let layout = layout(alloc, 17).ok_or("layout")?;
     let image = formatted(alloc, &layout).ok_or("format")?;
-    let mut went = false;
-    for call in 1..80u64 {
-        let disk = many_pages(alloc, image.as_slice(), call).ok_or("disk")?;
+    // The sync of the start, the four calls of a flush, and the page.
+    for calls in 4..7u64 {
+        let disk = many_pages(alloc, image.as_slice(), calls).ok_or("disk")?;
         let old = disk.image(0)?;
         let new = disk.image(1)?;
-        if has_heap(new.as_slice()) {
-            assert_eq!(rt; (call, old.as_slice().get(8192)), (call, Some(&1)));
-            went = true;
-        }
+        let gate = old.as_slice().get(8192) == Some(&1);
+        let fits = (gate, has_heap(new.as_slice()));
+        assert_eq!(rt; (calls, fits), (calls, (calls > 4, calls > 5)));
     }
-    assert!(rt; went);
     Ok(())
 }

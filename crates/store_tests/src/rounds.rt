@@ -1,6 +1,6 @@
 //! Stores that are opened again.
 
-use crate::stores::{STATUSES, byte_at, disk_of, formatted, layout, set_status};
+use crate::stores::{MANY, STATUSES, byte_at, disk_of, formatted, layout, set_status};
 use disk_trait::{Disk, MemoryDisk};
 use logged_pages::PageStore;
 use std::alloc::Global;
@@ -20,10 +20,10 @@ fn two_changes(store: &mut PageStore<MemoryDisk>) -> u8 {
     3
 }
 
-/// A disk of this image on which these steps were made up to a call that failed, and how many were done.
-fn stopped_at(alloc: Global, image: &[u8], call: u64) -> Option<(MemoryDisk, u8)> {
+/// A disk of this image on which these steps were made with so many writes and syncs, and how many were done.
+fn stopped_after(alloc: Global, image: &[u8], calls: u64) -> Option<(MemoryDisk, u8)> {
     let held = Vec::from_slice(alloc, image).ok()?;
-    let disk = disk_of(held, call)?;
+    let disk = disk_of(held, calls)?;
     let mut store = match PageStore::start(alloc, disk) {
         Ok(store) => store,
         Err((_, disk)) => return Some((disk, 0)),
@@ -34,7 +34,7 @@ fn stopped_at(alloc: Global, image: &[u8], call: u64) -> Option<(MemoryDisk, u8)
 
 /// The first statuses of a store on a disk of this image: 4 is the first change, and 16 the second.
 fn statuses(alloc: Global, image: Vec<u8>) -> Option<u8> {
-    let disk = disk_of(image, 1000)?;
+    let disk = disk_of(image, MANY)?;
     let mut store = match PageStore::start(alloc, disk) {
         Ok(store) => store,
         Err(_) => return None,
@@ -57,12 +57,13 @@ fn a_store_opens_again_with_what_was_flushed(rt: HostRuntime) -> Result<(), Fail
     let layout = layout(alloc, 1).ok_or("layout")?;
     let image = formatted(alloc, &layout).ok_or("format")?;
     let mut most = 0;
-    for call in 1..40u64 {
-        let (disk, done) = stopped_at(alloc, image.as_slice(), call).ok_or("disk")?;
-        for pick in 0..4u64 {
+    // The sync of the start, four calls for each flush, and six of the checkpoint.
+    for calls in 0..16u64 {
+        let (disk, done) = stopped_after(alloc, image.as_slice(), calls).ok_or("disk")?;
+        for pick in 0..3u64 {
             let left = disk.image(pick)?;
             let found = statuses(alloc, left).ok_or("store")?;
-            assert_eq!(rt; (call, pick, has_all(done, found)), (call, pick, true));
+            assert_eq!(rt; (calls, pick, has_all(done, found)), (calls, pick, true));
         }
         most = done;
     }
@@ -70,25 +71,17 @@ fn a_store_opens_again_with_what_was_flushed(rt: HostRuntime) -> Result<(), Fail
     Ok(())
 }
 
-/// The byte of the disk at which the gate of the first frame stands.
-const GATE: u64 = 8192;
-
 /// A disk on which the first flush has written all but the gate of its frame, and the open gate is pending.
 fn gate_pending(alloc: Global, image: &[u8]) -> Option<MemoryDisk> {
-    for call in 1..40u64 {
-        let (disk, _) = stopped_at(alloc, image, call)?;
-        let sure = disk.image(0).ok()?;
-        let written = disk.image(1).ok()?;
-        if sure.as_slice().get(GATE as usize) != written.as_slice().get(GATE as usize) {
-            let mut pending = disk_of(sure, 1000)?;
-            if pending.size() <= GATE {
-                return None;
-            }
-            pending.write(GATE, &[1]).ok()?;
-            return Some(pending);
-        }
+    // The sync of the start, and two calls of the flush.
+    let (disk, _) = stopped_after(alloc, image, 3)?;
+    let sure = disk.image(0).ok()?;
+    let mut pending = disk_of(sure, MANY)?;
+    if pending.size() <= 8192 {
+        return None;
     }
-    None
+    pending.write(8192, &[1]).ok()?;
+    Some(pending)
 }
 
 #[test]

@@ -15,8 +15,8 @@ use store_format::format;
 use store_layout::{Layout, blocks_of, count_relations};
 use wal_record::Change;
 
-/// The calls that a test records, and the bytes that they write.
-const CALLS: u64 = 200;
+/// More writes and syncs than a test makes, and more bytes than they write.
+pub const MANY: u64 = 100;
 const BYTES: u64 = 1_000_000;
 
 /// The page of statuses.
@@ -40,18 +40,17 @@ pub fn layout(alloc: Global, heap_blocks: u32) -> Option<Layout> {
     table_layout(alloc, 1, sizes)
 }
 
-/// A disk of this image that records its calls, and fails from the call of that number on.
-pub fn disk_of(image: Vec<u8>, stop: u64) -> Option<MemoryDisk> {
+/// A disk of this image that makes so many writes and syncs, and then fails.
+pub fn disk_of(image: Vec<u8>, calls: u64) -> Option<MemoryDisk> {
     let mut disk = MemoryDisk::from_image(image);
-    disk.room(CALLS, BYTES).ok()?;
-    disk.stop_at(stop);
+    disk.room(calls, BYTES).ok()?;
     Some(disk)
 }
 
 /// The bytes of a new store.
 pub fn formatted(alloc: Global, layout: &Layout) -> Option<Vec<u8>> {
     let mut disk = MemoryDisk::new(alloc, layout.disk_size()).ok()?;
-    disk.room(CALLS, BYTES).ok()?;
+    disk.room(MANY, BYTES).ok()?;
     format(&mut disk, layout).ok()?;
     disk.image(1).ok()
 }

@@ -1,4 +1,4 @@
-use Rattle.fresh_store.proofs.Opening.{old_or_fresh}
+use Rattle.fresh_store.proofs.FreshOpens.{old_or_fresh}
 use Rattle.fresh_store.proofs.laws.a_format_leaves_old_or_none_or_new.Goals as goal
 
 pub returns : goal.returns

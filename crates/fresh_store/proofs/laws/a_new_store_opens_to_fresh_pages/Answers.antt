@@ -1,7 +1,7 @@
 use Rattle.page_store.specs.PageMap.{unstarted_page}
-use Rattle.fresh_store.proofs.Kinds.{fresh_order}
-use Rattle.fresh_store.proofs.Opening.{opens}
-use Rattle.fresh_store.proofs.Places.{fresh_at}
+use Rattle.fresh_store.proofs.FreshOrder.{fresh_order}
+use Rattle.fresh_store.proofs.FreshOpens.{opens}
+use Rattle.fresh_store.proofs.FreshPlaces.{fresh_at}
 use Rattle.fresh_store.proofs.laws.a_new_store_opens_to_fresh_pages.Goals as goal
 
 pub returns-clause-opens : goal.returns-clause-opens

@@ -10,7 +10,7 @@ use Rattle.page_store.specs.PageMap.{View, page_at}
 use Rattle.buffer_pool.specs.PoolState.{held_at}
 use Rattle.pooled_pages.specs.PageNumbers.{page_number}
 use Rattle.pooled_pages.specs.Safe.{is_marked}
-use Rattle.logged_pages.proofs.ChangeSteps.{alike_held, is_false, damage_outcome, damaged_at, fits_from, made_at, made_changed, made_kept, made_outcome, place_from}
+use Rattle.logged_pages.proofs.ChangeSteps.{alike_held, damage_outcome, damaged_at, fits_from, made_at, made_changed, made_kept, made_outcome, place_from}
 use Rattle.page_store.proofs.Lookups.{on_err}
 use Rattle.logged_pages.proofs.Joining.{outcome_then}
 use Rattle.logged_pages.specs.KeptPages.{KeptPages, kept_on, kept_then}
@@ -32,7 +32,7 @@ returns-then-not-is_loggable-clause-outcome g c =
     let mid : View g.row.D.Denot = store_of told held in
     let tables = subst (λ (l : DiskLayout). All HasForm l.schema.tables) c.layout.ensures c.tables_have_forms.ensures.forms in
     let formed : IsForm (form_of begin.layout place.relation) = each_form begin.layout tables place.relation in
-    let untold : Untold told old = λ tells. c.is_loggable.ensures.isnt (is_false c.is_loggable.result c.if-not-is_loggable.true) (fits_loggable (form_of begin.layout place.relation) (page_at old.pages place) change formed (c.requires.fits tells)) in
+    let untold : Untold told old = λ tells. c.is_loggable.ensures.isnt c.if-not-is_loggable.true (fits_loggable (form_of begin.layout place.relation) (page_at old.pages place) change formed (c.requires.fits tells)) in
     outcome_then told old mid mid _ c.in_ok-hold.ensures.outcome.0 c.in_ok-hold.ensures.outcome.1 c.hold.ensures.kept.leaves (damage_outcome ⊤ told mid mid held.layout place c.damaged.result c.in_ok-hold.ensures.outcome.1 c.in_ok-hold.ensures.outcome.1 (omega arith) c.damaged.ensures (λ tells. untold (sym c.hold.ensures.kept.leaves.tells ∙ tells)))
 
 pub returns-then-not-is_loggable-clause-at : goal.returns-then-not-is_loggable-clause-at

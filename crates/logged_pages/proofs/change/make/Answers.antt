@@ -19,11 +19,11 @@ use Rattle.logged_pages.proofs.KnownSteps.{known_changed}
 use Rattle.logged_pages.specs.Noted.{noted}
 use Rattle.logged_pages.proofs.change.make.Goals as goal
 
-pub form_at-requires-clause-relation : goal.form_at-requires-clause-relation
-form_at-requires-clause-relation g c = subst (λ (l : DiskLayout). c.args.place.relation < length (relation_blocks l)) (sym c.layout-2.ensures) c.requires.place.relation
+pub form_at-form-requires-clause-relation : goal.form_at-form-requires-clause-relation
+form_at-form-requires-clause-relation g c = subst (λ (l : DiskLayout). c.args.place.relation < length (relation_blocks l)) (sym c.layout-2.ensures) c.requires.place.relation
 
-pub form_at-requires-clause-forms : goal.form_at-requires-clause-forms
-form_at-requires-clause-forms g c = c.requires.forms ∙ ap forms_of (sym c.layout-2.ensures)
+pub form_at-form-requires-clause-forms : goal.form_at-form-requires-clause-forms
+form_at-form-requires-clause-forms g c = c.requires.forms ∙ ap forms_of (sym c.layout-2.ensures)
 
 pub make-requires-clause-form : goal.make-requires-clause-form
 make-requires-clause-form g c =

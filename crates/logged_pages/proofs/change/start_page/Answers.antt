@@ -10,7 +10,7 @@ use Rattle.page_store.specs.PageMap.{View, page_at}
 use Rattle.buffer_pool.specs.PoolState.{held_at}
 use Rattle.pooled_pages.specs.PageNumbers.{page_number}
 use Rattle.pooled_pages.specs.Safe.{is_marked}
-use Rattle.logged_pages.proofs.ChangeSteps.{alike_held, is_false, twice_leaves, damage_back, room_second, room_start, turn_changed, untold_back, damage_outcome, damaged_at, made_at, made_kept, made_outcome, place_from, second_fits, start_loggable, turn_from}
+use Rattle.logged_pages.proofs.ChangeSteps.{alike_held, twice_leaves, damage_back, room_second, room_start, turn_changed, untold_back, damage_outcome, damaged_at, made_at, made_kept, made_outcome, place_from, second_fits, start_loggable, turn_from}
 use Rattle.page_store.proofs.Lookups.{on_err}
 use Rattle.logged_pages.proofs.Joining.{outcome_then}
 use Rattle.logged_pages.specs.KeptPages.{KeptPages, LeftStore, kept_on, kept_then}
@@ -18,11 +18,11 @@ use Rattle.logged_pages.proofs.KnownSteps.{known_kept}
 use Rattle.logged_pages.specs.LoggedState.{LoggedState, store_of}
 use Rattle.logged_pages.proofs.change.start_page.Goals as goal
 
-pub form_at-requires-clause-relation : goal.form_at-requires-clause-relation
-form_at-requires-clause-relation g c = subst (λ (l : DiskLayout). c.args.place.relation < length (relation_blocks l)) (sym c.layout.ensures) c.requires.place.relation
+pub form_at-form-requires-clause-relation : goal.form_at-form-requires-clause-relation
+form_at-form-requires-clause-relation g c = subst (λ (l : DiskLayout). c.args.place.relation < length (relation_blocks l)) (sym c.layout.ensures) c.requires.place.relation
 
-pub form_at-requires-clause-forms : goal.form_at-requires-clause-forms
-form_at-requires-clause-forms g c = c.requires.forms ∙ ap forms_of (sym c.layout.ensures)
+pub form_at-form-requires-clause-forms : goal.form_at-form-requires-clause-forms
+form_at-form-requires-clause-forms g c = c.requires.forms ∙ ap forms_of (sym c.layout.ensures)
 
 pub returns-then-not-takes_started-clause-outcome : goal.returns-then-not-takes_started-clause-outcome
 returns-then-not-takes_started-clause-outcome g c =
@@ -34,7 +34,7 @@ returns-then-not-takes_started-clause-outcome g c =
     let held : LoggedState g.row.D.Denot = c.hold.new.pages in
     let mid : View g.row.D.Denot = store_of told held in
     let form : c.form_at-form.result.now ≡ form_of begin.layout place.relation = c.form_at-form.ensures.form ∙ ap (λ (l : DiskLayout). form_of l c.args.place.relation) c.layout.ensures in
-    let untold : Untold told old = λ tells. c.takes_started.ensures.refuses (is_false c.takes_started.result c.if-not-takes_started.true) (page_at old.pages place)
+    let untold : Untold told old = λ tells. c.takes_started.ensures.refuses c.if-not-takes_started.true (page_at old.pages place)
     (subst (λ (f : Form). FitInTurn f (page_at old.pages place) (PageStart place c.args.kind ∷ change ∷ [])) (sym form) (c.requires.fits tells)) in
     outcome_then told old mid mid _ c.in_ok-hold.ensures.outcome.0 c.in_ok-hold.ensures.outcome.1 c.hold.ensures.kept.leaves (damage_outcome ⊤ told mid mid held.layout place c.damaged.result c.in_ok-hold.ensures.outcome.1 c.in_ok-hold.ensures.outcome.1 (omega arith) c.damaged.ensures (λ tells. untold (sym c.hold.ensures.kept.leaves.tells ∙ tells)))
 

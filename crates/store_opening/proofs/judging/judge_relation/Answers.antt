@@ -8,6 +8,7 @@ use Rattle.store_opening.specs.Judged.{IsJudged}
 use Rattle.store_opening.proofs.Joining.{still_twice}
 use Rattle.store_opening.proofs.PageJudged.{judged_before, unstarted_judged}
 use Rattle.store_opening.proofs.PagesJudged.{JudgedBelow, judged_more}
+use Rattle.log_redo.specs.PooledPages.{HoldsDurablePages}
 use Rattle.store_opening.proofs.judging.judge_relation.Goals as goal
 
 pub places-preserved : goal.places-preserved
@@ -41,3 +42,6 @@ pub note_started-requires-clause-unstarted : goal.note_started-requires-clause-u
 note_started-requires-clause-unstarted g c =
     let mid = g.D.Disk.told c.places.disk in
     unstarted_judged c.args.layout.now c.places.pool mid (record { relation = c.args.relation; block = c.places.block }) c.in-Ok-judge_page.found c.in-Ok-judge_page.ensures.judged
+
+pub judge_page-requires-clause-held : goal.judge_page-requires-clause-held
+judge_page-requires-clause-held g c = subst (HoldsDurablePages c.args.layout.now) (sym c.places.invariant.pool) c.requires.held

@@ -9,6 +9,7 @@ use Rattle.store_opening.specs.Judged.{AreJudgedIn}
 use Rattle.store_opening.specs.Orders.{StandsInOrder}
 use Rattle.store_opening.proofs.AllOrder.{order_of_all}
 use Rattle.store_opening.proofs.PagesJudged.{judged_in_after, one_judged}
+use Rattle.log_redo.specs.PooledPages.{HoldsDurablePages}
 use Rattle.store_opening.proofs.order.judge_order.Goals as goal
 
 pub broken_order-requires-clause-kinds : goal.broken_order-requires-clause-kinds
@@ -52,3 +53,6 @@ returns-in-Some-clause-cause g c =
 pub returns-clause-order : goal.returns-clause-order
 returns-clause-order g c = λ tells.
     order_of_all c.args.layout.now (shown_pages c.args.layout.now c.args.pool.now (g.D.Disk.told c.args.disk.now).contents) c.relations.relation (omega (arith, c.relations-test.false, c.count_relations-relation-end.ensures)) (c.relations.invariant.order tells)
+
+pub broken_order-requires-clause-held : goal.broken_order-requires-clause-held
+broken_order-requires-clause-held g c = subst (HoldsDurablePages c.args.layout.now) (sym c.relations.invariant.pool) c.requires.held

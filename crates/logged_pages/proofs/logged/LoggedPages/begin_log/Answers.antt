@@ -1,5 +1,5 @@
-use Rattle.std.proofs.Common.{◌≡◌, ℕ, Bool, List, sym, ap, subst, ◌∙◌, arith}
-use Rattle.std.specs.Prelude.{Option, None, Some}
+use Rattle.std.proofs.Common.{◌≡◌, ℕ, Bool, false, List, length, sym, ap, subst, ◌∙◌, arith}
+use Rattle.std.specs.Prelude.{Option, None, Some, replicate, vec_len}
 use Rattle.change_buffer.specs.Waiting.{Waiting, no_changes}
 use Rattle.logged_pages.specs.KeptPages.{KeptPages}
 use Rattle.logged_pages.specs.LoggedState.{LoggedState, store_of}
@@ -31,7 +31,8 @@ invariant_of-self g c =
     let stable : IsStable (told s.disk) = subst (λ (x : LoggedState g.row.D.Denot). IsStable (told x.disk)) (sym c.self.view_is) c.requires.stable in
     let done : IsStanding (told c.switch.new.disk) s.layout (switched s.log) s.pool (all_false s.marks) no_changes None = switch_standing c.no_change_begins_another.ensures s.layout c.pages_fill_the_disk.ensures s.log s.pool s.marks (all_false s.marks) (told s.disk) (told c.switch.new.disk) at_rest clean stable (all_unmarked s.layout s.marks) (length_false s.marks) c.switch.ensures.any_moment.size c.switch.ensures.any_moment.tells_contents (laws.need s.disk) c.switch.ensures.contents c.in-Ok.ensures.chosen in
     let after = subst (λ (l : Log). IsStanding (told c.switch.new.disk) s.layout l s.pool (all_false s.marks) no_changes None) (sym c.in-Ok.ensures.switched) done in
-    let marks : c.fill.new.self.items ≡ (all_false s.marks) = false_is s.marks c.fill.new.self.items (c.fill.ensures.items (λ y e. e)) in
+    let long : vec_len c.self.inside.marks ≡ length c.self.inside.marks.items = omega (arith, c.self.inside.marks.ok.0) in
+    let marks : c.fill.new.self.items ≡ all_false s.marks = false_is s.marks c.fill.new.self.items (c.fill.ensures.items (λ y e. e) ∙ ap (λ (n : ℕ). replicate n false) long) in
     let again = subst (λ (m : List Bool). IsStanding (told c.switch.new.disk) s.layout c.switch.new.self s.pool m no_changes None) (sym marks) after in
     subst (λ (f : Option ℕ). IsStanding (told c.switch.new.disk) s.layout c.switch.new.self s.pool c.fill.new.self.items s.waiting f) (sym none)
     (subst (λ (w : Waiting). IsStanding (told c.switch.new.disk) s.layout c.switch.new.self s.pool c.fill.new.self.items w None) (sym empty) again)
@@ -76,7 +77,8 @@ returns-in-Ok-clause-sure g c =
     let stable : IsStable (told s.disk) = subst (λ (x : LoggedState g.row.D.Denot). IsStable (told x.disk)) (sym c.self.view_is) c.requires.stable in
     let done : IsStanding (told c.switch.new.disk) s.layout (switched s.log) s.pool (all_false s.marks) no_changes None = switch_standing c.no_change_begins_another.ensures s.layout c.pages_fill_the_disk.ensures s.log s.pool s.marks (all_false s.marks) (told s.disk) (told c.switch.new.disk) at_rest clean stable (all_unmarked s.layout s.marks) (length_false s.marks) c.switch.ensures.any_moment.size c.switch.ensures.any_moment.tells_contents (laws.need s.disk) c.switch.ensures.contents c.in-Ok.ensures.chosen in
     let after = subst (λ (l : Log). IsStanding (told c.switch.new.disk) s.layout l s.pool (all_false s.marks) no_changes None) (sym c.in-Ok.ensures.switched) done in
-    let marks : c.fill.new.self.items ≡ (all_false s.marks) = false_is s.marks c.fill.new.self.items (c.fill.ensures.items (λ y e. e)) in
+    let long : vec_len c.self.inside.marks ≡ length c.self.inside.marks.items = omega (arith, c.self.inside.marks.ok.0) in
+    let marks : c.fill.new.self.items ≡ all_false s.marks = false_is s.marks c.fill.new.self.items (c.fill.ensures.items (λ y e. e) ∙ ap (λ (n : ℕ). replicate n false) long) in
     let again = subst (λ (m : List Bool). IsStanding (told c.switch.new.disk) s.layout c.switch.new.self s.pool m no_changes None) (sym marks) after in
     none_waits s.layout c.switch.new.self s.pool c.fill.new.self.items (told c.switch.new.disk) again (laws.need c.switch.new.disk)
 

@@ -17,8 +17,8 @@ use Rattle.opened_pages.specs.Opens.{OpensAs, disk_page}
 use Rattle.store_format.specs.FreshStore.{IsClosed, IsFormatted, IsOldOrNew}
 use Rattle.store_format.proofs.Places.{fresh_status}
 use Rattle.fresh_store.specs.FreshPages.{IsOldOrFresh, fresh_pages}
-use Rattle.fresh_store.proofs.Forms.{fresh_passes, length-statuses}
-use Rattle.fresh_store.proofs.Places.{fresh_at, fresh_whole}
+use Rattle.fresh_store.proofs.FreshForms.{fresh_passes, length-statuses}
+use Rattle.fresh_store.proofs.FreshPlaces.{fresh_at, fresh_whole}
 
 -- the byte behind a gate chooses the area
 area_byte : (layout : DiskLayout) → slice_index (control_bytes layout 1 0) 1 ≡ 0

@@ -14,7 +14,7 @@ use Rattle.opened_pages.specs.PageOrder.{AreInOrder, IsIndexInOrder, StartsFirst
 use Rattle.store_format.specs.FreshStore.{fresh_index_page, unstarted_page, unused_statuses}
 use Rattle.store_format.proofs.Places.{fresh_index, fresh_status, fresh_table, index_others}
 use Rattle.fresh_store.specs.FreshPages.{fresh_pages}
-use Rattle.fresh_store.proofs.Places.{fresh_at}
+use Rattle.fresh_store.proofs.FreshPlaces.{fresh_at}
 
 kind_statuses : kind_of unused_statuses ≡ 1
 unfolding unused_statuses
