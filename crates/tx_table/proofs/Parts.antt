@@ -5,11 +5,15 @@ use Rattle.block_model.specs.declared.place.Place.{Place}
 use Rattle.disk_trait.specs.Told.{Told}
 use Rattle.page_store.specs.Keeps.{Keeps, Leaves, Tells}
 use Rattle.page_store.specs.PageMap.{PageMap, View, page_at}
+use Rattle.page_store.specs.declared.faults.StoreError.{StoreError}
+use Rattle.page_store.specs.declared.faults.StoreError.TheVariants as errors
+use Rattle.logged_pages.specs.Made.{IsOfDisk}
 use Rattle.logged_pages.specs.Survives.{Survives, survives_then, survives_weaker}
 use Rattle.snapshot_core.specs.declared.statuses.Status.{Status}
 use Rattle.store_layout.specs.DiskLayout.{DiskLayout}
 use Rattle.tx_table.specs.Durable.{HasPart, IsBefore}
-use Rattle.tx_table.specs.LeavesRest.{LeavesRest}
+use Rattle.tx_table.specs.LeavesRest.{LeavesRest, NamesStatuses}
+use Rattle.tx_table.proofs.Stores.{all_some}
 use Rattle.tx_table.specs.Statuses.{HasStatuses, OfStatuses, status_relation, with_all}
 
 -- where nothing was passed, less may be told
@@ -39,3 +43,14 @@ part_then told old mid new list status layout part first second =
 pub part_made : {D : Type 0} (told : D → Told) (old mid : View D) (list : List ℕ) (n : ℕ) (status : Status) → LeavesRest told old mid → OfStatuses told old (λ statuses. HasStatuses old.layout mid.pages (with_all statuses (take n list) status))
     → Tells told old → HasPart old.layout old.pages list status mid.pages
 part_made told old mid list n status rest made tells = record { statuses = λ statuses has. (n, made tells statuses has); others = λ place apart. rest.pages tells place apart }
+
+-- all of the list has it
+pub part_all : {D : Type 0} (told : D → Told) (old mid : View D) (list : List ℕ) (status : Status) → LeavesRest told old mid → OfStatuses told old (λ statuses. HasStatuses old.layout mid.pages (with_all statuses list status)) → Tells told old
+    → HasPart old.layout old.pages list status mid.pages
+part_all told old mid list status rest made tells = record { statuses = all_some told old mid list status made tells; others = λ place apart. rest.pages tells place apart }
+
+-- a disk fault names no page
+pub unnamed : (layout : DiskLayout) (error : StoreError) → IsOfDisk error → NamesStatuses layout error
+unnamed layout errors.Disk of_disk = tt
+unnamed layout (errors.Reopen faults) of_disk = tt
+unnamed layout (errors.Damaged at) of_disk = absurd of_disk
