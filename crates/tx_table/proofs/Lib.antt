@@ -3,3 +3,4 @@ pub mod Lists
 pub mod Pages
 pub mod Openings
 pub mod Stores
+pub mod Parts

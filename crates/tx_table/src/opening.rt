@@ -4,10 +4,12 @@ ghost use Rattle.std.specs.Prelude.{◌≡◌, ◌+◌, ◌*◌, ◌<◌, ◌≤
 ghost use Rattle.page_layout.specs.declared.format.TheConstants.{STATUS_ENTRIES};
 ghost use Rattle.page_layout.specs.declared.page.Form.TheVariants as forms;
 ghost use Rattle.page_layout.specs.PageContents.{IsPageOf};
+ghost use Rattle.logged_pages.specs.Survives.{Survives};
 ghost use Rattle.page_store.specs.Keeps.{Keeps, Tells, Untold};
 ghost use Rattle.page_store.specs.Outcome.{Outcome};
 ghost use Rattle.page_store.specs.PageMap.{block_at};
 ghost use Rattle.snapshot_core.specs.declared.statuses.Status.{Status};
+ghost use Rattle.tx_table.specs.Durable.{IsBefore};
 ghost use Rattle.tx_table.specs.LeavesRest.{NamesStatuses};
 ghost use Rattle.tx_table.specs.PageEntries.{HasUsed, next_after};
 ghost use Rattle.tx_table.specs.Statuses.{HasStatuses, number_limit, status_relation};
@@ -16,8 +18,9 @@ ghost use Rattle.tx_table.specs.TxState.{IsNext};
 use crate::status_pages::{ENTRIES, RELATION};
 use block_model::Place;
 use disk_trait::Disk;
+use logged_pages::PageStore;
 use page_layout::{Page, STATUS_ENTRIES, status_at};
-use page_store::{PageStore, StoreError};
+use page_store::StoreError;
 
 /// How a page names an unused number.
 const UNUSED: u8 = 0;
@@ -28,6 +31,7 @@ pub(crate) fn next_number<D: Disk + Drop>(pages: &mut PageStore<D>) -> Result<u6
     ensures within { IfOk result (λ next. next ≤ number_limit pages.old.layout) }
     ensures next { IfOk result (λ next. Tells D.told pages.old → (statuses : List Status) × HasStatuses pages.old.layout pages.old.pages statuses × IsNext statuses next) }
     ensures kept { Keeps D.told pages.old pages.new }
+    ensures survives { Survives D.told (IsBefore pages.old) pages.old pages.new }
     ensures at { IfErr result (NamesStatuses pages.old.layout) }
     ensures outcome { Outcome D.told (Untold D.told pages.old) pages.old pages.new result }
 {
@@ -65,6 +69,7 @@ fn used_in_block<D: Disk + Drop>(pages: &mut PageStore<D>, block: u32) -> Result
     ensures used { IfOk result (λ used. Tells D.told pages.old → HasUsed (block_at pages.old.pages status_relation block) used) }
     ensures passes { OnOk result (Tells D.told pages.old → IsPageOf forms.Status (block_at pages.old.pages status_relation block)) }
     ensures kept { Keeps D.told pages.old pages.new }
+    ensures survives { Survives D.told (IsBefore pages.old) pages.old pages.new }
     ensures at { IfErr result (NamesStatuses pages.old.layout) }
     ensures outcome { Outcome D.told (Untold D.told pages.old) pages.old pages.new result }
 {

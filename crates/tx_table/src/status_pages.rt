@@ -3,18 +3,20 @@
 ghost use Rattle.std.specs.Prelude.{◌≡◌, ◌/◌, ◌<◌, ◌≤◌, ℕ, IfOk, IfErr, OnOk, OnErr, set, take};
 ghost use Rattle.std.specs.List.{All};
 ghost use Rattle.page_layout.specs.declared.format.TheConstants.{STATUS_ENTRIES};
+ghost use Rattle.logged_pages.specs.Survives.{Survives};
 ghost use Rattle.page_store.specs.Keeps.{Keeps, Tells, Untold};
 ghost use Rattle.page_store.specs.Outcome.{Outcome};
 ghost use Rattle.snapshot_core.specs.declared.statuses.Status.TheVariants.{Unused as UnusedStatus};
 ghost use Rattle.store_layout.specs.DiskLayout.{IsPlace};
-ghost use Rattle.tx_table.specs.Durable.{IsFlushed};
+ghost use Rattle.tx_table.specs.Durable.{HasPart, IsBefore, IsDurable};
 ghost use Rattle.tx_table.specs.LeavesRest.{KeepsUnlessDisk, LeavesRest, NamesStatuses};
 ghost use Rattle.tx_table.specs.Statuses.{HasStatuses, IsStartedBlock, OfStatuses, number_limit, status_named, status_of, status_relation, with_all};
 
 use block_model::Place;
 use disk_trait::Disk;
+use logged_pages::PageStore;
 use page_layout::{STATUS_ENTRIES, status_at};
-use page_store::{PageStore, StoreError};
+use page_store::StoreError;
 use snapshot_core::Status;
 use store_layout::Layout;
 use wal_record::Change;
@@ -80,6 +82,7 @@ pub(crate) fn stored_status<D: Disk + Drop>(
     ensures status { IfOk result (λ status. OfStatuses D.told pages.old (λ statuses. status ≡ status_of statuses t)) }
     ensures past { number_limit pages.old.layout ≤ t → IfOk result (λ status. status ≡ UnusedStatus) }
     ensures kept { Keeps D.told pages.old pages.new }
+    ensures survives { Survives D.told (IsBefore pages.old) pages.old pages.new }
     ensures at { IfErr result (NamesStatuses pages.old.layout) }
     ensures outcome { Outcome D.told (Untold D.told pages.old) pages.old pages.new result }
 {
@@ -107,6 +110,7 @@ pub(crate) fn set_status<D: Disk + Drop>(
     requires started { Tells D.told pages.old → IsStartedBlock pages.old.pages (t / STATUS_ENTRIES) }
     ensures set { OnOk result (OfStatuses D.told pages.old (λ statuses. HasStatuses pages.old.layout pages.new.pages (set statuses t status))) }
     ensures kept { OnErr result (Keeps D.told pages.old pages.new) }
+    ensures survives { Survives D.told (IsBefore pages.old) pages.old pages.new }
     ensures rest { LeavesRest D.told pages.old pages.new }
     ensures at { IfErr result (NamesStatuses pages.old.layout) }
     ensures outcome { Outcome D.told (Untold D.told pages.old) pages.old pages.new result }
@@ -131,7 +135,9 @@ pub(crate) fn set_each<D: Disk + Drop>(
     ensures set { OnOk result (OfStatuses D.told pages.old (λ statuses. HasStatuses pages.old.layout pages.new.pages (with_all statuses list.now status))) }
     ensures some { OfStatuses D.told pages.old (λ statuses. (n : ℕ) × HasStatuses pages.old.layout pages.new.pages (with_all statuses (take n list.now) status)) }
     ensures kept { IfErr result (KeepsUnlessDisk D.told pages.old pages.new) }
+    ensures survives { Survives D.told (HasPart pages.old.layout pages.old.pages list.now status) pages.old pages.new }
     ensures rest { LeavesRest D.told pages.old pages.new }
+    ensures at { IfErr result (NamesStatuses pages.old.layout) }
     ensures outcome { Outcome D.told (Untold D.told pages.old) pages.old pages.new result }
 {
     match pages.ready() {
@@ -149,8 +155,10 @@ pub(crate) fn set_each<D: Disk + Drop>(
 
 /// Makes every change so far durable.
 pub(crate) fn flush<D: Disk + Drop>(pages: &mut PageStore<D>) -> Result<(), StoreError>
-    ensures flushed { OnOk result (IsFlushed pages.new) }
+    ensures durable { OnOk result (IsDurable D.told pages.new) }
     ensures kept { Keeps D.told pages.old pages.new }
+    ensures survives { Survives D.told (IsBefore pages.old) pages.old pages.new }
+    ensures at { IfErr result (NamesStatuses pages.old.layout) }
     ensures outcome { Outcome D.told (Untold D.told pages.old) pages.old pages.new result }
 {
     pages.flush()

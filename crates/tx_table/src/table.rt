@@ -3,11 +3,12 @@
 ghost use Rattle.std.specs.Prelude.{◌≡◌, ◌+◌, ◌/◌, ◌≤◌, ◌∷◌, ℕ, [], IfOk, IfErr, OnOk, OnErr, set, take};
 ghost use Rattle.std.specs.List.{All};
 ghost use Rattle.page_layout.specs.declared.format.TheConstants.{STATUS_ENTRIES};
+ghost use Rattle.logged_pages.specs.Survives.{Survives};
 ghost use Rattle.page_store.specs.Keeps.{Keeps, Tells, Untold};
 ghost use Rattle.page_store.specs.Outcome.{Outcome};
 ghost use Rattle.snapshot_core.specs.declared.statuses.Status.TheVariants.{Begun as BegunStatus, Committed as CommittedStatus, RolledBack as RolledBackStatus, Unused as UnusedStatus};
+ghost use Rattle.tx_table.specs.Durable.{HasPart, IsBefore, IsDurable};
 ghost use Rattle.tx_table.specs.BeginAnswers.{BeginOutcome, NamesStatusPage};
-ghost use Rattle.tx_table.specs.Durable.{IsFlushed};
 ghost use Rattle.tx_table.specs.LeavesRest.{AreStarted, KeepsUnlessDisk, LeavesRest, NamesStatuses};
 ghost use Rattle.tx_table.specs.Statuses.{HasStatuses, OfStatuses, after_stop, number_limit, shown_status, status_of, with_all};
 ghost use Rattle.tx_table.specs.TxState.{IsOver, IsOwn};
@@ -16,7 +17,8 @@ use crate::faults::BeginFault;
 use crate::opening::next_number;
 use crate::status_pages::{flush, number_limit, set_each, set_status, stored_status};
 use disk_trait::Disk;
-use page_store::{PageStore, StoreError};
+use logged_pages::PageStore;
+use page_store::StoreError;
 use snapshot_core::Status;
 use std::marker::Model;
 
@@ -42,6 +44,7 @@ impl TxTable {
         ensures over { IfOk result (λ table. IsOver D.told table pages.new) }
         ensures opened { IfOk result (λ table. table.first ≡ table.next) }
         ensures kept { Keeps D.told pages.old pages.new }
+        ensures survives { Survives D.told (IsBefore pages.old) pages.old pages.new }
         ensures at { IfErr result (NamesStatuses pages.old.layout) }
         ensures outcome { Outcome D.told (Untold D.told pages.old) pages.old pages.new result }
     {
@@ -64,6 +67,7 @@ impl TxTable {
         ensures over { IsOver D.told self.new pages.new }
         ensures same { OnErr result (self.new ≡ self.old) }
         ensures kept { OnErr result (Keeps D.told pages.old pages.new) }
+        ensures survives { Survives D.told (IsBefore pages.old) pages.old pages.new }
         ensures rest { LeavesRest D.told pages.old pages.new }
         ensures names { IfErr result (NamesStatusPage pages.old.layout) }
         ensures outcome { BeginOutcome D.told self.old.next pages.old pages.new result }
@@ -97,12 +101,15 @@ impl TxTable {
         requires begun { OfStatuses D.told pages.old (λ statuses. status_of statuses t ≡ BegunStatus) }
         // By the statuses that the pages have.
         ensures committed { OnOk result (OfStatuses D.told pages.old (λ statuses. HasStatuses pages.old.layout pages.new.pages (set statuses t CommittedStatus))) }
-        ensures durable { OnOk result (IsFlushed pages.new) }
+        ensures durable { OnOk result (IsDurable D.told pages.new) }
         ensures some { OfStatuses D.told pages.old (λ statuses. (n : ℕ) × HasStatuses pages.old.layout pages.new.pages (with_all statuses (take n (t ∷ [])) CommittedStatus)) }
         ensures kept { IfErr result (KeepsUnlessDisk D.told pages.old pages.new) }
+        // At every moment of the call each image opens to what one did before it, or to these.
+        ensures survives { Survives D.told (HasPart pages.old.layout pages.old.pages (t ∷ []) CommittedStatus) pages.old pages.new }
         ensures same { self.new ≡ self.old }
         ensures over { IsOver D.told self.new pages.new }
         ensures rest { LeavesRest D.told pages.old pages.new }
+        ensures at { IfErr result (NamesStatuses pages.old.layout) }
         ensures outcome { Outcome D.told (Untold D.told pages.old) pages.old pages.new result }
     {
         self.commit_all(pages, &[t])
@@ -122,13 +129,16 @@ impl TxTable {
         requires page { (block : ℕ) × All (λ t. t / STATUS_ENTRIES ≡ block) list.now }
         // By the statuses that the pages have.
         ensures committed { OnOk result (OfStatuses D.told pages.old (λ statuses. HasStatuses pages.old.layout pages.new.pages (with_all statuses list.now CommittedStatus))) }
-        ensures durable { OnOk result (IsFlushed pages.new) }
+        ensures durable { OnOk result (IsDurable D.told pages.new) }
         // At an error too: those of a first part of the list.
         ensures some { OfStatuses D.told pages.old (λ statuses. (n : ℕ) × HasStatuses pages.old.layout pages.new.pages (with_all statuses (take n list.now) CommittedStatus)) }
         ensures kept { IfErr result (KeepsUnlessDisk D.told pages.old pages.new) }
+        // At every moment of the call each image opens to what one did before it, or to these.
+        ensures survives { Survives D.told (HasPart pages.old.layout pages.old.pages list.now CommittedStatus) pages.old pages.new }
         ensures same { self.new ≡ self.old }
         ensures over { IsOver D.told self.new pages.new }
         ensures rest { LeavesRest D.told pages.old pages.new }
+        ensures at { IfErr result (NamesStatuses pages.old.layout) }
         ensures outcome { Outcome D.told (Untold D.told pages.old) pages.old pages.new result }
     {
         match set_each(pages, list, Status::Committed) {
@@ -149,6 +159,7 @@ impl TxTable {
         // By the statuses that the pages have.
         ensures rolled_back { OnOk result (OfStatuses D.told pages.old (λ statuses. HasStatuses pages.old.layout pages.new.pages (set statuses t RolledBackStatus))) }
         ensures kept { OnErr result (Keeps D.told pages.old pages.new) }
+        ensures survives { Survives D.told (IsBefore pages.old) pages.old pages.new }
         ensures same { self.new ≡ self.old }
         ensures over { IsOver D.told self.new pages.new }
         ensures rest { LeavesRest D.told pages.old pages.new }
@@ -171,6 +182,7 @@ impl TxTable {
         ensures past { number_limit pages.old.layout ≤ t → IfOk result (λ status. status ≡ UnusedStatus) }
         ensures own { IfOk result (λ status. status ≡ BegunStatus → self.now.first ≤ t) }
         ensures kept { Keeps D.told pages.old pages.new }
+        ensures survives { Survives D.told (IsBefore pages.old) pages.old pages.new }
         ensures at { IfErr result (NamesStatuses pages.old.layout) }
         ensures outcome { Outcome D.told (Untold D.told pages.old) pages.old pages.new result }
     {

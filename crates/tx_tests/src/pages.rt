@@ -6,10 +6,11 @@ ghost use Rattle.tx_table.specs.Statuses.{IsStartedBlock};
 
 use block_model::{PAGE_SIZE, Place, Sizes};
 use disk_trait::{Disk, SteadyDisk};
+use logged_pages::PageStore;
 use page_layout::{Form, Page, STATUS, check, kind_of};
-use page_store::PageStore;
 use small_layouts::{LEAST, table_layout};
 use std::alloc::Global;
+use store_format::format;
 use store_layout::Layout;
 use wal_record::Change;
 
@@ -24,13 +25,18 @@ fn layout(alloc: Global, status_blocks: u32) -> Option<Layout>
     table_layout(alloc, 1, sizes)
 }
 
-/// A store with so many blocks of statuses, none of which is started.
+/// A new store with so many blocks of statuses.
 pub fn store(alloc: Global, status_blocks: u32) -> Option<PageStore<SteadyDisk>>
     ensures { IfSome result (λ store. store.layout.sizes.status_blocks ≡ status_blocks) }
 {
     let layout = layout(alloc, status_blocks)?;
-    let disk = SteadyDisk::new(alloc, 0).ok()?;
-    PageStore::plain(alloc, disk, layout).ok()
+    let mut disk = SteadyDisk::new(alloc, layout.disk_size()).ok()?;
+    format(&mut disk, &layout).ok()?;
+    let store = PageStore::start(alloc, disk).ok()?;
+    if store.layout().sizes().status_blocks != status_blocks {
+        return None;
+    }
+    Some(store)
 }
 
 /// A page of statuses whose bytes are zeros but for one: that value stands in the byte.

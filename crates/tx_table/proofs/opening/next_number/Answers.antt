@@ -1,6 +1,8 @@
 use Rattle.std.proofs.Common.{◌≡◌, ◌∙◌, ap, arith}
 use Rattle.block_model.specs.declared.schema.Sizes.{Sizes}
 use Rattle.store_layout.specs.DiskLayout.{DiskLayout}
+use Rattle.tx_table.specs.Durable.{IsBefore}
+use Rattle.tx_table.proofs.Parts.{before_then, passed_none}
 use Rattle.tx_table.proofs.Openings.{next_found}
 use Rattle.tx_table.proofs.opening.next_number.Goals as goal
 
@@ -11,3 +13,32 @@ returns-clause-next g c = λ tells.
     let blocks : c.sizes-blocks.result.status_blocks ≡ store.layout.sizes.status_blocks = ap (λ (s : Sizes). s.status_blocks) c.sizes-blocks.ensures ∙ ap (λ (d : DiskLayout). d.sizes.status_blocks) c.layout-2.ensures in
     let all : read.block ≡ store.layout.sizes.status_blocks = omega (arith, c.reading-test.false, read.auto.block-end, blocks) in
     next_found store.layout store.pages read.block read.next all read.invariant.some read.invariant.within (read.invariant.next tells)
+
+pub reading-init : goal.reading-init
+reading-init g c = record {
+  kept = search rules;
+  survives = passed_none g.D.Disk.told (IsBefore c.args.pages.now) c.args.pages.now c.args.pages.now c.ready.ensures.stays;
+  began = search rules;
+  none = search rules;
+  some = search rules;
+  within = search rules;
+  next = search rules;
+}
+
+pub reading-preserved : goal.reading-preserved
+reading-preserved g c = record {
+  kept = search rules;
+  survives = before_then g.D.Disk.told c.args.pages.now c.reading.pages c.used_in_block.new.pages c.reading.invariant.kept c.reading.invariant.survives c.used_in_block.ensures.survives;
+  began = search rules;
+  none = search rules;
+  some = search rules;
+  within = search rules;
+  next = search rules;
+}
+
+pub returns-clause-survives : goal.returns-clause-survives
+returns-clause-survives g c = c.reading.invariant.survives
+
+pub returns-in-Err-used_in_block-clause-survives : goal.returns-in-Err-used_in_block-clause-survives
+returns-in-Err-used_in_block-clause-survives g c =
+    before_then g.D.Disk.told c.args.pages.now c.reading.pages c.used_in_block.new.pages c.reading.invariant.kept c.reading.invariant.survives c.used_in_block.ensures.survives

@@ -1,6 +1,8 @@
 use Rattle.std.proofs.Common.{◌≡◌, ◌≤◌}
 use Rattle.std.specs.Prelude.{None}
 use Rattle.page_store.specs.Keeps.{Keeps, Tells}
+use Rattle.logged_pages.specs.Survives.{Survives}
+use Rattle.tx_table.specs.Durable.{IsBefore}
 use Rattle.tx_table.specs.Statuses.{number_limit}
 use Rattle.tx_table.proofs.Openings.{IsNextBelow}
 use Rattle.tx_table.proofs.opening.next_number.Given as goal
@@ -9,6 +11,7 @@ use Rattle.tx_table.proofs.opening.next_number.Given as goal
 abbrev pub invariant-reading : goal.invariant-reading
 invariant-reading g l = record {
   kept : Keeps g.D.Disk.told l.fn.pages l.pages;
+  survives : Survives g.D.Disk.told (IsBefore l.fn.pages) l.fn.pages l.pages;
   began : l.fn.pages.failed ≡ None;
   none : l.pages.failed ≡ None;
   some : 1 ≤ l.next;

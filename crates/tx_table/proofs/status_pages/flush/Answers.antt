@@ -1,8 +1,8 @@
-use Rattle.page_store.specs.Keeps.{Untold}
-use Rattle.tx_table.specs.Durable.{IsFlushed}
-use Rattle.tx_table.proofs.Stores.{done_none}
+use Rattle.std.proofs.lemmas.Result.{IfErr-weaker}
+use Rattle.logged_pages.specs.Made.{IsOfDisk}
+use Rattle.tx_table.specs.LeavesRest.{NamesStatuses}
+use Rattle.tx_table.proofs.Parts.{unnamed}
 use Rattle.tx_table.proofs.status_pages.flush.Goals as goal
 
-pub returns-clause-flushed : goal.returns-clause-flushed
-unfolding IsFlushed
-returns-clause-flushed g c = done_none g.D.Disk.told (Untold g.D.Disk.told c.args.pages.now) c.args.pages.now c.flush.new.self c.flush.result c.flush.ensures.outcome
+pub returns-clause-at : goal.returns-clause-at
+returns-clause-at g c = IfErr-weaker c.flush.result IsOfDisk (NamesStatuses c.args.pages.now.layout) (unnamed c.args.pages.now.layout) c.flush.ensures.undamaged

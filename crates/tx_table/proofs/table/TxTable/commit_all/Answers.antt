@@ -2,6 +2,7 @@ use Rattle.std.proofs.Common.{List, arith}
 use Rattle.snapshot_core.specs.declared.statuses.Status.{Status}
 use Rattle.snapshot_core.specs.declared.statuses.Status.TheVariants.{Committed}
 use Rattle.tx_table.specs.Statuses.{with_all}
+use Rattle.tx_table.proofs.Parts.{part_all, part_then}
 use Rattle.tx_table.proofs.Stores.{all_some, committed_used, each_kept, leaves_then, over_all, rest_kept, rest_then, started_of}
 use Rattle.tx_table.proofs.table.TxTable.commit_all.Goals as goal
 
@@ -30,3 +31,11 @@ returns-in-Ok-clause-over g c =
 
 pub returns-in-Err-clause-over : goal.returns-in-Err-clause-over
 returns-in-Err-clause-over g c = over_all g.D.Disk.told c.args.self.now c.args.pages.now c.set_each.new.pages c.args.list.now Committed c.requires.over c.in-Err.ensures.rest.leaves c.requires.own committed_used c.in-Err.ensures.some
+
+pub returns-in-Ok-clause-survives : goal.returns-in-Ok-clause-survives
+returns-in-Ok-clause-survives g c =
+    let told = g.D.Disk.told in
+    let old = c.args.pages.now in
+    let mid = c.set_each.new.pages in
+    part_then told old mid c.flush.new.pages c.args.list.now Committed c.in-Ok.ensures.rest.leaves.layout
+    (part_all told old mid c.args.list.now Committed c.in-Ok.ensures.rest c.in-Ok.ensures.set) c.in-Ok.ensures.survives c.flush.ensures.survives
