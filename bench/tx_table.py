@@ -1,5 +1,5 @@
 #!/usr/bin/env python3
-"""Times transactions on pages in memory: tx_table.py. No part of the gate.
+"""Times transactions on a store over a disk in memory: tx_table.py. No part of the gate.
 
 Builds a small program over tx_table in a copy of the crates by LLVM at -O2, and runs it five times. The program isn't proved, so it
 has the checks of `rt try` in it, and a proved one is somewhat faster. Tells the best time of an opening over 64 started pages of
@@ -18,7 +18,7 @@ from range_tuples import KIT, TRY, toolchain
 TOP = os.path.dirname(os.path.dirname(os.path.abspath(__file__)))
 NUMBERS = 2_088_960
 BEGUN = 1_920_000
-NEEDED = "tx_bench: block_model store_layout snapshot_core disk_trait wal_record page_layout page_store tx_table\n"
+NEEDED = "tx_bench: block_model store_layout snapshot_core disk_trait store_format logged_pages tx_table\n"
 CALLS = {
     "a number at the opening": NUMBERS,
     "a begin": BEGUN,
@@ -31,17 +31,16 @@ CALLS = {
 MAIN = """//! Times an opening and the reads of statuses.
 #![tactic(auto)]
 
-use block_model::{Column, Kind, Name, PAGE_SIZE, Place, Schema, Sequence, Sizes, Table};
+use block_model::{Column, Kind, Name, Schema, Sequence, Sizes, Table};
 use disk_trait::SteadyDisk;
-use page_layout::STATUS;
-use page_store::PageStore;
+use logged_pages::PageStore;
 use snapshot_core::Status;
 use std::alloc::Global;
 use std::io;
 use std::time::Instant;
+use store_format::format;
 use store_layout::Layout;
 use tx_table::TxTable;
-use wal_record::Change;
 
 /// How many numbers 64 pages of statuses may have.
 const NUMBERS: u64 = 2_088_960;
@@ -74,25 +73,13 @@ fn store(alloc: Global) -> Option<PageStore<SteadyDisk>> {
         heap_blocks: 1,
         index_blocks: 3,
         status_blocks: 64,
-        log_pages: 16,
-        frames: 16,
+        log_pages: 4096,
+        frames: 256,
     };
     let layout = Layout::new(schema, sizes).ok()?;
-    let disk = SteadyDisk::new(alloc, 0).ok()?;
-    PageStore::plain(alloc, disk, layout).ok()
-}
-
-/// Starts each page of statuses.
-fn start_pages(store: &mut PageStore<SteadyDisk>) -> bool {
-    let mut page = [0; PAGE_SIZE];
-    page[0] = STATUS;
-    'blocks: for block in 0..64 {
-        let place = Place { relation: 0, block };
-        if store.change(place, &Change::FullPage { place, bytes: &page }).is_err() {
-            return false;
-        }
-    }
-    true
+    let mut disk = SteadyDisk::new(alloc, layout.disk_size()).ok()?;
+    format(&mut disk, &layout).ok()?;
+    PageStore::start(alloc, disk).ok()
 }
 
 /// Begins the transactions 1 to BEGUN.
@@ -158,9 +145,6 @@ fn main(rt: HostRuntime) -> io::Result<()> {
     let Some(mut store) = store(rt.alloc()) else {
         return Ok(());
     };
-    if !start_pages(&mut store) {
-        return Ok(());
-    }
     let start = Instant::now(&rt)?;
     let Ok(mut table) = TxTable::start(&mut store) else {
         return Ok(());
