@@ -1,4 +1,4 @@
-use Rattle.std.proofs.Common.{get_or, refl}
+use Rattle.std.proofs.Common.{get_or, refl, rules}
 use Rattle.tx_table.specs.Durable.{HasPart}
 use Rattle.tx_table.proofs.Parts.{part_made, part_then, passed_none}
 use Rattle.tx_table.proofs.Stores.{each_next, rest_then}
