@@ -21,6 +21,7 @@ use Rattle.index_contents.specs.IndexContents.{IndexContents, relation_of}
 use Rattle.index_steps.specs.declared.swapping.Swapped.{Swapped}
 use Rattle.index_steps.specs.declared.swapping.Swapped.TheVariants as swaps
 use Rattle.index_steps.specs.IndexTuples.{IndexShape}
+use Rattle.index_steps.specs.Readings.{NamesPageOf}
 use Rattle.index_steps.specs.ShownIndex.{Shows, shown_part}
 
 -- the index after a call, whatever the sessions have in hand then
@@ -86,3 +87,8 @@ MachineOutcome told Cause old new (Err faults.Memory) = ⊥
 -- the copied bytes stand there, and so many can't take their place
 abbrev pub MustLeave : IndexContents → Spot → List ℕ → ℕ → Type 0
 MustLeave c x copied need = (c.bytes x ≡ Some copied) × MustMove c.pages x need
+
+-- a step's damage is told by the byte at which a page of the index begins
+abbrev pub FaultNamesPageOf : DiskLayout → (index : ℕ) → MachineFault → Type 0
+FaultNamesPageOf layout index (faults.Store error) = NamesPageOf layout index error
+FaultNamesPageOf layout index fault = Unit {0}

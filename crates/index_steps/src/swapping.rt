@@ -10,7 +10,7 @@ ghost use Rattle.index_contents.specs.IndexContents.{contents, relation_of};
 ghost use Rattle.index_contents.specs.IndexChanges.{LeavesOthers};
 ghost use Rattle.index_steps.specs.IndexTuples.{seen, shape_of};
 ghost use Rattle.index_steps.specs.ShownIndex.{lock_in};
-ghost use Rattle.index_steps.specs.SwapAnswers.{IsSwapFull, LeavesLocks, LocksAfter, MachineOutcome, MustLeave, PagesAfter, SaysSwapFull, SwapMakes, WaitsFor};
+ghost use Rattle.index_steps.specs.SwapAnswers.{FaultNamesPageOf, IsSwapFull, LeavesLocks, LocksAfter, MachineOutcome, MustLeave, PagesAfter, SaysSwapFull, SwapMakes, WaitsFor};
 
 use block_model::{Place, Spot};
 use disk_trait::Disk;
@@ -63,6 +63,7 @@ pub fn swap<D: Disk + Drop>(
     ensures pages { IfOk result (PagesAfter D.told pages.old pages.new) }
     ensures kept { OnErr result (Keeps D.told pages.old pages.new) }
     ensures others { LeavesOthers D.told at.index pages.old pages.new }
+    ensures at { IfErr result (FaultNamesPageOf pages.old.layout at.index) }
     ensures outcome { MachineOutcome D.told (Untold D.told pages.old) pages.old pages.new result }
 {
     match pages.ready() {
@@ -109,6 +110,7 @@ fn put_elsewhere<D: Disk + Drop>(
     ensures pages { IfOk result (PagesAfter D.told pages.old pages.new) }
     ensures kept { OnErr result (Keeps D.told pages.old pages.new) }
     ensures others { LeavesOthers D.told at.index pages.old pages.new }
+    ensures at { IfErr result (FaultNamesPageOf pages.old.layout at.index) }
     ensures outcome { MachineOutcome D.told (Untold D.told pages.old) pages.old pages.new result }
 {
     a_target_takes_its_tuple();
