@@ -113,9 +113,11 @@ module _ (layout : DiskLayout) (pages : PageMap) (table : ℕ) (blocks : List (L
         length-set (with_table_block count blocks spot.block) spot.block (set (slots_of (with_table_block count blocks spot.block) spot.block) spot.slot (Some stored))
         ∙ elim (cases_lt spot.block (length blocks)) [
           | inl there ↦
-              ap (λ (b : Bool). length (cond b blocks (blocks ++ replicate count None ∷ []))) (lt-ltb spot.block (length blocks) there) ∙ (omega arith)
+              let many : length blocks ≡ max (length blocks) (spot.block + 1) = omega arith in
+              ap (λ (b : Bool). length (cond b blocks (blocks ++ replicate count None ∷ []))) (lt-ltb spot.block (length blocks) there) ∙ many
           | inr next ↦
-              ap (λ (b : Bool). length (cond b blocks (blocks ++ replicate count None ∷ []))) (le-ltb spot.block (length blocks) next) ∙ (omega (arith, length-append blocks (replicate count None ∷ [])))
+              let many : length (blocks ++ replicate count None ∷ []) ≡ max (length blocks) (spot.block + 1) = omega (arith, length-append blocks (replicate count None ∷ [])) in
+              ap (λ (b : Bool). length (cond b blocks (blocks ++ replicate count None ∷ []))) (le-ltb spot.block (length blocks) next) ∙ many
         ]
 
   -- where every slot of every block is in use, no place is left

@@ -30,7 +30,7 @@ use Rattle.brin_insert.specs.ShownTable.{indexes_of, numbers_from}
 record IsOfTable (table n : ℕ) (indexes : List Index) (m : ℕ) : Type 0 where
   pub before : n ≤ m
   pub within : m < n + length indexes
-  pub table : (k : ℕ) → n + k ≡ m → (get_or indexes k no_index).table ≡ table
+  pub own : (k : ℕ) → n + k ≡ m → (get_or indexes k no_index).table ≡ table
 
 number_of_table : (table n : ℕ) (indexes : List Index) (i m : ℕ) → slice_get (numbers_from table n indexes) i ≡ Some m → IsOfTable table n indexes m
 number_of_table table n [] i m is = absurd (none-some m is)
@@ -40,25 +40,25 @@ number_of_table table n (index ∷ more) i m is = by_test (λ j later. number_of
     later_one one = record {
       before = omega (arith, one.before);
       within = omega (arith, one.within);
-      table = λ k at. by_place one k at;
+      own = λ k at. by_place one k at;
     }
       where
         by_place : IsOfTable table (n + 1) more m → (k : ℕ) → n + k ≡ m → (get_or (index ∷ more) k no_index).table ≡ table
         by_place one zero at = absurd (omega (arith, one.before, at))
-        by_place one (suc k) at = one.table k (omega (arith, at))
+        by_place one (suc k) at = one.own k (omega (arith, at))
 
-    first_one : index.table == table ≡ true → n ≡ m → IsOfTable table n (index ∷ more) m
-    first_one own same = record {
+    first_one : (index.table == table) ≡ true → n ≡ m → IsOfTable table n (index ∷ more) m
+    first_one is_own same = record {
       before = omega (arith, same);
       within = omega (arith, same);
-      table = λ k at. by_place k at;
+      own = λ k at. by_place k at;
     }
       where
         by_place : (k : ℕ) → n + k ≡ m → (get_or (index ∷ more) k no_index).table ≡ table
-        by_place zero at = eqb-true index.table table own
+        by_place zero at = eqb-true index.table table is_own
         by_place (suc k) at = absurd (omega (arith, same, at))
 
-    by_test : ((j : ℕ) → slice_get (numbers_from table (n + 1) more) j ≡ Some m → IsOfTable table (n + 1) more m) → (b : Bool) → index.table == table ≡ b → (i : ℕ)
+    by_test : ((j : ℕ) → slice_get (numbers_from table (n + 1) more) j ≡ Some m → IsOfTable table (n + 1) more m) → (b : Bool) → (index.table == table) ≡ b → (i : ℕ)
         → slice_get (cond b (n ∷ numbers_from table (n + 1) more) (numbers_from table (n + 1) more)) i ≡ Some m → IsOfTable table n (index ∷ more) m
     by_test later true own zero is = first_one own (same_Some n m is)
     by_test later true own (suc i) is = later_one (later i is)
@@ -73,31 +73,25 @@ module _ (layout : DiskLayout) (table at n : ℕ) (is : slice_get (indexes_of la
   number_within = omega (arith, in_table.within)
 
   pub own_table : (index_at layout n).table ≡ table
-  own_table = in_table.table n (omega arith)
+  own_table = in_table.own n (omega arith)
 
 -- one index more
-own_number : (table n : ℕ) → Index → List ℕ
+abbrev own_number : (table n : ℕ) → Index → List ℕ
 own_number table n index = cond (index.table == table) (n ∷ []) []
 
 more_numbers : (table n : ℕ) (indexes : List Index) (i : ℕ) (d : Index) → i < length indexes → numbers_from table n (take (suc i) indexes) ≡ numbers_from table n (take i indexes) ++ own_number table (n + i) (get_or indexes i d)
-unfolding own_number
 more_numbers table n [] i d below = absurd (omega (arith, below))
-more_numbers table n (index ∷ more) zero d below = by_test (index.table == table) ∙ ap (λ (m : ℕ). cond (index.table == table) (m ∷ []) []) same
-  where
-    same : n ≡ n + zero
-    same = omega arith
-
-    by_test : (b : Bool) → cond b (n ∷ []) [] ≡ cond b (n ∷ []) []
-    by_test b = refl
+more_numbers table n (index ∷ more) zero d below =
+    let same : n ≡ n + zero = omega arith in
+    ap (λ (m : ℕ). cond (index.table == table) (m ∷ []) []) same
 more_numbers table n (index ∷ more) (suc i) d below =
-    by_test (index.table == table) (more_numbers table (n + 1) more i d (omega (arith, below)) ∙ ap (λ (m : ℕ). numbers_from table (n + 1) (take i more) ++ own_number table m (get_or more i d)) same)
+    let same : n + 1 + i ≡ n + suc i = omega arith in
+    by_test (index.table == table) (numbers_from table (n + 1) (take (suc i) more)) (numbers_from table (n + 1) (take i more)) (own_number table (n + suc i) (get_or more i d))
+    (more_numbers table (n + 1) more i d (omega (arith, below)) ∙ ap (λ (m : ℕ). numbers_from table (n + 1) (take i more) ++ own_number table m (get_or more i d)) same)
   where
-    same : n + 1 + i ≡ n + suc i
-    same = omega arith
-
-    by_test : (b : Bool) {xs ys zs : List ℕ} → xs ≡ ys ++ zs → cond b (n ∷ xs) xs ≡ cond b (n ∷ ys) ys ++ zs
-    by_test true are = ap (λ (l : List ℕ). n ∷ l) are
-    by_test false are = are
+    by_test : (b : Bool) (xs ys zs : List ℕ) → xs ≡ ys ++ zs → cond b (n ∷ xs) xs ≡ cond b (n ∷ ys) ys ++ zs
+    by_test true xs ys zs are = ap (λ (l : List ℕ). n ∷ l) are
+    by_test false xs ys zs are = are
 
 module _ (table i : ℕ) (indexes : List Index) (index : Index) (below : i < length indexes) (is : index ≡ get_or indexes i index) where
   next_numbers : numbers_from table 0 (take (i + 1) indexes) ≡ numbers_from table 0 (take i indexes) ++ own_number table i index
@@ -110,11 +104,9 @@ module _ (table i : ℕ) (indexes : List Index) (index : Index) (below : i < len
       ∙ ap (λ (x : Index). numbers_from table 0 (take i indexes) ++ own_number table i x) (sym is)
 
   pub number_joins : index.table ≡ table → numbers_from table 0 (take (i + 1) indexes) ≡ numbers_from table 0 (take i indexes) ++ i ∷ []
-  unfolding own_number
   number_joins own = next_numbers ∙ ap (λ (l : List ℕ). numbers_from table 0 (take i indexes) ++ l) (cond-true (index.table == table) (i ∷ []) [] (eq-eqb index.table table own))
 
   pub number_stays_out : index.table ≢ table → numbers_from table 0 (take (i + 1) indexes) ≡ numbers_from table 0 (take i indexes)
-  unfolding own_number
   number_stays_out other = next_numbers ∙ ap (λ (l : List ℕ). numbers_from table 0 (take i indexes) ++ l) (cond-false (index.table == table) (i ∷ []) [] (ne_eqb index.table table other)) ∙ append-nil (numbers_from table 0 (take i indexes))
 
 -- what holds of all indexes holds of each
@@ -134,20 +126,20 @@ module _ (layout : DiskLayout) (limits : KeepsLimits layout.schema layout.sizes)
     abbrev index : Index
     index = index_at layout n
 
-    pub some : 0 < length index.parts
-    some = within_low 1 8 (length index.parts) (and_parts (is_within 1 8 (length index.parts)) _ (all_at parts_are_lawful layout.schema.indexes n no_index (and_parts (list_all columns_are_lawful layout.schema.tables) _ (limits 2)).1 below)).0
+    pub has_columns : 0 < length index.parts
+    has_columns = within_low 1 8 (length index.parts) (and_parts (is_within 1 8 (length index.parts)) _ (all_at parts_are_lawful layout.schema.indexes n no_index (and_parts (list_all columns_are_lawful layout.schema.tables) _ (limits 2)).1 below)).0
 
-    pub columns : list_all (λ (p : Part). nat_lt p.column (length (columns_of layout.schema index))) index.parts ≡ true
-    columns = (and_parts (nat_lt index.table (length layout.schema.tables)) _ (all_at (is_on_a_table layout.schema) layout.schema.indexes n no_index (and_parts (nat_le (length layout.schema.indexes) 8) _ (limits 3)).1 below)).1
+    pub on_columns : list_all (λ (p : Part). nat_lt p.column (length (columns_of layout.schema index))) index.parts ≡ true
+    on_columns = (and_parts (nat_lt index.table (length layout.schema.tables)) _ (all_at (is_on_a_table layout.schema) layout.schema.indexes n no_index (and_parts (nat_le (length layout.schema.indexes) 8) _ (limits 3)).1 below)).1
 
-    pub classes : list_all (class_is_lawful (columns_of layout.schema index)) index.parts ≡ true
-    classes = all_at (λ (i : Index). list_all (class_is_lawful (columns_of layout.schema i)) i.parts) layout.schema.indexes n no_index (limits 6) below
+    pub lawful_classes : list_all (class_is_lawful (columns_of layout.schema index)) index.parts ≡ true
+    lawful_classes = all_at (λ (i : Index). list_all (class_is_lawful (columns_of layout.schema i)) i.parts) layout.schema.indexes n no_index (limits 6) below
 
-    pub size : tuple_size (columns_of layout.schema index) index.parts ≤ MAX_TUPLE
-    size = leb-true (tuple_size (columns_of layout.schema index) index.parts) MAX_TUPLE (all_at (λ (i : Index). nat_le (tuple_size (columns_of layout.schema i) i.parts) MAX_TUPLE) layout.schema.indexes n no_index (limits 7) below)
+    pub small_tuples : tuple_size (columns_of layout.schema index) index.parts ≤ MAX_TUPLE
+    small_tuples = leb-true (tuple_size (columns_of layout.schema index) index.parts) MAX_TUPLE (all_at (λ (i : Index). nat_le (tuple_size (columns_of layout.schema i) i.parts) MAX_TUPLE) layout.schema.indexes n no_index (limits 7) below)
 
-    pub pages : 0 < index.pages_per_range
-    pages = within_low 1 131072 index.pages_per_range (all_at (λ (i : Index). is_within 1 131072 i.pages_per_range) layout.schema.indexes n no_index (limits 5) below)
+    pub some_pages : 0 < index.pages_per_range
+    some_pages = within_low 1 131072 index.pages_per_range (all_at (λ (i : Index). is_within 1 131072 i.pages_per_range) layout.schema.indexes n no_index (limits 5) below)
 
 -- a value of each kind
 have_from : (kinds : List Kind) (values : List Value) → HaveKinds kinds values → have_kinds kinds values ≡ true
@@ -169,5 +161,5 @@ rows_taken taken layout limits table declared values have at n is =
     let below = number_within layout table at n is in
     let same : columns_of layout.schema (index_at layout n) ≡ (table_at layout table).columns =
     ap (λ (t : ℕ). columns_in (slice_get layout.schema.tables t)) (own_table layout table at n is) ∙ ap columns_in (slice_get-get_or layout.schema.tables table no_table declared) in
-    taken (shape_of layout n) values (columns layout limits n below) (classes layout limits n below)
+    taken (shape_of layout n) values (on_columns layout limits n below) (lawful_classes layout limits n below)
     (subst (λ (cs : List Column). have_kinds (map (λ (column : Column). column.kind) cs) values ≡ true) (sym same) (have_from (kinds_at layout table) values have))

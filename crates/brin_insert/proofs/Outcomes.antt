@@ -46,13 +46,13 @@ refused_for told Cause Other old new errors.Disk weaker refused = refused
 refused_for told Cause Other old new (errors.Reopen faults) weaker refused = refused
 refused_for told Cause Other old new (errors.Damaged at) weaker (was, now, more, cause) = (was, now, more, weaker cause)
 
-pub machine_for : {D T : Type 0} (told : D → Told) (Cause Other : Type 0) (old new : View D) (fault : MachineFault) → (Cause → Other) → MachineOutcome {T = T} told Cause old new (Err fault) → MachineOutcome {T = T} told Other old new (Err fault)
+pub machine_for : {D : Type 0} (told : D → Told) (Cause Other : Type 0) (old new : View D) (fault : MachineFault) → (Cause → Other) → MachineOutcome {T = Did} told Cause old new (Err fault) → MachineOutcome {T = Did} told Other old new (Err fault)
 machine_for told Cause Other old new (faults.Full relation number) weaker outcome = outcome
 machine_for told Cause Other old new (faults.Store error) weaker outcome = refused_for told Cause Other old new error weaker outcome
 machine_for told Cause Other old new faults.Memory weaker outcome = outcome
 
 -- a put that is refused
-pub put_outcome : {D T : Type 0} (told : D → Told) (old new : View D) (fault : MachineFault) → PutOutcome told old new (Err fault) → MachineOutcome {T = T} told (Untold told old) old new (Err fault)
+pub put_outcome : {D : Type 0} (told : D → Told) (old new : View D) (fault : MachineFault) → PutOutcome told old new (Err fault) → MachineOutcome {T = Did} told (Untold told old) old new (Err fault)
 put_outcome told old new (faults.Full relation number) (ready, same) =
     (ready, ap (λ (v : View D). v.failed) same ∙ ready, (let faults : (told new.disk).faults ≡ (told old.disk).faults = ap (λ (v : View D). (told v.disk).faults) same in omega (arith, faults)))
 put_outcome told old new (faults.Store error) refused = refused

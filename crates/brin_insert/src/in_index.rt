@@ -12,7 +12,7 @@ ghost use Rattle.index_contents.specs.IndexContents.{contents, relation_of};
 ghost use Rattle.index_contents.specs.IndexChanges.{LeavesOthers};
 ghost use Rattle.index_steps.specs.IndexTuples.{TakesValues, classes_of, shape_of};
 ghost use Rattle.index_steps.specs.MoveEnds.{IsMoving};
-ghost use Rattle.index_steps.specs.SwapAnswers.{FaultNamesPageOf, LeavesLocks, MachineOutcome};
+ghost use Rattle.index_steps.specs.SwapAnswers.{FaultNamesPageOf, LeavesLocks, MachineOutcome, TakesFew};
 ghost use Rattle.brin_insert.specs.InsertSteps.{IsAtWork, Stepped, insert_at, on_index};
 ghost use Rattle.brin_insert.specs.StepAnswers.{BlockedWell, DamageAt, NeverBlocked, NeverFull, SaysFullIn, StandsAfter, StepFull};
 
@@ -118,6 +118,7 @@ pub(crate) fn swap_in<D: Disk + Drop>(
     ensures blocked { IfOk result (λ o. BlockedWell D.told at.index at.actor pages.old pages.new locks.old locks.new o.1) }
     ensures full { IfErr result (SaysFullIn pages.old.layout at.index (λ number. Tells D.told pages.old → StepFull (shape_of pages.old.layout at.index) at.actor at.range (insert_at pages.old.layout pages.old.pages locks.old at.index (Stage.Swap spot) copied.now tuple.now) number)) }
     ensures locks { LeavesLocks (holder locks.old) (holder locks.new) (relation_of pages.old.layout at.index) at.actor }
+    ensures counts { TakesFew locks.old locks.new at.actor }
     ensures same_room { length room.new ≡ length room.old }
     ensures kept { OnErr result (Keeps D.told pages.old pages.new) }
     ensures at { IfErr result (FaultNamesPageOf pages.old.layout at.index) }
@@ -182,6 +183,7 @@ pub(crate) fn drop_in<D: Disk + Drop>(
     ensures others { LeavesOthers D.told at.index pages.old pages.new }
     ensures kept { OnErr result (Keeps D.told pages.old pages.new) }
     ensures locks { LeavesLocks (holder locks.old) (holder locks.new) (relation_of pages.old.layout at.index) at.actor }
+    ensures counts { TakesFew locks.old locks.new at.actor }
     ensures never_blocked { IfOk result (λ o. NeverBlocked o.1) }
     ensures never_full { IfErr result NeverFull }
     ensures at { IfErr result (FaultNamesPageOf pages.old.layout at.index) }
@@ -217,6 +219,7 @@ pub(crate) fn step_in<D: Disk + Drop>(
     ensures full { IfErr result (SaysFullIn pages.old.layout at.index (λ number. Tells D.told pages.old → StepFull (shape_of pages.old.layout at.index) at.actor at.range (insert_at pages.old.layout pages.old.pages locks.old at.index stage copied.old tuple.old) number)) }
     ensures others { LeavesOthers D.told at.index pages.old pages.new }
     ensures locks { LeavesLocks (holder locks.old) (holder locks.new) (relation_of pages.old.layout at.index) at.actor }
+    ensures counts { TakesFew locks.old locks.new at.actor }
     ensures same_index { parts_of tuple.new.columns ≡ parts_of tuple.old.columns }
     ensures same_room { length room.new ≡ length room.old }
     ensures kept { OnErr result (Keeps D.told pages.old pages.new) }

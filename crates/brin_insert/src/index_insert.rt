@@ -12,7 +12,7 @@ ghost use Rattle.index_contents.specs.IndexContents.{contents, relation_of};
 ghost use Rattle.index_contents.specs.IndexChanges.{LeavesOthers};
 ghost use Rattle.index_steps.specs.IndexTuples.{TakesValues, classes_of, index_at, shape_of};
 ghost use Rattle.index_steps.specs.MoveEnds.{IsMoving};
-ghost use Rattle.index_steps.specs.SwapAnswers.{FaultNamesPageOf, LeavesLocks, MachineOutcome};
+ghost use Rattle.index_steps.specs.SwapAnswers.{FaultNamesPageOf, LeavesLocks, MachineOutcome, TakesFew};
 ghost use Rattle.brin_insert.specs.InsertSteps.{IsAtWork, Stepped, insert_at, on_index};
 ghost use Rattle.brin_insert.specs.StepAnswers.{BlockedWell, DamageAt, SaysFullIn, StandsAfter, StepFull};
 
@@ -117,6 +117,7 @@ impl IndexInsert {
         ensures full { IfErr result (SaysFullIn pages.old.layout self.old.index (λ number. Tells D.told pages.old → StepFull (shape_of pages.old.layout self.old.index) actor range (insert_at pages.old.layout pages.old.pages locks.old self.old.index self.old.stage copied.old self.old.widened) number)) }
         ensures others { LeavesOthers D.told self.old.index pages.old pages.new }
         ensures locks { LeavesLocks (holder locks.old) (holder locks.new) (relation_of pages.old.layout self.old.index) actor }
+        ensures counts { TakesFew locks.old locks.new actor }
         ensures same_index { self.new.index ≡ self.old.index }
         ensures same_columns { parts_of self.new.widened.columns ≡ parts_of self.old.widened.columns }
         ensures same_stage { OnErr result (self.new.stage ≡ self.old.stage) }

@@ -10,7 +10,7 @@ ghost use Rattle.page_locks.specs.LockHolders.{count_of, holder};
 ghost use Rattle.heap_rows.specs.HeapBlocks.{OfBlocks};
 ghost use Rattle.heap_rows.specs.Heaps.{kinds_at};
 ghost use Rattle.index_steps.specs.IndexTuples.{TakesValues, index_at, shape_of};
-ghost use Rattle.index_steps.specs.SwapAnswers.{LeavesLocks, MachineOutcome};
+ghost use Rattle.index_steps.specs.SwapAnswers.{LeavesLocks, MachineOutcome, TakesFew};
 ghost use Rattle.brin_insert.specs.InsertAnswers.{BlockedOn, FaultNamesRelation, InsertStepped, IsInsertFull, IsLeftBy, LeavesOtherRelations, SaysInsertFull, relation_at};
 ghost use Rattle.brin_insert.specs.InsertHands.{InsertHand};
 ghost use Rattle.brin_insert.specs.Inserts.{AsksNothing, HasReached, HasStepLeft, IsInsertFor, IsOfItsIndex, numbers_in, task_of};
@@ -107,6 +107,7 @@ impl Insert {
         ensures still_left { OnErr result (HasStepLeft self.new) }
         ensures others { LeavesOtherRelations D.told (relation_at pages.old.layout self.old) pages.old pages.new }
         ensures locks { LeavesLocks (holder locks.old) (holder locks.new) (relation_at pages.old.layout self.old) actor }
+        ensures counts { TakesFew locks.old locks.new actor }
         ensures kept { OnErr result (Keeps D.told pages.old pages.new) }
         ensures at { IfErr result (FaultNamesRelation pages.old.layout (relation_at pages.old.layout self.old)) }
         ensures outcome { MachineOutcome D.told (Untold D.told pages.old) pages.old pages.new result }

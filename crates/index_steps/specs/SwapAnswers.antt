@@ -11,6 +11,7 @@ use Rattle.page_store.specs.Outcome.{Outcome, Refused}
 use Rattle.page_store.specs.PageMap.{View}
 use Rattle.page_locks.specs.declared.held.Held.{Held}
 use Rattle.page_locks.specs.LockChanges.{TakesAll}
+use Rattle.page_locks.specs.LockCounts.{AddsAtMost}
 use Rattle.page_locks.specs.LockHolders.{LockState, holder}
 use Rattle.coverage.specs.IndexPart.{with_part}
 use Rattle.coverage.specs.IndexView.{Building, IndexTuple, IndexView, map_page_of}
@@ -92,3 +93,7 @@ MustLeave c x copied need = (c.bytes x ≡ Some copied) × MustMove c.pages x ne
 abbrev pub FaultNamesPageOf : DiskLayout → (index : ℕ) → MachineFault → Type 0
 FaultNamesPageOf layout index (faults.Store error) = NamesPageOf layout index error
 FaultNamesPageOf layout index fault = Unit {0}
+
+-- the actor holds at most three locks more, each other one as many, and as many as before may be held
+abbrev pub TakesFew : LockState → LockState → (actor : ℕ) → Type 0
+TakesFew old new actor = (new.limit ≡ old.limit) × AddsAtMost old new actor 3
