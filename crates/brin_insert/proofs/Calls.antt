@@ -27,6 +27,7 @@ module _ (keep : RunsKeep) (s : ℕ) where
         (TableNext s [] (table_state old u) (table_state new (task_turned s after u)) (table_state new (task_turned s after u)) step (TableDone (table_state new (task_turned s after u))))
 
     is_last : StepsAlone s 1 (table_state old u)
+    unfolding step
     is_last = LastAlone (table_state old u) (table_state new (task_turned s after u)) step point (goes u at kept).1.point_is
 
     module _ (inserting : IsInserting after) where
@@ -34,6 +35,7 @@ module _ (keep : RunsKeep) (s : ℕ) where
       inserting_then = subst (λ (t : Task). IsInserting t) (sym (pick_same s after (u.task s))) inserting
 
       is_one_more : (calls : ℕ) → StepsAlone s calls (table_state new (task_turned s after u)) → StepsAlone s (suc calls) (table_state old u)
+      unfolding step
       is_one_more calls rest = OneMoreAlone calls (table_state old u) (table_state new (task_turned s after u)) step point (goes u at kept).1.point_is
           (λ rests. subst (λ (t : Task). IsInserting t) rests inserting_then) rest
 

@@ -3,7 +3,7 @@ use Rattle.std.proofs.Common.{◌≡◌, ◌≢◌, ℕ, zero, suc, ◌+◌, ◌
 use Rattle.std.specs.Prelude.{Option, None, Some, nat_le, nat_lt, slice_get}
 use Rattle.std.specs.List.{list_all}
 use Rattle.std.proofs.lemmas.Bool.{and_from, and_parts, cond-false, cond-true, eq-eqb, eqb-true, leb-true, ltb-true, ne_eqb}
-use Rattle.std.proofs.lemmas.List.{append-nil}
+use Rattle.std.proofs.lemmas.List.{append-nil, get_or_read}
 use Rattle.std.proofs.lemmas.Option.{get_or_from_slice_get, none-some, same_Some, slice_get-get_or, slice_get_within}
 use Rattle.block_model.specs.ClassLimits.{class_is_lawful, is_within}
 use Rattle.block_model.specs.declared.limits.TheConstants.{MAX_TUPLE}
@@ -23,7 +23,8 @@ use Rattle.store_layout.specs.FirstBrokenRule.{KeepsLimits}
 use Rattle.store_layout.specs.Limits.{columns_are_lawful, is_on_a_table, parts_are_lawful}
 use Rattle.page_layout.specs.RowBytes.{HaveKinds}
 use Rattle.heap_rows.specs.Heaps.{kinds_at, no_table, table_at}
-use Rattle.index_steps.specs.IndexTuples.{IndexShape, TakesValues, have_kinds, index_at, kinds_of, no_index, shape_of}
+use Rattle.range_tuple.specs.Tuples.{Tuple, empty_placeholder, parts_of}
+use Rattle.index_steps.specs.IndexTuples.{IndexShape, TakesValues, classes_of, have_kinds, index_at, kinds_of, no_index, shape_of}
 use Rattle.brin_insert.specs.ShownTable.{indexes_of, numbers_from}
 
 -- each is the number of an index of the table
@@ -163,3 +164,22 @@ rows_taken taken layout limits table declared values have at n is =
     ap (λ (t : ℕ). columns_in (slice_get layout.schema.tables t)) (own_table layout table at n is) ∙ ap columns_in (slice_get-get_or layout.schema.tables table no_table declared) in
     taken (shape_of layout n) values (on_columns layout limits n below) (lawful_classes layout limits n below)
     (subst (λ (cs : List Column). have_kinds (map (λ (column : Column). column.kind) cs) values ≡ true) (sym same) (have_from (kinds_at layout table) values have))
+
+-- the index that an element of the list is
+pub declared_is : (layout : DiskLayout) (n m : ℕ) (schema : Schema) (l : List Index) (r : Index) → n < length layout.schema.indexes → l ≡ schema.indexes → schema ≡ layout.schema → m ≡ n → r ≡ get_or l m r → r ≡ index_at layout n
+declared_is layout n m schema l r below list same at is =
+    get_or_read layout.schema.indexes n r below
+    (is ∙ ap (λ (xs : List Index). get_or xs m r) (list ∙ ap (λ (t : Schema). t.indexes) same) ∙ ap (λ (k : ℕ). get_or layout.schema.indexes k r) at)
+    no_index
+
+classes_are : (layout : DiskLayout) (n : ℕ) → parts_of (empty_placeholder 0 (columns_of layout.schema (index_at layout n)) (index_at layout n).parts).columns ≡ classes_of (shape_of layout n)
+unfolding classes_of shape_of
+classes_are layout n = refl
+
+-- an empty placeholder has the columns of its index
+pub new_columns : (layout : DiskLayout) (n : ℕ) (schema : Schema) (i : Index) (t : Tuple) → t ≡ empty_placeholder 0 (columns_of schema i) i.parts → schema ≡ layout.schema → i ≡ index_at layout n → parts_of t.columns ≡ classes_of (shape_of layout n)
+new_columns layout n schema i t is same declared =
+    ap (λ (u : Tuple). parts_of u.columns) is
+    ∙ ap (λ (q : Schema). parts_of (empty_placeholder 0 (columns_of q i) i.parts).columns) same
+    ∙ ap (λ (j : Index). parts_of (empty_placeholder 0 (columns_of layout.schema j) j.parts).columns) declared
+    ∙ classes_are layout n

@@ -53,7 +53,7 @@ machine_for told Cause Other old new faults.Memory weaker outcome = outcome
 
 -- a put that is refused
 pub put_outcome : {D : Type 0} (told : D → Told) (old new : View D) (fault : MachineFault) → PutOutcome told old new (Err fault) → MachineOutcome {T = Did} told (Untold told old) old new (Err fault)
-put_outcome told old new (faults.Full relation number) (ready, same) =
+put_outcome {D = D} told old new (faults.Full relation number) (ready, same) =
     (ready, ap (λ (v : View D). v.failed) same ∙ ready, (let faults : (told new.disk).faults ≡ (told old.disk).faults = ap (λ (v : View D). (told v.disk).faults) same in omega (arith, faults)))
 put_outcome told old new (faults.Store error) refused = refused
 put_outcome told old new faults.Memory never = never

@@ -13,7 +13,7 @@ ghost use Rattle.index_steps.specs.IndexTuples.{TakesValues, index_at, shape_of}
 ghost use Rattle.index_steps.specs.SwapAnswers.{LeavesLocks, MachineOutcome, TakesFew};
 ghost use Rattle.brin_insert.specs.InsertAnswers.{BlockedOn, FaultNamesRelation, InsertStepped, IsInsertFull, IsLeftBy, LeavesOtherRelations, SaysInsertFull, relation_at};
 ghost use Rattle.brin_insert.specs.InsertHands.{InsertHand};
-ghost use Rattle.brin_insert.specs.Inserts.{AsksNothing, HasReached, HasStepLeft, IsInsertFor, IsOfItsIndex, numbers_in, task_of};
+ghost use Rattle.brin_insert.specs.Inserts.{AsksNothing, HasReached, HasStepLeft, IsInsertFor, IsOfItsIndex, numbers_in, task_of, work_of};
 ghost use Rattle.brin_insert.specs.ShownRows.{ShowsKept, shown_by};
 ghost use Rattle.brin_insert.specs.ShownTable.{indexes_of};
 
@@ -125,7 +125,8 @@ impl Insert {
                 Ok(spot) => {
                     self.place = Some(spot);
                     self.at = 0;
-                    Ok(reach(&mut self.works, 0, Point::Row))
+                    let did = self.reach(Point::Row);
+                    Ok(did)
                 }
                 Err(fault) => Err(fault),
             },
@@ -139,7 +140,8 @@ impl Insert {
                     Ok(Did::Moved(point)) => Ok(Did::Moved(point)),
                     Ok(Did::Finished(point)) => {
                         self.at = at + 1;
-                        Ok(reach(&mut self.works, at + 1, point))
+                        let answer = self.reach(point);
+                        Ok(answer)
                     }
                     Ok(Did::Blocked(held)) => Ok(Did::Blocked(held)),
                     Ok(Did::NoRight { .. }) => unreachable!(),
@@ -148,21 +150,22 @@ impl Insert {
             }
         }
     }
-}
 
-/// Begins the work in the index at that place, if there is one: so an insert goes on, or is complete.
-fn reach(works: &mut [IndexInsert], at: usize, point: Point) -> Did
-    ensures as_many { length works.new ≡ length works.old }
-    ensures numbers { numbers_in works.new ≡ numbers_in works.old }
-    ensures tuples { (layout : DiskLayout) → All (IsOfItsIndex layout) works.old → All (IsOfItsIndex layout) works.new }
-    ensures reached { HasReached point result (slice_get works.new at) }
-{
-    if at >= works.len() {
-        return Did::Finished(point);
+    /// Begins the work in the index that is next, if there is one: so the insert goes on, or is complete.
+    fn reach(&mut self, point: Point) -> Did
+        ensures rest { (self.new.row ≡ self.old.row) × (self.new.place ≡ self.old.place) × (self.new.at ≡ self.old.at) × (self.new.copied ≡ self.old.copied) }
+        ensures numbers { numbers_in self.new.works.items ≡ numbers_in self.old.works.items }
+        ensures tuples { (layout : DiskLayout) → All (IsOfItsIndex layout) self.old.works.items → All (IsOfItsIndex layout) self.new.works.items }
+        ensures reached { HasReached point result (work_of self.new) }
+    {
+        let at = self.at;
+        if at >= self.works.len() {
+            return Did::Finished(point);
+        }
+        let work = &mut self.works[at];
+        work.begin();
+        Did::Moved(point)
     }
-    let work = &mut works[at];
-    work.begin();
-    Did::Moved(point)
 }
 
 /// The work in each index of the table, in the order of their declarations, before its first step.
