@@ -12,6 +12,7 @@ pub mod FirstPlaces
 pub mod RowPut
 pub mod Tasks
 pub mod Numbers
+pub mod Works
 pub mod Reaching
 pub mod InTable
 pub mod Outcomes

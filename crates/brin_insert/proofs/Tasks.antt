@@ -73,8 +73,8 @@ work_there insert x hand placed left is =
 pub is_at_work : (insert : Insert) (x : Spot) (hand : InsertHand) → insert.place ≡ Some x → HasStepLeft insert → work_of insert ≡ Some hand → IsAtWork hand.stage
 is_at_work insert x hand placed left got = subst (λ (o : Option InsertHand). IsAtWorkIn o) got (subst (λ (o : Option Spot). HasStepAt o (work_of insert)) placed left)
 
-pub left_there : (insert : Insert) (x : Spot) (hand : InsertHand) → insert.place ≡ Some x → work_of insert ≡ Some hand → IsAtWork hand.stage → HasStepLeft insert
-left_there insert x hand placed got work = subst (λ (o : Option Spot). HasStepAt o (work_of insert)) (sym placed) (subst (λ (o : Option InsertHand). IsAtWorkIn o) (sym got) work)
+pub left_with : (place : Option Spot) (works : List InsertHand) (at : ℕ) (x : Spot) (hand : InsertHand) → place ≡ Some x → slice_get works at ≡ Some hand → IsAtWork hand.stage → HasStepAt place (slice_get works at)
+left_with place works at x hand placed got work = subst (λ (o : Option Spot). HasStepAt o (slice_get works at)) (sym placed) (subst (λ (o : Option InsertHand). IsAtWorkIn o) (sym got) work)
 
 -- the insert is for its table still
 pub made_then : (layout : DiskLayout) (old new : Insert) → IsInsertFor layout old → new.row ≡ old.row → numbers_in new.works.items ≡ numbers_in old.works.items → All (IsOfItsIndex layout) new.works.items → IsInsertFor layout new

@@ -176,7 +176,8 @@ fn works_for(alloc: Global, layout: &Layout, table: u8) -> Result<Vec<IndexInser
     let mut works = Vec::new(alloc);
     'indexes: for index in 0..index_count(layout) {
         if declared_index(layout, index).table == table {
-            works.push(IndexInsert::new(alloc, layout, index)?)?;
+            let work = IndexInsert::new(alloc, layout, index)?;
+            works.push(work)?;
         }
     }
     Ok(works)

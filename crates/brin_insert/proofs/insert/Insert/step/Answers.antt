@@ -1,4 +1,5 @@
 use Rattle.std.proofs.Common.{◌≡◌, ◌≢◌, ◌<◌, ◌≤◌, ℕ, suc, ◌+◌, ◌/◌, List, length, Option, None, Some, set, refl, sym, ap, subst, ◌∙◌, arith}
+use Rattle.std.specs.Vec.{with_item}
 use Rattle.std.proofs.lemmas.Option.{slice_get_within}
 use Rattle.block_model.specs.declared.place.Spot.{Spot}
 use Rattle.block_model.specs.declared.value.Value.{Value}
@@ -21,7 +22,7 @@ use Rattle.brin_insert.specs.StepAnswers.{DamageAt}
 use Rattle.brin_insert.proofs.InTable.{blocked, finished, moved, row_stepped}
 use Rattle.brin_insert.proofs.Numbers.{number_within}
 use Rattle.brin_insert.proofs.Outcomes.{index_full, index_names, index_next, index_others, machine_for}
-use Rattle.brin_insert.proofs.Tasks.{got_set, is_at_work, kept_at, left_there, made_then, made_with, number_there, own_then, range_is, same_numbers, task_stays, tuple_there, tuples_then, work_there}
+use Rattle.brin_insert.proofs.Tasks.{got_set, is_at_work, kept_at, left_with, made_then, made_with, number_there, own_then, range_is, same_numbers, task_stays, tuple_there, tuples_then, work_there}
 use Rattle.brin_insert.proofs.insert.Insert.step.Goals as goal
 
 pub range_in-range-requires : goal.range_in-range-requires
@@ -87,16 +88,6 @@ step-requires-clause-moving g c = λ from to is tells.
 
 pub overflow_add-self : goal.overflow_add-self
 overflow_add-self g c =
-    let store = c.args.pages.now in
-    let old = c.args.self.now in
-    let x = c.in-Some.spot in
-    let e = c.index_mut-work.result.now in
-    let got = work_there old x e c.in-Some.is c.requires.left c.index_mut-work.ensures.value in
-    let below : old.at < length old.works.items = slice_get_within old.works.items old.at e got in
-    omega (arith, below, old.works.ok, old.works.small)
-
-pub overflow_add-at : goal.overflow_add-at
-overflow_add-at g c =
     let store = c.args.pages.now in
     let old = c.args.self.now in
     let x = c.in-Some.spot in
@@ -185,7 +176,7 @@ returns-in-Ok-Moved-clause-left g c =
     let below : old.at < length old.works.items = slice_get_within old.works.items old.at e got in
     let found = got_set old.works.items old.at next below in
     let stands = rw c.in-Ok-Moved.field-0-is at c.in-Ok-Moved.ensures.stands in
-    left_there _ x next c.in-Some.is found stands
+    left_with old.place (set old.works.items old.at next) old.at x next c.in-Some.is found stands
 
 pub returns-in-Ok-Moved-clause-made : goal.returns-in-Ok-Moved-clause-made
 returns-in-Ok-Moved-clause-made g c =
@@ -211,7 +202,7 @@ returns-in-Ok-Blocked-clause-left g c =
     let below : old.at < length old.works.items = slice_get_within old.works.items old.at e got in
     let found = got_set old.works.items old.at next below in
     let stands = rw c.in-Ok-Blocked.field-0-is at c.in-Ok-Blocked.ensures.stands in
-    left_there _ x next c.in-Some.is found stands
+    left_with old.place (set old.works.items old.at next) old.at x next c.in-Some.is found stands
 
 pub returns-in-Ok-Blocked-clause-made : goal.returns-in-Ok-Blocked-clause-made
 returns-in-Ok-Blocked-clause-made g c =
@@ -331,7 +322,7 @@ returns-in-Err-step-clause-stays g c =
     let next = c.step.new.self in
     let below : old.at < length old.works.items = slice_get_within old.works.items old.at e got in
     let found = got_set old.works.items old.at next below in
-    task_stays store.layout old _ x e next c.in-Some.is c.in-Some.is refl refl got found c.step.ensures.same_index c.in-Err-step.ensures.same_stage c.in-Err-step.ensures.same_hand
+    task_stays store.layout old (record old { works = with_item old.works old.at next; copied = c.step.new.copied }) x e next c.in-Some.is c.in-Some.is refl refl got found c.step.ensures.same_index c.in-Err-step.ensures.same_stage c.in-Err-step.ensures.same_hand
 
 pub returns-in-Err-step-clause-still_left : goal.returns-in-Err-step-clause-still_left
 returns-in-Err-step-clause-still_left g c =
@@ -343,7 +334,7 @@ returns-in-Err-step-clause-still_left g c =
     let next = c.step.new.self in
     let below : old.at < length old.works.items = slice_get_within old.works.items old.at e got in
     let found = got_set old.works.items old.at next below in
-    left_there _ x next c.in-Some.is found (subst (λ (q : Stage). IsAtWork q) (sym c.in-Err-step.ensures.same_stage) (is_at_work old x e c.in-Some.is c.requires.left got))
+    left_with old.place (set old.works.items old.at next) old.at x next c.in-Some.is found (subst (λ (q : Stage). IsAtWork q) (sym c.in-Err-step.ensures.same_stage) (is_at_work old x e c.in-Some.is c.requires.left got))
 
 pub returns-in-Err-step-clause-at : goal.returns-in-Err-step-clause-at
 returns-in-Err-step-clause-at g c =
@@ -368,3 +359,9 @@ returns-in-Err-step-clause-outcome g c =
     (kept_at store.layout store.pages c.args.locks.now c.args.actor old x e e.stage c.in-Some.is got refl (c.requires.kept tells))
     (subst (λ (m : ℕ). DamageAt (shape_of store.layout e.index) (contents store.layout store.pages e.index) m e.stage) ranged (cause tells)))
     c.in-Err-step.ensures.outcome
+
+pub returns-in-Ok-clause-made : goal.returns-in-Ok-clause-made
+returns-in-Ok-clause-made g c =
+    let store = c.args.pages.now in
+    let old = c.args.self.now in
+    made_then store.layout old c.reach-did.new.self c.requires.made c.reach-did.ensures.rest.0 c.reach-did.ensures.numbers (c.reach-did.ensures.tuples store.layout c.requires.made.tuples)
