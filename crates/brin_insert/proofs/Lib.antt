@@ -2,4 +2,17 @@ pub mod Stepping
 pub mod Swaps
 pub mod Copies
 pub mod Sizes
+pub mod ShownHere
 pub mod Tables
+pub mod Waiting
+pub mod Turning
+pub mod Calls
+pub mod Kept
+pub mod FirstPlaces
+pub mod RowPut
+pub mod Tasks
+pub mod Numbers
+pub mod Works
+pub mod Reaching
+pub mod InTable
+pub mod Outcomes

@@ -44,7 +44,7 @@ module _ (shape : IndexShape) (s range : ℕ) (r : Row) (c d : IndexContents) (l
 
   pub waits : (held : Held) → SwapMakes shape c d lock locked s range x (seen shape copied) (seen shape widened) (swaps.Waits held)
       → Stepped shape s range r (at_stage c lock copied widened (stages.Swap x)) (at_stage d locked copied widened (stages.Swap x)) (did.Blocked held)
-  waits held makes = (λ b k w ranged shows knows. makes w shows knows.2.0, refl)
+  waits held makes = (λ b k w ranged shows knows. makes w shows knows.2.0, refl, refl, refl)
 
   pub put_elsewhere : (y : Spot) → SwapMakes shape c d lock locked s range x (seen shape copied) (seen shape widened) (swaps.Moves y)
       → Stepped shape s range r (at_stage c lock copied widened (stages.Swap x)) (at_stage d locked copied widened (stages.Set x y)) (did.Moved points.Put)

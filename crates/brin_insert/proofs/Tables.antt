@@ -32,6 +32,7 @@ use Rattle.brin_insert.specs.declared.stage.Stage.TheVariants as stages
 use Rattle.brin_insert.specs.InsertSteps.{StepMakes, insert_at, on_index, statement_in}
 use Rattle.brin_insert.specs.ShownTable.{indexes_of, numbers_from, shown_at, shown_table}
 use Rattle.brin_insert.specs.TableSteps.{ShownDoes, StepsInIndex, Stores, task_after}
+use Rattle.brin_insert.proofs.ShownHere.{ranged, shows_here}
 
 -- the numbers of a table's indexes ascend, so no two are one
 at_least : (table n : ℕ) (l : List AnIndex) (i m : ℕ) → slice_get (numbers_from table n l) i ≡ Some m → n ≤ m
@@ -67,7 +68,7 @@ locks_none v s b k r (suc i) zero on apart knows = knows.2
 locks_none v s b k r (suc i) (suc at) on apart knows = locks_none v s b k r i at on (λ same. apart (ap suc same)) knows
 
 -- an index of the table, as the pages and locks show it, by its number if it is there
-abbrev shown_one : DiskLayout → PageMap → LockState → (Spot → Bool) → Option ℕ → Index
+abbrev pub shown_one : DiskLayout → PageMap → LockState → (Spot → Bool) → Option ℕ → Index
 shown_one layout pages locks unnamed o = record {
   contents = (shown_at layout pages locks o).contents;
   pages_per_range = (shown_at layout pages locks o).pages_per_range;
@@ -80,7 +81,7 @@ shown_one layout pages locks unnamed o = record {
 }
 
 -- it is the same where its pages and locks are
-same_one : (layout : DiskLayout) (pages paged : PageMap) (locks locked : LockState) (unnamed : Spot → Bool) (m : ℕ) → contents layout paged m ≡ contents layout pages m → ((page : ℕ) → lock_in layout locked m page ≡ lock_in layout locks m page)
+pub same_one : (layout : DiskLayout) (pages paged : PageMap) (locks locked : LockState) (unnamed : Spot → Bool) (m : ℕ) → contents layout paged m ≡ contents layout pages m → ((page : ℕ) → lock_in layout locked m page ≡ lock_in layout locks m page)
     → shown_one layout pages locks unnamed (Some m) ≡ shown_one layout paged locked unnamed (Some m)
 same_one layout pages paged locks locked unnamed m same held = λ j. record {
   contents = contents_of (shape_of layout m);
@@ -134,29 +135,6 @@ module _ (goes : InsertGoes) (completes : InsertCompletes) (here : IndexHere) (o
   abbrev part : IndexPart
   part = shown_part shape (contents store.layout store.paged n) (lock_in store.layout store.locked n) (u.unnamed at)
 
-  abbrev view_of : Option ℕ → IndexView
-  view_of o = record {
-    contents = (shown_at store.layout store.pages store.locks o).contents;
-    pages_per_range = (shown_at store.layout store.pages store.locks o).pages_per_range;
-    blocks = blocks;
-    row = row;
-    entry = (shown_at store.layout store.pages store.locks o).entry;
-    tuple = (shown_at store.layout store.pages store.locks o).tuple;
-    pages = (shown_at store.layout store.pages store.locks o).pages;
-    lock = (shown_at store.layout store.pages store.locks o).lock;
-    summarise_lock = u.summarise_lock;
-    building = λ m. building_of (seen_by at (u.task m));
-    loose = λ m. loose_of (seen_by at (u.task m));
-    unnamed = u.unnamed at;
-  }
-
-  shows_here : Shows shape (contents store.layout store.pages n) (lock_in store.layout store.locks n) (index_view_at at w)
-  shows_here = subst (λ (o : Option ℕ). Shows shape (contents store.layout store.pages n) (lock_in store.layout store.locks n) (view_of o)) (sym there)
-      (record { contents = refl; entry = λ range. refl; tuple = λ x. refl; pages = refl; lock = λ page. refl })
-
-  ranged : b / (index_view_at at w).pages_per_range ≡ b / (index_at store.layout n).pages_per_range
-  ranged = ap (λ (o : Option ℕ). b / (shown_at store.layout store.pages store.locks o).pages_per_range) there
-
   at_here : index_with part (w.index at) ≡ shown_one store.layout store.paged store.locked (u.unnamed at) (slice_get numbers at)
   at_here = subst (λ (o : Option ℕ). index_with part (shown_one store.layout store.pages store.locks (u.unnamed at) o) ≡ shown_one store.layout store.paged store.locked (u.unnamed at) o) (sym there) refl
 
@@ -187,7 +165,7 @@ module _ (goes : InsertGoes) (completes : InsertCompletes) (here : IndexHere) (o
     below = slice_get_within numbers at n there
 
     made : InsertMakes s b k r (index_view_at at w) part (on_index shape stage copied (tuple_bytes t)) (statement_in shape b k r next after (tuple_bytes v)) point
-    made = steps.makes b k (index_view_at at w) ranged shows_here (knows s b k r at w (on_index shape stage copied (tuple_bytes t)) kept below task).0
+    made = steps.makes b k (index_view_at at w) (ranged store.layout store.pages store.locks table rows_per_page blocks row at n there u b) (shows_here store.layout store.pages store.locks table rows_per_page blocks row at n there u) (knows s b k r at w (on_index shape stage copied (tuple_bytes t)) kept below task).0
 
     by_next : (stage_after : Stage) → InsertMakes s b k r (index_view_at at w) part (on_index shape stage copied (tuple_bytes t)) (statement_in shape b k r stage_after after (tuple_bytes v)) point
         → DoesAt s w (with_index at part s (task_after store.layout n b k r at stage_after after (tuple_bytes v)) w) point (λ account. account)

@@ -69,9 +69,9 @@ StepWaits shape s range r old page = (b k : ℕ) (w : IndexView) → range_of_bl
     → Knows w s (Inserting b k r (on_index shape old.stage old.copied old.widened))
     → IsWaiting w s range (on_index shape old.stage old.copied old.widened) page
 
--- What a step did: it goes on, or the index is complete; or it waits, and stands where it stood.
+-- What a step did: it goes on, or the index is complete; or it waits, and stands where it stood, with what it had.
 abbrev pub Stepped : IndexShape → (s range : ℕ) → Row → (old new : InsertAt) → Did → Type 0
 Stepped shape s range r old new (did.Moved point) = StepMakes shape s range r old new point × IsAtWork new.stage
 Stepped shape s range r old new (did.Finished point) = StepMakes shape s range r old new point × (new.stage ≡ stages.Complete)
-Stepped shape s range r old new (did.Blocked held) = StepWaits shape s range r old held.page.block × (new.stage ≡ old.stage)
+Stepped shape s range r old new (did.Blocked held) = StepWaits shape s range r old held.page.block × (new.stage ≡ old.stage) × (new.copied ≡ old.copied) × (new.widened ≡ old.widened)
 Stepped shape s range r old new (did.NoRight by) = ⊥

@@ -19,7 +19,7 @@ use Rattle.index_steps.specs.ShownIndex.{Shows}
 use Rattle.index_steps.specs.SwapAnswers.{NamesHeld}
 use Rattle.brin_insert.specs.declared.stage.Stage.{Stage}
 use Rattle.brin_insert.specs.declared.stage.Stage.TheVariants as stages
-use Rattle.brin_insert.specs.InsertSteps.{InsertAt, on_index}
+use Rattle.brin_insert.specs.InsertSteps.{InsertAt, IsAtWork, on_index}
 
 -- what is damaged where a step at this stage finds damage: the range's entry, or the tuple to be copied
 abbrev pub DamageAt : IndexShape → IndexContents → (range : ℕ) → Stage → Type 0
@@ -53,3 +53,10 @@ NeverBlocked did = Unit {0}
 abbrev pub NeverFull : MachineFault → Type 0
 NeverFull (faults.Full relation number) = ⊥
 NeverFull fault = Unit {0}
+
+-- the stage after a step: the index is complete after the last one, and else has a step left; no step waits for a summarise lock
+abbrev pub StandsAfter : Did → Stage → Type 0
+StandsAfter (did.Moved point) stage = IsAtWork stage
+StandsAfter (did.Finished point) stage = stage ≡ stages.Complete
+StandsAfter (did.Blocked held) stage = IsAtWork stage
+StandsAfter (did.NoRight by) stage = ⊥

@@ -12,9 +12,9 @@ ghost use Rattle.index_contents.specs.IndexContents.{contents, relation_of};
 ghost use Rattle.index_contents.specs.IndexChanges.{LeavesOthers};
 ghost use Rattle.index_steps.specs.IndexTuples.{TakesValues, classes_of, shape_of};
 ghost use Rattle.index_steps.specs.MoveEnds.{IsMoving};
-ghost use Rattle.index_steps.specs.SwapAnswers.{LeavesLocks, MachineOutcome};
-ghost use Rattle.brin_insert.specs.InsertSteps.{IsAtWork, Stepped, insert_at};
-ghost use Rattle.brin_insert.specs.StepAnswers.{BlockedWell, DamageAt, NeverBlocked, NeverFull, SaysFullIn, StepFull};
+ghost use Rattle.index_steps.specs.SwapAnswers.{FaultNamesPageOf, LeavesLocks, MachineOutcome, TakesFew};
+ghost use Rattle.brin_insert.specs.InsertSteps.{IsAtWork, Stepped, insert_at, on_index};
+ghost use Rattle.brin_insert.specs.StepAnswers.{BlockedWell, DamageAt, NeverBlocked, NeverFull, SaysFullIn, StandsAfter, StepFull};
 
 use crate::stage::Stage;
 use block_model::{Place, Point, Spot, Value};
@@ -37,9 +37,11 @@ pub(crate) fn map<D: Disk + Drop>(
 ) -> Result<(Stage, Did), MachineFault>
     requires index { at.index < length pages.old.layout.schema.indexes }
     ensures stepped { IfOk result (λ o. Tells D.told pages.old → (locks : LockState) (before : List ℕ) (old new : AnyTuple) (r : AnyRow) → Stepped (shape_of pages.old.layout at.index) at.actor at.range r (insert_at pages.old.layout pages.old.pages locks at.index Stage.Map before old) (insert_at pages.old.layout pages.new.pages locks at.index o.0 copied.new new) o.1) }
+    ensures stands { IfOk result (λ o. StandsAfter o.1 o.0) }
     ensures kept { Keeps D.told pages.old pages.new }
     ensures never_blocked { IfOk result (λ o. NeverBlocked o.1) }
     ensures never_full { IfErr result NeverFull }
+    ensures at { IfErr result (FaultNamesPageOf pages.old.layout at.index) }
     ensures outcome { MachineOutcome D.told (Tells D.told pages.old → DamageAt (shape_of pages.old.layout at.index) (contents pages.old.layout pages.old.pages at.index) at.range Stage.Map) pages.old pages.new result }
 {
     an_index_that_stays_is_read();
@@ -65,10 +67,12 @@ pub(crate) fn copy<D: Disk + Drop>(
     requires tuple { parts_of tuple.old.columns ≡ classes_of (shape_of pages.old.layout at.index) }
     requires takes { TakesValues (shape_of pages.old.layout at.index) values.now }
     ensures stepped { IfOk result (λ o. Tells D.told pages.old → (before : List ℕ) (r : AnyRow) → r.values ≡ values.now → Stepped (shape_of pages.old.layout at.index) at.actor at.range r (insert_at pages.old.layout pages.old.pages locks.now at.index (Stage.Copy spot) before tuple.old) (insert_at pages.old.layout pages.new.pages locks.now at.index o.0 copied.new tuple.new) o.1) }
+    ensures stands { IfOk result (λ o. StandsAfter o.1 o.0) }
     ensures same_index { parts_of tuple.new.columns ≡ parts_of tuple.old.columns }
     ensures kept { Keeps D.told pages.old pages.new }
     ensures never_blocked { IfOk result (λ o. NeverBlocked o.1) }
     ensures never_full { IfErr result NeverFull }
+    ensures at { IfErr result (FaultNamesPageOf pages.old.layout at.index) }
     ensures outcome { MachineOutcome D.told (Tells D.told pages.old → DamageAt (shape_of pages.old.layout at.index) (contents pages.old.layout pages.old.pages at.index) at.range (Stage.Copy spot)) pages.old pages.new result }
 {
     an_index_that_stays_is_read();
@@ -110,12 +114,15 @@ pub(crate) fn swap_in<D: Disk + Drop>(
     requires room { tuple_room tuple.now.columns ≤ length room.old }
     requires locks { count_of locks.old + 3 ≤ locks.old.limit }
     ensures stepped { IfOk result (λ o. Tells D.told pages.old → (r : AnyRow) → Stepped (shape_of pages.old.layout at.index) at.actor at.range r (insert_at pages.old.layout pages.old.pages locks.old at.index (Stage.Swap spot) copied.now tuple.now) (insert_at pages.old.layout pages.new.pages locks.new at.index o.0 copied.now tuple.now) o.1) }
+    ensures stands { IfOk result (λ o. StandsAfter o.1 o.0) }
     ensures others { LeavesOthers D.told at.index pages.old pages.new }
     ensures blocked { IfOk result (λ o. BlockedWell D.told at.index at.actor pages.old pages.new locks.old locks.new o.1) }
     ensures full { IfErr result (SaysFullIn pages.old.layout at.index (λ number. Tells D.told pages.old → StepFull (shape_of pages.old.layout at.index) at.actor at.range (insert_at pages.old.layout pages.old.pages locks.old at.index (Stage.Swap spot) copied.now tuple.now) number)) }
     ensures locks { LeavesLocks (holder locks.old) (holder locks.new) (relation_of pages.old.layout at.index) at.actor }
+    ensures counts { TakesFew locks.old locks.new at.actor }
     ensures same_room { length room.new ≡ length room.old }
     ensures kept { OnErr result (Keeps D.told pages.old pages.new) }
+    ensures at { IfErr result (FaultNamesPageOf pages.old.layout at.index) }
     ensures outcome { MachineOutcome D.told (Untold D.told pages.old) pages.old pages.new result }
 {
     let size = encode_to(tuple, room);
@@ -150,10 +157,12 @@ pub(crate) fn set_in<D: Disk + Drop>(
     requires index { at.index < length pages.old.layout.schema.indexes }
     requires moving { Tells D.told pages.old → IsMoving (shape_of pages.old.layout at.index) (contents pages.old.layout pages.old.pages at.index) at.range from to }
     ensures stepped { IfOk result (λ o. Tells D.told pages.old → (locks : LockState) (copied : List ℕ) (widened : AnyTuple) (r : AnyRow) → Stepped (shape_of pages.old.layout at.index) at.actor at.range r (insert_at pages.old.layout pages.old.pages locks at.index (Stage.Set from to) copied widened) (insert_at pages.old.layout pages.new.pages locks at.index o.0 copied widened) o.1) }
+    ensures stands { IfOk result (λ o. StandsAfter o.1 o.0) }
     ensures others { LeavesOthers D.told at.index pages.old pages.new }
     ensures kept { OnErr result (Keeps D.told pages.old pages.new) }
     ensures never_blocked { IfOk result (λ o. NeverBlocked o.1) }
     ensures never_full { IfErr result NeverFull }
+    ensures at { IfErr result (FaultNamesPageOf pages.old.layout at.index) }
     ensures outcome { MachineOutcome D.told (Untold D.told pages.old) pages.old pages.new result }
 {
     match name_moved(pages, at, from, to) {
@@ -171,11 +180,14 @@ pub(crate) fn drop_in<D: Disk + Drop>(
 ) -> Result<(Stage, Did), MachineFault>
     requires index { at.index < length pages.old.layout.schema.indexes }
     ensures stepped { IfOk result (λ o. Tells D.told pages.old → (copied : List ℕ) (widened : AnyTuple) (r : AnyRow) → Stepped (shape_of pages.old.layout at.index) at.actor at.range r (insert_at pages.old.layout pages.old.pages locks.old at.index (Stage.Drop from) copied widened) (insert_at pages.old.layout pages.new.pages locks.new at.index o.0 copied widened) o.1) }
+    ensures stands { IfOk result (λ o. StandsAfter o.1 o.0) }
     ensures others { LeavesOthers D.told at.index pages.old pages.new }
     ensures kept { OnErr result (Keeps D.told pages.old pages.new) }
     ensures locks { LeavesLocks (holder locks.old) (holder locks.new) (relation_of pages.old.layout at.index) at.actor }
+    ensures counts { TakesFew locks.old locks.new at.actor }
     ensures never_blocked { IfOk result (λ o. NeverBlocked o.1) }
     ensures never_full { IfErr result NeverFull }
+    ensures at { IfErr result (FaultNamesPageOf pages.old.layout at.index) }
     ensures outcome { MachineOutcome D.told (Untold D.told pages.old) pages.old pages.new result }
 {
     match drop_moved(pages, locks, at, from) {
@@ -203,13 +215,17 @@ pub(crate) fn step_in<D: Disk + Drop>(
     requires locks { count_of locks.old + 3 ≤ locks.old.limit }
     requires moving { (x y : AnySpot) → stage ≡ Stage.Set x y → Tells D.told pages.old → IsMoving (shape_of pages.old.layout at.index) (contents pages.old.layout pages.old.pages at.index) at.range x y }
     ensures stepped { IfOk result (λ o. Tells D.told pages.old → (r : AnyRow) → r.values ≡ values.now → Stepped (shape_of pages.old.layout at.index) at.actor at.range r (insert_at pages.old.layout pages.old.pages locks.old at.index stage copied.old tuple.old) (insert_at pages.old.layout pages.new.pages locks.new at.index o.0 copied.new tuple.new) o.1) }
+    ensures stands { IfOk result (λ o. StandsAfter o.1 o.0) }
     ensures blocked { IfOk result (λ o. BlockedWell D.told at.index at.actor pages.old pages.new locks.old locks.new o.1) }
     ensures full { IfErr result (SaysFullIn pages.old.layout at.index (λ number. Tells D.told pages.old → StepFull (shape_of pages.old.layout at.index) at.actor at.range (insert_at pages.old.layout pages.old.pages locks.old at.index stage copied.old tuple.old) number)) }
     ensures others { LeavesOthers D.told at.index pages.old pages.new }
     ensures locks { LeavesLocks (holder locks.old) (holder locks.new) (relation_of pages.old.layout at.index) at.actor }
+    ensures counts { TakesFew locks.old locks.new at.actor }
     ensures same_index { parts_of tuple.new.columns ≡ parts_of tuple.old.columns }
     ensures same_room { length room.new ≡ length room.old }
     ensures kept { OnErr result (Keeps D.told pages.old pages.new) }
+    ensures same_hand { OnErr result (on_index (shape_of pages.old.layout at.index) stage copied.new (tuple_bytes tuple.new) ≡ on_index (shape_of pages.old.layout at.index) stage copied.old (tuple_bytes tuple.old)) }
+    ensures at { IfErr result (FaultNamesPageOf pages.old.layout at.index) }
     ensures outcome { MachineOutcome D.told (Tells D.told pages.old → DamageAt (shape_of pages.old.layout at.index) (contents pages.old.layout pages.old.pages at.index) at.range stage) pages.old pages.new result }
 {
     match stage {

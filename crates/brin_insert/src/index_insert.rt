@@ -1,27 +1,25 @@
 //! An insert's work in one index.
 
-ghost use Rattle.std.specs.Prelude.{◌≡◌, ◌+◌, ◌<◌, ◌≤◌, true, length, IfOk, IfErr, OnErr};
-ghost use Rattle.std.specs.List.{list_all};
-ghost use Rattle.block_model.specs.declared.limits.TheConstants.{MAX_TUPLE};
+ghost use Rattle.std.specs.Prelude.{◌≡◌, ◌+◌, ◌/◌, ◌<◌, ◌≤◌, length, IfOk, IfErr, OnErr};
 ghost use Rattle.block_model.specs.declared.place.Spot.{Spot as AnySpot};
 ghost use Rattle.block_model.specs.declared.row.Row.{Row as AnyRow};
-ghost use Rattle.block_model.specs.ClassLimits.{class_is_lawful};
 ghost use Rattle.block_model.specs.IndexedColumns.{columns_of};
-ghost use Rattle.block_model.specs.TupleSize.{tuple_size};
 ghost use Rattle.page_store.specs.Keeps.{Keeps, Tells};
 ghost use Rattle.page_locks.specs.LockHolders.{count_of, holder};
+ghost use Rattle.range_tuple.specs.TupleBytes.{tuple_bytes};
 ghost use Rattle.range_tuple.specs.Tuples.{empty_placeholder, parts_of};
 ghost use Rattle.index_contents.specs.IndexContents.{contents, relation_of};
 ghost use Rattle.index_contents.specs.IndexChanges.{LeavesOthers};
-ghost use Rattle.index_steps.specs.IndexTuples.{TakesValues, classes_of, shape_of};
+ghost use Rattle.index_steps.specs.IndexTuples.{TakesValues, classes_of, index_at, shape_of};
 ghost use Rattle.index_steps.specs.MoveEnds.{IsMoving};
-ghost use Rattle.index_steps.specs.SwapAnswers.{LeavesLocks, MachineOutcome};
-ghost use Rattle.brin_insert.specs.InsertSteps.{IsAtWork, Stepped, insert_at};
-ghost use Rattle.brin_insert.specs.StepAnswers.{BlockedWell, DamageAt, SaysFullIn, StepFull};
+ghost use Rattle.index_steps.specs.SwapAnswers.{FaultNamesPageOf, LeavesLocks, MachineOutcome, TakesFew};
+ghost use Rattle.brin_insert.specs.InsertSteps.{IsAtWork, Stepped, insert_at, on_index};
+ghost use Rattle.brin_insert.specs.StepAnswers.{BlockedWell, DamageAt, SaysFullIn, StandsAfter, StepFull};
 
 use crate::in_index::step_in;
+use crate::indexes::declared_index;
 use crate::stage::Stage;
-use block_model::{Index, NoMemory, Schema, Value};
+use block_model::{NoMemory, Value};
 use disk_trait::Disk;
 use index_steps::Within;
 use page_locks::{Did, Locks};
@@ -31,11 +29,13 @@ use range_tuple::RangeTuple;
 use std::alloc::Global;
 use std::boxed::BoxedSlice;
 use std::marker::Model;
+use store_layout::Layout;
 
-/// An insert's work in one index: the stage that it is at, the tuple with the row, and room for that one's bytes. Made once an
-/// index, and taken for one row after the other.
+/// An insert's work in one index: the index, the stage that the insert is at there, the tuple with the row, and room for that one's
+/// bytes. Made once an index, and taken for one row after the other.
 #[derive(Debug, Drop)]
 pub struct IndexInsert {
+    index: u8,
     stage: Stage,
     widened: RangeTuple,
     room: BoxedSlice<u8>,
@@ -49,23 +49,23 @@ impl Model for IndexInsert {
 
     ghost Value = { InsertHand };
 
-    ghost view = { λ a. record { stage = a.stage; widened = a.widened } };
+    ghost view = { λ a. record { index = a.index; stage = a.stage; widened = a.widened } };
 
     ghost invariant = { λ a. tuple_room a.widened.columns ≤ length (boxed_slice_items a.room) };
 }
 
 impl IndexInsert {
-    /// Before the first step in the index, which is one of a declared table within the limits. Takes all the memory that the work ever
-    /// needs.
-    pub fn new(alloc: Global, index: &Index, schema: &Schema) -> Result<IndexInsert, NoMemory>
-        requires columns { 0 < length index.now.parts }
-        requires classes { list_all (class_is_lawful (columns_of schema.now index.now)) index.now.parts ≡ true }
-        requires size { tuple_size (columns_of schema.now index.now) index.now.parts ≤ MAX_TUPLE }
-        ensures begins { IfOk result (λ insert. insert ≡ record { stage = Stage.Map; widened = empty_placeholder 0 (columns_of schema.now index.now) index.now.parts }) }
+    /// Before the first step in the index of that number. Takes all the memory that the work ever needs.
+    pub fn new(alloc: Global, layout: &Layout, index: u8) -> Result<IndexInsert, NoMemory>
+        requires index { index < length layout.now.schema.indexes }
+        ensures begins { IfOk result (λ insert. insert ≡ record { index = index; stage = Stage.Map; widened = empty_placeholder 0 (columns_of layout.now.schema (index_at layout.now index)) (index_at layout.now index).parts }) }
+        ensures of_index { IfOk result (λ insert. parts_of insert.widened.columns ≡ classes_of (shape_of layout.now index)) }
     {
-        let widened = RangeTuple::new(alloc, index, schema, 0)?;
+        let declared = declared_index(layout, index);
+        let widened = RangeTuple::new(alloc, declared, layout.schema(), 0)?;
         let room = vec![in alloc; 0u8; widened.greatest_size()]?;
         Ok(IndexInsert {
+            index,
             stage: Stage::Map,
             widened,
             room: room.into_boxed_slice(),
@@ -77,6 +77,13 @@ impl IndexInsert {
         ensures { self.new ≡ record self.old { stage = Stage.Map } }
     {
         self.stage = Stage::Map;
+    }
+
+    /// The number of the index.
+    pub fn index(&self) -> u8
+        ensures { result ≡ self.now.index }
+    {
+        self.index
     }
 
     /// The stage that it is at.
@@ -93,25 +100,38 @@ impl IndexInsert {
         &mut self,
         pages: &mut PageStore<D>,
         locks: &mut Locks,
-        at: Within,
+        range: u32,
+        actor: u32,
         values: &[Value],
         copied: &mut Scratch,
     ) -> Result<Did, MachineFault>
-        requires index { at.index < length pages.old.layout.schema.indexes }
+        requires index { self.old.index < length pages.old.layout.schema.indexes }
         requires work { IsAtWork self.old.stage }
-        requires tuple { parts_of self.old.widened.columns ≡ classes_of (shape_of pages.old.layout at.index) }
-        requires takes { TakesValues (shape_of pages.old.layout at.index) values.now }
+        requires tuple { parts_of self.old.widened.columns ≡ classes_of (shape_of pages.old.layout self.old.index) }
+        requires takes { TakesValues (shape_of pages.old.layout self.old.index) values.now }
         requires locks { count_of locks.old + 3 ≤ locks.old.limit }
-        requires moving { (x y : AnySpot) → self.old.stage ≡ Stage.Set x y → Tells D.told pages.old → IsMoving (shape_of pages.old.layout at.index) (contents pages.old.layout pages.old.pages at.index) at.range x y }
-        ensures stepped { IfOk result (λ did. Tells D.told pages.old → (r : AnyRow) → r.values ≡ values.now → Stepped (shape_of pages.old.layout at.index) at.actor at.range r (insert_at pages.old.layout pages.old.pages locks.old at.index self.old.stage copied.old self.old.widened) (insert_at pages.old.layout pages.new.pages locks.new at.index self.new.stage copied.new self.new.widened) did) }
-        ensures blocked { IfOk result (BlockedWell D.told at.index at.actor pages.old pages.new locks.old locks.new) }
-        ensures full { IfErr result (SaysFullIn pages.old.layout at.index (λ number. Tells D.told pages.old → StepFull (shape_of pages.old.layout at.index) at.actor at.range (insert_at pages.old.layout pages.old.pages locks.old at.index self.old.stage copied.old self.old.widened) number)) }
-        ensures others { LeavesOthers D.told at.index pages.old pages.new }
-        ensures locks { LeavesLocks (holder locks.old) (holder locks.new) (relation_of pages.old.layout at.index) at.actor }
-        ensures same_index { parts_of self.new.widened.columns ≡ parts_of self.old.widened.columns }
+        requires moving { (x y : AnySpot) → self.old.stage ≡ Stage.Set x y → Tells D.told pages.old → IsMoving (shape_of pages.old.layout self.old.index) (contents pages.old.layout pages.old.pages self.old.index) range x y }
+        ensures stepped { IfOk result (λ did. Tells D.told pages.old → (r : AnyRow) → r.values ≡ values.now → Stepped (shape_of pages.old.layout self.old.index) actor range r (insert_at pages.old.layout pages.old.pages locks.old self.old.index self.old.stage copied.old self.old.widened) (insert_at pages.old.layout pages.new.pages locks.new self.old.index self.new.stage copied.new self.new.widened) did) }
+        ensures stands { IfOk result (λ did. StandsAfter did self.new.stage) }
+        ensures blocked { IfOk result (BlockedWell D.told self.old.index actor pages.old pages.new locks.old locks.new) }
+        ensures full { IfErr result (SaysFullIn pages.old.layout self.old.index (λ number. Tells D.told pages.old → StepFull (shape_of pages.old.layout self.old.index) actor range (insert_at pages.old.layout pages.old.pages locks.old self.old.index self.old.stage copied.old self.old.widened) number)) }
+        ensures others { LeavesOthers D.told self.old.index pages.old pages.new }
+        ensures locks { LeavesLocks (holder locks.old) (holder locks.new) (relation_of pages.old.layout self.old.index) actor }
+        ensures counts { TakesFew locks.old locks.new actor }
+        ensures same_index { self.new.index ≡ self.old.index }
+        ensures same_columns { parts_of self.new.widened.columns ≡ parts_of self.old.widened.columns }
+        ensures same_stage { OnErr result (self.new.stage ≡ self.old.stage) }
+        ensures same_hand { OnErr result (on_index (shape_of pages.old.layout self.old.index) self.old.stage copied.new (tuple_bytes self.new.widened) ≡ on_index (shape_of pages.old.layout self.old.index) self.old.stage copied.old (tuple_bytes self.old.widened)) }
         ensures kept { OnErr result (Keeps D.told pages.old pages.new) }
-        ensures outcome { MachineOutcome D.told (Tells D.told pages.old → DamageAt (shape_of pages.old.layout at.index) (contents pages.old.layout pages.old.pages at.index) at.range self.old.stage) pages.old pages.new result }
+        ensures at { IfErr result (FaultNamesPageOf pages.old.layout self.old.index) }
+        ensures outcome { MachineOutcome D.told (Tells D.told pages.old → DamageAt (shape_of pages.old.layout self.old.index) (contents pages.old.layout pages.old.pages self.old.index) range self.old.stage) pages.old pages.new result }
     {
+        let index = self.index;
+        let at = Within {
+            index,
+            range,
+            actor,
+        };
         let stage = self.stage;
         match step_in(
             pages,

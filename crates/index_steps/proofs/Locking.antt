@@ -1,5 +1,5 @@
 -- locks of an index's pages that are taken
-use Rattle.std.proofs.Common.{◌≡◌, ◌≢◌, ◌⊎◌, inl, inr, ⊎_elim, ℕ, List, [], ◌∷◌, Option, None, Some, refl, sym, ap, subst, ◌∙◌}
+use Rattle.std.proofs.Common.{◌≡◌, ◌≢◌, ◌⊎◌, inl, inr, ⊎_elim, ℕ, ◌+◌, ◌≤◌, List, [], ◌∷◌, Option, None, Some, refl, sym, ap, subst, ◌∙◌, arith}
 use Rattle.std.proofs.lemmas.Option.{none-some, same_Some}
 use Rattle.block_model.specs.declared.place.Place.{Place}
 use Rattle.page_locks.specs.LockChanges.{GivesAll, IsFirstHeld, FirstHeld, LaterHeld, IsFreeFor, IsOneOf, TakesAll, page_of}
@@ -7,7 +7,9 @@ use Rattle.coverage.specs.Changes.{IsFree, OwnLocks}
 use Rattle.coverage.specs.IndexView.{IndexView}
 use Rattle.coverage.specs.Knowing.{IsOneOf as IsAmong, LocksNone, LocksThese}
 use Rattle.coverage.specs.Verdicts.{First, IsFirstLocked, Later}
-use Rattle.index_steps.specs.SwapAnswers.{LeavesLocks}
+use Rattle.page_locks.specs.LockCounts.{AddsAtMost, locks_of}
+use Rattle.page_locks.specs.LockHolders.{LockState, count_of}
+use Rattle.index_steps.specs.SwapAnswers.{LeavesLocks, TakesFew}
 
 -- the two ways to say that a page is one of these
 pub among : (these : List ℕ) (p : ℕ) → IsOneOf these p → IsAmong these p
@@ -70,3 +72,17 @@ gives_apart at s h k gives page other none = by_holder (h page) (k page) refl re
 
 pub same_apart : (at s : ℕ) (h : Place → Option ℕ) → LeavesLocks h h at s
 same_apart at s h page other none = refl
+
+-- few locks are taken
+pub takes_few : (old new : LockState) (s n : ℕ) → n ≤ 3 → new.limit ≡ old.limit → AddsAtMost old new s n → TakesFew old new s
+takes_few old new s n few limit adds = (
+  limit,
+  record {
+    own = let own : locks_of new s ≤ locks_of old s + n = adds.own in omega (arith, few, own);
+    others = adds.others;
+    all = let all : count_of new ≤ count_of old + n = adds.all in omega (arith, few, all);
+  },
+)
+
+pub takes_none : (locks : LockState) (s : ℕ) → TakesFew locks locks s
+takes_none locks s = (refl, record { own = omega arith; others = λ a other. refl; all = omega arith })

@@ -11,6 +11,7 @@ use Rattle.page_store.specs.Outcome.{Outcome, Refused}
 use Rattle.page_store.specs.PageMap.{View}
 use Rattle.page_locks.specs.declared.held.Held.{Held}
 use Rattle.page_locks.specs.LockChanges.{TakesAll}
+use Rattle.page_locks.specs.LockCounts.{AddsAtMost}
 use Rattle.page_locks.specs.LockHolders.{LockState, holder}
 use Rattle.coverage.specs.IndexPart.{with_part}
 use Rattle.coverage.specs.IndexView.{Building, IndexTuple, IndexView, map_page_of}
@@ -21,6 +22,7 @@ use Rattle.index_contents.specs.IndexContents.{IndexContents, relation_of}
 use Rattle.index_steps.specs.declared.swapping.Swapped.{Swapped}
 use Rattle.index_steps.specs.declared.swapping.Swapped.TheVariants as swaps
 use Rattle.index_steps.specs.IndexTuples.{IndexShape}
+use Rattle.index_steps.specs.Readings.{NamesPageOf}
 use Rattle.index_steps.specs.ShownIndex.{Shows, shown_part}
 
 -- the index after a call, whatever the sessions have in hand then
@@ -86,3 +88,12 @@ MachineOutcome told Cause old new (Err faults.Memory) = ⊥
 -- the copied bytes stand there, and so many can't take their place
 abbrev pub MustLeave : IndexContents → Spot → List ℕ → ℕ → Type 0
 MustLeave c x copied need = (c.bytes x ≡ Some copied) × MustMove c.pages x need
+
+-- a step's damage is told by the byte at which a page of the index begins
+abbrev pub FaultNamesPageOf : DiskLayout → (index : ℕ) → MachineFault → Type 0
+FaultNamesPageOf layout index (faults.Store error) = NamesPageOf layout index error
+FaultNamesPageOf layout index fault = Unit {0}
+
+-- the actor holds at most three locks more, each other one as many, and as many as before may be held
+abbrev pub TakesFew : LockState → LockState → (actor : ℕ) → Type 0
+TakesFew old new actor = (new.limit ≡ old.limit) × AddsAtMost old new actor 3

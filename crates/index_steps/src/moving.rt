@@ -12,7 +12,7 @@ ghost use Rattle.index_steps.specs.IndexTuples.{shape_of};
 ghost use Rattle.index_steps.specs.MoveEnds.{DropsIn, IsMoving, SetsIn};
 ghost use Rattle.index_steps.specs.Readings.{NamesPageOf};
 ghost use Rattle.index_steps.specs.ShownIndex.{lock_in};
-ghost use Rattle.index_steps.specs.SwapAnswers.{LeavesLocks};
+ghost use Rattle.index_steps.specs.SwapAnswers.{LeavesLocks, TakesFew};
 
 use crate::reading::page_at;
 use crate::swapping::Within;
@@ -59,6 +59,7 @@ pub fn drop_moved<D: Disk + Drop>(
     ensures given { OnOk result (GivesAll (holder locks.old) (holder locks.new) at.actor) }
     ensures locks { OnErr result (locks.new ≡ locks.old) }
     ensures apart { LeavesLocks (holder locks.old) (holder locks.new) (relation_of pages.old.layout at.index) at.actor }
+    ensures counts { TakesFew locks.old locks.new at.actor }
     ensures kept { OnErr result (Keeps D.told pages.old pages.new) }
     ensures others { LeavesOthers D.told at.index pages.old pages.new }
     ensures at { IfErr result (NamesPageOf pages.old.layout at.index) }

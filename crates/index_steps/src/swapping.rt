@@ -10,7 +10,7 @@ ghost use Rattle.index_contents.specs.IndexContents.{contents, relation_of};
 ghost use Rattle.index_contents.specs.IndexChanges.{LeavesOthers};
 ghost use Rattle.index_steps.specs.IndexTuples.{seen, shape_of};
 ghost use Rattle.index_steps.specs.ShownIndex.{lock_in};
-ghost use Rattle.index_steps.specs.SwapAnswers.{IsSwapFull, LeavesLocks, LocksAfter, MachineOutcome, MustLeave, PagesAfter, SaysSwapFull, SwapMakes, WaitsFor};
+ghost use Rattle.index_steps.specs.SwapAnswers.{FaultNamesPageOf, IsSwapFull, LeavesLocks, LocksAfter, MachineOutcome, MustLeave, PagesAfter, SaysSwapFull, SwapMakes, TakesFew, WaitsFor};
 
 use block_model::{Place, Spot};
 use disk_trait::Disk;
@@ -60,9 +60,11 @@ pub fn swap<D: Disk + Drop>(
     ensures full { IfErr result (SaysSwapFull pages.old.layout at.index (λ number. Tells D.told pages.old → IsSwapFull (shape_of pages.old.layout at.index) (contents pages.old.layout pages.old.pages at.index) (lock_in pages.old.layout locks.old at.index) at.actor at.range spot (seen (shape_of pages.old.layout at.index) copied.now) (seen (shape_of pages.old.layout at.index) bytes.now) number)) }
     ensures locks { IfOk result (LocksAfter (holder locks.old) (holder locks.new) (relation_of pages.old.layout at.index) at.actor at.range spot locks.old locks.new) }
     ensures apart { LeavesLocks (holder locks.old) (holder locks.new) (relation_of pages.old.layout at.index) at.actor }
+    ensures counts { TakesFew locks.old locks.new at.actor }
     ensures pages { IfOk result (PagesAfter D.told pages.old pages.new) }
     ensures kept { OnErr result (Keeps D.told pages.old pages.new) }
     ensures others { LeavesOthers D.told at.index pages.old pages.new }
+    ensures at { IfErr result (FaultNamesPageOf pages.old.layout at.index) }
     ensures outcome { MachineOutcome D.told (Untold D.told pages.old) pages.old pages.new result }
 {
     match pages.ready() {
@@ -106,9 +108,11 @@ fn put_elsewhere<D: Disk + Drop>(
     ensures full { IfErr result (SaysSwapFull pages.old.layout at.index (λ number. Tells D.told pages.old → IsSwapFull (shape_of pages.old.layout at.index) (contents pages.old.layout pages.old.pages at.index) (lock_in pages.old.layout locks.old at.index) at.actor at.range spot (seen (shape_of pages.old.layout at.index) copied.now) (seen (shape_of pages.old.layout at.index) bytes.now) number)) }
     ensures locks { IfOk result (LocksAfter (holder locks.old) (holder locks.new) (relation_of pages.old.layout at.index) at.actor at.range spot locks.old locks.new) }
     ensures apart { LeavesLocks (holder locks.old) (holder locks.new) (relation_of pages.old.layout at.index) at.actor }
+    ensures counts { TakesFew locks.old locks.new at.actor }
     ensures pages { IfOk result (PagesAfter D.told pages.old pages.new) }
     ensures kept { OnErr result (Keeps D.told pages.old pages.new) }
     ensures others { LeavesOthers D.told at.index pages.old pages.new }
+    ensures at { IfErr result (FaultNamesPageOf pages.old.layout at.index) }
     ensures outcome { MachineOutcome D.told (Untold D.told pages.old) pages.old pages.new result }
 {
     a_target_takes_its_tuple();

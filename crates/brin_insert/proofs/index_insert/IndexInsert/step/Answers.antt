@@ -21,6 +21,5 @@ invariant_of-self-in-Err g c =
 pub returns-in-Ok-clause-stepped : goal.returns-in-Ok-clause-stepped
 returns-in-Ok-clause-stepped g c = λ tells r values.
     let old = c.args.pages.now in
-    let at = c.args.at in
-    subst (λ (h : InsertHand). Stepped (shape_of old.layout at.index) at.actor at.range r (insert_at old.layout old.pages c.args.locks.now at.index h.stage c.args.copied.now h.widened)
-    (insert_at old.layout c.step_in.new.pages.pages c.step_in.new.locks at.index c.in-Ok.stage c.step_in.new.copied c.step_in.new.tuple) c.in-Ok.did) c.self.view_is (c.in-Ok.ensures.stepped tells r values)
+    subst (λ (h : InsertHand). Stepped (shape_of old.layout h.index) c.args.actor c.args.range r (insert_at old.layout old.pages c.args.locks.now h.index h.stage c.args.copied.now h.widened)
+    (insert_at old.layout c.step_in.new.pages.pages c.step_in.new.locks h.index c.in-Ok.stage c.step_in.new.copied c.step_in.new.tuple) c.in-Ok.did) c.self.view_is (c.in-Ok.ensures.stepped tells r values)

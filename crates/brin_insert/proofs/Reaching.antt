@@ -1,0 +1,94 @@
+-- an insert that comes to an index, or is complete
+use Rattle.std.proofs.Common.{◌≡◌, ℕ, zero, suc, ◌+◌, ◌<◌, ◌≤◌, false, List, [], ◌∷◌, length, Option, None, Some, refl, sym, ap, subst, ◌∙◌, arith}
+use Rattle.std.specs.Prelude.{slice_get}
+use Rattle.std.specs.Option.{option_map}
+use Rattle.std.proofs.lemmas.List.{length-map}
+use Rattle.std.proofs.lemmas.Option.{none-some, slice_get-map, slice_get_within}
+use Rattle.block_model.specs.declared.place.Spot.{Spot}
+use Rattle.block_model.specs.declared.reply.Point.{Point}
+use Rattle.block_model.specs.declared.row.Row.{Row}
+use Rattle.store_layout.specs.DiskLayout.{DiskLayout}
+use Rattle.page_layout.specs.PageContents.{Slot}
+use Rattle.page_store.specs.PageMap.{PageMap}
+use Rattle.page_locks.specs.declared.did.Did.{Did}
+use Rattle.page_locks.specs.LockHolders.{LockState}
+use Rattle.range_tuple.specs.TupleBytes.{tuple_bytes}
+use Rattle.coverage.specs.Statements.{Empty}
+use Rattle.table_coverage.specs.GoingOn.{IsInserting}
+use Rattle.table_coverage.specs.InOneIndex.{DoesAt}
+use Rattle.table_coverage.specs.Machines.{ShownTable, Unseen, table_state, task_turned}
+use Rattle.table_coverage.specs.Table.{Task, Resting, Reaches, Inserts}
+use Rattle.table_coverage.specs.TableCovered.{IsTableKept}
+use Rattle.table_coverage.specs.TableSteps.{Settles}
+use Rattle.index_steps.specs.IndexTuples.{shape_of}
+use Rattle.brin_insert.specs.declared.insert.Insert.{Insert}
+use Rattle.brin_insert.specs.declared.stage.Stage.{Stage}
+use Rattle.brin_insert.specs.declared.stage.Stage.TheVariants as stages
+use Rattle.brin_insert.specs.InsertAnswers.{InsertDid, InsertGoesTo, account_of}
+use Rattle.brin_insert.specs.InsertHands.{InsertHand}
+use Rattle.brin_insert.specs.InsertSteps.{on_index}
+use Rattle.brin_insert.specs.Inserts.{AsksNothing, HasReached, numbers_in, task_at, task_in, task_of, work_of}
+use Rattle.brin_insert.specs.ShownRows.{shown_by}
+use Rattle.brin_insert.specs.ShownTable.{indexes_of, shown_at}
+use Rattle.brin_insert.proofs.Tasks.{task_is}
+use Rattle.brin_insert.proofs.Turning.{comes_to_index, goes_by, is_complete}
+
+past_end : {X : Type 0} (xs : List X) (i : ℕ) → slice_get xs i ≡ None → length xs ≤ i
+past_end [] i none = omega arith
+past_end (x ∷ xs) zero none = absurd (none-some x (sym none))
+past_end (x ∷ xs) (suc i) none = omega (arith, past_end xs i none)
+
+module _ (layout : DiskLayout) (paged : PageMap) (locked : LockState) (s place : ℕ) (before : Task) (shown : ShownTable) (new : Insert) (r : Row) (x : Spot) (point : Point) (blocks : List (List Slot)) (at : ℕ)
+    (row_is : new.row ≡ r) (placed : new.place ≡ Some x) (at_is : new.at ≡ at) (numbers : numbers_in new.works.items ≡ indexes_of layout r.table) (asks : AsksNothing layout r.table) (inside : at ≤ length (indexes_of layout r.table))
+    (does : (u : Unseen) → u.task s ≡ before → IsTableKept (table_state shown u)
+    → DoesAt s (table_state shown u) (table_state (shown_by layout paged locked r.table blocks) (task_turned s (Reaches x.block x.slot r at) u)) point (account_of before)) where
+  abbrev now : ShownTable
+  now = shown_by layout paged locked r.table blocks
+
+  abbrev between : Task
+  between = Reaches x.block x.slot r at
+
+  many : length new.works.items ≡ length (indexes_of layout r.table)
+  many = sym (length-map new.works.items (λ (h : InsertHand). h.index)) ∙ ap length numbers
+
+  comes : (after : Task) → task_of layout new ≡ after → ((u : Unseen) → Settles s (table_state now (task_turned s between u)) (table_state now (task_turned s after u))) → InsertGoesTo s shown now before (task_of layout new) point
+  comes after is settles = goes_by s shown now before between (task_of layout new) point does
+      (λ u. subst (λ (t : Task). Settles s (table_state now (task_turned s between u)) (table_state now (task_turned s t u))) (sym is) (settles u))
+
+  module _ (none : work_of new ≡ None) where
+    rests : task_of layout new ≡ Resting
+    rests = ap (λ (o : Option Spot). task_at layout new o) placed ∙ ap (λ (o : Option InsertHand). task_in layout x new.row new.at new.copied o) none
+
+    all : at ≡ now.indexes
+    all = let past : length new.works.items ≤ new.at = past_end new.works.items new.at none in omega (arith, past, many, inside, at_is)
+
+    completes : InsertGoesTo s shown now before (task_of layout new) point
+    completes = comes Resting rests (λ u. is_complete s now u x.block x.slot r at all)
+
+  module _ (hand : InsertHand) (got : work_of new ≡ Some hand) (begun : hand.stage ≡ stages.Map) where
+    number : slice_get (indexes_of layout r.table) at ≡ Some hand.index
+    number =
+        ap (λ (l : List ℕ). slice_get l at) (sym numbers) ∙ slice_get-map (λ (h : InsertHand). h.index) new.works.items at
+        ∙ ap (λ (i : ℕ). option_map (λ (h : InsertHand). h.index) (slice_get new.works.items i)) (sym at_is) ∙ ap (option_map (λ (h : InsertHand). h.index)) got
+
+    inserts : task_of layout new ≡ Inserts x.block x.slot r at Empty
+    inserts =
+        task_is layout new x hand placed got
+        ∙ ap (λ (q : Row). Inserts x.block x.slot q new.at (on_index (shape_of layout hand.index) hand.stage new.copied (tuple_bytes hand.widened))) row_is
+        ∙ ap (λ (i : ℕ). Inserts x.block x.slot r i (on_index (shape_of layout hand.index) hand.stage new.copied (tuple_bytes hand.widened))) at_is
+        ∙ ap (λ (q : Stage). Inserts x.block x.slot r at (on_index (shape_of layout hand.index) q new.copied (tuple_bytes hand.widened))) begun
+
+    goes_on : InsertGoesTo s shown now before (task_of layout new) point
+    goes_on = comes (Inserts x.block x.slot r at Empty) inserts
+        (λ u. comes_to_index s now u x.block x.slot r at (slice_get_within (indexes_of layout r.table) at hand.index number)
+        (ap (λ (o : Option ℕ). (shown_at layout paged locked o).autosummarize) number ∙ asks at hand.index number))
+
+    inserting : IsInserting (task_of layout new)
+    inserting = subst (λ (t : Task). IsInserting t) (sym inserts) tt
+
+  pub reaches : (answer : Did) → HasReached point answer (work_of new) → InsertDid s place shown now before (task_of layout new) answer
+  reaches answer reached = by_work (work_of new) refl reached
+    where
+      by_work : (o : Option InsertHand) → work_of new ≡ o → HasReached point answer o → InsertDid s place shown now before (task_of layout new) answer
+      by_work None none is = subst (λ (d : Did). InsertDid s place shown now before (task_of layout new) d) (sym is) (completes none, rests none)
+      by_work (Some hand) got is = subst (λ (d : Did). InsertDid s place shown now before (task_of layout new) d) (sym is.0) (goes_on hand got is.1, inserting hand got is.1)

@@ -1,0 +1,367 @@
+use Rattle.std.proofs.Common.{◌≡◌, ◌≢◌, ◌<◌, ◌≤◌, ℕ, suc, ◌+◌, ◌/◌, List, length, Option, None, Some, set, refl, sym, ap, subst, ◌∙◌, arith}
+use Rattle.std.specs.Vec.{with_item}
+use Rattle.std.proofs.lemmas.Option.{slice_get_within}
+use Rattle.block_model.specs.declared.place.Spot.{Spot}
+use Rattle.block_model.specs.declared.value.Value.{Value}
+use Rattle.store_layout.specs.DiskLayout.{DiskLayout}
+use Rattle.page_store.specs.Keeps.{Tells, Untold}
+use Rattle.page_locks.specs.declared.did.Did.TheVariants as did
+use Rattle.page_locks.specs.LockHolders.{holder}
+use Rattle.heap_rows.specs.Heaps.{slots_a_page}
+use Rattle.index_contents.specs.IndexContents.{contents, relation_of}
+use Rattle.index_steps.specs.IndexTuples.{TakesValues, index_at, shape_of}
+use Rattle.index_steps.specs.MoveEnds.{IsMoving}
+use Rattle.index_steps.specs.SwapAnswers.{LeavesLocks}
+use Rattle.range_tuple.specs.TupleBytes.{tuple_bytes}
+use Rattle.brin_insert.specs.declared.stage.Stage.{Stage}
+use Rattle.brin_insert.specs.declared.stage.Stage.TheVariants as stages
+use Rattle.brin_insert.specs.InsertHands.{InsertHand}
+use Rattle.brin_insert.specs.InsertSteps.{IsAtWork, Stepped, insert_at}
+use Rattle.brin_insert.specs.ShownRows.{rows_in}
+use Rattle.brin_insert.specs.StepAnswers.{DamageAt}
+use Rattle.brin_insert.proofs.InTable.{blocked, finished, moved, row_stepped}
+use Rattle.brin_insert.proofs.Numbers.{number_within}
+use Rattle.brin_insert.proofs.Outcomes.{index_full, index_names, index_next, index_others, machine_for}
+use Rattle.brin_insert.proofs.Tasks.{got_set, is_at_work, kept_at, left_with, made_then, made_with, number_there, own_then, range_is, same_numbers, task_stays, tuple_there, tuples_then, work_there}
+use Rattle.brin_insert.proofs.insert.Insert.step.Goals as goal
+
+pub range_in-range-requires : goal.range_in-range-requires
+range_in-range-requires g c =
+    let store = c.args.pages.now in
+    let old = c.args.self.now in
+    let x = c.in-Some.spot in
+    let e = c.index_mut-work.result.now in
+    let got = work_there old x e c.in-Some.is c.requires.left c.index_mut-work.ensures.value in
+    let there = number_there store.layout old old.at e c.requires.made got in
+    omega (arith, c.index.ensures, ap (λ (l : DiskLayout). length l.schema.indexes) c.layout.ensures, number_within store.layout old.row.table old.at e.index there)
+
+pub step-requires-clause-index : goal.step-requires-clause-index
+step-requires-clause-index g c =
+    let store = c.args.pages.now in
+    let old = c.args.self.now in
+    let x = c.in-Some.spot in
+    let e = c.index_mut-work.result.now in
+    let got = work_there old x e c.in-Some.is c.requires.left c.index_mut-work.ensures.value in
+    let there = number_there store.layout old old.at e c.requires.made got in
+    number_within store.layout old.row.table old.at e.index there
+
+pub step-requires-clause-work : goal.step-requires-clause-work
+step-requires-clause-work g c =
+    let store = c.args.pages.now in
+    let old = c.args.self.now in
+    let x = c.in-Some.spot in
+    let e = c.index_mut-work.result.now in
+    let got = work_there old x e c.in-Some.is c.requires.left c.index_mut-work.ensures.value in
+    is_at_work old x e c.in-Some.is c.requires.left got
+
+pub step-requires-clause-tuple : goal.step-requires-clause-tuple
+step-requires-clause-tuple g c =
+    let store = c.args.pages.now in
+    let old = c.args.self.now in
+    let x = c.in-Some.spot in
+    let e = c.index_mut-work.result.now in
+    let got = work_there old x e c.in-Some.is c.requires.left c.index_mut-work.ensures.value in
+    tuple_there store.layout old old.at e c.requires.made got
+
+pub step-requires-clause-takes : goal.step-requires-clause-takes
+step-requires-clause-takes g c =
+    let store = c.args.pages.now in
+    let old = c.args.self.now in
+    let x = c.in-Some.spot in
+    let e = c.index_mut-work.result.now in
+    let got = work_there old x e c.in-Some.is c.requires.left c.index_mut-work.ensures.value in
+    let there = number_there store.layout old old.at e c.requires.made got in
+    subst (λ (values : List Value). TakesValues (shape_of store.layout e.index) values) (sym c.as_slice-values.ensures.values) (c.requires.made.taken old.at e.index there)
+
+pub step-requires-clause-moving : goal.step-requires-clause-moving
+step-requires-clause-moving g c = λ from to is tells.
+    let store = c.args.pages.now in
+    let old = c.args.self.now in
+    let x = c.in-Some.spot in
+    let e = c.index_mut-work.result.now in
+    let got = work_there old x e c.in-Some.is c.requires.left c.index_mut-work.ensures.value in
+    let there = number_there store.layout old old.at e c.requires.made got in
+    let ranged : c.range_in-range.result ≡ x.block / (index_at store.layout e.index).pages_per_range = range_is store.layout c.layout.result.now e.index c.index.result x.block c.range_in-range.result c.range_in-range.ensures c.layout.ensures c.index.ensures in
+    subst (λ (m : ℕ). IsMoving (shape_of store.layout e.index) (contents store.layout store.pages e.index) m from to) (sym ranged)
+    (c.a_kept_table_is_read.ensures.moving store.layout store.pages c.args.locks.now c.args.actor old.row.table old.at e.index x.block x.slot old.row from to old.copied (tuple_bytes e.widened) there
+    (kept_at store.layout store.pages c.args.locks.now c.args.actor old x e (stages.Set from to) c.in-Some.is got is (c.requires.kept tells)))
+
+pub overflow_add-self : goal.overflow_add-self
+overflow_add-self g c =
+    let store = c.args.pages.now in
+    let old = c.args.self.now in
+    let x = c.in-Some.spot in
+    let e = c.index_mut-work.result.now in
+    let got = work_there old x e c.in-Some.is c.requires.left c.index_mut-work.ensures.value in
+    let below : old.at < length old.works.items = slice_get_within old.works.items old.at e got in
+    omega (arith, below, old.works.ok, old.works.small)
+
+pub returns-in-Ok-clause-stepped : goal.returns-in-Ok-clause-stepped
+returns-in-Ok-clause-stepped g c = λ tells blocks has.
+    let store = c.args.pages.now in
+    let old = c.args.self.now in
+    let rest = c.reach-did.ensures.rest in
+    row_stepped c.a_row_is_put_in_its_table.ensures store.layout store.pages c.put.new.pages.pages c.args.locks.now c.args.actor old c.reach-did.new.self c.in-Ok.spot c.as_slice.result.now blocks c.requires.made c.in-None.is
+    rest.1 rest.0 rest.2 c.reach-did.ensures.numbers c.as_slice.ensures.values
+    (record {
+      declared = c.requires.made.table;
+      has = has;
+      place = c.in-Ok.ensures.place tells blocks has;
+      fills = c.in-Ok.ensures.slots tells blocks has;
+      within = c.in-Ok.ensures.within;
+      others = c.put.ensures.others.pages tells;
+    })
+    (c.in-Ok.ensures.put tells blocks has) c.reach-did.result c.reach-did.ensures.reached
+
+pub returns-in-Ok-Moved-clause-stepped : goal.returns-in-Ok-Moved-clause-stepped
+returns-in-Ok-Moved-clause-stepped g c = λ tells blocks has.
+    let store = c.args.pages.now in
+    let old = c.args.self.now in
+    let x = c.in-Some.spot in
+    let e = c.index_mut-work.result.now in
+    let got = work_there old x e c.in-Some.is c.requires.left c.index_mut-work.ensures.value in
+    let ranged : c.range_in-range.result ≡ x.block / (index_at store.layout e.index).pages_per_range = range_is store.layout c.layout.result.now e.index c.index.result x.block c.range_in-range.result c.range_in-range.ensures c.layout.ensures c.index.ensures in
+    let next = c.step.new.self in
+    let below : old.at < length old.works.items = slice_get_within old.works.items old.at e got in
+    let found = got_set old.works.items old.at next below in
+    let came = rw c.in-Ok-Moved.field-0-is at c.in-Ok-Moved.ensures.stepped in
+    moved c.an_insert_steps_in_its_table.ensures.steps c.an_insert_steps_in_its_table.ensures.waits store.layout store.pages c.step.new.pages.pages c.args.locks.now c.step.new.locks c.args.actor old _ x e next c.step.new.copied blocks
+    c.requires.made c.in-Some.is got c.in-Some.is refl c.step.ensures.same_index has (c.step.ensures.others.pages tells) (c.step.ensures.others.indexes tells) c.step.ensures.locks
+    c.in-Ok-Moved.point (subst (λ (m : ℕ). Stepped (shape_of store.layout e.index) c.args.actor m old.row (insert_at store.layout store.pages c.args.locks.now e.index e.stage old.copied e.widened) (insert_at store.layout c.step.new.pages.pages c.step.new.locks e.index next.stage c.step.new.copied next.widened) (did.Moved c.in-Ok-Moved.point)) ranged (came tells old.row (sym c.as_slice-values.ensures.values)))
+    refl refl found
+
+pub returns-in-Ok-Blocked-clause-stepped : goal.returns-in-Ok-Blocked-clause-stepped
+returns-in-Ok-Blocked-clause-stepped g c = λ tells blocks has.
+    let store = c.args.pages.now in
+    let old = c.args.self.now in
+    let x = c.in-Some.spot in
+    let e = c.index_mut-work.result.now in
+    let got = work_there old x e c.in-Some.is c.requires.left c.index_mut-work.ensures.value in
+    let ranged : c.range_in-range.result ≡ x.block / (index_at store.layout e.index).pages_per_range = range_is store.layout c.layout.result.now e.index c.index.result x.block c.range_in-range.result c.range_in-range.ensures c.layout.ensures c.index.ensures in
+    let next = c.step.new.self in
+    let below : old.at < length old.works.items = slice_get_within old.works.items old.at e got in
+    let found = got_set old.works.items old.at next below in
+    let came = rw c.in-Ok-Blocked.field-0-is at c.in-Ok-Blocked.ensures.stepped in
+    blocked c.an_insert_steps_in_its_table.ensures.steps c.an_insert_steps_in_its_table.ensures.waits store.layout store.pages c.step.new.pages.pages c.args.locks.now c.step.new.locks c.args.actor old _ x e next c.step.new.copied blocks
+    c.requires.made c.in-Some.is got c.in-Some.is refl c.step.ensures.same_index has (c.step.ensures.others.pages tells) (c.step.ensures.others.indexes tells) c.step.ensures.locks
+    c.in-Ok-Blocked.held (subst (λ (m : ℕ). Stepped (shape_of store.layout e.index) c.args.actor m old.row (insert_at store.layout store.pages c.args.locks.now e.index e.stage old.copied e.widened) (insert_at store.layout c.step.new.pages.pages c.step.new.locks e.index next.stage c.step.new.copied next.widened) (did.Blocked c.in-Ok-Blocked.held)) ranged (came tells old.row (sym c.as_slice-values.ensures.values)))
+    refl refl found
+
+pub returns-in-Ok-Finished-clause-stepped : goal.returns-in-Ok-Finished-clause-stepped
+returns-in-Ok-Finished-clause-stepped g c = λ tells blocks has.
+    let store = c.args.pages.now in
+    let old = c.args.self.now in
+    let x = c.in-Some.spot in
+    let e = c.index_mut-work.result.now in
+    let got = work_there old x e c.in-Some.is c.requires.left c.index_mut-work.ensures.value in
+    let ranged : c.range_in-range.result ≡ x.block / (index_at store.layout e.index).pages_per_range = range_is store.layout c.layout.result.now e.index c.index.result x.block c.range_in-range.result c.range_in-range.ensures c.layout.ensures c.index.ensures in
+    let next = c.step.new.self in
+    let below : old.at < length old.works.items = slice_get_within old.works.items old.at e got in
+    let found = got_set old.works.items old.at next below in
+    let next_at : c.reach-answer.new.self.at ≡ suc old.at = omega (arith, c.reach-answer.ensures.rest.2) in
+    let came = rw c.in-Ok-Finished.field-0-is at c.in-Ok-Finished.ensures.stepped in
+    finished c.an_insert_steps_in_its_table.ensures.steps c.an_insert_steps_in_its_table.ensures.waits store.layout store.pages c.step.new.pages.pages c.args.locks.now c.step.new.locks c.args.actor old c.reach-answer.new.self x e next c.step.new.copied blocks
+    c.requires.made c.in-Some.is got (c.reach-answer.ensures.rest.1 ∙ c.in-Some.is) c.reach-answer.ensures.rest.0 c.step.ensures.same_index has (c.step.ensures.others.pages tells) (c.step.ensures.others.indexes tells) c.step.ensures.locks
+    c.in-Ok-Finished.point (subst (λ (m : ℕ). Stepped (shape_of store.layout e.index) c.args.actor m old.row (insert_at store.layout store.pages c.args.locks.now e.index e.stage old.copied e.widened) (insert_at store.layout c.step.new.pages.pages c.step.new.locks e.index next.stage c.step.new.copied next.widened) (did.Finished c.in-Ok-Finished.point)) ranged (came tells old.row (sym c.as_slice-values.ensures.values)))
+    next_at (c.reach-answer.ensures.numbers ∙ same_numbers old.works.items old.at e next got c.step.ensures.same_index) c.reach-answer.result c.reach-answer.ensures.reached
+
+pub returns-in-Ok-Moved-clause-left : goal.returns-in-Ok-Moved-clause-left
+returns-in-Ok-Moved-clause-left g c =
+    let store = c.args.pages.now in
+    let old = c.args.self.now in
+    let x = c.in-Some.spot in
+    let e = c.index_mut-work.result.now in
+    let got = work_there old x e c.in-Some.is c.requires.left c.index_mut-work.ensures.value in
+    let next = c.step.new.self in
+    let below : old.at < length old.works.items = slice_get_within old.works.items old.at e got in
+    let found = got_set old.works.items old.at next below in
+    let stands = rw c.in-Ok-Moved.field-0-is at c.in-Ok-Moved.ensures.stands in
+    left_with old.place (set old.works.items old.at next) old.at x next c.in-Some.is found stands
+
+pub returns-in-Ok-Moved-clause-made : goal.returns-in-Ok-Moved-clause-made
+returns-in-Ok-Moved-clause-made g c =
+    let store = c.args.pages.now in
+    let old = c.args.self.now in
+    let x = c.in-Some.spot in
+    let e = c.index_mut-work.result.now in
+    let got = work_there old x e c.in-Some.is c.requires.left c.index_mut-work.ensures.value in
+    let next = c.step.new.self in
+    let below : old.at < length old.works.items = slice_get_within old.works.items old.at e got in
+    let found = got_set old.works.items old.at next below in
+    let own = own_then store.layout e next c.step.ensures.same_index c.step.ensures.same_columns (tuple_there store.layout old old.at e c.requires.made got) in
+    made_with store.layout old _ e next c.requires.made refl got c.step.ensures.same_index own refl
+
+pub returns-in-Ok-Blocked-clause-left : goal.returns-in-Ok-Blocked-clause-left
+returns-in-Ok-Blocked-clause-left g c =
+    let store = c.args.pages.now in
+    let old = c.args.self.now in
+    let x = c.in-Some.spot in
+    let e = c.index_mut-work.result.now in
+    let got = work_there old x e c.in-Some.is c.requires.left c.index_mut-work.ensures.value in
+    let next = c.step.new.self in
+    let below : old.at < length old.works.items = slice_get_within old.works.items old.at e got in
+    let found = got_set old.works.items old.at next below in
+    let stands = rw c.in-Ok-Blocked.field-0-is at c.in-Ok-Blocked.ensures.stands in
+    left_with old.place (set old.works.items old.at next) old.at x next c.in-Some.is found stands
+
+pub returns-in-Ok-Blocked-clause-made : goal.returns-in-Ok-Blocked-clause-made
+returns-in-Ok-Blocked-clause-made g c =
+    let store = c.args.pages.now in
+    let old = c.args.self.now in
+    let x = c.in-Some.spot in
+    let e = c.index_mut-work.result.now in
+    let got = work_there old x e c.in-Some.is c.requires.left c.index_mut-work.ensures.value in
+    let next = c.step.new.self in
+    let below : old.at < length old.works.items = slice_get_within old.works.items old.at e got in
+    let found = got_set old.works.items old.at next below in
+    let own = own_then store.layout e next c.step.ensures.same_index c.step.ensures.same_columns (tuple_there store.layout old old.at e c.requires.made got) in
+    made_with store.layout old _ e next c.requires.made refl got c.step.ensures.same_index own refl
+
+pub returns-in-Err-step-clause-made : goal.returns-in-Err-step-clause-made
+returns-in-Err-step-clause-made g c =
+    let store = c.args.pages.now in
+    let old = c.args.self.now in
+    let x = c.in-Some.spot in
+    let e = c.index_mut-work.result.now in
+    let got = work_there old x e c.in-Some.is c.requires.left c.index_mut-work.ensures.value in
+    let next = c.step.new.self in
+    let below : old.at < length old.works.items = slice_get_within old.works.items old.at e got in
+    let found = got_set old.works.items old.at next below in
+    let own = own_then store.layout e next c.step.ensures.same_index c.step.ensures.same_columns (tuple_there store.layout old old.at e c.requires.made got) in
+    made_with store.layout old _ e next c.requires.made refl got c.step.ensures.same_index own refl
+
+pub returns-in-Ok-Finished-clause-made : goal.returns-in-Ok-Finished-clause-made
+returns-in-Ok-Finished-clause-made g c =
+    let store = c.args.pages.now in
+    let old = c.args.self.now in
+    let x = c.in-Some.spot in
+    let e = c.index_mut-work.result.now in
+    let got = work_there old x e c.in-Some.is c.requires.left c.index_mut-work.ensures.value in
+    let next = c.step.new.self in
+    let below : old.at < length old.works.items = slice_get_within old.works.items old.at e got in
+    let found = got_set old.works.items old.at next below in
+    let own = own_then store.layout e next c.step.ensures.same_index c.step.ensures.same_columns (tuple_there store.layout old old.at e c.requires.made got) in
+    made_then store.layout old c.reach-answer.new.self c.requires.made c.reach-answer.ensures.rest.0 (c.reach-answer.ensures.numbers ∙ same_numbers old.works.items old.at e next got c.step.ensures.same_index)
+    (c.reach-answer.ensures.tuples store.layout (tuples_then old.works.items old.at e next got c.step.ensures.same_index store.layout own c.requires.made.tuples))
+
+pub returns-in-Ok-Moved-clause-others : goal.returns-in-Ok-Moved-clause-others
+returns-in-Ok-Moved-clause-others g c =
+    let store = c.args.pages.now in
+    let old = c.args.self.now in
+    let x = c.in-Some.spot in
+    let e = c.index_mut-work.result.now in
+    let got = work_there old x e c.in-Some.is c.requires.left c.index_mut-work.ensures.value in
+    index_others g.D.Disk.told store c.args.locks.now c.args.actor c.range_in-range.result old x e c.requires.made c.in-Some.is got c.step.new.pages c.step.ensures.others
+
+pub returns-in-Ok-Moved-clause-locks : goal.returns-in-Ok-Moved-clause-locks
+returns-in-Ok-Moved-clause-locks g c =
+    let store = c.args.pages.now in
+    let old = c.args.self.now in
+    let x = c.in-Some.spot in
+    let e = c.index_mut-work.result.now in
+    let got = work_there old x e c.in-Some.is c.requires.left c.index_mut-work.ensures.value in
+    subst (λ (relation : ℕ). LeavesLocks (holder c.args.locks.now) (holder c.step.new.locks) relation c.args.actor) (sym (index_next store.layout old x e c.in-Some.is got)) c.step.ensures.locks
+
+pub returns-in-Ok-Finished-clause-others : goal.returns-in-Ok-Finished-clause-others
+returns-in-Ok-Finished-clause-others g c =
+    let store = c.args.pages.now in
+    let old = c.args.self.now in
+    let x = c.in-Some.spot in
+    let e = c.index_mut-work.result.now in
+    let got = work_there old x e c.in-Some.is c.requires.left c.index_mut-work.ensures.value in
+    index_others g.D.Disk.told store c.args.locks.now c.args.actor c.range_in-range.result old x e c.requires.made c.in-Some.is got c.step.new.pages c.step.ensures.others
+
+pub returns-in-Ok-Finished-clause-locks : goal.returns-in-Ok-Finished-clause-locks
+returns-in-Ok-Finished-clause-locks g c =
+    let store = c.args.pages.now in
+    let old = c.args.self.now in
+    let x = c.in-Some.spot in
+    let e = c.index_mut-work.result.now in
+    let got = work_there old x e c.in-Some.is c.requires.left c.index_mut-work.ensures.value in
+    subst (λ (relation : ℕ). LeavesLocks (holder c.args.locks.now) (holder c.step.new.locks) relation c.args.actor) (sym (index_next store.layout old x e c.in-Some.is got)) c.step.ensures.locks
+
+pub returns-in-Err-step-clause-locks : goal.returns-in-Err-step-clause-locks
+returns-in-Err-step-clause-locks g c =
+    let store = c.args.pages.now in
+    let old = c.args.self.now in
+    let x = c.in-Some.spot in
+    let e = c.index_mut-work.result.now in
+    let got = work_there old x e c.in-Some.is c.requires.left c.index_mut-work.ensures.value in
+    subst (λ (relation : ℕ). LeavesLocks (holder c.args.locks.now) (holder c.step.new.locks) relation c.args.actor) (sym (index_next store.layout old x e c.in-Some.is got)) c.step.ensures.locks
+
+pub returns-in-Ok-Blocked-clause-blocked : goal.returns-in-Ok-Blocked-clause-blocked
+returns-in-Ok-Blocked-clause-blocked g c =
+    let store = c.args.pages.now in
+    let old = c.args.self.now in
+    let x = c.in-Some.spot in
+    let e = c.index_mut-work.result.now in
+    let got = work_there old x e c.in-Some.is c.requires.left c.index_mut-work.ensures.value in
+    let waits = rw c.in-Ok-Blocked.field-0-is at c.in-Ok-Blocked.ensures.blocked in
+    (waits.0.0 ∙ sym (index_next store.layout old x e c.in-Some.is got), waits.0.1, waits.0.2, waits.1, waits.2)
+
+pub returns-in-Err-step-clause-full : goal.returns-in-Err-step-clause-full
+returns-in-Err-step-clause-full g c =
+    let store = c.args.pages.now in
+    let old = c.args.self.now in
+    let x = c.in-Some.spot in
+    let e = c.index_mut-work.result.now in
+    let got = work_there old x e c.in-Some.is c.requires.left c.index_mut-work.ensures.value in
+    let there = number_there store.layout old old.at e c.requires.made got in
+    let ranged : c.range_in-range.result ≡ x.block / (index_at store.layout e.index).pages_per_range = range_is store.layout c.layout.result.now e.index c.index.result x.block c.range_in-range.result c.range_in-range.ensures c.layout.ensures c.index.ensures in
+    index_full g.D.Disk.told store c.args.locks.now c.args.actor c.range_in-range.result old x e c.requires.made c.in-Some.is got
+    (λ blocks number lacks. c.an_insert_steps_in_its_table.ensures.full store.layout store.pages c.args.locks.now old.row.table (slots_a_page store.layout old.row.table) (length blocks) old.at e.index c.args.actor x.block x.slot number (rows_in old.row.table blocks) old.row e.stage old.copied e.widened there lacks)
+    c.in-Err-step.fault ranged c.in-Err-step.ensures.full
+
+pub returns-in-Err-step-clause-stays : goal.returns-in-Err-step-clause-stays
+returns-in-Err-step-clause-stays g c =
+    let store = c.args.pages.now in
+    let old = c.args.self.now in
+    let x = c.in-Some.spot in
+    let e = c.index_mut-work.result.now in
+    let got = work_there old x e c.in-Some.is c.requires.left c.index_mut-work.ensures.value in
+    let next = c.step.new.self in
+    let below : old.at < length old.works.items = slice_get_within old.works.items old.at e got in
+    let found = got_set old.works.items old.at next below in
+    task_stays store.layout old (record old { works = with_item old.works old.at next; copied = c.step.new.copied }) x e next c.in-Some.is c.in-Some.is refl refl got found c.step.ensures.same_index c.in-Err-step.ensures.same_stage c.in-Err-step.ensures.same_hand
+
+pub returns-in-Err-step-clause-still_left : goal.returns-in-Err-step-clause-still_left
+returns-in-Err-step-clause-still_left g c =
+    let store = c.args.pages.now in
+    let old = c.args.self.now in
+    let x = c.in-Some.spot in
+    let e = c.index_mut-work.result.now in
+    let got = work_there old x e c.in-Some.is c.requires.left c.index_mut-work.ensures.value in
+    let next = c.step.new.self in
+    let below : old.at < length old.works.items = slice_get_within old.works.items old.at e got in
+    let found = got_set old.works.items old.at next below in
+    left_with old.place (set old.works.items old.at next) old.at x next c.in-Some.is found (subst (λ (q : Stage). IsAtWork q) (sym c.in-Err-step.ensures.same_stage) (is_at_work old x e c.in-Some.is c.requires.left got))
+
+pub returns-in-Err-step-clause-at : goal.returns-in-Err-step-clause-at
+returns-in-Err-step-clause-at g c =
+    let store = c.args.pages.now in
+    let old = c.args.self.now in
+    let x = c.in-Some.spot in
+    let e = c.index_mut-work.result.now in
+    let got = work_there old x e c.in-Some.is c.requires.left c.index_mut-work.ensures.value in
+    index_names g.D.Disk.told store c.args.locks.now c.args.actor c.range_in-range.result old x e c.requires.made c.in-Some.is got c.in-Err-step.fault c.in-Err-step.ensures.at
+
+pub returns-in-Err-step-clause-outcome : goal.returns-in-Err-step-clause-outcome
+returns-in-Err-step-clause-outcome g c =
+    let store = c.args.pages.now in
+    let old = c.args.self.now in
+    let x = c.in-Some.spot in
+    let e = c.index_mut-work.result.now in
+    let got = work_there old x e c.in-Some.is c.requires.left c.index_mut-work.ensures.value in
+    let there = number_there store.layout old old.at e c.requires.made got in
+    let ranged : c.range_in-range.result ≡ x.block / (index_at store.layout e.index).pages_per_range = range_is store.layout c.layout.result.now e.index c.index.result x.block c.range_in-range.result c.range_in-range.ensures c.layout.ensures c.index.ensures in
+    machine_for g.D.Disk.told (Tells g.D.Disk.told store → DamageAt (shape_of store.layout e.index) (contents store.layout store.pages e.index) c.range_in-range.result e.stage) (Untold g.D.Disk.told store) store c.step.new.pages c.in-Err-step.fault
+    (λ cause tells. c.a_kept_table_is_read.ensures.undamaged store.layout store.pages c.args.locks.now c.args.actor old.row.table old.at e.index x.block x.slot old.row e.stage old.copied (tuple_bytes e.widened) there
+    (kept_at store.layout store.pages c.args.locks.now c.args.actor old x e e.stage c.in-Some.is got refl (c.requires.kept tells))
+    (subst (λ (m : ℕ). DamageAt (shape_of store.layout e.index) (contents store.layout store.pages e.index) m e.stage) ranged (cause tells)))
+    c.in-Err-step.ensures.outcome
+
+pub returns-in-Ok-clause-made : goal.returns-in-Ok-clause-made
+returns-in-Ok-clause-made g c =
+    let store = c.args.pages.now in
+    let old = c.args.self.now in
+    made_then store.layout old c.reach-did.new.self c.requires.made c.reach-did.ensures.rest.0 c.reach-did.ensures.numbers (c.reach-did.ensures.tuples store.layout c.requires.made.tuples)

@@ -1,0 +1,194 @@
+//! An insert over all indexes of its table.
+
+ghost use Rattle.std.specs.Prelude.{◌≡◌, ◌+◌, ◌/◌, ◌<◌, ◌≤◌, All, ℕ, List, None, Some, length, map, set, slice_get, slice_index_or, IfOk, IfErr, IfSome, OnErr};
+ghost use Rattle.block_model.specs.declared.place.Spot.{Spot as AnySpot};
+ghost use Rattle.block_model.specs.declared.row.Row.{Row as AnyRow};
+ghost use Rattle.store_layout.specs.DiskLayout.{DiskLayout};
+ghost use Rattle.page_layout.specs.RowBytes.{HaveKinds};
+ghost use Rattle.page_store.specs.Keeps.{Keeps, Tells, Untold};
+ghost use Rattle.page_locks.specs.LockHolders.{count_of, holder};
+ghost use Rattle.heap_rows.specs.HeapBlocks.{OfBlocks};
+ghost use Rattle.heap_rows.specs.Heaps.{kinds_at};
+ghost use Rattle.index_steps.specs.IndexTuples.{TakesValues, index_at, shape_of};
+ghost use Rattle.index_steps.specs.SwapAnswers.{LeavesLocks, MachineOutcome, TakesFew};
+ghost use Rattle.brin_insert.specs.InsertAnswers.{BlockedOn, FaultNamesRelation, InsertStepped, IsInsertFull, IsLeftBy, LeavesOtherRelations, SaysInsertFull, relation_at};
+ghost use Rattle.brin_insert.specs.InsertHands.{InsertHand};
+ghost use Rattle.brin_insert.specs.Inserts.{AsksNothing, HasReached, HasStepLeft, IsInsertFor, IsOfItsIndex, numbers_in, task_of, work_of};
+ghost use Rattle.brin_insert.specs.ShownRows.{ShowsKept, shown_by};
+ghost use Rattle.brin_insert.specs.ShownTable.{indexes_of};
+
+use crate::index_insert::IndexInsert;
+use crate::indexes::{declared_index, index_count, range_in};
+use crate::laws::{a_kept_table_is_read, a_row_is_put_in_its_table, an_insert_steps_in_its_table};
+use block_model::{NoMemory, Point, Row, Spot};
+use disk_trait::Disk;
+use heap_rows::put;
+use index_steps::rows_of_the_table_are_taken;
+use page_locks::{Did, Locks};
+use page_store::{MachineFault, PageStore};
+use range_store::Scratch;
+use std::alloc::Global;
+use store_layout::Layout;
+
+/// An insert of a row into its table, none of whose indexes asks for summaries: where the row stands, once it is put; the index that
+/// is next, by its place among the table's; and the work in each of them.
+#[derive(Debug, Drop)]
+pub struct Insert {
+    row: Row,
+    place: Option<Spot>,
+    at: usize,
+    works: Vec<IndexInsert>,
+    copied: Scratch,
+}
+
+impl Insert {
+    /// Before its first step. Takes all the memory that it ever needs.
+    pub fn new(alloc: Global, row: Row, layout: &Layout) -> Result<Insert, NoMemory>
+        requires table { row.table < length layout.now.schema.tables }
+        requires kinds { HaveKinds (kinds_at layout.now row.table) row.values }
+        requires asks { AsksNothing layout.now row.table }
+        ensures made { IfOk result (IsInsertFor layout.now) }
+        ensures begins { IfOk result (λ insert. (insert.row ≡ row) × (insert.place ≡ None)) }
+    {
+        rows_are_taken(layout, &row);
+        let works = works_for(alloc, layout, row.table)?;
+        let copied = Scratch::new(alloc)?;
+        Ok(Insert {
+            row,
+            place: None,
+            at: 0,
+            works,
+            copied,
+        })
+    }
+
+    /// Before its first step, for another row of the table. Takes no memory.
+    pub fn begin(&mut self, row: Row, layout: &Layout)
+        requires made { IsInsertFor layout.now self.old }
+        requires table { row.table ≡ self.old.row.table }
+        requires kinds { HaveKinds (kinds_at layout.now row.table) row.values }
+        ensures made { IsInsertFor layout.now self.new }
+        ensures begins { (self.new.row ≡ row) × (self.new.place ≡ None) }
+    {
+        rows_are_taken(layout, &row);
+        self.row = row;
+        self.place = None;
+    }
+
+    /// Where the row stands; nowhere before the first step.
+    pub fn place(&self) -> Option<Spot>
+        ensures { result ≡ self.now.place }
+    {
+        self.place
+    }
+
+    /// The next step, over any pages that show a kept table in which the session has this insert in hand: the row is put, or the next
+    /// step in the index that is next is made. `Finished` comes with the last one. Blocked, by page and holder, where another session
+    /// locks a page that the step changes; Full, with its number, exactly where no place is left for the row, or no page of the index
+    /// for the tuple with the row. Damage is told only where the disk doesn't tell its contents. Where the step is blocked nothing is
+    /// changed, and after an error no page is. Takes no memory.
+    pub fn step<D: Disk + Drop>(
+        &mut self,
+        pages: &mut PageStore<D>,
+        locks: &mut Locks,
+        actor: u32,
+    ) -> Result<Did, MachineFault>
+        requires made { IsInsertFor pages.old.layout self.old }
+        requires left { HasStepLeft self.old }
+        requires locks { count_of locks.old + 3 ≤ locks.old.limit }
+        requires kept { Tells D.told pages.old → ShowsKept pages.old.layout pages.old.pages locks.old actor self.old.row.table (task_of pages.old.layout self.old) }
+        ensures stepped { IfOk result (λ did. OfBlocks D.told pages.old self.old.row.table (InsertStepped pages.old.layout pages.old.pages pages.new.pages locks.old locks.new actor self.old self.new did)) }
+        ensures left { IfOk result (IsLeftBy self.new) }
+        ensures blocked { IfOk result (BlockedOn D.told (relation_at pages.old.layout self.old) actor pages.old pages.new locks.old locks.new) }
+        ensures full { IfErr result (SaysInsertFull (relation_at pages.old.layout self.old) (λ number. OfBlocks D.told pages.old self.old.row.table (λ blocks. IsInsertFull actor self.old.at (shown_by pages.old.layout pages.old.pages locks.old self.old.row.table blocks) (task_of pages.old.layout self.old) number))) }
+        ensures made { IsInsertFor pages.old.layout self.new }
+        ensures same_row { self.new.row ≡ self.old.row }
+        ensures stays { OnErr result (task_of pages.old.layout self.new ≡ task_of pages.old.layout self.old) }
+        ensures still_left { OnErr result (HasStepLeft self.new) }
+        ensures others { LeavesOtherRelations D.told (relation_at pages.old.layout self.old) pages.old pages.new }
+        ensures locks { LeavesLocks (holder locks.old) (holder locks.new) (relation_at pages.old.layout self.old) actor }
+        ensures counts { TakesFew locks.old locks.new actor }
+        ensures kept { OnErr result (Keeps D.told pages.old pages.new) }
+        ensures at { IfErr result (FaultNamesRelation pages.old.layout (relation_at pages.old.layout self.old)) }
+        ensures outcome { MachineOutcome D.told (Untold D.told pages.old) pages.old pages.new result }
+    {
+        an_insert_steps_in_its_table();
+        a_kept_table_is_read();
+        a_row_is_put_in_its_table();
+        match self.place {
+            None => match put(
+                pages,
+                self.row.table,
+                self.row.id,
+                self.row.values.as_slice(),
+            ) {
+                Ok(spot) => {
+                    self.place = Some(spot);
+                    self.at = 0;
+                    let did = self.reach(Point::Row);
+                    Ok(did)
+                }
+                Err(fault) => Err(fault),
+            },
+            Some(spot) => {
+                let at = self.at;
+                let values = self.row.values.as_slice();
+                let copied = &mut self.copied;
+                let work = &mut self.works[at];
+                let range = range_in(pages.layout(), work.index(), spot.block);
+                match work.step(pages, locks, range, actor, values, copied) {
+                    Ok(Did::Moved(point)) => Ok(Did::Moved(point)),
+                    Ok(Did::Finished(point)) => {
+                        self.at = at + 1;
+                        let answer = self.reach(point);
+                        Ok(answer)
+                    }
+                    Ok(Did::Blocked(held)) => Ok(Did::Blocked(held)),
+                    Ok(Did::NoRight { .. }) => unreachable!(),
+                    Err(fault) => Err(fault),
+                }
+            }
+        }
+    }
+
+    /// Begins the work in the index that is next, if there is one: so the insert goes on, or is complete.
+    fn reach(&mut self, point: Point) -> Did
+        ensures rest { (self.new.row ≡ self.old.row) × (self.new.place ≡ self.old.place) × (self.new.at ≡ self.old.at) × (self.new.copied ≡ self.old.copied) }
+        ensures numbers { numbers_in self.new.works.items ≡ numbers_in self.old.works.items }
+        ensures tuples { (layout : DiskLayout) → All (IsOfItsIndex layout) self.old.works.items → All (IsOfItsIndex layout) self.new.works.items }
+        ensures reached { HasReached point result (work_of self.new) }
+    {
+        let at = self.at;
+        if at >= self.works.len() {
+            return Did::Finished(point);
+        }
+        let work = &mut self.works[at];
+        work.begin();
+        Did::Moved(point)
+    }
+}
+
+/// The work in each index of the table, in the order of their declarations, before its first step.
+fn works_for(alloc: Global, layout: &Layout, table: u8) -> Result<Vec<IndexInsert>, NoMemory>
+    ensures numbers { IfOk result (λ works. numbers_in works.items ≡ indexes_of layout.now table) }
+    ensures tuples { IfOk result (λ works. All (IsOfItsIndex layout.now) works.items) }
+{
+    let mut works = Vec::new(alloc);
+    'indexes: for index in 0..index_count(layout) {
+        if declared_index(layout, index).table == table {
+            let work = IndexInsert::new(alloc, layout, index)?;
+            works.push(work)?;
+        }
+    }
+    Ok(works)
+}
+
+/// Does nothing; tells its caller that each index of the table takes its rows.
+fn rows_are_taken(layout: &Layout, row: &Row)
+    requires table { row.now.table < length layout.now.schema.tables }
+    requires kinds { HaveKinds (kinds_at layout.now row.now.table) row.now.values }
+    ensures { (at n : ℕ) → slice_get (indexes_of layout.now row.now.table) at ≡ Some n → TakesValues (shape_of layout.now n) row.now.values }
+{
+    layout.known();
+    rows_of_the_table_are_taken();
+}
