@@ -127,8 +127,13 @@ module _ (one_layout : (page : List ℕ) (a b : DiskLayout) → HasControl a pag
 
     -- an image that keeps the rest opens as the one of the start did
     pub opens_like : (before image : List ℕ) → IsTrue (start.now before) → KeepsTheRest layout done start.contents image → OpensLike before image
-    opens_like before image now kept = λ other pages was.
-        let tells = log.tells before now in
-        let here : OpensAs other start.contents pages = subst (λ (l : List ℕ). OpensAs other l pages) (log.stable before now) was in
-        let same : other ≡ layout = one_layout (take PAGE_SIZE start.contents) other layout here.control (log.control tells) in
-        subst (λ (l : DiskLayout). OpensAs l image pages) (sym same) (opens_still image pages tells kept (subst (λ (l : DiskLayout). OpensAs l start.contents pages) same here))
+    opens_like before image now kept = record {
+      layout = layout;
+      control = subst (λ (l : List ℕ). HasControl layout (take PAGE_SIZE l)) (sym (log.stable before now)) (log.control (log.tells before now));
+      front = kept.log ∙ ap (take (first_offset layout)) (sym (log.stable before now));
+      opens = λ other pages was.
+          let tells = log.tells before now in
+          let here : OpensAs other start.contents pages = subst (λ (l : List ℕ). OpensAs other l pages) (log.stable before now) was in
+          let same : other ≡ layout = one_layout (take PAGE_SIZE start.contents) other layout here.control (log.control tells) in
+          subst (λ (l : DiskLayout). OpensAs l image pages) (sym same) (opens_still image pages tells kept (subst (λ (l : DiskLayout). OpensAs l start.contents pages) same here));
+    }

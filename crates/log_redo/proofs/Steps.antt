@@ -72,7 +72,7 @@ module _ (one_layout : (page : List ℕ) (a b : DiskLayout) → HasControl a pag
       let was = r.moments.each d.0 (counts start.moment d.0 r.moments.later d.1) in
       let touched = r.touched one.place wrote.1 one.is (ap (held_at pool) one.number ∙ cleanable.held) in
       let kept = kept_torn layout fill done start.contents d.0 image one.place one.is touched (subst (λ (n : ℕ). Torn (writes.place_of 0 n) PAGE_SIZE d.0 image) (sym one.number) d.2) (r.images d.0 d.1) in
-      (was.0, was.1, opens_like one_layout ways forgets layout frames start done r.log r.first was.0 image was.1 kept))
+      (was.0, was.1, inr (opens_like one_layout ways forgets layout frames start done r.log r.first was.0 image was.1 kept)))
 
 -- what is held once a page is clean: it, as a clean page, or what was held before
 cleaned_held : (pool mid : PoolState) (page : ℕ) (held : HeldPage) (number : ℕ) (x : HeldPage) → mid ≡ with_page pool page (record held { log = None }) → held_at mid number ≡ Some x

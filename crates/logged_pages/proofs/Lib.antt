@@ -16,4 +16,6 @@ pub mod FullPool
 pub mod HeldSteps
 pub mod StoreReads
 pub mod KnownSteps
+pub mod StoreWords
 pub mod RoomSteps
+pub mod Starting

@@ -1,15 +1,13 @@
 -- what one call on pages with a log leaves of the store that they are
 use Rattle.std.specs.Prelude.{◌≡◌, ◌≤◌, ◌⊎◌, ℕ, IsTrue, List}
-use Rattle.std.proofs.Common.{◌∙◌, refl, sym, subst, arith, inl, inr, ⊎_elim}
+use Rattle.std.proofs.Common.{◌∙◌, sym, subst, arith, inl, inr, ⊎_elim}
 use Rattle.store_layout.specs.DiskLayout.{DiskLayout}
 use Rattle.disk_trait.specs.Told.{Told}
 use Rattle.disk_trait.specs.Throughout.{Throughout}
-use Rattle.disk_trait.specs.ThroughoutLaws.{weaker}
 use Rattle.page_store.specs.PageMap.{PageMap, View}
-use Rattle.page_store.specs.Keeps.{Keeps, Leaves, Tells}
+use Rattle.page_store.specs.Keeps.{Tells}
 use Rattle.opened_pages.specs.Opens.{OpensAs}
-use Rattle.opened_pages.specs.Reaches.{OpensToOr, Reaches, ReachesAny}
-use Rattle.logged_pages.specs.Survives.{Survives}
+use Rattle.opened_pages.specs.Reaches.{OpensToOr, Reaches}
 
 -- At every moment of the call, and once it is done, each image comes from one that was there when it began, and opens to the pages
 -- that the store had then or to what that one did. A disk that has an image tells its contents.
@@ -79,27 +77,3 @@ kept_on told old mid new first second = record {
   leaves = kept_then told old mid new first second.leaves;
   pages = λ tells. second.pages (first.leaves.tells ∙ tells) ∙ first.pages tells;
 }
-
--- The same in the words of every store of pages
-
-module _ {D : Type 0} (told : D → Told) (old new : View D) where
-  pub leaves_of : LeftStore told old new → Leaves told old new
-  leaves_of left = record { layout = left.layout; tells = left.tells; faults = left.faults }
-
-  pub keeps_of : KeptPages told old new → Keeps told old new
-  keeps_of kept = record { leaves = leaves_of kept.leaves; pages = kept.pages }
-
-  -- the pages of the beginning are the only ones that the call passed
-  pub survives_of : LeftStore told old new → Survives told (λ pages. pages ≡ old.pages) old new
-  survives_of left =
-      let any : (image : List ℕ) → Reaches old.layout (told old.disk) old.pages image → ReachesAny old.layout (told old.disk) (λ pages. pages ≡ old.pages) image = λ image there. (
-        there.0,
-        there.1,
-        ⊎_elim (λ (opens : OpensAs old.layout image old.pages). inl (old.pages, refl, opens))
-            (λ (more : (others : PageMap) → OpensAs old.layout there.0 others → OpensAs old.layout image others). inr more) there.2,
-      ) in
-      record {
-        moments = weaker (told old.disk) (told new.disk) (Reaches old.layout (told old.disk) old.pages) (ReachesAny old.layout (told old.disk) (λ pages. pages ≡ old.pages)) left.survives.moments any;
-        images = λ image now. any image (left.survives.images image now);
-        seen = left.survives.seen;
-      }

@@ -9,3 +9,4 @@ pub mod Made
 pub mod StoreFacts
 pub mod Noted
 pub mod Begun
+pub mod Refused

@@ -8,14 +8,14 @@ ghost use Rattle.wal_record.specs.Changes.{PageStart as LoggedStart, logged, pla
 ghost use Rattle.page_store.specs.PageMap.{IsWhole, block_at, block_limit, page_at};
 ghost use Rattle.page_store.specs.Forms.{FitInTurn, FitsIn, IsPageIn, form_of, forms_of};
 ghost use Rattle.page_store.specs.Changed.{Changed};
-ghost use Rattle.page_store.specs.Keeps.{Tells, Untold};
+ghost use Rattle.page_store.specs.Keeps.{Keeps, Leaves, Tells, Untold};
 ghost use Rattle.page_store.specs.Outcome.{IsReopen, NamesPage, Outcome};
 ghost use Rattle.page_store.specs.PageRoom.{IsRoom, NamesSlot};
 ghost use Rattle.page_store.specs.Started.{AreFirst, started_count};
 ghost use Rattle.page_store.specs.FirstRoom.{IsFirstRoomOf};
 ghost use Rattle.index_layout.specs.IndexReading.{map_pages_of};
 ghost use Rattle.opened_pages.specs.Opens.{OpensAs};
-ghost use Rattle.logged_pages.specs.Keeps.{Keeps, Leaves};
+ghost use Rattle.logged_pages.specs.Survives.{Survives};
 ghost use Rattle.logged_pages.specs.LoggedState.{store_of};
 ghost use Rattle.logged_pages.specs.StoreFacts.{AreKnown};
 
@@ -81,14 +81,14 @@ impl<D: Disk + Drop> PageStore<D> {
         ensures page { IfOk result (λ page. Tells D.told self.old → page.now ≡ page_at self.old.pages place) }
         ensures form { IfOk result (λ page. IsPageIn self.old.layout place.relation page.now) }
         ensures at { IfErr result (λ error. NamesPage self.old.layout place error) }
-        ensures* rests { sem 𝓛 (Rests (the_row D.row D.Disk) self.entry (λ s. Keeps D.told self.old s × Outcome D.told (Untold D.told self.old) self.old s result)) }
+        ensures* rests { sem 𝓛 (Rests (the_row D.row D.Disk) self.entry (λ s. Keeps D.told self.old s × Outcome D.told (Untold D.told self.old) self.old s result × Survives D.told (λ pages. pages ≡ self.old.pages) self.old s)) }
     {
-        hold(&mut self.pages, &mut self.facts, &self.forms, place)?;
+        match hold(&mut self.pages, &mut self.facts, &self.forms, place) {
+            Ok(()) => {}
+            Err(error) => return Err(error),
+        }
         self.pages.known();
-        let Some(page) = self.pages.page(place) else {
-            unreachable!()
-        };
-        Ok(page)
+        Ok(self.pages.page(place).unwrap())
     }
 
     /// Makes the change, which is one of the page at the place. It waits for the log until the next flush, or until the buffer or
@@ -100,6 +100,8 @@ impl<D: Disk + Drop> PageStore<D> {
         ensures changed { OnOk result (Tells D.told self.old → Changed self.old.layout place (logged change.now ∷ []) self.old.pages self.new.pages) }
         ensures kept { OnErr result (Keeps D.told self.old self.new) }
         ensures leaves { Leaves D.told self.old self.new }
+        // The change itself isn't sure before the next flush.
+        ensures survives { Survives D.told (λ pages. pages ≡ self.old.pages) self.old self.new }
         ensures at { IfErr result (λ error. NamesPage self.old.layout place error) }
         ensures outcome { Outcome D.told (Untold D.told self.old) self.old self.new result }
     {
@@ -120,6 +122,8 @@ impl<D: Disk + Drop> PageStore<D> {
         ensures changed { OnOk result (Tells D.told self.old → Changed self.old.layout place (LoggedStart place kind ∷ logged change.now ∷ []) self.old.pages self.new.pages) }
         ensures kept { OnErr result (Keeps D.told self.old self.new) }
         ensures leaves { Leaves D.told self.old self.new }
+        // The change itself isn't sure before the next flush.
+        ensures survives { Survives D.told (λ pages. pages ≡ self.old.pages) self.old self.new }
         ensures at { IfErr result (λ error. NamesPage self.old.layout place error) }
         ensures outcome { Outcome D.told (Untold D.told self.old) self.old self.new result }
     {
@@ -136,6 +140,7 @@ impl<D: Disk + Drop> PageStore<D> {
     /// Makes every change so far durable. Where none waits no device call is made. Later: a commit calls it.
     pub fn flush(&mut self) -> Result<(), StoreError>
         ensures kept { Keeps D.told self.old self.new }
+        ensures survives { Survives D.told (λ pages. pages ≡ self.old.pages) self.old self.new }
         ensures outcome { Outcome D.told (Untold D.told self.old) self.old self.new result }
         ensures sure { OnOk result ((image : List ℕ) → IsTrue ((D.told self.new.disk).now image) → OpensAs self.new.layout image self.new.pages) }
     {
@@ -145,6 +150,7 @@ impl<D: Disk + Drop> PageStore<D> {
     /// Makes every change so far durable, writes each dirty page to its place, in order of the places, and begins the log anew.
     pub fn checkpoint(&mut self) -> Result<(), StoreError>
         ensures kept { Keeps D.told self.old self.new }
+        ensures survives { Survives D.told (λ pages. pages ≡ self.old.pages) self.old self.new }
         ensures outcome { Outcome D.told (Untold D.told self.old) self.old self.new result }
         ensures sure { OnOk result ((image : List ℕ) → IsTrue ((D.told self.new.disk).now image) → OpensAs self.new.layout image self.new.pages) }
     {
@@ -155,15 +161,17 @@ impl<D: Disk + Drop> PageStore<D> {
     pub fn ready(&self) -> Result<(), StoreError>
         ensures reopen { IfErr result IsReopen }
         ensures outcome { Outcome D.told (Untold D.told self.now) self.now self.now result }
+        ensures stays { Survives D.told (λ pages. ⊥) self.now self.now }
     {
         self.pages.ready()
     }
 
-    /// Does nothing; tells its caller that the map has each page of the layout, and that each page passes the check of its
-    /// relation's form.
+    /// Does nothing; tells its caller that the map has each page of the layout, that each page passes the check of its relation's
+    /// form, and that no image changes where no call is made.
     pub fn known(&self)
         ensures whole { IsWhole self.now.layout self.now.pages }
         ensures checked { Tells D.told self.now → (place : AnyPlace) → IsPageIn self.now.layout place.relation (page_at self.now.pages place) }
+        ensures stays { Survives D.told (λ pages. ⊥) self.now self.now }
     {
         self.pages.known();
     }

@@ -1,18 +1,23 @@
 -- what the images at the moments of a call open to, by the images that were there when it began
-use Rattle.std.specs.Prelude.{◌⊎◌, ℕ, List}
-use Rattle.store_layout.specs.DiskLayout.{DiskLayout}
+use Rattle.std.specs.Prelude.{◌≡◌, ◌⊎◌, ℕ, List, take}
+use Rattle.block_model.specs.declared.limits.TheConstants.{PAGE_SIZE}
+use Rattle.store_layout.specs.DiskLayout.{DiskLayout, first_offset}
+use Rattle.control_page.specs.ControlPage.{HasControl}
 use Rattle.disk_trait.specs.Told.{Told}
 use Rattle.log_area.specs.Log.{ComesBy}
 use Rattle.page_store.specs.PageMap.{PageMap}
 use Rattle.opened_pages.specs.Opens.{OpensAs}
 
--- the image opens to what that one opened to, whatever store that was
-abbrev pub OpensLike : List ℕ → List ℕ → Type 0
-OpensLike before image = (layout : DiskLayout) (pages : PageMap) → OpensAs layout before pages → OpensAs layout image pages
+-- one image is that of a store; the other has its control page and its log, and opens to what it opens to
+pub record OpensLike (before image : List ℕ) : Type 0 where
+  pub layout : DiskLayout
+  pub control : HasControl layout (take PAGE_SIZE before)
+  pub front : take (first_offset layout) image ≡ take (first_offset layout) before
+  pub opens : (any : DiskLayout) (pages : PageMap) → OpensAs any before pages → OpensAs any image pages
 
--- the image comes from one that was there before, and opens to what that one did
+-- the image was there before, or opens like one that was
 abbrev pub OpensAsBefore : Told → List ℕ → Type 0
-OpensAsBefore old image = ComesBy OpensLike old image
+OpensAsBefore old image = ComesBy (λ before after. (after ≡ before) ⊎ OpensLike before after) old image
 
 -- it is an image of a store with this layout, and opens to these pages or to what the one that was there before did
 abbrev pub OpensToOr : DiskLayout → PageMap → List ℕ → List ℕ → Type 0

@@ -1,4 +1,4 @@
 mod Lists
 mod Gates
-mod Places
+pub mod Places
 mod Made

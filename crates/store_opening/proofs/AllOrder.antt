@@ -1,10 +1,10 @@
 -- the order of all relations
-use Rattle.std.proofs.Common.{◌≡◌, inl, inr, ℕ, zero, suc, ◌+◌, ◌-◌, ◌<◌, ◌≤◌, List, length, refl, sym, ◌∙◌, ap, subst, arith}
+use Rattle.std.proofs.Common.{◌≡◌, ◌⊎◌, inl, inr, ℕ, zero, suc, ◌+◌, ◌-◌, ◌<◌, ◌≤◌, List, length, refl, sym, ◌∙◌, ap, subst, arith}
 use Rattle.std.specs.Prelude.{IsTrue, IfNone, IfSome, None, Option, Some}
-use Rattle.byte_fields.specs.Fields.{field_at, number_of}
+use Rattle.index_layout.specs.IndexReading.{map_pages_of}
 use Rattle.store_layout.specs.RelationCounts.{blocks_of_index, blocks_of_statuses}
 use Rattle.store_layout.specs.RelationCounts.{count_relations}
-use Rattle.std.proofs.lemmas.Bool.{cases_eq}
+use Rattle.std.proofs.lemmas.Bool.{cases_eq, cases_lt}
 use Rattle.block_model.specs.declared.place.Place.{Place}
 use Rattle.store_layout.specs.DiskLayout.{DiskLayout, IsPlace, relation_blocks}
 use Rattle.disk_trait.specs.Told.{Told}
@@ -12,11 +12,11 @@ use Rattle.page_store.specs.declared.facts.PageFacts.{PageFacts}
 use Rattle.page_store.specs.PageFacts.{facts_in}
 use Rattle.page_store.specs.PageMap.{PageMap, block_at, block_limit}
 use Rattle.buffer_pool.specs.PoolState.{PoolState}
-use Rattle.opened_pages.specs.PageOrder.{AreInOrder, IsIndexInOrder, StartsFirst, kind_of, map_pages}
+use Rattle.opened_pages.specs.PageOrder.{AreInOrder, IsIndexInOrder, IsOfTuples, StartsFirst, empty_page, kind_of}
 use Rattle.pooled_pages.specs.ShownLaws.{shown_at}
-use Rattle.pooled_pages.specs.ShownPages.{shown_page, shown_pages}
+use Rattle.pooled_pages.specs.ShownPages.{shown_pages}
 use Rattle.store_opening.specs.Judged.{AreJudgedIn, IsJudged}
-use Rattle.store_opening.specs.Orders.{AreFirstStarted, OrderedAt, kind_in}
+use Rattle.store_opening.specs.Orders.{AreFirstStarted, IsLate, OrderedAt, StandsInIndex, StandsInOrder, kind_in}
 
 -- the kind that was noted is that of the page that is shown
 pub kind_shown : (layout : DiskLayout) (pool : PoolState) (disk : Told) (place : Place) (facts : PageFacts) → IsPlace layout place → IsTrue disk.tells_contents → IsJudged layout pool disk place facts
@@ -24,14 +24,10 @@ pub kind_shown : (layout : DiskLayout) (pool : PoolState) (disk : Told) (place :
 kind_shown layout pool disk place facts is tells judged =
     ap (λ (f : PageFacts). f.kind) judged.facts_are ∙ ap kind_of (judged.shown tells ∙ sym (shown_at layout pool disk.contents place is))
 
--- started pages of a relation are the first ones, or aren't
+-- started pages of a relation are the first ones
 pub starts_first : (limit : ℕ) (facts : List PageFacts) (page : ℕ → List ℕ) → ((block : ℕ) → block < limit → kind_in facts block ≡ kind_of (page block)) → AreFirstStarted limit facts → StartsFirst limit page
 starts_first limit facts page kinds first before block low within started none =
     first before block low within (λ e. started (sym (kinds block within) ∙ e)) (kinds before (omega (arith, low, within)) ∙ none)
-
-pub first_started : (limit : ℕ) (facts : List PageFacts) (page : ℕ → List ℕ) → ((block : ℕ) → block < limit → kind_in facts block ≡ kind_of (page block)) → StartsFirst limit page → AreFirstStarted limit facts
-first_started limit facts page kinds first before block low within started none =
-    first before block low within (λ e. started (kinds block within ∙ e)) (sym (kinds before (omega (arith, low, within))) ∙ none)
 
 -- the relations below the number are in order
 pub record OrderedBelow (layout : DiskLayout) (pages : PageMap) (n : ℕ) : Type 0 where
@@ -90,6 +86,27 @@ order_at layout pages n within first last order = record {
         subst (λ (j : ℕ). IsIndexInOrder (block_limit layout j) (block_at pages j)) is
         (subst (λ (limit : ℕ). IsIndexInOrder limit (block_at pages (1 + length layout.schema.tables + index))) (sym (last index inside)) (order.indexes index inside))
 
+-- where a relation is in order each of its pages stands in order
+stands_index : (limit : ℕ) (page : ℕ → List ℕ) (block : ℕ) → block < limit → IsIndexInOrder limit page → StandsInIndex limit page block
+stands_index limit page block low order = record {
+  metapage = λ is. order.metapage;
+  some_map = λ is. order.some_map;
+  few_maps = λ is. order.few_maps;
+  maps = order.maps block;
+  next = λ is. subst (λ (b : ℕ). IsOfTuples (page b) ⊎ (page b ≡ empty_page 4)) (sym is) (order.next (omega (arith, is, low)));
+  others = λ past. order.others block past low;
+}
+
+starts_of : (layout : DiskLayout) (pages : PageMap) (n : ℕ) → OrderedAt layout pages n → 0 < n → StartsFirst (block_limit layout n) (block_at pages n)
+starts_of layout pages n order some = elim (cases_lt (length layout.schema.tables) n) [ inl past ↦ (order.indexes past).first | inr inside ↦ order.tables some inside ]
+
+pub stands_at : (layout : DiskLayout) (pages : PageMap) (n block : ℕ) → block < block_limit layout n → OrderedAt layout pages n → StandsInOrder layout pages (record { relation = n; block = block })
+stands_at layout pages n block low order = record {
+  statuses = λ is. order.statuses is block low;
+  first = λ some before below. starts_of layout pages n order some before block below low;
+  indexes = λ past. stands_index (block_limit layout n) (block_at pages n) block low (order.indexes past);
+}
+
 pub none_weaker : {X : Type 0} (o : Option X) (A B : Type 0) → (A → B) → IfNone o A → IfNone o B
 none_weaker None A B f a = f a
 none_weaker (Some x) A B f a = tt
@@ -117,8 +134,8 @@ module _ (layout : DiskLayout) (pool : PoolState) (disk : Told) (relation : ℕ)
     indexes = λ past. absurd (omega (arith, past, is));
   }
 
-  pub statuses_amiss : relation ≡ 0 → (block : ℕ) → block < block_limit layout relation → (kind_in kinds block ≡ 1 → ⊥) → OrderedAt layout pages relation → ⊥
-  statuses_amiss is block low other order = other (kinds_are block low ∙ order.statuses is block low)
+  pub statuses_amiss : relation ≡ 0 → (block : ℕ) → block < block_limit layout relation → (kind_in kinds block ≡ 1 → ⊥) → StandsInOrder layout pages (record { relation = relation; block = block }) → ⊥
+  statuses_amiss is block low other stands = other (kinds_are block low ∙ stands.statuses is)
 
   pub table_ordered : 0 < relation → relation ≤ length layout.schema.tables → AreFirstStarted (block_limit layout relation) kinds → OrderedAt layout pages relation
   table_ordered some within first = record {
@@ -127,13 +144,16 @@ module _ (layout : DiskLayout) (pool : PoolState) (disk : Told) (relation : ℕ)
     indexes = λ past. absurd (omega (arith, past, within));
   }
 
-  pub table_amiss : 0 < relation → relation ≤ length layout.schema.tables → (AreFirstStarted (block_limit layout relation) kinds → ⊥) → OrderedAt layout pages relation → ⊥
-  table_amiss some within other order = other (first_started (block_limit layout relation) kinds (block_at pages relation) kinds_are (order.tables some within))
+  pub late_amiss : 0 < relation → (block : ℕ) → block < block_limit layout relation → IsLate kinds block → StandsInOrder layout pages (record { relation = relation; block = block }) → ⊥
+  late_amiss some block low late stands =
+      stands.first some late.0 late.1 (λ none. late.3 (kinds_are block low ∙ none)) (sym (kinds_are late.0 (omega (arith, late.1, low))) ∙ late.2)
 
-  -- the number of map pages that was read
-  pub maps_are : (maps : ℕ) (bytes meta : List ℕ) → 0 < block_limit layout relation → maps ≡ number_of (field_at bytes 32 4) → bytes ≡ meta → meta ≡ shown_page layout pool disk.contents (record { relation = relation; block = 0 }) → map_pages (block_at pages relation 0) ≡ maps
-  maps_are maps bytes meta some got is shown =
-      sym (got ∙ ap (λ (b : List ℕ). number_of (field_at b 32 4)) (is ∙ shown ∙ sym (shown_at layout pool disk.contents (record { relation = relation; block = 0 }) (record { relation = inside; block = some }))))
+  -- the number of map pages that was noted
+  pub maps_are : (maps : ℕ) → 0 < block_limit layout relation → maps ≡ (facts_in kinds 0).maps → maps ≡ map_pages_of (block_at pages relation 0)
+  maps_are maps some noted =
+      let place : Place = record { relation = relation; block = 0 } in
+      let one : IsJudged layout pool disk place (facts_in kinds 0) = judged.pages 0 some in
+      noted ∙ ap (λ (f : PageFacts). f.maps) one.facts_are ∙ ap map_pages_of (one.shown tells ∙ sym (shown_at layout pool disk.contents place (record { relation = inside; block = some })))
 
 -- all relations are in order
 pub order_of_all : (layout : DiskLayout) (pages : PageMap) (n : ℕ) → length (relation_blocks layout) ≤ n → OrderedBelow layout pages n → AreInOrder layout pages

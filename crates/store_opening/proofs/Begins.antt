@@ -1,5 +1,5 @@
 -- a log of which nothing is redone yet
-use Rattle.std.proofs.Common.{◌≡◌, ℕ, Bool, false, List, [], refl, sym, ◌∙◌, subst}
+use Rattle.std.proofs.Common.{◌≡◌, inl, ℕ, Bool, false, List, [], refl, sym, ◌∙◌, subst}
 use Rattle.std.specs.Prelude.{IsTrue, None, slice_index_or}
 use Rattle.std.specs.FinMap as map
 use Rattle.std.specs.FinMap.{get-empty}
@@ -43,7 +43,7 @@ begins layout frames disk count marks log counts clear = record {
     clean = λ tells place held is got none. absurd (none_Some held (sym (none_held count (page_number layout place)) ∙ got));
     contents = λ tells. rest_kept layout [] disk.contents;
     images = λ image now. subst (KeepsTheRest layout [] disk.contents) (sym (log.stable image now)) (rest_kept layout [] disk.contents);
-    moments = started disk (OpensAsBefore disk) (λ image since. (image, counts image since, λ other pages opens. opens));
+    moments = started disk (OpensAsBefore disk) (λ image since. (image, counts image since, inl refl));
   };
   marked = record {
     marked = λ place is on. absurd (false≢true (sym (clear (page_number layout place)) ∙ on));

@@ -149,6 +149,13 @@ redo_cause T layout area frames old new pool marks (Damaged at) none store holds
 redo_cause T layout area frames old new pool marks Disk none store holds begins cause = cause
 redo_cause T layout area frames old new pool marks Memory none store holds begins cause = absurd cause
 
+-- a store was there
+pub redo_some : (T : Type 0) (layout : DiskLayout) (area : ℕ) (frames : List LogFrame) (old new : Told) (pool : PoolState) (marks : List Bool) (fault : StartFault) → RedoCause {T = T} layout area frames old pool marks new (Err fault) → fault ≡ NoStore → ⊥
+redo_some T layout area frames old new pool marks fault cause is = subst (λ (f : StartFault). RedoCause {T = T} layout area frames old pool marks new (Err f)) is cause
+
+pub judge_some : (T : Type 0) (layout : DiskLayout) (old new : Told) (pool : PoolState) (fault : StartFault) → JudgeCause {T = T} layout pool old new (Err fault) → fault ≡ NoStore → ⊥
+judge_some T layout old new pool fault cause is = subst (λ (f : StartFault). JudgeCause {T = T} layout pool old new (Err f)) is cause
+
 -- the same of an earlier moment, since which the contents stayed
 pub cause_before : (T : Type 0) (old mid new : Told) (result : Result T StartFault) → mid.contents ≡ old.contents → mid.size ≡ old.size → mid.tells_contents ≡ old.tells_contents → old.faults ≤ mid.faults → StartCause mid new result → StartCause old new result
 cause_before T old mid new (Ok done) contents size tells later cause = omega (arith, later, cause)

@@ -1,16 +1,17 @@
 -- an opening, from its parts
-use Rattle.std.proofs.Common.{◌≡◌, ℕ, List, ◌∙◌, ap}
+use Rattle.std.proofs.Common.{◌≡◌, inl, ℕ, List, refl, ◌∙◌, ap}
 use Rattle.std.specs.Prelude.{IsTrue}
 use Rattle.disk_trait.specs.Told.{Told}
 use Rattle.disk_trait.specs.Throughout.{Throughout}
-use Rattle.disk_trait.specs.ThroughoutLaws.{goes_on, started}
+use Rattle.disk_trait.specs.ThroughoutLaws.{goes_on, joined, started, weaker}
 use Rattle.disk_trait.specs.GoesOn.{GoesOn}
 use Rattle.opened_pages.specs.Reaches.{OpensAsBefore}
 use Rattle.log_redo.proofs.Steps.{moments_read}
+use Rattle.store_opening.specs.Untouched.{IsUntouched}
 
--- each image of a moment opens as itself
+-- each image of a moment was there at that moment
 pub as_itself : (disk : Told) (image : List ℕ) → IsTrue (disk.now image) → OpensAsBefore disk image
-as_itself disk image now = (image, now, λ layout pages opens. opens)
+as_itself disk image now = (image, now, inl refl)
 
 -- nothing was done yet
 pub moments_begin : (disk : Told) → ((image : List ℕ) → IsTrue (disk.since disk.moment image) → IsTrue (disk.now image)) → Throughout disk disk (OpensAsBefore disk)
@@ -28,3 +29,21 @@ moments_reads old new counts same = moments_read old old new (OpensAsBefore old)
 -- one read after another
 pub still_twice : (a b c : Told) → b ≡ record a { faults = b.faults } → c ≡ record b { faults = c.faults } → c ≡ record a { faults = c.faults }
 still_twice a b c one two = two ∙ ap (λ (t : Told). record t { faults = c.faults }) one
+
+-- ---- nothing is written
+
+-- an image that was there before
+abbrev Was : Told → List ℕ → Type 0
+Was old image = IsTrue (old.now image)
+
+-- reads alone
+pub untouched_read : (old new : Told) → ((image : List ℕ) → IsTrue (old.since old.moment image) → IsTrue (old.now image)) → new ≡ record old { faults = new.faults } → IsUntouched old new
+untouched_read old new counts same = record { contents = ap (λ (t : Told). t.contents) same; moments = moments_read old old new (Was old) same (started old (Was old) counts) }
+
+-- a sync, and then nothing
+pub untouched_synced : (old mid new : Told) → ((image : List ℕ) → IsTrue (old.since old.moment image) → IsTrue (old.now image)) → ((image : List ℕ) → IsTrue (mid.now image) → IsTrue (old.now image)) → GoesOn old mid
+    → mid.contents ≡ old.contents → IsUntouched mid new → IsUntouched old new
+untouched_synced old mid new counts images on same rest = record {
+  contents = rest.contents ∙ same;
+  moments = joined old mid new (Was old) (goes_on old old mid (Was old) (started old (Was old) counts) on images) (weaker mid new (Was mid) (Was old) rest.moments images);
+}

@@ -1,5 +1,6 @@
 -- a page that was judged
-use Rattle.std.proofs.Common.{◌≡◌, ℕ, List, sym, ◌∙◌, ap, subst}
+use Rattle.std.proofs.Common.{◌≡◌, ℕ, List, get_or, sym, ◌∙◌, ap, subst}
+use Rattle.std.proofs.lemmas.Bool.{eq-eqb}
 use Rattle.std.specs.Prelude.{None, Some, IsTrue}
 use Rattle.std.specs.Option.{option_map}
 use Rattle.block_model.specs.declared.limits.TheConstants.{PAGE_SIZE}
@@ -13,7 +14,9 @@ use Rattle.page_layout.specs.declared.page.Form.{Form}
 use Rattle.page_layout.specs.PageContents.{IsPageOf}
 use Rattle.page_store.specs.declared.facts.PageFacts.{PageFacts}
 use Rattle.page_store.specs.Forms.{IsPageIn, form_of}
-use Rattle.page_store.specs.PageFacts.{facts_on}
+use Rattle.page_store.specs.PageFacts.{facts_on, no_facts}
+use Rattle.page_store.specs.PageMap.{unstarted_page}
+use Rattle.page_store.proofs.PageKinds.{kind_unstarted, unstarted_facts, unstarted_is}
 use Rattle.buffer_pool.specs.PoolState.{HeldPage, PoolState, held_at}
 use Rattle.pooled_pages.specs.PageNumbers.{page_number}
 use Rattle.pooled_pages.specs.ShownPages.{shown_page}
@@ -38,6 +41,14 @@ judged_before layout pool place facts old mid same j =
 pub judged_after : (layout : DiskLayout) (pool : PoolState) (place : Place) (facts : PageFacts) (old mid : Told) → mid ≡ record old { faults = mid.faults } → IsJudged layout pool old place facts → IsJudged layout pool mid place facts
 judged_after layout pool place facts old mid same j =
     subst (λ (t : Told). IsJudged layout pool t place facts) (sym same) (record { page = j.page; passes = j.passes; facts_are = j.facts_are; held = j.held; shown = j.shown })
+
+-- the facts of a page that isn't started
+pub unstarted_judged : (layout : DiskLayout) (pool : PoolState) (disk : Told) (place : Place) (facts : PageFacts) → IsJudged layout pool disk place facts → facts.kind ≡ 0 → facts ≡ no_facts
+unstarted_judged layout pool disk place facts j zero =
+    let form = form_of layout place.relation in
+    let kind : get_or j.page 0 0 ≡ 0 = sym (ap (λ (f : PageFacts). f.kind) j.facts_are) ∙ zero in
+    let zeros : j.page ≡ unstarted_page = kind_unstarted form j.page j.passes (eq-eqb (get_or j.page 0 0) 0 kind) ∙ sym unstarted_is in
+    j.facts_are ∙ ap (facts_on form) zeros ∙ unstarted_facts form
 
 module _ (layout : DiskLayout) (fill : PagesFillDisk layout) (pool : PoolState) (place : Place) (is : IsPlace layout place) (all : HoldsDurablePages layout pool) (form : Form) (same : form ≡ form_of layout place.relation) (number : ℕ) (at : number ≡ page_number layout place) where
   pub held_passes : (page : List ℕ) → Some page ≡ option_map (λ (held : HeldPage). held.content) (held_at pool number) → IsPageOf form page

@@ -17,6 +17,8 @@ use Rattle.log_redo.specs.Redoing.{CanBeRedone}
 use Rattle.log_redo.proofs.Changes.{NoneBeginsAnother, all_front, changes_at-append, front_begins, logged_once, logged_split}
 use Rattle.log_redo.proofs.Changing.{redone_split}
 use Rattle.store_opening.specs.Damaged.{HasFrameDamaged, HasPageDamaged, IsDamaged}
+use Rattle.store_opening.specs.Orders.{StandsInOrder}
+use Rattle.store_opening.proofs.AllOrder.{order_of_one, stands_at}
 
 -- the first ones of changes that can be redone
 front_redone : (layout : DiskLayout) (image : List ℕ) (front rest : List LoggedChange) → CanBeRedone layout image (front ++ rest) → CanBeRedone layout image front
@@ -56,7 +58,7 @@ module _ (ways : (area : List ℕ) → OpensInOneWay area) (one : NoneBeginsAnot
       once form (disk_page layout image place) (page_at d.pages place) (page_at pages place) (changes_at place o.changes)
       (subst (λ (l : List LoggedChange). Redone form (disk_page layout image place) (changes_at place l) (page_at d.pages place)) changes (d.has.made.redone place is)) (o.redone place is)) in
       ⊎_elim (λ (fails : IsPageIn layout d.place.relation (page_at d.pages d.place) → ⊥). fails (subst (λ (m : PageMap). IsPageIn layout d.place.relation (page_at m d.place)) (sym same) (o.checked d.place d.is)))
-      (λ (breaks : AreInOrder layout d.pages → ⊥). breaks (subst (AreInOrder layout) (sym same) order)) d.breaks
+      (λ (breaks : StandsInOrder layout d.pages d.place → ⊥). breaks (stands_at layout d.pages d.place.relation d.place.block d.is.block (order_of_one layout d.pages d.place.relation d.is.relation (subst (AreInOrder layout) (sym same) order)))) d.breaks
 
   pub not_damaged : (at : ℕ) → AreInOrder layout pages → IsDamaged layout image at → ⊥
   not_damaged at order (inl passes) = (ways (chosen_area (area_size layout) image)).apart o.frames passes.0 o.opened passes.2

@@ -9,9 +9,9 @@ use Rattle.wal_record.specs.Changes.{LoggedChange}
 use Rattle.page_store.specs.Forms.{IsPageIn}
 use Rattle.page_store.specs.PageMap.{IsWhole, PageMap, page_at}
 use Rattle.opened_pages.specs.LoggedChanges.{AreLogged}
-use Rattle.opened_pages.specs.PageOrder.{AreInOrder}
 use Rattle.log_redo.specs.Damage.{HasFrameAmiss}
 use Rattle.log_redo.specs.Redoing.{MakePages}
+use Rattle.store_opening.specs.Orders.{StandsInOrder}
 
 -- an opened frame of the chosen area isn't of its form, and its gate is this byte
 pub record HasFrameDamaged (layout : DiskLayout) (image : List ℕ) (at : ℕ) : Type 0 where
@@ -28,14 +28,14 @@ pub record HasPages (layout : DiskLayout) (image : List ℕ) (pages : PageMap) :
   pub made : MakePages layout image changes (page_at pages)
   pub whole : IsWhole layout pages
 
--- one of these pages begins at this byte, and it isn't of its form, or the pages aren't in order
+-- the one of these pages that begins at this byte isn't of its form, or breaks the order
 pub record HasPageDamaged (layout : DiskLayout) (image : List ℕ) (at : ℕ) : Type 0 where
   pub pages : PageMap
   pub has : HasPages layout image pages
   pub place : Place
   pub is : IsPlace layout place
   pub begins : at ≡ page_offset layout place
-  pub breaks : (IsPageIn layout place.relation (page_at pages place) → ⊥) ⊎ (AreInOrder layout pages → ⊥)
+  pub breaks : (IsPageIn layout place.relation (page_at pages place) → ⊥) ⊎ (StandsInOrder layout pages place → ⊥)
 
 -- a frame passes its area, or isn't of its form, or a page isn't, or stands out of order
 abbrev pub IsDamaged : DiskLayout → List ℕ → ℕ → Type 0

@@ -5,3 +5,4 @@ pub mod Judged
 pub mod PageCauses
 pub mod Orders
 pub mod Begun
+pub mod Untouched

@@ -7,8 +7,8 @@ use Rattle.disk_trait.specs.Told.{Told}
 use Rattle.page_store.specs.declared.facts.PageFacts.{PageFacts}
 use Rattle.page_store.specs.PageFacts.{facts_in}
 use Rattle.buffer_pool.specs.PoolState.{PoolState}
-use Rattle.page_store.specs.PageMap.{PageMap, block_at, block_limit}
-use Rattle.opened_pages.specs.PageOrder.{AreInOrder, IsIndexInOrder, StartsFirst, kind_of}
+use Rattle.page_store.specs.PageMap.{PageMap, block_at, block_limit, page_at}
+use Rattle.opened_pages.specs.PageOrder.{IsIndexInOrder, IsOfTuples, StartsFirst, empty_page, kind_of, map_pages}
 use Rattle.pooled_pages.specs.ShownPages.{shown_pages}
 use Rattle.store_opening.specs.declared.fault.StartFault.{StartFault}
 use Rattle.store_opening.specs.declared.fault.StartFault.TheVariants.{NoStore, Damaged, Disk, Memory}
@@ -20,6 +20,10 @@ kind_in facts block = (facts_in facts block).kind
 -- of the blocks below the limit, the first ones are started
 abbrev pub AreFirstStarted : ℕ → List PageFacts → Type 0
 AreFirstStarted limit facts = (before block : ℕ) → before < block → block < limit → kind_in facts block ≢ 0 → kind_in facts before ≢ 0
+
+-- the page of the block is started, and one in front of it isn't
+abbrev pub IsLate : List PageFacts → ℕ → Type 0
+IsLate facts block = (before : ℕ) × (before < block) × (kind_in facts before ≡ 0) × (kind_in facts block ≢ 0)
 
 -- a page of tuples, one that is being evacuated, or one that isn't started
 abbrev pub IsTupleKind : ℕ → Type 0
@@ -42,14 +46,35 @@ pub record OrderedAt (layout : DiskLayout) (pages : PageMap) (n : ℕ) : Type 0 
   pub tables : 0 < n → n ≤ length layout.schema.tables → StartsFirst (block_limit layout n) (block_at pages n)
   pub indexes : length layout.schema.tables < n → IsIndexInOrder (block_limit layout n) (block_at pages n)
 
--- the pages aren't in order, and one of them begins at this byte
+-- no page in front of a started one isn't started
+abbrev pub IsInRow : (ℕ → List ℕ) → ℕ → Type 0
+IsInRow page block = (before : ℕ) → before < block → kind_of (page block) ≢ 0 → kind_of (page before) ≢ 0
+
+-- Block 0 of an index is its metapage, which counts one map page or more, and fewer than there are blocks. As many blocks behind
+-- it are map pages. The one behind these has tuples, or isn't started, or is a map page without entries; each other one has tuples
+-- or isn't started.
+pub record StandsInIndex (limit : ℕ) (page : ℕ → List ℕ) (block : ℕ) : Type 0 where
+  pub metapage : block ≡ 0 → kind_of (page 0) ≡ 3
+  pub some_map : block ≡ 0 → 1 ≤ map_pages (page 0)
+  pub few_maps : block ≡ 0 → map_pages (page 0) < limit
+  pub maps : 1 ≤ block → block ≤ map_pages (page 0) → kind_of (page block) ≡ 4
+  pub next : block ≡ map_pages (page 0) + 1 → IsOfTuples (page block) ⊎ (page block ≡ empty_page 4)
+  pub others : map_pages (page 0) + 1 < block → IsOfTuples (page block)
+
+-- the page at a place stands in the order of its relation's pages
+pub record StandsInOrder (layout : DiskLayout) (pages : PageMap) (place : Place) : Type 0 where
+  pub statuses : place.relation ≡ 0 → kind_of (page_at pages place) ≡ 1
+  pub first : 0 < place.relation → IsInRow (block_at pages place.relation) place.block
+  pub indexes : length layout.schema.tables < place.relation → StandsInIndex (block_limit layout place.relation) (block_at pages place.relation) place.block
+
+-- the page that begins at this byte breaks the order
 pub record HasOrderAmiss (layout : DiskLayout) (pool : PoolState) (contents : List ℕ) (at : ℕ) : Type 0 where
   pub place : Place
   pub is : IsPlace layout place
   pub begins : at ≡ page_offset layout place
-  pub breaks : AreInOrder layout (shown_pages layout pool contents) → ⊥
+  pub breaks : StandsInOrder layout (shown_pages layout pool contents) place → ⊥
 
--- by the answer: the disk's count didn't fall; the pages aren't in order; the count rose
+-- by the answer: the disk's count didn't fall; a page breaks the order; the count rose
 abbrev pub OrderCause : {T : Type 0} → DiskLayout → PoolState → Told → Told → Result T StartFault → Type 0
 OrderCause layout pool old new (Ok done) = old.faults ≤ new.faults
 OrderCause layout pool old new (Err NoStore) = ⊥

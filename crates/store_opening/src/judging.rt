@@ -1,8 +1,10 @@
 //! The pages of a disk, judged one after the other.
 
-ghost use Rattle.std.specs.Prelude.{◌≡◌, ◌<◌, IsTrue, IfOk, OnOk, length, slice_index};
+ghost use Rattle.std.specs.Prelude.{◌≡◌, ◌<◌, IsTrue, IfOk, OnOk, length, set, slice_index};
+ghost use Rattle.index_layout.specs.declared.format.TheConstants.{UNSTARTED};
 ghost use Rattle.page_layout.specs.PageContents.{IsForm};
 ghost use Rattle.page_store.specs.Forms.{form_of};
+ghost use Rattle.page_store.specs.PageFacts.{facts_in, no_facts};
 ghost use Rattle.store_layout.specs.DiskLayout.{IsPlace, disk_size, relation_blocks};
 ghost use Rattle.store_opening.specs.Judged.{AreJudged, AreJudgedIn, IsJudged};
 ghost use Rattle.store_opening.specs.PageCauses.{PageCause};
@@ -17,7 +19,7 @@ use block_model::Place;
 use buffer_pool::Pool;
 use disk_trait::Disk;
 use log_redo::{form_of, read_page};
-use page_layout::{Form, check};
+use page_layout::{Form, UNSTARTED, check};
 use page_store::{FactList, PageFacts, facts_of};
 use pooled_pages::number_of;
 use std::alloc::Global;
@@ -99,11 +101,24 @@ fn judge_relation<D: Disk>(
     };
     'places: for block in 0..limit {
         match judge_page(disk, layout, pool, Place { relation, block }, &form) {
-            Ok(found) => facts.note(block as usize, found),
+            Ok(found) => note_started(&mut facts, block as usize, found),
             Err(fault) => return Err(fault),
         }
     }
     Ok(facts)
+}
+
+/// Notes the facts of a page that is started; the list has those of one that isn't already.
+fn note_started(facts: &mut FactList, at: usize, found: PageFacts)
+    requires within { at < length facts.old }
+    requires fresh { facts_in facts.old at ≡ no_facts }
+    requires unstarted { found.kind ≡ UNSTARTED → found ≡ no_facts }
+    ensures { facts.new ≡ set facts.old at found }
+{
+    if found.kind == UNSTARTED {
+        return;
+    }
+    facts.note(at, found);
 }
 
 /// The facts of one page, which is read where it isn't held, and then checked.

@@ -1,6 +1,6 @@
 //! A disk that is opened.
 
-ghost use Rattle.std.specs.Prelude.{◌≡◌, IsTrue, IfOk};
+ghost use Rattle.std.specs.Prelude.{◌≡◌, IsTrue, IfErr, IfOk};
 ghost use Rattle.disk_trait.specs.IsStable.{IsStable};
 ghost use Rattle.disk_trait.specs.Throughout.{Throughout};
 ghost use Rattle.opened_pages.specs.Opens.{OpensAs};
@@ -9,6 +9,7 @@ ghost use Rattle.pooled_pages.specs.ShownPages.{shown_pages};
 ghost use Rattle.store_opening.specs.Begun.{IsBegun};
 ghost use Rattle.store_opening.specs.Opened.{IsOpened};
 ghost use Rattle.store_opening.specs.StartCauses.{StartCause};
+ghost use Rattle.store_opening.specs.Untouched.{IsUntouched};
 
 use crate::beginning::{Begun, begin};
 use crate::fault::StartFault;
@@ -45,6 +46,8 @@ pub fn open<D: Disk>(alloc: Global, disk: &mut D) -> Result<Opened, StartFault>
     // Also where it isn't opened.
     ensures any_moment { Throughout (D.told disk.old) (D.told disk.new) (OpensAsBefore (D.told disk.old)) }
     ensures cause { StartCause (D.told disk.old) (D.told disk.new) result }
+    // Where no store is there, nothing is written.
+    ensures untouched { IfErr result (λ fault. fault ≡ StartFault.NoStore → IsUntouched (D.told disk.old) (D.told disk.new)) }
 {
     let Ok(()) = disk.sync() else {
         return Err(StartFault::Disk);
@@ -62,6 +65,7 @@ fn open_synced<D: Disk>(alloc: Global, disk: &mut D) -> Result<Opened, StartFaul
     ensures pages { IfOk result (λ opened. IsTrue (D.told disk.old).tells_contents → OpensAs opened.layout (D.told disk.old).contents (shown_pages opened.layout opened.pool (D.told disk.new).contents)) }
     ensures any_moment { Throughout (D.told disk.old) (D.told disk.new) (OpensAsBefore (D.told disk.old)) }
     ensures cause { StartCause (D.told disk.old) (D.told disk.new) result }
+    ensures untouched { IfErr result (λ fault. fault ≡ StartFault.NoStore → IsUntouched (D.told disk.old) (D.told disk.new)) }
 {
     match begin(alloc, disk) {
         Ok(begun) => match finish(alloc, disk, begun) {
@@ -80,6 +84,7 @@ fn finish<D: Disk>(alloc: Global, disk: &mut D, begun: Begun) -> Result<Opened, 
     ensures pages { IfOk result (λ opened. IsTrue (D.told disk.old).tells_contents → OpensAs opened.layout (D.told disk.old).contents (shown_pages opened.layout opened.pool (D.told disk.new).contents)) }
     ensures any_moment { Throughout (D.told disk.old) (D.told disk.new) (OpensAsBefore (D.told disk.old)) }
     ensures cause { StartCause (D.told disk.old) (D.told disk.new) result }
+    ensures store { IfErr result (λ fault. fault ≡ StartFault.NoStore → ⊥) }
 {
     one_layout();
     redo_forgets_a_page_begun_anew();

@@ -1,13 +1,14 @@
 //! The order in which pages stand.
 
-ghost use Rattle.std.specs.Prelude.{◌≡◌, ◌+◌, ◌^◌, ◌<◌, ◌≤◌, ℕ, true, false, IsTrue, IfOk, IfSome, IfNone, OnOk, length, slice_index};
+ghost use Rattle.std.specs.Prelude.{◌≡◌, ◌⊎◌, ◌+◌, ◌^◌, ◌<◌, ◌≤◌, ℕ, true, false, IsTrue, IfOk, IfSome, IfNone, OnOk, length, slice_index};
 ghost use Rattle.block_model.specs.Causes.{HasCause};
 ghost use Rattle.store_layout.specs.DiskLayout.{IsPlace, disk_size, relation_blocks};
 ghost use Rattle.opened_pages.specs.PageOrder.{AreInOrder, IsIndexInOrder, empty_page};
 ghost use Rattle.page_store.specs.PageMap.{block_at};
 ghost use Rattle.pooled_pages.specs.ShownPages.{shown_page, shown_pages};
 ghost use Rattle.store_opening.specs.Judged.{AreJudged, AreJudgedIn};
-ghost use Rattle.store_opening.specs.Orders.{AreFirstStarted, HasIndexKinds, MayStand, OrderCause, OrderedAt, kind_in};
+ghost use Rattle.page_store.specs.PageFacts.{facts_in};
+ghost use Rattle.store_opening.specs.Orders.{AreFirstStarted, HasIndexKinds, IsLate, MayStand, OrderCause, OrderedAt, StandsInOrder, kind_in};
 ghost use Rattle.page_layout.specs.declared.format.TheConstants.{STATUS};
 ghost use Rattle.index_layout.specs.declared.format.TheConstants.{MAP};
 ghost use Rattle.log_redo.specs.PooledPages.{HoldsDurablePages};
@@ -15,7 +16,6 @@ ghost use Rattle.log_redo.specs.PooledPages.{HoldsDurablePages};
 use crate::fault::StartFault;
 use block_model::Place;
 use buffer_pool::Pool;
-use byte_fields::get_u32;
 use disk_trait::{Disk, DiskFault};
 use log_redo::read_page;
 use page_layout::{EVACUATED, MAP, META, Page, REGULAR, STATUS, UNSTARTED};
@@ -29,11 +29,8 @@ const STATUSES: u8 = 0;
 /// The block of an index that is its metapage.
 const META_BLOCK: u32 = 0;
 
-/// Where the number of map pages stands on a metapage.
-const MAPS: usize = 32;
-
-/// Whether the pages of all relations stand in order, by the kinds that were noted. Of an index the metapage is read once more, and a
-/// page of the map that is left over. `Damaged` names the first page that breaks the order.
+/// Whether the pages of all relations stand in order, by the facts that were noted. Of an index a page of the map that is left over is
+/// read once more. `Damaged` names a page that breaks the order.
 pub fn judge_order<D: Disk>(
     disk: &mut D,
     layout: &Layout,
@@ -62,7 +59,7 @@ pub fn judge_order<D: Disk>(
     Ok(())
 }
 
-/// The first block of a relation whose page breaks the order.
+/// A block of a relation whose page breaks the order.
 fn broken_order<D: Disk>(
     disk: &mut D,
     layout: &Layout,
@@ -75,7 +72,7 @@ fn broken_order<D: Disk>(
     requires relation { relation < length (relation_blocks layout.now) }
     requires kinds { AreJudgedIn layout.now pool.old (D.told disk.old) relation (slice_index (relation_blocks layout.now) relation) kinds.now }
     ensures none { IfOk result (λ broken. IfNone broken (IsTrue (D.told disk.old).tells_contents → OrderedAt layout.now (shown_pages layout.now pool.old (D.told disk.old).contents) relation)) }
-    ensures some { IfOk result (λ broken. IfSome broken (λ block. (block < slice_index (relation_blocks layout.now) relation) × (IsTrue (D.told disk.old).tells_contents → OrderedAt layout.now (shown_pages layout.now pool.old (D.told disk.old).contents) relation → ⊥))) }
+    ensures some { IfOk result (λ broken. IfSome broken (λ block. (block < slice_index (relation_blocks layout.now) relation) × (IsTrue (D.told disk.old).tells_contents → StandsInOrder layout.now (shown_pages layout.now pool.old (D.told disk.old).contents) (record { relation = relation; block = block }) → ⊥))) }
     ensures pool { pool.new ≡ pool.old }
     ensures same { D.told disk.new ≡ record (D.told disk.old) { faults = (D.told disk.new).faults } }
     ensures cause { HasCause (D.told disk.old).faults (D.told disk.new).faults result }
@@ -106,7 +103,7 @@ fn unstarted_status(kinds: &FactList, limit: u32) -> Option<u32>
 /// The first block whose page is started, though one in front of it isn't.
 fn started_late(kinds: &FactList, limit: u32) -> Option<u32>
     ensures none { IfNone result (AreFirstStarted limit kinds.now) }
-    ensures some { IfSome result (λ block. (block < limit) × (AreFirstStarted limit kinds.now → ⊥)) }
+    ensures some { IfSome result (λ block. (block < limit) × IsLate kinds.now block) }
 {
     let mut ended = false;
     'places: for block in 0..limit {
@@ -121,7 +118,7 @@ fn started_late(kinds: &FactList, limit: u32) -> Option<u32>
     None
 }
 
-/// The block of the first page of an index that stands out of order.
+/// The block of a page of an index that breaks the order.
 fn broken_index<D: Disk>(
     disk: &mut D,
     layout: &Layout,
@@ -135,7 +132,7 @@ fn broken_index<D: Disk>(
     requires past { length layout.now.schema.tables < relation }
     requires kinds { AreJudgedIn layout.now pool.old (D.told disk.old) relation (slice_index (relation_blocks layout.now) relation) kinds.now }
     ensures none { IfOk result (λ broken. IfNone broken (IsTrue (D.told disk.old).tells_contents → IsIndexInOrder (slice_index (relation_blocks layout.now) relation) (block_at (shown_pages layout.now pool.old (D.told disk.old).contents) relation))) }
-    ensures some { IfOk result (λ broken. IfSome broken (λ at. (at < slice_index (relation_blocks layout.now) relation) × (IsTrue (D.told disk.old).tells_contents → IsIndexInOrder (slice_index (relation_blocks layout.now) relation) (block_at (shown_pages layout.now pool.old (D.told disk.old).contents) relation) → ⊥))) }
+    ensures some { IfOk result (λ broken. IfSome broken (λ at. (at < slice_index (relation_blocks layout.now) relation) × (IsTrue (D.told disk.old).tells_contents → StandsInOrder layout.now (shown_pages layout.now pool.old (D.told disk.old).contents) (record { relation = relation; block = at }) → ⊥))) }
     ensures pool { pool.new ≡ pool.old }
     ensures same { D.told disk.new ≡ record (D.told disk.old) { faults = (D.told disk.new).faults } }
     ensures cause { HasCause (D.told disk.old).faults (D.told disk.new).faults result }
@@ -143,9 +140,7 @@ fn broken_index<D: Disk>(
     layout.known();
     let _size = disk.size();
     let limit = blocks_of(layout, relation);
-    let block = META_BLOCK;
-    let meta = shown(disk, layout, pool, Place { relation, block })?;
-    let maps = get_u32(meta.as_bytes(), MAPS);
+    let maps = counted_maps(kinds);
     if maps == 0 {
         return Ok(Some(META_BLOCK));
     }
@@ -169,11 +164,19 @@ fn broken_index<D: Disk>(
     Ok(Some(block))
 }
 
-/// The first block of an index with so many pages of the map whose page is of no kind that may stand there.
+/// How many pages of the map the metapage of an index counts: 0 where its block isn't a metapage.
+fn counted_maps(kinds: &FactList) -> u32
+    ensures { result ≡ (facts_in kinds.now 0).maps }
+{
+    kinds.get(META_BLOCK as usize).maps
+}
+
+/// A block of an index with so many pages of the map whose page is of no kind that may stand there, or is started behind one that
+/// isn't.
 fn broken_kind(kinds: &FactList, limit: u32, maps: u32) -> Option<u32>
     requires { maps < 2 ^ 31 }
     ensures none { IfNone result (HasIndexKinds limit maps kinds.now) }
-    ensures some { IfSome result (λ block. (block < limit) × (HasIndexKinds limit maps kinds.now → ⊥)) }
+    ensures some { IfSome result (λ block. (block < limit) × ((MayStand maps block (kind_in kinds.now block) → ⊥) ⊎ IsLate kinds.now block)) }
 {
     'places: for block in 0..limit {
         if !may_stand(kinds.get(block as usize).kind, block, maps) {

@@ -5,6 +5,7 @@ use Rattle.buffer_pool.specs.PoolState.{PoolState}
 use Rattle.store_opening.specs.Judged.{AreJudgedIn}
 use Rattle.store_opening.proofs.Joining.{still_twice}
 use Rattle.store_opening.proofs.PagesJudged.{JudgedRelations, all_judged, judged_in_before, relations_more}
+use Rattle.log_redo.specs.PooledPages.{HoldsDurablePages}
 use Rattle.store_opening.proofs.judging.judge_pages.Goals as goal
 
 pub relations-preserved : goal.relations-preserved
@@ -34,3 +35,6 @@ returns-clause-judged g c =
     let old = g.D.Disk.told c.args.disk.now in
     let all : c.relations.relation ≡ length (relation_blocks layout) = omega (arith, c.relations-test.false, c.relations.auto.relation-end, c.count_relations-count.ensures) in
     all_judged layout c.args.pool.now old c.relations.facts.items (subst (λ (n : ℕ). JudgedRelations layout c.args.pool.now old n c.relations.facts.items) all c.relations.invariant.judged)
+
+pub judge_relation-requires-clause-held : goal.judge_relation-requires-clause-held
+judge_relation-requires-clause-held g c = subst (HoldsDurablePages c.args.layout.now) (sym c.relations.invariant.pool) c.requires.held

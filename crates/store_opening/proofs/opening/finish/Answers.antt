@@ -17,7 +17,7 @@ use Rattle.store_opening.specs.declared.opening.Opened.{Opened}
 use Rattle.store_opening.specs.Opened.{IsOpened}
 use Rattle.store_opening.specs.StartCauses.{HasStore}
 use Rattle.store_opening.proofs.Begins.{holds_none}
-use Rattle.store_opening.proofs.Finishing.{judge_cause, none_redone, opened_at, opened_read, opens_at, redo_cause}
+use Rattle.store_opening.proofs.Finishing.{judge_cause, judge_some, none_redone, opened_at, opened_read, opens_at, redo_cause, redo_some}
 use Rattle.store_opening.proofs.opening.finish.Goals as goal
 
 -- the disk at the start has a store of the layout
@@ -94,3 +94,11 @@ returns-clause-any_moment g c =
     moments_read old (g.D.Disk.told c.redo_log.new.disk) (g.D.Disk.told c.judge.new.disk) (OpensAsBefore old) c.judge.ensures.same
     (c.redo_log.ensures.any_moment old
     (none_redone c.args.begun old c.requires.begun c.requires.stable (λ image now. g.met.D.Disk.images_need_contents c.args.disk.now image now) (λ image since. g.met.D.Disk.since_now_is_now c.args.disk.now image since)))
+
+pub returns-in-Err-clause-store : goal.returns-in-Err-clause-store
+returns-in-Err-clause-store g c =
+    redo_some Opened c.args.begun.layout c.args.begun.area c.args.begun.frames (g.D.Disk.told c.args.disk.now) (g.D.Disk.told c.redo_log.new.disk) c.args.begun.pool c.args.begun.marks.items c.in-Err.fault c.in-Err.ensures.cause
+
+pub returns-in-Err-judge-clause-store : goal.returns-in-Err-judge-clause-store
+returns-in-Err-judge-clause-store g c =
+    judge_some Opened c.args.begun.layout (g.D.Disk.told c.redo_log.new.disk) (g.D.Disk.told c.judge.new.disk) c.redo_log.new.pool c.in-Err-judge.fault c.in-Err-judge.ensures.cause

@@ -5,7 +5,7 @@ use Rattle.disk_trait.specs.Told.{Told}
 use Rattle.store_opening.specs.declared.opening.Opened.{Opened}
 use Rattle.store_opening.proofs.Ends.{after_before}
 use Rattle.store_opening.proofs.Finishing.{cause_before}
-use Rattle.store_opening.proofs.Joining.{moments_reads}
+use Rattle.store_opening.proofs.Joining.{moments_reads, untouched_read}
 use Rattle.store_opening.proofs.opening.open_synced.Goals as goal
 
 pub finish-requires-clause-stable : goal.finish-requires-clause-stable
@@ -31,3 +31,10 @@ returns-in-Err-finish-clause-cause g c =
     let mid = g.D.Disk.told c.begin.new.disk in
     cause_before Opened old mid (g.D.Disk.told c.finish.new.disk) (Err c.in-Err-finish.fault) (ap (λ (t : Told). t.contents) c.begin.ensures.same) (ap (λ (t : Told). t.size) c.begin.ensures.same)
     (ap (λ (t : Told). t.tells_contents) c.begin.ensures.same) c.in-Ok.ensures.cause c.in-Err-finish.ensures.cause
+
+pub returns-in-Err-finish-clause-untouched : goal.returns-in-Err-finish-clause-untouched
+returns-in-Err-finish-clause-untouched g c = λ is. absurd (c.in-Err-finish.ensures.store is)
+
+pub returns-in-Err-clause-untouched : goal.returns-in-Err-clause-untouched
+returns-in-Err-clause-untouched g c = λ is.
+    untouched_read (g.D.Disk.told c.args.disk.now) (g.D.Disk.told c.begin.new.disk) (λ image since. g.met.D.Disk.since_now_is_now c.args.disk.now image since) c.begin.ensures.same

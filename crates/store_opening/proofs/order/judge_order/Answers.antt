@@ -3,12 +3,13 @@ use Rattle.std.specs.Prelude.{IsTrue, IfSome, Option, slice_index}
 use Rattle.store_layout.specs.DiskLayout.{relation_blocks}
 use Rattle.disk_trait.specs.Told.{Told}
 use Rattle.buffer_pool.specs.PoolState.{PoolState}
-use Rattle.opened_pages.specs.PageOrder.{AreInOrder}
+use Rattle.page_store.specs.PageMap.{PageMap}
 use Rattle.pooled_pages.specs.ShownPages.{shown_pages}
 use Rattle.store_opening.specs.Judged.{AreJudgedIn}
-use Rattle.store_opening.specs.Orders.{OrderedAt}
-use Rattle.store_opening.proofs.AllOrder.{order_of_all, order_of_one}
+use Rattle.store_opening.specs.Orders.{StandsInOrder}
+use Rattle.store_opening.proofs.AllOrder.{order_of_all}
 use Rattle.store_opening.proofs.PagesJudged.{judged_in_after, one_judged}
+use Rattle.log_redo.specs.PooledPages.{HoldsDurablePages}
 use Rattle.store_opening.proofs.order.judge_order.Goals as goal
 
 pub broken_order-requires-clause-kinds : goal.broken_order-requires-clause-kinds
@@ -35,7 +36,7 @@ returns-in-Some-clause-cause g c =
     let relation = c.relations.relation in
     let limit = slice_index (relation_blocks layout) relation in
     let inside : relation < length (relation_blocks layout) = omega (arith, c.relations-test.true, c.count_relations-relation-end.ensures) in
-    let some = subst (λ (o : Option ℕ). IfSome o (λ block. (block < limit) × (IsTrue mid.tells_contents → OrderedAt layout (shown_pages layout c.relations.pool mid.contents) relation → ⊥))) c.in-Some.is c.in-Ok.ensures.some in
+    let some = subst (λ (o : Option ℕ). IfSome o (λ block. (block < limit) × (IsTrue mid.tells_contents → StandsInOrder layout (shown_pages layout c.relations.pool mid.contents) (record { relation = relation; block = block }) → ⊥))) c.in-Some.is c.in-Ok.ensures.some in
     let same : shown_pages layout pool old.contents ≡ shown_pages layout c.relations.pool mid.contents =
     ap (λ (p : PoolState). shown_pages layout p old.contents) (sym c.relations.invariant.pool) ∙ ap (λ (t : Told). shown_pages layout c.relations.pool t.contents) (sym c.relations.invariant.same) in
     let rose : mid.faults ≤ new.faults = c.in-Ok.ensures.cause.later in (
@@ -43,8 +44,8 @@ returns-in-Some-clause-cause g c =
         place = record { relation = relation; block = c.in-Some.block };
         is = record { relation = inside; block = some.0 };
         begins = c.page_at-at.ensures;
-        breaks = λ order.
-            some.1 (ap (λ (t : Told). t.tells_contents) c.relations.invariant.same ∙ tells) (order_of_one layout (shown_pages layout c.relations.pool mid.contents) relation inside (subst (AreInOrder layout) same order));
+        breaks = λ stands.
+            some.1 (ap (λ (t : Told). t.tells_contents) c.relations.invariant.same ∙ tells) (subst (λ (m : PageMap). StandsInOrder layout m (record { relation = relation; block = c.in-Some.block })) same stands);
       },
       omega (arith, c.relations.invariant.later, rose),
     )
@@ -52,3 +53,6 @@ returns-in-Some-clause-cause g c =
 pub returns-clause-order : goal.returns-clause-order
 returns-clause-order g c = λ tells.
     order_of_all c.args.layout.now (shown_pages c.args.layout.now c.args.pool.now (g.D.Disk.told c.args.disk.now).contents) c.relations.relation (omega (arith, c.relations-test.false, c.count_relations-relation-end.ensures)) (c.relations.invariant.order tells)
+
+pub broken_order-requires-clause-held : goal.broken_order-requires-clause-held
+broken_order-requires-clause-held g c = subst (HoldsDurablePages c.args.layout.now) (sym c.relations.invariant.pool) c.requires.held

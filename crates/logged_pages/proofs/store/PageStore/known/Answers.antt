@@ -24,6 +24,8 @@ use Rattle.logged_pages.specs.LoggedState.{LoggedState, store_of}
 use Rattle.logged_pages.proofs.RelationSteps.{each_form, forms_count}
 use Rattle.logged_pages.specs.StoreFacts.{AreKnown, facts_at}
 use Rattle.logged_pages.proofs.StoreReads.{checked_all, facts_counted, facts_limit, room_free, room_full, room_unstarted, slot_named, state_count, state_first, state_maps, state_room}
+use Rattle.logged_pages.proofs.Steps.{DiskLaws}
+use Rattle.logged_pages.proofs.StoreWords.{stays}
 use Rattle.logged_pages.proofs.store.PageStore.known.Goals as goal
 
 pub returns-clause-whole : goal.returns-clause-whole
@@ -41,3 +43,9 @@ returns-clause-checked g c =
     let facts = c.self.inside.facts.items in
     let known = c.self.invariant.1 in
     subst (λ (v : View g.row.D.Denot). Tells told v → (place : Place) → IsPageIn v.layout place.relation (page_at v.pages place)) c.self.view_is (λ tells. checked_all told s c.known.ensures.checked tells)
+
+pub returns-clause-stays : goal.returns-clause-stays
+returns-clause-stays g c =
+    let told = g.D.Disk.told in
+    let laws : DiskLaws told = record { need = g.met.D.Disk.images_need_contents; counts = g.met.D.Disk.now_is_since; only = g.met.D.Disk.since_now_is_now; fit = g.met.D.Disk.contents_fit } in
+    stays told laws c.args.self.now

@@ -1,0 +1,4 @@
+pub mod FreshPlaces
+pub mod FreshOrder
+pub mod FreshForms
+pub mod FreshOpens

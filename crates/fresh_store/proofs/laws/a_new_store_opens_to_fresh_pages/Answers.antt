@@ -1,0 +1,15 @@
+use Rattle.page_store.specs.PageMap.{unstarted_page}
+use Rattle.fresh_store.proofs.FreshOrder.{fresh_order}
+use Rattle.fresh_store.proofs.FreshOpens.{opens}
+use Rattle.fresh_store.proofs.FreshPlaces.{fresh_at}
+use Rattle.fresh_store.proofs.laws.a_new_store_opens_to_fresh_pages.Goals as goal
+
+pub returns-clause-opens : goal.returns-clause-opens
+returns-clause-opens c = λ image made.
+    opens c.args.layout.now c.known.ensures.sizes c.pages_fill_the_disk.ensures image made (c.a_new_store_has_its_control_page.ensures image made)
+
+pub returns-clause-order : goal.returns-clause-order
+returns-clause-order c = fresh_order c.args.layout.now c.known.ensures.sizes
+
+pub returns-clause-pages : goal.returns-clause-pages
+returns-clause-pages c = λ place is. fresh_at c.args.layout.now unstarted_page place is

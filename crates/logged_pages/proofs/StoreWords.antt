@@ -1,0 +1,43 @@
+-- what a call leaves, in the words of every store of pages
+use Rattle.std.proofs.Common.{◌≡◌, ◌⊎◌, inl, inr, ⊎_elim, ℕ, List, refl, sym, ap, subst, ◌∙◌}
+use Rattle.std.specs.Prelude.{IsTrue, Result, Ok, Err, OnErr, OnOk}
+use Rattle.disk_trait.specs.Told.{Told}
+use Rattle.disk_trait.specs.ThroughoutLaws.{weaker}
+use Rattle.page_store.specs.Keeps.{Keeps, Leaves}
+use Rattle.page_store.specs.PageMap.{PageMap, View}
+use Rattle.opened_pages.specs.Opens.{OpensAs}
+use Rattle.opened_pages.specs.Reaches.{Reaches, ReachesAny}
+use Rattle.logged_pages.specs.KeptPages.{KeptPages, LeftStore}
+use Rattle.logged_pages.specs.Survives.{Survives, survives_none}
+use Rattle.logged_pages.proofs.Steps.{DiskLaws}
+
+module _ {D : Type 0} (told : D → Told) (old new : View D) where
+  pub leaves_of : LeftStore told old new → Leaves told old new
+  leaves_of left = record { layout = left.layout; tells = left.tells; faults = left.faults }
+
+  pub keeps_of : KeptPages told old new → Keeps told old new
+  keeps_of kept = record { leaves = leaves_of kept.leaves; pages = kept.pages }
+
+  -- the pages of the beginning are the only ones that the call passed
+  pub survives_of : LeftStore told old new → Survives told (λ pages. pages ≡ old.pages) old new
+  survives_of left =
+      let any : (image : List ℕ) → Reaches old.layout (told old.disk) old.pages image → ReachesAny old.layout (told old.disk) (λ pages. pages ≡ old.pages) image = λ image there. (
+        there.0,
+        there.1,
+        ⊎_elim (λ (opens : OpensAs old.layout image old.pages). inl (old.pages, refl, opens))
+            (λ (more : (others : PageMap) → OpensAs old.layout there.0 others → OpensAs old.layout image others). inr more) there.2,
+      ) in
+      record {
+        moments = weaker (told old.disk) (told new.disk) (Reaches old.layout (told old.disk) old.pages) (ReachesAny old.layout (told old.disk) (λ pages. pages ≡ old.pages)) left.survives.moments any;
+        images = λ image now. any image (left.survives.images image now);
+        seen = left.survives.seen;
+      }
+
+-- the same where a call refuses
+pub on_err : {T E A B : Type 0} (result : Result T E) → (A → B) → OnErr result A → OnErr result B
+on_err (Ok value) f there = there
+on_err (Err error) f there = f there
+
+-- a store to which nothing happens
+pub stays : {D : Type 0} (told : D → Told) → DiskLaws told → (store : View D) → Survives told (λ pages. ⊥) store store
+stays told laws store = survives_none told store (laws.need store.disk) (laws.only store.disk)
