@@ -1,13 +1,19 @@
 -- what a call leaves, in the words of every store of pages
 use Rattle.std.proofs.Common.{◌≡◌, ◌⊎◌, inl, inr, ⊎_elim, ℕ, List, refl, sym, ap, subst, ◌∙◌}
-use Rattle.std.specs.Prelude.{IsTrue, Result, Ok, Err, OnErr, OnOk}
+use Rattle.std.specs.Prelude.{IsTrue, Option, Some, unwrap_or, Result, Ok, Err, OnErr}
+use Rattle.block_model.specs.declared.place.Place.{Place}
+use Rattle.store_layout.specs.DiskLayout.{IsPlace}
 use Rattle.disk_trait.specs.Told.{Told}
 use Rattle.disk_trait.specs.ThroughoutLaws.{weaker}
 use Rattle.page_store.specs.Keeps.{Keeps, Leaves}
-use Rattle.page_store.specs.PageMap.{PageMap, View}
-use Rattle.opened_pages.specs.Opens.{OpensAs}
+use Rattle.page_store.specs.PageMap.{PageMap, View, page_at}
+use Rattle.opened_pages.specs.Opens.{OpensAs, disk_page}
 use Rattle.opened_pages.specs.Reaches.{Reaches, ReachesAny}
+use Rattle.pooled_pages.specs.PageNumbers.{page_number}
+use Rattle.pooled_pages.specs.ShownLaws.{shown_at}
+use Rattle.pooled_pages.specs.ShownPages.{content_at}
 use Rattle.logged_pages.specs.KeptPages.{KeptPages, LeftStore}
+use Rattle.logged_pages.specs.LoggedState.{LoggedState, store_of}
 use Rattle.logged_pages.specs.Survives.{Survives, survives_none}
 use Rattle.logged_pages.proofs.Steps.{DiskLaws}
 
@@ -41,3 +47,7 @@ on_err (Err error) f there = f there
 -- a store to which nothing happens
 pub stays : {D : Type 0} (told : D → Told) → DiskLaws told → (store : View D) → Survives told (λ pages. ⊥) store store
 stays told laws store = survives_none told store (laws.need store.disk) (laws.only store.disk)
+
+-- a page that is held is that of the store
+pub held_page : {D : Type 0} (told : D → Told) (s : LoggedState D) (place : Place) → IsPlace s.layout place → (bytes : List ℕ) → content_at s.pool (page_number s.layout place) ≡ Some bytes → page_at (store_of told s).pages place ≡ bytes
+held_page told s place is bytes there = shown_at s.layout s.pool (told s.disk).contents place is ∙ ap (λ (o : Option (List ℕ)). unwrap_or o (disk_page s.layout (told s.disk).contents place)) there

@@ -1,5 +1,5 @@
 -- what the opening of a store refuses
-use Rattle.std.specs.Prelude.{Err}
+use Rattle.std.specs.Prelude.{Err, ⊤}
 use Rattle.disk_trait.specs.Told.{Told}
 use Rattle.store_opening.specs.StartCauses.{StartCause}
 use Rattle.store_opening.specs.declared.fault.StartFault.{StartFault}

@@ -14,7 +14,7 @@ use Rattle.logged_pages.specs.LoggedState.{LoggedState, store_of}
 use Rattle.logged_pages.specs.Standing.{IsStanding}
 use Rattle.logged_pages.specs.StoreFacts.{AreKnown}
 use Rattle.logged_pages.proofs.Starting.{known, refused, stands, sure}
-use Rattle.logged_pages.proofs.start.PageStore.start.Goals as goal
+use Rattle.logged_pages.proofs.store.PageStore.start.Goals as goal
 
 pub of_parts-pages-requires : goal.of_parts-pages-requires
 of_parts-pages-requires g c =
@@ -27,7 +27,7 @@ of_parts-requires-clause-forms g c = c.in-Ok-forms_of.ensures ∙ ap (λ (s : Lo
 pub of_parts-requires-clause-facts : goal.of_parts-requires-clause-facts
 of_parts-requires-clause-facts g c =
     let o = c.in-Ok.opened in
-    subst (λ (s : LoggedState g.row.D.Denot). AreKnown g.D.Disk.told s o.facts.items) (sym c.of_parts-pages.ensures) (known c.slots_are_read.ensures o (g.D.Disk.told c.open.new.disk) c.in-Ok.ensures.opened)
+    subst (λ (s : LoggedState g.row.D.Denot). AreKnown g.D.Disk.told s o.facts.items) (sym c.of_parts-pages.ensures) (known c.slots_are_read.ensures.one o (g.D.Disk.told c.open.new.disk) c.in-Ok.ensures.opened)
 
 pub returns-in-Err-clause-refused : goal.returns-in-Err-clause-refused
 returns-in-Err-clause-refused g c = refused Opened (g.D.Disk.told c.args.disk) (g.D.Disk.told c.open.new.disk) c.in-Err.fault c.in-Err.ensures.cause
