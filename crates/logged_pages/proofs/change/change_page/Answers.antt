@@ -1,5 +1,5 @@
 use Rattle.std.proofs.Common.{◌||◌, ℕ, Bool, [], ◌∷◌, sym, ap, subst, ◌∙◌, arith}
-use Rattle.std.specs.Prelude.{IsSome, ⊤}
+use Rattle.std.specs.Prelude.{Err, IsSome, ⊤}
 use Rattle.std.specs.List.{All}
 use Rattle.store_layout.specs.DiskLayout.{DiskLayout}
 use Rattle.page_layout.specs.PageContents.{IsForm}
@@ -33,7 +33,7 @@ returns-then-not-is_loggable-clause-outcome g c =
     let tables = subst (λ (l : DiskLayout). All HasForm l.schema.tables) c.layout.ensures c.tables_have_forms.ensures.forms in
     let formed : IsForm (form_of begin.layout place.relation) = each_form begin.layout tables place.relation in
     let untold : Untold told old = λ tells. c.is_loggable.ensures.isnt c.if-not-is_loggable.true (fits_loggable (form_of begin.layout place.relation) (page_at old.pages place) change formed (c.requires.fits tells)) in
-    outcome_then told old mid mid _ c.in_ok-hold.ensures.outcome.0 c.in_ok-hold.ensures.outcome.1 c.hold.ensures.kept.leaves (damage_outcome ⊤ told mid mid held.layout place c.damaged.result c.in_ok-hold.ensures.outcome.1 c.in_ok-hold.ensures.outcome.1 (omega arith) c.damaged.ensures (λ tells. untold (sym c.hold.ensures.kept.leaves.tells ∙ tells)))
+    outcome_then {T = ⊤} told old mid mid (Err c.damaged.result) c.in_ok-hold.ensures.outcome.0 c.in_ok-hold.ensures.outcome.1 c.hold.ensures.kept.leaves (damage_outcome ⊤ told mid mid held.layout place c.damaged.result c.in_ok-hold.ensures.outcome.1 c.in_ok-hold.ensures.outcome.1 (omega arith) c.damaged.ensures (λ tells. untold (sym c.hold.ensures.kept.leaves.tells ∙ tells)))
 
 pub returns-then-not-is_loggable-clause-at : goal.returns-then-not-is_loggable-clause-at
 returns-then-not-is_loggable-clause-at g c =

@@ -1,5 +1,5 @@
 use Rattle.std.proofs.Common.{◌≡◌, ◌<◌, [], ◌∷◌, length, sym, ap, subst, ◌∙◌, arith}
-use Rattle.std.specs.Prelude.{IsSome, ⊤}
+use Rattle.std.specs.Prelude.{Err, IsSome, ⊤}
 use Rattle.store_layout.specs.DiskLayout.{DiskLayout, IsPlace, relation_blocks}
 use Rattle.page_layout.specs.declared.page.Form.{Form}
 use Rattle.wal_record.specs.Changes.{PageStart, logged}
@@ -36,7 +36,7 @@ returns-then-not-takes_started-clause-outcome g c =
     let form : c.form_at-form.result.now ≡ form_of begin.layout place.relation = c.form_at-form.ensures.form ∙ ap (λ (l : DiskLayout). form_of l c.args.place.relation) c.layout.ensures in
     let untold : Untold told old = λ tells. c.takes_started.ensures.refuses c.if-not-takes_started.true (page_at old.pages place)
     (subst (λ (f : Form). FitInTurn f (page_at old.pages place) (PageStart place c.args.kind ∷ change ∷ [])) (sym form) (c.requires.fits tells)) in
-    outcome_then told old mid mid _ c.in_ok-hold.ensures.outcome.0 c.in_ok-hold.ensures.outcome.1 c.hold.ensures.kept.leaves (damage_outcome ⊤ told mid mid held.layout place c.damaged.result c.in_ok-hold.ensures.outcome.1 c.in_ok-hold.ensures.outcome.1 (omega arith) c.damaged.ensures (λ tells. untold (sym c.hold.ensures.kept.leaves.tells ∙ tells)))
+    outcome_then {T = ⊤} told old mid mid (Err c.damaged.result) c.in_ok-hold.ensures.outcome.0 c.in_ok-hold.ensures.outcome.1 c.hold.ensures.kept.leaves (damage_outcome ⊤ told mid mid held.layout place c.damaged.result c.in_ok-hold.ensures.outcome.1 c.in_ok-hold.ensures.outcome.1 (omega arith) c.damaged.ensures (λ tells. untold (sym c.hold.ensures.kept.leaves.tells ∙ tells)))
 
 pub returns-then-not-takes_started-clause-at : goal.returns-then-not-takes_started-clause-at
 returns-then-not-takes_started-clause-at g c =
