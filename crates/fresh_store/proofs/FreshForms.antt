@@ -1,9 +1,10 @@
 -- fresh pages are of their forms
 use Rattle.std.proofs.Common.{◌≡◌, inl, inr, ℕ, zero, suc, ◌+◌, ◌<◌, ◌≤◌, ◌++◌, length, length-append, refl, sym, ◌∙◌, subst, arith, lit<}
-use Rattle.std.specs.Prelude.{None, replicate}
+use Rattle.std.specs.Prelude.{None, Option, replicate}
 use Rattle.std.proofs.lemmas.Bool.{cases_lt}
 use Rattle.std.proofs.lemmas.List.{length-replicate}
 use Rattle.block_model.specs.declared.place.Place.{Place}
+use Rattle.block_model.specs.declared.place.Spot.{Spot}
 use Rattle.store_layout.specs.DiskLayout.{DiskLayout, IsPlace}
 use Rattle.store_layout.specs.RelationCounts.{behind_both, count_relations}
 use Rattle.index_layout.specs.declared.format.TheConstants.{MAP_ENTRIES}
@@ -22,7 +23,7 @@ unstarted = refl
 
 statuses_pass : IsPageOf forms.Status unused_statuses
 unfolding unused_statuses
-statuses_pass = inr (statuses (replicate 8160 0), record { bytes = (replicate 8160 0, length-replicate 8160 0, refl, refl) })
+statuses_pass = inr (statuses (replicate 8160 0), record { bytes = (replicate 8160 0, length-replicate {A = ℕ} 8160 0, refl, refl) })
 
 no_entries : (n : ℕ) → AreEntries (replicate n None)
 no_entries zero = tt
@@ -34,7 +35,7 @@ meta_pass = inr (Meta 1 (record { small = lit< tt; bytes = refl }), λ e. let th
 
 map_pass : IsPageOf forms.Index (map_bytes (replicate MAP_ENTRIES None))
 unfolding map_bytes
-map_pass = inr (Map (replicate MAP_ENTRIES None) (record { counted = length-replicate MAP_ENTRIES None; are = no_entries MAP_ENTRIES; bytes = refl }), λ e. let four : 4 ≡ 0 = e in omega (arith, four))
+map_pass = inr (Map (replicate MAP_ENTRIES None) (record { counted = length-replicate {A = Option Spot} MAP_ENTRIES None; are = no_entries MAP_ENTRIES; bytes = refl }), λ e. let four : 4 ≡ 0 = e in omega (arith, four))
 
 index_pass : (block : ℕ) → IsPageOf forms.Index (fresh_index_page block)
 index_pass zero = meta_pass

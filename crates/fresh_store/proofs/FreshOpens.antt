@@ -80,6 +80,6 @@ module _ (layout : DiskLayout) (sizes : HasBoundedSizes layout) (fill : PagesFil
 -- what a format leaves
 pub old_or_fresh : (layout : DiskLayout) → ((any : DiskLayout) (image : List ℕ) → IsClosed image → HasControl any (take 8192 image) → ⊥) → ((image : List ℕ) → IsFormatted layout image → OpensAs layout image (fresh_pages layout))
     → (old : Told) (image : List ℕ) → IsOldOrNew layout old image → IsOldOrFresh layout old image
-old_or_fresh layout none opens old image (inl was) = inl was
-old_or_fresh layout none opens old image (inr (inl closed)) = inr (inl (λ any control. none any image closed control))
-old_or_fresh layout none opens old image (inr (inr made)) = inr (inr (opens image made))
+old_or_fresh layout none fresh old image (inl was) = inl was
+old_or_fresh layout none fresh old image (inr (inl closed)) = inr (inl (λ any control. none any image closed control))
+old_or_fresh layout none fresh old image (inr (inr made)) = inr (inr (fresh image made))

@@ -46,9 +46,9 @@ fresh_at layout d place is = at_block layout place.relation place.block d is.rel
 
 -- there is one for each
 lengths_both : {X Y : Type 0} (a b : List (List ℕ)) (m n : ℕ) → length a ≡ m → length b ≡ n → (xs : List X) (ys : List Y) → map length (map (λ _. a) xs ++ map (λ _. b) ys) ≡ map (λ _. m) xs ++ map (λ _. n) ys
-lengths_both a b m n ea eb [] [] = refl
-lengths_both a b m n ea eb [] (y ∷ ys) = let rest = lengths_both a b m n ea eb [] ys in λ i. eb i ∷ rest i
-lengths_both a b m n ea eb (x ∷ xs) ys = let rest = lengths_both a b m n ea eb xs ys in λ i. ea i ∷ rest i
+lengths_both {X} {Y} a b m n ea eb [] [] = refl
+lengths_both {X} {Y} a b m n ea eb [] (y ∷ ys) = let rest = lengths_both {X = X} {Y = Y} a b m n ea eb [] ys in λ i. eb i ∷ rest i
+lengths_both {X} {Y} a b m n ea eb (x ∷ xs) ys = let rest = lengths_both {X = X} {Y = Y} a b m n ea eb xs ys in λ i. ea i ∷ rest i
 
 pub fresh_whole : (layout : DiskLayout) → IsWhole layout (fresh_pages layout)
 unfolding fresh_pages relation_blocks
