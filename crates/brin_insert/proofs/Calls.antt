@@ -2,11 +2,11 @@
 use Rattle.std.proofs.Common.{◌≡◌, ℕ, suc, ◌+◌, ◌*◌, ◌≤◌, List, [], ◌∷◌, refl, sym, subst, ◌∙◌, arith}
 use Rattle.block_model.specs.declared.reply.Point.{Point}
 use Rattle.table_coverage.specs.GoingOn.{IsInserting, StepsAlone, LastAlone, OneMoreAlone}
-use Rattle.table_coverage.specs.Machines.{ShownTable, Unseen, table_state, task_turned}
+use Rattle.table_coverage.specs.Machines.{MachineSteps, MachineWaits, ShownTable, Unseen, table_state, task_turned}
 use Rattle.table_coverage.specs.Table.{Task, Resting, TableState}
 use Rattle.table_coverage.specs.TableCovered.{IsTableKept}
 use Rattle.table_coverage.specs.TableSteps.{TableStep, TableRun, TableDone, TableNext}
-use Rattle.brin_insert.specs.InsertAnswers.{InsertGoesTo}
+use Rattle.brin_insert.specs.InsertAnswers.{InsertGoesTo, InsertWaitsFor}
 use Rattle.brin_insert.specs.InsertCalls.{InsertCalls, LastCall, OneMoreCall}
 use Rattle.brin_insert.proofs.Turning.{pick_same}
 
@@ -53,3 +53,14 @@ module _ (keep : RunsKeep) (s : ℕ) where
       ends s calls (table_state old u) (table_state new (task_turned s after u)) (step old new before after point goes u at kept) kept (inserting_then old new before after point goes u at kept inserting)
       (steps_alone calls new after rest (task_turned s after u) (pick_same s after (u.task s)) (kept_then old new before after point goes u at kept)) in
       omega (arith, few)
+
+-- a step is one of a machine, whatever tuples were unnamed at the opening
+pub machine_steps : (s : ℕ) (old new : ShownTable) (before after : Task) (point : Point) → InsertGoesTo s old new before after point → MachineSteps s old new before after
+machine_steps s old new before after point goes u at kept = (
+  u.unnamed,
+  λ i x is. is,
+  record { between = table_state new (task_turned s (goes u at kept).0 u); does = (goes u at kept).1.does; settles = (goes u at kept).2 },
+)
+
+pub machine_waits : (s at page : ℕ) (shown : ShownTable) (task : Task) → InsertWaitsFor s shown task at page → MachineWaits s shown task
+machine_waits s at page shown task waits u is kept = (waits u is kept).0

@@ -24,13 +24,13 @@ use Rattle.index_steps.specs.IndexTuples.{shape_of}
 use Rattle.brin_insert.specs.declared.insert.Insert.{Insert}
 use Rattle.brin_insert.specs.declared.stage.Stage.{Stage}
 use Rattle.brin_insert.specs.declared.stage.Stage.TheVariants as stages
-use Rattle.brin_insert.specs.InsertAnswers.{InsertDid, InsertGoesTo, account_of}
+use Rattle.brin_insert.specs.InsertAnswers.{InsertDid, InsertGoesTo, IsLeftBy, account_of}
 use Rattle.brin_insert.specs.InsertHands.{InsertHand}
-use Rattle.brin_insert.specs.InsertSteps.{on_index}
+use Rattle.brin_insert.specs.InsertSteps.{IsAtWork, on_index}
 use Rattle.brin_insert.specs.Inserts.{AsksNothing, HasReached, numbers_in, task_at, task_in, task_of, work_of}
 use Rattle.brin_insert.specs.ShownRows.{shown_by}
 use Rattle.brin_insert.specs.ShownTable.{indexes_of, shown_at}
-use Rattle.brin_insert.proofs.Tasks.{task_is}
+use Rattle.brin_insert.proofs.Tasks.{left_with, task_is}
 use Rattle.brin_insert.proofs.Turning.{comes_to_index, goes_by, is_complete}
 
 past_end : {X : Type 0} (xs : List X) (i : ℕ) → slice_get xs i ≡ None → length xs ≤ i
@@ -92,3 +92,11 @@ module _ (layout : DiskLayout) (paged : PageMap) (locked : LockState) (s place :
       by_work : (o : Option InsertHand) → work_of new ≡ o → HasReached point answer o → InsertDid s place shown now before (task_of layout new) answer
       by_work None none is = subst (λ (d : Did). InsertDid s place shown now before (task_of layout new) d) (sym is) (completes none, rests none)
       by_work (Some hand) got is = subst (λ (d : Did). InsertDid s place shown now before (task_of layout new) d) (sym is.0) (goes_on hand got is.1, inserting hand got is.1)
+
+-- it has a step left there, or is complete
+pub left_by : (insert : Insert) (x : Spot) (point : Point) (answer : Did) → insert.place ≡ Some x → HasReached point answer (work_of insert) → IsLeftBy insert answer
+left_by insert x point answer placed reached = by_work (work_of insert) refl reached
+  where
+    by_work : (o : Option InsertHand) → work_of insert ≡ o → HasReached point answer o → IsLeftBy insert answer
+    by_work None none is = subst (λ (d : Did). IsLeftBy insert d) (sym is) tt
+    by_work (Some hand) got is = subst (λ (d : Did). IsLeftBy insert d) (sym is.0) (left_with insert.place insert.works.items insert.at x hand placed got (subst (λ (q : Stage). IsAtWork q) (sym is.1) tt))

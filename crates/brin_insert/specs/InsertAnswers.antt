@@ -61,10 +61,12 @@ pub record InsertStepped (layout : DiskLayout) (pages paged : PageMap) (locks lo
   pub has : HasBlocks layout paged old.row.table after
   pub came : InsertDid s old.at (shown_by layout pages locks old.row.table blocks) (shown_by layout paged locked old.row.table after) (task_of layout old) (task_of layout new) answer
 
--- unless it is complete, it has a step left
+-- unless it is complete, it has a step left; it waits for no summarise lock
 abbrev pub IsLeftBy : Insert → Did → Type 0
+IsLeftBy insert (did.Moved point) = HasStepLeft insert
 IsLeftBy insert (did.Finished point) = Unit {0}
-IsLeftBy insert answer = HasStepLeft insert
+IsLeftBy insert (did.Blocked held) = HasStepLeft insert
+IsLeftBy insert (did.NoRight by) = ⊥
 
 -- the relation that its next step may change: the heap's, or that of the index that it is at
 abbrev pub relation_in : DiskLayout → (table : ℕ) → Option Spot → Option InsertHand → ℕ

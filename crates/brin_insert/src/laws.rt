@@ -12,7 +12,7 @@ ghost use Rattle.page_store.specs.PageMap.{PageMap};
 ghost use Rattle.page_locks.specs.LockHolders.{LockState};
 ghost use Rattle.range_tuple.specs.TupleBytes.{tuple_bytes};
 ghost use Rattle.range_tuple.specs.Tuples.{Tuple};
-ghost use Rattle.table_coverage.specs.Machines.{ShownTable, Unseen, table_state};
+ghost use Rattle.table_coverage.specs.Machines.{MachineSteps, MachineWaits, ShownTable, Unseen, table_state};
 ghost use Rattle.table_coverage.specs.Table.{Inserts, Task};
 ghost use Rattle.table_coverage.specs.TableCovered.{IsTableKept};
 ghost use Rattle.index_contents.specs.IndexContents.{contents};
@@ -21,7 +21,7 @@ ghost use Rattle.index_steps.specs.MoveEnds.{IsMoving};
 ghost use Rattle.brin_insert.specs.declared.stage.Stage.{Stage as AnyStage};
 ghost use Rattle.brin_insert.specs.declared.stage.Stage.TheVariants as stages;
 ghost use Rattle.brin_insert.specs.InsertCalls.{InsertCalls};
-ghost use Rattle.brin_insert.specs.InsertAnswers.{InsertWaitsFor, IsInsertFull};
+ghost use Rattle.brin_insert.specs.InsertAnswers.{InsertGoesTo, InsertWaitsFor, IsInsertFull};
 ghost use Rattle.brin_insert.specs.InsertSteps.{StepWaits, insert_at, on_index};
 ghost use Rattle.brin_insert.specs.RowSteps.{PutsRowOf, RowBegins};
 ghost use Rattle.brin_insert.specs.ShownRows.{ShowsKept};
@@ -64,6 +64,13 @@ pub fn an_insert_ends_alone()
     statements_go_on();
     table_stays_covered();
 }
+
+/// A step of an insert is one of a machine of its session in the table, and an insert that waits is a machine that waits: so the table is kept
+/// for the next step (`machines_keep` of table_coverage). Does nothing.
+pub fn an_insert_is_a_machine_of_its_table()
+    ensures steps { (s : ℕ) (old new : ShownTable) (before after : Task) (point : Point) → InsertGoesTo s old new before after point → MachineSteps s old new before after }
+    ensures waits { (s at page : ℕ) (shown : ShownTable) (task : Task) → InsertWaitsFor s shown task at page → MachineWaits s shown task }
+{}
 
 /// In a table that is kept, the move that an insert has in hand stands as it has to, and nothing that its next step reads is damaged. Does
 /// nothing.

@@ -15,5 +15,7 @@ mod stage;
 
 pub use index_insert::IndexInsert;
 pub use insert::Insert;
-pub use laws::{an_insert_ends_alone, an_insert_steps_in_its_table};
+pub use laws::{
+    an_insert_ends_alone, an_insert_is_a_machine_of_its_table, an_insert_steps_in_its_table,
+};
 pub use stage::Stage;

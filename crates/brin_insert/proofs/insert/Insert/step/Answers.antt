@@ -2,6 +2,7 @@ use Rattle.std.proofs.Common.{◌≡◌, ◌≢◌, ◌<◌, ◌≤◌, ℕ, suc
 use Rattle.std.specs.Vec.{with_item}
 use Rattle.std.proofs.lemmas.Option.{slice_get_within}
 use Rattle.block_model.specs.declared.place.Spot.{Spot}
+use Rattle.block_model.specs.declared.reply.Point.TheVariants as points
 use Rattle.block_model.specs.declared.value.Value.{Value}
 use Rattle.store_layout.specs.DiskLayout.{DiskLayout}
 use Rattle.page_store.specs.Keeps.{Tells, Untold}
@@ -22,6 +23,7 @@ use Rattle.brin_insert.specs.StepAnswers.{DamageAt}
 use Rattle.brin_insert.proofs.InTable.{blocked, finished, moved, row_stepped}
 use Rattle.brin_insert.proofs.Numbers.{number_within}
 use Rattle.brin_insert.proofs.Outcomes.{index_full, index_names, index_next, index_others, machine_for}
+use Rattle.brin_insert.proofs.Reaching.{left_by}
 use Rattle.brin_insert.proofs.Tasks.{got_set, is_at_work, kept_at, left_with, made_then, made_with, number_there, own_then, range_is, same_numbers, task_stays, tuple_there, tuples_then, work_there}
 use Rattle.brin_insert.proofs.insert.Insert.step.Goals as goal
 
@@ -365,3 +367,10 @@ returns-in-Ok-clause-made g c =
     let store = c.args.pages.now in
     let old = c.args.self.now in
     made_then store.layout old c.reach-did.new.self c.requires.made c.reach-did.ensures.rest.0 c.reach-did.ensures.numbers (c.reach-did.ensures.tuples store.layout c.requires.made.tuples)
+
+pub returns-in-Ok-clause-left : goal.returns-in-Ok-clause-left
+returns-in-Ok-clause-left g c = left_by c.reach-did.new.self c.in-Ok.spot points.Row c.reach-did.result c.reach-did.ensures.rest.1 c.reach-did.ensures.reached
+
+pub returns-in-Ok-Finished-clause-left : goal.returns-in-Ok-Finished-clause-left
+returns-in-Ok-Finished-clause-left g c =
+    left_by c.reach-answer.new.self c.in-Some.spot c.in-Ok-Finished.point c.reach-answer.result (c.reach-answer.ensures.rest.1 ∙ c.in-Some.is) c.reach-answer.ensures.reached
