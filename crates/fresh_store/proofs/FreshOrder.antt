@@ -1,11 +1,11 @@
 -- the kinds of fresh pages, and their order
-use Rattle.std.proofs.Common.{◌≡◌, inl, inr, ℕ, zero, suc, ◌+◌, ◌<◌, ◌≤◌, List, length, get_or, refl, sym, ◌∙◌, ap, arith, lit<}
+use Rattle.std.proofs.Common.{◌≡◌, inl, inr, ℕ, zero, suc, ◌+◌, ◌<◌, ◌≤◌, List, length, refl, sym, ◌∙◌, ap, arith, lit<}
 use Rattle.std.specs.Prelude.{Option}
 use Rattle.std.proofs.lemmas.List.{get_or-replicate}
 use Rattle.block_model.specs.declared.place.Place.{Place}
 use Rattle.block_model.specs.declared.place.Spot.{Spot}
 use Rattle.byte_fields.specs.Fields.{number-bytes}
-use Rattle.store_layout.specs.DiskLayout.{DiskLayout, HasBoundedSizes, IsPlace, relation_blocks}
+use Rattle.store_layout.specs.DiskLayout.{DiskLayout, HasBoundedSizes, relation_blocks}
 use Rattle.store_layout.specs.RelationCounts.{blocks_of_index, blocks_of_statuses, count_relations}
 use Rattle.index_layout.specs.IndexPages.{map_bytes, meta_bytes}
 use Rattle.page_store.specs.PageMap.{block_at, block_limit}
