@@ -17,6 +17,7 @@ ghost use Rattle.index_layout.specs.IndexReading.{map_pages_of};
 ghost use Rattle.opened_pages.specs.Opens.{OpensAs};
 ghost use Rattle.logged_pages.specs.Survives.{Survives};
 ghost use Rattle.logged_pages.specs.LoggedState.{store_of};
+ghost use Rattle.logged_pages.specs.Made.{IsOfDisk};
 ghost use Rattle.logged_pages.specs.StoreFacts.{AreKnown};
 
 use crate::change::{change_page, start_page};
@@ -137,8 +138,9 @@ impl<D: Disk + Drop> PageStore<D> {
         )
     }
 
-    /// Makes every change so far durable. Where none waits no device call is made. Later: a commit calls it.
+    /// Makes every change so far durable. Where none waits no device call is made.
     pub fn flush(&mut self) -> Result<(), StoreError>
+        ensures undamaged { IfErr result IsOfDisk }
         ensures kept { Keeps D.told self.old self.new }
         ensures survives { Survives D.told (λ pages. pages ≡ self.old.pages) self.old self.new }
         ensures outcome { Outcome D.told (Untold D.told self.old) self.old self.new result }
@@ -149,6 +151,7 @@ impl<D: Disk + Drop> PageStore<D> {
 
     /// Makes every change so far durable, writes each dirty page to its place, in order of the places, and begins the log anew.
     pub fn checkpoint(&mut self) -> Result<(), StoreError>
+        ensures undamaged { IfErr result IsOfDisk }
         ensures kept { Keeps D.told self.old self.new }
         ensures survives { Survives D.told (λ pages. pages ≡ self.old.pages) self.old self.new }
         ensures outcome { Outcome D.told (Untold D.told self.old) self.old self.new result }
@@ -254,7 +257,7 @@ impl<D: Disk + Drop> PageStore<D> {
         forms[usize::from(relation)]
     }
 
-    /// The disk, as it is. No device call. Later: a store that is closed gives it back.
+    /// The disk, as it is. No device call.
     pub fn into_disk(self) -> D
         ensures { result ≡ self.disk }
     {

@@ -32,3 +32,6 @@ returns-clause-outcome g c =
 
 pub returns-clause-sure : goal.returns-clause-sure
 returns-clause-sure g c = c.checkpoint.ensures.sure
+
+pub returns-clause-undamaged : goal.returns-clause-undamaged
+returns-clause-undamaged g c = c.checkpoint.ensures.undamaged

@@ -34,3 +34,6 @@ returns-clause-outcome g c =
 
 pub returns-clause-sure : goal.returns-clause-sure
 returns-clause-sure g c = c.flush.ensures.sure
+
+pub returns-clause-undamaged : goal.returns-clause-undamaged
+returns-clause-undamaged g c = c.flush.ensures.undamaged
