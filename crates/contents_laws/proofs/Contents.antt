@@ -174,12 +174,14 @@ module _ (shape : IndexShape) (lawful : IsLawfulShape shape) (sound : AreSoundTu
       let small : range < 2 ^ 32 = omega (arith, below, ranges_are shape) in
       let empty = sound.empty range true shape.columns shape.parts small (classes_are shape) in
       let own : as_seen u ≡ (contents_of shape).empty range = sym (empty_is shape range) in
-      subst (λ (t : IndexTuple). IsFormed (contents_of shape) t × IsEmptyPlaceholder range t) own
-      (formed u empty.of, record {
-        of = of_range u empty.of;
-        placeholder = of_sort u empty.of;
-        includes = λ r. false_from_ne_true ((as_seen u).includes r) (λ is. empty.nothing (row_values shape r) (included u r empty.of is));
-      })
+      subst (λ (t : IndexTuple). IsFormed (contents_of shape) t × IsEmptyPlaceholder range t) own (
+        formed u empty.of,
+        record {
+          of = of_range u empty.of;
+          placeholder = of_sort u empty.of;
+          includes = λ r. false_from_ne_true ((as_seen u).includes r) (λ is. empty.nothing (row_values shape r) (included u r empty.of is));
+        },
+      )
 
   -- ---- a row added
 
@@ -199,13 +201,15 @@ module _ (shape : IndexShape) (lawful : IsLawfulShape shape) (sound : AreSoundTu
       let v = with_row (row_values shape r) u in
       let widens = widened r u one.of in
       subst (λ (s : IndexTuple). IsFormed (contents_of shape) ((contents_of shape).added r s) × IsAdded r s ((contents_of shape).added r s)) (sym one.is)
-      (subst (λ (s : IndexTuple). IsFormed (contents_of shape) s × IsAdded r (as_seen u) s) (sym (added_seen r u one.of))
-      (formed v widens.of, record {
-        range = of_range v widens.of ∙ sym (of_range u one.of);
-        placeholder = of_sort v widens.of ∙ sym (of_sort u one.of);
-        wider = λ row is. includes v row widens.of (widens.kept (row_values shape row) (included u row one.of is));
-        row = includes v r widens.of widens.row;
-      }))
+      (subst (λ (s : IndexTuple). IsFormed (contents_of shape) s × IsAdded r (as_seen u) s) (sym (added_seen r u one.of)) (
+        formed v widens.of,
+        record {
+          range = of_range v widens.of ∙ sym (of_range u one.of);
+          placeholder = of_sort v widens.of ∙ sym (of_sort u one.of);
+          wider = λ row is. includes v row widens.of (widens.kept (row_values shape row) (included u row one.of is));
+          row = includes v r widens.of widens.row;
+        },
+      ))
 
   -- ---- two united
 
@@ -232,13 +236,15 @@ module _ (shape : IndexShape) (lawful : IsLawfulShape shape) (sound : AreSoundTu
       let final : OfIndex v = final_of (united_tuple u other) unites.of in
       subst (λ (s : IndexTuple). IsFormed (contents_of shape) ((contents_of shape).united s result) × IsUnited result s ((contents_of shape).united s result)) (sym one.is)
       (subst (λ (s : IndexTuple). IsFormed (contents_of shape) ((contents_of shape).united (as_seen u) s) × IsUnited s (as_seen u) ((contents_of shape).united (as_seen u) s)) (sym two.is)
-      (subst (λ (s : IndexTuple). IsFormed (contents_of shape) s × IsUnited (as_seen other) (as_seen u) s) (sym (united_seen u other one.of two.of))
-      (formed v final, record {
-        range = of_range v final ∙ sym (of_range u one.of);
-        placeholder = of_sort v final;
-        wider = λ row is. includes v row final (unites.first (row_values shape row) (included u row one.of is));
-        united = λ row is. includes v row final (unites.second (row_values shape row) (included other row two.of is));
-      })))
+      (subst (λ (s : IndexTuple). IsFormed (contents_of shape) s × IsUnited (as_seen other) (as_seen u) s) (sym (united_seen u other one.of two.of)) (
+        formed v final,
+        record {
+          range = of_range v final ∙ sym (of_range u one.of);
+          placeholder = of_sort v final;
+          wider = λ row is. includes v row final (unites.first (row_values shape row) (included u row one.of is));
+          united = λ row is. includes v row final (unites.second (row_values shape row) (included other row two.of is));
+        },
+      )))
 
   pub lawful_contents : AreLawful (contents_of shape)
   lawful_contents = record {
