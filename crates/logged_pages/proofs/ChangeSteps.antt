@@ -1,16 +1,14 @@
 -- the parts of a change of a page, one after the other
-use Rattle.std.proofs.Common.{◌≡◌, ◌≢◌, ℕ, ◌≤◌, ◌+◌, ◌||◌, Bool, true, false, List, [], ◌∷◌, ◌++◌, length, refl, sym, ap, subst, ◌∙◌, arith, length-append}
+use Rattle.std.proofs.Common.{◌≡◌, ℕ, ◌≤◌, ◌+◌, ◌||◌, Bool, true, false, List, [], ◌∷◌, length, refl, sym, ap, subst, ◌∙◌, arith, length-append}
 use Rattle.std.specs.Option.{option_map}
-use Rattle.std.specs.Prelude.{IsTrue, Option, Some, None, Result, Ok, Err, IfErr, OnErr, OnOk, IsSome, if◌then◌else◌, not}
+use Rattle.std.specs.Prelude.{IsTrue, Option, Some, None, Result, Ok, Err, IfErr, OnErr, OnOk, IsSome}
 use Rattle.block_model.specs.declared.place.Place.{Place}
 use Rattle.disk_trait.specs.Throughout.{Throughout}
 use Rattle.disk_trait.specs.Told.{Told}
 use Rattle.store_layout.specs.DiskLayout.{DiskLayout, IsPlace, page_offset}
 use Rattle.wal_record.specs.Changes.{LoggedChange, PageStart}
-use Rattle.wal_record.specs.ChangeBytes.{bytes_of, place_bytes, tagged}
-use Rattle.page_layout.specs.declared.page.Form.{Form}
-use Rattle.page_layout.specs.PageContents.{IsForm}
-use Rattle.page_redo.specs.Redo.{Fits, Means, Redone}
+use Rattle.wal_record.specs.ChangeBytes.{bytes_of, place_bytes}
+use Rattle.page_redo.specs.Redo.{Redone}
 use Rattle.page_store.specs.Changed.{Changed, redone_once}
 use Rattle.page_store.specs.declared.faults.StoreError.{StoreError}
 use Rattle.page_store.specs.declared.faults.StoreError.TheVariants as errors
@@ -21,14 +19,11 @@ use Rattle.page_store.specs.PageMap.{PageMap, View, page_at}
 use Rattle.buffer_pool.specs.PoolState.{HeldPage, PoolState, held_at}
 use Rattle.change_buffer.specs.Waiting.{Waiting}
 use Rattle.log_area.specs.Log.{Log}
-use Rattle.log_area.specs.Appended.{left_in, needed}
-use Rattle.pooled_pages.specs.ShownPages.{content_at}
 use Rattle.logged_pages.specs.Contents.{HoldsAlike}
 use Rattle.logged_pages.specs.KeptPages.{KeptPages, LeftStore}
 use Rattle.logged_pages.specs.Made.{IsDamaged, IsOfDisk}
 use Rattle.logged_pages.specs.Room.{HasRoom, IsLoggable, bytes_for, bytes_with}
 use Rattle.opened_pages.specs.Reaches.{Reaches}
-use Rattle.logged_pages.specs.KeptPages.{PagesSurvive}
 
 -- What is said of the pages after a call that changes none
 

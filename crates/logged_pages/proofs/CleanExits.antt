@@ -1,6 +1,6 @@
 -- what is left where a page is cleaned
-use Rattle.std.proofs.Common.{◌≡◌, ◌≢◌, ◌⊎◌, inl, inr, ⊎_elim, ℕ, ◌+◌, ◌<◌, ◌≤◌, Bool, true, false, List, [], ◌∷◌, length, refl, sym, ap, subst, ◌∙◌, arith}
-use Rattle.std.specs.Prelude.{IsTrue, Option, None, Some, Result, Ok, Err, OnOk}
+use Rattle.std.proofs.Common.{◌≡◌, ◌≢◌, inl, inr, ⊎_elim, ℕ, ◌+◌, ◌<◌, ◌≤◌, Bool, true, false, length, refl, sym, ap, subst, ◌∙◌, arith}
+use Rattle.std.specs.Prelude.{Option, None, Some, Result, Ok, Err, OnOk}
 use Rattle.std.specs.Option.{option_map}
 use Rattle.std.proofs.lemmas.Bool.{cases_eq, cases_lt}
 use Rattle.block_model.specs.NumberMaps.{none_Some, same_Some}
@@ -8,8 +8,8 @@ use Rattle.store_layout.specs.PagesFillDisk.{PagesFillDisk}
 use Rattle.disk_trait.specs.Told.{Told}
 use Rattle.disk_trait.specs.declared.disk.DiskFault.{DiskFault}
 use Rattle.buffer_pool.specs.NextDirty.{IsNextDirty}
-use Rattle.buffer_pool.specs.PoolState.{HeldPage, PoolState, IsClean, IsDirty, held_at, with_page}
-use Rattle.buffer_pool.specs.WritesPage.{Cleans, CleansOne, CleansPage, Fails, FindsNone, WritesAt, place_of}
+use Rattle.buffer_pool.specs.PoolState.{HeldPage, PoolState, IsClean, IsDirty, held_at}
+use Rattle.buffer_pool.specs.WritesPage.{Cleans, CleansOne, CleansPage, Fails}
 use Rattle.log_area.specs.Log.{Log}
 use Rattle.change_buffer.specs.Waiting.{Waiting, no_changes}
 use Rattle.logged_pages.specs.Clean.{AreClean}

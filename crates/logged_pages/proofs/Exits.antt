@@ -1,5 +1,5 @@
 -- what each step keeps of the store
-use Rattle.std.proofs.Common.{◌≡◌, ◌≢◌, inl, inr, ℕ, ◌+◌, ◌^◌, ◌<◌, ◌≤◌, Bool, true, false, List, [], ◌∷◌, length, refl, sym, ap, subst, ◌∙◌, arith}
+use Rattle.std.proofs.Common.{◌≡◌, inl, ℕ, ◌+◌, ◌^◌, ◌<◌, ◌≤◌, Bool, false, List, length, refl, sym, ap, subst, ◌∙◌, arith}
 use Rattle.std.specs.Prelude.{IfSome, IsTrue, Option, None, Some}
 use Rattle.block_model.specs.declared.limits.TheConstants.{PAGE_SIZE}
 use Rattle.block_model.specs.declared.place.Place.{Place}
@@ -24,7 +24,7 @@ use Rattle.pooled_pages.specs.ShownLaws.{offset_of}
 use Rattle.pooled_pages.specs.ShownPages.{shown_pages}
 use Rattle.logged_pages.specs.Clean.{AreClean}
 use Rattle.logged_pages.specs.Contents.{HoldsAlike}
-use Rattle.logged_pages.specs.KeptPages.{KeptPages, LeftStore}
+use Rattle.logged_pages.specs.KeptPages.{KeptPages}
 use Rattle.logged_pages.specs.LoggedState.{LoggedState, store_of}
 use Rattle.logged_pages.proofs.LogSteps.{IsSame, same_opens, switch_opens, switch_pages, sync_moments}
 use Rattle.logged_pages.proofs.PoolSteps.{Forgets, write_moments, write_opens, write_pages}

@@ -1,6 +1,6 @@
 -- a change of a page in the pool, behind the page as it was
-use Rattle.std.proofs.Common.{◌≡◌, ℕ, ◌+◌, Bool, true, false, ◌||◌, cond, List, [], ◌∷◌, ◌++◌, length, set, get_or, refl, sym, ap, subst, ◌∙◌, arith, length-append}
-use Rattle.std.specs.Prelude.{Option, Some}
+use Rattle.std.proofs.Common.{◌≡◌, ℕ, ◌+◌, Bool, true, false, ◌||◌, cond, List, [], ◌∷◌, length, set, get_or, refl, sym, ap, subst, ◌∙◌, arith, length-append}
+use Rattle.std.specs.Prelude.{Some}
 use Rattle.std.proofs.lemmas.List.{set-set}
 use Rattle.std.specs.List.{AllByRecursion}
 use Rattle.block_model.specs.declared.limits.TheConstants.{PAGE_SIZE}
@@ -16,7 +16,7 @@ use Rattle.buffer_pool.specs.PoolState.{HeldPage, PoolState, held_at}
 use Rattle.change_buffer.specs.Waiting.{Waiting, with_change}
 use Rattle.logged_pages.specs.Begun.{HoldsOf, MakesHeld, RedoesHeld, begin_with, logged_for, marked_from, with_changes}
 use Rattle.logged_pages.proofs.MakeSteps.{full_length}
-use Rattle.logged_pages.specs.Room.{bytes_for, bytes_with, is_anew}
+use Rattle.logged_pages.specs.Room.{bytes_for, is_anew}
 
 with_more : (begun : Bool) (waiting : Waiting) (place : Place) (page : List ℕ) (change : LoggedChange) → with_change (with_changes waiting (begin_with begun place page)) change ≡ with_changes waiting (logged_for begun place page change)
 with_more true waiting place page change = refl

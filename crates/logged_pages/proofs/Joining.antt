@@ -1,16 +1,16 @@
 -- calls one after the other
-use Rattle.std.proofs.Common.{◌≡◌, ◌∙◌, ℕ, ◌≤◌, refl, sym, ap, subst, arith}
-use Rattle.std.specs.Prelude.{Option, Some, None, Result, Ok, Err, IfErr}
+use Rattle.std.proofs.Common.{◌≡◌, ◌∙◌, sym, arith}
+use Rattle.std.specs.Prelude.{Some, None, Result, Ok, Err}
 use Rattle.block_model.specs.Causes.{rose_earlier}
 use Rattle.disk_trait.specs.Told.{Told}
 use Rattle.page_store.specs.declared.faults.StoreError.{StoreError}
 use Rattle.page_store.specs.declared.faults.StoreError.TheVariants as errors
 use Rattle.page_store.specs.Keeps.{Untold}
-use Rattle.page_store.specs.Outcome.{Outcome, Refused}
+use Rattle.page_store.specs.Outcome.{Outcome}
 use Rattle.page_store.specs.PageMap.{View}
 use Rattle.buffer_pool.specs.PoolState.{PoolState}
 use Rattle.logged_pages.specs.Contents.{HoldsAlike}
-use Rattle.logged_pages.specs.KeptPages.{KeptPages, LeftStore}
+use Rattle.logged_pages.specs.KeptPages.{LeftStore}
 
 -- the second one's answer is that of both
 pub outcome_then : {D T : Type 0} (told : D → Told) (old mid new : View D) (result : Result T StoreError) → old.failed ≡ None → mid.failed ≡ None → LeftStore told old mid → Outcome told (Untold told mid) mid new result → Outcome told (Untold told old) old new result

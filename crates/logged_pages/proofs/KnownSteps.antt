@@ -1,12 +1,11 @@
 -- the facts of a store after a call
-use Rattle.std.proofs.Common.{◌≡◌, ◌≢◌, ◌⊎◌, inl, inr, ⊎_elim, ℕ, Bool, List, [], ◌∷◌, length, refl, sym, ap, subst, ◌∙◌}
-use Rattle.std.specs.Prelude.{IsTrue, Option, None, Some, unwrap_or}
+use Rattle.std.proofs.Common.{◌≡◌, ◌≢◌, ⊎_elim, ℕ, Bool, List, sym, ap, subst, ◌∙◌}
+use Rattle.std.specs.Prelude.{IsTrue, Option, Some, unwrap_or}
 use Rattle.block_model.specs.declared.place.Place.{Place}
 use Rattle.block_model.specs.NumberMaps.{same_Some}
 use Rattle.store_layout.specs.DiskLayout.{DiskLayout, IsPlace}
 use Rattle.store_layout.specs.PagesFillDisk.{PagesFillDisk}
 use Rattle.disk_trait.specs.Told.{Told}
-use Rattle.page_layout.specs.declared.page.Form.{Form}
 use Rattle.wal_record.specs.Changes.{LoggedChange}
 use Rattle.page_store.specs.declared.facts.PageFacts.{PageFacts}
 use Rattle.page_store.specs.Changed.{Changed}
@@ -20,9 +19,8 @@ use Rattle.pooled_pages.specs.ShownLaws.{one_number, shown_at}
 use Rattle.pooled_pages.specs.ShownPages.{content_at, shown_pages}
 use Rattle.logged_pages.specs.Contents.{AddsOnly, HoldsAlike}
 use Rattle.logged_pages.proofs.FactSteps.{known_still, noted_known}
-use Rattle.logged_pages.specs.KeptPages.{KeptPages, LeftStore}
+use Rattle.logged_pages.specs.KeptPages.{KeptPages}
 use Rattle.logged_pages.specs.LoggedState.{LoggedState, store_of}
-use Rattle.logged_pages.specs.Made.{MakesPage}
 use Rattle.logged_pages.specs.Noted.{noted}
 use Rattle.logged_pages.specs.StoreFacts.{AreFactsOf, AreKnown}
 

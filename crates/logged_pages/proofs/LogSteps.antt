@@ -1,12 +1,11 @@
 -- a sync, and a log that is begun anew
-use Rattle.std.proofs.Common.{◌≡◌, ◌≢◌, ◌⊎◌, inl, inr, ⊎_elim, ℕ, ◌+◌, ◌*◌, ◌<◌, ◌≤◌, Bool, true, false, List, [], length, drop, get_or, refl, sym, ap, subst, ◌∙◌, arith}
+use Rattle.std.proofs.Common.{◌≡◌, inr, ⊎_elim, ℕ, ◌+◌, ◌*◌, ◌<◌, ◌≤◌, Bool, false, List, [], length, drop, refl, sym, ap, subst, ◌∙◌, arith}
 use Rattle.std.specs.Prelude.{IsTrue, Option, None, Some, unwrap_or}
 use Rattle.std.specs.Option.{option_map}
 use Rattle.std.specs.Prelude.{replicate}
 use Rattle.std.proofs.lemmas.Bool.{cases_lt}
 use Rattle.std.proofs.lemmas.List.{get_or-replicate, get_or_past, length-replicate}
 use Rattle.block_model.specs.declared.place.Place.{Place}
-use Rattle.block_model.specs.NumberMaps.{none_Some}
 use Rattle.store_layout.specs.DiskLayout.{DiskLayout, IsPlace}
 use Rattle.store_layout.specs.PagesFillDisk.{PagesFillDisk}
 use Rattle.disk_trait.specs.Follows.{Follows}
@@ -24,12 +23,11 @@ use Rattle.page_store.specs.PageMap.{PageMap, page_at}
 use Rattle.wal_record.specs.Changes.{LoggedChange}
 use Rattle.opened_pages.specs.Opens.{disk_page}
 use Rattle.opened_pages.specs.Reaches.{OpensToOr}
-use Rattle.pooled_pages.specs.InPool.{Holds}
 use Rattle.pooled_pages.specs.PageNumbers.{page_number}
 use Rattle.pooled_pages.specs.Safe.{IsSafe, is_marked}
 use Rattle.pooled_pages.specs.SafeLaws.{SamePages, same_pages, switch_reaches, switched_safe}
 use Rattle.pooled_pages.specs.ShownLaws.{shown_at, shown_whole}
-use Rattle.pooled_pages.specs.ShownPages.{content_at, shown_page, shown_pages}
+use Rattle.pooled_pages.specs.ShownPages.{shown_page, shown_pages}
 use Rattle.logged_pages.specs.Clean.{AreClean}
 use Rattle.logged_pages.specs.Standing.{IsSound, IsStanding}
 use Rattle.logged_pages.proofs.Steps.{OneByOne, checked_map, no_bytes, pages_alike, shown_alike}

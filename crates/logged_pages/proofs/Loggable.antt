@@ -1,25 +1,23 @@
 -- changes that fit can be logged
-use Rattle.std.proofs.Common.{◌≡◌, ◌≢◌, ◌⊎◌, inl, inr, ⊎_elim, ℕ, zero, suc, ◌+◌, ◌*◌, ◌%◌, ◌/◌, ◌<◌, ◌≤◌, ◌&&◌, Bool, true, false, nat_le, nat_lt, List, [], ◌∷◌, ◌++◌, length, get_or, refl, sym, ap, subst, ◌∙◌, arith, length-append}
-use Rattle.std.specs.Prelude.{Option, None, Some, slice_get}
+use Rattle.std.proofs.Common.{◌≡◌, inl, inr, ℕ, zero, suc, ◌+◌, ◌*◌, ◌%◌, ◌/◌, ◌≤◌, ◌&&◌, true, nat_le, nat_lt, List, [], ◌∷◌, ◌++◌, length, get_or, refl, ap, arith, length-append}
+use Rattle.std.specs.Prelude.{None, Some, slice_get}
 use Rattle.std.specs.Int.{bytes_high_first}
-use Rattle.std.proofs.lemmas.Bool.{and_parts, eq-eqb, false≢true, leb-true, ltb-true}
+use Rattle.std.proofs.lemmas.Bool.{and_parts, false≢true, leb-true, ltb-true}
 use Rattle.std.proofs.lemmas.Option.{slice_get_within}
-use Rattle.block_model.specs.declared.limits.TheConstants.{PAGE_SIZE}
 use Rattle.block_model.specs.declared.place.Place.{Place}
-use Rattle.block_model.specs.RowSize.{row_size}
 use Rattle.byte_fields.specs.Fields.{length-number}
-use Rattle.index_layout.specs.IndexPages.{IsIndexPage, IsRegular, Slot, taken, tuple_bytes}
+use Rattle.index_layout.specs.IndexPages.{Slot, taken, tuple_bytes}
 use Rattle.index_layout.specs.IndexReading.{is_regular, slots_of}
-use Rattle.index_layout.specs.IndexWrites.{CanDrop, CanPut, CanReplace, IsRoom, are_ascending as tuples_ascend}
+use Rattle.index_layout.specs.IndexWrites.{IsRoom, are_ascending as tuples_ascend}
 use Rattle.index_layout.proofs.Reading.{regular_of}
 use Rattle.page_layout.specs.declared.page.Form.{Form}
 use Rattle.page_layout.specs.declared.page.Form.TheVariants as forms
 use Rattle.page_layout.specs.FreeSlots.{slot_count}
-use Rattle.page_layout.specs.PageContents.{HasSlots, IsForm, IsPageOf, IsRowOf}
+use Rattle.page_layout.specs.PageContents.{IsForm, IsPageOf, IsRowOf}
 use Rattle.page_layout.specs.IndexLaws.{page_index}
 use Rattle.page_layout.proofs.OnPages.{row_sound}
 use Rattle.page_redo.specs.Redo.{Fits, IsFreeSlot, are_ascending}
-use Rattle.wal_record.specs.Changes.{AreSlots, LoggedChange, FullPage, PageStart, RowPut, RowMark, RowsDrop, TuplePut, TupleReplace, TupleDrop, Evacuate, MapPage, MapSet, MetaSet, StatusSet}
+use Rattle.wal_record.specs.Changes.{LoggedChange, FullPage, PageStart, RowPut, RowMark, RowsDrop, TuplePut, TupleReplace, TupleDrop, Evacuate, MapPage, MapSet, MetaSet, StatusSet}
 use Rattle.wal_record.specs.ChangeBytes.{bytes_of, counted_slots, place_bytes, put_bytes, spot_bytes, tagged}
 use Rattle.logged_pages.specs.Room.{IsLoggable}
 

@@ -1,26 +1,22 @@
 -- what is left where a change is made
 use Rattle.std.proofs.lemmas.Bool.{cases_eq, false≢true}
-use Rattle.std.proofs.Common.{◌≡◌, ◌≢◌, ◌⊎◌, inl, inr, ⊎_elim, ℕ, ◌+◌, ◌*◌, ◌<◌, ◌≤◌, Bool, true, false, ◌||◌, List, [], ◌∷◌, length, set, refl, sym, ap, subst, ◌∙◌, arith}
+use Rattle.std.proofs.Common.{◌≡◌, ◌≢◌, ⊎_elim, ℕ, ◌+◌, ◌*◌, ◌<◌, ◌≤◌, Bool, true, List, [], ◌∷◌, length, refl, sym, ap, subst, ◌∙◌, arith}
 use Rattle.std.specs.Prelude.{IsTrue, IsSome, Option, None, Some, unwrap_or}
 use Rattle.std.specs.Option.{option_map}
-use Rattle.std.proofs.lemmas.List.{get_or-set_same}
 use Rattle.block_model.specs.declared.limits.TheConstants.{PAGE_SIZE}
 use Rattle.block_model.specs.declared.place.Place.{Place}
 use Rattle.block_model.specs.NumberMaps.{none_Some, same_Some}
 use Rattle.store_layout.specs.DiskLayout.{DiskLayout, IsPlace}
 use Rattle.store_layout.specs.PagesFillDisk.{PagesFillDisk}
 use Rattle.disk_trait.specs.Told.{Told}
-use Rattle.page_layout.specs.declared.page.Form.{Form}
-use Rattle.page_layout.specs.PageContents.{IsPageOf}
 use Rattle.wal_record.specs.Changes.{LoggedChange, place_of}
-use Rattle.buffer_pool.specs.PoolState.{HeldPage, PoolState, held_at, with_page}
+use Rattle.buffer_pool.specs.PoolState.{HeldPage, PoolState, held_at}
 use Rattle.change_buffer.specs.Waiting.{Waiting}
 use Rattle.page_redo.specs.Redo.{Fits}
 use Rattle.page_store.specs.Changed.{Changed}
 use Rattle.page_store.specs.PageMap.{page_at}
 use Rattle.opened_pages.specs.Opens.{disk_page}
 use Rattle.page_store.specs.Forms.{FitsIn, IsPageIn, form_of}
-use Rattle.pooled_pages.specs.InPool.{IsHeldPage}
 use Rattle.pooled_pages.specs.PageNumbers.{page_number}
 use Rattle.pooled_pages.specs.Safe.{is_marked}
 use Rattle.pooled_pages.specs.ShownLaws.{one_number, shown_at}

@@ -1,6 +1,6 @@
 -- a change of a page that is held
 use Rattle.std.proofs.Common.{◌≡◌, ◌≢◌, ◌⊎◌, inl, inr, ⊎_elim, ℕ, ◌+◌, ◌*◌, ◌<◌, ◌≤◌, Bool, true, false, cond, ◌&&◌, ◌||◌, ◌==◌, List, [], ◌∷◌, ◌++◌, length, set, get_or, refl, sym, ap, subst, ◌∙◌, arith, append_assoc, length-append, eq-eqb}
-use Rattle.std.specs.Prelude.{IsTrue, Option, None, Some, unwrap_or}
+use Rattle.std.specs.Prelude.{Option, None, Some, unwrap_or}
 use Rattle.std.specs.List.{AllByRecursion}
 use Rattle.std.specs.Option.{option_map}
 use Rattle.std.proofs.lemmas.Bool.{and_from, and_parts, cases_Bool, cases_eq, cases_lt, eqb-true, false≢true}
@@ -16,24 +16,23 @@ use Rattle.page_layout.specs.declared.page.Form.{Form}
 use Rattle.page_redo.specs.Redo.{IsAnew, Redone}
 use Rattle.wal_record.specs.Changes.{IsChange, LoggedChange, FullPage, PageStart, RowPut, RowMark, RowsDrop, TuplePut, TupleReplace, TupleDrop, Evacuate, MapPage, MapSet, MetaSet, StatusSet, place_of}
 use Rattle.wal_record.specs.ChangeBytes.{bytes_of, place_bytes}
-use Rattle.buffer_pool.specs.PoolState.{HeldPage, PoolState, held_at, with_page}
+use Rattle.buffer_pool.specs.PoolState.{HeldPage, PoolState, held_at}
 use Rattle.change_buffer.specs.Waiting.{Waiting, with_change}
 use Rattle.page_store.specs.Changed.{Changed}
 use Rattle.page_store.specs.Forms.{IsPageIn, form_of}
-use Rattle.page_store.specs.PageMap.{IsWhole, PageMap, block_limit, page_at, unstarted_page}
+use Rattle.page_store.specs.PageMap.{PageMap, block_limit, page_at, unstarted_page}
 use Rattle.page_store.proofs.Maps.{blocks_in, relations_in}
 use Rattle.opened_pages.specs.LoggedChanges.{AreChangesOf, BeginAnew, changes_at}
 use Rattle.opened_pages.specs.Opens.{disk_page}
-use Rattle.pooled_pages.specs.InPool.{Holds, IsHeldPage}
 use Rattle.pooled_pages.specs.PageNumbers.{page_number}
-use Rattle.pooled_pages.specs.Safe.{IsSafe, Rebuilds, is_marked}
+use Rattle.pooled_pages.specs.Safe.{Rebuilds, is_marked}
 use Rattle.pooled_pages.specs.SafeLaws.{all_append, at_append}
 use Rattle.pooled_pages.specs.ShownLaws.{one_number, same_place, shown_at, shown_whole}
-use Rattle.pooled_pages.specs.ShownPages.{content_at, shown_page, shown_pages}
-use Rattle.logged_pages.specs.Begun.{MakesHeld, RedoesHeld, Touched, begin_with, logged_for, with_changes}
+use Rattle.pooled_pages.specs.ShownPages.{shown_page, shown_pages}
+use Rattle.logged_pages.specs.Begun.{MakesHeld, Touched, logged_for, with_changes}
 use Rattle.logged_pages.proofs.PoolSteps.{put_apart, put_here}
 use Rattle.logged_pages.specs.Room.{HasRoom, bytes_for, is_anew}
-use Rattle.logged_pages.specs.Standing.{IsSound, IsStanding}
+use Rattle.logged_pages.specs.Standing.{IsStanding}
 
 -- changes go on behind others
 abbrev pub GoesBehind : Type 0

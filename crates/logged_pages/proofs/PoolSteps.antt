@@ -1,17 +1,15 @@
 -- steps of a store with pages of its pool
-use Rattle.std.proofs.Common.{◌≡◌, ◌≢◌, ◌⊎◌, inl, inr, ⊎_elim, ℕ, ◌+◌, ◌*◌, ◌<◌, ◌≤◌, Bool, true, false, List, [], ◌∷◌, ◌++◌, length, take, drop, get_or, refl, sym, ap, subst, ◌∙◌, arith, append_assoc}
+use Rattle.std.proofs.Common.{◌≡◌, ◌≢◌, ◌⊎◌, inl, inr, ⊎_elim, ℕ, ◌+◌, ◌<◌, ◌≤◌, Bool, true, List, [], ◌∷◌, ◌++◌, length, take, drop, refl, sym, ap, subst, ◌∙◌, arith, append_assoc}
 use Rattle.std.proofs.lemmas.List.{drop_at, length-take-le, take_at}
 use Rattle.std.specs.Prelude.{IsTrue, Option, None, Some, unwrap_or}
-use Rattle.std.specs.FinMap as map
 use Rattle.std.specs.Option.{option_map}
 use Rattle.std.proofs.lemmas.Bool.{cases_eq}
 use Rattle.std.proofs.lemmas.Cmp.{nat_cmp_total}
 use Rattle.block_model.specs.declared.limits.TheConstants.{PAGE_SIZE}
 use Rattle.block_model.specs.declared.place.Place.{Place}
-use Rattle.block_model.specs.NumberMaps.{get_put_apart, get_put_here, get_removed_apart, get_removed_here, none_Some, numbers_apart, same_Some}
+use Rattle.block_model.specs.NumberMaps.{get_put_apart, get_put_here, none_Some, numbers_apart, same_Some}
 use Rattle.store_layout.specs.DiskLayout.{DiskLayout, IsPlace, page_offset}
 use Rattle.store_layout.specs.PagesFillDisk.{PagesFillDisk}
-use Rattle.disk_trait.specs.GoesOn.{GoesOn}
 use Rattle.disk_trait.specs.RangeLaws.{torn_apart}
 use Rattle.disk_trait.specs.Spliced.{spliced}
 use Rattle.disk_trait.specs.Throughout.{Throughout}
@@ -23,23 +21,21 @@ use Rattle.log_area.specs.Log.{ComesBy, Log}
 use Rattle.page_layout.specs.declared.page.Form.{Form}
 use Rattle.page_redo.specs.Redo.{ForgetPage, IsAnew}
 use Rattle.wal_record.specs.Changes.{LoggedChange}
-use Rattle.buffer_pool.specs.PoolState.{HeldPage, PoolState, IsClean, held_at, with_page, without_page}
-use Rattle.buffer_pool.specs.SetsPage.{SetsPage}
-use Rattle.buffer_pool.specs.SetLaws.{held_after}
+use Rattle.buffer_pool.specs.PoolState.{HeldPage, PoolState, held_at, with_page}
 use Rattle.buffer_pool.specs.WritesPage.{IsCleanable, WritesAt, place_of}
 use Rattle.change_buffer.specs.Waiting.{Waiting, no_changes}
 use Rattle.page_store.specs.Forms.{IsPageIn}
-use Rattle.page_store.specs.PageMap.{PageMap, page_at}
+use Rattle.page_store.specs.PageMap.{PageMap}
 use Rattle.opened_pages.specs.LoggedChanges.{AreChangesOf, changes_at}
 use Rattle.opened_pages.specs.Opens.{disk_page}
 use Rattle.opened_pages.specs.Reaches.{OpensToOr}
-use Rattle.pooled_pages.specs.InPool.{Holds, HoldsPages, IsHeldPage, IsInPool, WaitsAtMost}
+use Rattle.pooled_pages.specs.InPool.{Holds, IsHeldPage}
 use Rattle.pooled_pages.specs.PageNumbers.{page_number}
 use Rattle.pooled_pages.specs.Safe.{IsSafe, is_marked}
 use Rattle.pooled_pages.specs.SafeLaws.{torn_reaches, torn_safe}
-use Rattle.pooled_pages.specs.ShownLaws.{offset_of, one_number, same_place, same_shown, shown_at}
+use Rattle.pooled_pages.specs.ShownLaws.{offset_of, one_number, same_place, same_shown}
 use Rattle.pooled_pages.specs.ShownPages.{content_at, shown_page, shown_pages}
-use Rattle.logged_pages.specs.Contents.{AddsOnly, HoldsAlike}
+use Rattle.logged_pages.specs.Contents.{HoldsAlike}
 use Rattle.logged_pages.specs.Room.{IsDurable}
 use Rattle.logged_pages.specs.Standing.{IsSound, IsStanding}
 use Rattle.logged_pages.proofs.Steps.{OneByOne, no_bytes}

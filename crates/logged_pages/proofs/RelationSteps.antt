@@ -1,6 +1,6 @@
 -- what the facts of a relation tell of its pages
-use Rattle.std.proofs.Common.{◌≡◌, ◌≢◌, ◌⊎◌, inl, inr, ⊎_elim, ℕ, ◌<◌, ◌≤◌, eqb, List, [], ◌∷◌, ◌++◌, length, map, get_or, refl, sym, ap, subst, ◌∙◌, arith, length-append}
-use Rattle.std.specs.Prelude.{Option, None, Some, IfSome, count_by}
+use Rattle.std.proofs.Common.{◌≡◌, inl, ⊎_elim, ℕ, ◌<◌, ◌≤◌, List, [], ◌++◌, length, map, get_or, refl, sym, ap, subst, ◌∙◌, arith, length-append}
+use Rattle.std.specs.Prelude.{Option, count_by}
 use Rattle.std.specs.List.{All}
 use Rattle.std.proofs.lemmas.Bool.{cases_lt}
 use Rattle.std.proofs.lemmas.List.{get_or-map, get_or_past, length-map}
@@ -13,11 +13,10 @@ use Rattle.index_layout.specs.IndexReading.{map_pages_of}
 use Rattle.page_layout.specs.HeapForms.{heap_form}
 use Rattle.page_layout.specs.declared.page.Form.{Form}
 use Rattle.page_layout.specs.declared.page.Form.TheVariants as forms
-use Rattle.page_layout.specs.PageContents.{IsForm, IsPageOf, IsUnstarted}
+use Rattle.page_layout.specs.PageContents.{IsForm}
 use Rattle.page_layout.specs.PageWrites.{IsOfIndex}
 use Rattle.page_store.specs.declared.facts.PageFacts.{PageFacts}
 use Rattle.page_store.specs.FactLists.{IsFirstOf, IsFirstOfIndex, tells_started}
-use Rattle.page_store.specs.Filled.{filled}
 use Rattle.page_store.specs.FirstRoom.{IsFirstRoom}
 use Rattle.page_store.specs.Forms.{HasForm, IsPageIn, form_of, forms_of}
 use Rattle.page_store.specs.PageFacts.{facts_in, facts_on, no_facts}

@@ -1,8 +1,7 @@
 -- the room of a change, once it was made
-use Rattle.std.proofs.Common.{◌≡◌, ◌⊎◌, ⊎_elim, ℕ, ◌+◌, ◌≤◌, ◌||◌, Bool, true, false, List, length, refl, sym, ap, subst, ◌∙◌, arith}
+use Rattle.std.proofs.Common.{◌≡◌, ◌⊎◌, ⊎_elim, ℕ, ◌+◌, ◌≤◌, ◌||◌, Bool, true, false, List, length, sym, ap, subst, ◌∙◌, arith}
 use Rattle.block_model.specs.declared.place.Place.{Place}
-use Rattle.store_layout.specs.DiskLayout.{DiskLayout, area_size}
-use Rattle.log_area.specs.Appended.{left_in, needed}
+use Rattle.store_layout.specs.DiskLayout.{DiskLayout}
 use Rattle.log_area.specs.Log.{Log}
 use Rattle.change_buffer.specs.Waiting.{Waiting, no_changes}
 use Rattle.pooled_pages.specs.Safe.{is_marked}

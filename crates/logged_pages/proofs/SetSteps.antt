@@ -1,5 +1,5 @@
 -- a page that is read from the disk is held
-use Rattle.std.proofs.Common.{◌≡◌, ◌≢◌, ◌⊎◌, inl, inr, ⊎_elim, ℕ, ◌+◌, ◌<◌, ◌≤◌, Bool, true, false, List, [], length, refl, sym, ap, subst, ◌∙◌, arith}
+use Rattle.std.proofs.Common.{◌≡◌, ◌≢◌, ◌⊎◌, inl, inr, ⊎_elim, ℕ, ◌+◌, Bool, List, length, refl, sym, ap, subst, ◌∙◌}
 use Rattle.std.specs.Prelude.{IsTrue, Option, None, Some, unwrap_or}
 use Rattle.std.specs.FinMap as map
 use Rattle.std.specs.Option.{option_map}
@@ -12,22 +12,19 @@ use Rattle.store_layout.specs.DiskLayout.{DiskLayout, IsPlace}
 use Rattle.store_layout.specs.PagesFillDisk.{PagesFillDisk}
 use Rattle.disk_trait.specs.Told.{Told}
 use Rattle.log_area.specs.Log.{Log}
-use Rattle.wal_record.specs.Changes.{LoggedChange}
-use Rattle.buffer_pool.specs.PoolState.{HeldPage, PoolState, IsClean, held_at, with_page, without_page}
+use Rattle.buffer_pool.specs.PoolState.{HeldPage, PoolState, IsClean, held_at}
 use Rattle.buffer_pool.specs.SetsPage.{SetsPage}
 use Rattle.buffer_pool.specs.SetLaws.{held_after}
 use Rattle.change_buffer.specs.Waiting.{Waiting}
 use Rattle.page_store.specs.Forms.{IsPageIn}
 use Rattle.page_store.specs.PageMap.{PageMap, page_at}
-use Rattle.opened_pages.specs.LoggedChanges.{changes_at}
 use Rattle.opened_pages.specs.Opens.{disk_page}
-use Rattle.pooled_pages.specs.InPool.{Holds, IsHeldPage}
 use Rattle.pooled_pages.specs.PageNumbers.{page_number}
 use Rattle.pooled_pages.specs.Safe.{IsSafe}
 use Rattle.pooled_pages.specs.ShownLaws.{one_number, same_place, same_shown, shown_at}
 use Rattle.pooled_pages.specs.ShownPages.{content_at, shown_page, shown_pages}
 use Rattle.logged_pages.specs.Contents.{AddsOnly}
-use Rattle.logged_pages.specs.Standing.{IsSound, IsStanding}
+use Rattle.logged_pages.specs.Standing.{IsStanding}
 
 module _ (layout : DiskLayout) (fill : PagesFillDisk layout) (log : Log) (pool after : PoolState) (marks : List Bool) (waiting : Waiting) (disk : Told) (standing : IsStanding disk layout log pool marks waiting None)
     (place : Place) (is : IsPlace layout place) (bytes : List ℕ) (whole : length bytes ≡ PAGE_SIZE) (passes : IsPageIn layout place.relation bytes) (absent : held_at pool (page_number layout place) ≡ None)

@@ -1,8 +1,6 @@
 -- a store of what an opening hands over
-use Rattle.std.proofs.Common.{◌≡◌, ℕ, ◌*◌, ◌<◌, ◌≤◌, List, [], length, refl, sym, ◌∙◌, ap, subst, arith}
-use Rattle.std.specs.Prelude.{IsTrue, None, Some, Err}
-use Rattle.block_model.specs.declared.place.Place.{Place}
-use Rattle.store_layout.specs.DiskLayout.{DiskLayout, IsPlace}
+use Rattle.std.proofs.Common.{ℕ, List, [], refl, sym, ◌∙◌, ap, subst, arith}
+use Rattle.std.specs.Prelude.{IsTrue, None, Err}
 use Rattle.disk_trait.specs.Told.{Told}
 use Rattle.page_store.specs.declared.facts.PageFacts.{PageFacts}
 use Rattle.page_store.specs.Forms.{IsPageIn, form_of}
@@ -12,7 +10,7 @@ use Rattle.opened_pages.specs.Opens.{OpensAs}
 use Rattle.change_buffer.specs.Waiting.{no_changes}
 use Rattle.pooled_pages.specs.PageNumbers.{page_number}
 use Rattle.pooled_pages.specs.ShownLaws.{shown_at, shown_whole}
-use Rattle.pooled_pages.specs.ShownPages.{content_at, shown_page, shown_pages}
+use Rattle.pooled_pages.specs.ShownPages.{shown_pages}
 use Rattle.pooled_pages.specs.SafeLaws.{opens_safe}
 use Rattle.log_redo.proofs.Pooling.{lent_held}
 use Rattle.store_opening.specs.Opened.{IsOpened}

@@ -1,6 +1,6 @@
 -- steps of a store: what each leaves
-use Rattle.std.proofs.Common.{◌≡◌, ◌≢◌, ◌⊎◌, inl, inr, ⊎_elim, ℕ, ◌+◌, ◌*◌, ◌<◌, ◌≤◌, Bool, true, false, List, [], ◌∷◌, ◌++◌, length, take, drop, get_or, refl, sym, ap, subst, ◌∙◌, arith}
-use Rattle.std.specs.Prelude.{IsTrue, Option, None, Some, unwrap_or}
+use Rattle.std.proofs.Common.{◌≡◌, inr, ℕ, ◌+◌, ◌*◌, ◌≤◌, Bool, List, [], ◌∷◌, ◌++◌, length, drop, refl, sym, ap, subst, ◌∙◌, arith}
+use Rattle.std.specs.Prelude.{IsTrue, None, Some, unwrap_or}
 use Rattle.block_model.specs.declared.place.Place.{Place}
 use Rattle.store_layout.specs.DiskLayout.{DiskLayout, IsPlace, area_size, disk_size}
 use Rattle.store_layout.specs.PagesFillDisk.{PagesFillDisk}
@@ -13,16 +13,14 @@ use Rattle.log_area.specs.Frames.{LogFrame}
 use Rattle.log_area.specs.Appended.{Appended, KeptOrAppended, grown}
 use Rattle.wal_record.specs.Changes.{IsChange, LoggedChange}
 use Rattle.wal_record.specs.ChangeBytes.{bytes_of}
-use Rattle.buffer_pool.specs.PoolState.{HeldPage, PoolState, held_at}
+use Rattle.buffer_pool.specs.PoolState.{PoolState}
 use Rattle.change_buffer.specs.Waiting.{Waiting, no_changes}
 use Rattle.page_store.specs.Forms.{IsPageIn}
-use Rattle.page_store.specs.Keeps.{Tells}
-use Rattle.page_store.specs.PageMap.{IsWhole, PageMap, View, page_at}
-use Rattle.opened_pages.specs.LoggedChanges.{AreChangesOf, changes_at}
+use Rattle.page_store.specs.PageMap.{PageMap, page_at}
+use Rattle.opened_pages.specs.LoggedChanges.{AreChangesOf}
 use Rattle.opened_pages.proofs.Once.{some}
-use Rattle.opened_pages.specs.Opens.{OpensAs, disk_page}
+use Rattle.opened_pages.specs.Opens.{OpensAs}
 use Rattle.opened_pages.specs.Reaches.{OpensToOr, Reaches}
-use Rattle.pooled_pages.specs.InPool.{HoldsPages, IsInPool, WaitsAtMost}
 use Rattle.pooled_pages.specs.PageNumbers.{page_number}
 use Rattle.pooled_pages.specs.Safe.{IsSafe}
 use Rattle.pooled_pages.specs.SafeLaws.{SamePages, append_reaches, appended_safe, opens_safe, same_pages}
@@ -30,8 +28,7 @@ use Rattle.pooled_pages.specs.ShownPages.{content_at, shown_page, shown_pages}
 use Rattle.pooled_pages.specs.ShownLaws.{same_shown, shown_at, shown_whole}
 use Rattle.logged_pages.specs.KeptPages.{KeptPages, LeftStore}
 use Rattle.logged_pages.specs.LoggedState.{LoggedState, store_of}
-use Rattle.logged_pages.specs.Standing.{IsSound, IsStanding}
-use Rattle.logged_pages.specs.KeptPages.{PagesSurvive}
+use Rattle.logged_pages.specs.Standing.{IsStanding}
 
 -- the laws of a disk
 pub record DiskLaws {D : Type 0} (told : D → Told) : Type 0 where

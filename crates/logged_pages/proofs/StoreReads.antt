@@ -1,13 +1,13 @@
 -- what the facts of a store tell of its pages
-use Rattle.std.proofs.Common.{◌≡◌, ◌≢◌, ◌⊎◌, inl, inr, ⊎_elim, ℕ, ◌<◌, ◌≤◌, eqb, true, false, List, [], ◌∷◌, length, map, get_or, refl, sym, ap, subst, ◌∙◌, arith}
-use Rattle.std.specs.Prelude.{IsTrue, Option, None, Some, count_by}
+use Rattle.std.proofs.Common.{◌≡◌, inl, ⊎_elim, ℕ, ◌<◌, ◌≤◌, List, [], length, map, get_or, sym, ap, subst, ◌∙◌, arith}
+use Rattle.std.specs.Prelude.{Option, None, Some, count_by}
 use Rattle.std.proofs.lemmas.Bool.{cases_lt, eq-eqb}
 use Rattle.std.proofs.lemmas.List.{get_or-map, get_or_past, length-map}
 use Rattle.block_model.specs.declared.place.Place.{Place}
 use Rattle.store_layout.specs.DiskLayout.{DiskLayout, IsPlace, relation_blocks}
 use Rattle.disk_trait.specs.Told.{Told}
 use Rattle.index_layout.specs.IndexReading.{map_pages_of}
-use Rattle.page_layout.specs.PageContents.{IsForm, IsUnstarted}
+use Rattle.page_layout.specs.PageContents.{IsForm}
 use Rattle.page_layout.specs.PageWrites.{IsOfIndex}
 use Rattle.page_layout.specs.SlotsOnPage.{lowest_on}
 use Rattle.page_store.specs.declared.facts.PageFacts.{PageFacts}
@@ -19,7 +19,7 @@ use Rattle.page_store.specs.Keeps.{Tells}
 use Rattle.page_store.specs.PageFacts.{facts_in}
 use Rattle.page_store.specs.PageMap.{PageMap, block_at, block_limit, page_at, page_in, unstarted_page}
 use Rattle.page_store.specs.PageRoom.{IsRoom, NamesSlot}
-use Rattle.page_store.specs.Started.{AreFirst, is_started, started_count}
+use Rattle.page_store.specs.Started.{AreFirst, started_count}
 use Rattle.page_store.proofs.FactsKept.{OneList}
 use Rattle.page_store.proofs.Maps.{blocks_in, relations_in}
 use Rattle.page_store.proofs.PageKinds.{kind_unstarted, unstarted_is, zero_kind}

@@ -1,6 +1,6 @@
 -- what a call leaves, in the words of every store of pages
-use Rattle.std.proofs.Common.{◌≡◌, ◌⊎◌, inl, inr, ⊎_elim, ℕ, List, refl, sym, ap, subst, ◌∙◌}
-use Rattle.std.specs.Prelude.{IsTrue, Option, Some, unwrap_or, Result, Ok, Err, OnErr}
+use Rattle.std.proofs.Common.{◌≡◌, inl, inr, ⊎_elim, ℕ, List, refl, ap, ◌∙◌}
+use Rattle.std.specs.Prelude.{Option, Some, unwrap_or, Result, Ok, Err, OnErr}
 use Rattle.block_model.specs.declared.place.Place.{Place}
 use Rattle.store_layout.specs.DiskLayout.{IsPlace}
 use Rattle.disk_trait.specs.Told.{Told}

@@ -1,5 +1,5 @@
 -- what is held in a pool before and after a call
-use Rattle.std.specs.Prelude.{◌≡◌, ◌⊎◌, ℕ, List, Option, Some}
+use Rattle.std.specs.Prelude.{◌≡◌, ◌⊎◌, ℕ, List, Some}
 use Rattle.buffer_pool.specs.PoolState.{PoolState}
 use Rattle.pooled_pages.specs.ShownPages.{content_at}
 

@@ -1,7 +1,5 @@
 -- the room that a change needs in the buffer and in the log
-use Rattle.std.specs.Prelude.{◌≡◌, ◌⊎◌, ℕ, ◌+◌, ◌<◌, ◌≤◌, ◌||◌, Bool, true, false, List, [], ◌∷◌, ◌++◌, length, if◌then◌else◌}
-use Rattle.block_model.specs.declared.place.Place.{Place}
-use Rattle.store_layout.specs.DiskLayout.{DiskLayout}
+use Rattle.std.specs.Prelude.{◌≡◌, ◌⊎◌, ℕ, ◌+◌, ◌<◌, ◌≤◌, ◌||◌, Bool, true, false, length, if◌then◌else◌}
 use Rattle.change_buffer.specs.declared.buffer.TheConstants.{BUFFER_SIZE}
 use Rattle.change_buffer.specs.Waiting.{Waiting, no_changes}
 use Rattle.logged_pages.specs.declared.logged.TheConstants.{FULL_PAGE_BYTES, MOST_BYTES}
@@ -10,7 +8,6 @@ use Rattle.log_area.specs.Appended.{left_in, needed}
 use Rattle.log_area.specs.Log.{Log}
 use Rattle.wal_record.specs.Changes.{LoggedChange, FullPage, PageStart, HasSizes}
 use Rattle.wal_record.specs.ChangeBytes.{bytes_of}
-use Rattle.page_redo.specs.Redo.{IsAnew}
 
 -- the change makes the whole page, whatever stood there
 abbrev pub is_anew : LoggedChange → Bool

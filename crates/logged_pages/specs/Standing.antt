@@ -1,5 +1,5 @@
 -- what holds of all pages with a log
-use Rattle.std.specs.Prelude.{◌≡◌, ℕ, ◌+◌, ◌*◌, ◌<◌, ◌≤◌, Bool, IsTrue, List, Option, None, length}
+use Rattle.std.specs.Prelude.{◌≡◌, ℕ, ◌*◌, ◌<◌, ◌≤◌, Bool, IsTrue, List, Option, None, length}
 use Rattle.block_model.specs.declared.limits.TheConstants.{PAGE_SIZE}
 use Rattle.block_model.specs.declared.place.Place.{Place}
 use Rattle.store_layout.specs.DiskLayout.{DiskLayout, IsPlace, area_size, disk_size}

@@ -6,7 +6,7 @@ use Rattle.page_layout.specs.declared.page.Form.{Form}
 use Rattle.page_layout.specs.PageContents.{HasSlot}
 use Rattle.buffer_pool.specs.PoolState.{PoolState}
 use Rattle.page_store.specs.declared.facts.PageFacts.{PageFacts}
-use Rattle.page_store.specs.Forms.{form_of, forms_of}
+use Rattle.page_store.specs.Forms.{form_of}
 use Rattle.page_store.specs.PageFacts.{facts_in, facts_on}
 use Rattle.page_store.specs.PageMap.{PageMap, page_at}
 use Rattle.disk_trait.specs.Told.{Told}

@@ -3,9 +3,7 @@ use Rattle.std.specs.Prelude.{Some}
 use Rattle.store_layout.specs.PagesFillDisk.{PagesFillDisk}
 use Rattle.store_layout.specs.DiskLayout.{DiskLayout, relation_blocks}
 use Rattle.page_layout.specs.declared.page.Form.{Form}
-use Rattle.page_layout.specs.declared.page.Form.TheVariants as forms_ix
 use Rattle.page_store.specs.declared.facts.PageFacts.{PageFacts}
-use Rattle.page_store.specs.declared.page_room.Room.TheVariants as rooms
 use Rattle.page_store.specs.Forms.{form_of, forms_of}
 use Rattle.logged_pages.specs.LoggedState.{LoggedState}
 use Rattle.logged_pages.specs.StoreFacts.{AreKnown, facts_at}

@@ -1,4 +1,4 @@
-use Rattle.std.proofs.Common.{◌≡◌, ℕ, List, [], ◌∷◌, sym, ap, subst, ◌∙◌}
+use Rattle.std.proofs.Common.{◌≡◌, sym, ap, subst, ◌∙◌}
 use Rattle.page_store.specs.Forms.{forms_of}
 use Rattle.page_store.specs.Keeps.{Keeps, Untold}
 use Rattle.page_store.specs.Outcome.{Outcome}

@@ -1,4 +1,4 @@
-use Rattle.std.proofs.Common.{◌≡◌, ℕ, List, sym, ◌∙◌, ap, subst}
+use Rattle.std.proofs.Common.{ℕ, List, sym, ◌∙◌, ap, subst}
 use Rattle.std.specs.Prelude.{IsTrue, None}
 use Rattle.disk_trait.specs.Throughout.{Throughout}
 use Rattle.page_store.specs.Forms.{forms_of}
