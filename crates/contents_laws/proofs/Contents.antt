@@ -1,8 +1,7 @@
 -- what is made of the tuples of an index within the limits is one of it
-use Rattle.std.proofs.Common.{◌≡◌, ℕ, ◌<◌, ◌≤◌, ◌^◌, Bool, true, false, List, [], ◌∷◌, All, length, map, slice_get, Option, None, Some, refl, sym, ap, subst, ◌∙◌, arith, length-append, zero, suc}
-use Rattle.std.specs.Prelude.{◌↔◌, if◌then◌else◌, nat_lt, slice_index}
+use Rattle.std.proofs.Common.{◌≡◌, ℕ, ◌<◌, ◌≤◌, ◌^◌, Bool, true, false, List, [], ◌∷◌, length, map, Option, None, Some, refl, sym, ap, subst, ◌∙◌, arith, length-append, zero, suc}
+use Rattle.std.specs.Prelude.{◌↔◌, if◌then◌else◌, nat_lt}
 use Rattle.std.specs.Int.{bytes_high_first}
-use Rattle.std.specs.List.{list_all}
 use Rattle.std.specs.Option.{option_map}
 use Rattle.std.proofs.lemmas.Bool.{and_from, and_parts, false_from_ne_true, le-ltb, lt-ltb, ltb-true}
 use Rattle.std.proofs.lemmas.Option.{none-some, same_Some}
@@ -10,16 +9,14 @@ use Rattle.block_model.specs.declared.row.Row.{Row}
 use Rattle.block_model.specs.declared.value.Value.{Value}
 use Rattle.block_model.specs.TupleSize.{tuple_size}
 use Rattle.byte_fields.specs.Fields.{AreBytes, field_at, length-number, number_of}
-use Rattle.opclass_any.specs.declared.classes.AnyClass.{AnyClass}
 use Rattle.range_tuple.specs.IncludedRows.{tuple_includes}
 use Rattle.range_tuple.specs.TupleBytes.{columns_bytes, flags_of, tuple_bytes}
 use Rattle.range_tuple.specs.TupleIncludes.{TupleIncludes}
 use Rattle.range_tuple.specs.TupleReading.{tuple_in}
 use Rattle.range_tuple.specs.Tuples.{IndexedColumn, IsTuple, Tuple, empty_column, empty_placeholder, parts_of, tuple_room, united_tuple, with_row}
-use Rattle.coverage.specs.IndexView.{Contents, IndexTuple, IsFormed, most_bytes}
+use Rattle.coverage.specs.IndexView.{IndexTuple, IsFormed}
 use Rattle.coverage.specs.Statements.{AreLawful, IsAdded, IsEmptyPlaceholder, IsUnited}
-use Rattle.tuple_laws.specs.KnownValues.{IsKnown}
-use Rattle.tuple_laws.specs.SoundTuples.{AreSoundTuples, AreTaken, IsTupleOf, IsTupleSpelt, IsTupleWritten, UnitesTuples, WidensTuple}
+use Rattle.tuple_laws.specs.SoundTuples.{AreSoundTuples, IsTupleOf, WidensTuple}
 use Rattle.index_steps.specs.IndexTuples.{IndexShape, TakesValues, are_bytes, changed, changed_as, classes_of, contents_of, final_union, have_kinds, kinds_of, range_said, row_values, seen, seen_as, tuple_said, united_as}
 use Rattle.contents_laws.specs.LawfulShapes.{IsLawfulShape}
 use Rattle.contents_laws.proofs.Rows.{row_has_kinds, row_known}
@@ -174,12 +171,14 @@ module _ (shape : IndexShape) (lawful : IsLawfulShape shape) (sound : AreSoundTu
       let small : range < 2 ^ 32 = omega (arith, below, ranges_are shape) in
       let empty = sound.empty range true shape.columns shape.parts small (classes_are shape) in
       let own : as_seen u ≡ (contents_of shape).empty range = sym (empty_is shape range) in
-      subst (λ (t : IndexTuple). IsFormed (contents_of shape) t × IsEmptyPlaceholder range t) own
-      (formed u empty.of, record {
-        of = of_range u empty.of;
-        placeholder = of_sort u empty.of;
-        includes = λ r. false_from_ne_true ((as_seen u).includes r) (λ is. empty.nothing (row_values shape r) (included u r empty.of is));
-      })
+      subst (λ (t : IndexTuple). IsFormed (contents_of shape) t × IsEmptyPlaceholder range t) own (
+        formed u empty.of,
+        record {
+          of = of_range u empty.of;
+          placeholder = of_sort u empty.of;
+          includes = λ r. false_from_ne_true ((as_seen u).includes r) (λ is. empty.nothing (row_values shape r) (included u r empty.of is));
+        },
+      )
 
   -- ---- a row added
 
@@ -199,13 +198,15 @@ module _ (shape : IndexShape) (lawful : IsLawfulShape shape) (sound : AreSoundTu
       let v = with_row (row_values shape r) u in
       let widens = widened r u one.of in
       subst (λ (s : IndexTuple). IsFormed (contents_of shape) ((contents_of shape).added r s) × IsAdded r s ((contents_of shape).added r s)) (sym one.is)
-      (subst (λ (s : IndexTuple). IsFormed (contents_of shape) s × IsAdded r (as_seen u) s) (sym (added_seen r u one.of))
-      (formed v widens.of, record {
-        range = of_range v widens.of ∙ sym (of_range u one.of);
-        placeholder = of_sort v widens.of ∙ sym (of_sort u one.of);
-        wider = λ row is. includes v row widens.of (widens.kept (row_values shape row) (included u row one.of is));
-        row = includes v r widens.of widens.row;
-      }))
+      (subst (λ (s : IndexTuple). IsFormed (contents_of shape) s × IsAdded r (as_seen u) s) (sym (added_seen r u one.of)) (
+        formed v widens.of,
+        record {
+          range = of_range v widens.of ∙ sym (of_range u one.of);
+          placeholder = of_sort v widens.of ∙ sym (of_sort u one.of);
+          wider = λ row is. includes v row widens.of (widens.kept (row_values shape row) (included u row one.of is));
+          row = includes v r widens.of widens.row;
+        },
+      ))
 
   -- ---- two united
 
@@ -232,13 +233,15 @@ module _ (shape : IndexShape) (lawful : IsLawfulShape shape) (sound : AreSoundTu
       let final : OfIndex v = final_of (united_tuple u other) unites.of in
       subst (λ (s : IndexTuple). IsFormed (contents_of shape) ((contents_of shape).united s result) × IsUnited result s ((contents_of shape).united s result)) (sym one.is)
       (subst (λ (s : IndexTuple). IsFormed (contents_of shape) ((contents_of shape).united (as_seen u) s) × IsUnited s (as_seen u) ((contents_of shape).united (as_seen u) s)) (sym two.is)
-      (subst (λ (s : IndexTuple). IsFormed (contents_of shape) s × IsUnited (as_seen other) (as_seen u) s) (sym (united_seen u other one.of two.of))
-      (formed v final, record {
-        range = of_range v final ∙ sym (of_range u one.of);
-        placeholder = of_sort v final;
-        wider = λ row is. includes v row final (unites.first (row_values shape row) (included u row one.of is));
-        united = λ row is. includes v row final (unites.second (row_values shape row) (included other row two.of is));
-      })))
+      (subst (λ (s : IndexTuple). IsFormed (contents_of shape) s × IsUnited (as_seen other) (as_seen u) s) (sym (united_seen u other one.of two.of)) (
+        formed v final,
+        record {
+          range = of_range v final ∙ sym (of_range u one.of);
+          placeholder = of_sort v final;
+          wider = λ row is. includes v row final (unites.first (row_values shape row) (included u row one.of is));
+          united = λ row is. includes v row final (unites.second (row_values shape row) (included other row two.of is));
+        },
+      )))
 
   pub lawful_contents : AreLawful (contents_of shape)
   lawful_contents = record {

@@ -1,5 +1,5 @@
 -- the values of rows, as they are added to tuples
-use Rattle.std.proofs.Common.{◌≡◌, ℕ, ◌^◌, ◌<◌, ◌≤◌, ◌==◌, ◌&&◌, Bool, true, false, cond, Option, None, Some, List, [], ◌∷◌, All, map, refl, sym, subst, arith, ℤ}
+use Rattle.std.proofs.Common.{◌≡◌, ◌^◌, ◌==◌, ◌&&◌, Bool, true, false, cond, Option, None, Some, List, [], ◌∷◌, All, map, refl, ℤ}
 use Rattle.std.specs.Prelude.{IfSome, nat_le, nat_lt}
 use Rattle.std.proofs.lemmas.Bool.{and_from, and_parts, eqb-true, false≢true, leb-true, ltb-true}
 use Rattle.std.proofs.lemmas.List.Elements.{All-cons, All-nil}
@@ -10,7 +10,7 @@ use Rattle.block_model.specs.declared.value.Value.{Value}
 use Rattle.block_model.specs.declared.value.Value.TheVariants.{Int, Net, Null, Span}
 use Rattle.block_model.specs.Networks.{IsNetwork, Network}
 use Rattle.block_model.specs.Ranges.{Between, Empty, IsRange, Range, leaves_room}
-use Rattle.block_model.specs.ValuesOfKind.{HasBounds, IsValueOf, has_kind, is_int8}
+use Rattle.block_model.specs.ValuesOfKind.{HasBounds, has_kind, is_int8}
 use Rattle.tuple_laws.specs.KnownValues.{IsKnown}
 use Rattle.index_steps.specs.IndexTuples.{IndexShape, are_values, have_kinds, is_bound, is_range, is_value_of, kinds_of, row_values}
 
