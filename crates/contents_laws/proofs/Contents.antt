@@ -16,7 +16,7 @@ use Rattle.range_tuple.specs.TupleReading.{tuple_in}
 use Rattle.range_tuple.specs.Tuples.{IndexedColumn, IsTuple, Tuple, empty_column, empty_placeholder, parts_of, tuple_room, united_tuple, with_row}
 use Rattle.coverage.specs.IndexView.{IndexTuple, IsFormed}
 use Rattle.coverage.specs.Statements.{AreLawful, IsAdded, IsEmptyPlaceholder, IsUnited}
-use Rattle.tuple_laws.specs.SoundTuples.{AreSoundTuples, IsTupleOf, WidensTuple}
+use Rattle.tuple_laws.specs.SoundTuples.{AreSoundTuples, IsIndexTuple, WidensTuple}
 use Rattle.index_steps.specs.IndexTuples.{IndexShape, TakesValues, are_bytes, changed, changed_as, classes_of, contents_of, final_union, have_kinds, kinds_of, range_said, row_values, seen, seen_as, tuple_said, united_as}
 use Rattle.contents_laws.specs.LawfulShapes.{IsLawfulShape}
 use Rattle.contents_laws.proofs.Rows.{row_has_kinds, row_known}
@@ -113,7 +113,7 @@ module _ (shape : IndexShape) (lawful : IsLawfulShape shape) (sound : AreSoundTu
   -- ---- tuples of the index, as they are seen
 
   abbrev OfIndex : Tuple → Type 0
-  OfIndex u = IsTupleOf (classes_of shape) u
+  OfIndex u = IsIndexTuple (classes_of shape) u
 
   abbrev as_seen : Tuple → IndexTuple
   as_seen u = seen shape (tuple_bytes u)
