@@ -1,8 +1,7 @@
 -- what is made of the tuples of an index within the limits is one of it
-use Rattle.std.proofs.Common.{◌≡◌, ℕ, ◌<◌, ◌≤◌, ◌^◌, Bool, true, false, List, [], ◌∷◌, All, length, map, slice_get, Option, None, Some, refl, sym, ap, subst, ◌∙◌, arith, length-append, zero, suc}
-use Rattle.std.specs.Prelude.{◌↔◌, if◌then◌else◌, nat_lt, slice_index}
+use Rattle.std.proofs.Common.{◌≡◌, ℕ, ◌<◌, ◌≤◌, ◌^◌, Bool, true, false, List, [], ◌∷◌, length, map, Option, None, Some, refl, sym, ap, subst, ◌∙◌, arith, length-append, zero, suc}
+use Rattle.std.specs.Prelude.{◌↔◌, if◌then◌else◌, nat_lt}
 use Rattle.std.specs.Int.{bytes_high_first}
-use Rattle.std.specs.List.{list_all}
 use Rattle.std.specs.Option.{option_map}
 use Rattle.std.proofs.lemmas.Bool.{and_from, and_parts, false_from_ne_true, le-ltb, lt-ltb, ltb-true}
 use Rattle.std.proofs.lemmas.Option.{none-some, same_Some}
@@ -10,16 +9,14 @@ use Rattle.block_model.specs.declared.row.Row.{Row}
 use Rattle.block_model.specs.declared.value.Value.{Value}
 use Rattle.block_model.specs.TupleSize.{tuple_size}
 use Rattle.byte_fields.specs.Fields.{AreBytes, field_at, length-number, number_of}
-use Rattle.opclass_any.specs.declared.classes.AnyClass.{AnyClass}
 use Rattle.range_tuple.specs.IncludedRows.{tuple_includes}
 use Rattle.range_tuple.specs.TupleBytes.{columns_bytes, flags_of, tuple_bytes}
 use Rattle.range_tuple.specs.TupleIncludes.{TupleIncludes}
 use Rattle.range_tuple.specs.TupleReading.{tuple_in}
 use Rattle.range_tuple.specs.Tuples.{IndexedColumn, IsTuple, Tuple, empty_column, empty_placeholder, parts_of, tuple_room, united_tuple, with_row}
-use Rattle.coverage.specs.IndexView.{Contents, IndexTuple, IsFormed, most_bytes}
+use Rattle.coverage.specs.IndexView.{IndexTuple, IsFormed}
 use Rattle.coverage.specs.Statements.{AreLawful, IsAdded, IsEmptyPlaceholder, IsUnited}
-use Rattle.tuple_laws.specs.KnownValues.{IsKnown}
-use Rattle.tuple_laws.specs.SoundTuples.{AreSoundTuples, AreTaken, IsTupleOf, IsTupleSpelt, IsTupleWritten, UnitesTuples, WidensTuple}
+use Rattle.tuple_laws.specs.SoundTuples.{AreSoundTuples, IsIndexTuple, WidensTuple}
 use Rattle.index_steps.specs.IndexTuples.{IndexShape, TakesValues, are_bytes, changed, changed_as, classes_of, contents_of, final_union, have_kinds, kinds_of, range_said, row_values, seen, seen_as, tuple_said, united_as}
 use Rattle.contents_laws.specs.LawfulShapes.{IsLawfulShape}
 use Rattle.contents_laws.proofs.Rows.{row_has_kinds, row_known}
@@ -116,7 +113,7 @@ module _ (shape : IndexShape) (lawful : IsLawfulShape shape) (sound : AreSoundTu
   -- ---- tuples of the index, as they are seen
 
   abbrev OfIndex : Tuple → Type 0
-  OfIndex u = IsTupleOf (classes_of shape) u
+  OfIndex u = IsIndexTuple (classes_of shape) u
 
   abbrev as_seen : Tuple → IndexTuple
   as_seen u = seen shape (tuple_bytes u)

@@ -1,5 +1,5 @@
 -- the values of rows, as they are added to tuples
-use Rattle.std.proofs.Common.{◌≡◌, ℕ, ◌^◌, ◌<◌, ◌≤◌, ◌==◌, ◌&&◌, Bool, true, false, cond, Option, None, Some, List, [], ◌∷◌, All, map, refl, sym, subst, arith, ℤ}
+use Rattle.std.proofs.Common.{◌≡◌, ◌^◌, ◌==◌, ◌&&◌, Bool, true, false, cond, Option, None, Some, List, [], ◌∷◌, All, map, refl, ℤ}
 use Rattle.std.specs.Prelude.{IfSome, nat_le, nat_lt}
 use Rattle.std.proofs.lemmas.Bool.{and_from, and_parts, eqb-true, false≢true, leb-true, ltb-true}
 use Rattle.std.proofs.lemmas.List.Elements.{All-cons, All-nil}
@@ -10,8 +10,8 @@ use Rattle.block_model.specs.declared.value.Value.{Value}
 use Rattle.block_model.specs.declared.value.Value.TheVariants.{Int, Net, Null, Span}
 use Rattle.block_model.specs.Networks.{IsNetwork, Network}
 use Rattle.block_model.specs.Ranges.{Between, Empty, IsRange, Range, leaves_room}
-use Rattle.block_model.specs.ValuesOfKind.{HasBounds, IsValueOf, has_kind, is_int8}
-use Rattle.tuple_laws.specs.KnownValues.{IsKnown}
+use Rattle.block_model.specs.ValuesOfKind.{HasBounds, has_kind, is_int8}
+use Rattle.tuple_laws.specs.OwnKinds.{IsOfItsKind}
 use Rattle.index_steps.specs.IndexTuples.{IndexShape, are_values, have_kinds, is_bound, is_range, is_value_of, kinds_of, row_values}
 
 -- ---- a value that is one of its kind
@@ -33,10 +33,10 @@ network n is =
     let first = and_parts (n.family == 4) (nat_le n.prefix 32) all.0 in
     record { family = eqb-true n.family 4 first.0; prefix = leb-true n.prefix 32 first.1; address = ltb-true n.address (2 ^ 32) all.1 }
 
-pub null_known : IsKnown Null
+pub null_known : IsOfItsKind Null
 null_known kind is = tt
 
-known : (kind : Kind) (v : Value) → is_value_of kind v ≡ true → IsKnown v
+known : (kind : Kind) (v : Value) → is_value_of kind v ≡ true → IsOfItsKind v
 known kind Null is other has = tt
 known kinds.Int (Int n) is kinds.Int has = is
 known kinds.Int (Int n) is other has = absurd (false≢true has)
@@ -55,13 +55,13 @@ has kind v is = absurd (false≢true is)
 
 -- ---- rows of them
 
-all_known : (kinds : List Kind) (values : List Value) → are_values kinds values ≡ true → All IsKnown values
-all_known [] [] are = All-nil IsKnown
+all_known : (kinds : List Kind) (values : List Value) → are_values kinds values ≡ true → All IsOfItsKind values
+all_known [] [] are = All-nil IsOfItsKind
 all_known [] (v ∷ values) are = absurd (false≢true are)
 all_known (kind ∷ kinds) [] are = absurd (false≢true are)
 all_known (kind ∷ kinds) (v ∷ values) are =
     let both = and_parts (is_value_of kind v) (are_values kinds values) are in
-    All-cons IsKnown v values (known kind v both.0) (all_known kinds values both.1)
+    All-cons IsOfItsKind v values (known kind v both.0) (all_known kinds values both.1)
 
 all_have : (kinds : List Kind) (values : List Value) → are_values kinds values ≡ true → have_kinds kinds values ≡ true
 all_have [] [] are = refl
@@ -84,7 +84,7 @@ row_are : (shape : IndexShape) (r : Row) → are_values (kinds_of shape) (row_va
 unfolding row_values
 row_are shape r = by_test (kinds_of shape) r.values (are_values (kinds_of shape) r.values) refl
 
-pub row_known : (shape : IndexShape) (r : Row) → All IsKnown (row_values shape r)
+pub row_known : (shape : IndexShape) (r : Row) → All IsOfItsKind (row_values shape r)
 row_known shape r = all_known (kinds_of shape) (row_values shape r) (row_are shape r)
 
 pub row_has_kinds : (shape : IndexShape) (r : Row) → have_kinds (kinds_of shape) (row_values shape r) ≡ true

@@ -1,5 +1,5 @@
 -- indexes within the limits: their classes, the room of their tuples, and those of a layout
-use Rattle.std.proofs.Common.{◌≡◌, ℕ, zero, suc, ◌+◌, ◌<◌, ◌≤◌, Bool, true, List, [], ◌∷◌, All, length, map, slice_get, Option, Some, refl, sym, ap, subst, ◌∙◌, arith}
+use Rattle.std.proofs.Common.{◌≡◌, ℕ, zero, suc, ◌+◌, ◌<◌, ◌≤◌, Bool, true, List, [], ◌∷◌, All, length, map, refl, ap, ◌∙◌, arith}
 use Rattle.std.specs.Prelude.{nat_le, nat_lt, slice_index_or, sum_by}
 use Rattle.std.specs.List.{list_all}
 use Rattle.std.proofs.lemmas.Bool.{and_parts, leb-true}
@@ -12,9 +12,8 @@ use Rattle.block_model.specs.declared.schema.Column.{Column}
 use Rattle.block_model.specs.declared.schema.Index.{Index}
 use Rattle.block_model.specs.declared.schema.Part.{Part}
 use Rattle.block_model.specs.declared.schema.Schema.{Schema}
-use Rattle.block_model.specs.declared.schema.Sizes.{Sizes}
 use Rattle.block_model.specs.declared.value.Kind.{Kind}
-use Rattle.block_model.specs.ClassLimits.{class_is_lawful, has_lawful_parameters, is_within, takes_kind}
+use Rattle.block_model.specs.ClassLimits.{class_is_lawful, has_lawful_parameters, takes_kind}
 use Rattle.block_model.specs.IndexedColumns.{columns_of, kind_at}
 use Rattle.block_model.specs.TupleSize.{part_size, summary_size, tuple_size}
 use Rattle.store_layout.specs.DiskLayout.{DiskLayout}

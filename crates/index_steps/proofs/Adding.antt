@@ -1,16 +1,15 @@
 -- a row that is added to a tuple of the index
-use Rattle.std.proofs.Common.{◌≡◌, ℕ, Bool, true, List, Option, Some, map, refl, sym, ap, ◌∙◌}
+use Rattle.std.proofs.Common.{◌≡◌, ℕ, Bool, true, List, Option, map, refl, ap, ◌∙◌}
 use Rattle.std.specs.Prelude.{if◌then◌else◌}
 use Rattle.block_model.specs.declared.row.Row.{Row}
 use Rattle.block_model.specs.declared.value.Kind.{Kind}
 use Rattle.block_model.specs.declared.value.Value.{Value}
 use Rattle.block_model.specs.declared.value.Value.TheVariants.{Null}
 use Rattle.range_tuple.specs.TupleBytes.{tuple_bytes}
-use Rattle.range_tuple.specs.TupleReading.{tuple_in}
 use Rattle.range_tuple.specs.Tuples.{Tuple, with_row}
 use Rattle.coverage.specs.IndexView.{Contents, IndexTuple, IndexView}
 use Rattle.index_contents.specs.IndexContents.{IndexContents}
-use Rattle.index_steps.specs.IndexTuples.{IndexShape, are_values, changed, changed_as, classes_of, contents_of, kinds_of, row_values, seen}
+use Rattle.index_steps.specs.IndexTuples.{IndexShape, are_values, changed, changed_as, contents_of, kinds_of, row_values, seen}
 use Rattle.index_steps.specs.Readings.{IsReadAs}
 use Rattle.index_steps.specs.ShownIndex.{Shows}
 use Rattle.index_steps.proofs.Views.{seen_bytes}

@@ -19,8 +19,8 @@ use Rattle.opclass_any.specs.AnyClass.{add, bytes_of as any_bytes, empty, greate
 use Rattle.opclass_any.specs.declared.classes.AnyClass.TheVariants as forms
 use Rattle.opclass_any.specs.declared.classes.AnySummary.{AnySummary}
 use Rattle.opclass_any.specs.declared.classes.AnySummary.TheVariants as kept
-use Rattle.tuple_laws.specs.KnownValues.{IsKnown}
-use Rattle.tuple_laws.specs.SoundClasses.{IsSound, IsSpelt, IsWritten, Unites, Widens}
+use Rattle.tuple_laws.specs.OwnKinds.{IsOfItsKind}
+use Rattle.tuple_laws.specs.SoundClasses.{IsSoundClass, IsSummarySpelt, IsSummaryWritten, Unites, Widens}
 use Rattle.tuple_laws.proofs.Forms.{IsForm, sound_form, was_kept}
 use Rattle.tuple_laws.proofs.Numbers.{by_cond, byte_more, none_bytes}
 
@@ -41,7 +41,7 @@ value_kept p s v w within =
 some_bytes : (p : Parameters) (s : List Bool) → AreWithinLimits p → IsSummary p s → 0 < length (bytes_of s)
 some_bytes p s limits of = bytes_there s (omega (arith, of, limits.least_bits))
 
-widens : (p : Parameters) → AreWithinLimits p → (s : List Bool) (v : Value) → IsSummary p s → HasWords v → IsKnown v → Widens (forms.Bloom p) (kept.Bloom s) v
+widens : (p : Parameters) → AreWithinLimits p → (s : List Bool) (v : Value) → IsSummary p s → HasWords v → IsOfItsKind v → Widens (forms.Bloom p) (kept.Bloom s) v
 unfolding add is_of includes any_bytes
 widens p limits s v of taken known =
     let long : IsSummary p (with_value p s v) = length-with_value p s v ∙ of in
@@ -82,7 +82,7 @@ are_bytes s = none_bytes
 whole_bytes : (p : Parameters) → AreWithinLimits p → 8 * size_of p ≡ p.bits
 whole_bytes p limits = omega (arith, limits.whole_bytes)
 
-written : (p : Parameters) → AreWithinLimits p → (s : List Bool) → IsSummary p s → IsWritten (forms.Bloom p) (kept.Bloom s)
+written : (p : Parameters) → AreWithinLimits p → (s : List Bool) → IsSummary p s → IsSummaryWritten (forms.Bloom p) (kept.Bloom s)
 unfolding any_bytes any_read greatest_size
 written p limits s of = record {
   bytes = are_bytes s;
@@ -105,12 +105,12 @@ found p limits bytes s small is =
     }))
     (λ f wrong. absurd (cc))
 
-spelt : (p : Parameters) → AreWithinLimits p → (bytes : List ℕ) (s : AnySummary) → AreBytes bytes → any_read (forms.Bloom p) bytes ≡ Ok s → IsSpelt (forms.Bloom p) bytes s
+spelt : (p : Parameters) → AreWithinLimits p → (bytes : List ℕ) (s : AnySummary) → AreBytes bytes → any_read (forms.Bloom p) bytes ≡ Ok s → IsSummarySpelt (forms.Bloom p) bytes s
 unfolding any_bytes any_read is_of
 spelt p limits bytes s small is =
     let was = was_kept kept.Bloom (read_of p bytes) s is in
     let f = found p limits bytes was.inside small was.read in
-    subst (IsSpelt (forms.Bloom p) bytes) was.is (record { of_class = f.lawful; spelt = f.spelt })
+    subst (IsSummarySpelt (forms.Bloom p) bytes) was.is (record { of_class = f.lawful; spelt = f.spelt })
 
 -- ---- the class
 
@@ -119,7 +119,7 @@ unfolding is_of
 form p (kept.Bloom s) of = record { inside = s; is = refl; lawful = of }
 form p s of = absurd of
 
-pub sound : (p : Parameters) → AreWithinLimits p → IsSound (forms.Bloom p)
+pub sound : (p : Parameters) → AreWithinLimits p → IsSoundClass (forms.Bloom p)
 unfolding empty is_of takes greatest_size
 sound p limits = sound_form (forms.Bloom p) kept.Bloom (IsSummary p) (record {
   empty = length-replicate p.bits false;

@@ -11,14 +11,14 @@ use Rattle.block_model.specs.declared.value.Kind.TheVariants as kinds
 use Rattle.opclass_any.specs.AnyClass.{class_of, greatest_size}
 use Rattle.opclass_any.specs.declared.classes.AnyClass.{AnyClass}
 use Rattle.opclass_any.specs.declared.classes.AnyClass.TheVariants as forms
-use Rattle.tuple_laws.specs.SoundClasses.{IsSound, IsWithinLimits}
+use Rattle.tuple_laws.specs.SoundClasses.{IsSoundClass, IsWithinLimits}
 use Rattle.tuple_laws.proofs.Blooms.{sound as bloom_sound}
 use Rattle.tuple_laws.proofs.MinMax.{sound as minmax_sound}
 use Rattle.tuple_laws.proofs.Multi.{sound as multi_sound}
 use Rattle.tuple_laws.proofs.Nets.{sound as net_sound}
 use Rattle.tuple_laws.proofs.Spans.{sound as span_sound}
 
-pub sound : (class : AnyClass) → IsWithinLimits class → IsSound class
+pub sound : (class : AnyClass) → IsWithinLimits class → IsSoundClass class
 sound (forms.MinMax class) limits = minmax_sound class
 sound (forms.Multi limit) limits = multi_sound limit limits
 sound (forms.SpanHull class) limits = span_sound class

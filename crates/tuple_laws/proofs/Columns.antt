@@ -18,10 +18,10 @@ use Rattle.range_tuple.specs.Tuples.{IndexedColumn, IsColumn, IsSummaryIn, empty
 use Rattle.range_tuple.specs.declared.state.NullState.{NullState}
 use Rattle.range_tuple.proofs.Exactness.{nulls_of, values_of}
 use Rattle.range_tuple.proofs.Uniting.{row_kept, row_taken}
-use Rattle.tuple_laws.specs.KnownValues.{IsKnown}
-use Rattle.tuple_laws.specs.SoundClasses.{IsSound, Unites, Widens}
+use Rattle.tuple_laws.specs.OwnKinds.{IsOfItsKind}
+use Rattle.tuple_laws.specs.SoundClasses.{IsSoundClass, Unites, Widens}
 
-pub empty_is : (columns : List Column) (part : Part) → IsSound (class_of part.class (kind_at columns part.column)) → IsColumn (empty_column columns part)
+pub empty_is : (columns : List Column) (part : Part) → IsSoundClass (class_of part.class (kind_at columns part.column)) → IsColumn (empty_column columns part)
 empty_is columns part sound = record { of_class = sound.empty; of_no_value = λ none. refl; has_bytes = λ some. absurd (false≢true some) }
 
 -- ---- a value added
@@ -69,7 +69,7 @@ some_kept column v (Int n) widens within = (values_of (has_nulls column.state) t
 some_kept column v (Span r) widens within = (values_of (has_nulls column.state) true, widens.kept (Span r) within.1)
 some_kept column v (Net n) widens within = (values_of (has_nulls column.state) true, widens.kept (Net n) within.1)
 
-value_widens : (column : IndexedColumn) (v : Value) → IsSound column.class → IsColumn column → TakesValue column.class v → IsKnown v → WidensColumn column (with_value column v) v
+value_widens : (column : IndexedColumn) (v : Value) → IsSoundClass column.class → IsColumn column → TakesValue column.class v → IsOfItsKind v → WidensColumn column (with_value column v) v
 value_widens column Null sound of taken known = null_widens column of
 value_widens column (Int n) sound of taken known =
     let widens = sound.widens column.summary (Int n) of.of_class taken known in
@@ -88,7 +88,7 @@ pub record WidensThere (column new : IndexedColumn) (o : Option Value) : Type 0 
   pub value : IncludesThere new o
   pub kept : (p : Option Value) → IncludesThere column p → IncludesThere new p
 
-there_widens : (column : IndexedColumn) (o : Option Value) → IsSound column.class → IsColumn column → TakesThere column.class o → IfSome o IsKnown → WidensThere column (with_value_there column o) o
+there_widens : (column : IndexedColumn) (o : Option Value) → IsSoundClass column.class → IsColumn column → TakesThere column.class o → IfSome o IsOfItsKind → WidensThere column (with_value_there column o) o
 there_widens column None sound of taken known = absurd taken
 there_widens column (Some v) sound of taken known =
     let widens = value_widens column v sound of taken known in
@@ -98,10 +98,10 @@ there_widens column (Some v) sound of taken known =
     kept new each None within = within
     kept new each (Some w) within = each w within
 
-known_there : (values : List Value) (k : ℕ) → All IsKnown values → IfSome (slice_get values k) IsKnown
+known_there : (values : List Value) (k : ℕ) → All IsOfItsKind values → IfSome (slice_get values k) IsOfItsKind
 known_there [] k known = tt
-known_there (v ∷ values) zero known = All-head IsKnown v values known
-known_there (v ∷ values) (suc k) known = known_there values k (All-tail IsKnown v values known)
+known_there (v ∷ values) zero known = All-head IsOfItsKind v values known
+known_there (v ∷ values) (suc k) known = known_there values k (All-tail IsOfItsKind v values known)
 
 -- the column with a row is one, which includes the row, and what it included
 pub record WidensRow (column new : IndexedColumn) (values : List Value) : Type 0 where
@@ -109,7 +109,7 @@ pub record WidensRow (column new : IndexedColumn) (values : List Value) : Type 0
   pub row : ColumnIncludes values new
   pub kept : (row : List Value) → ColumnIncludes row column → ColumnIncludes row new
 
-pub row_widens : (column : IndexedColumn) (values : List Value) → IsSound column.class → IsColumn column → TakesThere column.class (slice_get values column.place) → All IsKnown values → WidensRow column (with_row_at values column) values
+pub row_widens : (column : IndexedColumn) (values : List Value) → IsSoundClass column.class → IsColumn column → TakesThere column.class (slice_get values column.place) → All IsOfItsKind values → WidensRow column (with_row_at values column) values
 row_widens column values sound of taken known =
     let new = with_row_at values column in
     let widens = there_widens column (slice_get values column.place) sound of taken (known_there values column.place known) in
@@ -139,7 +139,7 @@ pub record UnitesColumns (column other new : IndexedColumn) : Type 0 where
   pub first : (row : List Value) → ColumnIncludes row column → ColumnIncludes row new
   pub second : (row : List Value) → ColumnIncludes row other → ColumnIncludes row new
 
-pub columns_unite : (column other : IndexedColumn) → IsSound column.class → part_of other ≡ part_of column → IsColumn column → IsColumn other → UnitesColumns column other (united_column column other)
+pub columns_unite : (column other : IndexedColumn) → IsSoundClass column.class → part_of other ≡ part_of column → IsColumn column → IsColumn other → UnitesColumns column other (united_column column other)
 columns_unite column other sound part of also =
     let class : other.class ≡ column.class = ap (λ (p : ℕ × AnyClass). p.1) part in
     let place : other.place ≡ column.place = ap (λ (p : ℕ × AnyClass). p.0) part in

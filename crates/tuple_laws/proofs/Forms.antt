@@ -5,8 +5,8 @@ use Rattle.byte_fields.specs.Fields.{AreBytes}
 use Rattle.opclass_any.specs.AnyClass.{empty, greatest_size, is_of, kept_as, read_of, takes}
 use Rattle.opclass_any.specs.declared.classes.AnyClass.{AnyClass}
 use Rattle.opclass_any.specs.declared.classes.AnySummary.{AnySummary}
-use Rattle.tuple_laws.specs.KnownValues.{IsKnown}
-use Rattle.tuple_laws.specs.SoundClasses.{IsSound, IsSpelt, IsWritten, Unites, Widens}
+use Rattle.tuple_laws.specs.OwnKinds.{IsOfItsKind}
+use Rattle.tuple_laws.specs.SoundClasses.{IsSoundClass, IsSummarySpelt, IsSummaryWritten, Unites, Widens}
 
 -- a summary of a form, by what is inside
 pub record IsForm {X : Type 0} (wrap : X → AnySummary) (IsInside : X → Type 0) (s : AnySummary) : Type 0 where
@@ -17,13 +17,13 @@ pub record IsForm {X : Type 0} (wrap : X → AnySummary) (IsInside : X → Type 
 pub record IsSoundForm {X : Type 0} (class : AnyClass) (wrap : X → AnySummary) (IsInside : X → Type 0) : Type 0 where
   pub empty : is_of class (empty class)
   pub form : (s : AnySummary) → is_of class s → IsForm wrap IsInside s
-  pub widens : (x : X) (v : Value) → IsInside x → takes class v → IsKnown v → Widens class (wrap x) v
+  pub widens : (x : X) (v : Value) → IsInside x → takes class v → IsOfItsKind v → Widens class (wrap x) v
   pub unites : (x y : X) → IsInside x → IsInside y → Unites class (wrap x) (wrap y)
-  pub written : (x : X) → IsInside x → IsWritten class (wrap x)
-  pub read : (bytes : List ℕ) (s : AnySummary) → AreBytes bytes → read_of class bytes ≡ Ok s → IsSpelt class bytes s
+  pub written : (x : X) → IsInside x → IsSummaryWritten class (wrap x)
+  pub read : (bytes : List ℕ) (s : AnySummary) → AreBytes bytes → read_of class bytes ≡ Ok s → IsSummarySpelt class bytes s
   pub small : greatest_size class < 65536
 
-pub sound_form : {X : Type 0} (class : AnyClass) (wrap : X → AnySummary) (IsInside : X → Type 0) → IsSoundForm class wrap IsInside → IsSound class
+pub sound_form : {X : Type 0} (class : AnyClass) (wrap : X → AnySummary) (IsInside : X → Type 0) → IsSoundForm class wrap IsInside → IsSoundClass class
 sound_form class wrap IsInside sound = record {
   empty = sound.empty;
   widens = λ s v of taken known.
@@ -35,7 +35,7 @@ sound_form class wrap IsInside sound = record {
       subst (λ (t : AnySummary). Unites class t other) (sym f.is) (subst (λ (t : AnySummary). Unites class (wrap f.inside) t) (sym g.is) (sound.unites f.inside g.inside f.lawful g.lawful));
   written = λ s of.
       let f = sound.form s of in
-      subst (λ (t : AnySummary). IsWritten class t) (sym f.is) (sound.written f.inside f.lawful);
+      subst (λ (t : AnySummary). IsSummaryWritten class t) (sym f.is) (sound.written f.inside f.lawful);
   read = sound.read;
   small = sound.small;
 }

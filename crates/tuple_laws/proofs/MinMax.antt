@@ -19,8 +19,8 @@ use Rattle.opclass_any.specs.AnyClass.{add, bytes_of as any_bytes, empty, greate
 use Rattle.opclass_any.specs.declared.classes.AnyClass.TheVariants as forms
 use Rattle.opclass_any.specs.declared.classes.AnySummary.{AnySummary}
 use Rattle.opclass_any.specs.declared.classes.AnySummary.TheVariants as kept
-use Rattle.tuple_laws.specs.KnownValues.{IsKnown}
-use Rattle.tuple_laws.specs.SoundClasses.{IsSound, IsSpelt, IsWritten, Unites, Widens}
+use Rattle.tuple_laws.specs.OwnKinds.{IsOfItsKind}
+use Rattle.tuple_laws.specs.SoundClasses.{IsSoundClass, IsSummarySpelt, IsSummaryWritten, Unites, Widens}
 use Rattle.tuple_laws.proofs.Forms.{IsForm, sound_form, was_kept}
 use Rattle.tuple_laws.proofs.Numbers.{by_cond, bytes_more, int8_are_bytes, int8_fits, none_bytes, read_again as number_again, read_fits}
 
@@ -62,7 +62,7 @@ one_number n fits = record { least_fits = fits; greatest_fits = fits; in_order =
 itself : (n : ℤ) → IsWithin n n (Int n)
 itself n = (omega (arith, ints), omega (arith, ints))
 
-widens : (class : MinMax) (s : Bounds) (v : Value) → IsSummary s → IsInt v → IsKnown v → Widens (forms.MinMax class) (kept.MinMax s) v
+widens : (class : MinMax) (s : Bounds) (v : Value) → IsSummary s → IsInt v → IsOfItsKind v → Widens (forms.MinMax class) (kept.MinMax s) v
 unfolding add is_of includes any_bytes
 widens class s (Int n) of taken known = record {
   of_class = widened_lawful s n n of (one_number n (int8_fits n (known kinds.Int refl)));
@@ -94,7 +94,7 @@ bounded : (s : Bounds) → length (bytes_of s) ≤ 16
 bounded NothingYet = omega arith
 bounded (Between l g) = omega (arith, length-between l g)
 
-written : (class : MinMax) (s : Bounds) → IsSummary s → IsWritten (forms.MinMax class) (kept.MinMax s)
+written : (class : MinMax) (s : Bounds) → IsSummary s → IsSummaryWritten (forms.MinMax class) (kept.MinMax s)
 unfolding any_bytes any_read greatest_size
 written class s of = record { bytes = are_bytes s; bound = bounded s; again = ap (kept_as kept.MinMax) (read_again s of) }
 
@@ -123,12 +123,12 @@ found bytes s small is =
       spelt = bytes_again l g bytes size (number_again bytes 0 small (omega (arith, size))) (number_again bytes 8 small (omega (arith, size)));
     })))))
 
-spelt : (class : MinMax) (bytes : List ℕ) (s : AnySummary) → AreBytes bytes → any_read (forms.MinMax class) bytes ≡ Ok s → IsSpelt (forms.MinMax class) bytes s
+spelt : (class : MinMax) (bytes : List ℕ) (s : AnySummary) → AreBytes bytes → any_read (forms.MinMax class) bytes ≡ Ok s → IsSummarySpelt (forms.MinMax class) bytes s
 unfolding any_bytes any_read is_of
 spelt class bytes s small is =
     let was = was_kept kept.MinMax (read_of bytes) s is in
     let f = found bytes was.inside small was.read in
-    subst (IsSpelt (forms.MinMax class) bytes) was.is (record { of_class = f.lawful; spelt = f.spelt })
+    subst (IsSummarySpelt (forms.MinMax class) bytes) was.is (record { of_class = f.lawful; spelt = f.spelt })
 
 -- ---- the class
 
@@ -137,7 +137,7 @@ unfolding is_of
 form class (kept.MinMax s) of = record { inside = s; is = refl; lawful = of }
 form class s of = absurd of
 
-pub sound : (class : MinMax) → IsSound (forms.MinMax class)
+pub sound : (class : MinMax) → IsSoundClass (forms.MinMax class)
 unfolding empty is_of takes greatest_size
 sound class = sound_form (forms.MinMax class) kept.MinMax IsSummary (record {
   empty = tt;

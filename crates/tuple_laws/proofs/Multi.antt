@@ -23,8 +23,8 @@ use Rattle.opclass_any.specs.AnyClass.{add, bytes_of as any_bytes, empty, greate
 use Rattle.opclass_any.specs.declared.classes.AnyClass.TheVariants as forms
 use Rattle.opclass_any.specs.declared.classes.AnySummary.{AnySummary}
 use Rattle.opclass_any.specs.declared.classes.AnySummary.TheVariants as kept
-use Rattle.tuple_laws.specs.KnownValues.{IsKnown}
-use Rattle.tuple_laws.specs.SoundClasses.{IsSound, IsSpelt, IsWritten, Unites, Widens}
+use Rattle.tuple_laws.specs.OwnKinds.{IsOfItsKind}
+use Rattle.tuple_laws.specs.SoundClasses.{IsSoundClass, IsSummarySpelt, IsSummaryWritten, Unites, Widens}
 use Rattle.tuple_laws.proofs.Forms.{IsForm, sound_form, was_kept}
 use Rattle.tuple_laws.proofs.Numbers.{byte_more, bytes_more, int8_are_bytes, int8_fits, none_bytes, number_bytes}
 
@@ -44,7 +44,7 @@ number_lawful limit s v limits of fits =
 some_bytes : (es : List Element) → 0 < length (elements_bytes es)
 some_bytes es = omega (arith, length-append (bytes_high_first 2 (length es)) (flat_map element_bytes es), length-number 2 (length es))
 
-widens : (limit : ℕ) → IsLimit limit → (s : Kept) (v : Value) → IsSummary limit s → IsInt v → IsKnown v → Widens (forms.Multi limit) (kept.Multi s) v
+widens : (limit : ℕ) → IsLimit limit → (s : Kept) (v : Value) → IsSummary limit s → IsInt v → IsOfItsKind v → Widens (forms.Multi limit) (kept.Multi s) v
 unfolding add is_of includes any_bytes
 widens limit limits s (Int n) of taken known =
     let fits = int8_fits n (known kinds.Int refl) in
@@ -85,7 +85,7 @@ elements_are_bytes : (es : List Element) → AreBytes (flat_map element_bytes es
 elements_are_bytes [] = none_bytes
 elements_are_bytes (e ∷ es) = bytes_more (element_bytes e) (flat_map element_bytes es) (element_are_bytes e) (elements_are_bytes es)
 
-written : (limit : ℕ) → IsLimit limit → (s : Kept) → IsSummary limit s → IsWritten (forms.Multi limit) (kept.Multi s)
+written : (limit : ℕ) → IsLimit limit → (s : Kept) → IsSummary limit s → IsSummaryWritten (forms.Multi limit) (kept.Multi s)
 unfolding any_bytes any_read greatest_size
 written limit limits s of = record {
   bytes = bytes_more (bytes_high_first 2 (length s.elements)) (flat_map element_bytes s.elements) (number_bytes 2 (length s.elements)) (elements_are_bytes s.elements);
@@ -115,12 +115,12 @@ found limit bytes s small is =
     let taken : IsRead limit bytes were.elements = read_taken limit bytes were.elements small were.read in
     subst (Found limit bytes) were.is (record { lawful = record { own_limit = refl; apart = taken.apart; within = taken.within }; spelt = taken.spelled })
 
-spelt : (limit : ℕ) (bytes : List ℕ) (s : AnySummary) → AreBytes bytes → any_read (forms.Multi limit) bytes ≡ Ok s → IsSpelt (forms.Multi limit) bytes s
+spelt : (limit : ℕ) (bytes : List ℕ) (s : AnySummary) → AreBytes bytes → any_read (forms.Multi limit) bytes ≡ Ok s → IsSummarySpelt (forms.Multi limit) bytes s
 unfolding any_bytes any_read is_of
 spelt limit bytes s small is =
     let was = was_kept kept.Multi (summary_in limit bytes) s is in
     let f = found limit bytes was.inside small was.read in
-    subst (IsSpelt (forms.Multi limit) bytes) was.is (record { of_class = f.lawful; spelt = f.spelt })
+    subst (IsSummarySpelt (forms.Multi limit) bytes) was.is (record { of_class = f.lawful; spelt = f.spelt })
 
 -- ---- the class
 
@@ -129,7 +129,7 @@ unfolding is_of
 form limit (kept.Multi s) of = record { inside = s; is = refl; lawful = of }
 form limit s of = absurd of
 
-pub sound : (limit : ℕ) → IsLimit limit → IsSound (forms.Multi limit)
+pub sound : (limit : ℕ) → IsLimit limit → IsSoundClass (forms.Multi limit)
 unfolding empty is_of takes greatest_size
 sound limit limits = sound_form (forms.Multi limit) kept.Multi (IsSummary limit) (record {
   empty = record { own_limit = refl; apart = tt; within = omega arith };

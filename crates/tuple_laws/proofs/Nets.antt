@@ -21,8 +21,8 @@ use Rattle.opclass_any.specs.AnyClass.{add, bytes_of as any_bytes, empty, greate
 use Rattle.opclass_any.specs.declared.classes.AnyClass.TheVariants as forms
 use Rattle.opclass_any.specs.declared.classes.AnySummary.{AnySummary}
 use Rattle.opclass_any.specs.declared.classes.AnySummary.TheVariants as kept
-use Rattle.tuple_laws.specs.KnownValues.{IsKnown}
-use Rattle.tuple_laws.specs.SoundClasses.{IsSound, IsSpelt, IsWritten, Unites, Widens}
+use Rattle.tuple_laws.specs.OwnKinds.{IsOfItsKind}
+use Rattle.tuple_laws.specs.SoundClasses.{IsSoundClass, IsSummarySpelt, IsSummaryWritten, Unites, Widens}
 use Rattle.tuple_laws.proofs.Forms.{IsForm, sound_form, was_kept}
 use Rattle.tuple_laws.proofs.Numbers.{by_cond, byte_more, number_bytes, number_small}
 use Rattle.tuple_laws.proofs.Placed.{placed_none, read_unless_ok}
@@ -32,7 +32,7 @@ some_bytes s = omega (arith, length-fields (fields_of s))
 
 -- ---- an address added, and two united
 
-widens : (class : NetHull) (s : NetSummary) (v : Value) → IsSummary s → IsNet v → IsKnown v → Widens (forms.NetHull class) (kept.NetHull s) v
+widens : (class : NetHull) (s : NetSummary) (v : Value) → IsSummary s → IsNet v → IsOfItsKind v → Widens (forms.NetHull class) (kept.NetHull s) v
 unfolding add is_of includes any_bytes
 widens class s (Net n) of taken known =
     let one : IsSummary (of_network n) = hull_with n n.prefix (known kinds.Net refl) (omega arith) in
@@ -69,7 +69,7 @@ are_bytes (Hull u) of =
     let is = of.is_network in
     fields_are_bytes 2 u.family u.prefix u.address (omega arith) (omega (arith, is.family)) (omega (arith, is.prefix))
 
-written : (class : NetHull) (s : NetSummary) → IsSummary s → IsWritten (forms.NetHull class) (kept.NetHull s)
+written : (class : NetHull) (s : NetSummary) → IsSummary s → IsSummaryWritten (forms.NetHull class) (kept.NetHull s)
 unfolding any_bytes any_read greatest_size
 written class s of = record {
   bytes = are_bytes s of;
@@ -147,12 +147,12 @@ found bytes s small is =
     let spelt = bytes_again address bytes whole.long (put-number bytes 3 4 (omega (arith, whole.long)) small) in
     subst (Found bytes) (ap from_fields (sym are) ∙ was.is) (record { lawful = read.lawful; spelt = spelt ∙ ap field_bytes (sym read.again) })
 
-spelt : (class : NetHull) (bytes : List ℕ) (s : AnySummary) → AreBytes bytes → any_read (forms.NetHull class) bytes ≡ Ok s → IsSpelt (forms.NetHull class) bytes s
+spelt : (class : NetHull) (bytes : List ℕ) (s : AnySummary) → AreBytes bytes → any_read (forms.NetHull class) bytes ≡ Ok s → IsSummarySpelt (forms.NetHull class) bytes s
 unfolding any_bytes any_read is_of
 spelt class bytes s small is =
     let was = was_kept kept.NetHull (read_of bytes) s is in
     let f = found bytes was.inside small was.read in
-    subst (IsSpelt (forms.NetHull class) bytes) was.is (record { of_class = f.lawful; spelt = f.spelt })
+    subst (IsSummarySpelt (forms.NetHull class) bytes) was.is (record { of_class = f.lawful; spelt = f.spelt })
 
 -- ---- the class
 
@@ -161,7 +161,7 @@ unfolding is_of
 form class (kept.NetHull s) of = record { inside = s; is = refl; lawful = of }
 form class s of = absurd of
 
-pub sound : (class : NetHull) → IsSound (forms.NetHull class)
+pub sound : (class : NetHull) → IsSoundClass (forms.NetHull class)
 unfolding empty is_of takes greatest_size
 sound class = sound_form (forms.NetHull class) kept.NetHull IsSummary (record {
   empty = tt;

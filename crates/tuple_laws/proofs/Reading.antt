@@ -19,7 +19,7 @@ use Rattle.range_tuple.specs.declared.state.NullState.{NullState}
 use Rattle.range_tuple.proofs.ColumnBytes.{summary_of_none, summary_of_values}
 use Rattle.range_tuple.proofs.HeadFaults.{IsHeadInForm, in_form, length_agrees, state_small}
 use Rattle.range_tuple.proofs.TupleRead.{bytes_found}
-use Rattle.tuple_laws.specs.SoundClasses.{IsSound}
+use Rattle.tuple_laws.specs.SoundClasses.{IsSoundClass}
 use Rattle.tuple_laws.specs.SoundTuples.{IsTupleSpelt}
 use Rattle.tuple_laws.proofs.Numbers.{by_cond, number_small}
 
@@ -37,7 +37,7 @@ whole_ok true end (Ok t) s is = absurd (cc)
 whole_ok false end (Ok t) s is = (refl, is)
 
 -- in a state with values
-values_read : (class : AnyClass) (state : NullState) (size : ℕ) (bytes : List ℕ) (s : AnySummary) → IsSound class → AreBytes bytes → has_values state ≡ true → 0 < size → some_in class size bytes ≡ Ok s → IsRead class state size bytes s
+values_read : (class : AnyClass) (state : NullState) (size : ℕ) (bytes : List ℕ) (s : AnySummary) → IsSoundClass class → AreBytes bytes → has_values state ≡ true → 0 < size → some_in class size bytes ≡ Ok s → IsRead class state size bytes s
 values_read class state size bytes s sound small some there is =
     by_cond (length bytes == 0) (Err 0) (whole (nat_lt (length bytes) size) (length bytes) (summary_of class (take size bytes))) (Ok s) (IsRead class state size bytes s) is (λ t wrong. absurd (cc))
     (λ f is. let parts = whole_ok (nat_lt (length bytes) size) (length bytes) (summary_of class (take size bytes)) s is in
@@ -50,7 +50,7 @@ values_read class state size bytes s sound small some there is =
       spelt = λ place. summary_of_values (record { place = place; class = class; state = state; summary = s }) some ∙ sym read.spelt;
     })
 
-none_read : (class : AnyClass) (state : NullState) (size : ℕ) (bytes : List ℕ) (s : AnySummary) → IsSound class → has_values state ≡ false → size ≡ 0 → empty class ≡ s → IsRead class state size bytes s
+none_read : (class : AnyClass) (state : NullState) (size : ℕ) (bytes : List ℕ) (s : AnySummary) → IsSoundClass class → has_values state ≡ false → size ≡ 0 → empty class ≡ s → IsRead class state size bytes s
 none_read class state size bytes s sound none no_size own =
     subst (IsRead class state size bytes) own (record {
       lawful = record { of_class = sound.empty; of_no_value = λ t. refl; has_bytes = λ some. absurd (false≢true (sym none ∙ some)) };
@@ -58,7 +58,7 @@ none_read class state size bytes s sound none no_size own =
       spelt = λ place. summary_of_none (record { place = place; class = class; state = state; summary = empty class }) none ∙ ap (λ (n : ℕ). take n bytes) (sym no_size);
     })
 
-summary_read : (class : AnyClass) (state : NullState) (size : ℕ) (bytes : List ℕ) (s : AnySummary) → IsSound class → AreBytes bytes → (has_values state ≡ true → 0 < size) → (has_values state ≡ false → size ≡ 0) → summary_in class state size bytes ≡ Ok s → IsRead class state size bytes s
+summary_read : (class : AnyClass) (state : NullState) (size : ℕ) (bytes : List ℕ) (s : AnySummary) → IsSoundClass class → AreBytes bytes → (has_values state ≡ true → 0 < size) → (has_values state ≡ false → size ≡ 0) → summary_in class state size bytes ≡ Ok s → IsRead class state size bytes s
 unfolding summary_in
 summary_read class state size bytes s sound small some none is =
     by_cond (has_values state) (some_in class size bytes) (Ok (empty class)) (Ok s) (IsRead class state size bytes s) is
@@ -137,7 +137,7 @@ module _ (count : ℕ) (bytes : List ℕ) (small : AreBytes bytes) (form : IsHea
         summaries = (λ i. summary i ++ (rest.summaries ∙ sym (drop-drop size at bytes)) i) ∙ take-append-drop size (drop at bytes);
       }
 
-  columns_found : (parts : List (ℕ × AnyClass)) (k at : ℕ) (columns : List IndexedColumn) → All (λ (p : ℕ × AnyClass). IsSound p.1) parts → k + length parts ≡ count → columns_in count bytes parts k at ≡ Ok columns → AreFound count bytes parts k at columns
+  columns_found : (parts : List (ℕ × AnyClass)) (k at : ℕ) (columns : List IndexedColumn) → All (λ (p : ℕ × AnyClass). IsSoundClass p.1) parts → k + length parts ≡ count → columns_in count bytes parts k at ≡ Ok columns → AreFound count bytes parts k at columns
   columns_found [] k at columns sound all is =
       by_cond (nat_lt at (length bytes)) (Err at) (Ok []) (Ok columns) (AreFound count bytes [] k at columns) is (λ t wrong. absurd (cc))
       (λ f is. let own : [] ≡ columns = cc in
@@ -149,7 +149,7 @@ module _ (count : ℕ) (bytes : List ℕ) (small : AreBytes bytes) (form : IsHea
         summaries = sym (drop_all at bytes (ltb-false at (length bytes) f));
       }))
   columns_found (part ∷ parts) k at columns sound all is =
-      let P : ℕ × AnyClass → Type 0 = λ p. IsSound p.1 in
+      let P : ℕ × AnyClass → Type 0 = λ p. IsSoundClass p.1 in
       let below : k < count = omega arith in
       let size = length_at count bytes k in
       let state = state_in (state_at bytes k) in
@@ -199,7 +199,7 @@ reads_of : (parts : List (ℕ × AnyClass)) (bytes : List ℕ) (t : Tuple) → r
 unfolding read_of
 reads_of parts bytes t is = tuple_parts bytes (head_fault (length parts) bytes) (columns_read (length parts) parts bytes) t is
 
-pub spelt_of : (parts : List (ℕ × AnyClass)) (bytes : List ℕ) (t : Tuple) → 0 < length parts → All (λ (p : ℕ × AnyClass). IsSound p.1) parts → AreBytes bytes → tuple_in parts bytes ≡ Some t → IsTupleSpelt parts bytes t
+pub spelt_of : (parts : List (ℕ × AnyClass)) (bytes : List ℕ) (t : Tuple) → 0 < length parts → All (λ (p : ℕ × AnyClass). IsSoundClass p.1) parts → AreBytes bytes → tuple_in parts bytes ≡ Some t → IsTupleSpelt parts bytes t
 spelt_of parts bytes t some sound small is =
     let was = reads_of parts bytes t (read_ok (read_of parts bytes) t is) in
     let n = length parts in

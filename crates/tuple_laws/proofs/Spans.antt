@@ -25,8 +25,8 @@ use Rattle.opclass_any.specs.AnyClass.{add, bytes_of as any_bytes, empty, greate
 use Rattle.opclass_any.specs.declared.classes.AnyClass.TheVariants as forms
 use Rattle.opclass_any.specs.declared.classes.AnySummary.{AnySummary}
 use Rattle.opclass_any.specs.declared.classes.AnySummary.TheVariants as kept
-use Rattle.tuple_laws.specs.KnownValues.{IsKnown}
-use Rattle.tuple_laws.specs.SoundClasses.{IsSound, IsSpelt, IsWritten, Unites, Widens}
+use Rattle.tuple_laws.specs.OwnKinds.{IsOfItsKind}
+use Rattle.tuple_laws.specs.SoundClasses.{IsSoundClass, IsSummarySpelt, IsSummaryWritten, Unites, Widens}
 use Rattle.tuple_laws.proofs.Forms.{IsForm, sound_form, was_kept}
 use Rattle.tuple_laws.proofs.Numbers.{bound_fits, by_cond, byte_more, bytes_more, int8_are_bytes, read_again as number_again, read_fits}
 use Rattle.tuple_laws.proofs.Placed.{placed_none, read_unless_ok}
@@ -86,7 +86,7 @@ one_includes (Between l h) is = (is, holds_itself (Between l h))
 some_bytes : (s : SpanSummary) → 0 < length (bytes_of s)
 some_bytes s = omega (arith, length-fields (fields_of s))
 
-widens : (class : SpanHull) (s : SpanSummary) (v : Value) → IsSummary s → IsSpan v → IsKnown v → Widens (forms.SpanHull class) (kept.SpanHull s) v
+widens : (class : SpanHull) (s : SpanSummary) (v : Value) → IsSummary s → IsSpan v → IsOfItsKind v → Widens (forms.SpanHull class) (kept.SpanHull s) v
 unfolding add is_of includes any_bytes
 widens class s (Span r) of taken known =
     let is : IsRange r × HasBounds r = known kinds.Span refl in
@@ -127,7 +127,7 @@ shape_small : (e : Bool) (u : Range) → (fields_of (record { empty_added = e; h
 shape_small e Empty = omega arith
 shape_small e (Between l h) = bits_small (is_infinite l) (is_infinite h)
 
-written : (class : SpanHull) (s : SpanSummary) → IsSummary s → IsWritten (forms.SpanHull class) (kept.SpanHull s)
+written : (class : SpanHull) (s : SpanSummary) → IsSummary s → IsSummaryWritten (forms.SpanHull class) (kept.SpanHull s)
 unfolding any_bytes any_read greatest_size
 written class s of =
     let f = fields_of s in
@@ -265,12 +265,12 @@ found bytes s small is =
       spelt = spelt ∙ ap field_bytes (sym read.again);
     })
 
-spelt : (class : SpanHull) (bytes : List ℕ) (s : AnySummary) → AreBytes bytes → any_read (forms.SpanHull class) bytes ≡ Ok s → IsSpelt (forms.SpanHull class) bytes s
+spelt : (class : SpanHull) (bytes : List ℕ) (s : AnySummary) → AreBytes bytes → any_read (forms.SpanHull class) bytes ≡ Ok s → IsSummarySpelt (forms.SpanHull class) bytes s
 unfolding any_bytes any_read is_of
 spelt class bytes s small is =
     let was = was_kept kept.SpanHull (read_of bytes) s is in
     let f = found bytes was.inside small was.read in
-    subst (IsSpelt (forms.SpanHull class) bytes) was.is (record { of_class = f.lawful; spelt = f.spelt })
+    subst (IsSummarySpelt (forms.SpanHull class) bytes) was.is (record { of_class = f.lawful; spelt = f.spelt })
 
 -- ---- the class
 
@@ -279,7 +279,7 @@ unfolding is_of
 form class (kept.SpanHull s) of = record { inside = s; is = refl; lawful = of }
 form class s of = absurd of
 
-pub sound : (class : SpanHull) → IsSound (forms.SpanHull class)
+pub sound : (class : SpanHull) → IsSoundClass (forms.SpanHull class)
 unfolding empty is_of takes greatest_size
 sound class = sound_form (forms.SpanHull class) kept.SpanHull IsSummary (record {
   empty = record { is_range = tt; lower_fits = tt; upper_fits = tt };

@@ -23,25 +23,25 @@ use Rattle.range_tuple.proofs.ColumnBytes.{summary_of_none, summary_of_values}
 use Rattle.range_tuple.proofs.ReadBack.{tuple_again}
 use Rattle.range_tuple.proofs.TupleRead.{tuple_fits}
 use Rattle.range_tuple.proofs.WholeTuples.{flags_small}
-use Rattle.tuple_laws.specs.KnownValues.{IsKnown}
-use Rattle.tuple_laws.specs.SoundClasses.{IsSound}
-use Rattle.tuple_laws.specs.SoundTuples.{AreTaken, IsEmptyTuple, IsTupleOf, IsTupleWritten, UnitesTuples, WidensTuple}
+use Rattle.tuple_laws.specs.OwnKinds.{IsOfItsKind}
+use Rattle.tuple_laws.specs.SoundClasses.{IsSoundClass}
+use Rattle.tuple_laws.specs.SoundTuples.{AreTaken, IsEmptyTuple, IsIndexTuple, IsTupleWritten, UnitesTuples, WidensTuple}
 use Rattle.tuple_laws.proofs.Columns.{WidensRow, columns_unite, empty_is, row_widens}
 use Rattle.tuple_laws.proofs.Numbers.{byte_more, bytes_more, none_bytes, number_bytes}
 
 -- each class of the index is sound
 abbrev pub AreSound : List (ℕ × AnyClass) → Type 0
-AreSound parts = All (λ (p : ℕ × AnyClass). IsSound p.1) parts
+AreSound parts = All (λ (p : ℕ × AnyClass). IsSoundClass p.1) parts
 
 -- and so is that of each column
 abbrev HasSoundClass : IndexedColumn → Type 0
-HasSoundClass column = IsSound column.class
+HasSoundClass column = IsSoundClass column.class
 
 sound_columns : (columns : List IndexedColumn) → AreSound (parts_of columns) → All HasSoundClass columns
 sound_columns columns all k d below =
-    subst (λ (p : ℕ × AnyClass). IsSound p.1) (get_or-map part_of columns k d (part_of d) below) (all k (part_of d) (rw (length-map columns part_of) below))
+    subst (λ (p : ℕ × AnyClass). IsSoundClass p.1) (get_or-map part_of columns k d (part_of d) below) (all k (part_of d) (rw (length-map columns part_of) below))
 
-sounds : (parts : List (ℕ × AnyClass)) (t : Tuple) → AreSound parts → IsTupleOf parts t → All HasSoundClass t.columns
+sounds : (parts : List (ℕ × AnyClass)) (t : Tuple) → AreSound parts → IsIndexTuple parts t → All HasSoundClass t.columns
 sounds parts t sound of = sound_columns t.columns (subst AreSound (sym of.of_index) sound)
 
 -- ---- empty
@@ -49,7 +49,7 @@ sounds parts t sound of = sound_columns t.columns (subst AreSound (sym of.of_ind
 empty_columns : (columns : List Column) (indexed : List Part) → AreSound (parts_of (map (empty_column columns) indexed)) → All IsColumn (map (empty_column columns) indexed)
 empty_columns columns [] sound = All-nil IsColumn
 empty_columns columns (part ∷ indexed) sound =
-    let P : ℕ × AnyClass → Type 0 = λ p. IsSound p.1 in
+    let P : ℕ × AnyClass → Type 0 = λ p. IsSoundClass p.1 in
     let first = part_of (empty_column columns part) in
     let rest = parts_of (map (empty_column columns) indexed) in
     All-cons IsColumn (empty_column columns part) (map (empty_column columns) indexed) (empty_is columns part (All-head P first rest sound)) (empty_columns columns indexed (All-tail P first rest sound))
@@ -73,13 +73,13 @@ empty_of parts range held columns indexed some sound fits same =
 
 -- ---- with a row
 
-rows_widen : (columns : List IndexedColumn) (values : List Value) → All HasSoundClass columns → All IsColumn columns → All (ColumnTakes values) columns → All IsKnown values → All (λ (column : IndexedColumn). WidensRow column (with_row_at values column) values) columns
+rows_widen : (columns : List IndexedColumn) (values : List Value) → All HasSoundClass columns → All IsColumn columns → All (ColumnTakes values) columns → All IsOfItsKind values → All (λ (column : IndexedColumn). WidensRow column (with_row_at values column) values) columns
 rows_widen columns values sound of taken known k d below = row_widens (get_or columns k d) values (sound k d below) (of k d below) (taken k d below) known
 
 kept_by_row : (columns : List IndexedColumn) (values row : List Value) → All (λ (column : IndexedColumn). WidensRow column (with_row_at values column) values) columns → All (ColumnIncludes row) columns → All (ColumnIncludes row) (map (with_row_at values) columns)
 kept_by_row columns values row widens within = All-map (ColumnIncludes row) (with_row_at values) columns (λ k d below. (widens k d below).kept row (within k d below))
 
-pub row_of : (parts : List (ℕ × AnyClass)) (t : Tuple) (values : List Value) → AreSound parts → IsTupleOf parts t → AreTaken parts values → All IsKnown values → WidensTuple parts t values
+pub row_of : (parts : List (ℕ × AnyClass)) (t : Tuple) (values : List Value) → AreSound parts → IsIndexTuple parts t → AreTaken parts values → All IsOfItsKind values → WidensTuple parts t values
 row_of parts t values sound of taken known =
     let takes : All (ColumnTakes values) t.columns = takes_by_parts t.columns values (subst (λ (ps : List (ℕ × AnyClass)). AreTaken ps values) (sym of.of_index) taken) in
     let widens = rows_widen t.columns values (sounds parts t sound of) of.is.columns takes known in
@@ -116,7 +116,7 @@ many_unite (column ∷ columns) (other ∷ others) same sound of also =
       second = λ row within. All-cons (ColumnIncludes row) new news (one.second row (All-head (ColumnIncludes row) other others within)) (more.second row (All-tail (ColumnIncludes row) other others within));
     }
 
-pub union_of : (parts : List (ℕ × AnyClass)) (t other : Tuple) → AreSound parts → IsTupleOf parts t → IsTupleOf parts other → UnitesTuples parts t other
+pub union_of : (parts : List (ℕ × AnyClass)) (t other : Tuple) → AreSound parts → IsIndexTuple parts t → IsIndexTuple parts other → UnitesTuples parts t other
 union_of parts t other sound of also =
     let unite = many_unite t.columns other.columns (also.of_index ∙ sym of.of_index) (sounds parts t sound of) of.is.columns also.is.columns in
     record {
@@ -130,7 +130,7 @@ union_of parts t other sound of also =
 
 -- ---- written
 
-reads_again : (class : AnyClass) → IsSound class → IsReadAgain class
+reads_again : (class : AnyClass) → IsSoundClass class → IsReadAgain class
 reads_again class sound = record {
   bound = λ s of. (sound.written s of).bound;
   fits = λ s of. omega (arith, (sound.written s of).bound, sound.small);
@@ -155,7 +155,7 @@ lengths_are_bytes : (columns : List IndexedColumn) → AreBytes (lengths_bytes c
 lengths_are_bytes [] = none_bytes
 lengths_are_bytes (column ∷ columns) = bytes_more (length_bytes column) (lengths_bytes columns) (length_is_bytes column) (lengths_are_bytes columns)
 
-summary_are_bytes : (column : IndexedColumn) (b : Bool) → has_values column.state ≡ b → IsSound column.class → IsColumn column → AreBytes (summary_bytes column)
+summary_are_bytes : (column : IndexedColumn) (b : Bool) → has_values column.state ≡ b → IsSoundClass column.class → IsColumn column → AreBytes (summary_bytes column)
 summary_are_bytes column true is sound of = subst AreBytes (sym (summary_of_values column is)) (sound.written column.summary of.of_class).bytes
 summary_are_bytes column false is sound of = subst AreBytes (sym (summary_of_none column is)) none_bytes
 
@@ -177,7 +177,7 @@ tuple_are_bytes t sound is =
     bytes_more (bytes_high_first 4 t.range) (flags_of t.placeholder t.empty ∷ columns_bytes t.columns) (number_bytes 4 t.range)
     (byte_more (flags_of t.placeholder t.empty) (columns_bytes t.columns) (omega (arith, flags_small t.placeholder t.empty)) (columns_are_bytes t.columns sound is.columns))
 
-pub written_of : (parts : List (ℕ × AnyClass)) (t : Tuple) → AreSound parts → IsTupleOf parts t → IsTupleWritten parts t
+pub written_of : (parts : List (ℕ × AnyClass)) (t : Tuple) → AreSound parts → IsIndexTuple parts t → IsTupleWritten parts t
 written_of parts t sound of =
     let all = sounds parts t sound of in
     let known : All ReadsAgain t.columns = λ k d below. reads_again (get_or t.columns k d).class (all k d below) in

@@ -1,3 +1,3 @@
-pub mod KnownValues
+pub mod OwnKinds
 pub mod SoundClasses
 pub mod SoundTuples

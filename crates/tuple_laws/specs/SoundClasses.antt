@@ -8,7 +8,7 @@ use Rattle.opclass_any.specs.AnyClass.{add, bytes_of, empty, greatest_size, incl
 use Rattle.opclass_any.specs.declared.classes.AnyClass.{AnyClass}
 use Rattle.opclass_any.specs.declared.classes.AnyClass.TheVariants as forms
 use Rattle.opclass_any.specs.declared.classes.AnySummary.{AnySummary}
-use Rattle.tuple_laws.specs.KnownValues.{IsKnown}
+use Rattle.tuple_laws.specs.OwnKinds.{IsOfItsKind}
 
 -- the class's parameters are within their limits
 abbrev pub IsWithinLimits : AnyClass → Type 0
@@ -31,21 +31,21 @@ pub record Unites (class : AnyClass) (s other : AnySummary) : Type 0 where
   pub has_bytes : 0 < length (bytes_of class other) → 0 < length (bytes_of class (united class s other))
 
 -- its bytes are bytes, no more than the class says, and are read as it
-pub record IsWritten (class : AnyClass) (s : AnySummary) : Type 0 where
+pub record IsSummaryWritten (class : AnyClass) (s : AnySummary) : Type 0 where
   pub bytes : AreBytes (bytes_of class s)
   pub bound : length (bytes_of class s) ≤ greatest_size class
   pub again : read_of class (bytes_of class s) ≡ Ok s
 
 -- bytes are those of a summary of the class
-pub record IsSpelt (class : AnyClass) (bytes : List ℕ) (s : AnySummary) : Type 0 where
+pub record IsSummarySpelt (class : AnyClass) (bytes : List ℕ) (s : AnySummary) : Type 0 where
   pub of_class : is_of class s
   pub spelt : bytes ≡ bytes_of class s
 
 -- What is added to a summary of the class, united with one, written as bytes and read in them is one, and loses nothing.
-pub record IsSound (class : AnyClass) : Type 0 where
+pub record IsSoundClass (class : AnyClass) : Type 0 where
   pub empty : is_of class (empty class)
-  pub widens : (s : AnySummary) (v : Value) → is_of class s → takes class v → IsKnown v → Widens class s v
+  pub widens : (s : AnySummary) (v : Value) → is_of class s → takes class v → IsOfItsKind v → Widens class s v
   pub unites : (s other : AnySummary) → is_of class s → is_of class other → Unites class s other
-  pub written : (s : AnySummary) → is_of class s → IsWritten class s
-  pub read : (bytes : List ℕ) (s : AnySummary) → AreBytes bytes → read_of class bytes ≡ Ok s → IsSpelt class bytes s
+  pub written : (s : AnySummary) → is_of class s → IsSummaryWritten class s
+  pub read : (bytes : List ℕ) (s : AnySummary) → AreBytes bytes → read_of class bytes ≡ Ok s → IsSummarySpelt class bytes s
   pub small : greatest_size class < 65536

@@ -11,13 +11,13 @@ ghost use Rattle.block_model.specs.declared.schema.Class.{Class};
 ghost use Rattle.block_model.specs.declared.value.Kind.{Kind};
 ghost use Rattle.opclass_any.specs.AnyClass.{class_of, greatest_size};
 ghost use Rattle.opclass_any.specs.declared.classes.AnyClass.{AnyClass};
-ghost use Rattle.tuple_laws.specs.SoundClasses.{IsSound, IsWithinLimits};
+ghost use Rattle.tuple_laws.specs.SoundClasses.{IsSoundClass, IsWithinLimits};
 ghost use Rattle.tuple_laws.specs.SoundTuples.{AreSoundTuples, IsIndexed};
 
 /// What a class within its limits makes of its summaries are summaries of it, which include what they have to; their bytes are read
 /// as them, and what is read is one, with those bytes.
 pub fn classes_are_sound()
-    ensures { (class : AnyClass) → IsWithinLimits class → IsSound class }
+    ensures { (class : AnyClass) → IsWithinLimits class → IsSoundClass class }
 {}
 
 /// The class of each kind whose parameters are lawful is within its limits, and its greatest summary is as long as the kind's.

@@ -1,4 +1,3 @@
-use Rattle.std.proofs.Common.{ℕ}
 use Rattle.coverage.specs.Statements.{AreLawful}
 use Rattle.index_steps.specs.IndexTuples.{IndexShape, classes_of, contents_of}
 use Rattle.contents_laws.specs.LawfulShapes.{IsLawfulShape}

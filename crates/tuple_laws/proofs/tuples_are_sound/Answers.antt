@@ -1,6 +1,6 @@
 use Rattle.std.proofs.Common.{ℕ, All, List, get_or}
 use Rattle.opclass_any.specs.declared.classes.AnyClass.{AnyClass}
-use Rattle.tuple_laws.specs.SoundClasses.{IsSound}
+use Rattle.tuple_laws.specs.SoundClasses.{IsSoundClass}
 use Rattle.tuple_laws.specs.SoundTuples.{AreSoundTuples, IsIndexed}
 use Rattle.tuple_laws.proofs.Classes.{sound}
 use Rattle.tuple_laws.proofs.Reading.{spelt_of}
@@ -9,7 +9,7 @@ use Rattle.tuple_laws.proofs.tuples_are_sound.Goals as goal
 
 sound_tuples : (parts : List (ℕ × AnyClass)) → IsIndexed parts → AreSoundTuples parts
 sound_tuples parts indexed =
-    let all : All (λ (p : ℕ × AnyClass). IsSound p.1) parts = λ k d below. sound (get_or parts k d).1 (indexed.limits k d below) in
+    let all : All (λ (p : ℕ × AnyClass). IsSoundClass p.1) parts = λ k d below. sound (get_or parts k d).1 (indexed.limits k d below) in
     record {
       empty = λ range held columns on fits same. empty_of parts range held columns on indexed.some all fits same;
       widens = λ t values of taken known. row_of parts t values all of taken known;

@@ -1,5 +1,5 @@
 use Rattle.std.proofs.lemmas.List.{take_all}
-use Rattle.std.proofs.lemmas.List.Elements.{All-more, All-nil, All-same}
+use Rattle.std.proofs.lemmas.List.Elements.{All-same}
 use Rattle.std.proofs.Common.{arith, sym}
 use Rattle.index_steps.proofs.KnownValues.{IsMade, values_are}
 use Rattle.index_steps.proofs.laws.values_are_known.Goals as goal

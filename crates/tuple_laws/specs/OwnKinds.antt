@@ -5,5 +5,5 @@ use Rattle.block_model.specs.declared.value.Value.{Value}
 use Rattle.block_model.specs.ValuesOfKind.{IsValueOf, has_kind}
 
 -- it is one of each kind that it has: its numbers are of int8, its range has a number, its address 32 bits
-abbrev pub IsKnown : Value → Type 0
-IsKnown v = (kind : Kind) → has_kind kind v ≡ true → IsValueOf kind v
+abbrev pub IsOfItsKind : Value → Type 0
+IsOfItsKind v = (kind : Kind) → has_kind kind v ≡ true → IsValueOf kind v
