@@ -1,18 +1,18 @@
 //! Stores over a disk in memory.
 
-ghost use Rattle.std.specs.Prelude.{◌≡◌, true};
-ghost use Rattle.store_layout.specs.DiskLayout.{IsPlace};
+ghost use Rattle.std.specs.Prelude.{◌≡◌};
 ghost use Rattle.wal_record.specs.Changes.{logged, place_of};
 
 use block_model::{Place, Sizes};
 use disk_trait::MemoryDisk;
+use log_redo::is_place;
 use logged_pages::PageStore;
 use page_layout::HEAP;
 use page_redo::fits;
 use small_layouts::{LEAST, table_layout};
 use std::alloc::Global;
 use store_format::format;
-use store_layout::{Layout, blocks_of, count_relations};
+use store_layout::Layout;
 use wal_record::Change;
 
 /// More writes and syncs than a test makes, and more bytes than they write.
@@ -56,22 +56,12 @@ pub fn formatted(alloc: Global, layout: &Layout) -> Option<Vec<u8>> {
     disk.image(1).ok()
 }
 
-/// Whether the layout has the page.
-fn has_place(layout: &Layout, place: Place) -> bool
-    ensures { result ≡ true → IsPlace layout.now place }
-{
-    if place.relation >= count_relations(layout) {
-        return false;
-    }
-    place.block < blocks_of(layout, place.relation)
-}
-
 /// Makes the change of the page at the place. `None` where there is no such page, where the change doesn't fit it, or where the
 /// store refuses.
 pub fn make(store: &mut PageStore<MemoryDisk>, place: Place, change: &Change<'_>) -> Option<()>
     requires own { place_of (logged change.now) ≡ place }
 {
-    if !has_place(store.layout(), place) {
+    if !is_place(store.layout(), place) {
         return None;
     }
     let form = store.form(place.relation);
@@ -87,7 +77,7 @@ pub fn make(store: &mut PageStore<MemoryDisk>, place: Place, change: &Change<'_>
 
 /// A byte of the page at the place.
 pub fn byte_at(store: &mut PageStore<MemoryDisk>, place: Place, at: usize) -> Option<u8> {
-    if !has_place(store.layout(), place) {
+    if !is_place(store.layout(), place) {
         return None;
     }
     match store.read(place) {
