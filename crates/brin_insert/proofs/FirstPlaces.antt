@@ -7,7 +7,6 @@ use Rattle.std.proofs.lemmas.List.Quantifiers.{position-Some}
 use Rattle.std.proofs.lemmas.List.Sums.{fails_before_first}
 use Rattle.std.proofs.lemmas.Option.{same_Some, none-some}
 use Rattle.block_model.specs.declared.place.Spot.{Spot}
-use Rattle.block_model.specs.declared.row.Row.{Row}
 use Rattle.store_layout.specs.DiskLayout.{DiskLayout}
 use Rattle.page_layout.specs.RowBytes.{StoredRow}
 use Rattle.page_layout.specs.PageContents.{Slot}
@@ -15,10 +14,9 @@ use Rattle.page_layout.specs.FreeSlots.{is_free, lowest_free}
 use Rattle.page_store.specs.PageMap.{PageMap}
 use Rattle.heap_rows.specs.HeapBlocks.{HasBlocks, slots_of}
 use Rattle.heap_rows.specs.Heaps.{slots_a_page}
-use Rattle.heap_rows.specs.IsTableFull.{IsTableFull}
-use Rattle.heap_rows.specs.RowPlaces.{place_for, place_from, slot_at, spot_in, with_row, with_slot, with_table_block}
+use Rattle.heap_rows.specs.RowPlaces.{place_for, place_from, slot_at, spot_in, with_row, with_table_block}
 use Rattle.table_coverage.specs.Table.{TableState}
-use Rattle.table_coverage.specs.TableSteps.{IsVacantPlace, IsFirstPlace, IsHeapFull}
+use Rattle.table_coverage.specs.TableSteps.{IsVacantPlace, IsFirstPlace}
 use Rattle.brin_insert.specs.ShownRows.{row_in, rows_in}
 
 -- a free slot isn't one in use
@@ -119,14 +117,3 @@ module _ (layout : DiskLayout) (pages : PageMap) (table : ℕ) (blocks : List (L
               let many : length (blocks ++ replicate count None ∷ []) ≡ max (length blocks) (spot.block + 1) = omega (arith, length-append blocks (replicate count None ∷ [])) in
               ap (λ (b : Bool). length (cond b blocks (blocks ++ replicate count None ∷ []))) (le-ltb spot.block (length blocks) next) ∙ many
         ]
-
-  -- where every slot of every block is in use, no place is left
-  pub is_full : IsTableFull layout.sizes.heap_blocks blocks → IsHeapFull w
-  is_full full b k vacant =
-      let there = free_there b k vacant in
-      elim (cases_lt b (length blocks)) [
-        | inl below ↦
-            let long : length (get_or blocks b []) ≡ slots_a_page layout table = sizes_of layout pages table blocks has b below in
-            absurd (not_used (get_or (get_or blocks b []) k None) there.1 (full.all_slots b below k (let within = there.0 in omega arith)))
-        | inr past ↦ (let all : length blocks ≡ layout.sizes.heap_blocks = full.all_blocks in omega arith)
-      ]

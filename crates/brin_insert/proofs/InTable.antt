@@ -29,7 +29,7 @@ use Rattle.index_steps.specs.SwapAnswers.{LeavesLocks}
 use Rattle.brin_insert.specs.declared.insert.Insert.{Insert}
 use Rattle.brin_insert.specs.declared.stage.Stage.{Stage}
 use Rattle.brin_insert.specs.declared.stage.Stage.TheVariants as stages
-use Rattle.brin_insert.specs.InsertAnswers.{InsertDid, InsertGoesTo, InsertStepped, InsertWaitsFor}
+use Rattle.brin_insert.specs.InsertAnswers.{InsertDid, InsertGoesTo, InsertStepped, InsertWaitsFor, heap_after}
 use Rattle.brin_insert.specs.InsertHands.{InsertHand}
 use Rattle.brin_insert.specs.InsertSteps.{IsAtWork, StepMakes, StepWaits, Stepped, insert_at, on_index}
 use Rattle.brin_insert.specs.Inserts.{HasReached, IsInsertFor, numbers_in, task_at, task_of, work_of}
@@ -129,7 +129,13 @@ module _ (steps : StepsInTable) (waits : WaitsInTable) (layout : DiskLayout) (pa
       ∙ ap (λ (m : ℕ). Inserts x.block x.slot old.row old.at (on_index (shape_of layout m) next.stage bytes (tuple_bytes next.widened))) same_index
 
   stepped : (answer : Did) → InsertDid s old.at was now before (task_of layout new) answer → InsertStepped layout pages paged locks locked s old new answer blocks
-  stepped answer came = record { after = blocks; has = has_then; came = came_as s old.at was now (task_of layout old) (task_of layout new) before (task_of layout new) answer task_was refl came }
+  stepped answer came =
+      let heap : heap_after layout old.row old.place new.place blocks ≡ blocks = ap (λ (o : Option Spot). heap_after layout old.row o new.place blocks) placed in
+      record {
+        has = subst (λ (l : List (List Slot)). HasBlocks layout paged table l) (sym heap) has_then;
+        came = subst (λ (l : List (List Slot)). InsertDid s old.at was (shown_by layout paged locked table l) (task_of layout old) (task_of layout new) answer) (sym heap)
+            (came_as s old.at was now (task_of layout old) (task_of layout new) before (task_of layout new) answer task_was refl came);
+      }
 
   pub moved : (point : Point) → CameOf (did.Moved point) → new.at ≡ old.at → new.copied ≡ bytes → work_of new ≡ Some next → InsertStepped layout pages paged locks locked s old new (did.Moved point) blocks
   moved point came same held found =
@@ -171,10 +177,13 @@ row_stepped row layout pages paged locks s old new spot values blocks made none 
     let was : ShownTable = shown_by layout pages locks old.row.table blocks in
     let now : ShownTable = shown_by layout paged locks old.row.table (blocks_with layout old.row.table old.row.id old.row.values spot blocks) in
     let rests : task_of layout old ≡ Resting = ap (λ (o : Option Spot). task_at layout old o) none in
+    let after : List (List Slot) = blocks_with layout old.row.table old.row.id old.row.values spot blocks in
+    let heap : heap_after layout old.row old.place new.place blocks ≡ after =
+    ap (λ (o : Option Spot). heap_after layout old.row o new.place blocks) none ∙ ap (λ (o : Option Spot). heap_after layout old.row None o blocks) placed in
     record {
-      after = blocks_with layout old.row.table old.row.id old.row.values spot blocks;
-      has = has_own;
-      came = came_as s old.at was now (task_of layout old) (task_of layout new) Resting (task_of layout new) answer rests refl
-          (reaches layout paged locks s old.at Resting was new old.row spot points.Row (blocks_with layout old.row.table old.row.id old.row.values spot blocks) 0 same_row placed first (numbers ∙ made.numbers) made.asks (omega arith)
-          (λ u at kept. row layout pages paged locks s old.row.table old.row.id old.row.values spot blocks puts_own u at) answer reached);
+      has = subst (λ (l : List (List Slot)). HasBlocks layout paged old.row.table l) (sym heap) has_own;
+      came = subst (λ (l : List (List Slot)). InsertDid s old.at was (shown_by layout paged locks old.row.table l) (task_of layout old) (task_of layout new) answer) (sym heap)
+          (came_as s old.at was now (task_of layout old) (task_of layout new) Resting (task_of layout new) answer rests refl
+          (reaches layout paged locks s old.at Resting was new old.row spot points.Row after 0 same_row placed first (numbers ∙ made.numbers) made.asks (omega arith)
+          (λ u at kept. row layout pages paged locks s old.row.table old.row.id old.row.values spot blocks puts_own u at) answer reached));
     }

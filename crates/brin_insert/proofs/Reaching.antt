@@ -27,7 +27,7 @@ use Rattle.brin_insert.specs.declared.stage.Stage.TheVariants as stages
 use Rattle.brin_insert.specs.InsertAnswers.{InsertDid, InsertGoesTo, IsLeftBy, account_of}
 use Rattle.brin_insert.specs.InsertHands.{InsertHand}
 use Rattle.brin_insert.specs.InsertSteps.{IsAtWork, on_index}
-use Rattle.brin_insert.specs.Inserts.{AsksNothing, HasReached, numbers_in, task_at, task_in, task_of, work_of}
+use Rattle.brin_insert.specs.Inserts.{AsksNothing, HasReached, HasStepAt, HasStepLeft, IsAtWorkIn, numbers_in, task_at, task_in, task_of, work_of}
 use Rattle.brin_insert.specs.ShownRows.{shown_by}
 use Rattle.brin_insert.specs.ShownTable.{indexes_of, shown_at}
 use Rattle.brin_insert.proofs.Tasks.{left_with, task_is}
@@ -98,5 +98,7 @@ pub left_by : (insert : Insert) (x : Spot) (point : Point) (answer : Did) → in
 left_by insert x point answer placed reached = by_work (work_of insert) refl reached
   where
     by_work : (o : Option InsertHand) → work_of insert ≡ o → HasReached point answer o → IsLeftBy insert answer
-    by_work None none is = subst (λ (d : Did). IsLeftBy insert d) (sym is) tt
+    by_work None none is =
+        subst (λ (d : Did). IsLeftBy insert d) (sym is) (λ (left : HasStepLeft insert).
+        subst IsAtWorkIn none (subst (λ (p : Option Spot). HasStepAt p (work_of insert)) placed left))
     by_work (Some hand) got is = subst (λ (d : Did). IsLeftBy insert d) (sym is.0) (left_with insert.place insert.works.items insert.at x hand placed got (subst (λ (q : Stage). IsAtWork q) (sym is.1) tt))

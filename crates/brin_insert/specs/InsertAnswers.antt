@@ -3,6 +3,7 @@ use Rattle.std.specs.Prelude.{◌≡◌, ◌≢◌, ℕ, ◌+◌, ◌*◌, List,
 use Rattle.block_model.specs.declared.place.Place.{Place}
 use Rattle.block_model.specs.declared.place.Spot.{Spot}
 use Rattle.block_model.specs.declared.reply.Point.{Point}
+use Rattle.block_model.specs.declared.row.Row.{Row}
 use Rattle.store_layout.specs.DiskLayout.{DiskLayout, page_offset}
 use Rattle.disk_trait.specs.Told.{Told}
 use Rattle.page_layout.specs.PageContents.{Slot}
@@ -29,6 +30,7 @@ use Rattle.index_contents.specs.IndexContents.{relation_of as index_relation}
 use Rattle.brin_insert.specs.declared.insert.Insert.{Insert}
 use Rattle.brin_insert.specs.InsertHands.{InsertHand}
 use Rattle.brin_insert.specs.Inserts.{HasStepLeft, task_of, work_of}
+use Rattle.brin_insert.specs.RowSteps.{blocks_with}
 use Rattle.brin_insert.specs.ShownRows.{shown_by}
 
 -- a statement begins with an empty account, and an insert adds nothing to it
@@ -55,16 +57,22 @@ InsertDid s at old new before after (did.Finished point) = InsertGoesTo s old ne
 InsertDid s at old new before after (did.Blocked held) = InsertWaitsFor s old before at held.page.block × (after ≡ before)
 InsertDid s at old new before after (did.NoRight by) = ⊥
 
+-- the blocks of the heap after a step: with the row, which nobody deleted, where the step put it
+abbrev pub heap_after : DiskLayout → Row → (was now : Option Spot) → List (List Slot) → List (List Slot)
+heap_after layout r (Some x) now blocks = blocks
+heap_after layout r None None blocks = blocks
+heap_after layout r None (Some spot) blocks = blocks_with layout r.table r.id r.values spot blocks
+
 -- so it is of the table that pages and locks showed, whose heap had these blocks, and that they show then
 pub record InsertStepped (layout : DiskLayout) (pages paged : PageMap) (locks locked : LockState) (s : ℕ) (old new : Insert) (answer : Did) (blocks : List (List Slot)) : Type 0 where
-  pub after : List (List Slot)
-  pub has : HasBlocks layout paged old.row.table after
-  pub came : InsertDid s old.at (shown_by layout pages locks old.row.table blocks) (shown_by layout paged locked old.row.table after) (task_of layout old) (task_of layout new) answer
+  pub has : HasBlocks layout paged old.row.table (heap_after layout old.row old.place new.place blocks)
+  pub came : InsertDid s old.at (shown_by layout pages locks old.row.table blocks) (shown_by layout paged locked old.row.table (heap_after layout old.row old.place new.place blocks))
+      (task_of layout old) (task_of layout new) answer
 
--- unless it is complete, it has a step left; it waits for no summarise lock
+-- it has a step left exactly where it isn't complete; it waits for no summarise lock
 abbrev pub IsLeftBy : Insert → Did → Type 0
 IsLeftBy insert (did.Moved point) = HasStepLeft insert
-IsLeftBy insert (did.Finished point) = Unit {0}
+IsLeftBy insert (did.Finished point) = HasStepLeft insert → ⊥
 IsLeftBy insert (did.Blocked held) = HasStepLeft insert
 IsLeftBy insert (did.NoRight by) = ⊥
 
