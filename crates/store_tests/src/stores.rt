@@ -17,6 +17,7 @@ use wal_record::Change;
 
 /// More writes and syncs than a test makes, and more bytes than they write.
 pub const MANY: u64 = 100;
+
 const BYTES: u64 = 1_000_000;
 
 /// The page of statuses.
