@@ -24,8 +24,9 @@ use index_steps::{
     Swapped, Within, a_row_is_added_to_what_is_seen, an_index_that_stays_is_read, copy_tuple,
     drop_moved, lock_of_another, name_moved, read_map, swap, values_are_known,
 };
+use engine_pages::PageStore;
 use page_locks::{Did, Locks};
-use page_store::{MachineFault, PageStore};
+use page_store::MachineFault;
 use range_store::Scratch;
 use range_tuple::RangeTuple;
 

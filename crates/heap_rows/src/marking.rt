@@ -11,7 +11,8 @@ ghost use Rattle.heap_rows.specs.RowPlaces.{IsInUse, MarksRow, MarksSlot};
 use crate::heap::{known, relation_of};
 use block_model::{Place, Spot};
 use disk_trait::Disk;
-use page_store::{PageStore, StoreError};
+use engine_pages::PageStore;
+use page_store::StoreError;
 use wal_record::Change;
 
 /// The transaction becomes the deleter of the row at the spot, in place of an earlier one. After an error nothing is

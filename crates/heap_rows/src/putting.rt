@@ -21,8 +21,9 @@ ghost use Rattle.heap_rows.specs.RowPlaces.{FillsSlot, TakesRowAt, new_row, plac
 use crate::heap::{known, relation_of, slots_in_all, write_new};
 use block_model::{Place, RowId, Spot, Value};
 use disk_trait::Disk;
+use engine_pages::PageStore;
 use page_layout::{HEAP, MAX_ROW, slots_are_read};
-use page_store::{MachineFault, PageStore, Room, StoreError};
+use page_store::{MachineFault, Room, StoreError};
 use store_layout::Layout;
 use wal_record::Change;
 

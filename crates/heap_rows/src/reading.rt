@@ -15,8 +15,9 @@ use crate::heap::{known, relation_of};
 use crate::rows::{PageRows, Stored};
 use block_model::{Place, Values};
 use disk_trait::Disk;
+use engine_pages::PageStore;
 use page_layout::{Form, Page, row_at, row_in, slot_count};
-use page_store::{PageStore, StoreError};
+use page_store::StoreError;
 
 /// `out`, which was made for the table, becomes the rows in use of a block that the table may have, in order of slot.
 /// Takes no memory. After an error `out` is as before.

@@ -16,9 +16,10 @@ ghost use Rattle.heap_versions.specs.Finds.{InOrder, LookOutcome, found_at, foun
 use crate::versions::Hit;
 use block_model::{NoMemory, Query, Row, Rows, Spot, row_matches};
 use disk_trait::Disk;
+use engine_pages::PageStore;
 use heap_rows::{PageRows, Stored, rows_of};
 use page_layout::slots_are_read;
-use page_store::{MachineFault, PageStore};
+use page_store::MachineFault;
 use row_versions::{Hit as Placing, Open, Version, is_seen, sees_at};
 use snapshot_core::Status;
 use std::alloc::Global;

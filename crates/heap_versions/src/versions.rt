@@ -13,6 +13,7 @@ ghost use Rattle.page_layout.specs.RowBytes.{HaveKinds};
 ghost use Rattle.page_store.specs.Keeps.{Keeps, Tells, Untold};
 ghost use Rattle.page_store.specs.Outcome.{IsReopen, NamesPage, Outcome};
 ghost use Rattle.page_store.specs.PageMap.{page_at};
+ghost use Rattle.engine_pages.specs.Kinds.{LeavesNothing};
 ghost use Rattle.heap_rows.specs.Heaps.{kinds_at, relation_of, slots_a_page};
 ghost use Rattle.heap_rows.specs.HeapBlocks.{OfBlocks};
 ghost use Rattle.heap_rows.specs.IsTableFull.{IsTableFull};
@@ -36,9 +37,10 @@ ghost use Rattle.heap_versions.specs.Hits.{AreHits, IsHit, mark_of, marking_answ
 use crate::finding::{find_in_blocks, hits_in_order, rows_in_order};
 use block_model::{NoMemory, Numbers, Query, RowId, Rows, Spot, Value};
 use disk_trait::Disk;
+use engine_pages::PageStore;
 use heap_rows::{blocks, blocks_of_a_table_are_one_list, unstarted_tables_have_no_blocks};
 use page_layout::slots_are_read;
-use page_store::{MachineFault, PageStore, StoreError};
+use page_store::{MachineFault, StoreError};
 use row_versions::{
     Open, Standing, count_row, ended, fail_open, no_transactions, numbers_of, open_of, set_open,
     status_of, take_open, transaction_of,
@@ -110,8 +112,9 @@ impl<D: Disk + Drop> Model for HeapVersions<D> {
 }
 
 impl<D: Disk + Drop> HeapVersions<D> {
-    /// No rows and no transactions, on the pages of this layout over the disk, which is untouched. No page is started.
+    /// No rows and no transactions, on the pages of this layout in memory alone, beside a disk that no call touches. No page is started.
     pub fn plain(alloc: Global, disk: D, layout: Layout) -> Result<HeapVersions<D>, NoMemory>
+        requires nothing { LeavesNothing (D.told disk) }
         ensures statuses { IfOk result (λ v. v.statuses ≡ Status.Unused ∷ []) }
         ensures database { IfOk result (λ v. v.database ≡ initial_state) }
         ensures disk { IfOk result (λ v. v.store.disk ≡ disk) }

@@ -18,8 +18,9 @@ use crate::reading::page_at;
 use crate::swapping::Within;
 use block_model::Spot;
 use disk_trait::Disk;
+use engine_pages::PageStore;
 use page_locks::Locks;
-use page_store::{PageStore, StoreError};
+use page_store::StoreError;
 use range_store::drop_at;
 use revmap::{SetFault, set};
 

@@ -14,10 +14,11 @@ ghost use Rattle.index_steps.specs.SwapAnswers.{FaultNamesPageOf, IsSwapFull, Le
 
 use block_model::{Place, Spot};
 use disk_trait::Disk;
+use engine_pages::PageStore;
 use index_contents::relation_of;
 use index_layout::MAP_ENTRIES;
 use page_locks::{Held, Locks};
-use page_store::{MachineFault, PageStore};
+use page_store::MachineFault;
 use range_store::{SwapFault, a_target_takes_its_tuple, put, replace, room_for};
 
 /// Where a statement is at work: in which index, at which range, and for whom.

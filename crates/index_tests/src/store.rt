@@ -9,8 +9,8 @@ use block_model::{
     Class, Column, Index, Kind, Name, PAGE_SIZE, Part, Place, Schema, Sequence, Sizes, Table,
 };
 use disk_trait::FileDisk;
+use engine_pages::PageStore;
 use page_layout::MAP;
-use page_store::PageStore;
 use std::alloc::Global;
 use std::fs::File;
 use std::marker::Model;

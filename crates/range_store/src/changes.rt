@@ -16,8 +16,9 @@ ghost use Rattle.range_store.specs.Tuples.{IsTupleSize};
 
 use block_model::Place;
 use disk_trait::Disk;
+use engine_pages::PageStore;
 use index_layout::{REGULAR, an_index_page_has_one_list};
-use page_store::{PageStore, StoreError};
+use page_store::StoreError;
 use wal_record::Change;
 
 /// The tuple stands in the slot, which was free or is the next one.

@@ -16,10 +16,11 @@ ghost use Rattle.range_store.specs.PageTuples.{DropsOn, StaysWithoutTuples};
 use crate::changes::drop_tuple;
 use block_model::{Place, Spot};
 use disk_trait::Disk;
+use engine_pages::PageStore;
 use index_contents::{index_pages_are_known, relation_of};
 use index_layout::{a_put_changes_one_slot, an_index_page_has_one_list, tuple_at};
 use page_layout::Page;
-use page_store::{PageStore, StoreError};
+use page_store::StoreError;
 
 /// The spot has no tuple any more, whatever stood there. Where none did, and after an error, nothing is changed; so a page that isn't
 /// one of tuples stays as it is.

@@ -21,8 +21,9 @@ use index_layout::{
     REGULAR, UNSTARTED, a_put_changes_one_slot, an_index_page_has_one_list, free_slot, kind_of,
     the_lowest_free_slot_has_room,
 };
+use engine_pages::PageStore;
 use page_layout::Page;
-use page_store::{PageStore, StoreError};
+use page_store::StoreError;
 
 /// Where a further tuple may stand on a page.
 #[derive(Clone, Copy, Debug)]

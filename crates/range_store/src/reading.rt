@@ -14,10 +14,11 @@ ghost use Rattle.range_store.specs.Tuples.{IsOfRange};
 use crate::scratch::Scratch;
 use block_model::{PAGE_SIZE, Place, Spot};
 use disk_trait::Disk;
+use engine_pages::PageStore;
 use index_contents::{index_pages_are_known, relation_of};
 use index_layout::{an_index_page_has_one_list, tuple_range};
 use page_layout::Page;
-use page_store::{PageStore, StoreError};
+use page_store::StoreError;
 
 /// How many bytes the number of a tuple's range has.
 const RANGE_SIZE: usize = 4;

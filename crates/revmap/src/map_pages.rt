@@ -15,7 +15,8 @@ ghost use Rattle.revmap.specs.MapEntries.{IsNameable};
 
 use block_model::{Place, Spot};
 use disk_trait::Disk;
-use page_store::{PageStore, StoreError};
+use engine_pages::PageStore;
+use page_store::StoreError;
 use wal_record::Change;
 
 /// That entry of the page; none where it isn't of the map.

@@ -10,6 +10,7 @@ ghost use Rattle.statements.specs.StatementRequests.{submission_refusal};
 ghost use Rattle.row_versions.specs.VersionsState.{standing_of};
 ghost use Rattle.session_core.specs.declared.limits.TheConstants.{MAX_PROMISED};
 ghost use Rattle.page_store.specs.Keeps.{Leaves, Tells};
+ghost use Rattle.engine_pages.specs.Kinds.{LeavesNothing};
 ghost use Rattle.session_core.specs.TablesKept.{MakesRoom};
 ghost use Rattle.session_core.specs.StoreState.{opened_store, hand_of, AreSessions, IsRefinement};
 ghost use Rattle.session_core.specs.Submits.{HasSession, Submits, submit_refusal, may_want_memory};
@@ -55,8 +56,9 @@ impl<D: Disk + Drop> Model for Store<D> {
 }
 
 impl<D: Disk + Drop> Store<D> {
-    /// A store of this layout, without sessions and rows, on pages over the disk, which is untouched.
+    /// A store of this layout, without sessions and rows, on pages in memory alone, beside a disk that no call touches.
     pub fn plain(alloc: Global, disk: D, layout: Layout) -> Result<Store<D>, NoMemory>
+        requires nothing { LeavesNothing (D.told disk) }
         ensures state { IfOk result (λ store. store.state ≡ opened_store (new_opening layout)) }
         ensures disk { IfOk result (λ store. store.pages.disk ≡ disk) }
         ensures layout { IfOk result (λ store. store.pages.layout ≡ layout) }

@@ -9,6 +9,7 @@ ghost use Rattle.statements.specs.RowsPut.{row_put};
 ghost use Rattle.statements.specs.HeapRoom.{full_table, table_slots};
 ghost use Rattle.statements.specs.StatementRequests.{request_entry};
 ghost use Rattle.page_store.specs.Keeps.{Keeps, Leaves, Tells};
+ghost use Rattle.engine_pages.specs.Kinds.{LeavesNothing};
 ghost use Rattle.heap_rows.specs.PutAnswers.{NamesTable, SaysFull};
 ghost use Rattle.row_versions.specs.VersionsState.{HasTransaction, rows_at};
 ghost use Rattle.heap_versions.specs.CoversMatches.{CoversMatches};
@@ -37,8 +38,9 @@ impl<D: Disk + Drop> Tables<D> {
     ghost use Rattle.session_core.specs.Acts.{HasTableCause, blocks_for, is_full_in};
     ghost use Rattle.session_core.specs.TablesKept.{AreOfLayout, AreTables, ShowsAlike, rows_on};
 
-    /// Tables without rows, on pages over the disk.
+    /// Tables without rows, on pages in memory alone, beside the disk.
     pub(crate) fn new(alloc: Global, disk: D, layout: Layout) -> Result<Tables<D>, NoMemory>
+        requires nothing { LeavesNothing (D.told disk) }
         ensures fit { IfOk result AreOfLayout }
         ensures sound { IfOk result AreTables }
         ensures layout { IfOk result (λ t. t.versions.store.layout ≡ layout) }

@@ -6,7 +6,7 @@ ghost use Rattle.tx_table.specs.Statuses.{IsStartedBlock};
 
 use block_model::{PAGE_SIZE, Place, Sizes};
 use disk_trait::{Disk, SteadyDisk};
-use logged_pages::PageStore;
+use engine_pages::PageStore;
 use page_layout::{Form, Page, STATUS, check, kind_of};
 use small_layouts::{LEAST, table_layout};
 use std::alloc::Global;

@@ -10,7 +10,7 @@ ghost use Rattle.tx_table.specs.TxState.{IsOver, IsOwn};
 use crate::pages::{put_page, store};
 use block_model::Place;
 use disk_trait::{Disk, SteadyDisk};
-use logged_pages::PageStore;
+use engine_pages::PageStore;
 use page_layout::Page;
 use page_store::StoreError;
 use snapshot_core::Status;
