@@ -6,3 +6,6 @@ pub mod Replacing
 pub mod Damage
 pub mod Taken
 pub mod KnownValues
+pub mod NewTuples
+pub mod Sizes
+pub mod Lawful

@@ -3,3 +3,5 @@ pub mod ShownIndex
 pub mod Readings
 pub mod SwapAnswers
 pub mod MoveEnds
+pub mod PlaceAnswers
+pub mod StepAnswers

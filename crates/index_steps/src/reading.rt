@@ -82,7 +82,7 @@ pub fn copy_tuple<D: Disk + Drop>(
 }
 
 /// The byte of the disk at which the page begins; that of the index's last page for one that it can't have.
-pub(crate) fn page_at<D: Disk + Drop>(pages: &PageStore<D>, index: u8, block: u32) -> u64
+pub fn page_at<D: Disk + Drop>(pages: &PageStore<D>, index: u8, block: u32) -> u64
     requires index { index < length pages.now.layout.schema.indexes }
     ensures { NamesPageOf pages.now.layout index (errors.Damaged result) }
 {

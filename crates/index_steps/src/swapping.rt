@@ -154,7 +154,7 @@ pub fn lock_of_another(locks: &Locks, page: Place, actor: u32) -> Option<Held>
 }
 
 /// The block of the page of the map that holds the range.
-fn map_page_of(range: u32) -> u32
+pub fn map_page_of(range: u32) -> u32
     ensures { result ≡ map_page_of range }
 {
     range / u32::from(MAP_ENTRIES) + 1

@@ -1,0 +1,12 @@
+use Rattle.index_contents.specs.IndexContents.{contents}
+use Rattle.index_steps.specs.IndexTuples.{shape_of}
+use Rattle.index_steps.specs.ShownIndex.{lock_in}
+use Rattle.brin_summarise.proofs.Stepped.{is_dropped}
+use Rattle.brin_summarise.proofs.in_range.drop_in.Goals as goal
+
+pub returns-in-Ok-clause-stepped : goal.returns-in-Ok-clause-stepped
+returns-in-Ok-clause-stepped g c = λ tells heap hand.
+    let store = c.args.pages.now in
+    let at = c.args.at in
+    is_dropped (shape_of store.layout at.index) heap at.actor at.range (contents store.layout store.pages at.index) (contents store.layout c.drop_moved.new.pages.pages at.index)
+    (lock_in store.layout c.args.locks.now at.index) (lock_in store.layout c.drop_moved.new.locks at.index) hand c.args.from (c.in-Ok.ensures.dropped tells)

@@ -1,0 +1,6 @@
+pub mod SummariseHands
+pub mod ShownHeap
+pub mod SummariseSteps
+pub mod StepCauses
+pub mod BlockRows
+pub mod Works

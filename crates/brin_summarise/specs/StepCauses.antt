@@ -1,0 +1,26 @@
+-- what a step of a summarise at a range needs, and when each error comes
+use Rattle.std.specs.Prelude.{◌≡◌, ◌⊎◌, ℕ, None}
+use Rattle.coverage.specs.IndexView.{IsPastMap}
+use Rattle.index_contents.specs.IndexContents.{IndexContents}
+use Rattle.index_steps.specs.IndexTuples.{IndexShape}
+use Rattle.index_steps.specs.MoveEnds.{IsMoving}
+use Rattle.index_steps.specs.PlaceAnswers.{IsPlacing}
+use Rattle.index_steps.specs.Readings.{IsMisnamed, IsMisread}
+use Rattle.brin_summarise.specs.declared.stage.Stage.{Stage}
+use Rattle.brin_summarise.specs.declared.stage.Stage.TheVariants as stages
+
+-- The pages show an index that is where the summarise left it: the map has a page for the placeholder's entry, and still names what it
+-- named.
+abbrev pub IsReady : IndexShape → IndexContents → (range : ℕ) → Stage → Type 0
+IsReady shape c range stages.Place = IsPastMap c.pages range → ⊥
+IsReady shape c range (stages.Name x) = IsPlacing shape c range x
+IsReady shape c range (stages.Set x y) = IsMoving shape c range x y
+IsReady shape c range stage = Unit {0}
+
+-- what is damaged where a step at this stage finds damage: the range's entry; the tuple to be copied; or the placeholder is gone
+abbrev pub DamageAt : IndexShape → IndexContents → (range : ℕ) → Stage → Type 0
+DamageAt shape c range stages.Map = IsMisnamed c range
+DamageAt shape c range (stages.Tuple x) = IsMisread shape c range x
+DamageAt shape c range stages.Pass = IsMisnamed c range ⊎ (c.entry range ≡ None)
+DamageAt shape c range (stages.Copy x) = IsMisread shape c range x
+DamageAt shape c range stage = ⊥

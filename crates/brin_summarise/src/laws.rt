@@ -1,0 +1,26 @@
+//! What a summarise has of an index that is kept, as laws on the definitions.
+
+ghost use Rattle.std.specs.Prelude.{◌≡◌, ℕ, Option};
+ghost use Rattle.coverage.specs.IndexView.{IsPastMap};
+ghost use Rattle.coverage.specs.IsCovered.{IndexState, IsIndexKept, index_view};
+ghost use Rattle.coverage.specs.Statements.{Maintaining};
+ghost use Rattle.index_contents.specs.IndexContents.{IndexContents};
+ghost use Rattle.index_steps.specs.IndexTuples.{IndexShape};
+ghost use Rattle.index_steps.specs.ShownIndex.{Shows};
+ghost use Rattle.brin_summarise.specs.StepCauses.{DamageAt, IsReady};
+ghost use Rattle.brin_summarise.specs.SummariseHands.{SummariseHand};
+ghost use Rattle.brin_summarise.specs.SummariseSteps.{phase_of};
+
+use crate::stage::Stage;
+use index_steps::a_sound_index_is_not_misread;
+
+/// An index that is kept is ready for the step of a summarise at a range of it, if the map has a page for the range's entry where a
+/// placeholder is to be put; and no step finds damage there. Does nothing.
+pub fn a_kept_index_takes_a_summarise()
+    ensures ready { (shape : IndexShape) (c : IndexContents) (lock : ℕ → Option ℕ) (w : IndexState) (s range : ℕ) (hand : SummariseHand) → Shows shape c lock (index_view w) → IsIndexKept w
+        → w.statement s ≡ Maintaining range (phase_of shape hand) → (hand.stage ≡ Stage.Place → IsPastMap c.pages range → ⊥) → IsReady shape c range hand.stage }
+    ensures sound { (shape : IndexShape) (c : IndexContents) (lock : ℕ → Option ℕ) (w : IndexState) (s range : ℕ) (hand : SummariseHand) → Shows shape c lock (index_view w) → IsIndexKept w
+        → w.statement s ≡ Maintaining range (phase_of shape hand) → DamageAt shape c range hand.stage → ⊥ }
+{
+    a_sound_index_is_not_misread();
+}
