@@ -17,7 +17,7 @@ use Rattle.heap_rows.specs.Heaps.{slots_a_page}
 use Rattle.heap_rows.specs.RowPlaces.{place_for, place_from, slot_at, spot_in, with_row, with_table_block}
 use Rattle.table_coverage.specs.Table.{TableState}
 use Rattle.table_coverage.specs.TableSteps.{IsVacantPlace, IsFirstPlace}
-use Rattle.brin_insert.specs.ShownRows.{row_in, rows_in}
+use Rattle.index_steps.specs.ShownRows.{row_in, rows_in}
 
 -- a free slot isn't one in use
 not_used : (slot : Slot) → slot ≡ None → is_free slot ≡ false → ⊥

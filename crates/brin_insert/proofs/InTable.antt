@@ -34,8 +34,8 @@ use Rattle.brin_insert.specs.InsertHands.{InsertHand}
 use Rattle.brin_insert.specs.InsertSteps.{IsAtWork, StepMakes, StepWaits, Stepped, insert_at, on_index}
 use Rattle.brin_insert.specs.Inserts.{HasReached, IsInsertFor, numbers_in, task_at, task_of, work_of}
 use Rattle.brin_insert.specs.RowSteps.{PutsRowOf, RowBegins, blocks_with}
-use Rattle.brin_insert.specs.ShownRows.{rows_in, shown_by}
-use Rattle.brin_insert.specs.ShownTable.{indexes_of, shown_table}
+use Rattle.index_steps.specs.ShownRows.{rows_in, shown_by}
+use Rattle.index_steps.specs.ShownTable.{indexes_of, shown_table}
 use Rattle.brin_insert.specs.TableSteps.{ShownDoes, StepsInIndex, Stores, task_after}
 use Rattle.brin_insert.proofs.Reaching.{reaches}
 use Rattle.brin_insert.proofs.Tasks.{number_there, task_is}

@@ -22,8 +22,8 @@ use Rattle.index_steps.specs.ShownIndex.{Shows, lock_in}
 use Rattle.brin_insert.specs.declared.stage.Stage.{Stage}
 use Rattle.brin_insert.specs.declared.stage.Stage.TheVariants as stages
 use Rattle.brin_insert.specs.InsertSteps.{on_index}
-use Rattle.brin_insert.specs.ShownRows.{ShowsKept, rows_in, shown_by}
-use Rattle.brin_insert.specs.ShownTable.{indexes_of}
+use Rattle.index_steps.specs.ShownRows.{ShowsKept, rows_in, shown_by}
+use Rattle.index_steps.specs.ShownTable.{indexes_of}
 use Rattle.brin_insert.specs.StepAnswers.{DamageAt}
 use Rattle.brin_insert.proofs.ShownHere.{ranged, shows_here}
 

@@ -25,7 +25,7 @@ use Rattle.page_layout.specs.RowBytes.{HaveKinds}
 use Rattle.heap_rows.specs.Heaps.{kinds_at, no_table, table_at}
 use Rattle.range_tuple.specs.Tuples.{Tuple, empty_placeholder, parts_of}
 use Rattle.index_steps.specs.IndexTuples.{IndexShape, TakesValues, classes_of, have_kinds, index_at, kinds_of, no_index, shape_of}
-use Rattle.brin_insert.specs.ShownTable.{indexes_of, numbers_from}
+use Rattle.index_steps.specs.ShownTable.{indexes_of, numbers_from}
 
 -- each is the number of an index of the table
 record IsOfTable (table n : ℕ) (indexes : List Index) (m : ℕ) : Type 0 where

@@ -26,7 +26,7 @@ use Rattle.brin_insert.specs.InsertAnswers.{FaultNamesRelation, IsInsertFull, Le
 use Rattle.brin_insert.specs.InsertHands.{InsertHand}
 use Rattle.brin_insert.specs.InsertSteps.{insert_at, on_index}
 use Rattle.brin_insert.specs.Inserts.{IsInsertFor, task_of, work_of}
-use Rattle.brin_insert.specs.ShownRows.{shown_by}
+use Rattle.index_steps.specs.ShownRows.{shown_by}
 use Rattle.brin_insert.specs.StepAnswers.{SaysFullIn, StepFull}
 use Rattle.brin_insert.proofs.Tasks.{task_is}
 

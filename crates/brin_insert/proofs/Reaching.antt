@@ -28,8 +28,8 @@ use Rattle.brin_insert.specs.InsertAnswers.{InsertDid, InsertGoesTo, IsLeftBy, a
 use Rattle.brin_insert.specs.InsertHands.{InsertHand}
 use Rattle.brin_insert.specs.InsertSteps.{IsAtWork, on_index}
 use Rattle.brin_insert.specs.Inserts.{AsksNothing, HasReached, HasStepAt, HasStepLeft, IsAtWorkIn, numbers_in, task_at, task_in, task_of, work_of}
-use Rattle.brin_insert.specs.ShownRows.{shown_by}
-use Rattle.brin_insert.specs.ShownTable.{indexes_of, shown_at}
+use Rattle.index_steps.specs.ShownRows.{shown_by}
+use Rattle.index_steps.specs.ShownTable.{indexes_of, shown_at}
 use Rattle.brin_insert.proofs.Tasks.{left_with, task_is}
 use Rattle.brin_insert.proofs.Turning.{comes_to_index, goes_by, is_complete}
 

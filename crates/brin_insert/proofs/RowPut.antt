@@ -22,8 +22,8 @@ use Rattle.table_coverage.specs.Table.{Index, Reaches, Resting, Task, TableState
 use Rattle.table_coverage.specs.TableSteps.{IsFirstPlace}
 use Rattle.index_contents.specs.IndexContents.{contents, contents_in, relation_of}
 use Rattle.brin_insert.specs.RowSteps.{PutsRowOf, RowBegins, blocks_with, row_of}
-use Rattle.brin_insert.specs.ShownRows.{row_in, rows_in, shown_by}
-use Rattle.brin_insert.specs.ShownTable.{indexes_of}
+use Rattle.index_steps.specs.ShownRows.{row_in, rows_in, shown_by}
+use Rattle.index_steps.specs.ShownTable.{indexes_of}
 use Rattle.brin_insert.proofs.FirstPlaces.{blocks_then, is_first}
 use Rattle.brin_insert.proofs.Tables.{same_one, shown_one}
 

@@ -12,7 +12,7 @@ use Rattle.table_coverage.specs.Table.{TableState, index_view_at, seen_by}
 use Rattle.index_contents.specs.IndexContents.{contents}
 use Rattle.index_steps.specs.IndexTuples.{index_at, shape_of}
 use Rattle.index_steps.specs.ShownIndex.{Shows, lock_in}
-use Rattle.brin_insert.specs.ShownTable.{indexes_of, shown_at, shown_table}
+use Rattle.index_steps.specs.ShownTable.{indexes_of, shown_at, shown_table}
 
 module _ (layout : DiskLayout) (pages : PageMap) (locks : LockState) (table rows_per_page blocks : ℕ) (row : ℕ → ℕ → Option Row) (at n : ℕ) (there : slice_get (indexes_of layout table) at ≡ Some n) (u : Unseen) where
   abbrev w : TableState

@@ -30,7 +30,7 @@ use Rattle.index_steps.specs.SwapAnswers.{LeavesLocks}
 use Rattle.brin_insert.specs.declared.stage.Stage.{Stage}
 use Rattle.brin_insert.specs.declared.stage.Stage.TheVariants as stages
 use Rattle.brin_insert.specs.InsertSteps.{StepMakes, insert_at, on_index, statement_in}
-use Rattle.brin_insert.specs.ShownTable.{indexes_of, numbers_from, shown_at, shown_table}
+use Rattle.index_steps.specs.ShownTable.{indexes_of, numbers_from, shown_at, shown_table}
 use Rattle.brin_insert.specs.TableSteps.{ShownDoes, StepsInIndex, Stores, task_after}
 use Rattle.brin_insert.proofs.ShownHere.{ranged, shows_here}
 

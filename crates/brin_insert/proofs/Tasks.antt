@@ -22,8 +22,8 @@ use Rattle.brin_insert.specs.declared.stage.Stage.{Stage}
 use Rattle.brin_insert.specs.InsertHands.{InsertHand}
 use Rattle.brin_insert.specs.InsertSteps.{IsAtWork, on_index}
 use Rattle.brin_insert.specs.Inserts.{AsksNothing, HasStepAt, HasStepLeft, IsAtWorkIn, IsInsertFor, IsOfItsIndex, numbers_in, task_at, task_in, task_of, work_of}
-use Rattle.brin_insert.specs.ShownRows.{ShowsKept}
-use Rattle.brin_insert.specs.ShownTable.{indexes_of}
+use Rattle.index_steps.specs.ShownRows.{ShowsKept}
+use Rattle.index_steps.specs.ShownTable.{indexes_of}
 
 -- it has work there, so it is at an index
 pub work_within : (works : List InsertHand) (at : ℕ) → IsAtWorkIn (slice_get works at) → at < length works

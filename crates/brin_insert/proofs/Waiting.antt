@@ -20,7 +20,7 @@ use Rattle.brin_insert.specs.declared.stage.Stage.{Stage}
 use Rattle.brin_insert.specs.declared.stage.Stage.TheVariants as stages
 use Rattle.brin_insert.specs.InsertAnswers.{InsertWaitsFor, IsInsertFull}
 use Rattle.brin_insert.specs.InsertSteps.{IsWaiting, StepWaits, insert_at, on_index}
-use Rattle.brin_insert.specs.ShownTable.{indexes_of, shown_table}
+use Rattle.index_steps.specs.ShownTable.{indexes_of, shown_table}
 use Rattle.brin_insert.specs.StepAnswers.{IsFullFor, StepFull}
 use Rattle.brin_insert.proofs.ShownHere.{ranged, shows_here}
 use Rattle.brin_insert.proofs.Tables.{InsertKnows}

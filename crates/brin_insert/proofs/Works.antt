@@ -8,7 +8,7 @@ use Rattle.range_tuple.specs.Tuples.{parts_of}
 use Rattle.index_steps.specs.IndexTuples.{classes_of, index_at, no_index, shape_of}
 use Rattle.brin_insert.specs.InsertHands.{InsertHand}
 use Rattle.brin_insert.specs.Inserts.{IsOfItsIndex, numbers_in}
-use Rattle.brin_insert.specs.ShownTable.{indexes_of, numbers_from}
+use Rattle.index_steps.specs.ShownTable.{indexes_of, numbers_from}
 use Rattle.brin_insert.proofs.Numbers.{number_joins, number_stays_out}
 
 module _ (layout : DiskLayout) (table i : ℕ) (index : Index) (below : i < length layout.schema.indexes) (is : index ≡ index_at layout i) (works : List InsertHand) (numbers : numbers_in works ≡ numbers_from table 0 (take i layout.schema.indexes)) where

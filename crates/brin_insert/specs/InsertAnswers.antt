@@ -31,7 +31,7 @@ use Rattle.brin_insert.specs.declared.insert.Insert.{Insert}
 use Rattle.brin_insert.specs.InsertHands.{InsertHand}
 use Rattle.brin_insert.specs.Inserts.{HasStepLeft, task_of, work_of}
 use Rattle.brin_insert.specs.RowSteps.{blocks_with}
-use Rattle.brin_insert.specs.ShownRows.{shown_by}
+use Rattle.index_steps.specs.ShownRows.{shown_by}
 
 -- a statement begins with an empty account, and an insert adds nothing to it
 abbrev pub account_of : (before : Task) → Account → Account

@@ -16,7 +16,7 @@ use Rattle.brin_insert.specs.declared.insert.Insert.{Insert}
 use Rattle.brin_insert.specs.declared.stage.Stage.TheVariants as stages
 use Rattle.brin_insert.specs.InsertHands.{InsertHand}
 use Rattle.brin_insert.specs.InsertSteps.{IsAtWork, on_index}
-use Rattle.brin_insert.specs.ShownTable.{indexes_of}
+use Rattle.index_steps.specs.ShownTable.{indexes_of}
 
 -- the numbers of the indexes that work is in
 abbrev pub numbers_in : List InsertHand → List ℕ

@@ -1,9 +1,7 @@
 pub mod InsertHands
 pub mod InsertSteps
 pub mod StepAnswers
-pub mod ShownTable
 pub mod TableSteps
-pub mod ShownRows
 pub mod RowSteps
 pub mod Inserts
 pub mod InsertAnswers

@@ -17,7 +17,7 @@ use Rattle.table_coverage.specs.Accounts.{no_account}
 use Rattle.table_coverage.specs.InOneIndex.{DoesAt}
 use Rattle.table_coverage.specs.Machines.{Unseen, table_state, task_turned}
 use Rattle.table_coverage.specs.Table.{Reaches, Resting}
-use Rattle.brin_insert.specs.ShownRows.{shown_by}
+use Rattle.index_steps.specs.ShownRows.{shown_by}
 
 -- The heap had these blocks; the row comes to the first free slot, and no other relation changes.
 pub record PutsRowOf (layout : DiskLayout) (pages paged : PageMap) (table : ℕ) (id : RowId) (values : List Value) (spot : Spot) (blocks : List (List Slot)) : Type 0 where

@@ -14,8 +14,8 @@ ghost use Rattle.index_steps.specs.SwapAnswers.{LeavesLocks, MachineOutcome, Tak
 ghost use Rattle.brin_insert.specs.InsertAnswers.{BlockedOn, FaultNamesRelation, InsertStepped, IsInsertFull, IsLeftBy, LeavesOtherRelations, SaysInsertFull, relation_at};
 ghost use Rattle.brin_insert.specs.InsertHands.{InsertHand};
 ghost use Rattle.brin_insert.specs.Inserts.{AsksNothing, HasReached, HasStepLeft, IsInsertFor, IsOfItsIndex, numbers_in, task_of, work_of};
-ghost use Rattle.brin_insert.specs.ShownRows.{ShowsKept, shown_by};
-ghost use Rattle.brin_insert.specs.ShownTable.{indexes_of};
+ghost use Rattle.index_steps.specs.ShownRows.{ShowsKept, shown_by};
+ghost use Rattle.index_steps.specs.ShownTable.{indexes_of};
 
 use crate::index_insert::IndexInsert;
 use crate::indexes::{declared_index, index_count, range_in};

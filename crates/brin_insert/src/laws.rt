@@ -24,8 +24,8 @@ ghost use Rattle.brin_insert.specs.InsertCalls.{InsertCalls};
 ghost use Rattle.brin_insert.specs.InsertAnswers.{InsertGoesTo, InsertWaitsFor, IsInsertFull};
 ghost use Rattle.brin_insert.specs.InsertSteps.{StepWaits, insert_at, on_index};
 ghost use Rattle.brin_insert.specs.RowSteps.{PutsRowOf, RowBegins};
-ghost use Rattle.brin_insert.specs.ShownRows.{ShowsKept};
-ghost use Rattle.brin_insert.specs.ShownTable.{indexes_of, shown_table};
+ghost use Rattle.index_steps.specs.ShownRows.{ShowsKept};
+ghost use Rattle.index_steps.specs.ShownTable.{indexes_of, shown_table};
 ghost use Rattle.brin_insert.specs.StepAnswers.{DamageAt, StepFull};
 ghost use Rattle.brin_insert.specs.TableSteps.{ShownDoes, StepsInIndex, Stores, task_after};
 

@@ -31,8 +31,9 @@ use index_steps::{
     copy_tuple, drop_moved, map_page_of, name_moved, name_new, page_at, put_new, read_map, spell,
     swap, tuples_of_an_index_need_one_room,
 };
+use engine_pages::PageStore;
 use page_locks::{Did, Locks};
-use page_store::{MachineFault, PageStore, StoreError};
+use page_store::{MachineFault, StoreError};
 use range_store::Scratch;
 use range_tuple::RangeTuple;
 

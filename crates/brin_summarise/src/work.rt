@@ -22,10 +22,11 @@ use crate::in_range::{
 use crate::stage::Stage;
 use block_model::{Point, Spot};
 use disk_trait::Disk;
+use engine_pages::PageStore;
 use heap_rows::PageRows;
 use index_steps::Within;
 use page_locks::{Did, Locks};
-use page_store::{MachineFault, PageStore};
+use page_store::MachineFault;
 use range_store::Scratch;
 use range_tuple::RangeTuple;
 

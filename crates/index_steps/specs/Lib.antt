@@ -5,3 +5,5 @@ pub mod SwapAnswers
 pub mod MoveEnds
 pub mod PlaceAnswers
 pub mod StepAnswers
+pub mod ShownTable
+pub mod ShownRows

@@ -18,9 +18,10 @@ use crate::reading::page_at;
 use crate::swapping::{Within, map_page_of};
 use block_model::Spot;
 use disk_trait::Disk;
+use engine_pages::PageStore;
 use index_contents::relation_of;
 use page_locks::{Held, Locks};
-use page_store::{MachineFault, PageStore, StoreError};
+use page_store::{MachineFault, StoreError};
 use range_store::{a_target_takes_its_tuple, put, room_for};
 use revmap::{SetFault, set};
 

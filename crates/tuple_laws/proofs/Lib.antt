@@ -10,3 +10,4 @@ pub mod Classes
 pub mod Columns
 pub mod Reading
 pub mod TupleParts
+pub mod Asking

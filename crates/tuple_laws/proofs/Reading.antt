@@ -75,21 +75,21 @@ record AreFound (count : ℕ) (bytes : List ℕ) (parts : List (ℕ × AnyClass)
   lengths : lengths_bytes columns ≡ take (2 * length parts) (drop (5 + count + 2 * k) bytes)
   summaries : summaries_bytes columns ≡ drop at bytes
 
-record OnRead (at : ℕ) (r : Result AnySummary ℕ) (next : AnySummary → Result (List IndexedColumn) ℕ) (columns : List IndexedColumn) : Type 0 where
-  summary : AnySummary
-  read : r ≡ Ok summary
-  rest : next summary ≡ Ok columns
+pub record OnRead (at : ℕ) (r : Result AnySummary ℕ) (next : AnySummary → Result (List IndexedColumn) ℕ) (columns : List IndexedColumn) : Type 0 where
+  pub summary : AnySummary
+  pub read : r ≡ Ok summary
+  pub rest : next summary ≡ Ok columns
 
-on_read : (at : ℕ) (r : Result AnySummary ℕ) (next : AnySummary → Result (List IndexedColumn) ℕ) (columns : List IndexedColumn) → read_on at r next ≡ Ok columns → OnRead at r next columns
+pub on_read : (at : ℕ) (r : Result AnySummary ℕ) (next : AnySummary → Result (List IndexedColumn) ℕ) (columns : List IndexedColumn) → read_on at r next ≡ Ok columns → OnRead at r next columns
 on_read at (Ok s) next columns is = record { summary = s; read = refl; rest = is }
 on_read at (Err fault) next columns is = absurd (cc)
 
-record IsBehind (column : IndexedColumn) (r : Result (List IndexedColumn) ℕ) (columns : List IndexedColumn) : Type 0 where
-  more : List IndexedColumn
-  read : r ≡ Ok more
-  are : column ∷ more ≡ columns
+pub record IsBehind (column : IndexedColumn) (r : Result (List IndexedColumn) ℕ) (columns : List IndexedColumn) : Type 0 where
+  pub more : List IndexedColumn
+  pub read : r ≡ Ok more
+  pub are : column ∷ more ≡ columns
 
-is_behind : (column : IndexedColumn) (r : Result (List IndexedColumn) ℕ) (columns : List IndexedColumn) → behind (column ∷ []) r ≡ Ok columns → IsBehind column r columns
+pub is_behind : (column : IndexedColumn) (r : Result (List IndexedColumn) ℕ) (columns : List IndexedColumn) → behind (column ∷ []) r ≡ Ok columns → IsBehind column r columns
 is_behind column (Ok more) columns is = let same : column ∷ more ≡ columns = cc in record { more = more; read = refl; are = same }
 is_behind column (Err at) columns is = absurd (cc)
 
@@ -165,11 +165,11 @@ module _ (count : ℕ) (bytes : List ℕ) (small : AreBytes bytes) (form : IsHea
 
 -- ---- the tuple
 
-record TupleBehind (bytes : List ℕ) (fault : Option ℕ) (r : Result (List IndexedColumn) ℕ) (t : Tuple) : Type 0 where
-  none : fault ≡ None
-  columns : List IndexedColumn
-  read : r ≡ Ok columns
-  is : tuple_of (spelt (field_at bytes 0 4)) (says_placeholder bytes) columns ≡ t
+pub record TupleBehind (bytes : List ℕ) (fault : Option ℕ) (r : Result (List IndexedColumn) ℕ) (t : Tuple) : Type 0 where
+  pub none : fault ≡ None
+  pub columns : List IndexedColumn
+  pub read : r ≡ Ok columns
+  pub is : tuple_of (spelt (field_at bytes 0 4)) (says_placeholder bytes) columns ≡ t
 
 tuple_parts : (bytes : List ℕ) (fault : Option ℕ) (r : Result (List IndexedColumn) ℕ) (t : Tuple) → tuple_behind bytes fault r ≡ Ok t → TupleBehind bytes fault r t
 tuple_parts bytes (Some at) r t is = absurd (cc)
@@ -191,11 +191,11 @@ columns_spelt bytes parts columns found =
     let back : drop n (drop 5 bytes) ≡ lengths_bytes columns ++ summaries_bytes columns = drop-drop n 5 bytes ∙ sym (take-append-drop (2 * n) (drop (5 + n) bytes)) ∙ (λ i. lengths i ++ summaries i) in
     sym (take-append-drop n (drop 5 bytes)) ∙ (λ i. states i ++ back i)
 
-read_ok : (r : Result Tuple ℕ) (t : Tuple) → is_there r ≡ Some t → r ≡ Ok t
+pub read_ok : (r : Result Tuple ℕ) (t : Tuple) → is_there r ≡ Some t → r ≡ Ok t
 read_ok (Ok u) t is = let same : u ≡ t = cc in ap Ok same
 read_ok (Err at) t is = absurd (cc)
 
-reads_of : (parts : List (ℕ × AnyClass)) (bytes : List ℕ) (t : Tuple) → read_of parts bytes ≡ Ok t → TupleBehind bytes (head_fault (length parts) bytes) (columns_read (length parts) parts bytes) t
+pub reads_of : (parts : List (ℕ × AnyClass)) (bytes : List ℕ) (t : Tuple) → read_of parts bytes ≡ Ok t → TupleBehind bytes (head_fault (length parts) bytes) (columns_read (length parts) parts bytes) t
 unfolding read_of
 reads_of parts bytes t is = tuple_parts bytes (head_fault (length parts) bytes) (columns_read (length parts) parts bytes) t is
 

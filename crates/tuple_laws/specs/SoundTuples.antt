@@ -1,8 +1,11 @@
 -- what is made of the tuples of an index, whichever they are
-use Rattle.std.specs.Prelude.{◌≡◌, ℕ, ◌<◌, ◌≤◌, ◌^◌, Bool, All, List, length, map, slice_get, Some}
+use Rattle.std.specs.Prelude.{◌≡◌, ℕ, ◌<◌, ◌≤◌, ◌^◌, Bool, false, All, List, length, map, slice_get, Some}
+use Rattle.std.specs.List.{list_all}
+use Rattle.block_model.specs.declared.row.Cond.{Cond}
 use Rattle.block_model.specs.declared.schema.Column.{Column}
 use Rattle.block_model.specs.declared.schema.Part.{Part}
 use Rattle.block_model.specs.declared.value.Value.{Value}
+use Rattle.block_model.specs.RowMatches.{column_matches}
 use Rattle.byte_fields.specs.Fields.{AreBytes}
 use Rattle.opclass_any.specs.declared.classes.AnyClass.{AnyClass}
 use Rattle.range_tuple.specs.TupleBytes.{tuple_bytes}
@@ -61,3 +64,8 @@ pub record AreSoundTuples (parts : List (ℕ × AnyClass)) : Type 0 where
   pub unites : (t other : Tuple) → IsIndexTuple parts t → IsIndexTuple parts other → UnitesTuples parts t other
   pub written : (t : Tuple) → IsIndexTuple parts t → IsTupleWritten parts t
   pub read : (bytes : List ℕ) (t : Tuple) → AreBytes bytes → tuple_in parts bytes ≡ Some t → IsTupleSpelt parts bytes t
+
+-- the tuple is final, and includes no row that meets the conditions
+pub record ExcludesRows (t : Tuple) (conds : List Cond) : Type 0 where
+  pub final : t.placeholder ≡ false
+  pub none : (row : List Value) → TupleIncludes t row → list_all (column_matches row) conds ≡ false

@@ -1,6 +1,6 @@
 use Rattle.std.proofs.Common.{◌≡◌, All, take}
 use Rattle.brin_insert.specs.Inserts.{IsOfItsIndex, numbers_in}
-use Rattle.brin_insert.specs.ShownTable.{numbers_from}
+use Rattle.index_steps.specs.ShownTable.{numbers_from}
 use Rattle.brin_insert.proofs.insert.works_for.Given as goal
 
 abbrev pub invariant-indexes : goal.invariant-indexes

@@ -18,7 +18,7 @@ use Rattle.brin_insert.specs.declared.stage.Stage.{Stage}
 use Rattle.brin_insert.specs.declared.stage.Stage.TheVariants as stages
 use Rattle.brin_insert.specs.InsertHands.{InsertHand}
 use Rattle.brin_insert.specs.InsertSteps.{IsAtWork, Stepped, insert_at}
-use Rattle.brin_insert.specs.ShownRows.{rows_in}
+use Rattle.index_steps.specs.ShownRows.{rows_in}
 use Rattle.brin_insert.specs.StepAnswers.{DamageAt}
 use Rattle.brin_insert.proofs.InTable.{blocked, finished, moved, row_stepped}
 use Rattle.brin_insert.proofs.Numbers.{number_within}

@@ -11,7 +11,7 @@ use Rattle.heap_rows.specs.RowPlaces.{slot_at}
 use Rattle.table_coverage.specs.Machines.{ShownTable, Unseen, table_state}
 use Rattle.table_coverage.specs.Table.{Task}
 use Rattle.table_coverage.specs.TableCovered.{IsTableKept}
-use Rattle.brin_insert.specs.ShownTable.{shown_table}
+use Rattle.index_steps.specs.ShownTable.{shown_table}
 
 -- the row in a slot of a table's block, deleted or not
 abbrev pub row_in : (table : ℕ) → Slot → Option Row

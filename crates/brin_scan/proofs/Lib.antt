@@ -1,0 +1,17 @@
+pub mod Numbers
+pub mod InTable
+pub mod Onwards
+pub mod JudgedRanges
+pub mod Excluding
+pub mod FoundRows
+pub mod Reading
+pub mod Stepping
+pub mod Explaining
+pub mod Finding
+pub mod Lawful
+pub mod MadeReaders
+pub mod Listing
+pub mod Ordered
+pub mod VisibleRows
+pub mod Behind
+pub mod Next

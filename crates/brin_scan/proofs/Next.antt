@@ -1,0 +1,41 @@
+-- the candidate that a scan reads next
+use Rattle.std.proofs.Common.{◌≡◌, ◌⊎◌, inl, inr, ℕ, ◌+◌, ◌<◌, ◌≤◌, All, Bool, true, false, List, length, Option, None, Some, refl, sym, ap, subst, ◌∙◌, arith}
+use Rattle.std.proofs.lemmas.Bool.{cases_lt, false≢true}
+use Rattle.std.proofs.lemmas.List.{get_or_past}
+use Rattle.std.proofs.lemmas.Option.{none-some}
+use Rattle.block_model.specs.declared.place.Spot.{Spot}
+use Rattle.block_model.specs.declared.row.Row.{Row}
+use Rattle.brin_scan.specs.Finds.{FindHand, FindsIn, IsFinding, IsFindingAt, IsNext, IsNextCandidate}
+use Rattle.brin_scan.specs.ScanHands.{ScanHand, is_candidate}
+use Rattle.brin_scan.specs.declared.stage.Stage.{Stage}
+use Rattle.brin_scan.specs.declared.stage.Stage.TheVariants as stages
+use Rattle.brin_scan.proofs.Ordered.{ascend_more}
+
+-- a candidate is a block that the table may have
+pub candidate_within : (candidates : List Bool) (b : ℕ) → is_candidate candidates b ≡ true → b < length candidates
+candidate_within candidates b is = elim (cases_lt b (length candidates)) [ inl below ↦ below | inr past ↦ absurd (false≢true (sym (get_or_past candidates b false past) ∙ is)) ]
+
+-- a block is next once all ranges are judged
+pub record ReadsNext (hand : FindHand) (b : ℕ) : Type 0 where
+  pub all : hand.judging.stage ≡ stages.Judged
+  pub first : IsNextCandidate hand.judging.candidates hand.read b
+
+by_stage : (stage : Stage) (hand : FindHand) (b : ℕ) → hand.next ≡ Some b → IsFindingAt stage hand → (stage ≡ stages.Judged) × IsNextCandidate hand.judging.candidates hand.read b
+by_stage stages.Extent hand b is at = absurd (none-some b (sym at.1 ∙ is))
+by_stage (stages.Map place range) hand b is at = absurd (none-some b (sym at.1 ∙ is))
+by_stage (stages.Tuple place range spot) hand b is at = absurd (none-some b (sym at.1 ∙ is))
+by_stage stages.Judged hand b is at = (refl, subst (IsNext hand.judging.candidates hand.read) is at)
+
+pub reads_next : (hand : FindHand) (b : ℕ) → hand.next ≡ Some b → IsFinding hand → ReadsNext hand b
+reads_next hand b is finding = let found = by_stage hand.judging.stage hand b is finding.at in record { all = found.0; first = found.1 }
+
+-- the hand behind a block that was read
+pub read_on : (hand : FindHand) (b : ℕ) (next : Option ℕ) (found : List (Row × Spot)) → ReadsNext hand b → IsFinding hand → FindsIn b hand.found found → IsNext hand.judging.candidates (b + 1) next
+    → IsFinding (record hand { read = b + 1; next = next; found = found })
+read_on hand b next found reads finding finds first =
+    let ordered = ascend_more b hand.read hand.found found finding.ascend finding.read reads.first.unread finds in
+    record {
+      at = subst (λ (stage : Stage). IsFindingAt stage (record hand { read = b + 1; next = next; found = found })) (sym reads.all) first;
+      ascend = ordered.0;
+      read = ordered.1;
+    }

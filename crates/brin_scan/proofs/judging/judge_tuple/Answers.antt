@@ -1,0 +1,70 @@
+use Rattle.std.proofs.Common.{◌≡◌, ℕ, ◌+◌, List, sym, ap, subst, ◌∙◌}
+use Rattle.brin_scan.specs.declared.judging.Judged.TheVariants as verdicts
+use Rattle.brin_scan.specs.declared.stage.Stage.{Stage}
+use Rattle.brin_scan.specs.declared.stage.Stage.TheVariants as stages
+use Rattle.brin_scan.specs.IndexReaders.{all_scanned}
+use Rattle.brin_scan.specs.NextRanges.{LeavesOut, range_from}
+use Rattle.brin_scan.specs.ScanHands.{IsBegunAt, ScannedIndex, scanned_at}
+use Rattle.brin_scan.specs.ScanSteps.{JudgesTo}
+use Rattle.brin_scan.proofs.JudgedRanges.{gone, hand, kept, left_out}
+use Rattle.brin_scan.proofs.MadeReaders.{judged_at, reads_index, still_scanned}
+use Rattle.brin_scan.proofs.Onwards.{begun_from}
+use Rattle.brin_scan.proofs.judging.judge_tuple.Goals as goal
+
+pub read_tuple-judged-requires-clause-index : goal.read_tuple-judged-requires-clause-index
+read_tuple-judged-requires-clause-index g c =
+    (reads_index c.args.pages.now.layout c.requires.table.0 c.args.readers.now c.args.held.at c.index-readers-at.result c.requires.table.1 c.requires.at.0 c.index-readers-at.is).declared
+
+pub read_tuple-judged-requires-clause-classes : goal.read_tuple-judged-requires-clause-classes
+read_tuple-judged-requires-clause-classes g c =
+    (reads_index c.args.pages.now.layout c.requires.table.0 c.args.readers.now c.args.held.at c.index-readers-at.result c.requires.table.1 c.requires.at.0 c.index-readers-at.is).classes
+
+pub returns-in-Ok-Gone-clause-indexes : goal.returns-in-Ok-Gone-clause-indexes
+returns-in-Ok-Gone-clause-indexes g c = still_scanned c.args.readers.now c.args.held.at c.index-readers-at.result c.read_tuple-judged.new.reader c.read_tuple-judged.ensures.scanned c.index-readers-at.is
+
+pub returns-in-Ok-Kept-clause-indexes : goal.returns-in-Ok-Kept-clause-indexes
+returns-in-Ok-Kept-clause-indexes g c = still_scanned c.args.readers.now c.args.held.at c.index-readers-at.result c.read_tuple-judged.new.reader c.read_tuple-judged.ensures.scanned c.index-readers-at.is
+
+pub returns-in-Ok-LeftOut-clause-indexes : goal.returns-in-Ok-LeftOut-clause-indexes
+returns-in-Ok-LeftOut-clause-indexes g c = still_scanned c.args.readers.now c.args.held.at c.index-readers-at.result c.read_tuple-judged.new.reader c.read_tuple-judged.ensures.scanned c.index-readers-at.is
+
+pub returns-in-Err-clause-indexes : goal.returns-in-Err-clause-indexes
+returns-in-Err-clause-indexes g c = still_scanned c.args.readers.now c.args.held.at c.index-readers-at.result c.read_tuple-judged.new.reader c.read_tuple-judged.ensures.scanned c.index-readers-at.is
+
+pub returns-in-Ok-Gone-clause-judged : goal.returns-in-Ok-Gone-clause-judged
+returns-in-Ok-Gone-clause-judged g c = λ tells query conds is.
+    let store = c.args.pages.now in
+    let held = c.args.held in
+    let readers = c.args.readers.now in
+    let indexes = all_scanned readers in
+    let reader = c.index-readers-at.result in
+    let same = still_scanned readers held.at reader c.read_tuple-judged.new.reader c.read_tuple-judged.ensures.scanned c.index-readers-at.is in
+    subst (λ (l : List ScannedIndex). JudgesTo store.layout store.pages (hand query indexes c.args.extent (stages.Tuple held.at held.range held.spot) c.args.candidates.now) (hand query l c.args.extent (stages.Map held.at held.range) c.args.candidates.now)) (sym same)
+    (gone store.layout store.pages query indexes is c.args.extent held.at held.range c.requires.at held.spot c.args.candidates.now
+    (judged_at store.layout store.pages readers held.at reader held.range held.spot c.args.conds.now query.conds _ verdicts.Gone c.requires.at.0 c.index-readers-at.is conds c.in-Ok-Gone.field-0-is (c.in-Ok-Gone.ensures.tells tells)))
+
+pub returns-in-Ok-Kept-clause-at : goal.returns-in-Ok-Kept-clause-at
+returns-in-Ok-Kept-clause-at g c =
+    let held = c.args.held in
+    let readers = c.args.readers.now in
+    let indexes = all_scanned readers in
+    let same = still_scanned readers held.at c.index-readers-at.result c.read_tuple-judged.new.reader c.read_tuple-judged.ensures.scanned c.index-readers-at.is in
+    subst (λ (stage : Stage). IsBegunAt indexes c.args.extent stage) (sym (c.next_range.ensures ∙ ap (λ (l : List ScannedIndex). range_from l c.args.extent held.at (held.range + 1)) same))
+    (begun_from indexes c.args.extent held.at (held.range + 1) c.requires.at.0)
+
+pub returns-in-Ok-Kept-clause-judged : goal.returns-in-Ok-Kept-clause-judged
+returns-in-Ok-Kept-clause-judged g c = λ tells query conds is.
+    let store = c.args.pages.now in
+    let held = c.args.held in
+    let readers = c.args.readers.now in
+    let indexes = all_scanned readers in
+    let reader = c.index-readers-at.result in
+    let same = still_scanned readers held.at reader c.read_tuple-judged.new.reader c.read_tuple-judged.ensures.scanned c.index-readers-at.is in
+    let stage = c.next_range.ensures ∙ ap (λ (l : List ScannedIndex). range_from l c.args.extent held.at (held.range + 1)) same in
+    subst (λ (l : List ScannedIndex). JudgesTo store.layout store.pages (hand query indexes c.args.extent (stages.Tuple held.at held.range held.spot) c.args.candidates.now) (hand query l c.args.extent c.next_range.result c.args.candidates.now)) (sym same)
+    (subst (λ (s : Stage). JudgesTo store.layout store.pages (hand query indexes c.args.extent (stages.Tuple held.at held.range held.spot) c.args.candidates.now) (hand query indexes c.args.extent s c.args.candidates.now)) (sym stage)
+    (kept store.layout store.pages query indexes is c.args.extent held.at held.range c.requires.at held.spot c.args.candidates.now
+    (judged_at store.layout store.pages readers held.at reader held.range held.spot c.args.conds.now query.conds _ verdicts.Kept c.requires.at.0 c.index-readers-at.is conds c.in-Ok-Kept.field-0-is (c.in-Ok-Kept.ensures.tells tells))))
+
+pub returns-in-Ok-LeftOut-clause-judged : goal.returns-in-Ok-LeftOut-clause-judged
+returns-in-Ok-LeftOut-clause-judged g c = ?

@@ -1,0 +1,10 @@
+pub mod ScanHands
+pub mod NextRanges
+pub mod TableScans
+pub mod ScanSteps
+pub mod ScanAnswers
+pub mod IndexReaders
+pub mod Explains
+pub mod Finds
+pub mod LawfulIndexes
+pub mod Judgings

@@ -1,0 +1,359 @@
+//! The scan of a select or a delete.
+
+ghost use Rattle.std.specs.Prelude.{◌≡◌, ◌⊎◌, ◌<◌, ◌≤◌, ◌^◌, ◌++◌, ◌∷◌, [], ℕ, None, Some, length, take, IfOk, OnOk, OnErr};
+ghost use Rattle.page_store.specs.Keeps.{Keeps, Tells, Untold};
+ghost use Rattle.page_store.specs.Outcome.{Outcome};
+ghost use Rattle.heap_rows.specs.Heaps.{slots_a_page};
+ghost use Rattle.heap_rows.specs.HeapBlocks.{OfBlocks, slots_of};
+ghost use Rattle.heap_rows.specs.StoredRows.{SlotsAscend, row_of, stored_rows};
+ghost use Rattle.brin_scan.specs.Finds.{Ascend, FindOutcome, FindSteps, FindsIn, FindsThere, IsFindOf, IsNext, IsPointIn, IsScanning, OfSight, Sight, did_at, first_find, found_at, sees_stored, visible_matches};
+ghost use Rattle.brin_scan.specs.ScanAnswers.{IsDamagedAt, ReadOutcome};
+ghost use Rattle.brin_scan.specs.ScanHands.{IsJudging, first_hand};
+
+use crate::explain::point_at;
+use crate::judging::Judging;
+use crate::stage::Stage;
+use block_model::{NoMemory, Query, Row, Spot, row_matches};
+use disk_trait::Disk;
+use engine_pages::PageStore;
+use heap_rows::{PageRows, Stored, rows_of};
+use page_locks::{Did, Point};
+use page_store::{MachineFault, StoreError};
+use snapshot_core::{Snapshot, sees};
+use std::alloc::Global;
+use std::marker::Model;
+use store_layout::Layout;
+use tx_table::TxTable;
+
+/// The scan of a select or a delete: it judges the ranges of the table's indexes, and then reads the candidate blocks for the rows
+/// that its transaction sees and its query finds.
+#[derive(Debug, Drop)]
+pub struct Scan {
+    judging: Judging,
+    rows: PageRows,
+    /// The candidates below this block are read.
+    read: u32,
+    next: Option<u32>,
+    found: Vec<(Row, Spot)>,
+}
+
+impl Model for Scan {
+    ghost use Rattle.std.specs.Prelude.{◌≡◌, [], None};
+    ghost use Rattle.brin_scan.specs.Finds.{FindHand, IsFinding};
+
+    ghost Value = { FindHand };
+
+    ghost view = { λ a. record { judging = a.judging; read = a.read; next = a.next; found = a.found.items; room = a.rows.room } };
+
+    ghost invariant = { λ a. IsFinding (record { judging = a.judging; read = a.read; next = a.next; found = a.found.items; room = a.rows.room }) };
+}
+
+impl Scan {
+    /// Before the first step of a scan for a query of a table of the layout. Takes all the memory that it needs but that of the rows which it
+    /// finds.
+    pub fn new(alloc: Global, query: &Query, layout: &Layout) -> Result<Scan, NoMemory>
+        requires table { query.now.table < length layout.now.schema.tables }
+        ensures begins { IfOk result (λ scan. scan ≡ first_find (first_hand layout.now query.now) (slots_a_page layout.now query.now.table)) }
+    {
+        let judging = Judging::new(alloc, query, layout)?;
+        let table = usize::from(query.table);
+        let rows = PageRows::new(alloc, &layout.schema().tables.as_slice()[table])?;
+        Ok(Scan {
+            judging,
+            rows,
+            read: 0,
+            next: None,
+            found: Vec::new(alloc),
+        })
+    }
+
+    /// Does nothing; tells its caller that each row is found once, in the order of the places.
+    pub fn known(&self)
+        ensures { Ascend 0 0 self.now.found }
+    {
+        let _ = &self.read;
+    }
+
+    /// The stage that it is at; once it is Judged, the scan reads candidate blocks.
+    pub fn stage(&self) -> Stage
+        ensures { result ≡ self.now.judging.stage }
+    {
+        self.judging.stage()
+    }
+
+    /// The next step, over the pages of a store of the layout and its transactions, for the transaction numbered `own` with its
+    /// snapshot. Each page step reads one block, and takes memory for the rows that it finds alone. After an error nothing is changed.
+    pub fn step<D: Disk + Drop>(
+        &mut self,
+        pages: &mut PageStore<D>,
+        tx: &TxTable,
+        snapshot: &Snapshot,
+        own: u64,
+    ) -> Result<Did, MachineFault>
+        requires scan { IsFindOf pages.old.layout self.old }
+        requires work { IsScanning self.old.judging.stage self.old.next }
+        ensures stepped { IfOk result (λ did. Tells D.told pages.old → OfSight pages.old.layout pages.old.pages snapshot.now own tx.now.first (λ sight. FindSteps pages.old.layout pages.old.pages sight self.old self.new did)) }
+        ensures rows { OnOk result (OfBlocks D.told pages.old self.old.judging.query.table (λ blocks. OfSight pages.old.layout pages.old.pages snapshot.now own tx.now.first (λ sight. FindsThere sight blocks self.old self.new self.old.next))) }
+        ensures point { IfOk result (IsPointIn self.old self.new) }
+        ensures scan { IsFindOf pages.old.layout self.new }
+        ensures query { self.new.judging.query ≡ self.old.judging.query }
+        ensures same { OnErr result (self.new ≡ self.old) }
+        ensures kept { Keeps D.told pages.old pages.new }
+        ensures outcome { FindOutcome D.told (Tells D.told pages.old → IsDamagedAt pages.old.layout pages.old.pages self.old.judging.indexes self.old.judging.stage) pages.old pages.new self.old.next result }
+    {
+        match self.next {
+            Some(block) => match self.read_block(pages, tx, snapshot, own, block) {
+                Ok(did) => Ok(did),
+                Err(fault) => Err(fault),
+            },
+            None => match self.judge_range(pages) {
+                Ok(did) => Ok(did),
+                Err(fault) => Err(fault),
+            },
+        }
+    }
+
+    /// The step that reads the next candidate block.
+    fn read_block<D: Disk + Drop>(
+        &mut self,
+        pages: &mut PageStore<D>,
+        tx: &TxTable,
+        snapshot: &Snapshot,
+        own: u64,
+        block: u32,
+    ) -> Result<Did, MachineFault>
+        requires scan { IsFindOf pages.old.layout self.old }
+        requires next { self.old.next ≡ Some block }
+        ensures stepped { IfOk result (λ did. Tells D.told pages.old → OfSight pages.old.layout pages.old.pages snapshot.now own tx.now.first (λ sight. FindSteps pages.old.layout pages.old.pages sight self.old self.new did)) }
+        ensures rows { OnOk result (OfBlocks D.told pages.old self.old.judging.query.table (λ blocks. OfSight pages.old.layout pages.old.pages snapshot.now own tx.now.first (λ sight. FindsThere sight blocks self.old self.new (Some block)))) }
+        ensures point { IfOk result (IsPointIn self.old self.new) }
+        ensures judged { self.old.judging.stage ≡ Stage.Judged }
+        ensures scan { IsFindOf pages.old.layout self.new }
+        ensures query { self.new.judging.query ≡ self.old.judging.query }
+        ensures same { OnErr result (self.new ≡ self.old) }
+        ensures kept { Keeps D.told pages.old pages.new }
+        ensures outcome { FindOutcome D.told (Untold D.told pages.old) pages.old pages.new (Some block) result }
+    {
+        self.judging.known();
+        let query = self.judging.query();
+        match find_on(
+            pages,
+            tx,
+            snapshot,
+            own,
+            query,
+            block,
+            &mut self.rows,
+            &mut self.found,
+        ) {
+            Ok(()) => {}
+            Err(fault) => return Err(fault),
+        }
+        self.read = block + 1;
+        self.next = next_candidate(self.judging.candidates(), block + 1);
+        Ok(did_at(Point::Page, self.next))
+    }
+
+    /// The step that reads the block count, or judges a range.
+    fn judge_range<D: Disk + Drop>(&mut self, pages: &mut PageStore<D>) -> Result<Did, MachineFault>
+        requires scan { IsFindOf pages.old.layout self.old }
+        requires work { IsJudging self.old.judging.stage }
+        ensures stepped { IfOk result (λ did. Tells D.told pages.old → (sight : Sight) → FindSteps pages.old.layout pages.old.pages sight self.old self.new did) }
+        ensures found { self.new.found ≡ self.old.found }
+        ensures point { IfOk result (IsPointIn self.old self.new) }
+        ensures scan { IsFindOf pages.old.layout self.new }
+        ensures query { self.new.judging.query ≡ self.old.judging.query }
+        ensures same { OnErr result (self.new ≡ self.old) }
+        ensures kept { Keeps D.told pages.old pages.new }
+        ensures outcome { ReadOutcome D.told (Tells D.told pages.old → IsDamagedAt pages.old.layout pages.old.pages self.old.judging.indexes self.old.judging.stage) pages.old pages.new result }
+    {
+        let point = point_at(self.judging.stage());
+        match self.judging.step(pages) {
+            Ok(()) => {}
+            Err(fault) => return Err(fault),
+        }
+        if self.judging.is_judged() {
+            self.judging.known();
+            self.next = next_candidate(self.judging.candidates(), 0);
+            Ok(did_at(point, self.next))
+        } else {
+            Ok(Did::Moved(point))
+        }
+    }
+
+    /// The rows found, with their places, in the order of these.
+    pub fn found(&self) -> &[(Row, Spot)]
+        ensures { result.now ≡ self.now.found }
+    {
+        self.found.as_slice()
+    }
+}
+
+/// What a step at this point did, where that block is to be read next.
+fn did_at(point: Point, next: Option<u32>) -> Did
+    ensures { result ≡ did_at point next }
+{
+    match next {
+        Some(_) => Did::Moved(point),
+        None => Did::Finished(point),
+    }
+}
+
+/// The first candidate from that block on.
+fn next_candidate(candidates: &[bool], from: u32) -> Option<u32>
+    requires small { length candidates.now < 2 ^ 32 }
+    ensures { IsNext candidates.now from result }
+{
+    let end = candidates.len() as u32;
+    let mut block = from;
+    'candidates: while block < end {
+        if candidates[block as usize] {
+            return Some(block);
+        }
+        block += 1;
+    }
+    None
+}
+
+/// Appends the visible matches of the block to `found`. After an error `found` is as before.
+fn find_on<D: Disk + Drop>(
+    pages: &mut PageStore<D>,
+    tx: &TxTable,
+    snapshot: &Snapshot,
+    own: u64,
+    query: &Query,
+    block: u32,
+    rows: &mut PageRows,
+    found: &mut Vec<(Row, Spot)>,
+) -> Result<(), MachineFault>
+    requires table { query.now.table < length pages.old.layout.schema.tables }
+    requires block { block < pages.old.layout.sizes.heap_blocks }
+    requires room { slots_a_page pages.old.layout query.now.table ≤ rows.old.room }
+    ensures found { OnOk result (OfBlocks D.told pages.old query.now.table (λ blocks. OfSight pages.old.layout pages.old.pages snapshot.now own tx.now.first (λ sight. found.new.items ≡ found.old.items ++ visible_matches sight query.now block (stored_rows (slots_of blocks block))))) }
+    ensures order { OnOk result (FindsIn block found.old.items found.new.items) }
+    ensures same { OnErr result (found.new.items ≡ found.old.items) }
+    ensures room { rows.new.room ≡ rows.old.room }
+    ensures kept { Keeps D.told pages.old pages.new }
+    ensures outcome { FindOutcome D.told (Untold D.told pages.old) pages.old pages.new (Some block) result }
+{
+    match rows_of(pages, query.table, block, rows) {
+        Ok(()) => {}
+        Err(error) => return Err(MachineFault::Store(error)),
+    }
+    let before = found.len();
+    match find_among(
+        pages,
+        tx,
+        snapshot,
+        own,
+        query,
+        block,
+        rows.as_slice(),
+        found,
+    ) {
+        Ok(()) => Ok(()),
+        Err(fault) => {
+            found.truncate(before);
+            Err(fault)
+        }
+    }
+}
+
+/// Appends the visible matches among the rows of the block to `found`; after an error some of them.
+fn find_among<D: Disk + Drop>(
+    pages: &mut PageStore<D>,
+    tx: &TxTable,
+    snapshot: &Snapshot,
+    own: u64,
+    query: &Query,
+    block: u32,
+    rows: &[Stored],
+    found: &mut Vec<(Row, Spot)>,
+) -> Result<(), MachineFault>
+    requires ready { pages.old.failed ≡ None }
+    requires order { (count : ℕ) × SlotsAscend 0 count rows.now }
+    ensures found { OnOk result (Tells D.told pages.old → OfSight pages.old.layout pages.old.pages snapshot.now own tx.now.first (λ sight. found.new.items ≡ found.old.items ++ visible_matches sight query.now block rows.now)) }
+    ensures order { OnOk result (FindsIn block found.old.items found.new.items) }
+    ensures front { take (length found.old.items) found.new.items ≡ found.old.items }
+    ensures kept { Keeps D.told pages.old pages.new }
+    ensures outcome { FindOutcome D.told (Untold D.told pages.old) pages.old pages.new (Some block) result }
+{
+    'rows: for row in rows {
+        match add_visible(pages, tx, snapshot, own, query, block, row, found) {
+            Ok(()) => {}
+            Err(fault) => return Err(fault),
+        }
+    }
+    Ok(())
+}
+
+/// Appends the row of the block to `found`, if the transaction sees it and the query finds it. After an error `found` is as before.
+fn add_visible<D: Disk + Drop>(
+    pages: &mut PageStore<D>,
+    tx: &TxTable,
+    snapshot: &Snapshot,
+    own: u64,
+    query: &Query,
+    block: u32,
+    row: &Stored,
+    found: &mut Vec<(Row, Spot)>,
+) -> Result<(), MachineFault>
+    requires ready { pages.old.failed ≡ None }
+    ensures visible { OnOk result (Tells D.told pages.old → OfSight pages.old.layout pages.old.pages snapshot.now own tx.now.first (λ sight. found.new.items ≡ found.old.items ++ visible_matches sight query.now block (row.now ∷ []))) }
+    ensures added { OnOk result ((found.new.items ≡ found.old.items) ⊎ (found.new.items ≡ found.old.items ++ found_at query.now.table block row.now ∷ [])) }
+    ensures same { OnErr result (found.new.items ≡ found.old.items) }
+    ensures kept { Keeps D.told pages.old pages.new }
+    ensures outcome { FindOutcome D.told (Untold D.told pages.old) pages.old pages.new (Some block) result }
+{
+    let here = found_at(query.table, block, row);
+    if !row_matches(&here.0, query) {
+        return Ok(());
+    }
+    match is_visible(pages, tx, snapshot, own, row) {
+        Ok(true) => match found.push(here) {
+            Ok(()) => Ok(()),
+            Err(_) => Err(MachineFault::Memory),
+        },
+        Ok(false) => Ok(()),
+        Err(error) => Err(MachineFault::Store(error)),
+    }
+}
+
+/// The row of the table's block of that number, and where it stands.
+fn found_at(table: u8, block: u32, row: &Stored) -> (Row, Spot)
+    ensures { result ≡ found_at table block row.now }
+{
+    let found = Row {
+        table,
+        id: row.id,
+        values: row.values,
+    };
+    let spot = Spot {
+        block,
+        slot: row.slot,
+    };
+    (found, spot)
+}
+
+/// Whether the transaction sees the row. Reads the status of the transaction that put the row, and of the one that deleted it.
+fn is_visible<D: Disk + Drop>(
+    pages: &mut PageStore<D>,
+    tx: &TxTable,
+    snapshot: &Snapshot,
+    own: u64,
+    row: &Stored,
+) -> Result<bool, StoreError>
+    ensures sees { IfOk result (λ visible. Tells D.told pages.old → OfSight pages.old.layout pages.old.pages snapshot.now own tx.now.first (λ sight. visible ≡ sees_stored sight (row_of row.now))) }
+    ensures kept { Keeps D.told pages.old pages.new }
+    ensures outcome { Outcome D.told (Untold D.told pages.old) pages.old pages.new result }
+{
+    let put = match tx.status(pages, row.id.t) {
+        Ok(status) => status,
+        Err(error) => return Err(error),
+    };
+    let gone = match tx.status(pages, row.deleter) {
+        Ok(status) => status,
+        Err(error) => return Err(error),
+    };
+    Ok(sees(snapshot, own, row.id.t, row.deleter, put, gone))
+}
