@@ -25,7 +25,7 @@ module _ {D : Type 0} (told : D → Told) (disk : D) (old new : View (List ℕ))
   kept_beside (Ok value) kept = tt
   kept_beside (Err error) kept = keeps_beside kept
 
-  -- its cause of damage is that the disk doesn't tell its contents, and the one in memory does
+  -- the cause of damage in memory is that its disk doesn't tell its contents, and that one does
   pub refused_beside : (Cause : Type 0) (error : StoreError) → Refused told_by_steady (Untold told_by_steady old) old new error → Refused told Cause (beside disk old) (beside disk new) error
   refused_beside Cause errors.Disk refused = absurd (let rose : 1 ≤ 0 = refused.1 in omega arith)
   refused_beside Cause (errors.Reopen faults) refused = (refused.0, refused.1, omega arith)
@@ -43,9 +43,13 @@ module _ {D : Type 0} (told : D → Told) (disk : D) (old new : View (List ℕ))
     seen = λ image now. nothing.contents;
   }
 
--- a call in memory that changes no page never finds damage
+-- a call in memory never finds damage
 pub undamaged_beside : {T : Type 0} (old new : View (List ℕ)) (result : Result T StoreError) → Outcome told_by_steady (Untold told_by_steady old) old new result → IfErr result IsOfDisk
 undamaged_beside old new (Ok value) done = tt
 undamaged_beside old new (Err errors.Disk) refused = tt
 undamaged_beside old new (Err (errors.Reopen faults)) refused = tt
 undamaged_beside old new (Err (errors.Damaged at)) refused = absurd (refused.3 refl)
+
+-- a disk without images leaves nothing that a promise of its images could fail of
+pub sure_beside : {D : Type 0} (told : D → Told) (disk : D) → LeavesNothing (told disk) → (P : List ℕ → Type 0) (image : List ℕ) → IsTrue ((told disk).now image) → P image
+sure_beside told disk nothing P image now = absurd (nothing.images image now)
