@@ -1,5 +1,5 @@
 -- what is said of pages in memory alone, said of them beside a disk that no call touches
-use Rattle.std.proofs.Common.{◌≡◌, ◌≤◌, ℕ, List, refl, arith}
+use Rattle.std.proofs.Common.{◌≡◌, ◌≤◌, ℕ, List, refl, sym, subst, arith}
 use Rattle.std.specs.Prelude.{IsTrue, Result, Ok, Err, OnErr, IfErr}
 use Rattle.disk_trait.specs.Steady.{told_by_steady}
 use Rattle.disk_trait.specs.ThroughoutLaws.{started}
@@ -53,3 +53,15 @@ undamaged_beside old new (Err (errors.Damaged at)) refused = absurd (refused.3 r
 -- a disk without images leaves nothing that a promise of its images could fail of
 pub sure_beside : {D : Type 0} (told : D → Told) (disk : D) → LeavesNothing (told disk) → (P : List ℕ → Type 0) (image : List ℕ) → IsTrue ((told disk).now image) → P image
 sure_beside told disk nothing P image now = absurd (nothing.images image now)
+
+-- what a call in memory and a call on a disk make of images, as the store is seen
+pub survives_in_memory : {D : Type 0} (told : D → Told) (disk : D) (before after : View (List ℕ)) (old new : View D) → LeavesNothing (told disk) → ((image : List ℕ) → IsTrue ((told disk).since (told disk).moment image) → IsTrue ((told disk).now image))
+    → beside disk before ≡ old → new ≡ beside disk after → Survives told (λ pages. pages ≡ old.pages) old new
+survives_in_memory {D} told disk before after old new nothing only here there =
+    subst (λ (v : View D). Survives told (λ pages. pages ≡ v.pages) v new) here
+    (subst (λ (v : View D). Survives told (λ pages. pages ≡ before.pages) (beside disk before) v) (sym there) (survives_beside told disk before after nothing only (λ pages. pages ≡ before.pages)))
+
+pub survives_on_disk : {D : Type 0} (told : D → Told) (before after old new : View D) → before ≡ old → new ≡ after → Survives told (λ pages. pages ≡ before.pages) before after → Survives told (λ pages. pages ≡ old.pages) old new
+survives_on_disk {D} told before after old new here there survives =
+    subst (λ (v : View D). Survives told (λ pages. pages ≡ v.pages) v new) here
+    (subst (λ (v : View D). Survives told (λ pages. pages ≡ before.pages) before v) (sym there) survives)
