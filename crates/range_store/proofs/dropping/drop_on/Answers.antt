@@ -38,5 +38,5 @@ drop_tuple-requires-clause-slot g c = λ tells_now.
 pub returns-in-Ok-clause-survives : goal.returns-in-Ok-clause-survives
 returns-in-Ok-clause-survives g c = survives_on g.D.Disk.told c.args.pages.now c.has_tuple.new.pages c.drop_tuple.new.pages c.has_tuple.ensures.kept c.has_tuple.ensures.survives c.drop_tuple.ensures.survives
 
-pub returns-in-Err-clause-survives : goal.returns-in-Err-clause-survives
-returns-in-Err-clause-survives g c = survives_on g.D.Disk.told c.args.pages.now c.has_tuple.new.pages c.drop_tuple.new.pages c.has_tuple.ensures.kept c.has_tuple.ensures.survives c.drop_tuple.ensures.survives
+pub returns-in-Err-drop_tuple-clause-survives : goal.returns-in-Err-drop_tuple-clause-survives
+returns-in-Err-drop_tuple-clause-survives g c = survives_on g.D.Disk.told c.args.pages.now c.has_tuple.new.pages c.drop_tuple.new.pages c.has_tuple.ensures.kept c.has_tuple.ensures.survives c.drop_tuple.ensures.survives

@@ -29,8 +29,8 @@ returns-in-Ok-Closed-clause-outcome g c =
 pub returns-in-Ok-clause-survives : goal.returns-in-Ok-clause-survives
 returns-in-Ok-clause-survives g c = survives_on g.D.Disk.told c.args.pages.now c.opening_at.new.pages c.put_tuple.new.pages c.opening_at.ensures.kept c.opening_at.ensures.survives c.put_tuple.ensures.survives
 
-pub returns-in-Err-clause-survives : goal.returns-in-Err-clause-survives
-returns-in-Err-clause-survives g c = survives_on g.D.Disk.told c.args.pages.now c.opening_at.new.pages c.put_tuple.new.pages c.opening_at.ensures.kept c.opening_at.ensures.survives c.put_tuple.ensures.survives
+pub returns-in-Err-put_tuple-clause-survives : goal.returns-in-Err-put_tuple-clause-survives
+returns-in-Err-put_tuple-clause-survives g c = survives_on g.D.Disk.told c.args.pages.now c.opening_at.new.pages c.put_tuple.new.pages c.opening_at.ensures.kept c.opening_at.ensures.survives c.put_tuple.ensures.survives
 
 pub returns-in-Ok-start_with-clause-survives : goal.returns-in-Ok-start_with-clause-survives
 returns-in-Ok-start_with-clause-survives g c = survives_on g.D.Disk.told c.args.pages.now c.opening_at.new.pages c.start_with.new.pages c.opening_at.ensures.kept c.opening_at.ensures.survives c.start_with.ensures.survives

@@ -39,5 +39,5 @@ returns-in-Ok-Some-clause-outcome g c =
 pub returns-in-Ok-clause-survives : goal.returns-in-Ok-clause-survives
 returns-in-Ok-clause-survives g c = survives_on g.D.Disk.told c.args.pages.now c.misfit_at.new.pages c.replace_tuple.new.pages c.misfit_at.ensures.kept c.misfit_at.ensures.survives c.replace_tuple.ensures.survives
 
-pub returns-in-Err-clause-survives : goal.returns-in-Err-clause-survives
-returns-in-Err-clause-survives g c = survives_on g.D.Disk.told c.args.pages.now c.misfit_at.new.pages c.replace_tuple.new.pages c.misfit_at.ensures.kept c.misfit_at.ensures.survives c.replace_tuple.ensures.survives
+pub returns-in-Err-replace_tuple-clause-survives : goal.returns-in-Err-replace_tuple-clause-survives
+returns-in-Err-replace_tuple-clause-survives g c = survives_on g.D.Disk.told c.args.pages.now c.misfit_at.new.pages c.replace_tuple.new.pages c.misfit_at.ensures.kept c.misfit_at.ensures.survives c.replace_tuple.ensures.survives
