@@ -38,8 +38,8 @@ use block_model::{
     Class, Column, Index, Kind, Name, PAGE_SIZE, Part, Place, Schema, Sequence, Sizes, Spot, Table,
 };
 use disk_trait::SteadyDisk;
-use page_layout::{MAP, META, REGULAR};
 use engine_pages::PageStore;
+use page_layout::{MAP, META, REGULAR};
 use range_store::{Scratch, drop_at, put, replace, room_for, tuple_at};
 use revmap::{entry, set};
 use std::alloc::Global;

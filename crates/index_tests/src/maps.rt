@@ -53,7 +53,7 @@ fn entries_are_set_and_read(rt: HostRuntime) -> Result<(), Fail> {
         .create(true)
         .open(&rt, "entries")?;
     let mut trial = Trial::new(rt.alloc(), file).ok_or("trial")?;
-    // Before there is a map, and past its pages, no range has an entry.
+    // In a new store, and past the pages of the map, no range has an entry.
     assert_eq!(rt; trial.entry(0, 0), Ok(None));
     assert!(rt; trial.start_map(FIRST) && trial.start_map(SECOND));
     assert_eq!(rt; trial.entry(0, 2040), Ok(None));

@@ -1,6 +1,6 @@
 //! A store with two indexes.
 
-ghost use Rattle.std.specs.Prelude.{◌≡◌, ◌+◌, ◌<◌, ◌≤◌, [], ◌∷◌, length, IfSome};
+ghost use Rattle.std.specs.Prelude.{◌≡◌, ◌+◌, ◌<◌, ◌≤◌, true, [], ◌∷◌, length};
 ghost use Rattle.block_model.specs.declared.limits.TheConstants.{PAGE_SIZE};
 ghost use Rattle.store_layout.specs.DiskLayout.{relation_blocks};
 ghost use Rattle.wal_record.specs.Changes.{logged, place_of};
@@ -14,6 +14,7 @@ use page_layout::MAP;
 use std::alloc::Global;
 use std::fs::File;
 use std::marker::Model;
+use store_format::format;
 use store_layout::Layout;
 use wal_record::Change;
 
@@ -44,10 +45,18 @@ impl Model for Trial {
 }
 
 impl Trial {
-    /// No page of the store is started.
+    /// A new store: each index has its metapage, which counts one page of the map, and this page. `None` where the file fails, or
+    /// memory is wanting.
     pub fn new(alloc: Global, file: File) -> Option<Trial> {
         let layout = layout(alloc)?;
-        let pages = PageStore::plain(alloc, FileDisk::on(file, 0), layout).ok()?;
+        let size = layout.disk_size();
+        file.set_len(size).ok()?;
+        let mut disk = FileDisk::on(file, size);
+        format(&mut disk, &layout).ok()?;
+        let pages = PageStore::start(alloc, disk).ok()?;
+        if !has_two_indexes(pages.layout()) {
+            return None;
+        }
         Some(Trial { pages })
     }
 
@@ -101,13 +110,31 @@ impl Trial {
     }
 }
 
-/// The layout of the table and its indexes. `None` is want of memory, or a limit that is passed.
-#[tactic(auto, unfolding(store_layout::specs::DiskLayout::relation_blocks))]
-fn layout(alloc: Global) -> Option<Layout>
-    ensures indexes { IfSome result (λ layout. length layout.schema.indexes ≡ 2) }
-    ensures limit { IfSome result (λ layout. layout.sizes.index_blocks ≡ 8) }
-    ensures blocks { IfSome result (λ layout. relation_blocks layout ≡ 1 ∷ 1 ∷ 8 ∷ 8 ∷ []) }
+/// Whether the layout has one block of statuses and one of its only table, and two indexes of eight blocks each.
+fn has_two_indexes(layout: &Layout) -> bool
+    ensures indexes { result ≡ true → length layout.now.schema.indexes ≡ 2 }
+    ensures limit { result ≡ true → layout.now.sizes.index_blocks ≡ 8 }
+    ensures blocks { result ≡ true → relation_blocks layout.now ≡ 1 ∷ 1 ∷ 8 ∷ 8 ∷ [] }
 {
+    let schema = layout.schema();
+    if schema.tables.len() != 1 {
+        return false;
+    }
+    if schema.indexes.len() != 2 {
+        return false;
+    }
+    let sizes = layout.sizes();
+    if sizes.status_blocks != 1 {
+        return false;
+    }
+    if sizes.heap_blocks != 1 {
+        return false;
+    }
+    sizes.index_blocks == BLOCKS
+}
+
+/// The layout of the table and its indexes. `None` is want of memory, or a limit that is passed.
+fn layout(alloc: Global) -> Option<Layout> {
     let mut tables = Sequence::new(alloc);
     tables.push(table(alloc)?).ok()?;
     let mut indexes = Sequence::new(alloc);

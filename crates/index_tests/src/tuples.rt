@@ -107,9 +107,9 @@ fn tuples_are_put_and_read(rt: HostRuntime) -> Result<(), Fail> {
     let mut trial = Trial::new(rt.alloc(), file).ok_or("trial")?;
     let mut out = Scratch::new(rt.alloc()).map_err(|_| "scratch")?;
     assert!(rt; trial.start_map(FIRST));
-    // The first page that isn't started, also where the map has no pages.
+    // The first page that isn't started, also where the map has one page.
     assert_eq!(rt; trial.room_for(0, 6), Some(PAGE));
-    assert_eq!(rt; trial.room_for(1, 6), Some(0));
+    assert_eq!(rt; trial.room_for(1, 6), Some(2));
     // A page of the map takes no tuple, and stays: the 33 pages of control and log come before it, and 3 blocks.
     assert_eq!(rt;
         trial.put(0, 1, &SEVEN),

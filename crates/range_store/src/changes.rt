@@ -7,6 +7,7 @@ ghost use Rattle.page_store.specs.Forms.{form_of};
 ghost use Rattle.page_store.specs.Keeps.{Keeps, Tells, Untold};
 ghost use Rattle.page_store.specs.Outcome.{NamesPage, Outcome};
 ghost use Rattle.page_store.specs.PageMap.{page_at};
+ghost use Rattle.logged_pages.specs.Survives.{Survives};
 ghost use Rattle.index_layout.specs.declared.format.TheConstants.{REGULAR};
 ghost use Rattle.index_layout.specs.IndexPages.{IsRegular};
 ghost use Rattle.index_layout.specs.IndexReading.{is_regular, slots_of};
@@ -34,6 +35,7 @@ pub(crate) fn put_tuple<D: Disk + Drop>(
     ensures put { OnOk result (Tells D.told pages.old → IsRegular REGULAR (put_in (slots_of (page_at pages.old.pages place)) slot bytes.now) (page_at pages.new.pages place)) }
     ensures kept { OnErr result (Keeps D.told pages.old pages.new) }
     ensures others { LeavesOtherPages D.told place pages.old pages.new }
+    ensures survives { Survives D.told (λ passed. passed ≡ pages.old.pages) pages.old pages.new }
     ensures at { IfErr result (NamesPage pages.old.layout place) }
     ensures outcome { Outcome D.told (Untold D.told pages.old) pages.old pages.new result }
 {
@@ -53,6 +55,7 @@ pub(crate) fn start_with<D: Disk + Drop>(
     ensures put { OnOk result (Tells D.told pages.old → IsRegular REGULAR (Some bytes.now ∷ []) (page_at pages.new.pages place)) }
     ensures kept { OnErr result (Keeps D.told pages.old pages.new) }
     ensures others { LeavesOtherPages D.told place pages.old pages.new }
+    ensures survives { Survives D.told (λ passed. passed ≡ pages.old.pages) pages.old pages.new }
     ensures at { IfErr result (NamesPage pages.old.layout place) }
     ensures outcome { Outcome D.told (Untold D.told pages.old) pages.old pages.new result }
 {
@@ -78,6 +81,7 @@ pub(crate) fn replace_tuple<D: Disk + Drop>(
     ensures replaced { OnOk result (Tells D.told pages.old → IsRegular REGULAR (set (slots_of (page_at pages.old.pages place)) slot (Some bytes.now)) (page_at pages.new.pages place)) }
     ensures kept { OnErr result (Keeps D.told pages.old pages.new) }
     ensures others { LeavesOtherPages D.told place pages.old pages.new }
+    ensures survives { Survives D.told (λ passed. passed ≡ pages.old.pages) pages.old pages.new }
     ensures at { IfErr result (NamesPage pages.old.layout place) }
     ensures outcome { Outcome D.told (Untold D.told pages.old) pages.old pages.new result }
 {
@@ -98,6 +102,7 @@ pub(crate) fn drop_tuple<D: Disk + Drop>(
     ensures dropped { OnOk result (Tells D.told pages.old → IsRegular (slice_index (page_at pages.old.pages place) 0) (trimmed (set (slots_of (page_at pages.old.pages place)) slot None)) (page_at pages.new.pages place)) }
     ensures kept { OnErr result (Keeps D.told pages.old pages.new) }
     ensures others { LeavesOtherPages D.told place pages.old pages.new }
+    ensures survives { Survives D.told (λ passed. passed ≡ pages.old.pages) pages.old pages.new }
     ensures at { IfErr result (NamesPage pages.old.layout place) }
     ensures outcome { Outcome D.told (Untold D.told pages.old) pages.old pages.new result }
 {

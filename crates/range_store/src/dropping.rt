@@ -7,6 +7,7 @@ ghost use Rattle.page_store.specs.Forms.{form_of};
 ghost use Rattle.page_store.specs.Keeps.{Keeps, Tells, Untold};
 ghost use Rattle.page_store.specs.Outcome.{NamesPage, Outcome};
 ghost use Rattle.page_store.specs.PageMap.{page_at};
+ghost use Rattle.logged_pages.specs.Survives.{Survives};
 ghost use Rattle.index_layout.specs.IndexPages.{IsIndexPage};
 ghost use Rattle.index_layout.specs.IndexReading.{is_regular, slots_of};
 ghost use Rattle.index_contents.specs.IndexContents.{contents, index_page, relation_of, tuple_on};
@@ -36,6 +37,8 @@ pub fn drop_at<D: Disk + Drop>(
     ensures kept { OnErr result (Keeps D.told pages.old pages.new) }
     ensures others { LeavesOthers D.told index pages.old pages.new }
     ensures pages { LeavesOtherPages D.told (record { relation = relation_of pages.old.layout index; block = spot.block }) pages.old pages.new }
+    // The change itself isn't sure before the next flush.
+    ensures survives { Survives D.told (λ passed. passed ≡ pages.old.pages) pages.old pages.new }
     ensures at { IfErr result (NamesPage pages.old.layout (record { relation = relation_of pages.old.layout index; block = spot.block })) }
     ensures outcome { Outcome D.told (Untold D.told pages.old) pages.old pages.new result }
 {
@@ -67,6 +70,7 @@ fn drop_on<D: Disk + Drop>(
     ensures dropped { OnOk result (Tells D.told pages.old → DropsOn (page_at pages.old.pages place) (page_at pages.new.pages place) slot) }
     ensures kept { OnErr result (Keeps D.told pages.old pages.new) }
     ensures others { LeavesOtherPages D.told place pages.old pages.new }
+    ensures survives { Survives D.told (λ passed. passed ≡ pages.old.pages) pages.old pages.new }
     ensures at { IfErr result (NamesPage pages.old.layout place) }
     ensures outcome { Outcome D.told (Untold D.told pages.old) pages.old pages.new result }
 {
@@ -93,6 +97,7 @@ fn has_tuple<D: Disk + Drop>(
     ensures there { IfOk result (λ there. Tells D.told pages.old → there ≡ true → tuple_on (page_at pages.old.pages place) slot ≢ None) }
     ensures absent { IfOk result (λ there. Tells D.told pages.old → there ≡ false → tuple_on (page_at pages.old.pages place) slot ≡ None) }
     ensures kept { Keeps D.told pages.old pages.new }
+    ensures survives { Survives D.told (λ passed. passed ≡ pages.old.pages) pages.old pages.new }
     ensures at { IfErr result (NamesPage pages.old.layout place) }
     ensures outcome { Outcome D.told (Untold D.told pages.old) pages.old pages.new result }
 {

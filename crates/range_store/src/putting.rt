@@ -7,6 +7,7 @@ ghost use Rattle.page_store.specs.Forms.{form_of};
 ghost use Rattle.page_store.specs.Keeps.{Keeps, Tells, Untold};
 ghost use Rattle.page_store.specs.Outcome.{NamesPage, Outcome};
 ghost use Rattle.page_store.specs.PageMap.{page_at};
+ghost use Rattle.logged_pages.specs.Survives.{Survives};
 ghost use Rattle.index_layout.specs.IndexPages.{IsIndexPage};
 ghost use Rattle.index_contents.specs.IndexContents.{contents, relation_of};
 ghost use Rattle.index_contents.specs.IndexChanges.{LeavesOtherPages, LeavesOthers, PutsBytes};
@@ -16,12 +17,12 @@ ghost use Rattle.range_store.specs.Tuples.{IsTupleSize, TakesBytes, opening_of};
 use crate::changes::{put_tuple, start_with};
 use block_model::{Place, Spot};
 use disk_trait::Disk;
+use engine_pages::PageStore;
 use index_contents::{index_pages_are_known, relation_of};
 use index_layout::{
     REGULAR, UNSTARTED, a_put_changes_one_slot, an_index_page_has_one_list, free_slot, kind_of,
     the_lowest_free_slot_has_room,
 };
-use engine_pages::PageStore;
 use page_layout::Page;
 use page_store::StoreError;
 
@@ -53,6 +54,8 @@ pub fn put<D: Disk + Drop>(
     ensures kept { OnErr result (Keeps D.told pages.old pages.new) }
     ensures others { LeavesOthers D.told index pages.old pages.new }
     ensures pages { LeavesOtherPages D.told (record { relation = relation_of pages.old.layout index; block = block }) pages.old pages.new }
+    // The change itself isn't sure before the next flush.
+    ensures survives { Survives D.told (λ passed. passed ≡ pages.old.pages) pages.old pages.new }
     ensures at { IfErr result (NamesPage pages.old.layout (record { relation = relation_of pages.old.layout index; block = block })) }
     ensures outcome { Outcome D.told (Untold D.told pages.old) pages.old pages.new result }
 {
@@ -76,6 +79,7 @@ fn put_on<D: Disk + Drop>(
     ensures put { IfOk result (λ slot. Tells D.told pages.old → PutsOn (page_at pages.old.pages place) (page_at pages.new.pages place) slot bytes.now) }
     ensures kept { OnErr result (Keeps D.told pages.old pages.new) }
     ensures others { LeavesOtherPages D.told place pages.old pages.new }
+    ensures survives { Survives D.told (λ passed. passed ≡ pages.old.pages) pages.old pages.new }
     ensures at { IfErr result (NamesPage pages.old.layout place) }
     ensures outcome { Outcome D.told (Untold D.told pages.old) pages.old pages.new result }
 {
@@ -105,6 +109,7 @@ fn opening_at<D: Disk + Drop>(pages: &mut PageStore<D>, place: Place) -> Result<
     requires form { form_of pages.old.layout place.relation ≡ forms.Index }
     ensures opening { IfOk result (λ opening. Tells D.told pages.old → opening ≡ opening_of (page_at pages.old.pages place)) }
     ensures kept { Keeps D.told pages.old pages.new }
+    ensures survives { Survives D.told (λ passed. passed ≡ pages.old.pages) pages.old pages.new }
     ensures at { IfErr result (NamesPage pages.old.layout place) }
     ensures outcome { Outcome D.told (Untold D.told pages.old) pages.old pages.new result }
 {

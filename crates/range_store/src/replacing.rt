@@ -8,6 +8,7 @@ ghost use Rattle.page_store.specs.Forms.{form_of};
 ghost use Rattle.page_store.specs.Keeps.{Keeps, Tells, Untold};
 ghost use Rattle.page_store.specs.Outcome.{NamesPage, Outcome};
 ghost use Rattle.page_store.specs.PageMap.{page_at};
+ghost use Rattle.logged_pages.specs.Survives.{Survives};
 ghost use Rattle.index_layout.specs.IndexPages.{IsIndexPage};
 ghost use Rattle.index_contents.specs.IndexContents.{contents, index_page, relation_of, room_in_place, tuple_on};
 ghost use Rattle.index_contents.specs.IndexChanges.{LeavesOtherPages, LeavesOthers, ReplacesBytes};
@@ -49,6 +50,8 @@ pub fn replace<D: Disk + Drop>(
     ensures kept { OnErr result (Keeps D.told pages.old pages.new) }
     ensures others { LeavesOthers D.told index pages.old pages.new }
     ensures pages { LeavesOtherPages D.told (record { relation = relation_of pages.old.layout index; block = spot.block }) pages.old pages.new }
+    // The change itself isn't sure before the next flush.
+    ensures survives { Survives D.told (λ passed. passed ≡ pages.old.pages) pages.old pages.new }
     ensures at { IfErr result (FaultNamesPlace pages.old.layout (record { relation = relation_of pages.old.layout index; block = spot.block })) }
     ensures outcome { SwapOutcome D.told pages.old pages.new result }
 {
@@ -84,6 +87,7 @@ fn replace_on<D: Disk + Drop>(
     ensures misfit { IfErr result (λ fault. Tells D.told pages.old → MisfitsOn (page_at pages.old.pages place) slot expect.now (length bytes.now) fault) }
     ensures kept { OnErr result (Keeps D.told pages.old pages.new) }
     ensures others { LeavesOtherPages D.told place pages.old pages.new }
+    ensures survives { Survives D.told (λ passed. passed ≡ pages.old.pages) pages.old pages.new }
     ensures at { IfErr result (FaultNamesPlace pages.old.layout place) }
     ensures outcome { SwapOutcome D.told pages.old pages.new result }
 {
@@ -113,6 +117,7 @@ fn misfit_at<D: Disk + Drop>(
     ensures some { IfOk result (λ fault. (f : SwapFault) → fault ≡ Some f → Tells D.told pages.old → MisfitsOn (page_at pages.old.pages place) slot expect.now need f) }
     ensures misfit { IfOk result (λ fault. (f : SwapFault) → fault ≡ Some f → IsMisfit f) }
     ensures kept { Keeps D.told pages.old pages.new }
+    ensures survives { Survives D.told (λ passed. passed ≡ pages.old.pages) pages.old pages.new }
     ensures at { IfErr result (NamesPage pages.old.layout place) }
     ensures outcome { Outcome D.told (Untold D.told pages.old) pages.old pages.new result }
 {

@@ -7,6 +7,7 @@ ghost use Rattle.page_store.specs.Forms.{form_of};
 ghost use Rattle.page_store.specs.Keeps.{Keeps, Tells, Untold};
 ghost use Rattle.page_store.specs.Outcome.{IsReopen, NamesPage, Outcome, Refused};
 ghost use Rattle.page_store.specs.PageMap.{page_at};
+ghost use Rattle.logged_pages.specs.Survives.{Survives};
 ghost use Rattle.index_contents.specs.IndexContents.{contents, relation_of};
 ghost use Rattle.index_contents.specs.IndexChanges.{LeavesOtherPages, LeavesOthers, SetsEntry};
 ghost use Rattle.index_layout.specs.declared.format.TheConstants.{MAP_ENTRIES};
@@ -35,6 +36,7 @@ pub fn entry<D: Disk + Drop>(
     requires index { index < length pages.old.layout.schema.indexes }
     ensures entry { IfOk result (λ entry. Tells D.told pages.old → (contents pages.old.layout pages.old.pages index).entry range ≡ entry) }
     ensures kept { Keeps D.told pages.old pages.new }
+    ensures survives { Survives D.told (λ passed. passed ≡ pages.old.pages) pages.old pages.new }
     ensures at { IfErr result (NamesPage pages.old.layout (map_place pages.old.layout index range)) }
     ensures reopen { IfErr result (λ error. pages.old.layout.sizes.index_blocks ≤ map_page_of range → IsReopen error) }
     ensures outcome { Outcome D.told (Untold D.told pages.old) pages.old pages.new result }
@@ -78,6 +80,8 @@ pub fn set<D: Disk + Drop>(
     ensures others { LeavesOthers D.told index pages.old pages.new }
     ensures page { OnOk result (Tells D.told pages.old → SetsOnPage range spot (page_at pages.old.pages (map_place pages.old.layout index range)) (page_at pages.new.pages (map_place pages.old.layout index range))) }
     ensures pages { LeavesOtherPages D.told (map_place pages.old.layout index range) pages.old pages.new }
+    // The change itself isn't sure before the next flush.
+    ensures survives { Survives D.told (λ passed. passed ≡ pages.old.pages) pages.old pages.new }
     ensures at { IfErr result (FaultNamesMap pages.old.layout index range) }
     ensures outcome { SetOutcome D.told pages.old pages.new result }
 {
@@ -110,6 +114,7 @@ fn set_found<D: Disk + Drop>(
     ensures others { LeavesOthers D.told index pages.old pages.new }
     ensures page { OnOk result (Tells D.told pages.old → SetsOnPage range spot (page_at pages.old.pages (map_place pages.old.layout index range)) (page_at pages.new.pages (map_place pages.old.layout index range))) }
     ensures pages { LeavesOtherPages D.told (map_place pages.old.layout index range) pages.old pages.new }
+    ensures survives { Survives D.told (λ passed. passed ≡ pages.old.pages) pages.old pages.new }
     ensures at { IfErr result (NamesMap pages.old.layout index range) }
     ensures outcome { Outcome D.told (Untold D.told pages.old) pages.old pages.new result }
 {

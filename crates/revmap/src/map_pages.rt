@@ -7,6 +7,7 @@ ghost use Rattle.page_store.specs.Forms.{form_of};
 ghost use Rattle.page_store.specs.Keeps.{Keeps, Tells, Untold};
 ghost use Rattle.page_store.specs.Outcome.{NamesPage, Outcome};
 ghost use Rattle.page_store.specs.PageMap.{block_at, page_at};
+ghost use Rattle.logged_pages.specs.Survives.{Survives};
 ghost use Rattle.index_layout.specs.declared.format.TheConstants.{MAP, MAP_ENTRIES};
 ghost use Rattle.index_layout.specs.IndexPages.{IsMap};
 ghost use Rattle.index_layout.specs.IndexReading.{entries_of};
@@ -30,6 +31,7 @@ pub(crate) fn entry_at<D: Disk + Drop>(
     requires entry { entry < MAP_ENTRIES }
     ensures entry { IfOk result (λ spot. Tells D.told pages.old → spot ≡ slice_index_or (entries_of (page_at pages.old.pages place)) entry None) }
     ensures kept { Keeps D.told pages.old pages.new }
+    ensures survives { Survives D.told (λ passed. passed ≡ pages.old.pages) pages.old pages.new }
     ensures at { IfErr result (NamesPage pages.old.layout place) }
     ensures outcome { Outcome D.told (Untold D.told pages.old) pages.old pages.new result }
 {
@@ -54,6 +56,7 @@ pub(crate) fn set_entry<D: Disk + Drop>(
     ensures set { OnOk result (Tells D.told pages.old → IsMap (set (entries_of (page_at pages.old.pages place)) entry spot) (page_at pages.new.pages place)) }
     ensures kept { OnErr result (Keeps D.told pages.old pages.new) }
     ensures others { LeavesOtherPages D.told place pages.old pages.new }
+    ensures survives { Survives D.told (λ passed. passed ≡ pages.old.pages) pages.old pages.new }
     ensures at { IfErr result (NamesPage pages.old.layout place) }
     ensures outcome { Outcome D.told (Untold D.told pages.old) pages.old pages.new result }
 {

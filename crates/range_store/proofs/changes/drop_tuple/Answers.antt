@@ -8,7 +8,7 @@ pub change-requires-clause-fits : goal.change-requires-clause-fits
 change-requires-clause-fits g c = λ tells.
     let store = c.args.pages.now in
     let small : c.args.slot < 65536 = omega arith in
-    drop_fits store.layout c.args.place (page_at store.pages c.args.place) c.args.slot c.to_be_bytes-slots.result c.to_be_bytes-slots.ensures c.requires.form (c.known.ensures.checked c.args.place) (c.requires.regular tells) small (c.requires.slot tells)
+    drop_fits store.layout c.args.place (page_at store.pages c.args.place) c.args.slot c.to_be_bytes-slots.result c.to_be_bytes-slots.ensures c.requires.form (c.known.ensures.checked tells c.args.place) (c.requires.regular tells) small (c.requires.slot tells)
 
 pub returns-clause-dropped : goal.returns-clause-dropped
 returns-clause-dropped g c =

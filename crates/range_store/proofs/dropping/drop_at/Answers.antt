@@ -7,6 +7,7 @@ use Rattle.page_store.specs.Outcome.{NamesPage}
 use Rattle.index_contents.specs.Calls.{past_the_limit}
 use Rattle.index_contents.specs.IndexChanges.{LeavesOtherPages}
 use Rattle.index_contents.specs.PageLaws.{leaves_others}
+use Rattle.engine_pages.specs.SurvivesLaws.{survives_still}
 use Rattle.range_store.specs.PageTuples.{StaysWithoutTuples}
 use Rattle.range_store.proofs.Spots.{drops_at, none_changes, none_drops, none_past}
 use Rattle.range_store.proofs.dropping.drop_at.Goals as goal
@@ -52,3 +53,9 @@ pub returns-in-Ok-drop_on-clause-free : goal.returns-in-Ok-drop_on-clause-free
 returns-in-Ok-drop_on-clause-free g c = λ tells none.
     let store = c.args.pages.now in
     none_changes store.layout store.pages c.drop_on.new.pages.pages c.args.index c.relation_of-relation.result c.args.spot (c.relation_of-relation.ensures.number ∙ ap (λ (l : DiskLayout). relation_of l c.args.index) c.layout.ensures) (c.in-Ok-drop_on.ensures.dropped tells) none
+
+pub returns-in-Ok-clause-survives : goal.returns-in-Ok-clause-survives
+returns-in-Ok-clause-survives g c = survives_still g.D.Disk.told c.args.pages.now c.ready.ensures.stays
+
+pub returns-in-Err-clause-survives : goal.returns-in-Err-clause-survives
+returns-in-Err-clause-survives g c = survives_still g.D.Disk.told c.args.pages.now c.ready.ensures.stays

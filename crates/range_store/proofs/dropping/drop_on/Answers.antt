@@ -4,6 +4,7 @@ use Rattle.page_store.specs.PageMap.{PageMap, page_at}
 use Rattle.index_layout.specs.IndexPages.{IsRegular}
 use Rattle.index_layout.specs.IndexReading.{is_regular, slots_of}
 use Rattle.index_layout.specs.IndexWrites.{trimmed}
+use Rattle.engine_pages.specs.SurvivesLaws.{survives_on}
 use Rattle.range_store.proofs.Found.{has_tuples, slot_below}
 use Rattle.range_store.proofs.PageWrites.{drops_on}
 use Rattle.range_store.proofs.dropping.drop_on.Goals as goal
@@ -33,3 +34,9 @@ drop_tuple-requires-clause-slot g c = λ tells_now.
     let tells = sym kept.leaves.tells ∙ tells_now in
     let old = page_at c.args.pages.now.pages c.args.place in
     subst (λ (p : List ℕ). c.args.slot < length (slots_of p)) (sym (ap (λ (pages : PageMap). page_at pages c.args.place) (kept.pages tells))) (slot_below old c.args.slot (c.in-Ok-true.ensures.there tells c.in-Ok-true.field-0-test))
+
+pub returns-in-Ok-clause-survives : goal.returns-in-Ok-clause-survives
+returns-in-Ok-clause-survives g c = survives_on g.D.Disk.told c.args.pages.now c.has_tuple.new.pages c.drop_tuple.new.pages c.has_tuple.ensures.kept c.has_tuple.ensures.survives c.drop_tuple.ensures.survives
+
+pub returns-in-Err-drop_tuple-clause-survives : goal.returns-in-Err-drop_tuple-clause-survives
+returns-in-Err-drop_tuple-clause-survives g c = survives_on g.D.Disk.told c.args.pages.now c.has_tuple.new.pages c.drop_tuple.new.pages c.has_tuple.ensures.kept c.has_tuple.ensures.survives c.drop_tuple.ensures.survives

@@ -1,5 +1,6 @@
 use Rattle.std.proofs.Common.{length, ap, sym, ◌∙◌}
 use Rattle.page_store.specs.PageMap.{PageMap, page_at}
+use Rattle.engine_pages.specs.SurvivesLaws.{survives_on}
 use Rattle.range_store.proofs.Onward.{closed_takes_none, new_page_is, puts_after}
 use Rattle.range_store.proofs.PageWrites.{starts_on}
 use Rattle.range_store.proofs.putting.put_on.Goals as goal
@@ -24,3 +25,15 @@ returns-in-Ok-Closed-clause-outcome g c =
     let store = c.args.pages.now in
     let was = c.in-Ok-Closed.ensures.outcome in
     (was.0, was.1, was.2, λ tells. closed_takes_none (page_at store.pages c.args.place) (length c.args.bytes.now) (sym c.in-Ok-Closed.field-0-is ∙ c.in-Ok-Closed.ensures.opening tells) (c.requires.room tells))
+
+pub returns-in-Ok-clause-survives : goal.returns-in-Ok-clause-survives
+returns-in-Ok-clause-survives g c = survives_on g.D.Disk.told c.args.pages.now c.opening_at.new.pages c.put_tuple.new.pages c.opening_at.ensures.kept c.opening_at.ensures.survives c.put_tuple.ensures.survives
+
+pub returns-in-Err-put_tuple-clause-survives : goal.returns-in-Err-put_tuple-clause-survives
+returns-in-Err-put_tuple-clause-survives g c = survives_on g.D.Disk.told c.args.pages.now c.opening_at.new.pages c.put_tuple.new.pages c.opening_at.ensures.kept c.opening_at.ensures.survives c.put_tuple.ensures.survives
+
+pub returns-in-Ok-start_with-clause-survives : goal.returns-in-Ok-start_with-clause-survives
+returns-in-Ok-start_with-clause-survives g c = survives_on g.D.Disk.told c.args.pages.now c.opening_at.new.pages c.start_with.new.pages c.opening_at.ensures.kept c.opening_at.ensures.survives c.start_with.ensures.survives
+
+pub returns-in-Err-start_with-clause-survives : goal.returns-in-Err-start_with-clause-survives
+returns-in-Err-start_with-clause-survives g c = survives_on g.D.Disk.told c.args.pages.now c.opening_at.new.pages c.start_with.new.pages c.opening_at.ensures.kept c.opening_at.ensures.survives c.start_with.ensures.survives

@@ -10,6 +10,7 @@ use Rattle.page_store.specs.Outcome.{NamesPage}
 use Rattle.index_contents.specs.Calls.{past_the_limit}
 use Rattle.index_contents.specs.IndexContents.{tuple_on}
 use Rattle.index_contents.specs.Reading.{tuple_there}
+use Rattle.engine_pages.specs.SurvivesLaws.{survives_still}
 use Rattle.range_store.proofs.Spots.{none_past}
 use Rattle.range_store.proofs.reading.tuple_at.Goals as goal
 
@@ -43,3 +44,9 @@ pub returns-in-Ok-read-clause-within : goal.returns-in-Ok-read-clause-within
 returns-in-Ok-read-clause-within g c = λ is.
     let blocks = c.sizes.ensures ∙ ap (λ (l : DiskLayout). l.sizes) c.layout-2.ensures in
     omega (arith, c.if-block-sizes.false, ap (λ (s : Sizes). s.index_blocks) blocks)
+
+pub returns-in-Ok-clause-survives : goal.returns-in-Ok-clause-survives
+returns-in-Ok-clause-survives g c = survives_still g.D.Disk.told c.args.pages.now c.ready.ensures.stays
+
+pub returns-in-Err-clause-survives : goal.returns-in-Err-clause-survives
+returns-in-Err-clause-survives g c = survives_still g.D.Disk.told c.args.pages.now c.ready.ensures.stays

@@ -7,6 +7,7 @@ use Rattle.std.proofs.lemmas.Option.{none-some}
 use Rattle.index_contents.specs.Calls.{past_the_limit}
 use Rattle.index_contents.specs.IndexChanges.{LeavesOtherPages}
 use Rattle.index_contents.specs.PageLaws.{leaves_others}
+use Rattle.engine_pages.specs.SurvivesLaws.{survives_still}
 use Rattle.range_store.specs.Tuples.{FaultNamesPlace, size_of}
 use Rattle.range_store.proofs.Found.{nothing_past}
 use Rattle.range_store.proofs.Misfits.{stands_within}
@@ -60,3 +61,9 @@ returns-in-Err-replace_on-clause-full g c =
     let blocks = c.sizes.ensures ∙ ap (λ (l : DiskLayout). l.sizes) c.layout-2.ensures in
     let within : c.args.spot.block < c.args.pages.now.layout.sizes.index_blocks = omega (arith, c.if-block-sizes.false, ap (λ (s : Sizes). s.index_blocks) blocks) in
     stands_within c.args.pages.now.layout.sizes.index_blocks c.args.spot.block c.in-Err-replace_on.fault within
+
+pub returns-in-Ok-clause-survives : goal.returns-in-Ok-clause-survives
+returns-in-Ok-clause-survives g c = survives_still g.D.Disk.told c.args.pages.now c.ready.ensures.stays
+
+pub returns-in-Err-clause-survives : goal.returns-in-Err-clause-survives
+returns-in-Err-clause-survives g c = survives_still g.D.Disk.told c.args.pages.now c.ready.ensures.stays

@@ -4,6 +4,7 @@ use Rattle.page_store.specs.PageMap.{PageMap, page_at}
 use Rattle.index_layout.specs.declared.format.TheConstants.{REGULAR}
 use Rattle.index_layout.specs.IndexPages.{IsRegular}
 use Rattle.index_layout.specs.IndexReading.{slots_of}
+use Rattle.engine_pages.specs.SurvivesLaws.{survives_on}
 use Rattle.range_store.proofs.Fitting.{can_replace}
 use Rattle.range_store.proofs.Misfits.{misfit_names_none, misfit_told}
 use Rattle.range_store.proofs.PageWrites.{replaces_on}
@@ -34,3 +35,9 @@ returns-in-Ok-Some-clause-at g c = misfit_names_none c.args.pages.now.layout c.a
 pub returns-in-Ok-Some-clause-outcome : goal.returns-in-Ok-Some-clause-outcome
 returns-in-Ok-Some-clause-outcome g c =
     misfit_told (Unit {0}) _ g.D.Disk.told c.args.pages.now c.misfit_at.new.pages c.in-Ok-Some.field-0 c.in-Ok-Some.fault (c.in-Ok-Some.ensures.misfit c.in-Ok-Some.fault c.in-Ok-Some.field-0-is) c.in-Ok-Some.ensures.outcome
+
+pub returns-in-Ok-clause-survives : goal.returns-in-Ok-clause-survives
+returns-in-Ok-clause-survives g c = survives_on g.D.Disk.told c.args.pages.now c.misfit_at.new.pages c.replace_tuple.new.pages c.misfit_at.ensures.kept c.misfit_at.ensures.survives c.replace_tuple.ensures.survives
+
+pub returns-in-Err-replace_tuple-clause-survives : goal.returns-in-Err-replace_tuple-clause-survives
+returns-in-Err-replace_tuple-clause-survives g c = survives_on g.D.Disk.told c.args.pages.now c.misfit_at.new.pages c.replace_tuple.new.pages c.misfit_at.ensures.kept c.misfit_at.ensures.survives c.replace_tuple.ensures.survives

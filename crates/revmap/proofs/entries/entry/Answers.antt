@@ -6,6 +6,7 @@ use Rattle.coverage.specs.IndexView.{map_page_of}
 use Rattle.index_contents.specs.IndexContents.{relation_of}
 use Rattle.index_contents.specs.Calls.{past_the_limit}
 use Rattle.index_contents.specs.Reading.{uncounted}
+use Rattle.engine_pages.specs.SurvivesLaws.{survives_still}
 use Rattle.revmap.proofs.RangeEntries.{entry_past, entry_read}
 use Rattle.revmap.proofs.entries.entry.Goals as goal
 
@@ -34,3 +35,12 @@ returns-in-Ok-entry_at-clause-entry g c = λ tells.
     let store = c.args.pages.now in
     let at = c.relation_of-relation.ensures.number ∙ ap (λ (l : DiskLayout). relation_of l c.args.index) c.layout.ensures in
     entry_read store.layout store.pages c.args.index c.args.range c.relation_of-relation.result c.map_page_of-block.result c.entry_of.result c.map_pages.result c.in-Ok-entry_at.entry at c.map_page_of-block.ensures c.entry_of.ensures.number (c.map_pages.ensures.counted tells) c.if-block-map_pages.false (c.in-Ok-entry_at.ensures.entry tells)
+
+pub returns-in-Err-clause-survives : goal.returns-in-Err-clause-survives
+returns-in-Err-clause-survives g c = survives_still g.D.Disk.told c.args.pages.now c.ready.ensures.stays
+
+pub returns-then-block-map_pages-clause-survives : goal.returns-then-block-map_pages-clause-survives
+returns-then-block-map_pages-clause-survives g c = survives_still g.D.Disk.told c.args.pages.now c.known.ensures.stays
+
+pub returns-then-block-sizes-clause-survives : goal.returns-then-block-sizes-clause-survives
+returns-then-block-sizes-clause-survives g c = survives_still g.D.Disk.told c.args.pages.now c.known.ensures.stays

@@ -5,6 +5,7 @@ use Rattle.page_store.specs.PageMap.{block_limit}
 use Rattle.index_contents.specs.IndexContents.{relation_of}
 use Rattle.index_contents.specs.Calls.{past_the_limit}
 use Rattle.index_contents.specs.PageLaws.{leaves_others}
+use Rattle.engine_pages.specs.SurvivesLaws.{survives_still}
 use Rattle.revmap.proofs.RangeEntries.{holds_map, no_map_there, sets_range}
 use Rattle.revmap.proofs.entries.set_found.Goals as goal
 
@@ -31,3 +32,6 @@ returns-in-Ok-clause-others g c = leaves_others g.D.Disk.told c.args.index (reco
 
 pub returns-in-Err-clause-others : goal.returns-in-Err-clause-others
 returns-in-Err-clause-others g c = leaves_others g.D.Disk.told c.args.index (record { relation = c.relation_of-relation.result; block = c.map_page_of-block.result }) c.args.pages.now c.set_entry.new.pages (c.relation_of-relation.ensures.number ∙ ap (λ (l : DiskLayout). relation_of l c.args.index) c.layout.ensures) c.set_entry.ensures.others
+
+pub returns-then-block-sizes-clause-survives : goal.returns-then-block-sizes-clause-survives
+returns-then-block-sizes-clause-survives g c = survives_still g.D.Disk.told c.args.pages.now c.known.ensures.stays
