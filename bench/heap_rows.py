@@ -12,7 +12,7 @@ import tempfile
 
 TOP = os.path.dirname(os.path.dirname(os.path.abspath(__file__)))
 ROWS = 1_000_000
-NEEDED = "heap_bench: block_model store_layout disk_trait page_layout page_store heap_rows\n"
+NEEDED = "heap_bench: block_model store_layout disk_trait page_layout page_store engine_pages heap_rows\n"
 
 MAIN = """//! Times a million puts and the reads of their rows.
 #![tactic(auto)]
@@ -23,8 +23,8 @@ ghost use Rattle.heap_rows.specs.Heaps.{kinds_at, slots_a_page};
 
 use block_model::{Column, Kind, Name, RowId, Schema, Sequence, Sizes, Table, Value};
 use disk_trait::SteadyDisk;
+use engine_pages::PageStore;
 use heap_rows::{PageRows, put, rows_of};
-use page_store::PageStore;
 use std::alloc::Global;
 use std::io;
 use std::marker::Model;

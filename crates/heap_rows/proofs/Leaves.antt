@@ -15,7 +15,6 @@ use Rattle.page_store.specs.Forms.{form_of}
 use Rattle.page_store.specs.Keeps.{Keeps, Leaves, Tells}
 use Rattle.page_store.specs.PageMap.{PageMap, View, page_at}
 use Rattle.wal_record.specs.Changes.{LoggedChange, RowMark}
-use Rattle.logged_pages.specs.Survives.{Survives, survives_weaker}
 use Rattle.heap_rows.specs.Heaps.{relation_of, form_at}
 use Rattle.heap_rows.specs.HeapBlocks.{HasBlocks, slots_of}
 use Rattle.heap_rows.specs.LeavesOthers.{LeavesOtherPages, LeavesOthers}
@@ -64,7 +63,3 @@ mark_blocks {layout} {table} {old} {blocks} new has relation deleter spot row nu
     let done : Changed layout place (change ∷ []) old new = subst (λ (r : ℕ). Changed layout (record { relation = r; block = spot.block }) (RowMark (record { relation = r; block = spot.block }) spot.slot deleter ∷ []) old new) number changed in
     let means = subst (λ (form : Form). Means form (page_at old place) change (page_at new place)) found (redone_once (form_of layout (relation_of table)) (page_at old place) change (page_at new place) done.redone) in
     set-block has spot.block (set (slots_of blocks spot.block) spot.slot (Some (marked row deleter))) there.0 (λ other apart. done.others (record { relation = relation_of table; block = other }) (λ same. apart (ap (λ (p : Place). p.block) same))) (means (slots_of blocks spot.block) row (has.started spot.block there.0) there.1)
-
--- a call that makes no change of the store passes its pages alone
-pub stays_so : {D : Type 0} (told : D → Told) (store : View D) → Survives told (λ pages. ⊥) store store → Survives told (λ pages. pages ≡ store.pages) store store
-stays_so told store stays = survives_weaker told (λ pages. ⊥) store store stays (λ pages. pages ≡ store.pages) (λ tells pages none. absurd none)
