@@ -112,7 +112,8 @@ impl<D: Disk + Drop> Model for HeapVersions<D> {
 }
 
 impl<D: Disk + Drop> HeapVersions<D> {
-    /// No rows and no transactions, on the pages of this layout in memory alone, beside a disk that no call touches. No page is started.
+    /// No rows and no transactions, on the pages of this layout in memory alone, beside a disk that no call touches. No page is
+    /// started.
     pub fn plain(alloc: Global, disk: D, layout: Layout) -> Result<HeapVersions<D>, NoMemory>
         requires nothing { LeavesNothing (D.told disk) }
         ensures statuses { IfOk result (λ v. v.statuses ≡ Status.Unused ∷ []) }
