@@ -23,8 +23,8 @@ ghost use Rattle.heap_rows.specs.Heaps.{kinds_at, slots_a_page};
 
 use block_model::{Column, Kind, Name, RowId, Schema, Sequence, Sizes, Table, Value};
 use disk_trait::SteadyDisk;
-use heap_rows::{PageRows, put, rows_of};
 use engine_pages::PageStore;
+use heap_rows::{PageRows, put, rows_of};
 use std::alloc::Global;
 use std::io;
 use std::marker::Model;

@@ -2,7 +2,7 @@
 //! comes when, and that what it writes are the texts of the script's lines as if each session worked on its own copy of the
 //! tables (specs/ScriptTexts). It stands on the words of the command line (command_words, schema_words), the lines
 //! (query_words), their texts (reply_texts), the loop over them (script_run) and the store of sessions (session_core). Rows stand
-//! on heap pages in memory, over a disk that never fails and is never written, so they are gone when the run ends.
+//! on heap pages in memory alone, beside a disk that never fails and is never written, so they are gone when the run ends.
 #![tactic(auto)]
 
 mod answers;

@@ -10,7 +10,7 @@ use session_core::Store;
 use std::alloc::Global;
 use store_layout::Layout;
 
-/// The store that the sessions of a script work on. It stands on a disk that never fails.
+/// The store that the sessions of a script work on. Its pages stand in memory, beside a disk that never fails.
 #[derive(Drop)]
 pub struct Sessions {
     pub alloc: Global,

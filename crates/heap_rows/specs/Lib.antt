@@ -6,3 +6,4 @@ pub mod StoredRows
 pub mod RoomOnPage
 pub mod LeavesOthers
 pub mod PutAnswers
+pub mod RowPut

@@ -2,8 +2,9 @@
 //! once, and sees a table as its blocks, each a list of slots (specs/HeapBlocks.antt). `put` takes the lowest free slot of
 //! the lowest block that has one, else the first slot of the next block; it is full exactly where each slot of each block
 //! that the table may have is in use. `mark` sets the deleter of a row, `rows_of` reads the rows of a block without taking
-//! memory, and `blocks` says how many there are. A call that answers an error leaves every page as it was. The crate stands
-//! on page_store.
+//! memory, and `blocks` says how many there are. A call that answers an error leaves every page as it was. At every moment of
+//! a call, what a crash may leave opens to the pages from before it: a row or a mark is sure once the store is flushed. The
+//! crate stands on engine_pages.
 #![tactic(auto)]
 
 mod heap;

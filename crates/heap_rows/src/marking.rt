@@ -1,8 +1,9 @@
 //! Marking a row as deleted.
 
-ghost use Rattle.std.specs.Prelude.{◌<◌, length, IfErr, OnOk, OnErr};
+ghost use Rattle.std.specs.Prelude.{◌≡◌, ◌<◌, length, IfErr, OnOk, OnErr};
 ghost use Rattle.page_store.specs.Keeps.{Keeps, Tells, Untold};
 ghost use Rattle.page_store.specs.Outcome.{NamesPage, Outcome};
+ghost use Rattle.logged_pages.specs.Survives.{Survives};
 ghost use Rattle.heap_rows.specs.Heaps.{relation_of};
 ghost use Rattle.heap_rows.specs.HeapBlocks.{OfBlocks};
 ghost use Rattle.heap_rows.specs.LeavesOthers.{LeavesOthers};
@@ -31,6 +32,8 @@ pub fn mark<D: Disk + Drop>(
     ensures slots { OnOk result (OfBlocks D.told pages.old table (MarksSlot spot deleter)) }
     ensures kept { OnErr result (Keeps D.told pages.old pages.new) }
     ensures others { LeavesOthers D.told table pages.old pages.new }
+    // The mark isn't sure before the next flush.
+    ensures survives { Survives D.told (λ now. now ≡ pages.old.pages) pages.old pages.new }
     ensures at { IfErr result (NamesPage pages.old.layout (record { relation = relation_of table; block = spot.block })) }
     ensures outcome { Outcome D.told (Untold D.told pages.old) pages.old pages.new result }
 {

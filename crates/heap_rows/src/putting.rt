@@ -10,13 +10,13 @@ ghost use Rattle.page_store.specs.Forms.{form_of};
 ghost use Rattle.page_store.specs.Keeps.{Keeps, Tells, Untold};
 ghost use Rattle.page_store.specs.Outcome.{NamesPage, Outcome};
 ghost use Rattle.page_store.specs.PageMap.{page_at};
-ghost use Rattle.heap_rows.specs.Heaps.{kinds_at, slots_a_page};
-ghost use Rattle.heap_rows.specs.HeapBlocks.{OfBlocks};
-ghost use Rattle.heap_rows.specs.IsTableFull.{IsTableFull};
+ghost use Rattle.logged_pages.specs.Survives.{Survives};
+ghost use Rattle.heap_rows.specs.Heaps.{kinds_at};
 ghost use Rattle.heap_rows.specs.LeavesOthers.{LeavesOtherPages, LeavesOthers};
 ghost use Rattle.heap_rows.specs.PutAnswers.{NamesTable, PutOutcome, SaysFull};
 ghost use Rattle.heap_rows.specs.RoomOnPage.{PageTakesRow, PutsBytesAt};
-ghost use Rattle.heap_rows.specs.RowPlaces.{FillsSlot, TakesRowAt, new_row, place_for};
+ghost use Rattle.heap_rows.specs.RowPlaces.{new_row};
+ghost use Rattle.heap_rows.specs.RowPut.{FillsFreeSlot, HasNoPlace, HasPlace, IsNextSpot, IsSpotOf, TakesRow};
 
 use crate::heap::{known, relation_of, slots_in_all, write_new};
 use block_model::{Place, RowId, Spot, Value};
@@ -38,15 +38,16 @@ pub fn put<D: Disk + Drop>(
 ) -> Result<Spot, MachineFault>
     requires table { table < length pages.old.layout.schema.tables }
     requires kinds { HaveKinds (kinds_at pages.old.layout table) values.now }
-    // By the blocks that the table has.
-    ensures place { IfOk result (λ spot. OfBlocks D.told pages.old table (λ blocks. place_for pages.old.layout.sizes.heap_blocks blocks ≡ Some spot)) }
-    ensures put { IfOk result (λ spot. OfBlocks D.told pages.old table (TakesRowAt pages.old.layout pages.new.pages table spot (new_row id values.now))) }
-    ensures slots { IfOk result (λ spot. OfBlocks D.told pages.old table (FillsSlot (slots_a_page pages.old.layout table) spot (new_row id values.now))) }
-    ensures full { IfErr result (λ fault. SaysFull fault → OfBlocks D.told pages.old table (IsTableFull pages.old.layout.sizes.heap_blocks)) }
-    ensures room { OnOk result (OfBlocks D.told pages.old table (λ blocks. IsTableFull pages.old.layout.sizes.heap_blocks blocks → ⊥)) }
+    ensures place { IfOk result (IsNextSpot D.told pages.old table) }
+    ensures put { IfOk result (TakesRow D.told table (new_row id values.now) pages.old pages.new) }
+    ensures slots { IfOk result (FillsFreeSlot D.told pages.old table (new_row id values.now)) }
+    ensures full { IfErr result (λ fault. SaysFull fault → HasNoPlace D.told pages.old table) }
+    ensures room { OnOk result (HasPlace D.told pages.old table) }
     ensures kept { OnErr result (Keeps D.told pages.old pages.new) }
-    ensures within { IfOk result (λ spot. (spot.block < pages.old.layout.sizes.heap_blocks) × (spot.slot < slots_a_page pages.old.layout table)) }
+    ensures within { IfOk result (IsSpotOf pages.old.layout table) }
     ensures others { LeavesOthers D.told table pages.old pages.new }
+    // The row isn't sure before the next flush.
+    ensures survives { Survives D.told (λ now. now ≡ pages.old.pages) pages.old pages.new }
     ensures names { IfErr result (NamesTable pages.old.layout table) }
     ensures outcome { PutOutcome D.told pages.old pages.new result }
 {
@@ -98,6 +99,7 @@ fn put_bytes<D: Disk + Drop>(
     ensures within { IfOk result (HasSlot (form_of pages.old.layout place.relation)) }
     ensures kept { OnErr result (Keeps D.told pages.old pages.new) }
     ensures others { LeavesOtherPages D.told place pages.old pages.new }
+    ensures survives { Survives D.told (λ now. now ≡ pages.old.pages) pages.old pages.new }
     ensures at { IfErr result (NamesPage pages.old.layout place) }
     ensures outcome { Outcome D.told (Untold D.told pages.old) pages.old pages.new result }
 {

@@ -7,6 +7,7 @@ ghost use Rattle.page_layout.specs.PageWrites.{RowHasBytes};
 ghost use Rattle.page_layout.specs.RowBytes.{StoredRow};
 ghost use Rattle.page_store.specs.Keeps.{Keeps, Untold};
 ghost use Rattle.page_store.specs.Outcome.{NamesPage, Outcome};
+ghost use Rattle.logged_pages.specs.Survives.{Survives};
 ghost use Rattle.heap_rows.specs.Heaps.{kinds_at, relation_of, slots_a_page};
 ghost use Rattle.heap_rows.specs.HeapBlocks.{OfBlocks, slots_of};
 ghost use Rattle.heap_rows.specs.StoredRows.{AreRowsOf, stored_in, stored_rows};
@@ -37,6 +38,7 @@ pub fn rows_of<D: Disk + Drop>(
     ensures same { OnErr result (out.new ≡ out.old) }
     ensures room { out.new.room ≡ out.old.room }
     ensures kept { Keeps D.told pages.old pages.new }
+    ensures survives { Survives D.told (λ now. now ≡ pages.old.pages) pages.old pages.new }
     ensures at { IfErr result (NamesPage pages.old.layout (record { relation = relation_of table; block = block })) }
     ensures outcome { Outcome D.told (Untold D.told pages.old) pages.old pages.new result }
 {

@@ -16,10 +16,10 @@ ghost use Rattle.page_store.specs.PageMap.{page_at};
 ghost use Rattle.engine_pages.specs.Kinds.{LeavesNothing};
 ghost use Rattle.heap_rows.specs.Heaps.{kinds_at, relation_of, slots_a_page};
 ghost use Rattle.heap_rows.specs.HeapBlocks.{OfBlocks};
-ghost use Rattle.heap_rows.specs.IsTableFull.{IsTableFull};
 ghost use Rattle.heap_rows.specs.LeavesOthers.{LeavesOthers};
 ghost use Rattle.heap_rows.specs.PutAnswers.{NamesTable, SaysFull};
-ghost use Rattle.heap_rows.specs.RowPlaces.{FillsSlot, MarksRow, MarksSlot, TakesRowAt, new_row, place_for};
+ghost use Rattle.heap_rows.specs.RowPlaces.{MarksRow, MarksSlot, new_row};
+ghost use Rattle.heap_rows.specs.RowPut.{FillsFreeSlot, HasNoPlace, HasPlace, IsNextSpot, IsSpotOf, TakesRow};
 ghost use Rattle.row_versions.specs.VersionsState.{HasTransaction, StandAtTheirIds, standing_of};
 ghost use Rattle.row_versions.specs.declared.standing.Standing.TheVariants as standings;
 ghost use Rattle.row_versions.specs.declared.table.Version.{Version};
@@ -112,7 +112,8 @@ impl<D: Disk + Drop> Model for HeapVersions<D> {
 }
 
 impl<D: Disk + Drop> HeapVersions<D> {
-    /// No rows and no transactions, on the pages of this layout in memory alone, beside a disk that no call touches. No page is started.
+    /// No rows and no transactions, on the pages of this layout in memory alone, beside a disk that no call touches. No page is
+    /// started.
     pub fn plain(alloc: Global, disk: D, layout: Layout) -> Result<HeapVersions<D>, NoMemory>
         requires nothing { LeavesNothing (D.told disk) }
         ensures statuses { IfOk result (λ v. v.statuses ≡ Status.Unused ∷ []) }
@@ -229,16 +230,15 @@ impl<D: Disk + Drop> HeapVersions<D> {
         requires kinds { HaveKinds (kinds_at self.old.store.layout table) values.now }
         ensures statuses { self.new.statuses ≡ self.old.statuses }
         ensures database { IfOk result (λ placed. Tells D.told self.old.store → effect self.old.database (request_entry session table (requests.Put values.now)) ≡ (self.new.database, Inserted placed.id)) }
-        // By the blocks that the table has.
-        ensures place { IfOk result (λ placed. OfBlocks D.told self.old.store table (λ blocks. place_for self.old.store.layout.sizes.heap_blocks blocks ≡ Some placed.spot)) }
-        ensures put { IfOk result (λ placed. OfBlocks D.told self.old.store table (TakesRowAt self.old.store.layout self.new.store.pages table placed.spot (new_row placed.id values.now))) }
-        ensures slots { IfOk result (λ placed. OfBlocks D.told self.old.store table (FillsSlot (slots_a_page self.old.store.layout table) placed.spot (new_row placed.id values.now))) }
-        ensures full { IfErr result (λ fault. SaysFull fault → OfBlocks D.told self.old.store table (IsTableFull self.old.store.layout.sizes.heap_blocks)) }
-        ensures free { OnOk result (OfBlocks D.told self.old.store table (λ blocks. IsTableFull self.old.store.layout.sizes.heap_blocks blocks → ⊥)) }
+        ensures place { IfOk result (λ placed. IsNextSpot D.told self.old.store table placed.spot) }
+        ensures put { IfOk result (λ placed. TakesRow D.told table (new_row placed.id values.now) self.old.store self.new.store placed.spot) }
+        ensures slots { IfOk result (λ placed. FillsFreeSlot D.told self.old.store table (new_row placed.id values.now) placed.spot) }
+        ensures full { IfErr result (λ fault. SaysFull fault → HasNoPlace D.told self.old.store table) }
+        ensures free { OnOk result (HasPlace D.told self.old.store table) }
         ensures stand { StandAlike self.old.database self.new.database }
         ensures counted { IfErr result (λ fault. Tells D.told self.old.store → TellsItsRows self.old.store.layout self.old.store.pages table fault) }
         ensures room_left { OnOk result (Tells D.told self.old.store → length (versions_of_table self.old.store.layout self.old.store.pages table) < self.old.store.layout.sizes.heap_blocks * slots_a_page self.old.store.layout table) }
-        ensures within { IfOk result (λ placed. (placed.spot.block < self.old.store.layout.sizes.heap_blocks) × (placed.spot.slot < slots_a_page self.old.store.layout table)) }
+        ensures within { IfOk result (λ placed. IsSpotOf self.old.store.layout table placed.spot) }
         ensures others { LeavesOthers D.told table self.old.store self.new.store }
         ensures room { self.new.room ≡ self.old.room }
         ensures kept { OnErr result (Keeps D.told self.old.store self.new.store) }

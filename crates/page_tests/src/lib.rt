@@ -1,5 +1,5 @@
 //! Tests of disks, changes of the log, pages and rows on pages, over the public calls of disk_trait, wal_record, page_layout,
-//! page_redo, page_store and heap_rows. Nothing stands on it.
+//! page_redo, engine_pages (its pages in memory alone) and heap_rows. Nothing stands on it.
 #![tactic(auto)]
 
 #[cfg(test)]

@@ -1,4 +1,4 @@
-//! A page store over a disk that never fails.
+//! The pages of the engine in memory alone, beside a disk that never fails.
 
 ghost use Rattle.std.specs.Prelude.{◌≡◌, ◌<◌};
 ghost use Rattle.wal_record.specs.Changes.{logged, place_of};
@@ -30,7 +30,7 @@ const THIRD: Place = Place {
     block: 2,
 };
 
-/// A store of the table `t(c int8)` of two rows a page and three blocks, over a disk that never fails.
+/// A store of the table `t(c int8)` of two rows a page and three blocks, beside a disk that never fails.
 #[derive(Drop)]
 struct Trial {
     store: PageStore<SteadyDisk>,
