@@ -217,7 +217,7 @@ pub(crate) fn step_in<D: Disk + Drop>(
     ensures locks { LeavesLocks (holder locks.old) (holder locks.new) (relation_of pages.old.layout at.index) at.actor }
     ensures counts { TakesAtMost (taken_at stage) locks.old locks.new at.actor }
     ensures given { OnOk result ((x : AnySpot) → stage ≡ Stage.Drop x → locks_of locks.new at.actor ≡ 0) }
-    ensures own { locks_of locks.old at.actor ≤ held_at stage → IfOk result (λ o. locks_of locks.new at.actor ≤ held_at o.0) }
+    ensures own { IfOk result (λ o. locks_of locks.old at.actor ≤ held_at stage → locks_of locks.new at.actor ≤ held_at o.0) }
     ensures same_index { parts_of tuple.new.columns ≡ parts_of tuple.old.columns }
     ensures same_room { length room.new ≡ length room.old }
     ensures kept { OnErr result (Keeps D.told pages.old pages.new) }

@@ -122,7 +122,7 @@ impl IndexInsert {
         ensures locks { LeavesLocks (holder locks.old) (holder locks.new) (relation_of pages.old.layout self.old.index) actor }
         ensures counts { TakesAtMost (taken_at self.old.stage) locks.old locks.new actor }
         ensures given { OnOk result ((x : AnySpot) → self.old.stage ≡ Stage.Drop x → locks_of locks.new actor ≡ 0) }
-        ensures own { locks_of locks.old actor ≤ held_at self.old.stage → OnOk result (locks_of locks.new actor ≤ held_at self.new.stage) }
+        ensures own { OnOk result (locks_of locks.old actor ≤ held_at self.old.stage → locks_of locks.new actor ≤ held_at self.new.stage) }
         ensures same_index { self.new.index ≡ self.old.index }
         ensures same_columns { parts_of self.new.widened.columns ≡ parts_of self.old.widened.columns }
         ensures same_stage { OnErr result (self.new.stage ≡ self.old.stage) }

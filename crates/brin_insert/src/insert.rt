@@ -113,7 +113,7 @@ impl Insert {
         ensures locks { LeavesLocks (holder locks.old) (holder locks.new) (relation_at pages.old.layout self.old) actor }
         ensures counts { TakesAtMost (taken_by (stage_of self.old)) locks.old locks.new actor }
         ensures given { OnOk result ((x : AnySpot) → stage_of self.old ≡ Some (stages.Drop x) → locks_of locks.new actor ≡ 0) }
-        ensures own { locks_of locks.old actor ≤ held_by (stage_of self.old) → OnOk result (locks_of locks.new actor ≤ held_by (stage_of self.new)) }
+        ensures own { OnOk result (locks_of locks.old actor ≤ held_by (stage_of self.old) → locks_of locks.new actor ≤ held_by (stage_of self.new)) }
         ensures kept { OnErr result (Keeps D.told pages.old pages.new) }
         ensures at { IfErr result (FaultNamesRelation pages.old.layout (relation_at pages.old.layout self.old)) }
         ensures outcome { MachineOutcome D.told (Untold D.told pages.old) pages.old pages.new result }
