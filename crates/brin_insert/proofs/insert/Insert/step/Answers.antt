@@ -17,10 +17,10 @@ use Rattle.range_tuple.specs.TupleBytes.{tuple_bytes}
 use Rattle.brin_insert.specs.declared.stage.Stage.{Stage}
 use Rattle.brin_insert.specs.declared.stage.Stage.TheVariants as stages
 use Rattle.brin_insert.specs.InsertHands.{InsertHand}
-use Rattle.brin_insert.specs.InsertSteps.{IsAtWork, Stepped, insert_at}
+use Rattle.brin_insert.specs.InsertSteps.{IsAtWork}
 use Rattle.index_steps.specs.ShownRows.{rows_in}
 use Rattle.brin_insert.specs.StepAnswers.{DamageAt}
-use Rattle.brin_insert.proofs.InTable.{blocked, finished, moved, row_stepped}
+use Rattle.brin_insert.proofs.InTable.{blocked, finished, moved, row_stepped, stepped_here}
 use Rattle.brin_insert.proofs.Numbers.{number_within}
 use Rattle.brin_insert.specs.InsertLocks.{held_by, stage_of, taken_by}
 use Rattle.brin_insert.proofs.OwnLocks.{given_there, no_more, no_stage_drops, none_held, own_complete, own_there, stage_there, taken_there}
@@ -131,7 +131,8 @@ returns-in-Ok-Moved-clause-stepped g c = λ tells blocks has.
     let came = rw c.in-Ok-Moved.field-0-is at c.in-Ok-Moved.ensures.stepped in
     moved c.an_insert_steps_in_its_table.ensures.steps c.an_insert_steps_in_its_table.ensures.waits store.layout store.pages c.step.new.pages.pages c.args.locks.now c.step.new.locks c.args.actor old _ x e next c.step.new.copied blocks
     c.requires.made c.in-Some.is got c.in-Some.is refl c.step.ensures.same_index has (c.step.ensures.others.pages tells) (c.step.ensures.others.indexes tells) c.step.ensures.locks
-    c.in-Ok-Moved.point (subst (λ (m : ℕ). Stepped (shape_of store.layout e.index) c.args.actor m old.row (insert_at store.layout store.pages c.args.locks.now e.index e.stage old.copied e.widened) (insert_at store.layout c.step.new.pages.pages c.step.new.locks e.index next.stage c.step.new.copied next.widened) (did.Moved c.in-Ok-Moved.point)) ranged (came tells old.row (sym c.as_slice-values.ensures.values)))
+    c.in-Ok-Moved.point (stepped_here store.layout store.pages c.step.new.pages.pages c.args.locks.now c.step.new.locks c.args.actor c.range_in-range.result (x.block / (index_at store.layout e.index).pages_per_range) old.row e next old.copied c.step.new.copied (did.Moved c.in-Ok-Moved.point)
+    c.step.ensures.same_index ranged (came tells old.row (sym c.as_slice-values.ensures.values)))
     refl refl found
 
 pub returns-in-Ok-Blocked-clause-stepped : goal.returns-in-Ok-Blocked-clause-stepped
@@ -148,7 +149,8 @@ returns-in-Ok-Blocked-clause-stepped g c = λ tells blocks has.
     let came = rw c.in-Ok-Blocked.field-0-is at c.in-Ok-Blocked.ensures.stepped in
     blocked c.an_insert_steps_in_its_table.ensures.steps c.an_insert_steps_in_its_table.ensures.waits store.layout store.pages c.step.new.pages.pages c.args.locks.now c.step.new.locks c.args.actor old _ x e next c.step.new.copied blocks
     c.requires.made c.in-Some.is got c.in-Some.is refl c.step.ensures.same_index has (c.step.ensures.others.pages tells) (c.step.ensures.others.indexes tells) c.step.ensures.locks
-    c.in-Ok-Blocked.held (subst (λ (m : ℕ). Stepped (shape_of store.layout e.index) c.args.actor m old.row (insert_at store.layout store.pages c.args.locks.now e.index e.stage old.copied e.widened) (insert_at store.layout c.step.new.pages.pages c.step.new.locks e.index next.stage c.step.new.copied next.widened) (did.Blocked c.in-Ok-Blocked.held)) ranged (came tells old.row (sym c.as_slice-values.ensures.values)))
+    c.in-Ok-Blocked.held (stepped_here store.layout store.pages c.step.new.pages.pages c.args.locks.now c.step.new.locks c.args.actor c.range_in-range.result (x.block / (index_at store.layout e.index).pages_per_range) old.row e next old.copied c.step.new.copied (did.Blocked c.in-Ok-Blocked.held)
+    c.step.ensures.same_index ranged (came tells old.row (sym c.as_slice-values.ensures.values)))
     refl refl found
 
 pub returns-in-Ok-Finished-clause-stepped : goal.returns-in-Ok-Finished-clause-stepped
@@ -166,7 +168,8 @@ returns-in-Ok-Finished-clause-stepped g c = λ tells blocks has.
     let came = rw c.in-Ok-Finished.field-0-is at c.in-Ok-Finished.ensures.stepped in
     finished c.an_insert_steps_in_its_table.ensures.steps c.an_insert_steps_in_its_table.ensures.waits store.layout store.pages c.step.new.pages.pages c.args.locks.now c.step.new.locks c.args.actor old c.reach-answer.new.self x e next c.step.new.copied blocks
     c.requires.made c.in-Some.is got (c.reach-answer.ensures.rest.1 ∙ c.in-Some.is) c.reach-answer.ensures.rest.0 c.step.ensures.same_index has (c.step.ensures.others.pages tells) (c.step.ensures.others.indexes tells) c.step.ensures.locks
-    c.in-Ok-Finished.point (subst (λ (m : ℕ). Stepped (shape_of store.layout e.index) c.args.actor m old.row (insert_at store.layout store.pages c.args.locks.now e.index e.stage old.copied e.widened) (insert_at store.layout c.step.new.pages.pages c.step.new.locks e.index next.stage c.step.new.copied next.widened) (did.Finished c.in-Ok-Finished.point)) ranged (came tells old.row (sym c.as_slice-values.ensures.values)))
+    c.in-Ok-Finished.point (stepped_here store.layout store.pages c.step.new.pages.pages c.args.locks.now c.step.new.locks c.args.actor c.range_in-range.result (x.block / (index_at store.layout e.index).pages_per_range) old.row e next old.copied c.step.new.copied (did.Finished c.in-Ok-Finished.point)
+    c.step.ensures.same_index ranged (came tells old.row (sym c.as_slice-values.ensures.values)))
     next_at (c.reach-answer.ensures.numbers ∙ same_numbers old.works.items old.at e next got c.step.ensures.same_index) c.reach-answer.result c.reach-answer.ensures.reached
 
 pub returns-in-Ok-Moved-clause-left : goal.returns-in-Ok-Moved-clause-left
