@@ -1,15 +1,12 @@
 -- what rows leave in the tuples of an index
-use Rattle.std.proofs.Common.{◌≡◌, ◌⊎◌, inl, inr, ℕ, zero, suc, ◌+◌, ◌*◌, ◌<◌, ◌^◌, min, true, false, List, [], ◌∷◌, ◌++◌, map, Option, None, Some, refl, sym, ap, subst, ◌∙◌, arith}
+use Rattle.std.proofs.Common.{◌≡◌, ◌⊎◌, inl, inr, ℕ, zero, suc, ◌+◌, ◌*◌, ◌<◌, ◌^◌, min, true, List, [], ◌∷◌, ◌++◌, map, Option, None, Some, refl, sym, ap, subst, ◌∙◌, arith}
 use Rattle.std.specs.Prelude.{IsTrue}
 use Rattle.std.proofs.lemmas.List.{map-append}
 use Rattle.std.proofs.lemmas.List.Sums.{fold-append}
 use Rattle.std.proofs.lemmas.Option.{same_Some}
 use Rattle.block_model.specs.declared.place.Spot.{Spot}
 use Rattle.block_model.specs.declared.row.Row.{Row}
-use Rattle.block_model.specs.declared.schema.Column.{Column}
-use Rattle.block_model.specs.declared.schema.Part.{Part}
 use Rattle.block_model.specs.declared.value.Value.{Value}
-use Rattle.opclass_any.specs.declared.classes.AnyClass.{AnyClass}
 use Rattle.range_tuple.specs.ExactTuples.{IsExactTuple, with_rows}
 use Rattle.range_tuple.specs.TupleBytes.{tuple_bytes}
 use Rattle.range_tuple.specs.TupleReading.{tuple_in}
@@ -21,7 +18,7 @@ use Rattle.coverage.specs.Statements.{row_added, rows_added}
 use Rattle.tuple_laws.specs.RowsUnited.{UnitesRows}
 use Rattle.tuple_laws.specs.SoundTuples.{AreSoundTuples}
 use Rattle.index_steps.specs.IndexTuples.{IndexShape, TakesValues, classes_of, contents_of, final_union, have_kinds, kinds_of, row_values, seen}
-use Rattle.contents_laws.specs.ExactTuples.{AreRowsOf, AreRowsOfRange, HasExactly, HasUnited, LeavesExactly, NoBlock, OneMoreBlock, SaysTuple, row_list, rows_of_slots}
+use Rattle.contents_laws.specs.ExactTuples.{AreRowsOf, HasExactly, HasUnited, LeavesExactly, NoBlock, OneMoreBlock, SaysTuple, row_list, rows_of_slots}
 use Rattle.contents_laws.proofs.Seen.{OfIndex, added_seen, as_seen, classes_are, empty_is, final_of, is_seen, ranges_are, seen_bytes, united_seen, widened}
 
 -- ---- rows added to a tuple
