@@ -8,7 +8,6 @@ use Rattle.block_model.specs.declared.row.Cond.{Cond}
 use Rattle.block_model.specs.declared.row.Row.{Row}
 use Rattle.block_model.specs.declared.value.Value.{Value}
 use Rattle.block_model.specs.RowMatches.{column_matches}
-use Rattle.opclass_any.specs.declared.classes.AnyClass.{AnyClass}
 use Rattle.range_tuple.specs.IncludedRows.{tuple_includes}
 use Rattle.range_tuple.specs.Keeps.{keeps}
 use Rattle.range_tuple.specs.TupleIncludes.{TupleIncludes}

@@ -1,1 +1,2 @@
 pub mod LawfulShapes
+pub mod ExactTuples

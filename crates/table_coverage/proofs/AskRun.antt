@@ -261,9 +261,9 @@ begun_kept r q = new_table_kept (begun r q) (record {
   tuple = λ i x. refl;
   lock = λ i p. refl;
   unnamed = λ i x. refl;
-  pages = λ i. new_pages;
-  lawful = λ i. lawful;
-  ranged = λ i. omega arith;
+  pages = λ i below. new_pages;
+  lawful = λ i below. lawful;
+  ranged = λ i below. omega arith;
 })
   where
     resting : (s : ℕ) → first_at Resting s ≡ Resting

@@ -61,7 +61,7 @@ table_stopped w v kept stops = record {
     within : (b n m : ℕ) → b < n → n ≤ m → b < m
     within b n m low more = omega arith
 
-module _ (w : TableState) (new : IsNewTable w) (i : ℕ) where
+module _ (w : TableState) (new : IsNewTable w) (i : ℕ) (below : i < w.indexes) where
   new_rest : IsAtRest (index_state i w)
   new_rest = record {
     idle = λ s. ap (seen_by i) (new.resting s);
@@ -76,12 +76,12 @@ module _ (w : TableState) (new : IsNewTable w) (i : ℕ) where
   new_index_kept : IsIndexKept (index_state i w)
   new_index_kept = rest_kept (index_state i w)
       (search (rules, nobody_builds))
-      new_rest (new.ranged i) (λ b k r is. absurd (none-some _ (sym (new.row b k) ∙ is)))
-      (order_new (index_view_at i w) (new.pages i) (new.tuple i) (new.entry i)) (new.lawful i)
+      new_rest (new.ranged i below) (λ b k r is. absurd (none-some _ (sym (new.row b k) ∙ is)))
+      (order_new (index_view_at i w) (new.pages i below) (new.tuple i) (new.entry i)) (new.lawful i below)
 
 pub new_table_kept : (w : TableState) → IsNewTable w → IsTableKept w
 new_table_kept w new = record {
-  indexes = λ i below. new_index_kept w new i;
+  indexes = λ i below. new_index_kept w new i below;
   summarise_lock = free_lock w new.free new.resting;
   rows_below = λ b k r is. absurd (none-some _ (sym (new.row b k) ∙ is));
   scans = λ s scan is. absurd (resting_scan scan (sym (new.resting s) ∙ is));

@@ -128,9 +128,9 @@ pub record IsNewTable (w : TableState) : Type 0 where
   pub tuple : (i : ℕ) (x : Spot) → (w.index i).tuple x ≡ None
   pub lock : (i p : ℕ) → (w.index i).lock p ≡ None
   pub unnamed : (i : ℕ) (x : Spot) → (w.index i).unnamed x ≡ false
-  pub pages : (i : ℕ) → AreNewPages (w.index i).pages
-  pub lawful : (i : ℕ) → AreLawful (w.index i).contents
-  pub ranged : (i : ℕ) → 0 < (w.index i).pages_per_range
+  pub pages : (i : ℕ) → i < w.indexes → AreNewPages (w.index i).pages
+  pub lawful : (i : ℕ) → i < w.indexes → AreLawful (w.index i).contents
+  pub ranged : (i : ℕ) → i < w.indexes → 0 < (w.index i).pages_per_range
 
 -- after a stop nobody is at work, and each index of the table is as one index is; a heap block may be started and have no row
 pub record TableStops (w v : TableState) : Type 0 where

@@ -1,5 +1,5 @@
 -- what a tuple doesn't keep it excludes
-use Rattle.std.proofs.Common.{◌≡◌, ℕ, ◌+◌, ◌*◌, ◌<◌, ◌==◌, Bool, true, false, not, ◌&&◌, ◌||◌, cond, Option, None, Some, List, [], ◌∷◌, All, drop, length, Result, Ok, Err, refl, sym, ap, subst, ◌∙◌, arith}
+use Rattle.std.proofs.Common.{◌≡◌, ℕ, ◌+◌, ◌*◌, ◌<◌, ◌==◌, Bool, true, false, not, ◌&&◌, Some, List, [], ◌∷◌, All, drop, length, Result, Ok, Err, refl, sym, ap, subst, ◌∙◌, arith}
 use Rattle.std.specs.Prelude.{nat_lt}
 use Rattle.std.specs.List.{list_all}
 use Rattle.std.proofs.lemmas.Bool.{and_parts, false≢true, or_parts}
@@ -30,9 +30,9 @@ use Rattle.opclass_any.specs.declared.classes.AnySummary.{AnySummary}
 use Rattle.opclass_any.specs.declared.classes.AnySummary.TheVariants as kept
 use Rattle.range_tuple.specs.Keeps.{column_allows, comparisons, keeps, may_meet}
 use Rattle.range_tuple.specs.NullStates.{has_values}
-use Rattle.range_tuple.specs.TupleFaults.{head_fault, length_at, state_at}
-use Rattle.range_tuple.specs.TupleIncludes.{ColumnIncludes, TupleIncludes}
-use Rattle.range_tuple.specs.TupleReading.{behind, columns_in, columns_read, is_there, read_of, says_placeholder, state_in, summary_in, tuple_in}
+use Rattle.range_tuple.specs.TupleFaults.{length_at, state_at}
+use Rattle.range_tuple.specs.TupleIncludes.{ColumnIncludes}
+use Rattle.range_tuple.specs.TupleReading.{behind, columns_in, read_of, says_placeholder, state_in, summary_in, tuple_in}
 use Rattle.range_tuple.specs.Tuples.{IndexedColumn, Tuple, has_nothing, part_of, parts_of, tuple_of}
 use Rattle.range_tuple.proofs.AskingColumns.{all_compare, misses}
 use Rattle.range_tuple.proofs.ByPlace.{nothing_included}

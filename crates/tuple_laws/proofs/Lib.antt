@@ -11,3 +11,4 @@ pub mod Columns
 pub mod Reading
 pub mod TupleParts
 pub mod Asking
+pub mod Uniting

@@ -1,3 +1,4 @@
 pub mod OwnKinds
 pub mod SoundClasses
 pub mod SoundTuples
+pub mod RowsUnited

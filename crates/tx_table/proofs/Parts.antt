@@ -1,10 +1,8 @@
 -- What the images at the moments of several calls open to.
-use Rattle.std.proofs.Common.{◌≡◌, ◌≢◌, ◌⊎◌, inl, inr, ⊎_elim, ℕ, List, [], ◌∷◌, length, take, refl, sym, ◌∙◌, ap, subst, arith}
-use Rattle.std.specs.Prelude.{Bool, IsTrue}
-use Rattle.block_model.specs.declared.place.Place.{Place}
+use Rattle.std.proofs.Common.{◌≡◌, ◌⊎◌, ⊎_elim, ℕ, List, take, refl, sym, ◌∙◌, subst}
 use Rattle.disk_trait.specs.Told.{Told}
-use Rattle.page_store.specs.Keeps.{Keeps, Leaves, Tells}
-use Rattle.page_store.specs.PageMap.{PageMap, View, page_at}
+use Rattle.page_store.specs.Keeps.{Keeps, Tells}
+use Rattle.page_store.specs.PageMap.{PageMap, View}
 use Rattle.page_store.specs.declared.faults.StoreError.{StoreError}
 use Rattle.page_store.specs.declared.faults.StoreError.TheVariants as errors
 use Rattle.logged_pages.specs.Made.{IsOfDisk}
@@ -14,7 +12,7 @@ use Rattle.store_layout.specs.DiskLayout.{DiskLayout}
 use Rattle.tx_table.specs.Durable.{HasPart, IsBefore}
 use Rattle.tx_table.specs.LeavesRest.{LeavesRest, NamesStatuses}
 use Rattle.tx_table.proofs.Stores.{all_some}
-use Rattle.tx_table.specs.Statuses.{HasStatuses, OfStatuses, status_relation, with_all}
+use Rattle.tx_table.specs.Statuses.{HasStatuses, OfStatuses, with_all}
 
 -- where nothing was passed, less may be told
 pub passed_none : {D : Type 0} (told : D → Told) (Passed : PageMap → Type 0) (old new : View D) → Survives told (λ pages. ⊥) old new → Survives told Passed old new

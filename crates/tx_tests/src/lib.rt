@@ -6,6 +6,8 @@ mod openings;
 #[cfg(test)]
 mod pages;
 #[cfg(test)]
+mod steps;
+#[cfg(test)]
 mod transactions;
 #[cfg(test)]
 mod trial;

@@ -1,46 +1,82 @@
 //! Openings over pages in a given state.
 
 use crate::pages::{page_with, put_page, store};
+use crate::steps::{Answer, Step, difference};
 use crate::trial::opened;
+use disk_trait::Disk;
+use engine_pages::PageStore;
 use snapshot_core::Status;
+use std::alloc::Global;
 use std::test::Fail;
-use tx_table::{BeginFault, TxTable};
+use tx_table::TxTable;
+
+const FOURTH: [(Step, Answer); 6] = [
+    (Step::Next, Answer::Number(4)),
+    (Step::Status(1), Answer::Stands(Status::RolledBack)),
+    (Step::Status(2), Answer::Stands(Status::Committed)),
+    (Step::Status(3), Answer::Stands(Status::RolledBack)),
+    (Step::Begin, Answer::Number(4)),
+    (Step::Byte(33), Answer::Byte(1)),
+];
 
 #[test]
 fn the_next_number_is_one_above_the_greatest_that_is_used(rt: HostRuntime) -> Result<(), Fail> {
     // Entry 1 is begun, entry 2 committed and entry 3 rolled back: 1 times 4, 2 times 16 and 3 times 64.
     let mut trial = opened(rt.alloc(), &page_with(32, 228)).ok_or("trial")?;
-    assert_eq!(rt; trial.next(), 4);
-    assert_eq!(rt; trial.status(1), Ok(Status::RolledBack));
-    assert_eq!(rt; trial.status(2), Ok(Status::Committed));
-    assert_eq!(rt; trial.status(3), Ok(Status::RolledBack));
-    assert_eq!(rt; trial.begin(), Ok(4));
-    assert_eq!(rt; trial.byte(33), Some(1));
+    assert_eq!(rt; difference(&mut trial, &FOURTH), None);
     Ok(())
 }
+
+const LAST: [(Step, Answer); 5] = [
+    (Step::Begin, Answer::Number(32639)),
+    (Step::Begin, Answer::Spent(32640)),
+    (Step::Status(32639), Answer::Stands(Status::Begun)),
+    (Step::Next, Answer::Number(32640)),
+    (Step::Byte(8191), Answer::Byte(96)),
+];
 
 #[test]
 fn the_last_number_is_given_and_then_none(rt: HostRuntime) -> Result<(), Fail> {
     // Entry 32638 is committed, and entry 32639 is the page's last one.
     let mut trial = opened(rt.alloc(), &page_with(8191, 32)).ok_or("trial")?;
-    assert_eq!(rt; trial.begin(), Ok(32639));
-    assert_eq!(rt; trial.begin(), Err(BeginFault::Spent { number: 32640 }));
-    assert_eq!(rt; trial.status(32639), Ok(Status::Begun));
-    assert_eq!(rt; trial.next(), 32640);
-    assert_eq!(rt; trial.byte(8191), Some(96));
+    assert_eq!(rt; difference(&mut trial, &LAST), None);
     Ok(())
+}
+
+/// How the transaction stands in a store that is opened.
+fn status_in<D: Disk + Drop>(table: &TxTable, pages: &mut PageStore<D>, t: u64) -> Option<Status> {
+    table.status(pages, t).ok()
+}
+
+/// The next number of a store that is opened, and how three transactions stand there.
+fn told<D: Disk + Drop>(pages: PageStore<D>, list: [u64; 3]) -> Option<(u64, [Status; 3])> {
+    let mut pages = pages;
+    let table = match TxTable::start(&mut pages) {
+        Ok(table) => table,
+        Err(_) => return None,
+    };
+    let first = status_in(&table, &mut pages, list[0])?;
+    let second = status_in(&table, &mut pages, list[1])?;
+    let third = status_in(&table, &mut pages, list[2])?;
+    Some((table.next(), [first, second, third]))
+}
+
+/// The same, where of two blocks the second alone is started, as that page.
+fn told_of_second(alloc: Global, list: [u64; 3]) -> Option<(u64, [Status; 3])> {
+    let mut pages = store(alloc, 2)?;
+    // Entry 5 is committed.
+    if !put_page(&mut pages, 1, &page_with(33, 8)) {
+        return None;
+    }
+    told(pages, list)
 }
 
 #[test]
 fn a_page_that_is_not_started_has_unused_numbers(rt: HostRuntime) -> Result<(), Fail> {
-    let mut store = store(rt.alloc(), 2).ok_or("store")?;
-    assert_eq!(rt; TxTable::start(&mut store).map(|table| table.next()), Ok(1));
-    // Entry 5 of the second block is committed.
-    assert!(rt; put_page(&mut store, 1, &page_with(33, 8)));
-    let table = TxTable::start(&mut store).or(Err("start"))?;
-    assert_eq!(rt; table.next(), 32646);
-    assert_eq!(rt; table.status(&mut store, 5), Ok(Status::Unused));
-    assert_eq!(rt; table.status(&mut store, 32645), Ok(Status::Committed));
-    assert_eq!(rt; table.status(&mut store, 65280), Ok(Status::Unused));
+    let unused = Status::Unused;
+    let new = told(store(rt.alloc(), 2).ok_or("store")?, [0, 1, 2]);
+    let second = told_of_second(rt.alloc(), [5, 32645, 65280]);
+    let wanted = Some((32646, [unused, Status::Committed, unused]));
+    assert_eq!(rt; (new, second), (Some((1, [unused; 3])), wanted));
     Ok(())
 }

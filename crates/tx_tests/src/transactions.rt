@@ -1,57 +1,75 @@
 //! Transactions that begin and end.
 
 use crate::pages::page_with;
+use crate::steps::{Answer, Step, difference};
 use crate::trial::opened;
 use snapshot_core::Status;
 use std::test::Fail;
 
+const NUMBERED: [(Step, Answer); 15] = [
+    (Step::Next, Answer::Number(1)),
+    (Step::Begin, Answer::Number(1)),
+    (Step::Begin, Answer::Number(2)),
+    (Step::Begin, Answer::Number(3)),
+    (Step::Next, Answer::Number(4)),
+    (Step::Commit(1), Answer::Ended),
+    (Step::RollBack(2), Answer::Ended),
+    (Step::Status(0), Answer::Stands(Status::Unused)),
+    (Step::Status(1), Answer::Stands(Status::Committed)),
+    (Step::Status(2), Answer::Stands(Status::RolledBack)),
+    (Step::Status(3), Answer::Stands(Status::Begun)),
+    (Step::Status(4), Answer::Stands(Status::Unused)),
+    (Step::Status(32640), Answer::Stands(Status::Unused)),
+    // Entry 1 is 2, entry 2 is 3 and entry 3 is 1: 2 times 4, 3 times 16 and 64.
+    (Step::Byte(32), Answer::Byte(120)),
+    (Step::Byte(33), Answer::Byte(0)),
+];
+
 #[test]
 fn transactions_are_numbered_from_1_and_keep_their_statuses(rt: HostRuntime) -> Result<(), Fail> {
     let mut trial = opened(rt.alloc(), &page_with(0, 0)).ok_or("trial")?;
-    assert_eq!(rt; trial.next(), 1);
-    assert_eq!(rt; trial.begin(), Ok(1));
-    assert_eq!(rt; trial.begin(), Ok(2));
-    assert_eq!(rt; trial.begin(), Ok(3));
-    assert_eq!(rt; trial.next(), 4);
-    assert!(rt; trial.commit(1));
-    assert!(rt; trial.rollback(2));
-    assert_eq!(rt; trial.status(0), Ok(Status::Unused));
-    assert_eq!(rt; trial.status(1), Ok(Status::Committed));
-    assert_eq!(rt; trial.status(2), Ok(Status::RolledBack));
-    assert_eq!(rt; trial.status(3), Ok(Status::Begun));
-    assert_eq!(rt; trial.status(4), Ok(Status::Unused));
-    assert_eq!(rt; trial.status(32640), Ok(Status::Unused));
-    // Entry 1 is 2, entry 2 is 3 and entry 3 is 1: 2 times 4, 3 times 16 and 64.
-    assert_eq!(rt; trial.byte(32), Some(120));
-    assert_eq!(rt; trial.byte(33), Some(0));
+    assert_eq!(rt; difference(&mut trial, &NUMBERED), None);
     Ok(())
 }
+
+const ONE_ENDS: [(Step, Answer); 3] = [
+    (Step::Begin, Answer::Number(1)),
+    (Step::Begin, Answer::Number(2)),
+    (Step::Commit(2), Answer::Ended),
+];
+
+const OPENED_AGAIN: [(Step, Answer); 4] = [
+    (Step::Status(1), Answer::Stands(Status::RolledBack)),
+    (Step::Status(2), Answer::Stands(Status::Committed)),
+    (Step::Begin, Answer::Number(3)),
+    (Step::Status(3), Answer::Stands(Status::Begun)),
+];
 
 #[test]
 fn a_transaction_that_never_ended_is_rolled_back_by_the_opening(
     rt: HostRuntime,
 ) -> Result<(), Fail> {
     let mut trial = opened(rt.alloc(), &page_with(0, 0)).ok_or("trial")?;
-    assert_eq!(rt; trial.begin(), Ok(1));
-    assert_eq!(rt; trial.begin(), Ok(2));
-    assert!(rt; trial.commit(2));
+    let first = difference(&mut trial, &ONE_ENDS);
     let mut trial = trial.opened_again().ok_or("trial")?;
-    assert_eq!(rt; trial.status(1), Ok(Status::RolledBack));
-    assert_eq!(rt; trial.status(2), Ok(Status::Committed));
-    assert_eq!(rt; trial.begin(), Ok(3));
-    assert_eq!(rt; trial.status(3), Ok(Status::Begun));
+    let second = difference(&mut trial, &OPENED_AGAIN);
+    assert_eq!(rt; (first, second), (None, None));
     Ok(())
 }
+
+const TWO_AT_ONCE: [(Step, Answer); 7] = [
+    (Step::Begin, Answer::Number(1)),
+    (Step::Begin, Answer::Number(2)),
+    (Step::Begin, Answer::Number(3)),
+    (Step::CommitTwo(3, 1), Answer::Ended),
+    (Step::Status(1), Answer::Stands(Status::Committed)),
+    (Step::Status(2), Answer::Stands(Status::Begun)),
+    (Step::Status(3), Answer::Stands(Status::Committed)),
+];
 
 #[test]
 fn several_transactions_commit_at_once(rt: HostRuntime) -> Result<(), Fail> {
     let mut trial = opened(rt.alloc(), &page_with(0, 0)).ok_or("trial")?;
-    assert_eq!(rt; trial.begin(), Ok(1));
-    assert_eq!(rt; trial.begin(), Ok(2));
-    assert_eq!(rt; trial.begin(), Ok(3));
-    assert!(rt; trial.commit_two(3, 1));
-    assert_eq!(rt; trial.status(1), Ok(Status::Committed));
-    assert_eq!(rt; trial.status(2), Ok(Status::Begun));
-    assert_eq!(rt; trial.status(3), Ok(Status::Committed));
+    assert_eq!(rt; difference(&mut trial, &TWO_AT_ONCE), None);
     Ok(())
 }
