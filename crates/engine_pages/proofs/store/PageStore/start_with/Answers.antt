@@ -1,5 +1,4 @@
 use Rattle.std.proofs.Common.{◌≡◌, sym, ap, subst, ◌∙◌, rules}
-use Rattle.page_store.specs.PageMap.{View}
 use Rattle.engine_pages.specs.declared.kind.Kind.{Kind}
 use Rattle.engine_pages.specs.Kinds.{IsKept, beside, view_of}
 use Rattle.engine_pages.proofs.Beside.{survives_in_memory, survives_on_disk}
