@@ -6,3 +6,4 @@ pub mod Adding
 pub mod Kept
 pub mod Faults
 pub mod Declared
+pub mod Exact

@@ -9,6 +9,7 @@ ghost use Rattle.index_contents.specs.IndexChanges.{LeavesOthers};
 ghost use Rattle.index_steps.specs.IndexTuples.{shape_of};
 ghost use Rattle.index_steps.specs.StepAnswers.{BlockedWell};
 ghost use Rattle.index_steps.specs.SwapAnswers.{LeavesLocks, MachineOutcome, SaysSwapFull};
+ghost use Rattle.brin_summarise.specs.ExactSummaries.{IsExactAt};
 ghost use Rattle.brin_summarise.specs.ShownHeap.{heap_of};
 ghost use Rattle.brin_summarise.specs.StepCauses.{DamageAt, IsReady};
 ghost use Rattle.brin_summarise.specs.SummariseHands.{IsHandOf, table_of};
@@ -106,6 +107,7 @@ impl RangeSummarise {
         requires locks { count_of locks.old + 3 ≤ locks.old.limit }
         requires ready { Tells D.told pages.old → IsReady (shape_of pages.old.layout at.index) (contents pages.old.layout pages.old.pages at.index) at.range self.old.stage }
         ensures stepped { IfOk result (λ did. OfBlocks D.told pages.old (table_of pages.old.layout at.index) (λ blocks. StepsAt pages.old.layout pages.old.pages pages.new.pages locks.old locks.new at (heap_of pages.old.layout at.index blocks) self.old self.new did)) }
+        ensures exact { IfOk result (λ did. OfBlocks D.told pages.old (table_of pages.old.layout at.index) (λ blocks. IsExactAt (shape_of pages.old.layout at.index) (heap_of pages.old.layout at.index blocks) at.range self.old self.old.stage → IsExactAt (shape_of pages.old.layout at.index) (heap_of pages.old.layout at.index blocks) at.range self.new self.new.stage)) }
         ensures stands { IfOk result (StandsAfter self.old.stage self.new.stage) }
         ensures of { IsHandOf pages.old.layout at.index self.new }
         ensures blocked { IfOk result (BlockedWell D.told at.index at.actor pages.old pages.new locks.old locks.new) }

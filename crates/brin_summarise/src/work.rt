@@ -10,6 +10,7 @@ ghost use Rattle.index_contents.specs.IndexChanges.{LeavesOthers};
 ghost use Rattle.index_steps.specs.IndexTuples.{shape_of};
 ghost use Rattle.index_steps.specs.StepAnswers.{BlockedWell, IsOfStore, NeverBlocked};
 ghost use Rattle.index_steps.specs.SwapAnswers.{LeavesLocks, MachineOutcome, SaysSwapFull};
+ghost use Rattle.brin_summarise.specs.ExactSummaries.{IsExactAt};
 ghost use Rattle.brin_summarise.specs.ShownHeap.{Heap, heap_of};
 ghost use Rattle.brin_summarise.specs.StepCauses.{DamageAt, IsReady};
 ghost use Rattle.brin_summarise.specs.SummariseHands.{IsHandOf, table_of};
@@ -58,6 +59,7 @@ pub(crate) fn step_in<D: Disk + Drop>(
     requires locks { count_of locks.old + 3 ≤ locks.old.limit }
     requires ready { Tells D.told pages.old → IsReady (shape_of pages.old.layout at.index) (contents pages.old.layout pages.old.pages at.index) at.range stage }
     ensures stepped { IfOk result (λ o. OfBlocks D.told pages.old (table_of pages.old.layout at.index) (λ blocks. StepsAt pages.old.layout pages.old.pages pages.new.pages locks.old locks.new at (heap_of pages.old.layout at.index blocks) (hand_of stage work.old) (hand_of o.0 work.new) o.1)) }
+    ensures exact { IfOk result (λ o. OfBlocks D.told pages.old (table_of pages.old.layout at.index) (λ blocks. IsExactAt (shape_of pages.old.layout at.index) (heap_of pages.old.layout at.index blocks) at.range (hand_of stage work.old) stage → IsExactAt (shape_of pages.old.layout at.index) (heap_of pages.old.layout at.index blocks) at.range (hand_of o.0 work.new) o.0)) }
     ensures stands { IfOk result (λ o. StandsAfter stage o.0 o.1) }
     ensures of { IsHandOf pages.old.layout at.index (hand_of stage work.new) }
     ensures same_room { length room.new ≡ length room.old }
@@ -111,6 +113,7 @@ fn read_in<D: Disk + Drop>(
     requires reads { only_reads stage ≡ true }
     requires of { IsHandOf pages.old.layout at.index (hand_of stage work.old) }
     ensures stepped { IfOk result (λ o. OfBlocks D.told pages.old (table_of pages.old.layout at.index) (λ blocks. (locks : LockState) → StepsAt pages.old.layout pages.old.pages pages.new.pages locks locks at (heap_of pages.old.layout at.index blocks) (hand_of stage work.old) (hand_of o.0 work.new) o.1)) }
+    ensures exact { IfOk result (λ o. OfBlocks D.told pages.old (table_of pages.old.layout at.index) (λ blocks. IsExactAt (shape_of pages.old.layout at.index) (heap_of pages.old.layout at.index blocks) at.range (hand_of stage work.old) stage → IsExactAt (shape_of pages.old.layout at.index) (heap_of pages.old.layout at.index blocks) at.range (hand_of o.0 work.new) o.0)) }
     ensures stands { IfOk result (λ o. StandsAfter stage o.0 o.1) }
     ensures of { IsHandOf pages.old.layout at.index (hand_of stage work.new) }
     ensures kept { Keeps D.told pages.old pages.new }
@@ -166,6 +169,7 @@ fn change_in<D: Disk + Drop>(
     requires locks { count_of locks.old + 3 ≤ locks.old.limit }
     requires ready { Tells D.told pages.old → IsReady (shape_of pages.old.layout at.index) (contents pages.old.layout pages.old.pages at.index) at.range stage }
     ensures stepped { IfOk result (λ o. OfBlocks D.told pages.old (table_of pages.old.layout at.index) (λ blocks. StepsAt pages.old.layout pages.old.pages pages.new.pages locks.old locks.new at (heap_of pages.old.layout at.index blocks) (hand_of stage work.old) (hand_of o.0 work.new) o.1)) }
+    ensures exact { IfOk result (λ o. OfBlocks D.told pages.old (table_of pages.old.layout at.index) (λ blocks. IsExactAt (shape_of pages.old.layout at.index) (heap_of pages.old.layout at.index blocks) at.range (hand_of stage work.old) stage → IsExactAt (shape_of pages.old.layout at.index) (heap_of pages.old.layout at.index blocks) at.range (hand_of o.0 work.new) o.0)) }
     ensures stands { IfOk result (λ o. StandsAfter stage o.0 o.1) }
     ensures of { IsHandOf pages.old.layout at.index (hand_of stage work.new) }
     ensures same_room { length room.new ≡ length room.old }
@@ -216,6 +220,7 @@ fn begin_pass<D: Disk + Drop>(
     requires index { at.index < length pages.now.layout.schema.indexes }
     requires of { IsHandOf pages.now.layout at.index (hand_of Stage.Extent work.old) }
     ensures stepped { IfOk result (λ o. OfBlocks D.told pages.now (table_of pages.now.layout at.index) (λ blocks. (locks : LockState) → StepsAt pages.now.layout pages.now.pages pages.now.pages locks locks at (heap_of pages.now.layout at.index blocks) (hand_of Stage.Extent work.old) (hand_of o.0 work.new) o.1)) }
+    ensures exact { IfOk result (λ o. OfBlocks D.told pages.now (table_of pages.now.layout at.index) (λ blocks. IsExactAt (shape_of pages.now.layout at.index) (heap_of pages.now.layout at.index blocks) at.range (hand_of Stage.Extent work.old) Stage.Extent → IsExactAt (shape_of pages.now.layout at.index) (heap_of pages.now.layout at.index blocks) at.range (hand_of o.0 work.new) o.0)) }
     ensures stands { IfOk result (λ o. StandsAfter Stage.Extent o.0 o.1) }
     ensures of { IsHandOf pages.now.layout at.index (hand_of Stage.Extent work.new) }
     ensures united { work.new.united ≡ work.old.united }
@@ -242,6 +247,7 @@ fn go_on<D: Disk + Drop>(
     requires index { at.index < length pages.old.layout.schema.indexes }
     requires of { IsHandOf pages.old.layout at.index (hand_of Stage.Pass work.old) }
     ensures stepped { IfOk result (λ o. OfBlocks D.told pages.old (table_of pages.old.layout at.index) (λ blocks. (locks : LockState) → StepsAt pages.old.layout pages.old.pages pages.new.pages locks locks at (heap_of pages.old.layout at.index blocks) (hand_of Stage.Pass work.old) (hand_of o.0 work.new) o.1)) }
+    ensures exact { IfOk result (λ o. OfBlocks D.told pages.old (table_of pages.old.layout at.index) (λ blocks. IsExactAt (shape_of pages.old.layout at.index) (heap_of pages.old.layout at.index blocks) at.range (hand_of Stage.Pass work.old) Stage.Pass → IsExactAt (shape_of pages.old.layout at.index) (heap_of pages.old.layout at.index blocks) at.range (hand_of o.0 work.new) o.0)) }
     ensures stands { IfOk result (λ o. StandsAfter Stage.Pass o.0 o.1) }
     ensures of { IsHandOf pages.old.layout at.index (hand_of Stage.Pass work.new) }
     ensures united { work.new.united ≡ work.old.united }
@@ -277,6 +283,7 @@ fn unite_in<D: Disk + Drop>(
     requires index { at.index < length pages.old.layout.schema.indexes }
     requires of { IsHandOf pages.old.layout at.index (hand_of (Stage.Copy spot) work.old) }
     ensures stepped { IfOk result (λ o. Tells D.told pages.old → (locks : LockState) (heap : Heap) → StepsAt pages.old.layout pages.old.pages pages.new.pages locks locks at heap (hand_of (Stage.Copy spot) work.old) (hand_of o.0 work.new) o.1) }
+    ensures exact { IfOk result (λ o. OfBlocks D.told pages.old (table_of pages.old.layout at.index) (λ blocks. IsExactAt (shape_of pages.old.layout at.index) (heap_of pages.old.layout at.index blocks) at.range (hand_of (Stage.Copy spot) work.old) (Stage.Copy spot) → IsExactAt (shape_of pages.old.layout at.index) (heap_of pages.old.layout at.index blocks) at.range (hand_of o.0 work.new) o.0)) }
     ensures stands { IfOk result (λ o. StandsAfter (Stage.Copy spot) o.0 o.1) }
     ensures of { IsHandOf pages.old.layout at.index (hand_of (Stage.Copy spot) work.new) }
     ensures kept { Keeps D.told pages.old pages.new }

@@ -72,3 +72,16 @@ add_rows-requires g c = λ k d below.
     let each : All (λ (q : Stored). IsRow (kinds_at store.layout table) (row_of q)) rows = subst (λ (t : ℕ). All (λ (q : Stored). IsRow (kinds_at store.layout t) (row_of q)) rows) number c.in-Ok.ensures.sound.each in
     let listed : All (λ (q : Stored). IsRow (kinds_at store.layout table) (row_of q)) c.as_slice.result.now = subst (λ (qs : List Stored). All (λ (q : Stored). IsRow (kinds_at store.layout table) (row_of q)) qs) (sym c.as_slice.ensures) each in
     subst (λ (parts : List (ℕ × AnyClass)). IsTakenBy parts (get_or c.as_slice.result.now k d).values) (sym c.requires.tuple) (takes (get_or c.as_slice.result.now k d).values (listed k d below).columns).taken
+
+pub returns-in-Ok-clause-exact : goal.returns-in-Ok-clause-exact
+returns-in-Ok-clause-exact g c = λ tells blocks has.
+    let store = c.args.pages.now in
+    let at = c.args.at in
+    let table = table_of store.layout at.index in
+    let t : Tuple = c.args.running.now in
+    let layout : c.layout-layout.result.now ≡ store.layout = c.layout-layout.ensures in
+    let number : c.table_of-table.result ≡ table = c.table_of-table.ensures.number ∙ ap (λ (l : DiskLayout). table_of l at.index) layout in
+    let has_too : HasBlocks store.layout store.pages c.table_of-table.result blocks = subst (λ (t : ℕ). HasBlocks store.layout store.pages t blocks) (sym number) has in
+    let rows : List Stored = c.rows_of.new.out.rows in
+    let listed : c.as_slice.result.now ≡ rows = c.as_slice.ensures in
+    c.add_rows.ensures.rows ∙ ap (λ (qs : List Stored). with_rows (values_of qs) t) (listed ∙ c.in-Ok.ensures.rows tells blocks has_too)
