@@ -1,11 +1,11 @@
 -- what a summarise makes exactly
-use Rattle.std.proofs.Common.{◌≡◌, ℕ, zero, suc, ◌+◌, ◌*◌, min, List, [], ◌++◌, length, fold, refl, sym, ap, subst, ◌∙◌, arith}
+use Rattle.std.proofs.Common.{◌≡◌, ℕ, zero, suc, ◌+◌, ◌-◌, ◌*◌, ◌≤◌, ◌<◌, min, List, [], ◌++◌, length, fold, refl, sym, ap, subst, ◌∙◌, arith}
 use Rattle.std.proofs.lemmas.List.Sums.{fold-append}
 use Rattle.block_model.specs.declared.value.Value.{Value}
 use Rattle.range_tuple.specs.ExactTuples.{with_rows}
 use Rattle.range_tuple.specs.Tuples.{Tuple, empty_placeholder, parts_of, restarted, with_row}
 use Rattle.index_steps.specs.IndexTuples.{IndexShape, classes_of}
-use Rattle.brin_summarise.specs.ExactSummaries.{HasPassed, first_of_range, rows_of_block, rows_of_blocks}
+use Rattle.brin_summarise.specs.ExactSummaries.{HasPassed, blocks_of_range, first_of_range, rows_of_block, rows_of_blocks}
 use Rattle.brin_summarise.specs.ShownHeap.{Heap}
 use Rattle.brin_summarise.proofs.Seen.{restarted_is}
 
@@ -21,23 +21,36 @@ module _ (shape : IndexShape) (heap : Heap) (range extent next : ℕ) (running :
     passed = 0;
     ends = ends;
     reached = omega (arith, first);
+    within = omega arith;
     added = started ∙ sym (restarted_is shape range t of);
   }
 
   -- one block more
-  pub passes_exact : (u : Tuple) → u ≡ with_rows (rows_of_block heap.blocks next) running → HasPassed shape heap range extent next running → HasPassed shape heap range extent (next + 1) u
-  passes_exact u made so_far =
+  pub passes_exact : (u : Tuple) → next < extent → u ≡ with_rows (rows_of_block heap.blocks next) running → HasPassed shape heap range extent next running → HasPassed shape heap range extent (next + 1) u
+  passes_exact u below made so_far =
       let first : ℕ = first_of_range heap range in
       let n : ℕ = so_far.passed in
       let none : Tuple = empty_placeholder range shape.columns shape.parts in
       let place : next ≡ first + n = so_far.reached in
+      let ends : extent ≡ min (length heap.blocks) (first_of_range heap (range + 1)) = so_far.ends in
+      let more : suc n ≤ min (length heap.blocks) (first_of_range heap (range + 1)) - first = omega (arith, place, ends, below) in
       record {
         passed = suc n;
         ends = so_far.ends;
         reached = omega (arith, place);
+        within = more;
         added =
             made
             ∙ ap (λ (b : ℕ). with_rows (rows_of_block heap.blocks b) running) place
             ∙ ap (λ (t : Tuple). with_rows (rows_of_block heap.blocks (first + n)) t) so_far.added
             ∙ sym (more_rows (rows_of_blocks heap.blocks first n) (rows_of_block heap.blocks (first + n)) none);
       }
+
+  -- where the next block is past the extent, all are passed
+  pub all_passed : (so_far : HasPassed shape heap range extent next running) → extent ≤ next → so_far.passed ≡ blocks_of_range heap range
+  all_passed so_far all =
+      let first : ℕ = first_of_range heap range in
+      let place : next ≡ first + so_far.passed = so_far.reached in
+      let ends : extent ≡ min (length heap.blocks) (first_of_range heap (range + 1)) = so_far.ends in
+      let within : so_far.passed ≤ min (length heap.blocks) (first_of_range heap (range + 1)) - first = so_far.within in
+      omega (arith, place, ends, within, all)

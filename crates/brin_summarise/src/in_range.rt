@@ -228,7 +228,7 @@ pub(crate) fn look_again<D: Disk + Drop>(
 ) -> Result<(Stage, Did), MachineFault>
     requires index { at.index < length pages.old.layout.schema.indexes }
     ensures stepped { IfOk result (λ o. Tells D.told pages.old → (locks : LockState) (heap : Heap) (hand : SummariseHand) → hand.extent ≤ hand.next → StepsAt pages.old.layout pages.old.pages pages.new.pages locks locks at heap (record hand { stage = Stage.Pass }) (record hand { stage = o.0; copied = copied.new }) o.1) }
-    ensures exact { IfOk result (λ o. (shape : IndexShape) (heap : Heap) (hand : SummariseHand) → IsExactAt shape heap at.range (record hand { stage = Stage.Pass }) Stage.Pass → IsExactAt shape heap at.range (record hand { stage = o.0; copied = copied.new }) o.0) }
+    ensures exact { IfOk result (λ o. (shape : IndexShape) (heap : Heap) (hand : SummariseHand) → hand.extent ≤ hand.next → IsExactAt shape heap at.range (record hand { stage = Stage.Pass }) Stage.Pass → IsExactAt shape heap at.range (record hand { stage = o.0; copied = copied.new }) o.0) }
     ensures stands { IfOk result (λ o. StandsAfter Stage.Pass o.0 o.1) }
     ensures kept { Keeps D.told pages.old pages.new }
     ensures never_blocked { IfOk result (λ o. NeverBlocked o.1) }

@@ -9,7 +9,7 @@ ghost use Rattle.coverage.specs.Statements.{Maintaining};
 ghost use Rattle.index_contents.specs.IndexContents.{IndexContents};
 ghost use Rattle.index_steps.specs.IndexTuples.{IndexShape};
 ghost use Rattle.index_steps.specs.ShownIndex.{Shows};
-ghost use Rattle.brin_summarise.specs.ExactSummaries.{HasPassed, first_of_range, rows_of_blocks};
+ghost use Rattle.brin_summarise.specs.ExactSummaries.{HasPassed, HasPassedAll, first_of_range, rows_of_blocks, rows_of_range};
 ghost use Rattle.brin_summarise.specs.ShownHeap.{Heap};
 ghost use Rattle.brin_summarise.specs.StepCauses.{DamageAt, IsReady};
 ghost use Rattle.brin_summarise.specs.SummariseHands.{SummariseHand};
@@ -31,10 +31,11 @@ pub fn a_kept_index_takes_a_summarise()
 }
 
 /// What the passed blocks made is, column by column, the exact summary of all their rows in use, in order of block and slot: which of nulls
-/// and values they had, and the summary of the values. Does nothing.
+/// and values they had, and the summary of the values. Once no block is left it is that of all blocks of the range. Does nothing.
 pub fn a_running_tuple_is_exact()
-    ensures { (shape : IndexShape) (heap : Heap) (range extent next : ℕ) (running : Tuple) (so_far : HasPassed shape heap range extent next running)
+    ensures so_far { (shape : IndexShape) (heap : Heap) (range extent next : ℕ) (running : Tuple) (so_far : HasPassed shape heap range extent next running)
         → IsExactTuple (rows_of_blocks heap.blocks (first_of_range heap range) so_far.passed) running }
+    ensures all { (shape : IndexShape) (heap : Heap) (range extent next : ℕ) (running : Tuple) → HasPassedAll shape heap range extent next running → IsExactTuple (rows_of_range heap range) running }
 {
     rows_leave_exact_summaries();
 }

@@ -79,3 +79,6 @@ returns-in-Err-clause-full g c =
     FinalFull number (Passing hand.extent hand.next (seen shape (tuple_bytes hand.running))) c.args.spot (seen shape c.args.copied.now) (seen shape (tuple_bytes c.args.united.now))
     (verdict_as shape w at.actor at.range c.args.spot _ c.args.copied.now _ (tuple_bytes c.args.united.now) (Full number) c.bytes.ensures c.spell-size.ensures.bytes (full tells w shows)))
     c.in-Err.ensures.full
+
+pub returns-in-Ok-Differs-clause-exact : goal.returns-in-Ok-Differs-clause-exact
+returns-in-Ok-Differs-clause-exact g c = λ shape heap hand exact. exact.0.0

@@ -43,11 +43,11 @@ returns-clause-stepped g c = λ tells locks heap hand.
     (c.settle.ensures ∙ ap (λ (t : Tuple). record t { placeholder = false }) c.unite.ensures.widened)
 
 pub returns-in-Ok-false-clause-exact : goal.returns-in-Ok-false-clause-exact
-returns-in-Ok-false-clause-exact g c = λ heap hand so_far. so_far
+returns-in-Ok-false-clause-exact g c = λ heap hand passed. passed.0
 
 pub returns-clause-exact : goal.returns-clause-exact
-returns-clause-exact g c = λ heap hand so_far. (
-  so_far,
+returns-clause-exact g c = λ heap hand passed. (
+  passed,
   record {
     placeholder = c.copy_tuple.new.tuple;
     read = c.in-Ok-true.ensures.read c.in-Ok-true.field-0-test;

@@ -14,10 +14,10 @@ returns-in-Ok-pass-clause-stepped g c = λ tells blocks has locks. c.in-Ok-pass.
 pub returns-in-Ok-clause-exact : goal.returns-in-Ok-clause-exact
 returns-in-Ok-clause-exact g c = λ tells blocks has so_far.
     let old = c.args.pages.now in
-    c.in-Ok.ensures.exact (shape_of old.layout c.args.at.index) (heap_of old.layout c.args.at.index blocks) (hand_of stages.Pass c.args.work.now) so_far
+    c.in-Ok.ensures.exact (shape_of old.layout c.args.at.index) (heap_of old.layout c.args.at.index blocks) (hand_of stages.Pass c.args.work.now) c.if-work.true so_far
 
 pub returns-in-Ok-pass-clause-exact : goal.returns-in-Ok-pass-clause-exact
 returns-in-Ok-pass-clause-exact g c = λ tells blocks has so_far.
     let old = c.args.pages.now in
     let work = c.args.work.now in
-    passes_exact (shape_of old.layout c.args.at.index) (heap_of old.layout c.args.at.index blocks) c.args.at.range work.extent work.next work.running c.pass.new.running (c.in-Ok-pass.ensures.exact tells blocks has) so_far
+    passes_exact (shape_of old.layout c.args.at.index) (heap_of old.layout c.args.at.index blocks) c.args.at.range work.extent work.next work.running c.pass.new.running c.if-work.false (c.in-Ok-pass.ensures.exact tells blocks has) so_far
