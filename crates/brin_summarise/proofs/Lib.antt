@@ -7,3 +7,4 @@ pub mod Kept
 pub mod Faults
 pub mod Declared
 pub mod Exact
+pub mod Locking

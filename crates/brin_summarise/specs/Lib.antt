@@ -5,3 +5,4 @@ pub mod StepCauses
 pub mod BlockRows
 pub mod Works
 pub mod ExactSummaries
+pub mod StageLocks

@@ -1,6 +1,7 @@
 //! What a summarise works with at a range, and its next step by the stage that it is at.
 
-ghost use Rattle.std.specs.Prelude.{◌≡◌, ◌+◌, ◌<◌, ◌≤◌, true, false, length, IfOk, IfErr, OnErr};
+ghost use Rattle.std.specs.Prelude.{◌≡◌, ◌+◌, ◌<◌, ◌≤◌, true, false, length, IfOk, IfErr, OnErr, OnOk};
+ghost use Rattle.page_locks.specs.LockCounts.{locks_of};
 ghost use Rattle.page_locks.specs.LockHolders.{LockState, count_of, holder};
 ghost use Rattle.page_store.specs.Keeps.{Keeps, Tells};
 ghost use Rattle.heap_rows.specs.HeapBlocks.{OfBlocks};
@@ -9,12 +10,13 @@ ghost use Rattle.index_contents.specs.IndexContents.{contents, relation_of};
 ghost use Rattle.index_contents.specs.IndexChanges.{LeavesOthers};
 ghost use Rattle.index_steps.specs.IndexTuples.{shape_of};
 ghost use Rattle.index_steps.specs.StepAnswers.{BlockedWell, IsOfStore, NeverBlocked};
-ghost use Rattle.index_steps.specs.SwapAnswers.{LeavesLocks, MachineOutcome, SaysSwapFull};
+ghost use Rattle.index_steps.specs.SwapAnswers.{LeavesLocks, MachineOutcome, SaysFullIn, TakesAtMost};
 ghost use Rattle.brin_summarise.specs.ExactSummaries.{IsExactAt};
 ghost use Rattle.brin_summarise.specs.ShownHeap.{Heap, heap_of};
-ghost use Rattle.brin_summarise.specs.StepCauses.{DamageAt, IsReady};
+ghost use Rattle.brin_summarise.specs.StepCauses.{DamageAt, IsReady, NamesPageAt};
+ghost use Rattle.brin_summarise.specs.StageLocks.{GivesAt, held_at, taken_at};
 ghost use Rattle.brin_summarise.specs.SummariseHands.{IsHandOf, table_of};
-ghost use Rattle.brin_summarise.specs.SummariseSteps.{IsAtWork, StandsAfter, StepFull, StepsAt, only_reads, summarise_at};
+ghost use Rattle.brin_summarise.specs.SummariseSteps.{IsAtWork, RestsBlocked, StandsAfter, StepFull, StepsAt, only_reads, summarise_at};
 ghost use Rattle.brin_summarise.specs.Works.{hand_of};
 
 use crate::in_range::{
@@ -56,18 +58,23 @@ pub(crate) fn step_in<D: Disk + Drop>(
     requires work { IsAtWork stage }
     requires of { IsHandOf pages.old.layout at.index (hand_of stage work.old) }
     requires room { tuple_room work.old.united.columns ≤ length room.old }
-    requires locks { count_of locks.old + 3 ≤ locks.old.limit }
+    requires locks { 0 < taken_at stage → count_of locks.old + taken_at stage ≤ locks.old.limit }
     requires ready { Tells D.told pages.old → IsReady (shape_of pages.old.layout at.index) (contents pages.old.layout pages.old.pages at.index) at.range stage }
     ensures stepped { IfOk result (λ o. OfBlocks D.told pages.old (table_of pages.old.layout at.index) (λ blocks. StepsAt pages.old.layout pages.old.pages pages.new.pages locks.old locks.new at (heap_of pages.old.layout at.index blocks) (hand_of stage work.old) (hand_of o.0 work.new) o.1)) }
     ensures exact { IfOk result (λ o. OfBlocks D.told pages.old (table_of pages.old.layout at.index) (λ blocks. IsExactAt (shape_of pages.old.layout at.index) (heap_of pages.old.layout at.index blocks) at.range (hand_of stage work.old) stage → IsExactAt (shape_of pages.old.layout at.index) (heap_of pages.old.layout at.index blocks) at.range (hand_of o.0 work.new) o.0)) }
     ensures stands { IfOk result (λ o. StandsAfter stage o.0 o.1) }
+    ensures rests { IfOk result (λ o. RestsBlocked (hand_of stage work.old) (hand_of o.0 work.new) o.1) }
     ensures of { IsHandOf pages.old.layout at.index (hand_of stage work.new) }
     ensures same_room { length room.new ≡ length room.old }
     ensures blocked { IfOk result (λ o. BlockedWell D.told at.index at.actor pages.old pages.new locks.old locks.new o.1) }
-    ensures full { IfErr result (SaysSwapFull pages.old.layout at.index (λ number. Tells D.told pages.old → StepFull (shape_of pages.old.layout at.index) at.actor at.range (summarise_at pages.old.layout pages.old.pages locks.old at.index (hand_of stage work.old)) number)) }
+    ensures full { IfErr result (SaysFullIn pages.old.layout at.index (λ number. Tells D.told pages.old → StepFull (shape_of pages.old.layout at.index) at.actor at.range (summarise_at pages.old.layout pages.old.pages locks.old at.index (hand_of stage work.old)) number)) }
     ensures others { LeavesOthers D.told at.index pages.old pages.new }
     ensures locks { LeavesLocks (holder locks.old) (holder locks.new) (relation_of pages.old.layout at.index) at.actor }
+    ensures counts { TakesAtMost (taken_at stage) locks.old locks.new at.actor }
+    ensures given { OnOk result (GivesAt stage → locks_of locks.new at.actor ≡ 0) }
+    ensures own { locks_of locks.old at.actor ≤ held_at stage → IfOk result (λ o. locks_of locks.new at.actor ≤ held_at o.0) }
     ensures kept { OnErr result (Keeps D.told pages.old pages.new) }
+    ensures at { IfErr result (NamesPageAt pages.old.layout at.index stage) }
     ensures outcome { MachineOutcome D.told (Tells D.told pages.old → DamageAt (shape_of pages.old.layout at.index) (contents pages.old.layout pages.old.pages at.index) at.range stage) pages.old pages.new result }
 {
     if reads(stage) {
@@ -119,6 +126,7 @@ fn read_in<D: Disk + Drop>(
     ensures kept { Keeps D.told pages.old pages.new }
     ensures never_blocked { IfOk result (λ o. NeverBlocked o.1) }
     ensures of_store { IfErr result IsOfStore }
+    ensures at { IfErr result (NamesPageAt pages.old.layout at.index stage) }
     ensures outcome { MachineOutcome D.told (Tells D.told pages.old → DamageAt (shape_of pages.old.layout at.index) (contents pages.old.layout pages.old.pages at.index) at.range stage) pages.old pages.new result }
 {
     match stage {
@@ -166,18 +174,23 @@ fn change_in<D: Disk + Drop>(
     requires changes { only_reads stage ≡ false }
     requires of { IsHandOf pages.old.layout at.index (hand_of stage work.old) }
     requires room { tuple_room work.old.united.columns ≤ length room.old }
-    requires locks { count_of locks.old + 3 ≤ locks.old.limit }
+    requires locks { 0 < taken_at stage → count_of locks.old + taken_at stage ≤ locks.old.limit }
     requires ready { Tells D.told pages.old → IsReady (shape_of pages.old.layout at.index) (contents pages.old.layout pages.old.pages at.index) at.range stage }
     ensures stepped { IfOk result (λ o. OfBlocks D.told pages.old (table_of pages.old.layout at.index) (λ blocks. StepsAt pages.old.layout pages.old.pages pages.new.pages locks.old locks.new at (heap_of pages.old.layout at.index blocks) (hand_of stage work.old) (hand_of o.0 work.new) o.1)) }
     ensures exact { IfOk result (λ o. OfBlocks D.told pages.old (table_of pages.old.layout at.index) (λ blocks. IsExactAt (shape_of pages.old.layout at.index) (heap_of pages.old.layout at.index blocks) at.range (hand_of stage work.old) stage → IsExactAt (shape_of pages.old.layout at.index) (heap_of pages.old.layout at.index blocks) at.range (hand_of o.0 work.new) o.0)) }
     ensures stands { IfOk result (λ o. StandsAfter stage o.0 o.1) }
+    ensures rests { IfOk result (λ o. RestsBlocked (hand_of stage work.old) (hand_of o.0 work.new) o.1) }
     ensures of { IsHandOf pages.old.layout at.index (hand_of stage work.new) }
     ensures same_room { length room.new ≡ length room.old }
     ensures blocked { IfOk result (λ o. BlockedWell D.told at.index at.actor pages.old pages.new locks.old locks.new o.1) }
-    ensures full { IfErr result (SaysSwapFull pages.old.layout at.index (λ number. Tells D.told pages.old → StepFull (shape_of pages.old.layout at.index) at.actor at.range (summarise_at pages.old.layout pages.old.pages locks.old at.index (hand_of stage work.old)) number)) }
+    ensures full { IfErr result (SaysFullIn pages.old.layout at.index (λ number. Tells D.told pages.old → StepFull (shape_of pages.old.layout at.index) at.actor at.range (summarise_at pages.old.layout pages.old.pages locks.old at.index (hand_of stage work.old)) number)) }
     ensures others { LeavesOthers D.told at.index pages.old pages.new }
     ensures locks { LeavesLocks (holder locks.old) (holder locks.new) (relation_of pages.old.layout at.index) at.actor }
+    ensures counts { TakesAtMost (taken_at stage) locks.old locks.new at.actor }
+    ensures given { OnOk result (GivesAt stage → locks_of locks.new at.actor ≡ 0) }
+    ensures own { locks_of locks.old at.actor ≤ held_at stage → IfOk result (λ o. locks_of locks.new at.actor ≤ held_at o.0) }
     ensures kept { OnErr result (Keeps D.told pages.old pages.new) }
+    ensures at { IfErr result (NamesPageAt pages.old.layout at.index stage) }
     ensures outcome { MachineOutcome D.told (Tells D.told pages.old → DamageAt (shape_of pages.old.layout at.index) (contents pages.old.layout pages.old.pages at.index) at.range stage) pages.old pages.new result }
 {
     match stage {
@@ -226,6 +239,7 @@ fn begin_pass<D: Disk + Drop>(
     ensures united { work.new.united ≡ work.old.united }
     ensures never_blocked { IfOk result (λ o. NeverBlocked o.1) }
     ensures of_store { IfErr result IsOfStore }
+    ensures at { IfErr result (NamesPageAt pages.now.layout at.index Stage.Extent) }
     ensures outcome { MachineOutcome D.told (Tells D.told pages.now → DamageAt (shape_of pages.now.layout at.index) (contents pages.now.layout pages.now.pages at.index) at.range Stage.Extent) pages.now pages.now result }
 {
     match read_extent(pages, at, &mut work.running) {
@@ -254,6 +268,7 @@ fn go_on<D: Disk + Drop>(
     ensures kept { Keeps D.told pages.old pages.new }
     ensures never_blocked { IfOk result (λ o. NeverBlocked o.1) }
     ensures of_store { IfErr result IsOfStore }
+    ensures at { IfErr result (NamesPageAt pages.old.layout at.index Stage.Pass) }
     ensures outcome { MachineOutcome D.told (Tells D.told pages.old → DamageAt (shape_of pages.old.layout at.index) (contents pages.old.layout pages.old.pages at.index) at.range Stage.Pass) pages.old pages.new result }
 {
     if work.next >= work.extent {
@@ -289,6 +304,7 @@ fn unite_in<D: Disk + Drop>(
     ensures kept { Keeps D.told pages.old pages.new }
     ensures never_blocked { IfOk result (λ o. NeverBlocked o.1) }
     ensures of_store { IfErr result IsOfStore }
+    ensures at { IfErr result (NamesPageAt pages.old.layout at.index (Stage.Copy spot)) }
     ensures outcome { MachineOutcome D.told (Tells D.told pages.old → DamageAt (shape_of pages.old.layout at.index) (contents pages.old.layout pages.old.pages at.index) at.range (Stage.Copy spot)) pages.old pages.new result }
 {
     match unite(

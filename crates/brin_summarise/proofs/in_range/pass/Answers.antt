@@ -22,6 +22,8 @@ use Rattle.brin_summarise.specs.ShownHeap.{heap_of}
 use Rattle.brin_summarise.specs.SummariseHands.{table_of}
 use Rattle.brin_summarise.proofs.Passing.{block_makes}
 use Rattle.brin_summarise.proofs.Stepped.{has_passed}
+use Rattle.page_store.specs.Outcome.{NamesPage}
+use Rattle.heap_rows.specs.Heaps.{relation_of}
 use Rattle.brin_summarise.proofs.in_range.pass.Goals as goal
 
 pub returns-in-Ok-clause-stepped : goal.returns-in-Ok-clause-stepped
@@ -86,3 +88,10 @@ returns-in-Ok-clause-exact g c = λ tells blocks has.
     let rows : List Stored = c.rows_of.new.out.rows in
     let listed : c.as_slice.result.now ≡ rows = c.as_slice.ensures in
     c.add_rows.ensures.rows ∙ ap (λ (qs : List Stored). with_rows (values_of qs) t) (listed ∙ c.in-Ok.ensures.rows tells blocks has_too)
+
+pub returns-in-Err-clause-at : goal.returns-in-Err-clause-at
+returns-in-Err-clause-at g c =
+    let store = c.args.pages.now in
+    let layout : c.layout-layout.result.now ≡ store.layout = c.layout-layout.ensures in
+    let number : c.table_of-table.result ≡ table_of store.layout c.args.at.index = c.table_of-table.ensures.number ∙ ap (λ (l : DiskLayout). table_of l c.args.at.index) layout in
+    (c.args.block, subst (λ (t : ℕ). NamesPage store.layout (record { relation = relation_of t; block = c.args.block }) c.in-Err.error) number c.in-Err.ensures.at)

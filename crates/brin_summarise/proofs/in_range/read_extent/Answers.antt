@@ -10,6 +10,7 @@ use Rattle.brin_summarise.specs.ShownHeap.{heap_of}
 use Rattle.brin_summarise.specs.SummariseHands.{table_of}
 use Rattle.brin_summarise.proofs.Stepped.{extent_is}
 use Rattle.brin_summarise.proofs.Exact.{begins_exact}
+use Rattle.brin_summarise.proofs.Locking.{reopen_names}
 use Rattle.brin_summarise.proofs.in_range.read_extent.Goals as goal
 
 next_range : (range each : ℕ) → (range + 1) * each ≡ range * each + each
@@ -51,3 +52,6 @@ returns-clause-exact g c = λ tells blocks has.
     ∙ ap (λ (n : ℕ). min n (c.first_block-first.result + c.from.result)) (c.from-extent.ensures ∙ count)
     ∙ ap (λ (n : ℕ). min (length blocks) n) (omega (arith, first, each, c.from.ensures, next_range at.range (index_at store.layout at.index).pages_per_range)))
     first
+
+pub returns-in-Err-clause-at : goal.returns-in-Err-clause-at
+returns-in-Err-clause-at g c = reopen_names c.args.pages.now.layout c.args.at.index c.in-Err.error c.in-Err.ensures.reopen

@@ -3,6 +3,7 @@ use Rattle.brin_summarise.specs.ShownHeap.{heap_of}
 use Rattle.brin_summarise.specs.Works.{hand_of}
 use Rattle.index_steps.specs.IndexTuples.{shape_of}
 use Rattle.brin_summarise.proofs.Exact.{passes_exact}
+use Rattle.std.proofs.Common.{inl, inr}
 use Rattle.brin_summarise.proofs.work.go_on.Goals as goal
 
 pub returns-in-Ok-clause-stepped : goal.returns-in-Ok-clause-stepped
@@ -21,3 +22,9 @@ returns-in-Ok-pass-clause-exact g c = λ tells blocks has so_far.
     let old = c.args.pages.now in
     let work = c.args.work.now in
     passes_exact (shape_of old.layout c.args.at.index) (heap_of old.layout c.args.at.index blocks) c.args.at.range work.extent work.next work.running c.pass.new.running c.if-work.false (c.in-Ok-pass.ensures.exact tells blocks has) so_far
+
+pub returns-in-Err-clause-at : goal.returns-in-Err-clause-at
+returns-in-Err-clause-at g c = inl c.in-Err.ensures.at
+
+pub returns-in-Err-pass-clause-at : goal.returns-in-Err-pass-clause-at
+returns-in-Err-pass-clause-at g c = inr c.in-Err-pass.ensures.at
