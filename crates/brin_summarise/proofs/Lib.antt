@@ -8,3 +8,4 @@ pub mod Faults
 pub mod Declared
 pub mod Exact
 pub mod Locking
+pub mod Joined

@@ -1,12 +1,16 @@
 -- when what a summarise has made so far is exactly what the rows in use of its range make
-use Rattle.std.specs.Prelude.{◌≡◌, ℕ, zero, suc, ◌+◌, ◌-◌, ◌*◌, ◌≤◌, min, List, [], ◌++◌, length}
+use Rattle.std.specs.Prelude.{◌≡◌, ℕ, zero, suc, ◌+◌, ◌-◌, ◌*◌, ◌≤◌, ◌<◌, min, false, ◌||◌, if◌then◌else◌, List, [], ◌++◌, length, slice_index_or}
+use Rattle.std.specs.List.{filter, list_any}
 use Rattle.block_model.specs.declared.value.Value.{Value}
 use Rattle.page_layout.specs.PageContents.{Slot}
 use Rattle.heap_rows.specs.HeapBlocks.{slots_of}
 use Rattle.heap_rows.specs.StoredRows.{stored_rows}
-use Rattle.range_tuple.specs.ExactTuples.{with_rows}
-use Rattle.range_tuple.specs.Tuples.{Tuple, empty_placeholder}
-use Rattle.index_steps.specs.IndexTuples.{IndexShape, final_union}
+use Rattle.opclass_api.specs.Conditions.{is_null}
+use Rattle.opclass_any.specs.AnyClass.{exact, united}
+use Rattle.range_tuple.specs.ExactTuples.{is_value, values_at, with_rows}
+use Rattle.range_tuple.specs.NullStates.{has_nulls, has_values}
+use Rattle.range_tuple.specs.Tuples.{IndexedColumn, Tuple, empty_placeholder, parts_of}
+use Rattle.index_steps.specs.IndexTuples.{IndexShape, classes_of, final_union}
 use Rattle.index_steps.specs.Readings.{IsReadAs}
 use Rattle.brin_summarise.specs.declared.stage.Stage.{Stage}
 use Rattle.brin_summarise.specs.declared.stage.Stage.TheVariants as stages
@@ -48,10 +52,30 @@ abbrev pub HasPassedAll : IndexShape → Heap → (range extent next : ℕ) → 
 HasPassedAll shape heap range extent next running = HasPassed shape heap range extent next running × (extent ≤ next)
 
 -- the final tuple unites the placeholder that was copied with the running one
-pub record Unites (shape : IndexShape) (copied : List ℕ) (united running : Tuple) : Type 0 where
+pub record Unites (shape : IndexShape) (copied : List ℕ) (final running : Tuple) : Type 0 where
   pub placeholder : Tuple
   pub read : IsReadAs shape copied placeholder
-  pub union : united ≡ final_union running placeholder
+  pub of : parts_of placeholder.columns ≡ classes_of shape
+  pub union : final ≡ final_union running placeholder
+
+-- nulls and values are said exactly where the other column had some or some are among these; where values are, their exact summary joins
+-- the other one's
+pub record IsJoined (values : List Value) (held column : IndexedColumn) : Type 0 where
+  pub nulls : has_nulls column.state ≡ (has_nulls held.state || list_any is_null values)
+  pub some_values : has_values column.state ≡ (has_values held.state || list_any is_value values)
+  pub summary : column.summary ≡ (if list_any is_value values then united held.class held.summary (exact held.class (filter is_value values)) else held.summary)
+
+-- column by column
+abbrev pub AreJoined : List (List Value) → (held columns : List IndexedColumn) → Type 0
+AreJoined rows held columns = (k : ℕ) (other column : IndexedColumn) → k < length columns → other ≡ slice_index_or held k other → column ≡ slice_index_or columns k column → IsJoined (values_at column.place rows) other column
+
+-- a final tuple, which has what the placeholder of these bytes held, and exactly these rows
+pub record IsFinalOf (shape : IndexShape) (copied : List ℕ) (rows : List (List Value)) (t : Tuple) : Type 0 where
+  pub placeholder : Tuple
+  pub read : IsReadAs shape copied placeholder
+  pub joined : AreJoined rows placeholder.columns t.columns
+  pub range : t.range ≡ placeholder.range
+  pub final : t.placeholder ≡ false
 
 -- what it has at this stage is exact, as long as the rows of the table stay
 abbrev pub IsExactAt : IndexShape → Heap → (range : ℕ) → SummariseHand → Stage → Type 0

@@ -13,6 +13,6 @@ mod rows;
 mod stage;
 mod work;
 
-pub use laws::{a_kept_index_takes_a_summarise, a_running_tuple_is_exact};
+pub use laws::{a_final_tuple_is_exact, a_kept_index_takes_a_summarise, a_running_tuple_is_exact};
 pub use range_summarise::RangeSummarise;
 pub use stage::Stage;

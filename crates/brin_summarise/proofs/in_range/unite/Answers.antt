@@ -51,6 +51,7 @@ returns-clause-exact g c = λ heap hand passed. (
   record {
     placeholder = c.copy_tuple.new.tuple;
     read = c.in-Ok-true.ensures.read c.in-Ok-true.field-0-test;
+    of = c.copy_tuple.ensures.same_index ∙ c.requires.tuple;
     union = c.settle.ensures ∙ ap (λ (t : Tuple). record t { placeholder = false }) c.unite.ensures.widened;
   },
 )
