@@ -1,4 +1,4 @@
-use Rattle.std.proofs.Common.{◌≡◌, ℕ, ◌≤◌, List, [], length, refl, sym, ap, subst, ◌∙◌, arith}
+use Rattle.std.proofs.Common.{◌≡◌, ℕ, ◌≤◌, List, [], length, refl, sym, ap, subst, ◌∙◌, arith, ◌<◌}
 use Rattle.range_store.specs.Tuples.{IsTupleSize}
 use Rattle.range_tuple.specs.TupleBytes.{tuple_bytes}
 use Rattle.coverage.specs.Verdicts.{Full, PutVerdict}
@@ -67,3 +67,11 @@ pub returns-in-Ok-Waits-clause-own : goal.returns-in-Ok-Waits-clause-own
 returns-in-Ok-Waits-clause-own g c = λ few.
     let same = rw c.in-Ok-Waits.field-0-is at c.in-Ok-Waits.ensures.locks in
     as_few 0 0 c.args.locks.now c.put_new.new.locks c.args.at.actor same few (omega arith)
+
+pub returns-in-Ok-Waits-clause-rests : goal.returns-in-Ok-Waits-clause-rests
+returns-in-Ok-Waits-clause-rests g c = λ hand. refl
+
+pub returns-in-Ok-Waits-clause-stands : goal.returns-in-Ok-Waits-clause-stands
+returns-in-Ok-Waits-clause-stands g c =
+    let some : 0 < 2 = omega arith in
+    (some, refl)

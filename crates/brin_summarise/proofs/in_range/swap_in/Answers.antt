@@ -1,4 +1,4 @@
-use Rattle.std.proofs.Common.{◌≡◌, ℕ, List, refl, sym, ap, subst, ◌∙◌}
+use Rattle.std.proofs.Common.{◌≡◌, ℕ, List, refl, sym, ap, subst, ◌∙◌, ◌<◌, arith}
 use Rattle.range_tuple.specs.TupleBytes.{tuple_bytes}
 use Rattle.index_contents.specs.IndexContents.{contents}
 use Rattle.std.proofs.Common.{length}
@@ -101,3 +101,11 @@ returns-in-Ok-Waits-clause-own g c = λ few.
 
 pub returns-in-Ok-Moves-clause-own : goal.returns-in-Ok-Moves-clause-own
 returns-in-Ok-Moves-clause-own g c = λ few. few_more 3 0 3 c.args.locks.now c.swap.new.locks c.args.at.actor c.swap.ensures.counts few (omega arith)
+
+pub returns-in-Ok-Waits-clause-rests : goal.returns-in-Ok-Waits-clause-rests
+returns-in-Ok-Waits-clause-rests g c = λ hand. refl
+
+pub returns-in-Ok-Waits-clause-stands : goal.returns-in-Ok-Waits-clause-stands
+returns-in-Ok-Waits-clause-stands g c =
+    let some : 0 < 3 = omega arith in
+    (some, refl)
