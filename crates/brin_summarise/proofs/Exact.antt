@@ -13,6 +13,14 @@ use Rattle.brin_summarise.proofs.Seen.{restarted_is}
 more_rows : (xs ys : List (List Value)) (t : Tuple) → with_rows (xs ++ ys) t ≡ with_rows ys (with_rows xs t)
 more_rows xs ys t = fold-append (λ (widened : Tuple) (row : List Value). with_row row widened) t xs ys
 
+-- one more is within, where the next one is below the end
+one_within : (first n next extent end : ℕ) → next ≡ first + n → extent ≡ end → next < extent → suc n ≤ end - first
+one_within first n next extent end place ends below = omega (arith, place, ends, below)
+
+-- where the next one isn't, there are no more
+all_within : (first n next extent end : ℕ) → next ≡ first + n → extent ≡ end → n ≤ end - first → extent ≤ next → n ≡ end - first
+all_within first n next extent end place ends within all = omega (arith, place, ends, within, all)
+
 module _ (shape : IndexShape) (heap : Heap) (range extent next : ℕ) (running : Tuple) where
   -- nothing is passed yet
   pub begins_exact : (t : Tuple) → parts_of t.columns ≡ classes_of shape → running ≡ restarted range t → extent ≡ min (length heap.blocks) (first_of_range heap (range + 1)) → next ≡ first_of_range heap range
@@ -32,13 +40,11 @@ module _ (shape : IndexShape) (heap : Heap) (range extent next : ℕ) (running :
       let n : ℕ = so_far.passed in
       let none : Tuple = empty_placeholder range shape.columns shape.parts in
       let place : next ≡ first + n = so_far.reached in
-      let ends : extent ≡ min (length heap.blocks) (first_of_range heap (range + 1)) = so_far.ends in
-      let more : suc n ≤ min (length heap.blocks) (first_of_range heap (range + 1)) - first = omega (arith, place, ends, below) in
       record {
         passed = suc n;
         ends = so_far.ends;
         reached = omega (arith, place);
-        within = more;
+        within = one_within first n next extent (min (length heap.blocks) (first_of_range heap (range + 1))) place so_far.ends below;
         added =
             made
             ∙ ap (λ (b : ℕ). with_rows (rows_of_block heap.blocks b) running) place
@@ -49,8 +55,4 @@ module _ (shape : IndexShape) (heap : Heap) (range extent next : ℕ) (running :
   -- where the next block is past the extent, all are passed
   pub all_passed : (so_far : HasPassed shape heap range extent next running) → extent ≤ next → so_far.passed ≡ blocks_of_range heap range
   all_passed so_far all =
-      let first : ℕ = first_of_range heap range in
-      let place : next ≡ first + so_far.passed = so_far.reached in
-      let ends : extent ≡ min (length heap.blocks) (first_of_range heap (range + 1)) = so_far.ends in
-      let within : so_far.passed ≤ min (length heap.blocks) (first_of_range heap (range + 1)) - first = so_far.within in
-      omega (arith, place, ends, within, all)
+      all_within (first_of_range heap range) so_far.passed next extent (min (length heap.blocks) (first_of_range heap (range + 1))) so_far.reached so_far.ends so_far.within all
