@@ -10,7 +10,7 @@ use Rattle.opclass_any.specs.declared.classes.AnySummary.{AnySummary}
 use Rattle.range_tuple.specs.ExactTuples.{IsExact, is_value, values_at}
 use Rattle.range_tuple.specs.NullStates.{has_nulls, has_values, state_of}
 use Rattle.range_tuple.specs.Tuples.{IndexedColumn, part_of, parts_of, united_column, united_columns}
-use Rattle.brin_summarise.specs.ExactSummaries.{AreJoined, IsJoined}
+use Rattle.brin_summarise.specs.ExactSummaries.{IsJoined}
 
 nulls_of : (a b : Bool) → has_nulls (state_of a b) ≡ a
 nulls_of true true = refl
@@ -34,28 +34,26 @@ joined values column other class exactly = record {
       ∙ ap (λ (s : AnySummary). cond (list_any is_value values) (united column.class column.summary s) column.summary) (exactly.summary ∙ ap (λ (a : AnyClass). exact a (filter is_value values)) class);
 }
 
-others_of : List (ℕ × AnyClass) → List (ℕ × AnyClass)
+abbrev others_of : List (ℕ × AnyClass) → List (ℕ × AnyClass)
 others_of [] = []
 others_of (part ∷ parts) = parts
 
-pub joined_columns : (rows : List (List Value)) (columns others : List IndexedColumn) → parts_of others ≡ parts_of columns → All (λ (column : IndexedColumn). IsExact (values_at column.place rows) column) others
-    → AreJoined rows columns (united_columns columns others)
-unfolding others_of
-joined_columns rows [] others same all = λ k held new within is_held is_new. absurd (omega (arith, within))
-joined_columns rows (column ∷ columns) [] same all =
+-- the first column
+joined_first : (rows : List (List Value)) (column other : IndexedColumn) (columns others : List IndexedColumn) → parts_of (other ∷ others) ≡ parts_of (column ∷ columns)
+    → All (λ (c : IndexedColumn). IsExact (values_at c.place rows) c) (other ∷ others) → IsJoined (values_at column.place rows) column (united_column column other)
+joined_first rows column other columns others same all =
+    let one : part_of other ≡ part_of column = ap (λ (parts : List (ℕ × AnyClass)). get_or parts 0 (part_of other)) same in
+    joined (values_at column.place rows) column other (ap (λ (p : ℕ × AnyClass). p.1) one)
+    (subst (λ (place : ℕ). IsExact (values_at place rows) other) (ap (λ (p : ℕ × AnyClass). p.0) one) (All-head (λ (c : IndexedColumn). IsExact (values_at c.place rows) c) other others all))
+
+pub joined_columns : (rows : List (List Value)) (columns others : List IndexedColumn) → parts_of others ≡ parts_of columns → All (λ (c : IndexedColumn). IsExact (values_at c.place rows) c) others
+    → (k : ℕ) (held new : IndexedColumn) → k < length (united_columns columns others) → held ≡ get_or columns k held → new ≡ get_or (united_columns columns others) k new → IsJoined (values_at new.place rows) held new
+joined_columns rows [] others same all k held new within is_held is_new = absurd (omega (arith, within))
+joined_columns rows (column ∷ columns) [] same all k held new within is_held is_new =
     let lengths : 0 ≡ suc (length (parts_of columns)) = ap length same in
     absurd (omega (arith, lengths))
-joined_columns rows (column ∷ columns) (other ∷ others) same all = by
-  where
-    one : part_of other ≡ part_of column
-    one = ap (λ (parts : List (ℕ × AnyClass)). get_or parts 0 (part_of other)) same
-
-    here : IsJoined (values_at column.place rows) column (united_column column other)
-    here = joined (values_at column.place rows) column other (ap (λ (p : ℕ × AnyClass). p.1) one)
-        (subst (λ (place : ℕ). IsExact (values_at place rows) other) (ap (λ (p : ℕ × AnyClass). p.0) one) (All-head (λ (c : IndexedColumn). IsExact (values_at c.place rows) c) other others all))
-
-    by : AreJoined rows (column ∷ columns) (united_columns (column ∷ columns) (other ∷ others))
-    by zero held new within is_held is_new =
-        subst (λ (c : IndexedColumn). IsJoined (values_at c.place rows) held c) (sym is_new) (subst (λ (h : IndexedColumn). IsJoined (values_at column.place rows) h (united_column column other)) (sym is_held) here)
-    by (suc k) held new within is_held is_new =
-        joined_columns rows columns others (ap others_of same) (All-tail (λ (c : IndexedColumn). IsExact (values_at c.place rows) c) other others all) k held new (omega (arith, within)) is_held is_new
+joined_columns rows (column ∷ columns) (other ∷ others) same all zero held new within is_held is_new =
+    subst (λ (c : IndexedColumn). IsJoined (values_at c.place rows) held c) (sym is_new)
+    (subst (λ (h : IndexedColumn). IsJoined (values_at column.place rows) h (united_column column other)) (sym is_held) (joined_first rows column other columns others same all))
+joined_columns rows (column ∷ columns) (other ∷ others) same all (suc k) held new within is_held is_new =
+    joined_columns rows columns others (ap others_of same) (All-tail (λ (c : IndexedColumn). IsExact (values_at c.place rows) c) other others all) k held new (omega (arith, within)) is_held is_new
