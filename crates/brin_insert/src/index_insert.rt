@@ -24,7 +24,7 @@ use crate::stage::Stage;
 use block_model::{NoMemory, Value};
 use disk_trait::Disk;
 use engine_pages::PageStore;
-use index_steps::{Within, declared_index};
+use index_steps::{Within, declared_index, tuples_of_an_index_need_one_room};
 use page_locks::{Did, Locks};
 use page_store::MachineFault;
 use range_store::Scratch;
@@ -131,6 +131,7 @@ impl IndexInsert {
         ensures at { IfErr result (FaultNamesPageOf pages.old.layout self.old.index) }
         ensures outcome { MachineOutcome D.told (Tells D.told pages.old → DamageAt (shape_of pages.old.layout self.old.index) (contents pages.old.layout pages.old.pages self.old.index) range self.old.stage) pages.old pages.new result }
     {
+        tuples_of_an_index_need_one_room();
         let index = self.index;
         let at = Within {
             index,

@@ -8,18 +8,17 @@ use Rattle.brin_insert.specs.declared.stage.Stage.TheVariants as stages
 use Rattle.brin_insert.specs.StageLocks.{held_at, taken_at}
 use Rattle.brin_insert.specs.InsertHands.{InsertHand}
 use Rattle.brin_insert.specs.InsertSteps.{Stepped, insert_at, insert_of}
-use Rattle.brin_insert.proofs.Sizes.{same_room}
 use Rattle.brin_insert.proofs.index_insert.IndexInsert.step.Goals as goal
 
 pub invariant_of-self : goal.invariant_of-self
 invariant_of-self g c =
-    let room = same_room c.step_in.new.tuple.columns c.self.inside.widened.columns c.step_in.ensures.same_index in
+    let room = c.tuples_of_an_index_need_one_room.ensures c.step_in.new.tuple.columns c.self.inside.widened.columns c.step_in.ensures.same_index in
     let v = c.self.inside.room.items in
     omega (arith, room, length_refill v.len v.items c.step_in.new.room v.ok.0, v.ok.0, c.self.invariant)
 
 pub invariant_of-self-in-Err : goal.invariant_of-self-in-Err
 invariant_of-self-in-Err g c =
-    let room = same_room c.step_in.new.tuple.columns c.self.inside.widened.columns c.step_in.ensures.same_index in
+    let room = c.tuples_of_an_index_need_one_room.ensures c.step_in.new.tuple.columns c.self.inside.widened.columns c.step_in.ensures.same_index in
     let v = c.self.inside.room.items in
     omega (arith, room, length_refill v.len v.items c.step_in.new.room v.ok.0, v.ok.0, c.self.invariant)
 
