@@ -6,3 +6,6 @@ pub mod Adding
 pub mod Kept
 pub mod Faults
 pub mod Declared
+pub mod Exact
+pub mod Locking
+pub mod Joined

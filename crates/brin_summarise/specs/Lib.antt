@@ -4,3 +4,5 @@ pub mod SummariseSteps
 pub mod StepCauses
 pub mod BlockRows
 pub mod Works
+pub mod ExactSummaries
+pub mod StageLocks
