@@ -4,3 +4,4 @@ pub mod SummariseSteps
 pub mod StepCauses
 pub mod BlockRows
 pub mod Works
+pub mod Summarises

@@ -5,13 +5,19 @@
 //! tuple at most. It stands on index_steps and heap_rows.
 #![tactic(auto)]
 
+mod course;
 mod in_range;
 mod laws;
 mod range_summarise;
 mod rows;
 mod stage;
+mod summarise;
+mod wish;
 mod work;
 
+pub use course::Standing;
 pub use laws::a_kept_index_takes_a_summarise;
 pub use range_summarise::RangeSummarise;
 pub use stage::Stage;
+pub use summarise::Summarise;
+pub use wish::Wish;
