@@ -6,3 +6,9 @@ pub mod Adding
 pub mod Kept
 pub mod Faults
 pub mod Declared
+pub mod Coming
+pub mod Shown
+pub mod Settling
+pub mod Tables
+pub mod InTable
+pub mod Calls

@@ -5,3 +5,5 @@ pub mod StepCauses
 pub mod BlockRows
 pub mod Works
 pub mod Summarises
+pub mod TableSteps
+pub mod SummariseCalls

@@ -66,7 +66,7 @@ pub record IsSummariseOf (layout : DiskLayout) (a : SummariseState) : Type 0 whe
   pub hand : IsHandOf layout a.index a.hand
   pub extent : a.extent ≤ layout.sizes.heap_blocks
   pub few : a.made ≤ 131072
-  pub at_range : a.standing ≡ standings.AtRange → GoesOver a.wish (in_range_of layout a.index) a.extent a.range × (a.made ≤ a.range) × IsAtWork a.hand.stage
+  pub at_range : a.standing ≡ standings.AtRange → GoesOver a.wish (in_range_of layout a.index) a.extent a.range × (a.made ≤ a.range) × (a.range < 131072) × IsAtWork a.hand.stage
 
 -- how many ranges it has given a final tuple
 abbrev pub count_at : SummariseState → Standing → ℕ

@@ -7,6 +7,7 @@
 
 mod course;
 mod in_range;
+mod law_table;
 mod laws;
 mod range_summarise;
 mod rows;
@@ -16,6 +17,7 @@ mod wish;
 mod work;
 
 pub use course::Standing;
+pub use law_table::{a_summarise_ends_alone, a_summarise_steps_in_its_table};
 pub use laws::a_kept_index_takes_a_summarise;
 pub use range_summarise::RangeSummarise;
 pub use stage::Stage;

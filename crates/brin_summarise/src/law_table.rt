@@ -1,0 +1,47 @@
+//! What the steps of a summarise are in the table of its index, as laws.
+
+ghost use Rattle.std.specs.Prelude.{◌≡◌, ◌≤◌, ℕ, List, Some, slice_get};
+ghost use Rattle.page_layout.specs.PageContents.{Slot};
+ghost use Rattle.page_locks.specs.declared.did.Did.{Did};
+ghost use Rattle.page_locks.specs.LockHolders.{LockState};
+ghost use Rattle.page_store.specs.PageMap.{PageMap};
+ghost use Rattle.store_layout.specs.DiskLayout.{DiskLayout};
+ghost use Rattle.table_coverage.specs.Machines.{ShownTable, Unseen, table_state};
+ghost use Rattle.table_coverage.specs.StepsLeft.{HasAtMostTuples, IsSummarise, summarise_steps};
+ghost use Rattle.table_coverage.specs.Table.{Job, Maintains};
+ghost use Rattle.table_coverage.specs.TableCovered.{IsTableKept};
+ghost use Rattle.coverage.specs.Statements.{Phase};
+ghost use Rattle.index_steps.specs.ShownRows.{shown_by};
+ghost use Rattle.index_steps.specs.ShownTable.{indexes_of};
+ghost use Rattle.brin_summarise.specs.SummariseCalls.{SummariseCalls};
+ghost use Rattle.brin_summarise.specs.SummariseHands.{table_of};
+ghost use Rattle.brin_summarise.specs.Summarises.{FullAt, IsSummariseOf, StoreStep, SummariseDoes, SummariseState};
+ghost use Rattle.brin_summarise.specs.TableSteps.{DoesInTable, IsSummariseFull, LeavesTheRest, task_of};
+
+use table_coverage::{
+    a_table_steps_with_its_index, machines_in_one_index, summarises_end, table_stays_covered,
+};
+
+/// A step of a summarise is what its session does in the table, with the other indexes and the heap as they were, whatever the pages and locks
+/// don't show: it takes the summarise lock, and goes on at its range, or comes to the next one, or replies where none is left. The ranges that
+/// the session's account gains are those that it counts. Where it lacks the summarise lock or waits for a page, or no page of the index is
+/// left for a tuple, so it does in the table. Does nothing.
+pub fn a_summarise_steps_in_its_table()
+    ensures steps { (step : StoreStep) (at : ℕ) (a b : SummariseState) (answer : Did) → slice_get (indexes_of step.layout (table_of step.layout a.index)) at ≡ Some a.index → IsSummariseOf step.layout a
+        → LeavesTheRest step a.index → SummariseDoes step a b answer → DoesInTable step at a b answer }
+    ensures full { (layout : DiskLayout) (pages : PageMap) (locks : LockState) (blocks : List (List Slot)) (s at number : ℕ) (a : SummariseState) → slice_get (indexes_of layout (table_of layout a.index)) at ≡ Some a.index
+        → FullAt layout pages locks s a number → IsSummariseFull s at (shown_by layout pages locks (table_of layout a.index) blocks) (task_of layout at a) number }
+{
+    machines_in_one_index();
+    a_table_steps_with_its_index();
+}
+
+/// Calls of a summarise's `step` at a range, one right after the other while nothing else changes, of which none is blocked or refused, are at
+/// most so many: for its range and each one behind it one for each block and ten, and what the growth of the map may take. Does nothing.
+pub fn a_summarise_ends_alone()
+    ensures { (s calls at range tuples : ℕ) (shown : ShownTable) (job : Job) (phase : Phase) (u : Unseen) → SummariseCalls s calls shown (Maintains job at range phase) → IsSummarise job → u.task s ≡ Maintains job at range phase
+        → IsTableKept (table_state shown u) → HasAtMostTuples (table_state shown u) at tuples → calls ≤ summarise_steps (table_state shown u) job at range phase tuples }
+{
+    summarises_end();
+    table_stays_covered();
+}
