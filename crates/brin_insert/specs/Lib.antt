@@ -4,5 +4,7 @@ pub mod StepAnswers
 pub mod TableSteps
 pub mod RowSteps
 pub mod Inserts
+pub mod StageLocks
+pub mod InsertLocks
 pub mod InsertAnswers
 pub mod InsertCalls

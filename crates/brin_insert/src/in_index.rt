@@ -4,6 +4,7 @@ ghost use Rattle.std.specs.Prelude.{◌≡◌, ◌+◌, ◌<◌, ◌≤◌, ℕ,
 ghost use Rattle.block_model.specs.declared.place.Spot.{Spot as AnySpot};
 ghost use Rattle.block_model.specs.declared.row.Row.{Row as AnyRow};
 ghost use Rattle.page_store.specs.Keeps.{Keeps, Tells, Untold};
+ghost use Rattle.page_locks.specs.LockCounts.{locks_of};
 ghost use Rattle.page_locks.specs.LockHolders.{LockState, count_of, holder};
 ghost use Rattle.range_tuple.specs.TupleBytes.{tuple_bytes};
 ghost use Rattle.range_store.specs.Tuples.{IsTupleSize};
@@ -12,19 +13,21 @@ ghost use Rattle.index_contents.specs.IndexContents.{contents, relation_of};
 ghost use Rattle.index_contents.specs.IndexChanges.{LeavesOthers};
 ghost use Rattle.index_steps.specs.IndexTuples.{TakesValues, classes_of, shape_of};
 ghost use Rattle.index_steps.specs.MoveEnds.{IsMoving};
-ghost use Rattle.index_steps.specs.SwapAnswers.{FaultNamesPageOf, LeavesLocks, MachineOutcome, TakesFew};
+ghost use Rattle.index_steps.specs.StepAnswers.{BlockedWell, IsOfStore, NeverBlocked};
+ghost use Rattle.index_steps.specs.SwapAnswers.{FaultNamesPageOf, LeavesLocks, MachineOutcome, SaysFullIn, TakesAtMost};
 ghost use Rattle.brin_insert.specs.InsertSteps.{IsAtWork, Stepped, insert_at, on_index};
-ghost use Rattle.brin_insert.specs.StepAnswers.{BlockedWell, DamageAt, NeverBlocked, NeverFull, SaysFullIn, StandsAfter, StepFull};
+ghost use Rattle.brin_insert.specs.StageLocks.{held_at, taken_at};
+ghost use Rattle.brin_insert.specs.StepAnswers.{DamageAt, StandsAfter, StepFull};
 
 use crate::stage::Stage;
 use block_model::{Place, Point, Spot, Value};
 use disk_trait::Disk;
+use engine_pages::PageStore;
 use index_contents::relation_of;
 use index_steps::{
     Swapped, Within, a_row_is_added_to_what_is_seen, an_index_that_stays_is_read, copy_tuple,
-    drop_moved, lock_of_another, name_moved, read_map, swap, values_are_known,
+    drop_moved, lock_of_another, name_moved, read_map, spell, swap, values_are_known,
 };
-use engine_pages::PageStore;
 use page_locks::{Did, Locks};
 use page_store::MachineFault;
 use range_store::Scratch;
@@ -41,7 +44,7 @@ pub(crate) fn map<D: Disk + Drop>(
     ensures stands { IfOk result (λ o. StandsAfter o.1 o.0) }
     ensures kept { Keeps D.told pages.old pages.new }
     ensures never_blocked { IfOk result (λ o. NeverBlocked o.1) }
-    ensures never_full { IfErr result NeverFull }
+    ensures of_store { IfErr result IsOfStore }
     ensures at { IfErr result (FaultNamesPageOf pages.old.layout at.index) }
     ensures outcome { MachineOutcome D.told (Tells D.told pages.old → DamageAt (shape_of pages.old.layout at.index) (contents pages.old.layout pages.old.pages at.index) at.range Stage.Map) pages.old pages.new result }
 {
@@ -72,7 +75,7 @@ pub(crate) fn copy<D: Disk + Drop>(
     ensures same_index { parts_of tuple.new.columns ≡ parts_of tuple.old.columns }
     ensures kept { Keeps D.told pages.old pages.new }
     ensures never_blocked { IfOk result (λ o. NeverBlocked o.1) }
-    ensures never_full { IfErr result NeverFull }
+    ensures of_store { IfErr result IsOfStore }
     ensures at { IfErr result (FaultNamesPageOf pages.old.layout at.index) }
     ensures outcome { MachineOutcome D.told (Tells D.told pages.old → DamageAt (shape_of pages.old.layout at.index) (contents pages.old.layout pages.old.pages at.index) at.range (Stage.Copy spot)) pages.old pages.new result }
 {
@@ -120,13 +123,14 @@ pub(crate) fn swap_in<D: Disk + Drop>(
     ensures blocked { IfOk result (λ o. BlockedWell D.told at.index at.actor pages.old pages.new locks.old locks.new o.1) }
     ensures full { IfErr result (SaysFullIn pages.old.layout at.index (λ number. Tells D.told pages.old → StepFull (shape_of pages.old.layout at.index) at.actor at.range (insert_at pages.old.layout pages.old.pages locks.old at.index (Stage.Swap spot) copied.now tuple.now) number)) }
     ensures locks { LeavesLocks (holder locks.old) (holder locks.new) (relation_of pages.old.layout at.index) at.actor }
-    ensures counts { TakesFew locks.old locks.new at.actor }
+    ensures counts { TakesAtMost 3 locks.old locks.new at.actor }
+    ensures own { IfOk result (λ o. locks_of locks.old at.actor ≡ 0 → locks_of locks.new at.actor ≤ held_at o.0) }
     ensures same_room { length room.new ≡ length room.old }
     ensures kept { OnErr result (Keeps D.told pages.old pages.new) }
     ensures at { IfErr result (FaultNamesPageOf pages.old.layout at.index) }
     ensures outcome { MachineOutcome D.told (Untold D.told pages.old) pages.old pages.new result }
 {
-    let size = encode_to(tuple, room);
+    let size = spell(tuple, room);
     match swap(pages, locks, at, spot, copied.bytes(), &room[..size]) {
         Ok(Swapped::InPlace) => Ok((Stage::Complete, Did::Finished(Point::Swap))),
         Ok(Swapped::Differs) => Ok((Stage::Map, Did::Moved(Point::Again))),
@@ -134,18 +138,6 @@ pub(crate) fn swap_in<D: Disk + Drop>(
         Ok(Swapped::Moves(to)) => Ok((Stage::Set(spot, to), Did::Moved(Point::Put))),
         Err(fault) => Err(fault),
     }
-}
-
-/// Writes the bytes of the tuple to the front of `room`, and answers how many they are.
-fn encode_to(tuple: &RangeTuple, room: &mut [u8]) -> usize
-    requires room { tuple_room tuple.now.columns ≤ length room.old }
-    ensures bytes { take result room.new ≡ tuple_bytes tuple.now }
-    ensures size { IsTupleSize (length (tuple_bytes tuple.now)) }
-    ensures within { result ≤ length room.new }
-    ensures same_room { length room.new ≡ length room.old }
-{
-    tuple.known();
-    tuple.encode(room)
 }
 
 /// Has the map name the tuple with the row, which was put at `to`.
@@ -159,10 +151,11 @@ pub(crate) fn set_in<D: Disk + Drop>(
     requires moving { Tells D.told pages.old → IsMoving (shape_of pages.old.layout at.index) (contents pages.old.layout pages.old.pages at.index) at.range from to }
     ensures stepped { IfOk result (λ o. Tells D.told pages.old → (locks : LockState) (copied : List ℕ) (widened : AnyTuple) (r : AnyRow) → Stepped (shape_of pages.old.layout at.index) at.actor at.range r (insert_at pages.old.layout pages.old.pages locks at.index (Stage.Set from to) copied widened) (insert_at pages.old.layout pages.new.pages locks at.index o.0 copied widened) o.1) }
     ensures stands { IfOk result (λ o. StandsAfter o.1 o.0) }
+    ensures own { IfOk result (λ o. held_at (Stage.Set from to) ≤ held_at o.0) }
     ensures others { LeavesOthers D.told at.index pages.old pages.new }
     ensures kept { OnErr result (Keeps D.told pages.old pages.new) }
     ensures never_blocked { IfOk result (λ o. NeverBlocked o.1) }
-    ensures never_full { IfErr result NeverFull }
+    ensures of_store { IfErr result IsOfStore }
     ensures at { IfErr result (FaultNamesPageOf pages.old.layout at.index) }
     ensures outcome { MachineOutcome D.told (Untold D.told pages.old) pages.old pages.new result }
 {
@@ -185,9 +178,10 @@ pub(crate) fn drop_in<D: Disk + Drop>(
     ensures others { LeavesOthers D.told at.index pages.old pages.new }
     ensures kept { OnErr result (Keeps D.told pages.old pages.new) }
     ensures locks { LeavesLocks (holder locks.old) (holder locks.new) (relation_of pages.old.layout at.index) at.actor }
-    ensures counts { TakesFew locks.old locks.new at.actor }
+    ensures counts { TakesAtMost 0 locks.old locks.new at.actor }
+    ensures given { OnOk result (locks_of locks.new at.actor ≡ 0) }
     ensures never_blocked { IfOk result (λ o. NeverBlocked o.1) }
-    ensures never_full { IfErr result NeverFull }
+    ensures of_store { IfErr result IsOfStore }
     ensures at { IfErr result (FaultNamesPageOf pages.old.layout at.index) }
     ensures outcome { MachineOutcome D.told (Untold D.told pages.old) pages.old pages.new result }
 {
@@ -213,7 +207,7 @@ pub(crate) fn step_in<D: Disk + Drop>(
     requires tuple { parts_of tuple.old.columns ≡ classes_of (shape_of pages.old.layout at.index) }
     requires takes { TakesValues (shape_of pages.old.layout at.index) values.now }
     requires room { tuple_room tuple.old.columns ≤ length room.old }
-    requires locks { count_of locks.old + 3 ≤ locks.old.limit }
+    requires locks { (x : AnySpot) → stage ≡ Stage.Swap x → count_of locks.old + 3 ≤ locks.old.limit }
     requires moving { (x y : AnySpot) → stage ≡ Stage.Set x y → Tells D.told pages.old → IsMoving (shape_of pages.old.layout at.index) (contents pages.old.layout pages.old.pages at.index) at.range x y }
     ensures stepped { IfOk result (λ o. Tells D.told pages.old → (r : AnyRow) → r.values ≡ values.now → Stepped (shape_of pages.old.layout at.index) at.actor at.range r (insert_at pages.old.layout pages.old.pages locks.old at.index stage copied.old tuple.old) (insert_at pages.old.layout pages.new.pages locks.new at.index o.0 copied.new tuple.new) o.1) }
     ensures stands { IfOk result (λ o. StandsAfter o.1 o.0) }
@@ -221,7 +215,9 @@ pub(crate) fn step_in<D: Disk + Drop>(
     ensures full { IfErr result (SaysFullIn pages.old.layout at.index (λ number. Tells D.told pages.old → StepFull (shape_of pages.old.layout at.index) at.actor at.range (insert_at pages.old.layout pages.old.pages locks.old at.index stage copied.old tuple.old) number)) }
     ensures others { LeavesOthers D.told at.index pages.old pages.new }
     ensures locks { LeavesLocks (holder locks.old) (holder locks.new) (relation_of pages.old.layout at.index) at.actor }
-    ensures counts { TakesFew locks.old locks.new at.actor }
+    ensures counts { TakesAtMost (taken_at stage) locks.old locks.new at.actor }
+    ensures given { OnOk result ((x : AnySpot) → stage ≡ Stage.Drop x → locks_of locks.new at.actor ≡ 0) }
+    ensures own { locks_of locks.old at.actor ≤ held_at stage → IfOk result (λ o. locks_of locks.new at.actor ≤ held_at o.0) }
     ensures same_index { parts_of tuple.new.columns ≡ parts_of tuple.old.columns }
     ensures same_room { length room.new ≡ length room.old }
     ensures kept { OnErr result (Keeps D.told pages.old pages.new) }

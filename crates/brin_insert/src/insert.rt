@@ -1,30 +1,33 @@
 //! An insert over all indexes of its table.
 
-ghost use Rattle.std.specs.Prelude.{◌≡◌, ◌+◌, ◌/◌, ◌<◌, ◌≤◌, All, ℕ, List, None, Some, length, map, set, slice_get, slice_index_or, IfOk, IfErr, IfSome, OnErr};
+ghost use Rattle.std.specs.Prelude.{◌≡◌, ◌+◌, ◌/◌, ◌<◌, ◌≤◌, All, ℕ, List, None, Some, length, map, set, slice_get, slice_index_or, IfOk, IfErr, IfSome, OnOk, OnErr};
 ghost use Rattle.block_model.specs.declared.place.Spot.{Spot as AnySpot};
 ghost use Rattle.block_model.specs.declared.row.Row.{Row as AnyRow};
 ghost use Rattle.store_layout.specs.DiskLayout.{DiskLayout};
 ghost use Rattle.page_layout.specs.RowBytes.{HaveKinds};
 ghost use Rattle.page_store.specs.Keeps.{Keeps, Tells, Untold};
+ghost use Rattle.page_locks.specs.LockCounts.{locks_of};
 ghost use Rattle.page_locks.specs.LockHolders.{count_of, holder};
 ghost use Rattle.heap_rows.specs.HeapBlocks.{OfBlocks};
 ghost use Rattle.heap_rows.specs.Heaps.{kinds_at};
 ghost use Rattle.index_steps.specs.IndexTuples.{TakesValues, index_at, shape_of};
-ghost use Rattle.index_steps.specs.SwapAnswers.{LeavesLocks, MachineOutcome, TakesFew};
+ghost use Rattle.index_steps.specs.SwapAnswers.{LeavesLocks, MachineOutcome, TakesAtMost};
+ghost use Rattle.brin_insert.specs.declared.stage.Stage.TheVariants as stages;
 ghost use Rattle.brin_insert.specs.InsertAnswers.{BlockedOn, FaultNamesRelation, InsertStepped, IsInsertFull, IsLeftBy, LeavesOtherRelations, SaysInsertFull, relation_at};
 ghost use Rattle.brin_insert.specs.InsertHands.{InsertHand};
+ghost use Rattle.brin_insert.specs.InsertLocks.{held_by, stage_of, taken_by};
 ghost use Rattle.brin_insert.specs.Inserts.{AsksNothing, HasReached, HasStepLeft, IsInsertFor, IsOfItsIndex, numbers_in, task_of, work_of};
 ghost use Rattle.index_steps.specs.ShownRows.{ShowsKept, shown_by};
 ghost use Rattle.index_steps.specs.ShownTable.{indexes_of};
 
 use crate::index_insert::IndexInsert;
-use crate::indexes::{declared_index, index_count, range_in};
+use crate::indexes::{index_count, range_in};
 use crate::laws::{a_kept_table_is_read, a_row_is_put_in_its_table, an_insert_steps_in_its_table};
 use block_model::{NoMemory, Point, Row, Spot};
 use disk_trait::Disk;
 use engine_pages::PageStore;
 use heap_rows::put;
-use index_steps::rows_of_the_table_are_taken;
+use index_steps::{declared_index, rows_of_the_table_are_taken};
 use page_locks::{Did, Locks};
 use page_store::MachineFault;
 use range_store::Scratch;
@@ -96,7 +99,7 @@ impl Insert {
     ) -> Result<Did, MachineFault>
         requires made { IsInsertFor pages.old.layout self.old }
         requires left { HasStepLeft self.old }
-        requires locks { count_of locks.old + 3 ≤ locks.old.limit }
+        requires locks { (x : AnySpot) → stage_of self.old ≡ Some (stages.Swap x) → count_of locks.old + 3 ≤ locks.old.limit }
         requires kept { Tells D.told pages.old → ShowsKept pages.old.layout pages.old.pages locks.old actor self.old.row.table (task_of pages.old.layout self.old) }
         ensures stepped { IfOk result (λ did. OfBlocks D.told pages.old self.old.row.table (InsertStepped pages.old.layout pages.old.pages pages.new.pages locks.old locks.new actor self.old self.new did)) }
         ensures left { IfOk result (IsLeftBy self.new) }
@@ -108,7 +111,9 @@ impl Insert {
         ensures still_left { OnErr result (HasStepLeft self.new) }
         ensures others { LeavesOtherRelations D.told (relation_at pages.old.layout self.old) pages.old pages.new }
         ensures locks { LeavesLocks (holder locks.old) (holder locks.new) (relation_at pages.old.layout self.old) actor }
-        ensures counts { TakesFew locks.old locks.new actor }
+        ensures counts { TakesAtMost (taken_by (stage_of self.old)) locks.old locks.new actor }
+        ensures given { OnOk result ((x : AnySpot) → stage_of self.old ≡ Some (stages.Drop x) → locks_of locks.new actor ≡ 0) }
+        ensures own { locks_of locks.old actor ≤ held_by (stage_of self.old) → OnOk result (locks_of locks.new actor ≤ held_by (stage_of self.new)) }
         ensures kept { OnErr result (Keeps D.told pages.old pages.new) }
         ensures at { IfErr result (FaultNamesRelation pages.old.layout (relation_at pages.old.layout self.old)) }
         ensures outcome { MachineOutcome D.told (Untold D.told pages.old) pages.old pages.new result }

@@ -1,13 +1,13 @@
 -- rows that are added one after the other
-use Rattle.std.proofs.Common.{◌≡◌, ◌⊎◌, inl, inr, ℕ, ◌+◌, ◌≤◌, ◌<◌, List, [], length, map, get_or, take, fold, refl, sym, ap, subst, ◌∙◌, arith}
+use Rattle.std.proofs.Common.{◌≡◌, ◌⊎◌, inl, inr, ℕ, ◌+◌, ◌≤◌, ◌<◌, All, List, [], length, map, get_or, take, fold, refl, sym, ap, subst, ◌∙◌, arith}
 use Rattle.std.proofs.lemmas.Bool.{cases_lt}
-use Rattle.std.proofs.lemmas.List.{get_or-map, length-map, take_all}
+use Rattle.std.proofs.lemmas.List.{get_or_default, get_or-map, length-map, take_all}
 use Rattle.std.proofs.lemmas.List.Sums.{fold_more}
 use Rattle.block_model.specs.declared.value.Value.{Value}
 use Rattle.heap_rows.specs.declared.rows.Stored.{Stored}
 use Rattle.range_tuple.specs.ExactTuples.{with_rows}
 use Rattle.range_tuple.specs.Tuples.{IsTuple, Tuple, with_row}
-use Rattle.brin_summarise.specs.BlockRows.{values_of}
+use Rattle.brin_summarise.specs.BlockRows.{AreKnown, values_of}
 
 -- one row more
 pub one_more : (rows : List Stored) (i : ℕ) (d : Stored) (t : Tuple) → i < length rows → with_rows (take (i + 1) (values_of rows)) t ≡ with_row (get_or rows i d).values (with_rows (take i (values_of rows)) t)
@@ -34,3 +34,17 @@ tuples_all rows i t all so_far n = elim (cases_lt i n) [
   | inl high ↦ subst (λ (u : Tuple). IsTuple u) (all_added rows i t all ∙ sym (all_added rows n t (omega (arith, high, all)))) (so_far i (omega arith))
   | inr low ↦ so_far n low
 ]
+
+-- one known row more
+pub known_more : (rows : List Stored) (i : ℕ) (item : Stored) → item ≡ get_or rows i item → i < length rows → ((k : ℕ) (d : Stored) → k < i → AreKnown (get_or rows k d).values) → AreKnown item.values
+    → (k : ℕ) (d : Stored) → k < i + 1 → AreKnown (get_or rows k d).values
+known_more rows i item is below so_far next k d within = elim (cases_lt k i) [
+  | inl low ↦ so_far k d low
+  | inr high ↦
+      let at : i ≡ k = omega (arith, high, within) in
+      let there : item ≡ get_or rows k d = is ∙ get_or_default rows i item d below ∙ ap (λ (n : ℕ). get_or rows n d) at in
+      subst (λ (q : Stored). AreKnown q.values) there next
+]
+
+pub known_all : (rows : List Stored) (i : ℕ) → length rows ≤ i → ((k : ℕ) (d : Stored) → k < i → AreKnown (get_or rows k d).values) → All (λ (q : Stored). AreKnown q.values) rows
+known_all rows i all so_far = λ k d below. so_far k d (omega (arith, below, all))

@@ -3,6 +3,7 @@ use Rattle.std.proofs.Common.{◌≡◌, ℕ, ◌+◌, ◌*◌, ◌/◌, ◌≤�
 use Rattle.std.proofs.lemmas.Nat.{mul-le}
 use Rattle.block_model.specs.declared.reply.Point.{Point}
 use Rattle.store_layout.specs.DiskLayout.{DiskLayout}
+use Rattle.page_layout.specs.PageContents.{Slot}
 use Rattle.page_locks.specs.declared.did.Did.{Did}
 use Rattle.brin_summarise.specs.declared.course.Standing.{Standing}
 use Rattle.brin_summarise.specs.declared.course.Standing.TheVariants as standings
@@ -11,7 +12,7 @@ use Rattle.brin_summarise.specs.declared.wish.Wish.{Wish}
 use Rattle.brin_summarise.specs.declared.wish.Wish.TheVariants as wishes
 use Rattle.brin_summarise.specs.SummariseHands.{IsHandOf, SummariseHand}
 use Rattle.brin_summarise.specs.SummariseSteps.{IsAtWork}
-use Rattle.brin_summarise.specs.Summarises.{ComesTo, GoesOver, IsSummariseOf, NoneIsLeft, RangeIsNext, StandsThen, SummariseState, in_range_of}
+use Rattle.brin_summarise.specs.Summarises.{ComesTo, GoesOver, IsExactNow, IsSummariseOf, NoneIsLeft, RangeIsNext, StandsThen, SummariseState, held_by, in_range_of}
 
 -- the first block of a range that it goes over is below the extent, and so is the range
 pub over_below : (wish : Wish) (in_range extent range : ℕ) → GoesOver wish in_range extent range → range * in_range < extent
@@ -66,3 +67,12 @@ stays_well layout a hand of own work = record {
   few = of.few;
   at_range = λ at. let was = of.at_range at in (was.0, was.1, was.2, work);
 }
+
+-- what it has of its next range is exact, since it has nothing, and it holds no page lock
+pub comes_exact : (layout : DiskLayout) (blocks : List (List Slot)) (in_range : ℕ) (a b : SummariseState) (point : Point) (answer : Did) → ComesTo in_range a point b answer → IsExactNow layout blocks b
+comes_exact layout blocks in_range a _ point _ (RangeIsNext goes) = λ at. tt
+comes_exact layout blocks in_range a _ point _ (NoneIsLeft lacks) = λ at. absurd (done_apart at)
+
+pub comes_free : (in_range : ℕ) (a b : SummariseState) (point : Point) (answer : Did) → ComesTo in_range a point b answer → held_by b ≡ 0
+comes_free in_range a _ point _ (RangeIsNext goes) = refl
+comes_free in_range a _ point _ (NoneIsLeft lacks) = refl

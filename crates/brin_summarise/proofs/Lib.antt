@@ -12,3 +12,6 @@ pub mod Settling
 pub mod Tables
 pub mod InTable
 pub mod Calls
+pub mod Exact
+pub mod Locking
+pub mod Joined

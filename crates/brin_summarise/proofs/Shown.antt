@@ -1,7 +1,6 @@
 -- an index of a table that pages, locks and heap show, by its place among the table's
 use Rattle.std.proofs.Common.{◌≡◌, ◌≢◌, ◌⊎◌, inl, inr, ℕ, zero, suc, ◌+◌, ◌*◌, ◌/◌, ◌^◌, ◌<◌, ◌≤◌, ◌==◌, Bool, true, false, cond, List, [], ◌∷◌, length, Option, None, Some, refl, sym, ap, subst, ◌∙◌, arith}
-use Rattle.std.specs.Prelude.{slice_get, slice_index_or}
-use Rattle.std.specs.Option.{option_map}
+use Rattle.std.specs.Prelude.{slice_get}
 use Rattle.std.proofs.lemmas.Option.{none-some, same_Some}
 use Rattle.block_model.specs.declared.place.Spot.{Spot}
 use Rattle.block_model.specs.declared.row.Row.{Row}
@@ -10,7 +9,6 @@ use Rattle.store_layout.specs.DiskLayout.{DiskLayout}
 use Rattle.page_layout.specs.PageContents.{Slot}
 use Rattle.page_store.specs.PageMap.{PageMap}
 use Rattle.page_locks.specs.LockHolders.{LockState}
-use Rattle.heap_rows.specs.HeapBlocks.{slots_of}
 use Rattle.coverage.specs.IndexView.{IndexView}
 use Rattle.coverage.specs.Statements.{building_of, loose_of}
 use Rattle.table_coverage.specs.Machines.{Unseen, table_state}
@@ -18,9 +16,9 @@ use Rattle.table_coverage.specs.Table.{Index, TableState, index_view_at, seen_by
 use Rattle.index_contents.specs.IndexContents.{contents}
 use Rattle.index_steps.specs.IndexTuples.{contents_of, index_at, shape_of}
 use Rattle.index_steps.specs.ShownIndex.{Shows, lock_in, tuple_in_place}
-use Rattle.index_steps.specs.ShownRows.{row_in as shown_row, rows_in, shown_by}
+use Rattle.index_steps.specs.ShownRows.{rows_in, shown_by}
 use Rattle.index_steps.specs.ShownTable.{indexes_of, numbers_from, shown_at}
-use Rattle.brin_summarise.specs.ShownHeap.{ShowsHeap, heap_of, row_of}
+use Rattle.brin_summarise.specs.ShownHeap.{ShowsHeap, heap_of}
 use Rattle.brin_summarise.specs.SummariseHands.{table_of}
 use Rattle.brin_summarise.specs.Summarises.{in_range_of}
 
@@ -77,11 +75,6 @@ same_one layout pages paged locks locked unnamed m same held = λ j. record {
   unnamed = unnamed;
 }
 
--- a row is the same in both words
-row_is : (table : ℕ) (slot : Slot) → shown_row table slot ≡ option_map (row_of table) slot
-row_is table None = refl
-row_is table (Some stored) = refl
-
 module _ (layout : DiskLayout) (pages : PageMap) (locks : LockState) (blocks : List (List Slot)) (n at : ℕ) (there : slice_get (indexes_of layout (table_of layout n)) at ≡ Some n) (u : Unseen) where
   abbrev w : TableState
   w = table_state (shown_by layout pages locks (table_of layout n) blocks) u
@@ -110,4 +103,4 @@ module _ (layout : DiskLayout) (pages : PageMap) (locks : LockState) (blocks : L
   each_here = ap (λ (o : Option ℕ). (shown_at layout pages locks o).pages_per_range) there
 
   pub heap_here : ShowsHeap (heap_of layout n blocks) (index_view_at at w)
-  heap_here = record { pages_per_range = each_here; blocks = refl; row = λ b k. row_is (table_of layout n) (slice_index_or (slots_of blocks b) k None) }
+  heap_here = record { pages_per_range = each_here; blocks = refl; row = λ b k. refl }

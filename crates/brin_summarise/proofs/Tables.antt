@@ -185,7 +185,7 @@ module _ (goes : MaintainGoes) (completes : MaintainCompletes) (knows : Maintain
       by_number i apart (Some m) is =
           let other : m ≢ n = apart_numbers step.layout (table_of step.layout n) i at n m apart is there in
           same_one step.layout step.pages step.paged step.locks step.locked (u.unnamed i) m (rest.others m other)
-          (λ page. rest.locks (page_of (relation_of step.layout m) page) (λ same. other (omega (arith, same))) (locks_free i m apart is page))
+          (λ page. rest.locks.elsewhere (page_of (relation_of step.layout m) page) (λ same. other (omega (arith, same))) (locks_free i m apart is page))
 
       index_is : (next : Task) (i : ℕ) → (with_index at part s next w).index i ≡ shown_one step.layout step.paged step.locked (u.unnamed i) (slice_get numbers i)
       index_is next i = elim (cases_eq i at) [

@@ -7,3 +7,5 @@ pub mod Works
 pub mod Summarises
 pub mod TableSteps
 pub mod SummariseCalls
+pub mod ExactSummaries
+pub mod StageLocks

@@ -1,5 +1,5 @@
 -- what a summarise has of an index between its steps at a range, and what each step makes of the index
-use Rattle.std.specs.Prelude.{◌≡◌, ℕ, ◌+◌, Bool, true, false, Option}
+use Rattle.std.specs.Prelude.{◌≡◌, ℕ, ◌+◌, ◌<◌, Bool, true, false, Option}
 use Rattle.block_model.specs.declared.reply.Point.{Point}
 use Rattle.store_layout.specs.DiskLayout.{DiskLayout}
 use Rattle.page_store.specs.PageMap.{PageMap}
@@ -20,6 +20,7 @@ use Rattle.index_steps.specs.ShownIndex.{Shows, lock_in, shown_part}
 use Rattle.brin_summarise.specs.declared.stage.Stage.{Stage}
 use Rattle.brin_summarise.specs.declared.stage.Stage.TheVariants as stages
 use Rattle.brin_summarise.specs.ShownHeap.{Heap, ShowsHeap}
+use Rattle.brin_summarise.specs.StageLocks.{taken_at}
 use Rattle.brin_summarise.specs.SummariseHands.{SummariseHand}
 
 -- a summarise at a range: the index's pages, who locks them, and what it has in hand
@@ -73,12 +74,23 @@ IsDone stages.Had = Unit {0}
 IsDone stages.Made = Unit {0}
 IsDone stage = ⊥
 
--- Where it stands after a step, of any disk: with work left, or with none; or where it was. No step lacks the summarise lock.
+-- Where it stands after a step, of any disk: with work left, or with none; or where it was, which takes locks. No step lacks the
+-- summarise lock.
 abbrev pub StandsAfter : (old new : Stage) → Did → Type 0
 StandsAfter old new (did.Moved point) = IsAtWork new
 StandsAfter old new (did.Finished point) = IsDone new
-StandsAfter old new (did.Blocked held) = new ≡ old
+StandsAfter old new (did.Blocked held) = (0 < taken_at old) × (new ≡ old)
 StandsAfter old new (did.NoRight by) = ⊥
+
+-- it has in hand what it had, but that the placeholder which is to be put is made anew
+abbrev pub RestsAt : Stage → (old new : SummariseHand) → Type 0
+RestsAt stages.Place old new = new ≡ record old { united = new.united }
+RestsAt stage old new = new ≡ old
+
+-- so it is, of any disk, where a step is blocked
+abbrev pub RestsBlocked : (old new : SummariseHand) → Did → Type 0
+RestsBlocked old new (did.Blocked held) = RestsAt old.stage old new
+RestsBlocked old new done = Unit {0}
 
 -- the next step at the stage only reads pages
 abbrev pub only_reads : Stage → Bool

@@ -20,9 +20,11 @@ use Rattle.brin_summarise.specs.declared.stage.Stage.TheVariants as stages
 use Rattle.brin_summarise.specs.declared.wish.Wish.{Wish}
 use Rattle.brin_summarise.specs.declared.wish.Wish.TheVariants as wishes
 use Rattle.brin_summarise.specs.ShownHeap.{heap_of}
+use Rattle.brin_summarise.specs.ExactSummaries.{IsExactAt}
+use Rattle.brin_summarise.specs.StageLocks.{GivesAt, held_at, taken_at}
 use Rattle.brin_summarise.specs.StepCauses.{DamageAt, IsReady}
 use Rattle.brin_summarise.specs.SummariseHands.{IsHandOf, SummariseHand, table_of}
-use Rattle.brin_summarise.specs.SummariseSteps.{IsAtWork, StepFull, StepsAt, made_at, summarise_at}
+use Rattle.brin_summarise.specs.SummariseSteps.{IsAtWork, RestsAt, StepFull, StepsAt, made_at, summarise_at}
 
 -- A summarise: its index; what is asked for; where it stands; the extent that it read; the range that it is at, and to how many ranges
 -- before that one it gave a final tuple; and what it has in hand of the range.
@@ -81,8 +83,26 @@ count_of a = count_at a a.standing
 abbrev pub StandsThen : (old new : SummariseState) → Did → Type 0
 StandsThen old new (did.Moved point) = new.standing ≡ standings.AtRange
 StandsThen old new (did.Finished point) = new.standing ≡ standings.Done
-StandsThen old new (did.Blocked held) = (old.standing ≡ standings.AtRange) × (new ≡ record old { hand = new.hand }) × (new.hand.stage ≡ old.hand.stage)
+StandsThen old new (did.Blocked held) = (old.standing ≡ standings.AtRange) × (0 < taken_at old.hand.stage) × (new ≡ record old { hand = new.hand }) × RestsAt old.hand.stage old.hand new.hand
 StandsThen old new (did.NoRight by) = (old.standing ≡ standings.Begins) × (new ≡ old)
+
+-- at most so many page locks does its next step take, and at most so many are its own before it; and that step gives all
+abbrev pub taken_in : SummariseState → Standing → ℕ
+taken_in a standings.AtRange = taken_at a.hand.stage
+taken_in a standing = 0
+
+abbrev pub taken_by : SummariseState → ℕ
+taken_by a = taken_in a a.standing
+
+abbrev pub held_in : SummariseState → Standing → ℕ
+held_in a standings.AtRange = held_at a.hand.stage
+held_in a standing = 0
+
+abbrev pub held_by : SummariseState → ℕ
+held_by a = held_in a a.standing
+
+abbrev pub GivesBy : SummariseState → Type 0
+GivesBy a = (a.standing ≡ standings.AtRange) × GivesAt a.hand.stage
 
 -- a store, its page locks and its summarise locks before a step of an actor and after it, and the blocks of the heap
 pub record StoreStep : Type 0 where
@@ -176,3 +196,7 @@ FullAt layout pages locks actor a number =
 
 abbrev pub DamageIn : DiskLayout → PageMap → SummariseState → Type 0
 DamageIn layout pages a = (a.standing ≡ standings.AtRange) × DamageAt (shape_of layout a.index) (contents layout pages a.index) a.range a.hand.stage
+
+-- what it has of the range that it is at is exact, as long as the rows of the table stay
+abbrev pub IsExactNow : DiskLayout → List (List Slot) → SummariseState → Type 0
+IsExactNow layout blocks a = a.standing ≡ standings.AtRange → IsExactAt (shape_of layout a.index) (heap_of layout a.index blocks) a.range a.hand a.hand.stage

@@ -10,12 +10,12 @@ ghost use Rattle.range_tuple.specs.ExactTuples.{with_rows};
 ghost use Rattle.range_tuple.specs.TupleIncludes.{TakesThere};
 ghost use Rattle.range_tuple.specs.Tuples.{IsTuple, parts_of, with_row};
 ghost use Rattle.index_steps.specs.IndexTuples.{TakesValues, classes_of, index_at, shape_of};
-ghost use Rattle.brin_summarise.specs.BlockRows.{IsTakenBy, values_of};
+ghost use Rattle.brin_summarise.specs.BlockRows.{AreKnown, IsTakenBy, values_of};
 ghost use Rattle.brin_summarise.specs.SummariseHands.{table_of};
 
 use block_model::{NoMemory, Table};
 use heap_rows::{PageRows, Stored};
-use index_steps::{declared_index, rows_of_the_table_are_taken};
+use index_steps::{declared_index, rows_of_the_table_are_taken, values_are_known};
 use range_tuple::RangeTuple;
 use std::alloc::Global;
 use store_layout::Layout;
@@ -104,6 +104,7 @@ pub(crate) fn add_rows(rows: &[Stored], tuple: &mut RangeTuple)
     requires { All (λ row. IsTakenBy (parts_of tuple.old.columns) row.values) rows.now }
     ensures rows { tuple.new ≡ with_rows (values_of rows.now) tuple.old }
     ensures tuples { (n : ℕ) → IsTuple (with_rows (take n (values_of rows.now)) tuple.old) }
+    ensures known { All (λ row. AreKnown row.values) rows.now }
     ensures same_index { parts_of tuple.new.columns ≡ parts_of tuple.old.columns }
 {
     tuple.known();
@@ -117,8 +118,11 @@ fn add_one(row: &Stored, tuple: &mut RangeTuple)
     requires { IsTakenBy (parts_of tuple.old.columns) row.now.values }
     ensures row { tuple.new ≡ with_row row.now.values tuple.old }
     ensures tuple { IsTuple tuple.new }
+    ensures known { AreKnown row.now.values }
     ensures same_index { parts_of tuple.new.columns ≡ parts_of tuple.old.columns }
 {
-    tuple.add_row(row.values.as_slice());
+    let values = row.values.as_slice();
+    values_are_known(values);
+    tuple.add_row(values);
     tuple.known();
 }

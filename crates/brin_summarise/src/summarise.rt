@@ -1,15 +1,18 @@
 //! A summarise of an index, range after range.
 
-ghost use Rattle.std.specs.Prelude.{◌≡◌, ◌≢◌, ◌+◌, ◌<◌, ◌≤◌, List, Option, ℕ, length, IfOk, IfErr, OnErr};
+ghost use Rattle.std.specs.Prelude.{◌≡◌, ◌≢◌, ◌+◌, ◌<◌, ◌≤◌, List, Option, ℕ, length, IfOk, IfErr, OnErr, OnOk};
 ghost use Rattle.page_store.specs.Keeps.{Keeps, Tells, Untold};
+ghost use Rattle.page_locks.specs.LockCounts.{locks_of};
 ghost use Rattle.page_locks.specs.LockHolders.{LockState, count_of as locks_held, holder};
 ghost use Rattle.heap_rows.specs.HeapBlocks.{OfBlocks};
 ghost use Rattle.index_contents.specs.IndexContents.{relation_of};
 ghost use Rattle.index_contents.specs.IndexChanges.{LeavesOthers};
 ghost use Rattle.index_steps.specs.StepAnswers.{BlockedWell, IsOfStore, NeverBlocked};
-ghost use Rattle.index_steps.specs.SwapAnswers.{LeavesLocks, MachineOutcome, SaysSwapFull};
+ghost use Rattle.index_steps.specs.SwapAnswers.{LeavesLocks, MachineOutcome, SaysFullIn, TakesAtMost};
 ghost use Rattle.brin_summarise.specs.SummariseHands.{table_of};
-ghost use Rattle.brin_summarise.specs.Summarises.{DamageIn, FullAt, IsSummariseOf, ReadyAt, RightAnswers, StandsThen, SummariseDoes, count_of, state_of, step_of};
+ghost use Rattle.brin_summarise.specs.StageLocks.{GivesAt, held_at, taken_at};
+ghost use Rattle.brin_summarise.specs.StepCauses.{NamesPageAt};
+ghost use Rattle.brin_summarise.specs.Summarises.{DamageIn, FullAt, GivesBy, IsExactNow, IsSummariseOf, ReadyAt, RightAnswers, StandsThen, SummariseDoes, count_of, held_by, state_of, step_of, taken_by};
 
 use crate::course::{Course, Standing, come_to, first_of, made_at};
 use crate::range_summarise::RangeSummarise;
@@ -92,19 +95,25 @@ impl Summarise {
         requires of { IsSummariseOf pages.old.layout self.old }
         requires left { self.old.standing ≢ Standing.Done }
         requires rights { length pages.old.layout.schema.tables ≤ length rights.old }
-        requires locks { locks_held locks.old + 3 ≤ locks.old.limit }
+        requires locks { 0 < taken_by self.old → locks_held locks.old + taken_by self.old ≤ locks.old.limit }
         requires ready { Tells D.told pages.old → ReadyAt pages.old.layout pages.old.pages self.old }
         ensures does { IfOk result (λ did. OfBlocks D.told pages.old (table_of pages.old.layout self.old.index) (λ blocks. SummariseDoes (step_of pages.old.layout pages.old.pages pages.new.pages locks.old locks.new rights.old rights.new actor blocks) self.old self.new did)) }
+        ensures exact { IfOk result (λ did. OfBlocks D.told pages.old (table_of pages.old.layout self.old.index) (λ blocks. IsExactNow pages.old.layout blocks self.old → IsExactNow pages.old.layout blocks self.new)) }
         ensures stands { IfOk result (StandsThen self.old self.new) }
         ensures of { IsSummariseOf pages.old.layout self.new }
         ensures same_index { self.new.index ≡ self.old.index }
         ensures right { IfOk result (RightAnswers (table_of pages.old.layout self.old.index) actor rights.old rights.new self.old.standing) }
         ensures rights { OnErr result (rights.new ≡ rights.old) }
         ensures blocked { IfOk result (BlockedWell D.told self.old.index actor pages.old pages.new locks.old locks.new) }
-        ensures full { IfErr result (SaysSwapFull pages.old.layout self.old.index (λ number. Tells D.told pages.old → FullAt pages.old.layout pages.old.pages locks.old actor self.old number)) }
+        ensures full { IfErr result (SaysFullIn pages.old.layout self.old.index (λ number. Tells D.told pages.old → FullAt pages.old.layout pages.old.pages locks.old actor self.old number)) }
         ensures others { LeavesOthers D.told self.old.index pages.old pages.new }
         ensures locks { LeavesLocks (holder locks.old) (holder locks.new) (relation_of pages.old.layout self.old.index) actor }
+        ensures counts { TakesAtMost (taken_by self.old) locks.old locks.new actor }
+        ensures given { OnOk result (GivesBy self.old → locks_of locks.new actor ≡ 0) }
+        ensures own { locks_of locks.old actor ≤ held_by self.old → OnOk result (locks_of locks.new actor ≤ held_by self.new) }
+        ensures stays { OnErr result ((self.new ≡ record self.old { hand = self.new.hand }) × (self.new.hand.stage ≡ self.old.hand.stage)) }
         ensures kept { OnErr result (Keeps D.told pages.old pages.new) }
+        ensures at { IfErr result (NamesPageAt pages.old.layout self.old.index self.old.hand.stage) }
         ensures outcome { MachineOutcome D.told (Tells D.told pages.old → DamageIn pages.old.layout pages.old.pages self.old) pages.old pages.new result }
     {
         let index = self.index;
@@ -146,12 +155,16 @@ fn begin<D: Disk + Drop>(
     requires begins { course.old.standing ≡ Standing.Begins }
     requires rights { length pages.now.layout.schema.tables ≤ length rights.old }
     ensures does { IfOk result (λ did. OfBlocks D.told pages.now (table_of pages.now.layout index) (λ blocks. (locks : LockState) → SummariseDoes (step_of pages.now.layout pages.now.pages pages.now.pages locks locks rights.old rights.new actor blocks) (state_of index course.old work.old) (state_of index course.new work.new) did)) }
+    ensures exact { IfOk result (λ did. OfBlocks D.told pages.now (table_of pages.now.layout index) (λ blocks. IsExactNow pages.now.layout blocks (state_of index course.new work.new))) }
     ensures stands { IfOk result (StandsThen (state_of index course.old work.old) (state_of index course.new work.new)) }
+    ensures holds_none { held_by (state_of index course.new work.new) ≡ 0 }
+    ensures stays { OnErr result ((course.new ≡ course.old) × (work.new ≡ work.old)) }
     ensures of { IsSummariseOf pages.now.layout (state_of index course.new work.new) }
     ensures right { IfOk result (RightAnswers (table_of pages.now.layout index) actor rights.old rights.new Standing.Begins) }
     ensures rights { OnErr result (rights.new ≡ rights.old) }
     ensures never_blocked { IfOk result NeverBlocked }
     ensures of_store { IfErr result IsOfStore }
+    ensures at { IfErr result (NamesPageAt pages.now.layout index work.old.stage) }
     ensures outcome { MachineOutcome D.told (Untold D.told pages.now) pages.now pages.now result }
 {
     match pages.ready() {
@@ -183,16 +196,22 @@ fn go_on<D: Disk + Drop>(
 ) -> Result<Did, MachineFault>
     requires of { IsSummariseOf pages.old.layout (state_of index course.old work.old) }
     requires at { course.old.standing ≡ Standing.AtRange }
-    requires locks { locks_held locks.old + 3 ≤ locks.old.limit }
+    requires locks { 0 < taken_at work.old.stage → locks_held locks.old + taken_at work.old.stage ≤ locks.old.limit }
     requires ready { Tells D.told pages.old → ReadyAt pages.old.layout pages.old.pages (state_of index course.old work.old) }
     ensures does { IfOk result (λ did. OfBlocks D.told pages.old (table_of pages.old.layout index) (λ blocks. (rights : List (Option ℕ)) → SummariseDoes (step_of pages.old.layout pages.old.pages pages.new.pages locks.old locks.new rights rights actor blocks) (state_of index course.old work.old) (state_of index course.new work.new) did)) }
+    ensures exact { IfOk result (λ did. OfBlocks D.told pages.old (table_of pages.old.layout index) (λ blocks. IsExactNow pages.old.layout blocks (state_of index course.old work.old) → IsExactNow pages.old.layout blocks (state_of index course.new work.new))) }
     ensures stands { IfOk result (StandsThen (state_of index course.old work.old) (state_of index course.new work.new)) }
     ensures of { IsSummariseOf pages.old.layout (state_of index course.new work.new) }
     ensures blocked { IfOk result (BlockedWell D.told index actor pages.old pages.new locks.old locks.new) }
-    ensures full { IfErr result (SaysSwapFull pages.old.layout index (λ number. Tells D.told pages.old → FullAt pages.old.layout pages.old.pages locks.old actor (state_of index course.old work.old) number)) }
+    ensures full { IfErr result (SaysFullIn pages.old.layout index (λ number. Tells D.told pages.old → FullAt pages.old.layout pages.old.pages locks.old actor (state_of index course.old work.old) number)) }
     ensures others { LeavesOthers D.told index pages.old pages.new }
     ensures locks { LeavesLocks (holder locks.old) (holder locks.new) (relation_of pages.old.layout index) actor }
+    ensures counts { TakesAtMost (taken_at work.old.stage) locks.old locks.new actor }
+    ensures given { OnOk result (GivesAt work.old.stage → locks_of locks.new actor ≡ 0) }
+    ensures own { locks_of locks.old actor ≤ held_at work.old.stage → OnOk result (locks_of locks.new actor ≤ held_by (state_of index course.new work.new)) }
+    ensures stays { OnErr result ((course.new ≡ course.old) × (work.new.stage ≡ work.old.stage)) }
     ensures kept { OnErr result (Keeps D.told pages.old pages.new) }
+    ensures at { IfErr result (NamesPageAt pages.old.layout index work.old.stage) }
     ensures outcome { MachineOutcome D.told (Tells D.told pages.old → DamageIn pages.old.layout pages.old.pages (state_of index course.old work.old)) pages.old pages.new result }
 {
     let at = Within {

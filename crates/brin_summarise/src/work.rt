@@ -1,6 +1,7 @@
 //! What a summarise works with at a range, and its next step by the stage that it is at.
 
-ghost use Rattle.std.specs.Prelude.{◌≡◌, ◌+◌, ◌<◌, ◌≤◌, true, false, length, IfOk, IfErr, OnErr};
+ghost use Rattle.std.specs.Prelude.{◌≡◌, ◌+◌, ◌<◌, ◌≤◌, true, false, length, IfOk, IfErr, OnErr, OnOk};
+ghost use Rattle.page_locks.specs.LockCounts.{locks_of};
 ghost use Rattle.page_locks.specs.LockHolders.{LockState, count_of, holder};
 ghost use Rattle.page_store.specs.Keeps.{Keeps, Tells};
 ghost use Rattle.heap_rows.specs.HeapBlocks.{OfBlocks};
@@ -9,11 +10,13 @@ ghost use Rattle.index_contents.specs.IndexContents.{contents, relation_of};
 ghost use Rattle.index_contents.specs.IndexChanges.{LeavesOthers};
 ghost use Rattle.index_steps.specs.IndexTuples.{shape_of};
 ghost use Rattle.index_steps.specs.StepAnswers.{BlockedWell, IsOfStore, NeverBlocked};
-ghost use Rattle.index_steps.specs.SwapAnswers.{LeavesLocks, MachineOutcome, SaysSwapFull};
+ghost use Rattle.index_steps.specs.SwapAnswers.{LeavesLocks, MachineOutcome, SaysFullIn, TakesAtMost};
+ghost use Rattle.brin_summarise.specs.ExactSummaries.{IsExactAt};
 ghost use Rattle.brin_summarise.specs.ShownHeap.{Heap, heap_of};
-ghost use Rattle.brin_summarise.specs.StepCauses.{DamageAt, IsReady};
+ghost use Rattle.brin_summarise.specs.StepCauses.{DamageAt, IsReady, NamesPageAt};
+ghost use Rattle.brin_summarise.specs.StageLocks.{GivesAt, held_at, taken_at};
 ghost use Rattle.brin_summarise.specs.SummariseHands.{IsHandOf, table_of};
-ghost use Rattle.brin_summarise.specs.SummariseSteps.{IsAtWork, StandsAfter, StepFull, StepsAt, only_reads, summarise_at};
+ghost use Rattle.brin_summarise.specs.SummariseSteps.{IsAtWork, RestsBlocked, StandsAfter, StepFull, StepsAt, only_reads, summarise_at};
 ghost use Rattle.brin_summarise.specs.Works.{hand_of};
 
 use crate::in_range::{
@@ -55,17 +58,23 @@ pub(crate) fn step_in<D: Disk + Drop>(
     requires work { IsAtWork stage }
     requires of { IsHandOf pages.old.layout at.index (hand_of stage work.old) }
     requires room { tuple_room work.old.united.columns ≤ length room.old }
-    requires locks { count_of locks.old + 3 ≤ locks.old.limit }
+    requires locks { 0 < taken_at stage → count_of locks.old + taken_at stage ≤ locks.old.limit }
     requires ready { Tells D.told pages.old → IsReady (shape_of pages.old.layout at.index) (contents pages.old.layout pages.old.pages at.index) at.range stage }
     ensures stepped { IfOk result (λ o. OfBlocks D.told pages.old (table_of pages.old.layout at.index) (λ blocks. StepsAt pages.old.layout pages.old.pages pages.new.pages locks.old locks.new at (heap_of pages.old.layout at.index blocks) (hand_of stage work.old) (hand_of o.0 work.new) o.1)) }
+    ensures exact { IfOk result (λ o. OfBlocks D.told pages.old (table_of pages.old.layout at.index) (λ blocks. IsExactAt (shape_of pages.old.layout at.index) (heap_of pages.old.layout at.index blocks) at.range (hand_of stage work.old) stage → IsExactAt (shape_of pages.old.layout at.index) (heap_of pages.old.layout at.index blocks) at.range (hand_of o.0 work.new) o.0)) }
     ensures stands { IfOk result (λ o. StandsAfter stage o.0 o.1) }
+    ensures rests { IfOk result (λ o. RestsBlocked (hand_of stage work.old) (hand_of o.0 work.new) o.1) }
     ensures of { IsHandOf pages.old.layout at.index (hand_of stage work.new) }
     ensures same_room { length room.new ≡ length room.old }
     ensures blocked { IfOk result (λ o. BlockedWell D.told at.index at.actor pages.old pages.new locks.old locks.new o.1) }
-    ensures full { IfErr result (SaysSwapFull pages.old.layout at.index (λ number. Tells D.told pages.old → StepFull (shape_of pages.old.layout at.index) at.actor at.range (summarise_at pages.old.layout pages.old.pages locks.old at.index (hand_of stage work.old)) number)) }
+    ensures full { IfErr result (SaysFullIn pages.old.layout at.index (λ number. Tells D.told pages.old → StepFull (shape_of pages.old.layout at.index) at.actor at.range (summarise_at pages.old.layout pages.old.pages locks.old at.index (hand_of stage work.old)) number)) }
     ensures others { LeavesOthers D.told at.index pages.old pages.new }
     ensures locks { LeavesLocks (holder locks.old) (holder locks.new) (relation_of pages.old.layout at.index) at.actor }
+    ensures counts { TakesAtMost (taken_at stage) locks.old locks.new at.actor }
+    ensures given { OnOk result (GivesAt stage → locks_of locks.new at.actor ≡ 0) }
+    ensures own { locks_of locks.old at.actor ≤ held_at stage → IfOk result (λ o. locks_of locks.new at.actor ≤ held_at o.0) }
     ensures kept { OnErr result (Keeps D.told pages.old pages.new) }
+    ensures at { IfErr result (NamesPageAt pages.old.layout at.index stage) }
     ensures outcome { MachineOutcome D.told (Tells D.told pages.old → DamageAt (shape_of pages.old.layout at.index) (contents pages.old.layout pages.old.pages at.index) at.range stage) pages.old pages.new result }
 {
     if reads(stage) {
@@ -111,11 +120,13 @@ fn read_in<D: Disk + Drop>(
     requires reads { only_reads stage ≡ true }
     requires of { IsHandOf pages.old.layout at.index (hand_of stage work.old) }
     ensures stepped { IfOk result (λ o. OfBlocks D.told pages.old (table_of pages.old.layout at.index) (λ blocks. (locks : LockState) → StepsAt pages.old.layout pages.old.pages pages.new.pages locks locks at (heap_of pages.old.layout at.index blocks) (hand_of stage work.old) (hand_of o.0 work.new) o.1)) }
+    ensures exact { IfOk result (λ o. OfBlocks D.told pages.old (table_of pages.old.layout at.index) (λ blocks. IsExactAt (shape_of pages.old.layout at.index) (heap_of pages.old.layout at.index blocks) at.range (hand_of stage work.old) stage → IsExactAt (shape_of pages.old.layout at.index) (heap_of pages.old.layout at.index blocks) at.range (hand_of o.0 work.new) o.0)) }
     ensures stands { IfOk result (λ o. StandsAfter stage o.0 o.1) }
     ensures of { IsHandOf pages.old.layout at.index (hand_of stage work.new) }
     ensures kept { Keeps D.told pages.old pages.new }
     ensures never_blocked { IfOk result (λ o. NeverBlocked o.1) }
     ensures of_store { IfErr result IsOfStore }
+    ensures at { IfErr result (NamesPageAt pages.old.layout at.index stage) }
     ensures outcome { MachineOutcome D.told (Tells D.told pages.old → DamageAt (shape_of pages.old.layout at.index) (contents pages.old.layout pages.old.pages at.index) at.range stage) pages.old pages.new result }
 {
     match stage {
@@ -163,17 +174,23 @@ fn change_in<D: Disk + Drop>(
     requires changes { only_reads stage ≡ false }
     requires of { IsHandOf pages.old.layout at.index (hand_of stage work.old) }
     requires room { tuple_room work.old.united.columns ≤ length room.old }
-    requires locks { count_of locks.old + 3 ≤ locks.old.limit }
+    requires locks { 0 < taken_at stage → count_of locks.old + taken_at stage ≤ locks.old.limit }
     requires ready { Tells D.told pages.old → IsReady (shape_of pages.old.layout at.index) (contents pages.old.layout pages.old.pages at.index) at.range stage }
     ensures stepped { IfOk result (λ o. OfBlocks D.told pages.old (table_of pages.old.layout at.index) (λ blocks. StepsAt pages.old.layout pages.old.pages pages.new.pages locks.old locks.new at (heap_of pages.old.layout at.index blocks) (hand_of stage work.old) (hand_of o.0 work.new) o.1)) }
+    ensures exact { IfOk result (λ o. OfBlocks D.told pages.old (table_of pages.old.layout at.index) (λ blocks. IsExactAt (shape_of pages.old.layout at.index) (heap_of pages.old.layout at.index blocks) at.range (hand_of stage work.old) stage → IsExactAt (shape_of pages.old.layout at.index) (heap_of pages.old.layout at.index blocks) at.range (hand_of o.0 work.new) o.0)) }
     ensures stands { IfOk result (λ o. StandsAfter stage o.0 o.1) }
+    ensures rests { IfOk result (λ o. RestsBlocked (hand_of stage work.old) (hand_of o.0 work.new) o.1) }
     ensures of { IsHandOf pages.old.layout at.index (hand_of stage work.new) }
     ensures same_room { length room.new ≡ length room.old }
     ensures blocked { IfOk result (λ o. BlockedWell D.told at.index at.actor pages.old pages.new locks.old locks.new o.1) }
-    ensures full { IfErr result (SaysSwapFull pages.old.layout at.index (λ number. Tells D.told pages.old → StepFull (shape_of pages.old.layout at.index) at.actor at.range (summarise_at pages.old.layout pages.old.pages locks.old at.index (hand_of stage work.old)) number)) }
+    ensures full { IfErr result (SaysFullIn pages.old.layout at.index (λ number. Tells D.told pages.old → StepFull (shape_of pages.old.layout at.index) at.actor at.range (summarise_at pages.old.layout pages.old.pages locks.old at.index (hand_of stage work.old)) number)) }
     ensures others { LeavesOthers D.told at.index pages.old pages.new }
     ensures locks { LeavesLocks (holder locks.old) (holder locks.new) (relation_of pages.old.layout at.index) at.actor }
+    ensures counts { TakesAtMost (taken_at stage) locks.old locks.new at.actor }
+    ensures given { OnOk result (GivesAt stage → locks_of locks.new at.actor ≡ 0) }
+    ensures own { locks_of locks.old at.actor ≤ held_at stage → IfOk result (λ o. locks_of locks.new at.actor ≤ held_at o.0) }
     ensures kept { OnErr result (Keeps D.told pages.old pages.new) }
+    ensures at { IfErr result (NamesPageAt pages.old.layout at.index stage) }
     ensures outcome { MachineOutcome D.told (Tells D.told pages.old → DamageAt (shape_of pages.old.layout at.index) (contents pages.old.layout pages.old.pages at.index) at.range stage) pages.old pages.new result }
 {
     match stage {
@@ -216,11 +233,13 @@ fn begin_pass<D: Disk + Drop>(
     requires index { at.index < length pages.now.layout.schema.indexes }
     requires of { IsHandOf pages.now.layout at.index (hand_of Stage.Extent work.old) }
     ensures stepped { IfOk result (λ o. OfBlocks D.told pages.now (table_of pages.now.layout at.index) (λ blocks. (locks : LockState) → StepsAt pages.now.layout pages.now.pages pages.now.pages locks locks at (heap_of pages.now.layout at.index blocks) (hand_of Stage.Extent work.old) (hand_of o.0 work.new) o.1)) }
+    ensures exact { IfOk result (λ o. OfBlocks D.told pages.now (table_of pages.now.layout at.index) (λ blocks. IsExactAt (shape_of pages.now.layout at.index) (heap_of pages.now.layout at.index blocks) at.range (hand_of Stage.Extent work.old) Stage.Extent → IsExactAt (shape_of pages.now.layout at.index) (heap_of pages.now.layout at.index blocks) at.range (hand_of o.0 work.new) o.0)) }
     ensures stands { IfOk result (λ o. StandsAfter Stage.Extent o.0 o.1) }
     ensures of { IsHandOf pages.now.layout at.index (hand_of Stage.Extent work.new) }
     ensures united { work.new.united ≡ work.old.united }
     ensures never_blocked { IfOk result (λ o. NeverBlocked o.1) }
     ensures of_store { IfErr result IsOfStore }
+    ensures at { IfErr result (NamesPageAt pages.now.layout at.index Stage.Extent) }
     ensures outcome { MachineOutcome D.told (Tells D.told pages.now → DamageAt (shape_of pages.now.layout at.index) (contents pages.now.layout pages.now.pages at.index) at.range Stage.Extent) pages.now pages.now result }
 {
     match read_extent(pages, at, &mut work.running) {
@@ -242,12 +261,14 @@ fn go_on<D: Disk + Drop>(
     requires index { at.index < length pages.old.layout.schema.indexes }
     requires of { IsHandOf pages.old.layout at.index (hand_of Stage.Pass work.old) }
     ensures stepped { IfOk result (λ o. OfBlocks D.told pages.old (table_of pages.old.layout at.index) (λ blocks. (locks : LockState) → StepsAt pages.old.layout pages.old.pages pages.new.pages locks locks at (heap_of pages.old.layout at.index blocks) (hand_of Stage.Pass work.old) (hand_of o.0 work.new) o.1)) }
+    ensures exact { IfOk result (λ o. OfBlocks D.told pages.old (table_of pages.old.layout at.index) (λ blocks. IsExactAt (shape_of pages.old.layout at.index) (heap_of pages.old.layout at.index blocks) at.range (hand_of Stage.Pass work.old) Stage.Pass → IsExactAt (shape_of pages.old.layout at.index) (heap_of pages.old.layout at.index blocks) at.range (hand_of o.0 work.new) o.0)) }
     ensures stands { IfOk result (λ o. StandsAfter Stage.Pass o.0 o.1) }
     ensures of { IsHandOf pages.old.layout at.index (hand_of Stage.Pass work.new) }
     ensures united { work.new.united ≡ work.old.united }
     ensures kept { Keeps D.told pages.old pages.new }
     ensures never_blocked { IfOk result (λ o. NeverBlocked o.1) }
     ensures of_store { IfErr result IsOfStore }
+    ensures at { IfErr result (NamesPageAt pages.old.layout at.index Stage.Pass) }
     ensures outcome { MachineOutcome D.told (Tells D.told pages.old → DamageAt (shape_of pages.old.layout at.index) (contents pages.old.layout pages.old.pages at.index) at.range Stage.Pass) pages.old pages.new result }
 {
     if work.next >= work.extent {
@@ -277,11 +298,13 @@ fn unite_in<D: Disk + Drop>(
     requires index { at.index < length pages.old.layout.schema.indexes }
     requires of { IsHandOf pages.old.layout at.index (hand_of (Stage.Copy spot) work.old) }
     ensures stepped { IfOk result (λ o. Tells D.told pages.old → (locks : LockState) (heap : Heap) → StepsAt pages.old.layout pages.old.pages pages.new.pages locks locks at heap (hand_of (Stage.Copy spot) work.old) (hand_of o.0 work.new) o.1) }
+    ensures exact { IfOk result (λ o. OfBlocks D.told pages.old (table_of pages.old.layout at.index) (λ blocks. IsExactAt (shape_of pages.old.layout at.index) (heap_of pages.old.layout at.index blocks) at.range (hand_of (Stage.Copy spot) work.old) (Stage.Copy spot) → IsExactAt (shape_of pages.old.layout at.index) (heap_of pages.old.layout at.index blocks) at.range (hand_of o.0 work.new) o.0)) }
     ensures stands { IfOk result (λ o. StandsAfter (Stage.Copy spot) o.0 o.1) }
     ensures of { IsHandOf pages.old.layout at.index (hand_of (Stage.Copy spot) work.new) }
     ensures kept { Keeps D.told pages.old pages.new }
     ensures never_blocked { IfOk result (λ o. NeverBlocked o.1) }
     ensures of_store { IfErr result IsOfStore }
+    ensures at { IfErr result (NamesPageAt pages.old.layout at.index (Stage.Copy spot)) }
     ensures outcome { MachineOutcome D.told (Tells D.told pages.old → DamageAt (shape_of pages.old.layout at.index) (contents pages.old.layout pages.old.pages at.index) at.range (Stage.Copy spot)) pages.old pages.new result }
 {
     match unite(

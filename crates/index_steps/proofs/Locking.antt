@@ -1,5 +1,6 @@
 -- locks of an index's pages that are taken
 use Rattle.std.proofs.Common.{◌≡◌, ◌≢◌, ◌⊎◌, inl, inr, ⊎_elim, ℕ, ◌+◌, ◌≤◌, List, [], ◌∷◌, Option, None, Some, refl, sym, ap, subst, ◌∙◌, arith}
+use Rattle.std.specs.Prelude.{◌↔◌}
 use Rattle.std.proofs.lemmas.Option.{none-some, same_Some}
 use Rattle.block_model.specs.declared.place.Place.{Place}
 use Rattle.page_locks.specs.LockChanges.{GivesAll, IsFirstHeld, FirstHeld, LaterHeld, IsFreeFor, IsOneOf, TakesAll, page_of}
@@ -7,9 +8,8 @@ use Rattle.coverage.specs.Changes.{IsFree, OwnLocks}
 use Rattle.coverage.specs.IndexView.{IndexView}
 use Rattle.coverage.specs.Knowing.{IsOneOf as IsAmong, LocksNone, LocksThese}
 use Rattle.coverage.specs.Verdicts.{First, IsFirstLocked, Later}
-use Rattle.page_locks.specs.LockCounts.{AddsAtMost, locks_of}
-use Rattle.page_locks.specs.LockHolders.{LockState, count_of}
-use Rattle.index_steps.specs.SwapAnswers.{LeavesLocks, TakesFew}
+use Rattle.page_locks.specs.LockHolders.{LockState}
+use Rattle.index_steps.specs.SwapAnswers.{LeavesLocks, TakesAtMost}
 
 -- the two ways to say that a page is one of these
 pub among : (these : List ℕ) (p : ℕ) → IsOneOf these p → IsAmong these p
@@ -55,34 +55,48 @@ pub first_locked : (h : Place → Option ℕ) (relation s : ℕ) (lock : ℕ →
 first_locked h relation s lock _ _ old (FirstHeld p n more locked other) = First p more (n, old p ∙ locked, other)
 first_locked h relation s lock _ _ old (LaterHeld p q more none later) = Later p q more (λ n locked. none n (sym (old p) ∙ locked)) (first_locked h relation s lock more q old later)
 
--- the locks of other relations stay
+-- the locks of other relations stay, and those of other actors
 pub takes_apart : (relation at s : ℕ) (h k : Place → Option ℕ) (these : List ℕ) → relation ≡ at → TakesAll h k relation these s → LeavesLocks h k at s
-takes_apart relation at s h k these is takes page other none = ⊎_elim
-    (λ (mine : (page.relation ≡ relation) × IsOneOf these page.block). absurd (other (mine.0 ∙ is)))
-    (λ (same : k page ≡ h page). same)
-    (takes.others page)
+takes_apart relation at s h k these is takes = record { elsewhere = elsewhere; others = others }
+  where
+    elsewhere : (page : Place) → page.relation ≢ at → h page ≢ Some s → k page ≡ h page
+    elsewhere page other none = ⊎_elim
+        (λ (mine : (page.relation ≡ relation) × IsOneOf these page.block). absurd (other (mine.0 ∙ is)))
+        (λ (same : k page ≡ h page). same)
+        (takes.others page)
+
+    here : (page : Place) → page.relation ≡ relation → page_of relation page.block ≡ page
+    here page is_here = ap (λ (r : ℕ). page_of r page.block) (sym is_here)
+
+    was_too : (page : Place) (n : ℕ) → n ≢ s → k page ≡ Some n → h page ≡ Some n
+    was_too page n other now = ⊎_elim
+        (λ (mine : (page.relation ≡ relation) × IsOneOf these page.block). absurd (other (same_Some n s (sym now ∙ ap k (sym (here page mine.0)) ∙ takes.now page.block mine.1))))
+        (λ (same : k page ≡ h page). sym same ∙ now)
+        (takes.others page)
+
+    is_still : (page : Place) (n : ℕ) → n ≢ s → h page ≡ Some n → k page ≡ Some n
+    is_still page n other was = ⊎_elim
+        (λ (mine : (page.relation ≡ relation) × IsOneOf these page.block). absurd (other (takes.free page.block mine.1 n (ap h (here page mine.0) ∙ was))))
+        (λ (same : k page ≡ h page). same ∙ was)
+        (takes.others page)
+
+    others : (page : Place) (n : ℕ) → n ≢ s → (k page ≡ Some n) ↔ (h page ≡ Some n)
+    others page n other = (was_too page n other, is_still page n other)
 
 pub gives_apart : (at s : ℕ) (h k : Place → Option ℕ) → GivesAll h k s → LeavesLocks h k at s
-gives_apart at s h k gives page other none = by_holder (h page) (k page) refl refl
+gives_apart at s h k gives = record {
+  elsewhere = λ page other none. by_holder page none (h page) (k page) refl refl;
+  others = λ page n other. (gives.only page n, gives.kept page n other);
+}
   where
-    by_holder : (a b : Option ℕ) → h page ≡ a → k page ≡ b → b ≡ a
-    by_holder None None was now = refl
-    by_holder None (Some m) was now = absurd (none-some m (sym was ∙ gives.only page m now))
-    by_holder (Some n) b was now = sym now ∙ gives.kept page n (λ same. none (was ∙ ap Some same)) was
+    by_holder : (page : Place) → h page ≢ Some s → (a b : Option ℕ) → h page ≡ a → k page ≡ b → b ≡ a
+    by_holder page none None None was now = refl
+    by_holder page none None (Some m) was now = absurd (none-some m (sym was ∙ gives.only page m now))
+    by_holder page none (Some n) b was now = sym now ∙ gives.kept page n (λ same. none (was ∙ ap Some same)) was
 
 pub same_apart : (at s : ℕ) (h : Place → Option ℕ) → LeavesLocks h h at s
-same_apart at s h page other none = refl
+same_apart at s h = record { elsewhere = λ page other none. refl; others = λ page n other. (λ is. is, λ is. is) }
 
--- few locks are taken
-pub takes_few : (old new : LockState) (s n : ℕ) → n ≤ 3 → new.limit ≡ old.limit → AddsAtMost old new s n → TakesFew old new s
-takes_few old new s n few limit adds = (
-  limit,
-  record {
-    own = let own : locks_of new s ≤ locks_of old s + n = adds.own in omega (arith, few, own);
-    others = adds.others;
-    all = let all : count_of new ≤ count_of old + n = adds.all in omega (arith, few, all);
-  },
-)
-
-pub takes_none : (locks : LockState) (s : ℕ) → TakesFew locks locks s
-takes_none locks s = (refl, record { own = omega arith; others = λ a other. refl; all = omega arith })
+-- no lock is taken
+pub takes_none : (n : ℕ) (locks : LockState) (s : ℕ) → TakesAtMost n locks locks s
+takes_none n locks s = record { limit = refl; adds = record { own = omega arith; others = λ a other. refl; all = omega arith } }

@@ -1,5 +1,5 @@
 -- what came of a step that would have a new tuple take the place of the one that was copied
-use Rattle.std.specs.Prelude.{◌≡◌, ◌≢◌, ℕ, Option, Some, List, [], ◌∷◌, Result, Ok, Err}
+use Rattle.std.specs.Prelude.{◌≡◌, ◌≢◌, ◌↔◌, ℕ, Option, Some, List, [], ◌∷◌, Result, Ok, Err}
 use Rattle.block_model.specs.declared.place.Place.{Place}
 use Rattle.block_model.specs.declared.place.Spot.{Spot}
 use Rattle.store_layout.specs.DiskLayout.{DiskLayout}
@@ -10,8 +10,8 @@ use Rattle.page_store.specs.Keeps.{Keeps}
 use Rattle.page_store.specs.Outcome.{Outcome, Refused}
 use Rattle.page_store.specs.PageMap.{View}
 use Rattle.page_locks.specs.declared.held.Held.{Held}
-use Rattle.page_locks.specs.LockChanges.{TakesAll}
-use Rattle.page_locks.specs.LockCounts.{AddsAtMost}
+use Rattle.page_locks.specs.LockChanges.{GivesAll, TakesAll}
+use Rattle.page_locks.specs.LockCounts.{AddsAtMost, locks_of}
 use Rattle.page_locks.specs.LockHolders.{LockState, holder}
 use Rattle.coverage.specs.IndexPart.{with_part}
 use Rattle.coverage.specs.IndexView.{Building, IndexTuple, IndexView, map_page_of}
@@ -49,10 +49,10 @@ abbrev pub IsSwapFull : (shape : IndexShape) (c : IndexContents) (lock : ℕ →
 IsSwapFull shape c lock s range x old new number = (w : IndexView) → Shows shape c lock w → SwapVerdict w s range x old new (Full number)
 
 -- a full index is told by its relation, and only where no page has room
-abbrev pub SaysSwapFull : DiskLayout → (index : ℕ) → (IsFullAt : ℕ → Type 0) → MachineFault → Type 0
-SaysSwapFull layout index IsFullAt (faults.Full relation number) = (relation ≡ relation_of layout index) × IsFullAt number
-SaysSwapFull layout index IsFullAt (faults.Store error) = Unit {0}
-SaysSwapFull layout index IsFullAt faults.Memory = ⊥
+abbrev pub SaysFullIn : DiskLayout → (index : ℕ) → (IsFullAt : ℕ → Type 0) → MachineFault → Type 0
+SaysFullIn layout index IsFullAt (faults.Full relation number) = (relation ≡ relation_of layout index) × IsFullAt number
+SaysFullIn layout index IsFullAt (faults.Store error) = Unit {0}
+SaysFullIn layout index IsFullAt faults.Memory = ⊥
 
 -- the lock that is waited for is that of a page of the index, and another actor holds it
 abbrev pub NamesHeld : DiskLayout → LockState → (index actor : ℕ) → Held → Type 0
@@ -73,9 +73,10 @@ PagesAfter told old new (swaps.Waits held) = Keeps told old new
 PagesAfter told old new swaps.Differs = Keeps told old new
 PagesAfter told old new swapped = Unit {0}
 
--- the locks of other relations' pages stay, but for those of the actor
-abbrev pub LeavesLocks : (h k : Place → Option ℕ) → (relation actor : ℕ) → Type 0
-LeavesLocks h k relation actor = (page : Place) → page.relation ≢ relation → h page ≢ Some actor → k page ≡ h page
+-- The locks of other relations' pages stay, but for those of the actor; and each other actor locks the pages that it locked, and no others.
+pub record LeavesLocks (h k : Place → Option ℕ) (relation actor : ℕ) : Type 0 where
+  pub elsewhere : (page : Place) → page.relation ≢ relation → h page ≢ Some actor → k page ≡ h page
+  pub others : (page : Place) (n : ℕ) → n ≢ actor → (k page ≡ Some n) ↔ (h page ≡ Some n)
 
 -- A step is done or refused as the page store does or refuses, for a cause of damage. A full index is told only where no disk fault
 -- was kept, and no step is short of memory.
@@ -94,6 +95,12 @@ abbrev pub FaultNamesPageOf : DiskLayout → (index : ℕ) → MachineFault → 
 FaultNamesPageOf layout index (faults.Store error) = NamesPageOf layout index error
 FaultNamesPageOf layout index fault = Unit {0}
 
--- the actor holds at most three locks more, each other one as many, and as many as before may be held
-abbrev pub TakesFew : LockState → LockState → (actor : ℕ) → Type 0
-TakesFew old new actor = (new.limit ≡ old.limit) × AddsAtMost old new actor 3
+-- the actor holds at most so many locks more, each other one as many, and as many as before may be held
+pub record TakesAtMost (n : ℕ) (old new : LockState) (actor : ℕ) : Type 0 where
+  pub limit : new.limit ≡ old.limit
+  pub adds : AddsAtMost old new actor n
+
+-- the actor gives all its locks, and has none left
+pub record GivesLocks (old new : LockState) (actor : ℕ) : Type 0 where
+  pub all : GivesAll (holder old) (holder new) actor
+  pub none : locks_of new actor ≡ 0

@@ -3,7 +3,6 @@
 ghost use Rattle.std.specs.Prelude.{◌≡◌, ◌<◌, ℕ, Option, length, IfErr, OnOk, OnErr};
 ghost use Rattle.page_store.specs.Keeps.{Keeps, Tells, Untold};
 ghost use Rattle.page_store.specs.Outcome.{Outcome};
-ghost use Rattle.page_locks.specs.LockChanges.{GivesAll};
 ghost use Rattle.page_locks.specs.LockHolders.{holder};
 ghost use Rattle.coverage.specs.IndexView.{Building, IndexView};
 ghost use Rattle.index_contents.specs.IndexContents.{contents, relation_of};
@@ -12,7 +11,7 @@ ghost use Rattle.index_steps.specs.IndexTuples.{shape_of};
 ghost use Rattle.index_steps.specs.MoveEnds.{DropsIn, IsMoving, SetsIn};
 ghost use Rattle.index_steps.specs.Readings.{NamesPageOf};
 ghost use Rattle.index_steps.specs.ShownIndex.{lock_in};
-ghost use Rattle.index_steps.specs.SwapAnswers.{LeavesLocks, TakesFew};
+ghost use Rattle.index_steps.specs.SwapAnswers.{GivesLocks, LeavesLocks, TakesAtMost};
 
 use crate::reading::page_at;
 use crate::swapping::Within;
@@ -57,10 +56,10 @@ pub fn drop_moved<D: Disk + Drop>(
 ) -> Result<(), StoreError>
     requires index { at.index < length pages.old.layout.schema.indexes }
     ensures dropped { OnOk result (Tells D.told pages.old → DropsIn (shape_of pages.old.layout at.index) (contents pages.old.layout pages.old.pages at.index) (contents pages.old.layout pages.new.pages at.index) (lock_in pages.old.layout locks.old at.index) (lock_in pages.old.layout locks.new at.index) at.actor from) }
-    ensures given { OnOk result (GivesAll (holder locks.old) (holder locks.new) at.actor) }
+    ensures given { OnOk result (GivesLocks locks.old locks.new at.actor) }
     ensures locks { OnErr result (locks.new ≡ locks.old) }
     ensures apart { LeavesLocks (holder locks.old) (holder locks.new) (relation_of pages.old.layout at.index) at.actor }
-    ensures counts { TakesFew locks.old locks.new at.actor }
+    ensures counts { TakesAtMost 0 locks.old locks.new at.actor }
     ensures kept { OnErr result (Keeps D.told pages.old pages.new) }
     ensures others { LeavesOthers D.told at.index pages.old pages.new }
     ensures at { IfErr result (NamesPageOf pages.old.layout at.index) }

@@ -3,7 +3,6 @@
 ghost use Rattle.std.specs.Prelude.{◌≡◌, ◌+◌, ◌<◌, ◌≤◌, None, length, IfOk, IfErr, OnOk, OnErr};
 ghost use Rattle.page_store.specs.Keeps.{Keeps, Tells, Untold};
 ghost use Rattle.page_store.specs.Outcome.{Outcome};
-ghost use Rattle.page_locks.specs.LockChanges.{GivesAll};
 ghost use Rattle.page_locks.specs.LockHolders.{count_of, holder};
 ghost use Rattle.range_store.specs.Tuples.{IsTupleSize};
 ghost use Rattle.index_contents.specs.IndexContents.{contents, relation_of};
@@ -12,7 +11,7 @@ ghost use Rattle.index_steps.specs.IndexTuples.{seen, shape_of};
 ghost use Rattle.index_steps.specs.PlaceAnswers.{IsPlacing, IsPutFull, NamesIn, PagesPlaced, PlaceMakes, PlaceWaits, PlacedLocks};
 ghost use Rattle.index_steps.specs.Readings.{NamesPageOf};
 ghost use Rattle.index_steps.specs.ShownIndex.{lock_in};
-ghost use Rattle.index_steps.specs.SwapAnswers.{LeavesLocks, MachineOutcome, SaysSwapFull};
+ghost use Rattle.index_steps.specs.SwapAnswers.{FaultNamesPageOf, GivesLocks, LeavesLocks, MachineOutcome, SaysFullIn, TakesAtMost};
 
 use crate::reading::page_at;
 use crate::swapping::{Within, map_page_of};
@@ -47,12 +46,14 @@ pub fn put_new<D: Disk + Drop>(
     requires room { count_of locks.old + 2 ≤ locks.old.limit }
     ensures placed { IfOk result (λ placed. Tells D.told pages.old → PlaceMakes (shape_of pages.old.layout at.index) (contents pages.old.layout pages.old.pages at.index) (contents pages.old.layout pages.new.pages at.index) (lock_in pages.old.layout locks.old at.index) (lock_in pages.old.layout locks.new at.index) at.actor at.range (seen (shape_of pages.old.layout at.index) bytes.now) placed) }
     ensures waits { IfOk result (PlaceWaits pages.old.layout locks.old at.index at.actor) }
-    ensures full { IfErr result (SaysSwapFull pages.old.layout at.index (λ number. Tells D.told pages.old → IsPutFull (shape_of pages.old.layout at.index) (contents pages.old.layout pages.old.pages at.index) (lock_in pages.old.layout locks.old at.index) at.actor at.range (seen (shape_of pages.old.layout at.index) bytes.now) number)) }
+    ensures full { IfErr result (SaysFullIn pages.old.layout at.index (λ number. Tells D.told pages.old → IsPutFull (shape_of pages.old.layout at.index) (contents pages.old.layout pages.old.pages at.index) (lock_in pages.old.layout locks.old at.index) at.actor at.range (seen (shape_of pages.old.layout at.index) bytes.now) number)) }
     ensures locks { IfOk result (PlacedLocks (holder locks.old) (holder locks.new) (relation_of pages.old.layout at.index) at.actor at.range locks.old locks.new) }
     ensures apart { LeavesLocks (holder locks.old) (holder locks.new) (relation_of pages.old.layout at.index) at.actor }
+    ensures counts { TakesAtMost 2 locks.old locks.new at.actor }
     ensures pages { IfOk result (PagesPlaced D.told pages.old pages.new) }
     ensures kept { OnErr result (Keeps D.told pages.old pages.new) }
     ensures others { LeavesOthers D.told at.index pages.old pages.new }
+    ensures at { IfErr result (FaultNamesPageOf pages.old.layout at.index) }
     ensures outcome { MachineOutcome D.told (Untold D.told pages.old) pages.old pages.new result }
 {
     a_target_takes_its_tuple();
@@ -90,9 +91,10 @@ pub fn name_new<D: Disk + Drop>(
     requires index { at.index < length pages.old.layout.schema.indexes }
     requires placing { Tells D.told pages.old → IsPlacing (shape_of pages.old.layout at.index) (contents pages.old.layout pages.old.pages at.index) at.range to }
     ensures named { OnOk result (Tells D.told pages.old → NamesIn (shape_of pages.old.layout at.index) (contents pages.old.layout pages.old.pages at.index) (contents pages.old.layout pages.new.pages at.index) (lock_in pages.old.layout locks.old at.index) (lock_in pages.old.layout locks.new at.index) at.actor at.range to) }
-    ensures given { OnOk result (GivesAll (holder locks.old) (holder locks.new) at.actor) }
+    ensures given { OnOk result (GivesLocks locks.old locks.new at.actor) }
     ensures locks { OnErr result (locks.new ≡ locks.old) }
     ensures apart { LeavesLocks (holder locks.old) (holder locks.new) (relation_of pages.old.layout at.index) at.actor }
+    ensures counts { TakesAtMost 0 locks.old locks.new at.actor }
     ensures kept { OnErr result (Keeps D.told pages.old pages.new) }
     ensures others { LeavesOthers D.told at.index pages.old pages.new }
     ensures at { IfErr result (NamesPageOf pages.old.layout at.index) }

@@ -10,7 +10,7 @@ ghost use Rattle.index_contents.specs.IndexContents.{contents, relation_of};
 ghost use Rattle.index_contents.specs.IndexChanges.{LeavesOthers};
 ghost use Rattle.index_steps.specs.IndexTuples.{seen, shape_of};
 ghost use Rattle.index_steps.specs.ShownIndex.{lock_in};
-ghost use Rattle.index_steps.specs.SwapAnswers.{FaultNamesPageOf, IsSwapFull, LeavesLocks, LocksAfter, MachineOutcome, MustLeave, PagesAfter, SaysSwapFull, SwapMakes, TakesFew, WaitsFor};
+ghost use Rattle.index_steps.specs.SwapAnswers.{FaultNamesPageOf, IsSwapFull, LeavesLocks, LocksAfter, MachineOutcome, MustLeave, PagesAfter, SaysFullIn, SwapMakes, TakesAtMost, WaitsFor};
 
 use block_model::{Place, Spot};
 use disk_trait::Disk;
@@ -58,10 +58,10 @@ pub fn swap<D: Disk + Drop>(
     requires room { count_of locks.old + 3 ≤ locks.old.limit }
     ensures swapped { IfOk result (λ swapped. Tells D.told pages.old → SwapMakes (shape_of pages.old.layout at.index) (contents pages.old.layout pages.old.pages at.index) (contents pages.old.layout pages.new.pages at.index) (lock_in pages.old.layout locks.old at.index) (lock_in pages.old.layout locks.new at.index) at.actor at.range spot (seen (shape_of pages.old.layout at.index) copied.now) (seen (shape_of pages.old.layout at.index) bytes.now) swapped) }
     ensures waits { IfOk result (WaitsFor pages.old.layout locks.old at.index at.actor) }
-    ensures full { IfErr result (SaysSwapFull pages.old.layout at.index (λ number. Tells D.told pages.old → IsSwapFull (shape_of pages.old.layout at.index) (contents pages.old.layout pages.old.pages at.index) (lock_in pages.old.layout locks.old at.index) at.actor at.range spot (seen (shape_of pages.old.layout at.index) copied.now) (seen (shape_of pages.old.layout at.index) bytes.now) number)) }
+    ensures full { IfErr result (SaysFullIn pages.old.layout at.index (λ number. Tells D.told pages.old → IsSwapFull (shape_of pages.old.layout at.index) (contents pages.old.layout pages.old.pages at.index) (lock_in pages.old.layout locks.old at.index) at.actor at.range spot (seen (shape_of pages.old.layout at.index) copied.now) (seen (shape_of pages.old.layout at.index) bytes.now) number)) }
     ensures locks { IfOk result (LocksAfter (holder locks.old) (holder locks.new) (relation_of pages.old.layout at.index) at.actor at.range spot locks.old locks.new) }
     ensures apart { LeavesLocks (holder locks.old) (holder locks.new) (relation_of pages.old.layout at.index) at.actor }
-    ensures counts { TakesFew locks.old locks.new at.actor }
+    ensures counts { TakesAtMost 3 locks.old locks.new at.actor }
     ensures pages { IfOk result (PagesAfter D.told pages.old pages.new) }
     ensures kept { OnErr result (Keeps D.told pages.old pages.new) }
     ensures others { LeavesOthers D.told at.index pages.old pages.new }
@@ -106,10 +106,10 @@ fn put_elsewhere<D: Disk + Drop>(
     requires must { Tells D.told pages.old → MustLeave (contents pages.old.layout pages.old.pages at.index) spot copied.now (length bytes.now) }
     ensures swapped { IfOk result (λ swapped. Tells D.told pages.old → SwapMakes (shape_of pages.old.layout at.index) (contents pages.old.layout pages.old.pages at.index) (contents pages.old.layout pages.new.pages at.index) (lock_in pages.old.layout locks.old at.index) (lock_in pages.old.layout locks.new at.index) at.actor at.range spot (seen (shape_of pages.old.layout at.index) copied.now) (seen (shape_of pages.old.layout at.index) bytes.now) swapped) }
     ensures waits { IfOk result (WaitsFor pages.old.layout locks.old at.index at.actor) }
-    ensures full { IfErr result (SaysSwapFull pages.old.layout at.index (λ number. Tells D.told pages.old → IsSwapFull (shape_of pages.old.layout at.index) (contents pages.old.layout pages.old.pages at.index) (lock_in pages.old.layout locks.old at.index) at.actor at.range spot (seen (shape_of pages.old.layout at.index) copied.now) (seen (shape_of pages.old.layout at.index) bytes.now) number)) }
+    ensures full { IfErr result (SaysFullIn pages.old.layout at.index (λ number. Tells D.told pages.old → IsSwapFull (shape_of pages.old.layout at.index) (contents pages.old.layout pages.old.pages at.index) (lock_in pages.old.layout locks.old at.index) at.actor at.range spot (seen (shape_of pages.old.layout at.index) copied.now) (seen (shape_of pages.old.layout at.index) bytes.now) number)) }
     ensures locks { IfOk result (LocksAfter (holder locks.old) (holder locks.new) (relation_of pages.old.layout at.index) at.actor at.range spot locks.old locks.new) }
     ensures apart { LeavesLocks (holder locks.old) (holder locks.new) (relation_of pages.old.layout at.index) at.actor }
-    ensures counts { TakesFew locks.old locks.new at.actor }
+    ensures counts { TakesAtMost 3 locks.old locks.new at.actor }
     ensures pages { IfOk result (PagesAfter D.told pages.old pages.new) }
     ensures kept { OnErr result (Keeps D.told pages.old pages.new) }
     ensures others { LeavesOthers D.told at.index pages.old pages.new }

@@ -17,3 +17,6 @@ returns-in-Ok-Some-clause-stepped g c = λ tells locks heap hand all.
     let same : is ≡ was = ap (λ (pages : PageMap). contents store.layout pages at.index) (c.read_map.ensures.kept.pages tells) in
     is_named_again shape heap at.actor at.range was is lock hand (λ w shows none. c.an_index_that_stays_is_read.ensures shape was is lock lock w at.actor shows same refl none)
     c.read_map.new.copied c.in-Ok-Some.spot all (c.in-Ok-Some.ensures.entry tells ∙ c.in-Ok-Some.field-0-is)
+
+pub returns-in-Ok-Some-clause-exact : goal.returns-in-Ok-Some-clause-exact
+returns-in-Ok-Some-clause-exact g c = λ shape heap hand all so_far. (so_far, all)

@@ -1,4 +1,4 @@
-use Rattle.std.proofs.Common.{◌≡◌, ℕ, ◌≤◌, List, [], length, refl, sym, ap, subst, ◌∙◌, arith}
+use Rattle.std.proofs.Common.{◌≡◌, ℕ, ◌≤◌, List, [], length, refl, sym, ap, subst, ◌∙◌, arith, ◌<◌}
 use Rattle.range_store.specs.Tuples.{IsTupleSize}
 use Rattle.range_tuple.specs.TupleBytes.{tuple_bytes}
 use Rattle.coverage.specs.Verdicts.{Full, PutVerdict}
@@ -9,6 +9,7 @@ use Rattle.index_steps.specs.ShownIndex.{lock_in}
 use Rattle.brin_summarise.specs.ShownHeap.{Heap}
 use Rattle.brin_summarise.proofs.Faults.{full_too}
 use Rattle.brin_summarise.proofs.Stepped.{full_to_put, is_put, placed_as, waits_to_put}
+use Rattle.brin_summarise.proofs.Locking.{as_few, few_more}
 use Rattle.brin_summarise.proofs.in_range.place.Goals as goal
 
 pub returns-in-Ok-Put-clause-stepped : goal.returns-in-Ok-Put-clause-stepped
@@ -58,3 +59,19 @@ put_new-requires-clause-size g c = subst (λ (b : List ℕ). IsTupleSize (length
 
 pub spell-size-requires : goal.spell-size-requires
 spell-size-requires g c = omega (arith, c.tuples_of_an_index_need_one_room.ensures c.restart.new.self.columns c.args.united.now.columns c.restart.ensures.same_index, c.requires.room)
+
+pub returns-in-Ok-Put-clause-own : goal.returns-in-Ok-Put-clause-own
+returns-in-Ok-Put-clause-own g c = λ few. few_more 2 0 2 c.args.locks.now c.put_new.new.locks c.args.at.actor c.put_new.ensures.counts few (omega arith)
+
+pub returns-in-Ok-Waits-clause-own : goal.returns-in-Ok-Waits-clause-own
+returns-in-Ok-Waits-clause-own g c = λ few.
+    let same = rw c.in-Ok-Waits.field-0-is at c.in-Ok-Waits.ensures.locks in
+    as_few 0 0 c.args.locks.now c.put_new.new.locks c.args.at.actor same few (omega arith)
+
+pub returns-in-Ok-Waits-clause-rests : goal.returns-in-Ok-Waits-clause-rests
+returns-in-Ok-Waits-clause-rests g c = λ hand. refl
+
+pub returns-in-Ok-Waits-clause-stands : goal.returns-in-Ok-Waits-clause-stands
+returns-in-Ok-Waits-clause-stands g c =
+    let some : 0 < 2 = omega arith in
+    (some, refl)

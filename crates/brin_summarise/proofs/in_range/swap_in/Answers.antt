@@ -1,4 +1,4 @@
-use Rattle.std.proofs.Common.{◌≡◌, ℕ, List, refl, sym, ap, subst, ◌∙◌}
+use Rattle.std.proofs.Common.{◌≡◌, ℕ, List, refl, sym, ap, subst, ◌∙◌, ◌<◌, arith}
 use Rattle.range_tuple.specs.TupleBytes.{tuple_bytes}
 use Rattle.index_contents.specs.IndexContents.{contents}
 use Rattle.std.proofs.Common.{length}
@@ -12,6 +12,7 @@ use Rattle.coverage.specs.Verdicts.{Full}
 use Rattle.coverage.specs.Waiting.{FinalFull}
 use Rattle.brin_summarise.proofs.Faults.{full_too}
 use Rattle.brin_summarise.proofs.Stepped.{in_place, lost, put_elsewhere, swapped_as, verdict_as, waits_to_swap}
+use Rattle.brin_summarise.proofs.Locking.{as_few, few_more}
 use Rattle.brin_summarise.proofs.in_range.swap_in.Goals as goal
 
 pub returns-in-Ok-InPlace-clause-stepped : goal.returns-in-Ok-InPlace-clause-stepped
@@ -79,3 +80,32 @@ returns-in-Err-clause-full g c =
     FinalFull number (Passing hand.extent hand.next (seen shape (tuple_bytes hand.running))) c.args.spot (seen shape c.args.copied.now) (seen shape (tuple_bytes c.args.united.now))
     (verdict_as shape w at.actor at.range c.args.spot _ c.args.copied.now _ (tuple_bytes c.args.united.now) (Full number) c.bytes.ensures c.spell-size.ensures.bytes (full tells w shows)))
     c.in-Err.ensures.full
+
+pub returns-in-Ok-Differs-clause-exact : goal.returns-in-Ok-Differs-clause-exact
+returns-in-Ok-Differs-clause-exact g c = λ shape heap hand exact. exact.0.0
+
+pub returns-in-Ok-InPlace-clause-own : goal.returns-in-Ok-InPlace-clause-own
+returns-in-Ok-InPlace-clause-own g c = λ few.
+    let same = rw c.in-Ok-InPlace.field-0-is at c.in-Ok-InPlace.ensures.locks in
+    as_few 0 0 c.args.locks.now c.swap.new.locks c.args.at.actor same few (omega arith)
+
+pub returns-in-Ok-Differs-clause-own : goal.returns-in-Ok-Differs-clause-own
+returns-in-Ok-Differs-clause-own g c = λ few.
+    let same = rw c.in-Ok-Differs.field-0-is at c.in-Ok-Differs.ensures.locks in
+    as_few 0 0 c.args.locks.now c.swap.new.locks c.args.at.actor same few (omega arith)
+
+pub returns-in-Ok-Waits-clause-own : goal.returns-in-Ok-Waits-clause-own
+returns-in-Ok-Waits-clause-own g c = λ few.
+    let same = rw c.in-Ok-Waits.field-0-is at c.in-Ok-Waits.ensures.locks in
+    as_few 0 0 c.args.locks.now c.swap.new.locks c.args.at.actor same few (omega arith)
+
+pub returns-in-Ok-Moves-clause-own : goal.returns-in-Ok-Moves-clause-own
+returns-in-Ok-Moves-clause-own g c = λ few. few_more 3 0 3 c.args.locks.now c.swap.new.locks c.args.at.actor c.swap.ensures.counts few (omega arith)
+
+pub returns-in-Ok-Waits-clause-rests : goal.returns-in-Ok-Waits-clause-rests
+returns-in-Ok-Waits-clause-rests g c = λ hand. refl
+
+pub returns-in-Ok-Waits-clause-stands : goal.returns-in-Ok-Waits-clause-stands
+returns-in-Ok-Waits-clause-stands g c =
+    let some : 0 < 3 = omega arith in
+    (some, refl)

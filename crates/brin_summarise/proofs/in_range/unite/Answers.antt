@@ -41,3 +41,17 @@ returns-clause-stepped g c = λ tells locks heap hand.
     is_united shape heap at.actor at.range was is lock hand (λ w shows none. c.an_index_that_stays_is_read.ensures shape was is lock lock w at.actor shows same refl none)
     c.copy_tuple.new.copied c.copy_tuple.new.tuple c.settle.new.self running c.args.spot (c.in-Ok-true.ensures.there c.in-Ok-true.field-0-test tells) (c.in-Ok-true.ensures.read c.in-Ok-true.field-0-test) reads
     (c.settle.ensures ∙ ap (λ (t : Tuple). record t { placeholder = false }) c.unite.ensures.widened)
+
+pub returns-in-Ok-false-clause-exact : goal.returns-in-Ok-false-clause-exact
+returns-in-Ok-false-clause-exact g c = λ heap hand passed. passed.0
+
+pub returns-clause-exact : goal.returns-clause-exact
+returns-clause-exact g c = λ heap hand passed. (
+  passed,
+  record {
+    placeholder = c.copy_tuple.new.tuple;
+    read = c.in-Ok-true.ensures.read c.in-Ok-true.field-0-test;
+    of = c.copy_tuple.ensures.same_index ∙ c.requires.tuple;
+    union = c.settle.ensures ∙ ap (λ (t : Tuple). record t { placeholder = false }) c.unite.ensures.widened;
+  },
+)

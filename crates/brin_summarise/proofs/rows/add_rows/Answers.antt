@@ -1,10 +1,10 @@
-use Rattle.std.proofs.Common.{◌≡◌, ℕ, ◌+◌, ◌≤◌, ◌<◌, List, take, refl, sym, ap, subst, ◌∙◌, arith}
+use Rattle.std.proofs.Common.{◌≡◌, ℕ, ◌+◌, ◌≤◌, ◌<◌, List, get_or, take, refl, sym, ap, subst, ◌∙◌, arith}
 use Rattle.opclass_any.specs.declared.classes.AnyClass.{AnyClass}
 use Rattle.heap_rows.specs.declared.rows.Stored.{Stored}
 use Rattle.range_tuple.specs.ExactTuples.{with_rows}
 use Rattle.range_tuple.specs.Tuples.{IsTuple, Tuple, parts_of, with_row}
-use Rattle.brin_summarise.specs.BlockRows.{IsTakenBy, values_of}
-use Rattle.brin_summarise.proofs.Adding.{all_added, one_more, tuples_all, tuples_more}
+use Rattle.brin_summarise.specs.BlockRows.{AreKnown, IsTakenBy, values_of}
+use Rattle.brin_summarise.proofs.Adding.{all_added, known_all, known_more, one_more, tuples_all, tuples_more}
 use Rattle.brin_summarise.proofs.rows.add_rows.Goals as goal
 
 pub rows-init : goal.rows-init
@@ -13,6 +13,7 @@ rows-init c = record {
   tuples = λ n low.
       let none : 0 ≡ n = omega (arith, low) in
       subst (λ (m : ℕ). IsTuple (with_rows (take m (values_of c.args.rows.now)) c.args.tuple.now)) none c.known.ensures.tuple;
+  known = λ k d low. absurd (omega (arith, low));
   same_index = refl;
 }
 
@@ -30,6 +31,7 @@ rows-preserved c =
     record {
       added = more;
       tuples = tuples_more rows i first c.rows.invariant.tuples (subst (λ (t : Tuple). IsTuple t) more c.add_one.ensures.tuple);
+      known = known_more rows i item c.row-item.is c.rows-test.true c.rows.invariant.known c.add_one.ensures.known;
       same_index = c.add_one.ensures.same_index ∙ c.rows.invariant.same_index;
     }
 
@@ -44,3 +46,6 @@ returns-clause-rows c = c.rows.invariant.added ∙ all_added c.args.rows.now c.r
 
 pub returns-clause-tuples : goal.returns-clause-tuples
 returns-clause-tuples c = tuples_all c.args.rows.now c.rows.row-index c.args.tuple.now c.rows-test.false c.rows.invariant.tuples
+
+pub returns-clause-known : goal.returns-clause-known
+returns-clause-known c = known_all c.args.rows.now c.rows.row-index c.rows-test.false c.rows.invariant.known
