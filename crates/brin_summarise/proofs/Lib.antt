@@ -15,3 +15,4 @@ pub mod Calls
 pub mod Exact
 pub mod Locking
 pub mod Joined
+pub mod KeptTable

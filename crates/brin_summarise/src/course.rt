@@ -1,15 +1,19 @@
 //! How far a summarise has come over the ranges of its index.
 
-ghost use Rattle.std.specs.Prelude.{◌≡◌, ◌<◌, ◌≤◌, ℕ, true, false};
+ghost use Rattle.std.specs.Prelude.{◌≡◌, ◌<◌, ◌≤◌, List, ℕ, true, false};
+ghost use Rattle.block_model.specs.declared.reply.Point.{Point as AnyPoint};
+ghost use Rattle.page_layout.specs.PageContents.{Slot};
+ghost use Rattle.page_locks.specs.declared.did.Did.TheVariants as dids;
+ghost use Rattle.page_locks.specs.LockHolders.{LockState, holder};
+ghost use Rattle.store_layout.specs.DiskLayout.{DiskLayout};
+ghost use Rattle.index_steps.specs.SwapAnswers.{LeavesLocks, TakesAtMost};
 ghost use Rattle.brin_summarise.specs.SummariseSteps.{made_at};
-ghost use Rattle.brin_summarise.specs.Summarises.{ComesTo, GoesOver, first_of, state_of};
+ghost use Rattle.brin_summarise.specs.Summarises.{ComesTo, GivesBy, GoesOver, IsExactNow, SummariseState, first_of, held_by, state_of, taken_by};
 
 use crate::range_summarise::RangeSummarise;
 use crate::rows::first_block;
 use crate::stage::Stage;
 use crate::wish::Wish;
-use block_model::Point;
-use page_locks::Did;
 
 /// Where a summarise stands between its steps.
 #[derive(Clone, Copy, Debug, PartialEq, Eq)]
@@ -33,24 +37,24 @@ pub(crate) struct Course {
     pub(crate) made: u64,
 }
 
-/// Begins the work at the range, if it is one to go over; else no range is left.
-pub(crate) fn come_to(
-    course: &mut Course,
-    work: &mut RangeSummarise,
-    in_range: u32,
-    point: Point,
-) -> Did
+/// Begins the work at the range, if it is one to go over; else no range is left. Answers whether it came to the range.
+pub(crate) fn come_to(course: &mut Course, work: &mut RangeSummarise, in_range: u32) -> bool
     requires some { 0 < in_range }
     requires few { in_range ≤ 131072 }
-    ensures comes { (index : ℕ) → ComesTo in_range (state_of index course.old work.old) point (state_of index course.new work.new) result }
+    ensures next { result ≡ true → (index : ℕ) (point : AnyPoint) → ComesTo in_range (state_of index course.old work.old) point (state_of index course.new work.new) (dids.Moved point) }
+    ensures last { result ≡ false → (index : ℕ) (point : AnyPoint) → ComesTo in_range (state_of index course.old work.old) point (state_of index course.new work.new) (dids.Finished point) }
+    ensures there { result ≡ true → course.new.standing ≡ Standing.AtRange }
+    ensures done { result ≡ false → course.new.standing ≡ Standing.Done }
+    ensures free { (index : ℕ) → held_by (state_of index course.new work.new) ≡ 0 }
+    ensures exact { (layout : DiskLayout) (blocks : List (List Slot)) (index : ℕ) → IsExactNow layout blocks (state_of index course.new work.new) }
 {
     if goes_over(course, in_range) {
         work.begin();
         course.standing = Standing::AtRange;
-        return Did::Moved(point);
+        return true;
     }
     course.standing = Standing::Done;
-    Did::Finished(point)
+    false
 }
 
 /// Whether the range is one to go over.
@@ -103,3 +107,11 @@ pub(crate) fn made_at(stage: Stage) -> u8
         Stage::Had => 0,
     }
 }
+
+/// A summarise that begins has no page lock, and takes and gives none. Does nothing.
+pub(crate) fn a_summarise_begins_without_locks()
+    ensures counts { (a : SummariseState) (locks : LockState) (actor : ℕ) → TakesAtMost (taken_by a) locks locks actor }
+    ensures leaves { (locks : LockState) (relation actor : ℕ) → LeavesLocks (holder locks) (holder locks) relation actor }
+    ensures given { (a : SummariseState) (n : ℕ) → a.standing ≡ Standing.Begins → GivesBy a → n ≡ 0 }
+    ensures own { (a b : SummariseState) (n : ℕ) → a.standing ≡ Standing.Begins → held_by b ≡ 0 → n ≤ held_by a → n ≤ held_by b }
+{}

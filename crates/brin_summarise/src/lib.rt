@@ -19,7 +19,10 @@ mod wish;
 mod work;
 
 pub use course::Standing;
-pub use law_table::{a_summarise_ends_alone, a_summarise_steps_in_its_table};
+pub use law_table::{
+    a_kept_table_takes_a_summarise, a_summarise_ends_alone, a_summarise_keeps_its_table,
+    a_summarise_steps_in_its_table,
+};
 pub use laws::{a_final_tuple_is_exact, a_kept_index_takes_a_summarise, a_running_tuple_is_exact};
 pub use range_summarise::RangeSummarise;
 pub use stage::Stage;

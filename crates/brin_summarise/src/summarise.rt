@@ -10,11 +10,12 @@ ghost use Rattle.index_contents.specs.IndexChanges.{LeavesOthers};
 ghost use Rattle.index_steps.specs.StepAnswers.{BlockedWell, IsOfStore, NeverBlocked};
 ghost use Rattle.index_steps.specs.SwapAnswers.{LeavesLocks, MachineOutcome, SaysFullIn, TakesAtMost};
 ghost use Rattle.brin_summarise.specs.SummariseHands.{table_of};
-ghost use Rattle.brin_summarise.specs.StageLocks.{GivesAt, held_at, taken_at};
 ghost use Rattle.brin_summarise.specs.StepCauses.{NamesPageAt};
 ghost use Rattle.brin_summarise.specs.Summarises.{DamageIn, FullAt, GivesBy, IsExactNow, IsSummariseOf, ReadyAt, RightAnswers, StandsThen, SummariseDoes, count_of, held_by, state_of, step_of, taken_by};
 
-use crate::course::{Course, Standing, come_to, first_of, made_at};
+use crate::course::{
+    Course, Standing, a_summarise_begins_without_locks, come_to, first_of, made_at,
+};
 use crate::range_summarise::RangeSummarise;
 use crate::rows::{blocks_a_range, table_of};
 use crate::wish::Wish;
@@ -116,6 +117,7 @@ impl Summarise {
         ensures at { IfErr result (NamesPageAt pages.old.layout self.old.index self.old.hand.stage) }
         ensures outcome { MachineOutcome D.told (Tells D.told pages.old → DamageIn pages.old.layout pages.old.pages self.old) pages.old pages.new result }
     {
+        a_summarise_begins_without_locks();
         let index = self.index;
         match self.course.standing {
             Standing::Begins => {
@@ -158,7 +160,7 @@ fn begin<D: Disk + Drop>(
     ensures exact { IfOk result (λ did. OfBlocks D.told pages.now (table_of pages.now.layout index) (λ blocks. IsExactNow pages.now.layout blocks (state_of index course.new work.new))) }
     ensures stands { IfOk result (StandsThen (state_of index course.old work.old) (state_of index course.new work.new)) }
     ensures holds_none { held_by (state_of index course.new work.new) ≡ 0 }
-    ensures stays { OnErr result ((course.new ≡ course.old) × (work.new ≡ work.old)) }
+    ensures stays { OnErr result ((state_of index course.new work.new ≡ record (state_of index course.old work.old) { hand = work.new }) × (work.new.stage ≡ work.old.stage)) }
     ensures of { IsSummariseOf pages.now.layout (state_of index course.new work.new) }
     ensures right { IfOk result (RightAnswers (table_of pages.now.layout index) actor rights.old rights.new Standing.Begins) }
     ensures rights { OnErr result (rights.new ≡ rights.old) }
@@ -172,17 +174,21 @@ fn begin<D: Disk + Drop>(
         Err(error) => return Err(MachineFault::Store(error)),
     }
     let layout = pages.layout();
+    layout.known();
     let table = table_of(layout, index);
     let in_range = blocks_a_range(layout, index);
     match rights.take(table, actor) {
         Ok(()) => {}
         Err(by) => return Ok(Did::NoRight { by }),
     }
-    course.extent = u64::from(blocks(pages, table));
+    let extent = blocks(pages, table);
+    course.extent = u64::from(extent);
     course.range = first_of(course.wish, in_range);
     course.made = 0;
-    let did = come_to(course, work, in_range, Point::Right);
-    Ok(did)
+    if come_to(course, work, in_range) {
+        return Ok(Did::Moved(Point::Right));
+    }
+    Ok(Did::Finished(Point::Right))
 }
 
 /// The next step at the range; where the range is done, it comes to the next one, if there is one.
@@ -196,7 +202,7 @@ fn go_on<D: Disk + Drop>(
 ) -> Result<Did, MachineFault>
     requires of { IsSummariseOf pages.old.layout (state_of index course.old work.old) }
     requires at { course.old.standing ≡ Standing.AtRange }
-    requires locks { 0 < taken_at work.old.stage → locks_held locks.old + taken_at work.old.stage ≤ locks.old.limit }
+    requires locks { 0 < taken_by (state_of index course.old work.old) → locks_held locks.old + taken_by (state_of index course.old work.old) ≤ locks.old.limit }
     requires ready { Tells D.told pages.old → ReadyAt pages.old.layout pages.old.pages (state_of index course.old work.old) }
     ensures does { IfOk result (λ did. OfBlocks D.told pages.old (table_of pages.old.layout index) (λ blocks. (rights : List (Option ℕ)) → SummariseDoes (step_of pages.old.layout pages.old.pages pages.new.pages locks.old locks.new rights rights actor blocks) (state_of index course.old work.old) (state_of index course.new work.new) did)) }
     ensures exact { IfOk result (λ did. OfBlocks D.told pages.old (table_of pages.old.layout index) (λ blocks. IsExactNow pages.old.layout blocks (state_of index course.old work.old) → IsExactNow pages.old.layout blocks (state_of index course.new work.new))) }
@@ -206,10 +212,10 @@ fn go_on<D: Disk + Drop>(
     ensures full { IfErr result (SaysFullIn pages.old.layout index (λ number. Tells D.told pages.old → FullAt pages.old.layout pages.old.pages locks.old actor (state_of index course.old work.old) number)) }
     ensures others { LeavesOthers D.told index pages.old pages.new }
     ensures locks { LeavesLocks (holder locks.old) (holder locks.new) (relation_of pages.old.layout index) actor }
-    ensures counts { TakesAtMost (taken_at work.old.stage) locks.old locks.new actor }
-    ensures given { OnOk result (GivesAt work.old.stage → locks_of locks.new actor ≡ 0) }
-    ensures own { locks_of locks.old actor ≤ held_at work.old.stage → OnOk result (locks_of locks.new actor ≤ held_by (state_of index course.new work.new)) }
-    ensures stays { OnErr result ((course.new ≡ course.old) × (work.new.stage ≡ work.old.stage)) }
+    ensures counts { TakesAtMost (taken_by (state_of index course.old work.old)) locks.old locks.new actor }
+    ensures given { OnOk result (GivesBy (state_of index course.old work.old) → locks_of locks.new actor ≡ 0) }
+    ensures own { locks_of locks.old actor ≤ held_by (state_of index course.old work.old) → OnOk result (locks_of locks.new actor ≤ held_by (state_of index course.new work.new)) }
+    ensures stays { OnErr result ((state_of index course.new work.new ≡ record (state_of index course.old work.old) { hand = work.new }) × (work.new.stage ≡ work.old.stage)) }
     ensures kept { OnErr result (Keeps D.told pages.old pages.new) }
     ensures at { IfErr result (NamesPageAt pages.old.layout index work.old.stage) }
     ensures outcome { MachineOutcome D.told (Tells D.told pages.old → DamageIn pages.old.layout pages.old.pages (state_of index course.old work.old)) pages.old pages.new result }
@@ -226,8 +232,10 @@ fn go_on<D: Disk + Drop>(
         Ok(Did::Finished(point)) => {
             course.made += u64::from(made_at(work.stage()));
             course.range += 1;
-            let did = come_to(course, work, in_range, point);
-            Ok(did)
+            if come_to(course, work, in_range) {
+                return Ok(Did::Moved(point));
+            }
+            Ok(Did::Finished(point))
         }
         Ok(Did::Moved(point)) => Ok(Did::Moved(point)),
         Ok(Did::Blocked(held)) => Ok(Did::Blocked(held)),
