@@ -14,7 +14,7 @@ use Rattle.page_locks.specs.LockHolders.{LockState}
 use Rattle.page_locks.specs.RightHolders.{right_of}
 use Rattle.page_store.specs.PageMap.{PageMap}
 use Rattle.coverage.specs.Statements.{Phase}
-use Rattle.table_coverage.specs.Accounts.{no_account}
+use Rattle.table_coverage.specs.Accounts.{Account, no_account}
 use Rattle.table_coverage.specs.InOneIndex.{DoesAt, with_ranges}
 use Rattle.table_coverage.specs.Machines.{ShownTable, Unseen, table_state, task_turned}
 use Rattle.table_coverage.specs.Refusals.{MaintainFull}
@@ -32,7 +32,7 @@ use Rattle.brin_summarise.specs.SummariseHands.{SummariseHand, table_of}
 use Rattle.brin_summarise.specs.SummariseSteps.{phase_of}
 use Rattle.brin_summarise.specs.Summarises.{Begins, ComesTo, EndsRange, FullAt, GoesOver, IsSummariseOf, LacksRight, NoneIsLeft, RangeIsNext, StoreStays, StoreStep, SummariseDoes, SummariseState, TakesRight, Waits, WorksAt, after_range, at_first, first_of, in_range_of}
 use Rattle.brin_summarise.specs.Summarises.{GoesOn as StepGoesOn}
-use Rattle.brin_summarise.specs.TableSteps.{DoesInTable, IsSummariseFull, LeavesTheRest, job_of, lock_turned, shown_after, shown_before, task_of}
+use Rattle.brin_summarise.specs.TableSteps.{DoesInTable, HasCounted, IsSummariseFull, LeavesTheRest, account_by, job_of, lock_turned, shown_after, shown_before, task_of}
 use Rattle.brin_summarise.proofs.Settling.{comes_to_range, pick_other, pick_same, replies, stays_there}
 use Rattle.brin_summarise.proofs.Shown.{each_here, shows_here}
 use Rattle.brin_summarise.proofs.Tables.{IndexHere, MaintainCompletes, MaintainGoes, MaintainKnows, OtherIndexes, ends_there, goes_there, waits_there}
@@ -201,3 +201,16 @@ full_in_table layout pages locks blocks s at number a there full =
     (λ u task kept.
     MaintainFull (job_of a.wish (in_range_of layout a.index) a.extent) at a.range number (phase_of (shape_of layout a.index) a.hand)
     (NoPage number (phase_of (shape_of layout a.index) a.hand) (full.1 (index_view_at at (table_state (shown_by layout pages locks (table_of layout a.index) blocks) u)) (shows_here layout pages locks blocks a.index at there u))) refl)
+
+abbrev IsBegun : Standing → Type 0
+IsBegun standings.Begins = ⊥
+IsBegun standing = Unit {0}
+
+begun_apart : (standing : Standing) → IsBegun standing → standing ≡ standings.Begins → ⊥
+begun_apart standing begun is = subst (λ (q : Standing). IsBegun q) is begun
+
+-- so the session's account tells what is counted
+pub tells_count : (standing : Standing) (before count after : ℕ) (account : Account) → HasCounted standing before count after → ((standing ≡ standings.Begins → ⊥) → account.ranges ≡ before) → (account_by standing count account).ranges ≡ after
+tells_count standings.Begins before count after account counted told = sym counted
+tells_count standings.AtRange before count after account counted told = ap (λ (n : ℕ). n + count) (told (begun_apart standings.AtRange tt)) ∙ sym counted
+tells_count standings.Done before count after account counted told = ap (λ (n : ℕ). n + count) (told (begun_apart standings.Done tt)) ∙ sym counted

@@ -46,6 +46,11 @@ abbrev pub account_by : Standing → (count : ℕ) → Account → Account
 account_by standings.Begins count account = no_account
 account_by standing count account = with_ranges count account
 
+-- with the first step nothing is counted, and each later one adds what it counts
+abbrev pub HasCounted : Standing → (before count after : ℕ) → Type 0
+HasCounted standings.Begins before count after = after ≡ 0
+HasCounted standing before count after = after ≡ before + count
+
 -- what the pages and locks don't show, with the summarise lock held so
 abbrev pub lock_turned : Option ℕ → Unseen → Unseen
 lock_turned held u = record u { summarise_lock = held }
@@ -68,9 +73,9 @@ IsSummariseFull s at shown task number = (u : Unseen) → u.task s ≡ task → 
 
 -- A step that goes on, or replies, counts the ranges that it gives a final tuple; one that waits tells for what.
 abbrev pub SummariseDid : (s at : ℕ) → (old new : ShownTable) → (held : Option ℕ) → DiskLayout → (a b : SummariseState) → Did → Type 0
-SummariseDid s at old new held layout a b (did.Moved point) = (count : ℕ) × (count_of b ≡ count_of a + count)
+SummariseDid s at old new held layout a b (did.Moved point) = (count : ℕ) × HasCounted a.standing (count_of a) count (count_of b)
     × SummariseGoesTo s old new held (Some s) (task_of layout at a) (task_of layout at b) point (account_by a.standing count)
-SummariseDid s at old new held layout a b (did.Finished point) = (count : ℕ) × (count_of b ≡ count_of a + count)
+SummariseDid s at old new held layout a b (did.Finished point) = (count : ℕ) × HasCounted a.standing (count_of a) count (count_of b)
     × SummariseGoesTo s old new held None (task_of layout at a) (task_of layout at b) point (account_by a.standing count)
 SummariseDid s at old new held layout a b (did.Blocked waited) =
     SummariseWaitsFor s old held (task_of layout at a) (PageLock at waited.page.block) × (task_of layout at b ≡ task_of layout at a)

@@ -1,6 +1,6 @@
 //! What the steps of a summarise are in the table of its index, as laws.
 
-ghost use Rattle.std.specs.Prelude.{◌≡◌, ◌≤◌, ℕ, List, Option, Some, slice_get};
+ghost use Rattle.std.specs.Prelude.{◌≡◌, ◌≢◌, ◌≤◌, ℕ, List, Option, Some, slice_get};
 ghost use Rattle.block_model.specs.declared.reply.Point.{Point};
 ghost use Rattle.page_layout.specs.PageContents.{Slot};
 ghost use Rattle.page_locks.specs.declared.did.Did.{Did};
@@ -18,10 +18,11 @@ ghost use Rattle.coverage.specs.Statements.{Phase};
 ghost use Rattle.index_contents.specs.IndexContents.{contents};
 ghost use Rattle.index_steps.specs.ShownRows.{shown_by};
 ghost use Rattle.index_steps.specs.ShownTable.{indexes_of};
+ghost use Rattle.brin_summarise.specs.declared.course.Standing.TheVariants as standings;
 ghost use Rattle.brin_summarise.specs.SummariseCalls.{SummariseCalls};
 ghost use Rattle.brin_summarise.specs.SummariseHands.{table_of};
-ghost use Rattle.brin_summarise.specs.Summarises.{DamageIn, FullAt, IsSummariseOf, ReadyAt, StoreStep, SummariseDoes, SummariseState};
-ghost use Rattle.brin_summarise.specs.TableSteps.{DoesInTable, IsSummariseFull, LeavesTheRest, SummariseGoesTo, SummariseWaitsFor, lock_turned, task_of};
+ghost use Rattle.brin_summarise.specs.Summarises.{DamageIn, FullAt, IsSummariseOf, ReadyAt, StoreStep, SummariseDoes, SummariseState, count_of};
+ghost use Rattle.brin_summarise.specs.TableSteps.{DoesInTable, HasCounted, IsSummariseFull, LeavesTheRest, SummariseGoesTo, SummariseWaitsFor, account_by, lock_turned, task_of};
 
 use crate::laws::a_kept_index_takes_a_summarise;
 use crate::stage::Stage;
@@ -30,12 +31,13 @@ use table_coverage::{
 };
 
 /// A step of a summarise is what its session does in the table, with the other indexes and the heap as they were, whatever the pages and locks
-/// don't show: it takes the summarise lock, and goes on at its range, or comes to the next one, or replies where none is left. The ranges that
-/// the session's account gains are those that it counts. Where it lacks the summarise lock or waits for a page, or no page of the index is
-/// left for a tuple, so it does in the table. Does nothing.
+/// don't show: it takes the summarise lock, and goes on at its range, or comes to the next one, or replies where none is left. The session's
+/// account gains the ranges that the step counts, and so tells its count. Where it lacks the summarise lock or waits for a page, or no page
+/// of the index is left for a tuple, so it does in the table. Does nothing.
 pub fn a_summarise_steps_in_its_table()
     ensures steps { (step : StoreStep) (at : ℕ) (a b : SummariseState) (answer : Did) → slice_get (indexes_of step.layout (table_of step.layout a.index)) at ≡ Some a.index → IsSummariseOf step.layout a
         → LeavesTheRest step a.index → SummariseDoes step a b answer → DoesInTable step at a b answer }
+    ensures counted { (a b : SummariseState) (count : ℕ) (account : Account) → HasCounted a.standing (count_of a) count (count_of b) → (a.standing ≢ standings.Begins → account.ranges ≡ count_of a) → (account_by a.standing count account).ranges ≡ count_of b }
     ensures full { (layout : DiskLayout) (pages : PageMap) (locks : LockState) (blocks : List (List Slot)) (s at number : ℕ) (a : SummariseState) → slice_get (indexes_of layout (table_of layout a.index)) at ≡ Some a.index
         → FullAt layout pages locks s a number → IsSummariseFull s at (shown_by layout pages locks (table_of layout a.index) blocks) (task_of layout at a) number }
 {

@@ -1,4 +1,5 @@
-use Rattle.brin_summarise.proofs.InTable.{does_in_table, full_in_table}
+use Rattle.brin_summarise.specs.Summarises.{count_of}
+use Rattle.brin_summarise.proofs.InTable.{does_in_table, full_in_table, tells_count}
 use Rattle.brin_summarise.proofs.law_table.a_summarise_steps_in_its_table.Goals as goal
 
 pub returns-clause-steps : goal.returns-clause-steps
@@ -8,3 +9,6 @@ returns-clause-steps c = λ step at a b answer there of rest does.
 
 pub returns-clause-full : goal.returns-clause-full
 returns-clause-full c = λ layout pages locks blocks s at number a there full. full_in_table layout pages locks blocks s at number a there full
+
+pub returns-clause-counted : goal.returns-clause-counted
+returns-clause-counted c = λ a b count account counted told. tells_count a.standing (count_of a) count (count_of b) account counted told

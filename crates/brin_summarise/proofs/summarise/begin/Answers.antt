@@ -5,7 +5,7 @@ use Rattle.heap_rows.specs.HeapBlocks.{HasBlocks}
 use Rattle.page_locks.specs.RightHolders.{right_of}
 use Rattle.store_layout.specs.DiskLayout.{DiskLayout}
 use Rattle.brin_summarise.specs.SummariseHands.{table_of}
-use Rattle.brin_summarise.specs.Summarises.{Begins, LacksRight, in_range_of}
+use Rattle.brin_summarise.specs.Summarises.{Begins, LacksRight, in_range_of, state_of}
 use Rattle.brin_summarise.proofs.Coming.{comes_first, comes_well, takes_right}
 use Rattle.brin_summarise.proofs.summarise.begin.Goals as goal
 
@@ -63,7 +63,7 @@ returns-then-come_to-clause-of g c =
     let store = c.args.pages.now in
     let each : c.blocks_a_range-in_range.result ≡ in_range_of store.layout c.args.index = c.blocks_a_range-in_range.ensures.number ∙ ap (λ (l : DiskLayout). in_range_of l c.args.index) c.layout-layout.ensures in
     let few : store.layout.sizes.heap_blocks ≤ 131072 = subst (λ (l : DiskLayout). l.sizes.heap_blocks ≤ 131072) c.layout-layout.ensures c.known.ensures.sizes.few_heap_blocks in
-    comes_well store.layout c.blocks_a_range-in_range.result _ _ points.Right _ each c.blocks_a_range-in_range.ensures.some c.requires.of.index c.requires.of.hand (omega (arith, c.from.ensures, c.blocks-extent.ensures.within)) few (omega arith) (omega arith)
+    comes_well store.layout c.blocks_a_range-in_range.result (state_of c.args.index (record c.args.course.now { extent = c.from.result; range = c.first_of.result; made = 0 }) c.args.work.now) _ points.Right _ each c.blocks_a_range-in_range.ensures.some c.requires.of.index c.requires.of.hand (omega (arith, c.from.ensures, c.blocks-extent.ensures.within)) few (omega arith) (omega arith)
     (c.come_to.ensures.next c.if-come_to.true c.args.index points.Right)
 
 pub returns-clause-of : goal.returns-clause-of
@@ -71,5 +71,5 @@ returns-clause-of g c =
     let store = c.args.pages.now in
     let each : c.blocks_a_range-in_range.result ≡ in_range_of store.layout c.args.index = c.blocks_a_range-in_range.ensures.number ∙ ap (λ (l : DiskLayout). in_range_of l c.args.index) c.layout-layout.ensures in
     let few : store.layout.sizes.heap_blocks ≤ 131072 = subst (λ (l : DiskLayout). l.sizes.heap_blocks ≤ 131072) c.layout-layout.ensures c.known.ensures.sizes.few_heap_blocks in
-    comes_well store.layout c.blocks_a_range-in_range.result _ _ points.Right _ each c.blocks_a_range-in_range.ensures.some c.requires.of.index c.requires.of.hand (omega (arith, c.from.ensures, c.blocks-extent.ensures.within)) few (omega arith) (omega arith)
+    comes_well store.layout c.blocks_a_range-in_range.result (state_of c.args.index (record c.args.course.now { extent = c.from.result; range = c.first_of.result; made = 0 }) c.args.work.now) _ points.Right _ each c.blocks_a_range-in_range.ensures.some c.requires.of.index c.requires.of.hand (omega (arith, c.from.ensures, c.blocks-extent.ensures.within)) few (omega arith) (omega arith)
     (c.come_to.ensures.last c.if-come_to.false c.args.index points.Right)

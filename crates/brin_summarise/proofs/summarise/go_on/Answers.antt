@@ -109,7 +109,7 @@ returns-then-come_to-clause-does g c = λ tells blocks has rights.
     let came = rw c.in-Ok-Finished.field-0-is at c.in-Ok-Finished.ensures.stepped in
     let made : c.from.result ≡ made_at c.step.new.self.stage = c.from.ensures ∙ c.made_at.ensures.number ∙ ap made_at c.stage.ensures in
     EndsRange c.step.new.self c.in-Ok-Finished.point _ _ c.requires.at (came tells blocks has) refl
-    (comes_behind store.layout c.blocks_a_range-in_range.result c.args.index _ _ c.args.course.now c.step.new.self c.args.work.now c.in-Ok-Finished.point _ _ each (ap (λ (n : ℕ). c.args.course.now.made + n) made) refl
+    (comes_behind store.layout c.blocks_a_range-in_range.result c.args.index (c.args.course.now.made + c.from.result) (c.args.course.now.range + 1) c.args.course.now c.step.new.self c.args.work.now c.in-Ok-Finished.point _ _ each (ap (λ (n : ℕ). c.args.course.now.made + n) made) refl
     (c.come_to.ensures.next c.if-come_to.true c.args.index c.in-Ok-Finished.point))
 
 pub returns-then-come_to-clause-of : goal.returns-then-come_to-clause-of
@@ -119,7 +119,7 @@ returns-then-come_to-clause-of g c =
     let each : c.blocks_a_range-in_range.result ≡ in_range_of store.layout c.args.index = c.blocks_a_range-in_range.ensures.number ∙ ap (λ (l : DiskLayout). in_range_of l c.args.index) c.layout-layout.ensures in
     let few : store.layout.sizes.heap_blocks ≤ 131072 = subst (λ (l : DiskLayout). l.sizes.heap_blocks ≤ 131072) c.layout-layout.ensures c.known.ensures.sizes.few_heap_blocks in
     let one : c.from.result ≤ 1 = omega (arith, c.from.ensures, c.made_at.ensures.few) in
-    comes_well store.layout c.blocks_a_range-in_range.result _ _ c.in-Ok-Finished.point _ each c.blocks_a_range-in_range.ensures.some c.requires.of.index c.step.ensures.of c.requires.of.extent few (omega (arith, was.1, one)) (omega (arith, was.1, was.2, one))
+    comes_well store.layout c.blocks_a_range-in_range.result (state_of c.args.index (record c.args.course.now { made = c.args.course.now.made + c.from.result; range = c.args.course.now.range + 1 }) c.step.new.self) _ c.in-Ok-Finished.point _ each c.blocks_a_range-in_range.ensures.some c.requires.of.index c.step.ensures.of c.requires.of.extent few (omega (arith, was.1, one)) (omega (arith, was.1, was.2, one))
     (c.come_to.ensures.next c.if-come_to.true c.args.index c.in-Ok-Finished.point)
 
 pub returns-in-Ok-Finished-clause-does : goal.returns-in-Ok-Finished-clause-does
@@ -129,7 +129,7 @@ returns-in-Ok-Finished-clause-does g c = λ tells blocks has rights.
     let came = rw c.in-Ok-Finished.field-0-is at c.in-Ok-Finished.ensures.stepped in
     let made : c.from.result ≡ made_at c.step.new.self.stage = c.from.ensures ∙ c.made_at.ensures.number ∙ ap made_at c.stage.ensures in
     EndsRange c.step.new.self c.in-Ok-Finished.point _ _ c.requires.at (came tells blocks has) refl
-    (comes_behind store.layout c.blocks_a_range-in_range.result c.args.index _ _ c.args.course.now c.step.new.self c.args.work.now c.in-Ok-Finished.point _ _ each (ap (λ (n : ℕ). c.args.course.now.made + n) made) refl
+    (comes_behind store.layout c.blocks_a_range-in_range.result c.args.index (c.args.course.now.made + c.from.result) (c.args.course.now.range + 1) c.args.course.now c.step.new.self c.args.work.now c.in-Ok-Finished.point _ _ each (ap (λ (n : ℕ). c.args.course.now.made + n) made) refl
     (c.come_to.ensures.last c.if-come_to.false c.args.index c.in-Ok-Finished.point))
 
 pub returns-in-Ok-Finished-clause-of : goal.returns-in-Ok-Finished-clause-of
@@ -139,5 +139,5 @@ returns-in-Ok-Finished-clause-of g c =
     let each : c.blocks_a_range-in_range.result ≡ in_range_of store.layout c.args.index = c.blocks_a_range-in_range.ensures.number ∙ ap (λ (l : DiskLayout). in_range_of l c.args.index) c.layout-layout.ensures in
     let few : store.layout.sizes.heap_blocks ≤ 131072 = subst (λ (l : DiskLayout). l.sizes.heap_blocks ≤ 131072) c.layout-layout.ensures c.known.ensures.sizes.few_heap_blocks in
     let one : c.from.result ≤ 1 = omega (arith, c.from.ensures, c.made_at.ensures.few) in
-    comes_well store.layout c.blocks_a_range-in_range.result _ _ c.in-Ok-Finished.point _ each c.blocks_a_range-in_range.ensures.some c.requires.of.index c.step.ensures.of c.requires.of.extent few (omega (arith, was.1, one)) (omega (arith, was.1, was.2, one))
+    comes_well store.layout c.blocks_a_range-in_range.result (state_of c.args.index (record c.args.course.now { made = c.args.course.now.made + c.from.result; range = c.args.course.now.range + 1 }) c.step.new.self) _ c.in-Ok-Finished.point _ each c.blocks_a_range-in_range.ensures.some c.requires.of.index c.step.ensures.of c.requires.of.extent few (omega (arith, was.1, one)) (omega (arith, was.1, was.2, one))
     (c.come_to.ensures.last c.if-come_to.false c.args.index c.in-Ok-Finished.point)
