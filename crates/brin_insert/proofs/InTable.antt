@@ -31,7 +31,7 @@ use Rattle.brin_insert.specs.declared.stage.Stage.{Stage}
 use Rattle.brin_insert.specs.declared.stage.Stage.TheVariants as stages
 use Rattle.brin_insert.specs.InsertAnswers.{InsertDid, InsertGoesTo, InsertStepped, InsertWaitsFor, heap_after}
 use Rattle.brin_insert.specs.InsertHands.{InsertHand}
-use Rattle.brin_insert.specs.InsertSteps.{IsAtWork, StepMakes, StepWaits, Stepped, insert_at, on_index}
+use Rattle.brin_insert.specs.InsertSteps.{IsAtWork, StepMakes, StepWaits, Stepped, insert_at, insert_of, on_index}
 use Rattle.brin_insert.specs.Inserts.{HasReached, IsInsertFor, numbers_in, task_at, task_of, work_of}
 use Rattle.brin_insert.specs.RowSteps.{PutsRowOf, RowBegins, blocks_with}
 use Rattle.index_steps.specs.ShownRows.{rows_in, shown_by}
@@ -52,6 +52,14 @@ abbrev pub WaitsInTable : Type 0
 WaitsInTable = (layout : DiskLayout) (pages : PageMap) (locks : LockState) (table rows_per_page blocks at n s b k page : ℕ) (row : ℕ → ℕ → Option Row) (r : Row) (stage : Stage) (copied : List ℕ) (t : Tuple)
     → slice_get (indexes_of layout table) at ≡ Some n → StepWaits (shape_of layout n) s (b / (index_at layout n).pages_per_range) r (insert_at layout pages locks n stage copied t) page
     → InsertWaitsFor s (shown_table layout pages locks table rows_per_page blocks row) (Inserts b k r at (on_index (shape_of layout n) stage copied (tuple_bytes t))) at page
+
+-- a step in the range of that number, in the index that the work stays in
+pub stepped_here : (layout : DiskLayout) (pages paged : PageMap) (locks locked : LockState) (s number range : ℕ) (r : Row) (hand next : InsertHand) (copied after : List ℕ) (answer : Did) → next.index ≡ hand.index → number ≡ range
+    → Stepped (shape_of layout hand.index) s number r (insert_of layout pages locks hand copied) (insert_of layout paged locked next after) answer
+    → Stepped (shape_of layout hand.index) s range r (insert_at layout pages locks hand.index hand.stage copied hand.widened) (insert_at layout paged locked hand.index next.stage after next.widened) answer
+stepped_here layout pages paged locks locked s number range r hand next copied after answer same ranged stepped =
+    subst (λ (m : ℕ). Stepped (shape_of layout hand.index) s m r (insert_of layout pages locks hand copied) (insert_at layout paged locked hand.index next.stage after next.widened) answer) ranged
+    (subst (λ (n : ℕ). Stepped (shape_of layout hand.index) s number r (insert_of layout pages locks hand copied) (insert_at layout paged locked n next.stage after next.widened) answer) same stepped)
 
 -- a heap whose pages stay has its blocks
 pub blocks_stay : (layout : DiskLayout) (pages paged : PageMap) (table : ℕ) (blocks : List (List Slot)) → ((block : ℕ) → block_at paged (heap_of table) block ≡ block_at pages (heap_of table) block)

@@ -1,7 +1,6 @@
 pub mod Stepping
 pub mod Swaps
 pub mod Copies
-pub mod Sizes
 pub mod ShownHere
 pub mod Tables
 pub mod Waiting
@@ -16,3 +15,4 @@ pub mod Works
 pub mod Reaching
 pub mod InTable
 pub mod Outcomes
+pub mod OwnLocks

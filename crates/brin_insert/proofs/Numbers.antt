@@ -116,9 +116,6 @@ all_at p [] i d all below = absurd (omega (arith, below))
 all_at p (x ∷ xs) zero d all below = (and_parts (p x) (list_all p xs) all).0
 all_at p (x ∷ xs) (suc i) d all below = all_at p xs i d (and_parts (p x) (list_all p xs) all).1 (omega (arith, below))
 
-within_low : (low high n : ℕ) → is_within low high n ≡ true → low ≤ n
-within_low low high n e = leb-true low n (and_parts (nat_le low n) (nat_le n high) e).0
-
 module _ (layout : DiskLayout) (limits : KeepsLimits layout.schema layout.sizes) where
   pub few : length layout.schema.indexes ≤ 8
   few = leb-true (length layout.schema.indexes) 8 (and_parts (nat_le (length layout.schema.indexes) 8) _ (limits 3)).0
@@ -127,20 +124,11 @@ module _ (layout : DiskLayout) (limits : KeepsLimits layout.schema layout.sizes)
     abbrev index : Index
     index = index_at layout n
 
-    pub has_columns : 0 < length index.parts
-    has_columns = within_low 1 8 (length index.parts) (and_parts (is_within 1 8 (length index.parts)) _ (all_at parts_are_lawful layout.schema.indexes n no_index (and_parts (list_all columns_are_lawful layout.schema.tables) _ (limits 2)).1 below)).0
-
     pub on_columns : list_all (λ (p : Part). nat_lt p.column (length (columns_of layout.schema index))) index.parts ≡ true
     on_columns = (and_parts (nat_lt index.table (length layout.schema.tables)) _ (all_at (is_on_a_table layout.schema) layout.schema.indexes n no_index (and_parts (nat_le (length layout.schema.indexes) 8) _ (limits 3)).1 below)).1
 
     pub lawful_classes : list_all (class_is_lawful (columns_of layout.schema index)) index.parts ≡ true
     lawful_classes = all_at (λ (i : Index). list_all (class_is_lawful (columns_of layout.schema i)) i.parts) layout.schema.indexes n no_index (limits 6) below
-
-    pub small_tuples : tuple_size (columns_of layout.schema index) index.parts ≤ MAX_TUPLE
-    small_tuples = leb-true (tuple_size (columns_of layout.schema index) index.parts) MAX_TUPLE (all_at (λ (i : Index). nat_le (tuple_size (columns_of layout.schema i) i.parts) MAX_TUPLE) layout.schema.indexes n no_index (limits 7) below)
-
-    pub some_pages : 0 < index.pages_per_range
-    some_pages = within_low 1 131072 index.pages_per_range (all_at (λ (i : Index). is_within 1 131072 i.pages_per_range) layout.schema.indexes n no_index (limits 5) below)
 
 -- a value of each kind
 have_from : (kinds : List Kind) (values : List Value) → HaveKinds kinds values → have_kinds kinds values ≡ true
@@ -164,13 +152,6 @@ rows_taken taken layout limits table declared values have at n is =
     ap (λ (t : ℕ). columns_in (slice_get layout.schema.tables t)) (own_table layout table at n is) ∙ ap columns_in (slice_get-get_or layout.schema.tables table no_table declared) in
     taken (shape_of layout n) values (on_columns layout limits n below) (lawful_classes layout limits n below)
     (subst (λ (cs : List Column). have_kinds (map (λ (column : Column). column.kind) cs) values ≡ true) (sym same) (have_from (kinds_at layout table) values have))
-
--- the index that an element of the list is
-pub declared_is : (layout : DiskLayout) (n m : ℕ) (schema : Schema) (l : List Index) (r : Index) → n < length layout.schema.indexes → l ≡ schema.indexes → schema ≡ layout.schema → m ≡ n → r ≡ get_or l m r → r ≡ index_at layout n
-declared_is layout n m schema l r below list same at is =
-    get_or_read layout.schema.indexes n r below
-    (is ∙ ap (λ (xs : List Index). get_or xs m r) (list ∙ ap (λ (t : Schema). t.indexes) same) ∙ ap (λ (k : ℕ). get_or layout.schema.indexes k r) at)
-    no_index
 
 classes_are : (layout : DiskLayout) (n : ℕ) → parts_of (empty_placeholder 0 (columns_of layout.schema (index_at layout n)) (index_at layout n).parts).columns ≡ classes_of (shape_of layout n)
 unfolding classes_of shape_of

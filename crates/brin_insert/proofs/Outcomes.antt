@@ -20,14 +20,14 @@ use Rattle.range_tuple.specs.TupleBytes.{tuple_bytes}
 use Rattle.index_contents.specs.IndexContents.{relation_of}
 use Rattle.index_contents.specs.IndexChanges.{LeavesOthers}
 use Rattle.index_steps.specs.IndexTuples.{index_at, shape_of}
-use Rattle.index_steps.specs.SwapAnswers.{FaultNamesPageOf, MachineOutcome}
+use Rattle.index_steps.specs.SwapAnswers.{FaultNamesPageOf, MachineOutcome, SaysFullIn}
 use Rattle.brin_insert.specs.declared.insert.Insert.{Insert}
 use Rattle.brin_insert.specs.InsertAnswers.{FaultNamesRelation, IsInsertFull, LeavesOtherRelations, SaysInsertFull, relation_at, relation_in}
 use Rattle.brin_insert.specs.InsertHands.{InsertHand}
 use Rattle.brin_insert.specs.InsertSteps.{insert_at, on_index}
 use Rattle.brin_insert.specs.Inserts.{IsInsertFor, task_of, work_of}
 use Rattle.index_steps.specs.ShownRows.{shown_by}
-use Rattle.brin_insert.specs.StepAnswers.{SaysFullIn, StepFull}
+use Rattle.brin_insert.specs.StepAnswers.{StepFull}
 use Rattle.brin_insert.proofs.Tasks.{task_is}
 
 -- an error for one cause is one for another

@@ -149,7 +149,7 @@ module _ (goes : InsertGoes) (completes : InsertCompletes) (here : IndexHere) (o
     by_number i apart (Some m) is =
         let other : m ≢ n = apart_numbers store.layout table i at n m apart is there in
         same_one store.layout store.pages store.paged store.locks store.locked (u.unnamed i) m (steps.others m other)
-        (λ page. steps.locks (page_of (relation_of store.layout m) page) (λ same. other (omega (arith, same))) (locks_free i m apart is page))
+        (λ page. steps.locks.elsewhere (page_of (relation_of store.layout m) page) (λ same. other (omega (arith, same))) (locks_free i m apart is page))
 
     index_is : (next_task : Task) (i : ℕ) → (with_index at part s next_task w).index i ≡ shown_one store.layout store.paged store.locked (u.unnamed i) (slice_get numbers i)
     index_is next_task i = elim (cases_eq i at) [

@@ -19,6 +19,7 @@ use Rattle.index_steps.specs.IndexTuples.{IndexShape, seen}
 use Rattle.index_steps.specs.ShownIndex.{Shows, lock_in, shown_part}
 use Rattle.brin_insert.specs.declared.stage.Stage.{Stage}
 use Rattle.brin_insert.specs.declared.stage.Stage.TheVariants as stages
+use Rattle.brin_insert.specs.InsertHands.{InsertHand}
 
 -- An insert in an index: the index's pages and who locks them; the stage that the insert is at; the bytes of the tuple that it
 -- copied, and those of the tuple with the row.
@@ -32,6 +33,10 @@ pub record InsertAt : Type 0 where
 abbrev pub insert_at : DiskLayout → PageMap → LockState → (index : ℕ) → Stage → List ℕ → Tuple → InsertAt
 insert_at layout pages locks index stage copied t =
     record { pages = contents layout pages index; lock = lock_in layout locks index; stage = stage; copied = copied; widened = tuple_bytes t }
+
+-- so it is with this in hand
+abbrev pub insert_of : DiskLayout → PageMap → LockState → InsertHand → (copied : List ℕ) → InsertAt
+insert_of layout pages locks hand copied = insert_at layout pages locks hand.index hand.stage copied hand.widened
 
 -- it, as the protocol's insert in the index
 abbrev pub on_index : IndexShape → Stage → (copied widened : List ℕ) → OnIndex

@@ -1,6 +1,6 @@
 //! An insert's work in one index.
 
-ghost use Rattle.std.specs.Prelude.{◌≡◌, ◌+◌, ◌/◌, ◌<◌, ◌≤◌, length, IfOk, IfErr, OnOk, OnErr};
+ghost use Rattle.std.specs.Prelude.{◌≡◌, ◌+◌, ◌<◌, ◌≤◌, length, IfOk, IfErr, OnOk, OnErr};
 ghost use Rattle.block_model.specs.declared.place.Spot.{Spot as AnySpot};
 ghost use Rattle.block_model.specs.declared.row.Row.{Row as AnyRow};
 ghost use Rattle.block_model.specs.IndexedColumns.{columns_of};
@@ -15,7 +15,7 @@ ghost use Rattle.index_steps.specs.IndexTuples.{TakesValues, classes_of, index_a
 ghost use Rattle.index_steps.specs.MoveEnds.{IsMoving};
 ghost use Rattle.index_steps.specs.StepAnswers.{BlockedWell};
 ghost use Rattle.index_steps.specs.SwapAnswers.{FaultNamesPageOf, LeavesLocks, MachineOutcome, SaysFullIn, TakesAtMost};
-ghost use Rattle.brin_insert.specs.InsertSteps.{IsAtWork, Stepped, insert_at, on_index};
+ghost use Rattle.brin_insert.specs.InsertSteps.{IsAtWork, Stepped, insert_of, on_index};
 ghost use Rattle.brin_insert.specs.StageLocks.{held_at, taken_at};
 ghost use Rattle.brin_insert.specs.StepAnswers.{DamageAt, StandsAfter, StepFull};
 
@@ -24,7 +24,7 @@ use crate::stage::Stage;
 use block_model::{NoMemory, Value};
 use disk_trait::Disk;
 use engine_pages::PageStore;
-use index_steps::{Within, declared_index};
+use index_steps::{Within, declared_index, tuples_of_an_index_need_one_room};
 use page_locks::{Did, Locks};
 use page_store::MachineFault;
 use range_store::Scratch;
@@ -114,15 +114,15 @@ impl IndexInsert {
         requires takes { TakesValues (shape_of pages.old.layout self.old.index) values.now }
         requires locks { (x : AnySpot) → self.old.stage ≡ Stage.Swap x → count_of locks.old + 3 ≤ locks.old.limit }
         requires moving { (x y : AnySpot) → self.old.stage ≡ Stage.Set x y → Tells D.told pages.old → IsMoving (shape_of pages.old.layout self.old.index) (contents pages.old.layout pages.old.pages self.old.index) range x y }
-        ensures stepped { IfOk result (λ did. Tells D.told pages.old → (r : AnyRow) → r.values ≡ values.now → Stepped (shape_of pages.old.layout self.old.index) actor range r (insert_at pages.old.layout pages.old.pages locks.old self.old.index self.old.stage copied.old self.old.widened) (insert_at pages.old.layout pages.new.pages locks.new self.old.index self.new.stage copied.new self.new.widened) did) }
+        ensures stepped { IfOk result (λ did. Tells D.told pages.old → (r : AnyRow) → r.values ≡ values.now → Stepped (shape_of pages.old.layout self.old.index) actor range r (insert_of pages.old.layout pages.old.pages locks.old self.old copied.old) (insert_of pages.old.layout pages.new.pages locks.new self.new copied.new) did) }
         ensures stands { IfOk result (λ did. StandsAfter did self.new.stage) }
         ensures blocked { IfOk result (BlockedWell D.told self.old.index actor pages.old pages.new locks.old locks.new) }
-        ensures full { IfErr result (SaysFullIn pages.old.layout self.old.index (λ number. Tells D.told pages.old → StepFull (shape_of pages.old.layout self.old.index) actor range (insert_at pages.old.layout pages.old.pages locks.old self.old.index self.old.stage copied.old self.old.widened) number)) }
+        ensures full { IfErr result (SaysFullIn pages.old.layout self.old.index (λ number. Tells D.told pages.old → StepFull (shape_of pages.old.layout self.old.index) actor range (insert_of pages.old.layout pages.old.pages locks.old self.old copied.old) number)) }
         ensures others { LeavesOthers D.told self.old.index pages.old pages.new }
         ensures locks { LeavesLocks (holder locks.old) (holder locks.new) (relation_of pages.old.layout self.old.index) actor }
         ensures counts { TakesAtMost (taken_at self.old.stage) locks.old locks.new actor }
         ensures given { OnOk result ((x : AnySpot) → self.old.stage ≡ Stage.Drop x → locks_of locks.new actor ≡ 0) }
-        ensures own { locks_of locks.old actor ≤ held_at self.old.stage → OnOk result (locks_of locks.new actor ≤ held_at self.new.stage) }
+        ensures own { OnOk result (locks_of locks.old actor ≤ held_at self.old.stage → locks_of locks.new actor ≤ held_at self.new.stage) }
         ensures same_index { self.new.index ≡ self.old.index }
         ensures same_columns { parts_of self.new.widened.columns ≡ parts_of self.old.widened.columns }
         ensures same_stage { OnErr result (self.new.stage ≡ self.old.stage) }
@@ -131,6 +131,7 @@ impl IndexInsert {
         ensures at { IfErr result (FaultNamesPageOf pages.old.layout self.old.index) }
         ensures outcome { MachineOutcome D.told (Tells D.told pages.old → DamageAt (shape_of pages.old.layout self.old.index) (contents pages.old.layout pages.old.pages self.old.index) range self.old.stage) pages.old pages.new result }
     {
+        tuples_of_an_index_need_one_room();
         let index = self.index;
         let at = Within {
             index,

@@ -1,8 +1,7 @@
 //! An insert over all indexes of its table.
 
-ghost use Rattle.std.specs.Prelude.{◌≡◌, ◌+◌, ◌/◌, ◌<◌, ◌≤◌, All, ℕ, List, None, Some, length, map, set, slice_get, slice_index_or, IfOk, IfErr, IfSome, OnOk, OnErr};
+ghost use Rattle.std.specs.Prelude.{◌≡◌, ◌+◌, ◌<◌, ◌≤◌, All, ℕ, None, Some, length, slice_get, IfOk, IfErr, OnOk, OnErr};
 ghost use Rattle.block_model.specs.declared.place.Spot.{Spot as AnySpot};
-ghost use Rattle.block_model.specs.declared.row.Row.{Row as AnyRow};
 ghost use Rattle.store_layout.specs.DiskLayout.{DiskLayout};
 ghost use Rattle.page_layout.specs.RowBytes.{HaveKinds};
 ghost use Rattle.page_store.specs.Keeps.{Keeps, Tells, Untold};
@@ -10,11 +9,10 @@ ghost use Rattle.page_locks.specs.LockCounts.{locks_of};
 ghost use Rattle.page_locks.specs.LockHolders.{count_of, holder};
 ghost use Rattle.heap_rows.specs.HeapBlocks.{OfBlocks};
 ghost use Rattle.heap_rows.specs.Heaps.{kinds_at};
-ghost use Rattle.index_steps.specs.IndexTuples.{TakesValues, index_at, shape_of};
+ghost use Rattle.index_steps.specs.IndexTuples.{TakesValues, shape_of};
 ghost use Rattle.index_steps.specs.SwapAnswers.{LeavesLocks, MachineOutcome, TakesAtMost};
 ghost use Rattle.brin_insert.specs.declared.stage.Stage.TheVariants as stages;
 ghost use Rattle.brin_insert.specs.InsertAnswers.{BlockedOn, FaultNamesRelation, InsertStepped, IsInsertFull, IsLeftBy, LeavesOtherRelations, SaysInsertFull, relation_at};
-ghost use Rattle.brin_insert.specs.InsertHands.{InsertHand};
 ghost use Rattle.brin_insert.specs.InsertLocks.{held_by, stage_of, taken_by};
 ghost use Rattle.brin_insert.specs.Inserts.{AsksNothing, HasReached, HasStepLeft, IsInsertFor, IsOfItsIndex, numbers_in, task_of, work_of};
 ghost use Rattle.index_steps.specs.ShownRows.{ShowsKept, shown_by};
@@ -113,7 +111,7 @@ impl Insert {
         ensures locks { LeavesLocks (holder locks.old) (holder locks.new) (relation_at pages.old.layout self.old) actor }
         ensures counts { TakesAtMost (taken_by (stage_of self.old)) locks.old locks.new actor }
         ensures given { OnOk result ((x : AnySpot) → stage_of self.old ≡ Some (stages.Drop x) → locks_of locks.new actor ≡ 0) }
-        ensures own { locks_of locks.old actor ≤ held_by (stage_of self.old) → OnOk result (locks_of locks.new actor ≤ held_by (stage_of self.new)) }
+        ensures own { OnOk result (locks_of locks.old actor ≤ held_by (stage_of self.old) → locks_of locks.new actor ≤ held_by (stage_of self.new)) }
         ensures kept { OnErr result (Keeps D.told pages.old pages.new) }
         ensures at { IfErr result (FaultNamesRelation pages.old.layout (relation_at pages.old.layout self.old)) }
         ensures outcome { MachineOutcome D.told (Untold D.told pages.old) pages.old pages.new result }

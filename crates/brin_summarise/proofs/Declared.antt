@@ -1,5 +1,5 @@
 -- an index of the layout, its table's columns, and the tuples that are made for it
-use Rattle.std.proofs.Common.{◌≡◌, true, ℕ, zero, suc, ◌<◌, List, [], ◌∷◌, map, length, refl, sym, ap, subst, ◌∙◌}
+use Rattle.std.proofs.Common.{◌≡◌, true, ℕ, zero, suc, List, [], ◌∷◌, map, length, refl, ap, ◌∙◌}
 use Rattle.std.specs.Prelude.{◌&&◌, Bool, nat_lt, slice_get, slice_index_or}
 use Rattle.std.specs.List.{list_all}
 use Rattle.block_model.specs.declared.schema.Column.{Column}
@@ -11,7 +11,6 @@ use Rattle.block_model.specs.declared.value.Kind.{Kind}
 use Rattle.block_model.specs.declared.value.Value.{Value}
 use Rattle.block_model.specs.ClassLimits.{class_is_lawful}
 use Rattle.block_model.specs.IndexedColumns.{columns_in, columns_of}
-use Rattle.block_model.specs.ValuesOfKind.{has_kind}
 use Rattle.heap_rows.specs.Heaps.{kinds_at, no_table}
 use Rattle.page_layout.specs.RowBytes.{HaveKinds}
 use Rattle.range_tuple.specs.Tuples.{Tuple, empty_placeholder, parts_of}

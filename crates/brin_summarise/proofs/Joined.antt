@@ -3,7 +3,6 @@ use Rattle.std.proofs.Common.{◌≡◌, ℕ, zero, suc, ◌<◌, Bool, true, fa
 use Rattle.std.specs.List.{filter, list_any}
 use Rattle.std.proofs.lemmas.List.Elements.{All-head, All-tail}
 use Rattle.block_model.specs.declared.value.Value.{Value}
-use Rattle.opclass_api.specs.Conditions.{is_null}
 use Rattle.opclass_any.specs.AnyClass.{exact, united}
 use Rattle.opclass_any.specs.declared.classes.AnyClass.{AnyClass}
 use Rattle.opclass_any.specs.declared.classes.AnySummary.{AnySummary}

@@ -1,11 +1,10 @@
 -- what a summarise has of an index that is kept
-use Rattle.std.proofs.Common.{◌≡◌, ◌≢◌, ◌⊎◌, inl, inr, ⊎_elim, ℕ, Option, None, Some, refl, sym, ap, subst, ◌∙◌}
+use Rattle.std.proofs.Common.{◌≡◌, inl, inr, ⊎_elim, ℕ, Option, Some, refl, sym, subst, ◌∙◌}
 use Rattle.std.proofs.lemmas.Option.{none-some}
 use Rattle.block_model.specs.declared.place.Spot.{Spot}
 use Rattle.coverage.specs.GoesOn.{IsHeld}
-use Rattle.coverage.specs.IndexView.{IndexTuple, IndexView, IsPastMap, IsTupleOf}
+use Rattle.coverage.specs.IndexView.{IndexTuple, IsPastMap, IsTupleOf}
 use Rattle.coverage.specs.IsCovered.{IndexState, IsIndexKept, index_view}
-use Rattle.coverage.specs.IsSound.{IsSound}
 use Rattle.coverage.specs.Knowing.{Knows}
 use Rattle.coverage.specs.PageOrder.{KnowsPages}
 use Rattle.coverage.specs.Statements.{Maintaining, Statement}

@@ -1,11 +1,10 @@
 -- the locks of a step, and what it rests on where it is blocked
-use Rattle.std.proofs.Common.{◌≡◌, ◌≢◌, ℕ, ◌+◌, ◌≤◌, Option, Some, true, false, refl, sym, ap, subst, ◌∙◌, arith}
-use Rattle.std.specs.Prelude.{◌↔◌}
+use Rattle.std.proofs.Common.{◌≡◌, ℕ, ◌+◌, ◌≤◌, Option, true, refl, sym, subst, arith}
 use Rattle.std.proofs.lemmas.Bool.{false≢true}
 use Rattle.block_model.specs.declared.place.Place.{Place}
 use Rattle.page_locks.specs.declared.did.Did.{Did}
 use Rattle.page_locks.specs.declared.did.Did.TheVariants as did
-use Rattle.page_locks.specs.LockCounts.{AddsAtMost, locks_of}
+use Rattle.page_locks.specs.LockCounts.{locks_of}
 use Rattle.page_locks.specs.LockHolders.{LockState}
 use Rattle.store_layout.specs.DiskLayout.{DiskLayout}
 use Rattle.page_store.specs.declared.faults.StoreError.{StoreError}
@@ -16,7 +15,7 @@ use Rattle.index_steps.specs.StepAnswers.{NeverBlocked}
 use Rattle.index_steps.specs.SwapAnswers.{LeavesLocks, TakesAtMost}
 use Rattle.brin_summarise.specs.declared.stage.Stage.{Stage}
 use Rattle.brin_summarise.specs.declared.stage.Stage.TheVariants as stages
-use Rattle.brin_summarise.specs.StageLocks.{GivesAt, held_at, taken_at}
+use Rattle.brin_summarise.specs.StageLocks.{GivesAt, held_at}
 use Rattle.brin_summarise.specs.SummariseHands.{SummariseHand}
 use Rattle.brin_summarise.specs.SummariseSteps.{RestsBlocked, only_reads}
 

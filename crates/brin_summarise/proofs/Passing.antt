@@ -1,6 +1,6 @@
 -- the rows of a block that are added to a tuple, as the protocol adds them slot by slot
-use Rattle.std.proofs.Common.{◌≡◌, ◌≢◌, ℕ, zero, suc, ◌+◌, ◌≤◌, ◌<◌, true, All, List, [], ◌∷◌, length, map, get_or, take, refl, sym, ap, subst, ◌∙◌, arith}
-use Rattle.std.specs.Prelude.{Option, None, Some, slice_get, slice_index_or}
+use Rattle.std.proofs.Common.{◌≡◌, ℕ, zero, suc, ◌+◌, true, All, List, [], ◌∷◌, length, get_or, take, refl, sym, ap, subst, ◌∙◌, arith}
+use Rattle.std.specs.Prelude.{Option, None, Some}
 use Rattle.std.proofs.lemmas.List.{get_or_past}
 use Rattle.std.proofs.lemmas.List.Elements.{All-head, All-tail}
 use Rattle.std.proofs.lemmas.Option.{same_Some, none-some}
@@ -9,7 +9,6 @@ use Rattle.block_model.specs.declared.value.Value.{Value}
 use Rattle.page_layout.specs.PageContents.{Slot}
 use Rattle.page_layout.specs.RowBytes.{HaveKinds, IsRow, StoredRow}
 use Rattle.heap_rows.specs.declared.rows.Stored.{Stored}
-use Rattle.heap_rows.specs.HeapBlocks.{slots_of}
 use Rattle.heap_rows.specs.StoredRows.{stored_from, stored_in, stored_rows}
 use Rattle.heap_rows.specs.StoredRows.{row_of as stored_row}
 use Rattle.block_model.specs.declared.value.Kind.{Kind}

@@ -1,5 +1,5 @@
 -- tuples of an index that a summarise makes, as the protocol sees them
-use Rattle.std.proofs.Common.{◌≡◌, ℕ, true, List, [], ◌∷◌, map, Option, Some, refl, sym, ap, subst, ◌∙◌}
+use Rattle.std.proofs.Common.{◌≡◌, ℕ, true, List, [], ◌∷◌, map, Option, refl, sym, ap, ◌∙◌}
 use Rattle.block_model.specs.declared.schema.Column.{Column}
 use Rattle.block_model.specs.declared.schema.Part.{Part}
 use Rattle.opclass_any.specs.AnyClass.{empty}
@@ -10,7 +10,7 @@ use Rattle.range_tuple.specs.TupleReading.{tuple_in}
 use Rattle.range_tuple.specs.Tuples.{IndexedColumn, Tuple, empty_column, empty_placeholder, emptied, parts_of, restarted, tuple_of}
 use Rattle.coverage.specs.IndexView.{Contents, IndexTuple, IndexView}
 use Rattle.index_contents.specs.IndexContents.{IndexContents}
-use Rattle.index_steps.specs.IndexTuples.{IndexShape, changed, changed_as, classes_of, contents_of, final_union, is_placeholder, seen, united_as}
+use Rattle.index_steps.specs.IndexTuples.{IndexShape, changed_as, classes_of, contents_of, final_union, is_placeholder, seen, united_as}
 use Rattle.index_steps.specs.Readings.{IsReadAs}
 use Rattle.index_steps.specs.ShownIndex.{Shows}
 

@@ -1,17 +1,17 @@
 -- what calls found and made of an index, as what a step of a summarise did
-use Rattle.std.proofs.Common.{◌≡◌, ◌≢◌, ℕ, ◌+◌, ◌*◌, ◌≤◌, ◌<◌, min, true, false, List, [], ◌∷◌, length, Option, None, Some, refl, sym, ap, subst, ◌∙◌}
+use Rattle.std.proofs.Common.{◌≡◌, ℕ, ◌+◌, ◌*◌, ◌≤◌, ◌<◌, min, true, false, List, length, Option, None, Some, refl, sym, ap, subst, ◌∙◌}
 use Rattle.block_model.specs.declared.place.Spot.{Spot}
 use Rattle.block_model.specs.declared.reply.Point.TheVariants as points
 use Rattle.page_locks.specs.declared.did.Did.TheVariants as did
 use Rattle.page_locks.specs.declared.held.Held.{Held}
 use Rattle.range_tuple.specs.TupleBytes.{tuple_bytes}
 use Rattle.range_tuple.specs.Tuples.{Tuple, parts_of, restarted}
-use Rattle.coverage.specs.IndexView.{Building, IndexTuple, IndexView, Pages, Passing, IsPastMap, map_page_of, placeholder_length}
+use Rattle.coverage.specs.IndexView.{Building, IndexTuple, IndexView, Pages, Passing, IsPastMap, placeholder_length}
 use Rattle.coverage.specs.Knowing.{LocksNone}
-use Rattle.coverage.specs.Statements.{Copied, IsAt, Vacant, rows_added, HasNoMoreRows}
+use Rattle.coverage.specs.Statements.{Vacant, rows_added, HasNoMoreRows}
 use Rattle.coverage.specs.Steps.{ReadsIndex}
 use Rattle.coverage.specs.Verdicts.{Full, PutVerdict, SwapVerdict, Verdict, Waits}
-use Rattle.coverage.specs.Waiting.{FinalFull, FinalWaits, IsPhaseFull, IsPhaseWaiting, PlaceFull, PlaceWaits}
+use Rattle.coverage.specs.Waiting.{FinalWaits, IsPhaseFull, PlaceFull, PlaceWaits}
 use Rattle.index_contents.specs.IndexContents.{IndexContents}
 use Rattle.index_steps.specs.declared.placing.Placed.{Placed}
 use Rattle.index_steps.specs.declared.placing.Placed.TheVariants as placed
@@ -27,7 +27,7 @@ use Rattle.brin_summarise.specs.declared.stage.Stage.TheVariants as stages
 use Rattle.brin_summarise.specs.ShownHeap.{Heap, ShowsHeap}
 use Rattle.brin_summarise.specs.SummariseHands.{SummariseHand}
 use Rattle.brin_summarise.specs.SummariseSteps.{Stepped, SummariseAt}
-use Rattle.brin_summarise.proofs.Seen.{empty_there, seen_bytes, seen_sort, united_there}
+use Rattle.brin_summarise.proofs.Seen.{empty_there, seen_sort, united_there}
 use Rattle.brin_summarise.proofs.Stepping.{again, copies, drops, found, gone, is_final, look_gone, looks, looks_again, moves, names, no_entry, passes, puts_new, reads_extent, sets, swaps as swaps_in}
 
 -- a summarise at a range

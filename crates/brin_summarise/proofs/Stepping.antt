@@ -1,11 +1,11 @@
 -- the steps of a summarise at a range, by what its calls found and made there
-use Rattle.std.proofs.Common.{◌≡◌, ℕ, ◌+◌, ◌*◌, ◌≤◌, ◌<◌, min, true, false, List, [], ◌∷◌, length, Option, None, Some, refl, sym, ap, subst, ◌∙◌}
+use Rattle.std.proofs.Common.{◌≡◌, ℕ, ◌+◌, ◌*◌, ◌≤◌, ◌<◌, min, true, false, [], ◌∷◌, length, Option, None, Some, refl, sym, subst}
 use Rattle.block_model.specs.declared.place.Spot.{Spot}
 use Rattle.block_model.specs.declared.reply.Point.TheVariants as points
 use Rattle.coverage.specs.IndexPart.{IndexPart, SummariseMakes, with_part}
-use Rattle.coverage.specs.IndexView.{Building, IndexTuple, IndexView, Progress, ExtentUnread, Passing, IsPastMap, IsRangeOf, map_page_of, placeholder_length}
+use Rattle.coverage.specs.IndexView.{Building, IndexTuple, IndexView, Progress, ExtentUnread, Passing, IsPastMap, IsRangeOf, map_page_of}
 use Rattle.coverage.specs.Knowing.{LocksNone, LocksThese}
-use Rattle.coverage.specs.Statements.{OnIndex, Empty, Held, Copied, Moving, Dropping, NotBuilding, Vacant, Placing, IsAt, Holding, Maintaining, HasNoMoreRows, rows_added}
+use Rattle.coverage.specs.Statements.{Empty, Held, Copied, Moving, Dropping, NotBuilding, Vacant, Placing, IsAt, Holding, Maintaining, HasNoMoreRows, rows_added}
 use Rattle.coverage.specs.Steps.{Again, DropOld, DropsTuple, Extent, Found, Gone, IsFinal, IsGone, LookGone, LookMap, Maps, MovePut, Pass, Put, PutsTuple, ReadNoEntry, ReadsIndex, ReplacesTuple, Set, SetFinal, SetsEntry, Stands, SwapFinal, Unite, UniteCopies}
 use Rattle.coverage.specs.Verdicts.{Differs, Fits, PutVerdict, Puts, SwapVerdict}
 

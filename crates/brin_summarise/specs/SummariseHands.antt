@@ -1,5 +1,5 @@
 -- what a summarise has in hand of a range
-use Rattle.std.specs.Prelude.{◌≡◌, ℕ, ◌≤◌, ◌<◌, List, length}
+use Rattle.std.specs.Prelude.{◌≡◌, ℕ, ◌≤◌, List}
 use Rattle.store_layout.specs.DiskLayout.{DiskLayout}
 use Rattle.heap_rows.specs.Heaps.{slots_a_page}
 use Rattle.range_tuple.specs.Tuples.{Tuple, parts_of}

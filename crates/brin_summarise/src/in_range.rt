@@ -122,7 +122,7 @@ pub(crate) fn place<D: Disk + Drop>(
     ensures others { LeavesOthers D.told at.index pages.old pages.new }
     ensures locks { LeavesLocks (holder locks.old) (holder locks.new) (relation_of pages.old.layout at.index) at.actor }
     ensures counts { TakesAtMost 2 locks.old locks.new at.actor }
-    ensures own { locks_of locks.old at.actor ≤ held_at Stage.Place → IfOk result (λ o. locks_of locks.new at.actor ≤ held_at o.0) }
+    ensures own { IfOk result (λ o. locks_of locks.old at.actor ≤ held_at Stage.Place → locks_of locks.new at.actor ≤ held_at o.0) }
     ensures kept { OnErr result (Keeps D.told pages.old pages.new) }
     ensures at { IfErr result (FaultNamesPageOf pages.old.layout at.index) }
     ensures outcome { MachineOutcome D.told (Untold D.told pages.old) pages.old pages.new result }
@@ -153,7 +153,7 @@ pub(crate) fn name<D: Disk + Drop>(
     ensures locks { LeavesLocks (holder locks.old) (holder locks.new) (relation_of pages.old.layout at.index) at.actor }
     ensures counts { TakesAtMost 0 locks.old locks.new at.actor }
     ensures given { OnOk result (locks_of locks.new at.actor ≡ 0) }
-    ensures own { locks_of locks.old at.actor ≤ held_at (Stage.Name to) → IfOk result (λ o. locks_of locks.new at.actor ≤ held_at o.0) }
+    ensures own { IfOk result (λ o. locks_of locks.old at.actor ≤ held_at (Stage.Name to) → locks_of locks.new at.actor ≤ held_at o.0) }
     ensures kept { OnErr result (Keeps D.told pages.old pages.new) }
     ensures never_blocked { IfOk result (λ o. NeverBlocked o.1) }
     ensures of_store { IfErr result IsOfStore }
@@ -319,7 +319,7 @@ pub(crate) fn swap_in<D: Disk + Drop>(
     ensures others { LeavesOthers D.told at.index pages.old pages.new }
     ensures locks { LeavesLocks (holder locks.old) (holder locks.new) (relation_of pages.old.layout at.index) at.actor }
     ensures counts { TakesAtMost 3 locks.old locks.new at.actor }
-    ensures own { locks_of locks.old at.actor ≤ held_at (Stage.Swap spot) → IfOk result (λ o. locks_of locks.new at.actor ≤ held_at o.0) }
+    ensures own { IfOk result (λ o. locks_of locks.old at.actor ≤ held_at (Stage.Swap spot) → locks_of locks.new at.actor ≤ held_at o.0) }
     ensures kept { OnErr result (Keeps D.told pages.old pages.new) }
     ensures at { IfErr result (FaultNamesPageOf pages.old.layout at.index) }
     ensures outcome { MachineOutcome D.told (Untold D.told pages.old) pages.old pages.new result }
@@ -375,7 +375,7 @@ pub(crate) fn drop_in<D: Disk + Drop>(
     ensures locks { LeavesLocks (holder locks.old) (holder locks.new) (relation_of pages.old.layout at.index) at.actor }
     ensures counts { TakesAtMost 0 locks.old locks.new at.actor }
     ensures given { OnOk result (locks_of locks.new at.actor ≡ 0) }
-    ensures own { locks_of locks.old at.actor ≤ held_at (Stage.Drop from) → IfOk result (λ o. locks_of locks.new at.actor ≤ held_at o.0) }
+    ensures own { IfOk result (λ o. locks_of locks.old at.actor ≤ held_at (Stage.Drop from) → locks_of locks.new at.actor ≤ held_at o.0) }
     ensures kept { OnErr result (Keeps D.told pages.old pages.new) }
     ensures never_blocked { IfOk result (λ o. NeverBlocked o.1) }
     ensures of_store { IfErr result IsOfStore }

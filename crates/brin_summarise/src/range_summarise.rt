@@ -120,7 +120,7 @@ impl RangeSummarise {
         ensures locks { LeavesLocks (holder locks.old) (holder locks.new) (relation_of pages.old.layout at.index) at.actor }
         ensures counts { TakesAtMost (taken_at self.old.stage) locks.old locks.new at.actor }
         ensures given { OnOk result (GivesAt self.old.stage → locks_of locks.new at.actor ≡ 0) }
-        ensures own { locks_of locks.old at.actor ≤ held_at self.old.stage → OnOk result (locks_of locks.new at.actor ≤ held_at self.new.stage) }
+        ensures own { OnOk result (locks_of locks.old at.actor ≤ held_at self.old.stage → locks_of locks.new at.actor ≤ held_at self.new.stage) }
         ensures stays { OnErr result (self.new.stage ≡ self.old.stage) }
         ensures kept { OnErr result (Keeps D.told pages.old pages.new) }
         ensures at { IfErr result (NamesPageAt pages.old.layout at.index self.old.stage) }

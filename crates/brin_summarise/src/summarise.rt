@@ -111,7 +111,7 @@ impl Summarise {
         ensures locks { LeavesLocks (holder locks.old) (holder locks.new) (relation_of pages.old.layout self.old.index) actor }
         ensures counts { TakesAtMost (taken_by self.old) locks.old locks.new actor }
         ensures given { OnOk result (GivesBy self.old → locks_of locks.new actor ≡ 0) }
-        ensures own { locks_of locks.old actor ≤ held_by self.old → OnOk result (locks_of locks.new actor ≤ held_by self.new) }
+        ensures own { OnOk result (locks_of locks.old actor ≤ held_by self.old → locks_of locks.new actor ≤ held_by self.new) }
         ensures stays { OnErr result ((self.new ≡ record self.old { hand = self.new.hand }) × (self.new.hand.stage ≡ self.old.hand.stage)) }
         ensures kept { OnErr result (Keeps D.told pages.old pages.new) }
         ensures at { IfErr result (NamesPageAt pages.old.layout self.old.index self.old.hand.stage) }
@@ -214,7 +214,7 @@ fn go_on<D: Disk + Drop>(
     ensures locks { LeavesLocks (holder locks.old) (holder locks.new) (relation_of pages.old.layout index) actor }
     ensures counts { TakesAtMost (taken_by (state_of index course.old work.old)) locks.old locks.new actor }
     ensures given { OnOk result (GivesBy (state_of index course.old work.old) → locks_of locks.new actor ≡ 0) }
-    ensures own { locks_of locks.old actor ≤ held_by (state_of index course.old work.old) → OnOk result (locks_of locks.new actor ≤ held_by (state_of index course.new work.new)) }
+    ensures own { OnOk result (locks_of locks.old actor ≤ held_by (state_of index course.old work.old) → locks_of locks.new actor ≤ held_by (state_of index course.new work.new)) }
     ensures stays { OnErr result ((state_of index course.new work.new ≡ record (state_of index course.old work.old) { hand = work.new }) × (work.new.stage ≡ work.old.stage)) }
     ensures kept { OnErr result (Keeps D.told pages.old pages.new) }
     ensures at { IfErr result (NamesPageAt pages.old.layout index work.old.stage) }

@@ -72,7 +72,7 @@ pub(crate) fn step_in<D: Disk + Drop>(
     ensures locks { LeavesLocks (holder locks.old) (holder locks.new) (relation_of pages.old.layout at.index) at.actor }
     ensures counts { TakesAtMost (taken_at stage) locks.old locks.new at.actor }
     ensures given { OnOk result (GivesAt stage → locks_of locks.new at.actor ≡ 0) }
-    ensures own { locks_of locks.old at.actor ≤ held_at stage → IfOk result (λ o. locks_of locks.new at.actor ≤ held_at o.0) }
+    ensures own { IfOk result (λ o. locks_of locks.old at.actor ≤ held_at stage → locks_of locks.new at.actor ≤ held_at o.0) }
     ensures kept { OnErr result (Keeps D.told pages.old pages.new) }
     ensures at { IfErr result (NamesPageAt pages.old.layout at.index stage) }
     ensures outcome { MachineOutcome D.told (Tells D.told pages.old → DamageAt (shape_of pages.old.layout at.index) (contents pages.old.layout pages.old.pages at.index) at.range stage) pages.old pages.new result }
@@ -188,7 +188,7 @@ fn change_in<D: Disk + Drop>(
     ensures locks { LeavesLocks (holder locks.old) (holder locks.new) (relation_of pages.old.layout at.index) at.actor }
     ensures counts { TakesAtMost (taken_at stage) locks.old locks.new at.actor }
     ensures given { OnOk result (GivesAt stage → locks_of locks.new at.actor ≡ 0) }
-    ensures own { locks_of locks.old at.actor ≤ held_at stage → IfOk result (λ o. locks_of locks.new at.actor ≤ held_at o.0) }
+    ensures own { IfOk result (λ o. locks_of locks.old at.actor ≤ held_at stage → locks_of locks.new at.actor ≤ held_at o.0) }
     ensures kept { OnErr result (Keeps D.told pages.old pages.new) }
     ensures at { IfErr result (NamesPageAt pages.old.layout at.index stage) }
     ensures outcome { MachineOutcome D.told (Tells D.told pages.old → DamageAt (shape_of pages.old.layout at.index) (contents pages.old.layout pages.old.pages at.index) at.range stage) pages.old pages.new result }

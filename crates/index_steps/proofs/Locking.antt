@@ -1,5 +1,5 @@
 -- locks of an index's pages that are taken
-use Rattle.std.proofs.Common.{◌≡◌, ◌≢◌, ◌⊎◌, inl, inr, ⊎_elim, ℕ, ◌+◌, ◌≤◌, List, [], ◌∷◌, Option, None, Some, refl, sym, ap, subst, ◌∙◌, arith}
+use Rattle.std.proofs.Common.{◌≡◌, ◌≢◌, ◌⊎◌, inl, inr, ⊎_elim, ℕ, List, [], ◌∷◌, Option, None, Some, refl, sym, ap, ◌∙◌}
 use Rattle.std.specs.Prelude.{◌↔◌}
 use Rattle.std.proofs.lemmas.Option.{none-some, same_Some}
 use Rattle.block_model.specs.declared.place.Place.{Place}
@@ -8,8 +8,7 @@ use Rattle.coverage.specs.Changes.{IsFree, OwnLocks}
 use Rattle.coverage.specs.IndexView.{IndexView}
 use Rattle.coverage.specs.Knowing.{IsOneOf as IsAmong, LocksNone, LocksThese}
 use Rattle.coverage.specs.Verdicts.{First, IsFirstLocked, Later}
-use Rattle.page_locks.specs.LockHolders.{LockState}
-use Rattle.index_steps.specs.SwapAnswers.{LeavesLocks, TakesAtMost}
+use Rattle.index_steps.specs.SwapAnswers.{LeavesLocks}
 
 -- the two ways to say that a page is one of these
 pub among : (these : List ℕ) (p : ℕ) → IsOneOf these p → IsAmong these p
@@ -93,10 +92,3 @@ gives_apart at s h k gives = record {
     by_holder page none None None was now = refl
     by_holder page none None (Some m) was now = absurd (none-some m (sym was ∙ gives.only page m now))
     by_holder page none (Some n) b was now = sym now ∙ gives.kept page n (λ same. none (was ∙ ap Some same)) was
-
-pub same_apart : (at s : ℕ) (h : Place → Option ℕ) → LeavesLocks h h at s
-same_apart at s h = record { elsewhere = λ page other none. refl; others = λ page n other. (λ is. is, λ is. is) }
-
--- no lock is taken
-pub takes_none : (n : ℕ) (locks : LockState) (s : ℕ) → TakesAtMost n locks locks s
-takes_none n locks s = record { limit = refl; adds = record { own = omega arith; others = λ a other. refl; all = omega arith } }

@@ -1,9 +1,9 @@
 //! The steps that a statement takes in an index towards another tuple in the place of a range's old one: it copies the tuple at the spot
 //! that the map named (`copy_tuple`), and has the new one take its place, where the old one still stands there (`swap`). A range without
-//! one gets its first tuple by `put_new` and `name_new`. Each is said
-//! by the words of coverage's steps, of every index that the pages and the page locks show (specs/ShownIndex). The insert's and the
-//! summariser's machines stand above; a step is theirs, and so is its point. No call takes memory. It stands on revmap, range_store,
-//! page_locks and range_tuple.
+//! one gets its first tuple by `put_new` and `name_new`. Each is said by the words of coverage's steps, of every index that the pages and
+//! the page locks show (specs/ShownIndex); specs/ShownTable and specs/ShownRows say which table they show. Whatever came of a step, no
+//! lock of another actor changes. The insert's, the summariser's and the scan's machines stand above; a step is theirs, and so is its
+//! point. No call takes memory. It stands on revmap, range_store, page_locks and range_tuple, and its words on heap_rows and table_coverage.
 #![tactic(auto)]
 
 mod indexes;

@@ -1,7 +1,13 @@
-use Rattle.std.proofs.Common.{◌≡◌, ℕ, sym, subst}
+use Rattle.std.proofs.Common.{◌≡◌, ℕ, ◌≤◌, sym, ap, subst, ◌∙◌, arith}
+use Rattle.page_locks.specs.LockCounts.{locks_of}
+use Rattle.page_locks.specs.LockHolders.{holder}
+use Rattle.index_contents.specs.IndexContents.{relation_of}
 use Rattle.index_steps.specs.IndexTuples.{shape_of}
+use Rattle.index_steps.specs.SwapAnswers.{TakesAtMost}
 use Rattle.brin_insert.specs.declared.stage.Stage.{Stage}
 use Rattle.brin_insert.specs.InsertSteps.{Stepped, insert_at}
+use Rattle.brin_insert.specs.StageLocks.{held_at, taken_at}
+use Rattle.brin_insert.proofs.OwnLocks.{copy_is_no_drop, map_is_no_drop, no_more, none_at, same_locks, set_is_no_drop, swap_is_no_drop}
 use Rattle.brin_insert.proofs.in_index.step_in.Goals as goal
 
 pub returns-in-Ok-clause-stepped : goal.returns-in-Ok-clause-stepped
@@ -38,3 +44,91 @@ returns-in-Ok-drop_in-clause-stepped g c = λ tells r values.
     let at = c.args.at in
     subst (λ (stage : Stage). Stepped (shape_of old.layout at.index) at.actor at.range r (insert_at old.layout old.pages c.args.locks.now at.index stage c.args.copied.now c.args.tuple.now)
     (insert_at old.layout c.drop_in.new.pages.pages c.drop_in.new.locks at.index c.in-Ok-drop_in.done.0 c.args.copied.now c.args.tuple.now) c.in-Ok-drop_in.done.1) (sym c.in-Drop.is) (c.in-Ok-drop_in.ensures.stepped tells c.args.copied.now c.args.tuple.now r)
+
+pub returns-in-Ok-clause-counts : goal.returns-in-Ok-clause-counts
+returns-in-Ok-clause-counts g c = no_more (taken_at c.args.stage) c.args.locks.now c.args.at.actor
+
+pub returns-in-Ok-clause-locks : goal.returns-in-Ok-clause-locks
+returns-in-Ok-clause-locks g c = same_locks (relation_of c.args.pages.now.layout c.args.at.index) c.args.at.actor (holder c.args.locks.now)
+
+pub returns-in-Err-clause-counts : goal.returns-in-Err-clause-counts
+returns-in-Err-clause-counts g c = no_more (taken_at c.args.stage) c.args.locks.now c.args.at.actor
+
+pub returns-in-Err-clause-locks : goal.returns-in-Err-clause-locks
+returns-in-Err-clause-locks g c = same_locks (relation_of c.args.pages.now.layout c.args.at.index) c.args.at.actor (holder c.args.locks.now)
+
+pub returns-in-Ok-clause-given : goal.returns-in-Ok-clause-given
+returns-in-Ok-clause-given g c = λ x is. absurd (map_is_no_drop x (sym c.in-Map.is ∙ is))
+
+pub returns-in-Ok-clause-own : goal.returns-in-Ok-clause-own
+returns-in-Ok-clause-own g c = none_at c.args.locks.now c.args.at.actor (held_at c.in-Ok.done.0) c.args.stage (ap held_at c.in-Map.is)
+
+pub returns-in-Ok-copy-clause-counts : goal.returns-in-Ok-copy-clause-counts
+returns-in-Ok-copy-clause-counts g c = no_more (taken_at c.args.stage) c.args.locks.now c.args.at.actor
+
+pub returns-in-Ok-copy-clause-locks : goal.returns-in-Ok-copy-clause-locks
+returns-in-Ok-copy-clause-locks g c = same_locks (relation_of c.args.pages.now.layout c.args.at.index) c.args.at.actor (holder c.args.locks.now)
+
+pub returns-in-Err-copy-clause-counts : goal.returns-in-Err-copy-clause-counts
+returns-in-Err-copy-clause-counts g c = no_more (taken_at c.args.stage) c.args.locks.now c.args.at.actor
+
+pub returns-in-Err-copy-clause-locks : goal.returns-in-Err-copy-clause-locks
+returns-in-Err-copy-clause-locks g c = same_locks (relation_of c.args.pages.now.layout c.args.at.index) c.args.at.actor (holder c.args.locks.now)
+
+pub returns-in-Ok-copy-clause-given : goal.returns-in-Ok-copy-clause-given
+returns-in-Ok-copy-clause-given g c = λ x is. absurd (copy_is_no_drop c.in-Copy.spot x (sym c.in-Copy.is ∙ is))
+
+pub returns-in-Ok-copy-clause-own : goal.returns-in-Ok-copy-clause-own
+returns-in-Ok-copy-clause-own g c = none_at c.args.locks.now c.args.at.actor (held_at c.in-Ok-copy.done.0) c.args.stage (ap held_at c.in-Copy.is)
+
+pub returns-in-Ok-swap_in-clause-counts : goal.returns-in-Ok-swap_in-clause-counts
+returns-in-Ok-swap_in-clause-counts g c = subst (λ (stage : Stage). TakesAtMost (taken_at stage) c.args.locks.now c.swap_in.new.locks c.args.at.actor) (sym c.in-Swap.is) c.swap_in.ensures.counts
+
+pub returns-in-Err-swap_in-clause-counts : goal.returns-in-Err-swap_in-clause-counts
+returns-in-Err-swap_in-clause-counts g c = subst (λ (stage : Stage). TakesAtMost (taken_at stage) c.args.locks.now c.swap_in.new.locks c.args.at.actor) (sym c.in-Swap.is) c.swap_in.ensures.counts
+
+pub returns-in-Ok-swap_in-clause-given : goal.returns-in-Ok-swap_in-clause-given
+returns-in-Ok-swap_in-clause-given g c = λ x is. absurd (swap_is_no_drop c.in-Swap.spot x (sym c.in-Swap.is ∙ is))
+
+pub returns-in-Ok-swap_in-clause-own : goal.returns-in-Ok-swap_in-clause-own
+returns-in-Ok-swap_in-clause-own g c = λ few.
+    let none : held_at c.args.stage ≡ 0 = ap held_at c.in-Swap.is in
+    c.in-Ok-swap_in.ensures.own (omega (arith, none, few))
+
+pub returns-in-Ok-set_in-clause-counts : goal.returns-in-Ok-set_in-clause-counts
+returns-in-Ok-set_in-clause-counts g c = no_more (taken_at c.args.stage) c.args.locks.now c.args.at.actor
+
+pub returns-in-Ok-set_in-clause-locks : goal.returns-in-Ok-set_in-clause-locks
+returns-in-Ok-set_in-clause-locks g c = same_locks (relation_of c.args.pages.now.layout c.args.at.index) c.args.at.actor (holder c.args.locks.now)
+
+pub returns-in-Err-set_in-clause-counts : goal.returns-in-Err-set_in-clause-counts
+returns-in-Err-set_in-clause-counts g c = no_more (taken_at c.args.stage) c.args.locks.now c.args.at.actor
+
+pub returns-in-Err-set_in-clause-locks : goal.returns-in-Err-set_in-clause-locks
+returns-in-Err-set_in-clause-locks g c = same_locks (relation_of c.args.pages.now.layout c.args.at.index) c.args.at.actor (holder c.args.locks.now)
+
+pub returns-in-Ok-set_in-clause-given : goal.returns-in-Ok-set_in-clause-given
+returns-in-Ok-set_in-clause-given g c = λ x is. absurd (set_is_no_drop c.in-Set.from c.in-Set.to x (sym c.in-Set.is ∙ is))
+
+pub returns-in-Ok-set_in-clause-own : goal.returns-in-Ok-set_in-clause-own
+returns-in-Ok-set_in-clause-own g c = λ few.
+    let three : held_at c.args.stage ≡ 3 = ap held_at c.in-Set.is in
+    let more : 3 ≤ held_at c.in-Ok-set_in.done.0 = c.in-Ok-set_in.ensures.own in
+    omega (arith, three, more, few)
+
+pub returns-in-Ok-drop_in-clause-counts : goal.returns-in-Ok-drop_in-clause-counts
+returns-in-Ok-drop_in-clause-counts g c = subst (λ (stage : Stage). TakesAtMost (taken_at stage) c.args.locks.now c.drop_in.new.locks c.args.at.actor) (sym c.in-Drop.is) c.drop_in.ensures.counts
+
+pub returns-in-Err-drop_in-clause-counts : goal.returns-in-Err-drop_in-clause-counts
+returns-in-Err-drop_in-clause-counts g c = subst (λ (stage : Stage). TakesAtMost (taken_at stage) c.args.locks.now c.drop_in.new.locks c.args.at.actor) (sym c.in-Drop.is) c.drop_in.ensures.counts
+
+pub returns-in-Ok-drop_in-clause-given : goal.returns-in-Ok-drop_in-clause-given
+returns-in-Ok-drop_in-clause-given g c = λ x is. c.in-Ok-drop_in.ensures.given
+
+pub returns-in-Ok-drop_in-clause-own : goal.returns-in-Ok-drop_in-clause-own
+returns-in-Ok-drop_in-clause-own g c = λ few.
+    let none : locks_of c.drop_in.new.locks c.args.at.actor ≡ 0 = c.in-Ok-drop_in.ensures.given in
+    omega (arith, none)
+
+pub swap_in-requires-clause-locks : goal.swap_in-requires-clause-locks
+swap_in-requires-clause-locks g c = c.requires.locks c.in-Swap.spot c.in-Swap.is

@@ -1,6 +1,5 @@
-use Rattle.std.proofs.Common.{◌≡◌, ℕ, List, All, get_or, length, take, refl, sym, ap, subst, ◌∙◌, arith}
+use Rattle.std.proofs.Common.{◌≡◌, ℕ, List, All, get_or, length, take, refl, sym, ap, subst, ◌∙◌}
 use Rattle.std.specs.Prelude.{Some}
-use Rattle.block_model.specs.declared.row.Row.{Row}
 use Rattle.block_model.specs.declared.value.Value.{Value}
 use Rattle.heap_rows.specs.declared.rows.Stored.{Stored}
 use Rattle.heap_rows.specs.HeapBlocks.{HasBlocks, slots_of}
@@ -13,7 +12,7 @@ use Rattle.store_layout.specs.DiskLayout.{DiskLayout}
 use Rattle.range_tuple.specs.ExactTuples.{with_rows}
 use Rattle.range_tuple.specs.TupleBytes.{tuple_bytes}
 use Rattle.range_tuple.specs.TupleReading.{tuple_in}
-use Rattle.range_tuple.specs.Tuples.{IsTuple, Tuple, parts_of}
+use Rattle.range_tuple.specs.Tuples.{IsTuple, Tuple}
 use Rattle.index_contents.specs.IndexContents.{contents}
 use Rattle.index_steps.specs.IndexTuples.{TakesValues, classes_of, shape_of}
 use Rattle.index_steps.specs.ShownIndex.{lock_in}

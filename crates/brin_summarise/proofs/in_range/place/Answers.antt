@@ -1,4 +1,4 @@
-use Rattle.std.proofs.Common.{◌≡◌, ℕ, ◌≤◌, List, [], length, refl, sym, ap, subst, ◌∙◌, arith, ◌<◌}
+use Rattle.std.proofs.Common.{ℕ, List, [], length, refl, sym, subst, arith, ◌<◌}
 use Rattle.range_store.specs.Tuples.{IsTupleSize}
 use Rattle.range_tuple.specs.TupleBytes.{tuple_bytes}
 use Rattle.coverage.specs.Verdicts.{Full, PutVerdict}

@@ -1,6 +1,5 @@
 use Rattle.std.proofs.Common.{◌≡◌, ℕ, ◌+◌, ◌*◌, min, length, refl, sym, ap, subst, ◌∙◌, arith}
 use Rattle.std.proofs.Math.Nat.{add-mul}
-use Rattle.block_model.specs.declared.schema.Index.{Index}
 use Rattle.heap_rows.specs.HeapBlocks.{HasBlocks}
 use Rattle.store_layout.specs.DiskLayout.{DiskLayout}
 use Rattle.index_contents.specs.IndexContents.{contents}

@@ -1,4 +1,4 @@
-use Rattle.std.proofs.Common.{◌≡◌, ℕ, List, refl, sym, ap, subst, ◌∙◌, ◌<◌, arith}
+use Rattle.std.proofs.Common.{ℕ, List, refl, sym, subst, ◌<◌, arith}
 use Rattle.range_tuple.specs.TupleBytes.{tuple_bytes}
 use Rattle.index_contents.specs.IndexContents.{contents}
 use Rattle.std.proofs.Common.{length}
@@ -6,7 +6,6 @@ use Rattle.range_store.specs.Tuples.{IsTupleSize}
 use Rattle.index_steps.specs.declared.swapping.Swapped.TheVariants as swaps
 use Rattle.index_steps.specs.IndexTuples.{seen, shape_of}
 use Rattle.index_steps.specs.ShownIndex.{lock_in}
-use Rattle.index_steps.specs.SwapAnswers.{SwapMakes}
 use Rattle.coverage.specs.IndexView.{Passing}
 use Rattle.coverage.specs.Verdicts.{Full}
 use Rattle.coverage.specs.Waiting.{FinalFull}

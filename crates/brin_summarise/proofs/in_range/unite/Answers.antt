@@ -1,12 +1,12 @@
-use Rattle.std.proofs.Common.{◌≡◌, ℕ, List, refl, sym, ap, subst, ◌∙◌}
+use Rattle.std.proofs.Common.{◌≡◌, ℕ, List, refl, ap, subst, ◌∙◌}
 use Rattle.std.specs.Prelude.{Some, false}
 use Rattle.opclass_any.specs.declared.classes.AnyClass.{AnyClass}
 use Rattle.page_store.specs.PageMap.{PageMap}
 use Rattle.range_tuple.specs.TupleBytes.{tuple_bytes}
 use Rattle.range_tuple.specs.TupleReading.{tuple_in}
-use Rattle.range_tuple.specs.Tuples.{Tuple, united_tuple}
+use Rattle.range_tuple.specs.Tuples.{Tuple}
 use Rattle.index_contents.specs.IndexContents.{contents}
-use Rattle.index_steps.specs.IndexTuples.{classes_of, shape_of}
+use Rattle.index_steps.specs.IndexTuples.{shape_of}
 use Rattle.index_steps.specs.Readings.{IsReadAs}
 use Rattle.index_steps.specs.ShownIndex.{lock_in}
 use Rattle.brin_summarise.proofs.Stepped.{has_left, is_united}

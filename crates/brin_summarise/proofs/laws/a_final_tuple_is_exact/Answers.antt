@@ -1,5 +1,5 @@
 use Rattle.std.proofs.Common.{◌≡◌, List, sym, subst, ap, ◌∙◌}
-use Rattle.range_tuple.specs.Tuples.{IndexedColumn, Tuple, parts_of, united_columns}
+use Rattle.range_tuple.specs.Tuples.{IndexedColumn, Tuple, united_columns}
 use Rattle.brin_summarise.specs.ExactSummaries.{AreJoined, rows_of_range}
 use Rattle.brin_summarise.proofs.Joined.{joined_columns}
 use Rattle.brin_summarise.proofs.laws.a_final_tuple_is_exact.Goals as goal

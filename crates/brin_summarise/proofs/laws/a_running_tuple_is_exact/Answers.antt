@@ -1,5 +1,4 @@
-use Rattle.std.proofs.Common.{ℕ, true, List, sym, subst}
-use Rattle.block_model.specs.declared.value.Value.{Value}
+use Rattle.std.proofs.Common.{ℕ, true, sym, subst}
 use Rattle.range_tuple.specs.ExactTuples.{IsExactTuple}
 use Rattle.range_tuple.specs.Tuples.{Tuple}
 use Rattle.brin_summarise.specs.ExactSummaries.{HasPassed, first_of_range, rows_of_blocks}

@@ -1,9 +1,9 @@
-use Rattle.std.proofs.Common.{◌≡◌, ℕ, ◌+◌, ◌≤◌, ◌<◌, List, get_or, take, refl, sym, ap, subst, ◌∙◌, arith}
+use Rattle.std.proofs.Common.{◌≡◌, ℕ, ◌+◌, List, take, refl, sym, ap, subst, ◌∙◌, arith}
 use Rattle.opclass_any.specs.declared.classes.AnyClass.{AnyClass}
 use Rattle.heap_rows.specs.declared.rows.Stored.{Stored}
 use Rattle.range_tuple.specs.ExactTuples.{with_rows}
 use Rattle.range_tuple.specs.Tuples.{IsTuple, Tuple, parts_of, with_row}
-use Rattle.brin_summarise.specs.BlockRows.{AreKnown, IsTakenBy, values_of}
+use Rattle.brin_summarise.specs.BlockRows.{IsTakenBy, values_of}
 use Rattle.brin_summarise.proofs.Adding.{all_added, known_all, known_more, one_more, tuples_all, tuples_more}
 use Rattle.brin_summarise.proofs.rows.add_rows.Goals as goal
 

@@ -1,4 +1,4 @@
-use Rattle.std.proofs.Common.{◌≡◌, ℕ, ◌+◌, ◌≤◌, ◌<◌, refl, sym, subst, arith}
+use Rattle.std.proofs.Common.{◌+◌, ◌≤◌, ◌<◌, refl, sym, subst, arith}
 use Rattle.brin_summarise.specs.declared.stage.Stage.{Stage}
 use Rattle.brin_summarise.specs.ShownHeap.{heap_of}
 use Rattle.index_steps.specs.IndexTuples.{shape_of}

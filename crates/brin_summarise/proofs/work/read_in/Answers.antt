@@ -1,4 +1,4 @@
-use Rattle.std.proofs.Common.{◌≡◌, ℕ, sym, subst}
+use Rattle.std.proofs.Common.{sym, subst}
 use Rattle.brin_summarise.specs.declared.stage.Stage.{Stage}
 use Rattle.brin_summarise.specs.ShownHeap.{heap_of}
 use Rattle.brin_summarise.specs.SummariseSteps.{StepsAt}

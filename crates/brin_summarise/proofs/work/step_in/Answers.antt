@@ -3,7 +3,7 @@ use Rattle.page_locks.specs.LockHolders.{holder}
 use Rattle.index_contents.specs.IndexContents.{relation_of}
 use Rattle.brin_summarise.specs.StageLocks.{held_at, taken_at}
 use Rattle.brin_summarise.specs.Works.{hand_of}
-use Rattle.brin_summarise.proofs.Locking.{never_rests, reads_give_none, reads_hold_none, same_apart, takes_none}
+use Rattle.brin_summarise.proofs.Locking.{as_few, never_rests, reads_give_none, reads_hold_none, same_apart, takes_none}
 use Rattle.brin_summarise.proofs.work.step_in.Goals as goal
 
 pub returns-in-Ok-clause-stepped : goal.returns-in-Ok-clause-stepped

@@ -17,11 +17,13 @@ use Rattle.range_tuple.specs.TupleBytes.{tuple_bytes}
 use Rattle.brin_insert.specs.declared.stage.Stage.{Stage}
 use Rattle.brin_insert.specs.declared.stage.Stage.TheVariants as stages
 use Rattle.brin_insert.specs.InsertHands.{InsertHand}
-use Rattle.brin_insert.specs.InsertSteps.{IsAtWork, Stepped, insert_at}
+use Rattle.brin_insert.specs.InsertSteps.{IsAtWork}
 use Rattle.index_steps.specs.ShownRows.{rows_in}
 use Rattle.brin_insert.specs.StepAnswers.{DamageAt}
-use Rattle.brin_insert.proofs.InTable.{blocked, finished, moved, row_stepped}
+use Rattle.brin_insert.proofs.InTable.{blocked, finished, moved, row_stepped, stepped_here}
 use Rattle.brin_insert.proofs.Numbers.{number_within}
+use Rattle.brin_insert.specs.InsertLocks.{held_by, stage_of, taken_by}
+use Rattle.brin_insert.proofs.OwnLocks.{given_there, no_more, no_stage_drops, none_held, own_complete, own_there, stage_there, taken_there}
 use Rattle.brin_insert.proofs.Outcomes.{index_full, index_names, index_next, index_others, machine_for}
 use Rattle.brin_insert.proofs.Reaching.{left_by}
 use Rattle.brin_insert.proofs.Tasks.{got_set, is_at_work, kept_at, left_with, made_then, made_with, number_there, own_then, range_is, same_numbers, task_stays, tuple_there, tuples_then, work_there}
@@ -129,7 +131,8 @@ returns-in-Ok-Moved-clause-stepped g c = λ tells blocks has.
     let came = rw c.in-Ok-Moved.field-0-is at c.in-Ok-Moved.ensures.stepped in
     moved c.an_insert_steps_in_its_table.ensures.steps c.an_insert_steps_in_its_table.ensures.waits store.layout store.pages c.step.new.pages.pages c.args.locks.now c.step.new.locks c.args.actor old _ x e next c.step.new.copied blocks
     c.requires.made c.in-Some.is got c.in-Some.is refl c.step.ensures.same_index has (c.step.ensures.others.pages tells) (c.step.ensures.others.indexes tells) c.step.ensures.locks
-    c.in-Ok-Moved.point (subst (λ (m : ℕ). Stepped (shape_of store.layout e.index) c.args.actor m old.row (insert_at store.layout store.pages c.args.locks.now e.index e.stage old.copied e.widened) (insert_at store.layout c.step.new.pages.pages c.step.new.locks e.index next.stage c.step.new.copied next.widened) (did.Moved c.in-Ok-Moved.point)) ranged (came tells old.row (sym c.as_slice-values.ensures.values)))
+    c.in-Ok-Moved.point (stepped_here store.layout store.pages c.step.new.pages.pages c.args.locks.now c.step.new.locks c.args.actor c.range_in-range.result (x.block / (index_at store.layout e.index).pages_per_range) old.row e next old.copied c.step.new.copied (did.Moved c.in-Ok-Moved.point)
+    c.step.ensures.same_index ranged (came tells old.row (sym c.as_slice-values.ensures.values)))
     refl refl found
 
 pub returns-in-Ok-Blocked-clause-stepped : goal.returns-in-Ok-Blocked-clause-stepped
@@ -146,7 +149,8 @@ returns-in-Ok-Blocked-clause-stepped g c = λ tells blocks has.
     let came = rw c.in-Ok-Blocked.field-0-is at c.in-Ok-Blocked.ensures.stepped in
     blocked c.an_insert_steps_in_its_table.ensures.steps c.an_insert_steps_in_its_table.ensures.waits store.layout store.pages c.step.new.pages.pages c.args.locks.now c.step.new.locks c.args.actor old _ x e next c.step.new.copied blocks
     c.requires.made c.in-Some.is got c.in-Some.is refl c.step.ensures.same_index has (c.step.ensures.others.pages tells) (c.step.ensures.others.indexes tells) c.step.ensures.locks
-    c.in-Ok-Blocked.held (subst (λ (m : ℕ). Stepped (shape_of store.layout e.index) c.args.actor m old.row (insert_at store.layout store.pages c.args.locks.now e.index e.stage old.copied e.widened) (insert_at store.layout c.step.new.pages.pages c.step.new.locks e.index next.stage c.step.new.copied next.widened) (did.Blocked c.in-Ok-Blocked.held)) ranged (came tells old.row (sym c.as_slice-values.ensures.values)))
+    c.in-Ok-Blocked.held (stepped_here store.layout store.pages c.step.new.pages.pages c.args.locks.now c.step.new.locks c.args.actor c.range_in-range.result (x.block / (index_at store.layout e.index).pages_per_range) old.row e next old.copied c.step.new.copied (did.Blocked c.in-Ok-Blocked.held)
+    c.step.ensures.same_index ranged (came tells old.row (sym c.as_slice-values.ensures.values)))
     refl refl found
 
 pub returns-in-Ok-Finished-clause-stepped : goal.returns-in-Ok-Finished-clause-stepped
@@ -164,7 +168,8 @@ returns-in-Ok-Finished-clause-stepped g c = λ tells blocks has.
     let came = rw c.in-Ok-Finished.field-0-is at c.in-Ok-Finished.ensures.stepped in
     finished c.an_insert_steps_in_its_table.ensures.steps c.an_insert_steps_in_its_table.ensures.waits store.layout store.pages c.step.new.pages.pages c.args.locks.now c.step.new.locks c.args.actor old c.reach-answer.new.self x e next c.step.new.copied blocks
     c.requires.made c.in-Some.is got (c.reach-answer.ensures.rest.1 ∙ c.in-Some.is) c.reach-answer.ensures.rest.0 c.step.ensures.same_index has (c.step.ensures.others.pages tells) (c.step.ensures.others.indexes tells) c.step.ensures.locks
-    c.in-Ok-Finished.point (subst (λ (m : ℕ). Stepped (shape_of store.layout e.index) c.args.actor m old.row (insert_at store.layout store.pages c.args.locks.now e.index e.stage old.copied e.widened) (insert_at store.layout c.step.new.pages.pages c.step.new.locks e.index next.stage c.step.new.copied next.widened) (did.Finished c.in-Ok-Finished.point)) ranged (came tells old.row (sym c.as_slice-values.ensures.values)))
+    c.in-Ok-Finished.point (stepped_here store.layout store.pages c.step.new.pages.pages c.args.locks.now c.step.new.locks c.args.actor c.range_in-range.result (x.block / (index_at store.layout e.index).pages_per_range) old.row e next old.copied c.step.new.copied (did.Finished c.in-Ok-Finished.point)
+    c.step.ensures.same_index ranged (came tells old.row (sym c.as_slice-values.ensures.values)))
     next_at (c.reach-answer.ensures.numbers ∙ same_numbers old.works.items old.at e next got c.step.ensures.same_index) c.reach-answer.result c.reach-answer.ensures.reached
 
 pub returns-in-Ok-Moved-clause-left : goal.returns-in-Ok-Moved-clause-left
@@ -374,3 +379,110 @@ returns-in-Ok-clause-left g c = left_by c.reach-did.new.self c.in-Ok.spot points
 pub returns-in-Ok-Finished-clause-left : goal.returns-in-Ok-Finished-clause-left
 returns-in-Ok-Finished-clause-left g c =
     left_by c.reach-answer.new.self c.in-Some.spot c.in-Ok-Finished.point c.reach-answer.result (c.reach-answer.ensures.rest.1 ∙ c.in-Some.is) c.reach-answer.ensures.reached
+
+pub step-requires-clause-locks : goal.step-requires-clause-locks
+step-requires-clause-locks g c = λ y is.
+    let old = c.args.self.now in
+    let x = c.in-Some.spot in
+    let e = c.index_mut-work.result.now in
+    let got = work_there old x e c.in-Some.is c.requires.left c.index_mut-work.ensures.value in
+    c.requires.locks y (stage_there old.place old.works.items old.at x e c.in-Some.is got ∙ ap Some is)
+
+pub returns-in-Ok-clause-counts : goal.returns-in-Ok-clause-counts
+returns-in-Ok-clause-counts g c = no_more (taken_by (stage_of c.args.self.now)) c.args.locks.now c.args.actor
+
+pub returns-in-Err-clause-counts : goal.returns-in-Err-clause-counts
+returns-in-Err-clause-counts g c = no_more (taken_by (stage_of c.args.self.now)) c.args.locks.now c.args.actor
+
+pub returns-in-Ok-clause-given : goal.returns-in-Ok-clause-given
+returns-in-Ok-clause-given g c = λ y is. absurd (no_stage_drops c.args.self.now y c.in-None.is is)
+
+pub returns-in-Ok-clause-own : goal.returns-in-Ok-clause-own
+returns-in-Ok-clause-own g c = none_held c.args.self.now c.args.locks.now c.args.actor (held_by (stage_of c.reach-did.new.self)) c.in-None.is
+
+pub returns-in-Ok-Moved-clause-counts : goal.returns-in-Ok-Moved-clause-counts
+returns-in-Ok-Moved-clause-counts g c =
+    let old = c.args.self.now in
+    let x = c.in-Some.spot in
+    let e = c.index_mut-work.result.now in
+    let got = work_there old x e c.in-Some.is c.requires.left c.index_mut-work.ensures.value in
+    taken_there old c.args.locks.now c.step.new.locks c.args.actor x e c.in-Some.is got c.step.ensures.counts
+
+pub returns-in-Ok-Blocked-clause-counts : goal.returns-in-Ok-Blocked-clause-counts
+returns-in-Ok-Blocked-clause-counts g c =
+    let old = c.args.self.now in
+    let x = c.in-Some.spot in
+    let e = c.index_mut-work.result.now in
+    let got = work_there old x e c.in-Some.is c.requires.left c.index_mut-work.ensures.value in
+    taken_there old c.args.locks.now c.step.new.locks c.args.actor x e c.in-Some.is got c.step.ensures.counts
+
+pub returns-in-Ok-Finished-clause-counts : goal.returns-in-Ok-Finished-clause-counts
+returns-in-Ok-Finished-clause-counts g c =
+    let old = c.args.self.now in
+    let x = c.in-Some.spot in
+    let e = c.index_mut-work.result.now in
+    let got = work_there old x e c.in-Some.is c.requires.left c.index_mut-work.ensures.value in
+    taken_there old c.args.locks.now c.step.new.locks c.args.actor x e c.in-Some.is got c.step.ensures.counts
+
+pub returns-in-Err-step-clause-counts : goal.returns-in-Err-step-clause-counts
+returns-in-Err-step-clause-counts g c =
+    let old = c.args.self.now in
+    let x = c.in-Some.spot in
+    let e = c.index_mut-work.result.now in
+    let got = work_there old x e c.in-Some.is c.requires.left c.index_mut-work.ensures.value in
+    taken_there old c.args.locks.now c.step.new.locks c.args.actor x e c.in-Some.is got c.step.ensures.counts
+
+pub returns-in-Ok-Moved-clause-given : goal.returns-in-Ok-Moved-clause-given
+returns-in-Ok-Moved-clause-given g c = λ y is.
+    let old = c.args.self.now in
+    let x = c.in-Some.spot in
+    let e = c.index_mut-work.result.now in
+    let got = work_there old x e c.in-Some.is c.requires.left c.index_mut-work.ensures.value in
+    given_there old.place old.works.items old.at x y e c.step.new.locks c.args.actor c.in-Some.is got c.in-Ok-Moved.ensures.given is
+
+pub returns-in-Ok-Blocked-clause-given : goal.returns-in-Ok-Blocked-clause-given
+returns-in-Ok-Blocked-clause-given g c = λ y is.
+    let old = c.args.self.now in
+    let x = c.in-Some.spot in
+    let e = c.index_mut-work.result.now in
+    let got = work_there old x e c.in-Some.is c.requires.left c.index_mut-work.ensures.value in
+    given_there old.place old.works.items old.at x y e c.step.new.locks c.args.actor c.in-Some.is got c.in-Ok-Blocked.ensures.given is
+
+pub returns-in-Ok-Finished-clause-given : goal.returns-in-Ok-Finished-clause-given
+returns-in-Ok-Finished-clause-given g c = λ y is.
+    let old = c.args.self.now in
+    let x = c.in-Some.spot in
+    let e = c.index_mut-work.result.now in
+    let got = work_there old x e c.in-Some.is c.requires.left c.index_mut-work.ensures.value in
+    given_there old.place old.works.items old.at x y e c.step.new.locks c.args.actor c.in-Some.is got c.in-Ok-Finished.ensures.given is
+
+pub returns-in-Ok-Moved-clause-own : goal.returns-in-Ok-Moved-clause-own
+returns-in-Ok-Moved-clause-own g c =
+    let old = c.args.self.now in
+    let x = c.in-Some.spot in
+    let e = c.index_mut-work.result.now in
+    let got = work_there old x e c.in-Some.is c.requires.left c.index_mut-work.ensures.value in
+    let next = c.step.new.self in
+    let below : old.at < length old.works.items = slice_get_within old.works.items old.at e got in
+    let found = got_set old.works.items old.at next below in
+    own_there old.place old.works.items (set old.works.items old.at next) old.at x e next c.args.locks.now c.step.new.locks c.args.actor c.in-Some.is got found c.in-Ok-Moved.ensures.own
+
+pub returns-in-Ok-Blocked-clause-own : goal.returns-in-Ok-Blocked-clause-own
+returns-in-Ok-Blocked-clause-own g c =
+    let old = c.args.self.now in
+    let x = c.in-Some.spot in
+    let e = c.index_mut-work.result.now in
+    let got = work_there old x e c.in-Some.is c.requires.left c.index_mut-work.ensures.value in
+    let next = c.step.new.self in
+    let below : old.at < length old.works.items = slice_get_within old.works.items old.at e got in
+    let found = got_set old.works.items old.at next below in
+    own_there old.place old.works.items (set old.works.items old.at next) old.at x e next c.args.locks.now c.step.new.locks c.args.actor c.in-Some.is got found c.in-Ok-Blocked.ensures.own
+
+pub returns-in-Ok-Finished-clause-own : goal.returns-in-Ok-Finished-clause-own
+returns-in-Ok-Finished-clause-own g c =
+    let old = c.args.self.now in
+    let x = c.in-Some.spot in
+    let e = c.index_mut-work.result.now in
+    let got = work_there old x e c.in-Some.is c.requires.left c.index_mut-work.ensures.value in
+    own_complete old.place old.works.items old.at x e c.step.new.self.stage c.args.locks.now c.step.new.locks c.args.actor (held_by (stage_of c.reach-answer.new.self)) c.in-Some.is got
+    (rw c.in-Ok-Finished.field-0-is at c.in-Ok-Finished.ensures.stands) c.in-Ok-Finished.ensures.own
