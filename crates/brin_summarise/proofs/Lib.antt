@@ -6,6 +6,13 @@ pub mod Adding
 pub mod Kept
 pub mod Faults
 pub mod Declared
+pub mod Coming
+pub mod Shown
+pub mod Settling
+pub mod Tables
+pub mod InTable
+pub mod Calls
 pub mod Exact
 pub mod Locking
 pub mod Joined
+pub mod KeptTable

@@ -1,0 +1,61 @@
+-- what a summarise has of a table that is kept
+use Rattle.std.proofs.Common.{◌≡◌, ℕ, List, Option, Some, refl, sym, ap, subst, ◌∙◌}
+use Rattle.std.specs.Prelude.{slice_get}
+use Rattle.std.proofs.lemmas.Option.{slice_get_within}
+use Rattle.store_layout.specs.DiskLayout.{DiskLayout}
+use Rattle.page_layout.specs.PageContents.{Slot}
+use Rattle.page_locks.specs.LockHolders.{LockState}
+use Rattle.page_store.specs.PageMap.{PageMap}
+use Rattle.coverage.specs.IndexView.{IsPastMap}
+use Rattle.coverage.specs.IsCovered.{IndexState, IsIndexKept, index_view}
+use Rattle.coverage.specs.Statements.{Holding, Maintaining, Phase, Statement}
+use Rattle.table_coverage.specs.Machines.{Unseen, table_state}
+use Rattle.table_coverage.specs.Table.{Maintains, Task, TableState, index_state, seen_by}
+use Rattle.table_coverage.specs.TableCovered.{IsTableKept}
+use Rattle.index_contents.specs.IndexContents.{IndexContents, contents}
+use Rattle.index_steps.specs.IndexTuples.{IndexShape, shape_of}
+use Rattle.index_steps.specs.ShownIndex.{Shows, lock_in}
+use Rattle.index_steps.specs.ShownRows.{shown_by}
+use Rattle.index_steps.specs.ShownTable.{indexes_of}
+use Rattle.brin_summarise.specs.declared.course.Standing.TheVariants as standings
+use Rattle.brin_summarise.specs.declared.stage.Stage.TheVariants as stages
+use Rattle.brin_summarise.specs.StepCauses.{DamageAt, IsReady}
+use Rattle.brin_summarise.specs.SummariseHands.{SummariseHand, table_of}
+use Rattle.brin_summarise.specs.SummariseSteps.{phase_of}
+use Rattle.brin_summarise.specs.Summarises.{DamageIn, ReadyAt, SummariseState, in_range_of}
+use Rattle.brin_summarise.specs.TableSteps.{task_at, task_of}
+use Rattle.brin_summarise.proofs.Settling.{pick_same}
+use Rattle.brin_summarise.proofs.Shown.{shows_here}
+
+-- what the laws of one index say
+abbrev pub TakesReady : Type 0
+TakesReady = (shape : IndexShape) (c : IndexContents) (lock : ℕ → Option ℕ) (w : IndexState) (s range : ℕ) (hand : SummariseHand) → Shows shape c lock (index_view w) → IsIndexKept w
+    → w.statement s ≡ Maintaining range (phase_of shape hand) → (hand.stage ≡ stages.Place → IsPastMap c.pages range → ⊥) → IsReady shape c range hand.stage
+
+abbrev pub TakesSound : Type 0
+TakesSound = (shape : IndexShape) (c : IndexContents) (lock : ℕ → Option ℕ) (w : IndexState) (s range : ℕ) (hand : SummariseHand) → Shows shape c lock (index_view w) → IsIndexKept w
+    → w.statement s ≡ Maintaining range (phase_of shape hand) → DamageAt shape c range hand.stage → ⊥
+
+module _ (layout : DiskLayout) (pages : PageMap) (locks : LockState) (blocks : List (List Slot)) (s at : ℕ) (a : SummariseState) (u : Unseen) (there : slice_get (indexes_of layout (table_of layout a.index)) at ≡ Some a.index)
+    (task : u.task s ≡ task_of layout at a) (kept : IsTableKept (table_state (shown_by layout pages locks (table_of layout a.index) blocks) u)) where
+  abbrev w : TableState
+  w = table_state (shown_by layout pages locks (table_of layout a.index) blocks) u
+
+  abbrev phase : Phase
+  phase = phase_of (shape_of layout a.index) a.hand
+
+  index_kept : IsIndexKept (index_state at w)
+  index_kept = kept.indexes at (slice_get_within (indexes_of layout (table_of layout a.index)) at a.index there)
+
+  shows : Shows (shape_of layout a.index) (contents layout pages a.index) (lock_in layout locks a.index) (index_view (index_state at w))
+  shows = shows_here layout pages locks blocks a.index at there u
+
+  statement_is : a.standing ≡ standings.AtRange → seen_by at (u.task s) ≡ Maintaining a.range phase
+  statement_is is =
+      ap (λ (t : Task). seen_by at t) (task ∙ ap (task_at layout at a) is) ∙ pick_same at (Maintaining a.range phase) Holding
+
+  pub ready_there : TakesReady → (a.hand.stage ≡ stages.Place → IsPastMap (contents layout pages a.index).pages a.range → ⊥) → ReadyAt layout pages a
+  ready_there takes long is = takes (shape_of layout a.index) (contents layout pages a.index) (lock_in layout locks a.index) (index_state at w) s a.range a.hand shows index_kept (statement_is is) long
+
+  pub sound_there : TakesSound → DamageIn layout pages a → ⊥
+  sound_there takes damage = takes (shape_of layout a.index) (contents layout pages a.index) (lock_in layout locks a.index) (index_state at w) s a.range a.hand shows index_kept (statement_is damage.0) damage.1

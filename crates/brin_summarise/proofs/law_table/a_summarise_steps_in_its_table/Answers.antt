@@ -1,0 +1,14 @@
+use Rattle.brin_summarise.specs.Summarises.{count_of}
+use Rattle.brin_summarise.proofs.InTable.{does_in_table, full_in_table, tells_count}
+use Rattle.brin_summarise.proofs.law_table.a_summarise_steps_in_its_table.Goals as goal
+
+pub returns-clause-steps : goal.returns-clause-steps
+returns-clause-steps c = λ step at a b answer there of rest does.
+    does_in_table c.a_table_steps_with_its_index.ensures.maintain_goes c.a_table_steps_with_its_index.ensures.maintain_completes c.machines_in_one_index.ensures.maintain_knows
+    c.a_table_steps_with_its_index.ensures.here c.a_table_steps_with_its_index.ensures.others step at a b answer there of rest does
+
+pub returns-clause-full : goal.returns-clause-full
+returns-clause-full c = λ layout pages locks blocks s at number a there full. full_in_table layout pages locks blocks s at number a there full
+
+pub returns-clause-counted : goal.returns-clause-counted
+returns-clause-counted c = λ a b count account counted told. tells_count a.standing (count_of a) count (count_of b) account counted told

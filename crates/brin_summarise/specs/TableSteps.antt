@@ -1,0 +1,101 @@
+-- what a step of a summarise is in the table of its index
+use Rattle.std.specs.Prelude.{◌≡◌, ◌≢◌, ℕ, ◌+◌, ◌/◌, Option, Some, None}
+use Rattle.block_model.specs.declared.reply.Point.{Point}
+use Rattle.store_layout.specs.DiskLayout.{DiskLayout}
+use Rattle.page_locks.specs.declared.did.Did.{Did}
+use Rattle.page_locks.specs.declared.did.Did.TheVariants as did
+use Rattle.page_locks.specs.LockHolders.{holder}
+use Rattle.page_locks.specs.RightHolders.{right_of}
+use Rattle.table_coverage.specs.Accounts.{Account, no_account}
+use Rattle.table_coverage.specs.InOneIndex.{DoesAt, with_ranges}
+use Rattle.table_coverage.specs.Machines.{ShownTable, Unseen, table_state, task_turned}
+use Rattle.table_coverage.specs.Refusals.{IsTaskFull}
+use Rattle.table_coverage.specs.Table.{EachRange, Job, Maintains, OneRange, Resting, Task}
+use Rattle.table_coverage.specs.TableCovered.{IsTableKept}
+use Rattle.table_coverage.specs.TablePoints.{PageLock, SummariseLock, WaitedFor, waits_for}
+use Rattle.table_coverage.specs.TableSteps.{IsBlocked, Settles}
+use Rattle.index_contents.specs.IndexContents.{contents, relation_of}
+use Rattle.index_steps.specs.IndexTuples.{shape_of}
+use Rattle.index_steps.specs.ShownRows.{shown_by}
+use Rattle.index_steps.specs.SwapAnswers.{LeavesLocks}
+use Rattle.brin_summarise.specs.declared.course.Standing.{Standing}
+use Rattle.brin_summarise.specs.declared.course.Standing.TheVariants as standings
+use Rattle.brin_summarise.specs.declared.wish.Wish.{Wish}
+use Rattle.brin_summarise.specs.declared.wish.Wish.TheVariants as wishes
+use Rattle.brin_summarise.specs.SummariseHands.{table_of}
+use Rattle.brin_summarise.specs.SummariseSteps.{phase_of}
+use Rattle.brin_summarise.specs.Summarises.{StoreStep, SummariseState, count_of, in_range_of}
+
+-- the ranges that are asked for, as a maintenance statement's
+abbrev pub job_of : Wish → (in_range extent : ℕ) → Job
+job_of wishes.New in_range extent = EachRange extent
+job_of (wishes.Block block) in_range extent = OneRange extent (block / in_range)
+
+-- What the summarise is at, with its index at that place among the table's: nothing before its first step, and once it is done; else its
+-- range.
+abbrev pub task_at : DiskLayout → (at : ℕ) → SummariseState → Standing → Task
+task_at layout at a standings.Begins = Resting
+task_at layout at a standings.AtRange = Maintains (job_of a.wish (in_range_of layout a.index) a.extent) at a.range (phase_of (shape_of layout a.index) a.hand)
+task_at layout at a standings.Done = Resting
+
+abbrev pub task_of : DiskLayout → (at : ℕ) → SummariseState → Task
+task_of layout at a = task_at layout at a a.standing
+
+-- a statement begins with an empty account, and each later step adds the ranges that it counts
+abbrev pub account_by : Standing → (count : ℕ) → Account → Account
+account_by standings.Begins count account = no_account
+account_by standing count account = with_ranges count account
+
+-- with the first step nothing is counted, and each later one adds what it counts
+abbrev pub HasCounted : Standing → (before count after : ℕ) → Type 0
+HasCounted standings.Begins before count after = after ≡ 0
+HasCounted standing before count after = after ≡ before + count
+
+-- what the pages and locks don't show, with the summarise lock held so
+abbrev pub lock_turned : Option ℕ → Unseen → Unseen
+lock_turned held u = record u { summarise_lock = held }
+
+-- Whatever pages and locks don't show, and with the summarise lock held so, this is a step of the table: the session comes from one task to
+-- the other, under this point, with this made of its account; and it holds the summarise lock until it replies.
+abbrev pub SummariseGoesTo : (s : ℕ) → (old new : ShownTable) → (held held_then : Option ℕ) → (before after : Task) → Point → (Account → Account) → Type 0
+SummariseGoesTo s old new held held_then before after point account = (u : Unseen) → u.task s ≡ before → u.summarise_lock ≡ held → IsTableKept (table_state old u)
+    → (between : Task) × DoesAt s (table_state old u) (table_state new (lock_turned (Some s) (task_turned s between u))) point account
+    × Settles s (table_state new (lock_turned (Some s) (task_turned s between u))) (table_state new (lock_turned held_then (task_turned s after u)))
+
+-- it waits, for this
+abbrev pub SummariseWaitsFor : (s : ℕ) → ShownTable → (held : Option ℕ) → Task → WaitedFor → Type 0
+SummariseWaitsFor s shown held task what = (u : Unseen) → u.task s ≡ task → u.summarise_lock ≡ held → IsTableKept (table_state shown u)
+    → (blocked : IsBlocked (table_state shown u) s task) × (waits_for (table_state shown u) s task blocked ≡ what)
+
+-- no page of its index is left for the tuple that it has to put, of so many
+abbrev pub IsSummariseFull : (s at : ℕ) → ShownTable → Task → (number : ℕ) → Type 0
+IsSummariseFull s at shown task number = (u : Unseen) → u.task s ≡ task → IsTableKept (table_state shown u) → IsTaskFull (table_state shown u) s task at number
+
+-- A step that goes on, or replies, counts the ranges that it gives a final tuple; one that waits tells for what.
+abbrev pub SummariseDid : (s at : ℕ) → (old new : ShownTable) → (held : Option ℕ) → DiskLayout → (a b : SummariseState) → Did → Type 0
+SummariseDid s at old new held layout a b (did.Moved point) = (count : ℕ) × HasCounted a.standing (count_of a) count (count_of b)
+    × SummariseGoesTo s old new held (Some s) (task_of layout at a) (task_of layout at b) point (account_by a.standing count)
+SummariseDid s at old new held layout a b (did.Finished point) = (count : ℕ) × HasCounted a.standing (count_of a) count (count_of b)
+    × SummariseGoesTo s old new held None (task_of layout at a) (task_of layout at b) point (account_by a.standing count)
+SummariseDid s at old new held layout a b (did.Blocked waited) =
+    SummariseWaitsFor s old held (task_of layout at a) (PageLock at waited.page.block) × (task_of layout at b ≡ task_of layout at a)
+SummariseDid s at old new held layout a b (did.NoRight by) =
+    SummariseWaitsFor s old held (task_of layout at a) SummariseLock × (held ≡ Some by) × (by ≢ s) × (b ≡ a)
+
+-- a step leaves the other indexes, and the locks of other relations but for the actor's own
+pub record LeavesTheRest (step : StoreStep) (index : ℕ) : Type 0 where
+  pub others : (other : ℕ) → other ≢ index → contents step.layout step.paged other ≡ contents step.layout step.pages other
+  pub locks : LeavesLocks (holder step.locks) (holder step.locked) (relation_of step.layout index) step.actor
+
+-- what the pages and locks of the table show before a step, and after it; and who holds its summarise lock before
+abbrev pub shown_before : StoreStep → (table : ℕ) → ShownTable
+shown_before step table = shown_by step.layout step.pages step.locks table step.blocks
+
+abbrev pub shown_after : StoreStep → (table : ℕ) → ShownTable
+shown_after step table = shown_by step.layout step.paged step.locked table step.blocks
+
+-- so it is of the table of its index, whose pages and locks they are
+abbrev pub DoesInTable : StoreStep → (at : ℕ) → (a b : SummariseState) → Did → Type 0
+DoesInTable step at a b answer =
+    SummariseDid step.actor at (shown_before step (table_of step.layout a.index)) (shown_after step (table_of step.layout a.index))
+    (right_of step.rights (table_of step.layout a.index)) step.layout a b answer
