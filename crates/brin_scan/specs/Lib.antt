@@ -6,5 +6,5 @@ pub mod ScanAnswers
 pub mod IndexReaders
 pub mod Explains
 pub mod Finds
-pub mod LawfulIndexes
+pub mod ReadableIndexes
 pub mod Judgings
