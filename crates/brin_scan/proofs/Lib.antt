@@ -15,3 +15,4 @@ pub mod Ordered
 pub mod VisibleRows
 pub mod Behind
 pub mod Next
+pub mod Honest
