@@ -8,3 +8,4 @@ pub mod Explains
 pub mod Finds
 pub mod LawfulIndexes
 pub mod Judgings
+pub mod LastStatuses

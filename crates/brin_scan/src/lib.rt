@@ -10,6 +10,7 @@ mod laws;
 mod ranges;
 mod readers;
 mod scan;
+mod sight;
 mod stage;
 
 pub use explain::Explain;
