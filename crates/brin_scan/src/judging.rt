@@ -17,7 +17,7 @@ ghost use Rattle.brin_scan.specs.ScanSteps.{JudgesTo};
 use crate::ranges::{begin_with, first_range, leave_out, next_range};
 use crate::readers::{IndexReader, readers_of};
 use crate::stage::Stage;
-use block_model::{Cond, Conds, NoMemory, Query, Spot};
+use block_model::{Cond, NoMemory, Query, Spot};
 use disk_trait::Disk;
 use engine_pages::PageStore;
 use heap_rows::blocks;
@@ -65,10 +65,9 @@ impl Model for Judging {
 
 impl Judging {
     /// Before the first step. Takes all the memory that judging ever needs.
-    pub(crate) fn new(alloc: Global, query: &Query, layout: &Layout) -> Result<Judging, NoMemory>
-        ensures begins { IfOk result (λ judging. judging ≡ first_hand layout.now query.now) }
+    pub(crate) fn new(alloc: Global, query: Query, layout: &Layout) -> Result<Judging, NoMemory>
+        ensures begins { IfOk result (λ judging. judging ≡ first_hand layout.now query) }
     {
-        let query = copy_of(alloc, query)?;
         let readers = readers_of(alloc, layout, query.table)?;
         let copied = Scratch::new(alloc)?;
         let blocks = layout.sizes().heap_blocks as usize;
@@ -329,18 +328,4 @@ fn read_tuple<D: Disk + Drop>(
     } else {
         Ok(Judged::LeftOut)
     }
-}
-
-/// A copy of the query.
-fn copy_of(alloc: Global, query: &Query) -> Result<Query, NoMemory>
-    ensures { IfOk result (λ copy. copy ≡ query.now) }
-{
-    let mut conds = Conds::new(alloc);
-    'conds: for cond in query.conds.as_slice() {
-        conds.push(*cond)?;
-    }
-    Ok(Query {
-        table: query.table,
-        conds,
-    })
 }

@@ -55,12 +55,12 @@ impl Model for Scan {
 impl Scan {
     /// Before the first step of a scan for a query of a table of the layout. Takes all the memory that it needs but that of the rows which it
     /// finds.
-    pub fn new(alloc: Global, query: &Query, layout: &Layout) -> Result<Scan, NoMemory>
-        requires table { query.now.table < length layout.now.schema.tables }
-        ensures begins { IfOk result (λ scan. scan ≡ first_find (first_hand layout.now query.now) (slots_a_page layout.now query.now.table)) }
+    pub fn new(alloc: Global, query: Query, layout: &Layout) -> Result<Scan, NoMemory>
+        requires table { query.table < length layout.now.schema.tables }
+        ensures begins { IfOk result (λ scan. scan ≡ first_find (first_hand layout.now query) (slots_a_page layout.now query.table)) }
     {
-        let judging = Judging::new(alloc, query, layout)?;
         let table = usize::from(query.table);
+        let judging = Judging::new(alloc, query, layout)?;
         let rows = PageRows::new(alloc, &layout.schema().tables.as_slice()[table])?;
         Ok(Scan {
             judging,
