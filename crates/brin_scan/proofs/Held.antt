@@ -1,5 +1,6 @@
 -- statuses that were read, before and after a call that changes no page
-use Rattle.std.proofs.Common.{◌≡◌, ℕ, List, None, refl, sym, subst, ◌∙◌}
+use Rattle.std.proofs.Common.{◌≡◌, ℕ, List, refl, sym, subst, ◌∙◌, arith}
+use Rattle.std.specs.Prelude.{None}
 use Rattle.disk_trait.specs.Told.{Told}
 use Rattle.page_store.specs.Keeps.{Keeps}
 use Rattle.page_store.specs.PageMap.{PageMap, View}
@@ -23,3 +24,7 @@ module _ {D : Type 0} (told : D → Told) (old new : View D) (kept : Keeps told 
 -- at first nothing is held
 pub none_held : (status : ℕ → Status) (last : LastStatuses) → last ≡ record { put = None; gone = None } → AreHeld status last
 none_held status last is = subst (AreHeld status) (sym is) (record { put = tt; gone = tt })
+
+-- before any call a store is as it is
+pub keeps_same : {D : Type 0} (told : D → Told) (store : View D) → Keeps told store store
+keeps_same told store = record { leaves = record { layout = refl; tells = refl; faults = omega arith }; pages = λ tells. refl }

@@ -9,3 +9,4 @@ pub mod Finds
 pub mod LawfulIndexes
 pub mod Judgings
 pub mod LastStatuses
+pub mod ScanLaws
