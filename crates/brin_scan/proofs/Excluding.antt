@@ -38,7 +38,7 @@ kinds_same layout table n is =
     ap (λ (t : ℕ). map (λ (c : Column). c.kind) (columns_in (slice_get layout.schema.tables t))) is ∙ ap (map (λ (c : Column). c.kind)) (columns_same layout.schema.tables table)
 
 -- a row of values of these kinds has its own
-own_values : (shape : IndexShape) (r : Row) → are_values (kinds_of shape) r.values ≡ true → row_values shape r ≡ r.values
+pub own_values : (shape : IndexShape) (r : Row) → are_values (kinds_of shape) r.values ≡ true → row_values shape r ≡ r.values
 unfolding row_values
 own_values shape r is = ap (λ (b : Bool). if b then r.values else map (λ (kind : Kind). Null) (kinds_of shape)) is
 
