@@ -1,5 +1,5 @@
 #!/usr/bin/env python3
-"""Times selects over rows on pages in memory: scan_rows.py. No part of the gate.
+"""Times selects on a store over a disk in memory, all of whose pages have frames: scan_rows.py. No part of the gate.
 
 Builds a small program over brin_scan in a copy of the crates by LLVM at -O2, and runs it five times. The program isn't proved, so it
 has the checks of `rt try` in it, and a proved one is somewhat faster. Tells the best time for a row of a select that finds all rows, where
@@ -17,7 +17,7 @@ from range_tuples import KIT, TRY, toolchain
 
 TOP = os.path.dirname(os.path.dirname(os.path.abspath(__file__)))
 ROWS = 108_800
-NEEDED = "scan_bench: block_model store_layout snapshot_core disk_trait page_locks engine_pages heap_rows tx_table brin_scan\n"
+NEEDED = "scan_bench: block_model store_layout snapshot_core disk_trait page_locks store_format engine_pages heap_rows tx_table brin_scan\n"
 CALLS = ["a row of one transaction", "a row of two by turns", "a row that isn't found"]
 
 MAIN = """//! Times selects.
@@ -35,6 +35,7 @@ use snapshot_core::Snapshot;
 use std::alloc::Global;
 use std::io;
 use std::time::Instant;
+use store_format::format;
 use store_layout::Layout;
 use tx_table::TxTable;
 
@@ -72,12 +73,13 @@ fn store(alloc: Global) -> Option<PageStore<SteadyDisk>> {
         heap_blocks: 400,
         index_blocks: 3,
         status_blocks: 1,
-        log_pages: 16,
-        frames: 16,
+        log_pages: 8192,
+        frames: 1024,
     };
     let layout = Layout::new(schema, sizes).ok()?;
-    let disk = SteadyDisk::new(alloc, 0).ok()?;
-    PageStore::plain(alloc, disk, layout).ok()
+    let mut disk = SteadyDisk::new(alloc, layout.disk_size()).ok()?;
+    format(&mut disk, &layout).ok()?;
+    PageStore::start(alloc, disk).ok()
 }
 
 /// Puts the rows of the table, by the two transactions in turn.
