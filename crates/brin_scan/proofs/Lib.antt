@@ -3,6 +3,8 @@ pub mod InTable
 pub mod Onwards
 pub mod JudgedRanges
 pub mod Excluding
+pub mod StoredValues
+pub mod Held
 pub mod FoundRows
 pub mod Reading
 pub mod Stepping

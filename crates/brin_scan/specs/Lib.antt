@@ -8,3 +8,5 @@ pub mod Explains
 pub mod Finds
 pub mod ReadableIndexes
 pub mod Judgings
+pub mod LastStatuses
+pub mod ScanLaws

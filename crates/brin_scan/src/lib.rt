@@ -11,6 +11,7 @@ mod laws;
 mod ranges;
 mod readers;
 mod scan;
+mod sight;
 mod stage;
 
 pub use explain::Explain;
