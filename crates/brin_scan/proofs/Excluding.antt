@@ -21,7 +21,7 @@ use Rattle.range_tuple.specs.IncludedRows.{tuple_includes}
 use Rattle.range_tuple.specs.Keeps.{keeps}
 use Rattle.range_tuple.specs.TupleReading.{tuple_in}
 use Rattle.range_tuple.specs.Tuples.{Tuple}
-use Rattle.index_steps.specs.IndexTuples.{IndexShape, classes_of, have_kinds, index_at, kinds_of, row_values, seen, seen_as, shape_of}
+use Rattle.index_steps.specs.IndexTuples.{IndexShape, are_values, classes_of, index_at, kinds_of, row_values, seen, seen_as, shape_of}
 use Rattle.index_steps.specs.Readings.{IsReadAs}
 use Rattle.brin_scan.specs.Judgings.{ExcludesMatches}
 use Rattle.brin_scan.specs.TableScans.{is_match}
@@ -37,8 +37,8 @@ unfolding shape_of
 kinds_same layout table n is =
     ap (λ (t : ℕ). map (λ (c : Column). c.kind) (columns_in (slice_get layout.schema.tables t))) is ∙ ap (map (λ (c : Column). c.kind)) (columns_same layout.schema.tables table)
 
--- a row of these kinds has its own values
-own_values : (shape : IndexShape) (r : Row) → have_kinds (kinds_of shape) r.values ≡ true → row_values shape r ≡ r.values
+-- a row of values of these kinds has its own
+pub own_values : (shape : IndexShape) (r : Row) → are_values (kinds_of shape) r.values ≡ true → row_values shape r ≡ r.values
 unfolding row_values
 own_values shape r is = ap (λ (b : Bool). if b then r.values else map (λ (kind : Kind). Null) (kinds_of shape)) is
 
@@ -61,8 +61,8 @@ module _ (layout : DiskLayout) (query : Query) (n : ℕ) (of : (index_at layout 
 
   none_included : (r : Row) → IsTrue ((seen shape bytes).includes r) → IsTrue (is_match layout query r) → ⊥
   none_included r included matches =
-      let parts = and_parts (have_kinds (kinds_at layout query.table) r.values) _ matches in
-      let kinds : have_kinds (kinds_of shape) r.values ≡ true = ap (λ (ks : List Kind). have_kinds ks r.values) (kinds_same layout query.table n of) ∙ parts.0 in
+      let parts = and_parts (are_values (kinds_at layout query.table) r.values) _ matches in
+      let kinds : are_values (kinds_of shape) r.values ≡ true = ap (λ (ks : List Kind). are_values ks r.values) (kinds_same layout query.table n of) ∙ parts.0 in
       let own : tuple_includes t r.values ≡ true =
       sym (ap (tuple_includes t) (own_values shape r kinds)) ∙ sym (ap (λ (v : IndexTuple). v.includes r) (seen_read shape bytes t read)) ∙ included in
       false≢true (sym (misses r.values own) ∙ (and_parts (r.table == query.table) _ parts.1).1)

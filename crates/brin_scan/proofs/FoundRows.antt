@@ -9,21 +9,21 @@ use Rattle.block_model.specs.declared.place.Spot.{Spot}
 use Rattle.block_model.specs.declared.row.Query.{Query}
 use Rattle.block_model.specs.declared.row.Row.{Row}
 use Rattle.block_model.specs.declared.value.Kind.{Kind}
-use Rattle.block_model.specs.declared.value.Value.{Value}
 use Rattle.block_model.specs.RowMatches.{row_matches}
 use Rattle.store_layout.specs.DiskLayout.{DiskLayout}
 use Rattle.page_layout.specs.PageContents.{AreSlots, Slot}
-use Rattle.page_layout.specs.RowBytes.{HaveKinds, StoredRow}
+use Rattle.page_layout.specs.RowBytes.{StoredRow}
 use Rattle.page_store.specs.PageMap.{PageMap}
 use Rattle.heap_rows.specs.declared.rows.Stored.{Stored}
 use Rattle.heap_rows.specs.Heaps.{kinds_at}
 use Rattle.heap_rows.specs.HeapBlocks.{HasBlocks, slots_of}
 use Rattle.heap_rows.specs.RowPlaces.{slot_at}
 use Rattle.heap_rows.specs.StoredRows.{row_of, stored_from, stored_in, stored_rows}
-use Rattle.index_steps.specs.IndexTuples.{have_kinds}
+use Rattle.index_steps.specs.IndexTuples.{are_values}
 use Rattle.brin_scan.specs.Finds.{Sight, found_at, is_found, is_visible_match, sees_stored, visible_matches}
 use Rattle.index_steps.specs.ShownRows.{row_in, rows_in}
 use Rattle.brin_scan.specs.TableScans.{is_match}
+use Rattle.brin_scan.proofs.StoredValues.{values_are}
 
 -- a test of what is made of those that pass another
 made_by : {X Y : Type 0} (q : Y → Bool) (f : X → Y) (g : X → Bool) (x : X) (xs : List X) → list_any q (map f (filter g xs)) ≡ list_any (λ y. g y && q (f y)) xs → (b : Bool)
@@ -82,18 +82,12 @@ from_stored p (Some row ∷ slots) least is = elim (either_true (p (stored_in le
   | inr more ↦ later p (Some row) slots least (from_stored p slots (least + 1) more)
 ]
 
--- rows on pages have the kinds of the table's columns
-kinds_tested : (kinds : List Kind) (values : List Value) → HaveKinds kinds values → have_kinds kinds values ≡ true
-kinds_tested [] [] have = refl
-kinds_tested [] (v ∷ values) have = absurd have
-kinds_tested (kind ∷ kinds) [] have = absurd have
-kinds_tested (kind ∷ kinds) (v ∷ values) have = and_true _ _ have.0 (kinds_tested kinds values have.1)
-
-kinds_in : (kinds : List Kind) (slots : List Slot) (k : ℕ) (row : StoredRow) → AreSlots kinds slots → slice_index_or slots k None ≡ Some row → have_kinds kinds row.values ≡ true
-kinds_in kinds [] k row are is = absurd (none-some row is)
-kinds_in kinds (None ∷ slots) zero row are is = absurd (none-some row is)
-kinds_in kinds (Some first ∷ slots) zero row are is = subst (λ (r : StoredRow). have_kinds kinds r.values ≡ true) (same_Some first row is) (kinds_tested kinds first.values are.0.columns)
-kinds_in kinds (slot ∷ slots) (suc k) row are is = kinds_in kinds slots k row are.1 is
+-- rows on pages have values of their table
+values_in : (kinds : List Kind) (slots : List Slot) (k : ℕ) (row : StoredRow) → AreSlots kinds slots → slice_index_or slots k None ≡ Some row → are_values kinds row.values ≡ true
+values_in kinds [] k row are is = absurd (none-some row is)
+values_in kinds (None ∷ slots) zero row are is = absurd (none-some row is)
+values_in kinds (Some first ∷ slots) zero row are is = subst (λ (r : StoredRow). are_values kinds r.values ≡ true) (same_Some first row is) (values_are kinds first.values are.0.columns are.0.values)
+values_in kinds (slot ∷ slots) (suc k) row are is = values_in kinds slots k row are.1 is
 
 -- blocks behind the last have no slots
 slots_none : (blocks : List (List Slot)) (b k : ℕ) (row : StoredRow) → slice_index_or (slots_of blocks b) k None ≡ Some row → b < length blocks
@@ -101,9 +95,9 @@ slots_none [] b k row is = absurd (none-some row is)
 slots_none (slots ∷ blocks) zero k row is = omega arith
 slots_none (slots ∷ blocks) (suc b) k row is = omega (arith, slots_none blocks b k row is)
 
-pub kinds_there : (layout : DiskLayout) (pages : PageMap) (table : ℕ) (blocks : List (List Slot)) (b k : ℕ) (row : StoredRow) → HasBlocks layout pages table blocks
-    → slot_at blocks (record { block = b; slot = k }) ≡ Some row → have_kinds (kinds_at layout table) row.values ≡ true
-kinds_there layout pages table blocks b k row has is = kinds_in (kinds_at layout table) (slots_of blocks b) k row (has.started b (slots_none blocks b k row is)).are is
+pub values_there : (layout : DiskLayout) (pages : PageMap) (table : ℕ) (blocks : List (List Slot)) (b k : ℕ) (row : StoredRow) → HasBlocks layout pages table blocks
+    → slot_at blocks (record { block = b; slot = k }) ≡ Some row → are_values (kinds_at layout table) row.values ≡ true
+values_there layout pages table blocks b k row has is = values_in (kinds_at layout table) (slots_of blocks b) k row (has.started b (slots_none blocks b k row is)).are is
 
 -- a row of the table is that of a slot
 pub slot_of_row : (table : ℕ) (slot : Slot) (r : Row) → row_in table slot ≡ Some r → (row : StoredRow) × (slot ≡ Some row) × (r ≡ record { table = table; id = row.id; values = row.values })

@@ -27,7 +27,7 @@ use Rattle.index_steps.specs.IndexTuples.{IndexShape, index_at, seen, shape_of}
 use Rattle.index_steps.specs.Readings.{ShowsGone}
 use Rattle.index_steps.specs.ShownIndex.{lock_in}
 use Rattle.index_steps.specs.ShownTable.{indexes_of}
-use Rattle.brin_scan.specs.Judgings.{IsJudged, IsTupleThere}
+use Rattle.brin_scan.specs.Judgings.{SaysOfRange, IsTupleThere}
 use Rattle.brin_scan.specs.declared.judging.Judged.TheVariants as verdicts
 use Rattle.brin_scan.specs.NextRanges.{AreBelow, LeavesOut, first_range, range_from}
 use Rattle.brin_scan.specs.ScanHands.{IsAtRange, ScanHand, ScannedIndex, is_candidate, scanned_at, scanned_index, scanned_indexes}
@@ -158,7 +158,7 @@ module _ (layout : DiskLayout) (pages : PageMap) (query : Query) (indexes : List
 
     module _ (x : Spot) (old_candidates : List Bool) where
       -- no tuple of the range stands there
-      pub gone : IsJudged (shape_of layout (scanned_at indexes at).number) (contents layout pages (scanned_at indexes at).number) range x query.conds verdicts.Gone
+      pub gone : SaysOfRange (shape_of layout (scanned_at indexes at).number) (contents layout pages (scanned_at indexes at).number) range x query.conds verdicts.Gone
           → JudgesTo layout pages (hand query indexes extent (stages.Tuple at range x) old_candidates) (hand query indexes extent (stages.Map at range) old_candidates)
       gone none s locks blocks beside u has task begin =
           let old : TableScan = table_scan layout (hand query indexes extent (stages.Tuple at range x) old_candidates) beside in
@@ -169,7 +169,7 @@ module _ (layout : DiskLayout) (pages : PageMap) (query : Query) (indexes : List
           (beside.judged, record { done = new; does = judges s locks blocks u old new at_one.0 at_one.1 (JudgeGone x refl (is_gone (lock_in layout locks there.n) (index_view_at at (w s locks blocks u)) shows)) task; same = refl; onward = λ next onward. onward })
 
       -- the tuple keeps the conditions
-      pub kept : IsJudged (shape_of layout (scanned_at indexes at).number) (contents layout pages (scanned_at indexes at).number) range x query.conds verdicts.Kept
+      pub kept : SaysOfRange (shape_of layout (scanned_at indexes at).number) (contents layout pages (scanned_at indexes at).number) range x query.conds verdicts.Kept
           → JudgesTo layout pages (hand query indexes extent (stages.Tuple at range x) old_candidates) (hand query indexes extent (range_from indexes extent at (range + 1)) old_candidates)
       kept (t, stands, keeps_it) s locks blocks beside u has task begin =
           let old : TableScan = table_scan layout (hand query indexes extent (stages.Tuple at range x) old_candidates) beside in
@@ -182,7 +182,7 @@ module _ (layout : DiskLayout) (pages : PageMap) (query : Query) (indexes : List
           (judged_with old true, settles s locks blocks u base at range at_one.0 points.Tuple (λ account. account) (judges s locks blocks u old (at_range base at (suc range)) at_one.0 at_one.1 step task))
 
       -- it doesn't: the blocks of the range are left out
-      pub left_out : (new_candidates : List Bool) → IsJudged (shape_of layout (scanned_at indexes at).number) (contents layout pages (scanned_at indexes at).number) range x query.conds verdicts.LeftOut
+      pub left_out : (new_candidates : List Bool) → SaysOfRange (shape_of layout (scanned_at indexes at).number) (contents layout pages (scanned_at indexes at).number) range x query.conds verdicts.LeftOut
           → LeavesOut (scanned_at indexes at).pages_per_range range old_candidates new_candidates
           → JudgesTo layout pages (hand query indexes extent (stages.Tuple at range x) old_candidates) (hand query indexes extent (range_from indexes extent at (range + 1)) new_candidates)
       left_out new_candidates (t, stands, drops, misses) leaves s locks blocks beside u has task begin =

@@ -3,9 +3,12 @@ pub mod InTable
 pub mod Onwards
 pub mod JudgedRanges
 pub mod Excluding
+pub mod StoredValues
+pub mod Held
 pub mod FoundRows
 pub mod Reading
 pub mod Stepping
+pub mod Seen
 pub mod Explaining
 pub mod Finding
 pub mod Lawful
@@ -15,3 +18,4 @@ pub mod Ordered
 pub mod VisibleRows
 pub mod Behind
 pub mod Next
+pub mod Honest

@@ -14,9 +14,9 @@ use Rattle.index_steps.specs.IndexTuples.{classes_of, index_at, no_index, shape_
 use Rattle.index_steps.specs.ShownTable.{indexes_of, numbers_from}
 use Rattle.brin_scan.specs.declared.readers.IndexReader.{IndexReader}
 use Rattle.brin_scan.specs.declared.judging.Judged.{Judged}
-use Rattle.brin_scan.specs.Judgings.{IsJudged}
+use Rattle.brin_scan.specs.Judgings.{SaysOfRange}
 use Rattle.brin_scan.specs.IndexReaders.{all_scanned, scanned, scanned_if, scanned_in}
-use Rattle.brin_scan.specs.LawfulIndexes.{AreLawful, IsLawful}
+use Rattle.brin_scan.specs.ReadableIndexes.{AreReadable, IsReadable}
 use Rattle.brin_scan.specs.ScanHands.{ScannedIndex, no_scanned_index, scanned_at, scanned_index, scanned_indexes}
 use Rattle.brin_scan.proofs.Numbers.{is_there}
 
@@ -48,13 +48,13 @@ one_more layout table number before after index rest all is added so_far = by_te
     by_test false none whole = ap (λ (l : List ScannedIndex). l ++ behind) (none ∙ append-nil before) ∙ whole
 
 -- each has a block or more
-pub some_pages : (layout : DiskLayout) (table : ℕ) → AreLawful layout.schema → All (λ (i : ScannedIndex). 1 ≤ i.pages_per_range) (scanned_indexes layout table)
+pub some_pages : (layout : DiskLayout) (table : ℕ) → AreReadable layout.schema → All (λ (i : ScannedIndex). 1 ≤ i.pages_per_range) (scanned_indexes layout table)
 some_pages layout table lawful = All-from_get_or (λ (i : ScannedIndex). 1 ≤ i.pages_per_range) (scanned_indexes layout table) no_scanned_index (λ at below. one at below)
   where
     one : (at : ℕ) → at < length (scanned_indexes layout table) → 1 ≤ (slice_index_or (scanned_indexes layout table) at no_scanned_index).pages_per_range
     one at below =
         let there = is_there layout table (scanned_indexes layout table) at refl below in
-        let is : IsLawful layout.schema (index_at layout there.n) = lawful.indexes there.n no_index there.of.declared in
+        let is : IsReadable layout.schema (index_at layout there.n) = lawful.indexes there.n no_index there.of.declared in
         subst (λ (x : ScannedIndex). 1 ≤ x.pages_per_range) (sym there.scanned) is.some_pages
 
 -- the reader at a place is of the index there
@@ -100,9 +100,9 @@ whole layout table number i scanned past so_far =
 
 -- what the tuple tells of the index at its place
 pub judged_at : (layout : DiskLayout) (pages : PageMap) (readers : List IndexReader) (at : ℕ) (reader : IndexReader) (range : ℕ) (x : Spot) (conds asked : List Cond) (told verdict : Judged) → at < length (all_scanned readers) → reader ≡ get_or readers at reader
-    → asked ≡ conds → told ≡ verdict → IsJudged (shape_of layout reader.number) (contents layout pages reader.number) range x conds told
-    → IsJudged (shape_of layout (scanned_at (all_scanned readers) at).number) (contents layout pages (scanned_at (all_scanned readers) at).number) range x asked verdict
+    → asked ≡ conds → told ≡ verdict → SaysOfRange (shape_of layout reader.number) (contents layout pages reader.number) range x conds told
+    → SaysOfRange (shape_of layout (scanned_at (all_scanned readers) at).number) (contents layout pages (scanned_at (all_scanned readers) at).number) range x asked verdict
 judged_at layout pages readers at reader range x conds asked told verdict below is same tells judged =
-    subst (λ (v : Judged). IsJudged (shape_of layout (scanned_at (all_scanned readers) at).number) (contents layout pages (scanned_at (all_scanned readers) at).number) range x asked v) tells
-    (subst (λ (l : List Cond). IsJudged (shape_of layout (scanned_at (all_scanned readers) at).number) (contents layout pages (scanned_at (all_scanned readers) at).number) range x l told) (sym same)
-    (subst (λ (i : ScannedIndex). IsJudged (shape_of layout i.number) (contents layout pages i.number) range x conds told) (sym (there_is readers at reader (within readers at below) is)) judged))
+    subst (λ (v : Judged). SaysOfRange (shape_of layout (scanned_at (all_scanned readers) at).number) (contents layout pages (scanned_at (all_scanned readers) at).number) range x asked v) tells
+    (subst (λ (l : List Cond). SaysOfRange (shape_of layout (scanned_at (all_scanned readers) at).number) (contents layout pages (scanned_at (all_scanned readers) at).number) range x l told) (sym same)
+    (subst (λ (i : ScannedIndex). SaysOfRange (shape_of layout i.number) (contents layout pages i.number) range x conds told) (sym (there_is readers at reader (within readers at below) is)) judged))

@@ -6,7 +6,7 @@ use Rattle.std.proofs.lemmas.Option.{none-some}
 use Rattle.block_model.specs.declared.place.Spot.{Spot}
 use Rattle.block_model.specs.declared.row.Row.{Row}
 use Rattle.brin_scan.specs.Finds.{FindHand, FindsIn, IsFinding, IsFindingAt, IsNext, IsNextCandidate}
-use Rattle.brin_scan.specs.ScanHands.{ScanHand, is_candidate}
+use Rattle.brin_scan.specs.ScanHands.{IsJudging, ScanHand, is_candidate}
 use Rattle.brin_scan.specs.declared.stage.Stage.{Stage}
 use Rattle.brin_scan.specs.declared.stage.Stage.TheVariants as stages
 use Rattle.brin_scan.proofs.Ordered.{ascend_more}
@@ -25,6 +25,13 @@ by_stage stages.Extent hand b is at = absurd (none-some b (sym at.1 ∙ is))
 by_stage (stages.Map place range) hand b is at = absurd (none-some b (sym at.1 ∙ is))
 by_stage (stages.Tuple place range spot) hand b is at = absurd (none-some b (sym at.1 ∙ is))
 by_stage stages.Judged hand b is at = (refl, subst (IsNext hand.judging.candidates hand.read) is at)
+
+-- while ranges are judged nothing is read
+pub reads_none : (stage : Stage) (hand : FindHand) → IsJudging stage → IsFindingAt stage hand → hand.read ≡ 0
+reads_none stages.Extent hand judging at = at.0
+reads_none (stages.Map place range) hand judging at = at.0
+reads_none (stages.Tuple place range spot) hand judging at = at.0
+reads_none stages.Judged hand judging at = absurd judging
 
 pub reads_next : (hand : FindHand) (b : ℕ) → hand.next ≡ Some b → IsFinding hand → ReadsNext hand b
 reads_next hand b is finding = let found = by_stage hand.judging.stage hand b is finding.at in record { all = found.0; first = found.1 }

@@ -13,7 +13,7 @@ abbrev Found : Type 0
 Found = Row × Spot
 
 -- one row more, behind all
-pushed : (block slot at : ℕ) (found : List Found) (f : Found) → Ascend block slot found → All (λ (g : Found). g.1.block ≡ at) found → All (λ (g : Found). g.1.slot < f.1.slot) found → f.1.block ≡ at
+pub pushed : (block slot at : ℕ) (found : List Found) (f : Found) → Ascend block slot found → All (λ (g : Found). g.1.block ≡ at) found → All (λ (g : Found). g.1.slot < f.1.slot) found → f.1.block ≡ at
     → (block < f.1.block) ⊎ ((block ≡ f.1.block) × (slot ≤ f.1.slot)) → Ascend block slot (found ++ f ∷ [])
 pushed block slot at [] f ascend here before is start = (start, tt)
 pushed block slot at (g ∷ found) f ascend here before is start =

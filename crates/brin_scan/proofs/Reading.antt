@@ -19,7 +19,7 @@ use Rattle.heap_rows.specs.Heaps.{kinds_at}
 use Rattle.heap_rows.specs.HeapBlocks.{HasBlocks, slots_of}
 use Rattle.heap_rows.specs.RowPlaces.{slot_at}
 use Rattle.heap_rows.specs.StoredRows.{stored_rows}
-use Rattle.index_steps.specs.IndexTuples.{have_kinds}
+use Rattle.index_steps.specs.IndexTuples.{are_values}
 use Rattle.index_steps.specs.ShownTable.{indexes_of}
 use Rattle.brin_scan.specs.Finds.{FindHand, FindSteps, IsNext, IsNextCandidate, SeesThere, Sight, did_at, is_found, scanning, sees_stored, visible_matches}
 use Rattle.brin_scan.specs.ScanAnswers.{ScanStepped}
@@ -28,7 +28,7 @@ use Rattle.brin_scan.specs.ScanSteps.{ScanGoes, account_at}
 use Rattle.index_steps.specs.ShownRows.{row_in, shown_by}
 use Rattle.brin_scan.specs.TableScans.{is_match, table_scan}
 use Rattle.brin_scan.specs.declared.stage.Stage.TheVariants as stages
-use Rattle.brin_scan.proofs.FoundRows.{found_either, found_is, found_more, found_new, found_there, kinds_there, slot_of_row}
+use Rattle.brin_scan.proofs.FoundRows.{found_either, found_is, found_more, found_new, found_there, values_there, slot_of_row}
 use Rattle.brin_scan.proofs.InTable.{only_turns, turns}
 
 -- a hand after all ranges are judged
@@ -70,7 +70,7 @@ module _ (layout : DiskLayout) (pages : PageMap) (sight : Sight) (old new : Find
     on_page : (k : ℕ) (r : Row) → w.row b k ≡ Some r → IsTrue (sees b k) → IsTrue (is_match layout old.judging.query r) → is_found new.found b k ≡ true
     on_page k r is seen matches =
         let row = slot_of_row old.judging.query.table (slot_at blocks (record { block = b; slot = k })) r is in
-        let match = (and_parts (have_kinds (kinds_at layout old.judging.query.table) r.values) _ matches).1 in
+        let match = (and_parts (are_values (kinds_at layout old.judging.query.table) r.values) _ matches).1 in
         now_found b k (found_new old.found more b k (found_there sight old.judging.query b (slots_of blocks b) k row.0 row.1
         (subst (λ (q : Row). row_matches old.judging.query q ≡ true) row.2 match) (sym (there k row.0 row.1) ∙ seen)))
 
@@ -86,7 +86,7 @@ module _ (layout : DiskLayout) (pages : PageMap) (sight : Sight) (old new : Find
               ap (row_in old.judging.query.table) one.there,
               there k one.row one.there ∙ one.sees,
               ap (λ (t : Bool). t && row_matches old.judging.query (record { table = old.judging.query.table; id = one.row.id; values = one.row.values }))
-                  (kinds_there layout pages old.judging.query.table blocks b k one.row has one.there) ∙ one.matches,
+                  (values_there layout pages old.judging.query.table blocks b k one.row has one.there) ∙ one.matches,
             ),
           )
     ]

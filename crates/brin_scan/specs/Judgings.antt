@@ -24,7 +24,7 @@ pub record IsTupleThere (shape : IndexShape) (c : IndexContents) (range : ℕ) (
 abbrev pub ExcludesMatches : Tuple → List Cond → Type 0
 ExcludesMatches t conds = (row : List Value) → tuple_includes t row ≡ true → list_all (column_matches row) conds ≡ false
 
-abbrev pub IsJudged : IndexShape → IndexContents → (range : ℕ) → Spot → List Cond → Judged → Type 0
-IsJudged shape c range x conds judged.Gone = ShowsGone shape c range x
-IsJudged shape c range x conds judged.Kept = (t : Tuple) × IsTupleThere shape c range x t × (keeps t conds ≡ true)
-IsJudged shape c range x conds judged.LeftOut = (t : Tuple) × IsTupleThere shape c range x t × (keeps t conds ≡ false) × ExcludesMatches t conds
+abbrev pub SaysOfRange : IndexShape → IndexContents → (range : ℕ) → Spot → List Cond → Judged → Type 0
+SaysOfRange shape c range x conds judged.Gone = ShowsGone shape c range x
+SaysOfRange shape c range x conds judged.Kept = (t : Tuple) × IsTupleThere shape c range x t × (keeps t conds ≡ true)
+SaysOfRange shape c range x conds judged.LeftOut = (t : Tuple) × IsTupleThere shape c range x t × (keeps t conds ≡ false) × ExcludesMatches t conds

@@ -6,5 +6,8 @@ pub mod ScanAnswers
 pub mod IndexReaders
 pub mod Explains
 pub mod Finds
-pub mod LawfulIndexes
+pub mod ReadableIndexes
 pub mod Judgings
+pub mod LastStatuses
+pub mod ScanLaws
+pub mod SeenRows

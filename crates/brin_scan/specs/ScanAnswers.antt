@@ -14,7 +14,8 @@ use Rattle.table_coverage.specs.Table.{TableScan}
 use Rattle.table_coverage.specs.TableSteps.{IsScanRead, ScanHasStep}
 use Rattle.index_contents.specs.IndexContents.{contents}
 use Rattle.index_steps.specs.IndexTuples.{shape_of}
-use Rattle.index_steps.specs.Readings.{IsMisnamed, IsMisread, NamesPageOf}
+use Rattle.index_steps.specs.Readings.{IsMisnamed, IsMisread}
+use Rattle.index_steps.specs.SwapAnswers.{FaultNamesPageOf}
 use Rattle.brin_scan.specs.ScanHands.{ScanHand, ScannedIndex, scanned_at}
 use Rattle.brin_scan.specs.ScanSteps.{ScanGoes}
 use Rattle.brin_scan.specs.declared.stage.Stage.{Stage}
@@ -35,15 +36,10 @@ IsDamagedAt layout pages indexes (stages.Tuple at range spot) =
     IsMisread (shape_of layout (scanned_at indexes at).number) (contents layout pages (scanned_at indexes at).number) range spot
 IsDamagedAt layout pages indexes stage = ⊥
 
--- damage is told by the byte at which a page of the index begins
-abbrev pub NamesPageIn : DiskLayout → (index : ℕ) → MachineFault → Type 0
-NamesPageIn layout index (faults.Store error) = NamesPageOf layout index error
-NamesPageIn layout index fault = Unit {0}
-
--- it is the index whose range is judged
+-- damage is told by the byte at which a page of the index begins whose range is judged
 abbrev pub NamesPageAt : DiskLayout → List ScannedIndex → Stage → MachineFault → Type 0
-NamesPageAt layout indexes (stages.Map at range) fault = NamesPageIn layout (scanned_at indexes at).number fault
-NamesPageAt layout indexes (stages.Tuple at range spot) fault = NamesPageIn layout (scanned_at indexes at).number fault
+NamesPageAt layout indexes (stages.Map at range) fault = FaultNamesPageOf layout (scanned_at indexes at).number fault
+NamesPageAt layout indexes (stages.Tuple at range spot) fault = FaultNamesPageOf layout (scanned_at indexes at).number fault
 NamesPageAt layout indexes stage fault = Unit {0}
 
 -- A step is done or refused as the page store does or refuses its reads. No index is full for it, and it is never short of memory.

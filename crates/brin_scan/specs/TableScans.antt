@@ -13,7 +13,7 @@ use Rattle.table_coverage.specs.Table.{Task, Resting, Scans, TableScan}
 use Rattle.table_coverage.specs.TableSteps.{HasPut}
 use Rattle.heap_rows.specs.Heaps.{kinds_at, slots_a_page}
 use Rattle.heap_rows.specs.RowPlaces.{slot_at}
-use Rattle.index_steps.specs.IndexTuples.{have_kinds}
+use Rattle.index_steps.specs.IndexTuples.{are_values}
 use Rattle.brin_scan.specs.ScanHands.{ScanHand, is_candidate}
 use Rattle.brin_scan.specs.declared.stage.Stage.{Stage}
 use Rattle.brin_scan.specs.declared.stage.Stage.TheVariants as stages
@@ -44,9 +44,9 @@ abbrev pub spot_held : Stage → Option Spot
 spot_held (stages.Tuple at range spot) = Some spot
 spot_held stage = None
 
--- a row of the table's kinds that the query finds
+-- a row of values of the table's kinds that the query finds
 abbrev pub is_match : DiskLayout → Query → Row → Bool
-is_match layout query r = have_kinds (kinds_at layout query.table) r.values && row_matches query r
+is_match layout query r = are_values (kinds_at layout query.table) r.values && row_matches query r
 
 -- the scan of the table
 abbrev pub table_scan : DiskLayout → ScanHand → Beside → TableScan

@@ -40,8 +40,8 @@ impl Model for Explain {
 
 impl Explain {
     /// Before the first step of an explain of a query of a table of the layout. Takes all the memory that it ever needs.
-    pub fn new(alloc: Global, query: &Query, layout: &Layout) -> Result<Explain, NoMemory>
-        ensures begins { IfOk result (λ explain. explain ≡ record { judging = first_hand layout.now query.now; blocks = [] }) }
+    pub fn new(alloc: Global, query: Query, layout: &Layout) -> Result<Explain, NoMemory>
+        ensures begins { IfOk result (λ explain. explain ≡ record { judging = first_hand layout.now query; blocks = [] }) }
     {
         let judging = Judging::new(alloc, query, layout)?;
         let room = layout.sizes().heap_blocks as usize;

@@ -8,16 +8,17 @@ ghost use Rattle.range_tuple.specs.Tuples.{parts_of};
 ghost use Rattle.index_contents.specs.IndexContents.{contents};
 ghost use Rattle.index_steps.specs.IndexTuples.{classes_of, shape_of};
 ghost use Rattle.index_steps.specs.Readings.{IsMisread};
+ghost use Rattle.index_steps.specs.SwapAnswers.{FaultNamesPageOf};
 ghost use Rattle.brin_scan.specs.IndexReaders.{all_scanned, hand_at, scanned};
-ghost use Rattle.brin_scan.specs.Judgings.{IsJudged};
+ghost use Rattle.brin_scan.specs.Judgings.{SaysOfRange};
 ghost use Rattle.brin_scan.specs.ScanHands.{IsAtRange, IsBegunAt, IsHand, IsJudging, IsScanOf, first_hand, scanned_indexes};
-ghost use Rattle.brin_scan.specs.ScanAnswers.{IsDamagedAt, NamesPageAt, NamesPageIn, ReadOutcome};
+ghost use Rattle.brin_scan.specs.ScanAnswers.{IsDamagedAt, NamesPageAt, ReadOutcome};
 ghost use Rattle.brin_scan.specs.ScanSteps.{JudgesTo};
 
 use crate::ranges::{begin_with, first_range, leave_out, next_range};
 use crate::readers::{IndexReader, readers_of};
 use crate::stage::Stage;
-use block_model::{Cond, Conds, NoMemory, Query, Spot};
+use block_model::{Cond, NoMemory, Query, Spot};
 use disk_trait::Disk;
 use engine_pages::PageStore;
 use heap_rows::blocks;
@@ -65,10 +66,9 @@ impl Model for Judging {
 
 impl Judging {
     /// Before the first step. Takes all the memory that judging ever needs.
-    pub(crate) fn new(alloc: Global, query: &Query, layout: &Layout) -> Result<Judging, NoMemory>
-        ensures begins { IfOk result (λ judging. judging ≡ first_hand layout.now query.now) }
+    pub(crate) fn new(alloc: Global, query: Query, layout: &Layout) -> Result<Judging, NoMemory>
+        ensures begins { IfOk result (λ judging. judging ≡ first_hand layout.now query) }
     {
-        let query = copy_of(alloc, query)?;
         let readers = readers_of(alloc, layout, query.table)?;
         let copied = Scratch::new(alloc)?;
         let blocks = layout.sizes().heap_blocks as usize;
@@ -312,10 +312,10 @@ fn read_tuple<D: Disk + Drop>(
     requires index { reader.old.number < length pages.old.layout.schema.indexes }
     requires classes { parts_of reader.old.tuple.columns ≡ classes_of (shape_of pages.old.layout reader.old.number) }
     requires few { length conds.now ≤ MAX_CONDITIONS }
-    ensures tells { IfOk result (λ judged. Tells D.told pages.old → IsJudged (shape_of pages.old.layout reader.old.number) (contents pages.old.layout pages.old.pages reader.old.number) range spot conds.now judged) }
+    ensures tells { IfOk result (λ judged. Tells D.told pages.old → SaysOfRange (shape_of pages.old.layout reader.old.number) (contents pages.old.layout pages.old.pages reader.old.number) range spot conds.now judged) }
     ensures scanned { scanned reader.new ≡ scanned reader.old }
     ensures kept { Keeps D.told pages.old pages.new }
-    ensures names { IfErr result (NamesPageIn pages.old.layout reader.old.number) }
+    ensures names { IfErr result (FaultNamesPageOf pages.old.layout reader.old.number) }
     ensures outcome { ReadOutcome D.told (Tells D.told pages.old → IsMisread (shape_of pages.old.layout reader.old.number) (contents pages.old.layout pages.old.pages reader.old.number) range spot) pages.old pages.new result }
 {
     a_row_is_included_as_tested();
@@ -329,18 +329,4 @@ fn read_tuple<D: Disk + Drop>(
     } else {
         Ok(Judged::LeftOut)
     }
-}
-
-/// A copy of the query.
-fn copy_of(alloc: Global, query: &Query) -> Result<Query, NoMemory>
-    ensures { IfOk result (λ copy. copy ≡ query.now) }
-{
-    let mut conds = Conds::new(alloc);
-    'conds: for cond in query.conds.as_slice() {
-        conds.push(*cond)?;
-    }
-    Ok(Query {
-        table: query.table,
-        conds,
-    })
 }

@@ -1,29 +1,40 @@
 //! What the steps of a scan are in its table, as laws.
 
-ghost use Rattle.std.specs.Prelude.{◌≡◌, ℕ, false, IsTrue, Some};
+ghost use Rattle.std.specs.Prelude.{◌≡◌, ℕ, List, false, IsTrue, Some};
 ghost use Rattle.block_model.specs.declared.reply.Point.{Point};
 ghost use Rattle.block_model.specs.declared.row.Row.{Row};
+ghost use Rattle.block_model.specs.declared.row.RowId.{RowId};
 ghost use Rattle.page_locks.specs.declared.did.Did.TheVariants as did;
 ghost use Rattle.table_coverage.specs.Accounts.{Account};
 ghost use Rattle.table_coverage.specs.Machines.{ShownTable, Unseen, table_state, task_turned};
-ghost use Rattle.table_coverage.specs.Table.{Resting, Scans, TableScan};
+ghost use Rattle.table_coverage.specs.RowOrder.{IsAmong};
+ghost use Rattle.table_coverage.specs.Table.{Marks, Resting, Scans, TableScan, Task};
 ghost use Rattle.table_coverage.specs.TableCovered.{IsTableKept};
 ghost use Rattle.table_coverage.specs.TableSteps.{Does, HasNothingToMark, Onward, TableStep};
+ghost use Rattle.page_layout.specs.RowBytes.{StoredRow};
+ghost use Rattle.brin_scan.specs.Finds.{Sight, sees_stored};
 ghost use Rattle.brin_scan.specs.ScanAnswers.{ScanStepped};
+ghost use Rattle.brin_scan.specs.ScanLaws.{ScanGoesTo};
+ghost use Rattle.brin_scan.specs.SeenRows.{IsOthersSince, SeesLater, StaysInSlot};
 
 use table_coverage::{table_scans_miss_nothing, table_stays_covered};
 
-/// A step of a scan that goes on is one step of the table. After the last step of an explain, of a select, or of a delete that found nothing, the
-/// statement replies. Does nothing.
+/// A step of a scan that goes on is one step of the table, under its point. So is the last one, wherever the statement comes from there: a
+/// delete that found rows to their marks, each other statement to its reply. Does nothing.
 pub fn a_scan_steps_in_its_table()
     ensures goes { (s : ℕ) (shown : ShownTable) (u : Unseen) (account : Account → Account) (after : TableScan) (point : Point) → ScanStepped s shown u account after (did.Moved point)
-        → TableStep s (table_state shown u) (table_state shown (task_turned s (Scans after) u)) }
+        → ScanGoesTo s shown u account (Scans after) point }
+    ensures ends { (s : ℕ) (shown : ShownTable) (u : Unseen) (account : Account → Account) (after : TableScan) (point : Point) (next : Task) → ScanStepped s shown u account after (did.Finished point)
+        → Onward (table_state shown u) (Scans after) next → ScanGoesTo s shown u account next point }
     ensures replies { (s : ℕ) (shown : ShownTable) (u : Unseen) (account : Account → Account) (after : TableScan) (point : Point) → ScanStepped s shown u account after (did.Finished point) → HasNothingToMark after
         → (last : TableScan) × (after ≡ record last { at = after.at; range = after.range }) × Does s (table_state shown u) (table_state shown (task_turned s (Scans last) u))
         × Onward (table_state shown (task_turned s (Scans last) u)) (Scans last) Resting }
+    ensures steps { (s : ℕ) (shown : ShownTable) (u : Unseen) (account : Account → Account) (next : Task) (point : Point) → ScanGoesTo s shown u account next point
+        → TableStep s (table_state shown u) (table_state shown (task_turned s next u)) }
 {}
 
-/// A scan of a select that has taken its last step has found exactly the matching rows that its session sees. Does nothing.
+/// A scan of a select that has taken its last step has found exactly the matching rows that its session sees, and one of a delete that goes
+/// to its marks has all of them to mark. Does nothing.
 pub fn a_scan_finds_what_its_session_sees()
     ensures found { (s : ℕ) (shown : ShownTable) (u : Unseen) (account : Account → Account) (after : TableScan) (point : Point) (b k : ℕ) → IsTableKept (table_state shown u)
         → ScanStepped s shown u account after (did.Finished point) → HasNothingToMark after → after.explains ≡ false → IsTrue (after.sees b k)
@@ -31,7 +42,17 @@ pub fn a_scan_finds_what_its_session_sees()
     ensures only { (s : ℕ) (shown : ShownTable) (u : Unseen) (account : Account → Account) (after : TableScan) (point : Point) (b k : ℕ) → IsTableKept (table_state shown u)
         → ScanStepped s shown u account after (did.Finished point) → IsTrue (after.found b k)
         → (r : Row) × (shown.row b k ≡ Some r) × IsTrue (after.sees b k) × IsTrue (after.matches r) }
+    ensures to_mark { (s : ℕ) (shown : ShownTable) (u : Unseen) (account : Account → Account) (after marking : TableScan) (ids : List RowId) (point : Point) (b k : ℕ) → IsTableKept (table_state shown u)
+        → ScanStepped s shown u account after (did.Finished point) → Onward (table_state shown u) (Scans after) (Marks marking ids) → IsTrue (after.sees b k)
+        → (r : Row) × (shown.row b k ≡ Some r) × (IsTrue (after.matches r) → IsAmong ids r.id) }
 {
     table_scans_miss_nothing();
     table_stays_covered();
 }
+
+/// A row is seen later on exactly where it was, as long as nobody but transactions that hadn't ended at the snapshot marks it; and a row that
+/// such a transaction put isn't seen. So at each page step a scan's transaction sees those rows that it saw at the begin. Does nothing.
+pub fn what_is_seen_stays()
+    ensures stays { (old new : Sight) (row now : StoredRow) → SeesLater old new → StaysInSlot old row now → sees_stored new now ≡ sees_stored old row }
+    ensures put_since { (sight : Sight) (row : StoredRow) → IsOthersSince sight row.id.t → sees_stored sight row ≡ false }
+{}

@@ -3,7 +3,7 @@
 ghost use Rattle.std.specs.Prelude.{◌≡◌, ◌≤◌, ◌++◌, All, IfOk, OnOk};
 ghost use Rattle.std.specs.Box.{boxed_slice_items};
 ghost use Rattle.brin_scan.specs.IndexReaders.{all_scanned, scanned, scanned_if, scanned_in};
-ghost use Rattle.brin_scan.specs.LawfulIndexes.{AreLawful, IsLawful};
+ghost use Rattle.brin_scan.specs.ReadableIndexes.{AreReadable, IsReadable};
 ghost use Rattle.brin_scan.specs.ScanHands.{scanned_indexes};
 
 use block_model::{Index, NoMemory, Schema};
@@ -50,7 +50,7 @@ fn push_reader(
     table: u8,
     readers: &mut Vec<IndexReader>,
 ) -> Result<(), NoMemory>
-    requires { IsLawful schema.now index.now }
+    requires { IsReadable schema.now index.now }
     ensures { OnOk result (all_scanned readers.new.items ≡ all_scanned readers.old.items ++ scanned_if schema.now table number index.now) }
 {
     if index.table != table {
@@ -68,7 +68,7 @@ fn reader_of(
     schema: &Schema,
     number: u8,
 ) -> Result<IndexReader, NoMemory>
-    requires { IsLawful schema.now index.now }
+    requires { IsReadable schema.now index.now }
     ensures { IfOk result (λ reader. scanned reader ≡ scanned_in schema.now number index.now) }
 {
     let tuple = RangeTuple::new(alloc, index, schema, 0)?;
@@ -81,7 +81,7 @@ fn reader_of(
 
 /// Does nothing; tells its caller what the limits of a layout say of its indexes.
 fn lawful(layout: &Layout)
-    ensures { AreLawful layout.now.schema }
+    ensures { AreReadable layout.now.schema }
 {
     layout.known();
 }

@@ -1,25 +1,29 @@
 //! The scan of a select or a delete.
 
-ghost use Rattle.std.specs.Prelude.{◌≡◌, ◌⊎◌, ◌<◌, ◌≤◌, ◌^◌, ◌++◌, ◌∷◌, [], ℕ, None, Some, length, take, IfOk, OnOk, OnErr};
+ghost use Rattle.std.specs.Prelude.{◌≡◌, ◌⊎◌, ◌<◌, ◌≤◌, ◌^◌, ◌++◌, ◌∷◌, [], ℕ, None, Some, length, take, IfErr, IfOk, OnOk, OnErr};
+ghost use Rattle.std.specs.List.{list_all};
+ghost use Rattle.block_model.specs.RowMatches.{column_matches, row_matches};
 ghost use Rattle.page_store.specs.Keeps.{Keeps, Tells, Untold};
-ghost use Rattle.page_store.specs.Outcome.{Outcome};
 ghost use Rattle.heap_rows.specs.Heaps.{slots_a_page};
 ghost use Rattle.heap_rows.specs.HeapBlocks.{OfBlocks, slots_of};
-ghost use Rattle.heap_rows.specs.StoredRows.{SlotsAscend, row_of, stored_rows};
-ghost use Rattle.brin_scan.specs.Finds.{Ascend, FindOutcome, FindSteps, FindsIn, FindsThere, IsFindOf, IsNext, IsPointIn, IsScanning, OfSight, Sight, did_at, first_find, found_at, sees_stored, visible_matches};
-ghost use Rattle.brin_scan.specs.ScanAnswers.{IsDamagedAt, ReadOutcome};
+ghost use Rattle.heap_rows.specs.StoredRows.{SlotsAscend, stored_rows};
+ghost use Rattle.tx_table.specs.Statuses.{OfStatuses, shown_status};
+ghost use Rattle.brin_scan.specs.Finds.{Ascend, FaultNamesNext, FaultNamesRead, FaultNamesStatuses, FindOutcome, FindSteps, FindsIn, FindsThere, IsFindOf, IsNext, IsPointIn, IsScanning, OfSight, Sight, did_at, first_find, found_at, visible_matches};
+ghost use Rattle.brin_scan.specs.LastStatuses.{AreHeld};
+ghost use Rattle.brin_scan.specs.ScanAnswers.{IsDamagedAt, NamesPageAt, ReadOutcome};
 ghost use Rattle.brin_scan.specs.ScanHands.{IsJudging, first_hand};
 
 use crate::explain::point_at;
 use crate::judging::Judging;
+use crate::sight::{LastStatuses, is_visible};
 use crate::stage::Stage;
-use block_model::{NoMemory, Query, Row, Spot, row_matches};
+use block_model::{Cond, NoMemory, Query, Row, Spot, Value, matches};
 use disk_trait::Disk;
 use engine_pages::PageStore;
 use heap_rows::{PageRows, Stored, rows_of};
 use page_locks::{Did, Point};
-use page_store::{MachineFault, StoreError};
-use snapshot_core::{Snapshot, sees};
+use page_store::MachineFault;
+use snapshot_core::Snapshot;
 use std::alloc::Global;
 use std::marker::Model;
 use store_layout::Layout;
@@ -51,12 +55,12 @@ impl Model for Scan {
 impl Scan {
     /// Before the first step of a scan for a query of a table of the layout. Takes all the memory that it needs but that of the rows which it
     /// finds.
-    pub fn new(alloc: Global, query: &Query, layout: &Layout) -> Result<Scan, NoMemory>
-        requires table { query.now.table < length layout.now.schema.tables }
-        ensures begins { IfOk result (λ scan. scan ≡ first_find (first_hand layout.now query.now) (slots_a_page layout.now query.now.table)) }
+    pub fn new(alloc: Global, query: Query, layout: &Layout) -> Result<Scan, NoMemory>
+        requires table { query.table < length layout.now.schema.tables }
+        ensures begins { IfOk result (λ scan. scan ≡ first_find (first_hand layout.now query) (slots_a_page layout.now query.table)) }
     {
-        let judging = Judging::new(alloc, query, layout)?;
         let table = usize::from(query.table);
+        let judging = Judging::new(alloc, query, layout)?;
         let rows = PageRows::new(alloc, &layout.schema().tables.as_slice()[table])?;
         Ok(Scan {
             judging,
@@ -99,6 +103,7 @@ impl Scan {
         ensures query { self.new.judging.query ≡ self.old.judging.query }
         ensures same { OnErr result (self.new ≡ self.old) }
         ensures kept { Keeps D.told pages.old pages.new }
+        ensures names { IfErr result (FaultNamesNext pages.old.layout self.old self.old.next) }
         ensures outcome { FindOutcome D.told (Tells D.told pages.old → IsDamagedAt pages.old.layout pages.old.pages self.old.judging.indexes self.old.judging.stage) pages.old pages.new self.old.next result }
     {
         match self.next {
@@ -132,6 +137,7 @@ impl Scan {
         ensures query { self.new.judging.query ≡ self.old.judging.query }
         ensures same { OnErr result (self.new ≡ self.old) }
         ensures kept { Keeps D.told pages.old pages.new }
+        ensures names { IfErr result (FaultNamesRead pages.old.layout self.old.judging.query.table block) }
         ensures outcome { FindOutcome D.told (Untold D.told pages.old) pages.old pages.new (Some block) result }
     {
         self.judging.known();
@@ -165,6 +171,7 @@ impl Scan {
         ensures query { self.new.judging.query ≡ self.old.judging.query }
         ensures same { OnErr result (self.new ≡ self.old) }
         ensures kept { Keeps D.told pages.old pages.new }
+        ensures names { IfErr result (NamesPageAt pages.old.layout self.old.judging.indexes self.old.judging.stage) }
         ensures outcome { ReadOutcome D.told (Tells D.told pages.old → IsDamagedAt pages.old.layout pages.old.pages self.old.judging.indexes self.old.judging.stage) pages.old pages.new result }
     {
         let point = point_at(self.judging.stage());
@@ -234,6 +241,7 @@ fn find_on<D: Disk + Drop>(
     ensures same { OnErr result (found.new.items ≡ found.old.items) }
     ensures room { rows.new.room ≡ rows.old.room }
     ensures kept { Keeps D.told pages.old pages.new }
+    ensures names { IfErr result (FaultNamesRead pages.old.layout query.now.table block) }
     ensures outcome { FindOutcome D.told (Untold D.told pages.old) pages.old pages.new (Some block) result }
 {
     match rows_of(pages, query.table, block, rows) {
@@ -276,10 +284,14 @@ fn find_among<D: Disk + Drop>(
     ensures order { OnOk result (FindsIn block found.old.items found.new.items) }
     ensures front { take (length found.old.items) found.new.items ≡ found.old.items }
     ensures kept { Keeps D.told pages.old pages.new }
+    ensures names { IfErr result (FaultNamesStatuses pages.old.layout) }
     ensures outcome { FindOutcome D.told (Untold D.told pages.old) pages.old pages.new (Some block) result }
 {
+    let mut last = LastStatuses::new();
     'rows: for row in rows {
-        match add_visible(pages, tx, snapshot, own, query, block, row, found) {
+        match add_visible(
+            pages, tx, snapshot, own, query, block, row, &mut last, found,
+        ) {
             Ok(()) => {}
             Err(fault) => return Err(fault),
         }
@@ -296,26 +308,53 @@ fn add_visible<D: Disk + Drop>(
     query: &Query,
     block: u32,
     row: &Stored,
+    last: &mut LastStatuses,
     found: &mut Vec<(Row, Spot)>,
 ) -> Result<(), MachineFault>
     requires ready { pages.old.failed ≡ None }
+    requires held { OfStatuses D.told pages.old (λ statuses. AreHeld (shown_status tx.now.first statuses) last.old) }
     ensures visible { OnOk result (Tells D.told pages.old → OfSight pages.old.layout pages.old.pages snapshot.now own tx.now.first (λ sight. found.new.items ≡ found.old.items ++ visible_matches sight query.now block (row.now ∷ []))) }
     ensures added { OnOk result ((found.new.items ≡ found.old.items) ⊎ (found.new.items ≡ found.old.items ++ found_at query.now.table block row.now ∷ [])) }
+    ensures held { OnOk result (OfStatuses D.told pages.old (λ statuses. AreHeld (shown_status tx.now.first statuses) last.new)) }
     ensures same { OnErr result (found.new.items ≡ found.old.items) }
     ensures kept { Keeps D.told pages.old pages.new }
+    ensures names { IfErr result (FaultNamesStatuses pages.old.layout) }
     ensures outcome { FindOutcome D.told (Untold D.told pages.old) pages.old pages.new (Some block) result }
 {
-    let here = found_at(query.table, block, row);
-    if !row_matches(&here.0, query) {
+    if !is_match(row, query) {
         return Ok(());
     }
-    match is_visible(pages, tx, snapshot, own, row) {
-        Ok(true) => match found.push(here) {
+    match is_visible(pages, tx, snapshot, own, row, last) {
+        Ok(true) => match found.push(found_at(query.table, block, row)) {
             Ok(()) => Ok(()),
             Err(_) => Err(MachineFault::Memory),
         },
         Ok(false) => Ok(()),
         Err(error) => Err(MachineFault::Store(error)),
+    }
+}
+
+/// Whether the query finds the row of its table. Copies no row.
+fn is_match(row: &Stored, query: &Query) -> bool
+    ensures { result ≡ row_matches query.now (found_at query.now.table 0 row.now).0 }
+{
+    values_match(row.values.as_slice(), query.conds.as_slice())
+}
+
+/// Whether the values meet each condition.
+fn values_match(values: &[Value], conds: &[Cond]) -> bool
+    ensures { result ≡ list_all (column_matches values.now) conds.now }
+{
+    conds.iter().all(|cond| column_matches(values, cond))
+}
+
+/// Whether the value of the condition's column meets it; one that isn't there doesn't.
+fn column_matches(values: &[Value], cond: &Cond) -> bool
+    ensures { result ≡ column_matches values.now cond.now }
+{
+    match values.get(usize::from(cond.column)) {
+        Some(value) => matches(value, cond.op, &cond.key),
+        None => false,
     }
 }
 
@@ -333,27 +372,4 @@ fn found_at(table: u8, block: u32, row: &Stored) -> (Row, Spot)
         slot: row.slot,
     };
     (found, spot)
-}
-
-/// Whether the transaction sees the row. Reads the status of the transaction that put the row, and of the one that deleted it.
-fn is_visible<D: Disk + Drop>(
-    pages: &mut PageStore<D>,
-    tx: &TxTable,
-    snapshot: &Snapshot,
-    own: u64,
-    row: &Stored,
-) -> Result<bool, StoreError>
-    ensures sees { IfOk result (λ visible. Tells D.told pages.old → OfSight pages.old.layout pages.old.pages snapshot.now own tx.now.first (λ sight. visible ≡ sees_stored sight (row_of row.now))) }
-    ensures kept { Keeps D.told pages.old pages.new }
-    ensures outcome { Outcome D.told (Untold D.told pages.old) pages.old pages.new result }
-{
-    let put = match tx.status(pages, row.id.t) {
-        Ok(status) => status,
-        Err(error) => return Err(error),
-    };
-    let gone = match tx.status(pages, row.deleter) {
-        Ok(status) => status,
-        Err(error) => return Err(error),
-    };
-    Ok(sees(snapshot, own, row.id.t, row.deleter, put, gone))
 }

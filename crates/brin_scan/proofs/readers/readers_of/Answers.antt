@@ -3,7 +3,7 @@ use Rattle.block_model.specs.declared.schema.Index.{Index}
 use Rattle.block_model.specs.declared.schema.Schema.{Schema}
 use Rattle.index_steps.specs.IndexTuples.{index_at}
 use Rattle.index_steps.specs.ShownTable.{numbers_from}
-use Rattle.brin_scan.specs.IndexReaders.{all_scanned}
+use Rattle.brin_scan.specs.IndexReaders.{all_scanned, scanned_if}
 use Rattle.brin_scan.specs.ScanHands.{scanned_index}
 use Rattle.brin_scan.proofs.MadeReaders.{at_index, one_more, whole, some_pages}
 use Rattle.brin_scan.proofs.readers.readers_of.Goals as goal
@@ -23,7 +23,8 @@ indexes-preserved c =
     let all = map (scanned_index layout) (numbers_from c.args.table 0 layout.schema.indexes) in
     record {
       counted = ap (λ (n : ℕ). n + 1) c.indexes.invariant.counted;
-      scanned = one_more layout c.args.table c.indexes.number before (all_scanned c.push_reader.new.readers.items) index (drop (i + 1) layout.schema.indexes) all here c.in_ok-push_reader.ensures
+      scanned = one_more layout c.args.table c.indexes.number before (all_scanned c.push_reader.new.readers.items) index (drop (i + 1) layout.schema.indexes) all here
+          (c.in_ok-push_reader.ensures ∙ ap (λ (s : Schema). before ++ scanned_if s c.args.table c.indexes.number index) c.schema-schema.ensures)
           (subst (λ (l : List Index). before ++ map (scanned_index layout) (numbers_from c.args.table c.indexes.number l) ≡ all) at.1 c.indexes.invariant.scanned);
     }
 

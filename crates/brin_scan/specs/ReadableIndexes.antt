@@ -9,13 +9,13 @@ use Rattle.block_model.specs.ClassLimits.{class_is_lawful}
 use Rattle.block_model.specs.TupleSize.{tuple_size}
 
 -- an index on some columns, each by a class that takes its kind, whose greatest tuple fits a page and whose ranges have a block
-pub record IsLawful (schema : Schema) (index : Index) : Type 0 where
+pub record IsReadable (schema : Schema) (index : Index) : Type 0 where
   pub some_columns : 0 < length index.parts
   pub classes : list_all (class_is_lawful (columns_of schema index)) index.parts ≡ true
   pub size : tuple_size (columns_of schema index) index.parts ≤ MAX_TUPLE
   pub some_pages : 1 ≤ index.pages_per_range
 
 -- all of them, and there are at most eight
-pub record AreLawful (schema : Schema) : Type 0 where
+pub record AreReadable (schema : Schema) : Type 0 where
   pub few : length schema.indexes ≤ 8
-  pub indexes : All (IsLawful schema) schema.indexes
+  pub indexes : All (IsReadable schema) schema.indexes
