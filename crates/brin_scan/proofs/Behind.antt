@@ -1,5 +1,5 @@
 -- a refusal behind reads that were done
-use Rattle.std.proofs.Common.{◌≡◌, ℕ, ◌+◌, ◌≤◌, refl, sym, ◌∙◌, arith}
+use Rattle.std.proofs.Common.{◌≡◌, ℕ, ◌+◌, ◌≤◌, inr, refl, sym, subst, ◌∙◌, arith}
 use Rattle.std.specs.Prelude.{None, Some, Result, Err}
 use Rattle.block_model.specs.Causes.{rose_earlier}
 use Rattle.disk_trait.specs.Told.{Told}
@@ -10,7 +10,9 @@ use Rattle.page_store.specs.declared.faults.StoreError.TheVariants as errors
 use Rattle.page_store.specs.Keeps.{Leaves, Untold}
 use Rattle.page_store.specs.Outcome.{Refused}
 use Rattle.page_store.specs.PageMap.{View}
-use Rattle.brin_scan.specs.Finds.{FindOutcome}
+use Rattle.store_layout.specs.DiskLayout.{DiskLayout}
+use Rattle.tx_table.specs.LeavesRest.{NamesStatuses}
+use Rattle.brin_scan.specs.Finds.{FaultNamesRead, FaultNamesStatuses, FindOutcome}
 
 refused_behind : {D : Type 0} (told : D → Told) (first mid new : View D) (error : StoreError) → Leaves told first mid → first.failed ≡ None → mid.failed ≡ None → Refused told (Untold told mid) mid new error → Refused told (Untold told first) first new error
 refused_behind told first mid new errors.Disk leaves none ready refused = (none, rose_earlier (told first.disk).faults (told mid.disk).faults (told new.disk).faults leaves.faults refused.1, refused.2)
@@ -22,3 +24,9 @@ pub find_behind : {D : Type 0} (T : Type 0) (told : D → Told) (first mid new :
 find_behind T told first mid new b faults.Memory leaves none ready outcome = (none, outcome.1)
 find_behind T told first mid new b (faults.Full relation number) leaves none ready outcome = absurd outcome
 find_behind T told first mid new b (faults.Store error) leaves none ready outcome = refused_behind told first mid new error leaves none ready outcome
+
+-- damage of a page of statuses is damage that a read of a block finds
+pub names_behind : (old mid : DiskLayout) (table block : ℕ) (fault : MachineFault) → mid ≡ old → FaultNamesStatuses mid fault → FaultNamesRead old table block fault
+names_behind old mid table block faults.Memory is names = tt
+names_behind old mid table block (faults.Full relation number) is names = tt
+names_behind old mid table block (faults.Store error) is names = inr (subst (λ (l : DiskLayout). NamesStatuses l error) is names)

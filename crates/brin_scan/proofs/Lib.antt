@@ -8,6 +8,7 @@ pub mod Held
 pub mod FoundRows
 pub mod Reading
 pub mod Stepping
+pub mod Seen
 pub mod Explaining
 pub mod Finding
 pub mod Lawful

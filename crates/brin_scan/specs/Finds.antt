@@ -13,23 +13,24 @@ use Rattle.page_layout.specs.PageContents.{Slot}
 use Rattle.page_layout.specs.RowBytes.{StoredRow}
 use Rattle.page_store.specs.declared.faults.MachineFault.{MachineFault}
 use Rattle.page_store.specs.declared.faults.MachineFault.TheVariants as faults
-use Rattle.page_store.specs.Outcome.{Outcome, Refused}
+use Rattle.page_store.specs.Outcome.{NamesPage, Outcome, Refused}
 use Rattle.page_store.specs.PageMap.{PageMap, View}
 use Rattle.page_locks.specs.declared.did.Did.{Did}
 use Rattle.page_locks.specs.declared.did.Did.TheVariants as did
 use Rattle.page_locks.specs.LockHolders.{LockState}
 use Rattle.table_coverage.specs.Machines.{Unseen}
 use Rattle.heap_rows.specs.declared.rows.Stored.{Stored}
-use Rattle.heap_rows.specs.Heaps.{slots_a_page}
+use Rattle.heap_rows.specs.Heaps.{relation_of, slots_a_page}
 use Rattle.heap_rows.specs.HeapBlocks.{HasBlocks, slots_of}
 use Rattle.heap_rows.specs.RowPlaces.{slot_at}
 use Rattle.heap_rows.specs.StoredRows.{row_of, stored_rows}
 use Rattle.snapshot_core.specs.declared.snapshots.Snapshot.{Snapshot}
 use Rattle.snapshot_core.specs.declared.statuses.Status.{Status}
 use Rattle.snapshot_core.specs.Visibility.{sees}
+use Rattle.tx_table.specs.LeavesRest.{NamesStatuses}
 use Rattle.tx_table.specs.Statuses.{HasStatuses, shown_status}
 use Rattle.brin_scan.specs.ScanHands.{IsScanOf, ScanHand, is_candidate}
-use Rattle.brin_scan.specs.ScanAnswers.{ReadOutcome, ScanStepped}
+use Rattle.brin_scan.specs.ScanAnswers.{NamesPageAt, ReadOutcome, ScanStepped}
 use Rattle.brin_scan.specs.ScanSteps.{account_at, point_at}
 use Rattle.index_steps.specs.ShownRows.{shown_by}
 use Rattle.brin_scan.specs.TableScans.{Beside, BeginsAt, table_scan, task_of}
@@ -134,6 +135,21 @@ IsNext candidates from None = (c : ℕ) → from ≤ c → is_candidate candidat
 abbrev pub FindOutcome : {D T : Type 0} → (D → Told) → (Cause : Type 0) → View D → View D → (next : Option ℕ) → Result T MachineFault → Type 0
 FindOutcome told Cause old new (Some b) (Err faults.Memory) = (old.failed ≡ None) × (new.failed ≡ None)
 FindOutcome told Cause old new next result = ReadOutcome told Cause old new result
+
+-- damage is told by the byte of the disk at which a page of statuses begins
+abbrev pub FaultNamesStatuses : DiskLayout → MachineFault → Type 0
+FaultNamesStatuses layout (faults.Store error) = NamesStatuses layout error
+FaultNamesStatuses layout fault = Unit {0}
+
+-- or the page of the block that is read
+abbrev pub FaultNamesRead : DiskLayout → (table block : ℕ) → MachineFault → Type 0
+FaultNamesRead layout table block (faults.Store error) = NamesPage layout (record { relation = relation_of table; block = block }) error ⊎ NamesStatuses layout error
+FaultNamesRead layout table block fault = Unit {0}
+
+-- or, while ranges are judged, a page of the index whose range it is
+abbrev pub FaultNamesNext : DiskLayout → FindHand → (next : Option ℕ) → MachineFault → Type 0
+FaultNamesNext layout hand None fault = NamesPageAt layout hand.judging.indexes hand.judging.stage fault
+FaultNamesNext layout hand (Some b) fault = FaultNamesRead layout hand.judging.query.table b fault
 
 -- what a step at this point did, where that block is to be read next
 abbrev pub did_at : Point → (next : Option ℕ) → Did

@@ -10,3 +10,4 @@ pub mod ReadableIndexes
 pub mod Judgings
 pub mod LastStatuses
 pub mod ScanLaws
+pub mod SeenRows

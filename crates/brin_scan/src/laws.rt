@@ -11,8 +11,11 @@ ghost use Rattle.table_coverage.specs.RowOrder.{IsAmong};
 ghost use Rattle.table_coverage.specs.Table.{Marks, Resting, Scans, TableScan, Task};
 ghost use Rattle.table_coverage.specs.TableCovered.{IsTableKept};
 ghost use Rattle.table_coverage.specs.TableSteps.{Does, HasNothingToMark, Onward, TableStep};
+ghost use Rattle.page_layout.specs.RowBytes.{StoredRow};
+ghost use Rattle.brin_scan.specs.Finds.{Sight, sees_stored};
 ghost use Rattle.brin_scan.specs.ScanAnswers.{ScanStepped};
 ghost use Rattle.brin_scan.specs.ScanLaws.{ScanGoesTo};
+ghost use Rattle.brin_scan.specs.SeenRows.{IsOthersSince, SeesLater, StaysInSlot};
 
 use table_coverage::{table_scans_miss_nothing, table_stays_covered};
 
@@ -46,3 +49,10 @@ pub fn a_scan_finds_what_its_session_sees()
     table_scans_miss_nothing();
     table_stays_covered();
 }
+
+/// A row is seen later on exactly where it was, as long as nobody but transactions that hadn't ended at the snapshot marks it; and a row that
+/// such a transaction put isn't seen. So at each page step a scan's transaction sees those rows that it saw at the begin. Does nothing.
+pub fn what_is_seen_stays()
+    ensures stays { (old new : Sight) (row now : StoredRow) → SeesLater old new → StaysInSlot old row now → sees_stored new now ≡ sees_stored old row }
+    ensures put_since { (sight : Sight) (row : StoredRow) → IsOthersSince sight row.id.t → sees_stored sight row ≡ false }
+{}

@@ -14,6 +14,6 @@ mod sight;
 mod stage;
 
 pub use explain::Explain;
-pub use laws::{a_scan_finds_what_its_session_sees, a_scan_steps_in_its_table};
+pub use laws::{a_scan_finds_what_its_session_sees, a_scan_steps_in_its_table, what_is_seen_stays};
 pub use scan::Scan;
 pub use stage::Stage;

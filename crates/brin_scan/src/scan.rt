@@ -1,6 +1,6 @@
 //! The scan of a select or a delete.
 
-ghost use Rattle.std.specs.Prelude.{◌≡◌, ◌⊎◌, ◌<◌, ◌≤◌, ◌^◌, ◌++◌, ◌∷◌, [], ℕ, None, Some, length, take, IfOk, OnOk, OnErr};
+ghost use Rattle.std.specs.Prelude.{◌≡◌, ◌⊎◌, ◌<◌, ◌≤◌, ◌^◌, ◌++◌, ◌∷◌, [], ℕ, None, Some, length, take, IfErr, IfOk, OnOk, OnErr};
 ghost use Rattle.std.specs.List.{list_all};
 ghost use Rattle.block_model.specs.RowMatches.{column_matches, row_matches};
 ghost use Rattle.page_store.specs.Keeps.{Keeps, Tells, Untold};
@@ -8,9 +8,9 @@ ghost use Rattle.heap_rows.specs.Heaps.{slots_a_page};
 ghost use Rattle.heap_rows.specs.HeapBlocks.{OfBlocks, slots_of};
 ghost use Rattle.heap_rows.specs.StoredRows.{SlotsAscend, stored_rows};
 ghost use Rattle.tx_table.specs.Statuses.{OfStatuses, shown_status};
-ghost use Rattle.brin_scan.specs.Finds.{Ascend, FindOutcome, FindSteps, FindsIn, FindsThere, IsFindOf, IsNext, IsPointIn, IsScanning, OfSight, Sight, did_at, first_find, found_at, visible_matches};
+ghost use Rattle.brin_scan.specs.Finds.{Ascend, FaultNamesNext, FaultNamesRead, FaultNamesStatuses, FindOutcome, FindSteps, FindsIn, FindsThere, IsFindOf, IsNext, IsPointIn, IsScanning, OfSight, Sight, did_at, first_find, found_at, visible_matches};
 ghost use Rattle.brin_scan.specs.LastStatuses.{AreHeld};
-ghost use Rattle.brin_scan.specs.ScanAnswers.{IsDamagedAt, ReadOutcome};
+ghost use Rattle.brin_scan.specs.ScanAnswers.{IsDamagedAt, NamesPageAt, ReadOutcome};
 ghost use Rattle.brin_scan.specs.ScanHands.{IsJudging, first_hand};
 
 use crate::explain::point_at;
@@ -103,6 +103,7 @@ impl Scan {
         ensures query { self.new.judging.query ≡ self.old.judging.query }
         ensures same { OnErr result (self.new ≡ self.old) }
         ensures kept { Keeps D.told pages.old pages.new }
+        ensures names { IfErr result (FaultNamesNext pages.old.layout self.old self.old.next) }
         ensures outcome { FindOutcome D.told (Tells D.told pages.old → IsDamagedAt pages.old.layout pages.old.pages self.old.judging.indexes self.old.judging.stage) pages.old pages.new self.old.next result }
     {
         match self.next {
@@ -136,6 +137,7 @@ impl Scan {
         ensures query { self.new.judging.query ≡ self.old.judging.query }
         ensures same { OnErr result (self.new ≡ self.old) }
         ensures kept { Keeps D.told pages.old pages.new }
+        ensures names { IfErr result (FaultNamesRead pages.old.layout self.old.judging.query.table block) }
         ensures outcome { FindOutcome D.told (Untold D.told pages.old) pages.old pages.new (Some block) result }
     {
         self.judging.known();
@@ -169,6 +171,7 @@ impl Scan {
         ensures query { self.new.judging.query ≡ self.old.judging.query }
         ensures same { OnErr result (self.new ≡ self.old) }
         ensures kept { Keeps D.told pages.old pages.new }
+        ensures names { IfErr result (NamesPageAt pages.old.layout self.old.judging.indexes self.old.judging.stage) }
         ensures outcome { ReadOutcome D.told (Tells D.told pages.old → IsDamagedAt pages.old.layout pages.old.pages self.old.judging.indexes self.old.judging.stage) pages.old pages.new result }
     {
         let point = point_at(self.judging.stage());
@@ -238,6 +241,7 @@ fn find_on<D: Disk + Drop>(
     ensures same { OnErr result (found.new.items ≡ found.old.items) }
     ensures room { rows.new.room ≡ rows.old.room }
     ensures kept { Keeps D.told pages.old pages.new }
+    ensures names { IfErr result (FaultNamesRead pages.old.layout query.now.table block) }
     ensures outcome { FindOutcome D.told (Untold D.told pages.old) pages.old pages.new (Some block) result }
 {
     match rows_of(pages, query.table, block, rows) {
@@ -280,6 +284,7 @@ fn find_among<D: Disk + Drop>(
     ensures order { OnOk result (FindsIn block found.old.items found.new.items) }
     ensures front { take (length found.old.items) found.new.items ≡ found.old.items }
     ensures kept { Keeps D.told pages.old pages.new }
+    ensures names { IfErr result (FaultNamesStatuses pages.old.layout) }
     ensures outcome { FindOutcome D.told (Untold D.told pages.old) pages.old pages.new (Some block) result }
 {
     let mut last = LastStatuses::new();
@@ -313,6 +318,7 @@ fn add_visible<D: Disk + Drop>(
     ensures held { OnOk result (OfStatuses D.told pages.old (λ statuses. AreHeld (shown_status tx.now.first statuses) last.new)) }
     ensures same { OnErr result (found.new.items ≡ found.old.items) }
     ensures kept { Keeps D.told pages.old pages.new }
+    ensures names { IfErr result (FaultNamesStatuses pages.old.layout) }
     ensures outcome { FindOutcome D.told (Untold D.told pages.old) pages.old pages.new (Some block) result }
 {
     if !is_match(row, query) {

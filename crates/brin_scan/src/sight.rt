@@ -1,10 +1,11 @@
 //! Which rows a transaction sees. A page step reads the status of a transaction once for a run of its rows.
 
-ghost use Rattle.std.specs.Prelude.{◌≡◌, ℕ, None, IfOk, IfSome, OnOk};
+ghost use Rattle.std.specs.Prelude.{◌≡◌, ℕ, None, IfErr, IfOk, IfSome, OnOk};
 ghost use Rattle.snapshot_core.specs.declared.statuses.Status.{Status as AnyStatus};
 ghost use Rattle.page_store.specs.Keeps.{Keeps, Tells, Untold};
 ghost use Rattle.page_store.specs.Outcome.{Outcome};
 ghost use Rattle.heap_rows.specs.StoredRows.{row_of};
+ghost use Rattle.tx_table.specs.LeavesRest.{NamesStatuses};
 ghost use Rattle.tx_table.specs.Statuses.{OfStatuses, shown_status};
 ghost use Rattle.brin_scan.specs.Finds.{OfSight, sees_stored};
 ghost use Rattle.brin_scan.specs.LastStatuses.{AreHeld, IsHeld};
@@ -58,6 +59,7 @@ pub(crate) fn is_visible<D: Disk + Drop>(
     ensures sees { IfOk result (λ visible. Tells D.told pages.old → OfSight pages.old.layout pages.old.pages snapshot.now own tx.now.first (λ sight. visible ≡ sees_stored sight (row_of row.now))) }
     ensures held { OnOk result (OfStatuses D.told pages.old (λ statuses. AreHeld (shown_status tx.now.first statuses) last.new)) }
     ensures kept { Keeps D.told pages.old pages.new }
+    ensures at { IfErr result (NamesStatuses pages.old.layout) }
     ensures outcome { Outcome D.told (Untold D.told pages.old) pages.old pages.new result }
 {
     let put = match status_of(pages, tx, row.id.t, &mut last.put) {
@@ -83,6 +85,7 @@ fn status_of<D: Disk + Drop>(
     ensures shown { IfOk result (λ status. OfStatuses D.told pages.old (λ statuses. status ≡ shown_status tx.now.first statuses t)) }
     ensures held { OnOk result (OfStatuses D.told pages.old (λ statuses. IsHeld (shown_status tx.now.first statuses) last.new)) }
     ensures kept { Keeps D.told pages.old pages.new }
+    ensures at { IfErr result (NamesStatuses pages.old.layout) }
     ensures outcome { Outcome D.told (Untold D.told pages.old) pages.old pages.new result }
 {
     if let Some(status) = held_status(*last, t) {

@@ -3,10 +3,11 @@ use Rattle.std.proofs.lemmas.List.{drop_more}
 use Rattle.block_model.specs.declared.place.Spot.{Spot}
 use Rattle.block_model.specs.declared.row.Row.{Row}
 use Rattle.page_store.specs.Keeps.{keeps_on}
+use Rattle.store_layout.specs.DiskLayout.{DiskLayout}
 use Rattle.snapshot_core.specs.declared.statuses.Status.{Status}
 use Rattle.heap_rows.specs.declared.rows.Stored.{Stored}
 use Rattle.tx_table.specs.Statuses.{shown_status}
-use Rattle.brin_scan.specs.Finds.{visible_matches}
+use Rattle.brin_scan.specs.Finds.{FaultNamesStatuses, visible_matches}
 use Rattle.brin_scan.specs.LastStatuses.{AreHeld}
 use Rattle.brin_scan.proofs.Held.{keeps_same, none_held, told_after, told_before}
 use Rattle.brin_scan.proofs.Ordered.{IsAhead, begins_ahead, goes_ahead}
@@ -50,7 +51,10 @@ rows-preserved g c =
           let sight = sight_of c.args.snapshot.now c.args.own c.args.tx.now.first statuses in
           let all : List (Row × Spot) = c.args.found.now.items ++ visible_matches sight query block rows in
           one_more sight query block row rest found found' all
-              (told_before told first mid c.rows.invariant.kept (λ (l : List Status). found' ≡ found ++ visible_matches (sight_of c.args.snapshot.now c.args.own c.args.tx.now.first l) query block (row ∷ [])) c.in-Ok.ensures.visible tells statuses has)
-              (subst (λ (l : List Stored). found ++ visible_matches sight query block l ≡ all) is (c.rows.invariant.so_far tells statuses has));
+          (told_before told first mid c.rows.invariant.kept (λ (l : List Status). found' ≡ found ++ visible_matches (sight_of c.args.snapshot.now c.args.own c.args.tx.now.first l) query block (row ∷ [])) c.in-Ok.ensures.visible tells statuses has)
+          (subst (λ (l : List Stored). found ++ visible_matches sight query block l ≡ all) is (c.rows.invariant.so_far tells statuses has));
       held = told_before told first mid c.rows.invariant.kept (λ (statuses : List Status). AreHeld (shown_status c.args.tx.now.first statuses) c.add_visible.new.last) c.in-Ok.ensures.held;
     }
+
+pub returns-in-Err-clause-names : goal.returns-in-Err-clause-names
+returns-in-Err-clause-names g c = subst (λ (l : DiskLayout). FaultNamesStatuses l c.in-Err.fault) c.rows.invariant.kept.leaves.layout c.in-Err.ensures.names
