@@ -1,7 +1,7 @@
 #!/usr/bin/env python3
 """Times selects on a store over a disk in memory, all of whose pages have frames: scan_rows.py. No part of the gate.
 
-Builds a small program over brin_scan in a copy of the crates by LLVM at -O2, and runs it five times. The program isn't proved, so it
+Builds a small program over brin_scan in a copy of the crates by LLVM at -O2, which takes each select fifty times. The program isn't proved, so it
 has the checks of `rt try` in it, and a proved one is somewhat faster. Tells the best time for a row of a select that finds all rows, where
 one transaction put them, so that a status is read once a page, and where two put them by turns, so that one is read for each row; and of a
 select that finds none.
@@ -16,7 +16,7 @@ import tempfile
 from range_tuples import KIT, TRY, toolchain
 
 TOP = os.path.dirname(os.path.dirname(os.path.abspath(__file__)))
-ROWS = 108_800
+ROWS = 5_440
 NEEDED = "scan_bench: block_model store_layout snapshot_core disk_trait page_locks store_format engine_pages heap_rows tx_table brin_scan\n"
 CALLS = ["a row of one transaction", "a row of two by turns", "a row that isn't found"]
 
@@ -39,8 +39,8 @@ use store_format::format;
 use store_layout::Layout;
 use tx_table::TxTable;
 
-/// How many rows each table has: 400 pages of 272.
-const ROWS: u32 = 108_800;
+/// How many rows each table has: 20 pages of 272.
+const ROWS: u32 = 5_440;
 
 /// Adds a table of one int8.
 fn add_table(alloc: Global, tables: &mut Sequence<Table>, name: &[u8]) -> Option<()> {
@@ -70,11 +70,11 @@ fn store(alloc: Global) -> Option<PageStore<SteadyDisk>> {
         indexes: Sequence::new(alloc),
     };
     let sizes = Sizes {
-        heap_blocks: 400,
+        heap_blocks: 20,
         index_blocks: 3,
         status_blocks: 1,
-        log_pages: 8192,
-        frames: 1024,
+        log_pages: 4096,
+        frames: 512,
     };
     let layout = Layout::new(schema, sizes).ok()?;
     let mut disk = SteadyDisk::new(alloc, layout.disk_size()).ok()?;
@@ -152,7 +152,8 @@ fn main(rt: HostRuntime) -> io::Result<()> {
         return Ok(());
     };
     let cases = [(0u8, None), (1, None), (0, Some(-1))];
-    'cases: for (table, only) in cases {
+    'rounds: for round in 0..150 {
+        let (table, only) = cases[round % 3];
         let Some(query) = query(alloc, table, only) else {
             return Ok(());
         };
@@ -179,13 +180,13 @@ def put_files(folder):
 
 
 def run(crate, tools):
-    """Nanoseconds of each select; the program tells how many rows each found."""
+    """Nanoseconds of each select, in fifty rounds; the program tells how many rows each found."""
     words = [sys.executable, "-c", TRY, str(tools), str(KIT / "bin")]
     ran = subprocess.run(words, cwd=crate, capture_output=True, text=True)
     lines = [line.split() for line in ran.stdout.splitlines()]
     took = [(int(line[1]), int(line[2])) for line in lines if line[:1] == ["took"]]
     done = [line[1:] for line in lines if line[:1] == ["done"]]
-    if [count for _, count in took] != [ROWS, ROWS, 0] or done != [["true", "true"]]:
+    if [count for _, count in took] != [ROWS, ROWS, 0] * 50 or done != [["true", "true"]]:
         sys.exit(ran.stdout + ran.stderr)
     return [time for time, _ in took]
 
@@ -194,9 +195,9 @@ def main():
     with tempfile.TemporaryDirectory() as folder:
         tools = toolchain(pathlib.Path(folder) / "toolchain")
         crate = put_files(folder)
-        runs = [run(crate, tools) for _ in range(5)]
-    for name, times in zip(CALLS, zip(*runs)):
-        print(f"{name}: {min(times) / ROWS:.1f} ns")
+        times = run(crate, tools)
+    for at, name in enumerate(CALLS):
+        print(f"{name}: {min(times[at::3]) / ROWS:.1f} ns")
 
 
 if __name__ == "__main__":
