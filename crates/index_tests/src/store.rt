@@ -30,7 +30,8 @@ pub const BLOCKS: u32 = 8;
 /// to show beforehand what its pages have.
 #[derive(Drop)]
 pub struct Trial {
-    pub pages: PageStore<FileDisk>,
+    /// In a box, so that a test that ends early drops one pointer.
+    pub pages: Box<PageStore<FileDisk>>,
 }
 
 impl Model for Trial {
@@ -41,7 +42,7 @@ impl Model for Trial {
 
     ghost view = { λ a. 0 };
 
-    ghost invariant = { λ a. (length a.pages.layout.schema.indexes ≡ 2) × (a.pages.layout.sizes.index_blocks ≡ 8) × (relation_blocks a.pages.layout ≡ 1 ∷ 1 ∷ 8 ∷ 8 ∷ []) };
+    ghost invariant = { λ a. (length a.pages.value.layout.schema.indexes ≡ 2) × (a.pages.value.layout.sizes.index_blocks ≡ 8) × (relation_blocks a.pages.value.layout ≡ 1 ∷ 1 ∷ 8 ∷ 8 ∷ []) };
 }
 
 impl Trial {
@@ -57,6 +58,7 @@ impl Trial {
         if !has_two_indexes(pages.layout()) {
             return None;
         }
+        let pages = Box::new(alloc, pages).ok()?;
         Some(Trial { pages })
     }
 
