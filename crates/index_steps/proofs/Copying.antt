@@ -1,6 +1,6 @@
 -- bytes of a range at a spot, as the protocol sees them there
-use Rattle.std.proofs.Common.{◌≡◌, ◌≢◌, ◌⊎◌, inl, inr, ℕ, ◌≤◌, ◌<◌, ◌^◌, Bool, List, length, Option, None, Some, refl, sym, ap, subst, ◌∙◌, arith}
-use Rattle.std.specs.Prelude.{if◌then◌else◌, Result, Ok, Err}
+use Rattle.std.proofs.Common.{◌≡◌, inl, inr, ℕ, ◌<◌, ◌^◌, Bool, List, length, Some, refl, sym, ap, subst, ◌∙◌, arith}
+use Rattle.std.specs.Prelude.{if◌then◌else◌, Ok, Err}
 use Rattle.std.proofs.lemmas.Bool.{cases_lt, le-ltb, lt-ltb}
 use Rattle.block_model.specs.declared.place.Spot.{Spot}
 use Rattle.byte_fields.specs.Fields.{field_at, number_of}
@@ -18,7 +18,7 @@ use Rattle.range_store.specs.Tuples.{IsOfRange}
 use Rattle.coverage.specs.IndexView.{IndexTuple, map_page_of}
 use Rattle.index_contents.specs.IndexContents.{IndexContents, relation_of}
 use Rattle.revmap.specs.MapEntries.{NamesMap}
-use Rattle.index_steps.specs.IndexTuples.{IndexShape, classes_of, range_said, seen}
+use Rattle.index_steps.specs.IndexTuples.{IndexShape, classes_of, range_said}
 use Rattle.index_steps.specs.Readings.{IsMisnamed, IsMisread, IsReadAs, NamesPageOf, ShowsGone, ShowsTuple}
 use Rattle.index_steps.proofs.Views.{seen_range, seen_there, stands_by}
 

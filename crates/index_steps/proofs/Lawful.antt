@@ -1,5 +1,5 @@
 -- what the limits of a layout say of an index
-use Rattle.std.proofs.Common.{◌≡◌, true, ℕ, ◌≤◌, ◌<◌, List, length, Bool}
+use Rattle.std.proofs.Common.{◌≡◌, true, ℕ, ◌≤◌, ◌<◌, length, Bool}
 use Rattle.std.specs.Prelude.{nat_le, nat_lt}
 use Rattle.std.specs.List.{list_all}
 use Rattle.std.proofs.lemmas.Bool.{and_parts, leb-true, ltb-true}
@@ -7,8 +7,6 @@ use Rattle.std.proofs.lemmas.List.Sums.{AllPass-from_list_all}
 use Rattle.block_model.specs.declared.limits.TheConstants.{MAX_TUPLE}
 use Rattle.block_model.specs.declared.schema.Index.{Index}
 use Rattle.block_model.specs.declared.schema.Part.{Part}
-use Rattle.block_model.specs.declared.schema.Schema.{Schema}
-use Rattle.block_model.specs.declared.schema.Sizes.{Sizes}
 use Rattle.block_model.specs.ClassLimits.{class_is_lawful, is_within}
 use Rattle.block_model.specs.IndexedColumns.{columns_of}
 use Rattle.block_model.specs.TupleSize.{tuple_size}

@@ -1,11 +1,10 @@
 -- locks of an index's pages that are taken
-use Rattle.std.proofs.Common.{◌≡◌, ◌≢◌, ◌⊎◌, inl, inr, ⊎_elim, ℕ, List, [], ◌∷◌, Option, None, Some, refl, sym, ap, ◌∙◌}
+use Rattle.std.proofs.Common.{◌≡◌, ◌≢◌, inl, inr, ⊎_elim, ℕ, List, [], ◌∷◌, Option, None, Some, refl, sym, ap, ◌∙◌}
 use Rattle.std.specs.Prelude.{◌↔◌}
 use Rattle.std.proofs.lemmas.Option.{none-some, same_Some}
 use Rattle.block_model.specs.declared.place.Place.{Place}
 use Rattle.page_locks.specs.LockChanges.{GivesAll, IsFirstHeld, FirstHeld, LaterHeld, IsFreeFor, IsOneOf, TakesAll, page_of}
-use Rattle.coverage.specs.Changes.{IsFree, OwnLocks}
-use Rattle.coverage.specs.IndexView.{IndexView}
+use Rattle.coverage.specs.Changes.{OwnLocks}
 use Rattle.coverage.specs.Knowing.{IsOneOf as IsAmong, LocksNone, LocksThese}
 use Rattle.coverage.specs.Verdicts.{First, IsFirstLocked, Later}
 use Rattle.index_steps.specs.SwapAnswers.{LeavesLocks}

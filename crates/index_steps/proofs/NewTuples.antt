@@ -1,15 +1,11 @@
 -- a tuple of a range that has none, put and named
-use Rattle.std.proofs.Common.{◌≡◌, ◌≢◌, ◌⊎◌, inl, inr, ⊎_elim, ℕ, ◌≤◌, ◌<◌, List, [], ◌∷◌, length, Option, None, Some, refl, sym, ap, subst, ◌∙◌, arith}
+use Rattle.std.proofs.Common.{◌≡◌, ◌⊎◌, inl, inr, ⊎_elim, ℕ, ◌≤◌, ◌<◌, List, [], ◌∷◌, length, Option, None, Some, refl, sym, ap, subst, ◌∙◌, arith}
 use Rattle.std.specs.Option.{option_map}
-use Rattle.std.proofs.lemmas.Option.{none-some, same_Some}
 use Rattle.block_model.specs.declared.place.Place.{Place}
 use Rattle.block_model.specs.declared.place.Spot.{Spot}
-use Rattle.page_locks.specs.LockChanges.{GivesAll, IsFirstHeld, TakesAll, page_of}
+use Rattle.page_locks.specs.LockChanges.{GivesAll, IsFirstHeld, page_of}
 use Rattle.coverage.specs.Changes.{IsFree, OwnLocks}
-use Rattle.coverage.specs.IndexView.{Building, IndexTuple, IndexView, PageKind, Mapping, Regular, Emptying, Pages, map_page_of}
-use Rattle.coverage.specs.Knowing.{LocksNone}
-use Rattle.coverage.specs.PageOrder.{IsForTuples}
-use Rattle.coverage.specs.Steps.{PutsTuple, SetsEntry}
+use Rattle.coverage.specs.IndexView.{IndexView, PageKind, Mapping, Regular, Emptying, Pages, map_page_of}
 use Rattle.coverage.specs.Verdicts.{Full, IsFreeSlot, IsLowestNumber, IsTarget, NoTarget, PutGoes, PutVerdict, PutWaits, Puts, Waits}
 use Rattle.index_contents.specs.IndexContents.{IndexContents}
 use Rattle.index_contents.specs.IndexChanges.{PutsBytes, SetsEntry as SetsEntryIn}
@@ -17,9 +13,8 @@ use Rattle.revmap.specs.MapEntries.{HoldsRange}
 use Rattle.index_steps.specs.IndexTuples.{IndexShape, seen}
 use Rattle.index_steps.specs.PlaceAnswers.{IsPlacing, NamesIn}
 use Rattle.index_steps.specs.ShownIndex.{Shows}
-use Rattle.index_steps.specs.SwapAnswers.{view_after}
-use Rattle.index_steps.proofs.Locking.{first_locked, takes_own, takes_these}
-use Rattle.index_steps.proofs.Views.{free_there, no_bytes_there, none_there, none_locked, seen_bytes, turned_there}
+use Rattle.index_steps.proofs.Locking.{first_locked}
+use Rattle.index_steps.proofs.Views.{free_there, no_bytes_there, none_there, seen_bytes}
 
 module _ (shape : IndexShape) (c : IndexContents) (lock : ℕ → Option ℕ) (s range : ℕ) (bytes : List ℕ) (w : IndexView) (shows : Shows shape c lock w) where
   new_target_there : (p : ℕ) → IsTarget c.pages (length bytes) p → IsTarget w.pages (length (seen shape bytes).bytes) p

@@ -1,5 +1,5 @@
 -- a new tuple in the place of the one that was copied, or on another page
-use Rattle.std.proofs.Common.{◌≡◌, ◌≢◌, ◌⊎◌, inl, inr, ⊎_elim, ℕ, ◌≤◌, ◌<◌, List, [], ◌∷◌, length, Option, None, Some, refl, sym, ap, subst, ◌∙◌}
+use Rattle.std.proofs.Common.{◌≡◌, ◌≢◌, inl, inr, ⊎_elim, ℕ, ◌≤◌, List, [], ◌∷◌, length, Option, Some, refl, sym, ap, subst, ◌∙◌}
 use Rattle.std.specs.Option.{option_map}
 use Rattle.block_model.specs.declared.place.Place.{Place}
 use Rattle.block_model.specs.declared.place.Spot.{Spot}
@@ -8,9 +8,9 @@ use Rattle.page_store.specs.PageMap.{PageMap}
 use Rattle.page_locks.specs.LockChanges.{IsFirstHeld, TakesAll, page_of}
 use Rattle.page_locks.specs.LockHolders.{LockState}
 use Rattle.coverage.specs.Changes.{IsFree}
-use Rattle.coverage.specs.IndexView.{Building, IndexTuple, IndexView, Pages, Regular, map_page_of}
-use Rattle.coverage.specs.Knowing.{LocksNone, LocksThese}
-use Rattle.coverage.specs.Steps.{PutsTuple, ReadsIndex, ReplacesTuple}
+use Rattle.coverage.specs.IndexView.{Building, IndexView, Pages, Regular, map_page_of}
+use Rattle.coverage.specs.Knowing.{LocksNone}
+use Rattle.coverage.specs.Steps.{PutsTuple, ReplacesTuple}
 use Rattle.coverage.specs.Verdicts.{Differs, Fits, Full, IsFreeSlot, IsLowestNumber, IsTarget, MustMove, NoTarget, PutGoes, PutWaits, Puts}
 use Rattle.coverage.specs.Verdicts.{SwapDiffers, SwapFits, SwapMoves, SwapVerdict, SwapWaits, Waits}
 use Rattle.index_contents.specs.IndexContents.{IndexContents, contents}
@@ -19,8 +19,8 @@ use Rattle.index_steps.specs.IndexTuples.{IndexShape, seen, shape_of}
 use Rattle.index_steps.specs.ShownIndex.{Shows, lock_in}
 use Rattle.index_steps.specs.SwapAnswers.{MustLeave, SwapMakes, view_after}
 use Rattle.index_steps.specs.declared.swapping.Swapped.{Swapped}
-use Rattle.index_steps.proofs.Locking.{first_locked, takes_own, takes_these}
-use Rattle.index_steps.proofs.Views.{free_there, no_bytes_there, none_there, none_locked, other_there, reads_index, same_locks, seen_bytes, seen_there, turned_there}
+use Rattle.index_steps.proofs.Locking.{first_locked, takes_own}
+use Rattle.index_steps.proofs.Views.{free_there, no_bytes_there, none_there, none_locked, other_there, same_locks, seen_bytes, seen_there, turned_there}
 
 module _ (shape : IndexShape) (c : IndexContents) (lock : ℕ → Option ℕ) (s range : ℕ) (x : Spot) (copied bytes : List ℕ) (w : IndexView) (shows : Shows shape c lock w) where
   -- another locks the old tuple's page

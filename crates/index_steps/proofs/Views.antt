@@ -1,16 +1,15 @@
 -- indexes that pages and locks show: tuples by their bytes, and what stays
-use Rattle.std.proofs.Common.{◌≡◌, ◌≢◌, ◌⊎◌, inl, inr, ⊎_elim, ℕ, List, Option, None, Some, refl, sym, ap, subst, ◌∙◌}
+use Rattle.std.proofs.Common.{◌≡◌, ◌≢◌, ℕ, List, Option, None, Some, refl, sym, ap, subst, ◌∙◌}
 use Rattle.std.specs.Option.{option_map}
 use Rattle.std.proofs.lemmas.Option.{none-some, same_Some}
 use Rattle.block_model.specs.declared.place.Spot.{Spot}
-use Rattle.range_tuple.specs.TupleReading.{tuple_in}
 use Rattle.coverage.specs.Changes.{IsFree, OwnLocks}
 use Rattle.coverage.specs.IndexView.{Building, IndexTuple, IndexView, PageKind, Pages}
 use Rattle.coverage.specs.Knowing.{LocksNone}
 use Rattle.coverage.specs.Steps.{ReadsIndex, TurnsPage}
 use Rattle.index_contents.specs.IndexContents.{IndexContents}
-use Rattle.index_steps.specs.IndexTuples.{IndexShape, classes_of, range_said, seen, seen_as}
-use Rattle.index_steps.specs.ShownIndex.{Shows, tuple_in_place}
+use Rattle.index_steps.specs.IndexTuples.{IndexShape, range_said, seen}
+use Rattle.index_steps.specs.ShownIndex.{Shows}
 use Rattle.index_steps.specs.SwapAnswers.{view_after}
 
 -- a tuple that is seen has its bytes, and the range that they say

@@ -7,7 +7,7 @@ use Rattle.page_store.specs.declared.faults.StoreError.TheVariants as errors
 use Rattle.range_tuple.specs.TupleBytes.{tuple_bytes}
 use Rattle.range_tuple.specs.TupleReading.{tuple_in}
 use Rattle.range_tuple.specs.Tuples.{Tuple}
-use Rattle.coverage.specs.IndexView.{IndexTuple, IndexView}
+use Rattle.coverage.specs.IndexView.{IndexView}
 use Rattle.coverage.specs.Steps.{IsGone, Stands}
 use Rattle.index_contents.specs.IndexContents.{IndexContents, relation_of}
 use Rattle.index_steps.specs.IndexTuples.{IndexShape, classes_of, range_said, seen}

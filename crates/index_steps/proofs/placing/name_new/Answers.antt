@@ -1,4 +1,3 @@
-use Rattle.std.proofs.Common.{refl}
 use Rattle.index_contents.specs.IndexContents.{contents, relation_of}
 use Rattle.page_locks.specs.LockHolders.{holder}
 use Rattle.index_steps.specs.IndexTuples.{shape_of}

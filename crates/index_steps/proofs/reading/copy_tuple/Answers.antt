@@ -1,4 +1,4 @@
-use Rattle.std.proofs.Common.{◌≡◌, ℕ, ◌<◌, ◌^◌, List, refl, sym, ap, subst, ◌∙◌, arith}
+use Rattle.std.proofs.Common.{◌≡◌, ℕ, List, refl, subst, arith}
 use Rattle.index_contents.specs.IndexContents.{contents}
 use Rattle.range_tuple.specs.TupleReading.{read_of}
 use Rattle.range_tuple.specs.Tuples.{parts_of}

@@ -1,4 +1,4 @@
-use Rattle.std.proofs.Common.{◌≡◌, ℕ, ◌<◌, ◌≤◌, ◌^◌, List, refl, sym, ap, ◌∙◌, arith}
+use Rattle.std.proofs.Common.{refl, sym, ap, ◌∙◌, arith}
 use Rattle.index_contents.specs.IndexContents.{IndexContents, contents}
 use Rattle.coverage.specs.IndexView.{map_page_of}
 use Rattle.index_steps.proofs.Copying.{is_misnamed, names_page, said_of}

@@ -1,4 +1,4 @@
-use Rattle.std.proofs.Common.{◌≡◌, ◌<◌, ◌≤◌, drop, take, sym, ap, ◌∙◌, arith}
+use Rattle.std.proofs.Common.{drop, take, sym, ap, ◌∙◌, arith}
 use Rattle.std.proofs.lemmas.List.{take_at}
 use Rattle.range_tuple.specs.TupleBytes.{tuple_bytes}
 use Rattle.index_steps.proofs.Sizes.{some_bytes}

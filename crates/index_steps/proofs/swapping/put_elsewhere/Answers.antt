@@ -1,8 +1,8 @@
-use Rattle.std.proofs.Common.{◌≡◌, ◌≢◌, inl, inr, ℕ, List, [], ◌∷◌, length, Option, Some, refl, sym, ap, subst, ◌∙◌}
+use Rattle.std.proofs.Common.{◌≡◌, inl, inr, ℕ, List, [], ◌∷◌, length, Option, refl, sym, ap, subst, ◌∙◌}
 use Rattle.block_model.specs.declared.place.Place.{Place}
 use Rattle.block_model.specs.declared.schema.Sizes.{Sizes}
 use Rattle.store_layout.specs.DiskLayout.{DiskLayout}
-use Rattle.page_locks.specs.LockChanges.{IsFirstHeld, IsFreeFor, TakesAll, page_of}
+use Rattle.page_locks.specs.LockChanges.{IsFirstHeld, TakesAll}
 use Rattle.page_locks.specs.LockHolders.{holder}
 use Rattle.coverage.specs.IndexView.{map_page_of}
 use Rattle.coverage.specs.Verdicts.{IsTarget}
