@@ -11,7 +11,6 @@ use Rattle.page_locks.specs.declared.held.Held.{Held}
 use Rattle.page_locks.specs.LockHolders.{LockState}
 use Rattle.page_locks.specs.RightHolders.{right_of}
 use Rattle.index_contents.specs.IndexContents.{contents}
-use Rattle.index_steps.specs.declared.swapping.Within.{Within}
 use Rattle.index_steps.specs.IndexTuples.{index_at, shape_of}
 use Rattle.brin_summarise.specs.declared.course.Course.{Course}
 use Rattle.brin_summarise.specs.declared.course.Standing.{Standing}

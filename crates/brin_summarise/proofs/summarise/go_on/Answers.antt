@@ -1,4 +1,4 @@
-use Rattle.std.proofs.Common.{◌≡◌, ℕ, ◌+◌, ◌≤◌, length, refl, sym, ap, subst, ◌∙◌, arith}
+use Rattle.std.proofs.Common.{◌≡◌, ℕ, ◌+◌, ◌≤◌, refl, sym, ap, subst, ◌∙◌, arith}
 use Rattle.store_layout.specs.DiskLayout.{DiskLayout}
 use Rattle.index_steps.specs.SwapAnswers.{TakesAtMost}
 use Rattle.brin_summarise.specs.declared.stage.Stage.{Stage}
