@@ -73,4 +73,10 @@ returns-clause-of g c =
     (c.come_to.ensures.last c.if-come_to.false c.args.index points.Right)
 
 pub returns-then-come_to-clause-exact : goal.returns-then-come_to-clause-exact
-returns-then-come_to-clause-exact g c = λ tells blocks has. c.come_to.ensures.exact c.args.pages.now.layout blocks c.args.index
+returns-then-come_to-clause-exact g c = λ tells blocks has. record { keeps = λ exact. c.come_to.ensures.exact c.args.pages.now.layout blocks c.args.index }
+
+pub returns-clause-exact : goal.returns-clause-exact
+returns-clause-exact g c = λ tells blocks has. record { keeps = λ exact. c.come_to.ensures.exact c.args.pages.now.layout blocks c.args.index }
+
+pub returns-in-Err-take-clause-exact : goal.returns-in-Err-take-clause-exact
+returns-in-Err-take-clause-exact g c = λ tells blocks has. record { keeps = λ exact. exact }

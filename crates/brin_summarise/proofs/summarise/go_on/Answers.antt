@@ -33,10 +33,10 @@ returns-in-Err-clause-of g c =
     stays_well c.args.pages.now.layout (state_of c.args.index c.args.course.now c.args.work.now) c.step.new.self c.requires.of c.step.ensures.of (subst (λ (q : Stage). IsAtWork q) (sym c.in-Err.ensures.stays) (c.requires.of.at_range c.requires.at).3)
 
 pub returns-in-Ok-Moved-clause-exact : goal.returns-in-Ok-Moved-clause-exact
-returns-in-Ok-Moved-clause-exact g c = λ tells blocks has exact at. c.in-Ok-Moved.ensures.exact tells blocks has (exact at)
+returns-in-Ok-Moved-clause-exact g c = λ tells blocks has. record { keeps = λ exact at. c.in-Ok-Moved.ensures.exact tells blocks has (exact at) }
 
 pub returns-in-Ok-Blocked-clause-exact : goal.returns-in-Ok-Blocked-clause-exact
-returns-in-Ok-Blocked-clause-exact g c = λ tells blocks has exact at. c.in-Ok-Blocked.ensures.exact tells blocks has (exact at)
+returns-in-Ok-Blocked-clause-exact g c = λ tells blocks has. record { keeps = λ exact at. c.in-Ok-Blocked.ensures.exact tells blocks has (exact at) }
 
 pub step-requires-clause-locks : goal.step-requires-clause-locks
 step-requires-clause-locks g c = λ some.
@@ -143,4 +143,7 @@ returns-else-come_to-clause-of g c =
     (c.come_to.ensures.last c.if-come_to.false c.args.index c.in-Ok-Finished.point)
 
 pub returns-then-come_to-clause-exact : goal.returns-then-come_to-clause-exact
-returns-then-come_to-clause-exact g c = λ tells blocks has exact. c.come_to.ensures.exact c.args.pages.now.layout blocks c.args.index
+returns-then-come_to-clause-exact g c = λ tells blocks has. record { keeps = λ exact. c.come_to.ensures.exact c.args.pages.now.layout blocks c.args.index }
+
+pub returns-else-come_to-clause-exact : goal.returns-else-come_to-clause-exact
+returns-else-come_to-clause-exact g c = λ tells blocks has. record { keeps = λ exact. c.come_to.ensures.exact c.args.pages.now.layout blocks c.args.index }
