@@ -1,12 +1,12 @@
 -- calls of a summarise's step as steps of its session alone
-use Rattle.std.proofs.Common.{◌≡◌, ℕ, suc, ◌≤◌, List, [], ◌∷◌, Option, Some, refl, sym, subst, ◌∙◌, arith}
+use Rattle.std.proofs.Common.{◌≡◌, ℕ, suc, ◌≤◌, List, [], ◌∷◌, Option, Some, refl, sym, subst, ◌∙◌}
 use Rattle.block_model.specs.declared.reply.Point.{Point}
 use Rattle.coverage.specs.Statements.{Phase}
 use Rattle.table_coverage.specs.Accounts.{Account}
 use Rattle.table_coverage.specs.GoingOn.{LastAlone, OneMoreAlone, StepsAlone}
 use Rattle.table_coverage.specs.Machines.{MachineWaits, ShownTable, Unseen, table_state, task_turned}
 use Rattle.table_coverage.specs.StepsLeft.{HasAtMostTuples, IsSummarise, summarise_steps}
-use Rattle.table_coverage.specs.Table.{Job, Maintains, Resting, Task, TableState}
+use Rattle.table_coverage.specs.Table.{Job, Maintains, Task, TableState}
 use Rattle.table_coverage.specs.TableCovered.{IsMaintenance, IsTableKept}
 use Rattle.table_coverage.specs.TablePoints.{WaitedFor}
 use Rattle.table_coverage.specs.TableSteps.{TableDone, TableNext, TableRun, TableStep}

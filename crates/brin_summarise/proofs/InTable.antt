@@ -1,5 +1,5 @@
 -- each step of a summarise, as what came of it in its table
-use Rattle.std.proofs.Common.{◌≡◌, ◌≢◌, ◌⊎◌, inl, inr, ℕ, suc, ◌+◌, ◌*◌, ◌/◌, ◌^◌, ◌<◌, ◌≤◌, List, length, Option, None, Some, refl, sym, ap, subst, ◌∙◌, arith}
+use Rattle.std.proofs.Common.{◌≡◌, ◌≢◌, inl, inr, ℕ, ◌+◌, ◌/◌, ◌^◌, ◌<◌, List, length, Option, None, Some, refl, sym, ap, subst, ◌∙◌, arith}
 use Rattle.std.specs.Prelude.{slice_get}
 use Rattle.std.proofs.lemmas.Bool.{cases_eq}
 use Rattle.std.proofs.lemmas.Option.{slice_get_within}
@@ -20,7 +20,7 @@ use Rattle.table_coverage.specs.Machines.{ShownTable, Unseen, table_state, task_
 use Rattle.table_coverage.specs.Refusals.{MaintainFull}
 use Rattle.table_coverage.specs.Table.{Considers, EachRange, Job, Maintains, OneRange, Resting, Task, TableState, index_view_at}
 use Rattle.table_coverage.specs.TableCovered.{IsMaintenance, IsTableKept}
-use Rattle.table_coverage.specs.TableSteps.{BeginsWith, Does, NoPage, SameRows, Settles, Summarize, SummarizeOne, SummariseLockHeld, TakesLock, TaskTurns}
+use Rattle.table_coverage.specs.TableSteps.{BeginsWith, Does, NoPage, SameRows, Summarize, SummarizeOne, SummariseLockHeld, TakesLock, TaskTurns}
 use Rattle.index_steps.specs.IndexTuples.{shape_of}
 use Rattle.index_steps.specs.ShownRows.{shown_by}
 use Rattle.index_steps.specs.ShownTable.{indexes_of}
@@ -30,7 +30,7 @@ use Rattle.brin_summarise.specs.declared.wish.Wish.{Wish}
 use Rattle.brin_summarise.specs.declared.wish.Wish.TheVariants as wishes
 use Rattle.brin_summarise.specs.SummariseHands.{SummariseHand, table_of}
 use Rattle.brin_summarise.specs.SummariseSteps.{phase_of}
-use Rattle.brin_summarise.specs.Summarises.{Begins, ComesTo, EndsRange, FullAt, GoesOver, IsSummariseOf, LacksRight, NoneIsLeft, RangeIsNext, StoreStays, StoreStep, SummariseDoes, SummariseState, TakesRight, Waits, WorksAt, after_range, at_first, first_of, in_range_of}
+use Rattle.brin_summarise.specs.Summarises.{Begins, ComesTo, EndsRange, FullAt, IsSummariseOf, LacksRight, NoneIsLeft, RangeIsNext, StoreStep, SummariseDoes, SummariseState, TakesRight, Waits, WorksAt, after_range, at_first, first_of, in_range_of}
 use Rattle.brin_summarise.specs.Summarises.{GoesOn as StepGoesOn}
 use Rattle.brin_summarise.specs.TableSteps.{DoesInTable, HasCounted, IsSummariseFull, LeavesTheRest, account_by, job_of, lock_turned, shown_after, shown_before, task_of}
 use Rattle.brin_summarise.proofs.Settling.{comes_to_range, pick_other, pick_same, replies, stays_there}

@@ -1,5 +1,5 @@
 -- what a summarise has of a table that is kept
-use Rattle.std.proofs.Common.{◌≡◌, ℕ, List, Option, Some, refl, sym, ap, subst, ◌∙◌}
+use Rattle.std.proofs.Common.{◌≡◌, ℕ, List, Option, Some, ap, ◌∙◌}
 use Rattle.std.specs.Prelude.{slice_get}
 use Rattle.std.proofs.lemmas.Option.{slice_get_within}
 use Rattle.store_layout.specs.DiskLayout.{DiskLayout}
@@ -8,9 +8,9 @@ use Rattle.page_locks.specs.LockHolders.{LockState}
 use Rattle.page_store.specs.PageMap.{PageMap}
 use Rattle.coverage.specs.IndexView.{IsPastMap}
 use Rattle.coverage.specs.IsCovered.{IndexState, IsIndexKept, index_view}
-use Rattle.coverage.specs.Statements.{Holding, Maintaining, Phase, Statement}
+use Rattle.coverage.specs.Statements.{Holding, Maintaining, Phase}
 use Rattle.table_coverage.specs.Machines.{Unseen, table_state}
-use Rattle.table_coverage.specs.Table.{Maintains, Task, TableState, index_state, seen_by}
+use Rattle.table_coverage.specs.Table.{Task, TableState, index_state, seen_by}
 use Rattle.table_coverage.specs.TableCovered.{IsTableKept}
 use Rattle.index_contents.specs.IndexContents.{IndexContents, contents}
 use Rattle.index_steps.specs.IndexTuples.{IndexShape, shape_of}
@@ -22,7 +22,7 @@ use Rattle.brin_summarise.specs.declared.stage.Stage.TheVariants as stages
 use Rattle.brin_summarise.specs.StepCauses.{DamageAt, IsReady}
 use Rattle.brin_summarise.specs.SummariseHands.{SummariseHand, table_of}
 use Rattle.brin_summarise.specs.SummariseSteps.{phase_of}
-use Rattle.brin_summarise.specs.Summarises.{DamageIn, ReadyAt, SummariseState, in_range_of}
+use Rattle.brin_summarise.specs.Summarises.{DamageIn, ReadyAt, SummariseState}
 use Rattle.brin_summarise.specs.TableSteps.{task_at, task_of}
 use Rattle.brin_summarise.proofs.Settling.{pick_same}
 use Rattle.brin_summarise.proofs.Shown.{shows_here}

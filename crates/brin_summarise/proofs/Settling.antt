@@ -1,10 +1,10 @@
 -- where a summarise comes by a step in its table
-use Rattle.std.proofs.Common.{◌≡◌, ◌≢◌, ◌⊎◌, inl, inr, ℕ, zero, suc, ◌*◌, ◌/◌, ◌<◌, Option, None, Some, refl, sym, ap, subst, ◌∙◌}
+use Rattle.std.proofs.Common.{◌≡◌, ◌≢◌, inl, inr, ℕ, zero, suc, ◌*◌, ◌<◌, Option, None, refl, sym, ap, subst, ◌∙◌}
 use Rattle.std.proofs.lemmas.Bool.{cases_eq}
 use Rattle.coverage.specs.Statements.{Empty, NotBuilding, Phase}
 use Rattle.table_coverage.specs.Machines.{ShownTable, Unseen, table_state, task_turned}
 use Rattle.table_coverage.specs.Table.{Considers, Job, Maintains, Resting, Task, TableState, pick}
-use Rattle.table_coverage.specs.TableSteps.{GivesLock, GoesOn, HasRange, IsLastIndex, IsMaintained, Onward, RangesDone, SameIndexes, SameRows, Settles, Stays, TaskTurns, ToRange}
+use Rattle.table_coverage.specs.TableSteps.{GivesLock, GoesOn, HasRange, IsLastIndex, Onward, RangesDone, SameRows, Settles, Stays, TaskTurns, ToRange}
 use Rattle.brin_summarise.specs.declared.wish.Wish.{Wish}
 use Rattle.brin_summarise.specs.declared.wish.Wish.TheVariants as wishes
 use Rattle.brin_summarise.specs.Summarises.{GoesOver}

@@ -1,41 +1,37 @@
 -- a step of a summarise at its range, in its table
-use Rattle.std.proofs.Common.{◌≡◌, ◌≢◌, ◌⊎◌, inl, inr, ℕ, suc, ◌+◌, ◌*◌, ◌/◌, ◌^◌, ◌<◌, ◌≤◌, List, length, Option, None, Some, refl, sym, ap, subst, ◌∙◌, arith}
+use Rattle.std.proofs.Common.{◌≡◌, ◌≢◌, inl, inr, ℕ, suc, ◌*◌, ◌^◌, ◌<◌, List, length, Option, None, Some, refl, sym, ap, subst, ◌∙◌, arith}
 use Rattle.std.specs.Prelude.{slice_get}
 use Rattle.std.proofs.lemmas.Bool.{cases_eq}
 use Rattle.std.proofs.lemmas.Option.{slice_get_within}
-use Rattle.block_model.specs.declared.place.Place.{Place}
-use Rattle.block_model.specs.declared.place.Spot.{Spot}
 use Rattle.block_model.specs.declared.reply.Point.{Point}
-use Rattle.store_layout.specs.DiskLayout.{DiskLayout}
 use Rattle.page_locks.specs.LockChanges.{page_of}
 use Rattle.page_locks.specs.LockHolders.{holder}
 use Rattle.coverage.specs.IndexPart.{IndexPart, SummariseMakes}
 use Rattle.coverage.specs.IndexView.{Contents, IndexView, IsRangeOf}
-use Rattle.coverage.specs.Knowing.{Knows, LocksNone}
+use Rattle.coverage.specs.Knowing.{Knows}
 use Rattle.coverage.specs.PageOrder.{KnowsPages}
 use Rattle.coverage.specs.Statements.{Holding, Maintaining, Phase, Statement}
 use Rattle.table_coverage.specs.InOneIndex.{DoesAt, JobMakes, index_with, with_index, with_ranges}
 use Rattle.table_coverage.specs.Machines.{ShownTable, Unseen, table_state, task_turned}
-use Rattle.table_coverage.specs.Refusals.{IsTaskFull, MaintainFull}
 use Rattle.table_coverage.specs.Table.{Considers, Job, Maintains, Task, TableState, index_view_at, pick, seen_by}
 use Rattle.table_coverage.specs.TableCovered.{IsInTable, IsMaintenance, IsTableKept}
 use Rattle.table_coverage.specs.TablePoints.{PageLock, waits_for}
-use Rattle.table_coverage.specs.TableSteps.{IsBlocked, NoPage, SummariseWaits}
+use Rattle.table_coverage.specs.TableSteps.{IsBlocked, SummariseWaits}
 use Rattle.index_contents.specs.IndexContents.{contents, relation_of}
-use Rattle.index_steps.specs.IndexTuples.{IndexShape, contents_of, index_at, shape_of}
+use Rattle.index_steps.specs.IndexTuples.{IndexShape, contents_of, shape_of}
 use Rattle.index_steps.specs.ShownIndex.{Shows, lock_in, shown_part}
 use Rattle.index_steps.specs.ShownTable.{indexes_of, shown_at}
 use Rattle.brin_summarise.specs.declared.stage.Stage.{Stage}
 use Rattle.brin_summarise.specs.declared.stage.Stage.TheVariants as stages
 use Rattle.brin_summarise.specs.declared.wish.Wish.{Wish}
 use Rattle.brin_summarise.specs.declared.wish.Wish.TheVariants as wishes
-use Rattle.brin_summarise.specs.ShownHeap.{Heap, heap_of}
+use Rattle.brin_summarise.specs.ShownHeap.{heap_of}
 use Rattle.brin_summarise.specs.SummariseHands.{SummariseHand, table_of}
-use Rattle.brin_summarise.specs.SummariseSteps.{IsAtWork, IsDone, StepFull, StepMakes, StepWaits, phase_at, phase_of, statement_at, summarise_at}
+use Rattle.brin_summarise.specs.SummariseSteps.{IsAtWork, IsDone, StepMakes, StepWaits, phase_at, phase_of, statement_at, summarise_at}
 use Rattle.brin_summarise.specs.Summarises.{StoreStep, SummariseState, in_range_of}
-use Rattle.brin_summarise.specs.TableSteps.{IsSummariseFull, LeavesTheRest, SummariseWaitsFor, job_of, lock_turned, shown_after, shown_before}
+use Rattle.brin_summarise.specs.TableSteps.{LeavesTheRest, job_of, lock_turned, shown_after, shown_before}
 use Rattle.brin_summarise.proofs.Settling.{pick_other}
-use Rattle.brin_summarise.proofs.Shown.{apart_numbers, each_here, heap_here, same_one, shown_one, shows_here}
+use Rattle.brin_summarise.proofs.Shown.{apart_numbers, heap_here, same_one, shown_one, shows_here}
 
 -- the laws of the table that are taken up
 abbrev pub MaintainGoes : Type 0

@@ -11,7 +11,6 @@ use Rattle.page_locks.specs.declared.held.Held.{Held}
 use Rattle.page_locks.specs.LockHolders.{LockState}
 use Rattle.page_locks.specs.RightHolders.{right_of}
 use Rattle.index_contents.specs.IndexContents.{contents}
-use Rattle.index_steps.specs.declared.swapping.Within.{Within}
 use Rattle.index_steps.specs.IndexTuples.{index_at, shape_of}
 use Rattle.brin_summarise.specs.declared.course.Course.{Course}
 use Rattle.brin_summarise.specs.declared.course.Standing.{Standing}
@@ -200,3 +199,7 @@ DamageIn layout pages a = (a.standing ≡ standings.AtRange) × DamageAt (shape_
 -- what it has of the range that it is at is exact, as long as the rows of the table stay
 abbrev pub IsExactNow : DiskLayout → List (List Slot) → SummariseState → Type 0
 IsExactNow layout blocks a = a.standing ≡ standings.AtRange → IsExactAt (shape_of layout a.index) (heap_of layout a.index blocks) a.range a.hand a.hand.stage
+
+-- it stays so
+pub record KeepsExact (layout : DiskLayout) (blocks : List (List Slot)) (old new : SummariseState) : Type 0 where
+  pub keeps : IsExactNow layout blocks old → IsExactNow layout blocks new

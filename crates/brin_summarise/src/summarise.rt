@@ -11,7 +11,7 @@ ghost use Rattle.index_steps.specs.StepAnswers.{BlockedWell, IsOfStore, NeverBlo
 ghost use Rattle.index_steps.specs.SwapAnswers.{LeavesLocks, MachineOutcome, SaysFullIn, TakesAtMost};
 ghost use Rattle.brin_summarise.specs.SummariseHands.{table_of};
 ghost use Rattle.brin_summarise.specs.StepCauses.{NamesPageAt};
-ghost use Rattle.brin_summarise.specs.Summarises.{DamageIn, FullAt, GivesBy, IsExactNow, IsSummariseOf, ReadyAt, RightAnswers, StandsThen, SummariseDoes, count_of, held_by, state_of, step_of, taken_by};
+ghost use Rattle.brin_summarise.specs.Summarises.{DamageIn, FullAt, GivesBy, IsSummariseOf, KeepsExact, ReadyAt, RightAnswers, StandsThen, SummariseDoes, count_of, held_by, state_of, step_of, taken_by};
 
 use crate::course::{
     Course, Standing, a_summarise_begins_without_locks, come_to, first_of, made_at,
@@ -99,7 +99,7 @@ impl Summarise {
         requires locks { 0 < taken_by self.old → locks_held locks.old + taken_by self.old ≤ locks.old.limit }
         requires ready { Tells D.told pages.old → ReadyAt pages.old.layout pages.old.pages self.old }
         ensures does { IfOk result (λ did. OfBlocks D.told pages.old (table_of pages.old.layout self.old.index) (λ blocks. SummariseDoes (step_of pages.old.layout pages.old.pages pages.new.pages locks.old locks.new rights.old rights.new actor blocks) self.old self.new did)) }
-        ensures exact { IfOk result (λ did. OfBlocks D.told pages.old (table_of pages.old.layout self.old.index) (λ blocks. IsExactNow pages.old.layout blocks self.old → IsExactNow pages.old.layout blocks self.new)) }
+        ensures exact { IfOk result (λ did. OfBlocks D.told pages.old (table_of pages.old.layout self.old.index) (λ blocks. KeepsExact pages.old.layout blocks self.old self.new)) }
         ensures stands { IfOk result (StandsThen self.old self.new) }
         ensures of { IsSummariseOf pages.old.layout self.new }
         ensures same_index { self.new.index ≡ self.old.index }
@@ -157,7 +157,7 @@ fn begin<D: Disk + Drop>(
     requires begins { course.old.standing ≡ Standing.Begins }
     requires rights { length pages.now.layout.schema.tables ≤ length rights.old }
     ensures does { IfOk result (λ did. OfBlocks D.told pages.now (table_of pages.now.layout index) (λ blocks. (locks : LockState) → SummariseDoes (step_of pages.now.layout pages.now.pages pages.now.pages locks locks rights.old rights.new actor blocks) (state_of index course.old work.old) (state_of index course.new work.new) did)) }
-    ensures exact { IfOk result (λ did. OfBlocks D.told pages.now (table_of pages.now.layout index) (λ blocks. IsExactNow pages.now.layout blocks (state_of index course.new work.new))) }
+    ensures exact { IfOk result (λ did. OfBlocks D.told pages.now (table_of pages.now.layout index) (λ blocks. KeepsExact pages.now.layout blocks (state_of index course.old work.old) (state_of index course.new work.new))) }
     ensures stands { IfOk result (StandsThen (state_of index course.old work.old) (state_of index course.new work.new)) }
     ensures holds_none { held_by (state_of index course.new work.new) ≡ 0 }
     ensures stays { OnErr result ((state_of index course.new work.new ≡ record (state_of index course.old work.old) { hand = work.new }) × (work.new.stage ≡ work.old.stage)) }
@@ -205,7 +205,7 @@ fn go_on<D: Disk + Drop>(
     requires locks { 0 < taken_by (state_of index course.old work.old) → locks_held locks.old + taken_by (state_of index course.old work.old) ≤ locks.old.limit }
     requires ready { Tells D.told pages.old → ReadyAt pages.old.layout pages.old.pages (state_of index course.old work.old) }
     ensures does { IfOk result (λ did. OfBlocks D.told pages.old (table_of pages.old.layout index) (λ blocks. (rights : List (Option ℕ)) → SummariseDoes (step_of pages.old.layout pages.old.pages pages.new.pages locks.old locks.new rights rights actor blocks) (state_of index course.old work.old) (state_of index course.new work.new) did)) }
-    ensures exact { IfOk result (λ did. OfBlocks D.told pages.old (table_of pages.old.layout index) (λ blocks. IsExactNow pages.old.layout blocks (state_of index course.old work.old) → IsExactNow pages.old.layout blocks (state_of index course.new work.new))) }
+    ensures exact { IfOk result (λ did. OfBlocks D.told pages.old (table_of pages.old.layout index) (λ blocks. KeepsExact pages.old.layout blocks (state_of index course.old work.old) (state_of index course.new work.new))) }
     ensures stands { IfOk result (StandsThen (state_of index course.old work.old) (state_of index course.new work.new)) }
     ensures of { IsSummariseOf pages.old.layout (state_of index course.new work.new) }
     ensures blocked { IfOk result (BlockedWell D.told index actor pages.old pages.new locks.old locks.new) }

@@ -22,10 +22,10 @@ returns-then-come_to-clause-does g c = λ tells blocks has locks.
     let table : c.table_of-table.result ≡ table_of store.layout c.args.index = c.table_of-table.ensures.number ∙ ap (λ (l : DiskLayout). table_of l c.args.index) c.layout-layout.ensures in
     let each : c.blocks_a_range-in_range.result ≡ in_range_of store.layout c.args.index = c.blocks_a_range-in_range.ensures.number ∙ ap (λ (l : DiskLayout). in_range_of l c.args.index) c.layout-layout.ensures in
     let has_too : HasBlocks store.layout store.pages c.table_of-table.result blocks = subst (λ (t : ℕ). HasBlocks store.layout store.pages t blocks) (sym table) has in
-    let count : c.from.result ≡ length blocks = c.from.ensures ∙ c.blocks-extent.ensures.count tells blocks has_too in
+    let count : c.from-course.result ≡ length blocks = c.from-course.ensures ∙ c.blocks-extent.ensures.count tells blocks has_too in
     Begins _ _ c.requires.begins
     (takes_right store.layout store.pages locks c.args.rights.now c.take.new.self c.args.actor c.table_of-table.result (table_of store.layout c.args.index) blocks table c.in-Ok-take.ensures.free c.in-Ok-take.ensures.taken)
-    (comes_first store.layout c.blocks_a_range-in_range.result c.args.index c.from.result c.first_of.result blocks c.args.course.now c.args.work.now points.Right _ _ each count c.first_of.ensures
+    (comes_first store.layout c.blocks_a_range-in_range.result c.args.index c.from-course.result c.first_of-course.result blocks c.args.course.now c.args.work.now points.Right _ _ each count c.first_of-course.ensures
     (c.come_to.ensures.next c.if-come_to.true c.args.index points.Right))
 
 pub returns-clause-does : goal.returns-clause-does
@@ -34,17 +34,16 @@ returns-clause-does g c = λ tells blocks has locks.
     let table : c.table_of-table.result ≡ table_of store.layout c.args.index = c.table_of-table.ensures.number ∙ ap (λ (l : DiskLayout). table_of l c.args.index) c.layout-layout.ensures in
     let each : c.blocks_a_range-in_range.result ≡ in_range_of store.layout c.args.index = c.blocks_a_range-in_range.ensures.number ∙ ap (λ (l : DiskLayout). in_range_of l c.args.index) c.layout-layout.ensures in
     let has_too : HasBlocks store.layout store.pages c.table_of-table.result blocks = subst (λ (t : ℕ). HasBlocks store.layout store.pages t blocks) (sym table) has in
-    let count : c.from.result ≡ length blocks = c.from.ensures ∙ c.blocks-extent.ensures.count tells blocks has_too in
+    let count : c.from-course.result ≡ length blocks = c.from-course.ensures ∙ c.blocks-extent.ensures.count tells blocks has_too in
     Begins _ _ c.requires.begins
     (takes_right store.layout store.pages locks c.args.rights.now c.take.new.self c.args.actor c.table_of-table.result (table_of store.layout c.args.index) blocks table c.in-Ok-take.ensures.free c.in-Ok-take.ensures.taken)
-    (comes_first store.layout c.blocks_a_range-in_range.result c.args.index c.from.result c.first_of.result blocks c.args.course.now c.args.work.now points.Right _ _ each count c.first_of.ensures
+    (comes_first store.layout c.blocks_a_range-in_range.result c.args.index c.from-course.result c.first_of-course.result blocks c.args.course.now c.args.work.now points.Right _ _ each count c.first_of-course.ensures
     (c.come_to.ensures.last c.if-come_to.false c.args.index points.Right))
 
 pub returns-then-come_to-clause-right : goal.returns-then-come_to-clause-right
 returns-then-come_to-clause-right g c =
     let store = c.args.pages.now in
-    let table : c.table_of-table.result ≡ table_of store.layout c.args.index = c.table_of-table.ensures.number ∙ ap (λ (l : DiskLayout). table_of l c.args.index) c.layout-layout.ensures in
-    (
+    let table : c.table_of-table.result ≡ table_of store.layout c.args.index = c.table_of-table.ensures.number ∙ ap (λ (l : DiskLayout). table_of l c.args.index) c.layout-layout.ensures in (
       subst (λ (t : ℕ). (n : ℕ) → right_of c.args.rights.now t ≡ Some n → n ≡ c.args.actor) table c.in-Ok-take.ensures.free,
       c.in-Ok-take.ensures.taken ∙ ap (λ (t : ℕ). slice_set c.args.rights.now t (Some c.args.actor)) table,
     )
@@ -52,8 +51,7 @@ returns-then-come_to-clause-right g c =
 pub returns-clause-right : goal.returns-clause-right
 returns-clause-right g c =
     let store = c.args.pages.now in
-    let table : c.table_of-table.result ≡ table_of store.layout c.args.index = c.table_of-table.ensures.number ∙ ap (λ (l : DiskLayout). table_of l c.args.index) c.layout-layout.ensures in
-    (
+    let table : c.table_of-table.result ≡ table_of store.layout c.args.index = c.table_of-table.ensures.number ∙ ap (λ (l : DiskLayout). table_of l c.args.index) c.layout-layout.ensures in (
       subst (λ (t : ℕ). (n : ℕ) → right_of c.args.rights.now t ≡ Some n → n ≡ c.args.actor) table c.in-Ok-take.ensures.free,
       c.in-Ok-take.ensures.taken ∙ ap (λ (t : ℕ). slice_set c.args.rights.now t (Some c.args.actor)) table,
     )
@@ -63,7 +61,7 @@ returns-then-come_to-clause-of g c =
     let store = c.args.pages.now in
     let each : c.blocks_a_range-in_range.result ≡ in_range_of store.layout c.args.index = c.blocks_a_range-in_range.ensures.number ∙ ap (λ (l : DiskLayout). in_range_of l c.args.index) c.layout-layout.ensures in
     let few : store.layout.sizes.heap_blocks ≤ 131072 = subst (λ (l : DiskLayout). l.sizes.heap_blocks ≤ 131072) c.layout-layout.ensures c.known.ensures.sizes.few_heap_blocks in
-    comes_well store.layout c.blocks_a_range-in_range.result (state_of c.args.index (record c.args.course.now { extent = c.from.result; range = c.first_of.result; made = 0 }) c.args.work.now) _ points.Right _ each c.blocks_a_range-in_range.ensures.some c.requires.of.index c.requires.of.hand (omega (arith, c.from.ensures, c.blocks-extent.ensures.within)) few (omega arith) (omega arith)
+    comes_well store.layout c.blocks_a_range-in_range.result (state_of c.args.index (record c.args.course.now { extent = c.from-course.result; range = c.first_of-course.result; made = 0 }) c.args.work.now) _ points.Right _ each c.blocks_a_range-in_range.ensures.some c.requires.of.index c.requires.of.hand (omega (arith, c.from-course.ensures, c.blocks-extent.ensures.within)) few (omega arith) (omega arith)
     (c.come_to.ensures.next c.if-come_to.true c.args.index points.Right)
 
 pub returns-clause-of : goal.returns-clause-of
@@ -71,5 +69,14 @@ returns-clause-of g c =
     let store = c.args.pages.now in
     let each : c.blocks_a_range-in_range.result ≡ in_range_of store.layout c.args.index = c.blocks_a_range-in_range.ensures.number ∙ ap (λ (l : DiskLayout). in_range_of l c.args.index) c.layout-layout.ensures in
     let few : store.layout.sizes.heap_blocks ≤ 131072 = subst (λ (l : DiskLayout). l.sizes.heap_blocks ≤ 131072) c.layout-layout.ensures c.known.ensures.sizes.few_heap_blocks in
-    comes_well store.layout c.blocks_a_range-in_range.result (state_of c.args.index (record c.args.course.now { extent = c.from.result; range = c.first_of.result; made = 0 }) c.args.work.now) _ points.Right _ each c.blocks_a_range-in_range.ensures.some c.requires.of.index c.requires.of.hand (omega (arith, c.from.ensures, c.blocks-extent.ensures.within)) few (omega arith) (omega arith)
+    comes_well store.layout c.blocks_a_range-in_range.result (state_of c.args.index (record c.args.course.now { extent = c.from-course.result; range = c.first_of-course.result; made = 0 }) c.args.work.now) _ points.Right _ each c.blocks_a_range-in_range.ensures.some c.requires.of.index c.requires.of.hand (omega (arith, c.from-course.ensures, c.blocks-extent.ensures.within)) few (omega arith) (omega arith)
     (c.come_to.ensures.last c.if-come_to.false c.args.index points.Right)
+
+pub returns-then-come_to-clause-exact : goal.returns-then-come_to-clause-exact
+returns-then-come_to-clause-exact g c = λ tells blocks has. record { keeps = λ exact. c.come_to.ensures.exact c.args.pages.now.layout blocks c.args.index }
+
+pub returns-clause-exact : goal.returns-clause-exact
+returns-clause-exact g c = λ tells blocks has. record { keeps = λ exact. c.come_to.ensures.exact c.args.pages.now.layout blocks c.args.index }
+
+pub returns-in-Err-take-clause-exact : goal.returns-in-Err-take-clause-exact
+returns-in-Err-take-clause-exact g c = λ tells blocks has. record { keeps = λ exact. exact }

@@ -1,4 +1,4 @@
-use Rattle.std.proofs.Common.{◌≡◌, ℕ, ◌+◌, ◌≤◌, length, refl, sym, ap, subst, ◌∙◌, arith}
+use Rattle.std.proofs.Common.{◌≡◌, ℕ, ◌+◌, ◌≤◌, refl, sym, ap, subst, ◌∙◌, arith}
 use Rattle.store_layout.specs.DiskLayout.{DiskLayout}
 use Rattle.index_steps.specs.SwapAnswers.{TakesAtMost}
 use Rattle.brin_summarise.specs.declared.stage.Stage.{Stage}
@@ -33,10 +33,10 @@ returns-in-Err-clause-of g c =
     stays_well c.args.pages.now.layout (state_of c.args.index c.args.course.now c.args.work.now) c.step.new.self c.requires.of c.step.ensures.of (subst (λ (q : Stage). IsAtWork q) (sym c.in-Err.ensures.stays) (c.requires.of.at_range c.requires.at).3)
 
 pub returns-in-Ok-Moved-clause-exact : goal.returns-in-Ok-Moved-clause-exact
-returns-in-Ok-Moved-clause-exact g c = λ tells blocks has exact at. c.in-Ok-Moved.ensures.exact tells blocks has (exact at)
+returns-in-Ok-Moved-clause-exact g c = λ tells blocks has. record { keeps = λ exact at. c.in-Ok-Moved.ensures.exact tells blocks has (exact at) }
 
 pub returns-in-Ok-Blocked-clause-exact : goal.returns-in-Ok-Blocked-clause-exact
-returns-in-Ok-Blocked-clause-exact g c = λ tells blocks has exact at. c.in-Ok-Blocked.ensures.exact tells blocks has (exact at)
+returns-in-Ok-Blocked-clause-exact g c = λ tells blocks has. record { keeps = λ exact at. c.in-Ok-Blocked.ensures.exact tells blocks has (exact at) }
 
 pub step-requires-clause-locks : goal.step-requires-clause-locks
 step-requires-clause-locks g c = λ some.
@@ -76,11 +76,11 @@ returns-then-come_to-clause-own g c = λ few.
     let left = c.in-Ok-Finished.ensures.own (omega (arith, few, was)) in
     omega (arith, left, none)
 
-pub returns-in-Ok-Finished-clause-given : goal.returns-in-Ok-Finished-clause-given
-returns-in-Ok-Finished-clause-given g c = λ gives. c.in-Ok-Finished.ensures.given gives.1
+pub returns-else-come_to-clause-given : goal.returns-else-come_to-clause-given
+returns-else-come_to-clause-given g c = λ gives. c.in-Ok-Finished.ensures.given gives.1
 
-pub returns-in-Ok-Finished-clause-own : goal.returns-in-Ok-Finished-clause-own
-returns-in-Ok-Finished-clause-own g c = λ few.
+pub returns-else-come_to-clause-own : goal.returns-else-come_to-clause-own
+returns-else-come_to-clause-own g c = λ few.
     let was : held_by (state_of c.args.index c.args.course.now c.args.work.now) ≡ held_at c.args.work.now.stage = held_is (state_of c.args.index c.args.course.now c.args.work.now) c.requires.at in
     let stands = rw c.in-Ok-Finished.field-0-is at c.in-Ok-Finished.ensures.stands in
     let none = done_free c.step.new.self.stage stands in
@@ -99,8 +99,8 @@ returns-in-Err-clause-counts g c = subst (λ (n : ℕ). TakesAtMost n c.args.loc
 pub returns-then-come_to-clause-counts : goal.returns-then-come_to-clause-counts
 returns-then-come_to-clause-counts g c = subst (λ (n : ℕ). TakesAtMost n c.args.locks.now c.step.new.locks c.args.actor) (sym (taken_is (state_of c.args.index c.args.course.now c.args.work.now) c.requires.at)) c.step.ensures.counts
 
-pub returns-in-Ok-Finished-clause-counts : goal.returns-in-Ok-Finished-clause-counts
-returns-in-Ok-Finished-clause-counts g c = subst (λ (n : ℕ). TakesAtMost n c.args.locks.now c.step.new.locks c.args.actor) (sym (taken_is (state_of c.args.index c.args.course.now c.args.work.now) c.requires.at)) c.step.ensures.counts
+pub returns-else-come_to-clause-counts : goal.returns-else-come_to-clause-counts
+returns-else-come_to-clause-counts g c = subst (λ (n : ℕ). TakesAtMost n c.args.locks.now c.step.new.locks c.args.actor) (sym (taken_is (state_of c.args.index c.args.course.now c.args.work.now) c.requires.at)) c.step.ensures.counts
 
 pub returns-then-come_to-clause-does : goal.returns-then-come_to-clause-does
 returns-then-come_to-clause-does g c = λ tells blocks has rights.
@@ -122,8 +122,8 @@ returns-then-come_to-clause-of g c =
     comes_well store.layout c.blocks_a_range-in_range.result (state_of c.args.index (record c.args.course.now { made = c.args.course.now.made + c.from.result; range = c.args.course.now.range + 1 }) c.step.new.self) _ c.in-Ok-Finished.point _ each c.blocks_a_range-in_range.ensures.some c.requires.of.index c.step.ensures.of c.requires.of.extent few (omega (arith, was.1, one)) (omega (arith, was.1, was.2, one))
     (c.come_to.ensures.next c.if-come_to.true c.args.index c.in-Ok-Finished.point)
 
-pub returns-in-Ok-Finished-clause-does : goal.returns-in-Ok-Finished-clause-does
-returns-in-Ok-Finished-clause-does g c = λ tells blocks has rights.
+pub returns-else-come_to-clause-does : goal.returns-else-come_to-clause-does
+returns-else-come_to-clause-does g c = λ tells blocks has rights.
     let store = c.args.pages.now in
     let each : c.blocks_a_range-in_range.result ≡ in_range_of store.layout c.args.index = c.blocks_a_range-in_range.ensures.number ∙ ap (λ (l : DiskLayout). in_range_of l c.args.index) c.layout-layout.ensures in
     let came = rw c.in-Ok-Finished.field-0-is at c.in-Ok-Finished.ensures.stepped in
@@ -132,8 +132,8 @@ returns-in-Ok-Finished-clause-does g c = λ tells blocks has rights.
     (comes_behind store.layout c.blocks_a_range-in_range.result c.args.index (c.args.course.now.made + c.from.result) (c.args.course.now.range + 1) c.args.course.now c.step.new.self c.args.work.now c.in-Ok-Finished.point _ _ each (ap (λ (n : ℕ). c.args.course.now.made + n) made) refl
     (c.come_to.ensures.last c.if-come_to.false c.args.index c.in-Ok-Finished.point))
 
-pub returns-in-Ok-Finished-clause-of : goal.returns-in-Ok-Finished-clause-of
-returns-in-Ok-Finished-clause-of g c =
+pub returns-else-come_to-clause-of : goal.returns-else-come_to-clause-of
+returns-else-come_to-clause-of g c =
     let store = c.args.pages.now in
     let was = c.requires.of.at_range c.requires.at in
     let each : c.blocks_a_range-in_range.result ≡ in_range_of store.layout c.args.index = c.blocks_a_range-in_range.ensures.number ∙ ap (λ (l : DiskLayout). in_range_of l c.args.index) c.layout-layout.ensures in
@@ -141,3 +141,9 @@ returns-in-Ok-Finished-clause-of g c =
     let one : c.from.result ≤ 1 = omega (arith, c.from.ensures, c.made_at.ensures.few) in
     comes_well store.layout c.blocks_a_range-in_range.result (state_of c.args.index (record c.args.course.now { made = c.args.course.now.made + c.from.result; range = c.args.course.now.range + 1 }) c.step.new.self) _ c.in-Ok-Finished.point _ each c.blocks_a_range-in_range.ensures.some c.requires.of.index c.step.ensures.of c.requires.of.extent few (omega (arith, was.1, one)) (omega (arith, was.1, was.2, one))
     (c.come_to.ensures.last c.if-come_to.false c.args.index c.in-Ok-Finished.point)
+
+pub returns-then-come_to-clause-exact : goal.returns-then-come_to-clause-exact
+returns-then-come_to-clause-exact g c = λ tells blocks has. record { keeps = λ exact. c.come_to.ensures.exact c.args.pages.now.layout blocks c.args.index }
+
+pub returns-else-come_to-clause-exact : goal.returns-else-come_to-clause-exact
+returns-else-come_to-clause-exact g c = λ tells blocks has. record { keeps = λ exact. c.come_to.ensures.exact c.args.pages.now.layout blocks c.args.index }
