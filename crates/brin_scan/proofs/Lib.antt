@@ -18,3 +18,4 @@ pub mod Ordered
 pub mod VisibleRows
 pub mod Behind
 pub mod Next
+pub mod Honest

@@ -61,6 +61,8 @@ returns-in-Err-clause-indexes g c =
 
 pub returns-in-Ok-Gone-clause-judged : goal.returns-in-Ok-Gone-clause-judged
 returns-in-Ok-Gone-clause-judged g c = λ tells query conds is.
+    let says = rw c.in-Ok-Gone.is at c.read_tuple-judged.ensures.tells in
+    let verdict = rw c.in-Ok-Gone.is at c.in-Ok-Gone.field-0-is in
     let store = c.args.pages.now in
     let held = c.args.held in
     let readers = c.args.readers.now in
@@ -70,7 +72,7 @@ returns-in-Ok-Gone-clause-judged g c = λ tells query conds is.
     let same = still_scanned readers held.at reader c.read_tuple-judged.new.reader c.read_tuple-judged.ensures.scanned there in
     subst (λ (l : List ScannedIndex). JudgesTo store.layout store.pages (hand query indexes c.args.extent (stages.Tuple held.at held.range held.spot) c.args.candidates.now) (hand query l c.args.extent (stages.Map held.at held.range) c.args.candidates.now)) (sym same)
     (gone store.layout store.pages query indexes is c.args.extent held.at held.range c.requires.at held.spot c.args.candidates.now
-    (judged_at store.layout store.pages readers held.at reader held.range held.spot c.args.conds.now query.conds _ verdicts.Gone c.requires.at.0 there conds c.in-Ok-Gone.field-0-is (c.in-Ok-Gone.ensures.tells tells)))
+    (judged_at store.layout store.pages readers held.at reader held.range held.spot c.args.conds.now query.conds c.in-Ok-Gone.field-0 verdicts.Gone c.requires.at.0 there conds verdict (says tells)))
 
 pub returns-in-Ok-Kept-clause-at : goal.returns-in-Ok-Kept-clause-at
 returns-in-Ok-Kept-clause-at g c =
@@ -86,6 +88,7 @@ returns-in-Ok-Kept-clause-at g c =
 pub returns-in-Ok-Kept-clause-judged : goal.returns-in-Ok-Kept-clause-judged
 returns-in-Ok-Kept-clause-judged g c = λ tells query conds is.
     let says = rw c.in-Ok-Kept.is at c.read_tuple-judged.ensures.tells in
+    let verdict = rw c.in-Ok-Kept.is at c.in-Ok-Kept.field-0-is in
     let store = c.args.pages.now in
     let held = c.args.held in
     let readers = c.args.readers.now in
@@ -97,7 +100,7 @@ returns-in-Ok-Kept-clause-judged g c = λ tells query conds is.
     subst (λ (l : List ScannedIndex). JudgesTo store.layout store.pages (hand query indexes c.args.extent (stages.Tuple held.at held.range held.spot) c.args.candidates.now) (hand query l c.args.extent c.next_range.result c.args.candidates.now)) (sym same)
     (subst (λ (s : Stage). JudgesTo store.layout store.pages (hand query indexes c.args.extent (stages.Tuple held.at held.range held.spot) c.args.candidates.now) (hand query indexes c.args.extent s c.args.candidates.now)) (sym stage)
     (kept store.layout store.pages query indexes is c.args.extent held.at held.range c.requires.at held.spot c.args.candidates.now
-    (judged_at store.layout store.pages readers held.at reader held.range held.spot c.args.conds.now query.conds _ verdicts.Kept c.requires.at.0 there conds c.in-Ok-Kept.field-0-is (says tells))))
+    (judged_at store.layout store.pages readers held.at reader held.range held.spot c.args.conds.now query.conds c.in-Ok-Kept.field-0 verdicts.Kept c.requires.at.0 there conds verdict (says tells))))
 
 pub returns-in-Ok-LeftOut-clause-at : goal.returns-in-Ok-LeftOut-clause-at
 returns-in-Ok-LeftOut-clause-at g c =
@@ -113,6 +116,7 @@ returns-in-Ok-LeftOut-clause-at g c =
 pub returns-in-Ok-LeftOut-clause-judged : goal.returns-in-Ok-LeftOut-clause-judged
 returns-in-Ok-LeftOut-clause-judged g c = λ tells query conds is.
     let says = rw c.in-Ok-LeftOut.is at c.read_tuple-judged.ensures.tells in
+    let verdict = rw c.in-Ok-LeftOut.is at c.in-Ok-LeftOut.field-0-is in
     let store = c.args.pages.now in
     let held = c.args.held in
     let readers = c.args.readers.now in
@@ -131,4 +135,4 @@ returns-in-Ok-LeftOut-clause-judged g c = λ tells query conds is.
     subst (λ (l : List ScannedIndex). JudgesTo store.layout store.pages (hand query indexes c.args.extent (stages.Tuple held.at held.range held.spot) c.args.candidates.now) (hand query l c.args.extent c.next_range-in-Ok-LeftOut.result c.leave_out.new.candidates)) (sym same)
     (subst (λ (s : Stage). JudgesTo store.layout store.pages (hand query indexes c.args.extent (stages.Tuple held.at held.range held.spot) c.args.candidates.now) (hand query indexes c.args.extent s c.leave_out.new.candidates)) (sym stage)
     (left_out store.layout store.pages query indexes is c.args.extent held.at held.range c.requires.at held.spot c.args.candidates.now c.leave_out.new.candidates
-    (judged_at store.layout store.pages readers held.at reader held.range held.spot c.args.conds.now query.conds _ verdicts.LeftOut c.requires.at.0 there conds c.in-Ok-LeftOut.field-0-is (says tells)) leaves))
+    (judged_at store.layout store.pages readers held.at reader held.range held.spot c.args.conds.now query.conds c.in-Ok-LeftOut.field-0 verdicts.LeftOut c.requires.at.0 there conds verdict (says tells)) leaves))
