@@ -3,7 +3,6 @@ use Rattle.std.proofs.Common.{◌≡◌, ◌≢◌, ◌⊎◌, inl, inr, ℕ, Li
 use Rattle.block_model.specs.declared.place.Spot.{Spot}
 use Rattle.block_model.specs.declared.reply.Point.TheVariants as points
 use Rattle.block_model.specs.declared.row.Row.{Row}
-use Rattle.block_model.specs.declared.value.Value.{Value}
 use Rattle.page_locks.specs.declared.did.Did.TheVariants as did
 use Rattle.range_tuple.specs.TupleBytes.{tuple_bytes}
 use Rattle.range_tuple.specs.Tuples.{Tuple, with_row}
@@ -13,7 +12,7 @@ use Rattle.coverage.specs.Knowing.{LocksNone}
 use Rattle.coverage.specs.Steps.{IsGone, ReadsIndex, Stands}
 use Rattle.coverage.specs.Verdicts.{IsLocked}
 use Rattle.index_contents.specs.IndexContents.{IndexContents}
-use Rattle.index_steps.specs.IndexTuples.{IndexShape, TakesValues, seen}
+use Rattle.index_steps.specs.IndexTuples.{IndexShape, seen}
 use Rattle.index_steps.specs.Readings.{IsReadAs, ShowsGone, ShowsTuple}
 use Rattle.index_steps.specs.ShownIndex.{Shows, shown_part}
 use Rattle.index_steps.specs.SwapAnswers.{view_after}

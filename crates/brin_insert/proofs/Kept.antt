@@ -1,5 +1,5 @@
 -- what a kept table says of the index in which an insert is at work
-use Rattle.std.proofs.Common.{◌≡◌, ℕ, zero, suc, ◌/◌, ◌<◌, List, length, Option, Some, refl, sym, ap, subst, ◌∙◌}
+use Rattle.std.proofs.Common.{◌≡◌, ℕ, zero, suc, ◌/◌, List, length, Option, Some, refl, sym, ap, subst, ◌∙◌}
 use Rattle.std.specs.Prelude.{slice_get}
 use Rattle.std.proofs.lemmas.Option.{slice_get_within}
 use Rattle.block_model.specs.declared.place.Spot.{Spot}
@@ -12,10 +12,10 @@ use Rattle.coverage.specs.IndexView.{IndexTuple, IndexView, IsTupleOf, range_of_
 use Rattle.coverage.specs.IsCovered.{IndexState, IsIndexKept, StatementHolds, index_view}
 use Rattle.coverage.specs.IsSound.{IsSound}
 use Rattle.coverage.specs.Statements.{OnIndex, Moving, Inserting, Statement}
-use Rattle.table_coverage.specs.Machines.{Unseen, table_state}
+use Rattle.table_coverage.specs.Machines.{table_state}
 use Rattle.table_coverage.specs.Table.{Task, Inserts, TableState, index_state, inserting_of, on_index_by, seen_by}
 use Rattle.index_contents.specs.IndexContents.{IndexContents, contents}
-use Rattle.index_steps.specs.IndexTuples.{IndexShape, index_at, seen, shape_of}
+use Rattle.index_steps.specs.IndexTuples.{IndexShape, index_at, shape_of}
 use Rattle.index_steps.specs.MoveEnds.{IsMoving}
 use Rattle.index_steps.specs.Readings.{IsMisnamed, IsMisread}
 use Rattle.index_steps.specs.ShownIndex.{Shows, lock_in}

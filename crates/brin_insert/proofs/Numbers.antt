@@ -1,26 +1,22 @@
 -- the numbers of a table's indexes, and what their rows are taken by
 use Rattle.std.proofs.Common.{◌≡◌, ◌≢◌, ℕ, zero, suc, ◌+◌, ◌<◌, ◌≤◌, ◌==◌, Bool, true, false, cond, List, [], ◌∷◌, ◌++◌, length, map, take, get_or, refl, sym, ap, subst, ◌∙◌, arith}
-use Rattle.std.specs.Prelude.{Option, None, Some, nat_le, nat_lt, slice_get}
+use Rattle.std.specs.Prelude.{Some, nat_le, nat_lt, slice_get}
 use Rattle.std.specs.List.{list_all}
-use Rattle.std.proofs.lemmas.Bool.{and_from, and_parts, cond-false, cond-true, eq-eqb, eqb-true, leb-true, ltb-true, ne_eqb}
-use Rattle.std.proofs.lemmas.List.{append-nil, get_or_read}
-use Rattle.std.proofs.lemmas.Option.{get_or_from_slice_get, none-some, same_Some, slice_get-get_or, slice_get_within}
-use Rattle.block_model.specs.ClassLimits.{class_is_lawful, is_within}
-use Rattle.block_model.specs.declared.limits.TheConstants.{MAX_TUPLE}
+use Rattle.std.proofs.lemmas.Bool.{and_from, and_parts, cond-false, cond-true, eq-eqb, eqb-true, leb-true, ne_eqb}
+use Rattle.std.proofs.lemmas.List.{append-nil}
+use Rattle.std.proofs.lemmas.Option.{none-some, same_Some, slice_get-get_or}
+use Rattle.block_model.specs.ClassLimits.{class_is_lawful}
 use Rattle.block_model.specs.declared.schema.Column.{Column}
 use Rattle.block_model.specs.declared.schema.Index.{Index}
 use Rattle.block_model.specs.declared.schema.Part.{Part}
 use Rattle.block_model.specs.declared.schema.Schema.{Schema}
-use Rattle.block_model.specs.declared.schema.Sizes.{Sizes}
-use Rattle.block_model.specs.declared.schema.Table.{Table}
 use Rattle.block_model.specs.declared.value.Kind.{Kind}
 use Rattle.block_model.specs.declared.value.Value.{Value}
 use Rattle.block_model.specs.IndexedColumns.{columns_in, columns_of}
-use Rattle.block_model.specs.TupleSize.{tuple_size}
 use Rattle.block_model.specs.ValuesOfKind.{has_kind}
 use Rattle.store_layout.specs.DiskLayout.{DiskLayout}
 use Rattle.store_layout.specs.FirstBrokenRule.{KeepsLimits}
-use Rattle.store_layout.specs.Limits.{columns_are_lawful, is_on_a_table, parts_are_lawful}
+use Rattle.store_layout.specs.Limits.{is_on_a_table}
 use Rattle.page_layout.specs.RowBytes.{HaveKinds}
 use Rattle.heap_rows.specs.Heaps.{kinds_at, no_table, table_at}
 use Rattle.range_tuple.specs.Tuples.{Tuple, empty_placeholder, parts_of}

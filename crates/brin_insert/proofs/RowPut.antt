@@ -1,8 +1,7 @@
 -- a row that is put, as a step of its table
-use Rattle.std.proofs.Common.{◌≡◌, ◌≢◌, ◌⊎◌, inl, inr, ℕ, ◌+◌, max, List, length, Option, None, Some, refl, sym, ap, subst, ◌∙◌, arith}
+use Rattle.std.proofs.Common.{◌≡◌, ◌≢◌, ◌⊎◌, inl, inr, ℕ, ◌+◌, max, List, length, Option, None, Some, refl, sym, ap, subst, arith}
 use Rattle.std.specs.Prelude.{slice_get}
 use Rattle.std.proofs.lemmas.Bool.{cases_eq}
-use Rattle.block_model.specs.declared.place.Place.{Place}
 use Rattle.block_model.specs.declared.place.Spot.{Spot}
 use Rattle.block_model.specs.declared.reply.Point.TheVariants as points
 use Rattle.block_model.specs.declared.row.Row.{Row}
@@ -14,14 +13,14 @@ use Rattle.page_layout.specs.RowBytes.{StoredRow}
 use Rattle.page_store.specs.PageMap.{PageMap, block_at}
 use Rattle.page_locks.specs.LockHolders.{LockState}
 use Rattle.heap_rows.specs.Heaps.{relation_of as heap_of, slots_a_page}
-use Rattle.heap_rows.specs.RowPlaces.{new_row, slot_at}
+use Rattle.heap_rows.specs.RowPlaces.{new_row}
 use Rattle.table_coverage.specs.Accounts.{no_account}
 use Rattle.table_coverage.specs.InOneIndex.{DoesAt, RowComesTo, with_rows}
 use Rattle.table_coverage.specs.Machines.{ShownTable, Unseen, table_state, task_turned}
-use Rattle.table_coverage.specs.Table.{Index, Reaches, Resting, Task, TableState, pick}
+use Rattle.table_coverage.specs.Table.{Reaches, Resting, TableState, pick}
 use Rattle.table_coverage.specs.TableSteps.{IsFirstPlace}
 use Rattle.index_contents.specs.IndexContents.{contents, contents_in, relation_of}
-use Rattle.brin_insert.specs.RowSteps.{PutsRowOf, RowBegins, blocks_with, row_of}
+use Rattle.brin_insert.specs.RowSteps.{PutsRowOf, blocks_with, row_of}
 use Rattle.index_steps.specs.ShownRows.{row_in, rows_in, shown_by}
 use Rattle.index_steps.specs.ShownTable.{indexes_of}
 use Rattle.brin_insert.proofs.FirstPlaces.{blocks_then, is_first}

@@ -1,9 +1,8 @@
 -- a step in an index, as one of the table
-use Rattle.std.proofs.Common.{◌≡◌, ◌≢◌, ◌⊎◌, inl, inr, ℕ, zero, suc, ◌+◌, ◌/◌, ◌<◌, ◌≤◌, ◌==◌, Bool, true, false, cond, List, [], ◌∷◌, length, Option, None, Some, refl, sym, ap, subst, ◌∙◌, arith}
+use Rattle.std.proofs.Common.{◌≡◌, ◌≢◌, inl, inr, ℕ, zero, suc, ◌+◌, ◌<◌, ◌≤◌, ◌==◌, Bool, true, false, cond, List, [], ◌∷◌, length, Option, None, Some, refl, sym, ap, subst, ◌∙◌, arith}
 use Rattle.std.specs.Prelude.{slice_get}
 use Rattle.std.proofs.lemmas.Bool.{cases_eq}
 use Rattle.std.proofs.lemmas.Option.{none-some, same_Some, slice_get_within}
-use Rattle.block_model.specs.declared.place.Place.{Place}
 use Rattle.block_model.specs.declared.place.Spot.{Spot}
 use Rattle.block_model.specs.declared.reply.Point.{Point}
 use Rattle.block_model.specs.declared.row.Row.{Row}
@@ -16,22 +15,21 @@ use Rattle.coverage.specs.IndexPart.{IndexPart, InsertMakes}
 use Rattle.coverage.specs.IndexView.{IndexView}
 use Rattle.coverage.specs.Knowing.{Knows, LocksNone}
 use Rattle.coverage.specs.PageOrder.{KnowsPages}
-use Rattle.coverage.specs.Statements.{OnIndex, Empty, Idle, Inserting, Statement, building_of, loose_of}
+use Rattle.coverage.specs.Statements.{OnIndex, Empty, Idle, Inserting}
 use Rattle.range_tuple.specs.TupleBytes.{tuple_bytes}
 use Rattle.table_coverage.specs.InOneIndex.{DoesAt, index_with, with_index}
-use Rattle.table_coverage.specs.Machines.{ShownIndex, ShownTable, Unseen, table_state, task_turned}
+use Rattle.table_coverage.specs.Machines.{ShownTable, Unseen, table_state, task_turned}
 use Rattle.table_coverage.specs.Table.{Index, Inserts, Reaches, Task, TableState, index_view_at, inserting_of, on_index_by, pick, seen_by}
 use Rattle.table_coverage.specs.TableCovered.{IsTableKept}
 use Rattle.range_tuple.specs.Tuples.{Tuple}
-use Rattle.index_contents.specs.IndexContents.{IndexContents, contents, relation_of}
+use Rattle.index_contents.specs.IndexContents.{contents, relation_of}
 use Rattle.index_steps.specs.IndexTuples.{IndexShape, contents_of, index_at, shape_of}
-use Rattle.index_steps.specs.ShownIndex.{Shows, lock_in, shown_part, tuple_in_place}
-use Rattle.index_steps.specs.SwapAnswers.{LeavesLocks}
+use Rattle.index_steps.specs.ShownIndex.{lock_in, shown_part, tuple_in_place}
 use Rattle.brin_insert.specs.declared.stage.Stage.{Stage}
 use Rattle.brin_insert.specs.declared.stage.Stage.TheVariants as stages
-use Rattle.brin_insert.specs.InsertSteps.{StepMakes, insert_at, on_index, statement_in}
+use Rattle.brin_insert.specs.InsertSteps.{on_index, statement_in}
 use Rattle.index_steps.specs.ShownTable.{indexes_of, numbers_from, shown_at, shown_table}
-use Rattle.brin_insert.specs.TableSteps.{ShownDoes, StepsInIndex, Stores, task_after}
+use Rattle.brin_insert.specs.TableSteps.{StepsInIndex, Stores, task_after}
 use Rattle.brin_insert.proofs.ShownHere.{ranged, shows_here}
 
 -- the numbers of a table's indexes ascend, so no two are one

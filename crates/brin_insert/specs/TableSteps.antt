@@ -1,5 +1,5 @@
 -- what a step in an index is in the table of that index
-use Rattle.std.specs.Prelude.{◌≡◌, ◌≢◌, ℕ, ◌/◌, suc, Option, Some, List, slice_get}
+use Rattle.std.specs.Prelude.{◌≡◌, ◌≢◌, ℕ, ◌/◌, suc, List}
 use Rattle.block_model.specs.declared.reply.Point.{Point}
 use Rattle.block_model.specs.declared.row.Row.{Row}
 use Rattle.store_layout.specs.DiskLayout.{DiskLayout}
@@ -16,7 +16,6 @@ use Rattle.index_steps.specs.SwapAnswers.{LeavesLocks}
 use Rattle.brin_insert.specs.declared.stage.Stage.{Stage}
 use Rattle.brin_insert.specs.declared.stage.Stage.TheVariants as stages
 use Rattle.brin_insert.specs.InsertSteps.{StepMakes, insert_at, on_index}
-use Rattle.index_steps.specs.ShownTable.{indexes_of, shown_table}
 
 -- whatever the pages and locks of a table's indexes don't show, this is what the session does in the table, under this point
 abbrev pub ShownDoes : ℕ → (old new : ShownTable) → (before after : Task) → Point → Type 0

@@ -1,4 +1,4 @@
-use Rattle.std.proofs.Common.{◌≡◌, ◌≢◌, inl, inr, true, ℕ, List, Option, Some, refl, sym, ap, subst, ◌∙◌}
+use Rattle.std.proofs.Common.{◌≡◌, inl, inr, true, ℕ, List, refl, sym, ap, subst, ◌∙◌}
 use Rattle.block_model.specs.declared.value.Value.{Value}
 use Rattle.store_layout.specs.DiskLayout.{DiskLayout}
 use Rattle.page_store.specs.PageMap.{PageMap}

@@ -1,7 +1,5 @@
-use Rattle.std.proofs.Common.{◌≡◌, ℕ, Option, sym, subst}
-use Rattle.block_model.specs.declared.place.Spot.{Spot}
+use Rattle.std.proofs.Common.{ℕ, sym, subst}
 use Rattle.coverage.specs.IndexPart.{with_part}
-use Rattle.coverage.specs.IndexView.{Building}
 use Rattle.coverage.specs.Steps.{SetsEntry}
 use Rattle.range_tuple.specs.TupleBytes.{tuple_bytes}
 use Rattle.index_contents.specs.IndexContents.{contents}

@@ -1,13 +1,12 @@
-use Rattle.std.proofs.Common.{◌≡◌, ℕ, ◌+◌, ◌≤◌, List, refl, sym, ap, subst, ◌∙◌, arith}
+use Rattle.std.proofs.Common.{ℕ, ◌+◌, ◌≤◌, List, sym, subst, arith}
 use Rattle.page_locks.specs.LockCounts.{locks_of}
 use Rattle.range_tuple.specs.TupleBytes.{tuple_bytes}
 use Rattle.index_contents.specs.IndexContents.{contents}
 use Rattle.std.proofs.Common.{length}
 use Rattle.range_store.specs.Tuples.{IsTupleSize}
 use Rattle.index_steps.specs.declared.swapping.Swapped.TheVariants as swaps
-use Rattle.index_steps.specs.IndexTuples.{seen, shape_of}
+use Rattle.index_steps.specs.IndexTuples.{shape_of}
 use Rattle.index_steps.specs.ShownIndex.{lock_in}
-use Rattle.index_steps.specs.SwapAnswers.{SwapMakes}
 use Rattle.brin_insert.specs.declared.stage.Stage.TheVariants as stages
 use Rattle.brin_insert.specs.StageLocks.{held_at}
 use Rattle.brin_insert.proofs.OwnLocks.{none_own}

@@ -1,4 +1,4 @@
-use Rattle.std.proofs.Common.{◌≡◌, ℕ, ◌≤◌, sym, subst, arith}
+use Rattle.std.proofs.Common.{◌≡◌, ◌≤◌, subst, arith}
 use Rattle.std.specs.List.{length_refill}
 use Rattle.block_model.specs.declared.place.Spot.{Spot}
 use Rattle.page_locks.specs.LockCounts.{locks_of}

@@ -1,4 +1,4 @@
-use Rattle.std.proofs.Common.{◌≡◌, ◌<◌, length, Option, refl, sym, ap, subst, arith}
+use Rattle.std.proofs.Common.{◌<◌, length, Option, refl, sym, ap, subst, arith}
 use Rattle.page_locks.specs.declared.did.Did.TheVariants as did
 use Rattle.brin_insert.specs.InsertHands.{InsertHand}
 use Rattle.brin_insert.specs.Inserts.{HasReached}

@@ -1,7 +1,6 @@
-use Rattle.std.proofs.Common.{◌≡◌, ◌≢◌, ◌<◌, ◌≤◌, ℕ, suc, ◌+◌, ◌/◌, List, length, Option, None, Some, set, refl, sym, ap, subst, ◌∙◌, arith}
+use Rattle.std.proofs.Common.{◌≡◌, ◌<◌, ℕ, suc, ◌/◌, List, length, Some, set, refl, sym, ap, subst, ◌∙◌, arith}
 use Rattle.std.specs.Vec.{with_item}
 use Rattle.std.proofs.lemmas.Option.{slice_get_within}
-use Rattle.block_model.specs.declared.place.Spot.{Spot}
 use Rattle.block_model.specs.declared.reply.Point.TheVariants as points
 use Rattle.block_model.specs.declared.value.Value.{Value}
 use Rattle.store_layout.specs.DiskLayout.{DiskLayout}
@@ -9,14 +8,13 @@ use Rattle.page_store.specs.Keeps.{Tells, Untold}
 use Rattle.page_locks.specs.declared.did.Did.TheVariants as did
 use Rattle.page_locks.specs.LockHolders.{holder}
 use Rattle.heap_rows.specs.Heaps.{slots_a_page}
-use Rattle.index_contents.specs.IndexContents.{contents, relation_of}
+use Rattle.index_contents.specs.IndexContents.{contents}
 use Rattle.index_steps.specs.IndexTuples.{TakesValues, index_at, shape_of}
 use Rattle.index_steps.specs.MoveEnds.{IsMoving}
 use Rattle.index_steps.specs.SwapAnswers.{LeavesLocks}
 use Rattle.range_tuple.specs.TupleBytes.{tuple_bytes}
 use Rattle.brin_insert.specs.declared.stage.Stage.{Stage}
 use Rattle.brin_insert.specs.declared.stage.Stage.TheVariants as stages
-use Rattle.brin_insert.specs.InsertHands.{InsertHand}
 use Rattle.brin_insert.specs.InsertSteps.{IsAtWork}
 use Rattle.index_steps.specs.ShownRows.{rows_in}
 use Rattle.brin_insert.specs.StepAnswers.{DamageAt}
