@@ -1,10 +1,10 @@
 #!/usr/bin/env python3
 """Times selects on a store over a disk in memory, all of whose pages have frames: scan_rows.py. No part of the gate.
 
-Builds a small program over brin_scan in a copy of the crates by LLVM at -O2, which takes each select fifty times. The program isn't proved, so it
-has the checks of `rt try` in it, and a proved one is somewhat faster. Tells the best time for a row of a select that finds all rows, where
-one transaction put them, so that a status is read once a page, and where two put them by turns, so that one is read for each row; and of a
-select that finds none.
+Builds a small program over brin_scan in a copy of the crates by LLVM at -O2, which takes each select fifty times. The program isn't
+proved, so it has the checks of `rt try` in it, and a proved one is somewhat faster. Tells the best time for a row of a select that finds
+all rows, where one transaction put them, so that a status is read once a page, and where two put them by turns, so that one is read for
+each row; and of a select that finds none.
 """
 import os
 import pathlib
