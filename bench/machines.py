@@ -1,12 +1,11 @@
 #!/usr/bin/env python3
-"""Times inserts, a summarise and scans by their steps, on a store over a disk in memory: machines.py. No part of the gate.
+"""Times inserts, a summarise and an explain by their steps, on a store over a disk in memory: machines.py. No part of the gate.
 
 Builds a small program over brin_insert, brin_summarise and brin_scan in a copy of the crates by LLVM at -O2, and runs it five times. The
 program isn't proved, so it has the checks of `rt try` in it, and a proved one is somewhat faster. The table has two int8 columns, and
 its one index a minmax of the first. Tells the best time of an insert into a range without a summary, of one into a summarised range
-whose summary has the value already, and of one that widens it; of each page and each row that a summarise goes over; of each block that
-an explain judges; and of each row that a select reads, where all rows are of one transaction, and where each is of another one than
-the row before.
+whose summary has the value already, and of one that widens it; of each page and each row that a summarise goes over; and of an explain
+for each block. Selects have a bench of their own.
 """
 import os
 import pathlib
@@ -22,7 +21,7 @@ BLOCKS = 4000
 ROWS_A_PAGE = 100
 ROWS = BLOCKS * ROWS_A_PAGE
 NEEDED = (
-    "machine_bench: block_model store_layout disk_trait page_locks snapshot_core store_format engine_pages tx_table heap_rows"
+    "machine_bench: block_model store_layout disk_trait page_locks store_format engine_pages"
     " brin_insert brin_summarise brin_scan\n"
 )
 PARTS = {
@@ -31,9 +30,7 @@ PARTS = {
     "an insert that widens the summary": ROWS,
     "a page that is summarised": BLOCKS,
     "a row that is summarised": ROWS,
-    "a block that is judged": BLOCKS,
-    "a row that is read, all of one transaction": ROWS,
-    "a row that is read, of two in turn": ROWS,
+    "a block of an explain": BLOCKS,
 }
 
 MAIN = """//! Times the machines of an index.
@@ -43,18 +40,16 @@ use block_model::{
     Class, Column, Cond, Conds, Index, Kind, Name, Op, Part, Query, Row, RowId, Schema, Sequence, Sizes, Table, Value, Values,
 };
 use brin_insert::Insert;
-use brin_scan::{Explain, Scan};
+use brin_scan::Explain;
 use brin_summarise::{Summarise, Wish};
 use disk_trait::SteadyDisk;
 use engine_pages::PageStore;
 use page_locks::{Did, Locks, Rights};
-use snapshot_core::Snapshot;
 use std::alloc::Global;
 use std::io;
 use std::time::Instant;
 use store_format::format;
 use store_layout::Layout;
-use tx_table::TxTable;
 
 const BLOCKS: u64 = 4000;
 
@@ -86,7 +81,7 @@ fn row(t: u64, k: u64, a: i64) -> Row {
     Row { table: 0, id: RowId { t, k: k as u32 }, values }
 }
 
-/// Inserts the rows from `from` to `to`, of a value that is the row's number or the same for all; of transaction 1, or of 1 and 2 in turn.
+/// Inserts the rows from `from` to `to`, of a value that is the row's number or the same for all.
 fn insert(
     insert: &mut Insert,
     pages: &mut PageStore<SteadyDisk>,
@@ -94,13 +89,11 @@ fn insert(
     from: u64,
     to: u64,
     widens: bool,
-    turns: bool,
 ) -> bool {
     let mut i = from;
     while i < to {
         let a = if widens { i as i64 } else { 5 };
-        let t = if turns { 1 + i % 2 } else { 1 };
-        insert.begin(row(t, i, a), pages.layout());
+        insert.begin(row(1, i, a), pages.layout());
         let mut done = false;
         while !done {
             match insert.step(pages, locks, 0) {
@@ -152,36 +145,9 @@ fn explain(alloc: Global, pages: &mut PageStore<SteadyDisk>) -> u64 {
     work.blocks().len() as u64
 }
 
-fn select(alloc: Global, pages: &mut PageStore<SteadyDisk>, tx: &TxTable, snapshot: &Snapshot, own: u64, a: i64) -> u64 {
-    let Ok(mut work) = Scan::new(alloc, query(alloc, a), pages.layout()) else {
-        return 0;
-    };
-    let mut done = false;
-    while !done {
-        match work.step(pages, tx, snapshot, own) {
-            Ok(Did::Finished(_)) => done = true,
-            Ok(Did::Moved(_)) => {}
-            _ => return 0,
-        }
-    }
-    work.found().len() as u64
-}
-
-fn made(alloc: Global, pages: &mut PageStore<SteadyDisk>) -> Option<TxTable> {
-    let mut tx = TxTable::start(pages).ok()?;
-    let _ = tx.begin(pages).ok()?;
-    let _ = tx.begin(pages).ok()?;
-    tx.commit(pages, 1).ok()?;
-    tx.commit(pages, 2).ok()?;
-    Some(tx)
-}
-
 fn main(rt: HostRuntime) -> io::Result<()> {
     let alloc = rt.alloc();
     let Some(mut pages) = store(alloc) else {
-        return Ok(());
-    };
-    let Some(mut tx) = made(alloc, &mut pages) else {
         return Ok(());
     };
     let Ok(mut locks) = Locks::new(alloc, 320) else {
@@ -194,25 +160,24 @@ fn main(rt: HostRuntime) -> io::Result<()> {
         return Ok(());
     };
     let start = Instant::now(&rt)?;
-    let bare = insert(&mut work, &mut pages, &mut locks, 0, ROWS, true, false);
+    let bare = insert(&mut work, &mut pages, &mut locks, 0, ROWS, true);
     println!(rt; "took {}", start.elapsed(&rt)?.as_nanos())?;
     // One into a summarised range: another store, of which one row is summarised first.
     let Some(mut other) = store(alloc) else {
         return Ok(());
     };
-    let _ = made(alloc, &mut other);
-    let one = insert(&mut work, &mut other, &mut locks, 0, 1, false, false);
+    let one = insert(&mut work, &mut other, &mut locks, 0, 1, false);
     let first = summarise(alloc, &mut other, &mut locks, &mut rights);
     let start = Instant::now(&rt)?;
-    let had = insert(&mut work, &mut other, &mut locks, 1, ROWS, false, true);
+    let had = insert(&mut work, &mut other, &mut locks, 1, ROWS, false);
     println!(rt; "took {}", start.elapsed(&rt)?.as_nanos())?;
     let Some(mut third) = store(alloc) else {
         return Ok(());
     };
-    let two = insert(&mut work, &mut third, &mut locks, 0, 1, true, false);
+    let two = insert(&mut work, &mut third, &mut locks, 0, 1, true);
     let second = summarise(alloc, &mut third, &mut locks, &mut rights);
     let start = Instant::now(&rt)?;
-    let widened = insert(&mut work, &mut third, &mut locks, 1, ROWS, true, false);
+    let widened = insert(&mut work, &mut third, &mut locks, 1, ROWS, true);
     println!(rt; "took {}", start.elapsed(&rt)?.as_nanos())?;
     let start = Instant::now(&rt)?;
     let ranges = summarise(alloc, &mut pages, &mut locks, &mut rights);
@@ -221,17 +186,7 @@ fn main(rt: HostRuntime) -> io::Result<()> {
     let start = Instant::now(&rt)?;
     let blocks = explain(alloc, &mut pages);
     println!(rt; "took {}", start.elapsed(&rt)?.as_nanos())?;
-    let Ok(own) = tx.begin(&mut pages) else {
-        return Ok(());
-    };
-    let snapshot = Snapshot { next: own, active: Vec::new(alloc) };
-    let start = Instant::now(&rt)?;
-    let all = select(alloc, &mut pages, &tx, &snapshot, own, 0);
-    println!(rt; "took {}", start.elapsed(&rt)?.as_nanos())?;
-    let start = Instant::now(&rt)?;
-    let turns = select(alloc, &mut other, &tx, &snapshot, own, 0);
-    println!(rt; "took {}", start.elapsed(&rt)?.as_nanos())?;
-    println!(rt; "done {} {} {} {} {} {} {} {} {} {} {}", bare, one, had, two, widened, first, second, ranges, blocks, all, turns)
+    println!(rt; "done {} {} {} {} {} {} {} {} {}", bare, one, had, two, widened, first, second, ranges, blocks)
 }
 """
 
@@ -256,7 +211,7 @@ def run(crate, tools):
     lines = [line.split() for line in ran.stdout.splitlines()]
     took = [int(line[1]) for line in lines if line[:1] == ["took"]]
     done = [line[1:] for line in lines if line[:1] == ["done"]]
-    wanted = ["true"] * 5 + ["1"] * 3 + [str(BLOCKS), str(ROWS), str(ROWS)]
+    wanted = ["true"] * 5 + ["1"] * 3 + [str(BLOCKS)]
     if len(took) != len(PARTS) or done != [wanted]:
         sys.exit(ran.stdout + ran.stderr)
     return took
