@@ -1,6 +1,6 @@
 //! Openings over pages in a given state.
 
-use crate::pages::{page_with, put_page, store};
+use crate::pages::{boxed_store, page_with, put_page};
 use crate::steps::{Answer, Step, difference};
 use crate::trial::opened;
 use disk_trait::Disk;
@@ -49,32 +49,32 @@ fn status_in<D: Disk + Drop>(table: &TxTable, pages: &mut PageStore<D>, t: u64) 
 }
 
 /// The next number of a store that is opened, and how three transactions stand there.
-fn told<D: Disk + Drop>(pages: PageStore<D>, list: [u64; 3]) -> Option<(u64, [Status; 3])> {
-    let mut pages = pages;
-    let table = match TxTable::start(&mut pages) {
+fn told<D: Disk + Drop>(pages: &mut PageStore<D>, list: [u64; 3]) -> Option<(u64, [Status; 3])> {
+    let table = match TxTable::start(pages) {
         Ok(table) => table,
         Err(_) => return None,
     };
-    let first = status_in(&table, &mut pages, list[0])?;
-    let second = status_in(&table, &mut pages, list[1])?;
-    let third = status_in(&table, &mut pages, list[2])?;
+    let first = status_in(&table, pages, list[0])?;
+    let second = status_in(&table, pages, list[1])?;
+    let third = status_in(&table, pages, list[2])?;
     Some((table.next(), [first, second, third]))
 }
 
 /// The same, where of two blocks the second alone is started, as that page.
 fn told_of_second(alloc: Global, list: [u64; 3]) -> Option<(u64, [Status; 3])> {
-    let mut pages = store(alloc, 2)?;
+    let mut pages = boxed_store(alloc, 2)?;
     // Entry 5 is committed.
     if !put_page(&mut pages, 1, &page_with(33, 8)) {
         return None;
     }
-    told(pages, list)
+    told(&mut pages, list)
 }
 
 #[test]
 fn a_page_that_is_not_started_has_unused_numbers(rt: HostRuntime) -> Result<(), Fail> {
     let unused = Status::Unused;
-    let new = told(store(rt.alloc(), 2).ok_or("store")?, [0, 1, 2]);
+    let mut fresh = boxed_store(rt.alloc(), 2).ok_or("store")?;
+    let new = told(&mut fresh, [0, 1, 2]);
     let second = told_of_second(rt.alloc(), [5, 32645, 65280]);
     let wanted = Some((32646, [unused, Status::Committed, unused]));
     assert_eq!(rt; (new, second), (Some((1, [unused; 3])), wanted));

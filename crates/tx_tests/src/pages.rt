@@ -39,6 +39,14 @@ pub fn store(alloc: Global, status_blocks: u32) -> Option<PageStore<SteadyDisk>>
     Some(store)
 }
 
+/// The same in a box, so that a test that ends early drops one pointer.
+pub fn boxed_store(alloc: Global, status_blocks: u32) -> Option<Box<PageStore<SteadyDisk>>>
+    ensures { IfSome result (λ store. store.value.layout.sizes.status_blocks ≡ status_blocks) }
+{
+    let store = store(alloc, status_blocks)?;
+    Box::new(alloc, store).ok()
+}
+
 /// A page of statuses whose bytes are zeros but for one: that value stands in the byte.
 pub fn page_with(at: usize, value: u8) -> Page
     requires { at < PAGE_SIZE }
