@@ -1,0 +1,2 @@
+pub mod KeepsOrder
+pub mod OrderLaws
