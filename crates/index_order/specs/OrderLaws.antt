@@ -4,7 +4,7 @@ use Rattle.std.proofs.Common.{inl, inr, sym, ap, subst, ◌∙◌, arith}
 use Rattle.std.proofs.lemmas.Bool.{cases_eq}
 use Rattle.disk_trait.specs.Told.{Told}
 use Rattle.store_layout.specs.DiskLayout.{DiskLayout}
-use Rattle.page_store.specs.Keeps.{Keeps, Tells}
+use Rattle.page_store.specs.Keeps.{Keeps}
 use Rattle.page_store.specs.PageMap.{PageMap, View, block_at}
 use Rattle.opened_pages.specs.PageOrder.{AreInOrder, IsIndexInOrder, IsOfTuples, empty_page, kind_of, map_pages}
 use Rattle.index_contents.specs.IndexContents.{index_page, relation_of}
