@@ -1,2 +1,3 @@
 pub mod KeepsOrder
 pub mod OrderLaws
+pub mod OrderedCalls
