@@ -12,7 +12,7 @@ use Rattle.index_layout.specs.declared.format.TheConstants.{REGULAR, UNSTARTED}
 use Rattle.index_layout.specs.IndexPages.{Slot, tuple_bytes}
 use Rattle.index_layout.specs.IndexReading.{free_slot_of, number_at, slots_of}
 use Rattle.coverage.specs.IndexView.{Pages, Regular, most_bytes}
-use Rattle.coverage.specs.Verdicts.{IsPageUnstarted, MustMove}
+use Rattle.coverage.specs.Verdicts.{IsLowestNumber, IsPageUnstarted, MustMove}
 use Rattle.index_contents.specs.IndexContents.{IndexContents, room_in_place, tuple_on}
 use Rattle.range_store.specs.declared.putting.Opening.{Opening}
 use Rattle.range_store.specs.declared.putting.Opening.TheVariants as openings
@@ -30,6 +30,10 @@ IsOfRange bytes range = (4 ≤ length bytes) × (number_of (field_at bytes 0 4) 
 -- a page takes so many bytes: it is one for tuples with that much room, or isn't started
 abbrev pub TakesBytes : Pages → ℕ → ℕ → Type 0
 TakesBytes pages need block = ((pages.kind block ≡ Regular) × (need ≤ pages.room block)) ⊎ IsPageUnstarted pages block
+
+-- no page before one that isn't started is unstarted, too
+abbrev pub IsFirstUnstarted : Pages → ℕ → Type 0
+IsFirstUnstarted pages block = IsPageUnstarted pages block → IsLowestNumber (IsPageUnstarted pages) block
 
 -- so many bytes of a page from a place on are a tuple; where they are none there is none
 abbrev pub tuple_from : List ℕ → ℕ → ℕ → Slot

@@ -12,6 +12,7 @@ ghost use Rattle.index_layout.specs.IndexPages.{IsIndexPage};
 ghost use Rattle.index_layout.specs.IndexReading.{is_regular, slots_of};
 ghost use Rattle.index_contents.specs.IndexContents.{contents, index_page, relation_of, tuple_on};
 ghost use Rattle.index_contents.specs.IndexChanges.{DropsBytes, LeavesOtherPages, LeavesOthers};
+ghost use Rattle.index_order.specs.KeepsOrder.{KeepsOrder};
 ghost use Rattle.range_store.specs.PageTuples.{DropsOn, StaysWithoutTuples};
 
 use crate::changes::drop_tuple;
@@ -37,6 +38,7 @@ pub fn drop_at<D: Disk + Drop>(
     ensures kept { OnErr result (Keeps D.told pages.old pages.new) }
     ensures others { LeavesOthers D.told index pages.old pages.new }
     ensures pages { LeavesOtherPages D.told (record { relation = relation_of pages.old.layout index; block = spot.block }) pages.old pages.new }
+    ensures order { KeepsOrder D.told index pages.old pages.new }
     // The change itself isn't sure before the next flush.
     ensures survives { Survives D.told (λ passed. passed ≡ pages.old.pages) pages.old pages.new }
     ensures at { IfErr result (NamesPage pages.old.layout (record { relation = relation_of pages.old.layout index; block = spot.block })) }

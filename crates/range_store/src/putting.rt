@@ -12,7 +12,8 @@ ghost use Rattle.index_layout.specs.IndexPages.{IsIndexPage};
 ghost use Rattle.index_contents.specs.IndexContents.{contents, relation_of};
 ghost use Rattle.index_contents.specs.IndexChanges.{LeavesOtherPages, LeavesOthers, PutsBytes};
 ghost use Rattle.range_store.specs.PageTuples.{PutsOn, TakesOn};
-ghost use Rattle.range_store.specs.Tuples.{IsTupleSize, TakesBytes, opening_of};
+ghost use Rattle.index_order.specs.KeepsOrder.{KeepsOrder};
+ghost use Rattle.range_store.specs.Tuples.{IsFirstUnstarted, IsTupleSize, TakesBytes, opening_of};
 
 use crate::changes::{put_tuple, start_with};
 use block_model::{Place, Spot};
@@ -38,7 +39,8 @@ enum Opening {
 }
 
 /// Puts a tuple into the lowest free slot of a page that takes it, else into its next one, and answers where it stands. A page that
-/// isn't started is started in the same change. After an error nothing is changed.
+/// isn't started is started in the same change. The pages of the index stay in order, where a page that isn't started is the first such
+/// one. After an error nothing is changed.
 pub fn put<D: Disk + Drop>(
     pages: &mut PageStore<D>,
     index: u8,
@@ -54,6 +56,7 @@ pub fn put<D: Disk + Drop>(
     ensures kept { OnErr result (Keeps D.told pages.old pages.new) }
     ensures others { LeavesOthers D.told index pages.old pages.new }
     ensures pages { LeavesOtherPages D.told (record { relation = relation_of pages.old.layout index; block = block }) pages.old pages.new }
+    ensures order { (Tells D.told pages.old → IsFirstUnstarted (contents pages.old.layout pages.old.pages index).pages block) → KeepsOrder D.told index pages.old pages.new }
     // The change itself isn't sure before the next flush.
     ensures survives { Survives D.told (λ passed. passed ≡ pages.old.pages) pages.old pages.new }
     ensures at { IfErr result (NamesPage pages.old.layout (record { relation = relation_of pages.old.layout index; block = block })) }

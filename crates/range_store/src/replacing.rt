@@ -12,6 +12,7 @@ ghost use Rattle.logged_pages.specs.Survives.{Survives};
 ghost use Rattle.index_layout.specs.IndexPages.{IsIndexPage};
 ghost use Rattle.index_contents.specs.IndexContents.{contents, index_page, relation_of, room_in_place, tuple_on};
 ghost use Rattle.index_contents.specs.IndexChanges.{LeavesOtherPages, LeavesOthers, ReplacesBytes};
+ghost use Rattle.index_order.specs.KeepsOrder.{KeepsOrder};
 ghost use Rattle.range_store.specs.PageTuples.{ReplacesOn};
 ghost use Rattle.range_store.specs.Tuples.{FaultNamesPlace, IsFound, IsMisfit, IsTupleSize, MisfitsOn, ShowsMisfit, StandsWithin, SwapOutcome, TakesInPlace, size_of};
 
@@ -50,6 +51,7 @@ pub fn replace<D: Disk + Drop>(
     ensures kept { OnErr result (Keeps D.told pages.old pages.new) }
     ensures others { LeavesOthers D.told index pages.old pages.new }
     ensures pages { LeavesOtherPages D.told (record { relation = relation_of pages.old.layout index; block = spot.block }) pages.old pages.new }
+    ensures order { KeepsOrder D.told index pages.old pages.new }
     // The change itself isn't sure before the next flush.
     ensures survives { Survives D.told (λ passed. passed ≡ pages.old.pages) pages.old pages.new }
     ensures at { IfErr result (FaultNamesPlace pages.old.layout (record { relation = relation_of pages.old.layout index; block = spot.block })) }

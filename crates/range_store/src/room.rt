@@ -10,7 +10,7 @@ ghost use Rattle.index_contents.specs.IndexContents.{contents};
 ghost use Rattle.coverage.specs.IndexView.{Pages};
 ghost use Rattle.coverage.specs.Verdicts.{IsTarget};
 ghost use Rattle.range_store.specs.FirstTarget.{IsFirstTarget};
-ghost use Rattle.range_store.specs.Tuples.{TakesBytes};
+ghost use Rattle.range_store.specs.Tuples.{IsFirstUnstarted, TakesBytes};
 
 use disk_trait::Disk;
 use engine_pages::PageStore;
@@ -41,7 +41,8 @@ fn first_target<D: Disk + Drop>(pages: &PageStore<D>, relation: u8, need: u16) -
     pages.first_room(relation, need, past)
 }
 
-/// The page for a further tuple takes it. Does nothing.
+/// The page for a further tuple takes it; and where that isn't started, it is the first one that isn't. Does nothing.
 pub fn a_target_takes_its_tuple()
-    ensures { (pages : Pages) (need block : ℕ) → IsTarget pages need block → TakesBytes pages need block }
+    ensures takes { (pages : Pages) (need block : ℕ) → IsTarget pages need block → TakesBytes pages need block }
+    ensures first { (pages : Pages) (need block : ℕ) → IsTarget pages need block → IsFirstUnstarted pages block }
 {}

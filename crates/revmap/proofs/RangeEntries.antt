@@ -25,6 +25,8 @@ use Rattle.index_contents.specs.IndexChanges.{LeavesOtherPages, SetsEntry}
 use Rattle.index_contents.specs.MapLaws.{is_of_map, sets_entry}
 use Rattle.index_contents.specs.PageLaws.{StayBeside, blocks_stay}
 use Rattle.index_contents.specs.Reading.{counted_entry, is_map, map_byte, no_entry, uncounted, unstarted_kind}
+use Rattle.index_order.specs.KeepsOrder.{KeepsOrder}
+use Rattle.index_order.specs.OrderedCalls.{keeps_by_entries}
 use Rattle.revmap.specs.MapEntries.{HoldsRange}
 
 -- the page that holds a range is of the map
@@ -76,6 +78,13 @@ sets_range told index range relation block entry spot old new one at on number t
     let here : IsMap (set (entries_of (f block)) entry spot) (g block) = subst (λ (r : ℕ). IsMap (set (entries_of (block_at old.pages r block)) entry spot) (block_at new.pages r block)) at is in
     let there : IsMap (set (entries_of (f (map_page_of range))) entry spot) (g (map_page_of range)) = subst (λ (b : ℕ). IsMap (set (entries_of (f b)) entry spot) (g b)) on here in
     at_range told index range spot old new one stay holds (subst (λ (n : ℕ). IsMap (set (entries_of (f (map_page_of range))) n spot) (g (map_page_of range))) number there)
+
+-- so the pages of the index stay in order
+pub sets_order : {D : Type 0} (told : D → Told) (index range relation block entry : ℕ) (spot : Option Spot) (old new : View D) → relation ≡ relation_of old.layout index → block ≡ map_page_of range → LeavesOtherPages told (record { relation = relation; block = block }) old new
+    → (Tells told old → HoldsRange (contents old.layout old.pages index).pages range) → (Tells told old → IsMap (set (entries_of (block_at old.pages relation block)) entry spot) (block_at new.pages relation block)) → KeepsOrder told index old new
+sets_order told index range relation block entry spot old new at on leaves holds is =
+    keeps_by_entries told index block old new (subst (λ (r : ℕ). LeavesOtherPages told (record { relation = r; block = block }) old new) at leaves) (omega (arith, on)) (λ tells. omega (arith, on, (holds tells).0))
+    (λ tells. ap (λ (r : ℕ). slice_index (block_at new.pages r block) 0) (sym at) ∙ is_of_map (set (entries_of (block_at old.pages relation block)) entry spot) (block_at new.pages relation block) (is tells))
 
 -- a page of the map takes an entry
 pub takes_entry : (layout : DiskLayout) (place : Place) (page : List ℕ) (entry : ℕ) (spot : Spot) → form_of layout place.relation ≡ forms.Index → IsPageIn layout place.relation page → slice_index page 0 ≡ MAP → entry < MAP_ENTRIES → FitsIn layout place.relation page (MapSet place entry spot)

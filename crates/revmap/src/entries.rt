@@ -12,6 +12,7 @@ ghost use Rattle.index_contents.specs.IndexContents.{contents, relation_of};
 ghost use Rattle.index_contents.specs.IndexChanges.{LeavesOtherPages, LeavesOthers, SetsEntry};
 ghost use Rattle.index_layout.specs.declared.format.TheConstants.{MAP_ENTRIES};
 ghost use Rattle.coverage.specs.IndexView.{map_page_of};
+ghost use Rattle.index_order.specs.KeepsOrder.{KeepsOrder};
 ghost use Rattle.revmap.specs.MapEntries.{FaultNamesMap, HoldsRange, IsNameable, NamesMap, SetOutcome, SetsOnPage, ShowsOther, map_place};
 
 use crate::faults::SetFault;
@@ -80,6 +81,7 @@ pub fn set<D: Disk + Drop>(
     ensures others { LeavesOthers D.told index pages.old pages.new }
     ensures page { OnOk result (Tells D.told pages.old → SetsOnPage range spot (page_at pages.old.pages (map_place pages.old.layout index range)) (page_at pages.new.pages (map_place pages.old.layout index range))) }
     ensures pages { LeavesOtherPages D.told (map_place pages.old.layout index range) pages.old pages.new }
+    ensures order { KeepsOrder D.told index pages.old pages.new }
     // The change itself isn't sure before the next flush.
     ensures survives { Survives D.told (λ passed. passed ≡ pages.old.pages) pages.old pages.new }
     ensures at { IfErr result (FaultNamesMap pages.old.layout index range) }
@@ -114,6 +116,7 @@ fn set_found<D: Disk + Drop>(
     ensures others { LeavesOthers D.told index pages.old pages.new }
     ensures page { OnOk result (Tells D.told pages.old → SetsOnPage range spot (page_at pages.old.pages (map_place pages.old.layout index range)) (page_at pages.new.pages (map_place pages.old.layout index range))) }
     ensures pages { LeavesOtherPages D.told (map_place pages.old.layout index range) pages.old pages.new }
+    ensures order { KeepsOrder D.told index pages.old pages.new }
     ensures survives { Survives D.told (λ passed. passed ≡ pages.old.pages) pages.old pages.new }
     ensures at { IfErr result (NamesMap pages.old.layout index range) }
     ensures outcome { Outcome D.told (Untold D.told pages.old) pages.old pages.new result }

@@ -6,7 +6,8 @@ use Rattle.index_contents.specs.IndexContents.{relation_of}
 use Rattle.index_contents.specs.Calls.{past_the_limit}
 use Rattle.index_contents.specs.PageLaws.{leaves_others}
 use Rattle.engine_pages.specs.SurvivesLaws.{survives_still}
-use Rattle.revmap.proofs.RangeEntries.{holds_map, no_map_there, sets_range}
+use Rattle.index_order.specs.OrderLaws.{order_kept}
+use Rattle.revmap.proofs.RangeEntries.{holds_map, no_map_there, sets_order, sets_range}
 use Rattle.revmap.proofs.entries.set_found.Goals as goal
 
 pub no_such_page-requires-clause-untold : goal.no_such_page-requires-clause-untold
@@ -35,3 +36,11 @@ returns-in-Err-clause-others g c = leaves_others g.D.Disk.told c.args.index (rec
 
 pub returns-then-block-sizes-clause-survives : goal.returns-then-block-sizes-clause-survives
 returns-then-block-sizes-clause-survives g c = survives_still g.D.Disk.told c.args.pages.now c.known.ensures.stays
+
+pub returns-in-Ok-clause-order : goal.returns-in-Ok-clause-order
+returns-in-Ok-clause-order g c =
+    sets_order g.D.Disk.told c.args.index c.args.range c.relation_of-relation.result c.map_page_of-block.result c.entry_of.result c.args.spot c.args.pages.now c.set_entry.new.pages
+    (c.relation_of-relation.ensures.number ∙ ap (λ (l : DiskLayout). relation_of l c.args.index) c.layout.ensures) c.map_page_of-block.ensures c.set_entry.ensures.others c.requires.map c.in-Ok.ensures.set
+
+pub returns-in-Err-clause-order : goal.returns-in-Err-clause-order
+returns-in-Err-clause-order g c = order_kept g.D.Disk.told c.args.index c.args.pages.now c.set_entry.new.pages c.in-Err.ensures.kept
