@@ -1,5 +1,5 @@
 -- The tuples of an index, by its pages.
-use Rattle.std.proofs.Common.{◌≡◌, ℕ, ◌<◌, ◌≤◌, inl, inr, List, length, sym, ap, subst, ◌∙◌}
+use Rattle.std.proofs.Common.{◌≡◌, ◌⊎◌, ℕ, ◌<◌, ◌≤◌, inl, inr, List, length, sym, ap, subst, ◌∙◌}
 use Rattle.std.specs.Prelude.{slice_index, None}
 use Rattle.std.proofs.lemmas.Bool.{cases_eq}
 use Rattle.block_model.specs.declared.place.Spot.{Spot}
@@ -9,6 +9,7 @@ use Rattle.page_store.specs.Keeps.{Tells}
 use Rattle.page_store.specs.PageMap.{PageMap, View, block_at, unstarted_page}
 use Rattle.index_layout.specs.declared.format.TheConstants.{REGULAR}
 use Rattle.index_layout.specs.IndexWrites.{room_on}
+use Rattle.coverage.specs.IndexView.{Pages, Regular, Unstarted}
 use Rattle.index_contents.specs.IndexContents.{contents, contents_in, index_page, relation_of, tuple_on}
 use Rattle.index_contents.specs.IndexChanges.{DropsBytes, LeavesOtherPages, PutsBytes, ReplacesBytes}
 use Rattle.index_contents.specs.Kinds.{is_regular_page, is_unstarted_page, regular_page}
@@ -19,6 +20,11 @@ use Rattle.range_store.specs.declared.faults.SwapFault.TheVariants as faults
 use Rattle.range_store.specs.PageTuples.{DropsOn, PutsOn, ReplacesOn, TakesOn}
 use Rattle.range_store.specs.Tuples.{MisfitsOn, ShowsMisfit, TakesBytes, TakesInPlace}
 use Rattle.range_store.proofs.TupleKinds.{regular_says_none}
+
+-- a page that takes bytes takes tuples, or isn't started
+pub takes_either : (pages : Pages) (need block : ℕ) → TakesBytes pages need block → (pages.kind block ≡ Regular) ⊎ (pages.kind block ≡ Unstarted)
+takes_either pages need block (inl regular) = inl regular.0
+takes_either pages need block (inr unstarted) = inr unstarted
 
 -- a page takes bytes as the index says
 pub takes_on : (layout : DiskLayout) (pages : PageMap) (index relation block size : ℕ) → relation ≡ relation_of layout index → TakesBytes (contents layout pages index).pages size block → TakesOn (block_at pages relation block) size

@@ -1,5 +1,5 @@
 -- The first page for a further tuple, as coverage tells it.
-use Rattle.std.proofs.Common.{◌≡◌, ℕ, ◌<◌, inl, inr, List, refl, sym, subst}
+use Rattle.std.proofs.Common.{◌≡◌, ℕ, ◌<◌, inl, inr, List, refl, sym, subst, ◌∙◌}
 use Rattle.std.specs.Prelude.{slice_index, IfSome, Option, None, Some}
 use Rattle.std.proofs.lemmas.Bool.{cases_lt}
 use Rattle.store_layout.specs.DiskLayout.{DiskLayout}
@@ -11,11 +11,11 @@ use Rattle.page_store.specs.FirstRoom.{IsFirstRoom}
 use Rattle.page_store.specs.PageMap.{PageMap, block_at}
 use Rattle.index_layout.specs.IndexReading.{map_pages_of}
 use Rattle.index_layout.specs.declared.format.TheConstants.{UNSTARTED}
-use Rattle.coverage.specs.IndexView.{Pages}
+use Rattle.coverage.specs.IndexView.{PageKind, Pages, Regular, Unstarted}
 use Rattle.coverage.specs.Verdicts.{IsLowestNumber, IsPageUnstarted, IsTarget, OnNew, OnStarted, PageHasRoom}
 use Rattle.index_contents.specs.IndexContents.{contents, index_page, pages_in, relation_of}
 use Rattle.index_contents.specs.Kinds.{is_regular_page, is_unstarted_page, regular_page, unstarted_page_kind}
-use Rattle.range_store.specs.Tuples.{TakesBytes}
+use Rattle.range_store.specs.Tuples.{IsFirstUnstarted, TakesBytes}
 use Rattle.range_store.specs.FirstTarget.{HasRoomIn, IsFirstTarget, IsLowestOf, IsUnstartedIn}
 
 -- a page has room as coverage says it
@@ -49,10 +49,23 @@ pub none_found : (limit : ℕ) (page : ℕ → List ℕ) (need block : ℕ) → 
 none_found limit page need block none (OnStarted lowest) = none.0 block (room_had limit page need block lowest.0)
 none_found limit page need block none (OnNew full lowest below) = none.1 block below (unstarted_was limit page block lowest.0)
 
+-- a page that takes tuples is started
+abbrev NotUnstarted : PageKind → Type 0
+NotUnstarted Unstarted = ⊥
+NotUnstarted kind = Unit {0}
+
 -- a target takes the tuple
 pub takes_it : (pages : Pages) (need block : ℕ) → IsTarget pages need block → TakesBytes pages need block
 takes_it pages need block (OnStarted lowest) = inl (lowest.0.1, lowest.0.2)
 takes_it pages need block (OnNew none lowest below) = inr lowest.0
+
+-- and is the first page that isn't started, if it isn't
+unlike : {P : Type 0} (pages : Pages) (block : ℕ) → pages.kind block ≡ Regular → IsPageUnstarted pages block → P
+unlike pages block regular unstarted = absurd (subst NotUnstarted (sym regular ∙ unstarted) tt)
+
+pub first_it : (pages : Pages) (need block : ℕ) → IsTarget pages need block → IsFirstUnstarted pages block
+first_it pages need block (OnStarted lowest) = λ unstarted. unlike pages block lowest.0.1 unstarted
+first_it pages need block (OnNew none lowest below) = λ unstarted. lowest
 
 -- the first page by the page store is that by the pages of the index
 

@@ -8,6 +8,9 @@ use Rattle.index_contents.specs.Calls.{past_the_limit}
 use Rattle.index_contents.specs.IndexChanges.{LeavesOtherPages}
 use Rattle.index_contents.specs.PageLaws.{leaves_others}
 use Rattle.engine_pages.specs.SurvivesLaws.{survives_still}
+use Rattle.opened_pages.specs.PageOrder.{kind_of}
+use Rattle.index_order.specs.OrderLaws.{order_kept}
+use Rattle.index_order.specs.OrderedCalls.{keeps_by_drop}
 use Rattle.range_store.specs.PageTuples.{StaysWithoutTuples}
 use Rattle.range_store.proofs.Spots.{drops_at, none_changes, none_drops, none_past}
 use Rattle.range_store.proofs.dropping.drop_at.Goals as goal
@@ -59,3 +62,16 @@ returns-in-Ok-clause-survives g c = survives_still g.D.Disk.told c.args.pages.no
 
 pub returns-in-Err-clause-survives : goal.returns-in-Err-clause-survives
 returns-in-Err-clause-survives g c = survives_still g.D.Disk.told c.args.pages.now c.ready.ensures.stays
+
+pub returns-in-Ok-drop_on-clause-order : goal.returns-in-Ok-drop_on-clause-order
+returns-in-Ok-drop_on-clause-order g c =
+    let store = c.args.pages.now in
+    let block = c.args.spot.block in
+    let blocks = c.sizes.ensures ∙ ap (λ (l : DiskLayout). l.sizes) c.layout-2.ensures in
+    let within : block < store.layout.sizes.index_blocks = omega (arith, c.if-block-sizes.false, ap (λ (s : Sizes). s.index_blocks) blocks) in
+    keeps_by_drop g.D.Disk.told c.args.index block store c.drop_on.new.pages (returns-in-Ok-drop_on-clause-pages g c) within
+    (λ tells. subst (λ (r : ℕ). kind_of (block_at c.drop_on.new.pages.pages r block) ≡ kind_of (block_at store.pages r block)) (c.relation_of-relation.ensures.number ∙ ap (λ (l : DiskLayout). relation_of l c.args.index) c.layout.ensures) (c.in-Ok-drop_on.ensures.dropped tells).kind)
+    (returns-in-Ok-drop_on-clause-alone g c)
+
+pub returns-in-Err-drop_on-clause-order : goal.returns-in-Err-drop_on-clause-order
+returns-in-Err-drop_on-clause-order g c = order_kept g.D.Disk.told c.args.index c.args.pages.now c.drop_on.new.pages c.in-Err-drop_on.ensures.kept

@@ -1,11 +1,13 @@
 use Rattle.std.proofs.Common.{ℕ, length, subst, ap, ◌∙◌}
 use Rattle.store_layout.specs.DiskLayout.{DiskLayout}
-use Rattle.index_contents.specs.IndexContents.{relation_of}
+use Rattle.index_contents.specs.IndexContents.{contents, relation_of}
 use Rattle.block_model.specs.declared.place.Spot.{Spot}
 use Rattle.page_store.specs.Outcome.{NamesPage}
 use Rattle.index_contents.specs.IndexChanges.{LeavesOtherPages}
 use Rattle.index_contents.specs.PageLaws.{leaves_others}
-use Rattle.range_store.proofs.Spots.{puts_at, takes_on}
+use Rattle.index_order.specs.OrderLaws.{order_kept}
+use Rattle.index_order.specs.OrderedCalls.{keeps_by_put}
+use Rattle.range_store.proofs.Spots.{puts_at, takes_either, takes_on}
 use Rattle.range_store.proofs.putting.put.Goals as goal
 
 pub put_on-requires-clause-room : goal.put_on-requires-clause-room
@@ -36,3 +38,13 @@ pub returns-in-Err-clause-pages : goal.returns-in-Err-clause-pages
 returns-in-Err-clause-pages g c =
     let store = c.args.pages.now in
     subst (λ (r : ℕ). LeavesOtherPages g.D.Disk.told (record { relation = r; block = c.args.block }) store c.put_on.new.pages) (c.relation_of-relation.ensures.number ∙ ap (λ (l : DiskLayout). relation_of l c.args.index) c.layout.ensures) c.put_on.ensures.others
+
+pub returns-in-Ok-clause-order : goal.returns-in-Ok-clause-order
+returns-in-Ok-clause-order g c = λ first.
+    let store = c.args.pages.now in
+    let others = subst (λ (r : ℕ). LeavesOtherPages g.D.Disk.told (record { relation = r; block = c.args.block }) store c.put_on.new.pages) (c.relation_of-relation.ensures.number ∙ ap (λ (l : DiskLayout). relation_of l c.args.index) c.layout.ensures) c.put_on.ensures.others in
+    keeps_by_put g.D.Disk.told c.args.index c.args.block store c.put_on.new.pages others c.requires.block (λ tells. takes_either (contents store.layout store.pages c.args.index).pages (length c.args.bytes.now) c.args.block (c.requires.room tells))
+    (λ tells. (returns-in-Ok-clause-put g c tells).page.now) first
+
+pub returns-in-Err-clause-order : goal.returns-in-Err-clause-order
+returns-in-Err-clause-order g c = λ first. order_kept g.D.Disk.told c.args.index c.args.pages.now c.put_on.new.pages c.in-Err.ensures.kept

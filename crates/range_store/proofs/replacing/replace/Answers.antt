@@ -1,4 +1,4 @@
-use Rattle.std.proofs.Common.{ℕ, length, sym, subst, ◌∙◌, arith, ap, ◌≡◌, ◌<◌}
+use Rattle.std.proofs.Common.{ℕ, inl, length, sym, subst, ◌∙◌, arith, ap, ◌≡◌, ◌<◌}
 use Rattle.store_layout.specs.DiskLayout.{DiskLayout, relation_blocks}
 use Rattle.block_model.specs.declared.schema.Sizes.{Sizes}
 use Rattle.page_store.specs.PageMap.{block_at, block_limit, unstarted_page}
@@ -8,6 +8,8 @@ use Rattle.index_contents.specs.Calls.{past_the_limit}
 use Rattle.index_contents.specs.IndexChanges.{LeavesOtherPages}
 use Rattle.index_contents.specs.PageLaws.{leaves_others}
 use Rattle.engine_pages.specs.SurvivesLaws.{survives_still}
+use Rattle.index_order.specs.OrderLaws.{order_kept}
+use Rattle.index_order.specs.OrderedCalls.{keeps_by_tuples, regular_byte}
 use Rattle.range_store.specs.Tuples.{FaultNamesPlace, size_of}
 use Rattle.range_store.proofs.Found.{nothing_past}
 use Rattle.range_store.proofs.Misfits.{stands_within}
@@ -67,3 +69,17 @@ returns-in-Ok-clause-survives g c = survives_still g.D.Disk.told c.args.pages.no
 
 pub returns-in-Err-clause-survives : goal.returns-in-Err-clause-survives
 returns-in-Err-clause-survives g c = survives_still g.D.Disk.told c.args.pages.now c.ready.ensures.stays
+
+pub returns-in-Ok-replace_on-clause-order : goal.returns-in-Ok-replace_on-clause-order
+returns-in-Ok-replace_on-clause-order g c =
+    let store = c.args.pages.now in
+    let block = c.args.spot.block in
+    let blocks = c.sizes.ensures ∙ ap (λ (l : DiskLayout). l.sizes) c.layout-2.ensures in
+    let within : block < store.layout.sizes.index_blocks = omega (arith, c.if-block-sizes.false, ap (λ (s : Sizes). s.index_blocks) blocks) in
+    keeps_by_tuples g.D.Disk.told c.args.index block store c.replace_on.new.pages (returns-in-Ok-replace_on-clause-pages g c)
+    (λ tells.
+    let replaced = returns-in-Ok-replace_on-clause-replaced g c tells in
+    (within, inl (regular_byte store.layout store.pages c.args.index block replaced.regular), inl (regular_byte store.layout c.replace_on.new.pages.pages c.args.index block replaced.page.now)))
+
+pub returns-in-Err-replace_on-clause-order : goal.returns-in-Err-replace_on-clause-order
+returns-in-Err-replace_on-clause-order g c = order_kept g.D.Disk.told c.args.index c.args.pages.now c.replace_on.new.pages c.in-Err-replace_on.ensures.kept
