@@ -16,3 +16,4 @@ pub mod Reaching
 pub mod InTable
 pub mod Outcomes
 pub mod OwnLocks
+pub mod Placed

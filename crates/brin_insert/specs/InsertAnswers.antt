@@ -17,6 +17,7 @@ use Rattle.page_locks.specs.declared.did.Did.TheVariants as did
 use Rattle.page_locks.specs.LockHolders.{LockState, holder}
 use Rattle.heap_rows.specs.HeapBlocks.{HasBlocks}
 use Rattle.heap_rows.specs.Heaps.{relation_of as heap_of}
+use Rattle.heap_rows.specs.RowPlaces.{place_for}
 use Rattle.table_coverage.specs.Accounts.{Account, no_account}
 use Rattle.table_coverage.specs.GoingOn.{IsInserting}
 use Rattle.table_coverage.specs.InOneIndex.{DoesAt}
@@ -62,6 +63,16 @@ abbrev pub heap_after : DiskLayout → Row → (was now : Option Spot) → List 
 heap_after layout r (Some x) now blocks = blocks
 heap_after layout r None None blocks = blocks
 heap_after layout r None (Some spot) blocks = blocks_with layout r.table r.id r.values spot blocks
+
+-- where the row stands after a step: where it stood, and else at a spot that it has from then on
+abbrev pub StandsPlaced : (was now : Option Spot) → Type 0
+StandsPlaced None now = (x : Spot) × (now ≡ Some x)
+StandsPlaced (Some x) now = now ≡ Some x
+
+-- a row that stood nowhere comes to the first free slot of its heap
+abbrev pub TakesFirstPlace : DiskLayout → (was now : Option Spot) → List (List Slot) → Type 0
+TakesFirstPlace layout None now blocks = place_for layout.sizes.heap_blocks blocks ≡ now
+TakesFirstPlace layout (Some x) now blocks = Unit {0}
 
 -- so it is of the table that pages and locks showed, whose heap had these blocks, and that they show then
 pub record InsertStepped (layout : DiskLayout) (pages paged : PageMap) (locks locked : LockState) (s : ℕ) (old new : Insert) (answer : Did) (blocks : List (List Slot)) : Type 0 where

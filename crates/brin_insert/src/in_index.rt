@@ -4,6 +4,7 @@ ghost use Rattle.std.specs.Prelude.{◌≡◌, ◌+◌, ◌<◌, ◌≤◌, ℕ,
 ghost use Rattle.block_model.specs.declared.place.Spot.{Spot as AnySpot};
 ghost use Rattle.block_model.specs.declared.row.Row.{Row as AnyRow};
 ghost use Rattle.page_store.specs.Keeps.{Keeps, Tells, Untold};
+ghost use Rattle.logged_pages.specs.Survives.{Survives};
 ghost use Rattle.page_locks.specs.LockCounts.{locks_of};
 ghost use Rattle.page_locks.specs.LockHolders.{LockState, count_of, holder};
 ghost use Rattle.range_tuple.specs.TupleBytes.{tuple_bytes};
@@ -13,7 +14,7 @@ ghost use Rattle.index_contents.specs.IndexChanges.{LeavesOthers};
 ghost use Rattle.index_steps.specs.IndexTuples.{TakesValues, classes_of, shape_of};
 ghost use Rattle.index_steps.specs.MoveEnds.{IsMoving};
 ghost use Rattle.index_steps.specs.StepAnswers.{BlockedWell, IsOfStore, NeverBlocked};
-ghost use Rattle.index_steps.specs.SwapAnswers.{FaultNamesPageOf, LeavesLocks, MachineOutcome, SaysFullIn, TakesAtMost};
+ghost use Rattle.index_steps.specs.SwapAnswers.{FaultNamesPageOf, LeavesLocks, MachineOutcome, SaysFullIn, StaysWhereFull, TakesAtMost};
 ghost use Rattle.brin_insert.specs.InsertSteps.{IsAtWork, Stepped, insert_at, on_index};
 ghost use Rattle.brin_insert.specs.StageLocks.{held_at, taken_at};
 ghost use Rattle.brin_insert.specs.StepAnswers.{DamageAt, StandsAfter, StepFull};
@@ -41,7 +42,9 @@ pub(crate) fn map<D: Disk + Drop>(
     requires index { at.index < length pages.old.layout.schema.indexes }
     ensures stepped { IfOk result (λ o. Tells D.told pages.old → (locks : LockState) (before : List ℕ) (old new : AnyTuple) (r : AnyRow) → Stepped (shape_of pages.old.layout at.index) at.actor at.range r (insert_at pages.old.layout pages.old.pages locks at.index Stage.Map before old) (insert_at pages.old.layout pages.new.pages locks at.index o.0 copied.new new) o.1) }
     ensures stands { IfOk result (λ o. StandsAfter o.1 o.0) }
+    ensures undamaged { OnOk result (Tells D.told pages.old → DamageAt (shape_of pages.old.layout at.index) (contents pages.old.layout pages.old.pages at.index) at.range Stage.Map → ⊥) }
     ensures kept { Keeps D.told pages.old pages.new }
+    ensures survives { Survives D.told (λ passed. passed ≡ pages.old.pages) pages.old pages.new }
     ensures never_blocked { IfOk result (λ o. NeverBlocked o.1) }
     ensures of_store { IfErr result IsOfStore }
     ensures at { IfErr result (FaultNamesPageOf pages.old.layout at.index) }
@@ -71,8 +74,10 @@ pub(crate) fn copy<D: Disk + Drop>(
     requires takes { TakesValues (shape_of pages.old.layout at.index) values.now }
     ensures stepped { IfOk result (λ o. Tells D.told pages.old → (before : List ℕ) (r : AnyRow) → r.values ≡ values.now → Stepped (shape_of pages.old.layout at.index) at.actor at.range r (insert_at pages.old.layout pages.old.pages locks.now at.index (Stage.Copy spot) before tuple.old) (insert_at pages.old.layout pages.new.pages locks.now at.index o.0 copied.new tuple.new) o.1) }
     ensures stands { IfOk result (λ o. StandsAfter o.1 o.0) }
+    ensures undamaged { OnOk result (Tells D.told pages.old → DamageAt (shape_of pages.old.layout at.index) (contents pages.old.layout pages.old.pages at.index) at.range (Stage.Copy spot) → ⊥) }
     ensures same_index { parts_of tuple.new.columns ≡ parts_of tuple.old.columns }
     ensures kept { Keeps D.told pages.old pages.new }
+    ensures survives { Survives D.told (λ passed. passed ≡ pages.old.pages) pages.old pages.new }
     ensures never_blocked { IfOk result (λ o. NeverBlocked o.1) }
     ensures of_store { IfErr result IsOfStore }
     ensures at { IfErr result (FaultNamesPageOf pages.old.layout at.index) }
@@ -122,10 +127,12 @@ pub(crate) fn swap_in<D: Disk + Drop>(
     ensures blocked { IfOk result (λ o. BlockedWell D.told at.index at.actor pages.old pages.new locks.old locks.new o.1) }
     ensures full { IfErr result (SaysFullIn pages.old.layout at.index (λ number. Tells D.told pages.old → StepFull (shape_of pages.old.layout at.index) at.actor at.range (insert_at pages.old.layout pages.old.pages locks.old at.index (Stage.Swap spot) copied.now tuple.now) number)) }
     ensures locks { LeavesLocks (holder locks.old) (holder locks.new) (relation_of pages.old.layout at.index) at.actor }
+    ensures at_full { IfErr result (StaysWhereFull locks.old locks.new) }
     ensures counts { TakesAtMost 3 locks.old locks.new at.actor }
     ensures own { IfOk result (λ o. locks_of locks.old at.actor ≡ 0 → locks_of locks.new at.actor ≤ held_at o.0) }
     ensures same_room { length room.new ≡ length room.old }
     ensures kept { OnErr result (Keeps D.told pages.old pages.new) }
+    ensures survives { Survives D.told (λ passed. passed ≡ pages.old.pages) pages.old pages.new }
     ensures at { IfErr result (FaultNamesPageOf pages.old.layout at.index) }
     ensures outcome { MachineOutcome D.told (Untold D.told pages.old) pages.old pages.new result }
 {
@@ -153,6 +160,7 @@ pub(crate) fn set_in<D: Disk + Drop>(
     ensures own { IfOk result (λ o. held_at (Stage.Set from to) ≤ held_at o.0) }
     ensures others { LeavesOthers D.told at.index pages.old pages.new }
     ensures kept { OnErr result (Keeps D.told pages.old pages.new) }
+    ensures survives { Survives D.told (λ passed. passed ≡ pages.old.pages) pages.old pages.new }
     ensures never_blocked { IfOk result (λ o. NeverBlocked o.1) }
     ensures of_store { IfErr result IsOfStore }
     ensures at { IfErr result (FaultNamesPageOf pages.old.layout at.index) }
@@ -176,6 +184,7 @@ pub(crate) fn drop_in<D: Disk + Drop>(
     ensures stands { IfOk result (λ o. StandsAfter o.1 o.0) }
     ensures others { LeavesOthers D.told at.index pages.old pages.new }
     ensures kept { OnErr result (Keeps D.told pages.old pages.new) }
+    ensures survives { Survives D.told (λ passed. passed ≡ pages.old.pages) pages.old pages.new }
     ensures locks { LeavesLocks (holder locks.old) (holder locks.new) (relation_of pages.old.layout at.index) at.actor }
     ensures counts { TakesAtMost 0 locks.old locks.new at.actor }
     ensures given { OnOk result (locks_of locks.new at.actor ≡ 0) }
@@ -210,16 +219,19 @@ pub(crate) fn step_in<D: Disk + Drop>(
     requires moving { (x y : AnySpot) → stage ≡ Stage.Set x y → Tells D.told pages.old → IsMoving (shape_of pages.old.layout at.index) (contents pages.old.layout pages.old.pages at.index) at.range x y }
     ensures stepped { IfOk result (λ o. Tells D.told pages.old → (r : AnyRow) → r.values ≡ values.now → Stepped (shape_of pages.old.layout at.index) at.actor at.range r (insert_at pages.old.layout pages.old.pages locks.old at.index stage copied.old tuple.old) (insert_at pages.old.layout pages.new.pages locks.new at.index o.0 copied.new tuple.new) o.1) }
     ensures stands { IfOk result (λ o. StandsAfter o.1 o.0) }
+    ensures undamaged { OnOk result (Tells D.told pages.old → DamageAt (shape_of pages.old.layout at.index) (contents pages.old.layout pages.old.pages at.index) at.range stage → ⊥) }
     ensures blocked { IfOk result (λ o. BlockedWell D.told at.index at.actor pages.old pages.new locks.old locks.new o.1) }
     ensures full { IfErr result (SaysFullIn pages.old.layout at.index (λ number. Tells D.told pages.old → StepFull (shape_of pages.old.layout at.index) at.actor at.range (insert_at pages.old.layout pages.old.pages locks.old at.index stage copied.old tuple.old) number)) }
     ensures others { LeavesOthers D.told at.index pages.old pages.new }
     ensures locks { LeavesLocks (holder locks.old) (holder locks.new) (relation_of pages.old.layout at.index) at.actor }
+    ensures at_full { IfErr result (StaysWhereFull locks.old locks.new) }
     ensures counts { TakesAtMost (taken_at stage) locks.old locks.new at.actor }
     ensures given { OnOk result ((x : AnySpot) → stage ≡ Stage.Drop x → locks_of locks.new at.actor ≡ 0) }
     ensures own { IfOk result (λ o. locks_of locks.old at.actor ≤ held_at stage → locks_of locks.new at.actor ≤ held_at o.0) }
     ensures same_index { parts_of tuple.new.columns ≡ parts_of tuple.old.columns }
     ensures same_room { length room.new ≡ length room.old }
     ensures kept { OnErr result (Keeps D.told pages.old pages.new) }
+    ensures survives { Survives D.told (λ passed. passed ≡ pages.old.pages) pages.old pages.new }
     ensures same_hand { OnErr result (on_index (shape_of pages.old.layout at.index) stage copied.new (tuple_bytes tuple.new) ≡ on_index (shape_of pages.old.layout at.index) stage copied.old (tuple_bytes tuple.old)) }
     ensures at { IfErr result (FaultNamesPageOf pages.old.layout at.index) }
     ensures outcome { MachineOutcome D.told (Tells D.told pages.old → DamageAt (shape_of pages.old.layout at.index) (contents pages.old.layout pages.old.pages at.index) at.range stage) pages.old pages.new result }

@@ -5,6 +5,7 @@ ghost use Rattle.block_model.specs.declared.place.Spot.{Spot as AnySpot};
 ghost use Rattle.block_model.specs.declared.row.Row.{Row as AnyRow};
 ghost use Rattle.block_model.specs.IndexedColumns.{columns_of};
 ghost use Rattle.page_store.specs.Keeps.{Keeps, Tells};
+ghost use Rattle.logged_pages.specs.Survives.{Survives};
 ghost use Rattle.page_locks.specs.LockCounts.{locks_of};
 ghost use Rattle.page_locks.specs.LockHolders.{count_of, holder};
 ghost use Rattle.range_tuple.specs.TupleBytes.{tuple_bytes};
@@ -14,7 +15,7 @@ ghost use Rattle.index_contents.specs.IndexChanges.{LeavesOthers};
 ghost use Rattle.index_steps.specs.IndexTuples.{TakesValues, classes_of, index_at, shape_of};
 ghost use Rattle.index_steps.specs.MoveEnds.{IsMoving};
 ghost use Rattle.index_steps.specs.StepAnswers.{BlockedWell};
-ghost use Rattle.index_steps.specs.SwapAnswers.{FaultNamesPageOf, LeavesLocks, MachineOutcome, SaysFullIn, TakesAtMost};
+ghost use Rattle.index_steps.specs.SwapAnswers.{FaultNamesPageOf, LeavesLocks, MachineOutcome, SaysFullIn, StaysWhereFull, TakesAtMost};
 ghost use Rattle.brin_insert.specs.InsertSteps.{IsAtWork, Stepped, insert_of, on_index};
 ghost use Rattle.brin_insert.specs.StageLocks.{held_at, taken_at};
 ghost use Rattle.brin_insert.specs.StepAnswers.{DamageAt, StandsAfter, StepFull};
@@ -116,10 +117,12 @@ impl IndexInsert {
         requires moving { (x y : AnySpot) → self.old.stage ≡ Stage.Set x y → Tells D.told pages.old → IsMoving (shape_of pages.old.layout self.old.index) (contents pages.old.layout pages.old.pages self.old.index) range x y }
         ensures stepped { IfOk result (λ did. Tells D.told pages.old → (r : AnyRow) → r.values ≡ values.now → Stepped (shape_of pages.old.layout self.old.index) actor range r (insert_of pages.old.layout pages.old.pages locks.old self.old copied.old) (insert_of pages.old.layout pages.new.pages locks.new self.new copied.new) did) }
         ensures stands { IfOk result (λ did. StandsAfter did self.new.stage) }
+        ensures undamaged { OnOk result (Tells D.told pages.old → DamageAt (shape_of pages.old.layout self.old.index) (contents pages.old.layout pages.old.pages self.old.index) range self.old.stage → ⊥) }
         ensures blocked { IfOk result (BlockedWell D.told self.old.index actor pages.old pages.new locks.old locks.new) }
         ensures full { IfErr result (SaysFullIn pages.old.layout self.old.index (λ number. Tells D.told pages.old → StepFull (shape_of pages.old.layout self.old.index) actor range (insert_of pages.old.layout pages.old.pages locks.old self.old copied.old) number)) }
         ensures others { LeavesOthers D.told self.old.index pages.old pages.new }
         ensures locks { LeavesLocks (holder locks.old) (holder locks.new) (relation_of pages.old.layout self.old.index) actor }
+        ensures at_full { IfErr result (StaysWhereFull locks.old locks.new) }
         ensures counts { TakesAtMost (taken_at self.old.stage) locks.old locks.new actor }
         ensures given { OnOk result ((x : AnySpot) → self.old.stage ≡ Stage.Drop x → locks_of locks.new actor ≡ 0) }
         ensures own { OnOk result (locks_of locks.old actor ≤ held_at self.old.stage → locks_of locks.new actor ≤ held_at self.new.stage) }
@@ -127,6 +130,8 @@ impl IndexInsert {
         ensures same_columns { parts_of self.new.widened.columns ≡ parts_of self.old.widened.columns }
         ensures same_stage { OnErr result (self.new.stage ≡ self.old.stage) }
         ensures same_hand { OnErr result (on_index (shape_of pages.old.layout self.old.index) self.old.stage copied.new (tuple_bytes self.new.widened) ≡ on_index (shape_of pages.old.layout self.old.index) self.old.stage copied.old (tuple_bytes self.old.widened)) }
+        // The change itself isn't sure before the next flush.
+        ensures survives { Survives D.told (λ passed. passed ≡ pages.old.pages) pages.old pages.new }
         ensures kept { OnErr result (Keeps D.told pages.old pages.new) }
         ensures at { IfErr result (FaultNamesPageOf pages.old.layout self.old.index) }
         ensures outcome { MachineOutcome D.told (Tells D.told pages.old → DamageAt (shape_of pages.old.layout self.old.index) (contents pages.old.layout pages.old.pages self.old.index) range self.old.stage) pages.old pages.new result }

@@ -5,14 +5,15 @@ ghost use Rattle.block_model.specs.declared.place.Spot.{Spot as AnySpot};
 ghost use Rattle.store_layout.specs.DiskLayout.{DiskLayout};
 ghost use Rattle.page_layout.specs.RowBytes.{HaveKinds};
 ghost use Rattle.page_store.specs.Keeps.{Keeps, Tells, Untold};
+ghost use Rattle.logged_pages.specs.Survives.{Survives};
 ghost use Rattle.page_locks.specs.LockCounts.{locks_of};
 ghost use Rattle.page_locks.specs.LockHolders.{count_of, holder};
 ghost use Rattle.heap_rows.specs.HeapBlocks.{OfBlocks};
 ghost use Rattle.heap_rows.specs.Heaps.{kinds_at};
 ghost use Rattle.index_steps.specs.IndexTuples.{TakesValues, shape_of};
-ghost use Rattle.index_steps.specs.SwapAnswers.{LeavesLocks, MachineOutcome, TakesAtMost};
+ghost use Rattle.index_steps.specs.SwapAnswers.{LeavesLocks, MachineOutcome, StaysWhereFull, TakesAtMost};
 ghost use Rattle.brin_insert.specs.declared.stage.Stage.TheVariants as stages;
-ghost use Rattle.brin_insert.specs.InsertAnswers.{BlockedOn, FaultNamesRelation, InsertStepped, IsInsertFull, IsLeftBy, LeavesOtherRelations, SaysInsertFull, relation_at};
+ghost use Rattle.brin_insert.specs.InsertAnswers.{BlockedOn, FaultNamesRelation, InsertStepped, IsInsertFull, IsLeftBy, LeavesOtherRelations, SaysInsertFull, StandsPlaced, TakesFirstPlace, relation_at};
 ghost use Rattle.brin_insert.specs.InsertLocks.{held_by, stage_of, taken_by};
 ghost use Rattle.brin_insert.specs.Inserts.{AsksNothing, HasReached, HasStepLeft, IsInsertFor, IsOfItsIndex, numbers_in, task_of, work_of};
 ghost use Rattle.index_steps.specs.ShownRows.{ShowsKept, shown_by};
@@ -88,7 +89,8 @@ impl Insert {
     /// step in the index that is next is made. `Finished` comes with the last one. Blocked, by page and holder, where another session
     /// locks a page that the step changes; Full, with its number, exactly where no place is left for the row, or no page of the index
     /// for the tuple with the row. Damage is told only where the disk doesn't tell its contents. Where the step is blocked nothing is
-    /// changed, and after an error no page is. Takes no memory.
+    /// changed; after an error no page is, and at Full no lock; where the store refuses a move, it may have its three locks. The row
+    /// stands where the first step put it. Takes no memory.
     pub fn step<D: Disk + Drop>(
         &mut self,
         pages: &mut PageStore<D>,
@@ -101,17 +103,24 @@ impl Insert {
         requires kept { Tells D.told pages.old → ShowsKept pages.old.layout pages.old.pages locks.old actor self.old.row.table (task_of pages.old.layout self.old) }
         ensures stepped { IfOk result (λ did. OfBlocks D.told pages.old self.old.row.table (InsertStepped pages.old.layout pages.old.pages pages.new.pages locks.old locks.new actor self.old self.new did)) }
         ensures left { IfOk result (IsLeftBy self.new) }
+        ensures placed { OnOk result (StandsPlaced self.old.place self.new.place) }
+        ensures first_place { OnOk result (OfBlocks D.told pages.old self.old.row.table (TakesFirstPlace pages.old.layout self.old.place self.new.place)) }
         ensures blocked { IfOk result (BlockedOn D.told (relation_at pages.old.layout self.old) actor pages.old pages.new locks.old locks.new) }
         ensures full { IfErr result (SaysInsertFull (relation_at pages.old.layout self.old) (λ number. OfBlocks D.told pages.old self.old.row.table (λ blocks. IsInsertFull actor self.old.at (shown_by pages.old.layout pages.old.pages locks.old self.old.row.table blocks) (task_of pages.old.layout self.old) number))) }
         ensures made { IsInsertFor pages.old.layout self.new }
         ensures same_row { self.new.row ≡ self.old.row }
         ensures stays { OnErr result (task_of pages.old.layout self.new ≡ task_of pages.old.layout self.old) }
+        ensures same_place { OnErr result (self.new.place ≡ self.old.place) }
+        ensures same_stage { OnErr result (stage_of self.new ≡ stage_of self.old) }
         ensures still_left { OnErr result (HasStepLeft self.new) }
         ensures others { LeavesOtherRelations D.told (relation_at pages.old.layout self.old) pages.old pages.new }
         ensures locks { LeavesLocks (holder locks.old) (holder locks.new) (relation_at pages.old.layout self.old) actor }
+        ensures at_full { IfErr result (StaysWhereFull locks.old locks.new) }
         ensures counts { TakesAtMost (taken_by (stage_of self.old)) locks.old locks.new actor }
         ensures given { OnOk result ((x : AnySpot) → stage_of self.old ≡ Some (stages.Drop x) → locks_of locks.new actor ≡ 0) }
         ensures own { OnOk result (locks_of locks.old actor ≤ held_by (stage_of self.old) → locks_of locks.new actor ≤ held_by (stage_of self.new)) }
+        // The change itself isn't sure before the next flush.
+        ensures survives { Survives D.told (λ passed. passed ≡ pages.old.pages) pages.old pages.new }
         ensures kept { OnErr result (Keeps D.told pages.old pages.new) }
         ensures at { IfErr result (FaultNamesRelation pages.old.layout (relation_at pages.old.layout self.old)) }
         ensures outcome { MachineOutcome D.told (Untold D.told pages.old) pages.old pages.new result }

@@ -1,11 +1,12 @@
 use Rattle.std.proofs.Common.{◌≡◌, ◌≤◌, sym, ap, subst, ◌∙◌, arith}
 use Rattle.page_locks.specs.LockCounts.{locks_of}
 use Rattle.page_locks.specs.LockHolders.{holder}
-use Rattle.index_contents.specs.IndexContents.{relation_of}
+use Rattle.index_contents.specs.IndexContents.{contents, relation_of}
 use Rattle.index_steps.specs.IndexTuples.{shape_of}
 use Rattle.index_steps.specs.SwapAnswers.{TakesAtMost}
 use Rattle.brin_insert.specs.declared.stage.Stage.{Stage}
 use Rattle.brin_insert.specs.InsertSteps.{Stepped, insert_at}
+use Rattle.brin_insert.specs.StepAnswers.{DamageAt}
 use Rattle.brin_insert.specs.StageLocks.{held_at, taken_at}
 use Rattle.brin_insert.proofs.OwnLocks.{copy_is_no_drop, map_is_no_drop, no_more, none_at, same_locks, set_is_no_drop, swap_is_no_drop}
 use Rattle.brin_insert.proofs.in_index.step_in.Goals as goal
@@ -132,3 +133,28 @@ returns-in-Ok-drop_in-clause-own g c = λ few.
 
 pub swap_in-requires-clause-locks : goal.swap_in-requires-clause-locks
 swap_in-requires-clause-locks g c = c.requires.locks c.in-Swap.spot c.in-Swap.is
+
+pub returns-in-Ok-clause-undamaged : goal.returns-in-Ok-clause-undamaged
+returns-in-Ok-clause-undamaged g c = λ tells.
+    let old = c.args.pages.now in
+    subst (λ (stage : Stage). DamageAt (shape_of old.layout c.args.at.index) (contents old.layout old.pages c.args.at.index) c.args.at.range stage → ⊥) (sym c.in-Map.is) (c.in-Ok.ensures.undamaged tells)
+
+pub returns-in-Ok-copy-clause-undamaged : goal.returns-in-Ok-copy-clause-undamaged
+returns-in-Ok-copy-clause-undamaged g c = λ tells.
+    let old = c.args.pages.now in
+    subst (λ (stage : Stage). DamageAt (shape_of old.layout c.args.at.index) (contents old.layout old.pages c.args.at.index) c.args.at.range stage → ⊥) (sym c.in-Copy.is) (c.in-Ok-copy.ensures.undamaged tells)
+
+pub returns-in-Ok-swap_in-clause-undamaged : goal.returns-in-Ok-swap_in-clause-undamaged
+returns-in-Ok-swap_in-clause-undamaged g c = λ tells.
+    let old = c.args.pages.now in
+    subst (λ (stage : Stage). DamageAt (shape_of old.layout c.args.at.index) (contents old.layout old.pages c.args.at.index) c.args.at.range stage → ⊥) (sym c.in-Swap.is) (λ damage. damage)
+
+pub returns-in-Ok-set_in-clause-undamaged : goal.returns-in-Ok-set_in-clause-undamaged
+returns-in-Ok-set_in-clause-undamaged g c = λ tells.
+    let old = c.args.pages.now in
+    subst (λ (stage : Stage). DamageAt (shape_of old.layout c.args.at.index) (contents old.layout old.pages c.args.at.index) c.args.at.range stage → ⊥) (sym c.in-Set.is) (λ damage. damage)
+
+pub returns-in-Ok-drop_in-clause-undamaged : goal.returns-in-Ok-drop_in-clause-undamaged
+returns-in-Ok-drop_in-clause-undamaged g c = λ tells.
+    let old = c.args.pages.now in
+    subst (λ (stage : Stage). DamageAt (shape_of old.layout c.args.at.index) (contents old.layout old.pages c.args.at.index) c.args.at.range stage → ⊥) (sym c.in-Drop.is) (λ damage. damage)

@@ -2,10 +2,12 @@ use Rattle.std.proofs.Common.{◌≡◌, ◌≤◌, subst, arith}
 use Rattle.std.specs.List.{length_refill}
 use Rattle.block_model.specs.declared.place.Spot.{Spot}
 use Rattle.page_locks.specs.LockCounts.{locks_of}
+use Rattle.index_contents.specs.IndexContents.{contents}
 use Rattle.index_steps.specs.IndexTuples.{shape_of}
 use Rattle.index_steps.specs.SwapAnswers.{TakesAtMost}
 use Rattle.brin_insert.specs.declared.stage.Stage.TheVariants as stages
 use Rattle.brin_insert.specs.StageLocks.{held_at, taken_at}
+use Rattle.brin_insert.specs.StepAnswers.{DamageAt}
 use Rattle.brin_insert.specs.InsertHands.{InsertHand}
 use Rattle.brin_insert.specs.InsertSteps.{Stepped, insert_at, insert_of}
 use Rattle.brin_insert.proofs.index_insert.IndexInsert.step.Goals as goal
@@ -39,3 +41,8 @@ returns-in-Ok-clause-given g c = subst (λ (h : InsertHand). (x : Spot) → h.st
 
 pub returns-in-Ok-clause-own : goal.returns-in-Ok-clause-own
 returns-in-Ok-clause-own g c = subst (λ (h : InsertHand). locks_of c.args.locks.now c.args.actor ≤ held_at h.stage → locks_of c.step_in.new.locks c.args.actor ≤ held_at c.in-Ok.stage) c.self.view_is c.in-Ok.ensures.own
+
+pub returns-in-Ok-clause-undamaged : goal.returns-in-Ok-clause-undamaged
+returns-in-Ok-clause-undamaged g c = λ tells.
+    let old = c.args.pages.now in
+    subst (λ (h : InsertHand). DamageAt (shape_of old.layout h.index) (contents old.layout old.pages h.index) c.args.range h.stage → ⊥) c.self.view_is (c.in-Ok.ensures.undamaged tells)

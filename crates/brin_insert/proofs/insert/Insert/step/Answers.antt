@@ -23,6 +23,7 @@ use Rattle.brin_insert.proofs.Numbers.{number_within}
 use Rattle.brin_insert.specs.InsertLocks.{held_by, stage_of, taken_by}
 use Rattle.brin_insert.proofs.OwnLocks.{given_there, no_more, no_stage_drops, none_held, own_complete, own_there, stage_there, taken_there}
 use Rattle.brin_insert.proofs.Outcomes.{index_full, index_names, index_next, index_others, machine_for}
+use Rattle.brin_insert.proofs.Placed.{first_free, not_first, placed_first, placed_still}
 use Rattle.brin_insert.proofs.Reaching.{left_by}
 use Rattle.brin_insert.proofs.Tasks.{got_set, is_at_work, kept_at, left_with, made_then, made_with, number_there, own_then, range_is, same_numbers, task_stays, tuple_there, tuples_then, work_there}
 use Rattle.brin_insert.proofs.insert.Insert.step.Goals as goal
@@ -484,3 +485,39 @@ returns-in-Ok-Finished-clause-own g c =
     let got = work_there old x e c.in-Some.is c.requires.left c.index_mut-work.ensures.value in
     own_complete old.place old.works.items old.at x e c.step.new.self.stage c.args.locks.now c.step.new.locks c.args.actor (held_by (stage_of c.reach-answer.new.self)) c.in-Some.is got
     (rw c.in-Ok-Finished.field-0-is at c.in-Ok-Finished.ensures.stands) c.in-Ok-Finished.ensures.own
+
+pub returns-in-Ok-clause-placed : goal.returns-in-Ok-clause-placed
+returns-in-Ok-clause-placed g c = placed_first c.args.self.now.place c.reach-did.new.self.place c.in-Ok.spot c.in-None.is c.reach-did.ensures.rest.1
+
+pub returns-in-Ok-clause-first_place : goal.returns-in-Ok-clause-first_place
+returns-in-Ok-clause-first_place g c = λ tells blocks has.
+    first_free c.args.pages.now.layout c.args.self.now.place c.reach-did.new.self.place c.in-Ok.spot blocks c.in-None.is c.reach-did.ensures.rest.1 (c.in-Ok.ensures.place tells blocks has)
+
+pub returns-in-Ok-Moved-clause-placed : goal.returns-in-Ok-Moved-clause-placed
+returns-in-Ok-Moved-clause-placed g c = placed_still c.args.self.now.place c.args.self.now.place c.in-Some.spot c.in-Some.is refl
+
+pub returns-in-Ok-Moved-clause-first_place : goal.returns-in-Ok-Moved-clause-first_place
+returns-in-Ok-Moved-clause-first_place g c = λ tells blocks has. not_first c.args.pages.now.layout c.args.self.now.place c.args.self.now.place c.in-Some.spot blocks c.in-Some.is
+
+pub returns-in-Ok-Blocked-clause-placed : goal.returns-in-Ok-Blocked-clause-placed
+returns-in-Ok-Blocked-clause-placed g c = placed_still c.args.self.now.place c.args.self.now.place c.in-Some.spot c.in-Some.is refl
+
+pub returns-in-Ok-Blocked-clause-first_place : goal.returns-in-Ok-Blocked-clause-first_place
+returns-in-Ok-Blocked-clause-first_place g c = λ tells blocks has. not_first c.args.pages.now.layout c.args.self.now.place c.args.self.now.place c.in-Some.spot blocks c.in-Some.is
+
+pub returns-in-Ok-Finished-clause-placed : goal.returns-in-Ok-Finished-clause-placed
+returns-in-Ok-Finished-clause-placed g c = placed_still c.args.self.now.place c.reach-answer.new.self.place c.in-Some.spot c.in-Some.is c.reach-answer.ensures.rest.1
+
+pub returns-in-Ok-Finished-clause-first_place : goal.returns-in-Ok-Finished-clause-first_place
+returns-in-Ok-Finished-clause-first_place g c = λ tells blocks has. not_first c.args.pages.now.layout c.args.self.now.place c.reach-answer.new.self.place c.in-Some.spot blocks c.in-Some.is
+
+pub returns-in-Err-step-clause-same_stage : goal.returns-in-Err-step-clause-same_stage
+returns-in-Err-step-clause-same_stage g c =
+    let old = c.args.self.now in
+    let x = c.in-Some.spot in
+    let e = c.index_mut-work.result.now in
+    let got = work_there old x e c.in-Some.is c.requires.left c.index_mut-work.ensures.value in
+    let next = c.step.new.self in
+    let below : old.at < length old.works.items = slice_get_within old.works.items old.at e got in
+    let found = got_set old.works.items old.at next below in
+    stage_there old.place (set old.works.items old.at next) old.at x next c.in-Some.is found ∙ ap Some c.in-Err-step.ensures.same_stage ∙ sym (stage_there old.place old.works.items old.at x e c.in-Some.is got)
