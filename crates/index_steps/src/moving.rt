@@ -8,6 +8,7 @@ ghost use Rattle.page_locks.specs.LockHolders.{holder};
 ghost use Rattle.coverage.specs.IndexView.{Building, IndexView};
 ghost use Rattle.index_contents.specs.IndexContents.{contents, relation_of};
 ghost use Rattle.index_contents.specs.IndexChanges.{LeavesOthers};
+ghost use Rattle.index_order.specs.KeepsOrder.{KeepsOrder};
 ghost use Rattle.index_steps.specs.IndexTuples.{shape_of};
 ghost use Rattle.index_steps.specs.MoveEnds.{DropsIn, IsMoving, SetsIn};
 ghost use Rattle.index_steps.specs.Readings.{NamesPageOf};
@@ -38,6 +39,7 @@ pub fn name_moved<D: Disk + Drop>(
     // The change itself isn't sure before the next flush.
     ensures survives { Survives D.told (λ passed. passed ≡ pages.old.pages) pages.old pages.new }
     ensures others { LeavesOthers D.told at.index pages.old pages.new }
+    ensures order { KeepsOrder D.told at.index pages.old pages.new }
     ensures at { IfErr result (NamesPageOf pages.old.layout at.index) }
     ensures outcome { Outcome D.told (Untold D.told pages.old) pages.old pages.new result }
 {
@@ -67,6 +69,7 @@ pub fn drop_moved<D: Disk + Drop>(
     // The change itself isn't sure before the next flush.
     ensures survives { Survives D.told (λ passed. passed ≡ pages.old.pages) pages.old pages.new }
     ensures others { LeavesOthers D.told at.index pages.old pages.new }
+    ensures order { KeepsOrder D.told at.index pages.old pages.new }
     ensures at { IfErr result (NamesPageOf pages.old.layout at.index) }
     ensures outcome { Outcome D.told (Untold D.told pages.old) pages.old pages.new result }
 {

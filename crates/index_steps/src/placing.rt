@@ -8,6 +8,7 @@ ghost use Rattle.page_locks.specs.LockHolders.{count_of, holder};
 ghost use Rattle.range_store.specs.Tuples.{IsTupleSize};
 ghost use Rattle.index_contents.specs.IndexContents.{contents, relation_of};
 ghost use Rattle.index_contents.specs.IndexChanges.{LeavesOthers};
+ghost use Rattle.index_order.specs.KeepsOrder.{KeepsOrder};
 ghost use Rattle.index_steps.specs.IndexTuples.{seen, shape_of};
 ghost use Rattle.index_steps.specs.PlaceAnswers.{IsPlacing, IsPutFull, NamesIn, PagesPlaced, PlaceMakes, PlaceWaits, PlacedLocks};
 ghost use Rattle.index_steps.specs.Readings.{NamesPageOf};
@@ -57,6 +58,7 @@ pub fn put_new<D: Disk + Drop>(
     // The change itself isn't sure before the next flush.
     ensures survives { Survives D.told (λ passed. passed ≡ pages.old.pages) pages.old pages.new }
     ensures others { LeavesOthers D.told at.index pages.old pages.new }
+    ensures order { KeepsOrder D.told at.index pages.old pages.new }
     ensures at { IfErr result (FaultNamesPageOf pages.old.layout at.index) }
     ensures outcome { MachineOutcome D.told (Untold D.told pages.old) pages.old pages.new result }
 {
@@ -103,6 +105,7 @@ pub fn name_new<D: Disk + Drop>(
     // The change itself isn't sure before the next flush.
     ensures survives { Survives D.told (λ passed. passed ≡ pages.old.pages) pages.old pages.new }
     ensures others { LeavesOthers D.told at.index pages.old pages.new }
+    ensures order { KeepsOrder D.told at.index pages.old pages.new }
     ensures at { IfErr result (NamesPageOf pages.old.layout at.index) }
     ensures outcome { Outcome D.told (Untold D.told pages.old) pages.old pages.new result }
 {

@@ -9,6 +9,7 @@ ghost use Rattle.coverage.specs.IndexView.{map_page_of};
 ghost use Rattle.range_store.specs.Tuples.{IsTupleSize};
 ghost use Rattle.index_contents.specs.IndexContents.{contents, relation_of};
 ghost use Rattle.index_contents.specs.IndexChanges.{LeavesOthers};
+ghost use Rattle.index_order.specs.KeepsOrder.{KeepsOrder};
 ghost use Rattle.index_steps.specs.IndexTuples.{seen, shape_of};
 ghost use Rattle.index_steps.specs.ShownIndex.{lock_in};
 ghost use Rattle.index_steps.specs.SwapAnswers.{FaultNamesPageOf, IsSwapFull, LeavesLocks, LocksAfter, MachineOutcome, MustLeave, PagesAfter, SaysFullIn, StaysWhereFull, SwapMakes, TakesAtMost, WaitsFor};
@@ -69,6 +70,7 @@ pub fn swap<D: Disk + Drop>(
     // The change itself isn't sure before the next flush.
     ensures survives { Survives D.told (λ passed. passed ≡ pages.old.pages) pages.old pages.new }
     ensures others { LeavesOthers D.told at.index pages.old pages.new }
+    ensures order { KeepsOrder D.told at.index pages.old pages.new }
     ensures at { IfErr result (FaultNamesPageOf pages.old.layout at.index) }
     ensures outcome { MachineOutcome D.told (Untold D.told pages.old) pages.old pages.new result }
 {
@@ -119,6 +121,7 @@ fn put_elsewhere<D: Disk + Drop>(
     ensures kept { OnErr result (Keeps D.told pages.old pages.new) }
     ensures survives { Survives D.told (λ passed. passed ≡ pages.old.pages) pages.old pages.new }
     ensures others { LeavesOthers D.told at.index pages.old pages.new }
+    ensures order { KeepsOrder D.told at.index pages.old pages.new }
     ensures at { IfErr result (FaultNamesPageOf pages.old.layout at.index) }
     ensures outcome { MachineOutcome D.told (Untold D.told pages.old) pages.old pages.new result }
 {

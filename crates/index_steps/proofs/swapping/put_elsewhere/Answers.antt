@@ -79,3 +79,9 @@ returns-in-None-clause-survives g c = survives_still g.D.Disk.told c.args.pages.
 
 pub returns-in-Err-clause-survives : goal.returns-in-Err-clause-survives
 returns-in-Err-clause-survives g c = survives_still g.D.Disk.told c.args.pages.now c.known.ensures.stays
+
+pub returns-in-Ok-put-clause-order : goal.returns-in-Ok-put-clause-order
+returns-in-Ok-put-clause-order g c = c.put.ensures.order (λ tells. c.a_target_takes_its_tuple.ensures.first _ _ _ (c.in-Some.ensures.target tells))
+
+pub returns-in-Err-put-clause-order : goal.returns-in-Err-put-clause-order
+returns-in-Err-put-clause-order g c = c.put.ensures.order (λ tells. c.a_target_takes_its_tuple.ensures.first _ _ _ (c.in-Some.ensures.target tells))

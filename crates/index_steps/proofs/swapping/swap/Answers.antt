@@ -8,6 +8,7 @@ use Rattle.page_locks.specs.LockHolders.{holder}
 use Rattle.coverage.specs.Verdicts.{SwapVerdict, Waits}
 use Rattle.engine_pages.specs.SurvivesLaws.{survives_on, survives_still}
 use Rattle.index_contents.specs.IndexContents.{contents, relation_of}
+use Rattle.index_order.specs.OrderLaws.{order_then}
 use Rattle.index_steps.specs.IndexTuples.{seen, shape_of}
 use Rattle.index_steps.specs.ShownIndex.{lock_in}
 use Rattle.index_steps.specs.SwapAnswers.{LeavesLocks}
@@ -78,3 +79,6 @@ returns-in-Some-clause-survives g c = survives_still g.D.Disk.told c.args.pages.
 
 pub returns-in-Err-Full-clause-survives : goal.returns-in-Err-Full-clause-survives
 returns-in-Err-Full-clause-survives g c = survives_on g.D.Disk.told c.args.pages.now c.replace.new.pages c.put_elsewhere.new.pages c.in-Err-Full.ensures.kept c.replace.ensures.survives c.put_elsewhere.ensures.survives
+
+pub returns-in-Err-Full-clause-order : goal.returns-in-Err-Full-clause-order
+returns-in-Err-Full-clause-order g c = order_then g.D.Disk.told c.args.at.index c.args.pages.now c.replace.new.pages c.put_elsewhere.new.pages c.in-Err-Full.ensures.kept c.put_elsewhere.ensures.order
