@@ -12,10 +12,12 @@ ghost use Rattle.table_coverage.specs.Table.{Marks, Resting, Scans, TableScan, T
 ghost use Rattle.table_coverage.specs.TableCovered.{IsTableKept};
 ghost use Rattle.table_coverage.specs.TableSteps.{Does, HasNothingToMark, Onward, TableStep};
 ghost use Rattle.page_layout.specs.RowBytes.{StoredRow};
-ghost use Rattle.brin_scan.specs.Finds.{Sight, sees_stored};
+ghost use Rattle.brin_scan.specs.Finds.{Sight, none_read, sees_stored};
+ghost use Rattle.brin_scan.specs.LastStatuses.{Remembers};
 ghost use Rattle.brin_scan.specs.ScanAnswers.{ScanStepped};
 ghost use Rattle.brin_scan.specs.ScanLaws.{ScanGoesTo};
 ghost use Rattle.brin_scan.specs.SeenRows.{IsOthersSince, SeesLater, StaysInSlot};
+ghost use Rattle.brin_scan.specs.declared.sight.LastStatuses.{LastStatuses};
 
 use table_coverage::{table_scans_miss_nothing, table_stays_covered};
 
@@ -55,4 +57,13 @@ pub fn a_scan_finds_what_its_session_sees()
 pub fn what_is_seen_stays()
     ensures stays { (old new : Sight) (row now : StoredRow) → SeesLater old new → StaysInSlot old row now → sees_stored new now ≡ sees_stored old row }
     ensures put_since { (sight : Sight) (row : StoredRow) → IsOthersSince sight row.id.t → sees_stored sight row ≡ false }
+{}
+
+/// What a scan remembers of transactions stands later on too, and a new scan remembers none. So a caller has what `Scan::step` requires: at the
+/// first page step for nothing, and at each later one from what the step before ensured, by `SeesLater` between the two. It has that from the
+/// calls that change statuses, `begin`, `commit` and `rollback` of a TxTable: each changes the status of one that is unused or has begun, and
+/// so hadn't ended at the snapshot; the snapshot and the own number are the transaction's for good. Does nothing.
+pub fn what_is_remembered_stands()
+    ensures stands { (old new : Sight) (last : LastStatuses) → SeesLater old new → Remembers old last → Remembers new last }
+    ensures begins { (sight : Sight) → Remembers sight none_read }
 {}

@@ -6,10 +6,9 @@ use Rattle.page_store.specs.Keeps.{keeps_on}
 use Rattle.store_layout.specs.DiskLayout.{DiskLayout}
 use Rattle.snapshot_core.specs.declared.statuses.Status.{Status}
 use Rattle.heap_rows.specs.declared.rows.Stored.{Stored}
-use Rattle.tx_table.specs.Statuses.{shown_status}
 use Rattle.brin_scan.specs.Finds.{FaultNamesStatuses, visible_matches}
-use Rattle.brin_scan.specs.LastStatuses.{AreHeld}
-use Rattle.brin_scan.proofs.Held.{keeps_same, none_held, told_after, told_before}
+use Rattle.brin_scan.specs.LastStatuses.{Remembers}
+use Rattle.brin_scan.proofs.Held.{keeps_same, told_after, told_before}
 use Rattle.brin_scan.proofs.Ordered.{IsAhead, begins_ahead, goes_ahead}
 use Rattle.brin_scan.proofs.VisibleRows.{one_more, sight_of}
 use Rattle.brin_scan.proofs.scan.find_among.Goals as goal
@@ -21,12 +20,13 @@ rows-init g c = record {
   ready = c.requires.ready;
   ahead = begins_ahead c.args.block c.requires.order.0 c.args.found.now.items c.args.rows.now c.requires.order.1;
   so_far = λ tells statuses has. refl;
-  held = λ tells statuses has. none_held (shown_status c.args.tx.now.first statuses) c.new-last.result c.new-last.ensures;
+  remembers = c.requires.remembers;
 }
 
-pub add_visible-requires-clause-held : goal.add_visible-requires-clause-held
-add_visible-requires-clause-held g c =
-    told_after g.D.Disk.told c.args.pages.now c.rows.pages c.rows.invariant.kept (λ (statuses : List Status). AreHeld (shown_status c.args.tx.now.first statuses) c.rows.last) c.rows.invariant.held
+pub add_visible-requires-clause-remembers : goal.add_visible-requires-clause-remembers
+add_visible-requires-clause-remembers g c =
+    told_after g.D.Disk.told c.args.pages.now c.rows.pages c.rows.invariant.kept (λ (statuses : List Status). Remembers (sight_of c.args.snapshot.now c.args.own c.args.tx.now.first statuses) c.rows.last)
+    c.rows.invariant.remembers
 
 pub rows-preserved : goal.rows-preserved
 rows-preserved g c =
@@ -53,7 +53,8 @@ rows-preserved g c =
           one_more sight query block row rest found found' all
           (told_before told first mid c.rows.invariant.kept (λ (l : List Status). found' ≡ found ++ visible_matches (sight_of c.args.snapshot.now c.args.own c.args.tx.now.first l) query block (row ∷ [])) c.in-Ok.ensures.visible tells statuses has)
           (subst (λ (l : List Stored). found ++ visible_matches sight query block l ≡ all) is (c.rows.invariant.so_far tells statuses has));
-      held = told_before told first mid c.rows.invariant.kept (λ (statuses : List Status). AreHeld (shown_status c.args.tx.now.first statuses) c.add_visible.new.last) c.in-Ok.ensures.held;
+      remembers = told_before told first mid c.rows.invariant.kept (λ (statuses : List Status). Remembers (sight_of c.args.snapshot.now c.args.own c.args.tx.now.first statuses) c.add_visible.new.last)
+          c.in-Ok.ensures.remembers;
     }
 
 pub returns-in-Err-clause-names : goal.returns-in-Err-clause-names
