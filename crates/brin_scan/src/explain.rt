@@ -4,7 +4,7 @@ ghost use Rattle.std.specs.Prelude.{◌≡◌, ◌+◌, ◌<◌, ◌≤◌, ◌^
 ghost use Rattle.page_store.specs.Keeps.{Keeps, Tells};
 ghost use Rattle.brin_scan.specs.Explains.{ExplainSteps, IsPointOf, ListsBlocks, candidate_blocks};
 ghost use Rattle.brin_scan.specs.ScanAnswers.{IsDamagedAt, NamesPageAt, ReadOutcome};
-ghost use Rattle.brin_scan.specs.ScanHands.{IsJudging, IsScanOf, first_hand, is_candidate};
+ghost use Rattle.brin_scan.specs.ScanHands.{IsHand, IsJudging, IsScanOf, first_hand, is_candidate};
 ghost use Rattle.brin_scan.specs.ScanSteps.{point_at};
 
 use crate::judging::Judging;
@@ -47,6 +47,13 @@ impl Explain {
         let room = layout.sizes().heap_blocks as usize;
         let blocks = Vec::with_capacity(alloc, room)?;
         Ok(Explain { judging, blocks })
+    }
+
+    /// Does nothing; tells its caller what holds of the judging of its ranges.
+    pub fn known(&self)
+        ensures { IsHand self.now.judging }
+    {
+        self.judging.known();
     }
 
     /// The stage that it is at.

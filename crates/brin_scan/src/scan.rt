@@ -10,7 +10,7 @@ ghost use Rattle.heap_rows.specs.StoredRows.{SlotsAscend, stored_rows};
 ghost use Rattle.brin_scan.specs.Finds.{Ascend, FaultNamesNext, FaultNamesRead, FaultNamesStatuses, FindOutcome, FindSteps, FindsIn, FindsThere, IsFindOf, IsNext, IsPointIn, IsScanning, OfSight, Sight, did_at, first_find, found_at, visible_matches};
 ghost use Rattle.brin_scan.specs.LastStatuses.{Remembers};
 ghost use Rattle.brin_scan.specs.ScanAnswers.{IsDamagedAt, NamesPageAt, ReadOutcome};
-ghost use Rattle.brin_scan.specs.ScanHands.{IsJudging, first_hand};
+ghost use Rattle.brin_scan.specs.ScanHands.{IsHand, IsJudging, first_hand};
 
 use crate::explain::point_at;
 use crate::judging::Judging;
@@ -73,10 +73,12 @@ impl Scan {
         })
     }
 
-    /// Does nothing; tells its caller that each row is found once, in the order of the places.
+    /// Does nothing; tells its caller that each row is found once, in the order of the places, and what holds of the judging of its ranges.
     pub fn known(&self)
-        ensures { Ascend 0 0 self.now.found }
+        ensures order { Ascend 0 0 self.now.found }
+        ensures hand { IsHand self.now.judging }
     {
+        self.judging.known();
         let _ = &self.read;
     }
 
