@@ -1,8 +1,9 @@
 -- the rows that a scan's session sees stay where they stand
-use Rattle.std.proofs.Common.{◌≡◌, ◌≢◌, ⊎_elim, ℕ, Bool, List, None, true, false, refl, sym, ◌∙◌, ap, subst}
+use Rattle.std.proofs.Common.{◌≡◌, ◌≢◌, ⊎_elim, ℕ, Bool, List, None, Some, true, false, refl, sym, ◌∙◌, ap, subst}
 use Rattle.std.specs.Prelude.{IsTrue}
 use Rattle.std.proofs.lemmas.Bool.{cases_eq}
 use Rattle.std.proofs.lemmas.Option.{none-some, same_Some}
+use Rattle.block_model.specs.declared.row.Row.{Row}
 use Rattle.table_coverage.specs.Table.{Resting, Scans, TableScan, TableState, Task, index_view_at}
 use Rattle.table_coverage.specs.TableSteps.{Does, Fails, JudgeStep, OnlyTurns, SeesPlace, Settles, TableDone, TableNext, TableRun, TableStep}
 use Rattle.table_coverage.specs.TableSteps.{JudgeDrops, JudgeGone, JudgeKeeps, JudgeMap, JudgeNoEntry}
@@ -16,35 +17,61 @@ use Rattle.table_coverage.proofs.TableSeen.{table_step_kept}
 use Rattle.table_coverage.proofs.Views.{begins_no_scan, scan_of}
 use Rattle.brin_scan.specs.SeenRows.{ScansOn}
 
--- by the scan's own steps, no row changes
-module _ (s : ℕ) (w v : TableState) (scan : TableScan) (task : w.task s ≡ Scans scan) where
-  other_task : {A : Type 0} → (t : Task) → scan_of t ≡ None → w.task s ≡ t → A
-  other_task t none is = absurd (none-some scan (sym none ∙ ap scan_of (sym is ∙ task)))
+-- A session that scans, or marks what it found, changes no row by its own steps.
+module _ (s : ℕ) (w v : TableState) (b k : ℕ) (sees : SeesPlace b k (w.task s)) where
+  own_row : Does s w v → v.row b k ≡ w.row b k
+  own_row (PutsRow c j r place turns takes) = absurd (subst (SeesPlace b k) turns.was sees)
+  own_row (RefusesRow t refused turns fails) = fails.row b k
+  own_row (AsksSummary c j r at turns only) = only.rows.row b k
+  own_row (InsertGoes c j r at old new turns stepped step) = stepped.rows.row b k
+  own_row (InsertCompletes c j r at old turns stepped step) = stepped.rows.row b k
+  own_row (RefusesInsert c j r old refused turns fails) = fails.row b k
+  own_row (TakesLock first begins turns free held rows indexes) = rows.row b k
+  own_row (MaintainGoes job at range old new turns stepped step) = stepped.rows.row b k
+  own_row (MaintainCompletes job at range old turns stepped step) = stepped.rows.row b k
+  own_row (RefusesMaintain job at range phase refused turns stepped passes) = stepped.rows.row b k
+  own_row (RefusesVacuum old vacuuming turns given rows indexes) = rows.row b k
+  own_row (PrunesBlock extent next dropped inside spared turns drops) = absurd (subst (SeesPlace b k) turns.was sees)
+  own_row (SweepsPage at page turns stepped sweeps) = stepped.rows.row b k
+  own_row (RestartsIndex at turns only) = only.rows.row b k
+  own_row (BeginsScan q begins turns only) = only.rows.row b k
+  own_row (Judges old new inside low step turns only) = only.rows.row b k
+  own_row (ReadsBlock q next found reads turns only) = only.rows.row b k
+  own_row (RefusesScan q t turns how) =
+      ⊎_elim (λ (fails : (q.explains ≡ false) × Fails w v t). fails.1.row b k) (λ (only : (q.explains ≡ true) × OnlyTurns w v). only.1.rows.row b k) how
+  own_row (MarksRow q id rest turns only) = only.rows.row b k
+  own_row (Conflicts q id rest t turns fails) = fails.row b k
+  own_row (Blocked t blocked turns only) = only.rows.row b k
+  own_row (Transacts counts resting few same) = ap (λ (u : TableState). u.row b k) same
 
-  pub own_rows : Does s w v → (b k : ℕ) → v.row b k ≡ w.row b k
-  own_rows (PutsRow b k r place turns takes) = other_task _ refl turns.was
-  own_rows (RefusesRow t refused turns fails) = fails.row
-  own_rows (AsksSummary b k r at turns only) = only.rows.row
-  own_rows (InsertGoes b k r at old new turns stepped step) = stepped.rows.row
-  own_rows (InsertCompletes b k r at old turns stepped step) = stepped.rows.row
-  own_rows (RefusesInsert b k r old refused turns fails) = fails.row
-  own_rows (TakesLock first begins turns free held rows indexes) = rows.row
-  own_rows (MaintainGoes job at range old new turns stepped step) = stepped.rows.row
-  own_rows (MaintainCompletes job at range old turns stepped step) = stepped.rows.row
-  own_rows (RefusesMaintain job at range phase refused turns stepped passes) = stepped.rows.row
-  own_rows (RefusesVacuum old vacuuming turns given rows indexes) = rows.row
-  own_rows (PrunesBlock extent next dropped inside spared turns drops) = other_task _ refl turns.was
-  own_rows (SweepsPage at page turns stepped sweeps) = stepped.rows.row
-  own_rows (RestartsIndex at turns only) = only.rows.row
-  own_rows (BeginsScan q begins turns only) = only.rows.row
-  own_rows (Judges old new inside low step turns only) = only.rows.row
-  own_rows (ReadsBlock q next found reads turns only) = only.rows.row
-  own_rows (RefusesScan q t turns how) =
-      ⊎_elim (λ (fails : (q.explains ≡ false) × Fails w v t). fails.1.row) (λ (only : (q.explains ≡ true) × OnlyTurns w v). only.1.rows.row) how
-  own_rows (MarksRow q id rest turns only) = only.rows.row
-  own_rows (Conflicts q id rest t turns fails) = fails.row
-  own_rows (Blocked t blocked turns only) = only.rows.row
-  own_rows (Transacts counts resting few same) = λ b k. ap (λ (u : TableState). u.row b k) same
+settled_row : (n : ℕ) (w v : TableState) → Settles n w v → (b k : ℕ) → v.row b k ≡ w.row b k
+settled_row n w v (GoesOn old new onward turns only) = only.rows.row
+settled_row n w v (GivesLock old done turns given rows indexes) = rows.row
+
+-- whatever any session does, a row stays that one sees which scans or marks
+module _ (s n b k : ℕ) (r : Row) (w : TableState) (there : w.row b k ≡ Some r) (sees : SeesPlace b k (w.task s)) where
+  does_stand : (v : TableState) → Does n w v → v.row b k ≡ Some r
+  does_stand v does = ⊎_elim
+      (λ (own : s ≡ n). own_row n w v b k (subst (λ (m : ℕ). SeesPlace b k (w.task m)) own sees) does ∙ there)
+      (λ (other : s ≢ n). (does_leaves n w v does).rows s b k r other there sees)
+      (cases_eq s n)
+
+  pub step_stands : (v : TableState) → TableStep n w v → v.row b k ≡ Some r
+  step_stands v step = settled_row n step.between v step.settles b k ∙ does_stand step.between step.does
+
+-- so does each row that a scan sees
+module _ (s : ℕ) (w : TableState) (scan : TableScan) (kept : IsTableKept w) (task : w.task s ≡ Scans scan) (b k : ℕ) (sees : IsTrue (scan.sees b k)) where
+  there : (r : Row) × (w.row b k ≡ Some r)
+  there = let found = kept.scans s scan task b k sees in (found.0, found.1)
+
+  seen : SeesPlace b k (w.task s)
+  seen = subst (SeesPlace b k) (sym task) sees
+
+  pub does_stay : (n : ℕ) (v : TableState) → Does n w v → v.row b k ≡ w.row b k
+  does_stay n v does = does_stand s n b k there.0 w there.1 seen v does ∙ sym there.1
+
+  pub step_stays : (n : ℕ) (v : TableState) → TableStep n w v → v.row b k ≡ w.row b k
+  step_stays n v step = step_stands s n b k there.0 w there.1 seen v step ∙ sym there.1
 
 -- a judgement leaves what the session sees
 judged_sees : (w : TableState) (old new : TableScan) → JudgeStep (index_view_at old.at w) old new → new.sees ≡ old.sees
@@ -88,23 +115,6 @@ module _ (s : ℕ) (w v : TableState) (scan : TableScan) (task : w.task s ≡ Sc
   own_sees (Conflicts q id rest t turns fails) = ended _ refl turns.now
   own_sees (Blocked t blocked turns only) = was_scan after (turns.was ∙ sym turns.now ∙ now)
   own_sees (Transacts counts resting few same) = ended Resting refl (ap (λ (u : TableState). u.task s) same ∙ resting)
-
-settled_rows : (n : ℕ) (w v : TableState) → Settles n w v → (b k : ℕ) → v.row b k ≡ w.row b k
-settled_rows n w v (GoesOn old new onward turns only) = only.rows.row
-settled_rows n w v (GivesLock old done turns given rows indexes) = rows.row
-
-module _ (s : ℕ) (w : TableState) (scan : TableScan) (kept : IsTableKept w) (task : w.task s ≡ Scans scan) (b k : ℕ) (sees : IsTrue (scan.sees b k)) where
-  -- whatever any session does
-  pub does_stay : (n : ℕ) (v : TableState) → Does n w v → v.row b k ≡ w.row b k
-  does_stay n v does = ⊎_elim
-      (λ (own : s ≡ n). own_rows s w v scan task (subst (λ (m : ℕ). Does m w v) (sym own) does) b k)
-      (λ (other : s ≢ n).
-      let there = kept.scans s scan task b k sees in
-      (does_leaves n w v does).rows s b k there.0 other there.1 (subst (SeesPlace b k) (sym task) sees) ∙ sym there.1)
-      (cases_eq s n)
-
-  pub step_stays : (n : ℕ) (v : TableState) → TableStep n w v → v.row b k ≡ w.row b k
-  step_stays n v step = settled_rows n step.between v step.settles b k ∙ does_stay n step.between step.does
 
 -- as long as the scan goes on, its session sees the same rows
 module _ (s : ℕ) (w v : TableState) (scan after : TableScan) (task : w.task s ≡ Scans scan) (now : v.task s ≡ Scans after) where

@@ -1,6 +1,7 @@
 //! An explain.
 
-ghost use Rattle.std.specs.Prelude.{◌≡◌, ◌+◌, ◌<◌, ◌≤◌, ◌^◌, ◌++◌, [], ◌∷◌, if◌then◌else◌, length, vec_capacity, IfOk, IfErr, OnErr};
+ghost use Rattle.std.specs.Prelude.{◌≡◌, ◌+◌, ◌<◌, ◌≤◌, ◌^◌, ◌++◌, [], ◌∷◌, if◌then◌else◌, length, vec_capacity, IfOk, IfErr, OnOk, OnErr};
+ghost use Rattle.logged_pages.specs.Survives.{Survives};
 ghost use Rattle.page_store.specs.Keeps.{Keeps, Tells};
 ghost use Rattle.brin_scan.specs.Explains.{ExplainSteps, IsPointOf, ListsBlocks, candidate_blocks};
 ghost use Rattle.brin_scan.specs.ScanAnswers.{IsDamagedAt, NamesPageAt, ReadOutcome};
@@ -74,7 +75,9 @@ impl Explain {
         ensures query { self.new.judging.query ≡ self.old.judging.query }
         ensures same { OnErr result (self.new ≡ self.old) }
         ensures kept { Keeps D.told pages.old pages.new }
+        ensures survives { Survives D.told (λ passed. passed ≡ pages.old.pages) pages.old pages.new }
         ensures names { IfErr result (NamesPageAt pages.old.layout self.old.judging.indexes self.old.judging.stage) }
+        ensures undamaged { OnOk result (Tells D.told pages.old → IsDamagedAt pages.old.layout pages.old.pages self.old.judging.indexes self.old.judging.stage → ⊥) }
         ensures outcome { ReadOutcome D.told (Tells D.told pages.old → IsDamagedAt pages.old.layout pages.old.pages self.old.judging.indexes self.old.judging.stage) pages.old pages.new result }
     {
         let point = point_at(self.judging.stage());

@@ -10,7 +10,7 @@ ghost use Rattle.table_coverage.specs.Machines.{ShownTable, Unseen, table_state,
 ghost use Rattle.table_coverage.specs.RowOrder.{IsAmong};
 ghost use Rattle.table_coverage.specs.Table.{Marks, Resting, Scans, TableScan, TableState, Task};
 ghost use Rattle.table_coverage.specs.TableCovered.{IsTableKept};
-ghost use Rattle.table_coverage.specs.TableSteps.{Does, HasNothingToMark, Onward, TableRun, TableStep};
+ghost use Rattle.table_coverage.specs.TableSteps.{Does, HasNothingToMark, Onward, SeesPlace, TableRun, TableStep};
 ghost use Rattle.store_layout.specs.DiskLayout.{DiskLayout};
 ghost use Rattle.page_layout.specs.PageContents.{Slot};
 ghost use Rattle.page_layout.specs.RowBytes.{StoredRow};
@@ -88,10 +88,11 @@ pub fn a_kept_table_is_scanned()
 }
 
 /// A row that a scan's session sees stays where it stands, whatever step any session takes, the scan's own too; and so it is until the scan's
-/// reply. So what is found by its place is found of the very row. Does nothing.
+/// reply, and for a delete while it marks. So what is found by its place is found of the very row. Does nothing.
 pub fn a_seen_row_stays_in_its_place()
     ensures step { (s n b k : ℕ) (w v : TableState) (scan : TableScan) → IsTableKept w → w.task s ≡ Scans scan → IsTrue (scan.sees b k) → TableStep n w v → v.row b k ≡ w.row b k }
     ensures does { (s n b k : ℕ) (w v : TableState) (scan : TableScan) → IsTableKept w → w.task s ≡ Scans scan → IsTrue (scan.sees b k) → Does n w v → v.row b k ≡ w.row b k }
     ensures run { (s b k : ℕ) (steps : List ℕ) (w v : TableState) (scan : TableScan) → IsTableKept w → w.task s ≡ Scans scan → IsTrue (scan.sees b k) → (run : TableRun steps w v)
         → ScansOn s steps w v run → v.row b k ≡ w.row b k }
+    ensures stands { (s n b k : ℕ) (r : Row) (w v : TableState) → w.row b k ≡ Some r → SeesPlace b k (w.task s) → TableStep n w v → v.row b k ≡ Some r }
 {}

@@ -3,6 +3,7 @@
 ghost use Rattle.std.specs.Prelude.{◌≡◌, ◌⊎◌, ◌<◌, ◌≤◌, ◌^◌, ◌++◌, ◌∷◌, [], ℕ, None, Some, length, take, IfErr, IfOk, OnOk, OnErr};
 ghost use Rattle.std.specs.List.{list_all};
 ghost use Rattle.block_model.specs.RowMatches.{column_matches, row_matches};
+ghost use Rattle.logged_pages.specs.Survives.{Survives};
 ghost use Rattle.page_store.specs.Keeps.{Keeps, Tells, Untold};
 ghost use Rattle.heap_rows.specs.Heaps.{slots_a_page};
 ghost use Rattle.heap_rows.specs.HeapBlocks.{OfBlocks, slots_of};
@@ -110,7 +111,9 @@ impl Scan {
         ensures remembers { Tells D.told pages.old → OfSight pages.old.layout pages.old.pages snapshot.now own tx.now.first (λ sight. Remembers sight self.new.last) }
         ensures same { OnErr result (self.new ≡ self.old) }
         ensures kept { Keeps D.told pages.old pages.new }
+        ensures survives { Survives D.told (λ passed. passed ≡ pages.old.pages) pages.old pages.new }
         ensures names { IfErr result (FaultNamesNext pages.old.layout self.old self.old.next) }
+        ensures undamaged { OnOk result (Tells D.told pages.old → IsDamagedAt pages.old.layout pages.old.pages self.old.judging.indexes self.old.judging.stage → ⊥) }
         ensures outcome { FindOutcome D.told (Tells D.told pages.old → IsDamagedAt pages.old.layout pages.old.pages self.old.judging.indexes self.old.judging.stage) pages.old pages.new self.old.next result }
     {
         match self.next {
@@ -146,6 +149,7 @@ impl Scan {
         ensures remembers { Tells D.told pages.old → OfSight pages.old.layout pages.old.pages snapshot.now own tx.now.first (λ sight. Remembers sight self.new.last) }
         ensures same { OnErr result (self.new ≡ self.old) }
         ensures kept { Keeps D.told pages.old pages.new }
+        ensures survives { Survives D.told (λ passed. passed ≡ pages.old.pages) pages.old pages.new }
         ensures names { IfErr result (FaultNamesRead pages.old.layout self.old.judging.query.table block) }
         ensures outcome { FindOutcome D.told (Untold D.told pages.old) pages.old pages.new (Some block) result }
     {
@@ -184,7 +188,9 @@ impl Scan {
         ensures query { self.new.judging.query ≡ self.old.judging.query }
         ensures same { OnErr result (self.new ≡ self.old) }
         ensures kept { Keeps D.told pages.old pages.new }
+        ensures survives { Survives D.told (λ passed. passed ≡ pages.old.pages) pages.old pages.new }
         ensures names { IfErr result (NamesPageAt pages.old.layout self.old.judging.indexes self.old.judging.stage) }
+        ensures undamaged { OnOk result (Tells D.told pages.old → IsDamagedAt pages.old.layout pages.old.pages self.old.judging.indexes self.old.judging.stage → ⊥) }
         ensures outcome { ReadOutcome D.told (Tells D.told pages.old → IsDamagedAt pages.old.layout pages.old.pages self.old.judging.indexes self.old.judging.stage) pages.old pages.new result }
     {
         let point = point_at(self.judging.stage());
@@ -257,6 +263,7 @@ fn find_on<D: Disk + Drop>(
     ensures same { OnErr result (found.new.items ≡ found.old.items) }
     ensures room { rows.new.room ≡ rows.old.room }
     ensures kept { Keeps D.told pages.old pages.new }
+    ensures survives { Survives D.told (λ passed. passed ≡ pages.old.pages) pages.old pages.new }
     ensures names { IfErr result (FaultNamesRead pages.old.layout query.now.table block) }
     ensures outcome { FindOutcome D.told (Untold D.told pages.old) pages.old pages.new (Some block) result }
 {
@@ -304,9 +311,11 @@ fn find_among<D: Disk + Drop>(
     ensures remembers { OnOk result (Tells D.told pages.old → OfSight pages.old.layout pages.old.pages snapshot.now own tx.now.first (λ sight. Remembers sight last.new)) }
     ensures front { take (length found.old.items) found.new.items ≡ found.old.items }
     ensures kept { Keeps D.told pages.old pages.new }
+    ensures survives { Survives D.told (λ passed. passed ≡ pages.old.pages) pages.old pages.new }
     ensures names { IfErr result (FaultNamesStatuses pages.old.layout) }
     ensures outcome { FindOutcome D.told (Untold D.told pages.old) pages.old pages.new (Some block) result }
 {
+    pages.known();
     'rows: for row in rows {
         match add_visible(
             pages, tx, snapshot, own, query, block, row, last, found,
@@ -337,9 +346,11 @@ fn add_visible<D: Disk + Drop>(
     ensures remembers { OnOk result (Tells D.told pages.old → OfSight pages.old.layout pages.old.pages snapshot.now own tx.now.first (λ sight. Remembers sight last.new)) }
     ensures same { OnErr result (found.new.items ≡ found.old.items) }
     ensures kept { Keeps D.told pages.old pages.new }
+    ensures survives { Survives D.told (λ passed. passed ≡ pages.old.pages) pages.old pages.new }
     ensures names { IfErr result (FaultNamesStatuses pages.old.layout) }
     ensures outcome { FindOutcome D.told (Untold D.told pages.old) pages.old pages.new (Some block) result }
 {
+    pages.known();
     if !is_match(row, query) {
         return Ok(());
     }

@@ -2,6 +2,7 @@ use Rattle.std.proofs.Common.{◌≡◌, ℕ, ◌+◌, List, [], ◌∷◌, ◌+
 use Rattle.std.proofs.lemmas.List.{drop_more}
 use Rattle.block_model.specs.declared.place.Spot.{Spot}
 use Rattle.block_model.specs.declared.row.Row.{Row}
+use Rattle.engine_pages.specs.SurvivesLaws.{survives_on, survives_still}
 use Rattle.page_store.specs.Keeps.{keeps_on}
 use Rattle.store_layout.specs.DiskLayout.{DiskLayout}
 use Rattle.snapshot_core.specs.declared.statuses.Status.{Status}
@@ -16,6 +17,7 @@ use Rattle.brin_scan.proofs.scan.find_among.Goals as goal
 pub rows-init : goal.rows-init
 rows-init g c = record {
   kept = keeps_same g.D.Disk.told c.args.pages.now;
+  survives = survives_still g.D.Disk.told c.args.pages.now c.known.ensures.stays;
   started = c.requires.ready;
   ready = c.requires.ready;
   ahead = begins_ahead c.args.block c.requires.order.0 c.args.found.now.items c.args.rows.now c.requires.order.1;
@@ -44,6 +46,7 @@ rows-preserved g c =
     let is : drop i rows ≡ row ∷ rest = drop_more rows i row c.rows-test.true ∙ ap (λ (r : Stored). r ∷ rest) (sym c.row-item.is) in
     record {
       kept = keeps_on told first mid c.add_visible.new.pages c.rows.invariant.kept c.in-Ok.ensures.kept;
+      survives = survives_on told first mid c.add_visible.new.pages c.rows.invariant.kept c.rows.invariant.survives c.in-Ok.ensures.survives;
       started = c.requires.ready;
       ready = c.in-Ok.ensures.outcome.1;
       ahead = goes_ahead query.table block c.args.found.now.items found found' row rest (subst (λ (l : List Stored). IsAhead block c.args.found.now.items found l) is c.rows.invariant.ahead) c.in-Ok.ensures.added;
@@ -59,3 +62,6 @@ rows-preserved g c =
 
 pub returns-in-Err-clause-names : goal.returns-in-Err-clause-names
 returns-in-Err-clause-names g c = subst (λ (l : DiskLayout). FaultNamesStatuses l c.in-Err.fault) c.rows.invariant.kept.leaves.layout c.in-Err.ensures.names
+
+pub returns-in-Err-clause-survives : goal.returns-in-Err-clause-survives
+returns-in-Err-clause-survives g c = survives_on g.D.Disk.told c.args.pages.now c.rows.pages c.add_visible.new.pages c.rows.invariant.kept c.rows.invariant.survives c.in-Err.ensures.survives

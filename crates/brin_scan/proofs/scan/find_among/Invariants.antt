@@ -1,5 +1,7 @@
 use Rattle.std.proofs.Common.{◌≡◌, ◌++◌, List, None, drop}
+use Rattle.logged_pages.specs.Survives.{Survives}
 use Rattle.page_store.specs.Keeps.{Keeps}
+use Rattle.page_store.specs.PageMap.{PageMap}
 use Rattle.snapshot_core.specs.declared.statuses.Status.{Status}
 use Rattle.tx_table.specs.Statuses.{OfStatuses}
 use Rattle.brin_scan.specs.Finds.{visible_matches}
@@ -11,6 +13,7 @@ use Rattle.brin_scan.proofs.scan.find_among.Given as goal
 abbrev pub invariant-rows : goal.invariant-rows
 invariant-rows g l = record {
   kept : Keeps g.D.Disk.told l.fn.pages l.pages;
+  survives : Survives g.D.Disk.told (λ (passed : PageMap). passed ≡ l.fn.pages.pages) l.fn.pages l.pages;
   started : l.fn.pages.failed ≡ None;
   ready : l.pages.failed ≡ None;
   ahead : IsAhead l.block l.initial.found.items l.found.items (drop l.row-index l.rows);
