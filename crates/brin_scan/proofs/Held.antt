@@ -1,5 +1,5 @@
 -- what holds of the statuses before and after a call that changes no page
-use Rattle.std.proofs.Common.{◌≡◌, ℕ, List, refl, sym, subst, ◌∙◌, arith}
+use Rattle.std.proofs.Common.{List, refl, sym, subst, ◌∙◌, arith}
 use Rattle.disk_trait.specs.Told.{Told}
 use Rattle.page_store.specs.Keeps.{Keeps}
 use Rattle.page_store.specs.PageMap.{PageMap, View}

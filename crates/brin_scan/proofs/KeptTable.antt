@@ -21,7 +21,7 @@ use Rattle.index_steps.specs.ShownRows.{shown_by}
 use Rattle.index_steps.specs.ShownTable.{indexes_of}
 use Rattle.brin_scan.specs.ScanAnswers.{IsDamagedAt}
 use Rattle.brin_scan.specs.ScanHands.{IsAtStage, ScanHand, ScannedIndex, scanned_at, scanned_indexes}
-use Rattle.brin_scan.specs.TableScans.{Beside, table_scan, task_of}
+use Rattle.brin_scan.specs.TableScans.{Beside, task_of}
 use Rattle.brin_scan.specs.declared.stage.Stage.{Stage}
 use Rattle.brin_scan.specs.declared.stage.Stage.TheVariants as stages
 use Rattle.brin_scan.proofs.InTable.{shows_here}

@@ -1,12 +1,12 @@
 -- the candidate that a scan reads next
-use Rattle.std.proofs.Common.{◌≡◌, ◌⊎◌, inl, inr, ℕ, ◌+◌, ◌<◌, ◌≤◌, All, Bool, true, false, List, length, Option, None, Some, refl, sym, ap, subst, ◌∙◌, arith}
+use Rattle.std.proofs.Common.{◌≡◌, inl, inr, ℕ, ◌+◌, ◌<◌, Bool, true, false, List, length, Option, Some, refl, sym, subst, ◌∙◌}
 use Rattle.std.proofs.lemmas.Bool.{cases_lt, false≢true}
 use Rattle.std.proofs.lemmas.List.{get_or_past}
 use Rattle.std.proofs.lemmas.Option.{none-some}
 use Rattle.block_model.specs.declared.place.Spot.{Spot}
 use Rattle.block_model.specs.declared.row.Row.{Row}
 use Rattle.brin_scan.specs.Finds.{FindHand, FindsIn, IsFinding, IsFindingAt, IsNext, IsNextCandidate}
-use Rattle.brin_scan.specs.ScanHands.{IsJudging, ScanHand, is_candidate}
+use Rattle.brin_scan.specs.ScanHands.{IsJudging, is_candidate}
 use Rattle.brin_scan.specs.declared.sight.LastStatuses.{LastStatuses}
 use Rattle.brin_scan.specs.declared.stage.Stage.{Stage}
 use Rattle.brin_scan.specs.declared.stage.Stage.TheVariants as stages

@@ -317,9 +317,7 @@ fn find_among<D: Disk + Drop>(
 {
     pages.known();
     'rows: for row in rows {
-        match add_visible(
-            pages, tx, snapshot, own, query, block, row, last, found,
-        ) {
+        match add_visible(pages, tx, snapshot, own, query, block, row, last, found) {
             Ok(()) => {}
             Err(fault) => return Err(fault),
         }

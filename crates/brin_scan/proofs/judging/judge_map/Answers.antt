@@ -1,4 +1,4 @@
-use Rattle.std.proofs.Common.{◌≡◌, ℕ, get_or, sym, ap, subst, ◌∙◌}
+use Rattle.std.proofs.Common.{ℕ, get_or, sym, ap, subst, ◌∙◌}
 use Rattle.index_contents.specs.IndexContents.{contents}
 use Rattle.index_steps.specs.Readings.{IsMisnamed}
 use Rattle.brin_scan.specs.declared.stage.Stage.{Stage}

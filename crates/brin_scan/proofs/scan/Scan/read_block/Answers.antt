@@ -1,5 +1,4 @@
-use Rattle.std.proofs.Common.{◌≡◌, ℕ, ◌+◌, ◌++◌, Bool, List, Option, Some, sym, ap, subst, ◌∙◌}
-use Rattle.block_model.specs.declared.reply.Point.TheVariants as points
+use Rattle.std.proofs.Common.{◌≡◌, ℕ, ◌+◌, ◌++◌, Bool, List, Some, sym, ap, subst, ◌∙◌}
 use Rattle.block_model.specs.declared.row.Query.{Query}
 use Rattle.page_layout.specs.PageContents.{Slot}
 use Rattle.page_locks.specs.declared.did.Did.{Did}
