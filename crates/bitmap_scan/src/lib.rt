@@ -1,9 +1,8 @@
-//! Which blocks a scan must read: those whose range's tuple may hold a match of the conditions. `given` appends exactly these
-//! below the table's extent, in ascending order: no row that the tuple of another block's range includes matches the
-//! conditions. `all_blocks` is for a table without an index. It stands on block_model and range_tuple, and on no class by
-//! name. Ranges are judged once each, in order. A scan that asks several indexes appends by `append`.
+//! Which blocks a scan must read: specs/CandidateBlocks.antt defines, by the tuples that an index has of its ranges, which blocks may
+//! hold a match of the conditions, and what the blocks of an extent that pass a test are. A scan that judges ranges one after the
+//! other appends the blocks of those that it keeps by `append`. It stands on block_model and range_tuple, and on no class by name.
 #![tactic(auto)]
 
 mod blocks;
 
-pub use blocks::{all_blocks, append, given};
+pub use blocks::append;
