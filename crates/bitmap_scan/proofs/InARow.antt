@@ -1,7 +1,7 @@
--- Blocks in a row, and which of them pass a test.
-use Rattle.std.proofs.Common.{◌≡◌, ℕ, zero, suc, ◌+◌, ◌-◌, ◌<◌, ◌≤◌, Bool, true, false, cond, List, [], ◌∷◌, ◌++◌, length, take, refl, sym, ap, ◌∙◌, append_assoc, length-append, arith}
-use Rattle.std.proofs.lemmas.List.{take-append-le, take_at}
-use Rattle.std.proofs.Math.Seq.{take-append-add}
+-- Blocks in a row, which of them pass a test, and which range has a block.
+use Rattle.std.proofs.Common.{◌≡◌, ℕ, zero, suc, ◌+◌, ◌-◌, ◌*◌, ◌/◌, ◌<◌, ◌≤◌, Bool, true, false, cond, List, [], ◌∷◌, ◌++◌, take, refl, sym, ap, ◌∙◌, arith}
+use Rattle.std.proofs.lemmas.List.{take_at}
+use Rattle.std.proofs.lemmas.Nat.{div-mul-add}
 use Rattle.std.proofs.lemmas.List.FromFn.{length-range_with_len}
 use Rattle.std.proofs.lemmas.List.Elements.{filter-append}
 use Rattle.std.specs.List.{filter, range_with_len}
@@ -54,24 +54,7 @@ front-added old now a b c low high is = record {
   added = is ∙ ap (λ (l : List ℕ). old ++ l) (sym (take-range a b c low (omega arith)));
 }
 
--- some first ones of a part are some first ones of all, behind what was added before
-pub front-inside : (old mid now front part rest : List ℕ) → mid ≡ old ++ front → AddsFront part mid now → AddsFront ((front ++ part) ++ rest) old now
-front-inside old mid now front part rest before adds = record {
-  count = length front + adds.count;
-  fewer = simp length-append (omega (arith, adds.fewer));
-  added =
-      adds.added
-      ∙ ap (λ (l : List ℕ). l ++ take adds.count part) before
-      ∙ append_assoc old front (take adds.count part)
-      ∙ ap (λ (l : List ℕ). old ++ (front ++ l)) (sym (take-append-le adds.count part rest (omega (arith, adds.fewer))))
-      ∙ ap (λ (l : List ℕ). old ++ l) (sym (take-append-add front (part ++ rest) adds.count))
-      ∙ ap (λ (l : List ℕ). old ++ take (length front + adds.count) l) (sym (append_assoc front part rest));
-}
-
--- a row of blocks that all pass, with those that pass before and behind it
-pub filter-around : (p : ℕ → Bool) (a e extent : ℕ) → a ≤ e → e ≤ extent → ((b : ℕ) → a ≤ b → b < e → p b ≡ true) → filter p (range_with_len 0 extent) ≡ (filter p (range_with_len 0 a) ++ range_with_len a (e - a)) ++ filter p (range_with_len e (extent - e))
-filter-around p a e extent low high pass =
-    ap (λ (n : ℕ). filter p (range_with_len 0 n)) {x = extent} {y = e + (extent - e)} (omega arith)
-    ∙ ap (filter p) (range-append 0 e (extent - e) ∙ ap (λ (b : ℕ). range_with_len 0 e ++ range_with_len b (extent - e)) {x = 0 + e} {y = e} (omega arith))
-    ∙ filter-append p (range_with_len 0 e) (range_with_len e (extent - e))
-    ∙ ap (λ (l : List ℕ). l ++ filter p (range_with_len e (extent - e))) (filter-to p true a e low pass)
+-- the range of a block
+pub range-of : (b i w : ℕ) → i * w ≤ b → b < i * w + w → b / w ≡ i
+range-of b i w low high =
+    ap (λ (n : ℕ). n / w) {x = b} {y = i * w + (b - i * w)} (omega arith) ∙ div-mul-add i w (b - i * w) (omega arith)

@@ -1,2 +1,1 @@
 pub mod InARow
-pub mod Judging

@@ -1,5 +1,5 @@
 -- the blocks that a scan must read
-use Rattle.std.specs.Prelude.{◌≡◌, ℕ, ◌/◌, ◌<◌, Bool, true, List, ◌++◌, length, take, slice_get, Option, None, Some}
+use Rattle.std.specs.Prelude.{◌≡◌, ℕ, ◌/◌, ◌<◌, Bool, true, List, ◌++◌, length, take, Option, None, Some}
 use Rattle.std.specs.List.{filter, range_with_len}
 use Rattle.block_model.specs.declared.row.Cond.{Cond}
 use Rattle.range_tuple.specs.Keeps.{keeps}
@@ -17,10 +17,6 @@ is_candidate tuple_of_range conds pages_per_range block = keeps_there conds (tup
 -- the blocks below the extent that pass a test, in ascending order
 abbrev pub blocks_where : (ℕ → Bool) → ℕ → List ℕ
 blocks_where test extent = filter test (range_with_len 0 extent)
-
--- the candidates of one index: the element at place r of the tuples is of range r
-abbrev pub candidate_blocks : List Tuple → List Cond → ℕ → ℕ → List ℕ
-candidate_blocks tuples conds extent pages_per_range = blocks_where (is_candidate (slice_get tuples) conds pages_per_range) extent
 
 -- to the old list some first ones of more are added, and not all
 pub record AddsFront (more old new : List ℕ) : Type 0 where

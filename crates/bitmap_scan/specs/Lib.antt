@@ -1,2 +1,1 @@
 pub mod CandidateBlocks
-pub mod LeftOut

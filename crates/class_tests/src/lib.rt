@@ -1,5 +1,5 @@
-//! Tests of fields of bytes, operator classes, range tuples and candidate blocks, over the public calls of byte_fields,
-//! opclass_api, the crates of classes, range_tuple and bitmap_scan. Nothing stands on it.
+//! Tests of fields of bytes, operator classes and range tuples, over the public calls of byte_fields, opclass_api, the crates of
+//! classes and range_tuple. Nothing stands on it.
 #![tactic(auto)]
 
 #[cfg(test)]
@@ -14,7 +14,5 @@ mod made;
 mod minmax;
 #[cfg(test)]
 mod multi;
-#[cfg(test)]
-mod scans;
 #[cfg(test)]
 mod tuples;

@@ -10,8 +10,7 @@ ghost use Rattle.range_tuple.specs.TupleIncludes.{TakesValue};
 ghost use Rattle.range_tuple.specs.Tuples.{empty_placeholder, parts_of};
 
 use block_model::{
-    Class, Column, Columns, Cond, Index, Indexes, Kind, Name, Op, Part, Parts, Schema, Table,
-    Tables, Value,
+    Class, Column, Columns, Index, Indexes, Kind, Name, Part, Parts, Schema, Table, Tables, Value,
 };
 use range_tuple::RangeTuple;
 use std::alloc::Global;
@@ -92,14 +91,5 @@ pub(crate) fn number(n: Option<i64>) -> Value
     match n {
         Some(n) => Value::Int(n),
         None => Value::Null,
-    }
-}
-
-/// The condition on a column that compares with an int8.
-pub(crate) fn compared(column: u8, op: Op, key: i64) -> Cond {
-    Cond {
-        column,
-        op,
-        key: Value::Int(key),
     }
 }

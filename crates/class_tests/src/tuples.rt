@@ -58,16 +58,30 @@ fn cond(column: u8, op: Op, key: Value) -> Cond {
     Cond { column, op, key }
 }
 
+/// Writes the tuple where there is room for it. Its greatest size, and how many bytes were written.
+fn written(tuple: &RangeTuple, out: &mut [u8]) -> (usize, usize) {
+    let greatest = tuple.greatest_size();
+    if greatest > out.len() {
+        return (greatest, 0);
+    }
+    (greatest, tuple.encode(out))
+}
+
+/// Whether a tuple keeps one condition.
+fn keeps_one(tuple: &RangeTuple, column: u8, op: Op, key: Value) -> bool {
+    tuple.keeps(&[cond(column, op, key)])
+}
+
 #[test]
 fn an_empty_placeholder_has_eight_bytes(rt: HostRuntime) -> Result<(), Fail> {
     let tuple = one(&rt, rt.alloc(), Kind::Int, Class::MinMax)?;
-    let mut wanted = [7u8; 24];
-    wanted[..8].copy_from_slice(&[0, 0, 0, 0, 3, 0, 0, 0]);
+    let wanted = [
+        0, 0, 0, 0, 3, 0, 0, 0, 7, 7, 7, 7, 7, 7, 7, 7, 7, 7, 7, 7, 7, 7, 7, 7,
+    ];
     let mut out = [7u8; 24];
-    assert_eq!(rt; tuple.greatest_size(), 24);
-    assert_eq!(rt; tuple.encode(&mut out), 8);
-    assert_eq!(rt; out, wanted);
-    assert!(rt; tuple.keeps(&[cond(0, Op::Eq, Value::Int(1))]));
+    let sizes = written(&tuple, &mut out);
+    assert_eq!(rt; (sizes, out), ((24, 8), wanted));
+    assert!(rt; keeps_one(&tuple, 0, Op::Eq, Value::Int(1)));
     Ok(())
 }
 
@@ -77,18 +91,23 @@ fn a_final_minmax_tuple_has_24_bytes(rt: HostRuntime) -> Result<(), Fail> {
         0, 0, 0, 0, 0, 2, 0, 16, 0, 0, 0, 0, 0, 0, 0, 5, 0, 0, 0, 0, 0, 0, 0, 99,
     ];
     let mut tuple = one(&rt, rt.alloc(), Kind::Int, Class::MinMax)?;
-    assert!(rt; add_number(&mut tuple, 99));
-    assert!(rt; add_number(&mut tuple, 5));
-    assert!(rt; !add_number(&mut tuple, 7));
+    let mut other = one(&rt, rt.alloc(), Kind::Int, Class::MinMax)?;
+    let changes = [
+        add_number(&mut tuple, 99),
+        add_number(&mut tuple, 5),
+        add_number(&mut tuple, 7),
+    ];
     tuple.settle();
     let mut out = [7u8; 24];
-    assert_eq!(rt; tuple.greatest_size(), 24);
-    assert_eq!(rt; tuple.encode(&mut out), 24);
-    assert_eq!(rt; out, wanted);
-    let mut other = one(&rt, rt.alloc(), Kind::Int, Class::MinMax)?;
-    assert_eq!(rt; other.decode(&wanted), Ok(()));
-    assert!(rt; !other.keeps(&[cond(0, Op::Lt, Value::Int(5))]));
-    assert!(rt; other.keeps(&[cond(0, Op::Le, Value::Int(5))]));
+    let sizes = written(&tuple, &mut out);
+    assert_eq!(rt;
+        (changes, sizes, out),
+        ([true, true, false], (24, 24), wanted)
+    );
+    let read = other.decode(&wanted).is_ok();
+    let below = keeps_one(&other, 0, Op::Lt, Value::Int(5));
+    let up_to = keeps_one(&other, 0, Op::Le, Value::Int(5));
+    assert_eq!(rt; (read, below, up_to), (true, false, true));
     Ok(())
 }
 
@@ -103,12 +122,11 @@ fn a_tuple_of_two_columns_has_states_then_lengths_then_summaries(
     ];
     let mut tuple = two(&rt, rt.alloc())?;
     tuple.restart(1);
-    assert!(rt; add_both(&mut tuple, Some(5), Some(net)));
+    let changes = add_both(&mut tuple, Some(5), Some(net));
     let mut out = [7u8; 34];
-    assert_eq!(rt; tuple.greatest_size(), 34);
-    assert_eq!(rt; tuple.encode(&mut out), 34);
-    assert_eq!(rt; out, wanted);
-    assert_eq!(rt; tuple.decode(&wanted), Ok(()));
+    let sizes = written(&tuple, &mut out);
+    let read = tuple.decode(&wanted).is_ok();
+    assert_eq!(rt; (changes, sizes, out, read), (true, (34, 34), wanted, true));
     Ok(())
 }
 
@@ -119,12 +137,16 @@ fn tuples_are_restarted_and_copied(rt: HostRuntime) -> Result<(), Fail> {
     let _ = add_number(&mut tuple, 3);
     tuple.settle();
     copy.copy_from(&tuple);
-    assert!(rt; !copy.is_placeholder() && !copy.keeps(&[cond(0, Op::Eq, Value::Int(4))]));
+    let keeps_four = keeps_one(&copy, 0, Op::Eq, Value::Int(4));
     tuple.restart(9);
     let ranges = (tuple.range(), copy.range());
-    assert!(rt; tuple.is_placeholder() && ranges == (9, 0));
+    let placeholders = (tuple.is_placeholder(), copy.is_placeholder());
     tuple.settle();
-    assert!(rt; !tuple.keeps(&[]));
+    let keeps = (keeps_four, tuple.keeps(&[]));
+    assert_eq!(rt;
+        (ranges, placeholders, keeps),
+        ((9, 0), (true, false), (false, false))
+    );
     Ok(())
 }
 
@@ -134,11 +156,13 @@ fn united_tuples_have_what_either_had(rt: HostRuntime) -> Result<(), Fail> {
     let mut other = one(&rt, rt.alloc(), Kind::Int, Class::MinMax)?;
     tuple.settle();
     let keeps = tuple.keeps(&[]);
-    assert!(rt; !keeps && !tuple.unite(&other));
+    let same = !tuple.unite(&other);
     let _ = add_number(&mut other, 3);
     let changes = tuple.unite(&other);
-    let of_nulls = tuple.keeps(&[cond(0, Op::IsNull, Value::Null)]);
-    assert!(rt; changes && tuple.keeps(&[cond(0, Op::Eq, Value::Int(3))]) && !of_nulls);
+    let of_three = keeps_one(&tuple, 0, Op::Eq, Value::Int(3));
+    let of_nulls = keeps_one(&tuple, 0, Op::IsNull, Value::Null);
+    let wanted = (false, true, true, true, false);
+    assert_eq!(rt; (keeps, same, changes, of_three, of_nulls), wanted);
     Ok(())
 }
 

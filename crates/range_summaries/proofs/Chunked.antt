@@ -6,7 +6,7 @@ use Rattle.std.proofs.lemmas.List.{take_all, drop_all, drop-append-le, drop-drop
 use Rattle.std.proofs.lemmas.List.Elements.{All-take, All-drop}
 use Rattle.block_model.specs.declared.row.Row.{Row}
 use Rattle.row_versions.specs.Chunks.{chunk}
-use Rattle.bitmap_scan.proofs.Judging.{range-of}
+use Rattle.bitmap_scan.proofs.InARow.{range-of}
 use Rattle.range_summaries.specs.IndexContents.{IndexContents}
 
 -- ---- a row more
