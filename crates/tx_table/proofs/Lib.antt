@@ -4,3 +4,4 @@ pub mod Pages
 pub mod Openings
 pub mod Stores
 pub mod Parts
+pub mod InOrder

@@ -2,6 +2,7 @@
 use Rattle.std.specs.Prelude.{◌≡◌, ℕ, ◌/◌, ◌%◌, ◌<◌, ◌≤◌, Bool, true, false}
 use Rattle.std.proofs.Common.{◌∙◌, List, sym, subst}
 use Rattle.disk_trait.specs.Told.{Told}
+use Rattle.page_layout.specs.declared.format.TheConstants.{STATUS_ENTRIES}
 use Rattle.page_layout.specs.PageContents.{IsStatusPage}
 use Rattle.page_store.specs.Keeps.{Keeps, Leaves, Tells}
 use Rattle.page_store.specs.PageMap.{PageMap, View, block_at}
@@ -20,7 +21,7 @@ HasSameStatusPages old new = (block : ℕ) → block_at new status_relation bloc
 pub statuses_kept : (layout : DiskLayout) (old new : PageMap) (statuses : List Status) → HasSameStatusPages old new → HasStatuses layout old statuses → HasStatuses layout new statuses
 statuses_kept layout old new statuses same has = record {
   counted = has.counted;
-  each = λ t below. subst (λ (page : List ℕ). HasEntry page (t % 32640) (status_of statuses t)) (sym (same (t / 32640))) (has.each t below);
+  each = λ t below. subst (λ (page : List ℕ). HasEntry page (t % STATUS_ENTRIES) (status_of statuses t)) (sym (same (t / STATUS_ENTRIES))) (has.each t below);
 }
 
 -- they are started as before

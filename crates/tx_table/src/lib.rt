@@ -2,8 +2,8 @@
 //! pages of a store that was opened, and sees it as the first number of this opening and the next number; it sees the pages
 //! of statuses as one list, by number (specs/Statuses.antt). `begin` gives the next number, `commit` and `commit_all` answer Ok
 //! only once their statuses are sure, `rollback` needs no flush, and `status` copies no page. What a stop in the midst of a call
-//! leaves is told with each call (specs/Durable.antt). A call that needs several statuses of one transaction asks once and keeps
-//! the answer: no table does it. It stands on logged_pages and snapshot_core.
+//! leaves is told with each call (specs/Durable.antt). A caller that needs the status of one transaction several times keeps the
+//! answer; the table has no cache. It stands on engine_pages and snapshot_core.
 #![tactic(auto)]
 
 mod faults;
@@ -13,5 +13,5 @@ mod status_pages;
 mod table;
 
 pub use faults::BeginFault;
-pub use laws::{next_numbers_are_one, statuses_are_one_list};
+pub use laws::{next_numbers_are_one, pages_in_order_are_started, statuses_are_one_list};
 pub use table::TxTable;

@@ -42,7 +42,7 @@ pub(crate) fn next_number<D: Disk + Drop>(pages: &mut PageStore<D>) -> Result<u6
     pages.layout().known();
     let blocks = pages.layout().sizes().status_blocks;
     let mut next = 1;
-    'reading: for block in 0..blocks {
+    'blocks: for block in 0..blocks {
         match used_in_block(pages, block) {
             Ok(used) => next = next_after(next, block, used),
             Err(error) => return Err(error),

@@ -1,6 +1,6 @@
 //! Openings over pages in a given state.
 
-use crate::pages::{boxed_store, page_with, put_page};
+use crate::pages::{disk_with, page_with, put_page, unstarted_store};
 use crate::steps::{Answer, Step, difference};
 use crate::trial::opened;
 use disk_trait::Disk;
@@ -22,7 +22,8 @@ const FOURTH: [(Step, Answer); 6] = [
 #[test]
 fn the_next_number_is_one_above_the_greatest_that_is_used(rt: HostRuntime) -> Result<(), Fail> {
     // Entry 1 is begun, entry 2 committed and entry 3 rolled back: 1 times 4, 2 times 16 and 3 times 64.
-    let mut trial = opened(rt.alloc(), &page_with(32, 228)).ok_or("trial")?;
+    let disk = disk_with(rt.alloc(), &page_with(32, 228)).ok_or("disk")?;
+    let mut trial = opened(rt.alloc(), disk).ok_or("trial")?;
     assert_eq!(rt; difference(&mut trial, &FOURTH), None);
     Ok(())
 }
@@ -38,7 +39,8 @@ const LAST: [(Step, Answer); 5] = [
 #[test]
 fn the_last_number_is_given_and_then_none(rt: HostRuntime) -> Result<(), Fail> {
     // Entry 32638 is committed, and entry 32639 is the page's last one.
-    let mut trial = opened(rt.alloc(), &page_with(8191, 32)).ok_or("trial")?;
+    let disk = disk_with(rt.alloc(), &page_with(8191, 32)).ok_or("disk")?;
+    let mut trial = opened(rt.alloc(), disk).ok_or("trial")?;
     assert_eq!(rt; difference(&mut trial, &LAST), None);
     Ok(())
 }
@@ -62,7 +64,7 @@ fn told<D: Disk + Drop>(pages: &mut PageStore<D>, list: [u64; 3]) -> Option<(u64
 
 /// The same, where of two blocks the second alone is started, as that page.
 fn told_of_second(alloc: Global, list: [u64; 3]) -> Option<(u64, [Status; 3])> {
-    let mut pages = boxed_store(alloc, 2)?;
+    let mut pages = unstarted_store(alloc, 2)?;
     // Entry 5 is committed.
     if !put_page(&mut pages, 1, &page_with(33, 8)) {
         return None;
@@ -73,7 +75,7 @@ fn told_of_second(alloc: Global, list: [u64; 3]) -> Option<(u64, [Status; 3])> {
 #[test]
 fn a_page_that_is_not_started_has_unused_numbers(rt: HostRuntime) -> Result<(), Fail> {
     let unused = Status::Unused;
-    let mut fresh = boxed_store(rt.alloc(), 2).ok_or("store")?;
+    let mut fresh = unstarted_store(rt.alloc(), 2).ok_or("store")?;
     let new = told(&mut fresh, [0, 1, 2]);
     let second = told_of_second(rt.alloc(), [5, 32645, 65280]);
     let wanted = Some((32646, [unused, Status::Committed, unused]));

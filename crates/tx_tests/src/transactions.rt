@@ -1,10 +1,17 @@
 //! Transactions that begin and end.
 
-use crate::pages::page_with;
+use crate::pages::new_disk;
 use crate::steps::{Answer, Step, difference};
-use crate::trial::opened;
+use crate::trial::{Trial, opened};
+use disk_trait::SteadyDisk;
 use snapshot_core::Status;
+use std::alloc::Global;
 use std::test::Fail;
+
+/// The table over a new store.
+fn new_trial(alloc: Global) -> Option<Trial<SteadyDisk>> {
+    opened(alloc, new_disk(alloc)?)
+}
 
 const NUMBERED: [(Step, Answer); 15] = [
     (Step::Next, Answer::Number(1)),
@@ -27,7 +34,7 @@ const NUMBERED: [(Step, Answer); 15] = [
 
 #[test]
 fn transactions_are_numbered_from_1_and_keep_their_statuses(rt: HostRuntime) -> Result<(), Fail> {
-    let mut trial = opened(rt.alloc(), &page_with(0, 0)).ok_or("trial")?;
+    let mut trial = new_trial(rt.alloc()).ok_or("trial")?;
     assert_eq!(rt; difference(&mut trial, &NUMBERED), None);
     Ok(())
 }
@@ -49,9 +56,9 @@ const OPENED_AGAIN: [(Step, Answer); 4] = [
 fn a_transaction_that_never_ended_is_rolled_back_by_the_opening(
     rt: HostRuntime,
 ) -> Result<(), Fail> {
-    let mut trial = opened(rt.alloc(), &page_with(0, 0)).ok_or("trial")?;
+    let mut trial = new_trial(rt.alloc()).ok_or("trial")?;
     let first = difference(&mut trial, &ONE_ENDS);
-    let mut trial = trial.opened_again().ok_or("trial")?;
+    let mut trial = trial.opened_again(rt.alloc()).ok_or("trial")?;
     let second = difference(&mut trial, &OPENED_AGAIN);
     assert_eq!(rt; (first, second), (None, None));
     Ok(())
@@ -69,7 +76,7 @@ const TWO_AT_ONCE: [(Step, Answer); 7] = [
 
 #[test]
 fn several_transactions_commit_at_once(rt: HostRuntime) -> Result<(), Fail> {
-    let mut trial = opened(rt.alloc(), &page_with(0, 0)).ok_or("trial")?;
+    let mut trial = new_trial(rt.alloc()).ok_or("trial")?;
     assert_eq!(rt; difference(&mut trial, &TWO_AT_ONCE), None);
     Ok(())
 }

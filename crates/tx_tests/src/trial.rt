@@ -1,22 +1,22 @@
 //! A table of transactions over a store of its own.
 
 ghost use Rattle.std.specs.Prelude.{◌≡◌, ◌<◌, ◌≤◌, true, IfOk};
+ghost use Rattle.opened_pages.specs.PageOrder.{AreInOrder};
 ghost use Rattle.page_store.specs.Keeps.{Keeps, Tells};
 ghost use Rattle.snapshot_core.specs.declared.statuses.Status.TheVariants.{Begun as BegunStatus};
 ghost use Rattle.tx_table.specs.LeavesRest.{AreStarted};
-ghost use Rattle.tx_table.specs.Statuses.{IsStartedBlock, OfStatuses, status_of};
+ghost use Rattle.tx_table.specs.Statuses.{OfStatuses, status_of};
 ghost use Rattle.tx_table.specs.TxState.{IsOver, IsOwn};
 
-use crate::pages::{put_page, store};
 use block_model::Place;
-use disk_trait::{Disk, SteadyDisk};
+use disk_trait::Disk;
 use engine_pages::PageStore;
-use page_layout::Page;
+use page_layout::STATUS_ENTRIES;
 use page_store::StoreError;
 use snapshot_core::Status;
 use std::alloc::Global;
 use std::marker::Model;
-use tx_table::{BeginFault, TxTable};
+use tx_table::{BeginFault, TxTable, pages_in_order_are_started};
 
 /// The table and its store.
 #[derive(Drop)]
@@ -38,21 +38,21 @@ impl<D: Disk + Drop> Model for Trial<D> {
     ghost invariant = { λ a. IsOver D.told a.table a.store × (Tells D.told a.store → AreStarted a.store.layout a.store.pages) };
 }
 
-/// The table over a store of one page of statuses, which is that page.
-pub fn opened(alloc: Global, page: &Page) -> Option<Trial<SteadyDisk>> {
-    let mut store = store(alloc, 1)?;
-    if !put_page(&mut store, 0, page) {
-        return None;
+/// The table over the store on the disk, which is opened.
+pub fn opened<D: Disk + Drop>(alloc: Global, disk: D) -> Option<Trial<D>> {
+    match PageStore::start(alloc, disk) {
+        Ok(store) => over(store),
+        Err(_) => None,
     }
-    over(store)
 }
 
-/// The table over a store of one page of statuses, which is started.
+/// The table over a store that was opened: its pages are in order and pass their checks, so each page of statuses is started.
 fn over<D: Disk + Drop>(store: PageStore<D>) -> Option<Trial<D>>
-    requires one { store.layout.sizes.status_blocks ≡ 1 }
-    requires started { Tells D.told store → IsStartedBlock store.pages 0 }
+    requires order { Tells D.told store → AreInOrder store.layout store.pages }
 {
     let mut store = store;
+    store.known();
+    pages_in_order_are_started();
     match TxTable::start(&mut store) {
         Ok(table) => Some(Trial { store, table }),
         Err(_) => None,
@@ -60,13 +60,9 @@ fn over<D: Disk + Drop>(store: PageStore<D>) -> Option<Trial<D>>
 }
 
 impl<D: Disk + Drop> Trial<D> {
-    /// Opens the same pages again.
-    pub fn opened_again(self) -> Option<Trial<D>> {
-        let mut store = self.store;
-        match TxTable::start(&mut store) {
-            Ok(table) => Some(Trial { store, table }),
-            Err(_) => None,
-        }
+    /// Opens the disk again.
+    pub fn opened_again(self, alloc: Global) -> Option<Trial<D>> {
+        opened(alloc, self.store.into_disk())
     }
 
     pub fn begin(&mut self) -> Result<u64, BeginFault> {
@@ -83,10 +79,10 @@ impl<D: Disk + Drop> Trial<D> {
 
     /// Commits two transactions of the first block that are begun, and says whether it did.
     pub fn commit_two(&mut self, t: u64, u: u64) -> bool {
-        if t >= 32640 {
+        if t >= u64::from(STATUS_ENTRIES) {
             return false;
         }
-        if u >= 32640 {
+        if u >= u64::from(STATUS_ENTRIES) {
             return false;
         }
         if !is_begun(&self.table, &mut self.store, t) {

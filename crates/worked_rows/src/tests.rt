@@ -1,3 +1,5 @@
+//! The worked rows, a test each.
+
 use crate::runs::{Faults, NO_FAULTS, Row, holds, ran, written};
 use block_model::Words;
 use std::process::Abort;

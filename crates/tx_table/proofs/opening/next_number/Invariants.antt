@@ -8,8 +8,8 @@ use Rattle.tx_table.proofs.Openings.{IsNextBelow}
 use Rattle.tx_table.proofs.opening.next_number.Given as goal
 
 -- the next number is that of the blocks that were read, and no page is changed
-abbrev pub invariant-reading : goal.invariant-reading
-invariant-reading g l = record {
+abbrev pub invariant-blocks-2 : goal.invariant-blocks-2
+invariant-blocks-2 g l = record {
   kept : Keeps g.D.Disk.told l.fn.pages l.pages;
   survives : Survives g.D.Disk.told (IsBefore l.fn.pages) l.fn.pages l.pages;
   began : l.fn.pages.failed ≡ None;

@@ -1,4 +1,4 @@
-use Rattle.tx_tests.proofs.Started.{told_begun, trial_kept}
+use Rattle.tx_tests.proofs.Kept.{told_begun, trial_kept}
 use Rattle.tx_tests.proofs.trial.told_status.Goals as goal
 
 pub returns-clause-over : goal.returns-clause-over

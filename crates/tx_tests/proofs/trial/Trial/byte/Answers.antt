@@ -1,5 +1,5 @@
 use Rattle.std.proofs.Common.{arith}
-use Rattle.tx_tests.proofs.Started.{trial_kept}
+use Rattle.tx_tests.proofs.Kept.{trial_kept}
 use Rattle.tx_tests.proofs.trial.Trial.byte.Goals as goal
 
 pub first_byte-requires : goal.first_byte-requires
