@@ -18,10 +18,10 @@ use Rattle.index_steps.specs.ShownIndex.{Shows, lock_in}
 use Rattle.index_steps.specs.ShownRows.{shown_by}
 use Rattle.index_steps.specs.ShownTable.{indexes_of}
 use Rattle.brin_summarise.specs.declared.course.Standing.TheVariants as standings
-use Rattle.brin_summarise.specs.declared.stage.Stage.TheVariants as stages
-use Rattle.brin_summarise.specs.StepCauses.{DamageAt, IsReady}
-use Rattle.brin_summarise.specs.SummariseHands.{SummariseHand, table_of}
-use Rattle.brin_summarise.specs.SummariseSteps.{phase_of}
+use Rattle.range_summarise.specs.declared.stage.Stage.TheVariants as stages
+use Rattle.range_summarise.specs.StepCauses.{DamageAt, IsReady}
+use Rattle.range_summarise.specs.SummariseHands.{SummariseHand, table_of}
+use Rattle.range_summarise.specs.SummariseSteps.{phase_of}
 use Rattle.brin_summarise.specs.Summarises.{DamageIn, ReadyAt, SummariseState}
 use Rattle.brin_summarise.specs.TableSteps.{task_at, task_of}
 use Rattle.brin_summarise.proofs.Settling.{pick_same}

@@ -9,15 +9,13 @@ ghost use Rattle.index_contents.specs.IndexContents.{relation_of};
 ghost use Rattle.index_contents.specs.IndexChanges.{LeavesOthers};
 ghost use Rattle.index_steps.specs.StepAnswers.{BlockedWell, IsOfStore, NeverBlocked};
 ghost use Rattle.index_steps.specs.SwapAnswers.{LeavesLocks, MachineOutcome, SaysFullIn, TakesAtMost};
-ghost use Rattle.brin_summarise.specs.SummariseHands.{table_of};
-ghost use Rattle.brin_summarise.specs.StepCauses.{NamesPageAt};
+ghost use Rattle.range_summarise.specs.SummariseHands.{table_of};
+ghost use Rattle.range_summarise.specs.StepCauses.{NamesPageAt};
 ghost use Rattle.brin_summarise.specs.Summarises.{DamageIn, FullAt, GivesBy, IsSummariseOf, KeepsExact, ReadyAt, RightAnswers, StandsThen, SummariseDoes, count_of, held_by, state_of, step_of, taken_by};
 
 use crate::course::{
     Course, Standing, a_summarise_begins_without_locks, come_to, first_of, made_at,
 };
-use crate::range_summarise::RangeSummarise;
-use crate::rows::{blocks_a_range, table_of};
 use crate::wish::Wish;
 use block_model::{NoMemory, Point};
 use disk_trait::Disk;
@@ -26,6 +24,7 @@ use heap_rows::blocks;
 use index_steps::Within;
 use page_locks::{Did, Locks, Rights};
 use page_store::MachineFault;
+use range_summarise::{RangeSummarise, blocks_a_range, table_of};
 use std::alloc::Global;
 use std::marker::Model;
 use store_layout::Layout;

@@ -1,9 +1,9 @@
 use Rattle.std.proofs.Common.{◌≡◌, ℕ, ◌+◌, ◌≤◌, refl, sym, ap, subst, ◌∙◌, arith}
 use Rattle.store_layout.specs.DiskLayout.{DiskLayout}
 use Rattle.index_steps.specs.SwapAnswers.{TakesAtMost}
-use Rattle.brin_summarise.specs.declared.stage.Stage.{Stage}
-use Rattle.brin_summarise.specs.StageLocks.{held_at, taken_at}
-use Rattle.brin_summarise.specs.SummariseSteps.{IsAtWork, made_at}
+use Rattle.range_summarise.specs.declared.stage.Stage.{Stage}
+use Rattle.range_summarise.specs.StageLocks.{held_at, taken_at}
+use Rattle.range_summarise.specs.SummariseSteps.{IsAtWork, made_at}
 use Rattle.brin_summarise.specs.Summarises.{EndsRange, GoesOn, Waits, held_by, in_range_of, state_of, taken_by}
 use Rattle.brin_summarise.proofs.Coming.{comes_behind, comes_well, done_free, held_is, stays_well, taken_is}
 use Rattle.brin_summarise.proofs.summarise.go_on.Goals as goal
