@@ -194,7 +194,7 @@ FullAt layout pages locks actor a number =
     (a.standing ≡ standings.AtRange) × StepFull (shape_of layout a.index) actor a.range (summarise_at layout pages locks a.index a.hand) number
 
 abbrev pub DamageIn : DiskLayout → PageMap → SummariseState → Type 0
-DamageIn layout pages a = (a.standing ≡ standings.AtRange) × DamageAt (shape_of layout a.index) (contents layout pages a.index) a.range a.hand.stage
+DamageIn layout pages a = (a.standing ≡ standings.AtRange) × DamageAt layout pages a.index a.range a.hand a.hand.stage
 
 -- what it has of the range that it is at is exact, as long as the rows of the table stay
 abbrev pub IsExactNow : DiskLayout → List (List Slot) → SummariseState → Type 0

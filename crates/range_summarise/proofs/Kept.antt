@@ -2,14 +2,16 @@
 use Rattle.std.proofs.Common.{◌≡◌, inl, inr, ⊎_elim, ℕ, Option, Some, refl, sym, subst, ◌∙◌}
 use Rattle.std.proofs.lemmas.Option.{none-some}
 use Rattle.block_model.specs.declared.place.Spot.{Spot}
+use Rattle.store_layout.specs.DiskLayout.{DiskLayout}
+use Rattle.page_store.specs.PageMap.{PageMap}
 use Rattle.coverage.specs.GoesOn.{IsHeld}
 use Rattle.coverage.specs.IndexView.{IndexTuple, IsPastMap, IsTupleOf}
 use Rattle.coverage.specs.IsCovered.{IndexState, IsIndexKept, index_view}
 use Rattle.coverage.specs.Knowing.{Knows}
 use Rattle.coverage.specs.PageOrder.{KnowsPages}
 use Rattle.coverage.specs.Statements.{Maintaining, Statement}
-use Rattle.index_contents.specs.IndexContents.{IndexContents}
-use Rattle.index_steps.specs.IndexTuples.{IndexShape}
+use Rattle.index_contents.specs.IndexContents.{IndexContents, contents}
+use Rattle.index_steps.specs.IndexTuples.{IndexShape, shape_of}
 use Rattle.index_steps.specs.Readings.{IsMisnamed, IsMisread}
 use Rattle.index_steps.specs.ShownIndex.{Shows}
 use Rattle.range_summarise.specs.declared.stage.Stage.{Stage}
@@ -53,18 +55,34 @@ module _ (shape : IndexShape) (c : IndexContents) (lock : ℕ → Option ℕ) (w
         absurd (⊎_elim (λ (named : w.entry range ≡ Some x). left.unnamed range named) (λ (loose : (n : ℕ) × ((index_view w).loose n ≡ Some x)). left.apart loose.0 loose.1) (held t there of))
   ]
 
-  module _ (misnamed : IsMisnamed c range → ⊥) (misread : (x : Spot) → ((t : IndexTuple) → w.tuple x ≡ Some t → t.range ≡ range → IsTupleOf (index_view w) t) → IsMisread shape c range x → ⊥) where
-    pub sound_at : (stage : Stage) → w.statement s ≡ Maintaining range (phase_at shape hand stage) → DamageAt shape c range stage → ⊥
+module _ (layout : DiskLayout) (pages : PageMap) (index : ℕ) (lock : ℕ → Option ℕ) (w : IndexState) (s range : ℕ) (hand : SummariseHand) (shows : Shows (shape_of layout index) (contents layout pages index) lock (index_view w)) (kept : IsIndexKept w)
+    (misnamed : IsMisnamed (contents layout pages index) range → ⊥)
+    (misread : (x : Spot) → ((t : IndexTuple) → w.tuple x ≡ Some t → t.range ≡ range → IsTupleOf (index_view w) t) → IsMisread (shape_of layout index) (contents layout pages index) range x → ⊥)
+  where
+    abbrev shape : IndexShape
+    shape = shape_of layout index
+
+    abbrev c : IndexContents
+    c = contents layout pages index
+
+    held : (x : Spot) → IsHeld (index_view w) range x → (t : IndexTuple) → w.tuple x ≡ Some t → t.range ≡ range → IsTupleOf (index_view w) t
+    held = held_is_one shape c lock w s range hand shows kept
+
+    knows : (stage : Stage) → w.statement s ≡ Maintaining range (phase_at shape hand stage) → Knows (index_view w) s (Maintaining range (phase_at shape hand stage))
+    knows stage is = knows_at shape c lock w s range hand shows kept (Maintaining range (phase_at shape hand stage)) is
+
+    -- no step finds damage
+    pub sound_at : (stage : Stage) → w.statement s ≡ Maintaining range (phase_at shape hand stage) → DamageAt layout pages index range hand stage → ⊥
     sound_at stages.Map is damage = misnamed damage
-    sound_at (stages.Tuple x) is damage = misread x (held_is_one x (knows_at (Maintaining range (phase_at shape hand (stages.Tuple x))) is).1.1) damage
+    sound_at (stages.Tuple x) is damage = misread x (held x (knows (stages.Tuple x) is).1.1) damage
     sound_at stages.Place is damage = damage
     sound_at (stages.Name x) is damage = damage
     sound_at stages.Extent is damage = damage
-    sound_at stages.Pass is (inl damage) = misnamed damage
-    sound_at stages.Pass is (inr none) =
-        let placeholder = (pages_at (Maintaining range (phase_at shape hand stages.Pass)) is).1 in
+    sound_at stages.Pass is (all, inl damage) = misnamed damage
+    sound_at stages.Pass is (all, inr none) =
+        let placeholder = (pages_at shape c lock w s range hand shows kept (Maintaining range (phase_at shape hand stages.Pass)) is).1 in
         none-some placeholder.0 (sym none ∙ sym (shows.entry range) ∙ placeholder.2)
-    sound_at (stages.Copy x) is damage = misread x (held_is_one x (knows_at (Maintaining range (phase_at shape hand (stages.Copy x))) is).1.0.1) damage
+    sound_at (stages.Copy x) is damage = misread x (held x (knows (stages.Copy x) is).1.0.1) damage
     sound_at (stages.Swap x) is damage = damage
     sound_at (stages.Set x y) is damage = damage
     sound_at (stages.Drop x) is damage = damage

@@ -1,20 +1,21 @@
 -- what a step of a summarise at a range needs, and when each error comes
-use Rattle.std.specs.Prelude.{◌≡◌, ◌⊎◌, ℕ, None}
+use Rattle.std.specs.Prelude.{◌≡◌, ◌⊎◌, ℕ, ◌≤◌, None}
 use Rattle.store_layout.specs.DiskLayout.{DiskLayout}
 use Rattle.page_store.specs.declared.faults.MachineFault.{MachineFault}
 use Rattle.page_store.specs.declared.faults.MachineFault.TheVariants as faults
 use Rattle.page_store.specs.Outcome.{NamesPage}
+use Rattle.page_store.specs.PageMap.{PageMap}
 use Rattle.heap_rows.specs.Heaps.{relation_of}
 use Rattle.coverage.specs.IndexView.{IsPastMap}
-use Rattle.index_contents.specs.IndexContents.{IndexContents}
-use Rattle.index_steps.specs.IndexTuples.{IndexShape}
+use Rattle.index_contents.specs.IndexContents.{IndexContents, contents}
+use Rattle.index_steps.specs.IndexTuples.{IndexShape, shape_of}
 use Rattle.index_steps.specs.MoveEnds.{IsMoving}
 use Rattle.index_steps.specs.PlaceAnswers.{IsPlacing}
 use Rattle.index_steps.specs.Readings.{IsMisnamed, IsMisread}
 use Rattle.index_steps.specs.SwapAnswers.{FaultNamesPageOf}
 use Rattle.range_summarise.specs.declared.stage.Stage.{Stage}
 use Rattle.range_summarise.specs.declared.stage.Stage.TheVariants as stages
-use Rattle.range_summarise.specs.SummariseHands.{table_of}
+use Rattle.range_summarise.specs.SummariseHands.{SummariseHand, table_of}
 
 -- The pages show an index that is where the summarise left it: the map has a page for the placeholder's entry, and still names what it
 -- named.
@@ -24,13 +25,14 @@ IsReady shape c range (stages.Name x) = IsPlacing shape c range x
 IsReady shape c range (stages.Set x y) = IsMoving shape c range x y
 IsReady shape c range stage = Unit {0}
 
--- what is damaged where a step at this stage finds damage: the range's entry; the tuple to be copied; or the placeholder is gone
-abbrev pub DamageAt : IndexShape → IndexContents → (range : ℕ) → Stage → Type 0
-DamageAt shape c range stages.Map = IsMisnamed c range
-DamageAt shape c range (stages.Tuple x) = IsMisread shape c range x
-DamageAt shape c range stages.Pass = IsMisnamed c range ⊎ (c.entry range ≡ None)
-DamageAt shape c range (stages.Copy x) = IsMisread shape c range x
-DamageAt shape c range stage = ⊥
+-- what is damaged where a step at this stage finds damage: the range's entry; the tuple to be copied; or, once all blocks are passed, the
+-- placeholder is gone
+abbrev pub DamageAt : DiskLayout → PageMap → (index range : ℕ) → SummariseHand → Stage → Type 0
+DamageAt layout pages index range hand stages.Map = IsMisnamed (contents layout pages index) range
+DamageAt layout pages index range hand (stages.Tuple x) = IsMisread (shape_of layout index) (contents layout pages index) range x
+DamageAt layout pages index range hand stages.Pass = (hand.extent ≤ hand.next) × (IsMisnamed (contents layout pages index) range ⊎ ((contents layout pages index).entry range ≡ None))
+DamageAt layout pages index range hand (stages.Copy x) = IsMisread (shape_of layout index) (contents layout pages index) range x
+DamageAt layout pages index range hand stage = ⊥
 
 -- damage is told by the byte at which a page of the heap of the index's table begins
 abbrev pub FaultNamesHeapPage : DiskLayout → (index : ℕ) → MachineFault → Type 0

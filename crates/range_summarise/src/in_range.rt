@@ -1,11 +1,12 @@
 //! The steps of a summarise at one range.
 
-ghost use Rattle.std.specs.Prelude.{◌≡◌, ◌+◌, ◌<◌, ◌≤◌, length, IfOk, IfErr, OnErr, OnOk};
+ghost use Rattle.std.specs.Prelude.{◌≡◌, ◌⊎◌, None, ◌+◌, ◌<◌, ◌≤◌, length, IfOk, IfErr, OnErr, OnOk};
 ghost use Rattle.block_model.specs.declared.reply.Point.TheVariants as points;
 ghost use Rattle.page_locks.specs.declared.did.Did.TheVariants as dids;
 ghost use Rattle.page_locks.specs.LockCounts.{locks_of};
 ghost use Rattle.page_locks.specs.LockHolders.{LockState, count_of, holder};
 ghost use Rattle.page_store.specs.Keeps.{Keeps, Tells, Untold};
+ghost use Rattle.logged_pages.specs.Survives.{Survives};
 ghost use Rattle.heap_rows.specs.HeapBlocks.{OfBlocks};
 ghost use Rattle.heap_rows.specs.Heaps.{slots_a_page};
 ghost use Rattle.range_tuple.specs.Tuples.{parts_of, tuple_room};
@@ -15,12 +16,13 @@ ghost use Rattle.index_contents.specs.IndexChanges.{LeavesOthers};
 ghost use Rattle.index_steps.specs.IndexTuples.{IndexShape, classes_of, shape_of};
 ghost use Rattle.index_steps.specs.MoveEnds.{IsMoving};
 ghost use Rattle.index_steps.specs.PlaceAnswers.{IsPlacing};
+ghost use Rattle.index_steps.specs.Readings.{IsMisnamed, IsMisread};
 ghost use Rattle.index_steps.specs.StepAnswers.{BlockedWell, IsOfStore, NeverBlocked};
-ghost use Rattle.index_steps.specs.SwapAnswers.{FaultNamesPageOf, LeavesLocks, MachineOutcome, SaysFullIn, TakesAtMost};
+ghost use Rattle.index_steps.specs.SwapAnswers.{FaultNamesPageOf, LeavesLocks, MachineOutcome, SaysFullIn, StaysWhereFull, TakesAtMost};
 ghost use Rattle.range_tuple.specs.ExactTuples.{with_rows};
 ghost use Rattle.range_summarise.specs.ExactSummaries.{HasPassed, IsExactAt, rows_of_block};
 ghost use Rattle.range_summarise.specs.ShownHeap.{Heap, heap_of};
-ghost use Rattle.range_summarise.specs.StepCauses.{DamageAt, FaultNamesHeapPage};
+ghost use Rattle.range_summarise.specs.StepCauses.{FaultNamesHeapPage};
 ghost use Rattle.range_summarise.specs.StageLocks.{held_at};
 ghost use Rattle.range_summarise.specs.SummariseHands.{SummariseHand, table_of};
 ghost use Rattle.range_summarise.specs.SummariseSteps.{RestsBlocked, StandsAfter, StepFull, StepsAt, summarise_at};
@@ -52,10 +54,12 @@ pub(crate) fn look<D: Disk + Drop>(
     ensures exact { IfOk result (λ o. (shape : IndexShape) (heap : Heap) (hand : SummariseHand) → IsExactAt shape heap at.range (record hand { stage = Stage.Map }) Stage.Map → IsExactAt shape heap at.range (record hand { stage = o.0; copied = copied.new }) o.0) }
     ensures stands { IfOk result (λ o. StandsAfter Stage.Map o.0 o.1) }
     ensures kept { Keeps D.told pages.old pages.new }
+    ensures survives { Survives D.told (λ passed. passed ≡ pages.old.pages) pages.old pages.new }
     ensures never_blocked { IfOk result (λ o. NeverBlocked o.1) }
     ensures of_store { IfErr result IsOfStore }
+    ensures undamaged { OnOk result (Tells D.told pages.old → IsMisnamed (contents pages.old.layout pages.old.pages at.index) at.range → ⊥) }
     ensures at { IfErr result (FaultNamesPageOf pages.old.layout at.index) }
-    ensures outcome { MachineOutcome D.told (Tells D.told pages.old → DamageAt (shape_of pages.old.layout at.index) (contents pages.old.layout pages.old.pages at.index) at.range Stage.Map) pages.old pages.new result }
+    ensures outcome { MachineOutcome D.told (Tells D.told pages.old → IsMisnamed (contents pages.old.layout pages.old.pages at.index) at.range) pages.old pages.new result }
 {
     an_index_that_stays_is_read();
     match read_map(pages, at.index, at.range, copied) {
@@ -81,10 +85,12 @@ pub(crate) fn take_up<D: Disk + Drop>(
     ensures stands { IfOk result (λ o. StandsAfter (Stage.Tuple spot) o.0 o.1) }
     ensures same_index { parts_of united.new.columns ≡ parts_of united.old.columns }
     ensures kept { Keeps D.told pages.old pages.new }
+    ensures survives { Survives D.told (λ passed. passed ≡ pages.old.pages) pages.old pages.new }
     ensures never_blocked { IfOk result (λ o. NeverBlocked o.1) }
     ensures of_store { IfErr result IsOfStore }
+    ensures undamaged { OnOk result (Tells D.told pages.old → IsMisread (shape_of pages.old.layout at.index) (contents pages.old.layout pages.old.pages at.index) at.range spot → ⊥) }
     ensures at { IfErr result (FaultNamesPageOf pages.old.layout at.index) }
-    ensures outcome { MachineOutcome D.told (Tells D.told pages.old → DamageAt (shape_of pages.old.layout at.index) (contents pages.old.layout pages.old.pages at.index) at.range (Stage.Tuple spot)) pages.old pages.new result }
+    ensures outcome { MachineOutcome D.told (Tells D.told pages.old → IsMisread (shape_of pages.old.layout at.index) (contents pages.old.layout pages.old.pages at.index) at.range spot) pages.old pages.new result }
 {
     an_index_that_stays_is_read();
     match copy_tuple(pages, at.index, at.range, spot, copied, united) {
@@ -119,11 +125,13 @@ pub(crate) fn place<D: Disk + Drop>(
     ensures same_room { length room.new ≡ length room.old }
     ensures blocked { IfOk result (λ o. BlockedWell D.told at.index at.actor pages.old pages.new locks.old locks.new o.1) }
     ensures full { IfErr result (SaysFullIn pages.old.layout at.index (λ number. Tells D.told pages.old → (hand : SummariseHand) → StepFull (shape_of pages.old.layout at.index) at.actor at.range (summarise_at pages.old.layout pages.old.pages locks.old at.index (record hand { stage = Stage.Place })) number)) }
+    ensures at_full { IfErr result (StaysWhereFull locks.old locks.new) }
     ensures others { LeavesOthers D.told at.index pages.old pages.new }
     ensures locks { LeavesLocks (holder locks.old) (holder locks.new) (relation_of pages.old.layout at.index) at.actor }
     ensures counts { TakesAtMost 2 locks.old locks.new at.actor }
     ensures own { IfOk result (λ o. locks_of locks.old at.actor ≤ held_at Stage.Place → locks_of locks.new at.actor ≤ held_at o.0) }
     ensures kept { OnErr result (Keeps D.told pages.old pages.new) }
+    ensures survives { Survives D.told (λ passed. passed ≡ pages.old.pages) pages.old pages.new }
     ensures at { IfErr result (FaultNamesPageOf pages.old.layout at.index) }
     ensures outcome { MachineOutcome D.told (Untold D.told pages.old) pages.old pages.new result }
 {
@@ -155,6 +163,7 @@ pub(crate) fn name<D: Disk + Drop>(
     ensures given { OnOk result (locks_of locks.new at.actor ≡ 0) }
     ensures own { IfOk result (λ o. locks_of locks.old at.actor ≤ held_at (Stage.Name to) → locks_of locks.new at.actor ≤ held_at o.0) }
     ensures kept { OnErr result (Keeps D.told pages.old pages.new) }
+    ensures survives { Survives D.told (λ passed. passed ≡ pages.old.pages) pages.old pages.new }
     ensures never_blocked { IfOk result (λ o. NeverBlocked o.1) }
     ensures of_store { IfErr result IsOfStore }
     ensures at { IfErr result (FaultNamesPageOf pages.old.layout at.index) }
@@ -179,6 +188,7 @@ pub(crate) fn read_extent<D: Disk + Drop>(
     ensures exact { IfOk result (λ o. OfBlocks D.told pages.now (table_of pages.now.layout at.index) (λ blocks. HasPassed (shape_of pages.now.layout at.index) (heap_of pages.now.layout at.index blocks) at.range o.0 o.1 running.new)) }
     ensures same_index { parts_of running.new.columns ≡ parts_of running.old.columns }
     ensures within { IfOk result (λ o. o.0 ≤ pages.now.layout.sizes.heap_blocks) }
+    ensures stays { Survives D.told (λ passed. ⊥) pages.now pages.now }
     ensures of_store { IfErr result IsOfStore }
     ensures at { IfErr result (FaultNamesPageOf pages.now.layout at.index) }
     ensures outcome { MachineOutcome D.told (Untold D.told pages.now) pages.now pages.now result }
@@ -216,6 +226,7 @@ pub(crate) fn pass<D: Disk + Drop>(
     ensures same_room { rows.new.room ≡ rows.old.room }
     ensures kept { Keeps D.told pages.old pages.new }
     ensures of_store { IfErr result IsOfStore }
+    ensures survives { Survives D.told (λ passed. passed ≡ pages.old.pages) pages.old pages.new }
     ensures at { IfErr result (FaultNamesHeapPage pages.old.layout at.index) }
     ensures outcome { MachineOutcome D.told (Untold D.told pages.old) pages.old pages.new result }
 {
@@ -245,10 +256,12 @@ pub(crate) fn look_again<D: Disk + Drop>(
     ensures exact { IfOk result (λ o. (shape : IndexShape) (heap : Heap) (hand : SummariseHand) → hand.extent ≤ hand.next → IsExactAt shape heap at.range (record hand { stage = Stage.Pass }) Stage.Pass → IsExactAt shape heap at.range (record hand { stage = o.0; copied = copied.new }) o.0) }
     ensures stands { IfOk result (λ o. StandsAfter Stage.Pass o.0 o.1) }
     ensures kept { Keeps D.told pages.old pages.new }
+    ensures survives { Survives D.told (λ passed. passed ≡ pages.old.pages) pages.old pages.new }
     ensures never_blocked { IfOk result (λ o. NeverBlocked o.1) }
     ensures of_store { IfErr result IsOfStore }
+    ensures undamaged { OnOk result (Tells D.told pages.old → (IsMisnamed (contents pages.old.layout pages.old.pages at.index) at.range ⊎ ((contents pages.old.layout pages.old.pages at.index).entry at.range ≡ None)) → ⊥) }
     ensures at { IfErr result (FaultNamesPageOf pages.old.layout at.index) }
-    ensures outcome { MachineOutcome D.told (Tells D.told pages.old → DamageAt (shape_of pages.old.layout at.index) (contents pages.old.layout pages.old.pages at.index) at.range Stage.Pass) pages.old pages.new result }
+    ensures outcome { MachineOutcome D.told (Tells D.told pages.old → IsMisnamed (contents pages.old.layout pages.old.pages at.index) at.range ⊎ ((contents pages.old.layout pages.old.pages at.index).entry at.range ≡ None)) pages.old pages.new result }
 {
     an_index_that_stays_is_read();
     match read_map(pages, at.index, at.range, copied) {
@@ -278,10 +291,12 @@ pub(crate) fn unite<D: Disk + Drop>(
     ensures stands { IfOk result (λ o. StandsAfter (Stage.Copy spot) o.0 o.1) }
     ensures same_index { parts_of united.new.columns ≡ parts_of united.old.columns }
     ensures kept { Keeps D.told pages.old pages.new }
+    ensures survives { Survives D.told (λ passed. passed ≡ pages.old.pages) pages.old pages.new }
     ensures never_blocked { IfOk result (λ o. NeverBlocked o.1) }
     ensures of_store { IfErr result IsOfStore }
+    ensures undamaged { OnOk result (Tells D.told pages.old → IsMisread (shape_of pages.old.layout at.index) (contents pages.old.layout pages.old.pages at.index) at.range spot → ⊥) }
     ensures at { IfErr result (FaultNamesPageOf pages.old.layout at.index) }
-    ensures outcome { MachineOutcome D.told (Tells D.told pages.old → DamageAt (shape_of pages.old.layout at.index) (contents pages.old.layout pages.old.pages at.index) at.range (Stage.Copy spot)) pages.old pages.new result }
+    ensures outcome { MachineOutcome D.told (Tells D.told pages.old → IsMisread (shape_of pages.old.layout at.index) (contents pages.old.layout pages.old.pages at.index) at.range spot) pages.old pages.new result }
 {
     an_index_that_stays_is_read();
     match copy_tuple(pages, at.index, at.range, spot, copied, united) {
@@ -316,11 +331,13 @@ pub(crate) fn swap_in<D: Disk + Drop>(
     ensures same_room { length room.new ≡ length room.old }
     ensures blocked { IfOk result (λ o. BlockedWell D.told at.index at.actor pages.old pages.new locks.old locks.new o.1) }
     ensures full { IfErr result (SaysFullIn pages.old.layout at.index (λ number. Tells D.told pages.old → (hand : SummariseHand) → StepFull (shape_of pages.old.layout at.index) at.actor at.range (summarise_at pages.old.layout pages.old.pages locks.old at.index (record hand { stage = Stage.Swap spot; copied = copied.now; united = united.now })) number)) }
+    ensures at_full { IfErr result (StaysWhereFull locks.old locks.new) }
     ensures others { LeavesOthers D.told at.index pages.old pages.new }
     ensures locks { LeavesLocks (holder locks.old) (holder locks.new) (relation_of pages.old.layout at.index) at.actor }
     ensures counts { TakesAtMost 3 locks.old locks.new at.actor }
     ensures own { IfOk result (λ o. locks_of locks.old at.actor ≤ held_at (Stage.Swap spot) → locks_of locks.new at.actor ≤ held_at o.0) }
     ensures kept { OnErr result (Keeps D.told pages.old pages.new) }
+    ensures survives { Survives D.told (λ passed. passed ≡ pages.old.pages) pages.old pages.new }
     ensures at { IfErr result (FaultNamesPageOf pages.old.layout at.index) }
     ensures outcome { MachineOutcome D.told (Untold D.told pages.old) pages.old pages.new result }
 {
@@ -349,6 +366,7 @@ pub(crate) fn set_in<D: Disk + Drop>(
     ensures own { IfOk result (λ o. held_at (Stage.Set from to) ≤ held_at o.0) }
     ensures others { LeavesOthers D.told at.index pages.old pages.new }
     ensures kept { OnErr result (Keeps D.told pages.old pages.new) }
+    ensures survives { Survives D.told (λ passed. passed ≡ pages.old.pages) pages.old pages.new }
     ensures never_blocked { IfOk result (λ o. NeverBlocked o.1) }
     ensures of_store { IfErr result IsOfStore }
     ensures at { IfErr result (FaultNamesPageOf pages.old.layout at.index) }
@@ -377,6 +395,7 @@ pub(crate) fn drop_in<D: Disk + Drop>(
     ensures given { OnOk result (locks_of locks.new at.actor ≡ 0) }
     ensures own { IfOk result (λ o. locks_of locks.old at.actor ≤ held_at (Stage.Drop from) → locks_of locks.new at.actor ≤ held_at o.0) }
     ensures kept { OnErr result (Keeps D.told pages.old pages.new) }
+    ensures survives { Survives D.told (λ passed. passed ≡ pages.old.pages) pages.old pages.new }
     ensures never_blocked { IfOk result (λ o. NeverBlocked o.1) }
     ensures of_store { IfErr result IsOfStore }
     ensures at { IfErr result (FaultNamesPageOf pages.old.layout at.index) }

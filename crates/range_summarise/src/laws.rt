@@ -1,13 +1,15 @@
 //! What a summarise has of an index that is kept, as laws on the definitions.
 
 ghost use Rattle.std.specs.Prelude.{◌≡◌, ℕ, List, Option};
+ghost use Rattle.store_layout.specs.DiskLayout.{DiskLayout};
+ghost use Rattle.page_store.specs.PageMap.{PageMap};
 ghost use Rattle.range_tuple.specs.ExactTuples.{IsExactTuple};
 ghost use Rattle.range_tuple.specs.Tuples.{Tuple, parts_of};
 ghost use Rattle.coverage.specs.IndexView.{IsPastMap};
 ghost use Rattle.coverage.specs.IsCovered.{IndexState, IsIndexKept, index_view};
 ghost use Rattle.coverage.specs.Statements.{Maintaining};
-ghost use Rattle.index_contents.specs.IndexContents.{IndexContents};
-ghost use Rattle.index_steps.specs.IndexTuples.{IndexShape, classes_of};
+ghost use Rattle.index_contents.specs.IndexContents.{IndexContents, contents};
+ghost use Rattle.index_steps.specs.IndexTuples.{IndexShape, classes_of, shape_of};
 ghost use Rattle.index_steps.specs.ShownIndex.{Shows};
 ghost use Rattle.range_summarise.specs.ExactSummaries.{HasPassed, HasPassedAll, IsFinalOf, Unites, first_of_range, rows_of_blocks, rows_of_range};
 ghost use Rattle.range_summarise.specs.ShownHeap.{Heap};
@@ -24,8 +26,8 @@ use range_tuple::rows_leave_exact_summaries;
 pub fn a_kept_index_takes_a_summarise()
     ensures ready { (shape : IndexShape) (c : IndexContents) (lock : ℕ → Option ℕ) (w : IndexState) (s range : ℕ) (hand : SummariseHand) → Shows shape c lock (index_view w) → IsIndexKept w
         → w.statement s ≡ Maintaining range (phase_of shape hand) → (hand.stage ≡ Stage.Place → IsPastMap c.pages range → ⊥) → IsReady shape c range hand.stage }
-    ensures sound { (shape : IndexShape) (c : IndexContents) (lock : ℕ → Option ℕ) (w : IndexState) (s range : ℕ) (hand : SummariseHand) → Shows shape c lock (index_view w) → IsIndexKept w
-        → w.statement s ≡ Maintaining range (phase_of shape hand) → DamageAt shape c range hand.stage → ⊥ }
+    ensures sound { (layout : DiskLayout) (pages : PageMap) (index : ℕ) (lock : ℕ → Option ℕ) (w : IndexState) (s range : ℕ) (hand : SummariseHand) → Shows (shape_of layout index) (contents layout pages index) lock (index_view w) → IsIndexKept w
+        → w.statement s ≡ Maintaining range (phase_of (shape_of layout index) hand) → DamageAt layout pages index range hand hand.stage → ⊥ }
 {
     a_sound_index_is_not_misread();
 }

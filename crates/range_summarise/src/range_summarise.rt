@@ -2,6 +2,7 @@
 
 ghost use Rattle.std.specs.Prelude.{◌≡◌, ◌+◌, ◌<◌, ◌≤◌, length, IfOk, IfErr, OnErr, OnOk};
 ghost use Rattle.page_store.specs.Keeps.{Keeps, Tells};
+ghost use Rattle.logged_pages.specs.Survives.{Survives};
 ghost use Rattle.page_locks.specs.LockCounts.{locks_of};
 ghost use Rattle.page_locks.specs.LockHolders.{count_of, holder};
 ghost use Rattle.heap_rows.specs.HeapBlocks.{OfBlocks};
@@ -9,7 +10,7 @@ ghost use Rattle.index_contents.specs.IndexContents.{contents, relation_of};
 ghost use Rattle.index_contents.specs.IndexChanges.{LeavesOthers};
 ghost use Rattle.index_steps.specs.IndexTuples.{shape_of};
 ghost use Rattle.index_steps.specs.StepAnswers.{BlockedWell};
-ghost use Rattle.index_steps.specs.SwapAnswers.{LeavesLocks, MachineOutcome, SaysFullIn, TakesAtMost};
+ghost use Rattle.index_steps.specs.SwapAnswers.{LeavesLocks, MachineOutcome, SaysFullIn, StaysWhereFull, TakesAtMost};
 ghost use Rattle.range_summarise.specs.ExactSummaries.{IsExactAt};
 ghost use Rattle.range_summarise.specs.ShownHeap.{heap_of};
 ghost use Rattle.range_summarise.specs.StepCauses.{DamageAt, IsReady, NamesPageAt};
@@ -116,15 +117,18 @@ impl RangeSummarise {
         ensures of { IsHandOf pages.old.layout at.index self.new }
         ensures blocked { IfOk result (BlockedWell D.told at.index at.actor pages.old pages.new locks.old locks.new) }
         ensures full { IfErr result (SaysFullIn pages.old.layout at.index (λ number. Tells D.told pages.old → StepFull (shape_of pages.old.layout at.index) at.actor at.range (summarise_at pages.old.layout pages.old.pages locks.old at.index self.old) number)) }
+        ensures at_full { IfErr result (StaysWhereFull locks.old locks.new) }
         ensures others { LeavesOthers D.told at.index pages.old pages.new }
         ensures locks { LeavesLocks (holder locks.old) (holder locks.new) (relation_of pages.old.layout at.index) at.actor }
         ensures counts { TakesAtMost (taken_at self.old.stage) locks.old locks.new at.actor }
         ensures given { OnOk result (GivesAt self.old.stage → locks_of locks.new at.actor ≡ 0) }
         ensures own { OnOk result (locks_of locks.old at.actor ≤ held_at self.old.stage → locks_of locks.new at.actor ≤ held_at self.new.stage) }
         ensures stays { OnErr result (self.new.stage ≡ self.old.stage) }
+        ensures survives { Survives D.told (λ passed. passed ≡ pages.old.pages) pages.old pages.new }
         ensures kept { OnErr result (Keeps D.told pages.old pages.new) }
+        ensures undamaged { OnOk result (Tells D.told pages.old → DamageAt pages.old.layout pages.old.pages at.index at.range self.old self.old.stage → ⊥) }
         ensures at { IfErr result (NamesPageAt pages.old.layout at.index self.old.stage) }
-        ensures outcome { MachineOutcome D.told (Tells D.told pages.old → DamageAt (shape_of pages.old.layout at.index) (contents pages.old.layout pages.old.pages at.index) at.range self.old.stage) pages.old pages.new result }
+        ensures outcome { MachineOutcome D.told (Tells D.told pages.old → DamageAt pages.old.layout pages.old.pages at.index at.range self.old self.old.stage) pages.old pages.new result }
     {
         tuples_of_an_index_need_one_room();
         let stage = self.stage;

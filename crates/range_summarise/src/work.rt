@@ -4,13 +4,14 @@ ghost use Rattle.std.specs.Prelude.{◌≡◌, ◌+◌, ◌<◌, ◌≤◌, true
 ghost use Rattle.page_locks.specs.LockCounts.{locks_of};
 ghost use Rattle.page_locks.specs.LockHolders.{LockState, count_of, holder};
 ghost use Rattle.page_store.specs.Keeps.{Keeps, Tells};
+ghost use Rattle.logged_pages.specs.Survives.{Survives};
 ghost use Rattle.heap_rows.specs.HeapBlocks.{OfBlocks};
 ghost use Rattle.range_tuple.specs.Tuples.{tuple_room};
 ghost use Rattle.index_contents.specs.IndexContents.{contents, relation_of};
 ghost use Rattle.index_contents.specs.IndexChanges.{LeavesOthers};
 ghost use Rattle.index_steps.specs.IndexTuples.{shape_of};
 ghost use Rattle.index_steps.specs.StepAnswers.{BlockedWell, IsOfStore, NeverBlocked};
-ghost use Rattle.index_steps.specs.SwapAnswers.{LeavesLocks, MachineOutcome, SaysFullIn, TakesAtMost};
+ghost use Rattle.index_steps.specs.SwapAnswers.{LeavesLocks, MachineOutcome, SaysFullIn, StaysWhereFull, TakesAtMost};
 ghost use Rattle.range_summarise.specs.ExactSummaries.{IsExactAt};
 ghost use Rattle.range_summarise.specs.ShownHeap.{Heap, heap_of};
 ghost use Rattle.range_summarise.specs.StepCauses.{DamageAt, IsReady, NamesPageAt};
@@ -68,14 +69,17 @@ pub(crate) fn step_in<D: Disk + Drop>(
     ensures same_room { length room.new ≡ length room.old }
     ensures blocked { IfOk result (λ o. BlockedWell D.told at.index at.actor pages.old pages.new locks.old locks.new o.1) }
     ensures full { IfErr result (SaysFullIn pages.old.layout at.index (λ number. Tells D.told pages.old → StepFull (shape_of pages.old.layout at.index) at.actor at.range (summarise_at pages.old.layout pages.old.pages locks.old at.index (hand_of stage work.old)) number)) }
+    ensures at_full { IfErr result (StaysWhereFull locks.old locks.new) }
     ensures others { LeavesOthers D.told at.index pages.old pages.new }
     ensures locks { LeavesLocks (holder locks.old) (holder locks.new) (relation_of pages.old.layout at.index) at.actor }
     ensures counts { TakesAtMost (taken_at stage) locks.old locks.new at.actor }
     ensures given { OnOk result (GivesAt stage → locks_of locks.new at.actor ≡ 0) }
     ensures own { IfOk result (λ o. locks_of locks.old at.actor ≤ held_at stage → locks_of locks.new at.actor ≤ held_at o.0) }
+    ensures survives { Survives D.told (λ passed. passed ≡ pages.old.pages) pages.old pages.new }
     ensures kept { OnErr result (Keeps D.told pages.old pages.new) }
+    ensures undamaged { OnOk result (Tells D.told pages.old → DamageAt pages.old.layout pages.old.pages at.index at.range (hand_of stage work.old) stage → ⊥) }
     ensures at { IfErr result (NamesPageAt pages.old.layout at.index stage) }
-    ensures outcome { MachineOutcome D.told (Tells D.told pages.old → DamageAt (shape_of pages.old.layout at.index) (contents pages.old.layout pages.old.pages at.index) at.range stage) pages.old pages.new result }
+    ensures outcome { MachineOutcome D.told (Tells D.told pages.old → DamageAt pages.old.layout pages.old.pages at.index at.range (hand_of stage work.old) stage) pages.old pages.new result }
 {
     if reads(stage) {
         return match read_in(pages, at, stage, work) {
@@ -124,10 +128,12 @@ fn read_in<D: Disk + Drop>(
     ensures stands { IfOk result (λ o. StandsAfter stage o.0 o.1) }
     ensures of { IsHandOf pages.old.layout at.index (hand_of stage work.new) }
     ensures kept { Keeps D.told pages.old pages.new }
+    ensures survives { Survives D.told (λ passed. passed ≡ pages.old.pages) pages.old pages.new }
     ensures never_blocked { IfOk result (λ o. NeverBlocked o.1) }
     ensures of_store { IfErr result IsOfStore }
+    ensures undamaged { OnOk result (Tells D.told pages.old → DamageAt pages.old.layout pages.old.pages at.index at.range (hand_of stage work.old) stage → ⊥) }
     ensures at { IfErr result (NamesPageAt pages.old.layout at.index stage) }
-    ensures outcome { MachineOutcome D.told (Tells D.told pages.old → DamageAt (shape_of pages.old.layout at.index) (contents pages.old.layout pages.old.pages at.index) at.range stage) pages.old pages.new result }
+    ensures outcome { MachineOutcome D.told (Tells D.told pages.old → DamageAt pages.old.layout pages.old.pages at.index at.range (hand_of stage work.old) stage) pages.old pages.new result }
 {
     match stage {
         Stage::Map => match look(pages, at, &mut work.copied) {
@@ -184,14 +190,16 @@ fn change_in<D: Disk + Drop>(
     ensures same_room { length room.new ≡ length room.old }
     ensures blocked { IfOk result (λ o. BlockedWell D.told at.index at.actor pages.old pages.new locks.old locks.new o.1) }
     ensures full { IfErr result (SaysFullIn pages.old.layout at.index (λ number. Tells D.told pages.old → StepFull (shape_of pages.old.layout at.index) at.actor at.range (summarise_at pages.old.layout pages.old.pages locks.old at.index (hand_of stage work.old)) number)) }
+    ensures at_full { IfErr result (StaysWhereFull locks.old locks.new) }
     ensures others { LeavesOthers D.told at.index pages.old pages.new }
     ensures locks { LeavesLocks (holder locks.old) (holder locks.new) (relation_of pages.old.layout at.index) at.actor }
     ensures counts { TakesAtMost (taken_at stage) locks.old locks.new at.actor }
     ensures given { OnOk result (GivesAt stage → locks_of locks.new at.actor ≡ 0) }
     ensures own { IfOk result (λ o. locks_of locks.old at.actor ≤ held_at stage → locks_of locks.new at.actor ≤ held_at o.0) }
+    ensures survives { Survives D.told (λ passed. passed ≡ pages.old.pages) pages.old pages.new }
     ensures kept { OnErr result (Keeps D.told pages.old pages.new) }
     ensures at { IfErr result (NamesPageAt pages.old.layout at.index stage) }
-    ensures outcome { MachineOutcome D.told (Tells D.told pages.old → DamageAt (shape_of pages.old.layout at.index) (contents pages.old.layout pages.old.pages at.index) at.range stage) pages.old pages.new result }
+    ensures outcome { MachineOutcome D.told (Tells D.told pages.old → DamageAt pages.old.layout pages.old.pages at.index at.range (hand_of stage work.old) stage) pages.old pages.new result }
 {
     match stage {
         Stage::Place => match place(pages, locks, at, &mut work.united, room) {
@@ -237,10 +245,11 @@ fn begin_pass<D: Disk + Drop>(
     ensures stands { IfOk result (λ o. StandsAfter Stage.Extent o.0 o.1) }
     ensures of { IsHandOf pages.now.layout at.index (hand_of Stage.Extent work.new) }
     ensures united { work.new.united ≡ work.old.united }
+    ensures stays { Survives D.told (λ passed. ⊥) pages.now pages.now }
     ensures never_blocked { IfOk result (λ o. NeverBlocked o.1) }
     ensures of_store { IfErr result IsOfStore }
     ensures at { IfErr result (NamesPageAt pages.now.layout at.index Stage.Extent) }
-    ensures outcome { MachineOutcome D.told (Tells D.told pages.now → DamageAt (shape_of pages.now.layout at.index) (contents pages.now.layout pages.now.pages at.index) at.range Stage.Extent) pages.now pages.now result }
+    ensures outcome { MachineOutcome D.told (Tells D.told pages.now → DamageAt pages.now.layout pages.now.pages at.index at.range (hand_of Stage.Extent work.old) Stage.Extent) pages.now pages.now result }
 {
     match read_extent(pages, at, &mut work.running) {
         Ok((extent, first)) => {
@@ -266,10 +275,12 @@ fn go_on<D: Disk + Drop>(
     ensures of { IsHandOf pages.old.layout at.index (hand_of Stage.Pass work.new) }
     ensures united { work.new.united ≡ work.old.united }
     ensures kept { Keeps D.told pages.old pages.new }
+    ensures survives { Survives D.told (λ passed. passed ≡ pages.old.pages) pages.old pages.new }
     ensures never_blocked { IfOk result (λ o. NeverBlocked o.1) }
     ensures of_store { IfErr result IsOfStore }
+    ensures undamaged { OnOk result (Tells D.told pages.old → DamageAt pages.old.layout pages.old.pages at.index at.range (hand_of Stage.Pass work.old) Stage.Pass → ⊥) }
     ensures at { IfErr result (NamesPageAt pages.old.layout at.index Stage.Pass) }
-    ensures outcome { MachineOutcome D.told (Tells D.told pages.old → DamageAt (shape_of pages.old.layout at.index) (contents pages.old.layout pages.old.pages at.index) at.range Stage.Pass) pages.old pages.new result }
+    ensures outcome { MachineOutcome D.told (Tells D.told pages.old → DamageAt pages.old.layout pages.old.pages at.index at.range (hand_of Stage.Pass work.old) Stage.Pass) pages.old pages.new result }
 {
     if work.next >= work.extent {
         return match look_again(pages, at, &mut work.copied) {
@@ -302,10 +313,12 @@ fn unite_in<D: Disk + Drop>(
     ensures stands { IfOk result (λ o. StandsAfter (Stage.Copy spot) o.0 o.1) }
     ensures of { IsHandOf pages.old.layout at.index (hand_of (Stage.Copy spot) work.new) }
     ensures kept { Keeps D.told pages.old pages.new }
+    ensures survives { Survives D.told (λ passed. passed ≡ pages.old.pages) pages.old pages.new }
     ensures never_blocked { IfOk result (λ o. NeverBlocked o.1) }
     ensures of_store { IfErr result IsOfStore }
+    ensures undamaged { OnOk result (Tells D.told pages.old → DamageAt pages.old.layout pages.old.pages at.index at.range (hand_of (Stage.Copy spot) work.old) (Stage.Copy spot) → ⊥) }
     ensures at { IfErr result (NamesPageAt pages.old.layout at.index (Stage.Copy spot)) }
-    ensures outcome { MachineOutcome D.told (Tells D.told pages.old → DamageAt (shape_of pages.old.layout at.index) (contents pages.old.layout pages.old.pages at.index) at.range (Stage.Copy spot)) pages.old pages.new result }
+    ensures outcome { MachineOutcome D.told (Tells D.told pages.old → DamageAt pages.old.layout pages.old.pages at.index at.range (hand_of (Stage.Copy spot) work.old) (Stage.Copy spot)) pages.old pages.new result }
 {
     match unite(
         pages,

@@ -147,3 +147,15 @@ returns-then-come_to-clause-exact g c = λ tells blocks has. record { keeps = λ
 
 pub returns-else-come_to-clause-exact : goal.returns-else-come_to-clause-exact
 returns-else-come_to-clause-exact g c = λ tells blocks has. record { keeps = λ exact. c.come_to.ensures.exact c.args.pages.now.layout blocks c.args.index }
+
+pub returns-in-Ok-Moved-clause-undamaged : goal.returns-in-Ok-Moved-clause-undamaged
+returns-in-Ok-Moved-clause-undamaged g c = λ tells damage. c.in-Ok-Moved.ensures.undamaged tells damage.1
+
+pub returns-in-Ok-Blocked-clause-undamaged : goal.returns-in-Ok-Blocked-clause-undamaged
+returns-in-Ok-Blocked-clause-undamaged g c = λ tells damage. c.in-Ok-Blocked.ensures.undamaged tells damage.1
+
+pub returns-then-come_to-clause-undamaged : goal.returns-then-come_to-clause-undamaged
+returns-then-come_to-clause-undamaged g c = λ tells damage. c.in-Ok-Finished.ensures.undamaged tells damage.1
+
+pub returns-else-come_to-clause-undamaged : goal.returns-else-come_to-clause-undamaged
+returns-else-come_to-clause-undamaged g c = λ tells damage. c.in-Ok-Finished.ensures.undamaged tells damage.1

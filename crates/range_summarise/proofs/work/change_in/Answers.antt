@@ -3,7 +3,7 @@ use Rattle.range_summarise.specs.declared.stage.Stage.{Stage}
 use Rattle.range_summarise.specs.ShownHeap.{heap_of}
 use Rattle.index_steps.specs.IndexTuples.{shape_of}
 use Rattle.range_summarise.specs.SummariseSteps.{RestsBlocked, StepFull, StepsAt, summarise_at}
-use Rattle.range_summarise.proofs.Faults.{full_too}
+use Rattle.range_summarise.proofs.Faults.{full_too, none_full}
 use Rattle.range_summarise.specs.Works.{hand_of}
 use Rattle.range_summarise.specs.ExactSummaries.{IsExactAt}
 use Rattle.page_locks.specs.LockCounts.{locks_of}
@@ -183,3 +183,12 @@ place-requires-clause-locks g c =
 pub swap_in-requires-clause-locks : goal.swap_in-requires-clause-locks
 swap_in-requires-clause-locks g c =
     subst (λ (stage : Stage). 0 < taken_at stage → count_of c.args.locks.now + taken_at stage ≤ c.args.locks.now.limit) c.in-Swap.is c.requires.locks (omega arith)
+
+pub returns-in-Err-name-clause-at_full : goal.returns-in-Err-name-clause-at_full
+returns-in-Err-name-clause-at_full g c = none_full c.args.locks.now c.name.new.locks c.in-Err-name.fault c.in-Err-name.ensures.of_store
+
+pub returns-in-Err-set_in-clause-at_full : goal.returns-in-Err-set_in-clause-at_full
+returns-in-Err-set_in-clause-at_full g c = none_full c.args.locks.now c.args.locks.now c.in-Err-set_in.fault c.in-Err-set_in.ensures.of_store
+
+pub returns-in-Err-drop_in-clause-at_full : goal.returns-in-Err-drop_in-clause-at_full
+returns-in-Err-drop_in-clause-at_full g c = none_full c.args.locks.now c.drop_in.new.locks c.in-Err-drop_in.fault c.in-Err-drop_in.ensures.of_store

@@ -1,9 +1,12 @@
+use Rattle.page_locks.specs.declared.did.Did.{Did}
+use Rattle.range_summarise.specs.declared.stage.Stage.{Stage}
 use Rattle.range_summarise.specs.declared.stage.Stage.TheVariants as stages
 use Rattle.range_summarise.specs.ShownHeap.{heap_of}
 use Rattle.range_summarise.specs.Works.{hand_of}
 use Rattle.index_steps.specs.IndexTuples.{shape_of}
 use Rattle.range_summarise.proofs.Exact.{passes_exact}
-use Rattle.std.proofs.Common.{inl, inr}
+use Rattle.range_summarise.proofs.Faults.{fault_for}
+use Rattle.std.proofs.Common.{inl, inr, arith}
 use Rattle.range_summarise.proofs.work.go_on.Goals as goal
 
 pub returns-in-Ok-clause-stepped : goal.returns-in-Ok-clause-stepped
@@ -28,3 +31,15 @@ returns-in-Err-clause-at g c = inl c.in-Err.ensures.at
 
 pub returns-in-Err-pass-clause-at : goal.returns-in-Err-pass-clause-at
 returns-in-Err-pass-clause-at g c = inr c.in-Err-pass.ensures.at
+
+pub returns-in-Ok-clause-undamaged : goal.returns-in-Ok-clause-undamaged
+returns-in-Ok-clause-undamaged g c = λ tells damage. c.in-Ok.ensures.undamaged tells damage.1
+
+pub returns-in-Ok-pass-clause-undamaged : goal.returns-in-Ok-pass-clause-undamaged
+returns-in-Ok-pass-clause-undamaged g c = λ tells damage. absurd (omega (arith, damage.0, c.if-work.false))
+
+pub returns-in-Err-clause-outcome : goal.returns-in-Err-clause-outcome
+returns-in-Err-clause-outcome g c = fault_for (Stage × Did) (Stage × Did) g.D.Disk.told _ _ c.args.pages.now c.look_again.new.pages c.in-Err.fault (λ cause tells. (c.if-work.true, cause tells)) c.in-Err.ensures.outcome
+
+pub returns-in-Err-pass-clause-outcome : goal.returns-in-Err-pass-clause-outcome
+returns-in-Err-pass-clause-outcome g c = fault_for Unit (Stage × Did) g.D.Disk.told _ _ c.args.pages.now c.pass.new.pages c.in-Err-pass.fault (λ cause tells. absurd (cause tells)) c.in-Err-pass.ensures.outcome

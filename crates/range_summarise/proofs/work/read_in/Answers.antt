@@ -1,6 +1,9 @@
 use Rattle.std.proofs.Common.{sym, subst}
 use Rattle.range_summarise.specs.declared.stage.Stage.{Stage}
 use Rattle.range_summarise.specs.ShownHeap.{heap_of}
+use Rattle.engine_pages.specs.SurvivesLaws.{survives_still}
+use Rattle.page_store.specs.Keeps.{Tells}
+use Rattle.range_summarise.specs.StepCauses.{DamageAt}
 use Rattle.range_summarise.specs.SummariseSteps.{StepsAt}
 use Rattle.range_summarise.specs.Works.{hand_of}
 use Rattle.index_steps.specs.IndexTuples.{shape_of}
@@ -86,3 +89,34 @@ returns-in-Ok-unite_in-clause-exact g c = λ tells blocks has.
     let heap = heap_of old.layout at.index blocks in
     subst (λ (stage : Stage). IsExactAt shape heap at.range (hand_of stage c.args.work.now) stage → IsExactAt shape heap at.range (hand_of c.in-Ok-unite_in.done.0 c.unite_in.new.work) c.in-Ok-unite_in.done.0) (sym c.in-Copy.is)
     (c.in-Ok-unite_in.ensures.exact tells blocks has)
+
+pub returns-in-Ok-clause-undamaged : goal.returns-in-Ok-clause-undamaged
+returns-in-Ok-clause-undamaged g c =
+    let old = c.args.pages.now in
+    subst (λ (stage : Stage). Tells g.D.Disk.told old → DamageAt old.layout old.pages c.args.at.index c.args.at.range (hand_of stage c.args.work.now) stage → ⊥) (sym c.in-Map.is) c.in-Ok.ensures.undamaged
+
+pub returns-in-Ok-take_up-clause-undamaged : goal.returns-in-Ok-take_up-clause-undamaged
+returns-in-Ok-take_up-clause-undamaged g c =
+    let old = c.args.pages.now in
+    subst (λ (stage : Stage). Tells g.D.Disk.told old → DamageAt old.layout old.pages c.args.at.index c.args.at.range (hand_of stage c.args.work.now) stage → ⊥) (sym c.in-Tuple.is) c.in-Ok-take_up.ensures.undamaged
+
+pub returns-in-Ok-begin_pass-clause-undamaged : goal.returns-in-Ok-begin_pass-clause-undamaged
+returns-in-Ok-begin_pass-clause-undamaged g c =
+    let old = c.args.pages.now in
+    subst (λ (stage : Stage). Tells g.D.Disk.told old → DamageAt old.layout old.pages c.args.at.index c.args.at.range (hand_of stage c.args.work.now) stage → ⊥) (sym c.in-Extent.is) (λ tells damage. damage)
+
+pub returns-in-Ok-go_on-clause-undamaged : goal.returns-in-Ok-go_on-clause-undamaged
+returns-in-Ok-go_on-clause-undamaged g c =
+    let old = c.args.pages.now in
+    subst (λ (stage : Stage). Tells g.D.Disk.told old → DamageAt old.layout old.pages c.args.at.index c.args.at.range (hand_of stage c.args.work.now) stage → ⊥) (sym c.in-Pass.is) c.in-Ok-go_on.ensures.undamaged
+
+pub returns-in-Ok-unite_in-clause-undamaged : goal.returns-in-Ok-unite_in-clause-undamaged
+returns-in-Ok-unite_in-clause-undamaged g c =
+    let old = c.args.pages.now in
+    subst (λ (stage : Stage). Tells g.D.Disk.told old → DamageAt old.layout old.pages c.args.at.index c.args.at.range (hand_of stage c.args.work.now) stage → ⊥) (sym c.in-Copy.is) c.in-Ok-unite_in.ensures.undamaged
+
+pub returns-in-Ok-begin_pass-clause-survives : goal.returns-in-Ok-begin_pass-clause-survives
+returns-in-Ok-begin_pass-clause-survives g c = survives_still g.D.Disk.told c.args.pages.now c.begin_pass.ensures.stays
+
+pub returns-in-Err-begin_pass-clause-survives : goal.returns-in-Err-begin_pass-clause-survives
+returns-in-Err-begin_pass-clause-survives g c = survives_still g.D.Disk.told c.args.pages.now c.begin_pass.ensures.stays

@@ -3,6 +3,7 @@ use Rattle.page_locks.specs.LockHolders.{holder}
 use Rattle.index_contents.specs.IndexContents.{relation_of}
 use Rattle.range_summarise.specs.StageLocks.{held_at, taken_at}
 use Rattle.range_summarise.specs.Works.{hand_of}
+use Rattle.range_summarise.proofs.Faults.{changes_find_none, none_full}
 use Rattle.range_summarise.proofs.Locking.{as_few, never_rests, reads_give_none, reads_hold_none, same_apart, takes_none}
 use Rattle.range_summarise.proofs.work.step_in.Goals as goal
 
@@ -29,3 +30,11 @@ returns-in-Ok-clause-counts g c = takes_none (taken_at c.args.stage) c.args.lock
 
 pub returns-in-Err-clause-counts : goal.returns-in-Err-clause-counts
 returns-in-Err-clause-counts g c = takes_none (taken_at c.args.stage) c.args.locks.now c.args.at.actor
+
+pub returns-in-Err-clause-at_full : goal.returns-in-Err-clause-at_full
+returns-in-Err-clause-at_full g c = none_full c.args.locks.now c.args.locks.now c.in-Err.fault c.in-Err.ensures.of_store
+
+pub returns-in-Ok-change_in-clause-undamaged : goal.returns-in-Ok-change_in-clause-undamaged
+returns-in-Ok-change_in-clause-undamaged g c = λ tells damage.
+    let store = c.args.pages.now in
+    changes_find_none store.layout store.pages c.args.at.index c.args.at.range (hand_of c.args.stage c.args.work.now) c.args.stage (sym c.reads.ensures ∙ c.if-reads.false) damage
