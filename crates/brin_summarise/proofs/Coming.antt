@@ -13,13 +13,13 @@ use Rattle.page_locks.specs.declared.did.Did.TheVariants as did
 use Rattle.brin_summarise.specs.declared.course.Course.{Course}
 use Rattle.brin_summarise.specs.declared.course.Standing.{Standing}
 use Rattle.brin_summarise.specs.declared.course.Standing.TheVariants as standings
-use Rattle.brin_summarise.specs.declared.stage.Stage.{Stage}
-use Rattle.brin_summarise.specs.declared.stage.Stage.TheVariants as stages
+use Rattle.range_summarise.specs.declared.stage.Stage.{Stage}
+use Rattle.range_summarise.specs.declared.stage.Stage.TheVariants as stages
 use Rattle.brin_summarise.specs.declared.wish.Wish.{Wish}
 use Rattle.brin_summarise.specs.declared.wish.Wish.TheVariants as wishes
-use Rattle.brin_summarise.specs.StageLocks.{held_at, taken_at}
-use Rattle.brin_summarise.specs.SummariseHands.{IsHandOf, SummariseHand}
-use Rattle.brin_summarise.specs.SummariseSteps.{IsAtWork, IsDone, made_at}
+use Rattle.range_summarise.specs.StageLocks.{held_at, taken_at}
+use Rattle.range_summarise.specs.SummariseHands.{IsHandOf, SummariseHand}
+use Rattle.range_summarise.specs.SummariseSteps.{IsAtWork, IsDone, made_at}
 use Rattle.brin_summarise.specs.Summarises.{ComesTo, GivesBy, GoesOver, IsExactNow, IsSummariseOf, NoneIsLeft, RangeIsNext, SummariseState, TakesRight, after_range, at_first, first_of, held_by, held_in, in_range_of, state_of, step_of, taken_by, taken_in}
 
 -- the first block of a range that it goes over is below the extent, and so is the range

@@ -28,8 +28,8 @@ use Rattle.brin_summarise.specs.declared.course.Standing.{Standing}
 use Rattle.brin_summarise.specs.declared.course.Standing.TheVariants as standings
 use Rattle.brin_summarise.specs.declared.wish.Wish.{Wish}
 use Rattle.brin_summarise.specs.declared.wish.Wish.TheVariants as wishes
-use Rattle.brin_summarise.specs.SummariseHands.{SummariseHand, table_of}
-use Rattle.brin_summarise.specs.SummariseSteps.{phase_of}
+use Rattle.range_summarise.specs.SummariseHands.{SummariseHand, table_of}
+use Rattle.range_summarise.specs.SummariseSteps.{phase_of}
 use Rattle.brin_summarise.specs.Summarises.{Begins, ComesTo, EndsRange, FullAt, IsSummariseOf, LacksRight, NoneIsLeft, RangeIsNext, StoreStep, SummariseDoes, SummariseState, TakesRight, Waits, WorksAt, after_range, at_first, first_of, in_range_of}
 use Rattle.brin_summarise.specs.Summarises.{GoesOn as StepGoesOn}
 use Rattle.brin_summarise.specs.TableSteps.{DoesInTable, HasCounted, IsSummariseFull, LeavesTheRest, account_by, job_of, lock_turned, shown_after, shown_before, task_of}

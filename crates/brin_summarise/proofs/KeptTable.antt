@@ -18,10 +18,10 @@ use Rattle.index_steps.specs.ShownIndex.{Shows, lock_in}
 use Rattle.index_steps.specs.ShownRows.{shown_by}
 use Rattle.index_steps.specs.ShownTable.{indexes_of}
 use Rattle.brin_summarise.specs.declared.course.Standing.TheVariants as standings
-use Rattle.brin_summarise.specs.declared.stage.Stage.TheVariants as stages
-use Rattle.brin_summarise.specs.StepCauses.{DamageAt, IsReady}
-use Rattle.brin_summarise.specs.SummariseHands.{SummariseHand, table_of}
-use Rattle.brin_summarise.specs.SummariseSteps.{phase_of}
+use Rattle.range_summarise.specs.declared.stage.Stage.TheVariants as stages
+use Rattle.range_summarise.specs.StepCauses.{DamageAt, IsReady}
+use Rattle.range_summarise.specs.SummariseHands.{SummariseHand, table_of}
+use Rattle.range_summarise.specs.SummariseSteps.{phase_of}
 use Rattle.brin_summarise.specs.Summarises.{DamageIn, ReadyAt, SummariseState}
 use Rattle.brin_summarise.specs.TableSteps.{task_at, task_of}
 use Rattle.brin_summarise.proofs.Settling.{pick_same}
@@ -33,8 +33,8 @@ TakesReady = (shape : IndexShape) (c : IndexContents) (lock : ℕ → Option ℕ
     → w.statement s ≡ Maintaining range (phase_of shape hand) → (hand.stage ≡ stages.Place → IsPastMap c.pages range → ⊥) → IsReady shape c range hand.stage
 
 abbrev pub TakesSound : Type 0
-TakesSound = (shape : IndexShape) (c : IndexContents) (lock : ℕ → Option ℕ) (w : IndexState) (s range : ℕ) (hand : SummariseHand) → Shows shape c lock (index_view w) → IsIndexKept w
-    → w.statement s ≡ Maintaining range (phase_of shape hand) → DamageAt shape c range hand.stage → ⊥
+TakesSound = (layout : DiskLayout) (pages : PageMap) (index : ℕ) (lock : ℕ → Option ℕ) (w : IndexState) (s range : ℕ) (hand : SummariseHand) → Shows (shape_of layout index) (contents layout pages index) lock (index_view w) → IsIndexKept w
+    → w.statement s ≡ Maintaining range (phase_of (shape_of layout index) hand) → DamageAt layout pages index range hand hand.stage → ⊥
 
 module _ (layout : DiskLayout) (pages : PageMap) (locks : LockState) (blocks : List (List Slot)) (s at : ℕ) (a : SummariseState) (u : Unseen) (there : slice_get (indexes_of layout (table_of layout a.index)) at ≡ Some a.index)
     (task : u.task s ≡ task_of layout at a) (kept : IsTableKept (table_state (shown_by layout pages locks (table_of layout a.index) blocks) u)) where
@@ -58,4 +58,4 @@ module _ (layout : DiskLayout) (pages : PageMap) (locks : LockState) (blocks : L
   ready_there takes long is = takes (shape_of layout a.index) (contents layout pages a.index) (lock_in layout locks a.index) (index_state at w) s a.range a.hand shows index_kept (statement_is is) long
 
   pub sound_there : TakesSound → DamageIn layout pages a → ⊥
-  sound_there takes damage = takes (shape_of layout a.index) (contents layout pages a.index) (lock_in layout locks a.index) (index_state at w) s a.range a.hand shows index_kept (statement_is damage.0) damage.1
+  sound_there takes damage = takes layout pages a.index (lock_in layout locks a.index) (index_state at w) s a.range a.hand shows index_kept (statement_is damage.0) damage.1

@@ -17,8 +17,8 @@ use Rattle.index_steps.specs.IndexTuples.{contents_of, index_at, shape_of}
 use Rattle.index_steps.specs.ShownIndex.{Shows, lock_in, tuple_in_place}
 use Rattle.index_steps.specs.ShownRows.{rows_in, shown_by}
 use Rattle.index_steps.specs.ShownTable.{indexes_of, numbers_from, shown_at}
-use Rattle.brin_summarise.specs.ShownHeap.{ShowsHeap, heap_of}
-use Rattle.brin_summarise.specs.SummariseHands.{table_of}
+use Rattle.range_summarise.specs.ShownHeap.{ShowsHeap, heap_of}
+use Rattle.range_summarise.specs.SummariseHands.{table_of}
 use Rattle.brin_summarise.specs.Summarises.{in_range_of}
 
 -- the numbers of a table's indexes ascend, so no two are one

@@ -21,13 +21,13 @@ use Rattle.index_contents.specs.IndexContents.{contents, relation_of}
 use Rattle.index_steps.specs.IndexTuples.{IndexShape, contents_of, shape_of}
 use Rattle.index_steps.specs.ShownIndex.{Shows, lock_in, shown_part}
 use Rattle.index_steps.specs.ShownTable.{indexes_of, shown_at}
-use Rattle.brin_summarise.specs.declared.stage.Stage.{Stage}
-use Rattle.brin_summarise.specs.declared.stage.Stage.TheVariants as stages
+use Rattle.range_summarise.specs.declared.stage.Stage.{Stage}
+use Rattle.range_summarise.specs.declared.stage.Stage.TheVariants as stages
 use Rattle.brin_summarise.specs.declared.wish.Wish.{Wish}
 use Rattle.brin_summarise.specs.declared.wish.Wish.TheVariants as wishes
-use Rattle.brin_summarise.specs.ShownHeap.{heap_of}
-use Rattle.brin_summarise.specs.SummariseHands.{SummariseHand, table_of}
-use Rattle.brin_summarise.specs.SummariseSteps.{IsAtWork, IsDone, StepMakes, StepWaits, phase_at, phase_of, statement_at, summarise_at}
+use Rattle.range_summarise.specs.ShownHeap.{heap_of}
+use Rattle.range_summarise.specs.SummariseHands.{SummariseHand, table_of}
+use Rattle.range_summarise.specs.SummariseSteps.{IsAtWork, IsDone, StepMakes, StepWaits, phase_at, phase_of, statement_at, summarise_at}
 use Rattle.brin_summarise.specs.Summarises.{StoreStep, SummariseState, in_range_of}
 use Rattle.brin_summarise.specs.TableSteps.{LeavesTheRest, job_of, lock_turned, shown_after, shown_before}
 use Rattle.brin_summarise.proofs.Settling.{pick_other}

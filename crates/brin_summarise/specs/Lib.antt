@@ -1,11 +1,3 @@
-pub mod SummariseHands
-pub mod ShownHeap
-pub mod SummariseSteps
-pub mod StepCauses
-pub mod BlockRows
-pub mod Works
 pub mod Summarises
 pub mod TableSteps
 pub mod SummariseCalls
-pub mod ExactSummaries
-pub mod StageLocks

@@ -15,15 +15,15 @@ use Rattle.index_steps.specs.IndexTuples.{index_at, shape_of}
 use Rattle.brin_summarise.specs.declared.course.Course.{Course}
 use Rattle.brin_summarise.specs.declared.course.Standing.{Standing}
 use Rattle.brin_summarise.specs.declared.course.Standing.TheVariants as standings
-use Rattle.brin_summarise.specs.declared.stage.Stage.TheVariants as stages
+use Rattle.range_summarise.specs.declared.stage.Stage.TheVariants as stages
 use Rattle.brin_summarise.specs.declared.wish.Wish.{Wish}
 use Rattle.brin_summarise.specs.declared.wish.Wish.TheVariants as wishes
-use Rattle.brin_summarise.specs.ShownHeap.{heap_of}
-use Rattle.brin_summarise.specs.ExactSummaries.{IsExactAt}
-use Rattle.brin_summarise.specs.StageLocks.{GivesAt, held_at, taken_at}
-use Rattle.brin_summarise.specs.StepCauses.{DamageAt, IsReady}
-use Rattle.brin_summarise.specs.SummariseHands.{IsHandOf, SummariseHand, table_of}
-use Rattle.brin_summarise.specs.SummariseSteps.{IsAtWork, RestsAt, StepFull, StepsAt, made_at, summarise_at}
+use Rattle.range_summarise.specs.ShownHeap.{heap_of}
+use Rattle.range_summarise.specs.ExactSummaries.{IsExactAt}
+use Rattle.range_summarise.specs.StageLocks.{GivesAt, held_at, taken_at}
+use Rattle.range_summarise.specs.StepCauses.{DamageAt, IsReady}
+use Rattle.range_summarise.specs.SummariseHands.{IsHandOf, SummariseHand, table_of}
+use Rattle.range_summarise.specs.SummariseSteps.{IsAtWork, RestsAt, StepFull, StepsAt, made_at, summarise_at}
 
 -- A summarise: its index; what is asked for; where it stands; the extent that it read; the range that it is at, and to how many ranges
 -- before that one it gave a final tuple; and what it has in hand of the range.
@@ -194,7 +194,7 @@ FullAt layout pages locks actor a number =
     (a.standing ≡ standings.AtRange) × StepFull (shape_of layout a.index) actor a.range (summarise_at layout pages locks a.index a.hand) number
 
 abbrev pub DamageIn : DiskLayout → PageMap → SummariseState → Type 0
-DamageIn layout pages a = (a.standing ≡ standings.AtRange) × DamageAt (shape_of layout a.index) (contents layout pages a.index) a.range a.hand.stage
+DamageIn layout pages a = (a.standing ≡ standings.AtRange) × DamageAt layout pages a.index a.range a.hand a.hand.stage
 
 -- what it has of the range that it is at is exact, as long as the rows of the table stay
 abbrev pub IsExactNow : DiskLayout → List (List Slot) → SummariseState → Type 0

@@ -22,8 +22,8 @@ use Rattle.brin_summarise.specs.declared.course.Standing.{Standing}
 use Rattle.brin_summarise.specs.declared.course.Standing.TheVariants as standings
 use Rattle.brin_summarise.specs.declared.wish.Wish.{Wish}
 use Rattle.brin_summarise.specs.declared.wish.Wish.TheVariants as wishes
-use Rattle.brin_summarise.specs.SummariseHands.{table_of}
-use Rattle.brin_summarise.specs.SummariseSteps.{phase_of}
+use Rattle.range_summarise.specs.SummariseHands.{table_of}
+use Rattle.range_summarise.specs.SummariseSteps.{phase_of}
 use Rattle.brin_summarise.specs.Summarises.{StoreStep, SummariseState, count_of, in_range_of}
 
 -- the ranges that are asked for, as a maintenance statement's

@@ -7,13 +7,11 @@ ghost use Rattle.page_locks.specs.declared.did.Did.TheVariants as dids;
 ghost use Rattle.page_locks.specs.LockHolders.{LockState, holder};
 ghost use Rattle.store_layout.specs.DiskLayout.{DiskLayout};
 ghost use Rattle.index_steps.specs.SwapAnswers.{LeavesLocks, TakesAtMost};
-ghost use Rattle.brin_summarise.specs.SummariseSteps.{made_at};
+ghost use Rattle.range_summarise.specs.SummariseSteps.{made_at};
 ghost use Rattle.brin_summarise.specs.Summarises.{ComesTo, GivesBy, GoesOver, IsExactNow, SummariseState, first_of, held_by, state_of, taken_by};
 
-use crate::range_summarise::RangeSummarise;
-use crate::rows::first_block;
-use crate::stage::Stage;
 use crate::wish::Wish;
+use range_summarise::{RangeSummarise, Stage, first_block};
 
 /// Where a summarise stands between its steps.
 #[derive(Clone, Copy, Debug, PartialEq, Eq)]

@@ -20,12 +20,12 @@ ghost use Rattle.index_steps.specs.ShownRows.{shown_by};
 ghost use Rattle.index_steps.specs.ShownTable.{indexes_of};
 ghost use Rattle.brin_summarise.specs.declared.course.Standing.TheVariants as standings;
 ghost use Rattle.brin_summarise.specs.SummariseCalls.{SummariseCalls};
-ghost use Rattle.brin_summarise.specs.SummariseHands.{table_of};
+ghost use Rattle.range_summarise.specs.SummariseHands.{table_of};
+ghost use Rattle.range_summarise.specs.declared.stage.Stage.TheVariants as stages;
 ghost use Rattle.brin_summarise.specs.Summarises.{DamageIn, FullAt, IsSummariseOf, ReadyAt, StoreStep, SummariseDoes, SummariseState, count_of};
 ghost use Rattle.brin_summarise.specs.TableSteps.{DoesInTable, HasCounted, IsSummariseFull, LeavesTheRest, SummariseGoesTo, SummariseWaitsFor, account_by, lock_turned, task_of};
 
-use crate::laws::a_kept_index_takes_a_summarise;
-use crate::stage::Stage;
+use range_summarise::a_kept_index_takes_a_summarise;
 use table_coverage::{
     a_table_steps_with_its_index, machines_in_one_index, summarises_end, table_stays_covered,
 };
@@ -59,7 +59,7 @@ pub fn a_summarise_keeps_its_table()
 /// placeholder is to be put; and nothing that the step reads is damaged. Does nothing.
 pub fn a_kept_table_takes_a_summarise()
     ensures ready { (layout : DiskLayout) (pages : PageMap) (locks : LockState) (blocks : List (List Slot)) (s at : ℕ) (a : SummariseState) (u : Unseen) → slice_get (indexes_of layout (table_of layout a.index)) at ≡ Some a.index
-        → u.task s ≡ task_of layout at a → IsTableKept (table_state (shown_by layout pages locks (table_of layout a.index) blocks) u) → (a.hand.stage ≡ Stage.Place → IsPastMap (contents layout pages a.index).pages a.range → ⊥) → ReadyAt layout pages a }
+        → u.task s ≡ task_of layout at a → IsTableKept (table_state (shown_by layout pages locks (table_of layout a.index) blocks) u) → (a.hand.stage ≡ stages.Place → IsPastMap (contents layout pages a.index).pages a.range → ⊥) → ReadyAt layout pages a }
     ensures sound { (layout : DiskLayout) (pages : PageMap) (locks : LockState) (blocks : List (List Slot)) (s at : ℕ) (a : SummariseState) (u : Unseen) → slice_get (indexes_of layout (table_of layout a.index)) at ≡ Some a.index
         → u.task s ≡ task_of layout at a → IsTableKept (table_state (shown_by layout pages locks (table_of layout a.index) blocks) u) → DamageIn layout pages a → ⊥ }
 {

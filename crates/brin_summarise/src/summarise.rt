@@ -2,22 +2,21 @@
 
 ghost use Rattle.std.specs.Prelude.{◌≡◌, ◌≢◌, ◌+◌, ◌<◌, ◌≤◌, List, Option, ℕ, length, IfOk, IfErr, OnErr, OnOk};
 ghost use Rattle.page_store.specs.Keeps.{Keeps, Tells, Untold};
+ghost use Rattle.logged_pages.specs.Survives.{Survives};
 ghost use Rattle.page_locks.specs.LockCounts.{locks_of};
 ghost use Rattle.page_locks.specs.LockHolders.{LockState, count_of as locks_held, holder};
 ghost use Rattle.heap_rows.specs.HeapBlocks.{OfBlocks};
 ghost use Rattle.index_contents.specs.IndexContents.{relation_of};
 ghost use Rattle.index_contents.specs.IndexChanges.{LeavesOthers};
 ghost use Rattle.index_steps.specs.StepAnswers.{BlockedWell, IsOfStore, NeverBlocked};
-ghost use Rattle.index_steps.specs.SwapAnswers.{LeavesLocks, MachineOutcome, SaysFullIn, TakesAtMost};
-ghost use Rattle.brin_summarise.specs.SummariseHands.{table_of};
-ghost use Rattle.brin_summarise.specs.StepCauses.{NamesPageAt};
+ghost use Rattle.index_steps.specs.SwapAnswers.{LeavesLocks, MachineOutcome, SaysFullIn, StaysWhereFull, TakesAtMost};
+ghost use Rattle.range_summarise.specs.SummariseHands.{table_of};
+ghost use Rattle.range_summarise.specs.StepCauses.{NamesPageAt};
 ghost use Rattle.brin_summarise.specs.Summarises.{DamageIn, FullAt, GivesBy, IsSummariseOf, KeepsExact, ReadyAt, RightAnswers, StandsThen, SummariseDoes, count_of, held_by, state_of, step_of, taken_by};
 
 use crate::course::{
     Course, Standing, a_summarise_begins_without_locks, come_to, first_of, made_at,
 };
-use crate::range_summarise::RangeSummarise;
-use crate::rows::{blocks_a_range, table_of};
 use crate::wish::Wish;
 use block_model::{NoMemory, Point};
 use disk_trait::Disk;
@@ -26,6 +25,7 @@ use heap_rows::blocks;
 use index_steps::Within;
 use page_locks::{Did, Locks, Rights};
 use page_store::MachineFault;
+use range_summarise::{RangeSummarise, blocks_a_range, table_of};
 use std::alloc::Global;
 use std::marker::Model;
 use store_layout::Layout;
@@ -107,13 +107,17 @@ impl Summarise {
         ensures rights { OnErr result (rights.new ≡ rights.old) }
         ensures blocked { IfOk result (BlockedWell D.told self.old.index actor pages.old pages.new locks.old locks.new) }
         ensures full { IfErr result (SaysFullIn pages.old.layout self.old.index (λ number. Tells D.told pages.old → FullAt pages.old.layout pages.old.pages locks.old actor self.old number)) }
+        ensures at_full { IfErr result (StaysWhereFull locks.old locks.new) }
         ensures others { LeavesOthers D.told self.old.index pages.old pages.new }
         ensures locks { LeavesLocks (holder locks.old) (holder locks.new) (relation_of pages.old.layout self.old.index) actor }
         ensures counts { TakesAtMost (taken_by self.old) locks.old locks.new actor }
         ensures given { OnOk result (GivesBy self.old → locks_of locks.new actor ≡ 0) }
         ensures own { OnOk result (locks_of locks.old actor ≤ held_by self.old → locks_of locks.new actor ≤ held_by self.new) }
         ensures stays { OnErr result ((self.new ≡ record self.old { hand = self.new.hand }) × (self.new.hand.stage ≡ self.old.hand.stage)) }
+        // The changes themselves aren't sure before the next flush.
+        ensures survives { Survives D.told (λ passed. passed ≡ pages.old.pages) pages.old pages.new }
         ensures kept { OnErr result (Keeps D.told pages.old pages.new) }
+        ensures undamaged { OnOk result (Tells D.told pages.old → DamageIn pages.old.layout pages.old.pages self.old → ⊥) }
         ensures at { IfErr result (NamesPageAt pages.old.layout self.old.index self.old.hand.stage) }
         ensures outcome { MachineOutcome D.told (Tells D.told pages.old → DamageIn pages.old.layout pages.old.pages self.old) pages.old pages.new result }
     {
@@ -164,6 +168,8 @@ fn begin<D: Disk + Drop>(
     ensures of { IsSummariseOf pages.now.layout (state_of index course.new work.new) }
     ensures right { IfOk result (RightAnswers (table_of pages.now.layout index) actor rights.old rights.new Standing.Begins) }
     ensures rights { OnErr result (rights.new ≡ rights.old) }
+    ensures still { Survives D.told (λ passed. ⊥) pages.now pages.now }
+    ensures at_full { IfErr result (λ fault. (locks : LockState) → StaysWhereFull locks locks fault) }
     ensures never_blocked { IfOk result NeverBlocked }
     ensures of_store { IfErr result IsOfStore }
     ensures at { IfErr result (NamesPageAt pages.now.layout index work.old.stage) }
@@ -210,13 +216,16 @@ fn go_on<D: Disk + Drop>(
     ensures of { IsSummariseOf pages.old.layout (state_of index course.new work.new) }
     ensures blocked { IfOk result (BlockedWell D.told index actor pages.old pages.new locks.old locks.new) }
     ensures full { IfErr result (SaysFullIn pages.old.layout index (λ number. Tells D.told pages.old → FullAt pages.old.layout pages.old.pages locks.old actor (state_of index course.old work.old) number)) }
+    ensures at_full { IfErr result (StaysWhereFull locks.old locks.new) }
     ensures others { LeavesOthers D.told index pages.old pages.new }
     ensures locks { LeavesLocks (holder locks.old) (holder locks.new) (relation_of pages.old.layout index) actor }
     ensures counts { TakesAtMost (taken_by (state_of index course.old work.old)) locks.old locks.new actor }
     ensures given { OnOk result (GivesBy (state_of index course.old work.old) → locks_of locks.new actor ≡ 0) }
     ensures own { OnOk result (locks_of locks.old actor ≤ held_by (state_of index course.old work.old) → locks_of locks.new actor ≤ held_by (state_of index course.new work.new)) }
     ensures stays { OnErr result ((state_of index course.new work.new ≡ record (state_of index course.old work.old) { hand = work.new }) × (work.new.stage ≡ work.old.stage)) }
+    ensures survives { Survives D.told (λ passed. passed ≡ pages.old.pages) pages.old pages.new }
     ensures kept { OnErr result (Keeps D.told pages.old pages.new) }
+    ensures undamaged { OnOk result (Tells D.told pages.old → DamageIn pages.old.layout pages.old.pages (state_of index course.old work.old) → ⊥) }
     ensures at { IfErr result (NamesPageAt pages.old.layout index work.old.stage) }
     ensures outcome { MachineOutcome D.told (Tells D.told pages.old → DamageIn pages.old.layout pages.old.pages (state_of index course.old work.old)) pages.old pages.new result }
 {

@@ -1,14 +1,12 @@
-use Rattle.page_locks.specs.LockHolders.{holder}
-use Rattle.brin_summarise.specs.Summarises.{taken_by}
+use Rattle.std.proofs.Common.{refl, arith}
 use Rattle.brin_summarise.proofs.Coming.{begins_given, begins_own}
-use Rattle.brin_summarise.proofs.Locking.{same_apart, takes_none}
 use Rattle.brin_summarise.proofs.course.a_summarise_begins_without_locks.Goals as goal
 
 pub returns-clause-counts : goal.returns-clause-counts
-returns-clause-counts c = λ a locks actor. takes_none (taken_by a) locks actor
+returns-clause-counts c = λ a locks actor. record { limit = refl; adds = record { own = omega arith; others = λ b other. refl; all = omega arith } }
 
 pub returns-clause-leaves : goal.returns-clause-leaves
-returns-clause-leaves c = λ locks relation actor. same_apart relation actor (holder locks)
+returns-clause-leaves c = λ locks relation actor. record { elsewhere = λ page other none. refl; others = λ page n other. (λ is. is, λ is. is) }
 
 pub returns-clause-given : goal.returns-clause-given
 returns-clause-given c = λ a n begins gives. begins_given a n begins gives

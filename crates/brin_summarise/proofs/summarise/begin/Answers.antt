@@ -4,7 +4,7 @@ use Rattle.block_model.specs.declared.reply.Point.TheVariants as points
 use Rattle.heap_rows.specs.HeapBlocks.{HasBlocks}
 use Rattle.page_locks.specs.RightHolders.{right_of}
 use Rattle.store_layout.specs.DiskLayout.{DiskLayout}
-use Rattle.brin_summarise.specs.SummariseHands.{table_of}
+use Rattle.range_summarise.specs.SummariseHands.{table_of}
 use Rattle.brin_summarise.specs.Summarises.{Begins, LacksRight, in_range_of, state_of}
 use Rattle.brin_summarise.proofs.Coming.{comes_first, comes_well, takes_right}
 use Rattle.brin_summarise.proofs.summarise.begin.Goals as goal

@@ -1,9 +1,9 @@
 use Rattle.std.proofs.Common.{◌≡◌, ℕ, ◌+◌, ◌≤◌, refl, sym, ap, subst, ◌∙◌, arith}
 use Rattle.store_layout.specs.DiskLayout.{DiskLayout}
 use Rattle.index_steps.specs.SwapAnswers.{TakesAtMost}
-use Rattle.brin_summarise.specs.declared.stage.Stage.{Stage}
-use Rattle.brin_summarise.specs.StageLocks.{held_at, taken_at}
-use Rattle.brin_summarise.specs.SummariseSteps.{IsAtWork, made_at}
+use Rattle.range_summarise.specs.declared.stage.Stage.{Stage}
+use Rattle.range_summarise.specs.StageLocks.{held_at, taken_at}
+use Rattle.range_summarise.specs.SummariseSteps.{IsAtWork, made_at}
 use Rattle.brin_summarise.specs.Summarises.{EndsRange, GoesOn, Waits, held_by, in_range_of, state_of, taken_by}
 use Rattle.brin_summarise.proofs.Coming.{comes_behind, comes_well, done_free, held_is, stays_well, taken_is}
 use Rattle.brin_summarise.proofs.summarise.go_on.Goals as goal
@@ -147,3 +147,15 @@ returns-then-come_to-clause-exact g c = λ tells blocks has. record { keeps = λ
 
 pub returns-else-come_to-clause-exact : goal.returns-else-come_to-clause-exact
 returns-else-come_to-clause-exact g c = λ tells blocks has. record { keeps = λ exact. c.come_to.ensures.exact c.args.pages.now.layout blocks c.args.index }
+
+pub returns-in-Ok-Moved-clause-undamaged : goal.returns-in-Ok-Moved-clause-undamaged
+returns-in-Ok-Moved-clause-undamaged g c = λ tells damage. c.in-Ok-Moved.ensures.undamaged tells damage.1
+
+pub returns-in-Ok-Blocked-clause-undamaged : goal.returns-in-Ok-Blocked-clause-undamaged
+returns-in-Ok-Blocked-clause-undamaged g c = λ tells damage. c.in-Ok-Blocked.ensures.undamaged tells damage.1
+
+pub returns-then-come_to-clause-undamaged : goal.returns-then-come_to-clause-undamaged
+returns-then-come_to-clause-undamaged g c = λ tells damage. c.in-Ok-Finished.ensures.undamaged tells damage.1
+
+pub returns-else-come_to-clause-undamaged : goal.returns-else-come_to-clause-undamaged
+returns-else-come_to-clause-undamaged g c = λ tells damage. c.in-Ok-Finished.ensures.undamaged tells damage.1

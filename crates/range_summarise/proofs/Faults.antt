@@ -1,0 +1,64 @@
+-- faults of steps
+use Rattle.std.proofs.Common.{◌≡◌, ℕ, false, sym}
+use Rattle.std.proofs.lemmas.Bool.{false≢true}
+use Rattle.std.specs.Prelude.{Result, Ok, Err}
+use Rattle.disk_trait.specs.Told.{Told}
+use Rattle.store_layout.specs.DiskLayout.{DiskLayout}
+use Rattle.page_store.specs.declared.faults.MachineFault.{MachineFault}
+use Rattle.page_store.specs.declared.faults.MachineFault.TheVariants as faults
+use Rattle.page_store.specs.declared.faults.StoreError.{StoreError}
+use Rattle.page_store.specs.declared.faults.StoreError.TheVariants as errors
+use Rattle.page_store.specs.Outcome.{Refused}
+use Rattle.page_store.specs.PageMap.{PageMap, View}
+use Rattle.index_steps.specs.StepAnswers.{IsOfStore}
+use Rattle.index_steps.specs.SwapAnswers.{MachineOutcome, SaysFullIn, StaysWhereFull}
+use Rattle.page_locks.specs.LockHolders.{LockState}
+use Rattle.range_summarise.specs.declared.stage.Stage.{Stage}
+use Rattle.range_summarise.specs.declared.stage.Stage.TheVariants as stages
+use Rattle.range_summarise.specs.StepCauses.{DamageAt}
+use Rattle.range_summarise.specs.SummariseHands.{SummariseHand}
+use Rattle.range_summarise.specs.SummariseSteps.{only_reads}
+
+-- what the page store refuses is no full index
+pub of_store : (layout : DiskLayout) (index : ℕ) (P : ℕ → Type 0) (fault : MachineFault) → IsOfStore fault → SaysFullIn layout index P fault
+of_store layout index P (faults.Full relation number) never = absurd never
+of_store layout index P (faults.Store error) is = tt
+of_store layout index P faults.Memory never = absurd never
+
+-- a full index is one for each reason that follows
+pub full_too : (layout : DiskLayout) (index : ℕ) (P Q : ℕ → Type 0) (fault : MachineFault) → ((number : ℕ) → P number → Q number) → SaysFullIn layout index P fault → SaysFullIn layout index Q fault
+full_too layout index P Q (faults.Full relation number) follows (is, full) = (is, follows number full)
+full_too layout index P Q (faults.Store error) follows says = tt
+full_too layout index P Q faults.Memory follows never = absurd never
+
+-- nor does it change a lock
+pub none_full : (before after : LockState) (fault : MachineFault) → IsOfStore fault → StaysWhereFull before after fault
+none_full before after (faults.Full relation number) never = absurd never
+none_full before after (faults.Store error) is = tt
+none_full before after faults.Memory never = absurd never
+
+-- damage that has a cause has each one that follows
+refused_for : {D : Type 0} (told : D → Told) (Cause Other : Type 0) (old new : View D) (error : StoreError) → (Cause → Other) → Refused told Cause old new error → Refused told Other old new error
+refused_for told Cause Other old new errors.Disk follows refused = refused
+refused_for told Cause Other old new (errors.Reopen faults) follows refused = refused
+refused_for told Cause Other old new (errors.Damaged at) follows (was, now, more, cause) = (was, now, more, follows cause)
+
+pub fault_for : {D : Type 0} (T U : Type 0) (told : D → Told) (Cause Other : Type 0) (old new : View D) (fault : MachineFault) → (Cause → Other) → MachineOutcome {T = T} told Cause old new (Err fault) → MachineOutcome {T = U} told Other old new (Err fault)
+fault_for T U told Cause Other old new (faults.Full relation number) follows outcome = outcome
+fault_for T U told Cause Other old new (faults.Store error) follows outcome = refused_for told Cause Other old new error follows outcome
+fault_for T U told Cause Other old new faults.Memory follows never = absurd never
+
+-- a step that changes pages finds no damage
+pub changes_find_none : (layout : DiskLayout) (pages : PageMap) (index range : ℕ) (hand : SummariseHand) (stage : Stage) → only_reads stage ≡ false → DamageAt layout pages index range hand stage → ⊥
+changes_find_none layout pages index range hand stages.Map changes damage = false≢true (sym changes)
+changes_find_none layout pages index range hand (stages.Tuple x) changes damage = false≢true (sym changes)
+changes_find_none layout pages index range hand stages.Place changes damage = damage
+changes_find_none layout pages index range hand (stages.Name x) changes damage = damage
+changes_find_none layout pages index range hand stages.Extent changes damage = damage
+changes_find_none layout pages index range hand stages.Pass changes damage = false≢true (sym changes)
+changes_find_none layout pages index range hand (stages.Copy x) changes damage = false≢true (sym changes)
+changes_find_none layout pages index range hand (stages.Swap x) changes damage = damage
+changes_find_none layout pages index range hand (stages.Set x y) changes damage = damage
+changes_find_none layout pages index range hand (stages.Drop x) changes damage = damage
+changes_find_none layout pages index range hand stages.Had changes damage = damage
+changes_find_none layout pages index range hand stages.Made changes damage = damage

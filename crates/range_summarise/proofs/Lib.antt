@@ -1,0 +1,11 @@
+pub mod Seen
+pub mod Stepping
+pub mod Stepped
+pub mod Passing
+pub mod Adding
+pub mod Kept
+pub mod Faults
+pub mod Declared
+pub mod Exact
+pub mod Locking
+pub mod Joined

@@ -1,0 +1,15 @@
+use Rattle.coverage.specs.IsCovered.{index_view}
+use Rattle.index_contents.specs.IndexContents.{contents}
+use Rattle.index_steps.specs.IndexTuples.{shape_of}
+use Rattle.range_summarise.proofs.Kept.{ready_at, sound_at}
+use Rattle.range_summarise.proofs.laws.a_kept_index_takes_a_summarise.Goals as goal
+
+pub returns-clause-ready : goal.returns-clause-ready
+returns-clause-ready c = λ shape e lock w s range hand shows kept is long. ready_at shape e lock w s range hand shows kept hand.stage is long
+
+pub returns-clause-sound : goal.returns-clause-sound
+returns-clause-sound c = λ layout pages index lock w s range hand shows kept is damage.
+    let shape = shape_of layout index in
+    let e = contents layout pages index in
+    sound_at layout pages index lock w s range hand shows kept (c.a_sound_index_is_not_misread.ensures.named shape e lock (index_view w) range shows kept.sound)
+    (λ x of. c.a_sound_index_is_not_misread.ensures.read shape e lock (index_view w) range x shows of) hand.stage is damage

@@ -1,0 +1,15 @@
+-- what is worked with at a range, with the stage, as what a summarise has in hand
+use Rattle.range_summarise.specs.declared.stage.Stage.{Stage}
+use Rattle.range_summarise.specs.declared.work.Work.{Work}
+use Rattle.range_summarise.specs.SummariseHands.{SummariseHand}
+
+abbrev pub hand_of : Stage → Work → SummariseHand
+hand_of stage work = record {
+  stage = stage;
+  extent = work.extent;
+  next = work.next;
+  running = work.running;
+  united = work.united;
+  copied = work.copied;
+  room = work.rows.room;
+}
