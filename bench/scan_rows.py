@@ -3,8 +3,8 @@
 
 Builds a small program over brin_scan in a copy of the crates by LLVM at -O2, which takes each select fifty times. The program isn't
 proved, so it has the checks of `rt try` in it, and a proved one is somewhat faster. Tells the best time for a row of a select that finds
-all rows, where one transaction put them, so that a status is read once a page, and where two put them by turns, so that one is read for
-each row; and of a select that finds none.
+all rows, where one transaction put them, so that a status is read once, and where two put them by turns, so that one is read for each row;
+and of a select that finds none.
 """
 import os
 import pathlib

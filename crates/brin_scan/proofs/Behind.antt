@@ -1,6 +1,6 @@
 -- a refusal behind reads that were done
-use Rattle.std.proofs.Common.{◌≡◌, ℕ, ◌+◌, ◌≤◌, inr, refl, sym, subst, ◌∙◌, arith}
-use Rattle.std.specs.Prelude.{None, Some, Result, Err}
+use Rattle.std.proofs.Common.{◌≡◌, ℕ, inr, sym, subst, ◌∙◌, arith}
+use Rattle.std.specs.Prelude.{None, Some, Err}
 use Rattle.block_model.specs.Causes.{rose_earlier}
 use Rattle.disk_trait.specs.Told.{Told}
 use Rattle.page_store.specs.declared.faults.MachineFault.{MachineFault}

@@ -1,7 +1,6 @@
 -- a tuple that doesn't keep the conditions, as the protocol sees it
-use Rattle.std.proofs.Common.{◌≡◌, ℕ, zero, suc, ◌+◌, ◌<◌, ◌==◌, Bool, true, false, ◌&&◌, ◌||◌, List, [], ◌∷◌, length, map, Option, None, Some, refl, sym, ap, subst, ◌∙◌}
+use Rattle.std.proofs.Common.{◌≡◌, ℕ, zero, suc, ◌==◌, Bool, true, false, ◌||◌, List, [], ◌∷◌, map, Some, refl, sym, ap, ◌∙◌}
 use Rattle.std.specs.Prelude.{IsTrue, if◌then◌else◌, slice_get, slice_index_or}
-use Rattle.std.specs.List.{list_all}
 use Rattle.std.proofs.lemmas.Bool.{and_parts, false≢true}
 use Rattle.block_model.specs.declared.row.Cond.{Cond}
 use Rattle.block_model.specs.declared.row.Query.{Query}
@@ -9,19 +8,16 @@ use Rattle.block_model.specs.declared.row.Row.{Row}
 use Rattle.block_model.specs.declared.schema.Column.{Column}
 use Rattle.block_model.specs.declared.schema.Table.{Table}
 use Rattle.block_model.specs.declared.value.Kind.{Kind}
-use Rattle.block_model.specs.declared.value.Value.{Value}
 use Rattle.block_model.specs.declared.value.Value.TheVariants.{Null}
 use Rattle.block_model.specs.IndexedColumns.{columns_in}
-use Rattle.block_model.specs.RowMatches.{column_matches}
 use Rattle.store_layout.specs.DiskLayout.{DiskLayout}
 use Rattle.coverage.specs.IndexView.{IndexTuple}
 use Rattle.coverage.specs.Steps.{Excludes}
 use Rattle.heap_rows.specs.Heaps.{kinds_at, no_table}
 use Rattle.range_tuple.specs.IncludedRows.{tuple_includes}
 use Rattle.range_tuple.specs.Keeps.{keeps}
-use Rattle.range_tuple.specs.TupleReading.{tuple_in}
 use Rattle.range_tuple.specs.Tuples.{Tuple}
-use Rattle.index_steps.specs.IndexTuples.{IndexShape, are_values, classes_of, index_at, kinds_of, row_values, seen, seen_as, shape_of}
+use Rattle.index_steps.specs.IndexTuples.{IndexShape, are_values, index_at, kinds_of, row_values, seen, seen_as, shape_of}
 use Rattle.index_steps.specs.Readings.{IsReadAs}
 use Rattle.brin_scan.specs.Judgings.{ExcludesMatches}
 use Rattle.brin_scan.specs.TableScans.{is_match}

@@ -1,19 +1,17 @@
 -- the steps of an explain
-use Rattle.std.proofs.Common.{◌≡◌, ℕ, ◌*◌, ◌<◌, Bool, true, false, List, Option, None, inl, inr, refl, sym, ap, subst, ◌∙◌, arith}
+use Rattle.std.proofs.Common.{◌≡◌, ℕ, ◌*◌, ◌<◌, Bool, List, Option, inl, refl, sym, ap, subst, ◌∙◌, arith}
 use Rattle.std.proofs.lemmas.Bool.{false≢true}
 use Rattle.block_model.specs.declared.reply.Point.{Point}
 use Rattle.block_model.specs.declared.row.Query.{Query}
 use Rattle.store_layout.specs.DiskLayout.{DiskLayout}
 use Rattle.page_layout.specs.PageContents.{Slot}
 use Rattle.page_store.specs.PageMap.{PageMap}
-use Rattle.page_locks.specs.declared.did.Did.{Did}
 use Rattle.page_locks.specs.declared.did.Did.TheVariants as did
 use Rattle.page_locks.specs.LockHolders.{LockState}
-use Rattle.table_coverage.specs.Accounts.{Account}
 use Rattle.table_coverage.specs.Machines.{ShownTable, Unseen, table_state}
 use Rattle.table_coverage.specs.TableSteps.{IsScanRead, ScanHasStep}
 use Rattle.brin_scan.specs.Explains.{ExplainSteps, JudgesNoneAt, explaining}
-use Rattle.brin_scan.specs.ScanHands.{IsBegunAt, IsJudging, ScanHand, ScannedIndex, scanned_at, scanned_indexes}
+use Rattle.brin_scan.specs.ScanHands.{IsBegunAt, IsJudging, ScanHand, scanned_indexes}
 use Rattle.brin_scan.specs.ScanSteps.{JudgesTo, ScanGoes, account_at, point_at}
 use Rattle.index_steps.specs.ShownRows.{shown_by}
 use Rattle.brin_scan.specs.TableScans.{Beside, BeginsAt, table_scan}

@@ -1,5 +1,5 @@
 -- the steps of a scan that reads candidate blocks
-use Rattle.std.proofs.Common.{◌≡◌, ◌≢◌, ℕ, ◌+◌, Bool, true, false, List, [], ◌++◌, Option, None, Some, inl, inr, refl, sym, ap, subst, ◌∙◌}
+use Rattle.std.proofs.Common.{◌≡◌, ℕ, ◌+◌, Bool, List, ◌++◌, Option, None, Some, refl, sym, subst}
 use Rattle.block_model.specs.declared.place.Spot.{Spot}
 use Rattle.block_model.specs.declared.reply.Point.{Point}
 use Rattle.block_model.specs.declared.reply.Point.TheVariants as points
@@ -8,22 +8,20 @@ use Rattle.block_model.specs.declared.row.Row.{Row}
 use Rattle.store_layout.specs.DiskLayout.{DiskLayout}
 use Rattle.page_layout.specs.PageContents.{Slot}
 use Rattle.page_store.specs.PageMap.{PageMap}
-use Rattle.page_locks.specs.declared.did.Did.{Did}
 use Rattle.page_locks.specs.declared.did.Did.TheVariants as did
 use Rattle.page_locks.specs.LockHolders.{LockState}
 use Rattle.table_coverage.specs.Accounts.{Account}
-use Rattle.table_coverage.specs.Machines.{ShownTable, Unseen, table_state, task_turned}
-use Rattle.table_coverage.specs.Table.{Scans, TableScan, Task}
-use Rattle.table_coverage.specs.TableSteps.{IsScanRead, ReadsBlock, ScanHasStep}
+use Rattle.table_coverage.specs.Machines.{ShownTable, Unseen, table_state}
+use Rattle.table_coverage.specs.Table.{Scans, TableScan}
+use Rattle.table_coverage.specs.TableSteps.{ReadsBlock}
 use Rattle.heap_rows.specs.HeapBlocks.{HasBlocks, slots_of}
 use Rattle.heap_rows.specs.StoredRows.{stored_rows}
 use Rattle.brin_scan.specs.Finds.{FindHand, FindSteps, IsNext, IsNextCandidate, Sight, did_at, is_found, scanning, visible_matches}
 use Rattle.brin_scan.specs.ScanAnswers.{ScanStepped}
-use Rattle.brin_scan.specs.ScanHands.{IsBegunAt, IsJudging, ScanHand, is_candidate, scanned_indexes}
+use Rattle.brin_scan.specs.ScanHands.{IsBegunAt, IsJudging, ScanHand, scanned_indexes}
 use Rattle.brin_scan.specs.ScanSteps.{JudgesTo, ScanGoes, account_at, point_at}
 use Rattle.index_steps.specs.ShownRows.{shown_by}
 use Rattle.brin_scan.specs.TableScans.{BeginsAt, table_scan, task_of}
-use Rattle.brin_scan.specs.declared.stage.Stage.{Stage}
 use Rattle.brin_scan.specs.declared.stage.Stage.TheVariants as stages
 use Rattle.brin_scan.proofs.Explaining.{has_range, is_behind}
 use Rattle.brin_scan.proofs.InTable.{only_turns, turns}

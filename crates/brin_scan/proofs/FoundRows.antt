@@ -1,6 +1,6 @@
 -- the rows found on a block, by their places
-use Rattle.std.proofs.Common.{◌≡◌, ◌⊎◌, inl, inr, ℕ, zero, suc, ◌+◌, ◌<◌, ◌==◌, Bool, true, false, ◌&&◌, ◌||◌, cond, List, [], ◌∷◌, ◌++◌, length, map, Option, None, Some, refl, sym, ap, subst, ◌∙◌, arith}
-use Rattle.std.specs.Prelude.{IsTrue, slice_index_or}
+use Rattle.std.proofs.Common.{◌≡◌, ◌⊎◌, inl, inr, ℕ, zero, suc, ◌+◌, ◌<◌, ◌==◌, Bool, true, false, ◌&&◌, ◌||◌, cond, List, [], ◌∷◌, ◌++◌, length, map, None, Some, refl, sym, ap, subst, ◌∙◌, arith}
+use Rattle.std.specs.Prelude.{slice_index_or}
 use Rattle.std.specs.List.{filter, list_any}
 use Rattle.std.proofs.lemmas.Bool.{and_parts, eq-eqb, eqb-true, false≢true}
 use Rattle.std.proofs.lemmas.List.Folds.{list_any-append}
@@ -18,11 +18,10 @@ use Rattle.heap_rows.specs.declared.rows.Stored.{Stored}
 use Rattle.heap_rows.specs.Heaps.{kinds_at}
 use Rattle.heap_rows.specs.HeapBlocks.{HasBlocks, slots_of}
 use Rattle.heap_rows.specs.RowPlaces.{slot_at}
-use Rattle.heap_rows.specs.StoredRows.{row_of, stored_from, stored_in, stored_rows}
+use Rattle.heap_rows.specs.StoredRows.{stored_from, stored_in, stored_rows}
 use Rattle.index_steps.specs.IndexTuples.{are_values}
 use Rattle.brin_scan.specs.Finds.{Sight, found_at, is_found, is_visible_match, sees_stored, visible_matches}
-use Rattle.index_steps.specs.ShownRows.{row_in, rows_in}
-use Rattle.brin_scan.specs.TableScans.{is_match}
+use Rattle.index_steps.specs.ShownRows.{row_in}
 use Rattle.brin_scan.proofs.StoredValues.{values_are}
 
 -- a test of what is made of those that pass another

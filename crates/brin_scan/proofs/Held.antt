@@ -1,14 +1,11 @@
--- statuses that were read, before and after a call that changes no page
-use Rattle.std.proofs.Common.{◌≡◌, ℕ, List, refl, sym, subst, ◌∙◌, arith}
-use Rattle.std.specs.Prelude.{None}
+-- what holds of the statuses before and after a call that changes no page
+use Rattle.std.proofs.Common.{List, refl, sym, subst, ◌∙◌, arith}
 use Rattle.disk_trait.specs.Told.{Told}
 use Rattle.page_store.specs.Keeps.{Keeps}
 use Rattle.page_store.specs.PageMap.{PageMap, View}
 use Rattle.snapshot_core.specs.declared.statuses.Status.{Status}
 use Rattle.store_layout.specs.DiskLayout.{DiskLayout}
 use Rattle.tx_table.specs.Statuses.{HasStatuses, OfStatuses}
-use Rattle.brin_scan.specs.declared.sight.LastStatuses.{LastStatuses}
-use Rattle.brin_scan.specs.LastStatuses.{AreHeld}
 
 module _ {D : Type 0} (told : D → Told) (old new : View D) (kept : Keeps told old new) (P : List Status → Type 0) where
   pub told_after : OfStatuses told old P → OfStatuses told new P
@@ -20,10 +17,6 @@ module _ {D : Type 0} (told : D → Told) (old new : View D) (kept : Keeps told 
   told_before of tells statuses has =
       of (kept.leaves.tells ∙ tells) statuses
       (subst (λ (l : DiskLayout). HasStatuses l new.pages statuses) (sym kept.leaves.layout) (subst (λ (p : PageMap). HasStatuses old.layout p statuses) (sym (kept.pages tells)) has))
-
--- at first nothing is held
-pub none_held : (status : ℕ → Status) (last : LastStatuses) → last ≡ record { put = None; gone = None } → AreHeld status last
-none_held status last is = subst (AreHeld status) (sym is) (record { put = tt; gone = tt })
 
 -- before any call a store is as it is
 pub keeps_same : {D : Type 0} (told : D → Told) (store : View D) → Keeps told store store

@@ -24,7 +24,7 @@ use Rattle.table_coverage.specs.Table.{Scans, TableScan, TableState}
 use Rattle.heap_rows.specs.Heaps.{kinds_at}
 use Rattle.index_contents.specs.IndexContents.{contents}
 use Rattle.tuple_laws.specs.OwnKinds.{HaveOwnKeys}
-use Rattle.index_steps.specs.IndexTuples.{IndexShape, are_values, index_at, kinds_of, no_index, row_values, seen, shape_of}
+use Rattle.index_steps.specs.IndexTuples.{IndexShape, are_values, kinds_of, no_index, row_values, seen, shape_of}
 use Rattle.index_steps.specs.ShownRows.{shown_by}
 use Rattle.index_steps.specs.ShownTable.{indexes_of, shown_at}
 use Rattle.brin_scan.specs.ScanHands.{ScanHand}

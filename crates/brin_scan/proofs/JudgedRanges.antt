@@ -1,5 +1,5 @@
 -- the steps of a scan that judges ranges, as steps of its table
-use Rattle.std.proofs.Common.{◌≡◌, ◌≢◌, ◌⊎◌, inl, inr, ℕ, suc, ◌+◌, ◌*◌, ◌/◌, ◌<◌, ◌≤◌, Bool, true, false, List, length, map, Option, None, Some, refl, sym, ap, subst, ◌∙◌, arith}
+use Rattle.std.proofs.Common.{◌≡◌, ◌≢◌, ◌⊎◌, inl, inr, ℕ, suc, ◌+◌, ◌*◌, ◌/◌, ◌<◌, Bool, true, false, List, length, Option, None, Some, refl, sym, ap, subst, ◌∙◌, arith}
 use Rattle.std.specs.Prelude.{nat_lt, ◌&&◌, if◌then◌else◌}
 use Rattle.std.proofs.lemmas.Bool.{cases_eq, lt-ltb, ltb-true}
 use Rattle.std.proofs.lemmas.List.{length-map}
@@ -11,19 +11,15 @@ use Rattle.store_layout.specs.DiskLayout.{DiskLayout}
 use Rattle.page_layout.specs.PageContents.{Slot}
 use Rattle.page_store.specs.PageMap.{PageMap}
 use Rattle.page_locks.specs.LockHolders.{LockState}
-use Rattle.coverage.specs.IndexView.{IndexTuple, IndexView, range_of_block}
-use Rattle.coverage.specs.Steps.{IsGone, Stands}
-use Rattle.table_coverage.specs.Accounts.{Account, AccountIs, Accounts}
+use Rattle.table_coverage.specs.Accounts.{Account}
 use Rattle.table_coverage.specs.InOneIndex.{DoesAt}
 use Rattle.table_coverage.specs.Machines.{ShownTable, Unseen, table_state, task_turned}
-use Rattle.table_coverage.specs.Table.{Resting, Scans, TableScan, TableState, Task, index_view_at, judged_with}
+use Rattle.table_coverage.specs.Table.{Resting, Scans, TableScan, TableState, index_view_at, judged_with}
 use Rattle.table_coverage.specs.TablePoints.{judge_point}
-use Rattle.table_coverage.specs.TableSteps.{BeginsScan, JudgeDrops, JudgeGone, JudgeKeeps, JudgeMap, JudgeNoEntry, JudgeStep, Judges, Onward, ScanBegins}
+use Rattle.table_coverage.specs.TableSteps.{BeginsScan, JudgeDrops, JudgeGone, JudgeKeeps, JudgeMap, JudgeNoEntry, JudgeStep, Judges, Onward}
 use Rattle.heap_rows.specs.HeapBlocks.{HasBlocks}
-use Rattle.range_tuple.specs.Keeps.{keeps}
-use Rattle.range_tuple.specs.Tuples.{Tuple}
-use Rattle.index_contents.specs.IndexContents.{IndexContents, contents}
-use Rattle.index_steps.specs.IndexTuples.{IndexShape, index_at, seen, shape_of}
+use Rattle.index_contents.specs.IndexContents.{contents}
+use Rattle.index_steps.specs.IndexTuples.{seen, shape_of}
 use Rattle.index_steps.specs.Readings.{ShowsGone}
 use Rattle.index_steps.specs.ShownIndex.{lock_in}
 use Rattle.index_steps.specs.ShownTable.{indexes_of}
@@ -33,7 +29,7 @@ use Rattle.brin_scan.specs.NextRanges.{AreBelow, LeavesOut, first_range, range_f
 use Rattle.brin_scan.specs.ScanHands.{IsAtRange, ScanHand, ScannedIndex, is_candidate, scanned_at, scanned_index, scanned_indexes}
 use Rattle.brin_scan.specs.ScanSteps.{JudgesTo, ScanGoes}
 use Rattle.index_steps.specs.ShownRows.{shown_by}
-use Rattle.brin_scan.specs.TableScans.{Beside, index_judged, range_judged, spot_held, table_scan}
+use Rattle.brin_scan.specs.TableScans.{index_judged, range_judged, spot_held, table_scan}
 use Rattle.brin_scan.specs.declared.stage.Stage.{Stage}
 use Rattle.brin_scan.specs.declared.stage.Stage.TheVariants as stages
 use Rattle.brin_scan.proofs.Excluding.{excludes, seen_keeps}

@@ -9,6 +9,9 @@ pub mod FoundRows
 pub mod Reading
 pub mod Stepping
 pub mod Seen
+pub mod SeenPlaces
+pub mod KeptTable
+pub mod Remembered
 pub mod Explaining
 pub mod Finding
 pub mod Lawful

@@ -1,12 +1,13 @@
 -- the candidate that a scan reads next
-use Rattle.std.proofs.Common.{◌≡◌, ◌⊎◌, inl, inr, ℕ, ◌+◌, ◌<◌, ◌≤◌, All, Bool, true, false, List, length, Option, None, Some, refl, sym, ap, subst, ◌∙◌, arith}
+use Rattle.std.proofs.Common.{◌≡◌, inl, inr, ℕ, ◌+◌, ◌<◌, Bool, true, false, List, length, Option, Some, refl, sym, subst, ◌∙◌}
 use Rattle.std.proofs.lemmas.Bool.{cases_lt, false≢true}
 use Rattle.std.proofs.lemmas.List.{get_or_past}
 use Rattle.std.proofs.lemmas.Option.{none-some}
 use Rattle.block_model.specs.declared.place.Spot.{Spot}
 use Rattle.block_model.specs.declared.row.Row.{Row}
 use Rattle.brin_scan.specs.Finds.{FindHand, FindsIn, IsFinding, IsFindingAt, IsNext, IsNextCandidate}
-use Rattle.brin_scan.specs.ScanHands.{IsJudging, ScanHand, is_candidate}
+use Rattle.brin_scan.specs.ScanHands.{IsJudging, is_candidate}
+use Rattle.brin_scan.specs.declared.sight.LastStatuses.{LastStatuses}
 use Rattle.brin_scan.specs.declared.stage.Stage.{Stage}
 use Rattle.brin_scan.specs.declared.stage.Stage.TheVariants as stages
 use Rattle.brin_scan.proofs.Ordered.{ascend_more}
@@ -37,12 +38,12 @@ pub reads_next : (hand : FindHand) (b : ℕ) → hand.next ≡ Some b → IsFind
 reads_next hand b is finding = let found = by_stage hand.judging.stage hand b is finding.at in record { all = found.0; first = found.1 }
 
 -- the hand behind a block that was read
-pub read_on : (hand : FindHand) (b : ℕ) (next : Option ℕ) (found : List (Row × Spot)) → ReadsNext hand b → IsFinding hand → FindsIn b hand.found found → IsNext hand.judging.candidates (b + 1) next
-    → IsFinding (record hand { read = b + 1; next = next; found = found })
-read_on hand b next found reads finding finds first =
+pub read_on : (hand : FindHand) (b : ℕ) (next : Option ℕ) (found : List (Row × Spot)) (last : LastStatuses) → ReadsNext hand b → IsFinding hand → FindsIn b hand.found found → IsNext hand.judging.candidates (b + 1) next
+    → IsFinding (record hand { read = b + 1; next = next; found = found; last = last })
+read_on hand b next found last reads finding finds first =
     let ordered = ascend_more b hand.read hand.found found finding.ascend finding.read reads.first.unread finds in
     record {
-      at = subst (λ (stage : Stage). IsFindingAt stage (record hand { read = b + 1; next = next; found = found })) (sym reads.all) first;
+      at = subst (λ (stage : Stage). IsFindingAt stage (record hand { read = b + 1; next = next; found = found; last = last })) (sym reads.all) first;
       ascend = ordered.0;
       read = ordered.1;
     }

@@ -1,35 +1,30 @@
 -- the page step of a scan, as one of its table
-use Rattle.std.proofs.Common.{◌≡◌, ◌⊎◌, inl, inr, ℕ, ◌+◌, ◌<◌, ◌≤◌, Bool, true, false, ◌&&◌, List, ◌++◌, length, map, Option, None, Some, refl, sym, ap, subst, ◌∙◌, arith}
+use Rattle.std.proofs.Common.{◌≡◌, ◌⊎◌, inl, inr, ℕ, ◌<◌, ◌≤◌, Bool, true, false, ◌&&◌, List, ◌++◌, length, Option, Some, refl, sym, ap, subst, ◌∙◌}
 use Rattle.std.specs.Prelude.{IsTrue}
 use Rattle.std.proofs.lemmas.Bool.{and_parts, cases_lt, false≢true}
 use Rattle.std.proofs.lemmas.List.{length-map}
 use Rattle.block_model.specs.declared.place.Spot.{Spot}
-use Rattle.block_model.specs.declared.reply.Point.TheVariants as points
 use Rattle.block_model.specs.declared.row.Row.{Row}
 use Rattle.block_model.specs.RowMatches.{row_matches}
 use Rattle.store_layout.specs.DiskLayout.{DiskLayout}
 use Rattle.page_layout.specs.PageContents.{Slot}
-use Rattle.page_layout.specs.RowBytes.{StoredRow}
 use Rattle.page_store.specs.PageMap.{PageMap}
 use Rattle.page_locks.specs.LockHolders.{LockState}
-use Rattle.table_coverage.specs.Machines.{ShownTable, Unseen, table_state, task_turned}
-use Rattle.table_coverage.specs.Table.{Scans, TableScan, TableState}
-use Rattle.table_coverage.specs.TableSteps.{IsScanRead, ReadsBlock, ReadsPage, ScanHasStep}
+use Rattle.table_coverage.specs.Machines.{ShownTable, Unseen, table_state}
+use Rattle.table_coverage.specs.Table.{TableScan, TableState}
+use Rattle.table_coverage.specs.TableSteps.{IsScanRead, ReadsPage, ScanHasStep}
 use Rattle.heap_rows.specs.Heaps.{kinds_at}
 use Rattle.heap_rows.specs.HeapBlocks.{HasBlocks, slots_of}
 use Rattle.heap_rows.specs.RowPlaces.{slot_at}
 use Rattle.heap_rows.specs.StoredRows.{stored_rows}
 use Rattle.index_steps.specs.IndexTuples.{are_values}
 use Rattle.index_steps.specs.ShownTable.{indexes_of}
-use Rattle.brin_scan.specs.Finds.{FindHand, FindSteps, IsNext, IsNextCandidate, SeesThere, Sight, did_at, is_found, scanning, sees_stored, visible_matches}
-use Rattle.brin_scan.specs.ScanAnswers.{ScanStepped}
+use Rattle.brin_scan.specs.Finds.{FindHand, IsNextCandidate, SeesThere, Sight, is_found, scanning, visible_matches}
 use Rattle.brin_scan.specs.ScanHands.{ScanHand, is_candidate, scanned_index, scanned_indexes}
-use Rattle.brin_scan.specs.ScanSteps.{ScanGoes, account_at}
 use Rattle.index_steps.specs.ShownRows.{row_in, shown_by}
 use Rattle.brin_scan.specs.TableScans.{is_match, table_scan}
 use Rattle.brin_scan.specs.declared.stage.Stage.TheVariants as stages
 use Rattle.brin_scan.proofs.FoundRows.{found_either, found_is, found_more, found_new, found_there, values_there, slot_of_row}
-use Rattle.brin_scan.proofs.InTable.{only_turns, turns}
 
 -- a hand after all ranges are judged
 abbrev pub judged_hand : ScanHand → ScanHand

@@ -1,5 +1,5 @@
 -- what a transaction sees, later on
-use Rattle.std.proofs.Common.{◌≡◌, ◌≢◌, ◌⊎◌, inl, inr, ℕ, ◌==◌, Bool, true, false, ◌&&◌, ◌||◌, refl, sym, ap, ◌∙◌}
+use Rattle.std.proofs.Common.{◌≡◌, ◌≢◌, inl, inr, ℕ, ◌==◌, Bool, true, false, ◌&&◌, ◌||◌, refl, sym, ap, ◌∙◌}
 use Rattle.std.specs.Prelude.{not}
 use Rattle.std.proofs.lemmas.Bool.{eqb-true}
 use Rattle.block_model.specs.declared.row.RowId.{RowId}
@@ -24,7 +24,7 @@ not_yet true committed ended other since = other
 not_yet false true ended other since = since
 not_yet false false ended other since = refl
 
-is_other : (t own : ℕ) (b : Bool) → (t == own) ≡ b → t ≢ own → (t == own) ≡ false
+pub is_other : (t own : ℕ) (b : Bool) → (t == own) ≡ b → t ≢ own → (t == own) ≡ false
 is_other t own true is apart = absurd (apart (eqb-true t own is))
 is_other t own false is apart = is
 

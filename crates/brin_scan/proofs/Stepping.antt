@@ -1,12 +1,12 @@
 -- a step of a scan that goes on, or ends, in its table
-use Rattle.std.proofs.Common.{◌≡◌, ◌≢◌, ◌⊎◌, inl, inr, ℕ, suc, refl, sym, ◌∙◌}
+use Rattle.std.proofs.Common.{◌≡◌, ◌⊎◌, inl, inr, ℕ, suc, refl, sym, ◌∙◌}
 use Rattle.std.proofs.lemmas.Bool.{cases_eq}
 use Rattle.block_model.specs.declared.reply.Point.{Point}
 use Rattle.page_locks.specs.declared.did.Did.TheVariants as did
 use Rattle.table_coverage.specs.Accounts.{Account}
 use Rattle.table_coverage.specs.Machines.{ShownTable, Unseen, table_state, task_turned}
 use Rattle.table_coverage.specs.Table.{Resting, Scans, TableScan, Task, pick}
-use Rattle.table_coverage.specs.TableSteps.{Does, GoesOn, HasNothingToMark, JudgesNext, Onward, OnlyTurns, Scanned, Settles, Stays, TableStep, TaskTurns, ToMarks}
+use Rattle.table_coverage.specs.TableSteps.{Does, GoesOn, HasNothingToMark, JudgesNext, Onward, OnlyTurns, Scanned, Stays, TableStep, TaskTurns, ToMarks}
 use Rattle.table_coverage.proofs.Views.{pick_other, pick_same}
 use Rattle.brin_scan.specs.ScanAnswers.{ScanStepped}
 use Rattle.brin_scan.specs.ScanLaws.{ScanGoesTo}

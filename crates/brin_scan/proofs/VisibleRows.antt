@@ -1,5 +1,5 @@
 -- the visible matches among the rows of a block, one row after the other
-use Rattle.std.proofs.Common.{◌≡◌, ℕ, Bool, true, false, ◌&&◌, cond, List, [], ◌∷◌, ◌++◌, map, refl, sym, ap, ◌∙◌}
+use Rattle.std.proofs.Common.{◌≡◌, ℕ, Bool, true, false, ◌&&◌, cond, List, [], ◌∷◌, ◌++◌, map, sym, ap, ◌∙◌}
 use Rattle.std.specs.List.{filter}
 use Rattle.std.proofs.lemmas.List.{append_assoc, map-append}
 use Rattle.std.proofs.lemmas.List.Elements.{filter-append}
@@ -11,12 +11,11 @@ use Rattle.heap_rows.specs.declared.rows.Stored.{Stored}
 use Rattle.heap_rows.specs.StoredRows.{row_of}
 use Rattle.snapshot_core.specs.declared.snapshots.Snapshot.{Snapshot}
 use Rattle.snapshot_core.specs.declared.statuses.Status.{Status}
-use Rattle.tx_table.specs.Statuses.{shown_status}
-use Rattle.brin_scan.specs.Finds.{Sight, found_at, is_visible_match, sees_stored, visible_matches}
+use Rattle.brin_scan.specs.Finds.{Sight, found_at, is_visible_match, sees_stored, stands_by, visible_matches}
 
 -- how a transaction sees rows by these statuses
 abbrev pub sight_of : Snapshot → (own first : ℕ) → List Status → Sight
-sight_of snapshot own first statuses = record { snapshot = snapshot; own = own; status = shown_status first statuses }
+sight_of snapshot own first statuses = record { snapshot = snapshot; own = own; status = stands_by first statuses }
 
 module _ (sight : Sight) (query : Query) (block : ℕ) (row : Stored) where
   by_test : (b : Bool) → is_visible_match sight query row ≡ b → visible_matches sight query block (row ∷ []) ≡ map (found_at query.table block) (cond b (row ∷ []) [])

@@ -1,9 +1,8 @@
 -- what a scan finds on the pages of its candidate blocks, and what its steps do
-use Rattle.std.specs.Prelude.{◌≡◌, ℕ, ◌⊎◌, ◌+◌, ◌≤◌, ◌<◌, ◌==◌, Bool, true, false, ◌&&◌, All, List, [], ◌∷◌, ◌++◌, length, map, Option, None, Some, Result, Ok, Err}
+use Rattle.std.specs.Prelude.{◌≡◌, ℕ, ◌⊎◌, ◌+◌, ◌≤◌, ◌<◌, ◌==◌, if◌then◌else◌, Bool, true, false, ◌&&◌, All, List, [], ◌∷◌, ◌++◌, map, Option, None, Some, Result, Err}
 use Rattle.std.specs.List.{filter, list_any}
 use Rattle.block_model.specs.declared.place.Spot.{Spot}
 use Rattle.block_model.specs.declared.reply.Point.{Point}
-use Rattle.block_model.specs.declared.reply.Point.TheVariants as points
 use Rattle.block_model.specs.declared.row.Query.{Query}
 use Rattle.block_model.specs.declared.row.Row.{Row}
 use Rattle.block_model.specs.RowMatches.{row_matches}
@@ -13,7 +12,7 @@ use Rattle.page_layout.specs.PageContents.{Slot}
 use Rattle.page_layout.specs.RowBytes.{StoredRow}
 use Rattle.page_store.specs.declared.faults.MachineFault.{MachineFault}
 use Rattle.page_store.specs.declared.faults.MachineFault.TheVariants as faults
-use Rattle.page_store.specs.Outcome.{NamesPage, Outcome, Refused}
+use Rattle.page_store.specs.Outcome.{NamesPage}
 use Rattle.page_store.specs.PageMap.{PageMap, View}
 use Rattle.page_locks.specs.declared.did.Did.{Did}
 use Rattle.page_locks.specs.declared.did.Did.TheVariants as did
@@ -26,6 +25,7 @@ use Rattle.heap_rows.specs.RowPlaces.{slot_at}
 use Rattle.heap_rows.specs.StoredRows.{row_of, stored_rows}
 use Rattle.snapshot_core.specs.declared.snapshots.Snapshot.{Snapshot}
 use Rattle.snapshot_core.specs.declared.statuses.Status.{Status}
+use Rattle.snapshot_core.specs.declared.statuses.Status.TheVariants.{Unused}
 use Rattle.snapshot_core.specs.Visibility.{sees}
 use Rattle.tx_table.specs.LeavesRest.{NamesStatuses}
 use Rattle.tx_table.specs.Statuses.{HasStatuses, shown_status}
@@ -34,6 +34,7 @@ use Rattle.brin_scan.specs.ScanAnswers.{NamesPageAt, ReadOutcome, ScanStepped}
 use Rattle.brin_scan.specs.ScanSteps.{account_at, point_at}
 use Rattle.index_steps.specs.ShownRows.{shown_by}
 use Rattle.brin_scan.specs.TableScans.{Beside, BeginsAt, table_scan, task_of}
+use Rattle.brin_scan.specs.declared.sight.LastStatuses.{LastStatuses}
 use Rattle.brin_scan.specs.declared.stage.Stage.{Stage}
 use Rattle.brin_scan.specs.declared.stage.Stage.TheVariants as stages
 
@@ -59,17 +60,23 @@ is_visible_match sight query stored = row_matches query (record { table = query.
 abbrev pub visible_matches : Sight → Query → (block : ℕ) → List Stored → List (Row × Spot)
 visible_matches sight query block rows = map (found_at query.table block) (filter (is_visible_match sight query) rows)
 
--- The judging of its ranges; up to where the candidates are read, and which is next; the rows found; for how many rows of a page there is room.
+-- The judging of its ranges; up to where the candidates are read, and which is next; the rows found; what it remembers of transactions; for
+-- how many rows of a page there is room.
 pub record FindHand : Type 0 where
   pub judging : ScanHand
   pub read : ℕ
   pub next : Option ℕ
   pub found : List (Row × Spot)
+  pub last : LastStatuses
   pub room : ℕ
+
+-- at first it remembers no transaction
+abbrev pub none_read : LastStatuses
+none_read = record { put = None; gone = None }
 
 -- before its first step
 abbrev pub first_find : ScanHand → (room : ℕ) → FindHand
-first_find judging room = record { judging = judging; read = 0; next = None; found = []; room = room }
+first_find judging room = record { judging = judging; read = 0; next = None; found = []; last = none_read; room = room }
 
 -- a row is found at that place
 abbrev pub is_found : List (Row × Spot) → ℕ → ℕ → Bool
@@ -99,9 +106,13 @@ FindSteps layout pages sight old new did = (s : ℕ) (locks : LockState) (blocks
     × ScanStepped s (shown_by layout pages locks old.judging.query.table blocks) u (account_at old.judging.stage)
     (table_scan layout new.judging (scanning sees now deletes new)) did
 
+-- how each transaction stands by these statuses; the number 0 is none's, and stays unused: it is the deleter of a row that nobody deleted
+abbrev pub stands_by : (first : ℕ) → List Status → ℕ → Status
+stands_by first statuses t = if t == 0 then Unused else shown_status first statuses t
+
 -- the statuses of the pages, where this opening began with that number
 abbrev pub OfSight : DiskLayout → PageMap → Snapshot → (own first : ℕ) → (Sight → Type 0) → Type 0
-OfSight layout pages snapshot own first P = (statuses : List Status) → HasStatuses layout pages statuses → P (record { snapshot = snapshot; own = own; status = shown_status first statuses })
+OfSight layout pages snapshot own first P = (statuses : List Status) → HasStatuses layout pages statuses → P (record { snapshot = snapshot; own = own; status = stands_by first statuses })
 
 -- the point is that of the stage; and a finished scan has no step left
 abbrev pub IsPointIn : (old new : FindHand) → Did → Type 0

@@ -1,5 +1,5 @@
 -- which range a scan judges next, and which blocks a judged one leaves out
-use Rattle.std.specs.Prelude.{◌≡◌, ◌≢◌, ℕ, ◌+◌, ◌*◌, ◌/◌, ◌<◌, ◌≤◌, nat_lt, Bool, ◌&&◌, false, List, length, Option, None, Some, if◌then◌else◌}
+use Rattle.std.specs.Prelude.{◌≡◌, ◌≢◌, ℕ, ◌+◌, ◌*◌, ◌/◌, ◌<◌, ◌≤◌, nat_lt, Bool, ◌&&◌, false, List, length, if◌then◌else◌}
 use Rattle.brin_scan.specs.ScanHands.{ScannedIndex, is_candidate, scanned_at}
 use Rattle.brin_scan.specs.declared.stage.Stage.{Stage}
 use Rattle.brin_scan.specs.declared.stage.Stage.TheVariants as stages

@@ -1,5 +1,5 @@
 -- what a step of a scan answers, and when each error comes
-use Rattle.std.specs.Prelude.{◌≡◌, ℕ, List, None, Result, Ok, Err}
+use Rattle.std.specs.Prelude.{ℕ, List, Result, Ok, Err}
 use Rattle.store_layout.specs.DiskLayout.{DiskLayout}
 use Rattle.disk_trait.specs.Told.{Told}
 use Rattle.page_store.specs.declared.faults.MachineFault.{MachineFault}
@@ -16,7 +16,7 @@ use Rattle.index_contents.specs.IndexContents.{contents}
 use Rattle.index_steps.specs.IndexTuples.{shape_of}
 use Rattle.index_steps.specs.Readings.{IsMisnamed, IsMisread}
 use Rattle.index_steps.specs.SwapAnswers.{FaultNamesPageOf}
-use Rattle.brin_scan.specs.ScanHands.{ScanHand, ScannedIndex, scanned_at}
+use Rattle.brin_scan.specs.ScanHands.{ScannedIndex, scanned_at}
 use Rattle.brin_scan.specs.ScanSteps.{ScanGoes}
 use Rattle.brin_scan.specs.declared.stage.Stage.{Stage}
 use Rattle.brin_scan.specs.declared.stage.Stage.TheVariants as stages

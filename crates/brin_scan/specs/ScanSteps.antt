@@ -1,18 +1,16 @@
 -- what a step of a scan does in its table
-use Rattle.std.specs.Prelude.{◌≡◌, ◌⊎◌, ℕ, Bool, true, Option, List}
+use Rattle.std.specs.Prelude.{◌≡◌, ℕ, Bool, Option, List}
 use Rattle.block_model.specs.declared.reply.Point.{Point}
 use Rattle.block_model.specs.declared.reply.Point.TheVariants as points
 use Rattle.store_layout.specs.DiskLayout.{DiskLayout}
 use Rattle.page_layout.specs.PageContents.{Slot}
 use Rattle.page_store.specs.PageMap.{PageMap}
-use Rattle.page_locks.specs.declared.did.Did.{Did}
-use Rattle.page_locks.specs.declared.did.Did.TheVariants as did
 use Rattle.page_locks.specs.LockHolders.{LockState}
 use Rattle.table_coverage.specs.Accounts.{Account, no_account}
 use Rattle.table_coverage.specs.InOneIndex.{DoesAt}
 use Rattle.table_coverage.specs.Machines.{ShownTable, Unseen, table_state, task_turned}
-use Rattle.table_coverage.specs.Table.{Scans, TableScan, TableState, Task}
-use Rattle.table_coverage.specs.TableSteps.{IsScanRead, Onward, ScanHasStep}
+use Rattle.table_coverage.specs.Table.{Scans, TableScan, Task}
+use Rattle.table_coverage.specs.TableSteps.{Onward}
 use Rattle.heap_rows.specs.HeapBlocks.{HasBlocks}
 use Rattle.brin_scan.specs.ScanHands.{ScanHand}
 use Rattle.index_steps.specs.ShownRows.{shown_by}

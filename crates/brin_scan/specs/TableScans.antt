@@ -1,18 +1,14 @@
 -- a scan as its table's: what the pages show of the table, and what of the scan its machine doesn't have
-use Rattle.std.specs.Prelude.{◌≡◌, ℕ, Bool, true, false, IsTrue, ◌&&◌, List, length, Option, None, Some}
+use Rattle.std.specs.Prelude.{◌≡◌, ℕ, Bool, true, false, IsTrue, ◌&&◌, length, Option, None, Some}
 use Rattle.block_model.specs.declared.place.Spot.{Spot}
 use Rattle.block_model.specs.declared.row.Query.{Query}
 use Rattle.block_model.specs.declared.row.Row.{Row}
 use Rattle.block_model.specs.RowMatches.{row_matches}
 use Rattle.store_layout.specs.DiskLayout.{DiskLayout}
-use Rattle.page_layout.specs.PageContents.{Slot}
-use Rattle.page_store.specs.PageMap.{PageMap}
-use Rattle.page_locks.specs.LockHolders.{LockState}
 use Rattle.table_coverage.specs.Machines.{ShownTable, Unseen}
 use Rattle.table_coverage.specs.Table.{Task, Resting, Scans, TableScan}
 use Rattle.table_coverage.specs.TableSteps.{HasPut}
-use Rattle.heap_rows.specs.Heaps.{kinds_at, slots_a_page}
-use Rattle.heap_rows.specs.RowPlaces.{slot_at}
+use Rattle.heap_rows.specs.Heaps.{kinds_at}
 use Rattle.index_steps.specs.IndexTuples.{are_values}
 use Rattle.brin_scan.specs.ScanHands.{ScanHand, is_candidate}
 use Rattle.brin_scan.specs.declared.stage.Stage.{Stage}

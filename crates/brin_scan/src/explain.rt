@@ -1,10 +1,11 @@
 //! An explain.
 
-ghost use Rattle.std.specs.Prelude.{◌≡◌, ◌+◌, ◌<◌, ◌≤◌, ◌^◌, ◌++◌, [], ◌∷◌, if◌then◌else◌, length, vec_capacity, IfOk, IfErr, OnErr};
+ghost use Rattle.std.specs.Prelude.{◌≡◌, ◌+◌, ◌<◌, ◌≤◌, ◌^◌, ◌++◌, [], ◌∷◌, if◌then◌else◌, length, vec_capacity, IfOk, IfErr, OnOk, OnErr};
+ghost use Rattle.logged_pages.specs.Survives.{Survives};
 ghost use Rattle.page_store.specs.Keeps.{Keeps, Tells};
 ghost use Rattle.brin_scan.specs.Explains.{ExplainSteps, IsPointOf, ListsBlocks, candidate_blocks};
 ghost use Rattle.brin_scan.specs.ScanAnswers.{IsDamagedAt, NamesPageAt, ReadOutcome};
-ghost use Rattle.brin_scan.specs.ScanHands.{IsJudging, IsScanOf, first_hand, is_candidate};
+ghost use Rattle.brin_scan.specs.ScanHands.{IsHand, IsJudging, IsScanOf, first_hand, is_candidate};
 ghost use Rattle.brin_scan.specs.ScanSteps.{point_at};
 
 use crate::judging::Judging;
@@ -49,6 +50,13 @@ impl Explain {
         Ok(Explain { judging, blocks })
     }
 
+    /// Does nothing; tells its caller what holds of the judging of its ranges.
+    pub fn known(&self)
+        ensures { IsHand self.now.judging }
+    {
+        self.judging.known();
+    }
+
     /// The stage that it is at.
     pub fn stage(&self) -> Stage
         ensures { result ≡ self.now.judging.stage }
@@ -67,7 +75,9 @@ impl Explain {
         ensures query { self.new.judging.query ≡ self.old.judging.query }
         ensures same { OnErr result (self.new ≡ self.old) }
         ensures kept { Keeps D.told pages.old pages.new }
+        ensures survives { Survives D.told (λ passed. passed ≡ pages.old.pages) pages.old pages.new }
         ensures names { IfErr result (NamesPageAt pages.old.layout self.old.judging.indexes self.old.judging.stage) }
+        ensures undamaged { OnOk result (Tells D.told pages.old → IsDamagedAt pages.old.layout pages.old.pages self.old.judging.indexes self.old.judging.stage → ⊥) }
         ensures outcome { ReadOutcome D.told (Tells D.told pages.old → IsDamagedAt pages.old.layout pages.old.pages self.old.judging.indexes self.old.judging.stage) pages.old pages.new result }
     {
         let point = point_at(self.judging.stage());

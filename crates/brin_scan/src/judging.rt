@@ -1,8 +1,9 @@
 //! How a scan judges the ranges of its table's indexes.
 
-ghost use Rattle.std.specs.Prelude.{◌≡◌, ◌<◌, ◌≤◌, ℕ, Bool, true, false, All, List, length, IfOk, IfErr, OnErr};
+ghost use Rattle.std.specs.Prelude.{◌≡◌, ◌<◌, ◌≤◌, ℕ, Bool, true, false, All, List, length, IfOk, IfErr, OnOk, OnErr};
 ghost use Rattle.block_model.specs.declared.limits.TheConstants.{MAX_CONDITIONS};
 ghost use Rattle.block_model.specs.declared.row.Query.{Query as AnyQuery};
+ghost use Rattle.logged_pages.specs.Survives.{Survives};
 ghost use Rattle.page_store.specs.Keeps.{Keeps, Tells};
 ghost use Rattle.range_tuple.specs.Tuples.{parts_of};
 ghost use Rattle.index_contents.specs.IndexContents.{contents};
@@ -132,7 +133,9 @@ impl Judging {
         ensures query { self.new.query ≡ self.old.query }
         ensures same { OnErr result (self.new ≡ self.old) }
         ensures kept { Keeps D.told pages.old pages.new }
+        ensures survives { Survives D.told (λ passed. passed ≡ pages.old.pages) pages.old pages.new }
         ensures names { IfErr result (NamesPageAt pages.old.layout self.old.indexes self.old.stage) }
+        ensures undamaged { OnOk result (Tells D.told pages.old → IsDamagedAt pages.old.layout pages.old.pages self.old.indexes self.old.stage → ⊥) }
         ensures outcome { ReadOutcome D.told (Tells D.told pages.old → IsDamagedAt pages.old.layout pages.old.pages self.old.indexes self.old.stage) pages.old pages.new result }
     {
         let (extent, stage) = (self.extent, self.stage);
@@ -175,7 +178,9 @@ fn judge<D: Disk + Drop>(
     ensures room { length candidates.new ≡ length candidates.old }
     ensures same { OnErr result (candidates.new ≡ candidates.old) }
     ensures kept { Keeps D.told pages.old pages.new }
+    ensures survives { Survives D.told (λ passed. passed ≡ pages.old.pages) pages.old pages.new }
     ensures names { IfErr result (NamesPageAt pages.old.layout (all_scanned readers.old) stage) }
+    ensures undamaged { OnOk result (Tells D.told pages.old → IsDamagedAt pages.old.layout pages.old.pages (all_scanned readers.old) stage → ⊥) }
     ensures outcome { ReadOutcome D.told (Tells D.told pages.old → IsDamagedAt pages.old.layout pages.old.pages (all_scanned readers.old) stage) pages.old pages.new result }
 {
     match stage {
@@ -213,6 +218,7 @@ fn begin<D: Disk + Drop>(
     ensures extent { IfOk result (λ o. o.0 ≤ length candidates.new) }
     ensures room { length candidates.new ≡ length candidates.old }
     ensures same { OnErr result (candidates.new ≡ candidates.old) }
+    ensures survives { Survives D.told (λ passed. passed ≡ pages.now.pages) pages.now pages.now }
     ensures outcome { ReadOutcome D.told ⊥ pages.now pages.now result }
 {
     match pages.ready() {
@@ -239,7 +245,9 @@ fn judge_map<D: Disk + Drop>(
     ensures judged { IfOk result (λ stage. Tells D.told pages.old → (query : AnyQuery) (candidates : List Bool) → all_scanned readers.now ≡ scanned_indexes pages.old.layout query.table → JudgesTo pages.old.layout pages.old.pages (hand_at query readers.now (Stage.Map at range) extent candidates) (hand_at query readers.now stage extent candidates)) }
     ensures at { IfOk result (λ stage. IsBegunAt (all_scanned readers.now) extent stage) }
     ensures kept { Keeps D.told pages.old pages.new }
+    ensures survives { Survives D.told (λ passed. passed ≡ pages.old.pages) pages.old pages.new }
     ensures names { IfErr result (NamesPageAt pages.old.layout (all_scanned readers.now) (Stage.Map at range)) }
+    ensures undamaged { OnOk result (Tells D.told pages.old → IsDamagedAt pages.old.layout pages.old.pages (all_scanned readers.now) (Stage.Map at range) → ⊥) }
     ensures outcome { ReadOutcome D.told (Tells D.told pages.old → IsDamagedAt pages.old.layout pages.old.pages (all_scanned readers.now) (Stage.Map at range)) pages.old pages.new result }
 {
     match read_map(pages, readers[at].number, range, copied) {
@@ -270,7 +278,9 @@ fn judge_tuple<D: Disk + Drop>(
     ensures room { length candidates.new ≡ length candidates.old }
     ensures same { OnErr result (candidates.new ≡ candidates.old) }
     ensures kept { Keeps D.told pages.old pages.new }
+    ensures survives { Survives D.told (λ passed. passed ≡ pages.old.pages) pages.old pages.new }
     ensures names { IfErr result (NamesPageAt pages.old.layout (all_scanned readers.old) (Stage.Tuple held.at held.range held.spot)) }
+    ensures undamaged { OnOk result (Tells D.told pages.old → IsDamagedAt pages.old.layout pages.old.pages (all_scanned readers.old) (Stage.Tuple held.at held.range held.spot) → ⊥) }
     ensures outcome { ReadOutcome D.told (Tells D.told pages.old → IsDamagedAt pages.old.layout pages.old.pages (all_scanned readers.old) (Stage.Tuple held.at held.range held.spot)) pages.old pages.new result }
 {
     let Held { at, range, spot } = held;
@@ -315,7 +325,9 @@ fn read_tuple<D: Disk + Drop>(
     ensures tells { IfOk result (λ judged. Tells D.told pages.old → SaysOfRange (shape_of pages.old.layout reader.old.number) (contents pages.old.layout pages.old.pages reader.old.number) range spot conds.now judged) }
     ensures scanned { scanned reader.new ≡ scanned reader.old }
     ensures kept { Keeps D.told pages.old pages.new }
+    ensures survives { Survives D.told (λ passed. passed ≡ pages.old.pages) pages.old pages.new }
     ensures names { IfErr result (FaultNamesPageOf pages.old.layout reader.old.number) }
+    ensures undamaged { OnOk result (Tells D.told pages.old → IsMisread (shape_of pages.old.layout reader.old.number) (contents pages.old.layout pages.old.pages reader.old.number) range spot → ⊥) }
     ensures outcome { ReadOutcome D.told (Tells D.told pages.old → IsMisread (shape_of pages.old.layout reader.old.number) (contents pages.old.layout pages.old.pages reader.old.number) range spot) pages.old pages.new result }
 {
     a_row_is_included_as_tested();

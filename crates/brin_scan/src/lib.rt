@@ -16,6 +16,9 @@ mod stage;
 
 pub use explain::Explain;
 pub use honesty::scans_are_honest;
-pub use laws::{a_scan_finds_what_its_session_sees, a_scan_steps_in_its_table, what_is_seen_stays};
+pub use laws::{
+    a_kept_table_is_scanned, a_scan_finds_what_its_session_sees, a_scan_steps_in_its_table,
+    a_seen_row_stays_in_its_place, what_is_remembered_stands, what_is_seen_stays,
+};
 pub use scan::Scan;
 pub use stage::Stage;

@@ -3,15 +3,15 @@
 ghost use Rattle.std.specs.Prelude.{◌≡◌, ◌⊎◌, ◌<◌, ◌≤◌, ◌^◌, ◌++◌, ◌∷◌, [], ℕ, None, Some, length, take, IfErr, IfOk, OnOk, OnErr};
 ghost use Rattle.std.specs.List.{list_all};
 ghost use Rattle.block_model.specs.RowMatches.{column_matches, row_matches};
+ghost use Rattle.logged_pages.specs.Survives.{Survives};
 ghost use Rattle.page_store.specs.Keeps.{Keeps, Tells, Untold};
 ghost use Rattle.heap_rows.specs.Heaps.{slots_a_page};
 ghost use Rattle.heap_rows.specs.HeapBlocks.{OfBlocks, slots_of};
 ghost use Rattle.heap_rows.specs.StoredRows.{SlotsAscend, stored_rows};
-ghost use Rattle.tx_table.specs.Statuses.{OfStatuses, shown_status};
 ghost use Rattle.brin_scan.specs.Finds.{Ascend, FaultNamesNext, FaultNamesRead, FaultNamesStatuses, FindOutcome, FindSteps, FindsIn, FindsThere, IsFindOf, IsNext, IsPointIn, IsScanning, OfSight, Sight, did_at, first_find, found_at, visible_matches};
-ghost use Rattle.brin_scan.specs.LastStatuses.{AreHeld};
+ghost use Rattle.brin_scan.specs.LastStatuses.{Remembers};
 ghost use Rattle.brin_scan.specs.ScanAnswers.{IsDamagedAt, NamesPageAt, ReadOutcome};
-ghost use Rattle.brin_scan.specs.ScanHands.{IsJudging, first_hand};
+ghost use Rattle.brin_scan.specs.ScanHands.{IsHand, IsJudging, first_hand};
 
 use crate::explain::point_at;
 use crate::judging::Judging;
@@ -39,6 +39,8 @@ pub struct Scan {
     read: u32,
     next: Option<u32>,
     found: Vec<(Row, Spot)>,
+    /// What it remembers of transactions that had ended at its snapshot.
+    last: LastStatuses,
 }
 
 impl Model for Scan {
@@ -47,9 +49,9 @@ impl Model for Scan {
 
     ghost Value = { FindHand };
 
-    ghost view = { λ a. record { judging = a.judging; read = a.read; next = a.next; found = a.found.items; room = a.rows.room } };
+    ghost view = { λ a. record { judging = a.judging; read = a.read; next = a.next; found = a.found.items; last = a.last; room = a.rows.room } };
 
-    ghost invariant = { λ a. IsFinding (record { judging = a.judging; read = a.read; next = a.next; found = a.found.items; room = a.rows.room }) };
+    ghost invariant = { λ a. IsFinding (record { judging = a.judging; read = a.read; next = a.next; found = a.found.items; last = a.last; room = a.rows.room }) };
 }
 
 impl Scan {
@@ -68,13 +70,16 @@ impl Scan {
             read: 0,
             next: None,
             found: Vec::new(alloc),
+            last: LastStatuses::new(),
         })
     }
 
-    /// Does nothing; tells its caller that each row is found once, in the order of the places.
+    /// Does nothing; tells its caller that each row is found once, in the order of the places, and what holds of the judging of its ranges.
     pub fn known(&self)
-        ensures { Ascend 0 0 self.now.found }
+        ensures order { Ascend 0 0 self.now.found }
+        ensures hand { IsHand self.now.judging }
     {
+        self.judging.known();
         let _ = &self.read;
     }
 
@@ -86,7 +91,8 @@ impl Scan {
     }
 
     /// The next step, over the pages of a store of the layout and its transactions, for the transaction numbered `own` with its
-    /// snapshot. Each page step reads one block, and takes memory for the rows that it finds alone. After an error nothing is changed.
+    /// snapshot. Each page step reads one block, and takes memory for the rows that it finds alone. What it remembers of transactions, so
+    /// that it reads the status of one once for many rows, has to stand. After an error nothing is changed.
     pub fn step<D: Disk + Drop>(
         &mut self,
         pages: &mut PageStore<D>,
@@ -96,14 +102,18 @@ impl Scan {
     ) -> Result<Did, MachineFault>
         requires scan { IsFindOf pages.old.layout self.old }
         requires work { IsScanning self.old.judging.stage self.old.next }
+        requires remembers { Tells D.told pages.old → OfSight pages.old.layout pages.old.pages snapshot.now own tx.now.first (λ sight. Remembers sight self.old.last) }
         ensures stepped { IfOk result (λ did. Tells D.told pages.old → OfSight pages.old.layout pages.old.pages snapshot.now own tx.now.first (λ sight. FindSteps pages.old.layout pages.old.pages sight self.old self.new did)) }
         ensures rows { OnOk result (OfBlocks D.told pages.old self.old.judging.query.table (λ blocks. OfSight pages.old.layout pages.old.pages snapshot.now own tx.now.first (λ sight. FindsThere sight blocks self.old self.new self.old.next))) }
         ensures point { IfOk result (IsPointIn self.old self.new) }
         ensures scan { IsFindOf pages.old.layout self.new }
         ensures query { self.new.judging.query ≡ self.old.judging.query }
+        ensures remembers { Tells D.told pages.old → OfSight pages.old.layout pages.old.pages snapshot.now own tx.now.first (λ sight. Remembers sight self.new.last) }
         ensures same { OnErr result (self.new ≡ self.old) }
         ensures kept { Keeps D.told pages.old pages.new }
+        ensures survives { Survives D.told (λ passed. passed ≡ pages.old.pages) pages.old pages.new }
         ensures names { IfErr result (FaultNamesNext pages.old.layout self.old self.old.next) }
+        ensures undamaged { OnOk result (Tells D.told pages.old → IsDamagedAt pages.old.layout pages.old.pages self.old.judging.indexes self.old.judging.stage → ⊥) }
         ensures outcome { FindOutcome D.told (Tells D.told pages.old → IsDamagedAt pages.old.layout pages.old.pages self.old.judging.indexes self.old.judging.stage) pages.old pages.new self.old.next result }
     {
         match self.next {
@@ -129,19 +139,23 @@ impl Scan {
     ) -> Result<Did, MachineFault>
         requires scan { IsFindOf pages.old.layout self.old }
         requires next { self.old.next ≡ Some block }
+        requires remembers { Tells D.told pages.old → OfSight pages.old.layout pages.old.pages snapshot.now own tx.now.first (λ sight. Remembers sight self.old.last) }
         ensures stepped { IfOk result (λ did. Tells D.told pages.old → OfSight pages.old.layout pages.old.pages snapshot.now own tx.now.first (λ sight. FindSteps pages.old.layout pages.old.pages sight self.old self.new did)) }
         ensures rows { OnOk result (OfBlocks D.told pages.old self.old.judging.query.table (λ blocks. OfSight pages.old.layout pages.old.pages snapshot.now own tx.now.first (λ sight. FindsThere sight blocks self.old self.new (Some block)))) }
         ensures point { IfOk result (IsPointIn self.old self.new) }
         ensures judged { self.old.judging.stage ≡ Stage.Judged }
         ensures scan { IsFindOf pages.old.layout self.new }
         ensures query { self.new.judging.query ≡ self.old.judging.query }
+        ensures remembers { Tells D.told pages.old → OfSight pages.old.layout pages.old.pages snapshot.now own tx.now.first (λ sight. Remembers sight self.new.last) }
         ensures same { OnErr result (self.new ≡ self.old) }
         ensures kept { Keeps D.told pages.old pages.new }
+        ensures survives { Survives D.told (λ passed. passed ≡ pages.old.pages) pages.old pages.new }
         ensures names { IfErr result (FaultNamesRead pages.old.layout self.old.judging.query.table block) }
         ensures outcome { FindOutcome D.told (Untold D.told pages.old) pages.old pages.new (Some block) result }
     {
         self.judging.known();
         let query = self.judging.query();
+        let mut last = self.last;
         match find_on(
             pages,
             tx,
@@ -150,11 +164,13 @@ impl Scan {
             query,
             block,
             &mut self.rows,
+            &mut last,
             &mut self.found,
         ) {
             Ok(()) => {}
             Err(fault) => return Err(fault),
         }
+        self.last = last;
         self.read = block + 1;
         self.next = next_candidate(self.judging.candidates(), block + 1);
         Ok(did_at(Point::Page, self.next))
@@ -166,12 +182,15 @@ impl Scan {
         requires work { IsJudging self.old.judging.stage }
         ensures stepped { IfOk result (λ did. Tells D.told pages.old → (sight : Sight) → FindSteps pages.old.layout pages.old.pages sight self.old self.new did) }
         ensures found { self.new.found ≡ self.old.found }
+        ensures last { self.new.last ≡ self.old.last }
         ensures point { IfOk result (IsPointIn self.old self.new) }
         ensures scan { IsFindOf pages.old.layout self.new }
         ensures query { self.new.judging.query ≡ self.old.judging.query }
         ensures same { OnErr result (self.new ≡ self.old) }
         ensures kept { Keeps D.told pages.old pages.new }
+        ensures survives { Survives D.told (λ passed. passed ≡ pages.old.pages) pages.old pages.new }
         ensures names { IfErr result (NamesPageAt pages.old.layout self.old.judging.indexes self.old.judging.stage) }
+        ensures undamaged { OnOk result (Tells D.told pages.old → IsDamagedAt pages.old.layout pages.old.pages self.old.judging.indexes self.old.judging.stage → ⊥) }
         ensures outcome { ReadOutcome D.told (Tells D.told pages.old → IsDamagedAt pages.old.layout pages.old.pages self.old.judging.indexes self.old.judging.stage) pages.old pages.new result }
     {
         let point = point_at(self.judging.stage());
@@ -231,16 +250,20 @@ fn find_on<D: Disk + Drop>(
     query: &Query,
     block: u32,
     rows: &mut PageRows,
+    last: &mut LastStatuses,
     found: &mut Vec<(Row, Spot)>,
 ) -> Result<(), MachineFault>
     requires table { query.now.table < length pages.old.layout.schema.tables }
     requires block { block < pages.old.layout.sizes.heap_blocks }
     requires room { slots_a_page pages.old.layout query.now.table ≤ rows.old.room }
+    requires remembers { Tells D.told pages.old → OfSight pages.old.layout pages.old.pages snapshot.now own tx.now.first (λ sight. Remembers sight last.old) }
     ensures found { OnOk result (OfBlocks D.told pages.old query.now.table (λ blocks. OfSight pages.old.layout pages.old.pages snapshot.now own tx.now.first (λ sight. found.new.items ≡ found.old.items ++ visible_matches sight query.now block (stored_rows (slots_of blocks block))))) }
     ensures order { OnOk result (FindsIn block found.old.items found.new.items) }
+    ensures remembers { OnOk result (Tells D.told pages.old → OfSight pages.old.layout pages.old.pages snapshot.now own tx.now.first (λ sight. Remembers sight last.new)) }
     ensures same { OnErr result (found.new.items ≡ found.old.items) }
     ensures room { rows.new.room ≡ rows.old.room }
     ensures kept { Keeps D.told pages.old pages.new }
+    ensures survives { Survives D.told (λ passed. passed ≡ pages.old.pages) pages.old pages.new }
     ensures names { IfErr result (FaultNamesRead pages.old.layout query.now.table block) }
     ensures outcome { FindOutcome D.told (Untold D.told pages.old) pages.old pages.new (Some block) result }
 {
@@ -257,6 +280,7 @@ fn find_on<D: Disk + Drop>(
         query,
         block,
         rows.as_slice(),
+        last,
         found,
     ) {
         Ok(()) => Ok(()),
@@ -276,22 +300,24 @@ fn find_among<D: Disk + Drop>(
     query: &Query,
     block: u32,
     rows: &[Stored],
+    last: &mut LastStatuses,
     found: &mut Vec<(Row, Spot)>,
 ) -> Result<(), MachineFault>
     requires ready { pages.old.failed ≡ None }
     requires order { (count : ℕ) × SlotsAscend 0 count rows.now }
+    requires remembers { Tells D.told pages.old → OfSight pages.old.layout pages.old.pages snapshot.now own tx.now.first (λ sight. Remembers sight last.old) }
     ensures found { OnOk result (Tells D.told pages.old → OfSight pages.old.layout pages.old.pages snapshot.now own tx.now.first (λ sight. found.new.items ≡ found.old.items ++ visible_matches sight query.now block rows.now)) }
     ensures order { OnOk result (FindsIn block found.old.items found.new.items) }
+    ensures remembers { OnOk result (Tells D.told pages.old → OfSight pages.old.layout pages.old.pages snapshot.now own tx.now.first (λ sight. Remembers sight last.new)) }
     ensures front { take (length found.old.items) found.new.items ≡ found.old.items }
     ensures kept { Keeps D.told pages.old pages.new }
+    ensures survives { Survives D.told (λ passed. passed ≡ pages.old.pages) pages.old pages.new }
     ensures names { IfErr result (FaultNamesStatuses pages.old.layout) }
     ensures outcome { FindOutcome D.told (Untold D.told pages.old) pages.old pages.new (Some block) result }
 {
-    let mut last = LastStatuses::new();
+    pages.known();
     'rows: for row in rows {
-        match add_visible(
-            pages, tx, snapshot, own, query, block, row, &mut last, found,
-        ) {
+        match add_visible(pages, tx, snapshot, own, query, block, row, last, found) {
             Ok(()) => {}
             Err(fault) => return Err(fault),
         }
@@ -312,15 +338,17 @@ fn add_visible<D: Disk + Drop>(
     found: &mut Vec<(Row, Spot)>,
 ) -> Result<(), MachineFault>
     requires ready { pages.old.failed ≡ None }
-    requires held { OfStatuses D.told pages.old (λ statuses. AreHeld (shown_status tx.now.first statuses) last.old) }
+    requires remembers { Tells D.told pages.old → OfSight pages.old.layout pages.old.pages snapshot.now own tx.now.first (λ sight. Remembers sight last.old) }
     ensures visible { OnOk result (Tells D.told pages.old → OfSight pages.old.layout pages.old.pages snapshot.now own tx.now.first (λ sight. found.new.items ≡ found.old.items ++ visible_matches sight query.now block (row.now ∷ []))) }
     ensures added { OnOk result ((found.new.items ≡ found.old.items) ⊎ (found.new.items ≡ found.old.items ++ found_at query.now.table block row.now ∷ [])) }
-    ensures held { OnOk result (OfStatuses D.told pages.old (λ statuses. AreHeld (shown_status tx.now.first statuses) last.new)) }
+    ensures remembers { OnOk result (Tells D.told pages.old → OfSight pages.old.layout pages.old.pages snapshot.now own tx.now.first (λ sight. Remembers sight last.new)) }
     ensures same { OnErr result (found.new.items ≡ found.old.items) }
     ensures kept { Keeps D.told pages.old pages.new }
+    ensures survives { Survives D.told (λ passed. passed ≡ pages.old.pages) pages.old pages.new }
     ensures names { IfErr result (FaultNamesStatuses pages.old.layout) }
     ensures outcome { FindOutcome D.told (Untold D.told pages.old) pages.old pages.new (Some block) result }
 {
+    pages.known();
     if !is_match(row, query) {
         return Ok(());
     }

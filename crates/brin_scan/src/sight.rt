@@ -1,32 +1,31 @@
-//! Which rows a transaction sees. A page step reads the status of a transaction once for a run of its rows.
+//! Which rows a transaction sees. A scan reads the status of a transaction once for a run of its rows, and no status that can't matter.
 
-ghost use Rattle.std.specs.Prelude.{◌≡◌, ℕ, None, IfErr, IfOk, IfSome, OnOk};
-ghost use Rattle.snapshot_core.specs.declared.statuses.Status.{Status as AnyStatus};
+ghost use Rattle.std.specs.Prelude.{◌≡◌, None, IfErr, IfOk, IfSome, OnOk};
+ghost use Rattle.snapshot_core.specs.Visibility.{had_ended, has_done, is_committed};
+ghost use Rattle.logged_pages.specs.Survives.{Survives};
 ghost use Rattle.page_store.specs.Keeps.{Keeps, Tells, Untold};
 ghost use Rattle.page_store.specs.Outcome.{Outcome};
 ghost use Rattle.heap_rows.specs.StoredRows.{row_of};
 ghost use Rattle.tx_table.specs.LeavesRest.{NamesStatuses};
-ghost use Rattle.tx_table.specs.Statuses.{OfStatuses, shown_status};
-ghost use Rattle.brin_scan.specs.Finds.{OfSight, sees_stored};
-ghost use Rattle.brin_scan.specs.LastStatuses.{AreHeld, IsHeld};
+ghost use Rattle.brin_scan.specs.Finds.{OfSight, Sight, none_read, sees_stored};
+ghost use Rattle.brin_scan.specs.LastStatuses.{Remembers, RemembersOne, StandsSo};
 
 use disk_trait::Disk;
 use engine_pages::PageStore;
 use heap_rows::Stored;
 use page_store::StoreError;
-use snapshot_core::{Snapshot, Status, sees};
+use snapshot_core::{Snapshot, Status};
 use tx_table::TxTable;
 
-/// A transaction, and how it stands.
-#[derive(Clone, Copy)]
+/// A transaction that had ended at the snapshot, and whether it committed.
+#[derive(Clone, Copy, Debug)]
 pub(crate) struct LastStatus {
     pub(crate) number: u64,
-    pub(crate) status: Status,
+    pub(crate) committed: bool,
 }
 
-/// The statuses that a page step read last: of a transaction that put a row, and of one that deleted a row. The deleter of most rows is 0,
-/// which is none.
-#[derive(Clone, Copy)]
+/// What a scan remembers of transactions: of the last one that put a row and whose status it read, and of the last one that deleted a row.
+#[derive(Clone, Copy, Debug)]
 pub(crate) struct LastStatuses {
     pub(crate) put: Option<LastStatus>,
     pub(crate) gone: Option<LastStatus>,
@@ -35,7 +34,7 @@ pub(crate) struct LastStatuses {
 impl LastStatuses {
     /// None is read yet.
     pub(crate) fn new() -> LastStatuses
-        ensures { result ≡ record { put = None; gone = None } }
+        ensures { result ≡ none_read }
     {
         LastStatuses {
             put: None,
@@ -44,8 +43,8 @@ impl LastStatuses {
     }
 }
 
-/// Whether the transaction numbered `own` sees the row with its snapshot. Reads a status only where the row's transaction, or its deleter,
-/// isn't the one read last.
+/// Whether the transaction numbered `own` sees the row with its snapshot: what the one that put it did has happened, and what its deleter
+/// did hasn't.
 pub(crate) fn is_visible<D: Disk + Drop>(
     pages: &mut PageStore<D>,
     tx: &TxTable,
@@ -55,61 +54,94 @@ pub(crate) fn is_visible<D: Disk + Drop>(
     last: &mut LastStatuses,
 ) -> Result<bool, StoreError>
     requires ready { pages.old.failed ≡ None }
-    requires held { OfStatuses D.told pages.old (λ statuses. AreHeld (shown_status tx.now.first statuses) last.old) }
+    requires remembers { Tells D.told pages.old → OfSight pages.old.layout pages.old.pages snapshot.now own tx.now.first (λ sight. Remembers sight last.old) }
     ensures sees { IfOk result (λ visible. Tells D.told pages.old → OfSight pages.old.layout pages.old.pages snapshot.now own tx.now.first (λ sight. visible ≡ sees_stored sight (row_of row.now))) }
-    ensures held { OnOk result (OfStatuses D.told pages.old (λ statuses. AreHeld (shown_status tx.now.first statuses) last.new)) }
+    ensures remembers { OnOk result (Tells D.told pages.old → OfSight pages.old.layout pages.old.pages snapshot.now own tx.now.first (λ sight. Remembers sight last.new)) }
     ensures kept { Keeps D.told pages.old pages.new }
+    ensures survives { Survives D.told (λ passed. passed ≡ pages.old.pages) pages.old pages.new }
     ensures at { IfErr result (NamesStatuses pages.old.layout) }
     ensures outcome { Outcome D.told (Untold D.told pages.old) pages.old pages.new result }
 {
-    let put = match status_of(pages, tx, row.id.t, &mut last.put) {
-        Ok(status) => status,
+    match has_done(pages, tx, snapshot, own, row.id.t, &mut last.put) {
+        Ok(true) => {}
+        Ok(false) => return Ok(false),
         Err(error) => return Err(error),
-    };
-    let gone = match status_of(pages, tx, row.deleter, &mut last.gone) {
-        Ok(status) => status,
-        Err(error) => return Err(error),
-    };
-    Ok(sees(snapshot, own, row.id.t, row.deleter, put, gone))
+    }
+    match has_done(pages, tx, snapshot, own, row.deleter, &mut last.gone) {
+        Ok(gone) => Ok(!gone),
+        Err(error) => Err(error),
+    }
 }
 
-/// How the transaction stands: as it was read last, or as its page says, which is the one read last then.
-fn status_of<D: Disk + Drop>(
+/// Whether what the transaction `t` did has happened for the one numbered `own`. Reads its status only where that tells: not of `own`, of the
+/// number 0, which is none's, or of one that hadn't ended at the snapshot; nor where it is remembered.
+fn has_done<D: Disk + Drop>(
     pages: &mut PageStore<D>,
     tx: &TxTable,
+    snapshot: &Snapshot,
+    own: u64,
     t: u64,
     last: &mut Option<LastStatus>,
-) -> Result<Status, StoreError>
+) -> Result<bool, StoreError>
     requires ready { pages.old.failed ≡ None }
-    requires held { OfStatuses D.told pages.old (λ statuses. IsHeld (shown_status tx.now.first statuses) last.old) }
-    ensures shown { IfOk result (λ status. OfStatuses D.told pages.old (λ statuses. status ≡ shown_status tx.now.first statuses t)) }
-    ensures held { OnOk result (OfStatuses D.told pages.old (λ statuses. IsHeld (shown_status tx.now.first statuses) last.new)) }
+    requires remembers { Tells D.told pages.old → OfSight pages.old.layout pages.old.pages snapshot.now own tx.now.first (λ sight. RemembersOne sight last.old) }
+    ensures done { IfOk result (λ done. Tells D.told pages.old → OfSight pages.old.layout pages.old.pages snapshot.now own tx.now.first (λ sight. done ≡ has_done sight.snapshot sight.own t (sight.status t))) }
+    ensures remembers { OnOk result (Tells D.told pages.old → OfSight pages.old.layout pages.old.pages snapshot.now own tx.now.first (λ sight. RemembersOne sight last.new)) }
     ensures kept { Keeps D.told pages.old pages.new }
+    ensures survives { Survives D.told (λ passed. passed ≡ pages.old.pages) pages.old pages.new }
     ensures at { IfErr result (NamesStatuses pages.old.layout) }
     ensures outcome { Outcome D.told (Untold D.told pages.old) pages.old pages.new result }
 {
-    if let Some(status) = held_status(*last, t) {
-        return Ok(status);
+    pages.known();
+    if t == own {
+        return Ok(true);
+    }
+    if t == 0 {
+        return Ok(false);
+    }
+    if let Some(committed) = remembered(*last, t) {
+        return Ok(committed);
+    }
+    if !had_ended(snapshot, t) {
+        return Ok(false);
     }
     match tx.status(pages, t) {
         Ok(status) => {
-            *last = Some(LastStatus { number: t, status });
-            Ok(status)
+            let committed = is_committed(status);
+            *last = Some(LastStatus {
+                number: t,
+                committed,
+            });
+            Ok(committed)
         }
         Err(error) => Err(error),
     }
 }
 
-/// The status, if it is of that transaction.
-fn held_status(last: Option<LastStatus>, t: u64) -> Option<Status>
-    ensures { (status : ℕ → AnyStatus) → IsHeld status last → IfSome result (λ held. held ≡ status t) }
+/// Whether the transaction committed, if it is the one that is remembered.
+fn remembered(last: Option<LastStatus>, t: u64) -> Option<bool>
+    ensures { (sight : Sight) → RemembersOne sight last → IfSome result (λ committed. StandsSo sight (record { number = t; committed = committed })) }
 {
     let Some(read) = last else {
         return None;
     };
     if read.number == t {
-        Some(read.status)
+        Some(read.committed)
     } else {
         None
     }
+}
+
+/// Whether the transaction had ended when the snapshot was taken.
+fn had_ended(snapshot: &Snapshot, t: u64) -> bool
+    ensures { result ≡ had_ended snapshot.now t }
+{
+    t < snapshot.next && !snapshot.active.as_slice().contains(&t)
+}
+
+/// Whether a transaction that stands so has committed.
+fn is_committed(status: Status) -> bool
+    ensures { result ≡ is_committed status }
+{
+    matches!(status, Status::Committed)
 }

@@ -1,4 +1,4 @@
-use Rattle.std.proofs.Common.{◌≡◌, ℕ, sym, ap, subst, ◌∙◌}
+use Rattle.std.proofs.Common.{ℕ, sym, ap, subst, ◌∙◌}
 use Rattle.heap_rows.specs.HeapBlocks.{HasBlocks}
 use Rattle.brin_scan.specs.declared.stage.Stage.{Stage}
 use Rattle.brin_scan.specs.declared.stage.Stage.TheVariants as stages

@@ -1,5 +1,6 @@
-use Rattle.std.proofs.Common.{◌≡◌, ℕ, get_or, sym, ap, subst, ◌∙◌}
+use Rattle.std.proofs.Common.{ℕ, get_or, sym, ap, subst, ◌∙◌}
 use Rattle.index_contents.specs.IndexContents.{contents}
+use Rattle.index_steps.specs.Readings.{IsMisnamed}
 use Rattle.brin_scan.specs.declared.stage.Stage.{Stage}
 use Rattle.brin_scan.specs.declared.stage.Stage.TheVariants as stages
 use Rattle.brin_scan.specs.IndexReaders.{all_scanned, hand_at}
@@ -36,3 +37,21 @@ returns-in-Ok-None-clause-judged g c = λ tells query candidates is.
     subst (λ (stage : Stage). JudgesTo store.layout store.pages (hand_at query readers (stages.Map c.args.at c.args.range) c.args.extent candidates) (hand_at query readers stage c.args.extent candidates)) (sym c.next_range.ensures)
     (unnamed store.layout store.pages query (all_scanned readers) is c.args.extent c.args.at c.args.range c.requires.at candidates
     (ap (λ (n : ℕ). (contents store.layout store.pages n).entry c.args.range) number ∙ c.in-Ok-None.ensures.entry tells ∙ c.in-Ok-None.field-0-is))
+
+pub returns-in-Ok-Some-clause-undamaged : goal.returns-in-Ok-Some-clause-undamaged
+returns-in-Ok-Some-clause-undamaged g c = λ tells damage.
+    let store = c.args.pages.now in
+    let readers = c.args.readers.now in
+    let reader = get_or readers c.args.at c.index-readers-at.result in
+    let there = ap (get_or readers c.args.at) c.index-readers-at.is in
+    let number = ap (λ (x : ScannedIndex). x.number) (there_is readers c.args.at reader (within readers c.args.at c.requires.at.0) there) in
+    c.in-Ok-Some.ensures.undamaged tells (subst (λ (n : ℕ). IsMisnamed (contents store.layout store.pages n) c.args.range) number damage)
+
+pub returns-in-Ok-None-clause-undamaged : goal.returns-in-Ok-None-clause-undamaged
+returns-in-Ok-None-clause-undamaged g c = λ tells damage.
+    let store = c.args.pages.now in
+    let readers = c.args.readers.now in
+    let reader = get_or readers c.args.at c.index-readers-at.result in
+    let there = ap (get_or readers c.args.at) c.index-readers-at.is in
+    let number = ap (λ (x : ScannedIndex). x.number) (there_is readers c.args.at reader (within readers c.args.at c.requires.at.0) there) in
+    c.in-Ok-None.ensures.undamaged tells (subst (λ (n : ℕ). IsMisnamed (contents store.layout store.pages n) c.args.range) number damage)

@@ -1,4 +1,7 @@
 use Rattle.std.proofs.Common.{◌≡◌, ◌<◌, ℕ, ◌+◌, List, length, get_or, set, sym, ap, subst, ◌∙◌}
+use Rattle.index_contents.specs.IndexContents.{contents}
+use Rattle.index_steps.specs.IndexTuples.{shape_of}
+use Rattle.index_steps.specs.Readings.{IsMisread}
 use Rattle.brin_scan.specs.declared.judging.Judged.TheVariants as verdicts
 use Rattle.brin_scan.specs.declared.stage.Stage.{Stage}
 use Rattle.brin_scan.specs.declared.stage.Stage.TheVariants as stages
@@ -136,3 +139,36 @@ returns-in-Ok-LeftOut-clause-judged g c = λ tells query conds is.
     (subst (λ (s : Stage). JudgesTo store.layout store.pages (hand query indexes c.args.extent (stages.Tuple held.at held.range held.spot) c.args.candidates.now) (hand query indexes c.args.extent s c.leave_out.new.candidates)) (sym stage)
     (left_out store.layout store.pages query indexes is c.args.extent held.at held.range c.requires.at held.spot c.args.candidates.now c.leave_out.new.candidates
     (judged_at store.layout store.pages readers held.at reader held.range held.spot c.args.conds.now query.conds c.in-Ok-LeftOut.field-0 verdicts.LeftOut c.requires.at.0 there conds verdict (says tells)) leaves))
+
+pub returns-in-Ok-Gone-clause-undamaged : goal.returns-in-Ok-Gone-clause-undamaged
+returns-in-Ok-Gone-clause-undamaged g c = λ tells damage.
+    let fine = rw c.in-Ok-Gone.is at c.read_tuple-judged.ensures.undamaged in
+    let store = c.args.pages.now in
+    let held = c.args.held in
+    let readers = c.args.readers.now in
+    let reader = get_or readers held.at c.index-readers-at.result in
+    let there = ap (get_or readers held.at) c.index-readers-at.is in
+    fine tells (subst (λ (i : ScannedIndex). IsMisread (shape_of store.layout i.number) (contents store.layout store.pages i.number) held.range held.spot)
+    (there_is readers held.at reader (within readers held.at c.requires.at.0) there) damage)
+
+pub returns-in-Ok-Kept-clause-undamaged : goal.returns-in-Ok-Kept-clause-undamaged
+returns-in-Ok-Kept-clause-undamaged g c = λ tells damage.
+    let fine = rw c.in-Ok-Kept.is at c.read_tuple-judged.ensures.undamaged in
+    let store = c.args.pages.now in
+    let held = c.args.held in
+    let readers = c.args.readers.now in
+    let reader = get_or readers held.at c.index-readers-at.result in
+    let there = ap (get_or readers held.at) c.index-readers-at.is in
+    fine tells (subst (λ (i : ScannedIndex). IsMisread (shape_of store.layout i.number) (contents store.layout store.pages i.number) held.range held.spot)
+    (there_is readers held.at reader (within readers held.at c.requires.at.0) there) damage)
+
+pub returns-in-Ok-LeftOut-clause-undamaged : goal.returns-in-Ok-LeftOut-clause-undamaged
+returns-in-Ok-LeftOut-clause-undamaged g c = λ tells damage.
+    let fine = rw c.in-Ok-LeftOut.is at c.read_tuple-judged.ensures.undamaged in
+    let store = c.args.pages.now in
+    let held = c.args.held in
+    let readers = c.args.readers.now in
+    let reader = get_or readers held.at c.index-readers-at.result in
+    let there = ap (get_or readers held.at) c.index-readers-at.is in
+    fine tells (subst (λ (i : ScannedIndex). IsMisread (shape_of store.layout i.number) (contents store.layout store.pages i.number) held.range held.spot)
+    (there_is readers held.at reader (within readers held.at c.requires.at.0) there) damage)

@@ -1,4 +1,4 @@
-use Rattle.std.proofs.Common.{◌≡◌, sym, ◌∙◌}
+use Rattle.std.proofs.Common.{sym, ◌∙◌}
 use Rattle.brin_scan.proofs.judging.read_tuple.Goals as goal
 
 pub returns-in-Ok-false-clause-tells : goal.returns-in-Ok-false-clause-tells

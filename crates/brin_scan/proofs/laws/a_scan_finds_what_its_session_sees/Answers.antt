@@ -1,4 +1,4 @@
-use Rattle.std.proofs.Common.{◌≡◌, ℕ, sym, subst}
+use Rattle.std.proofs.Common.{◌≡◌, sym, subst}
 use Rattle.std.specs.Prelude.{IsTrue, Some, false}
 use Rattle.block_model.specs.declared.row.Row.{Row}
 use Rattle.table_coverage.specs.Machines.{table_state, task_turned}

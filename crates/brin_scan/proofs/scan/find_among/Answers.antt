@@ -2,14 +2,14 @@ use Rattle.std.proofs.Common.{◌≡◌, ℕ, ◌+◌, List, [], ◌∷◌, ◌+
 use Rattle.std.proofs.lemmas.List.{drop_more}
 use Rattle.block_model.specs.declared.place.Spot.{Spot}
 use Rattle.block_model.specs.declared.row.Row.{Row}
+use Rattle.engine_pages.specs.SurvivesLaws.{survives_on, survives_still}
 use Rattle.page_store.specs.Keeps.{keeps_on}
 use Rattle.store_layout.specs.DiskLayout.{DiskLayout}
 use Rattle.snapshot_core.specs.declared.statuses.Status.{Status}
 use Rattle.heap_rows.specs.declared.rows.Stored.{Stored}
-use Rattle.tx_table.specs.Statuses.{shown_status}
 use Rattle.brin_scan.specs.Finds.{FaultNamesStatuses, visible_matches}
-use Rattle.brin_scan.specs.LastStatuses.{AreHeld}
-use Rattle.brin_scan.proofs.Held.{keeps_same, none_held, told_after, told_before}
+use Rattle.brin_scan.specs.LastStatuses.{Remembers}
+use Rattle.brin_scan.proofs.Held.{keeps_same, told_after, told_before}
 use Rattle.brin_scan.proofs.Ordered.{IsAhead, begins_ahead, goes_ahead}
 use Rattle.brin_scan.proofs.VisibleRows.{one_more, sight_of}
 use Rattle.brin_scan.proofs.scan.find_among.Goals as goal
@@ -17,16 +17,18 @@ use Rattle.brin_scan.proofs.scan.find_among.Goals as goal
 pub rows-init : goal.rows-init
 rows-init g c = record {
   kept = keeps_same g.D.Disk.told c.args.pages.now;
+  survives = survives_still g.D.Disk.told c.args.pages.now c.known.ensures.stays;
   started = c.requires.ready;
   ready = c.requires.ready;
   ahead = begins_ahead c.args.block c.requires.order.0 c.args.found.now.items c.args.rows.now c.requires.order.1;
   so_far = λ tells statuses has. refl;
-  held = λ tells statuses has. none_held (shown_status c.args.tx.now.first statuses) c.new-last.result c.new-last.ensures;
+  remembers = c.requires.remembers;
 }
 
-pub add_visible-requires-clause-held : goal.add_visible-requires-clause-held
-add_visible-requires-clause-held g c =
-    told_after g.D.Disk.told c.args.pages.now c.rows.pages c.rows.invariant.kept (λ (statuses : List Status). AreHeld (shown_status c.args.tx.now.first statuses) c.rows.last) c.rows.invariant.held
+pub add_visible-requires-clause-remembers : goal.add_visible-requires-clause-remembers
+add_visible-requires-clause-remembers g c =
+    told_after g.D.Disk.told c.args.pages.now c.rows.pages c.rows.invariant.kept (λ (statuses : List Status). Remembers (sight_of c.args.snapshot.now c.args.own c.args.tx.now.first statuses) c.rows.last)
+    c.rows.invariant.remembers
 
 pub rows-preserved : goal.rows-preserved
 rows-preserved g c =
@@ -44,6 +46,7 @@ rows-preserved g c =
     let is : drop i rows ≡ row ∷ rest = drop_more rows i row c.rows-test.true ∙ ap (λ (r : Stored). r ∷ rest) (sym c.row-item.is) in
     record {
       kept = keeps_on told first mid c.add_visible.new.pages c.rows.invariant.kept c.in-Ok.ensures.kept;
+      survives = survives_on told first mid c.add_visible.new.pages c.rows.invariant.kept c.rows.invariant.survives c.in-Ok.ensures.survives;
       started = c.requires.ready;
       ready = c.in-Ok.ensures.outcome.1;
       ahead = goes_ahead query.table block c.args.found.now.items found found' row rest (subst (λ (l : List Stored). IsAhead block c.args.found.now.items found l) is c.rows.invariant.ahead) c.in-Ok.ensures.added;
@@ -53,8 +56,12 @@ rows-preserved g c =
           one_more sight query block row rest found found' all
           (told_before told first mid c.rows.invariant.kept (λ (l : List Status). found' ≡ found ++ visible_matches (sight_of c.args.snapshot.now c.args.own c.args.tx.now.first l) query block (row ∷ [])) c.in-Ok.ensures.visible tells statuses has)
           (subst (λ (l : List Stored). found ++ visible_matches sight query block l ≡ all) is (c.rows.invariant.so_far tells statuses has));
-      held = told_before told first mid c.rows.invariant.kept (λ (statuses : List Status). AreHeld (shown_status c.args.tx.now.first statuses) c.add_visible.new.last) c.in-Ok.ensures.held;
+      remembers = told_before told first mid c.rows.invariant.kept (λ (statuses : List Status). Remembers (sight_of c.args.snapshot.now c.args.own c.args.tx.now.first statuses) c.add_visible.new.last)
+          c.in-Ok.ensures.remembers;
     }
 
 pub returns-in-Err-clause-names : goal.returns-in-Err-clause-names
 returns-in-Err-clause-names g c = subst (λ (l : DiskLayout). FaultNamesStatuses l c.in-Err.fault) c.rows.invariant.kept.leaves.layout c.in-Err.ensures.names
+
+pub returns-in-Err-clause-survives : goal.returns-in-Err-clause-survives
+returns-in-Err-clause-survives g c = survives_on g.D.Disk.told c.args.pages.now c.rows.pages c.add_visible.new.pages c.rows.invariant.kept c.rows.invariant.survives c.in-Err.ensures.survives

@@ -1,4 +1,4 @@
-use Rattle.std.proofs.Common.{◌≡◌, ap, subst, ◌∙◌}
+use Rattle.std.proofs.Common.{ap, subst, ◌∙◌}
 use Rattle.page_locks.specs.declared.did.Did.TheVariants as did
 use Rattle.brin_scan.specs.Explains.{ExplainHand, ExplainSteps}
 use Rattle.brin_scan.specs.ScanSteps.{point_at}

@@ -14,8 +14,8 @@ returns-then-is_judged-clause-stepped g c = λ tells sight.
     let self = c.self.inside in
     let judging = c.step.new.self in
     let next = c.next_candidate-self-inside.result in
-    let old : FindHand = record { judging = self.judging; read = self.read; next = self.next; found = self.found.items; room = self.rows.room } in
-    let new : FindHand = record { judging = judging; read = self.read; next = next; found = self.found.items; room = self.rows.room } in
+    let old : FindHand = record { judging = self.judging; read = self.read; next = self.next; found = self.found.items; last = self.last; room = self.rows.room } in
+    let new : FindHand = record { judging = judging; read = self.read; next = next; found = self.found.items; last = self.last; room = self.rows.room } in
     let work : IsJudging self.judging.stage = subst (λ (h : FindHand). IsJudging h.judging.stage) (sym c.self.view_is) c.requires.work in
     let none : self.read ≡ 0 = reads_none self.judging.stage old work c.self.invariant.at in
     let first : IsNext judging.candidates 0 next = subst (λ (l : List Bool). IsNext l 0 next) c.candidates.ensures c.next_candidate-self-inside.ensures in
@@ -30,8 +30,8 @@ returns-else-is_judged-clause-stepped g c = λ tells sight.
     let store = c.args.pages.now in
     let self = c.self.inside in
     let judging = c.step.new.self in
-    let old : FindHand = record { judging = self.judging; read = self.read; next = self.next; found = self.found.items; room = self.rows.room } in
-    let new : FindHand = record { judging = judging; read = self.read; next = self.next; found = self.found.items; room = self.rows.room } in
+    let old : FindHand = record { judging = self.judging; read = self.read; next = self.next; found = self.found.items; last = self.last; room = self.rows.room } in
+    let new : FindHand = record { judging = judging; read = self.read; next = self.next; found = self.found.items; last = self.last; room = self.rows.room } in
     let point = c.point_at-point.ensures ∙ ap point_at c.stage.ensures in
     subst (λ (h : FindHand). FindSteps store.layout store.pages sight h new (did.Moved c.point_at-point.result)) c.self.view_is
     (goes_on store.layout store.pages sight old judging c.step.ensures.scan.indexes c.step.ensures.query (c.in-Ok.ensures.judged tells) c.point_at-point.result point

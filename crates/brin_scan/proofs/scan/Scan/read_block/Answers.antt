@@ -1,5 +1,4 @@
-use Rattle.std.proofs.Common.{◌≡◌, ℕ, ◌+◌, ◌++◌, Bool, List, Option, Some, sym, ap, subst, ◌∙◌}
-use Rattle.block_model.specs.declared.reply.Point.TheVariants as points
+use Rattle.std.proofs.Common.{◌≡◌, ℕ, ◌+◌, ◌++◌, Bool, List, Some, sym, ap, subst, ◌∙◌}
 use Rattle.block_model.specs.declared.row.Query.{Query}
 use Rattle.page_layout.specs.PageContents.{Slot}
 use Rattle.page_locks.specs.declared.did.Did.{Did}
@@ -16,12 +15,12 @@ invariant_of-self-2 g c =
     let self = c.self.inside in
     let b : ℕ = c.args.block in
     let next = c.next_candidate-self-inside.result in
-    let was : FindHand = record { judging = self.judging; read = self.read; next = self.next; found = self.found.items; room = self.rows.room } in
+    let was : FindHand = record { judging = self.judging; read = self.read; next = self.next; found = self.found.items; last = self.last; room = self.rows.room } in
     let hand : FindHand = record was { room = c.find_on.new.rows.room } in
     let finding : IsFinding hand = subst (λ (n : ℕ). IsFinding (record was { room = n })) (sym c.find_on.ensures.room) c.self.invariant in
     let is : self.next ≡ Some b = ap (λ (h : FindHand). h.next) c.self.view_is ∙ c.requires.next in
     let first : IsNext self.judging.candidates (b + 1) next = subst (λ (l : List Bool). IsNext l (b + 1) next) c.candidates.ensures c.next_candidate-self-inside.ensures in
-    read_on hand b next c.find_on.new.found.items (reads_next hand b is finding) finding c.in-Ok.ensures.order first
+    read_on hand b next c.find_on.new.found.items c.find_on.new.last (reads_next hand b is finding) finding c.in-Ok.ensures.order first
 
 pub returns-clause-stepped : goal.returns-clause-stepped
 returns-clause-stepped g c = λ tells statuses had.
@@ -31,8 +30,8 @@ returns-clause-stepped g c = λ tells statuses had.
     let next = c.next_candidate-self-inside.result in
     let found = c.find_on.new.found.items in
     let sight = sight_of c.args.snapshot.now c.args.own c.args.tx.now.first statuses in
-    let old : FindHand = record { judging = self.judging; read = self.read; next = self.next; found = self.found.items; room = self.rows.room } in
-    let new : FindHand = record { judging = self.judging; read = b + 1; next = next; found = found; room = self.rows.room } in
+    let old : FindHand = record { judging = self.judging; read = self.read; next = self.next; found = self.found.items; last = self.last; room = self.rows.room } in
+    let new : FindHand = record { judging = self.judging; read = b + 1; next = next; found = found; last = c.find_on.new.last; room = self.rows.room } in
     let is : self.next ≡ Some b = ap (λ (h : FindHand). h.next) c.self.view_is ∙ c.requires.next in
     let reads = reads_next old b is c.self.invariant in
     let first : IsNext self.judging.candidates (b + 1) next = subst (λ (l : List Bool). IsNext l (b + 1) next) c.candidates.ensures c.next_candidate-self-inside.ensures in
