@@ -1,14 +1,31 @@
 //! Openings over pages in a given state.
 
+ghost use Rattle.std.specs.Prelude.{◌<◌};
+
 use crate::pages::{disk_with, page_with, put_page, unstarted_store};
-use crate::steps::{Answer, Step, difference};
+use crate::steps::{Answer, Difference, Step, difference};
 use crate::trial::opened;
+use block_model::PAGE_SIZE;
 use disk_trait::Disk;
 use engine_pages::PageStore;
 use snapshot_core::Status;
 use std::alloc::Global;
 use std::test::Fail;
 use tx_table::TxTable;
+
+/// The first step that isn't answered so, over a store whose page of statuses has that value in the byte and else zeros.
+fn difference_over(
+    alloc: Global,
+    at: usize,
+    value: u8,
+    steps: &[(Step, Answer)],
+) -> Result<Difference, Fail>
+    requires { at < PAGE_SIZE }
+{
+    let disk = disk_with(alloc, &page_with(at, value)).ok_or("disk")?;
+    let mut trial = opened(alloc, disk).ok_or("trial")?;
+    Ok(difference(&mut trial, steps))
+}
 
 const FOURTH: [(Step, Answer); 6] = [
     (Step::Next, Answer::Number(4)),
@@ -22,9 +39,8 @@ const FOURTH: [(Step, Answer); 6] = [
 #[test]
 fn the_next_number_is_one_above_the_greatest_that_is_used(rt: HostRuntime) -> Result<(), Fail> {
     // Entry 1 is begun, entry 2 committed and entry 3 rolled back: 1 times 4, 2 times 16 and 3 times 64.
-    let disk = disk_with(rt.alloc(), &page_with(32, 228)).ok_or("disk")?;
-    let mut trial = opened(rt.alloc(), disk).ok_or("trial")?;
-    assert_eq!(rt; difference(&mut trial, &FOURTH), None);
+    let found = difference_over(rt.alloc(), 32, 228, &FOURTH)?;
+    assert_eq!(rt; found, None);
     Ok(())
 }
 
@@ -39,9 +55,8 @@ const LAST: [(Step, Answer); 5] = [
 #[test]
 fn the_last_number_is_given_and_then_none(rt: HostRuntime) -> Result<(), Fail> {
     // Entry 32638 is committed, and entry 32639 is the page's last one.
-    let disk = disk_with(rt.alloc(), &page_with(8191, 32)).ok_or("disk")?;
-    let mut trial = opened(rt.alloc(), disk).ok_or("trial")?;
-    assert_eq!(rt; difference(&mut trial, &LAST), None);
+    let found = difference_over(rt.alloc(), 8191, 32, &LAST)?;
+    assert_eq!(rt; found, None);
     Ok(())
 }
 
@@ -62,7 +77,13 @@ fn told<D: Disk + Drop>(pages: &mut PageStore<D>, list: [u64; 3]) -> Option<(u64
     Some((table.next(), [first, second, third]))
 }
 
-/// The same, where of two blocks the second alone is started, as that page.
+/// The same of a store of two blocks of statuses, neither of which is started.
+fn told_of_unstarted(alloc: Global, list: [u64; 3]) -> Option<(u64, [Status; 3])> {
+    let mut pages = unstarted_store(alloc, 2)?;
+    told(&mut pages, list)
+}
+
+/// The same, where the second block alone is started, as that page.
 fn told_of_second(alloc: Global, list: [u64; 3]) -> Option<(u64, [Status; 3])> {
     let mut pages = unstarted_store(alloc, 2)?;
     // Entry 5 is committed.
@@ -75,8 +96,7 @@ fn told_of_second(alloc: Global, list: [u64; 3]) -> Option<(u64, [Status; 3])> {
 #[test]
 fn a_page_that_is_not_started_has_unused_numbers(rt: HostRuntime) -> Result<(), Fail> {
     let unused = Status::Unused;
-    let mut fresh = unstarted_store(rt.alloc(), 2).ok_or("store")?;
-    let new = told(&mut fresh, [0, 1, 2]);
+    let new = told_of_unstarted(rt.alloc(), [0, 1, 2]);
     let second = told_of_second(rt.alloc(), [5, 32645, 65280]);
     let wanted = Some((32646, [unused, Status::Committed, unused]));
     assert_eq!(rt; (new, second), (Some((1, [unused; 3])), wanted));

@@ -1,5 +1,5 @@
-//! Steps over a trial, each with its answer. A test is a list of them, which it asserts at once: a test that held the store itself would
-//! be dear to prove.
+//! Steps over a trial, each with its answer. A test is a list of them, which it asserts at once, and holds no store: its drop at each
+//! way out would be dear to prove.
 
 use crate::trial::Trial;
 use disk_trait::Disk;
@@ -34,11 +34,11 @@ pub enum Answer {
     Refused,
 }
 
-/// The first step that isn't answered so, by its place in the list, with what it is answered.
-pub fn difference<D: Disk + Drop>(
-    trial: &mut Trial<D>,
-    steps: &[(Step, Answer)],
-) -> Option<(usize, Answer)> {
+/// A step that is answered otherwise, by its place in the list, with what it is answered.
+pub type Difference = Option<(usize, Answer)>;
+
+/// The first step that isn't answered so.
+pub fn difference<D: Disk + Drop>(trial: &mut Trial<D>, steps: &[(Step, Answer)]) -> Difference {
     for (at, (step, answer)) in steps.iter().enumerate() {
         let found = answer_to(trial, *step);
         if found != *answer {

@@ -1,7 +1,7 @@
 //! Transactions that begin and end.
 
 use crate::pages::new_disk;
-use crate::steps::{Answer, Step, difference};
+use crate::steps::{Answer, Difference, Step, difference};
 use crate::trial::{Trial, opened};
 use disk_trait::SteadyDisk;
 use snapshot_core::Status;
@@ -11,6 +11,24 @@ use std::test::Fail;
 /// The table over a new store.
 fn new_trial(alloc: Global) -> Option<Trial<SteadyDisk>> {
     opened(alloc, new_disk(alloc)?)
+}
+
+/// The first step that isn't answered so, over a new store.
+fn difference_over_new(alloc: Global, steps: &[(Step, Answer)]) -> Result<Difference, Fail> {
+    let mut trial = new_trial(alloc).ok_or("trial")?;
+    Ok(difference(&mut trial, steps))
+}
+
+/// The same of two lists, where the disk is opened again before the second.
+fn differences_of_openings(
+    alloc: Global,
+    first: &[(Step, Answer)],
+    second: &[(Step, Answer)],
+) -> Result<[Difference; 2], Fail> {
+    let mut trial = new_trial(alloc).ok_or("trial")?;
+    let before = difference(&mut trial, first);
+    let mut trial = trial.opened_again(alloc).ok_or("trial")?;
+    Ok([before, difference(&mut trial, second)])
 }
 
 const NUMBERED: [(Step, Answer); 15] = [
@@ -34,8 +52,8 @@ const NUMBERED: [(Step, Answer); 15] = [
 
 #[test]
 fn transactions_are_numbered_from_1_and_keep_their_statuses(rt: HostRuntime) -> Result<(), Fail> {
-    let mut trial = new_trial(rt.alloc()).ok_or("trial")?;
-    assert_eq!(rt; difference(&mut trial, &NUMBERED), None);
+    let found = difference_over_new(rt.alloc(), &NUMBERED)?;
+    assert_eq!(rt; found, None);
     Ok(())
 }
 
@@ -56,11 +74,8 @@ const OPENED_AGAIN: [(Step, Answer); 4] = [
 fn a_transaction_that_never_ended_is_rolled_back_by_the_opening(
     rt: HostRuntime,
 ) -> Result<(), Fail> {
-    let mut trial = new_trial(rt.alloc()).ok_or("trial")?;
-    let first = difference(&mut trial, &ONE_ENDS);
-    let mut trial = trial.opened_again(rt.alloc()).ok_or("trial")?;
-    let second = difference(&mut trial, &OPENED_AGAIN);
-    assert_eq!(rt; (first, second), (None, None));
+    let found = differences_of_openings(rt.alloc(), &ONE_ENDS, &OPENED_AGAIN)?;
+    assert_eq!(rt; found, [None, None]);
     Ok(())
 }
 
@@ -76,7 +91,7 @@ const TWO_AT_ONCE: [(Step, Answer); 7] = [
 
 #[test]
 fn several_transactions_commit_at_once(rt: HostRuntime) -> Result<(), Fail> {
-    let mut trial = new_trial(rt.alloc()).ok_or("trial")?;
-    assert_eq!(rt; difference(&mut trial, &TWO_AT_ONCE), None);
+    let found = difference_over_new(rt.alloc(), &TWO_AT_ONCE)?;
+    assert_eq!(rt; found, None);
     Ok(())
 }
