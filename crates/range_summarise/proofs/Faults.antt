@@ -1,7 +1,7 @@
 -- faults of steps
 use Rattle.std.proofs.Common.{◌≡◌, ℕ, false, sym}
 use Rattle.std.proofs.lemmas.Bool.{false≢true}
-use Rattle.std.specs.Prelude.{Result, Ok, Err}
+use Rattle.std.specs.Prelude.{Err}
 use Rattle.disk_trait.specs.Told.{Told}
 use Rattle.store_layout.specs.DiskLayout.{DiskLayout}
 use Rattle.page_store.specs.declared.faults.MachineFault.{MachineFault}
