@@ -36,13 +36,11 @@ pub fn other_path(
     trial: &mut Trial,
     paths: &[(&str, &[Point])],
 ) -> Option<(usize, Vec<Point>)> {
-    let mut at = 0;
-    for (line, path) in paths {
+    for (at, (line, path)) in paths.iter().enumerate() {
         let made = points(alloc, trial, line).unwrap_or(Vec::new(alloc));
         if made.as_slice() != *path {
             return Some((at, made));
         }
-        at += 1;
     }
     None
 }

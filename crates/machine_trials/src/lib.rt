@@ -4,6 +4,7 @@
 //! no part of a trial, and neither is its journal. Tests alone stand on it. It stands on the machines, tx_table and the crates of lines.
 #![tactic(auto)]
 
+mod beginnings;
 mod names;
 mod quiet_disk;
 mod reading;

@@ -1,5 +1,7 @@
 //! Lines of sessions, and what they are answered.
 
+ghost use Rattle.query_words.specs.LineFits.{FitsLine, FitsOrder};
+
 use crate::names::{name_of, relation_name, session_of};
 use crate::trial::Trial;
 use crate::turns::Turn;
@@ -35,14 +37,12 @@ pub struct WrongAnswer {
 
 /// The first line of the script that isn't answered so. An answer of several lines has `\n` between them.
 pub fn first_wrong(alloc: Global, trial: &mut Trial, script: &[(&str, &str)]) -> Option<WrongAnswer> {
-    let mut line = 0;
-    for (said, wanted) in script {
+    for (line, (said, wanted)) in script.iter().enumerate() {
         let told = answer(alloc, trial, said.as_bytes()).unwrap_or(Vec::new(alloc));
         if told.as_slice() != wanted.as_bytes() {
             let told = String::from_utf8(told).unwrap_or(String::new(alloc));
             return Some(WrongAnswer { line, told });
         }
-        line += 1;
     }
     None
 }
@@ -50,18 +50,29 @@ pub fn first_wrong(alloc: Global, trial: &mut Trial, script: &[(&str, &str)]) ->
 /// What the line is answered; `None` where the trial doesn't know what to do with it.
 fn answer(alloc: Global, trial: &mut Trial, line: &[u8]) -> Option<Vec<u8>> {
     let mut out = Vec::new(alloc);
-    let read = read_line_in(alloc, &VERBS, line, trial.layout()).ok()?;
-    match read {
-        Line::Nothing => return None,
-        Line::Say { session, order } => say(trial, &session, order, &mut out)?,
+    match read_line_in(alloc, &VERBS, line, trial.layout()) {
+        Ok(line) => obey(trial, line, &mut out)?,
+        Err(_) => return None,
     }
     // Without the last line feed.
     out.pop();
     Some(out)
 }
 
+/// Does what the line says, and appends the answer.
+fn obey(trial: &mut Trial, line: Line, out: &mut Vec<u8>) -> Option<()>
+    requires { FitsLine trial.old.schema line }
+{
+    match line {
+        Line::Nothing => None,
+        Line::Say { session, order } => say(trial, &session, order, out),
+    }
+}
+
 /// Does what the session says, and appends the answer.
-fn say(trial: &mut Trial, name: &Name, order: Order, out: &mut Vec<u8>) -> Option<()> {
+fn say(trial: &mut Trial, name: &Name, order: Order, out: &mut Vec<u8>) -> Option<()>
+    requires { FitsOrder trial.old.schema order }
+{
     let session = session_of(name)?;
     match order {
         Order::Whole(Statement::Begin) => {
@@ -114,7 +125,7 @@ fn tell(trial: &Trial, name: &Name, turn: Turn, out: &mut Vec<u8>) -> Option<()>
             blocked(What::Page { relation, block }, held.by)?
         }
         Turn::NoRight { table, by } => {
-            let table = relation_name(trial.layout(), table + 1)?;
+            let table = relation_name(trial.layout(), table.checked_add(1)?)?;
             blocked(What::Work { table }, by)?
         }
         Turn::Full { relation, number } => {
@@ -134,16 +145,10 @@ fn blocked(what: What, by: u32) -> Option<Reply> {
 
 /// The points of the steps of the line's statement, up to its last one; `None` where one isn't made.
 pub fn points(alloc: Global, trial: &mut Trial, line: &str) -> Option<Vec<Point>> {
-    let read = read_line_in(alloc, &VERBS, line.as_bytes(), trial.layout()).ok()?;
-    let (name, statement) = match read {
-        Line::Say {
-            session,
-            order: Order::Whole(statement),
-        } => (session, statement),
-        _ => return None,
+    let session = match read_line_in(alloc, &VERBS, line.as_bytes(), trial.layout()) {
+        Ok(line) => begin(trial, line)?,
+        Err(_) => return None,
     };
-    let session = session_of(&name)?;
-    trial.start(session, statement)?;
     let mut points = Vec::new(alloc);
     for _ in 0..MAX_STEPS {
         match trial.step(session) {
@@ -156,4 +161,28 @@ pub fn points(alloc: Global, trial: &mut Trial, line: &str) -> Option<Vec<Point>
         }
     }
     None
+}
+
+/// The session begins the line's statement, and makes no step of it; answers the session's number.
+fn begin(trial: &mut Trial, line: Line) -> Option<usize>
+    requires { FitsLine trial.old.schema line }
+{
+    match line {
+        Line::Nothing => None,
+        Line::Say { session, order } => begin_order(trial, &session, order),
+    }
+}
+
+/// The session begins the statement of that name; answers its number.
+fn begin_order(trial: &mut Trial, name: &Name, order: Order) -> Option<usize>
+    requires { FitsOrder trial.old.schema order }
+{
+    let session = session_of(name)?;
+    match order {
+        Order::Whole(statement) => {
+            trial.start(session, statement)?;
+            Some(session)
+        }
+        _ => None,
+    }
 }

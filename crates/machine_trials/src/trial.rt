@@ -1,20 +1,25 @@
 //! A store with its sessions.
 
-use crate::names::{SESSIONS, name_of, relation_name, session_of};
+ghost use Rattle.std.specs.Prelude.{◌≡◌, ◌<◌, ◌≤◌, All, length, IfOk, IfSome};
+ghost use Rattle.store_layout.specs.DiskLayout.{DiskLayout};
+ghost use Rattle.query_words.specs.LineFits.{FitsStatement};
+ghost use Rattle.tx_table.specs.TxState.{IsOver};
+ghost use Rattle.machine_trials.specs.Works.{IsWorkOf, max_tables};
+
+use crate::beginnings::work_for;
+use crate::names::SESSIONS;
 use crate::quiet_disk::QuietDisk;
-use crate::transactions::{Open, begun, commits};
+use crate::transactions::{Open, begun, commits, next_row};
 use crate::turns::{Turn, turn_explain, turn_insert, turn_select, turn_summarise};
 use crate::work::Work;
-use block_model::{Point, Refusal, Reply, Row, RowId, Sizes, Values, What, Words};
-use brin_insert::Insert;
-use brin_scan::{Explain, Scan};
-use brin_summarise::{Summarise, Wish};
+use block_model::{NoMemory, Sizes, Words};
+use disk_trait::Disk;
 use engine_pages::PageStore;
-use index_steps::declared_index;
 use page_locks::{Locks, Rights};
 use schema_words::read_declarations;
 use statements::Statement;
 use std::alloc::Global;
+use std::marker::Model;
 use std::mem;
 use store_format::format;
 use store_layout::Layout;
@@ -22,6 +27,9 @@ use tx_table::TxTable;
 
 /// How many locks may be held at once: three a session.
 const LOCKS: u32 = 12;
+
+/// Tables that a store has at most.
+const MAX_TABLES: u8 = 8;
 
 /// A store, and what its sessions have in hand.
 #[derive(Drop)]
@@ -34,6 +42,19 @@ pub struct Trial {
     tx: TxTable,
     open: Vec<Option<Open>>,
     works: Vec<Work>,
+}
+
+impl Model for Trial {
+    ghost use Rattle.std.specs.Prelude.{◌≡◌, All, length};
+    ghost use Rattle.store_layout.specs.DiskLayout.{DiskLayout};
+    ghost use Rattle.tx_table.specs.TxState.{IsOver};
+    ghost use Rattle.machine_trials.specs.Works.{IsWorkOf, max_tables};
+
+    ghost Value = { DiskLayout };
+
+    ghost view = { λ a. a.pages.value.layout };
+
+    ghost invariant = { λ a. IsOver (⟦<QuietDisk as Disk>⟧.told) a.tx a.pages.value × (length a.rights ≡ max_tables) × All (IsWorkOf a.pages.value.layout) a.works.items };
 }
 
 /// A new store of the tables and indexes that are declared so.
@@ -49,82 +70,113 @@ fn store(alloc: Global, declarations: &[&str], sizes: Sizes) -> Option<PageStore
     PageStore::start(alloc, disk).ok()
 }
 
+/// No session has anything in hand.
+fn no_works(alloc: Global) -> Result<Vec<Work>, NoMemory>
+    ensures { IfOk result (λ works. (layout : DiskLayout) → All (IsWorkOf layout) works.items) }
+{
+    let mut works = Vec::new(alloc);
+    'sessions: for _ in SESSIONS {
+        works.push(Work::Nothing)?;
+    }
+    Ok(works)
+}
+
+/// Whether nothing is in hand.
+fn is_idle(work: &Work) -> bool {
+    matches!(work, Work::Nothing)
+}
+
+/// Nobody has the summarise lock of a table.
+fn no_rights(alloc: Global) -> Option<Rights>
+    ensures { IfSome result (λ rights. length rights ≡ max_tables) }
+{
+    match Rights::new(alloc, MAX_TABLES) {
+        Ok(rights) => Some(rights),
+        Err(_) => None,
+    }
+}
+
+/// No session has begun a transaction.
+fn no_transactions(alloc: Global) -> Option<Vec<Option<Open>>> {
+    let mut open = Vec::new(alloc);
+    for _ in SESSIONS {
+        open.push(None).ok()?;
+    }
+    Some(open)
+}
+
 impl Trial {
     /// A new store of the tables and indexes that are declared so, and no session has anything in hand.
     pub fn new(alloc: Global, declarations: &[&str], sizes: Sizes) -> Option<Trial> {
-        let mut pages = Box::new(alloc, store(alloc, declarations, sizes)?).ok()?;
-        let tx = TxTable::start(&mut pages).ok()?;
-        let mut open = Vec::new(alloc);
-        let mut works = Vec::new(alloc);
-        for _ in SESSIONS {
-            open.push(None).ok()?;
-            works.push(Work::Nothing).ok()?;
+        let pages = store(alloc, declarations, sizes)?;
+        let mut pages = Box::new(alloc, pages).ok()?;
+        let locks = Locks::new(alloc, LOCKS).ok()?;
+        let rights = no_rights(alloc)?;
+        let open = no_transactions(alloc)?;
+        let works = match no_works(alloc) {
+            Ok(works) => works,
+            Err(_) => return None,
+        };
+        match TxTable::start(&mut pages) {
+            Ok(tx) => Some(Trial {
+                alloc,
+                pages,
+                locks,
+                rights,
+                tx,
+                open,
+                works,
+            }),
+            Err(_) => None,
         }
-        Some(Trial {
-            alloc,
-            pages,
-            locks: Locks::new(alloc, LOCKS).ok()?,
-            rights: Rights::new(alloc, 8).ok()?,
-            tx,
-            open,
-            works,
-        })
     }
 
     /// The layout.
-    pub fn layout(&self) -> &Layout {
+    pub fn layout(&self) -> &Layout
+        ensures { result.now ≡ self.now }
+    {
         self.pages.layout()
     }
 
     /// The session begins a statement; `None` where none is begun.
-    pub fn start(&mut self, session: usize, statement: Statement) -> Option<()> {
+    pub fn start(&mut self, session: usize, statement: Statement) -> Option<()>
+        requires { FitsStatement self.old.schema statement }
+        ensures { self.new ≡ self.old }
+    {
         if session >= self.works.len() {
             return None;
         }
-        let work = match statement {
-            Statement::Insert { table, values } => {
-                let id = self.next_row(session)?;
-                let row = Row { table, id, values };
-                Work::Insert(id, Insert::new(self.alloc, row, self.pages.layout()).ok()?)
-            }
-            Statement::Select(query) => Work::Select(Scan::new(self.alloc, query, self.pages.layout()).ok()?),
-            Statement::Explain(query) => Work::Explain(Explain::new(self.alloc, query, self.pages.layout()).ok()?),
-            Statement::Summarize { index, block } => {
-                let wish = match block {
-                    Some(block) => Wish::Block(block),
-                    None => Wish::New,
-                };
-                let layout = self.pages.layout();
-                let table = declared_index(layout, index).table;
-                Work::Summarise(table, Summarise::new(self.alloc, index, wish, layout).ok()?)
-            }
-            _ => return None,
-        };
-        self.works[session] = work;
+        if !is_idle(&self.works[session]) {
+            return None;
+        }
+        let alloc = self.alloc;
+        let id = next_row(&mut self.open, session);
+        let work = work_for(alloc, self.pages.layout(), id, statement)?;
+        put_work(&mut self.works, session, work);
         Some(())
     }
 
-    /// The id of the next row of the session's transaction.
-    fn next_row(&mut self, session: usize) -> Option<RowId> {
-        let open = match &mut self.open[session] {
-            Some(open) => open,
-            None => return None,
-        };
-        let k = open.rows;
-        open.rows = k.checked_add(1)?;
-        Some(RowId { t: open.t, k })
-    }
-
     /// The session begins a transaction, and is told its number.
-    pub fn begin(&mut self, session: usize) -> Option<u64> {
-        let open = begun(self.alloc, &mut self.tx, &mut self.pages, self.open.as_slice())?;
+    pub fn begin(&mut self, session: usize) -> Option<u64>
+        ensures { self.new ≡ self.old }
+    {
+        if session >= self.open.len() {
+            return None;
+        }
+        let alloc = self.alloc;
+        let open = begun(alloc, &mut self.tx, &mut self.pages, self.open.as_slice())?;
         let t = open.t;
         self.open[session] = Some(open);
         Some(t)
     }
 
     /// The session commits its transaction.
-    pub fn commit(&mut self, session: usize) -> Option<()> {
+    pub fn commit(&mut self, session: usize) -> Option<()>
+        ensures { self.new ≡ self.old }
+    {
+        if session >= self.open.len() {
+            return None;
+        }
         let open = mem::replace(&mut self.open[session], None)?;
         if commits(&mut self.tx, &mut self.pages, open.t) {
             Some(())
@@ -134,27 +186,82 @@ impl Trial {
     }
 
     /// The next step of what the session has in hand.
-    pub fn step(&mut self, session: usize) -> Turn {
-        let actor = session as u32;
-        let work = mem::replace(&mut self.works[session], Work::Nothing);
-        let (work, turn) = match work {
-            Work::Nothing => (Work::Nothing, Turn::Failed),
-            Work::Insert(id, insert) => turn_insert(id, insert, &mut self.pages, &mut self.locks, actor),
-            Work::Summarise(table, summarise) => turn_summarise(
-                table,
-                summarise,
-                &mut self.pages,
-                &mut self.locks,
-                &mut self.rights,
-                actor,
-            ),
-            Work::Explain(explain) => turn_explain(self.alloc, explain, &mut self.pages),
-            Work::Select(scan) => match &self.open[session] {
-                Some(open) => turn_select(self.alloc, scan, &mut self.pages, &self.tx, open),
-                None => (Work::Nothing, Turn::Failed),
-            },
+    pub fn step(&mut self, session: usize) -> Turn
+        ensures { self.new ≡ self.old }
+    {
+        if session >= self.works.len() {
+            return Turn::Failed;
+        }
+        let Ok(actor) = u32::try_from(session) else {
+            return Turn::Failed;
         };
-        self.works[session] = work;
+        let work = take_work(&mut self.works, session);
+        let open = match self.open.get(session) {
+            Some(Some(open)) => Some(open),
+            _ => None,
+        };
+        let (work, turn) = turn_of(
+            self.alloc,
+            work,
+            &mut self.pages,
+            &mut self.locks,
+            &mut self.rights,
+            &self.tx,
+            open,
+            actor,
+        );
+        put_work(&mut self.works, session, work);
         turn
+    }
+}
+
+/// The work of that number; nothing is in hand in its place.
+fn take_work(works: &mut Vec<Work>, at: usize) -> Work
+    requires { at < length works.old.items }
+    ensures work { (layout : DiskLayout) → All (IsWorkOf layout) works.old.items → IsWorkOf layout result }
+    ensures others { (layout : DiskLayout) → All (IsWorkOf layout) works.old.items → All (IsWorkOf layout) works.new.items }
+    ensures same { length works.new.items ≡ length works.old.items }
+{
+    mem::replace(&mut works[at], Work::Nothing)
+}
+
+/// This work is in hand there.
+fn put_work(works: &mut Vec<Work>, at: usize, work: Work)
+    requires { at < length works.old.items }
+    ensures { (layout : DiskLayout) → IsWorkOf layout work → All (IsWorkOf layout) works.old.items → All (IsWorkOf layout) works.new.items }
+{
+    works[at] = work;
+}
+
+/// A step of the work.
+fn turn_of(
+    alloc: Global,
+    work: Work,
+    pages: &mut PageStore<QuietDisk>,
+    locks: &mut Locks,
+    rights: &mut Rights,
+    tx: &TxTable,
+    open: Option<&Open>,
+    actor: u32,
+) -> (Work, Turn)
+    requires work { IsWorkOf pages.old.layout work }
+    requires rights { length rights.old ≡ max_tables }
+    requires over { IsOver (⟦<QuietDisk as Disk>⟧.told) tx.now pages.old }
+    ensures work { IsWorkOf pages.new.layout result.0 }
+    ensures rights { length rights.new ≡ max_tables }
+    ensures layout { pages.new.layout ≡ pages.old.layout }
+    ensures over { IsOver (⟦<QuietDisk as Disk>⟧.told) tx.now pages.new }
+{
+    match work {
+        Work::Nothing => (Work::Nothing, Turn::Failed),
+        Work::Insert(id, insert) => turn_insert(id, insert, pages, locks, actor),
+        Work::Summarise(table, summarise) => {
+            turn_summarise(table, summarise, pages, locks, rights, actor)
+        }
+        Work::Explain(explain) => turn_explain(alloc, explain, pages),
+        Work::Select(scan) => match open {
+            Some(open) => turn_select(alloc, scan, pages, tx, open),
+            None => (Work::Nothing, Turn::Failed),
+        },
     }
 }
