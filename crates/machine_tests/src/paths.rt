@@ -11,7 +11,10 @@ const TWO_INDEXES: [&str; 3] = [
     "index j on t(a minmax) pages_per_range 1",
 ];
 
-const BEGUN: [(&str, &str); 2] = [("s1 begin", "s1 begun 1"), ("s1 explain t", "s1 blocks none")];
+const BEGUN: [(&str, &str); 2] = [
+    ("s1 begin", "s1 begun 1"),
+    ("s1 explain t", "s1 blocks none"),
+];
 
 const PATHS: [(&str, &[Point]); 11] = [
     // Neither index has a summary of the row's range.
@@ -31,14 +34,20 @@ const PATHS: [(&str, &[Point]); 11] = [
         ],
     ),
     // The first index has the value, and then doesn't.
-    ("s1 insert t 5", &[Point::Row, Point::Map, Point::Copy, Point::Map]),
+    (
+        "s1 insert t 5",
+        &[Point::Row, Point::Map, Point::Copy, Point::Map],
+    ),
     (
         "s1 insert t 9",
         &[Point::Row, Point::Map, Point::Copy, Point::Swap, Point::Map],
     ),
     // The summary is there, and final.
     ("m summarize i", &[Point::Right, Point::Map, Point::Tuple]),
-    ("s1 insert t 7", &[Point::Row, Point::Map, Point::Copy, Point::Map]),
+    (
+        "s1 insert t 7",
+        &[Point::Row, Point::Map, Point::Copy, Point::Map],
+    ),
     // The second block.
     (
         "s1 insert t 8",

@@ -87,7 +87,10 @@ const DURING_THE_PASS: [(&str, &str); 18] = [
 
 #[test]
 fn an_insert_during_the_pass_enters_the_summary(rt: HostRuntime) -> Result<(), Fail> {
-    assert_eq!(rt; wrong(rt.alloc(), SMALL, &PLAIN, &[&DURING_THE_PASS])?, None);
+    assert_eq!(rt;
+        wrong(rt.alloc(), SMALL, &PLAIN, &[&DURING_THE_PASS])?,
+        None
+    );
     Ok(())
 }
 
@@ -118,7 +121,10 @@ const PAST_THE_EXTENT: [(&str, &str); 16] = [
 
 #[test]
 fn an_insert_past_the_extent_enters_the_summary(rt: HostRuntime) -> Result<(), Fail> {
-    assert_eq!(rt; wrong(rt.alloc(), SMALL, &WIDE_RANGES, &[&PAST_THE_EXTENT])?, None);
+    assert_eq!(rt;
+        wrong(rt.alloc(), SMALL, &WIDE_RANGES, &[&PAST_THE_EXTENT])?,
+        None
+    );
     Ok(())
 }
 
@@ -153,7 +159,10 @@ const WIDENED_BY_TWO: [(&str, &str); 21] = [
 
 #[test]
 fn concurrent_widening_retries(rt: HostRuntime) -> Result<(), Fail> {
-    assert_eq!(rt; wrong(rt.alloc(), SMALL, &FOUR_A_PAGE, &[&WIDENED_BY_TWO])?, None);
+    assert_eq!(rt;
+        wrong(rt.alloc(), SMALL, &FOUR_A_PAGE, &[&WIDENED_BY_TWO])?,
+        None
+    );
     Ok(())
 }
 
@@ -170,7 +179,10 @@ const SECOND_SUMMARISE: [(&str, &str); 8] = [
 
 #[test]
 fn a_second_summarise_is_blocked(rt: HostRuntime) -> Result<(), Fail> {
-    assert_eq!(rt; wrong(rt.alloc(), SMALL, &PLAIN, &[&SECOND_SUMMARISE])?, None);
+    assert_eq!(rt;
+        wrong(rt.alloc(), SMALL, &PLAIN, &[&SECOND_SUMMARISE])?,
+        None
+    );
     Ok(())
 }
 
@@ -253,7 +265,10 @@ const RANGE_OPERATORS: [(&str, &str); 10] = [
         "s1 select t where a -|- [5,7)",
         "s1 row 1.1 (,5)\ns1 row 1.2 [7,)\ns1 rows 2",
     ),
-    ("s1 select t where a <@ [0,3)", "s1 row 1.0 empty\ns1 rows 1"),
+    (
+        "s1 select t where a <@ [0,3)",
+        "s1 row 1.0 empty\ns1 rows 1",
+    ),
     ("s1 commit", "s1 committed"),
     ("m summarize i", "m summarized 3"),
     ("s1 explain t where a <@ [0,3)", "s1 blocks 0-1"),

@@ -42,13 +42,7 @@ pub(crate) fn work_for(
 }
 
 /// An insert of these values into the table; `None` where an index of the store asks for summaries, too.
-fn insert_of(
-    alloc: Global,
-    layout: &Layout,
-    table: u8,
-    id: RowId,
-    values: Values,
-) -> Option<Work>
+fn insert_of(alloc: Global, layout: &Layout, table: u8, id: RowId, values: Values) -> Option<Work>
     requires table { table < length layout.now.schema.tables }
     requires kinds { HaveKinds (kinds_at layout.now table) values }
     ensures { IfSome result (IsWorkOf layout.now) }

@@ -36,7 +36,11 @@ pub struct WrongAnswer {
 }
 
 /// The first line of the script that isn't answered so. An answer of several lines has `\n` between them.
-pub fn first_wrong(alloc: Global, trial: &mut Trial, script: &[(&str, &str)]) -> Option<WrongAnswer> {
+pub fn first_wrong(
+    alloc: Global,
+    trial: &mut Trial,
+    script: &[(&str, &str)],
+) -> Option<WrongAnswer> {
     for (line, (said, wanted)) in script.iter().enumerate() {
         let told = answer(alloc, trial, said.as_bytes()).unwrap_or(Vec::new(alloc));
         if told.as_slice() != wanted.as_bytes() {

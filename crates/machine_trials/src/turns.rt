@@ -36,14 +36,8 @@ pub enum Turn {
     Done(Point, Reply),
     Blocked(Held),
     /// That actor holds the summarise lock of the table.
-    NoRight {
-        table: u8,
-        by: u32,
-    },
-    Full {
-        relation: u8,
-        number: u64,
-    },
+    NoRight { table: u8, by: u32 },
+    Full { relation: u8, number: u64 },
     /// The store failed, memory was wanting, or there is nothing to step.
     Failed,
 }
@@ -104,7 +98,10 @@ pub(crate) fn turn_summarise(
         Ok(Did::Finished(point)) => {
             let count = summarise.count();
             rights.give(table, actor);
-            (Work::Nothing, Turn::Done(point, Reply::Summarized { count }))
+            (
+                Work::Nothing,
+                Turn::Done(point, Reply::Summarized { count }),
+            )
         }
         Ok(Did::Blocked(held)) => (Work::Summarise(table, summarise), Turn::Blocked(held)),
         Ok(Did::NoRight { by }) => (

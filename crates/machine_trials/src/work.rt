@@ -1,9 +1,9 @@
 //! What a session has in hand.
 
+use block_model::RowId;
 use brin_insert::Insert;
 use brin_scan::{Explain, Scan};
 use brin_summarise::Summarise;
-use block_model::RowId;
 
 /// The machine that a session has in hand.
 #[derive(Drop)]

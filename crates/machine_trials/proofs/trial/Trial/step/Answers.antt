@@ -14,5 +14,5 @@ invariant_of-self c =
     let layout = c.self.inside.pages.value.layout in
     let stays : c.turn_of-work.new.pages.layout ≡ layout = c.turn_of-work.ensures.layout ∙ ap (λ (v : View QuietDisk). v.layout) c.deref_mut.ensures.value in
     let others : All (IsWorkOf c.turn_of-work.new.pages.layout) c.take_work-work.new.works.items =
-            subst (λ (l : DiskLayout). All (IsWorkOf l) c.take_work-work.new.works.items) (sym stays) (c.take_work-work.ensures.others layout c.self.invariant.2) in
+    subst (λ (l : DiskLayout). All (IsWorkOf l) c.take_work-work.new.works.items) (sym stays) (c.take_work-work.ensures.others layout c.self.invariant.2) in
     (c.turn_of-work.ensures.over, c.turn_of-work.ensures.rights, c.put_work.ensures c.turn_of-work.new.pages.layout c.turn_of-work.ensures.work others)
