@@ -1,0 +1,13 @@
+//! Tests that run the machines of an index over a store: an insert, a summarise, an explain and the scan of a select, each by its steps, alone
+//! and between the steps of others. They show what no clause says: that each machine comes to its end by the steps that its protocol names,
+//! and the worked rows, as far as these are machines' work. Nothing stands on it.
+#![tactic(auto)]
+
+#[cfg(test)]
+mod moves;
+#[cfg(test)]
+mod paths;
+#[cfg(test)]
+mod rows;
+#[cfg(test)]
+mod store;
