@@ -9,6 +9,7 @@ use block_model::{NoMemory, Numbers, RowId};
 use disk_trait::Disk;
 use engine_pages::PageStore;
 use snapshot_core::{Snapshot, Status};
+use statements::Statement;
 use std::alloc::Global;
 use tx_table::TxTable;
 
@@ -87,8 +88,20 @@ fn is_begun(tx: &TxTable, pages: &mut PageStore<QuietDisk>, t: u64) -> bool
     }
 }
 
+/// The id of the row that the session's statement puts, if it is an insert.
+pub(crate) fn id_for(
+    open: &mut Vec<Option<Open>>,
+    session: usize,
+    statement: &Statement,
+) -> Option<RowId> {
+    match statement {
+        Statement::Insert { .. } => next_row(open, session),
+        _ => None,
+    }
+}
+
 /// The id of the next row of the session's transaction.
-pub(crate) fn next_row(open: &mut Vec<Option<Open>>, session: usize) -> Option<RowId> {
+fn next_row(open: &mut Vec<Option<Open>>, session: usize) -> Option<RowId> {
     let open = match open.get_mut(session) {
         Some(Some(open)) => open,
         _ => return None,

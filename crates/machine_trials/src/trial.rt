@@ -9,7 +9,7 @@ ghost use Rattle.machine_trials.specs.Works.{IsWorkOf, max_tables};
 use crate::beginnings::work_for;
 use crate::names::SESSIONS;
 use crate::quiet_disk::QuietDisk;
-use crate::transactions::{Open, begun, commits, next_row};
+use crate::transactions::{Open, begun, commits, id_for};
 use crate::turns::{Turn, turn_explain, turn_insert, turn_select, turn_summarise};
 use crate::work::Work;
 use block_model::{NoMemory, Sizes, Words};
@@ -150,7 +150,7 @@ impl Trial {
             return None;
         }
         let alloc = self.alloc;
-        let id = next_row(&mut self.open, session);
+        let id = id_for(&mut self.open, session, &statement);
         let work = work_for(alloc, self.pages.layout(), id, statement)?;
         put_work(&mut self.works, session, work);
         Some(())
