@@ -1,0 +1,4 @@
+pub mod GrowthHands
+pub mod StageLocks
+pub mod StepCauses
+pub mod GrowthSteps
