@@ -1,0 +1,5 @@
+pub mod EmptyMaps
+pub mod Turned
+pub mod Counted
+pub mod Ordered
+pub mod Changing
