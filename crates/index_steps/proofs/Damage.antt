@@ -1,12 +1,13 @@
--- where an index is sound, neither its map nor its tuples are damaged
-use Rattle.std.proofs.Common.{◌≡◌, ℕ, Bool, true, false, List, Option, None, Some, refl, sym, ap, subst, ◌∙◌}
+-- where an index is sound, neither its map nor its tuples are damaged, and what was read of it isn't
+use Rattle.std.proofs.Common.{◌≡◌, ℕ, ◌<◌, ◌^◌, Bool, true, false, List, Option, None, Some, refl, sym, ap, subst, ◌∙◌}
 use Rattle.std.specs.Prelude.{if◌then◌else◌}
 use Rattle.std.specs.Option.{option_map}
-use Rattle.std.proofs.lemmas.Option.{none-some}
+use Rattle.std.proofs.lemmas.Option.{none-some, same_Some}
 use Rattle.block_model.specs.declared.place.Spot.{Spot}
 use Rattle.block_model.specs.declared.row.Row.{Row}
 use Rattle.range_tuple.specs.TupleReading.{tuple_in}
 use Rattle.range_tuple.specs.Tuples.{Tuple}
+use Rattle.range_store.specs.Tuples.{IsOfRange}
 use Rattle.coverage.specs.IndexView.{Contents, IndexTuple, IndexView, IsTupleOf, range_of_block}
 use Rattle.coverage.specs.IsCovered.{IndexState, IsIndexKept, index_view}
 use Rattle.coverage.specs.IsSound.{IsSound}
@@ -15,8 +16,9 @@ use Rattle.coverage.specs.Statements.{Inserting, Moving, Statement}
 use Rattle.index_contents.specs.IndexContents.{IndexContents}
 use Rattle.index_steps.specs.IndexTuples.{IndexShape, are_bytes, classes_of, contents_of, seen, tuple_said}
 use Rattle.index_steps.specs.MoveEnds.{IsMoving}
-use Rattle.index_steps.specs.Readings.{IsMisnamed, IsMisread}
+use Rattle.index_steps.specs.Readings.{HasRangeAt, IsMisnamed, IsMisread, IsReadAs}
 use Rattle.index_steps.specs.ShownIndex.{Shows}
+use Rattle.index_steps.proofs.Copying.{of_said}
 use Rattle.index_steps.proofs.Views.{seen_bytes, seen_range, seen_there, stands_by}
 
 -- an entry names a tuple of its range
@@ -54,3 +56,23 @@ pub knows_move : (shape : IndexShape) (c : IndexContents) (lock : ℕ → Option
 knows_move shape c lock w s b k r x y old new shows kept is =
     let knows : Knows (index_view w) s (Inserting b k r (Moving x y old new)) = subst (λ (statement : Statement). Knows (index_view w) s statement) is (kept.knows s) in
     record { view = index_view w; lock = lock; shows = shows; ordered = kept.ordered; named = knows.2.2; put = (new, knows.2.4) }
+
+-- a map that names nothing names nothing wrong
+pub unnamed : (c : IndexContents) (range : ℕ) → c.entry range ≡ None → IsMisnamed c range → ⊥
+unnamed c range none misnamed = none-some misnamed.spot (sym none ∙ misnamed.named)
+
+-- nor does one that names bytes of the range
+pub well_named : (c : IndexContents) (range : ℕ) (x : Spot) → c.entry range ≡ Some x → HasRangeAt c range x → IsMisnamed c range → ⊥
+well_named c range x named there misnamed =
+    let same : x ≡ misnamed.spot = same_Some x misnamed.spot (sym named ∙ misnamed.named) in
+    misnamed.none there.0 (ap c.bytes (sym same) ∙ there.1) there.2
+
+-- where none of the range stand, none are misread
+pub none_misread : (shape : IndexShape) (c : IndexContents) (range : ℕ) (x : Spot) → range < 2 ^ 32 → ((bytes : List ℕ) → c.bytes x ≡ Some bytes → IsOfRange bytes range → ⊥) → IsMisread shape c range x → ⊥
+none_misread shape c range x small gone misread = gone misread.bytes misread.there (of_said misread.bytes range small misread.of)
+
+-- nor where they are read
+pub well_read : (shape : IndexShape) (c : IndexContents) (range : ℕ) (x : Spot) (bytes : List ℕ) (t : Tuple) → c.bytes x ≡ Some bytes → IsReadAs shape bytes t → IsMisread shape c range x → ⊥
+well_read shape c range x bytes t there read misread =
+    let same : bytes ≡ misread.bytes = same_Some bytes misread.bytes (sym there ∙ misread.there) in
+    none-some t (sym misread.misread ∙ ap (tuple_in (classes_of shape)) (sym same) ∙ read.read)

@@ -9,3 +9,5 @@ pub mod KnownValues
 pub mod NewTuples
 pub mod Sizes
 pub mod Lawful
+pub mod Listed
+pub mod Seen

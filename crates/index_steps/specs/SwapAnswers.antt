@@ -54,6 +54,11 @@ SaysFullIn layout index IsFullAt (faults.Full relation number) = (relation ≡ r
 SaysFullIn layout index IsFullAt (faults.Store error) = Unit {0}
 SaysFullIn layout index IsFullAt faults.Memory = ⊥
 
+-- where the index is full, no lock changes
+abbrev pub StaysWhereFull : LockState → LockState → MachineFault → Type 0
+StaysWhereFull before after (faults.Full relation number) = after ≡ before
+StaysWhereFull before after fault = Unit {0}
+
 -- the lock that is waited for is that of a page of the index, and another actor holds it
 abbrev pub NamesHeld : DiskLayout → LockState → (index actor : ℕ) → Held → Type 0
 NamesHeld layout locks index actor held = (held.page.relation ≡ relation_of layout index) × (holder locks held.page ≡ Some held.by) × (held.by ≢ actor)

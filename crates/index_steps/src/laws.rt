@@ -1,13 +1,17 @@
 //! What stays in an index, and what a row makes of its tuples, as laws on their definitions.
 
-ghost use Rattle.std.specs.Prelude.{◌≡◌, ℕ, nat_lt, true, List, length, Option, Some};
+ghost use Rattle.std.specs.Prelude.{◌≡◌, ◌↔◌, ◌<◌, ℕ, nat_lt, true, List, length, slice_get, Option, Some};
 ghost use Rattle.std.specs.List.{list_all};
 ghost use Rattle.block_model.specs.ClassLimits.{class_is_lawful};
 ghost use Rattle.block_model.specs.declared.schema.Part.{Part};
 ghost use Rattle.block_model.specs.declared.value.Kind.{Kind as AnyKind};
 ghost use Rattle.block_model.specs.declared.value.Value.{Value as AnyValue};
+ghost use Rattle.block_model.specs.declared.row.Cond.{Cond as AnyCond};
 ghost use Rattle.block_model.specs.declared.row.Row.{Row};
+ghost use Rattle.store_layout.specs.DiskLayout.{DiskLayout};
+ghost use Rattle.range_tuple.specs.Keeps.{keeps};
 ghost use Rattle.range_tuple.specs.TupleBytes.{tuple_bytes};
+ghost use Rattle.range_tuple.specs.TupleIncludes.{TupleIncludes};
 ghost use Rattle.range_tuple.specs.Tuples.{Tuple, with_row};
 ghost use Rattle.coverage.specs.IndexView.{Building, IndexTuple, IndexView, IsTupleOf, range_of_block};
 ghost use Rattle.coverage.specs.IsCovered.{IndexState, IsIndexKept, index_view};
@@ -17,14 +21,15 @@ ghost use Rattle.coverage.specs.Statements.{Inserting, Moving};
 ghost use Rattle.coverage.specs.Steps.{ReadsIndex};
 ghost use Rattle.block_model.specs.declared.place.Spot.{Spot};
 ghost use Rattle.index_contents.specs.IndexContents.{IndexContents};
-ghost use Rattle.index_steps.specs.IndexTuples.{IndexShape, TakesValues, are_values, have_kinds, kinds_of, seen};
+ghost use Rattle.index_steps.specs.IndexTuples.{IndexShape, TakesValues, are_values, have_kinds, index_at, kinds_of, seen};
 ghost use Rattle.index_steps.specs.MoveEnds.{IsMoving};
 ghost use Rattle.index_steps.specs.Readings.{IsMisnamed, IsMisread, IsReadAs};
 ghost use Rattle.index_steps.specs.ShownIndex.{Shows};
+ghost use Rattle.index_steps.specs.ShownTable.{indexes_of};
 ghost use Rattle.index_steps.specs.SwapAnswers.{view_after};
 
 use block_model::Value;
-use range_tuple::values_of_a_kind_are_taken;
+use range_tuple::{a_row_is_included_as_tested, values_of_a_kind_are_taken};
 
 /// Where neither pages nor locks change, the actor, which locks no page, has read the index. Does nothing.
 pub fn an_index_that_stays_is_read()
@@ -67,4 +72,22 @@ pub fn rows_of_the_table_are_taken()
         → have_kinds (kinds_of shape) values ≡ true → TakesValues shape values }
 {
     values_of_a_kind_are_taken();
+}
+
+/// Of a layout's indexes those of a table are listed, and no others: each once, in the order of their declarations. Does nothing.
+pub fn every_index_of_a_table_is_listed()
+    ensures listed { (layout : DiskLayout) (table n : ℕ) → n < length layout.schema.indexes → (index_at layout n).table ≡ table → (at : ℕ) × (slice_get (indexes_of layout table) at ≡ Some n) }
+    ensures only { (layout : DiskLayout) (table at n : ℕ) → slice_get (indexes_of layout table) at ≡ Some n → (n < length layout.schema.indexes) × ((index_at layout n).table ≡ table) }
+    ensures ascending { (layout : DiskLayout) (table i j m n : ℕ) → i < j → slice_get (indexes_of layout table) i ≡ Some m → slice_get (indexes_of layout table) j ≡ Some n → m < n }
+{}
+
+/// What the protocol sees in bytes is the tuple that they are: its range and its flag, the rows that it includes, and the conditions
+/// that it keeps. Does nothing.
+pub fn what_is_seen_is_its_tuple()
+    ensures range { (shape : IndexShape) (bytes : List ℕ) (t : Tuple) → IsReadAs shape bytes t → (seen shape bytes).range ≡ t.range }
+    ensures placeholder { (shape : IndexShape) (bytes : List ℕ) (t : Tuple) → IsReadAs shape bytes t → (seen shape bytes).placeholder ≡ t.placeholder }
+    ensures includes { (shape : IndexShape) (bytes : List ℕ) (t : Tuple) → IsReadAs shape bytes t → (r : Row) → are_values (kinds_of shape) r.values ≡ true → ((seen shape bytes).includes r ≡ true) ↔ TupleIncludes t r.values }
+    ensures keeps { (shape : IndexShape) (bytes : List ℕ) (t : Tuple) → IsReadAs shape bytes t → (conds : List AnyCond) → (seen shape bytes).keeps conds ≡ keeps t conds }
+{
+    a_row_is_included_as_tested();
 }

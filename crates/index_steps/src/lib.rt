@@ -17,7 +17,8 @@ mod swapping;
 pub use indexes::declared_index;
 pub use laws::{
     a_row_is_added_to_what_is_seen, a_sound_index_is_not_misread, an_index_that_stays_is_read,
-    an_insert_knows_its_move, rows_of_the_table_are_taken, values_are_known,
+    an_insert_knows_its_move, every_index_of_a_table_is_listed, rows_of_the_table_are_taken,
+    values_are_known, what_is_seen_is_its_tuple,
 };
 pub use moving::{drop_moved, name_moved};
 pub use placing::{Placed, name_new, put_new};

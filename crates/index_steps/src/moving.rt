@@ -3,6 +3,7 @@
 ghost use Rattle.std.specs.Prelude.{◌≡◌, ◌<◌, ℕ, Option, length, IfErr, OnOk, OnErr};
 ghost use Rattle.page_store.specs.Keeps.{Keeps, Tells, Untold};
 ghost use Rattle.page_store.specs.Outcome.{Outcome};
+ghost use Rattle.logged_pages.specs.Survives.{Survives};
 ghost use Rattle.page_locks.specs.LockHolders.{holder};
 ghost use Rattle.coverage.specs.IndexView.{Building, IndexView};
 ghost use Rattle.index_contents.specs.IndexContents.{contents, relation_of};
@@ -34,6 +35,8 @@ pub fn name_moved<D: Disk + Drop>(
     requires moving { Tells D.told pages.old → IsMoving (shape_of pages.old.layout at.index) (contents pages.old.layout pages.old.pages at.index) at.range from to }
     ensures set { OnOk result (Tells D.told pages.old → SetsIn (shape_of pages.old.layout at.index) (contents pages.old.layout pages.old.pages at.index) (contents pages.old.layout pages.new.pages at.index) at.range to) }
     ensures kept { OnErr result (Keeps D.told pages.old pages.new) }
+    // The change itself isn't sure before the next flush.
+    ensures survives { Survives D.told (λ passed. passed ≡ pages.old.pages) pages.old pages.new }
     ensures others { LeavesOthers D.told at.index pages.old pages.new }
     ensures at { IfErr result (NamesPageOf pages.old.layout at.index) }
     ensures outcome { Outcome D.told (Untold D.told pages.old) pages.old pages.new result }
@@ -61,6 +64,8 @@ pub fn drop_moved<D: Disk + Drop>(
     ensures apart { LeavesLocks (holder locks.old) (holder locks.new) (relation_of pages.old.layout at.index) at.actor }
     ensures counts { TakesAtMost 0 locks.old locks.new at.actor }
     ensures kept { OnErr result (Keeps D.told pages.old pages.new) }
+    // The change itself isn't sure before the next flush.
+    ensures survives { Survives D.told (λ passed. passed ≡ pages.old.pages) pages.old pages.new }
     ensures others { LeavesOthers D.told at.index pages.old pages.new }
     ensures at { IfErr result (NamesPageOf pages.old.layout at.index) }
     ensures outcome { Outcome D.told (Untold D.told pages.old) pages.old pages.new result }

@@ -3,6 +3,7 @@
 ghost use Rattle.std.specs.Prelude.{◌≡◌, ◌+◌, ◌<◌, ◌≤◌, None, length, IfOk, IfErr, OnOk, OnErr};
 ghost use Rattle.page_store.specs.Keeps.{Keeps, Tells, Untold};
 ghost use Rattle.page_store.specs.Outcome.{Outcome};
+ghost use Rattle.logged_pages.specs.Survives.{Survives};
 ghost use Rattle.page_locks.specs.LockHolders.{count_of, holder};
 ghost use Rattle.range_store.specs.Tuples.{IsTupleSize};
 ghost use Rattle.index_contents.specs.IndexContents.{contents, relation_of};
@@ -11,7 +12,7 @@ ghost use Rattle.index_steps.specs.IndexTuples.{seen, shape_of};
 ghost use Rattle.index_steps.specs.PlaceAnswers.{IsPlacing, IsPutFull, NamesIn, PagesPlaced, PlaceMakes, PlaceWaits, PlacedLocks};
 ghost use Rattle.index_steps.specs.Readings.{NamesPageOf};
 ghost use Rattle.index_steps.specs.ShownIndex.{lock_in};
-ghost use Rattle.index_steps.specs.SwapAnswers.{FaultNamesPageOf, GivesLocks, LeavesLocks, MachineOutcome, SaysFullIn, TakesAtMost};
+ghost use Rattle.index_steps.specs.SwapAnswers.{FaultNamesPageOf, GivesLocks, LeavesLocks, MachineOutcome, SaysFullIn, StaysWhereFull, TakesAtMost};
 
 use crate::reading::page_at;
 use crate::swapping::{Within, map_page_of};
@@ -49,9 +50,12 @@ pub fn put_new<D: Disk + Drop>(
     ensures full { IfErr result (SaysFullIn pages.old.layout at.index (λ number. Tells D.told pages.old → IsPutFull (shape_of pages.old.layout at.index) (contents pages.old.layout pages.old.pages at.index) (lock_in pages.old.layout locks.old at.index) at.actor at.range (seen (shape_of pages.old.layout at.index) bytes.now) number)) }
     ensures locks { IfOk result (PlacedLocks (holder locks.old) (holder locks.new) (relation_of pages.old.layout at.index) at.actor at.range locks.old locks.new) }
     ensures apart { LeavesLocks (holder locks.old) (holder locks.new) (relation_of pages.old.layout at.index) at.actor }
+    ensures at_full { IfErr result (StaysWhereFull locks.old locks.new) }
     ensures counts { TakesAtMost 2 locks.old locks.new at.actor }
     ensures pages { IfOk result (PagesPlaced D.told pages.old pages.new) }
     ensures kept { OnErr result (Keeps D.told pages.old pages.new) }
+    // The change itself isn't sure before the next flush.
+    ensures survives { Survives D.told (λ passed. passed ≡ pages.old.pages) pages.old pages.new }
     ensures others { LeavesOthers D.told at.index pages.old pages.new }
     ensures at { IfErr result (FaultNamesPageOf pages.old.layout at.index) }
     ensures outcome { MachineOutcome D.told (Untold D.told pages.old) pages.old pages.new result }
@@ -96,6 +100,8 @@ pub fn name_new<D: Disk + Drop>(
     ensures apart { LeavesLocks (holder locks.old) (holder locks.new) (relation_of pages.old.layout at.index) at.actor }
     ensures counts { TakesAtMost 0 locks.old locks.new at.actor }
     ensures kept { OnErr result (Keeps D.told pages.old pages.new) }
+    // The change itself isn't sure before the next flush.
+    ensures survives { Survives D.told (λ passed. passed ≡ pages.old.pages) pages.old pages.new }
     ensures others { LeavesOthers D.told at.index pages.old pages.new }
     ensures at { IfErr result (NamesPageOf pages.old.layout at.index) }
     ensures outcome { Outcome D.told (Untold D.told pages.old) pages.old pages.new result }

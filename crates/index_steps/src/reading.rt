@@ -1,9 +1,10 @@
 //! Reading the map, and copying the tuple of a range.
 
-ghost use Rattle.std.specs.Prelude.{◌≡◌, ◌<◌, true, false, length, IfOk, IfErr, IfSome};
+ghost use Rattle.std.specs.Prelude.{◌≡◌, ◌<◌, true, false, length, IfOk, IfErr, IfSome, OnOk};
 ghost use Rattle.page_store.specs.Keeps.{Keeps, Tells};
 ghost use Rattle.page_store.specs.declared.faults.StoreError.TheVariants as errors;
 ghost use Rattle.page_store.specs.Outcome.{Outcome};
+ghost use Rattle.logged_pages.specs.Survives.{Survives};
 ghost use Rattle.range_tuple.specs.Tuples.{parts_of};
 ghost use Rattle.index_contents.specs.IndexContents.{contents};
 ghost use Rattle.index_steps.specs.IndexTuples.{classes_of, shape_of};
@@ -28,8 +29,10 @@ pub fn read_map<D: Disk + Drop>(
 ) -> Result<Option<Spot>, StoreError>
     requires index { index < length pages.old.layout.schema.indexes }
     ensures entry { IfOk result (λ entry. Tells D.told pages.old → (contents pages.old.layout pages.old.pages index).entry range ≡ entry) }
+    ensures undamaged { OnOk result (Tells D.told pages.old → IsMisnamed (contents pages.old.layout pages.old.pages index) range → ⊥) }
     ensures stands { IfOk result (λ entry. IfSome entry (λ spot. Tells D.told pages.old → HasRangeAt (contents pages.old.layout pages.old.pages index) range spot)) }
     ensures kept { Keeps D.told pages.old pages.new }
+    ensures survives { Survives D.told (λ passed. passed ≡ pages.old.pages) pages.old pages.new }
     ensures at { IfErr result (NamesPageOf pages.old.layout index) }
     ensures outcome { Outcome D.told (Tells D.told pages.old → IsMisnamed (contents pages.old.layout pages.old.pages index) range) pages.old pages.new result }
 {
@@ -63,8 +66,10 @@ pub fn copy_tuple<D: Disk + Drop>(
     ensures there { IfOk result (λ there. there ≡ true → Tells D.told pages.old → ShowsTuple (shape_of pages.old.layout index) (contents pages.old.layout pages.old.pages index) range spot copied.new) }
     ensures read { IfOk result (λ there. there ≡ true → IsReadAs (shape_of pages.old.layout index) copied.new tuple.new) }
     ensures gone { IfOk result (λ there. there ≡ false → Tells D.told pages.old → ShowsGone (shape_of pages.old.layout index) (contents pages.old.layout pages.old.pages index) range spot) }
+    ensures undamaged { OnOk result (Tells D.told pages.old → IsMisread (shape_of pages.old.layout index) (contents pages.old.layout pages.old.pages index) range spot → ⊥) }
     ensures same_index { parts_of tuple.new.columns ≡ parts_of tuple.old.columns }
     ensures kept { Keeps D.told pages.old pages.new }
+    ensures survives { Survives D.told (λ passed. passed ≡ pages.old.pages) pages.old pages.new }
     ensures at { IfErr result (NamesPageOf pages.old.layout index) }
     ensures outcome { Outcome D.told (Tells D.told pages.old → IsMisread (shape_of pages.old.layout index) (contents pages.old.layout pages.old.pages index) range spot) pages.old pages.new result }
 {

@@ -2,6 +2,7 @@
 
 ghost use Rattle.std.specs.Prelude.{◌≡◌, ◌+◌, ◌<◌, ◌≤◌, List, ℕ, Some, None, length, IfOk, IfErr, IfSome, IfNone, OnOk, OnErr};
 ghost use Rattle.page_store.specs.Keeps.{Keeps, Tells, Untold};
+ghost use Rattle.logged_pages.specs.Survives.{Survives};
 ghost use Rattle.page_locks.specs.LockChanges.{IsAnothers, IsFreeFor, page_of};
 ghost use Rattle.page_locks.specs.LockHolders.{count_of, holder};
 ghost use Rattle.coverage.specs.IndexView.{map_page_of};
@@ -10,7 +11,7 @@ ghost use Rattle.index_contents.specs.IndexContents.{contents, relation_of};
 ghost use Rattle.index_contents.specs.IndexChanges.{LeavesOthers};
 ghost use Rattle.index_steps.specs.IndexTuples.{seen, shape_of};
 ghost use Rattle.index_steps.specs.ShownIndex.{lock_in};
-ghost use Rattle.index_steps.specs.SwapAnswers.{FaultNamesPageOf, IsSwapFull, LeavesLocks, LocksAfter, MachineOutcome, MustLeave, PagesAfter, SaysFullIn, SwapMakes, TakesAtMost, WaitsFor};
+ghost use Rattle.index_steps.specs.SwapAnswers.{FaultNamesPageOf, IsSwapFull, LeavesLocks, LocksAfter, MachineOutcome, MustLeave, PagesAfter, SaysFullIn, StaysWhereFull, SwapMakes, TakesAtMost, WaitsFor};
 
 use block_model::{Place, Spot};
 use disk_trait::Disk;
@@ -61,9 +62,12 @@ pub fn swap<D: Disk + Drop>(
     ensures full { IfErr result (SaysFullIn pages.old.layout at.index (λ number. Tells D.told pages.old → IsSwapFull (shape_of pages.old.layout at.index) (contents pages.old.layout pages.old.pages at.index) (lock_in pages.old.layout locks.old at.index) at.actor at.range spot (seen (shape_of pages.old.layout at.index) copied.now) (seen (shape_of pages.old.layout at.index) bytes.now) number)) }
     ensures locks { IfOk result (LocksAfter (holder locks.old) (holder locks.new) (relation_of pages.old.layout at.index) at.actor at.range spot locks.old locks.new) }
     ensures apart { LeavesLocks (holder locks.old) (holder locks.new) (relation_of pages.old.layout at.index) at.actor }
+    ensures at_full { IfErr result (StaysWhereFull locks.old locks.new) }
     ensures counts { TakesAtMost 3 locks.old locks.new at.actor }
     ensures pages { IfOk result (PagesAfter D.told pages.old pages.new) }
     ensures kept { OnErr result (Keeps D.told pages.old pages.new) }
+    // The change itself isn't sure before the next flush.
+    ensures survives { Survives D.told (λ passed. passed ≡ pages.old.pages) pages.old pages.new }
     ensures others { LeavesOthers D.told at.index pages.old pages.new }
     ensures at { IfErr result (FaultNamesPageOf pages.old.layout at.index) }
     ensures outcome { MachineOutcome D.told (Untold D.told pages.old) pages.old pages.new result }
@@ -109,14 +113,17 @@ fn put_elsewhere<D: Disk + Drop>(
     ensures full { IfErr result (SaysFullIn pages.old.layout at.index (λ number. Tells D.told pages.old → IsSwapFull (shape_of pages.old.layout at.index) (contents pages.old.layout pages.old.pages at.index) (lock_in pages.old.layout locks.old at.index) at.actor at.range spot (seen (shape_of pages.old.layout at.index) copied.now) (seen (shape_of pages.old.layout at.index) bytes.now) number)) }
     ensures locks { IfOk result (LocksAfter (holder locks.old) (holder locks.new) (relation_of pages.old.layout at.index) at.actor at.range spot locks.old locks.new) }
     ensures apart { LeavesLocks (holder locks.old) (holder locks.new) (relation_of pages.old.layout at.index) at.actor }
+    ensures at_full { IfErr result (StaysWhereFull locks.old locks.new) }
     ensures counts { TakesAtMost 3 locks.old locks.new at.actor }
     ensures pages { IfOk result (PagesAfter D.told pages.old pages.new) }
     ensures kept { OnErr result (Keeps D.told pages.old pages.new) }
+    ensures survives { Survives D.told (λ passed. passed ≡ pages.old.pages) pages.old pages.new }
     ensures others { LeavesOthers D.told at.index pages.old pages.new }
     ensures at { IfErr result (FaultNamesPageOf pages.old.layout at.index) }
     ensures outcome { MachineOutcome D.told (Untold D.told pages.old) pages.old pages.new result }
 {
     a_target_takes_its_tuple();
+    pages.known();
     let relation = relation_of(pages.layout(), at.index);
     let block = match room_for(pages, at.index, bytes.len() as u16) {
         Some(block) => block,

@@ -1,8 +1,10 @@
 use Rattle.std.proofs.Common.{refl, sym, ap, ◌∙◌, arith}
 use Rattle.index_contents.specs.IndexContents.{IndexContents, contents}
 use Rattle.coverage.specs.IndexView.{map_page_of}
+use Rattle.engine_pages.specs.SurvivesLaws.{survives_on}
 use Rattle.index_steps.proofs.Copying.{is_misnamed, names_page, said_of}
 use Rattle.index_steps.specs.ShownIndex.{same_contents}
+use Rattle.index_steps.proofs.Damage.{unnamed, well_named}
 use Rattle.index_steps.proofs.reading.read_map.Goals as goal
 
 pub returns-in-Ok-false-clause-outcome : goal.returns-in-Ok-false-clause-outcome
@@ -31,3 +33,25 @@ returns-in-Err-tuple_at-clause-at g c = names_page c.args.pages.now.layout c.ent
 
 pub returns-in-Err-clause-at : goal.returns-in-Err-clause-at
 returns-in-Err-clause-at g c = names_page c.args.pages.now.layout c.args.pages.now.layout c.args.index (map_page_of c.args.range) c.in-Err.error refl c.in-Err.ensures.at
+
+pub returns-in-Ok-None-clause-undamaged : goal.returns-in-Ok-None-clause-undamaged
+returns-in-Ok-None-clause-undamaged g c = λ tells.
+    let old = c.args.pages.now in
+    unnamed (contents old.layout old.pages c.args.index) c.args.range (c.in-Ok-None.ensures.entry tells ∙ c.in-Ok-None.field-0-is)
+
+pub returns-in-Ok-true-clause-undamaged : goal.returns-in-Ok-true-clause-undamaged
+returns-in-Ok-true-clause-undamaged g c = λ tells.
+    let old = c.args.pages.now in
+    let kept = c.entry.ensures.kept in
+    let found = c.in-Ok-true.ensures.there (kept.leaves.tells ∙ tells) c.in-Ok-true.field-0-test in
+    well_named (contents old.layout old.pages c.args.index) c.args.range c.in-Ok-Some.spot (c.in-Ok-Some.ensures.entry tells ∙ c.in-Ok-Some.field-0-is)
+    (c.tuple_at.new.out, sym (ap (λ (e : IndexContents). e.bytes c.in-Ok-Some.spot) (same_contents g.D.Disk.told c.args.index old c.entry.new.pages kept tells)) ∙ found.0, said_of c.tuple_at.new.out c.args.range found.1)
+
+pub returns-in-Ok-true-clause-survives : goal.returns-in-Ok-true-clause-survives
+returns-in-Ok-true-clause-survives g c = survives_on g.D.Disk.told c.args.pages.now c.entry.new.pages c.tuple_at.new.pages c.entry.ensures.kept c.entry.ensures.survives c.tuple_at.ensures.survives
+
+pub returns-in-Ok-false-clause-survives : goal.returns-in-Ok-false-clause-survives
+returns-in-Ok-false-clause-survives g c = survives_on g.D.Disk.told c.args.pages.now c.entry.new.pages c.tuple_at.new.pages c.entry.ensures.kept c.entry.ensures.survives c.tuple_at.ensures.survives
+
+pub returns-in-Err-tuple_at-clause-survives : goal.returns-in-Err-tuple_at-clause-survives
+returns-in-Err-tuple_at-clause-survives g c = survives_on g.D.Disk.told c.args.pages.now c.entry.new.pages c.tuple_at.new.pages c.entry.ensures.kept c.entry.ensures.survives c.tuple_at.ensures.survives

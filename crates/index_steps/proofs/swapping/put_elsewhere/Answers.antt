@@ -6,6 +6,7 @@ use Rattle.page_locks.specs.LockChanges.{IsFirstHeld, TakesAll}
 use Rattle.page_locks.specs.LockHolders.{holder}
 use Rattle.coverage.specs.IndexView.{map_page_of}
 use Rattle.coverage.specs.Verdicts.{IsTarget}
+use Rattle.engine_pages.specs.SurvivesLaws.{survives_still}
 use Rattle.index_contents.specs.IndexContents.{contents, relation_of}
 use Rattle.index_steps.specs.IndexTuples.{shape_of}
 use Rattle.index_steps.specs.ShownIndex.{lock_in}
@@ -72,3 +73,9 @@ returns-in-Ok-put-clause-apart g c = takes_apart c.relation_of-relation.result (
 pub returns-in-Err-put-clause-apart : goal.returns-in-Err-put-clause-apart
 returns-in-Err-put-clause-apart g c = takes_apart c.relation_of-relation.result (relation_of c.args.pages.now.layout c.args.at.index) c.args.at.actor (holder c.args.locks.now) (holder c.take_all.new.self) (c.args.spot.block ∷ c.in-Some.block ∷ c.map_page_of.result ∷ [])
     (c.relation_of-relation.ensures.number ∙ ap (λ (l : DiskLayout). relation_of l c.args.at.index) c.layout.ensures) c.in-Ok.ensures.taken
+
+pub returns-in-None-clause-survives : goal.returns-in-None-clause-survives
+returns-in-None-clause-survives g c = survives_still g.D.Disk.told c.args.pages.now c.known.ensures.stays
+
+pub returns-in-Err-clause-survives : goal.returns-in-Err-clause-survives
+returns-in-Err-clause-survives g c = survives_still g.D.Disk.told c.args.pages.now c.known.ensures.stays

@@ -6,6 +6,7 @@ use Rattle.page_store.specs.PageMap.{PageMap}
 use Rattle.page_locks.specs.LockChanges.{IsFreeFor, page_of}
 use Rattle.page_locks.specs.LockHolders.{holder}
 use Rattle.coverage.specs.Verdicts.{SwapVerdict, Waits}
+use Rattle.engine_pages.specs.SurvivesLaws.{survives_on, survives_still}
 use Rattle.index_contents.specs.IndexContents.{contents, relation_of}
 use Rattle.index_steps.specs.IndexTuples.{seen, shape_of}
 use Rattle.index_steps.specs.ShownIndex.{lock_in}
@@ -68,3 +69,12 @@ returns-in-Err-Full-clause-swapped g c =
 
 pub returns-in-Err-Full-clause-apart : goal.returns-in-Err-Full-clause-apart
 returns-in-Err-Full-clause-apart g c = subst (λ (l : DiskLayout). LeavesLocks (holder c.args.locks.now) (holder c.put_elsewhere.new.locks) (relation_of l c.args.at.index) c.args.at.actor) c.in-Err-Full.ensures.kept.leaves.layout c.put_elsewhere.ensures.apart
+
+pub returns-in-Err-clause-survives : goal.returns-in-Err-clause-survives
+returns-in-Err-clause-survives g c = survives_still g.D.Disk.told c.args.pages.now c.ready.ensures.stays
+
+pub returns-in-Some-clause-survives : goal.returns-in-Some-clause-survives
+returns-in-Some-clause-survives g c = survives_still g.D.Disk.told c.args.pages.now c.ready.ensures.stays
+
+pub returns-in-Err-Full-clause-survives : goal.returns-in-Err-Full-clause-survives
+returns-in-Err-Full-clause-survives g c = survives_on g.D.Disk.told c.args.pages.now c.replace.new.pages c.put_elsewhere.new.pages c.in-Err-Full.ensures.kept c.replace.ensures.survives c.put_elsewhere.ensures.survives
