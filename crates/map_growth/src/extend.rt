@@ -10,24 +10,25 @@ ghost use Rattle.index_contents.specs.IndexChanges.{LeavesOthers};
 ghost use Rattle.index_steps.specs.IndexTuples.{shape_of};
 ghost use Rattle.index_steps.specs.StepAnswers.{BlockedWell};
 ghost use Rattle.index_steps.specs.SwapAnswers.{FaultNamesPageOf, LeavesLocks, MachineOutcome, SaysFullIn, StaysWhereFull, TakesAtMost};
+ghost use Rattle.map_growth.specs.Called.{Called, hand_at};
 ghost use Rattle.map_growth.specs.GrowthHands.{RestsAt};
 ghost use Rattle.map_growth.specs.GrowthSteps.{StandsAfter, StepFull, StepsAt, growth_at};
 ghost use Rattle.map_growth.specs.StageLocks.{Gives, held_at, taken_at};
 ghost use Rattle.map_growth.specs.StepCauses.{DamageAt, IsReady, KeepsOrderApart};
 
+use crate::counting::count_made;
+use crate::judging::judge;
+use crate::moved::Moved;
+use crate::moving::{drop_old, set};
 use crate::stage::Stage;
 use block_model::NoMemory;
 use disk_trait::Disk;
 use engine_pages::PageStore;
+use index_steps::Within;
 use page_locks::{Did, Locks};
 use page_store::MachineFault;
 use std::alloc::Global;
-use std::boxed::BoxedSlice;
 use std::marker::Model;
-
-/// Nothing is of this type.
-#[derive(Clone, Copy, Debug, Drop)]
-enum Never {}
 
 /// A growth of an index's map: the stage that it is at, and room for the tuple that it moves. Made once an index, and taken for one growth
 /// after the other.
@@ -35,19 +36,15 @@ enum Never {}
 pub struct Extend {
     index: u8,
     stage: Stage,
-    size: usize,
-    room: BoxedSlice<u8>,
-    never: Never,
+    moved: Moved,
 }
 
 impl Model for Extend {
-    ghost use Rattle.std.specs.Prelude.{take};
-    ghost use Rattle.std.specs.Box.{boxed_slice_items};
     ghost use Rattle.map_growth.specs.GrowthHands.{GrowthHand};
 
     ghost Value = { GrowthHand };
 
-    ghost view = { λ a. record { index = a.index; stage = a.stage; moved = take a.size (boxed_slice_items a.room) } };
+    ghost view = { λ a. record { index = a.index; stage = a.stage; moved = a.moved } };
 }
 
 impl Extend {
@@ -56,22 +53,26 @@ impl Extend {
         ensures begins { IfOk result (λ growth. growth.stage ≡ Stage.Judge) }
         ensures index { IfOk result (λ growth. growth.index ≡ index) }
     {
-        let _ = (alloc, index);
-        Err(NoMemory)
+        let moved = Moved::new(alloc)?;
+        Ok(Extend {
+            index,
+            stage: Stage::Judge,
+            moved,
+        })
     }
 
     /// Before the first step of another growth. Locks that it has stay: they are given at the end of a growth and of a move.
     pub fn begin(&mut self)
         ensures { self.new ≡ record self.old { stage = Stage.Judge } }
     {
-        match self.never {}
+        self.stage = Stage::Judge;
     }
 
     /// The stage that it is at.
     pub fn stage(&self) -> Stage
         ensures { result ≡ self.now.stage }
     {
-        match self.never {}
+        self.stage
     }
 
     /// The next step, for the holder of the table's summarise lock. A page that is started or turned takes two page locks, its own and that
@@ -105,7 +106,51 @@ impl Extend {
         ensures at { IfErr result (FaultNamesPageOf pages.old.layout self.old.index) }
         ensures outcome { MachineOutcome D.told (Tells D.told pages.old → DamageAt pages.old.layout pages.old.pages self.old.index self.old.stage) pages.old pages.new result }
     {
-        let _ = (pages, locks, actor);
-        match self.never {}
+        let stage = self.stage;
+        match step_in(pages, locks, self.index, actor, stage, &mut self.moved) {
+            Ok((stage, did)) => {
+                self.stage = stage;
+                Ok(did)
+            }
+            Err(fault) => Err(fault),
+        }
+    }
+}
+
+/// The next step at the stage, with the stage that follows.
+fn step_in<D: Disk + Drop>(
+    pages: &mut PageStore<D>,
+    locks: &mut Locks,
+    index: u8,
+    actor: u32,
+    stage: Stage,
+    moved: &mut Moved,
+) -> Result<(Stage, Did), MachineFault>
+    requires index { index < length pages.old.layout.schema.indexes }
+    requires locks { 0 < taken_at stage → count_of locks.old + taken_at stage ≤ locks.old.limit }
+    requires ready { Tells D.told pages.old → IsReady (shape_of pages.old.layout index) (contents pages.old.layout pages.old.pages index) stage }
+    ensures called { Called D.told actor (Tells D.told pages.old → DamageAt pages.old.layout pages.old.pages index stage) (hand_at index stage moved.old) moved.new pages.old pages.new locks.old locks.new result }
+    ensures rests { RestsAt stage (hand_at index stage moved.old) (hand_at index stage moved.new) }
+    ensures undamaged { OnOk result (Tells D.told pages.old → DamageAt pages.old.layout pages.old.pages index stage → ⊥) }
+{
+    match stage {
+        Stage::Judge => judge(pages, locks, index, actor, moved),
+        Stage::Count => count_made(pages, locks, index, actor),
+        Stage::Set { range, from, to } => {
+            let at = Within {
+                index,
+                range,
+                actor,
+            };
+            set(pages, locks, at, from, to)
+        }
+        Stage::Drop { range, from } => {
+            let at = Within {
+                index,
+                range,
+                actor,
+            };
+            drop_old(pages, locks, at, from)
+        }
     }
 }

@@ -6,8 +6,12 @@
 //! (specs/GrowthSteps), under its point. No step takes memory, and one copies a tuple at most. It stands on map_pages and index_steps.
 #![tactic(auto)]
 
+mod counting;
 mod extend;
+mod judging;
 mod laws;
+mod moved;
+mod moving;
 mod stage;
 
 pub use extend::Extend;

@@ -16,7 +16,7 @@ use crate::next::METAPAGE;
 use block_model::Place;
 use disk_trait::Disk;
 use engine_pages::PageStore;
-use index_contents::relation_of;
+use index_contents::{index_pages_are_known, relation_of};
 use index_layout::{MAP, an_index_page_has_one_list};
 use page_store::StoreError;
 use wal_record::Change;
@@ -100,6 +100,7 @@ pub fn turn_page<D: Disk + Drop>(
     ensures outcome { Outcome D.told (Untold D.told pages.old) pages.old pages.new result }
 {
     an_index_page_has_one_list();
+    index_pages_are_known();
     pages.known();
     let relation = relation_of(pages.layout(), index);
     let place = Place { relation, block };
