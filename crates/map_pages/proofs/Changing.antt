@@ -233,5 +233,5 @@ no_slots_left layout pages index block relation at next regular none =
     none_left (slots_of (block_at pages relation block)) (regular kind).last (λ n. ap (λ (p : List ℕ). tuple_on p n) same ∙ none (record { block = block; slot = n }) refl)
 
 -- what a call leaves of the other pages
-pub leaves_pages : {D : Type 0} (told : D → Told) (place : Place) (changes : List LoggedChange) (old new : View D) → Leaves told old new → (Tells told old → Changed old.layout place changes old.pages new.pages) → LeavesOtherPages told place old new
-leaves_pages told place changes old new leaves changed = record { leaves = leaves; pages = λ tells other apart. (changed tells).others other apart }
+pub leaves_pages : {D : Type 0} (told : D → Told) (at : Place) (changes : List LoggedChange) (old new : View D) → Leaves told old new → (Tells told old → Changed old.layout at changes old.pages new.pages) → LeavesOtherPages told at old new
+leaves_pages told at changes old new leaves changed = record { leaves = leaves; pages = λ tells other apart. (changed tells).others other apart }

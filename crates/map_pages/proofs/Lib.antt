@@ -3,3 +3,5 @@ pub mod Turned
 pub mod Counted
 pub mod Ordered
 pub mod Changing
+pub mod Behind
+pub mod Sizes

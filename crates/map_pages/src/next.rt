@@ -68,6 +68,7 @@ pub fn next_page<D: Disk + Drop>(
         Ok(()) => {}
         Err(error) => return Err(error),
     }
+    an_index_page_has_one_list();
     pages.known();
     pages.layout().known();
     let relation = relation_of(pages.layout(), index);
@@ -122,13 +123,20 @@ fn state_of(page: &Page) -> Option<PageState>
     ensures none { result ≡ None → IsStray page.now }
 {
     let bytes = page.as_bytes();
-    match kind_of(bytes) {
-        UNSTARTED => Some(PageState::Unstarted),
-        REGULAR => Some(PageState::Regular),
-        EVACUATED => Some(PageState::Emptying),
-        MAP => left_over(bytes),
-        _ => None,
+    let kind = kind_of(bytes);
+    if kind == UNSTARTED {
+        return Some(PageState::Unstarted);
     }
+    if kind == REGULAR {
+        return Some(PageState::Regular);
+    }
+    if kind == EVACUATED {
+        return Some(PageState::Emptying);
+    }
+    if kind == MAP {
+        return left_over(bytes);
+    }
+    None
 }
 
 /// That a page of the map is left over; none where it has entries.
