@@ -30,7 +30,7 @@ module _ (shape : IndexShape) (c : IndexContents) (lock : ℕ → Option ℕ) (w
   ready_at stages.Count is = tt
   ready_at (stages.Set m x y) is =
       let knows = knows_at (Maintaining range (phase_at shape hand (stages.Set m x y))) is in
-      record { view = index_view w; lock = lock; shows = shows; ordered = kept.ordered; named = knows.1.1.0.2; put = (_, knows.1.1.0.4) }
+      record { view = index_view w; lock = lock; shows = shows; ordered = kept.ordered; named = knows.1.1.2; put = (_, knows.1.1.4) }
   ready_at (stages.Drop m x) is = tt
 
   not_unstarted : (kind : PageKind) → kind ≡ Mapping → kind ≡ Unstarted → ⊥

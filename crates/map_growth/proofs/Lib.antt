@@ -5,3 +5,4 @@ pub mod Refusals
 pub mod Growing
 pub mod Stepped
 pub mod Kept
+pub mod Standing

@@ -13,6 +13,7 @@ use Rattle.page_store.specs.PageMap.{PageMap, View, page_at}
 use Rattle.page_locks.specs.declared.did.Did.{Did}
 use Rattle.page_locks.specs.declared.did.Did.TheVariants as did
 use Rattle.page_locks.specs.declared.held.Held.{Held}
+use Rattle.page_locks.specs.LockCounts.{locks_of}
 use Rattle.page_locks.specs.LockHolders.{LockState, holder}
 use Rattle.logged_pages.specs.Survives.{Survives}
 use Rattle.opened_pages.specs.PageOrder.{IsIndexInOrder}
@@ -20,14 +21,16 @@ use Rattle.index_contents.specs.IndexContents.{contents, index_page, relation_of
 use Rattle.index_contents.specs.IndexChanges.{LeavesOthers}
 use Rattle.index_steps.specs.IndexTuples.{shape_of}
 use Rattle.index_steps.specs.Readings.{NamesPageOf}
+use Rattle.index_steps.specs.StepAnswers.{BlockedWell}
 use Rattle.index_steps.specs.SwapAnswers.{LeavesLocks, NamesHeld, TakesAtMost}
 use Rattle.map_pages.specs.MapChanges.{KeepsOrder}
 use Rattle.map_growth.specs.declared.stage.Stage.{Stage}
 use Rattle.map_growth.specs.declared.stage.Stage.TheVariants as stages
 use Rattle.map_growth.specs.Called.{Called, hand_at}
 use Rattle.map_growth.specs.GrowthHands.{GrowthHand}
-use Rattle.map_growth.specs.GrowthSteps.{StepFull, StepWaits, growth_at}
-use Rattle.map_growth.specs.StageLocks.{taken_at}
+use Rattle.map_growth.specs.GrowthSteps.{StandsAfter, StepFull, StepWaits, StepsAt, growth_at}
+use Rattle.map_growth.specs.StageLocks.{Gives, held_at, taken_at}
+use Rattle.map_growth.specs.StepCauses.{IsApart}
 use Rattle.map_growth.proofs.Locking.{same_apart, takes_none}
 
 -- a store that stays
@@ -72,7 +75,7 @@ module _ {D : Type 0} (told : D → Told) (old new : View D) (kept : Keeps told 
 
     -- no page is left
     pub full : (Cause : Type 0) (hand : GrowthHand) (moved : List ℕ) (locks : LockState) (relation number : ℕ) → relation ≡ relation_of old.layout hand.index
-        → (Tells told old → StepFull (shape_of old.layout hand.index) actor (growth_at old.layout old.pages locks hand) number) → Outcome told Cause old new (Ok {T = ℕ} {E = StoreError} number)
+        → (Tells told old → StepFull (shape_of old.layout hand.index) actor (growth_at old.layout old.pages locks hand) number) → Outcome {T = ℕ} told Cause old new (Ok number)
         → Called told actor Cause hand moved old new locks locks (Err (faults.Full relation number))
     full Cause hand moved locks relation number is because done = record {
       stepped = tt;
@@ -114,3 +117,26 @@ module _ {D : Type 0} (told : D → Told) (old new : View D) (kept : Keeps told 
       at = tt;
       outcome = done;
     }
+
+-- a step that is done
+pub done : {D : Type 0} (told : D → Told) (actor : ℕ) (Cause : Type 0) (hand : GrowthHand) (moved : List ℕ) (old new : View D) (before after : LockState) (stage : Stage) (what : Did) → (Tells told old → StepsAt old.layout old.pages new.pages before after actor hand (hand_at hand.index stage moved) what)
+    → StandsAfter hand (hand_at hand.index stage moved) what → BlockedWell told hand.index actor old new before after what → LeavesOthers told hand.index old new → LeavesLocks (holder before) (holder after) (relation_of old.layout hand.index) actor
+    → TakesAtMost (taken_at hand.stage) before after actor → (Gives hand.stage what → locks_of after actor ≡ 0) → (locks_of before actor ≤ held_at hand.stage → locks_of after actor ≤ held_at stage) → (IsApart hand.stage stage → KeepsOrder told hand.index old new)
+    → Survives told (λ (passed : PageMap). passed ≡ old.pages) old new → (old.failed ≡ None) × (new.failed ≡ None) × ((told old.disk).faults ≤ (told new.disk).faults) → Called told actor Cause hand moved old new before after (Ok (stage, what))
+done told actor Cause hand moved old new before after stage what stepped stands blocked others locks counts given own order survives outcome = record {
+  stepped = stepped;
+  stands = stands;
+  blocked = blocked;
+  full = tt;
+  others = others;
+  locks = locks;
+  counts = counts;
+  given = given;
+  own = own;
+  at_full = tt;
+  kept = tt;
+  order = order;
+  survives = survives;
+  at = tt;
+  outcome = outcome;
+}

@@ -7,7 +7,7 @@ ghost use Rattle.logged_pages.specs.Survives.{Survives};
 ghost use Rattle.index_contents.specs.IndexContents.{contents};
 ghost use Rattle.index_contents.specs.IndexChanges.{LeavesOthers};
 ghost use Rattle.index_steps.specs.Readings.{NamesPageOf};
-ghost use Rattle.index_steps.specs.SwapAnswers.{GivesLocks};
+ghost use Rattle.index_steps.specs.SwapAnswers.{GivesLocks, TakesAtMost};
 ghost use Rattle.map_pages.specs.declared.next.NextPage.{NextPage as AnyPage};
 ghost use Rattle.map_pages.specs.declared.next.PageState.TheVariants as states;
 ghost use Rattle.map_pages.specs.MapChanges.{CountsBlock, KeepsOrder};
@@ -129,6 +129,7 @@ fn count<D: Disk + Drop>(
     ensures counted { OnOk result (Tells D.told pages.old → CountsBlock (contents pages.old.layout pages.old.pages index) (contents pages.old.layout pages.new.pages index)) }
     ensures given { OnOk result (GivesLocks locks.old locks.new actor) }
     ensures locks { OnErr result (locks.new ≡ locks.old) }
+    ensures counts { TakesAtMost 0 locks.old locks.new actor }
     ensures order { KeepsOrder D.told index pages.old pages.new }
     ensures kept { OnErr result (Keeps D.told pages.old pages.new) }
     ensures others { LeavesOthers D.told index pages.old pages.new }
