@@ -13,12 +13,11 @@ use Rattle.coverage.specs.Changes.{Frame, IsFree, IsUntouched, OwnLocks, Touches
 use Rattle.coverage.specs.IndexPart.{with_part}
 use Rattle.coverage.specs.IndexView.{Building, Emptying, IndexTuple, IndexView, IsPastMap, Mapping, PageKind, Pages, Regular, Unstarted, map_page_of, next_map_page}
 use Rattle.coverage.specs.Knowing.{LocksNone, LocksThese}
-use Rattle.coverage.specs.Steps.{CountsPage, IsUnnamed, IsVacated, SweepsTuples, TurnsKind, TurnsPage}
-use Rattle.coverage.specs.Verdicts.{Full, IsFirstLocked, PutVerdict, Puts, SwapMoves, SwapVerdict, SwapWaits, Waits, IsLocked}
-use Rattle.coverage.specs.Waiting.{EvacuatePutWaits, EvacuateWaits, Grows, IsNextTuple, IsPhaseWaiting}
-use Rattle.coverage.specs.Statements.{Vacant}
+use Rattle.coverage.specs.Steps.{CountsPage, IsVacated, PutsTuple, SweepsTuples, TurnsKind, TurnsPage}
+use Rattle.coverage.specs.Verdicts.{IsLocked, IsTarget, IsTargetPlace}
+use Rattle.coverage.specs.Waiting.{Grows, IsNextTuple}
 use Rattle.index_contents.specs.IndexContents.{IndexContents}
-use Rattle.index_contents.specs.IndexChanges.{DropsBytes}
+use Rattle.index_contents.specs.IndexChanges.{DropsBytes, PutsBytes}
 use Rattle.index_steps.specs.IndexTuples.{IndexShape, range_said, seen}
 use Rattle.index_steps.specs.ShownIndex.{Shows, shown_part}
 use Rattle.map_pages.specs.FirstTuples.{IsOf}
@@ -187,9 +186,53 @@ fewer_unnamed x unnamed y is = on (is_apart x y) (unnamed y) is
     on true b is = is
     on false b is = absurd (false≢true is)
 
--- a move of the swap, since the page takes no tuples
-pub put_in : {w : IndexView} {s range : ℕ} {x y : Spot} {old new : IndexTuple} → SwapVerdict w s range x old new (Puts y) → IsFree w.lock s x.block × PutVerdict w s range (length new.bytes) (Puts y)
-put_in (SwapMoves verdict free stands must goes) = (free, goes)
+-- a tuple that is put
+module _ (shape : IndexShape) (c : IndexContents) (lock : ℕ → Option ℕ) (w : IndexView) (shows : Shows shape c lock w) where
+  pub target_there : (bytes : List ℕ) (p : ℕ) → IsTarget c.pages (length bytes) p → IsTarget w.pages (length (seen shape bytes).bytes) p
+  target_there bytes p target = subst (λ (pages : Pages). IsTarget pages (length (seen shape bytes).bytes) p) (sym shows.pages)
+      (subst (λ (b : List ℕ). IsTarget c.pages (length b) p) (sym (seen_bytes shape bytes)) target)
 
-pub full_in : {w : IndexView} {s range number : ℕ} {x : Spot} {old new : IndexTuple} → SwapVerdict w s range x old new (Full number) → IsFree w.lock s x.block × PutVerdict w s range (length new.bytes) (Full number)
-full_in (SwapMoves verdict free stands must goes) = (free, goes)
+  pub target_back : (bytes : List ℕ) (p : ℕ) → IsTarget w.pages (length (seen shape bytes).bytes) p → IsTarget c.pages (length bytes) p
+  target_back bytes p target = subst (λ (b : List ℕ). IsTarget c.pages (length b) p) (seen_bytes shape bytes)
+      (subst (λ (pages : Pages). IsTarget pages (length (seen shape bytes).bytes) p) shows.pages target)
+
+  no_tuple_in : (o : Option (List ℕ)) → option_map (seen shape) o ≡ None → o ≡ None
+  no_tuple_in None is = refl
+  no_tuple_in (Some bytes) is = absurd (none-some (seen shape bytes) (sym is))
+
+  nothing_there : (x : Spot) → c.bytes x ≡ None → w.tuple x ≡ None
+  nothing_there x none = shows.tuple x ∙ ap (option_map (seen shape)) none
+
+  module _ (d : IndexContents) (y : Spot) (bytes : List ℕ) where
+    pub place_there : IsTarget c.pages (length bytes) y.block → PutsBytes c d y bytes → IsTargetPlace w.pages w.tuple (length (seen shape bytes).bytes) y
+    place_there target puts = (
+      target_there bytes y.block target,
+      (
+        nothing_there y puts.lowest.0,
+        λ slot gone. puts.lowest.1 slot (no_tuple_in (c.bytes (record { block = y.block; slot = slot })) (sym (shows.tuple (record { block = y.block; slot = slot })) ∙ gone)),
+      ),
+    )
+
+  pub puts_there : (s : ℕ) (d : IndexContents) (locked : ℕ → Option ℕ) (y : Spot) (bytes : List ℕ) → PutsBytes c d y bytes → IsFree lock s y.block → OwnLocks s w.lock locked → (building : ℕ → Option Building) (loose : ℕ → Option Spot)
+      → PutsTuple s w (after shape d locked w.unnamed w building loose) y (seen shape bytes)
+  puts_there s d locked y bytes puts free own building loose = record {
+    tuple = record {
+      was = nothing_there y puts.bytes.was;
+      now = ap (option_map (seen shape)) puts.bytes.now;
+      others = λ z. ⊎_elim
+          (λ (at : z ≡ y). inl at)
+          (λ (same : d.bytes z ≡ c.bytes z). inr (ap (option_map (seen shape)) same ∙ sym (shows.tuple z)))
+          (puts.bytes.others z);
+    };
+    free = λ n locked. free n (sym (shows.lock y.block) ∙ locked);
+    page = subst (λ (pages : Pages). TurnsPage pages d.pages y.block Regular) (sym shows.pages) puts.page;
+    frame = record {
+      heap = record { pages_per_range = refl; blocks = refl; row = λ b k. refl };
+      map = record { entry = λ range. puts.entries range ∙ sym (shows.entry range) };
+      tuples = tt;
+      unnamed_tuples = record { unnamed = λ z. refl };
+      summarise_lock = refl;
+      locks = own;
+      contents = refl;
+    };
+  }

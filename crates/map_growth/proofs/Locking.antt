@@ -45,6 +45,11 @@ module _ (relation s : ℕ) (h k : Place → Option ℕ) (these : List ℕ) (loc
         (takes.others (page_of relation page));
   }
 
+-- where the first page is free, it is one of the others that is held
+pub first_rest : (h : Place → Option ℕ) (relation s x : ℕ) (more : List ℕ) (q : ℕ) → IsFreeFor h s (page_of relation x) → IsFirstHeld h relation s (x ∷ more) q → IsFirstHeld h relation s more q
+first_rest h relation s x more q free (FirstHeld _ n _ locked other) = absurd (other (free n locked))
+first_rest h relation s x more q free (LaterHeld _ _ _ none later) = later
+
 -- the first page that is held is the first one that another session locks
 pub first_locked : (h : Place → Option ℕ) (relation s : ℕ) (lock : ℕ → Option ℕ) (pages : List ℕ) (q : ℕ) → ((page : ℕ) → lock page ≡ h (page_of relation page)) → IsFirstHeld h relation s pages q → IsFirstLocked lock s pages q
 first_locked h relation s lock _ _ old (FirstHeld p n more locked other) = First p more (n, old p ∙ locked, other)

@@ -93,7 +93,7 @@ module _ {D : Type 0} (told : D → Told) (old mid new : View D) (kept : Keeps t
       own = called.own;
       at_full = called.at_full;
       kept = on_err_too result (keeps_on told old mid new kept) called.kept;
-      order = ok_too (λ o. IsApart hand.stage o.0 → KeepsOrder told hand.index mid new) (λ o. IsApart hand.stage o.0 → KeepsOrder told hand.index old new) result (λ o keeps apart. order_on hand.index (keeps apart)) called.order;
+      order = ok_too (λ o. IsApart o.1 → KeepsOrder told hand.index mid new) (λ o. IsApart o.1 → KeepsOrder told hand.index old new) result (λ o keeps apart. order_on hand.index (keeps apart)) called.order;
       survives = survives_on told old mid new kept survives called.survives;
       at = subst (λ (l : DiskLayout). IfErr result (FaultNamesPageOf l hand.index)) kept.leaves.layout called.at;
       outcome = machine_on result called.outcome;

@@ -121,7 +121,7 @@ module _ {D : Type 0} (told : D → Told) (old new : View D) (kept : Keeps told 
 -- a step that is done
 pub done : {D : Type 0} (told : D → Told) (actor : ℕ) (Cause : Type 0) (hand : GrowthHand) (moved : List ℕ) (old new : View D) (before after : LockState) (stage : Stage) (what : Did) → (Tells told old → StepsAt old.layout old.pages new.pages before after actor hand (hand_at hand.index stage moved) what)
     → StandsAfter hand (hand_at hand.index stage moved) what → BlockedWell told hand.index actor old new before after what → LeavesOthers told hand.index old new → LeavesLocks (holder before) (holder after) (relation_of old.layout hand.index) actor
-    → TakesAtMost (taken_at hand.stage) before after actor → (Gives hand.stage what → locks_of after actor ≡ 0) → (locks_of before actor ≤ held_at hand.stage → locks_of after actor ≤ held_at stage) → (IsApart hand.stage stage → KeepsOrder told hand.index old new)
+    → TakesAtMost (taken_at hand.stage) before after actor → (Gives hand.stage what → locks_of after actor ≡ 0) → (locks_of before actor ≤ held_at hand.stage → locks_of after actor ≤ held_at stage) → (IsApart what → KeepsOrder told hand.index old new)
     → Survives told (λ (passed : PageMap). passed ≡ old.pages) old new → (old.failed ≡ None) × (new.failed ≡ None) × ((told old.disk).faults ≤ (told new.disk).faults) → Called told actor Cause hand moved old new before after (Ok (stage, what))
 done told actor Cause hand moved old new before after stage what stepped stands blocked others locks counts given own order survives outcome = record {
   stepped = stepped;

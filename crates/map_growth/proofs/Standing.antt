@@ -15,17 +15,15 @@ use Rattle.page_locks.specs.LockHolders.{LockState, holder}
 use Rattle.index_layout.specs.declared.format.TheConstants.{UNSTARTED, MAP, REGULAR, EVACUATED, MAP_ENTRIES}
 use Rattle.coverage.specs.Changes.{IsFree}
 use Rattle.coverage.specs.IndexView.{Emptying, Mapping, PageKind, Regular, Unstarted, map_page_of, next_map_page}
-use Rattle.coverage.specs.Verdicts.{IsLocked}
+use Rattle.coverage.specs.Verdicts.{IsLocked, IsTarget}
 use Rattle.coverage.specs.Waiting.{IsNextTuple}
 use Rattle.index_contents.specs.IndexContents.{IndexContents, contents, index_page, kind_at, relation_of}
-use Rattle.index_contents.specs.IndexChanges.{DropsBytes}
+use Rattle.index_contents.specs.IndexChanges.{DropsBytes, PutsBytes}
 use Rattle.index_contents.specs.Kinds.{regular_page, unstarted_page_kind}
 use Rattle.index_contents.specs.MapLaws.{is_of_map}
 use Rattle.index_contents.specs.Reading.{map_byte}
-use Rattle.index_steps.specs.declared.swapping.Swapped.TheVariants as swaps
 use Rattle.index_steps.specs.IndexTuples.{seen, shape_of}
 use Rattle.index_steps.specs.ShownIndex.{lock_in}
-use Rattle.index_steps.specs.SwapAnswers.{IsSwapFull, SwapMakes}
 use Rattle.map_pages.specs.declared.next.PageState.{PageState}
 use Rattle.map_pages.specs.declared.next.PageState.TheVariants as states
 use Rattle.map_pages.specs.FirstTuples.{IsOf}
@@ -34,6 +32,7 @@ use Rattle.map_pages.specs.NextPages.{IsEmptyMap, StandsNext}
 use Rattle.map_growth.specs.declared.stage.Stage.TheVariants as stages
 use Rattle.map_growth.specs.Called.{hand_at}
 use Rattle.map_growth.specs.GrowthSteps.{StepFull, StepWaits, StepsAt, growth_at}
+use Rattle.map_growth.proofs.Locking.{first_rest}
 use Rattle.map_growth.proofs.Stepped.{count_waits, counts, counts_left_over, evacuate_waits, flag_waits, flags, map_full, moves, put_full, put_waits, start_waits, starts, sweeps, turn_waits, turned}
 
 -- the kind of a page behind the metapage, by its byte
@@ -166,17 +165,17 @@ module _ (layout : DiskLayout) (pages : PageMap) (index : ℕ) where
           first_next : IsNextTuple c.bytes (next_map_page c.pages) x bytes
           first_next = subst (λ (b : ℕ). IsNextTuple c.bytes b x bytes) next.next first
 
-          pub moves_at : (y : Spot) (locked : LockState) → SwapMakes (shape_of layout index) c d (lock_in layout locks index) (lock_in layout locked index) s m x (seen (shape_of layout index) bytes) (seen (shape_of layout index) bytes) (swaps.Moves y)
-              → d.pages.map_pages ≡ c.pages.map_pages → StepsAt layout pages new locks locked s (hand_at index stages.Judge was) (hand_at index (stages.Set m x y) bytes) (did.Moved points.Put)
-          moves_at y locked makes counted = moves (shape_of layout index) c d (h locks) (h locked) (relation_of layout index) s index was moved (below_there block states.Emptying next)
-              x y bytes m (kind_there block states.Emptying next) first_next of named makes counted
+          pub moves_at : (y : Spot) (locked : LockState) → IsTarget c.pages (length bytes) y.block → TakesAll (h locks) (h locked) relation (x.block ∷ y.block ∷ map_page_of m ∷ []) s → PutsBytes c d y bytes
+              → StepsAt layout pages new locks locked s (hand_at index stages.Judge was) (hand_at index (stages.Set m x y) bytes) (did.Moved points.Put)
+          moves_at y locked target takes puts = moves (shape_of layout index) c d (h locks) (h locked) (relation_of layout index) s index was moved (below_there block states.Emptying next)
+              x y bytes m (kind_there block states.Emptying next) first_next of named target (subst (λ (r : ℕ). TakesAll (h locks) (h locked) r (x.block ∷ y.block ∷ map_page_of m ∷ []) s) at takes) puts
 
-          pub put_waits_at : (held : Held) (locked : LockState) → SwapMakes (shape_of layout index) c d (lock_in layout locks index) (lock_in layout locked index) s m x (seen (shape_of layout index) bytes) (seen (shape_of layout index) bytes) (swaps.Waits held)
-              → StepWaits (shape_of layout index) s (growth_at layout pages locks (hand_at index stages.Judge was)) held.page.block
-          put_waits_at held locked makes = put_waits (shape_of layout index) c d (h locks) (h locked) (relation_of layout index) s index was moved (below_there block states.Emptying next)
-              x bytes m (kind_there block states.Emptying next) first_next of named held makes
+          pub put_waits_at : (p q : ℕ) → IsFreeFor (h locks) s (page_of relation x.block) → IsTarget c.pages (length bytes) p → IsFirstHeld (h locks) relation s (x.block ∷ p ∷ map_page_of m ∷ []) q
+              → StepWaits (shape_of layout index) s (growth_at layout pages locks (hand_at index stages.Judge was)) q
+          put_waits_at p q free target held = put_waits (shape_of layout index) c d (h locks) (h locks) (relation_of layout index) s index was moved (below_there block states.Emptying next)
+              x bytes m (kind_there block states.Emptying next) first_next of named (free_at x.block free) p q target
+              (subst (λ (r : ℕ). IsFirstHeld (h locks) r s (p ∷ map_page_of m ∷ []) q) at (first_rest (h locks) relation s x.block (p ∷ map_page_of m ∷ []) q free held))
 
-          pub put_full_at : (number : ℕ) → IsSwapFull (shape_of layout index) c (lock_in layout locks index) s m x (seen (shape_of layout index) bytes) (seen (shape_of layout index) bytes) number
-              → StepFull (shape_of layout index) s (growth_at layout pages locks (hand_at index stages.Judge was)) number
-          put_full_at number full = put_full (shape_of layout index) c d (h locks) (h locks) (relation_of layout index) s index was moved (below_there block states.Emptying next)
-              x bytes m (kind_there block states.Emptying next) first_next of named number full
+          pub put_full_at : IsFreeFor (h locks) s (page_of relation x.block) → ((p : ℕ) → IsTarget c.pages (length bytes) p → ⊥) → StepFull (shape_of layout index) s (growth_at layout pages locks (hand_at index stages.Judge was)) layout.sizes.index_blocks
+          put_full_at free none = put_full (shape_of layout index) c d (h locks) (h locks) (relation_of layout index) s index was moved (below_there block states.Emptying next)
+              x bytes m (kind_there block states.Emptying next) first_next of named (free_at x.block free) layout.sizes.index_blocks limit_there none

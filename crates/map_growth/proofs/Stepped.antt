@@ -15,15 +15,13 @@ use Rattle.coverage.specs.IndexView.{Building, Emptying, IndexTuple, IndexView, 
 use Rattle.coverage.specs.Knowing.{LocksNone, LocksThese}
 use Rattle.coverage.specs.Statements.{Dropping, Evacuating, Growing, Maintaining, Moving, Vacant}
 use Rattle.coverage.specs.Steps.{Count, CountLeftOver, EvacuateDrop, EvacuatePut, EvacuateSet, EvacuateSweep, Flag, Grow, GrowMap, Turn}
-use Rattle.coverage.specs.Verdicts.{Full, IsFirstLocked, IsLocked, PutVerdict, Puts, SwapMoves, SwapVerdict, SwapWaits, Waits}
+use Rattle.coverage.specs.Verdicts.{Full, IsFirstLocked, IsLocked, IsTarget, NoTarget, PutGoes, PutVerdict, PutWaits, Puts, Waits}
 use Rattle.coverage.specs.Waiting.{CountWaits, EvacuateFull, EvacuatePutWaits, EvacuateWaits, FlagWaits, GrowWaits, Grows, IsNextTuple, IsPhaseFull, IsPhaseWaiting, MapFull, TurnWaits}
 use Rattle.index_contents.specs.IndexContents.{IndexContents}
-use Rattle.index_contents.specs.IndexChanges.{DropsBytes}
-use Rattle.index_steps.specs.declared.swapping.Swapped.TheVariants as swaps
+use Rattle.index_contents.specs.IndexChanges.{DropsBytes, PutsBytes}
 use Rattle.index_steps.specs.IndexTuples.{IndexShape, seen}
 use Rattle.index_steps.specs.MoveEnds.{DropsIn, SetsIn}
 use Rattle.index_steps.specs.ShownIndex.{Shows, shown_part}
-use Rattle.index_steps.specs.SwapAnswers.{IsSwapFull, SwapMakes}
 use Rattle.map_pages.specs.FirstTuples.{IsOf}
 use Rattle.map_pages.specs.MapChanges.{CountsBlock, TurnsBlock}
 use Rattle.map_growth.specs.declared.stage.Stage.{Stage}
@@ -31,7 +29,7 @@ use Rattle.map_growth.specs.declared.stage.Stage.TheVariants as stages
 use Rattle.map_growth.specs.Called.{hand_at}
 use Rattle.map_growth.specs.GrowthHands.{GrowthHand}
 use Rattle.map_growth.specs.GrowthSteps.{GrowthAt, StepFull, StepWaits, Stepped}
-use Rattle.map_growth.proofs.Growing.{counts_there, fewer_unnamed, first_there, free_there, full_in, grows_there, locked_there, next_there, none_first, none_there, no_range_there, own_there, put_in, range_there, seen_bytes, seen_there, sweeps_there, turns_there, unnamed_but}
+use Rattle.map_growth.proofs.Growing.{counts_there, fewer_unnamed, first_there, free_there, grows_there, locked_there, next_there, none_first, none_there, no_range_there, own_there, place_there, puts_there, range_there, seen_bytes, seen_there, sweeps_there, target_back, target_there, turns_there, unnamed_but}
 use Rattle.map_growth.proofs.Locking.{first_locked, gives_own, takes_own, takes_these}
 
 -- a growth at a stage, with the bytes of a tuple
@@ -71,7 +69,7 @@ module _ (shape : IndexShape) (c d : IndexContents) (h k : Place → Option ℕ)
             refl,
           ),
         ),
-        turns.page.map_pages,
+        (λ range w shows short knows. turns.page.map_pages),
       )
 
       -- so is one that was emptied
@@ -94,7 +92,7 @@ module _ (shape : IndexShape) (c d : IndexContents) (h k : Place → Option ℕ)
             refl,
           ),
         ),
-        turns.page.map_pages,
+        (λ range w shows short knows. turns.page.map_pages),
       )
 
     -- a page with tuples is flagged
@@ -114,7 +112,7 @@ module _ (shape : IndexShape) (c d : IndexContents) (h k : Place → Option ℕ)
           refl,
         ),
       ),
-      turns.page.map_pages,
+      (λ range w shows short knows. turns.page.map_pages),
     )
 
     -- a page that is left over is counted
@@ -131,7 +129,7 @@ module _ (shape : IndexShape) (c d : IndexContents) (h k : Place → Option ℕ)
           refl,
         ),
       ),
-      ap (λ (p : Pages). p.map_pages) counts.pages,
+      (λ range w shows short knows. ap (λ (p : Pages). p.map_pages) counts.pages),
     )
 
     -- the first tuple of the page, which the map doesn't name, is dropped
@@ -149,19 +147,17 @@ module _ (shape : IndexShape) (c d : IndexContents) (h k : Place → Option ℕ)
           refl,
         ),
       ),
-      drops.page.map_pages,
+      (λ range w shows short knows. drops.page.map_pages),
     )
 
-    -- one that it names moves
+    -- one that it names is put on another page, and its own, that one and the map's are locked
     pub moves : (x y : Spot) (bytes : List ℕ) (m : ℕ) → c.pages.kind (next_map_page c.pages) ≡ Emptying → IsNextTuple c.bytes (next_map_page c.pages) x bytes → IsOf bytes (Some m) → c.entry m ≡ Some x
-        → SwapMakes shape c d lock locked s m x (seen shape bytes) (seen shape bytes) (swaps.Moves y) → d.pages.map_pages ≡ c.pages.map_pages
+        → IsTarget c.pages (length bytes) y.block → TakesAll h k relation (x.block ∷ y.block ∷ map_page_of m ∷ []) s → PutsBytes c d y bytes
         → Stepped shape s (growing c lock index stages.Judge was) (growing d locked index (stages.Set m x y) bytes) (did.Moved points.Put)
-    moves x y bytes m kind first of named makes counted = (
+    moves x y bytes m kind first of named target takes puts = (
       λ range w shows short knows pages.
           let t : IndexTuple = seen shape bytes in
           let is : t.range ≡ m = range_there shape bytes m of in
-          let made = makes w shows knows.1.0 in
-          let verdict = put_in made.0 in
           (
             w.unnamed,
             (λ z unnamed. unnamed),
@@ -169,15 +165,16 @@ module _ (shape : IndexShape) (c d : IndexContents) (h k : Place → Option ℕ)
             (λ building loose. (
               GrowMap Vacant (Evacuating t.range (Moving x y t t)) (EvacuatePut x y t (grows_there shape c lock w shows range Emptying short below kind) (first_there shape c lock w shows x bytes first)
                 (ap w.entry is ∙ shows.entry m ∙ named)
-                verdict.0
-                (subst (λ (n : ℕ). PutVerdict w s n (length t.bytes) (Puts y)) (sym is) verdict.1)
-                (made.1 building loose)
-                (subst (λ (n : ℕ). LocksThese locked s (x.block ∷ y.block ∷ map_page_of n ∷ [])) (sym is) made.2)),
+                (free_there shape c lock w shows s x.block (takes.free x.block (inl refl)))
+                (subst (λ (n : ℕ). PutVerdict w s n (length t.bytes) (Puts y)) (sym is)
+                (PutGoes y (place_there shape c lock w shows d y bytes target puts) (free_there shape c lock w shows s y.block (takes.free y.block (inr (inl refl)))) (free_there shape c lock w shows s (map_page_of m) (takes.free (map_page_of m) (inr (inr (inl refl)))))))
+                (puts_there shape c lock w shows s d locked y bytes puts (takes.free y.block (inr (inl refl))) (takes_own relation s h k (x.block ∷ y.block ∷ map_page_of m ∷ []) w.lock (λ page. shows.lock page) takes) building loose)
+                (subst (λ (n : ℕ). LocksThese locked s (x.block ∷ y.block ∷ map_page_of n ∷ [])) (sym is) (takes_these relation s h k (x.block ∷ y.block ∷ map_page_of m ∷ []) w.lock (λ page. shows.lock page) takes knows.1.0))),
               refl,
               refl,
             )),
           ),
-      counted,
+      (λ range w shows short knows. puts.page.map_pages),
     )
 
     -- the growth waits for the page's lock or that of the metapage
@@ -207,27 +204,24 @@ module _ (shape : IndexShape) (c d : IndexContents) (h k : Place → Option ℕ)
         (EvacuateWaits x (seen shape bytes) (grows_there shape c lock w shows range Emptying short below kind) (first_there shape c lock w shows x bytes first)
         (subst (IsLocked w.lock s) (sym (next_there shape c lock w shows)) (locked_there shape c lock w shows s (next_map_page c.pages) held)))
 
-    module _ (x : Spot) (bytes : List ℕ) (m : ℕ) (kind : c.pages.kind (next_map_page c.pages) ≡ Emptying) (first : IsNextTuple c.bytes (next_map_page c.pages) x bytes) (of : IsOf bytes (Some m)) (named : c.entry m ≡ Some x) where
-      by_verdict : (range q : ℕ) (w : IndexView) → Shows shape c lock w → IsPastMap w.pages range → SwapVerdict w s m x (seen shape bytes) (seen shape bytes) (Waits q) → IsPhaseWaiting w s range Vacant q
-      by_verdict range q w shows short (SwapWaits held) =
-          subst (IsPhaseWaiting w s range Vacant) (sym (first_there shape c lock w shows x bytes first).on)
-          (EvacuateWaits x (seen shape bytes) (grows_there shape c lock w shows range Emptying short below kind) (first_there shape c lock w shows x bytes first)
-          (subst (IsLocked w.lock s) (first_there shape c lock w shows x bytes first).on held))
-      by_verdict range q w shows short (SwapMoves verdict free stands must goes) =
+    module _ (x : Spot) (bytes : List ℕ) (m : ℕ) (kind : c.pages.kind (next_map_page c.pages) ≡ Emptying) (first : IsNextTuple c.bytes (next_map_page c.pages) x bytes) (of : IsOf bytes (Some m)) (named : c.entry m ≡ Some x) (free : IsFree lock s x.block) where
+      pub put_waits : (p q : ℕ) → IsTarget c.pages (length bytes) p → IsFirstHeld h relation s (p ∷ map_page_of m ∷ []) q → StepWaits shape s (growing c lock index stages.Judge was) q
+      put_waits p q target held range w shows short knows =
           let is = range_there shape bytes m of in
           EvacuatePutWaits q x (seen shape bytes) (grows_there shape c lock w shows range Emptying short below kind) (first_there shape c lock w shows x bytes first)
-          (ap w.entry is ∙ shows.entry m ∙ named) free (subst (λ (n : ℕ). PutVerdict w s n (length (seen shape bytes).bytes) (Waits q)) (sym is) goes)
-
-      pub put_waits : (held : Held) → SwapMakes shape c d lock locked s m x (seen shape bytes) (seen shape bytes) (swaps.Waits held) → StepWaits shape s (growing c lock index stages.Judge was) held.page.block
-      put_waits held makes range w shows short knows = by_verdict range held.page.block w shows short (makes w shows knows.1.0)
+          (ap w.entry is ∙ shows.entry m ∙ named) (free_there shape c lock w shows s x.block free)
+          (subst (λ (n : ℕ). PutVerdict w s n (length (seen shape bytes).bytes) (Waits q)) (sym is)
+          (PutWaits p q (target_there shape c lock w shows bytes p target) (first_locked h relation s w.lock (p ∷ map_page_of m ∷ []) q (λ page. shows.lock page) held)))
 
       -- no page takes the tuple
-      pub put_full : (number : ℕ) → IsSwapFull shape c lock s m x (seen shape bytes) (seen shape bytes) number → StepFull shape s (growing c lock index stages.Judge was) number
-      put_full number full range w shows short =
+      pub put_full : (number : ℕ) → number ≡ c.pages.limit → ((p : ℕ) → IsTarget c.pages (length bytes) p → ⊥) → StepFull shape s (growing c lock index stages.Judge was) number
+      put_full number many none range w shows short =
           let is = range_there shape bytes m of in
-          let verdict = full_in (full w shows) in
           EvacuateFull number x (seen shape bytes) (grows_there shape c lock w shows range Emptying short below kind) (first_there shape c lock w shows x bytes first)
-          (ap w.entry is ∙ shows.entry m ∙ named) verdict.0 (subst (λ (n : ℕ). PutVerdict w s n (length (seen shape bytes).bytes) (Full number)) (sym is) verdict.1)
+          (ap w.entry is ∙ shows.entry m ∙ named) (free_there shape c lock w shows s x.block free)
+          (subst (λ (n : ℕ). PutVerdict w s n (length (seen shape bytes).bytes) (Full number)) (sym is)
+          (subst (λ (n : ℕ). PutVerdict w s m (length (seen shape bytes).bytes) (Full n)) (ap (λ (p : Pages). p.limit) shows.pages ∙ sym many)
+          (NoTarget (λ p target. none p (target_back shape c lock w shows bytes p target)))))
 
   -- the index can't have the page
   pub map_full : (number : ℕ) → number ≡ c.pages.limit → number ≤ next_map_page c.pages → StepFull shape s (growing c lock index stages.Judge was) number
@@ -247,12 +241,12 @@ module _ (shape : IndexShape) (c d : IndexContents) (h k : Place → Option ℕ)
         refl,
       ),
     ),
-    ap (λ (p : Pages). p.map_pages) made.pages,
+    (λ range w shows short knows. ap (λ (p : Pages). p.map_pages) made.pages),
   )
 
   -- the map names the tuple where it was put
-  pub sets : (m : ℕ) (x y : Spot) → SetsIn shape c d m y → d.pages.map_pages ≡ c.pages.map_pages → Stepped shape s (growing c lock index (stages.Set m x y) was) (growing d lock index (stages.Drop m x) was) (did.Moved points.Set)
-  sets m x y made counted = (
+  pub sets : (m : ℕ) (x y : Spot) → SetsIn shape c d m y → Stepped shape s (growing c lock index (stages.Set m x y) was) (growing d lock index (stages.Drop m x) was) (did.Moved points.Set)
+  sets m x y made = (
     λ range w shows none knows pages. (
       w.unnamed,
       (λ z is. is),
@@ -262,16 +256,16 @@ module _ (shape : IndexShape) (c d : IndexContents) (h k : Place → Option ℕ)
         refl,
       ),
     ),
-    counted,
+    (λ range w shows none knows. ap (λ (p : Pages). p.map_pages) ((made lock w shows s (λ n. None) (λ n. None)).pages ∙ shows.pages)),
   )
 
   -- the old one goes
-  pub drops : (m : ℕ) (x : Spot) → DropsIn shape c d lock locked s x → d.pages.map_pages ≡ c.pages.map_pages → Stepped shape s (growing c lock index (stages.Drop m x) was) (growing d locked index stages.Judge moved) (did.Moved points.Drop)
-  drops m x made counted = (
+  pub drops : (m : ℕ) (x : Spot) → DropsIn shape c d lock locked s x → Stepped shape s (growing c lock index (stages.Drop m x) was) (growing d locked index stages.Judge moved) (did.Moved points.Drop)
+  drops m x made = (
     λ range w shows none knows pages. (
       w.unnamed,
       (λ z is. is),
       λ building loose. (GrowMap (Evacuating m (Dropping x)) Vacant (EvacuateDrop m x (made w shows building loose)), refl, refl),
     ),
-    counted,
+    (λ range w shows none knows. (made w shows (λ n. None) (λ n. None)).page.map_pages ∙ ap (λ (p : Pages). p.map_pages) shows.pages),
   )

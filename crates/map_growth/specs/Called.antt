@@ -2,9 +2,6 @@
 use Rattle.std.specs.Prelude.{◌≡◌, ℕ, ◌≤◌, List, IfOk, IfErr, OnErr, Result}
 use Rattle.disk_trait.specs.Told.{Told}
 use Rattle.page_store.specs.declared.faults.MachineFault.{MachineFault}
-use Rattle.page_store.specs.declared.faults.MachineFault.TheVariants as faults
-use Rattle.page_store.specs.declared.faults.StoreError.TheVariants as errors
-use Rattle.store_layout.specs.DiskLayout.{DiskLayout}
 use Rattle.page_store.specs.Keeps.{Keeps, Tells}
 use Rattle.page_store.specs.PageMap.{View}
 use Rattle.page_locks.specs.declared.did.Did.{Did}
@@ -14,7 +11,6 @@ use Rattle.logged_pages.specs.Survives.{Survives}
 use Rattle.index_contents.specs.IndexContents.{relation_of}
 use Rattle.index_contents.specs.IndexChanges.{LeavesOthers}
 use Rattle.index_steps.specs.IndexTuples.{shape_of}
-use Rattle.index_steps.specs.Readings.{NamesPageOf}
 use Rattle.index_steps.specs.StepAnswers.{BlockedWell}
 use Rattle.index_steps.specs.SwapAnswers.{FaultNamesPageOf, LeavesLocks, MachineOutcome, SaysFullIn, StaysWhereFull, TakesAtMost}
 use Rattle.map_pages.specs.MapChanges.{KeepsOrder}
@@ -41,12 +37,7 @@ pub record Called {D : Type 0} (told : D → Told) (actor : ℕ) (Cause : Type 0
   pub own : IfOk result (λ o. locks_of before actor ≤ held_at hand.stage → locks_of after actor ≤ held_at o.0)
   pub at_full : IfErr result (StaysWhereFull before after)
   pub kept : OnErr result (Keeps told old new)
-  pub order : IfOk result (λ o. IsApart hand.stage o.0 → KeepsOrder told hand.index old new)
+  pub order : IfOk result (λ o. IsApart o.1 → KeepsOrder told hand.index old new)
   pub survives : Survives told (λ passed. passed ≡ old.pages) old new
   pub at : IfErr result (FaultNamesPageOf old.layout hand.index)
   pub outcome : MachineOutcome told Cause old new result
-
--- damage, told by the byte at which a page of the index begins
-abbrev pub IsDamageOf : DiskLayout → (index : ℕ) → MachineFault → Type 0
-IsDamageOf layout index (faults.Store (errors.Damaged at)) = NamesPageOf layout index (errors.Damaged at)
-IsDamageOf layout index fault = ⊥

@@ -57,6 +57,11 @@ StepMakes shape s old new point = (range : ℕ) (w : IndexView) → Shows shape 
     → (unnamed : Spot → Bool) × IsFewer w.unnamed unnamed
     × SummariseMakes s range w (shown_part shape new.pages new.lock unnamed) (phase_of shape old.hand) (Maintaining range (phase_of shape new.hand)) point 0
 
+-- in each such index as many pages of the map are counted then
+abbrev pub StepCounts : IndexShape → (s : ℕ) → (old new : GrowthAt) → (count : ℕ) → Type 0
+StepCounts shape s old new count = (range : ℕ) (w : IndexView) → Shows shape old.pages old.lock w → IsNeeded w.pages range old.hand.stage
+    → Knows w s (Maintaining range (phase_of shape old.hand)) → new.pages.pages.map_pages ≡ count
+
 -- the growth waits for the lock of this page
 abbrev pub StepWaits : IndexShape → (s : ℕ) → GrowthAt → (page : ℕ) → Type 0
 StepWaits shape s old page = (range : ℕ) (w : IndexView) → Shows shape old.pages old.lock w → IsNeeded w.pages range old.hand.stage
@@ -69,8 +74,8 @@ StepFull shape s old number = (range : ℕ) (w : IndexView) → Shows shape old.
 
 -- What a step did: it goes on, with as many pages counted as before; or it is done, and one page more is; or it waits, and is where it was.
 abbrev pub Stepped : IndexShape → (s : ℕ) → (old new : GrowthAt) → Did → Type 0
-Stepped shape s old new (did.Moved point) = StepMakes shape s old new point × (new.pages.pages.map_pages ≡ old.pages.pages.map_pages)
-Stepped shape s old new (did.Finished point) = StepMakes shape s old new point × (new.pages.pages.map_pages ≡ next_map_page old.pages.pages)
+Stepped shape s old new (did.Moved point) = StepMakes shape s old new point × StepCounts shape s old new old.pages.pages.map_pages
+Stepped shape s old new (did.Finished point) = StepMakes shape s old new point × StepCounts shape s old new (next_map_page old.pages.pages)
 Stepped shape s old new (did.Blocked held) = StepWaits shape s old held.page.block
 Stepped shape s old new (did.NoRight by) = ⊥
 

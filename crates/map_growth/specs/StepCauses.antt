@@ -1,14 +1,15 @@
 -- what a step of a growth needs, and what is damaged where it finds damage
 use Rattle.std.specs.Prelude.{◌≡◌, ℕ}
-use Rattle.disk_trait.specs.Told.{Told}
+use Rattle.block_model.specs.declared.reply.Point.TheVariants as points
 use Rattle.store_layout.specs.DiskLayout.{DiskLayout}
-use Rattle.page_store.specs.PageMap.{PageMap, View}
+use Rattle.page_store.specs.PageMap.{PageMap}
+use Rattle.page_locks.specs.declared.did.Did.{Did}
+use Rattle.page_locks.specs.declared.did.Did.TheVariants as did
 use Rattle.coverage.specs.IndexView.{next_map_page}
 use Rattle.index_contents.specs.IndexContents.{IndexContents, contents}
 use Rattle.index_steps.specs.IndexTuples.{IndexShape}
 use Rattle.index_steps.specs.MoveEnds.{IsMoving}
 use Rattle.map_pages.specs.declared.next.PageState.TheVariants as states
-use Rattle.map_pages.specs.MapChanges.{KeepsOrder}
 use Rattle.map_pages.specs.NextPages.{IsNextDamaged, StandsNext}
 use Rattle.map_growth.specs.declared.stage.Stage.{Stage}
 use Rattle.map_growth.specs.declared.stage.Stage.TheVariants as stages
@@ -28,13 +29,8 @@ DamageAt layout pages index stages.Judge = IsNextDamaged layout pages index
 DamageAt layout pages index stages.Count = HasLeftOver layout pages index → ⊥
 DamageAt layout pages index stage = ⊥
 
--- the growth is outside of a move before the step and behind it
-abbrev pub IsApart : (old new : Stage) → Type 0
-IsApart stages.Judge stages.Judge = Unit {0}
-IsApart stages.Judge stages.Count = Unit {0}
-IsApart stages.Count new = Unit {0}
-IsApart old new = ⊥
-
--- a step outside of a move keeps the order of the index's pages
-abbrev pub KeepsOrderApart : {D : Type 0} → (D → Told) → (index : ℕ) → (before after : Stage) → View D → View D → Type 0
-KeepsOrderApart told index before after old new = IsApart before after → KeepsOrder told index old new
+-- the step isn't one that has the map name a tuple, or drops one
+abbrev pub IsApart : Did → Type 0
+IsApart (did.Moved points.Set) = ⊥
+IsApart (did.Moved points.Drop) = ⊥
+IsApart done = Unit {0}

@@ -16,7 +16,7 @@ ghost use Rattle.range_store.specs.Tuples.{IsTupleSize};
 ghost use Rattle.map_pages.specs.declared.next.PageState.TheVariants as states;
 ghost use Rattle.map_pages.specs.FirstTuples.{IsOf};
 ghost use Rattle.map_pages.specs.NextPages.{StandsNext};
-ghost use Rattle.map_growth.specs.Called.{Called, IsDamageOf, hand_at};
+ghost use Rattle.map_growth.specs.Called.{Called, hand_at};
 ghost use Rattle.map_growth.specs.MovedTuples.{IsFirstOf};
 
 use crate::moved::Moved;
@@ -25,13 +25,11 @@ use block_model::{Place, Point, Spot};
 use disk_trait::Disk;
 use engine_pages::PageStore;
 use index_contents::relation_of;
-use index_steps::{
-    Swapped, Within, drop_moved, lock_of_another, name_moved, page_at, swap,
-};
+use index_steps::{Within, drop_moved, lock_of_another, map_page_of, name_moved};
 use map_pages::FirstTuple;
 use page_locks::{Did, Locks};
 use page_store::{MachineFault, StoreError};
-use range_store::drop_at;
+use range_store::{a_target_takes_its_tuple, drop_at, put, room_for};
 use revmap::entry;
 
 /// Moves the first tuple of the page, whose bytes are these, or drops it. It is judged under the lock of its page.
@@ -69,7 +67,7 @@ pub(crate) fn evacuate<D: Disk + Drop>(
                 range,
                 actor,
             };
-            put(pages, locks, at, spot, moved.bytes())
+            put_elsewhere(pages, locks, at, spot, moved.bytes())
         }
         Ok(None) => drop_unnamed(pages, locks, index, actor, spot, moved.bytes(), first.range),
         Err(error) => Err(MachineFault::Store(error)),
@@ -101,8 +99,8 @@ fn named<D: Disk + Drop>(
     }
 }
 
-/// Puts the tuple, whose bytes are these, unchanged on another page, and takes the locks of a move.
-fn put<D: Disk + Drop>(
+/// Puts the tuple, whose bytes are these, unchanged on another page, and takes the locks of a move. Full where no page has room for it.
+fn put_elsewhere<D: Disk + Drop>(
     pages: &mut PageStore<D>,
     locks: &mut Locks,
     at: Within,
@@ -120,8 +118,28 @@ fn put<D: Disk + Drop>(
     requires free { IsFreeFor (holder locks.old) at.actor (page_of (relation_of pages.old.layout at.index) from.block) }
     ensures { (was : List ℕ) → Called D.told at.actor (Untold D.told pages.old) (hand_at at.index Stage.Judge was) bytes.now pages.old pages.new locks.old locks.new result }
 {
-    match swap(pages, locks, at, from, bytes, bytes) {
-        Ok(Swapped::Moves(to)) => Ok((
+    a_target_takes_its_tuple();
+    pages.known();
+    let relation = relation_of(pages.layout(), at.index);
+    let block = match room_for(pages, at.index, bytes.len() as u16) {
+        Some(block) => block,
+        None => {
+            return Err(MachineFault::Full {
+                relation,
+                number: u64::from(pages.layout().sizes().index_blocks),
+            });
+        }
+    };
+    match locks.take_all(
+        relation,
+        &[from.block, block, map_page_of(at.range)],
+        at.actor,
+    ) {
+        Ok(()) => {}
+        Err(held) => return Ok((Stage::Judge, Did::Blocked(held))),
+    }
+    match put(pages, at.index, block, bytes) {
+        Ok(to) => Ok((
             Stage::Set {
                 range: at.range,
                 from,
@@ -129,22 +147,8 @@ fn put<D: Disk + Drop>(
             },
             Did::Moved(Point::Put),
         )),
-        Ok(Swapped::Waits(held)) => Ok((Stage::Judge, Did::Blocked(held))),
-        // A page that is emptied takes no tuple, and these bytes were read there.
-        Ok(Swapped::InPlace) => Err(misplaced(pages, at.index, from)),
-        Ok(Swapped::Differs) => Err(misplaced(pages, at.index, from)),
-        Err(fault) => Err(fault),
+        Err(error) => Err(MachineFault::Store(error)),
     }
-}
-
-/// That the tuple of the spot isn't what was read there.
-fn misplaced<D: Disk + Drop>(pages: &PageStore<D>, index: u8, spot: Spot) -> MachineFault
-    requires index { index < length pages.now.layout.schema.indexes }
-    ensures { IsDamageOf pages.now.layout index result }
-{
-    MachineFault::Store(StoreError::Damaged {
-        at: page_at(pages, index, spot.block),
-    })
 }
 
 /// No range, where the disk didn't fail before.
@@ -194,6 +198,7 @@ fn drop_unnamed<D: Disk + Drop>(
     requires free { IsFreeFor (holder locks.now) actor (page_of (relation_of pages.old.layout index) spot.block) }
     ensures { (was : List ℕ) → Called D.told actor (Untold D.told pages.old) (hand_at index Stage.Judge was) bytes.now pages.old pages.new locks.now locks.now result }
 {
+    pages.known();
     pages.layout().known();
     match drop_at(pages, index, spot) {
         Ok(()) => Ok((Stage::Judge, Did::Moved(Point::Drop))),

@@ -1,0 +1,35 @@
+use Rattle.std.proofs.Common.{◌≡◌, ◌≢◌, ◌<◌, ◌≤◌, ◌+◌, inl, inr, List, ℕ, [], ◌∷◌, length, refl, sym, ap, subst, ◌∙◌, arith}
+use Rattle.std.specs.Prelude.{Some, None, Option, Ok, Err}
+use Rattle.block_model.specs.declared.place.Place.{Place}
+use Rattle.block_model.specs.declared.place.Spot.{Spot}
+use Rattle.block_model.specs.declared.reply.Point.TheVariants as points
+use Rattle.store_layout.specs.DiskLayout.{DiskLayout}
+use Rattle.page_store.specs.Keeps.{Tells, Untold}
+use Rattle.page_store.specs.PageMap.{PageMap}
+use Rattle.page_locks.specs.declared.did.Did.TheVariants as did
+use Rattle.page_locks.specs.LockChanges.{IsAnothers, IsFreeFor, page_of}
+use Rattle.page_locks.specs.LockHolders.{LockState, holder}
+use Rattle.engine_pages.specs.SurvivesLaws.{survives_on, survives_still}
+use Rattle.index_contents.specs.IndexContents.{contents, relation_of}
+use Rattle.map_pages.specs.declared.next.PageState.{PageState}
+use Rattle.map_pages.specs.declared.next.PageState.TheVariants as states
+use Rattle.map_pages.specs.NextPages.{StandsNext}
+use Rattle.map_growth.specs.declared.stage.Stage.TheVariants as stages
+use Rattle.map_growth.specs.Called.{Called, hand_at}
+use Rattle.map_growth.proofs.Locking.{few_more, gives_apart, same_apart, takes_apart, takes_more, takes_none}
+use Rattle.map_growth.proofs.Onward.{called_on, called_too}
+use Rattle.map_growth.proofs.PutOrder.{put_keeps_order}
+use Rattle.map_growth.proofs.Refusals.{done, full, kept_order, kept_others, same_keeps, waits}
+use Rattle.map_growth.proofs.Standing.{count_waits_at, counts_at, counts_left_over_at, evacuate_waits_at, flag_waits_at, flags_at, map_full_at, moves_at, put_full_at, put_waits_at, start_waits_at, starts_at, sweeps_at, turn_waits_at, turned_at}
+use Rattle.map_growth.proofs.Stepped.{drops, sets}
+use Rattle.map_growth.proofs.Unnamed.{unnamed_there}
+use Rattle.map_growth.proofs.counting.finish.Goals as goal
+
+pub returns-in-Ok : goal.returns-in-Ok
+returns-in-Ok g c = λ was.
+    let store = c.args.pages.now in
+    done g.D.Disk.told c.args.actor (Untold g.D.Disk.told c.args.pages.now) (hand_at c.args.index stages.Count was) was store c.count.new.pages c.args.locks.now c.count.new.locks stages.Judge (did.Finished points.Meta)
+    (λ tells. counts_at store.layout store.pages c.args.index c.args.actor was was c.args.locks.now (relation_of store.layout c.args.index) refl c.args.block c.count.new.pages.pages c.count.new.locks (c.in-Ok.ensures.counted tells) c.in-Ok.ensures.given.all)
+    (refl, refl, refl) tt c.count.ensures.others (gives_apart (relation_of store.layout c.args.index) c.args.actor (holder c.args.locks.now) (holder c.count.new.locks) c.in-Ok.ensures.given.all)
+    (takes_more 0 0 c.args.locks.now c.count.new.locks c.args.actor (omega arith) c.count.ensures.counts.limit c.count.ensures.counts.adds)
+    (λ gives. c.in-Ok.ensures.given.none) (λ few. omega (arith, c.in-Ok.ensures.given.none)) (λ apart. c.count.ensures.order) c.count.ensures.survives c.in-Ok.ensures.outcome
