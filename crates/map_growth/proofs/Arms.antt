@@ -20,3 +20,7 @@ err_too P Q (Err error) follows holds = follows error holds
 pub on_err_too : {T E P Q : Type 0} (result : Result T E) → (P → Q) → OnErr result P → OnErr result Q
 on_err_too (Ok value) follows holds = holds
 on_err_too (Err error) follows holds = follows holds
+
+pub on_ok_too : {T E P Q : Type 0} (result : Result T E) → (P → Q) → OnOk result P → OnOk result Q
+on_ok_too (Ok value) follows holds = follows holds
+on_ok_too (Err error) follows holds = holds

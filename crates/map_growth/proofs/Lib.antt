@@ -8,3 +8,4 @@ pub mod Kept
 pub mod Standing
 pub mod PutOrder
 pub mod Unnamed
+pub mod Found

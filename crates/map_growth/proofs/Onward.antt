@@ -100,7 +100,7 @@ module _ {D : Type 0} (told : D → Told) (old mid new : View D) (kept : Keeps t
     }
 
 -- damage for a cause, for each cause that follows
-refused_too : {D : Type 0} (told : D → Told) (Cause Other : Type 0) (old new : View D) (error : StoreError) → (Cause → Other) → Refused told Cause old new error → Refused told Other old new error
+pub refused_too : {D : Type 0} (told : D → Told) (Cause Other : Type 0) (old new : View D) (error : StoreError) → (Cause → Other) → Refused told Cause old new error → Refused told Other old new error
 refused_too told Cause Other old new errors.Disk follows refused = refused
 refused_too told Cause Other old new (errors.Reopen faults) follows refused = refused
 refused_too told Cause Other old new (errors.Damaged at) follows (was, now, more, because) = (was, now, more, follows because)

@@ -22,7 +22,9 @@ use disk_trait::Disk;
 use engine_pages::PageStore;
 use index_contents::relation_of;
 use index_steps::{lock_of_another, page_at};
-use map_pages::{NextPage, PageState, count_page, next_page};
+use map_pages::{
+    NextPage, PageState, a_page_of_a_state_is_not_damaged, count_page, next_page,
+};
 use page_locks::{Did, Locks};
 use page_store::{MachineFault, StoreError};
 
@@ -38,6 +40,7 @@ pub(crate) fn count_made<D: Disk + Drop>(
     ensures called { (was : List ℕ) → Called D.told actor (Tells D.told pages.old → HasLeftOver pages.old.layout pages.old.pages index → ⊥) (hand_at index Stage.Count was) was pages.old pages.new locks.old locks.new result }
     ensures undamaged { OnOk result (Tells D.told pages.old → HasLeftOver pages.old.layout pages.old.pages index) }
 {
+    a_page_of_a_state_is_not_damaged();
     let next = match next_page(pages, index) {
         Ok(next) => next,
         Err(error) => return Err(MachineFault::Store(error)),

@@ -104,3 +104,7 @@ first_there layout pages index relation block page bytes (Some first) at is (sta
       },
       of,
     )
+
+-- a page of a state isn't damaged
+pub state_not_damaged : HasOneMap → (layout : DiskLayout) (pages : PageMap) (index block : ℕ) (state : PageState) → StandsNext layout pages index block state → IsNextDamaged layout pages index → ⊥
+state_not_damaged one layout pages index block state stands = none_damaged layout pages index stands.counted (relation_of layout index) block refl stands.next one state stands.is

@@ -12,6 +12,9 @@ mod next;
 mod tuples;
 
 pub use changes::{count_page, flag_page, start_map_page, turn_page};
-pub use laws::{a_page_in_order_is_not_damaged, an_uncounted_map_page_is_left_over};
+pub use laws::{
+    a_page_in_order_is_not_damaged, a_page_of_a_state_is_not_damaged,
+    an_uncounted_map_page_is_left_over,
+};
 pub use next::{NextPage, PageState, next_page};
 pub use tuples::{FirstTuple, first_tuple};

@@ -16,6 +16,10 @@ use Rattle.map_pages.specs.declared.next.PageState.TheVariants as states
 use Rattle.map_pages.specs.NextPages.{StandsNext}
 use Rattle.map_growth.specs.declared.stage.Stage.TheVariants as stages
 use Rattle.map_growth.specs.Called.{Called, hand_at}
+use Rattle.block_model.specs.declared.schema.Sizes.{Sizes}
+use Rattle.index_steps.specs.IndexTuples.{shape_of}
+use Rattle.map_pages.specs.NextPages.{IsNext, IsNextDamaged}
+use Rattle.map_growth.specs.GrowthSteps.{StepFull, growth_at}
 use Rattle.map_growth.proofs.Locking.{few_more, gives_apart, same_apart, takes_apart, takes_more, takes_none}
 use Rattle.map_growth.proofs.Onward.{called_on, called_too}
 use Rattle.map_growth.proofs.PutOrder.{put_keeps_order}
@@ -35,4 +39,10 @@ returns-in-Ok-Some-clause-called g c = λ was.
 pub returns-in-Ok-None-clause-called : goal.returns-in-Ok-None-clause-called
 returns-in-Ok-None-clause-called g c = λ was.
     let store = c.args.pages.now in
-    let at = (c.relation_of-relation.ensures.number ∙ ap (λ (l : DiskLayout). relation_of l c.args.index) c.layout.ensures) in ?
+    let at = (c.relation_of-relation.ensures.number ∙ ap (λ (l : DiskLayout). relation_of l c.args.index) c.layout.ensures) in
+    let number = c.from.ensures ∙ ap (λ (s : Sizes). s.index_blocks) (c.sizes.ensures ∙ ap (λ (l : DiskLayout). l.sizes) (c.layout-in-Ok-None.ensures ∙ c.next_page.ensures.kept.leaves.layout)) in
+    full g.D.Disk.told store c.next_page.new.pages c.next_page.ensures.kept c.args.actor c.next_page.ensures.survives (Tells g.D.Disk.told store → IsNextDamaged store.layout store.pages c.args.index) (hand_at c.args.index stages.Judge was) c.args.moved.now c.args.locks.now
+    c.relation_of-relation.result c.from.result at
+    (λ tells. subst (λ (n : ℕ). StepFull (shape_of store.layout c.args.index) c.args.actor (growth_at store.layout store.pages c.args.locks.now (hand_at c.args.index stages.Judge was)) n) (sym number)
+    (map_full_at store.layout store.pages c.args.index c.args.actor was c.args.moved.now c.args.locks.now c.relation_of-relation.result at (subst (IsNext store.layout store.pages c.args.index) c.in-Ok-None.field-0-is (c.in-Ok-None.ensures.next tells))))
+    (c.in-Ok-None.ensures.outcome.0, c.in-Ok-None.ensures.outcome.1, c.in-Ok-None.ensures.outcome.2)

@@ -35,7 +35,11 @@ returns-in-Some g c = λ was.
     (c.requires.ready, c.requires.ready, omega arith)
 
 pub returns-in-Ok-Some : goal.returns-in-Ok-Some
-returns-in-Ok-Some g c = λ was. ?
+returns-in-Ok-Some g c = λ was.
+    called_on g.D.Disk.told c.args.pages.now c.named.new.pages c.put_elsewhere.new.pages c.named.ensures.kept c.in-Ok-Some.ensures.outcome.0 c.in-Ok-Some.ensures.outcome.1 c.in-Ok-Some.ensures.outcome.2 c.args.actor (hand_at c.args.index stages.Judge was) c.args.moved.now c.args.locks.now c.put_elsewhere.new.locks c.put_elsewhere.result c.named.ensures.survives
+    (subst (λ (b : List ℕ). Called g.D.Disk.told c.args.actor (Untold g.D.Disk.told c.named.new.pages) (hand_at c.args.index stages.Judge was) b c.named.new.pages c.put_elsewhere.new.pages c.args.locks.now c.put_elsewhere.new.locks c.put_elsewhere.result) c.bytes.ensures (c.put_elsewhere.ensures was))
 
 pub returns-in-Ok-None : goal.returns-in-Ok-None
-returns-in-Ok-None g c = λ was. ?
+returns-in-Ok-None g c = λ was.
+    called_on g.D.Disk.told c.args.pages.now c.named.new.pages c.drop_unnamed.new.pages c.named.ensures.kept c.in-Ok-None.ensures.outcome.0 c.in-Ok-None.ensures.outcome.1 c.in-Ok-None.ensures.outcome.2 c.args.actor (hand_at c.args.index stages.Judge was) c.args.moved.now c.args.locks.now c.args.locks.now c.drop_unnamed.result c.named.ensures.survives
+    (subst (λ (b : List ℕ). Called g.D.Disk.told c.args.actor (Untold g.D.Disk.told c.named.new.pages) (hand_at c.args.index stages.Judge was) b c.named.new.pages c.drop_unnamed.new.pages c.args.locks.now c.args.locks.now c.drop_unnamed.result) c.bytes-in-Ok-None.ensures (c.drop_unnamed.ensures was))
