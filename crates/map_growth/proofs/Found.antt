@@ -1,6 +1,6 @@
 -- what a count finds behind the map
-use Rattle.std.proofs.Common.{◌≡◌, ◌≢◌, ℕ, ◌≤◌, ◌<◌, Option, None, Some, List, refl, sym, ap, subst, ◌∙◌, arith}
-use Rattle.std.specs.Prelude.{slice_index, replicate}
+use Rattle.std.proofs.Common.{◌≡◌, ℕ, Option, None, Some, List, refl, sym, subst, ◌∙◌, arith}
+use Rattle.std.specs.Prelude.{replicate}
 use Rattle.store_layout.specs.DiskLayout.{DiskLayout}
 use Rattle.disk_trait.specs.Told.{Told}
 use Rattle.page_store.specs.declared.faults.StoreError.{StoreError}
@@ -9,8 +9,7 @@ use Rattle.page_store.specs.Keeps.{Keeps, Tells}
 use Rattle.page_store.specs.Outcome.{NamesPage}
 use Rattle.page_store.specs.PageMap.{PageMap, View}
 use Rattle.index_layout.specs.declared.format.TheConstants.{MAP_ENTRIES}
-use Rattle.coverage.specs.IndexView.{next_map_page}
-use Rattle.index_contents.specs.IndexContents.{contents, index_page}
+use Rattle.index_contents.specs.IndexContents.{index_page}
 use Rattle.index_contents.specs.MapLaws.{is_of_map}
 use Rattle.index_steps.specs.Readings.{NamesPageOf}
 use Rattle.map_pages.specs.declared.next.NextPage.{NextPage}

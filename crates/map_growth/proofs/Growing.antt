@@ -1,17 +1,14 @@
 -- steps of a growth in each index that pages and locks show
-use Rattle.std.proofs.Common.{◌≡◌, ◌≢◌, ◌⊎◌, inl, inr, ⊎_elim, ℕ, ◌+◌, ◌<◌, ◌≤◌, Bool, true, false, List, [], ◌∷◌, length, Option, None, Some, refl, sym, ap, subst, ◌∙◌, arith}
+use Rattle.std.proofs.Common.{◌≡◌, ◌⊎◌, inl, inr, ⊎_elim, ℕ, ◌<◌, Bool, true, false, List, length, Option, None, Some, refl, sym, ap, subst, ◌∙◌}
 use Rattle.std.specs.Prelude.{◌==◌, ◌&&◌, ◌^◌, IsTrue, if◌then◌else◌}
 use Rattle.byte_fields.specs.Fields.{field_at, number_of}
 use Rattle.std.specs.Option.{option_map}
 use Rattle.std.proofs.lemmas.Bool.{cases_eq, false≢true, le-ltb, lt-ltb, ne_eqb, eq-eqb}
-use Rattle.std.proofs.lemmas.Option.{none-some, same_Some}
-use Rattle.block_model.specs.declared.place.Place.{Place}
+use Rattle.std.proofs.lemmas.Option.{none-some}
 use Rattle.block_model.specs.declared.place.Spot.{Spot}
-use Rattle.block_model.specs.declared.reply.Point.TheVariants as points
-use Rattle.page_locks.specs.LockChanges.{GivesAll, IsFirstHeld, TakesAll, page_of}
-use Rattle.coverage.specs.Changes.{Frame, IsFree, IsUntouched, OwnLocks, TouchesNothing, TouchesUnnamed}
+use Rattle.coverage.specs.Changes.{Frame, IsFree, OwnLocks, TouchesNothing}
 use Rattle.coverage.specs.IndexPart.{with_part}
-use Rattle.coverage.specs.IndexView.{Building, Emptying, IndexTuple, IndexView, IsPastMap, Mapping, PageKind, Pages, Regular, Unstarted, map_page_of, next_map_page}
+use Rattle.coverage.specs.IndexView.{Building, IndexTuple, IndexView, IsPastMap, PageKind, Pages, Regular, next_map_page}
 use Rattle.coverage.specs.Knowing.{LocksNone, LocksThese}
 use Rattle.coverage.specs.Steps.{CountsPage, IsVacated, PutsTuple, SweepsTuples, TurnsKind, TurnsPage}
 use Rattle.coverage.specs.Verdicts.{IsLocked, IsTarget, IsTargetPlace}
@@ -22,7 +19,6 @@ use Rattle.index_steps.specs.IndexTuples.{IndexShape, range_said, seen}
 use Rattle.index_steps.specs.ShownIndex.{Shows, shown_part}
 use Rattle.map_pages.specs.FirstTuples.{IsOf}
 use Rattle.map_pages.specs.MapChanges.{CountsBlock, TurnsBlock}
-use Rattle.map_growth.proofs.Locking.{gives_own, takes_own, takes_these}
 
 -- the index after a step, in which these tuples are unnamed
 abbrev pub after : IndexShape → IndexContents → (ℕ → Option ℕ) → (Spot → Bool) → IndexView → (ℕ → Option Building) → (ℕ → Option Spot) → IndexView
@@ -161,9 +157,9 @@ module _ (shape : IndexShape) (c : IndexContents) (lock : ℕ → Option ℕ) (w
         places = λ y. ⊎_elim
             (λ (is : y ≡ x). inr (ap (λ (z : Spot). z.block) is ∙ here, is))
             (λ (apart : is_apart x y ≡ true). ⊎_elim
-                (λ (is : y ≡ x). inr (ap (λ (z : Spot). z.block) is ∙ here, is))
-                (λ (same : d.bytes y ≡ c.bytes y). inl (ap (option_map (seen shape)) same ∙ sym (shows.tuple y), ap (λ (b : Bool). b && w.unnamed y) apart))
-                (drops.bytes.others y))
+            (λ (is : y ≡ x). inr (ap (λ (z : Spot). z.block) is ∙ here, is))
+            (λ (same : d.bytes y ≡ c.bytes y). inl (ap (option_map (seen shape)) same ∙ sym (shows.tuple y), ap (λ (b : Bool). b && w.unnamed y) apart))
+            (drops.bytes.others y))
             (spots_apart x y);
         page = subst (λ (p : ℕ). TurnsPage w.pages d.pages p (w.pages.kind p)) here (subst (λ (pages : Pages). TurnsPage pages d.pages x.block (pages.kind x.block)) (sym shows.pages) drops.page);
         frame = record {

@@ -1,17 +1,14 @@
 -- a call for a step after one that changes no page
-use Rattle.std.proofs.Common.{◌≡◌, ◌≢◌, ℕ, ◌≤◌, List, Option, None, Some, refl, sym, ap, subst, ◌∙◌, arith}
-use Rattle.std.specs.Prelude.{IfErr, IfOk, OnErr, Result, Ok, Err}
-use Rattle.std.proofs.lemmas.Option.{none-some}
-use Rattle.block_model.specs.Causes.{rose_earlier}
-use Rattle.block_model.specs.declared.place.Place.{Place}
+use Rattle.std.proofs.Common.{◌≡◌, ℕ, ◌≤◌, List, None, sym, ap, subst, ◌∙◌, arith}
+use Rattle.std.specs.Prelude.{IfErr, Result, Ok, Err}
 use Rattle.store_layout.specs.DiskLayout.{DiskLayout}
 use Rattle.disk_trait.specs.Told.{Told}
 use Rattle.page_store.specs.declared.faults.MachineFault.{MachineFault}
 use Rattle.page_store.specs.declared.faults.MachineFault.TheVariants as faults
 use Rattle.page_store.specs.declared.faults.StoreError.{StoreError}
 use Rattle.page_store.specs.declared.faults.StoreError.TheVariants as errors
-use Rattle.page_store.specs.Keeps.{Keeps, Leaves, Tells, Untold, keeps_on, keeps_then}
-use Rattle.page_store.specs.Outcome.{Outcome, Refused}
+use Rattle.page_store.specs.Keeps.{Keeps, Tells, Untold, keeps_on, keeps_then}
+use Rattle.page_store.specs.Outcome.{Refused}
 use Rattle.page_store.specs.PageMap.{PageMap, View, page_at}
 use Rattle.page_locks.specs.declared.did.Did.{Did}
 use Rattle.page_locks.specs.declared.did.Did.TheVariants as did
@@ -19,7 +16,7 @@ use Rattle.page_locks.specs.LockHolders.{LockState, holder}
 use Rattle.logged_pages.specs.Survives.{Survives}
 use Rattle.engine_pages.specs.SurvivesLaws.{survives_on}
 use Rattle.index_contents.specs.Calls.{refused_then}
-use Rattle.index_contents.specs.IndexContents.{IndexContents, contents, index_page, relation_of}
+use Rattle.index_contents.specs.IndexContents.{contents, index_page, relation_of}
 use Rattle.index_contents.specs.IndexChanges.{LeavesOthers}
 use Rattle.opened_pages.specs.PageOrder.{IsIndexInOrder}
 use Rattle.index_steps.specs.IndexTuples.{shape_of}
@@ -54,8 +51,8 @@ module _ {D : Type 0} (told : D → Told) (old mid new : View D) (kept : Keeps t
   order_on : (index : ℕ) → KeepsOrder told index mid new → KeepsOrder told index old new
   order_on index keeps tells order =
       let here : IsIndexInOrder mid.layout.sizes.index_blocks (index_page mid.layout mid.pages index) =
-          subst (λ (l : DiskLayout). IsIndexInOrder l.sizes.index_blocks (index_page l mid.pages index)) (sym kept.leaves.layout)
-          (subst (λ (m : PageMap). IsIndexInOrder old.layout.sizes.index_blocks (index_page old.layout m index)) (sym (kept.pages tells)) order) in
+      subst (λ (l : DiskLayout). IsIndexInOrder l.sizes.index_blocks (index_page l mid.pages index)) (sym kept.leaves.layout)
+      (subst (λ (m : PageMap). IsIndexInOrder old.layout.sizes.index_blocks (index_page old.layout m index)) (sym (kept.pages tells)) order) in
       subst (λ (l : DiskLayout). IsIndexInOrder l.sizes.index_blocks (index_page l new.pages index)) kept.leaves.layout (keeps (kept.leaves.tells ∙ tells) here)
 
   blocked_on : (index actor : ℕ) (before after : LockState) (done : Did) → BlockedWell told index actor mid new before after done → BlockedWell told index actor old new before after done

@@ -1,15 +1,13 @@
 -- a tuple that is put keeps the order of an index's pages
-use Rattle.std.proofs.Common.{◌≡◌, ◌≢◌, ◌⊎◌, inl, inr, ℕ, zero, suc, ◌+◌, ◌<◌, ◌≤◌, List, length, refl, sym, ap, subst, ◌∙◌, arith}
+use Rattle.std.proofs.Common.{◌≡◌, ◌≢◌, ◌⊎◌, inl, inr, ℕ, zero, suc, ◌+◌, ◌<◌, ◌≤◌, List, sym, ap, subst, ◌∙◌, arith}
 use Rattle.std.specs.Prelude.{◌==◌, slice_index, if◌then◌else◌}
 use Rattle.std.proofs.lemmas.Bool.{cases_eq, cases_lt}
-use Rattle.store_layout.specs.DiskLayout.{DiskLayout}
 use Rattle.disk_trait.specs.Told.{Told}
 use Rattle.page_store.specs.Keeps.{Tells}
 use Rattle.page_store.specs.PageMap.{View}
 use Rattle.opened_pages.specs.PageOrder.{IsIndexInOrder, IsOfTuples, empty_page, kind_of, map_pages}
 use Rattle.index_layout.specs.declared.format.TheConstants.{META}
 use Rattle.index_layout.specs.IndexReading.{map_pages_of, number_at}
-use Rattle.coverage.specs.IndexView.{Regular, Unstarted}
 use Rattle.coverage.specs.Verdicts.{IsTarget, OnNew, OnStarted}
 use Rattle.index_contents.specs.IndexContents.{contents, index_page, pages_in, relation_of}
 use Rattle.index_contents.specs.IndexChanges.{LeavesOtherPages, PutsBytes}

@@ -1,13 +1,10 @@
 -- a step that is refused, or that waits
-use Rattle.std.proofs.Common.{◌≡◌, ◌≢◌, ℕ, ◌≤◌, List, Option, None, Some, refl, sym, ap, subst, ◌∙◌, arith}
-use Rattle.std.specs.Prelude.{Result, Ok, Err}
-use Rattle.block_model.specs.declared.place.Place.{Place}
-use Rattle.store_layout.specs.DiskLayout.{DiskLayout}
+use Rattle.std.proofs.Common.{◌≡◌, ℕ, ◌≤◌, List, None, refl, sym, ap, subst, arith}
+use Rattle.std.specs.Prelude.{Ok, Err}
 use Rattle.disk_trait.specs.Told.{Told}
-use Rattle.page_store.specs.declared.faults.MachineFault.{MachineFault}
 use Rattle.page_store.specs.declared.faults.MachineFault.TheVariants as faults
 use Rattle.page_store.specs.declared.faults.StoreError.{StoreError}
-use Rattle.page_store.specs.Keeps.{Keeps, Leaves, Tells, Untold}
+use Rattle.page_store.specs.Keeps.{Keeps, Leaves, Tells}
 use Rattle.page_store.specs.Outcome.{Outcome, Refused}
 use Rattle.page_store.specs.PageMap.{PageMap, View, page_at}
 use Rattle.page_locks.specs.declared.did.Did.{Did}

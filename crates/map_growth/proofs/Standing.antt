@@ -1,8 +1,6 @@
 -- what stands behind the map, and what a step makes of it
-use Rattle.std.proofs.Common.{◌≡◌, ◌≢◌, inl, inr, ℕ, ◌+◌, ◌<◌, ◌≤◌, List, [], ◌∷◌, length, Option, None, Some, refl, sym, ap, subst, ◌∙◌, arith}
-use Rattle.std.specs.Prelude.{◌==◌, ◌^◌, slice_index, replicate, Bool, if◌then◌else◌}
-use Rattle.std.proofs.lemmas.Bool.{cases_lt, lt-leb}
-use Rattle.std.proofs.lemmas.Option.{none-some}
+use Rattle.std.proofs.Common.{◌≡◌, ◌≢◌, ℕ, ◌+◌, ◌<◌, ◌≤◌, List, [], ◌∷◌, length, Option, None, Some, refl, sym, ap, subst, ◌∙◌}
+use Rattle.std.specs.Prelude.{◌==◌, slice_index, replicate, if◌then◌else◌}
 use Rattle.block_model.specs.declared.place.Place.{Place}
 use Rattle.block_model.specs.declared.place.Spot.{Spot}
 use Rattle.block_model.specs.declared.reply.Point.TheVariants as points
@@ -12,7 +10,7 @@ use Rattle.page_locks.specs.declared.did.Did.TheVariants as did
 use Rattle.page_locks.specs.declared.held.Held.{Held}
 use Rattle.page_locks.specs.LockChanges.{GivesAll, IsAnothers, IsFirstHeld, IsFreeFor, TakesAll, page_of}
 use Rattle.page_locks.specs.LockHolders.{LockState, holder}
-use Rattle.index_layout.specs.declared.format.TheConstants.{UNSTARTED, MAP, REGULAR, EVACUATED, MAP_ENTRIES}
+use Rattle.index_layout.specs.declared.format.TheConstants.{MAP, EVACUATED, MAP_ENTRIES}
 use Rattle.coverage.specs.Changes.{IsFree}
 use Rattle.coverage.specs.IndexView.{Emptying, Mapping, PageKind, Regular, Unstarted, map_page_of, next_map_page}
 use Rattle.coverage.specs.Verdicts.{IsLocked, IsTarget}
@@ -28,7 +26,7 @@ use Rattle.map_pages.specs.declared.next.PageState.{PageState}
 use Rattle.map_pages.specs.declared.next.PageState.TheVariants as states
 use Rattle.map_pages.specs.FirstTuples.{IsOf}
 use Rattle.map_pages.specs.MapChanges.{CountsBlock, TurnsBlock}
-use Rattle.map_pages.specs.NextPages.{IsEmptyMap, StandsNext}
+use Rattle.map_pages.specs.NextPages.{StandsNext}
 use Rattle.map_growth.specs.declared.stage.Stage.TheVariants as stages
 use Rattle.map_growth.specs.Called.{hand_at}
 use Rattle.map_growth.specs.GrowthSteps.{StepFull, StepWaits, StepsAt, growth_at}

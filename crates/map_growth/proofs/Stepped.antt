@@ -1,35 +1,30 @@
 -- what calls found and made of an index, as what a step of a growth did
-use Rattle.std.proofs.Common.{◌≡◌, ◌≢◌, inl, inr, ℕ, ◌+◌, ◌<◌, ◌≤◌, List, [], ◌∷◌, length, Option, None, Some, refl, sym, ap, subst, ◌∙◌, arith}
-use Rattle.std.specs.Prelude.{◌^◌, IsTrue}
-use Rattle.std.proofs.lemmas.Option.{none-some}
+use Rattle.std.proofs.Common.{◌≡◌, ◌≢◌, inl, inr, ℕ, ◌<◌, ◌≤◌, List, [], ◌∷◌, length, Option, None, Some, refl, sym, ap, subst, ◌∙◌}
 use Rattle.block_model.specs.declared.place.Place.{Place}
 use Rattle.block_model.specs.declared.place.Spot.{Spot}
-use Rattle.block_model.specs.declared.reply.Point.{Point}
 use Rattle.block_model.specs.declared.reply.Point.TheVariants as points
 use Rattle.page_locks.specs.declared.did.Did.TheVariants as did
-use Rattle.page_locks.specs.declared.held.Held.{Held}
 use Rattle.page_locks.specs.LockChanges.{GivesAll, IsFirstHeld, TakesAll, page_of}
 use Rattle.coverage.specs.Changes.{IsFree}
 use Rattle.coverage.specs.IndexPart.{SummariseMakes}
-use Rattle.coverage.specs.IndexView.{Building, Emptying, IndexTuple, IndexView, IsPastMap, Mapping, Pages, Regular, Unstarted, map_page_of, next_map_page}
-use Rattle.coverage.specs.Knowing.{LocksNone, LocksThese}
+use Rattle.coverage.specs.IndexView.{Emptying, IndexTuple, Mapping, Pages, Regular, Unstarted, map_page_of, next_map_page}
+use Rattle.coverage.specs.Knowing.{LocksThese}
 use Rattle.coverage.specs.Statements.{Dropping, Evacuating, Growing, Maintaining, Moving, Vacant}
 use Rattle.coverage.specs.Steps.{Count, CountLeftOver, EvacuateDrop, EvacuatePut, EvacuateSet, EvacuateSweep, Flag, Grow, GrowMap, Turn}
 use Rattle.coverage.specs.Verdicts.{Full, IsFirstLocked, IsLocked, IsTarget, NoTarget, PutGoes, PutVerdict, PutWaits, Puts, Waits}
-use Rattle.coverage.specs.Waiting.{CountWaits, EvacuateFull, EvacuatePutWaits, EvacuateWaits, FlagWaits, GrowWaits, Grows, IsNextTuple, IsPhaseFull, IsPhaseWaiting, MapFull, TurnWaits}
+use Rattle.coverage.specs.Waiting.{CountWaits, EvacuateFull, EvacuatePutWaits, EvacuateWaits, FlagWaits, GrowWaits, IsNextTuple, IsPhaseFull, IsPhaseWaiting, MapFull, TurnWaits}
 use Rattle.index_contents.specs.IndexContents.{IndexContents}
 use Rattle.index_contents.specs.IndexChanges.{DropsBytes, PutsBytes}
 use Rattle.index_steps.specs.IndexTuples.{IndexShape, seen}
 use Rattle.index_steps.specs.MoveEnds.{DropsIn, SetsIn}
-use Rattle.index_steps.specs.ShownIndex.{Shows, shown_part}
+use Rattle.index_steps.specs.ShownIndex.{shown_part}
 use Rattle.map_pages.specs.FirstTuples.{IsOf}
 use Rattle.map_pages.specs.MapChanges.{CountsBlock, TurnsBlock}
 use Rattle.map_growth.specs.declared.stage.Stage.{Stage}
 use Rattle.map_growth.specs.declared.stage.Stage.TheVariants as stages
 use Rattle.map_growth.specs.Called.{hand_at}
-use Rattle.map_growth.specs.GrowthHands.{GrowthHand}
 use Rattle.map_growth.specs.GrowthSteps.{GrowthAt, StepFull, StepWaits, Stepped}
-use Rattle.map_growth.proofs.Growing.{counts_there, fewer_unnamed, first_there, free_there, grows_there, locked_there, next_there, none_first, none_there, no_range_there, own_there, place_there, puts_there, range_there, seen_bytes, seen_there, sweeps_there, target_back, target_there, turns_there, unnamed_but}
+use Rattle.map_growth.proofs.Growing.{counts_there, fewer_unnamed, first_there, free_there, grows_there, locked_there, next_there, none_first, own_there, place_there, puts_there, range_there, seen_there, sweeps_there, target_back, target_there, turns_there, unnamed_but}
 use Rattle.map_growth.proofs.Locking.{first_locked, gives_own, takes_own, takes_these}
 
 -- a growth at a stage, with the bytes of a tuple
@@ -59,9 +54,9 @@ module _ (shape : IndexShape) (c d : IndexContents) (h k : Place → Option ℕ)
           (λ x is. is),
           λ building loose. (
             GrowMap Vacant Growing (Grow (grows_there shape c lock w shows range Unstarted short below kind)
-              (subst (IsFree w.lock s) (sym (next_there shape c lock w shows)) (free_there shape c lock w shows s (next_map_page c.pages) free_next))
-              (free_there shape c lock w shows s 0 free_meta)
-              (turns_there shape c lock w shows s d locked Mapping (next_map_page w.pages ∷ 0 ∷ []) turns
+                (subst (IsFree w.lock s) (sym (next_there shape c lock w shows)) (free_there shape c lock w shows s (next_map_page c.pages) free_next))
+                (free_there shape c lock w shows s 0 free_meta)
+                (turns_there shape c lock w shows s d locked Mapping (next_map_page w.pages ∷ 0 ∷ []) turns
                 (takes_own relation s h k (next_map_page c.pages ∷ 0 ∷ []) w.lock (λ page. shows.lock page) takes)
                 (subst (λ (p : ℕ). LocksThese locked s (p ∷ 0 ∷ [])) (sym (next_there shape c lock w shows)) (takes_these relation s h k (next_map_page c.pages ∷ 0 ∷ []) w.lock (λ page. shows.lock page) takes knows.1.0))
                 building loose)),
@@ -81,10 +76,10 @@ module _ (shape : IndexShape) (c d : IndexContents) (h k : Place → Option ℕ)
           (λ x is. is),
           λ building loose. (
             GrowMap Vacant Growing (Turn (grows_there shape c lock w shows range Emptying short below kind)
-              (none_first shape c lock w shows none)
-              (subst (IsFree w.lock s) (sym (next_there shape c lock w shows)) (free_there shape c lock w shows s (next_map_page c.pages) free_next))
-              (free_there shape c lock w shows s 0 free_meta)
-              (turns_there shape c lock w shows s d locked Mapping (next_map_page w.pages ∷ 0 ∷ []) turns
+                (none_first shape c lock w shows none)
+                (subst (IsFree w.lock s) (sym (next_there shape c lock w shows)) (free_there shape c lock w shows s (next_map_page c.pages) free_next))
+                (free_there shape c lock w shows s 0 free_meta)
+                (turns_there shape c lock w shows s d locked Mapping (next_map_page w.pages ∷ 0 ∷ []) turns
                 (takes_own relation s h k (next_map_page c.pages ∷ 0 ∷ []) w.lock (λ page. shows.lock page) takes)
                 (subst (λ (p : ℕ). LocksThese locked s (p ∷ 0 ∷ [])) (sym (next_there shape c lock w shows)) (takes_these relation s h k (next_map_page c.pages ∷ 0 ∷ []) w.lock (λ page. shows.lock page) takes knows.1.0))
                 building loose)),
@@ -104,8 +99,8 @@ module _ (shape : IndexShape) (c d : IndexContents) (h k : Place → Option ℕ)
         (λ x is. is),
         λ building loose. (
           GrowMap Vacant Vacant (Flag (grows_there shape c lock w shows range Regular short below kind)
-            (subst (IsFree w.lock s) (sym (next_there shape c lock w shows)) (free_there shape c lock w shows s (next_map_page c.pages) free))
-            (turns_there shape c lock w shows s d lock Emptying [] turns (own_there shape c lock w shows s)
+              (subst (IsFree w.lock s) (sym (next_there shape c lock w shows)) (free_there shape c lock w shows s (next_map_page c.pages) free))
+              (turns_there shape c lock w shows s d lock Emptying [] turns (own_there shape c lock w shows s)
               (record { locked = λ p one. absurd one; only = λ p is. absurd (knows.1.0 p (shows.lock p ∙ is)) })
               building loose)),
           refl,
@@ -124,7 +119,7 @@ module _ (shape : IndexShape) (c d : IndexContents) (h k : Place → Option ℕ)
         (λ x is. is),
         λ building loose. (
           GrowMap Vacant Vacant (CountLeftOver (grows_there shape c lock w shows range Mapping short below kind) (free_there shape c lock w shows s 0 free)
-            (counts_there shape c lock w shows s d locked counts (gives_own relation s h k w.lock (λ page. shows.lock page) gives) (λ page. gives.none (page_of relation page)) building loose)),
+              (counts_there shape c lock w shows s d locked counts (gives_own relation s h k w.lock (λ page. shows.lock page) gives) (λ page. gives.none (page_of relation page)) building loose)),
           refl,
           refl,
         ),
@@ -141,8 +136,8 @@ module _ (shape : IndexShape) (c d : IndexContents) (h k : Place → Option ℕ)
         fewer_unnamed x w.unnamed,
         λ building loose. (
           GrowMap Vacant Vacant (EvacuateSweep x (seen shape bytes) (grows_there shape c lock w shows range Emptying short below kind) (first_there shape c lock w shows x bytes first)
-            (seen shape bytes, seen_there shape c lock w shows x bytes first.stands, λ named. unnamed (sym (shows.entry (seen shape bytes).range) ∙ named))
-            (sweeps_there shape c lock w shows s d x first.on drops free knows.1.0 building loose)),
+              (seen shape bytes, seen_there shape c lock w shows x bytes first.stands, λ named. unnamed (sym (shows.entry (seen shape bytes).range) ∙ named))
+              (sweeps_there shape c lock w shows s d x first.on drops free knows.1.0 building loose)),
           refl,
           refl,
         ),
@@ -157,22 +152,21 @@ module _ (shape : IndexShape) (c d : IndexContents) (h k : Place → Option ℕ)
     moves x y bytes m kind first of named target takes puts = (
       λ range w shows short knows pages.
           let t : IndexTuple = seen shape bytes in
-          let is : t.range ≡ m = range_there shape bytes m of in
-          (
+          let is : t.range ≡ m = range_there shape bytes m of in (
             w.unnamed,
             (λ z unnamed. unnamed),
             subst (λ (n : ℕ). SummariseMakes s range w (shown_part shape d locked w.unnamed) Vacant (Maintaining range (Evacuating n (Moving x y t t))) points.Put 0) is
-            (λ building loose. (
-              GrowMap Vacant (Evacuating t.range (Moving x y t t)) (EvacuatePut x y t (grows_there shape c lock w shows range Emptying short below kind) (first_there shape c lock w shows x bytes first)
-                (ap w.entry is ∙ shows.entry m ∙ named)
-                (free_there shape c lock w shows s x.block (takes.free x.block (inl refl)))
-                (subst (λ (n : ℕ). PutVerdict w s n (length t.bytes) (Puts y)) (sym is)
-                (PutGoes y (place_there shape c lock w shows d y bytes target puts) (free_there shape c lock w shows s y.block (takes.free y.block (inr (inl refl)))) (free_there shape c lock w shows s (map_page_of m) (takes.free (map_page_of m) (inr (inr (inl refl)))))))
-                (puts_there shape c lock w shows s d locked y bytes puts (takes.free y.block (inr (inl refl))) (takes_own relation s h k (x.block ∷ y.block ∷ map_page_of m ∷ []) w.lock (λ page. shows.lock page) takes) building loose)
-                (subst (λ (n : ℕ). LocksThese locked s (x.block ∷ y.block ∷ map_page_of n ∷ [])) (sym is) (takes_these relation s h k (x.block ∷ y.block ∷ map_page_of m ∷ []) w.lock (λ page. shows.lock page) takes knows.1.0))),
-              refl,
-              refl,
-            )),
+                (λ building loose. (
+                  GrowMap Vacant (Evacuating t.range (Moving x y t t)) (EvacuatePut x y t (grows_there shape c lock w shows range Emptying short below kind) (first_there shape c lock w shows x bytes first)
+                      (ap w.entry is ∙ shows.entry m ∙ named)
+                      (free_there shape c lock w shows s x.block (takes.free x.block (inl refl)))
+                      (subst (λ (n : ℕ). PutVerdict w s n (length t.bytes) (Puts y)) (sym is)
+                      (PutGoes y (place_there shape c lock w shows d y bytes target puts) (free_there shape c lock w shows s y.block (takes.free y.block (inr (inl refl)))) (free_there shape c lock w shows s (map_page_of m) (takes.free (map_page_of m) (inr (inr (inl refl)))))))
+                      (puts_there shape c lock w shows s d locked y bytes puts (takes.free y.block (inr (inl refl))) (takes_own relation s h k (x.block ∷ y.block ∷ map_page_of m ∷ []) w.lock (λ page. shows.lock page) takes) building loose)
+                      (subst (λ (n : ℕ). LocksThese locked s (x.block ∷ y.block ∷ map_page_of n ∷ [])) (sym is) (takes_these relation s h k (x.block ∷ y.block ∷ map_page_of m ∷ []) w.lock (λ page. shows.lock page) takes knows.1.0))),
+                  refl,
+                  refl,
+                )),
           ),
       (λ range w shows short knows. puts.page.map_pages),
     )

@@ -1,12 +1,11 @@
 -- a tuple that the map doesn't name
-use Rattle.std.proofs.Common.{◌≡◌, ◌≢◌, inl, inr, ℕ, ◌+◌, ◌<◌, ◌≤◌, List, length, Option, None, Some, refl, sym, ap, subst, ◌∙◌, arith}
+use Rattle.std.proofs.Common.{◌≡◌, ◌≢◌, ℕ, ◌<◌, ◌≤◌, List, length, Option, None, Some, refl, sym, ap, ◌∙◌, arith}
 use Rattle.std.specs.Prelude.{◌^◌, nat_le, Bool, true, false, if◌then◌else◌}
-use Rattle.std.proofs.lemmas.Bool.{cases_lt, lt-leb}
 use Rattle.std.proofs.lemmas.Option.{none-some}
 use Rattle.block_model.specs.declared.place.Spot.{Spot}
 use Rattle.store_layout.specs.DiskLayout.{DiskLayout, HasBoundedSizes, relation_blocks}
 use Rattle.store_layout.specs.RelationCounts.{blocks_of_index, count_relations}
-use Rattle.page_store.specs.PageMap.{IsWhole, PageMap, block_at, unstarted_page}
+use Rattle.page_store.specs.PageMap.{IsWhole, PageMap, unstarted_page}
 use Rattle.index_layout.specs.IndexReading.{map_pages_of}
 use Rattle.coverage.specs.IndexView.{map_page_of}
 use Rattle.index_contents.specs.Calls.{past_the_limit}
@@ -24,7 +23,7 @@ no_entry_past layout pages index range whole there past =
     let many = count_relations layout in
     let inside : relation < length (relation_blocks layout) = omega (arith, many, there) in
     let page : index_page layout pages index (map_page_of range) ≡ unstarted_page =
-        past_the_limit layout pages relation (map_page_of range) whole inside (omega (arith, past, blocks_of_index layout relation (omega arith) (omega (arith, there)))) in
+    past_the_limit layout pages relation (map_page_of range) whole inside (omega (arith, past, blocks_of_index layout relation (omega arith) (omega (arith, there)))) in
     let none : entry_on (index_page layout pages index (map_page_of range)) range ≡ None = ap (λ (p : List ℕ). entry_on p range) page ∙ no_entry range in
     ap (λ (e : Option Spot). if nat_le (map_page_of range) (map_pages_of (index_page layout pages index 0)) then e else None) none ∙ same (nat_le (map_page_of range) (map_pages_of (index_page layout pages index 0)))
   where

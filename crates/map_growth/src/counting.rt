@@ -22,9 +22,7 @@ use disk_trait::Disk;
 use engine_pages::PageStore;
 use index_contents::relation_of;
 use index_steps::{lock_of_another, page_at};
-use map_pages::{
-    NextPage, PageState, a_page_of_a_state_is_not_damaged, count_page, next_page,
-};
+use map_pages::{NextPage, PageState, a_page_of_a_state_is_not_damaged, count_page, next_page};
 use page_locks::{Did, Locks};
 use page_store::{MachineFault, StoreError};
 

@@ -92,8 +92,7 @@ unfolding contents
 first_there layout pages index relation block page bytes None at is none =
     λ x here. ap (λ (b : ℕ). tuple_on (index_page layout pages index b) x.slot) here ∙ ap (λ (p : List ℕ). tuple_on p x.slot) (sym (is ∙ ap (λ (r : ℕ). block_at pages r block) at)) ∙ none x.slot
 first_there layout pages index relation block page bytes (Some first) at is (stands, lower, of) =
-    let same : page ≡ index_page layout pages index block = is ∙ ap (λ (r : ℕ). block_at pages r block) at in
-    (
+    let same : page ≡ index_page layout pages index block = is ∙ ap (λ (r : ℕ). block_at pages r block) at in (
       record {
         on = refl;
         stands = ap (λ (p : List ℕ). tuple_on p first.slot) (sym same) ∙ stands;

@@ -1,4 +1,4 @@
-use Rattle.std.proofs.Common.{◌≡◌, sym, subst}
+use Rattle.std.proofs.Common.{sym, subst}
 use Rattle.std.specs.Prelude.{OnOk}
 use Rattle.page_store.specs.Keeps.{Tells}
 use Rattle.map_growth.specs.declared.stage.Stage.{Stage}

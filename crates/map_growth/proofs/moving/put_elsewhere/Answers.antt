@@ -1,35 +1,25 @@
-use Rattle.std.proofs.Common.{◌≡◌, ◌≢◌, ◌<◌, ◌≤◌, ◌+◌, inl, inr, List, ℕ, [], ◌∷◌, length, refl, sym, ap, subst, ◌∙◌, arith}
-use Rattle.std.specs.Prelude.{Some, None, Option, Ok, Err}
-use Rattle.block_model.specs.declared.place.Place.{Place}
-use Rattle.block_model.specs.declared.place.Spot.{Spot}
+use Rattle.std.proofs.Common.{◌≡◌, ℕ, [], ◌∷◌, length, refl, sym, ap, subst, ◌∙◌, arith}
+use Rattle.std.specs.Prelude.{Ok}
 use Rattle.block_model.specs.declared.reply.Point.TheVariants as points
 use Rattle.store_layout.specs.DiskLayout.{DiskLayout}
 use Rattle.page_store.specs.Keeps.{Tells, Untold}
-use Rattle.page_store.specs.PageMap.{PageMap}
 use Rattle.page_locks.specs.declared.did.Did.TheVariants as did
-use Rattle.page_locks.specs.LockChanges.{IsAnothers, IsFreeFor, page_of}
+use Rattle.page_locks.specs.LockChanges.{IsFreeFor, page_of}
 use Rattle.page_locks.specs.LockHolders.{LockState, holder}
-use Rattle.engine_pages.specs.SurvivesLaws.{survives_on, survives_still}
+use Rattle.engine_pages.specs.SurvivesLaws.{survives_still}
 use Rattle.index_contents.specs.IndexContents.{contents, relation_of}
-use Rattle.map_pages.specs.declared.next.PageState.{PageState}
-use Rattle.map_pages.specs.declared.next.PageState.TheVariants as states
-use Rattle.map_pages.specs.NextPages.{StandsNext}
 use Rattle.map_growth.specs.declared.stage.Stage.TheVariants as stages
 use Rattle.map_growth.specs.Called.{Called, hand_at}
 use Rattle.block_model.specs.declared.schema.Sizes.{Sizes}
 use Rattle.coverage.specs.Verdicts.{IsTarget}
-use Rattle.coverage.specs.IndexView.{map_page_of}
 use Rattle.index_contents.specs.IndexChanges.{LeavesOtherPages}
 use Rattle.index_steps.specs.IndexTuples.{shape_of}
 use Rattle.page_locks.specs.LockChanges.{IsFirstHeld, TakesAll}
 use Rattle.map_growth.specs.GrowthSteps.{StepFull, growth_at}
-use Rattle.map_growth.proofs.Locking.{few_more, gives_apart, same_apart, takes_apart, takes_more, takes_none}
-use Rattle.map_growth.proofs.Onward.{called_on, called_too}
+use Rattle.map_growth.proofs.Locking.{few_more, takes_apart, takes_more}
 use Rattle.map_growth.proofs.PutOrder.{put_keeps_order}
-use Rattle.map_growth.proofs.Refusals.{done, full, kept_order, kept_others, same_keeps, waits}
-use Rattle.map_growth.proofs.Standing.{count_waits_at, counts_at, counts_left_over_at, evacuate_waits_at, flag_waits_at, flags_at, map_full_at, moves_at, put_full_at, put_waits_at, start_waits_at, starts_at, sweeps_at, turn_waits_at, turned_at}
-use Rattle.map_growth.proofs.Stepped.{drops, sets}
-use Rattle.map_growth.proofs.Unnamed.{unnamed_there}
+use Rattle.map_growth.proofs.Refusals.{done, full, same_keeps, waits}
+use Rattle.map_growth.proofs.Standing.{moves_at, put_full_at, put_waits_at}
 use Rattle.map_growth.proofs.moving.put_elsewhere.Goals as goal
 
 pub returns-in-None : goal.returns-in-None
@@ -62,9 +52,9 @@ returns-in-Ok-put g c = λ was.
     let to = c.in-Ok-put.to in
     let here : to.block ≡ c.in-Some.block = c.in-Ok-put.ensures.block in
     let target : Tells g.D.Disk.told store → IsTarget (contents store.layout store.pages c.args.at.index).pages (length c.args.bytes.now) to.block =
-        λ tells. subst (λ (b : ℕ). IsTarget (contents store.layout store.pages c.args.at.index).pages (length c.args.bytes.now) b) (sym here) (c.in-Some.ensures.target tells) in
+    λ tells. subst (λ (b : ℕ). IsTarget (contents store.layout store.pages c.args.at.index).pages (length c.args.bytes.now) b) (sym here) (c.in-Some.ensures.target tells) in
     let these = subst (λ (n : ℕ). TakesAll (holder c.args.locks.now) (holder c.take_all.new.self) c.relation_of-relation.result (c.args.from.block ∷ to.block ∷ n ∷ []) c.args.at.actor) c.map_page_of.ensures
-        (subst (λ (b : ℕ). TakesAll (holder c.args.locks.now) (holder c.take_all.new.self) c.relation_of-relation.result (c.args.from.block ∷ b ∷ c.map_page_of.result ∷ []) c.args.at.actor) (sym here) c.in-Ok.ensures.taken) in
+    (subst (λ (b : ℕ). TakesAll (holder c.args.locks.now) (holder c.take_all.new.self) c.relation_of-relation.result (c.args.from.block ∷ b ∷ c.map_page_of.result ∷ []) c.args.at.actor) (sym here) c.in-Ok.ensures.taken) in
     done g.D.Disk.told c.args.at.actor (Untold g.D.Disk.told store) (hand_at c.args.at.index stages.Judge was) c.args.bytes.now store c.put.new.pages c.args.locks.now c.take_all.new.self (stages.Set c.args.at.range c.args.from to) (did.Moved points.Put)
     (λ tells. moves_at store.layout store.pages c.args.at.index c.args.at.actor was c.args.bytes.now c.args.locks.now c.relation_of-relation.result at c.args.from.block c.put.new.pages.pages c.args.from c.args.bytes.now c.args.at.range (c.requires.next tells) (c.requires.first tells) (c.requires.of tells) (c.requires.named tells) to c.take_all.new.self (target tells) these (c.in-Ok-put.ensures.put tells))
     refl tt c.put.ensures.others

@@ -26,7 +26,6 @@ returns-in-Ok-clause-order g c = λ tells.
     let store = c.args.pages.now in
     counted_order store.layout store.pages c.change.new.self.pages c.args.index c.args.block c.relation_of-relation.result (c.relation_of-relation.ensures.number ∙ ap (λ (l : DiskLayout). relation_of l c.args.index) c.layout.ensures) (c.in-Ok.ensures.changed tells) (c.requires.next tells) c.an_index_page_has_one_list.ensures.pages
 
-
 pub returns-in-Ok-clause-others : goal.returns-in-Ok-clause-others
 returns-in-Ok-clause-others g c =
     let place : Place = record { relation = c.relation_of-relation.result; block = 0 } in

@@ -65,13 +65,19 @@ pub returns-in-Ok-None-clause-outcome : goal.returns-in-Ok-None-clause-outcome
 returns-in-Ok-None-clause-outcome g c =
     let store = c.args.pages.now in
     let at = c.relation_of-relation.ensures.number ∙ ap (λ (l : DiskLayout). relation_of l c.args.index) c.layout-2.ensures in
-    let blocks = ap (λ (s : Sizes). s.index_blocks) (c.sizes.ensures ∙ ap (λ (l : DiskLayout). l.sizes) c.layout-3.ensures) in
-    (c.in-Ok-None.ensures.outcome.0, c.in-Ok-None.ensures.outcome.1, c.in-Ok-None.ensures.outcome.2, λ tells.
-    let counted = counted_there store.layout store.pages c.args.index c.relation_of-relation.result c.map_pages-counted.result at (c.map_pages-counted.ensures.counted tells) in
-    damaged_there store.layout store.pages c.args.index (omega (arith, c.if-counted-eq0.false, counted)) c.relation_of-relation.result (c.map_pages-counted.result + 1) at (ap (λ (n : ℕ). n + 1) counted)
-    (omega (arith, c.if-counted-sizes.false, blocks)) (c.in-Ok-None.ensures.none c.in-Ok-None.field-0-is tells))
+    let blocks = ap (λ (s : Sizes). s.index_blocks) (c.sizes.ensures ∙ ap (λ (l : DiskLayout). l.sizes) c.layout-3.ensures) in (
+      c.in-Ok-None.ensures.outcome.0,
+      c.in-Ok-None.ensures.outcome.1,
+      c.in-Ok-None.ensures.outcome.2,
+      λ tells.
+          let counted = counted_there store.layout store.pages c.args.index c.relation_of-relation.result c.map_pages-counted.result at (c.map_pages-counted.ensures.counted tells) in
+          damaged_there store.layout store.pages c.args.index (omega (arith, c.if-counted-eq0.false, counted)) c.relation_of-relation.result (c.map_pages-counted.result + 1) at (ap (λ (n : ℕ). n + 1) counted)
+          (omega (arith, c.if-counted-sizes.false, blocks)) (c.in-Ok-None.ensures.none c.in-Ok-None.field-0-is tells),
+    )
 
 pub returns-in-Err-state_at-clause-at : goal.returns-in-Err-state_at-clause-at
-returns-in-Err-state_at-clause-at g c =
-    (c.map_pages-counted.result + 1, subst (λ (r : ℕ). NamesPage c.args.pages.now.layout (record { relation = r; block = c.map_pages-counted.result + 1 }) c.in-Err-state_at.error)
-    (c.relation_of-relation.ensures.number ∙ ap (λ (l : DiskLayout). relation_of l c.args.index) c.layout-2.ensures) c.in-Err-state_at.ensures.at)
+returns-in-Err-state_at-clause-at g c = (
+  c.map_pages-counted.result + 1,
+  subst (λ (r : ℕ). NamesPage c.args.pages.now.layout (record { relation = r; block = c.map_pages-counted.result + 1 }) c.in-Err-state_at.error)
+      (c.relation_of-relation.ensures.number ∙ ap (λ (l : DiskLayout). relation_of l c.args.index) c.layout-2.ensures) c.in-Err-state_at.ensures.at,
+)
