@@ -1,0 +1,11 @@
+pub mod Arms
+pub mod Onward
+pub mod Locking
+pub mod Refusals
+pub mod Growing
+pub mod Stepped
+pub mod Kept
+pub mod Standing
+pub mod PutOrder
+pub mod Unnamed
+pub mod Found

@@ -1,0 +1,3 @@
+pub mod NextPages
+pub mod MapChanges
+pub mod FirstTuples
