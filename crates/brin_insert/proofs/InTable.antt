@@ -28,7 +28,7 @@ use Rattle.index_steps.specs.SwapAnswers.{LeavesLocks}
 use Rattle.brin_insert.specs.declared.insert.Insert.{Insert}
 use Rattle.brin_insert.specs.declared.stage.Stage.{Stage}
 use Rattle.brin_insert.specs.declared.stage.Stage.TheVariants as stages
-use Rattle.brin_insert.specs.InsertAnswers.{InsertDid, InsertGoesTo, InsertStepped, InsertWaitsFor, heap_after}
+use Rattle.brin_insert.specs.InsertAnswers.{InsertDid, InsertGoesTo, InsertStepped, InsertWaitsFor, TakesItsSlot, heap_after}
 use Rattle.brin_insert.specs.InsertHands.{InsertHand}
 use Rattle.brin_insert.specs.InsertSteps.{IsAtWork, StepMakes, StepWaits, Stepped, insert_at, insert_of, on_index}
 use Rattle.brin_insert.specs.Inserts.{HasReached, IsInsertFor, numbers_in, task_at, task_of, work_of}
@@ -140,6 +140,7 @@ module _ (steps : StepsInTable) (waits : WaitsInTable) (layout : DiskLayout) (pa
       let heap : heap_after layout old.row old.place new.place blocks ≡ blocks = ap (λ (o : Option Spot). heap_after layout old.row o new.place blocks) placed in
       record {
         has = subst (λ (l : List (List Slot)). HasBlocks layout paged table l) (sym heap) has_then;
+        slot = subst (λ (o : Option Spot). TakesItsSlot layout old.row o new.place blocks) (sym placed) tt;
         came = subst (λ (l : List (List Slot)). InsertDid s old.at was (shown_by layout paged locked table l) (task_of layout old) (task_of layout new) answer) (sym heap)
             (came_as s old.at was now (task_of layout old) (task_of layout new) before (task_of layout new) answer task_was refl came);
       }
@@ -189,6 +190,7 @@ row_stepped row layout pages paged locks s old new spot values blocks made none 
     ap (λ (o : Option Spot). heap_after layout old.row o new.place blocks) none ∙ ap (λ (o : Option Spot). heap_after layout old.row None o blocks) placed in
     record {
       has = subst (λ (l : List (List Slot)). HasBlocks layout paged old.row.table l) (sym heap) has_own;
+      slot = subst (λ (o : Option Spot). TakesItsSlot layout old.row o new.place blocks) (sym none) (subst (λ (o : Option Spot). TakesItsSlot layout old.row None o blocks) (sym placed) puts_own.fills);
       came = subst (λ (l : List (List Slot)). InsertDid s old.at was (shown_by layout paged locks old.row.table l) (task_of layout old) (task_of layout new) answer) (sym heap)
           (came_as s old.at was now (task_of layout old) (task_of layout new) Resting (task_of layout new) answer rests refl
           (reaches layout paged locks s old.at Resting was new old.row spot points.Row after 0 same_row placed first (numbers ∙ made.numbers) made.asks (omega arith)

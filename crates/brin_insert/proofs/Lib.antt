@@ -17,3 +17,4 @@ pub mod InTable
 pub mod Outcomes
 pub mod OwnLocks
 pub mod Placed
+pub mod Ordered

@@ -16,8 +16,9 @@ use Rattle.page_locks.specs.declared.did.Did.{Did}
 use Rattle.page_locks.specs.declared.did.Did.TheVariants as did
 use Rattle.page_locks.specs.LockHolders.{LockState, holder}
 use Rattle.heap_rows.specs.HeapBlocks.{HasBlocks}
-use Rattle.heap_rows.specs.Heaps.{relation_of as heap_of}
-use Rattle.heap_rows.specs.RowPlaces.{place_for}
+use Rattle.heap_rows.specs.Heaps.{relation_of as heap_of, slots_a_page}
+use Rattle.heap_rows.specs.RowPlaces.{FillsSlot, new_row, place_for}
+use Rattle.heap_rows.specs.RowPut.{IsSpotOf}
 use Rattle.table_coverage.specs.Accounts.{Account, no_account}
 use Rattle.table_coverage.specs.GoingOn.{IsInserting}
 use Rattle.table_coverage.specs.InOneIndex.{DoesAt}
@@ -74,9 +75,21 @@ abbrev pub TakesFirstPlace : DiskLayout → (was now : Option Spot) → List (Li
 TakesFirstPlace layout None now blocks = place_for layout.sizes.heap_blocks blocks ≡ now
 TakesFirstPlace layout (Some x) now blocks = Unit {0}
 
--- so it is of the table that pages and locks showed, whose heap had these blocks, and that they show then
+-- to one that its heap may have
+abbrev pub TakesPlaceWithin : DiskLayout → (table : ℕ) → (was now : Option Spot) → Type 0
+TakesPlaceWithin layout table None (Some spot) = IsSpotOf layout table spot
+TakesPlaceWithin layout table was now = Unit {0}
+
+-- and to one that was free, while every other slot stays
+abbrev pub TakesItsSlot : DiskLayout → Row → (was now : Option Spot) → List (List Slot) → Type 0
+TakesItsSlot layout r None (Some spot) blocks = FillsSlot (slots_a_page layout r.table) spot (new_row r.id r.values) blocks
+TakesItsSlot layout r was now blocks = Unit {0}
+
+-- So it is of the table that pages and locks showed, whose heap had these blocks, and that they show then. Where the row is put, its slot
+-- was free, and every other one stays.
 pub record InsertStepped (layout : DiskLayout) (pages paged : PageMap) (locks locked : LockState) (s : ℕ) (old new : Insert) (answer : Did) (blocks : List (List Slot)) : Type 0 where
   pub has : HasBlocks layout paged old.row.table (heap_after layout old.row old.place new.place blocks)
+  pub slot : TakesItsSlot layout old.row old.place new.place blocks
   pub came : InsertDid s old.at (shown_by layout pages locks old.row.table blocks) (shown_by layout paged locked old.row.table (heap_after layout old.row old.place new.place blocks))
       (task_of layout old) (task_of layout new) answer
 

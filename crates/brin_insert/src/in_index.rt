@@ -11,6 +11,7 @@ ghost use Rattle.range_tuple.specs.TupleBytes.{tuple_bytes};
 ghost use Rattle.range_tuple.specs.Tuples.{Tuple as AnyTuple, parts_of, tuple_room};
 ghost use Rattle.index_contents.specs.IndexContents.{contents, relation_of};
 ghost use Rattle.index_contents.specs.IndexChanges.{LeavesOthers};
+ghost use Rattle.index_order.specs.KeepsOrder.{KeepsOrder};
 ghost use Rattle.index_steps.specs.IndexTuples.{TakesValues, classes_of, shape_of};
 ghost use Rattle.index_steps.specs.MoveEnds.{IsMoving};
 ghost use Rattle.index_steps.specs.StepAnswers.{BlockedWell, IsOfStore, NeverBlocked};
@@ -124,6 +125,7 @@ pub(crate) fn swap_in<D: Disk + Drop>(
     ensures stepped { IfOk result (λ o. Tells D.told pages.old → (r : AnyRow) → Stepped (shape_of pages.old.layout at.index) at.actor at.range r (insert_at pages.old.layout pages.old.pages locks.old at.index (Stage.Swap spot) copied.now tuple.now) (insert_at pages.old.layout pages.new.pages locks.new at.index o.0 copied.now tuple.now) o.1) }
     ensures stands { IfOk result (λ o. StandsAfter o.1 o.0) }
     ensures others { LeavesOthers D.told at.index pages.old pages.new }
+    ensures order { KeepsOrder D.told at.index pages.old pages.new }
     ensures blocked { IfOk result (λ o. BlockedWell D.told at.index at.actor pages.old pages.new locks.old locks.new o.1) }
     ensures full { IfErr result (SaysFullIn pages.old.layout at.index (λ number. Tells D.told pages.old → StepFull (shape_of pages.old.layout at.index) at.actor at.range (insert_at pages.old.layout pages.old.pages locks.old at.index (Stage.Swap spot) copied.now tuple.now) number)) }
     ensures locks { LeavesLocks (holder locks.old) (holder locks.new) (relation_of pages.old.layout at.index) at.actor }
@@ -159,6 +161,7 @@ pub(crate) fn set_in<D: Disk + Drop>(
     ensures stands { IfOk result (λ o. StandsAfter o.1 o.0) }
     ensures own { IfOk result (λ o. held_at (Stage.Set from to) ≤ held_at o.0) }
     ensures others { LeavesOthers D.told at.index pages.old pages.new }
+    ensures order { KeepsOrder D.told at.index pages.old pages.new }
     ensures kept { OnErr result (Keeps D.told pages.old pages.new) }
     ensures survives { Survives D.told (λ passed. passed ≡ pages.old.pages) pages.old pages.new }
     ensures never_blocked { IfOk result (λ o. NeverBlocked o.1) }
@@ -183,6 +186,7 @@ pub(crate) fn drop_in<D: Disk + Drop>(
     ensures stepped { IfOk result (λ o. Tells D.told pages.old → (copied : List ℕ) (widened : AnyTuple) (r : AnyRow) → Stepped (shape_of pages.old.layout at.index) at.actor at.range r (insert_at pages.old.layout pages.old.pages locks.old at.index (Stage.Drop from) copied widened) (insert_at pages.old.layout pages.new.pages locks.new at.index o.0 copied widened) o.1) }
     ensures stands { IfOk result (λ o. StandsAfter o.1 o.0) }
     ensures others { LeavesOthers D.told at.index pages.old pages.new }
+    ensures order { KeepsOrder D.told at.index pages.old pages.new }
     ensures kept { OnErr result (Keeps D.told pages.old pages.new) }
     ensures survives { Survives D.told (λ passed. passed ≡ pages.old.pages) pages.old pages.new }
     ensures locks { LeavesLocks (holder locks.old) (holder locks.new) (relation_of pages.old.layout at.index) at.actor }
@@ -223,6 +227,7 @@ pub(crate) fn step_in<D: Disk + Drop>(
     ensures blocked { IfOk result (λ o. BlockedWell D.told at.index at.actor pages.old pages.new locks.old locks.new o.1) }
     ensures full { IfErr result (SaysFullIn pages.old.layout at.index (λ number. Tells D.told pages.old → StepFull (shape_of pages.old.layout at.index) at.actor at.range (insert_at pages.old.layout pages.old.pages locks.old at.index stage copied.old tuple.old) number)) }
     ensures others { LeavesOthers D.told at.index pages.old pages.new }
+    ensures order { KeepsOrder D.told at.index pages.old pages.new }
     ensures locks { LeavesLocks (holder locks.old) (holder locks.new) (relation_of pages.old.layout at.index) at.actor }
     ensures at_full { IfErr result (StaysWhereFull locks.old locks.new) }
     ensures counts { TakesAtMost (taken_at stage) locks.old locks.new at.actor }

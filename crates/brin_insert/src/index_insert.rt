@@ -12,6 +12,7 @@ ghost use Rattle.range_tuple.specs.TupleBytes.{tuple_bytes};
 ghost use Rattle.range_tuple.specs.Tuples.{empty_placeholder, parts_of};
 ghost use Rattle.index_contents.specs.IndexContents.{contents, relation_of};
 ghost use Rattle.index_contents.specs.IndexChanges.{LeavesOthers};
+ghost use Rattle.index_order.specs.KeepsOrder.{KeepsOrder};
 ghost use Rattle.index_steps.specs.IndexTuples.{TakesValues, classes_of, index_at, shape_of};
 ghost use Rattle.index_steps.specs.MoveEnds.{IsMoving};
 ghost use Rattle.index_steps.specs.StepAnswers.{BlockedWell};
@@ -121,6 +122,7 @@ impl IndexInsert {
         ensures blocked { IfOk result (BlockedWell D.told self.old.index actor pages.old pages.new locks.old locks.new) }
         ensures full { IfErr result (SaysFullIn pages.old.layout self.old.index (λ number. Tells D.told pages.old → StepFull (shape_of pages.old.layout self.old.index) actor range (insert_of pages.old.layout pages.old.pages locks.old self.old copied.old) number)) }
         ensures others { LeavesOthers D.told self.old.index pages.old pages.new }
+        ensures order { KeepsOrder D.told self.old.index pages.old pages.new }
         ensures locks { LeavesLocks (holder locks.old) (holder locks.new) (relation_of pages.old.layout self.old.index) actor }
         ensures at_full { IfErr result (StaysWhereFull locks.old locks.new) }
         ensures counts { TakesAtMost (taken_at self.old.stage) locks.old locks.new actor }

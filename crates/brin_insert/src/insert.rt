@@ -10,10 +10,11 @@ ghost use Rattle.page_locks.specs.LockCounts.{locks_of};
 ghost use Rattle.page_locks.specs.LockHolders.{count_of, holder};
 ghost use Rattle.heap_rows.specs.HeapBlocks.{OfBlocks};
 ghost use Rattle.heap_rows.specs.Heaps.{kinds_at};
+ghost use Rattle.index_order.specs.KeepsOrder.{KeepsOrder};
 ghost use Rattle.index_steps.specs.IndexTuples.{TakesValues, shape_of};
 ghost use Rattle.index_steps.specs.SwapAnswers.{LeavesLocks, MachineOutcome, StaysWhereFull, TakesAtMost};
 ghost use Rattle.brin_insert.specs.declared.stage.Stage.TheVariants as stages;
-ghost use Rattle.brin_insert.specs.InsertAnswers.{BlockedOn, FaultNamesRelation, InsertStepped, IsInsertFull, IsLeftBy, LeavesOtherRelations, SaysInsertFull, StandsPlaced, TakesFirstPlace, relation_at};
+ghost use Rattle.brin_insert.specs.InsertAnswers.{BlockedOn, FaultNamesRelation, InsertStepped, IsInsertFull, IsLeftBy, LeavesOtherRelations, SaysInsertFull, StandsPlaced, TakesFirstPlace, TakesPlaceWithin, relation_at};
 ghost use Rattle.brin_insert.specs.InsertLocks.{held_by, stage_of, taken_by};
 ghost use Rattle.brin_insert.specs.Inserts.{AsksNothing, HasReached, HasStepLeft, IsInsertFor, IsOfItsIndex, numbers_in, task_of, work_of};
 ghost use Rattle.index_steps.specs.ShownRows.{ShowsKept, shown_by};
@@ -90,7 +91,7 @@ impl Insert {
     /// locks a page that the step changes; Full, with its number, exactly where no place is left for the row, or no page of the index
     /// for the tuple with the row. Damage is told only where the disk doesn't tell its contents. Where the step is blocked nothing is
     /// changed; after an error no page is, and at Full no lock; where the store refuses a move, it may have its three locks. The row
-    /// stands where the first step put it. Takes no memory.
+    /// stands where the first step put it. At every answer the pages of each index stand in order, if they did before. Takes no memory.
     pub fn step<D: Disk + Drop>(
         &mut self,
         pages: &mut PageStore<D>,
@@ -105,6 +106,7 @@ impl Insert {
         ensures left { IfOk result (IsLeftBy self.new) }
         ensures placed { OnOk result (StandsPlaced self.old.place self.new.place) }
         ensures first_place { OnOk result (OfBlocks D.told pages.old self.old.row.table (TakesFirstPlace pages.old.layout self.old.place self.new.place)) }
+        ensures within { OnOk result (TakesPlaceWithin pages.old.layout self.old.row.table self.old.place self.new.place) }
         ensures blocked { IfOk result (BlockedOn D.told (relation_at pages.old.layout self.old) actor pages.old pages.new locks.old locks.new) }
         ensures full { IfErr result (SaysInsertFull (relation_at pages.old.layout self.old) (λ number. OfBlocks D.told pages.old self.old.row.table (λ blocks. IsInsertFull actor self.old.at (shown_by pages.old.layout pages.old.pages locks.old self.old.row.table blocks) (task_of pages.old.layout self.old) number))) }
         ensures made { IsInsertFor pages.old.layout self.new }
@@ -114,6 +116,7 @@ impl Insert {
         ensures same_stage { OnErr result (stage_of self.new ≡ stage_of self.old) }
         ensures still_left { OnErr result (HasStepLeft self.new) }
         ensures others { LeavesOtherRelations D.told (relation_at pages.old.layout self.old) pages.old pages.new }
+        ensures order { (n : ℕ) → n < length pages.old.layout.schema.indexes → KeepsOrder D.told n pages.old pages.new }
         ensures locks { LeavesLocks (holder locks.old) (holder locks.new) (relation_at pages.old.layout self.old) actor }
         ensures at_full { IfErr result (StaysWhereFull locks.old locks.new) }
         ensures counts { TakesAtMost (taken_by (stage_of self.old)) locks.old locks.new actor }

@@ -2,6 +2,7 @@ use Rattle.std.proofs.Common.{◌≡◌, ◌≤◌, sym, ap, subst, ◌∙◌, a
 use Rattle.page_locks.specs.LockCounts.{locks_of}
 use Rattle.page_locks.specs.LockHolders.{holder}
 use Rattle.index_contents.specs.IndexContents.{contents, relation_of}
+use Rattle.index_order.specs.OrderLaws.{order_kept}
 use Rattle.index_steps.specs.IndexTuples.{shape_of}
 use Rattle.index_steps.specs.SwapAnswers.{TakesAtMost}
 use Rattle.brin_insert.specs.declared.stage.Stage.{Stage}
@@ -158,3 +159,15 @@ pub returns-in-Ok-drop_in-clause-undamaged : goal.returns-in-Ok-drop_in-clause-u
 returns-in-Ok-drop_in-clause-undamaged g c = λ tells.
     let old = c.args.pages.now in
     subst (λ (stage : Stage). DamageAt (shape_of old.layout c.args.at.index) (contents old.layout old.pages c.args.at.index) c.args.at.range stage → ⊥) (sym c.in-Drop.is) (λ damage. damage)
+
+pub returns-in-Ok-clause-order : goal.returns-in-Ok-clause-order
+returns-in-Ok-clause-order g c = order_kept g.D.Disk.told c.args.at.index c.args.pages.now c.map.new.pages c.map.ensures.kept
+
+pub returns-in-Err-clause-order : goal.returns-in-Err-clause-order
+returns-in-Err-clause-order g c = order_kept g.D.Disk.told c.args.at.index c.args.pages.now c.map.new.pages c.map.ensures.kept
+
+pub returns-in-Ok-copy-clause-order : goal.returns-in-Ok-copy-clause-order
+returns-in-Ok-copy-clause-order g c = order_kept g.D.Disk.told c.args.at.index c.args.pages.now c.copy.new.pages c.copy.ensures.kept
+
+pub returns-in-Err-copy-clause-order : goal.returns-in-Err-copy-clause-order
+returns-in-Err-copy-clause-order g c = order_kept g.D.Disk.told c.args.at.index c.args.pages.now c.copy.new.pages c.copy.ensures.kept

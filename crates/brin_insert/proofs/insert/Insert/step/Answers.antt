@@ -23,7 +23,8 @@ use Rattle.brin_insert.proofs.Numbers.{number_within}
 use Rattle.brin_insert.specs.InsertLocks.{held_by, stage_of, taken_by}
 use Rattle.brin_insert.proofs.OwnLocks.{given_there, no_more, no_stage_drops, none_held, own_complete, own_there, stage_there, taken_there}
 use Rattle.brin_insert.proofs.Outcomes.{index_full, index_names, index_next, index_others, machine_for}
-use Rattle.brin_insert.proofs.Placed.{first_free, not_first, placed_first, placed_still}
+use Rattle.brin_insert.proofs.Ordered.{keeps_by_heap, keeps_by_index}
+use Rattle.brin_insert.proofs.Placed.{first_free, first_within, not_first, not_within, placed_first, placed_still}
 use Rattle.brin_insert.proofs.Reaching.{left_by}
 use Rattle.brin_insert.proofs.Tasks.{got_set, is_at_work, kept_at, left_with, made_then, made_with, number_there, own_then, range_is, same_numbers, task_stays, tuple_there, tuples_then, work_there}
 use Rattle.brin_insert.proofs.insert.Insert.step.Goals as goal
@@ -521,3 +522,33 @@ returns-in-Err-step-clause-same_stage g c =
     let below : old.at < length old.works.items = slice_get_within old.works.items old.at e got in
     let found = got_set old.works.items old.at next below in
     stage_there old.place (set old.works.items old.at next) old.at x next c.in-Some.is found ∙ ap Some c.in-Err-step.ensures.same_stage ∙ sym (stage_there old.place old.works.items old.at x e c.in-Some.is got)
+
+pub returns-in-Ok-clause-order : goal.returns-in-Ok-clause-order
+returns-in-Ok-clause-order g c = λ n low. keeps_by_heap g.D.Disk.told c.args.pages.now c.put.new.pages c.args.self.now.row.table n c.requires.made.table c.put.ensures.others
+
+pub returns-in-Err-clause-order : goal.returns-in-Err-clause-order
+returns-in-Err-clause-order g c = λ n low. keeps_by_heap g.D.Disk.told c.args.pages.now c.put.new.pages c.args.self.now.row.table n c.requires.made.table c.put.ensures.others
+
+pub returns-in-Ok-Moved-clause-order : goal.returns-in-Ok-Moved-clause-order
+returns-in-Ok-Moved-clause-order g c = λ n low. keeps_by_index g.D.Disk.told c.args.pages.now c.step.new.pages c.index_mut-work.result.now.index n c.step.ensures.others c.step.ensures.order
+
+pub returns-in-Ok-Blocked-clause-order : goal.returns-in-Ok-Blocked-clause-order
+returns-in-Ok-Blocked-clause-order g c = λ n low. keeps_by_index g.D.Disk.told c.args.pages.now c.step.new.pages c.index_mut-work.result.now.index n c.step.ensures.others c.step.ensures.order
+
+pub returns-in-Ok-Finished-clause-order : goal.returns-in-Ok-Finished-clause-order
+returns-in-Ok-Finished-clause-order g c = λ n low. keeps_by_index g.D.Disk.told c.args.pages.now c.step.new.pages c.index_mut-work.result.now.index n c.step.ensures.others c.step.ensures.order
+
+pub returns-in-Err-step-clause-order : goal.returns-in-Err-step-clause-order
+returns-in-Err-step-clause-order g c = λ n low. keeps_by_index g.D.Disk.told c.args.pages.now c.step.new.pages c.index_mut-work.result.now.index n c.step.ensures.others c.step.ensures.order
+
+pub returns-in-Ok-clause-within : goal.returns-in-Ok-clause-within
+returns-in-Ok-clause-within g c = first_within c.args.pages.now.layout c.args.self.now.row.table c.args.self.now.place c.reach-did.new.self.place c.in-Ok.spot c.in-None.is c.reach-did.ensures.rest.1 c.in-Ok.ensures.within
+
+pub returns-in-Ok-Moved-clause-within : goal.returns-in-Ok-Moved-clause-within
+returns-in-Ok-Moved-clause-within g c = not_within c.args.pages.now.layout c.args.self.now.row.table c.args.self.now.place c.args.self.now.place c.in-Some.spot c.in-Some.is
+
+pub returns-in-Ok-Blocked-clause-within : goal.returns-in-Ok-Blocked-clause-within
+returns-in-Ok-Blocked-clause-within g c = not_within c.args.pages.now.layout c.args.self.now.row.table c.args.self.now.place c.args.self.now.place c.in-Some.spot c.in-Some.is
+
+pub returns-in-Ok-Finished-clause-within : goal.returns-in-Ok-Finished-clause-within
+returns-in-Ok-Finished-clause-within g c = not_within c.args.pages.now.layout c.args.self.now.row.table c.args.self.now.place c.reach-answer.new.self.place c.in-Some.spot c.in-Some.is
