@@ -6,6 +6,5 @@ pub mod Growing
 pub mod Stepped
 pub mod Kept
 pub mod Standing
-pub mod PutOrder
 pub mod Unnamed
 pub mod Found

@@ -22,12 +22,11 @@ use Rattle.opened_pages.specs.PageOrder.{IsIndexInOrder}
 use Rattle.index_steps.specs.IndexTuples.{shape_of}
 use Rattle.index_steps.specs.StepAnswers.{BlockedWell}
 use Rattle.index_steps.specs.SwapAnswers.{FaultNamesPageOf, LeavesLocks, MachineOutcome, NamesHeld, SaysFullIn}
-use Rattle.map_pages.specs.MapChanges.{KeepsOrder}
+use Rattle.index_order.specs.KeepsOrder.{KeepsOrder}
 use Rattle.map_growth.specs.declared.stage.Stage.{Stage}
 use Rattle.map_growth.specs.Called.{Called, hand_at}
 use Rattle.map_growth.specs.GrowthHands.{GrowthHand}
 use Rattle.map_growth.specs.GrowthSteps.{StepFull, StepsAt, growth_at}
-use Rattle.map_growth.specs.StepCauses.{IsApart}
 use Rattle.map_growth.proofs.Arms.{err_too, ok_too, on_err_too}
 
 -- a full index is one for each reason that follows
@@ -90,7 +89,7 @@ module _ {D : Type 0} (told : D → Told) (old mid new : View D) (kept : Keeps t
       own = called.own;
       at_full = called.at_full;
       kept = on_err_too result (keeps_on told old mid new kept) called.kept;
-      order = ok_too (λ o. IsApart o.1 → KeepsOrder told hand.index mid new) (λ o. IsApart o.1 → KeepsOrder told hand.index old new) result (λ o keeps apart. order_on hand.index (keeps apart)) called.order;
+      order = order_on hand.index called.order;
       survives = survives_on told old mid new kept survives called.survives;
       at = subst (λ (l : DiskLayout). IfErr result (FaultNamesPageOf l hand.index)) kept.leaves.layout called.at;
       outcome = machine_on result called.outcome;

@@ -20,14 +20,13 @@ use Rattle.index_steps.specs.IndexTuples.{shape_of}
 use Rattle.index_steps.specs.Readings.{NamesPageOf}
 use Rattle.index_steps.specs.StepAnswers.{BlockedWell}
 use Rattle.index_steps.specs.SwapAnswers.{LeavesLocks, NamesHeld, TakesAtMost}
-use Rattle.map_pages.specs.MapChanges.{KeepsOrder}
+use Rattle.index_order.specs.KeepsOrder.{KeepsOrder}
 use Rattle.map_growth.specs.declared.stage.Stage.{Stage}
 use Rattle.map_growth.specs.declared.stage.Stage.TheVariants as stages
 use Rattle.map_growth.specs.Called.{Called, hand_at}
 use Rattle.map_growth.specs.GrowthHands.{GrowthHand}
 use Rattle.map_growth.specs.GrowthSteps.{StandsAfter, StepFull, StepWaits, StepsAt, growth_at}
 use Rattle.map_growth.specs.StageLocks.{Gives, held_at, taken_at}
-use Rattle.map_growth.specs.StepCauses.{IsApart}
 use Rattle.map_growth.proofs.Locking.{same_apart, takes_none}
 
 -- a store that stays
@@ -64,7 +63,7 @@ module _ {D : Type 0} (told : D → Told) (old new : View D) (kept : Keeps told 
       own = tt;
       at_full = tt;
       kept = kept;
-      order = tt;
+      order = kept_order hand.index;
       survives = survives;
       at = at;
       outcome = because;
@@ -86,7 +85,7 @@ module _ {D : Type 0} (told : D → Told) (old new : View D) (kept : Keeps told 
       own = tt;
       at_full = refl;
       kept = kept;
-      order = tt;
+      order = kept_order hand.index;
       survives = survives;
       at = tt;
       outcome = done;
@@ -109,7 +108,7 @@ module _ {D : Type 0} (told : D → Told) (old new : View D) (kept : Keeps told 
       own = λ few. few;
       at_full = tt;
       kept = tt;
-      order = λ apart. kept_order index;
+      order = kept_order index;
       survives = survives;
       at = tt;
       outcome = done;
@@ -118,7 +117,7 @@ module _ {D : Type 0} (told : D → Told) (old new : View D) (kept : Keeps told 
 -- a step that is done
 pub done : {D : Type 0} (told : D → Told) (actor : ℕ) (Cause : Type 0) (hand : GrowthHand) (moved : List ℕ) (old new : View D) (before after : LockState) (stage : Stage) (what : Did) → (Tells told old → StepsAt old.layout old.pages new.pages before after actor hand (hand_at hand.index stage moved) what)
     → StandsAfter hand (hand_at hand.index stage moved) what → BlockedWell told hand.index actor old new before after what → LeavesOthers told hand.index old new → LeavesLocks (holder before) (holder after) (relation_of old.layout hand.index) actor
-    → TakesAtMost (taken_at hand.stage) before after actor → (Gives hand.stage what → locks_of after actor ≡ 0) → (locks_of before actor ≤ held_at hand.stage → locks_of after actor ≤ held_at stage) → (IsApart what → KeepsOrder told hand.index old new)
+    → TakesAtMost (taken_at hand.stage) before after actor → (Gives hand.stage what → locks_of after actor ≡ 0) → (locks_of before actor ≤ held_at hand.stage → locks_of after actor ≤ held_at stage) → KeepsOrder told hand.index old new
     → Survives told (λ (passed : PageMap). passed ≡ old.pages) old new → (old.failed ≡ None) × (new.failed ≡ None) × ((told old.disk).faults ≤ (told new.disk).faults) → Called told actor Cause hand moved old new before after (Ok (stage, what))
 done told actor Cause hand moved old new before after stage what stepped stands blocked others locks counts given own order survives outcome = record {
   stepped = stepped;

@@ -13,12 +13,11 @@ use Rattle.index_contents.specs.IndexChanges.{LeavesOthers}
 use Rattle.index_steps.specs.IndexTuples.{shape_of}
 use Rattle.index_steps.specs.StepAnswers.{BlockedWell}
 use Rattle.index_steps.specs.SwapAnswers.{FaultNamesPageOf, LeavesLocks, MachineOutcome, SaysFullIn, StaysWhereFull, TakesAtMost}
-use Rattle.map_pages.specs.MapChanges.{KeepsOrder}
+use Rattle.index_order.specs.KeepsOrder.{KeepsOrder}
 use Rattle.map_growth.specs.declared.stage.Stage.{Stage}
 use Rattle.map_growth.specs.GrowthHands.{GrowthHand}
 use Rattle.map_growth.specs.GrowthSteps.{StandsAfter, StepFull, StepsAt, growth_at}
 use Rattle.map_growth.specs.StageLocks.{Gives, held_at, taken_at}
-use Rattle.map_growth.specs.StepCauses.{IsApart}
 
 -- a growth of the index at that stage, with the bytes of a tuple
 abbrev pub hand_at : (index : ℕ) → Stage → List ℕ → GrowthHand
@@ -37,7 +36,7 @@ pub record Called {D : Type 0} (told : D → Told) (actor : ℕ) (Cause : Type 0
   pub own : IfOk result (λ o. locks_of before actor ≤ held_at hand.stage → locks_of after actor ≤ held_at o.0)
   pub at_full : IfErr result (StaysWhereFull before after)
   pub kept : OnErr result (Keeps told old new)
-  pub order : IfOk result (λ o. IsApart o.1 → KeepsOrder told hand.index old new)
+  pub order : KeepsOrder told hand.index old new
   pub survives : Survives told (λ passed. passed ≡ old.pages) old new
   pub at : IfErr result (FaultNamesPageOf old.layout hand.index)
   pub outcome : MachineOutcome told Cause old new result

@@ -1,10 +1,7 @@
 -- what a step of a growth needs, and what is damaged where it finds damage
 use Rattle.std.specs.Prelude.{ℕ}
-use Rattle.block_model.specs.declared.reply.Point.TheVariants as points
 use Rattle.store_layout.specs.DiskLayout.{DiskLayout}
 use Rattle.page_store.specs.PageMap.{PageMap}
-use Rattle.page_locks.specs.declared.did.Did.{Did}
-use Rattle.page_locks.specs.declared.did.Did.TheVariants as did
 use Rattle.coverage.specs.IndexView.{next_map_page}
 use Rattle.index_contents.specs.IndexContents.{IndexContents, contents}
 use Rattle.index_steps.specs.IndexTuples.{IndexShape}
@@ -28,9 +25,3 @@ abbrev pub DamageAt : DiskLayout → PageMap → (index : ℕ) → Stage → Typ
 DamageAt layout pages index stages.Judge = IsNextDamaged layout pages index
 DamageAt layout pages index stages.Count = HasLeftOver layout pages index → ⊥
 DamageAt layout pages index stage = ⊥
-
--- the step isn't one that has the map name a tuple, or drops one
-abbrev pub IsApart : Did → Type 0
-IsApart (did.Moved points.Set) = ⊥
-IsApart (did.Moved points.Drop) = ⊥
-IsApart done = Unit {0}

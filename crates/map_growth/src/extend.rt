@@ -10,12 +10,12 @@ ghost use Rattle.index_contents.specs.IndexChanges.{LeavesOthers};
 ghost use Rattle.index_steps.specs.IndexTuples.{shape_of};
 ghost use Rattle.index_steps.specs.StepAnswers.{BlockedWell};
 ghost use Rattle.index_steps.specs.SwapAnswers.{FaultNamesPageOf, LeavesLocks, MachineOutcome, SaysFullIn, StaysWhereFull, TakesAtMost};
-ghost use Rattle.map_pages.specs.MapChanges.{KeepsOrder};
+ghost use Rattle.index_order.specs.KeepsOrder.{KeepsOrder};
 ghost use Rattle.map_growth.specs.Called.{Called, hand_at};
 ghost use Rattle.map_growth.specs.GrowthHands.{RestsAt};
 ghost use Rattle.map_growth.specs.GrowthSteps.{StandsAfter, StepFull, StepsAt, growth_at};
 ghost use Rattle.map_growth.specs.StageLocks.{Gives, held_at, taken_at};
-ghost use Rattle.map_growth.specs.StepCauses.{DamageAt, IsApart, IsReady};
+ghost use Rattle.map_growth.specs.StepCauses.{DamageAt, IsReady};
 
 use crate::counting::count_made;
 use crate::judging::judge;
@@ -100,7 +100,7 @@ impl Extend {
         ensures at_full { IfErr result (StaysWhereFull locks.old locks.new) }
         ensures stays { OnErr result (RestsAt self.old.stage self.old self.new) }
         ensures kept { OnErr result (Keeps D.told pages.old pages.new) }
-        ensures order { IfOk result (λ did. IsApart did → KeepsOrder D.told self.old.index pages.old pages.new) }
+        ensures order { KeepsOrder D.told self.old.index pages.old pages.new }
         // The changes themselves aren't sure before the next flush.
         ensures survives { Survives D.told (λ passed. passed ≡ pages.old.pages) pages.old pages.new }
         ensures undamaged { OnOk result (Tells D.told pages.old → DamageAt pages.old.layout pages.old.pages self.old.index self.old.stage → ⊥) }

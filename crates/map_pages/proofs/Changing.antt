@@ -27,7 +27,8 @@ use Rattle.index_contents.specs.IndexContents.{contents, index_page, relation_of
 use Rattle.index_contents.specs.IndexChanges.{LeavesOtherPages, LeavesOthers}
 use Rattle.index_contents.specs.MapLaws.{is_of_map}
 use Rattle.index_contents.specs.PageLaws.{StayBeside, blocks_stay, leaves_others}
-use Rattle.map_pages.specs.MapChanges.{CountsBlock, KeepsOrder, TurnsBlock}
+use Rattle.index_order.specs.KeepsOrder.{KeepsOrder}
+use Rattle.map_pages.specs.MapChanges.{CountsBlock, TurnsBlock}
 use Rattle.map_pages.specs.NextPages.{IsEmptyMap, StandsNext, place_in}
 use Rattle.map_pages.specs.declared.next.PageState.{PageState}
 use Rattle.map_pages.specs.declared.next.PageState.TheVariants as states

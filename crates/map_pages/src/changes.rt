@@ -9,7 +9,8 @@ ghost use Rattle.coverage.specs.IndexView.{Emptying, Mapping};
 ghost use Rattle.index_contents.specs.IndexContents.{contents};
 ghost use Rattle.index_contents.specs.IndexChanges.{LeavesOtherPages, LeavesOthers};
 ghost use Rattle.map_pages.specs.declared.next.PageState.TheVariants as states;
-ghost use Rattle.map_pages.specs.MapChanges.{CountsBlock, KeepsOrder, TurnsBlock};
+ghost use Rattle.index_order.specs.KeepsOrder.{KeepsOrder};
+ghost use Rattle.map_pages.specs.MapChanges.{CountsBlock, TurnsBlock};
 ghost use Rattle.map_pages.specs.NextPages.{StandsNext, place_in};
 
 use crate::next::METAPAGE;

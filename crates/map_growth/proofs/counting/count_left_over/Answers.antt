@@ -30,4 +30,4 @@ returns-in-Ok g c = λ was moved.
     (λ tells. counts_left_over_at store.layout store.pages c.args.index c.args.actor was moved c.args.locks.now c.relation_of-relation.result (c.relation_of-relation.ensures.number ∙ ap (λ (l : DiskLayout). relation_of l c.args.index) c.layout.ensures) c.args.block c.count.new.pages.pages c.count.new.locks (c.requires.next tells) c.in-None.ensures.free (c.in-Ok.ensures.counted tells) c.in-Ok.ensures.given.all)
     (refl, refl, refl) tt c.count.ensures.others (gives_apart (relation_of store.layout c.args.index) c.args.actor (holder c.args.locks.now) (holder c.count.new.locks) c.in-Ok.ensures.given.all)
     (takes_more 0 3 c.args.locks.now c.count.new.locks c.args.actor (omega arith) c.count.ensures.counts.limit c.count.ensures.counts.adds)
-    (λ gives. c.in-Ok.ensures.given.none) (λ few. omega (arith, c.in-Ok.ensures.given.none)) (λ apart. c.count.ensures.order) c.count.ensures.survives c.in-Ok.ensures.outcome
+    (λ gives. c.in-Ok.ensures.given.none) (λ few. omega (arith, c.in-Ok.ensures.given.none)) c.count.ensures.order c.count.ensures.survives c.in-Ok.ensures.outcome

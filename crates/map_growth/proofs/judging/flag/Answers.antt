@@ -30,4 +30,4 @@ returns-in-Ok g c = λ was moved.
     done g.D.Disk.told c.args.actor (Untold g.D.Disk.told c.args.pages.now) (hand_at c.args.index stages.Judge was) moved store c.flag_page.new.pages c.args.locks.now c.args.locks.now stages.Judge (did.Moved points.Flag)
     (λ tells. flags_at store.layout store.pages c.args.index c.args.actor was moved c.args.locks.now c.relation_of-relation.result at c.args.block c.flag_page.new.pages.pages (c.requires.next tells) c.in-None.ensures.free (c.in-Ok.ensures.turned tells))
     refl tt c.flag_page.ensures.others (same_apart (relation_of store.layout c.args.index) c.args.actor (holder c.args.locks.now)) (takes_none 3 c.args.locks.now c.args.actor)
-    (λ gives. absurd gives) (λ few. few) (λ apart. c.flag_page.ensures.order) c.flag_page.ensures.survives c.in-Ok.ensures.outcome
+    (λ gives. absurd gives) (λ few. few) c.flag_page.ensures.order c.flag_page.ensures.survives c.in-Ok.ensures.outcome

@@ -34,4 +34,4 @@ returns-in-Ok-turn_page g c = λ was moved.
     (takes_apart c.relation_of-relation.result (relation_of store.layout c.args.index) c.args.actor (holder c.args.locks.now) (holder c.take_all.new.self) (c.args.block ∷ 0 ∷ []) at c.in-Ok.ensures.taken)
     (takes_more 2 3 c.args.locks.now c.take_all.new.self c.args.actor (omega arith) c.take_all.ensures.limit c.take_all.ensures.counts)
     (λ gives. absurd gives) (λ few. few_more 2 0 2 c.args.locks.now c.take_all.new.self c.args.actor c.take_all.ensures.counts few (omega arith))
-    (λ apart. c.turn_page.ensures.order) c.turn_page.ensures.survives c.in-Ok-turn_page.ensures.outcome
+    c.turn_page.ensures.order c.turn_page.ensures.survives c.in-Ok-turn_page.ensures.outcome

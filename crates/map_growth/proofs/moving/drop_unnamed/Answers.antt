@@ -21,4 +21,4 @@ returns-in-Ok g c = λ was.
     (unnamed_there store.layout store.pages c.args.index c.args.bytes.now c.args.range c.args.spot c.known.ensures.whole (subst HasBoundedSizes c.layout.ensures c.known-2.ensures.sizes) c.requires.index (c.requires.of tells) (c.requires.unnamed tells))
     c.requires.free (c.in-Ok.ensures.dropped tells))
     refl tt c.drop_at.ensures.others (same_apart (relation_of store.layout c.args.index) c.args.actor (holder c.args.locks.now)) (takes_none 3 c.args.locks.now c.args.actor)
-    (λ gives. absurd gives) (λ few. few) (λ never. absurd never) c.drop_at.ensures.survives c.in-Ok.ensures.outcome
+    (λ gives. absurd gives) (λ few. few) c.drop_at.ensures.order c.drop_at.ensures.survives c.in-Ok.ensures.outcome

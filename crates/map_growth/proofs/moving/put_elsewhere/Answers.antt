@@ -12,12 +12,10 @@ use Rattle.map_growth.specs.declared.stage.Stage.TheVariants as stages
 use Rattle.map_growth.specs.Called.{Called, hand_at}
 use Rattle.block_model.specs.declared.schema.Sizes.{Sizes}
 use Rattle.coverage.specs.Verdicts.{IsTarget}
-use Rattle.index_contents.specs.IndexChanges.{LeavesOtherPages}
 use Rattle.index_steps.specs.IndexTuples.{shape_of}
 use Rattle.page_locks.specs.LockChanges.{IsFirstHeld, TakesAll}
 use Rattle.map_growth.specs.GrowthSteps.{StepFull, growth_at}
 use Rattle.map_growth.proofs.Locking.{few_more, takes_apart, takes_more}
-use Rattle.map_growth.proofs.PutOrder.{put_keeps_order}
 use Rattle.map_growth.proofs.Refusals.{done, full, same_keeps, waits}
 use Rattle.map_growth.proofs.Standing.{moves_at, put_full_at, put_waits_at}
 use Rattle.map_growth.proofs.moving.put_elsewhere.Goals as goal
@@ -61,6 +59,5 @@ returns-in-Ok-put g c = λ was.
     (takes_apart c.relation_of-relation.result (relation_of store.layout c.args.at.index) c.args.at.actor (holder c.args.locks.now) (holder c.take_all.new.self) (c.args.from.block ∷ c.in-Some.block ∷ c.map_page_of.result ∷ []) at c.in-Ok.ensures.taken)
     (takes_more 3 3 c.args.locks.now c.take_all.new.self c.args.at.actor (omega arith) c.take_all.ensures.limit c.take_all.ensures.counts)
     (λ gives. absurd gives) (λ few. few_more 3 0 3 c.args.locks.now c.take_all.new.self c.args.at.actor c.take_all.ensures.counts few (omega arith))
-    (λ apart. put_keeps_order g.D.Disk.told c.args.at.index (relation_of store.layout c.args.at.index) to (length c.args.bytes.now) c.args.bytes.now store c.put.new.pages (omega (arith, here, c.in-Some.ensures.within)) target (λ tells. c.in-Ok-put.ensures.put tells)
-    (subst (λ (b : ℕ). LeavesOtherPages g.D.Disk.told (record { relation = relation_of store.layout c.args.at.index; block = b }) store c.put.new.pages) (sym here) c.put.ensures.pages))
+    (c.put.ensures.order (λ tells. c.a_target_takes_its_tuple.ensures.first _ _ _ (c.in-Some.ensures.target tells)))
     c.put.ensures.survives c.in-Ok-put.ensures.outcome
