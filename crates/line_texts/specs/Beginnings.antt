@@ -1,5 +1,5 @@
--- What the first step of a statement leads to, and the table in which its steps are.
-use Rattle.std.specs.Prelude.{◌≡◌, ◌⊎◌, ℕ, Bool, true, false, IsTrue, ◌↔◌, slice_get, Option, None, Some}
+-- In which table a statement makes its steps, and what its first one leads to.
+use Rattle.std.specs.Prelude.{◌≡◌, ◌≢◌, ◌⊎◌, ℕ, Bool, true, false, IsTrue, ◌↔◌, List, ◌∷◌, slice_get, Option, None, Some}
 use Rattle.std.specs.FinMap as map
 use Rattle.block_model.specs.declared.row.Query.{Query}
 use Rattle.block_model.specs.declared.row.Row.{Row}
@@ -9,7 +9,8 @@ use Rattle.block_model.specs.RowMatches.{row_matches}
 use Rattle.statements.specs.declared.statement.Statement.{Statement}
 use Rattle.statements.specs.declared.statement.Statement.TheVariants as statements
 use Rattle.store_layout.specs.DiskLayout.{DiskLayout}
-use Rattle.table_coverage.specs.Table.{EachRange, OneRange, TableScan, Task, Resting, Reaches, Considers, Scans, TableState}
+use Rattle.table_coverage.specs.Accounts.{Asked}
+use Rattle.table_coverage.specs.Table.{EachRange, OneRange, Desummarising, TableScan, Task, Resting, Reaches, Considers, Prunes, Scans, TableState}
 use Rattle.table_coverage.specs.TableSteps.{range_in}
 use Rattle.index_steps.specs.IndexTuples.{index_at}
 use Rattle.index_steps.specs.ShownTable.{indexes_of}
@@ -19,18 +20,32 @@ use Rattle.line_texts.specs.Place.{Place, database_at}
 abbrev pub StandsAt : DiskLayout → (index at : ℕ) → Type 0
 StandsAt layout index at = slice_get (indexes_of layout (index_at layout index).table) at ≡ Some index
 
--- the table in which a statement makes its steps
-abbrev pub table_for : DiskLayout → Statement → Option ℕ
-table_for layout (statements.Insert table values) = Some table
-table_for layout (statements.Select q) = Some q.table
-table_for layout (statements.Delete q) = Some q.table
-table_for layout (statements.Explain q) = Some q.table
-table_for layout (statements.Summarize index block) = Some (index_at layout index).table
-table_for layout statement = None
+-- the session is at nothing in any table: what it has in hand has made no step
+abbrev pub IsAtRest : Place → ℕ → Type 0
+IsAtRest p n = (table : ℕ) → (p.tables table).task n ≡ Resting
+
+-- the first summary that is asked for is this one
+abbrev pub IsAskedFirst : Place → Asked → Type 0
+IsAskedFirst p asked = slice_get p.queue 0 ≡ Some asked
+
+-- The table is the one in which the statement makes its steps. Work goes to that of the first summary that is asked for, and stays there.
+abbrev pub IsIn : Place → ℕ → Statement → ℕ → Type 0
+IsIn p n (statements.Insert table values) i = i ≡ table
+IsIn p n (statements.Select q) i = i ≡ q.table
+IsIn p n (statements.Delete q) i = i ≡ q.table
+IsIn p n (statements.Explain q) i = i ≡ q.table
+IsIn p n (statements.Summarize index block) i = i ≡ (index_at p.layout index).table
+IsIn p n (statements.Desummarize index block) i = i ≡ (index_at p.layout index).table
+IsIn p n (statements.Vacuum table) i = i ≡ table
+IsIn p n statements.Work i = ((p.tables i).task n ≢ Resting) ⊎ (IsAtRest p n × ((asked : Asked) × IsAskedFirst p asked × (asked.table ≡ i)))
+IsIn p n statement i = ⊥
 
 -- a statement that needs the summarise lock of its table
 abbrev pub takes_lock : Statement → Bool
 takes_lock (statements.Summarize index block) = true
+takes_lock (statements.Desummarize index block) = true
+takes_lock (statements.Vacuum table) = true
+takes_lock statements.Work = true
 takes_lock statement = false
 
 -- A scan of this query: each tuple is judged by its conditions. A select and a delete look at the rows of their own copy.
@@ -53,4 +68,13 @@ Begins p n w (statements.Explain q) task = (scan : TableScan) × IsScanOf p n w 
 Begins p n w (statements.Summarize index None) task = (at : ℕ) × StandsAt p.layout index at × (task ≡ Considers (EachRange w.blocks) at 0)
 Begins p n w (statements.Summarize index (Some block)) task = (at : ℕ) × StandsAt p.layout index at
     × (task ≡ Considers (OneRange w.blocks (range_in w at block)) at (range_in w at block))
+Begins p n w (statements.Desummarize index block) task = (at : ℕ) × StandsAt p.layout index at
+    × (task ≡ Considers (Desummarising (range_in w at block)) at (range_in w at block))
+Begins p n w (statements.Vacuum table) task = task ≡ Prunes w.blocks 0
+Begins p n w statements.Work task = (asked : Asked) × IsAskedFirst p asked × (task ≡ Considers (OneRange w.blocks asked.range) asked.at asked.range)
 Begins p n w statement task = ⊥
+
+-- work takes the first summary that is asked for by its first step; no other step takes one
+abbrev pub TakesUp : Statement → Task → (before after : List Asked) → Type 0
+TakesUp statements.Work Resting before after = (asked : Asked) × (before ≡ asked ∷ after)
+TakesUp statement task before after = (asked : Asked) → before ≡ asked ∷ after → ⊥

@@ -27,7 +27,7 @@ use Rattle.table_coverage.specs.Table.{Resting, TableState}
 use Rattle.table_coverage.specs.TableCovered.{IsTableKept}
 use Rattle.line_texts.specs.Place.{Hand, Place, database_at}
 use Rattle.line_texts.specs.Requests.{Course, MakesOne, MakesAll, MakesMark}
-use Rattle.line_texts.specs.Beginnings.{table_for}
+use Rattle.line_texts.specs.Beginnings.{IsIn}
 use Rattle.line_texts.specs.StatementSteps.{Outcome, Moved, Ended, Waits, course_of, StepsTo, Steps}
 use Rattle.line_texts.specs.LineTexts.{Does}
 
@@ -79,5 +79,5 @@ ASelectFindsItsCopy = (p q : Place) (n : ℕ) (query : Query) (rows : List Row) 
 -- where the statement's table is kept, and no other session is at anything in it, nobody waits
 abbrev pub AloneNobodyWaits : Type 0
 AloneNobodyWaits = (p q : Place) (n : ℕ) (hand : Hand) (refusal : Refusal)
-    → ((table : ℕ) → table_for p.layout hand.statement ≡ Some table → IsTableKept (p.tables table) × ((m : ℕ) → m ≢ n → (p.tables table).task m ≡ Resting))
+    → ((table : ℕ) → IsIn p n hand.statement table → IsTableKept (p.tables table) × ((m : ℕ) → m ≢ n → (p.tables table).task m ≡ Resting))
     → StepsTo p n hand (Waits refusal) q → ⊥

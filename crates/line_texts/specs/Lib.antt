@@ -2,6 +2,7 @@ pub mod Place
 pub mod Requests
 pub mod Names
 pub mod Beginnings
+pub mod DeadRows
 pub mod Turns
 pub mod StatementSteps
 pub mod LineTexts

@@ -8,6 +8,7 @@ use Rattle.block_model.specs.declared.reply.Refusal.TheVariants as refusals
 use Rattle.block_model.specs.declared.reply.Reply.{Reply}
 use Rattle.block_model.specs.declared.reply.Reply.TheVariants as replies
 use Rattle.block_model.specs.declared.reply.What.TheVariants as whats
+use Rattle.block_model.specs.declared.request.Entry.{Entry}
 use Rattle.block_model.specs.declared.request.Tag.{Tag}
 use Rattle.block_model.specs.declared.request.Tag.TheVariants as tags
 use Rattle.block_model.specs.declared.row.RowId.{RowId}
@@ -22,13 +23,13 @@ use Rattle.store_layout.specs.DiskLayout.{DiskLayout}
 use Rattle.table_coverage.specs.Accounts.{Account}
 use Rattle.table_coverage.specs.Refusals as causes
 use Rattle.table_coverage.specs.Refusals.{Heap, IndexNumber, LacksMemory, IsFull, HasConflict}
-use Rattle.table_coverage.specs.Table.{Task, Resting, Scans}
+use Rattle.table_coverage.specs.Table.{OneRange, Task, Resting, Considers, Scans}
 use Rattle.table_coverage.specs.TablePoints.{WaitedFor, SummariseLock, PageLock, waits_for, IsHeldBy}
 use Rattle.table_coverage.specs.TableSteps.{IsBlocked}
 use Rattle.line_texts.specs.Place.{Hand, Place, database_at}
-use Rattle.line_texts.specs.Requests.{Course, refused_request, MakesOne, MakesAll, MakesMark}
+use Rattle.line_texts.specs.Requests.{Course, next_request, refused_request, MakesOne, MakesAll, MakesMark}
 use Rattle.line_texts.specs.Names.{table_name, index_name, name_of}
-use Rattle.line_texts.specs.Beginnings.{table_for, takes_lock}
+use Rattle.line_texts.specs.Beginnings.{IsAtRest, IsIn, takes_lock}
 use Rattle.line_texts.specs.Turns.{Turn, point_of, refusal_of, task_within, TablesStay, Leads}
 
 -- the statement goes on behind a step of this name; it ends with this reply; or it waits, and is told for whom
@@ -40,11 +41,15 @@ pub data Outcome : Type 0 where
 abbrev pub course_of : Place → Hand → Course
 course_of p hand = record { journal = p.journal; answers = hand.answers }
 
--- the requests that a step of this name enters: an insert's put at `row`, a mark at `mark`, with the look before the first one; the others come
--- with the reply
+-- a request is left to make
+abbrev pub IsOneLeft : ℕ → Statement → Course → Type 0
+IsOneLeft n statement c = (e : Entry) × (next_request n statement c.answers ≡ Some e)
+
+-- The requests that a step of this name enters, behind which its statement goes on: an insert's put at `row`; at `mark` a mark, with the look
+-- before the first one, where another mark is left. The others come with the reply.
 abbrev pub MakesAt : Point → Place → ℕ → Hand → Course → Type 0
 MakesAt points.Row p n hand c = MakesOne p.opening n hand.statement (course_of p hand) c
-MakesAt points.Mark p n hand c = MakesMark p.opening n hand.statement (course_of p hand) c
+MakesAt points.Mark p n hand c = MakesMark p.opening n hand.statement (course_of p hand) c × IsOneLeft n hand.statement c
 MakesAt point p n hand c = c ≡ course_of p hand
 
 -- how many transactions have a number
@@ -62,11 +67,19 @@ abbrev pub blocks_given : Task → List ℕ
 blocks_given (Scans scan) = filter scan.candidate (range_with_len 0 scan.extent)
 blocks_given task = []
 
--- the reply of a statement that was at this task when it ended, has this to tell, and whose requests were answered so
-abbrev pub reply_after : DiskLayout → Task → Account → List Answer → Statement → Option Reply
-reply_after layout task account answers (statements.Explain q) = Some (replies.Kept (blocks_given task))
-reply_after layout task account answers (statements.Summarize index block) = Some (replies.Summarized account.ranges)
-reply_after layout task account answers statement = reply_to_statement (full_table layout) statement answers
+-- work tells the index and the range that were asked for
+abbrev pub work_reply : DiskLayout → (table : ℕ) → Task → (count : ℕ) → Option Reply
+work_reply layout table (Considers (OneRange extent only) at range) count = Some (replies.Worked (index_name layout table at) only count)
+work_reply layout table task count = None
+
+-- the reply of a statement of this table that was at this task when it ended, has this to tell, and whose requests were answered so
+abbrev pub reply_after : DiskLayout → (table : ℕ) → Task → Account → List Answer → Statement → Option Reply
+reply_after layout table task account answers (statements.Explain q) = Some (replies.Kept (blocks_given task))
+reply_after layout table task account answers (statements.Summarize index block) = Some (replies.Summarized account.ranges)
+reply_after layout table task account answers (statements.Desummarize index block) = Some (replies.Desummarized account.ranges)
+reply_after layout table task account answers (statements.Vacuum number) = Some (replies.Vacuumed account.rows account.unnamed account.ranges)
+reply_after layout table task account answers statements.Work = work_reply layout table task account.ranges
+reply_after layout table task account answers statement = reply_to_statement (full_table layout) statement answers
 
 -- a select, or a delete
 abbrev pub IsLooking : Statement → Type 0
@@ -74,15 +87,16 @@ IsLooking (statements.Select q) = Unit {0}
 IsLooking (statements.Delete q) = Unit {0}
 IsLooking statement = ⊥
 
--- the statement has made no step
-abbrev pub IsFresh : Place → ℕ → Hand → Type 0
-IsFresh p n hand = (table : ℕ) → table_for p.layout hand.statement ≡ Some table → (p.tables table).task n ≡ Resting
+-- a statement whose steps take memory; explain and maintenance take theirs when they are submitted
+abbrev pub TakesMemory : Statement → Type 0
+TakesMemory (statements.Insert table values) = Unit {0}
+TakesMemory statement = IsLooking statement
 
 -- why a step refuses its statement, with the tag of its request then, and what is told
-pub data RefusesSo (p : Place) (table : ℕ) : causes.Refusal → Tag → Refusal → Type 0 where
-  ForMemory : RefusesSo p table LacksMemory tags.NoMemory refusals.Memory
-  HeapIsFull : (number : ℕ) → RefusesSo p table (IsFull Heap number) tags.Full (refusals.Full (table_name p.layout table) number)
-  IndexIsFull : (at number : ℕ) → RefusesSo p table (IsFull (IndexNumber at) number) tags.Full (refusals.Full (index_name p.layout table at) number)
+pub data RefusesSo (p : Place) (table : ℕ) (statement : Statement) : causes.Refusal → Tag → Refusal → Type 0 where
+  ForMemory : TakesMemory statement → RefusesSo p table statement LacksMemory tags.NoMemory refusals.Memory
+  HeapIsFull : (number : ℕ) → RefusesSo p table statement (IsFull Heap number) tags.Full (refusals.Full (table_name p.layout table) number)
+  IndexIsFull : (at number : ℕ) → RefusesSo p table statement (IsFull (IndexNumber at) number) tags.Full (refusals.Full (index_name p.layout table at) number)
 
 -- for whom a statement waits: the session that locks the page, or holds the table's summarise lock
 pub data WaitsFor (p : Place) (table : ℕ) : WaitedFor → Refusal → Type 0 where
@@ -92,29 +106,32 @@ pub data WaitsFor (p : Place) (table : ℕ) : WaitedFor → Refusal → Type 0 w
       → WaitsFor p table SummariseLock (refusals.Blocked (whats.Work (table_name p.layout table)) (name_of p by))
 
 -- One step of the statement that session n has in hand. It makes a step of its table and goes on, or replies; meets a row that it can't mark; is
--- refused; is one request; lacks memory, or a number, before it has a step; or waits.
+-- refused; is one request; finds no summary asked for; lacks memory, or a number, before it has a step; or waits.
 pub data StepsTo (p : Place) (n : ℕ) (hand : Hand) : Outcome → Place → Type 0 where
   GoesOn : (point : Point) (c : Course) (q : Place) (turn : Turn p n hand.statement q) → point_of turn ≡ Some point
       → (q.tables turn.table).task n ≢ Resting → MakesAt point p n hand c → Leads p n (Some (record hand { answers = c.answers })) c.journal q
       → StepsTo p n hand (Moved point) q
   Replies : (point : Point) (c : Course) (reply : Reply) (q : Place) (turn : Turn p n hand.statement q) → point_of turn ≡ Some point
       → (q.tables turn.table).task n ≡ Resting → MakesAll p.opening n hand.statement (course_of p hand) c
-      → Some reply ≡ reply_after p.layout (task_within turn) (q.accounts n) c.answers hand.statement → Leads p n None c.journal q
+      → Some reply ≡ reply_after p.layout turn.table (task_within turn) (q.accounts n) c.answers hand.statement → Leads p n None c.journal q
       → StepsTo p n hand (Ended reply) q
-  MeetsConflict : (id : RowId) (c : Course) (reply : Reply) (q : Place) (turn : Turn p n hand.statement q) → refusal_of turn ≡ Some (HasConflict id)
-      → MakesAll p.opening n hand.statement (course_of p hand) c → Some reply ≡ reply_to_statement (full_table p.layout) hand.statement c.answers
-      → Leads p n None c.journal q → StepsTo p n hand (Ended reply) q
+  MeetsConflict : (id : RowId) (c : Course) (q : Place) (turn : Turn p n hand.statement q) → refusal_of turn ≡ Some (HasConflict id)
+      → MakesAll p.opening n hand.statement (course_of p hand) c
+      → Some (replies.Refused (refusals.Conflict id)) ≡ reply_to_statement (full_table p.layout) hand.statement c.answers
+      → Leads p n None c.journal q → StepsTo p n hand (Ended (replies.Refused (refusals.Conflict id))) q
   IsRefused : (why : causes.Refusal) (tag : Tag) (told : Refusal) (q : Place) (turn : Turn p n hand.statement q) → refusal_of turn ≡ Some why
-      → RefusesSo p turn.table why tag told → Leads p n None (p.journal ++ refused_request n tag hand.statement) q
+      → RefusesSo p turn.table hand.statement why tag told → Leads p n None (p.journal ++ refused_request n tag hand.statement) q
       → StepsTo p n hand (Ended (replies.Refused told)) q
   AtOnce : (c : Course) (reply : Reply) (q : Place) → IsAtOnce p hand.statement → MakesAll p.opening n hand.statement (course_of p hand) c
       → Some reply ≡ reply_to_statement (full_table p.layout) hand.statement c.answers → TablesStay p q → Leads p n None c.journal q
       → StepsTo p n hand (Ended reply) q
-  LacksMemoryAtOnce : (q : Place) → IsLooking hand.statement → IsFresh p n hand → TablesStay p q
+  NothingAsked : (q : Place) → hand.statement ≡ statements.Work → IsAtRest p n → p.queue ≡ [] → TablesStay p q → Leads p n None p.journal q
+      → StepsTo p n hand (Ended replies.Idle) q
+  LacksMemoryAtOnce : (q : Place) → IsLooking hand.statement → IsAtRest p n → TablesStay p q
       → Leads p n None (p.journal ++ refused_request n tags.NoMemory hand.statement) q → StepsTo p n hand (Ended (replies.Refused refusals.Memory)) q
   NoNumber : (q : Place) → hand.statement ≡ statements.Begin → (database_at p).next ≡ numbers_of p.layout → TablesStay p q → Leads p n None p.journal q
       → StepsTo p n hand (Ended (replies.Refused (refusals.Full (codes "status") (numbers_of p.layout)))) q
-  IsWaiting : (table : ℕ) (told : Refusal) → table_for p.layout hand.statement ≡ Some table
+  IsWaiting : (table : ℕ) (told : Refusal) → IsIn p n hand.statement table
       → ((p.tables table).task n ≢ Resting) ⊎ IsTrue (takes_lock hand.statement) → (blocked : IsBlocked (p.tables table) n ((p.tables table).task n))
       → WaitsFor p table (waits_for (p.tables table) n ((p.tables table).task n) blocked) told → StepsTo p n hand (Waits told) p
 
