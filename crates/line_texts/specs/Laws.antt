@@ -1,4 +1,4 @@
--- What the definition of texts keeps of the one in which each statement is one step, and what follows for a reader.
+-- What follows of the texts of lines, for a reader and for whoever answers them.
 use Rattle.std.specs.Prelude.{◌≡◌, ◌≢◌, ◌⊎◌, ℕ, ◌<◌, false, List, [], ◌∷◌, ◌++◌, length, None, Some}
 use Rattle.std.specs.FinMap as map
 use Rattle.block_model.specs.declared.reply.Point.{Point}
@@ -7,38 +7,39 @@ use Rattle.block_model.specs.declared.reply.Refusal.{Refusal}
 use Rattle.block_model.specs.declared.reply.Refusal.TheVariants as refusals
 use Rattle.block_model.specs.declared.reply.Reply.{Reply}
 use Rattle.block_model.specs.declared.reply.Reply.TheVariants as replies
+use Rattle.block_model.specs.declared.reply.What.{What}
 use Rattle.block_model.specs.declared.request.Entry.{Entry}
-use Rattle.block_model.specs.declared.request.Request.TheVariants as requests
-use Rattle.block_model.specs.declared.request.Tag.TheVariants as tags
-use Rattle.block_model.specs.declared.row.Query.{Query}
-use Rattle.block_model.specs.declared.row.Row.{Row}
 use Rattle.block_model.specs.declared.value.Value.{Value}
 use Rattle.block_model.specs.DatabaseState.{DatabaseState, OpenTransaction}
-use Rattle.block_model.specs.RequestEffect.{next_row, rows_found}
+use Rattle.block_model.specs.RequestEffect.{next_row}
 use Rattle.block_model.specs.SerialRun.{serial_run, replies_to}
+use Rattle.query_words.specs.declared.line.Order.{Order}
 use Rattle.query_words.specs.declared.line.Order.TheVariants as orders
+use Rattle.reply_texts.specs.declared.dropped.Dropped.{Dropped}
+use Rattle.reply_texts.specs.DroppedTexts.{dropped_text}
 use Rattle.reply_texts.specs.StepTexts.{started_text}
 use Rattle.reply_texts.specs.Texts.{reply_text}
 use Rattle.statements.specs.declared.limits.TheConstants.{MAX_ENTRIES}
 use Rattle.statements.specs.declared.statement.Statement.{Statement}
 use Rattle.statements.specs.declared.statement.Statement.TheVariants as statements
-use Rattle.statements.specs.StatementRequests.{tagged_entry, requests_of}
+use Rattle.statements.specs.HeapRoom.{full_table}
+use Rattle.statements.specs.StatementRequests.{requests_of, refusal_at, reply_to_statement}
 use Rattle.table_coverage.specs.Table.{Resting, TableState}
-use Rattle.table_coverage.specs.TableCovered.{IsTableKept}
+use Rattle.table_coverage.specs.TablePoints.{WaitedFor, IsHeldBy}
 use Rattle.line_texts.specs.Place.{Hand, Place, database_at}
+use Rattle.line_texts.specs.Names.{name_of}
 use Rattle.line_texts.specs.Requests.{Course, MakesOne, MakesAll, MakesMark}
-use Rattle.line_texts.specs.Beginnings.{IsIn}
-use Rattle.line_texts.specs.StatementSteps.{Outcome, Moved, Ended, Waits, course_of, StepsTo, Steps}
-use Rattle.line_texts.specs.LineTexts.{Does}
+use Rattle.line_texts.specs.StatementSteps.{Moved, Ended, Waits, course_of, what_of, StepsTo}
+use Rattle.line_texts.specs.LineTexts.{Does, refused_text}
 
--- where a statement with no request of its own yet makes all of them with nothing between, they and its reply are those of one step
-pub record IsAsOneStep (opening : DatabaseState) (n : ℕ) (statement : Statement) (journal : List Entry) (c : Course) : Type 0 where
-  pub journal_is : c.journal ≡ journal ++ requests_of (serial_run opening journal) n false false statement
-  pub answers_are : c.answers ≡ replies_to (serial_run opening journal) (requests_of (serial_run opening journal) n false false statement)
+-- a line of this order has the refusal's text, and changes nothing
+abbrev pub IsToldAlone : Place → ℕ → List ℕ → Order → Refusal → Type 0
+IsToldAlone p n name order refusal = (text : List ℕ) (q : Place) → Does p n name order text q → (text ≡ refused_text name refusal) × (q ≡ p)
 
-abbrev pub RequestsAreAsOneStep : Type 0
-RequestsAreAsOneStep = (opening : DatabaseState) (n : ℕ) (statement : Statement) (journal : List Entry) (c : Course)
-    → MakesAll opening n statement (record { journal = journal; answers = [] }) c → IsAsOneStep opening n statement journal c
+-- so does a line that starts the statement, and the plain one
+pub record IsNotTaken (p : Place) (n : ℕ) (name : List ℕ) (statement : Statement) (refusal : Refusal) : Type 0 where
+  pub start : IsToldAlone p n name (orders.Start statement) refusal
+  pub plain : IsToldAlone p n name (orders.Whole statement) refusal
 
 -- lines that step the session's statement, one after the other, with the last one's text
 pub data StepLines (n : ℕ) (name : List ℕ) : Place → List ℕ → Place → Type 0 where
@@ -48,15 +49,21 @@ pub data StepLines (n : ℕ) (name : List ℕ) : Place → List ℕ → Place �
 -- where a plain statement is taken, a start and steps have its text in the end, and lead where it leads
 abbrev pub PlainIsStartAndSteps : Type 0
 PlainIsStartAndSteps = (p r : Place) (n : ℕ) (name text : List ℕ) (statement : Statement) → Does p n name (orders.Whole statement) text r
-    → (Does p n name (orders.Start statement) text r) ⊎ ((q : Place) × Does p n name (orders.Start statement) (started_text name) q × StepLines n name q text r)
+    → Does p n name (orders.Start statement) text r ⊎ ((q : Place) × Does p n name (orders.Start statement) (started_text name) q × StepLines n name q text r)
 
--- with its reply nothing is in hand
-abbrev pub EndedIsIdle : Type 0
-EndedIsIdle = (p q : Place) (n : ℕ) (hand : Hand) (reply : Reply) → StepsTo p n hand (Ended reply) q → q.hands n ≡ None
+-- so have a start and a finish
+abbrev pub PlainIsStartAndFinish : Type 0
+PlainIsStartAndFinish = (p r : Place) (n : ℕ) (name text : List ℕ) (statement : Statement) → Does p n name (orders.Whole statement) text r
+    → Does p n name (orders.Start statement) text r ⊎ ((q : Place) × Does p n name (orders.Start statement) (started_text name) q × Does q n name orders.Finish text r)
 
--- a step that waits changes nothing
-abbrev pub WaitingChangesNothing : Type 0
-WaitingChangesNothing = (p q : Place) (n : ℕ) (hand : Hand) (refusal : Refusal) → StepsTo p n hand (Waits refusal) q → q ≡ p
+-- a statement that waits is told with what another session has, and which session that is
+pub record IsToldItsHolder (p : Place) (n : ℕ) (refusal : Refusal) : Type 0 where
+  pub table : ℕ
+  pub waited : WaitedFor
+  pub by : ℕ
+  pub held : IsHeldBy (p.tables table) waited by
+  pub other : by ≢ n
+  pub told : refusal ≡ refusals.Blocked (what_of p.layout table waited) (name_of p by)
 
 -- an insert's put is entered with its row, a mark with its step, and a step of another name enters nothing
 abbrev pub StepsEnterInPlace : Type 0
@@ -65,19 +72,59 @@ StepsEnterInPlace = (p q : Place) (n : ℕ) (hand : Hand) (point : Point) → St
     ⊎ ((point ≡ points.Mark) × ((c : Course) × MakesMark p.opening n hand.statement (course_of p hand) c × (q.journal ≡ c.journal)))
     ⊎ (q.journal ≡ p.journal)
 
--- an insert that is refused as full enters its put with that tag, behind the one of its row where that was put
-abbrev pub FullInsertsEnterIt : Type 0
-FullInsertsEnterIt = (p q : Place) (n table number : ℕ) (hand : Hand) (values : List Value) (relation : List ℕ) → hand.statement ≡ statements.Insert table values
-    → StepsTo p n hand (Ended (replies.Refused (refusals.Full relation number))) q → (q.journal ≡ p.journal ++ tagged_entry n table (requests.Put values) tags.Full ∷ [])
-    ⊎ (q.journal ≡ p.journal)
+-- where a statement with no request of its own yet makes all of them with nothing between, they and their answers are those of one step
+pub record IsAsOneStep (opening : DatabaseState) (n : ℕ) (statement : Statement) (journal : List Entry) (c : Course) : Type 0 where
+  pub journal_is : c.journal ≡ journal ++ requests_of (serial_run opening journal) n false false statement
+  pub answers_are : c.answers ≡ replies_to (serial_run opening journal) (requests_of (serial_run opening journal) n false false statement)
 
--- a select is answered exactly the rows of its session's copy that match, whatever ran beside it
-abbrev pub ASelectFindsItsCopy : Type 0
-ASelectFindsItsCopy = (p q : Place) (n : ℕ) (query : Query) (rows : List Row) (x : OpenTransaction) → StepsTo p n (record { statement = statements.Select query; answers = [] }) (Ended (replies.Found rows)) q
-    → map.get (database_at p).sessions n ≡ Some x → x.failed ≡ false → rows ≡ rows_found x query
+abbrev pub RequestsAreAsOneStep : Type 0
+RequestsAreAsOneStep = (opening : DatabaseState) (n : ℕ) (statement : Statement) (journal : List Entry) (c : Course)
+    → MakesAll opening n statement (record { journal = journal; answers = [] }) c → IsAsOneStep opening n statement journal c
 
--- where the statement's table is kept, and no other session is at anything in it, nobody waits
-abbrev pub AloneNobodyWaits : Type 0
-AloneNobodyWaits = (p q : Place) (n : ℕ) (hand : Hand) (refusal : Refusal)
-    → ((table : ℕ) → IsIn p n hand.statement table → IsTableKept (p.tables table) × ((m : ℕ) → m ≢ n → (p.tables table).task m ≡ Resting))
-    → StepsTo p n hand (Waits refusal) q → ⊥
+-- a statement of a transaction
+abbrev pub IsTransactional : Statement → Type 0
+IsTransactional (statements.Explain q) = ⊥
+IsTransactional (statements.Summarize index block) = ⊥
+IsTransactional (statements.Desummarize index block) = ⊥
+IsTransactional (statements.Vacuum table) = ⊥
+IsTransactional statements.Work = ⊥
+IsTransactional statement = Unit {0}
+
+-- memory is short, or no room is left, or another session has what is needed
+pub data IsWant : Refusal → Type 0 where
+  OfMemory : IsWant refusals.Memory
+  OfRoom : (relation : List ℕ) (number : ℕ) → IsWant (refusals.Full relation number)
+  OfLock : (what : What) (holder : List ℕ) → IsWant (refusals.Blocked what holder)
+
+-- the requests and the reply are those of the statement as one step on its session's copy
+pub record IsOneStep (p r : Place) (n : ℕ) (name text : List ℕ) (statement : Statement) : Type 0 where
+  pub journal : r.journal ≡ p.journal ++ requests_of (database_at p) n false false statement
+  pub reply : Reply
+  pub replied : Some reply ≡ reply_to_statement (full_table p.layout) statement (replies_to (database_at p) (requests_of (database_at p) n false false statement))
+  pub dropped : List Dropped
+  pub text_is : text ≡ dropped_text dropped ++ reply_text name reply
+
+pub record IsWanting (name text : List ℕ) : Type 0 where
+  pub refusal : Refusal
+  pub want : IsWant refusal
+  pub dropped : List Dropped
+  pub text_is : text ≡ dropped_text dropped ++ refused_text name refusal
+
+-- a plain line of a transaction that is taken is done as in one step, whatever the indexes do on the way, or something is wanting
+abbrev pub PlainIsAsOneStep : Type 0
+PlainIsAsOneStep = (p r : Place) (n : ℕ) (name text : List ℕ) (statement : Statement) → p.hands n ≡ None → IsTransactional statement
+    → refusal_at (database_at p) n statement ≡ None → Does p n name (orders.Whole statement) text r → IsOneStep p r n name text statement ⊎ IsWanting name text
+
+-- a table without indexes and rows, in which nobody is at anything
+pub record IsBare (w : TableState) : Type 0 where
+  pub indexes : w.indexes ≡ 0
+  pub slots : 0 < w.rows_per_page
+  pub blocks : 0 < w.heap_limit
+  pub row : (b k : ℕ) → w.row b k ≡ None
+  pub resting : (s : ℕ) → w.task s ≡ Resting
+
+-- an insert into such a table of a session whose transaction hasn't failed is answered its row
+abbrev pub AnInsertIsAnswered : Type 0
+AnInsertIsAnswered = (p : Place) (n : ℕ) (name : List ℕ) (x : OpenTransaction) (values : List Value) → p.hands n ≡ None → map.get (database_at p).sessions n ≡ Some x
+    → x.failed ≡ false → IsBare (p.tables 0) → length p.journal < MAX_ENTRIES
+    → (q : Place) × Does p n name (orders.Whole (statements.Insert 0 values)) (reply_text name (replies.Inserted (next_row x 0 values).id)) q

@@ -7,6 +7,7 @@ use Rattle.block_model.specs.declared.reply.Refusal.{Refusal}
 use Rattle.block_model.specs.declared.reply.Refusal.TheVariants as refusals
 use Rattle.block_model.specs.declared.reply.Reply.{Reply}
 use Rattle.block_model.specs.declared.reply.Reply.TheVariants as replies
+use Rattle.block_model.specs.declared.reply.What.{What}
 use Rattle.block_model.specs.declared.reply.What.TheVariants as whats
 use Rattle.block_model.specs.declared.request.Entry.{Entry}
 use Rattle.block_model.specs.declared.request.Tag.{Tag}
@@ -98,12 +99,14 @@ pub data RefusesSo (p : Place) (table : ℕ) (statement : Statement) : causes.Re
   HeapIsFull : (number : ℕ) → RefusesSo p table statement (IsFull Heap number) tags.Full (refusals.Full (table_name p.layout table) number)
   IndexIsFull : (at number : ℕ) → RefusesSo p table statement (IsFull (IndexNumber at) number) tags.Full (refusals.Full (index_name p.layout table at) number)
 
--- for whom a statement waits: the session that locks the page, or holds the table's summarise lock
-pub data WaitsFor (p : Place) (table : ℕ) : WaitedFor → Refusal → Type 0 where
-  ForPage : (at page by : ℕ) → IsHeldBy (p.tables table) (PageLock at page) by
-      → WaitsFor p table (PageLock at page) (refusals.Blocked (whats.Page (index_name p.layout table at) page) (name_of p by))
-  ForLock : (by : ℕ) → IsHeldBy (p.tables table) SummariseLock by
-      → WaitsFor p table SummariseLock (refusals.Blocked (whats.Work (table_name p.layout table)) (name_of p by))
+-- what is waited for, by its names
+abbrev pub what_of : DiskLayout → (table : ℕ) → WaitedFor → What
+what_of layout table SummariseLock = whats.Work (table_name layout table)
+what_of layout table (PageLock at page) = whats.Page (index_name layout table at) page
+
+-- it is told with the name of the session that has it
+abbrev pub WaitsFor : Place → (table : ℕ) → WaitedFor → Refusal → Type 0
+WaitsFor p table waited told = (by : ℕ) × IsHeldBy (p.tables table) waited by × (told ≡ refusals.Blocked (what_of p.layout table waited) (name_of p by))
 
 -- One step of the statement that session n has in hand. It makes a step of its table and goes on, or replies; meets a row that it can't mark; is
 -- refused; is one request; finds no summary asked for; lacks memory, or a number, before it has a step; or waits.

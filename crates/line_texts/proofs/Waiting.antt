@@ -1,0 +1,79 @@
+-- A step that waits, and one that ends its statement.
+use Rattle.std.proofs.Common.{◌≡◌, ◌≢◌, inl, inr, ℕ, ◌≤◌, length, List, Option, None, Some, refl, sym, ap, ◌∙◌, subst}
+use Rattle.std.proofs.lemmas.Option.{same_Some}
+use Rattle.block_model.specs.declared.reply.Refusal.{Refusal}
+use Rattle.block_model.specs.declared.reply.Refusal.TheVariants as refusals
+use Rattle.block_model.specs.declared.reply.Reply.{Reply}
+use Rattle.block_model.specs.declared.reply.What.TheVariants as whats
+use Rattle.index_steps.specs.IndexTuples.{index_at}
+use Rattle.query_words.specs.declared.line.Order.TheVariants as orders
+use Rattle.statements.specs.declared.limits.TheConstants.{MAX_ENTRIES}
+use Rattle.statements.specs.declared.statement.Statement.{Statement}
+use Rattle.statements.specs.declared.statement.Statement.TheVariants as statements
+use Rattle.table_coverage.specs.Table.{Task, Resting, TableState}
+use Rattle.table_coverage.specs.TablePoints.{WaitedFor, SummariseLock, PageLock, waits_for, IsHeldBy}
+use Rattle.table_coverage.specs.TableSteps.{IsBlocked, SummariseLockHeld}
+use Rattle.line_texts.specs.Place.{Hand, Place, new_hand}
+use Rattle.line_texts.specs.Names.{name_of, table_name}
+use Rattle.line_texts.specs.StatementSteps.{Ended, Waits, WaitsFor, StepsTo, GoesOn, Replies, MeetsConflict, IsRefused, AtOnce, NothingAsked, LacksMemoryAtOnce, NoNumber, IsWaiting}
+use Rattle.line_texts.specs.LineTexts.{Does, StepsOnce, refused_text}
+use Rattle.line_texts.specs.Laws.{IsToldItsHolder}
+
+idle_behind : (p : Place) (n : ℕ) (hand : Hand) (reply : Reply) (q : Place) → StepsTo p n hand (Ended reply) q → q.hands n ≡ None
+idle_behind p n hand _ _ (Replies point c reply q turn is rests all replied leads) = leads.hand
+idle_behind p n hand _ _ (MeetsConflict id c q turn is all replied leads) = leads.hand
+idle_behind p n hand _ _ (IsRefused why tag told q turn is so leads) = leads.hand
+idle_behind p n hand _ _ (AtOnce c reply q once all replied stay leads) = leads.hand
+idle_behind p n hand _ _ (NothingAsked q work rest empty stay leads) = leads.hand
+idle_behind p n hand _ _ (LacksMemoryAtOnce q looking rest stay leads) = leads.hand
+idle_behind p n hand _ _ (NoNumber q begin next stay leads) = leads.hand
+
+pub ended_is_idle : (p q : Place) (n : ℕ) (hand : Hand) (reply : Reply) → StepsTo p n hand (Ended reply) q → q.hands n ≡ None
+ended_is_idle p q n hand reply step = idle_behind p n hand reply q step
+
+stays_behind : (p : Place) (n : ℕ) (hand : Hand) (refusal : Refusal) (q : Place) → StepsTo p n hand (Waits refusal) q → q ≡ p
+stays_behind p n hand _ _ (IsWaiting table told on own blocked waits) = refl
+
+pub waiting_stays : (p q : Place) (n : ℕ) (hand : Hand) (refusal : Refusal) → StepsTo p n hand (Waits refusal) q → q ≡ p
+waiting_stays p q n hand refusal step = stays_behind p n hand refusal q step
+
+-- a lock has one holder
+one_holder : (w : TableState) (waited : WaitedFor) (m n : ℕ) → IsHeldBy w waited m → IsHeldBy w waited n → m ≡ n
+one_holder w SummariseLock m n one two = same_Some _ _ (sym one ∙ two)
+one_holder w (PageLock at page) m n one two = same_Some _ _ (sym one ∙ two)
+
+abbrev HoldsOther : Type 0
+HoldsOther = (s : ℕ) (w : TableState) (task : Task) (blocked : IsBlocked w s task) → (n : ℕ) × IsHeldBy w (waits_for w s task blocked) n × (n ≢ s)
+
+pub holder_behind : HoldsOther → (p : Place) (n : ℕ) (hand : Hand) (refusal : Refusal) (q : Place) → StepsTo p n hand (Waits refusal) q → IsToldItsHolder p n refusal
+holder_behind holds p n hand _ _ (IsWaiting table told on own blocked waits) =
+    let held = holds n (p.tables table) ((p.tables table).task n) blocked in
+    record {
+      table = table;
+      waited = waits_for (p.tables table) n ((p.tables table).task n) blocked;
+      by = waits.0;
+      held = waits.1;
+      other = λ same. held.2 (one_holder (p.tables table) _ held.0 waits.0 held.1 waits.1 ∙ same);
+      told = waits.2;
+    }
+
+-- a summarize at its first step
+
+blocked_at_rest : (w : TableState) (n m : ℕ) → w.summarise_lock ≡ Some m → m ≢ n → (task : Task) → task ≡ Resting
+    → (blocked : IsBlocked w n task) × (waits_for w n task blocked ≡ SummariseLock)
+blocked_at_rest w n m held other task rests =
+    subst (λ t. (blocked : IsBlocked w n t) × (waits_for w n t blocked ≡ SummariseLock)) (sym rests) (SummariseLockHeld m held other, refl)
+
+pub second_blocked : (p : Place) (n m table index : ℕ) (block : Option ℕ) (name : List ℕ) → p.hands n ≡ Some (new_hand (statements.Summarize index block))
+    → table ≡ (index_at p.layout index).table → (p.tables table).task n ≡ Resting → (p.tables table).summarise_lock ≡ Some m → m ≢ n
+    → length p.journal ≤ MAX_ENTRIES
+    → Does p n name orders.Step (refused_text name (refusals.Blocked (whats.Work (table_name p.layout table)) (name_of p m))) p
+second_blocked p n m table index block name in_hand on rests held other fits =
+    let waiting = blocked_at_rest (p.tables table) n m held other ((p.tables table).task n) rests in
+    let told = refusals.Blocked (whats.Work (table_name p.layout table)) (name_of p m) in
+    StepsOnce (Waits told) p (record {
+      hand = new_hand (statements.Summarize index block);
+      in_hand = in_hand;
+      steps = IsWaiting table told on (inr tt) waiting.0 (subst (λ waited. WaitsFor p table waited told) (sym waiting.1) (m, held, refl));
+      fits = fits;
+    })

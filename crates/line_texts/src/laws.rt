@@ -1,0 +1,84 @@
+//! Laws of the texts of lines.
+
+ghost use Rattle.std.specs.Prelude.{◌≡◌, ◌≢◌, ◌⊎◌, ◌≤◌, ℕ, true, List, length, Option, None, Some, Ok, Err};
+ghost use Rattle.block_model.specs.declared.reply.Refusal.{Refusal};
+ghost use Rattle.block_model.specs.declared.reply.Refusal.TheVariants as refusals;
+ghost use Rattle.block_model.specs.declared.reply.Reply.{Reply};
+ghost use Rattle.block_model.specs.declared.reply.What.TheVariants as whats;
+ghost use Rattle.index_steps.specs.IndexTuples.{index_at};
+ghost use Rattle.line_texts.specs.Laws.{AnInsertIsAnswered, IsNotTaken, IsToldAlone, IsToldItsHolder, PlainIsAsOneStep, PlainIsStartAndFinish, PlainIsStartAndSteps, RequestsAreAsOneStep, StepsEnterInPlace};
+ghost use Rattle.line_texts.specs.LineTexts.{Answers, Does, Submits, block_refusal, fault_text, refused_text, with_statement};
+ghost use Rattle.line_texts.specs.Names.{name_of, table_name};
+ghost use Rattle.line_texts.specs.Place.{Hand, Place, database_at, new_hand};
+ghost use Rattle.line_texts.specs.StatementSteps.{Ended, StepsTo, Waits};
+ghost use Rattle.query_words.specs.declared.line.Line.TheVariants as lines;
+ghost use Rattle.query_words.specs.declared.line.LineFault.{LineFault};
+ghost use Rattle.query_words.specs.declared.line.Order.{Order};
+ghost use Rattle.query_words.specs.declared.line.Order.TheVariants as orders;
+ghost use Rattle.reply_texts.specs.StepTexts.{started_text};
+ghost use Rattle.statements.specs.declared.limits.TheConstants.{MAX_ENTRIES, MAX_SESSIONS};
+ghost use Rattle.statements.specs.declared.statement.Statement.{Statement};
+ghost use Rattle.statements.specs.declared.statement.Statement.TheVariants as statements;
+ghost use Rattle.statements.specs.SessionNumbers.{is_past_sessions};
+ghost use Rattle.statements.specs.StatementRequests.{refusal_at};
+ghost use Rattle.table_coverage.specs.Table.{Resting};
+
+use table_coverage::blocked_statements_wait;
+
+/// A plain line has the text of a start and a finish, or of a start and as many steps, and leads to the same place; and a finish of a
+/// statement that was taken is its plain line. Does nothing.
+pub fn a_plain_line_is_a_start_and_steps()
+    ensures steps { PlainIsStartAndSteps }
+    ensures finish { PlainIsStartAndFinish }
+    ensures back { (p q r : Place) (n : ℕ) (name text : List ℕ) (statement : Statement) → Submits p n statement None q → Does q n name orders.Finish text r
+        → Does p n name (orders.Whole statement) text r }
+{}
+
+/// The checks of a line come in one order: it is read; its session is one of those that there may be; a statement in hand, or none where a step
+/// is asked for; the block; the transaction. Each of these refusals changes nothing; and a statement that passes them is started, or memory is
+/// short. Does nothing.
+pub fn refusals_come_in_order()
+    ensures unread { (p q : Place) (fault : LineFault) (text : List ℕ) → Answers p (Err fault) text q → (text ≡ fault_text fault) × (q ≡ p) }
+    ensures sessions { (p q : Place) (name text : List ℕ) (order : Order) → is_past_sessions p.names name ≡ true → Answers p (Ok (lines.Say name order)) text q
+        → (text ≡ refused_text name (refusals.Limit MAX_SESSIONS)) × (q ≡ p) }
+    ensures in_hand { (p : Place) (n : ℕ) (name : List ℕ) (hand : Hand) (statement : Statement) → p.hands n ≡ Some hand
+        → IsNotTaken p n name statement refusals.InHand }
+    ensures nothing_started { (p : Place) (n : ℕ) (name : List ℕ) → p.hands n ≡ None
+        → IsToldAlone p n name orders.Step refusals.NothingStarted × IsToldAlone p n name orders.Finish refusals.NothingStarted }
+    ensures blocks { (p : Place) (n : ℕ) (name : List ℕ) (statement : Statement) (refusal : Refusal) → p.hands n ≡ None
+        → block_refusal p.layout.sizes.heap_blocks statement ≡ Some refusal → IsNotTaken p n name statement refusal }
+    ensures transactions { (p : Place) (n : ℕ) (name : List ℕ) (statement : Statement) (refusal : Refusal) → p.hands n ≡ None
+        → block_refusal p.layout.sizes.heap_blocks statement ≡ None → refusal_at (database_at p) n statement ≡ Some refusal
+        → IsNotTaken p n name statement refusal }
+    ensures started { (p q : Place) (n : ℕ) (name text : List ℕ) (statement : Statement) → p.hands n ≡ None
+        → block_refusal p.layout.sizes.heap_blocks statement ≡ None → refusal_at (database_at p) n statement ≡ None
+        → Does p n name (orders.Start statement) text q
+        → ((text ≡ started_text name) × (q ≡ with_statement p n statement)) ⊎ ((text ≡ refused_text name refusals.Memory) × (q ≡ p)) }
+{}
+
+/// A step that waits changes nothing, and is told with what it waits for and the other session that has it; after its reply a statement isn't
+/// in hand. Does nothing.
+pub fn a_blocked_step_waits()
+    ensures changes_nothing { (p q : Place) (n : ℕ) (hand : Hand) (refusal : Refusal) → StepsTo p n hand (Waits refusal) q → q ≡ p }
+    ensures holder { (p q : Place) (n : ℕ) (hand : Hand) (refusal : Refusal) → StepsTo p n hand (Waits refusal) q → IsToldItsHolder p n refusal }
+    ensures ended { (p q : Place) (n : ℕ) (hand : Hand) (reply : Reply) → StepsTo p n hand (Ended reply) q → q.hands n ≡ None }
+{
+    blocked_statements_wait();
+}
+
+/// The first step of a summarize of a table that another session summarises is blocked, and tells that session. Does nothing.
+pub fn a_second_summarize_is_blocked()
+    ensures { (p : Place) (n m table index : ℕ) (block : Option ℕ) (name : List ℕ) → p.hands n ≡ Some (new_hand (statements.Summarize index block))
+        → table ≡ (index_at p.layout index).table → (p.tables table).task n ≡ Resting → (p.tables table).summarise_lock ≡ Some m → m ≢ n
+        → length p.journal ≤ MAX_ENTRIES
+        → Does p n name orders.Step (refused_text name (refusals.Blocked (whats.Work (table_name p.layout table)) (name_of p m))) p }
+{}
+
+/// The requests of a statement that makes them one by one, with none of another session between, are those that it makes at once. An
+/// insert's put is entered with its row, each mark with its step, behind the look before the first one, and no other step that goes on enters
+/// any. A plain line of a transaction has the requests and the reply of its statement in one step on its session's copy. Does nothing.
+pub fn requests_are_entered_in_place()
+    ensures at_once { RequestsAreAsOneStep }
+    ensures in_place { StepsEnterInPlace }
+    ensures plain { PlainIsAsOneStep }
+{}
