@@ -1,2 +1,4 @@
 pub mod Orders
 pub mod Waiting
+pub mod Requests
+pub mod OneStep

@@ -79,7 +79,7 @@ refusal_in_hand : (p : Place) (n : ℕ) (statement : Statement) (hand : Option H
     → submit_refusal p n statement ≡ or_else (in_hand_refusal hand) (or_else (block_refusal p.layout.sizes.heap_blocks statement) (refusal_at (database_at p) n statement))
 refusal_in_hand p n statement hand is = ap (λ o. or_else (in_hand_refusal o) (or_else (block_refusal p.layout.sizes.heap_blocks statement) (refusal_at (database_at p) n statement))) is
 
-refusal_by_block : (p : Place) (n : ℕ) (statement : Statement) (refusal : Option Refusal) → p.hands n ≡ None → block_refusal p.layout.sizes.heap_blocks statement ≡ refusal
+pub refusal_by_block : (p : Place) (n : ℕ) (statement : Statement) (refusal : Option Refusal) → p.hands n ≡ None → block_refusal p.layout.sizes.heap_blocks statement ≡ refusal
     → submit_refusal p n statement ≡ or_else refusal (refusal_at (database_at p) n statement)
 refusal_by_block p n statement refusal empty is = refusal_in_hand p n statement None empty ∙ ap (λ o. or_else o (refusal_at (database_at p) n statement)) is
 
@@ -100,22 +100,22 @@ submitted p n statement is _ _ (Taken none) = inl (refl, refl)
 submitted p n statement is _ _ (NotTaken other because) = absurd (none-some _ (sym is ∙ because))
 submitted p n statement is _ _ (WantsMemory none may) = inr (refl, refl)
 
+taken_place : (p : Place) (n : ℕ) (statement : Statement) (q : Place) (told : Option Refusal) → told ≡ None
+    → ((told ≡ None) × (q ≡ with_statement p n statement)) ⊎ ((told ≡ Some refusals.Memory) × (q ≡ p)) → q ≡ with_statement p n statement
+taken_place p n statement q told none (inl taken) = taken.1
+taken_place p n statement q told none (inr short) = absurd (none-some _ (sym none ∙ short.0))
+
+short_place : (p : Place) (n : ℕ) (statement : Statement) (q : Place) (told : Option Refusal) (other : Refusal) → told ≡ Some other
+    → ((told ≡ None) × (q ≡ with_statement p n statement)) ⊎ ((told ≡ Some refusals.Memory) × (q ≡ p)) → (other ≡ refusals.Memory) × (q ≡ p)
+short_place p n statement q told other is (inl taken) = absurd (none-some _ (sym taken.0 ∙ is))
+short_place p n statement q told other is (inr short) = (same_Some _ _ (sym is ∙ short.0), short.1)
+
 started_by : (p : Place) (n : ℕ) (name text : List ℕ) (statement : Statement) (q : Place) → submit_refusal p n statement ≡ None → Does p n name (orders.Start statement) text q
     → ((text ≡ started_text name) × (q ≡ with_statement p n statement)) ⊎ ((text ≡ refused_text name refusals.Memory) × (q ≡ p))
-started_by p n name _ _ _ is (Starts statement q submits) = by (submitted p n statement is None q submits)
-  where
-    abbrev nothing : Option Refusal
-    nothing = None
-    by : ((nothing ≡ None) × (q ≡ with_statement p n statement)) ⊎ ((nothing ≡ Some refusals.Memory) × (q ≡ p))
-        → ((started_text name ≡ started_text name) × (q ≡ with_statement p n statement)) ⊎ ((started_text name ≡ refused_text name refusals.Memory) × (q ≡ p))
-    by (inl taken) = inl (refl, taken.1)
-    by (inr short) = absurd (none-some _ short.0)
-started_by p n name _ _ _ is (RefusesStart statement other q submits) = by (submitted p n statement is (Some other) q submits)
-  where
-    by : ((Some other ≡ None) × (q ≡ with_statement p n statement)) ⊎ ((Some other ≡ Some refusals.Memory) × (q ≡ p))
-        → ((refused_text name other ≡ started_text name) × (q ≡ with_statement p n statement)) ⊎ ((refused_text name other ≡ refused_text name refusals.Memory) × (q ≡ p))
-    by (inl taken) = absurd (none-some _ (sym taken.0))
-    by (inr short) = inr (ap (refused_text name) (same_Some _ _ short.0), short.1)
+started_by p n name _ _ _ is (Starts statement q submits) = inl (refl, taken_place p n statement q None refl (submitted p n statement is None q submits))
+started_by p n name _ _ _ is (RefusesStart statement other q submits) =
+    let short = short_place p n statement q (Some other) other refl (submitted p n statement is (Some other) q submits) in
+    inr (ap (refused_text name) short.0, short.1)
 
 pub started : (p q : Place) (n : ℕ) (name text : List ℕ) (statement : Statement) → p.hands n ≡ None → block_refusal p.layout.sizes.heap_blocks statement ≡ None
     → refusal_at (database_at p) n statement ≡ None → Does p n name (orders.Start statement) text q

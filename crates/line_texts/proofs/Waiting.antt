@@ -74,6 +74,6 @@ second_blocked p n m table index block name in_hand on rests held other fits =
     StepsOnce (Waits told) p (record {
       hand = new_hand (statements.Summarize index block);
       in_hand = in_hand;
-      steps = IsWaiting table told on (inr tt) waiting.0 (subst (λ waited. WaitsFor p table waited told) (sym waiting.1) (m, held, refl));
+      steps = IsWaiting table told on (inr refl) waiting.0 (subst (λ waited. WaitsFor p table waited told) (sym waiting.1) (m, held, refl));
       fits = fits;
     })
