@@ -2,3 +2,5 @@ pub mod Orders
 pub mod Waiting
 pub mod Requests
 pub mod OneStep
+pub mod Answered
+pub mod Bare

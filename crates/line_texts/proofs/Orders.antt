@@ -13,7 +13,7 @@ use Rattle.statements.specs.declared.limits.TheConstants.{MAX_SESSIONS}
 use Rattle.statements.specs.declared.statement.Statement.{Statement}
 use Rattle.statements.specs.SessionNumbers.{is_past_sessions}
 use Rattle.statements.specs.StatementRequests.{refusal_at}
-use Rattle.line_texts.specs.Place.{Hand, Place, database_at, updated}
+use Rattle.line_texts.specs.Place.{Hand, Place, new_hand, database_at, updated}
 use Rattle.line_texts.specs.StatementSteps.{Outcome, Moved, Steps}
 use Rattle.line_texts.specs.LineTexts.{Answers, IsNotRead, PastSessions, Orders, Does, Starts, RefusesStart, StepsOnce, IsFinished, NoStep, NoFinish, Plain, RefusesPlain}
 use Rattle.line_texts.specs.LineTexts.{Finishes, LastStep, Further, Submits, Taken, NotTaken, WantsMemory, block_refusal, dropped_at, fault_text, in_hand_refusal}
@@ -85,6 +85,12 @@ refusal_by_block p n statement refusal empty is = refusal_in_hand p n statement 
 
 pub in_hand_first : (p : Place) (n : ℕ) (name : List ℕ) (hand : Hand) (statement : Statement) → p.hands n ≡ Some hand → IsNotTaken p n name statement refusals.InHand
 in_hand_first p n name hand statement is = not_taken p n name statement refusals.InHand (refusal_in_hand p n statement (Some hand) is)
+
+taken_then : (p : Place) (n : ℕ) (statement : Statement) (q : Place) → Submits p n statement None q → q.hands n ≡ Some (new_hand statement)
+taken_then p n statement _ (Taken none) = updated_here p.hands n _
+
+pub until_reply : (p q : Place) (n : ℕ) (name : List ℕ) (statement other : Statement) → Submits p n statement None q → IsNotTaken q n name other refusals.InHand
+until_reply p q n name statement other taken = in_hand_first q n name (new_hand statement) other (taken_then p n statement q taken)
 
 pub block_next : (p : Place) (n : ℕ) (name : List ℕ) (statement : Statement) (refusal : Refusal) → p.hands n ≡ None
     → block_refusal p.layout.sizes.heap_blocks statement ≡ Some refusal → IsNotTaken p n name statement refusal

@@ -18,9 +18,9 @@ use Rattle.line_texts.specs.Requests.{Course, row_to_mark, next_request, entered
 use Rattle.line_texts.specs.Laws.{RequestsAreAsOneStep}
 
 -- the requests and answers of a course behind another
-record IsBehind (opening : DatabaseState) (c f : Course) (entries : List Entry) : Type 0 where
-  journal_is : f.journal ≡ c.journal ++ entries
-  answers_are : f.answers ≡ c.answers ++ replies_to (serial_run opening c.journal) entries
+pub record IsBehind (opening : DatabaseState) (c f : Course) (entries : List Entry) : Type 0 where
+  pub journal_is : f.journal ≡ c.journal ++ entries
+  pub answers_are : f.answers ≡ c.answers ++ replies_to (serial_run opening c.journal) entries
 
 behind_none : (opening : DatabaseState) (c : Course) → IsBehind opening c c []
 behind_none opening c = record { journal_is = sym (append-nil c.journal); answers_are = sym (append-nil c.answers) }
@@ -105,7 +105,7 @@ single opening n statement _ _ e is then (OneMore c d f (Enters x next) more) = 
     at : (x : Entry) → x ≡ e → MakesAll opening n statement (entered opening c x) f → IsBehind opening c f (e ∷ [])
     at x same more = behind_one opening c f e [] (subst (λ g. IsBehind opening (entered opening c e) g []) (sym (done f (subst (λ y. MakesAll opening n statement (entered opening c y) f) same more))) (behind_none opening (entered opening c e)))
 
-none_made : (opening : DatabaseState) (n : ℕ) (statement : Statement) (c f : Course) → next_request n statement c.answers ≡ None → MakesAll opening n statement c f → IsBehind opening c f []
+pub none_made : (opening : DatabaseState) (n : ℕ) (statement : Statement) (c f : Course) → next_request n statement c.answers ≡ None → MakesAll opening n statement c f → IsBehind opening c f []
 none_made opening n statement _ _ none (NoneLeft c is) = behind_none opening c
 none_made opening n statement _ _ none (OneMore c d f (Enters x next) more) = absurd (none-some _ (sym none ∙ next))
 

@@ -9,9 +9,12 @@ use Rattle.block_model.specs.declared.reply.Reply.{Reply}
 use Rattle.block_model.specs.declared.reply.Reply.TheVariants as replies
 use Rattle.block_model.specs.declared.reply.What.{What}
 use Rattle.block_model.specs.declared.request.Entry.{Entry}
+use Rattle.block_model.specs.declared.request.Request.TheVariants as requests
+use Rattle.block_model.specs.declared.request.Tag.TheVariants as tags
+use Rattle.block_model.specs.declared.row.RowId.{RowId}
 use Rattle.block_model.specs.declared.value.Value.{Value}
 use Rattle.block_model.specs.DatabaseState.{DatabaseState, OpenTransaction}
-use Rattle.block_model.specs.RequestEffect.{next_row}
+use Rattle.block_model.specs.RequestEffect.{Answer, Inserted, next_row}
 use Rattle.block_model.specs.SerialRun.{serial_run, replies_to}
 use Rattle.query_words.specs.declared.line.Order.{Order}
 use Rattle.query_words.specs.declared.line.Order.TheVariants as orders
@@ -23,7 +26,7 @@ use Rattle.statements.specs.declared.limits.TheConstants.{MAX_ENTRIES}
 use Rattle.statements.specs.declared.statement.Statement.{Statement}
 use Rattle.statements.specs.declared.statement.Statement.TheVariants as statements
 use Rattle.statements.specs.HeapRoom.{full_table}
-use Rattle.statements.specs.StatementRequests.{requests_of, refusal_at, reply_to_statement}
+use Rattle.statements.specs.StatementRequests.{tagged_entry, requests_of, refusal_at, reply_to_statement}
 use Rattle.table_coverage.specs.Table.{Resting, TableState}
 use Rattle.table_coverage.specs.TablePoints.{WaitedFor, IsHeldBy}
 use Rattle.line_texts.specs.Place.{Hand, Place, database_at}
@@ -80,6 +83,17 @@ pub record IsAsOneStep (opening : DatabaseState) (n : ℕ) (statement : Statemen
 abbrev pub RequestsAreAsOneStep : Type 0
 RequestsAreAsOneStep = (opening : DatabaseState) (n : ℕ) (statement : Statement) (journal : List Entry) (c : Course)
     → MakesAll opening n statement (record { journal = journal; answers = [] }) c → IsAsOneStep opening n statement journal c
+
+-- an insert's put hasn't been answered yet, or with its row
+pub data HasOneAnswer : List Answer → Type 0 where
+  NoAnswer : HasOneAnswer []
+  ItsRow : (id : RowId) → HasOneAnswer (Inserted id ∷ [])
+
+-- an insert that is refused lacks memory or room, and enters its put with that tag, behind the one of its row where that was put
+pub data EntersItsPut (p : Place) (n table : ℕ) (values : List Value) : Refusal → Place → Type 0 where
+  ForWantOfMemory : {q : Place} → q.journal ≡ p.journal ++ tagged_entry n table (requests.Put values) tags.NoMemory ∷ [] → EntersItsPut p n table values refusals.Memory q
+  ForWantOfRoom : {q : Place} (relation : List ℕ) (number : ℕ) → q.journal ≡ p.journal ++ tagged_entry n table (requests.Put values) tags.Full ∷ []
+      → EntersItsPut p n table values (refusals.Full relation number) q
 
 -- a statement of a transaction
 abbrev pub IsTransactional : Statement → Type 0

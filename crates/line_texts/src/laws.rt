@@ -1,12 +1,19 @@
 //! Laws of the texts of lines.
 
 ghost use Rattle.std.specs.Prelude.{◌≡◌, ◌≢◌, ◌⊎◌, ◌≤◌, ℕ, true, List, length, Option, None, Some, Ok, Err};
+ghost use Rattle.std.specs.FinMap as map;
 ghost use Rattle.block_model.specs.declared.reply.Refusal.{Refusal};
 ghost use Rattle.block_model.specs.declared.reply.Refusal.TheVariants as refusals;
 ghost use Rattle.block_model.specs.declared.reply.Reply.{Reply};
+ghost use Rattle.block_model.specs.declared.reply.Reply.TheVariants as replies;
 ghost use Rattle.block_model.specs.declared.reply.What.TheVariants as whats;
+ghost use Rattle.block_model.specs.declared.row.Query.{Query};
+ghost use Rattle.block_model.specs.declared.row.Row.{Row};
+ghost use Rattle.block_model.specs.declared.value.Value.{Value};
+ghost use Rattle.block_model.specs.DatabaseState.{OpenTransaction};
+ghost use Rattle.block_model.specs.RequestEffect.{Answer, rows_found};
 ghost use Rattle.index_steps.specs.IndexTuples.{index_at};
-ghost use Rattle.line_texts.specs.Laws.{AnInsertIsAnswered, IsNotTaken, IsToldAlone, IsToldItsHolder, PlainIsAsOneStep, PlainIsStartAndFinish, PlainIsStartAndSteps, RequestsAreAsOneStep, StepsEnterInPlace};
+ghost use Rattle.line_texts.specs.Laws.{AnInsertIsAnswered, EntersItsPut, HasOneAnswer, IsNotTaken, IsToldAlone, IsToldItsHolder, PlainIsAsOneStep, PlainIsStartAndFinish, PlainIsStartAndSteps, RequestsAreAsOneStep, StepsEnterInPlace};
 ghost use Rattle.line_texts.specs.LineTexts.{Answers, Does, Submits, block_refusal, fault_text, refused_text, with_statement};
 ghost use Rattle.line_texts.specs.Names.{name_of, table_name};
 ghost use Rattle.line_texts.specs.Place.{Hand, Place, database_at, new_hand};
@@ -50,6 +57,8 @@ pub fn refusals_come_in_order()
     ensures transactions { (p : Place) (n : ℕ) (name : List ℕ) (statement : Statement) (refusal : Refusal) → p.hands n ≡ None
         → block_refusal p.layout.sizes.heap_blocks statement ≡ None → refusal_at (database_at p) n statement ≡ Some refusal
         → IsNotTaken p n name statement refusal }
+    ensures until_reply { (p q : Place) (n : ℕ) (name : List ℕ) (statement other : Statement) → Submits p n statement None q
+        → IsNotTaken q n name other refusals.InHand }
     ensures started { (p q : Place) (n : ℕ) (name text : List ℕ) (statement : Statement) → p.hands n ≡ None
         → block_refusal p.layout.sizes.heap_blocks statement ≡ None → refusal_at (database_at p) n statement ≡ None
         → Does p n name (orders.Start statement) text q
@@ -81,4 +90,19 @@ pub fn requests_are_entered_in_place()
     ensures at_once { RequestsAreAsOneStep }
     ensures in_place { StepsEnterInPlace }
     ensures plain { PlainIsAsOneStep }
+{}
+
+/// A refused insert lacks memory or room, and enters its put with that tag: alone, or behind the put of its row. A select is answered
+/// exactly the rows of its session's copy that match, whatever the indexes and the other sessions did beside it. Does nothing.
+pub fn answers_are_of_the_copy()
+    ensures insert { (p q : Place) (n table : ℕ) (values : List Value) (answers : List Answer) (told : Refusal) → HasOneAnswer answers
+        → StepsTo p n (record { statement = statements.Insert table values; answers = answers }) (Ended (replies.Refused told)) q
+        → EntersItsPut p n table values told q }
+    ensures select { (p q : Place) (n : ℕ) (query : Query) (rows : List Row) (x : OpenTransaction) → map.get (database_at p).sessions n ≡ Some x
+        → StepsTo p n (new_hand (statements.Select query)) (Ended (replies.Found rows)) q → rows ≡ rows_found x query }
+{}
+
+/// The definition isn't empty: an insert into a table without indexes is answered its row. Does nothing.
+pub fn an_insert_is_answered()
+    ensures { AnInsertIsAnswered }
 {}

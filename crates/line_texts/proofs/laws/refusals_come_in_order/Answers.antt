@@ -1,4 +1,4 @@
-use Rattle.line_texts.proofs.Orders.{block_next, in_hand_first, nothing_started, past_next, started, transaction_next, unread_first}
+use Rattle.line_texts.proofs.Orders.{block_next, in_hand_first, nothing_started, past_next, started, transaction_next, unread_first, until_reply}
 use Rattle.line_texts.proofs.laws.refusals_come_in_order.Goals as goal
 
 pub returns-clause-unread : goal.returns-clause-unread
@@ -21,3 +21,6 @@ returns-clause-transactions c = transaction_next
 
 pub returns-clause-started : goal.returns-clause-started
 returns-clause-started c = started
+
+pub returns-clause-until_reply : goal.returns-clause-until_reply
+returns-clause-until_reply c = until_reply
