@@ -14,7 +14,6 @@ use Rattle.block_model.specs.declared.value.Value.{Value}
 use Rattle.block_model.specs.DatabaseState.{DatabaseState, OpenTransaction}
 use Rattle.block_model.specs.RequestEffect.{Answer, Inserted, effect_at, effect_is, reply_to, next_row}
 use Rattle.query_words.specs.declared.line.Order.TheVariants as orders
-use Rattle.reply_texts.specs.DroppedTexts.{dropped_text}
 use Rattle.reply_texts.specs.Texts.{reply_text}
 use Rattle.statements.specs.declared.limits.TheConstants.{MAX_ENTRIES}
 use Rattle.statements.specs.declared.statement.Statement.{Statement}
@@ -86,14 +85,19 @@ module _ (w : TableState) (bare : IsBare w) (n : ℕ) (r : Row) where
 module _ (p : Place) (n : ℕ) (x : OpenTransaction) (values : List Value) (got : map.get (database_at p).sessions n ≡ Some x) (bare : IsBare (p.tables 0)) where
   abbrev st : Statement
   st = statements.Insert 0 values
+
   abbrev q : Place
   q = with_statement p n st
+
   abbrev e : Entry
   e = request_entry n 0 (requests.Put values)
+
   abbrev tables : ℕ → TableState
   tables = updated p.tables 0 (done (p.tables 0) bare n (next_row x 0 values))
+
   abbrev c : Course
   c = entered p.opening (record { journal = p.journal; answers = [] }) e
+
   abbrev after : Place
   after = record q { hands = updated q.hands n None; accounts = updated q.accounts n no_account; journal = c.journal; tables = tables }
 
@@ -145,6 +149,8 @@ no_move : (reply : Reply) (point : Point) → Ended reply ≡ Moved point → �
 no_move reply point is = subst IsEnd is tt
 
 pub answered : AnInsertIsAnswered
-answered p n name x values idle got sound bare room =
-    (after p n x values got bare, subst (λ text. Does p n name (orders.Whole (statements.Insert 0 values)) text (after p n x values got bare)) (said p n x values got bare name)
-      (Plain _ _ (q p n x values got bare) (after p n x values got bare) (Taken (is_taken p n x values idle got sound)) (LastStep _ _ _ (no_move _) (steps p n x values got bare room))))
+answered p n name x values idle got sound bare room = (
+  after p n x values got bare,
+  subst (λ text. Does p n name (orders.Whole (statements.Insert 0 values)) text (after p n x values got bare)) (said p n x values got bare name)
+      (Plain _ _ (q p n x values got bare) (after p n x values got bare) (Taken (is_taken p n x values idle got sound)) (LastStep _ _ _ (no_move _) (steps p n x values got bare room))),
+)

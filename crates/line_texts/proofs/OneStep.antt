@@ -1,5 +1,5 @@
 -- A plain line of a transaction is done as in one step.
-use Rattle.std.proofs.Common.{◌≡◌, ◌⊎◌, inl, inr, ℕ, List, [], ◌++◌, Option, None, Some, refl, sym, ap, ◌∙◌, subst}
+use Rattle.std.proofs.Common.{◌≡◌, ◌⊎◌, inl, inr, ℕ, List, [], None, Some, refl, sym, ap, ◌∙◌, subst}
 use Rattle.std.proofs.lemmas.Option.{same_Some, none-some}
 use Rattle.block_model.specs.declared.reply.Point.{Point}
 use Rattle.block_model.specs.declared.reply.Point.TheVariants as points
@@ -10,17 +10,16 @@ use Rattle.block_model.specs.declared.reply.Reply.TheVariants as replies
 use Rattle.block_model.specs.declared.request.Tag.{Tag}
 use Rattle.block_model.specs.DatabaseState.{DatabaseState}
 use Rattle.block_model.specs.RequestEffect.{Answer}
-use Rattle.block_model.specs.SerialRun.{replies_to}
 use Rattle.store_layout.specs.DiskLayout.{DiskLayout}
 use Rattle.statements.specs.declared.statement.Statement.{Statement}
 use Rattle.statements.specs.declared.statement.Statement.TheVariants as statements
 use Rattle.statements.specs.HeapRoom.{full_table}
-use Rattle.statements.specs.StatementRequests.{refusal_at, requests_of, reply_to_statement}
+use Rattle.statements.specs.StatementRequests.{refusal_at, reply_to_statement}
 use Rattle.table_coverage.specs.Accounts.{Account}
 use Rattle.table_coverage.specs.Refusals as causes
 use Rattle.table_coverage.specs.Table.{Task}
 use Rattle.line_texts.specs.Place.{Hand, Place, new_hand, database_at}
-use Rattle.line_texts.specs.Requests.{Course, MakesAll, NoneLeft, OneMore, MakesMark, First, Further}
+use Rattle.line_texts.specs.Requests.{Course, MakesAll, OneMore, MakesMark, First, Further}
 use Rattle.line_texts.specs.StatementSteps.{Outcome, Moved, Ended, Waits, course_of, MakesAt, RefusesSo, ForMemory, HeapIsFull, IndexIsFull, reply_after, StepsTo}
 use Rattle.line_texts.specs.StatementSteps.{GoesOn, Replies, MeetsConflict, IsRefused, AtOnce, NothingAsked, LacksMemoryAtOnce, NoNumber, IsWaiting}
 use Rattle.line_texts.specs.LineTexts as texts
@@ -104,7 +103,7 @@ made_last p n hand _ _ last is (IsWaiting table told on own blocked waits) = Wan
 made_further : (p q r : Place) (n : ℕ) (hand : Hand) (outcome : Outcome) (on : MovesOn p q n hand) → Made q n on.next outcome r → Made p n hand outcome r
 made_further p q r n hand outcome on (Whole c reply all journal replied is) =
     Whole c reply (on.makes c (subst (λ o. MakesAll o n hand.statement (course_of q on.next) c) on.opening (subst (λ st. MakesAll q.opening n st (course_of q on.next) c) on.statement all)))
-        journal (replied ∙ ap (λ st. reply_to_statement (full_table q.layout) st c.answers) on.statement ∙ ap (λ l. reply_to_statement (full_table l) hand.statement c.answers) on.layout) is
+    journal (replied ∙ ap (λ st. reply_to_statement (full_table q.layout) st c.answers) on.statement ∙ ap (λ l. reply_to_statement (full_table l) hand.statement c.answers) on.layout) is
 made_further p q r n hand outcome on (Wants refusal want is) = Wants refusal want is
 
 made_all : (n : ℕ) (p q : Place) (outcome : Outcome) (hand : Hand) → p.hands n ≡ Some hand → IsTransactional hand.statement → Finishes n p outcome q

@@ -1,5 +1,5 @@
 -- What orders do: a plain line against a start and what follows it, and the order of the checks.
-use Rattle.std.proofs.Common.{◌≡◌, ◌⊎◌, inl, inr, ℕ, List, Bool, true, false, Option, None, Some, Ok, Err, if◌then◌else◌, refl, sym, ap, ◌∙◌}
+use Rattle.std.proofs.Common.{◌≡◌, ◌⊎◌, inl, inr, ℕ, List, true, Option, None, Some, Ok, Err, if◌then◌else◌, refl, sym, ap, ◌∙◌}
 use Rattle.std.proofs.lemmas.Bool.{eq-eqb, false≢true}
 use Rattle.std.proofs.lemmas.Option.{same_Some, none-some}
 use Rattle.block_model.specs.declared.reply.Refusal.{Refusal}
@@ -14,7 +14,7 @@ use Rattle.statements.specs.declared.statement.Statement.{Statement}
 use Rattle.statements.specs.SessionNumbers.{is_past_sessions}
 use Rattle.statements.specs.StatementRequests.{refusal_at}
 use Rattle.line_texts.specs.Place.{Hand, Place, new_hand, database_at, updated}
-use Rattle.line_texts.specs.StatementSteps.{Outcome, Moved, Steps}
+use Rattle.line_texts.specs.StatementSteps.{Outcome, Moved}
 use Rattle.line_texts.specs.LineTexts.{Answers, IsNotRead, PastSessions, Orders, Does, Starts, RefusesStart, StepsOnce, IsFinished, NoStep, NoFinish, Plain, RefusesPlain}
 use Rattle.line_texts.specs.LineTexts.{Finishes, LastStep, Further, Submits, Taken, NotTaken, WantsMemory, block_refusal, dropped_at, fault_text, in_hand_refusal}
 use Rattle.line_texts.specs.LineTexts.{or_else, outcome_text, refused_text, submit_refusal, with_statement}

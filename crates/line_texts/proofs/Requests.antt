@@ -66,20 +66,22 @@ module _ (opening : DatabaseState) (n : ℕ) (q : Query) (rows : List Row) where
 
   mark_step : (c f : Course) (e : Entry) (marks : List Answer) (row : Row) (left : List Row) → c.answers ≡ Found rows ∷ marks → AreLeft rows marks (row ∷ left) → e ≡ mark_entry n q.table row
       → ((marks' : List Answer) (left' : List Row) → (entered opening c e).answers ≡ Found rows ∷ marks' → AreLeft rows marks' left'
-          → IsBehind opening (entered opening c e) f (mark_entries (serial_run opening (entered opening c e).journal) n q.table left'))
+      → IsBehind opening (entered opening c e) f (mark_entries (serial_run opening (entered opening c e).journal) n q.table left'))
       → IsBehind opening c f (mark_entries (serial_run opening c.journal) n q.table (row ∷ left))
   mark_step c f e marks row left is are same further = subst (λ x. IsBehind opening c f (x ∷ unless_conflict (reply_to s x) (mark_entries (after_request s x) n q.table left))) same (by (ends (reply_to s e)))
     where
       s : DatabaseState
       s = serial_run opening c.journal
+
       on : (then : List Row) → ((extra : List Answer) → row_to_mark (row ∷ left) (reply_to s e ∷ extra) ≡ row_to_mark then extra)
           → IsBehind opening (entered opening c e) f (mark_entries (after_request s e) n q.table then)
       on then goes = subst (λ t. IsBehind opening (entered opening c e) f (mark_entries t n q.table then)) (serial_run-append opening c.journal (e ∷ []))
           (further (marks ++ reply_to s e ∷ []) then (ap (λ l. l ++ reply_to s e ∷ []) is) (λ extra. ap (row_to_mark rows) (append_assoc marks (reply_to s e ∷ []) extra) ∙ are (reply_to s e ∷ extra) ∙ goes extra))
+
       by : Ends (reply_to s e) → IsBehind opening c f (e ∷ unless_conflict (reply_to s e) (mark_entries (after_request s e) n q.table left))
       by (InConflict id conflict) = behind_one opening c f e _
           (subst (λ a. IsBehind opening (entered opening c e) f (unless_conflict a (mark_entries (after_request s e) n q.table left))) (sym conflict)
-            (on [] (λ extra. ap (λ a. row_to_mark (row ∷ left) (a ∷ extra)) conflict)))
+          (on [] (λ extra. ap (λ a. row_to_mark (row ∷ left) (a ∷ extra)) conflict)))
       by (Without goes marks_on) = behind_one opening c f e _ (subst (IsBehind opening (entered opening c e) f) (sym (goes _)) (on left (marks_on row left)))
 
   marks_made : (c f : Course) (marks : List Answer) (left : List Row) → c.answers ≡ Found rows ∷ marks → AreLeft rows marks left → MakesAll opening n (statements.Delete q) c f
@@ -102,6 +104,7 @@ single opening n statement _ _ e is then (OneMore c d f (Enters x next) more) = 
         ended : (c f : Course) → next_request n statement c.answers ≡ None → MakesAll opening n statement c f → f ≡ c
         ended _ _ none (NoneLeft c is) = refl
         ended _ _ none (OneMore c d f (Enters x next) more) = absurd (none-some _ (sym none ∙ next))
+
     at : (x : Entry) → x ≡ e → MakesAll opening n statement (entered opening c x) f → IsBehind opening c f (e ∷ [])
     at x same more = behind_one opening c f e [] (subst (λ g. IsBehind opening (entered opening c e) g []) (sym (done f (subst (λ y. MakesAll opening n statement (entered opening c y) f) same more))) (behind_none opening (entered opening c e)))
 
@@ -117,13 +120,17 @@ module _ (opening : DatabaseState) (n : ℕ) (q : Query) where
     where
       e : Entry
       e = look_entry n q
+
       s : DatabaseState
       s = serial_run opening c.journal
+
       next_behind : (a : Answer) → reply_to s e ≡ a → next_request n (statements.Delete q) (entered opening c e).answers ≡ next_request n (statements.Delete q) (a ∷ [])
       next_behind a answer = ap (λ l. next_request n (statements.Delete q) (l ++ reply_to s e ∷ [])) is ∙ ap (λ x. next_request n (statements.Delete q) (x ∷ [])) answer
+
       looked : (a : Answer) → reply_to s e ≡ a → MakesAll opening n (statements.Delete q) (entered opening c e) f → IsBehind opening (entered opening c e) f (mark_entries (serial_run opening (entered opening c e).journal) n q.table (found_in a))
       looked (Found rows) answer more = marks_made opening n q rows (entered opening c e) f [] rows (ap (λ l. l ++ reply_to s e ∷ []) is ∙ ap (λ a. a ∷ []) answer) (λ _. refl) more
       looked a answer more = none_made opening n (statements.Delete q) _ f (next_behind a answer ∙ refl) more
+
       at : (x : Entry) → x ≡ e → MakesAll opening n (statements.Delete q) (entered opening c x) f → IsBehind opening c f (e ∷ mark_entries (after_request s e) n q.table (found_in (reply_to s e)))
       at x same more = behind_one opening c f e _ (subst (λ t. IsBehind opening (entered opening c e) f (mark_entries t n q.table (found_in (reply_to s e)))) (serial_run-append opening c.journal (e ∷ []))
           (looked (reply_to s e) refl (subst (λ y. MakesAll opening n (statements.Delete q) (entered opening c y) f) same more)))
@@ -141,8 +148,10 @@ as_one_step opening n statement journal c made = record { journal_is = (behind s
   where
     start : Course
     start = record { journal = journal; answers = [] }
+
     s : DatabaseState
     s = serial_run opening journal
+
     behind : (statement : Statement) → MakesAll opening n statement start c → IsBehind opening start c (requests_of s n false false statement)
     behind statements.Begin made = single opening n _ start c _ refl (λ _. refl) made
     behind statements.Commit made = single opening n _ start c _ refl (λ _. refl) made

@@ -1,5 +1,5 @@
 -- A step that waits, and one that ends its statement.
-use Rattle.std.proofs.Common.{◌≡◌, ◌≢◌, inl, inr, ℕ, ◌≤◌, length, List, Option, None, Some, refl, sym, ap, ◌∙◌, subst}
+use Rattle.std.proofs.Common.{◌≡◌, ◌≢◌, inr, ℕ, ◌≤◌, length, List, Option, None, Some, refl, sym, ◌∙◌, subst}
 use Rattle.std.proofs.lemmas.Option.{same_Some}
 use Rattle.block_model.specs.declared.reply.Refusal.{Refusal}
 use Rattle.block_model.specs.declared.reply.Refusal.TheVariants as refusals
@@ -8,14 +8,13 @@ use Rattle.block_model.specs.declared.reply.What.TheVariants as whats
 use Rattle.index_steps.specs.IndexTuples.{index_at}
 use Rattle.query_words.specs.declared.line.Order.TheVariants as orders
 use Rattle.statements.specs.declared.limits.TheConstants.{MAX_ENTRIES}
-use Rattle.statements.specs.declared.statement.Statement.{Statement}
 use Rattle.statements.specs.declared.statement.Statement.TheVariants as statements
 use Rattle.table_coverage.specs.Table.{Task, Resting, TableState}
 use Rattle.table_coverage.specs.TablePoints.{WaitedFor, SummariseLock, PageLock, waits_for, IsHeldBy}
 use Rattle.table_coverage.specs.TableSteps.{IsBlocked, SummariseLockHeld}
 use Rattle.line_texts.specs.Place.{Hand, Place, new_hand}
 use Rattle.line_texts.specs.Names.{name_of, table_name}
-use Rattle.line_texts.specs.StatementSteps.{Ended, Waits, WaitsFor, StepsTo, GoesOn, Replies, MeetsConflict, IsRefused, AtOnce, NothingAsked, LacksMemoryAtOnce, NoNumber, IsWaiting}
+use Rattle.line_texts.specs.StatementSteps.{Ended, Waits, WaitsFor, StepsTo, Replies, MeetsConflict, IsRefused, AtOnce, NothingAsked, LacksMemoryAtOnce, NoNumber, IsWaiting}
 use Rattle.line_texts.specs.LineTexts.{Does, StepsOnce, refused_text}
 use Rattle.line_texts.specs.Laws.{IsToldItsHolder}
 

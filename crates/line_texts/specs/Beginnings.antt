@@ -1,5 +1,5 @@
 -- In which table a statement makes its steps, and what its first one leads to.
-use Rattle.std.specs.Prelude.{◌≡◌, ◌≢◌, ◌⊎◌, ℕ, Bool, true, false, IsTrue, ◌↔◌, List, ◌∷◌, slice_get, Option, None, Some}
+use Rattle.std.specs.Prelude.{◌≡◌, ◌≢◌, ◌⊎◌, ℕ, Bool, true, false, IsTrue, ◌↔◌, List, ◌∷◌, slice_get, None, Some}
 use Rattle.std.specs.FinMap as map
 use Rattle.block_model.specs.declared.row.Query.{Query}
 use Rattle.block_model.specs.declared.row.Row.{Row}

@@ -32,7 +32,7 @@ use Rattle.table_coverage.specs.TablePoints.{WaitedFor, IsHeldBy}
 use Rattle.line_texts.specs.Place.{Hand, Place, database_at}
 use Rattle.line_texts.specs.Names.{name_of}
 use Rattle.line_texts.specs.Requests.{Course, MakesOne, MakesAll, MakesMark}
-use Rattle.line_texts.specs.StatementSteps.{Moved, Ended, Waits, course_of, what_of, StepsTo}
+use Rattle.line_texts.specs.StatementSteps.{Moved, course_of, what_of, StepsTo}
 use Rattle.line_texts.specs.LineTexts.{Does, refused_text}
 
 -- a line of this order has the refusal's text, and changes nothing

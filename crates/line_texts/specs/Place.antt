@@ -1,5 +1,5 @@
 -- Where a script stands: all that the text of its next line depends on, and all that the line changes.
-use Rattle.std.specs.Prelude.{ℕ, ◌==◌, Bool, List, [], Option, if◌then◌else◌}
+use Rattle.std.specs.Prelude.{ℕ, ◌==◌, List, [], Option, if◌then◌else◌}
 use Rattle.store_layout.specs.DiskLayout.{DiskLayout}
 use Rattle.block_model.specs.DatabaseState.{DatabaseState}
 use Rattle.block_model.specs.RequestEffect.{Answer}

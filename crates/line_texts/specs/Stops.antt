@@ -1,5 +1,5 @@
 -- What becomes of a line that isn't answered.
-use Rattle.std.specs.Prelude.{◌≡◌, ℕ, false, List, None, Result, Ok, Err}
+use Rattle.std.specs.Prelude.{◌≡◌, ℕ, false, List, None, Result, Ok}
 use Rattle.block_model.specs.declared.reply.Point.{Point}
 use Rattle.block_model.specs.declared.schema.Schema.{Schema}
 use Rattle.query_words.specs.declared.line.Line.{Line}
