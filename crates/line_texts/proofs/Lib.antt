@@ -4,3 +4,4 @@ pub mod Requests
 pub mod OneStep
 pub mod Answered
 pub mod Bare
+pub mod Entering

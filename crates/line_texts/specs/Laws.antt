@@ -1,5 +1,5 @@
 -- What follows of the texts of lines, for a reader and for whoever answers them.
-use Rattle.std.specs.Prelude.{◌≡◌, ◌≢◌, ◌⊎◌, ℕ, ◌<◌, false, List, [], ◌∷◌, ◌++◌, length, None, Some}
+use Rattle.std.specs.Prelude.{◌≡◌, ◌≢◌, ◌⊎◌, ℕ, ◌<◌, false, List, [], ◌∷◌, ◌++◌, length, None, Some, All}
 use Rattle.std.specs.FinMap as map
 use Rattle.block_model.specs.declared.reply.Point.{Point}
 use Rattle.block_model.specs.declared.reply.Point.TheVariants as points
@@ -73,7 +73,18 @@ abbrev pub StepsEnterInPlace : Type 0
 StepsEnterInPlace = (p q : Place) (n : ℕ) (hand : Hand) (point : Point) → StepsTo p n hand (Moved point) q
     → ((point ≡ points.Row) × ((c : Course) × MakesOne p.opening n hand.statement (course_of p hand) c × (q.journal ≡ c.journal)))
     ⊎ ((point ≡ points.Mark) × ((c : Course) × MakesMark p.opening n hand.statement (course_of p hand) c × (q.journal ≡ c.journal)))
-    ⊎ (q.journal ≡ p.journal)
+    ⊎ ((point ≢ points.Row) × (point ≢ points.Mark) × (q.journal ≡ p.journal))
+
+-- these requests are of this session
+abbrev pub AreOf : ℕ → List Entry → Type 0
+AreOf n entries = All (λ (e : Entry). e.session ≡ n) entries
+
+-- what a step enters stands behind all that stood there, and is of its session; what the other sessions have in hand stays
+pub record EntersItsOwn (p : Place) (n : ℕ) (q : Place) : Type 0 where
+  pub entries : List Entry
+  pub behind : q.journal ≡ p.journal ++ entries
+  pub own : AreOf n entries
+  pub others : (m : ℕ) → (m ≡ n) ⊎ (q.hands m ≡ p.hands m)
 
 -- where a statement with no request of its own yet makes all of them with nothing between, they and their answers are those of one step
 pub record IsAsOneStep (opening : DatabaseState) (n : ℕ) (statement : Statement) (journal : List Entry) (c : Course) : Type 0 where

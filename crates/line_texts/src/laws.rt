@@ -13,11 +13,11 @@ ghost use Rattle.block_model.specs.declared.value.Value.{Value};
 ghost use Rattle.block_model.specs.DatabaseState.{OpenTransaction};
 ghost use Rattle.block_model.specs.RequestEffect.{Answer, rows_found};
 ghost use Rattle.index_steps.specs.IndexTuples.{index_at};
-ghost use Rattle.line_texts.specs.Laws.{AnInsertIsAnswered, EntersItsPut, HasOneAnswer, IsNotTaken, IsToldAlone, IsToldItsHolder, PlainIsAsOneStep, PlainIsStartAndFinish, PlainIsStartAndSteps, RequestsAreAsOneStep, StepsEnterInPlace};
+ghost use Rattle.line_texts.specs.Laws.{AnInsertIsAnswered, EntersItsOwn, EntersItsPut, HasOneAnswer, IsNotTaken, IsToldAlone, IsToldItsHolder, PlainIsAsOneStep, PlainIsStartAndFinish, PlainIsStartAndSteps, RequestsAreAsOneStep, StepsEnterInPlace};
 ghost use Rattle.line_texts.specs.LineTexts.{Answers, Does, Submits, block_refusal, fault_text, refused_text, with_statement};
 ghost use Rattle.line_texts.specs.Names.{name_of, table_name};
 ghost use Rattle.line_texts.specs.Place.{Hand, Place, database_at, new_hand};
-ghost use Rattle.line_texts.specs.StatementSteps.{Ended, StepsTo, Waits};
+ghost use Rattle.line_texts.specs.StatementSteps.{Ended, Outcome, StepsTo, Waits};
 ghost use Rattle.query_words.specs.declared.line.Line.TheVariants as lines;
 ghost use Rattle.query_words.specs.declared.line.LineFault.{LineFault};
 ghost use Rattle.query_words.specs.declared.line.Order.{Order};
@@ -85,10 +85,11 @@ pub fn a_second_summarize_is_blocked()
 
 /// The requests of a statement that makes them one by one, with none of another session between, are those that it makes at once. An
 /// insert's put is entered with its row, each mark with its step, behind the look before the first one, and no other step that goes on enters
-/// any. A plain line of a transaction has the requests and the reply of its statement in one step on its session's copy. Does nothing.
+/// any. What a step enters is of its session, and the other sessions' hands stay. A plain line of a transaction has the requests and the reply of its statement in one step on its session's copy. Does nothing.
 pub fn requests_are_entered_in_place()
     ensures at_once { RequestsAreAsOneStep }
     ensures in_place { StepsEnterInPlace }
+    ensures own { (p q : Place) (n : ℕ) (hand : Hand) (outcome : Outcome) → StepsTo p n hand outcome q → EntersItsOwn p n q }
     ensures plain { PlainIsAsOneStep }
 {}
 
