@@ -5,3 +5,4 @@ pub mod OneStep
 pub mod Answered
 pub mod Bare
 pub mod Entering
+pub mod Counted

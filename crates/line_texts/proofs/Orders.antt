@@ -86,7 +86,7 @@ refusal_by_block p n statement refusal empty is = refusal_in_hand p n statement 
 pub in_hand_first : (p : Place) (n : ℕ) (name : List ℕ) (hand : Hand) (statement : Statement) → p.hands n ≡ Some hand → IsNotTaken p n name statement refusals.InHand
 in_hand_first p n name hand statement is = not_taken p n name statement refusals.InHand (refusal_in_hand p n statement (Some hand) is)
 
-taken_then : (p : Place) (n : ℕ) (statement : Statement) (q : Place) → Submits p n statement None q → q.hands n ≡ Some (new_hand statement)
+pub taken_then : (p : Place) (n : ℕ) (statement : Statement) (q : Place) → Submits p n statement None q → q.hands n ≡ Some (new_hand statement)
 taken_then p n statement _ (Taken none) = updated_here p.hands n _
 
 pub until_reply : (p q : Place) (n : ℕ) (name : List ℕ) (statement other : Statement) → Submits p n statement None q → IsNotTaken q n name other refusals.InHand

@@ -1,22 +1,21 @@
 -- A step that waits, and one that ends its statement.
-use Rattle.std.proofs.Common.{◌≡◌, ◌≢◌, inr, ℕ, ◌≤◌, length, List, Option, None, Some, refl, sym, ◌∙◌, subst}
+use Rattle.std.proofs.Common.{◌≡◌, ◌≢◌, inr, ℕ, List, None, Some, refl, sym, ◌∙◌, subst}
 use Rattle.std.proofs.lemmas.Option.{same_Some}
+use Rattle.block_model.specs.declared.reply.Point.{Point}
 use Rattle.block_model.specs.declared.reply.Refusal.{Refusal}
 use Rattle.block_model.specs.declared.reply.Refusal.TheVariants as refusals
 use Rattle.block_model.specs.declared.reply.Reply.{Reply}
-use Rattle.block_model.specs.declared.reply.What.TheVariants as whats
-use Rattle.index_steps.specs.IndexTuples.{index_at}
 use Rattle.query_words.specs.declared.line.Order.TheVariants as orders
-use Rattle.statements.specs.declared.limits.TheConstants.{MAX_ENTRIES}
-use Rattle.statements.specs.declared.statement.Statement.TheVariants as statements
+use Rattle.statements.specs.declared.statement.Statement.{Statement}
 use Rattle.table_coverage.specs.Table.{Task, Resting, TableState}
 use Rattle.table_coverage.specs.TablePoints.{WaitedFor, SummariseLock, PageLock, waits_for, IsHeldBy}
 use Rattle.table_coverage.specs.TableSteps.{IsBlocked, SummariseLockHeld}
 use Rattle.line_texts.specs.Place.{Hand, Place, new_hand}
-use Rattle.line_texts.specs.Names.{name_of, table_name}
-use Rattle.line_texts.specs.StatementSteps.{Ended, Waits, WaitsFor, StepsTo, Replies, MeetsConflict, IsRefused, AtOnce, NothingAsked, LacksMemoryAtOnce, NoNumber, IsWaiting}
-use Rattle.line_texts.specs.LineTexts.{Does, StepsOnce, refused_text}
-use Rattle.line_texts.specs.Laws.{IsToldItsHolder}
+use Rattle.line_texts.specs.Names.{name_of}
+use Rattle.line_texts.specs.StatementSteps.{Outcome, Moved, Ended, Waits, WaitsFor, Steps, StepsTo, what_of, Replies, MeetsConflict, IsRefused, AtOnce, NothingAsked, LacksMemoryAtOnce, NoNumber, IsWaiting}
+use Rattle.line_texts.specs.LineTexts.{Does, StepsOnce, Plain, Submits, LastStep}
+use Rattle.line_texts.specs.Laws.{IsHeldFrom, IsToldItsHolder, lock_text}
+use Rattle.line_texts.proofs.Orders.{taken_then}
 
 idle_behind : (p : Place) (n : ℕ) (hand : Hand) (reply : Reply) (q : Place) → StepsTo p n hand (Ended reply) q → q.hands n ≡ None
 idle_behind p n hand _ _ (Replies point c reply q turn is rests all replied leads) = leads.hand
@@ -56,23 +55,37 @@ holder_behind holds p n hand _ _ (IsWaiting table told on own blocked waits) =
       told = waits.2;
     }
 
--- a summarize at its first step
+-- maintenance at its first step
 
 blocked_at_rest : (w : TableState) (n m : ℕ) → w.summarise_lock ≡ Some m → m ≢ n → (task : Task) → task ≡ Resting
     → (blocked : IsBlocked w n task) × (waits_for w n task blocked ≡ SummariseLock)
 blocked_at_rest w n m held other task rests =
     subst (λ t. (blocked : IsBlocked w n t) × (waits_for w n t blocked ≡ SummariseLock)) (sym rests) (SummariseLockHeld m held other, refl)
 
-pub second_blocked : (p : Place) (n m table index : ℕ) (block : Option ℕ) (name : List ℕ) → p.hands n ≡ Some (new_hand (statements.Summarize index block))
-    → table ≡ (index_at p.layout index).table → (p.tables table).task n ≡ Resting → (p.tables table).summarise_lock ≡ Some m → m ≢ n
-    → length p.journal ≤ MAX_ENTRIES
-    → Does p n name orders.Step (refused_text name (refusals.Blocked (whats.Work (table_name p.layout table)) (name_of p m))) p
-second_blocked p n m table index block name in_hand on rests held other fits =
-    let waiting = blocked_at_rest (p.tables table) n m held other ((p.tables table).task n) rests in
-    let told = refusals.Blocked (whats.Work (table_name p.layout table)) (name_of p m) in
-    StepsOnce (Waits told) p (record {
-      hand = new_hand (statements.Summarize index block);
+waits_step : (p : Place) (n m table : ℕ) (statement : Statement) → p.hands n ≡ Some (new_hand statement) → IsHeldFrom p n m table statement
+    → Steps p n (Waits (refusals.Blocked (what_of p.layout table SummariseLock) (name_of p m))) p
+waits_step p n m table statement in_hand from =
+    let waiting = blocked_at_rest (p.tables table) n m from.held from.other ((p.tables table).task n) from.rests in
+    let told = refusals.Blocked (what_of p.layout table SummariseLock) (name_of p m) in
+    record {
+      hand = new_hand statement;
       in_hand = in_hand;
-      steps = IsWaiting table told on (inr refl) waiting.0 (subst (λ waited. WaitsFor p table waited told) (sym waiting.1) (m, held, refl));
-      fits = fits;
-    })
+      steps = IsWaiting table told from.on (inr from.takes) waiting.0 (subst (λ waited. WaitsFor p table waited told) (sym waiting.1) (m, from.held, refl));
+      fits = from.fits;
+    }
+
+pub lock_blocks_step : (p : Place) (n m table : ℕ) (name : List ℕ) (statement : Statement) → p.hands n ≡ Some (new_hand statement) → IsHeldFrom p n m table statement
+    → Does p n name orders.Step (lock_text p name table m) p
+lock_blocks_step p n m table name statement in_hand from = StepsOnce _ p (waits_step p n m table statement in_hand from)
+
+abbrev IsWait : Outcome → Type 0
+IsWait (Waits refusal) = Unit {0}
+IsWait outcome = ⊥
+
+no_move : (refusal : Refusal) (point : Point) → Waits refusal ≡ Moved point → ⊥
+no_move refusal point is = subst IsWait is tt
+
+pub lock_blocks_plain : (p q : Place) (n m table : ℕ) (name : List ℕ) (statement : Statement) → Submits p n statement None q → IsHeldFrom q n m table statement
+    → Does p n name (orders.Whole statement) (lock_text q name table m) q
+lock_blocks_plain p q n m table name statement taken from =
+    Plain statement _ q q taken (LastStep q q _ (no_move _) (waits_step q n m table statement (taken_then p n statement q taken) from))

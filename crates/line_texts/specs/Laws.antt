@@ -1,5 +1,5 @@
 -- What follows of the texts of lines, for a reader and for whoever answers them.
-use Rattle.std.specs.Prelude.{◌≡◌, ◌≢◌, ◌⊎◌, ℕ, ◌<◌, false, List, [], ◌∷◌, ◌++◌, length, None, Some, All}
+use Rattle.std.specs.Prelude.{◌≡◌, ◌≢◌, ◌⊎◌, ℕ, ◌<◌, ◌≤◌, IsTrue, false, List, [], ◌∷◌, ◌++◌, length, None, Some, All}
 use Rattle.std.specs.FinMap as map
 use Rattle.block_model.specs.declared.reply.Point.{Point}
 use Rattle.block_model.specs.declared.reply.Point.TheVariants as points
@@ -27,10 +27,13 @@ use Rattle.statements.specs.declared.statement.Statement.{Statement}
 use Rattle.statements.specs.declared.statement.Statement.TheVariants as statements
 use Rattle.statements.specs.HeapRoom.{full_table}
 use Rattle.statements.specs.StatementRequests.{tagged_entry, requests_of, refusal_at, reply_to_statement}
+use Rattle.table_coverage.specs.Accounts.{AccountsRun}
+use Rattle.table_coverage.specs.RangesMade.{AreMadeFinal}
 use Rattle.table_coverage.specs.Table.{Resting, TableState}
-use Rattle.table_coverage.specs.TablePoints.{WaitedFor, IsHeldBy}
-use Rattle.line_texts.specs.Place.{Hand, Place, database_at}
+use Rattle.table_coverage.specs.TablePoints.{WaitedFor, SummariseLock, IsHeldBy}
+use Rattle.line_texts.specs.Place.{Hand, Place, accounts_at, database_at}
 use Rattle.line_texts.specs.Names.{name_of}
+use Rattle.line_texts.specs.Beginnings.{IsIn, takes_lock}
 use Rattle.line_texts.specs.Requests.{Course, MakesOne, MakesAll, MakesMark}
 use Rattle.line_texts.specs.StatementSteps.{Moved, course_of, what_of, StepsTo}
 use Rattle.line_texts.specs.LineTexts.{Does, refused_text}
@@ -67,6 +70,19 @@ pub record IsToldItsHolder (p : Place) (n : ℕ) (refusal : Refusal) : Type 0 wh
   pub held : IsHeldBy (p.tables table) waited by
   pub other : by ≢ n
   pub told : refusal ≡ refusals.Blocked (what_of p.layout table waited) (name_of p by)
+
+-- the statement has made no step and needs the summarise lock of this table, which another session has
+pub record IsHeldFrom (p : Place) (n m table : ℕ) (statement : Statement) : Type 0 where
+  pub takes : IsTrue (takes_lock statement)
+  pub on : IsIn p n statement table
+  pub rests : (p.tables table).task n ≡ Resting
+  pub held : (p.tables table).summarise_lock ≡ Some m
+  pub other : m ≢ n
+  pub fits : length p.journal ≤ MAX_ENTRIES
+
+-- that the summarise lock is that session's
+abbrev pub lock_text : Place → List ℕ → (table holder : ℕ) → List ℕ
+lock_text p name table holder = refused_text name (refusals.Blocked (what_of p.layout table SummariseLock) (name_of p holder))
 
 -- an insert's put is entered with its row, a mark with its step, and a step of another name enters nothing
 abbrev pub StepsEnterInPlace : Type 0
@@ -153,3 +169,12 @@ abbrev pub AnInsertIsAnswered : Type 0
 AnInsertIsAnswered = (p : Place) (n : ℕ) (name : List ℕ) (x : OpenTransaction) (values : List Value) → p.hands n ≡ None → map.get (database_at p).sessions n ≡ Some x
     → x.failed ≡ false → IsBare (p.tables 0) → length p.journal < MAX_ENTRIES
     → (q : Place) × Does p n name (orders.Whole (statements.Insert 0 values)) (reply_text name (replies.Inserted (next_row x 0 values).id)) q
+
+-- in a run of the session's steps on the table from the first place to the second, it gave so many ranges a final tuple, each of them once
+pub record CountsFinals (n table : ℕ) (p q : Place) (count : ℕ) : Type 0 where
+  pub steps : List ℕ
+  pub run : AccountsRun steps (p.tables table) (q.tables table) (accounts_at p table) (accounts_at q table)
+  pub alone : All (λ m. m ≡ n) steps
+  pub made : List (ℕ × ℕ)
+  pub finals : AreMadeFinal n run made
+  pub count_is : length made ≡ count

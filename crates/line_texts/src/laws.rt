@@ -13,8 +13,8 @@ ghost use Rattle.block_model.specs.declared.value.Value.{Value};
 ghost use Rattle.block_model.specs.DatabaseState.{OpenTransaction};
 ghost use Rattle.block_model.specs.RequestEffect.{Answer, rows_found};
 ghost use Rattle.index_steps.specs.IndexTuples.{index_at};
-ghost use Rattle.line_texts.specs.Laws.{AnInsertIsAnswered, EntersItsOwn, EntersItsPut, HasOneAnswer, IsNotTaken, IsToldAlone, IsToldItsHolder, PlainIsAsOneStep, PlainIsStartAndFinish, PlainIsStartAndSteps, RequestsAreAsOneStep, StepsEnterInPlace};
-ghost use Rattle.line_texts.specs.LineTexts.{Answers, Does, Submits, block_refusal, fault_text, refused_text, with_statement};
+ghost use Rattle.line_texts.specs.Laws.{AnInsertIsAnswered, CountsFinals, EntersItsOwn, EntersItsPut, HasOneAnswer, IsHeldFrom, IsNotTaken, IsToldAlone, IsToldItsHolder, PlainIsAsOneStep, PlainIsStartAndFinish, PlainIsStartAndSteps, RequestsAreAsOneStep, StepsEnterInPlace, lock_text};
+ghost use Rattle.line_texts.specs.LineTexts.{Answers, Does, Finishes, Submits, block_refusal, fault_text, refused_text, with_statement};
 ghost use Rattle.line_texts.specs.Names.{name_of, table_name};
 ghost use Rattle.line_texts.specs.Place.{Hand, Place, database_at, new_hand};
 ghost use Rattle.line_texts.specs.StatementSteps.{Ended, Outcome, StepsTo, Waits};
@@ -29,8 +29,9 @@ ghost use Rattle.statements.specs.declared.statement.Statement.TheVariants as st
 ghost use Rattle.statements.specs.SessionNumbers.{is_past_sessions};
 ghost use Rattle.statements.specs.StatementRequests.{refusal_at};
 ghost use Rattle.table_coverage.specs.Table.{Resting};
+ghost use Rattle.table_coverage.specs.TableCovered.{IsTableKept};
 
-use table_coverage::blocked_statements_wait;
+use table_coverage::{accounts_are_exact, blocked_statements_wait};
 
 /// A plain line has the text of a start and a finish, or of a start and as many steps, and leads to the same place; and a finish of a
 /// statement that was taken is its plain line. Does nothing.
@@ -75,13 +76,24 @@ pub fn a_blocked_step_waits()
     blocked_statements_wait();
 }
 
-/// The first step of a summarize of a table that another session summarises is blocked, and tells that session. Does nothing.
-pub fn a_second_summarize_is_blocked()
-    ensures { (p : Place) (n m table index : ℕ) (block : Option ℕ) (name : List ℕ) → p.hands n ≡ Some (new_hand (statements.Summarize index block))
-        → table ≡ (index_at p.layout index).table → (p.tables table).task n ≡ Resting → (p.tables table).summarise_lock ≡ Some m → m ≢ n
-        → length p.journal ≤ MAX_ENTRIES
-        → Does p n name orders.Step (refused_text name (refusals.Blocked (whats.Work (table_name p.layout table)) (name_of p m))) p }
+/// The first step of a maintenance statement of a table where another session holds the summarise lock is blocked, and tells that session; and
+/// so is its plain line, behind which it is in hand. Does nothing.
+pub fn maintenance_waits_for_the_summarise_lock()
+    ensures step { (p : Place) (n m table : ℕ) (name : List ℕ) (statement : Statement) → p.hands n ≡ Some (new_hand statement)
+        → IsHeldFrom p n m table statement → Does p n name orders.Step (lock_text p name table m) p }
+    ensures plain { (p q : Place) (n m table : ℕ) (name : List ℕ) (statement : Statement) → Submits p n statement None q
+        → IsHeldFrom q n m table statement → Does p n name (orders.Whole statement) (lock_text q name table m) q }
 {}
+
+/// A summarize that begins at a place where its table is kept, and beside which no other session steps, answers the number of the ranges to
+/// which it gave a final tuple. Does nothing.
+pub fn a_summarize_counts_its_ranges()
+    ensures { (p q : Place) (n index count : ℕ) (block : Option ℕ) → p.hands n ≡ Some (new_hand (statements.Summarize index block))
+        → (p.tables (index_at p.layout index).table).task n ≡ Resting → IsTableKept (p.tables (index_at p.layout index).table)
+        → Finishes n p (Ended (replies.Summarized count)) q → CountsFinals n (index_at p.layout index).table p q count }
+{
+    accounts_are_exact();
+}
 
 /// The requests of a statement that makes them one by one, with none of another session between, are those that it makes at once. An
 /// insert's put is entered with its row, each mark with its step, behind the look before the first one, and no other step that goes on enters
