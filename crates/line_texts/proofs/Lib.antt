@@ -6,3 +6,4 @@ pub mod Answered
 pub mod Bare
 pub mod Entering
 pub mod Counted
+pub mod Working

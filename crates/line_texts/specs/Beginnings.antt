@@ -1,5 +1,5 @@
 -- In which table a statement makes its steps, and what its first one leads to.
-use Rattle.std.specs.Prelude.{◌≡◌, ◌≢◌, ◌⊎◌, ℕ, Bool, true, false, IsTrue, ◌↔◌, List, ◌∷◌, slice_get, None, Some}
+use Rattle.std.specs.Prelude.{◌≡◌, ◌≢◌, ◌⊎◌, ℕ, ◌<◌, Bool, true, false, IsTrue, ◌↔◌, List, ◌∷◌, length, slice_get, None, Some}
 use Rattle.std.specs.FinMap as map
 use Rattle.block_model.specs.declared.row.Query.{Query}
 use Rattle.block_model.specs.declared.row.Row.{Row}
@@ -20,15 +20,20 @@ use Rattle.line_texts.specs.Place.{Place, database_at}
 abbrev pub StandsAt : DiskLayout → (index at : ℕ) → Type 0
 StandsAt layout index at = slice_get (indexes_of layout (index_at layout index).table) at ≡ Some index
 
--- the session is at nothing in any table: what it has in hand has made no step
+-- the session is at nothing in any table of the layout: what it has in hand has made no step
 abbrev pub IsAtRest : Place → ℕ → Type 0
-IsAtRest p n = (table : ℕ) → (p.tables table).task n ≡ Resting
+IsAtRest p n = (table : ℕ) → table < length p.layout.schema.tables → (p.tables table).task n ≡ Resting
 
 -- the first summary that is asked for is this one
 abbrev pub IsAskedFirst : Place → Asked → Type 0
 IsAskedFirst p asked = slice_get p.queue 0 ≡ Some asked
 
--- The table is the one in which the statement makes its steps. Work goes to that of the first summary that is asked for, and stays there.
+-- work goes to the table of the first summary that is asked for, and stays there
+abbrev pub IsWorkIn : Place → ℕ → ℕ → Type 0
+IsWorkIn p n i = ((i < length p.layout.schema.tables) × ((p.tables i).task n ≢ Resting))
+    ⊎ (IsAtRest p n × ((asked : Asked) × IsAskedFirst p asked × (asked.table ≡ i)))
+
+-- the table is the one in which the statement makes its steps
 abbrev pub IsIn : Place → ℕ → Statement → ℕ → Type 0
 IsIn p n (statements.Insert table values) i = i ≡ table
 IsIn p n (statements.Select q) i = i ≡ q.table
@@ -37,7 +42,7 @@ IsIn p n (statements.Explain q) i = i ≡ q.table
 IsIn p n (statements.Summarize index block) i = i ≡ (index_at p.layout index).table
 IsIn p n (statements.Desummarize index block) i = i ≡ (index_at p.layout index).table
 IsIn p n (statements.Vacuum table) i = i ≡ table
-IsIn p n statements.Work i = ((p.tables i).task n ≢ Resting) ⊎ (IsAtRest p n × ((asked : Asked) × IsAskedFirst p asked × (asked.table ≡ i)))
+IsIn p n statements.Work i = IsWorkIn p n i
 IsIn p n statement i = ⊥
 
 -- a statement that needs the summarise lock of its table

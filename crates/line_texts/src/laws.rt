@@ -1,7 +1,8 @@
 //! Laws of the texts of lines.
 
-ghost use Rattle.std.specs.Prelude.{◌≡◌, ◌≢◌, ◌⊎◌, ◌≤◌, ℕ, true, List, length, Option, None, Some, Ok, Err};
+ghost use Rattle.std.specs.Prelude.{◌≡◌, ◌≢◌, ◌⊎◌, ◌↔◌, ◌≤◌, ◌<◌, ℕ, true, List, [], ◌∷◌, length, slice_get, Option, None, Some, Ok, Err};
 ghost use Rattle.std.specs.FinMap as map;
+ghost use Rattle.block_model.specs.declared.reply.Point.{Point};
 ghost use Rattle.block_model.specs.declared.reply.Refusal.{Refusal};
 ghost use Rattle.block_model.specs.declared.reply.Refusal.TheVariants as refusals;
 ghost use Rattle.block_model.specs.declared.reply.Reply.{Reply};
@@ -13,11 +14,12 @@ ghost use Rattle.block_model.specs.declared.value.Value.{Value};
 ghost use Rattle.block_model.specs.DatabaseState.{OpenTransaction};
 ghost use Rattle.block_model.specs.RequestEffect.{Answer, rows_found};
 ghost use Rattle.index_steps.specs.IndexTuples.{index_at};
+ghost use Rattle.line_texts.specs.Beginnings.{IsAtRest};
 ghost use Rattle.line_texts.specs.Laws.{AnInsertIsAnswered, CountsFinals, EntersItsOwn, EntersItsPut, HasOneAnswer, IsHeldFrom, IsNotTaken, IsToldAlone, IsToldItsHolder, PlainIsAsOneStep, PlainIsStartAndFinish, PlainIsStartAndSteps, RequestsAreAsOneStep, StepsEnterInPlace, lock_text};
 ghost use Rattle.line_texts.specs.LineTexts.{Answers, Does, Finishes, Submits, block_refusal, fault_text, refused_text, with_statement};
 ghost use Rattle.line_texts.specs.Names.{name_of, table_name};
 ghost use Rattle.line_texts.specs.Place.{Hand, Place, database_at, new_hand};
-ghost use Rattle.line_texts.specs.StatementSteps.{Ended, Outcome, StepsTo, Waits};
+ghost use Rattle.line_texts.specs.StatementSteps.{Ended, Moved, Outcome, StepsTo, Waits};
 ghost use Rattle.query_words.specs.declared.line.Line.TheVariants as lines;
 ghost use Rattle.query_words.specs.declared.line.LineFault.{LineFault};
 ghost use Rattle.query_words.specs.declared.line.Order.{Order};
@@ -28,6 +30,7 @@ ghost use Rattle.statements.specs.declared.statement.Statement.{Statement};
 ghost use Rattle.statements.specs.declared.statement.Statement.TheVariants as statements;
 ghost use Rattle.statements.specs.SessionNumbers.{is_past_sessions};
 ghost use Rattle.statements.specs.StatementRequests.{refusal_at};
+ghost use Rattle.table_coverage.specs.Accounts.{Asked};
 ghost use Rattle.table_coverage.specs.Table.{Resting};
 ghost use Rattle.table_coverage.specs.TableCovered.{IsTableKept};
 
@@ -83,6 +86,16 @@ pub fn maintenance_waits_for_the_summarise_lock()
         → IsHeldFrom p n m table statement → Does p n name orders.Step (lock_text p name table m) p }
     ensures plain { (p q : Place) (n m table : ℕ) (name : List ℕ) (statement : Statement) → Submits p n statement None q
         → IsHeldFrom q n m table statement → Does p n name (orders.Whole statement) (lock_text q name table m) q }
+{}
+
+/// Work that has made no step answers that there is none exactly where no summary is asked for; and where it goes on, it has taken the first one
+/// out of the queue. Does nothing.
+pub fn work_answers_the_queue()
+    ensures none { (p q : Place) (n : ℕ) (outcome : Outcome) → IsAtRest p n → StepsTo p n (new_hand statements.Work) outcome q
+        → (outcome ≡ Ended replies.Idle) ↔ (p.queue ≡ []) }
+    ensures first { (p q : Place) (n : ℕ) (point : Point) → IsAtRest p n
+        → ((asked : Asked) → slice_get p.queue 0 ≡ Some asked → asked.table < length p.layout.schema.tables)
+        → StepsTo p n (new_hand statements.Work) (Moved point) q → (asked : Asked) × (p.queue ≡ asked ∷ q.queue) }
 {}
 
 /// A summarize that begins at a place where its table is kept, and beside which no other session steps, answers the number of the ranges to
