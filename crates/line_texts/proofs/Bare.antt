@@ -34,14 +34,14 @@ use Rattle.line_texts.specs.Laws.{IsBare, AnInsertIsAnswered}
 use Rattle.line_texts.proofs.Orders.{updated_here}
 use Rattle.line_texts.proofs.OneStep.{refusal_is}
 
-updated_there : {A : Type 0} (f : ℕ → A) (n : ℕ) (x : A) (m : ℕ) → (m ≡ n) ⊎ (updated f n x m ≡ f m)
+pub updated_there : {A : Type 0} (f : ℕ → A) (n : ℕ) (x : A) (m : ℕ) → (m ≡ n) ⊎ (updated f n x m ≡ f m)
 updated_there f n x m = by (eqb_tells m n)
   where
     by : ((eqb m n ≡ true) × (m ≡ n)) ⊎ ((eqb m n ≡ false) × (m ≢ n)) → (m ≡ n) ⊎ (updated f n x m ≡ f m)
     by (inl (is, same)) = inl same
     by (inr (not, other)) = inr (ap (λ b. if b then x else f m) not)
 
-not_behind : (asked : Asked) (queue : List Asked) → queue ≡ asked ∷ queue → ⊥
+pub not_behind : (asked : Asked) (queue : List Asked) → queue ≡ asked ∷ queue → ⊥
 not_behind asked queue same = omega (arith, ap (λ (l : List Asked). length l) same)
 
 -- a row in the first slot
@@ -58,7 +58,7 @@ from_first : (c j : ℕ) → (0 < c) ⊎ ((0 ≡ c) × (0 ≤ j))
 from_first zero j = inr (refl, omega (arith))
 from_first (suc c) j = inl (omega (arith))
 
-task_turns : (n : ℕ) (w v : TableState) (old new : Task) → w.task n ≡ old → v.task ≡ updated w.task n new → TaskTurns n w v old new
+pub task_turns : (n : ℕ) (w v : TableState) (old new : Task) → w.task n ≡ old → v.task ≡ updated w.task n new → TaskTurns n w v old new
 task_turns n w v old new was is = record {
   was = was;
   now = ap (λ f. f n) is ∙ updated_here w.task n new;
@@ -141,11 +141,11 @@ is_taken : (p : Place) (n : ℕ) (x : OpenTransaction) (values : List Value) →
 is_taken p n x values idle got sound = refusal_is p n (statements.Insert 0 values) idle tt ∙ ap (λ o. submission_refusal o (statements.Insert 0 values)) got
     ∙ ap (λ b. if b then Some refusals.Doomed else None) sound
 
-abbrev IsEnd : Outcome → Type 0
+abbrev pub IsEnd : Outcome → Type 0
 IsEnd (Ended reply) = Unit
 IsEnd outcome = ⊥
 
-no_move : (reply : Reply) (point : Point) → Ended reply ≡ Moved point → ⊥
+pub no_move : (reply : Reply) (point : Point) → Ended reply ≡ Moved point → ⊥
 no_move reply point is = subst IsEnd is tt
 
 pub answered : AnInsertIsAnswered

@@ -7,3 +7,4 @@ pub mod Bare
 pub mod Entering
 pub mod Counted
 pub mod Working
+pub mod Empty

@@ -1,5 +1,5 @@
 -- What work answers, and which request it takes.
-use Rattle.std.proofs.Common.{◌≡◌, ◌↔◌, ◌<◌, inl, inr, ℕ, Bool, true, false, List, [], ◌∷◌, length, slice_get, Option, None, Some, refl, sym, ap, ◌∙◌, subst}
+use Rattle.std.proofs.Common.{◌≡◌, ◌↔◌, ◌<◌, inl, inr, ℕ, Bool, true, false, List, [], ◌∷◌, length, slice_get, Option, Some, refl, sym, ap, ◌∙◌, subst}
 use Rattle.std.proofs.lemmas.Bool.{false≢true}
 use Rattle.std.proofs.lemmas.Option.{none-some}
 use Rattle.block_model.specs.declared.reply.Point.{Point}
@@ -12,7 +12,7 @@ use Rattle.table_coverage.specs.Accounts.{Asked}
 use Rattle.table_coverage.specs.Table.{OneRange, Task, Resting, Considers}
 use Rattle.line_texts.specs.Place.{Place, new_hand}
 use Rattle.line_texts.specs.Beginnings.{IsAtRest, IsWorkIn, TakesUp}
-use Rattle.line_texts.specs.StatementSteps.{Outcome, Moved, Ended, Waits, work_reply, StepsTo, GoesOn, Replies, MeetsConflict, IsRefused, AtOnce, NothingAsked, LacksMemoryAtOnce, NoNumber, IsWaiting}
+use Rattle.line_texts.specs.StatementSteps.{Outcome, Moved, Ended, work_reply, StepsTo, GoesOn, Replies, MeetsConflict, IsRefused, AtOnce, NothingAsked, LacksMemoryAtOnce, NoNumber, IsWaiting}
 
 abbrev is_none : Outcome → Bool
 is_none (Ended replies.Idle) = true

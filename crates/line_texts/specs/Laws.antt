@@ -16,6 +16,7 @@ use Rattle.block_model.specs.declared.value.Value.{Value}
 use Rattle.block_model.specs.DatabaseState.{DatabaseState, OpenTransaction}
 use Rattle.block_model.specs.RequestEffect.{Answer, Inserted, next_row}
 use Rattle.block_model.specs.SerialRun.{serial_run, replies_to}
+use Rattle.index_steps.specs.IndexTuples.{index_at}
 use Rattle.query_words.specs.declared.line.Order.{Order}
 use Rattle.query_words.specs.declared.line.Order.TheVariants as orders
 use Rattle.reply_texts.specs.declared.dropped.Dropped.{Dropped}
@@ -33,7 +34,7 @@ use Rattle.table_coverage.specs.Table.{Resting, TableState}
 use Rattle.table_coverage.specs.TablePoints.{WaitedFor, SummariseLock, IsHeldBy}
 use Rattle.line_texts.specs.Place.{Hand, Place, accounts_at, database_at}
 use Rattle.line_texts.specs.Names.{name_of}
-use Rattle.line_texts.specs.Beginnings.{IsIn, takes_lock}
+use Rattle.line_texts.specs.Beginnings.{IsIn, StandsAt, takes_lock}
 use Rattle.line_texts.specs.Requests.{Course, MakesOne, MakesAll, MakesMark}
 use Rattle.line_texts.specs.StatementSteps.{Moved, course_of, what_of, StepsTo}
 use Rattle.line_texts.specs.LineTexts.{Does, refused_text}
@@ -169,6 +170,14 @@ abbrev pub AnInsertIsAnswered : Type 0
 AnInsertIsAnswered = (p : Place) (n : ℕ) (name : List ℕ) (x : OpenTransaction) (values : List Value) → p.hands n ≡ None → map.get (database_at p).sessions n ≡ Some x
     → x.failed ≡ false → IsBare (p.tables 0) → length p.journal < MAX_ENTRIES
     → (q : Place) × Does p n name (orders.Whole (statements.Insert 0 values)) (reply_text name (replies.Inserted (next_row x 0 values).id)) q
+
+-- a summarize of an index of a table without blocks, where nobody has its summarise lock, is answered that it made nothing
+abbrev pub AnEmptyTableIsSummarized : Type 0
+AnEmptyTableIsSummarized = (p : Place) (n index at : ℕ) (name : List ℕ) → p.hands n ≡ None → StandsAt p.layout index at
+    → at < (p.tables (index_at p.layout index).table).indexes → (p.tables (index_at p.layout index).table).blocks ≡ 0
+    → (p.tables (index_at p.layout index).table).summarise_lock ≡ None → (p.tables (index_at p.layout index).table).task n ≡ Resting
+    → length p.journal ≤ MAX_ENTRIES
+    → (q : Place) × Does p n name (orders.Whole (statements.Summarize index None)) (reply_text name (replies.Summarized 0)) q
 
 -- in a run of the session's steps on the table from the first place to the second, it gave so many ranges a final tuple, each of them once
 pub record CountsFinals (n table : ℕ) (p q : Place) (count : ℕ) : Type 0 where

@@ -15,7 +15,7 @@ ghost use Rattle.block_model.specs.DatabaseState.{OpenTransaction};
 ghost use Rattle.block_model.specs.RequestEffect.{Answer, rows_found};
 ghost use Rattle.index_steps.specs.IndexTuples.{index_at};
 ghost use Rattle.line_texts.specs.Beginnings.{IsAtRest};
-ghost use Rattle.line_texts.specs.Laws.{AnInsertIsAnswered, CountsFinals, EntersItsOwn, EntersItsPut, HasOneAnswer, IsHeldFrom, IsNotTaken, IsToldAlone, IsToldItsHolder, PlainIsAsOneStep, PlainIsStartAndFinish, PlainIsStartAndSteps, RequestsAreAsOneStep, StepsEnterInPlace, lock_text};
+ghost use Rattle.line_texts.specs.Laws.{AnEmptyTableIsSummarized, AnInsertIsAnswered, CountsFinals, EntersItsOwn, EntersItsPut, HasOneAnswer, IsHeldFrom, IsNotTaken, IsToldAlone, IsToldItsHolder, PlainIsAsOneStep, PlainIsStartAndFinish, PlainIsStartAndSteps, RequestsAreAsOneStep, StepsEnterInPlace, lock_text};
 ghost use Rattle.line_texts.specs.LineTexts.{Answers, Does, Finishes, Submits, block_refusal, fault_text, refused_text, with_statement};
 ghost use Rattle.line_texts.specs.Names.{name_of, table_name};
 ghost use Rattle.line_texts.specs.Place.{Hand, Place, database_at, new_hand};
@@ -128,7 +128,9 @@ pub fn answers_are_of_the_copy()
         → StepsTo p n (new_hand (statements.Select query)) (Ended (replies.Found rows)) q → rows ≡ rows_found x query }
 {}
 
-/// The definition isn't empty: an insert into a table without indexes is answered its row. Does nothing.
-pub fn an_insert_is_answered()
-    ensures { AnInsertIsAnswered }
+/// The definition isn't empty: an insert into a table without indexes is answered its row, and a summarize of a table without blocks is answered
+/// that it made nothing. Does nothing.
+pub fn lines_are_answered()
+    ensures insert { AnInsertIsAnswered }
+    ensures summarize { AnEmptyTableIsSummarized }
 {}
