@@ -21,22 +21,24 @@ pub data MovedTo (n : ℕ) : Place → Place → Type 0 where
   Still : (p : Place) → MovedTo n p p
   OnTo : (p q r : Place) (point : Point) → Steps p n (Moved point) q → MovedTo n q r → MovedTo n p r
 
--- before the steps of an order: a plain statement is taken
-pub data BeforeSteps (p : Place) (n : ℕ) : Order → Place → Type 0 where
-  OfStep : BeforeSteps p n orders.Step p
-  OfFinish : BeforeSteps p n orders.Finish p
-  OfPlain : (statement : Statement) (q : Place) → Submits p n statement None q → BeforeSteps p n (orders.Whole statement) q
+-- The steps that an order makes before it stops: those before the one at which it stops, which go on. A step has none, a finish some, and a plain
+-- statement is taken before.
+pub data ComesTo (p : Place) (n : ℕ) : Order → Place → Type 0 where
+  OfStep : ComesTo p n orders.Step p
+  OfFinish : (q : Place) → MovedTo n p q → ComesTo p n orders.Finish q
+  OfPlain : (statement : Statement) (q r : Place) → Submits p n statement None q → MovedTo n q r → ComesTo p n (orders.Whole statement) r
 
 -- what a line says is an order of session n, which is made by it
-pub data IsBegun (p : Place) : Result Line LineFault → (n : ℕ) → Place → Type 0 where
-  Begun : (name : List ℕ) (order : Order) (q : Place) → is_past_sessions p.names name ≡ false → BeforeSteps (named p name) (session_number p.names name) order q
-      → IsBegun p (Ok (lines.Say name order)) (session_number p.names name) q
+pub data LineComesTo (p : Place) : Result Line LineFault → (n : ℕ) → Place → Type 0 where
+  Begun : (name : List ℕ) (order : Order) (q : Place) → is_past_sessions p.names name ≡ false → ComesTo (named p name) (session_number p.names name) order q
+      → LineComesTo p (Ok (lines.Say name order)) (session_number p.names name) q
 
--- For want of memory nothing is done, or the session is made, or some steps are made, or all that the line says, and its text is lost; or the journal lacks
--- room for the next step.
+-- For want of memory nothing is done, or the session is made, or some steps are made, or all that the line says, and its text is lost; or the
+-- journal lacks room for the next step.
 pub data IsLineStopped (schema : Schema) (p : Place) (line : List ℕ) : AnswerFault → Place → Type 0 where
   Undone : IsLineStopped schema p line Memory p
-  Named : (name : List ℕ) (order : Order) → line_of schema line ≡ Ok (lines.Say name order) → is_past_sessions p.names name ≡ false → IsLineStopped schema p line Memory (named p name)
-  Amidst : (n : ℕ) (q r : Place) → IsBegun p (line_of schema line) n q → MovedTo n q r → IsLineStopped schema p line Memory r
+  Named : (name : List ℕ) (order : Order) → line_of schema line ≡ Ok (lines.Say name order) → is_past_sessions p.names name ≡ false
+      → IsLineStopped schema p line Memory (named p name)
+  Amidst : (n : ℕ) (q : Place) → LineComesTo p (line_of schema line) n q → IsLineStopped schema p line Memory q
   Unprinted : (text : List ℕ) (q : Place) → IsLineText schema p line text q → IsLineStopped schema p line Memory q
-  PastRoom : (n : ℕ) (q r : Place) → IsBegun p (line_of schema line) n q → MovedTo n q r → LacksRoom r n → IsLineStopped schema p line Full r
+  PastRoom : (n : ℕ) (q : Place) → LineComesTo p (line_of schema line) n q → LacksRoom q n → IsLineStopped schema p line Full q
