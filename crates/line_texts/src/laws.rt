@@ -110,7 +110,8 @@ pub fn a_summarize_counts_its_ranges()
 
 /// The requests of a statement that makes them one by one, with none of another session between, are those that it makes at once. An
 /// insert's put is entered with its row, each mark with its step, behind the look before the first one, and no other step that goes on enters
-/// any. What a step enters is of its session, and the other sessions' hands stay. A plain line of a transaction has the requests and the reply of its statement in one step on its session's copy. Does nothing.
+/// any. What a step enters is of its session, and what the other sessions have in hand stays. A plain line of a transaction has the requests
+/// and the reply of its statement in one step on its session's copy, or memory, room or a lock is wanting. Does nothing.
 pub fn requests_are_entered_in_place()
     ensures at_once { RequestsAreAsOneStep }
     ensures in_place { StepsEnterInPlace }
