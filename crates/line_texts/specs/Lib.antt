@@ -1,0 +1,11 @@
+pub mod Place
+pub mod Requests
+pub mod Names
+pub mod Beginnings
+pub mod DeadRows
+pub mod Turns
+pub mod StatementSteps
+pub mod LineTexts
+pub mod Stops
+pub mod Starts
+pub mod Laws
