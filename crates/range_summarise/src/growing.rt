@@ -57,7 +57,7 @@ fn is_past_map<D: Disk + Drop>(pages: &PageStore<D>, at: Within) -> bool
     pages.map_pages(relation) < map_page_of(at.range)
 }
 
-/// The next step of the map's growth. Behind a growth the range's entry is looked at anew.
+/// The next step of the map's growth. Behind its last one the map's length is judged anew.
 pub(crate) fn grow<D: Disk + Drop>(
     pages: &mut PageStore<D>,
     locks: &mut Locks,
