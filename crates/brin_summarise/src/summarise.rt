@@ -8,6 +8,7 @@ ghost use Rattle.page_locks.specs.LockHolders.{LockState, count_of as locks_held
 ghost use Rattle.heap_rows.specs.HeapBlocks.{OfBlocks};
 ghost use Rattle.index_contents.specs.IndexContents.{relation_of};
 ghost use Rattle.index_contents.specs.IndexChanges.{LeavesOthers};
+ghost use Rattle.index_order.specs.KeepsOrder.{KeepsOrder};
 ghost use Rattle.index_steps.specs.StepAnswers.{BlockedWell, IsOfStore, NeverBlocked};
 ghost use Rattle.index_steps.specs.SwapAnswers.{LeavesLocks, MachineOutcome, SaysFullIn, StaysWhereFull, TakesAtMost};
 ghost use Rattle.range_summarise.specs.SummariseHands.{table_of};
@@ -109,6 +110,7 @@ impl Summarise {
         ensures full { IfErr result (SaysFullIn pages.old.layout self.old.index (λ number. Tells D.told pages.old → FullAt pages.old.layout pages.old.pages locks.old actor self.old number)) }
         ensures at_full { IfErr result (StaysWhereFull locks.old locks.new) }
         ensures others { LeavesOthers D.told self.old.index pages.old pages.new }
+        ensures order { KeepsOrder D.told self.old.index pages.old pages.new }
         ensures locks { LeavesLocks (holder locks.old) (holder locks.new) (relation_of pages.old.layout self.old.index) actor }
         ensures counts { TakesAtMost (taken_by self.old) locks.old locks.new actor }
         ensures given { OnOk result (GivesBy self.old → locks_of locks.new actor ≡ 0) }
@@ -218,6 +220,7 @@ fn go_on<D: Disk + Drop>(
     ensures full { IfErr result (SaysFullIn pages.old.layout index (λ number. Tells D.told pages.old → FullAt pages.old.layout pages.old.pages locks.old actor (state_of index course.old work.old) number)) }
     ensures at_full { IfErr result (StaysWhereFull locks.old locks.new) }
     ensures others { LeavesOthers D.told index pages.old pages.new }
+    ensures order { KeepsOrder D.told index pages.old pages.new }
     ensures locks { LeavesLocks (holder locks.old) (holder locks.new) (relation_of pages.old.layout index) actor }
     ensures counts { TakesAtMost (taken_by (state_of index course.old work.old)) locks.old locks.new actor }
     ensures given { OnOk result (GivesBy (state_of index course.old work.old) → locks_of locks.new actor ≡ 0) }

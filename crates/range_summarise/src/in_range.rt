@@ -13,6 +13,7 @@ ghost use Rattle.range_tuple.specs.Tuples.{parts_of, tuple_room};
 ghost use Rattle.coverage.specs.IndexView.{IsPastMap};
 ghost use Rattle.index_contents.specs.IndexContents.{contents, relation_of};
 ghost use Rattle.index_contents.specs.IndexChanges.{LeavesOthers};
+ghost use Rattle.index_order.specs.KeepsOrder.{KeepsOrder};
 ghost use Rattle.index_steps.specs.IndexTuples.{IndexShape, classes_of, shape_of};
 ghost use Rattle.index_steps.specs.MoveEnds.{IsMoving};
 ghost use Rattle.index_steps.specs.PlaceAnswers.{IsPlacing};
@@ -129,6 +130,7 @@ pub(crate) fn place<D: Disk + Drop>(
     ensures full { IfErr result (SaysFullIn pages.old.layout at.index (λ number. Tells D.told pages.old → (hand : SummariseHand) → hand.growth.stage ≡ growth.Judge → StepFull (shape_of pages.old.layout at.index) at.actor at.range (summarise_at pages.old.layout pages.old.pages locks.old at.index (record hand { stage = Stage.Place })) number)) }
     ensures at_full { IfErr result (StaysWhereFull locks.old locks.new) }
     ensures others { LeavesOthers D.told at.index pages.old pages.new }
+    ensures order { KeepsOrder D.told at.index pages.old pages.new }
     ensures locks { LeavesLocks (holder locks.old) (holder locks.new) (relation_of pages.old.layout at.index) at.actor }
     ensures counts { TakesAtMost 2 locks.old locks.new at.actor }
     ensures own { IfOk result (λ o. locks_of locks.old at.actor ≤ held_at growth.Judge Stage.Place → locks_of locks.new at.actor ≤ held_at growth.Judge o.0) }
@@ -160,6 +162,7 @@ pub(crate) fn name<D: Disk + Drop>(
     ensures exact { IfOk result (λ o. (shape : IndexShape) (heap : Heap) (hand : SummariseHand) → IsExactAt shape heap at.range (record hand { stage = Stage.Name to }) (Stage.Name to) → IsExactAt shape heap at.range (record hand { stage = o.0 }) o.0) }
     ensures stands { IfOk result (λ o. (growth : GrowthStage) → StandsAfter growth (Stage.Name to) o.0 o.1) }
     ensures others { LeavesOthers D.told at.index pages.old pages.new }
+    ensures order { KeepsOrder D.told at.index pages.old pages.new }
     ensures locks { LeavesLocks (holder locks.old) (holder locks.new) (relation_of pages.old.layout at.index) at.actor }
     ensures counts { TakesAtMost 0 locks.old locks.new at.actor }
     ensures given { OnOk result (locks_of locks.new at.actor ≡ 0) }
@@ -335,6 +338,7 @@ pub(crate) fn swap_in<D: Disk + Drop>(
     ensures full { IfErr result (SaysFullIn pages.old.layout at.index (λ number. Tells D.told pages.old → (hand : SummariseHand) → StepFull (shape_of pages.old.layout at.index) at.actor at.range (summarise_at pages.old.layout pages.old.pages locks.old at.index (record hand { stage = Stage.Swap spot; copied = copied.now; united = united.now })) number)) }
     ensures at_full { IfErr result (StaysWhereFull locks.old locks.new) }
     ensures others { LeavesOthers D.told at.index pages.old pages.new }
+    ensures order { KeepsOrder D.told at.index pages.old pages.new }
     ensures locks { LeavesLocks (holder locks.old) (holder locks.new) (relation_of pages.old.layout at.index) at.actor }
     ensures counts { TakesAtMost 3 locks.old locks.new at.actor }
     ensures own { IfOk result (λ o. (growth : GrowthStage) → locks_of locks.old at.actor ≤ held_at growth (Stage.Swap spot) → locks_of locks.new at.actor ≤ held_at growth o.0) }
@@ -367,6 +371,7 @@ pub(crate) fn set_in<D: Disk + Drop>(
     ensures stands { IfOk result (λ o. (growth : GrowthStage) → StandsAfter growth (Stage.Set from to) o.0 o.1) }
     ensures own { IfOk result (λ o. (growth : GrowthStage) → held_at growth (Stage.Set from to) ≤ held_at growth o.0) }
     ensures others { LeavesOthers D.told at.index pages.old pages.new }
+    ensures order { KeepsOrder D.told at.index pages.old pages.new }
     ensures kept { OnErr result (Keeps D.told pages.old pages.new) }
     ensures survives { Survives D.told (λ passed. passed ≡ pages.old.pages) pages.old pages.new }
     ensures never_blocked { IfOk result (λ o. NeverBlocked o.1) }
@@ -392,6 +397,7 @@ pub(crate) fn drop_in<D: Disk + Drop>(
     ensures exact { IfOk result (λ o. (shape : IndexShape) (heap : Heap) (hand : SummariseHand) → IsExactAt shape heap at.range (record hand { stage = Stage.Drop from }) (Stage.Drop from) → IsExactAt shape heap at.range (record hand { stage = o.0 }) o.0) }
     ensures stands { IfOk result (λ o. (growth : GrowthStage) → StandsAfter growth (Stage.Drop from) o.0 o.1) }
     ensures others { LeavesOthers D.told at.index pages.old pages.new }
+    ensures order { KeepsOrder D.told at.index pages.old pages.new }
     ensures locks { LeavesLocks (holder locks.old) (holder locks.new) (relation_of pages.old.layout at.index) at.actor }
     ensures counts { TakesAtMost 0 locks.old locks.new at.actor }
     ensures given { OnOk result (locks_of locks.new at.actor ≡ 0) }

@@ -8,6 +8,7 @@ ghost use Rattle.page_locks.specs.LockHolders.{count_of, holder};
 ghost use Rattle.heap_rows.specs.HeapBlocks.{OfBlocks};
 ghost use Rattle.index_contents.specs.IndexContents.{contents, relation_of};
 ghost use Rattle.index_contents.specs.IndexChanges.{LeavesOthers};
+ghost use Rattle.index_order.specs.KeepsOrder.{KeepsOrder};
 ghost use Rattle.index_steps.specs.IndexTuples.{shape_of};
 ghost use Rattle.index_steps.specs.StepAnswers.{BlockedWell};
 ghost use Rattle.index_steps.specs.SwapAnswers.{LeavesLocks, MachineOutcome, SaysFullIn, StaysWhereFull, TakesAtMost};
@@ -124,6 +125,7 @@ impl RangeSummarise {
         ensures full { IfErr result (SaysFullIn pages.old.layout at.index (λ number. Tells D.told pages.old → StepFull (shape_of pages.old.layout at.index) at.actor at.range (summarise_at pages.old.layout pages.old.pages locks.old at.index self.old) number)) }
         ensures at_full { IfErr result (StaysWhereFull locks.old locks.new) }
         ensures others { LeavesOthers D.told at.index pages.old pages.new }
+        ensures order { KeepsOrder D.told at.index pages.old pages.new }
         ensures locks { LeavesLocks (holder locks.old) (holder locks.new) (relation_of pages.old.layout at.index) at.actor }
         ensures counts { TakesAtMost (taken_at self.old.growth.stage self.old.stage) locks.old locks.new at.actor }
         ensures given { OnOk result (GivesAt self.old.growth.stage self.old.stage → locks_of locks.new at.actor ≡ 0) }

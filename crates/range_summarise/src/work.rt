@@ -9,6 +9,7 @@ ghost use Rattle.heap_rows.specs.HeapBlocks.{OfBlocks};
 ghost use Rattle.range_tuple.specs.Tuples.{tuple_room};
 ghost use Rattle.index_contents.specs.IndexContents.{contents, relation_of};
 ghost use Rattle.index_contents.specs.IndexChanges.{LeavesOthers};
+ghost use Rattle.index_order.specs.KeepsOrder.{KeepsOrder};
 ghost use Rattle.index_steps.specs.IndexTuples.{shape_of};
 ghost use Rattle.index_steps.specs.StepAnswers.{BlockedWell, IsOfStore, NeverBlocked};
 ghost use Rattle.index_steps.specs.SwapAnswers.{LeavesLocks, MachineOutcome, SaysFullIn, StaysWhereFull, TakesAtMost};
@@ -78,6 +79,7 @@ pub(crate) fn step_in<D: Disk + Drop>(
     ensures full { IfErr result (SaysFullIn pages.old.layout at.index (λ number. Tells D.told pages.old → StepFull (shape_of pages.old.layout at.index) at.actor at.range (summarise_at pages.old.layout pages.old.pages locks.old at.index (hand_of stage work.old)) number)) }
     ensures at_full { IfErr result (StaysWhereFull locks.old locks.new) }
     ensures others { LeavesOthers D.told at.index pages.old pages.new }
+    ensures order { KeepsOrder D.told at.index pages.old pages.new }
     ensures locks { LeavesLocks (holder locks.old) (holder locks.new) (relation_of pages.old.layout at.index) at.actor }
     ensures counts { TakesAtMost (taken_at work.old.growth.stage stage) locks.old locks.new at.actor }
     ensures given { OnOk result (GivesAt work.old.growth.stage stage → locks_of locks.new at.actor ≡ 0) }
@@ -205,6 +207,7 @@ fn change_in<D: Disk + Drop>(
     ensures full { IfErr result (SaysFullIn pages.old.layout at.index (λ number. Tells D.told pages.old → StepFull (shape_of pages.old.layout at.index) at.actor at.range (summarise_at pages.old.layout pages.old.pages locks.old at.index (hand_of stage work.old)) number)) }
     ensures at_full { IfErr result (StaysWhereFull locks.old locks.new) }
     ensures others { LeavesOthers D.told at.index pages.old pages.new }
+    ensures order { KeepsOrder D.told at.index pages.old pages.new }
     ensures locks { LeavesLocks (holder locks.old) (holder locks.new) (relation_of pages.old.layout at.index) at.actor }
     ensures counts { TakesAtMost (taken_at work.old.growth.stage stage) locks.old locks.new at.actor }
     ensures given { OnOk result (GivesAt work.old.growth.stage stage → locks_of locks.new at.actor ≡ 0) }
@@ -272,6 +275,7 @@ fn place_in<D: Disk + Drop>(
     ensures full { IfErr result (SaysFullIn pages.old.layout at.index (λ number. Tells D.told pages.old → StepFull (shape_of pages.old.layout at.index) at.actor at.range (summarise_at pages.old.layout pages.old.pages locks.old at.index (hand_of Stage.Place work.old)) number)) }
     ensures at_full { IfErr result (StaysWhereFull locks.old locks.new) }
     ensures others { LeavesOthers D.told at.index pages.old pages.new }
+    ensures order { KeepsOrder D.told at.index pages.old pages.new }
     ensures locks { LeavesLocks (holder locks.old) (holder locks.new) (relation_of pages.old.layout at.index) at.actor }
     ensures counts { TakesAtMost (taken_at work.old.growth.stage Stage.Place) locks.old locks.new at.actor }
     ensures given { OnOk result (GivesAt work.old.growth.stage Stage.Place → locks_of locks.new at.actor ≡ 0) }

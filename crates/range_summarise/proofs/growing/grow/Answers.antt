@@ -3,6 +3,7 @@ use Rattle.page_locks.specs.declared.did.Did.{Did}
 use Rattle.page_locks.specs.LockHolders.{holder}
 use Rattle.page_store.specs.Keeps.{Tells}
 use Rattle.index_contents.specs.IndexChanges.{LeavesOthers}
+use Rattle.index_order.specs.KeepsOrder.{KeepsOrder}
 use Rattle.index_contents.specs.IndexContents.{contents, relation_of}
 use Rattle.index_steps.specs.IndexTuples.{shape_of}
 use Rattle.index_steps.specs.StepAnswers.{BlockedWell}
@@ -80,3 +81,9 @@ returns-in-Err-clause-full g c =
 
 pub step-requires-clause-ready : goal.step-requires-clause-ready
 step-requires-clause-ready g c = subst (λ (i : ℕ). Tells g.D.Disk.told c.args.pages.now → IsReadyToGrow (shape_of c.args.pages.now.layout i) (contents c.args.pages.now.layout c.args.pages.now.pages i) c.args.growth.now.stage) (sym c.requires.of) c.requires.ready
+
+pub returns-in-Ok-clause-order : goal.returns-in-Ok-clause-order
+returns-in-Ok-clause-order g c = subst (λ (i : ℕ). KeepsOrder g.D.Disk.told i c.args.pages.now c.step.new.pages) c.requires.of c.step.ensures.order
+
+pub returns-in-Err-clause-order : goal.returns-in-Err-clause-order
+returns-in-Err-clause-order g c = subst (λ (i : ℕ). KeepsOrder g.D.Disk.told i c.args.pages.now c.step.new.pages) c.requires.of c.step.ensures.order

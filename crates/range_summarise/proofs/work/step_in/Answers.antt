@@ -1,6 +1,7 @@
 use Rattle.std.proofs.Common.{refl, sym, ◌∙◌, arith}
 use Rattle.page_locks.specs.LockHolders.{holder}
 use Rattle.index_contents.specs.IndexContents.{relation_of}
+use Rattle.index_order.specs.OrderLaws.{order_kept}
 use Rattle.range_summarise.specs.StageLocks.{held_at, taken_at}
 use Rattle.range_summarise.specs.Works.{hand_of}
 use Rattle.range_summarise.proofs.Faults.{none_full}
@@ -33,3 +34,9 @@ returns-in-Err-clause-counts g c = takes_none (taken_at c.args.work.now.growth.s
 
 pub returns-in-Err-clause-at_full : goal.returns-in-Err-clause-at_full
 returns-in-Err-clause-at_full g c = none_full c.args.locks.now c.args.locks.now c.in-Err.fault c.in-Err.ensures.of_store
+
+pub returns-in-Ok-clause-order : goal.returns-in-Ok-clause-order
+returns-in-Ok-clause-order g c = order_kept g.D.Disk.told c.args.at.index c.args.pages.now c.read_in.new.pages c.read_in.ensures.kept
+
+pub returns-in-Err-clause-order : goal.returns-in-Err-clause-order
+returns-in-Err-clause-order g c = order_kept g.D.Disk.told c.args.at.index c.args.pages.now c.read_in.new.pages c.read_in.ensures.kept
