@@ -11,7 +11,7 @@ use Rattle.table_coverage.specs.TableCovered.{IsMaintenance, IsTableKept}
 use Rattle.table_coverage.specs.TablePoints.{WaitedFor}
 use Rattle.table_coverage.specs.TableSteps.{TableDone, TableNext, TableRun, TableStep}
 use Rattle.brin_summarise.specs.SummariseCalls.{LastCall, OneMoreCall, SummariseCalls}
-use Rattle.brin_summarise.specs.TableSteps.{SummariseGoesTo, SummariseWaitsFor, lock_turned}
+use Rattle.brin_summarise.specs.TableSteps.{SummariseGoesTo, SummariseWaitsFor, lock_turned, unnamed_turned}
 use Rattle.brin_summarise.proofs.Settling.{pick_same}
 use Rattle.brin_summarise.proofs.Tables.{locked_is}
 
@@ -27,28 +27,32 @@ module _ (keep : RunsKeep) (s : ℕ) where
   module _ (old new : ShownTable) (held held_then : Option ℕ) (before after : Task) (point : Point) (account : Account → Account) (goes : SummariseGoesTo s old new held held_then before after point account)
       (u : Unseen) (at : u.task s ≡ before) (lock : u.summarise_lock ≡ held) (kept : IsTableKept (table_state old u)) where
     abbrev turned : Unseen
-    turned = lock_turned held_then (task_turned s after u)
+    turned = lock_turned held_then (task_turned s after (unnamed_turned (goes u at lock kept).0 u))
 
     step : TableStep s (table_state old u) (table_state new turned)
-    step = record { between = table_state new (lock_turned (Some s) (task_turned s (goes u at lock kept).0 u)); does = (goes u at lock kept).1.does; settles = (goes u at lock kept).2 }
+    step = record {
+      between = table_state new (lock_turned (Some s) (task_turned s (goes u at lock kept).2 (unnamed_turned (goes u at lock kept).0 u)));
+      does = (goes u at lock kept).3.does;
+      settles = (goes u at lock kept).4;
+    }
 
     pub kept_then : IsTableKept (table_state new turned)
     kept_then = keep (s ∷ []) (table_state old u) (table_state new turned) kept (TableNext s [] (table_state old u) (table_state new turned) (table_state new turned) step (TableDone (table_state new turned)))
 
     is_last : StepsAlone s 1 (table_state old u)
     unfolding step
-    is_last = LastAlone (table_state old u) (table_state new turned) step point (goes u at lock kept).1.point_is
+    is_last = LastAlone (table_state old u) (table_state new turned) step point (goes u at lock kept).3.point_is
 
     is_one_more : (calls : ℕ) → IsMaintenance after → StepsAlone s calls (table_state new turned) → StepsAlone s (suc calls) (table_state old u)
     unfolding step
-    is_one_more calls maintains rest = OneMoreAlone calls (table_state old u) (table_state new turned) step point (goes u at lock kept).1.point_is
+    is_one_more calls maintains rest = OneMoreAlone calls (table_state old u) (table_state new turned) step point (goes u at lock kept).3.point_is
         (λ rests. subst (λ (t : Task). IsMaintenance t) (sym (pick_same s after (u.task s)) ∙ rests) maintains) rest
 
   steps_alone : (calls : ℕ) (shown : ShownTable) (task : Task) → SummariseCalls s calls shown task → (u : Unseen) → u.task s ≡ task → u.summarise_lock ≡ Some s → IsTableKept (table_state shown u) → StepsAlone s calls (table_state shown u)
   steps_alone _ _ _ (LastCall old new held_then before after point account goes) u at lock kept = is_last old new (Some s) held_then before after point account goes u at lock kept
   steps_alone _ _ _ (OneMoreCall calls place range old new before job phase point account goes rest) u at lock kept =
       is_one_more old new (Some s) (Some s) before (Maintains job place range phase) point account goes u at lock kept calls tt
-      (steps_alone calls new (Maintains job place range phase) rest (lock_turned (Some s) (task_turned s (Maintains job place range phase) u)) (pick_same s (Maintains job place range phase) (u.task s)) refl
+      (steps_alone calls new (Maintains job place range phase) rest (lock_turned (Some s) (task_turned s (Maintains job place range phase) (unnamed_turned (goes u at lock kept).0 u))) (pick_same s (Maintains job place range phase) (u.task s)) refl
       (kept_then old new (Some s) (Some s) before (Maintains job place range phase) point account goes u at lock kept))
 
   -- so they are as few as the table's steps

@@ -13,12 +13,13 @@ use Rattle.page_locks.specs.declared.did.Did.TheVariants as did
 use Rattle.brin_summarise.specs.declared.course.Course.{Course}
 use Rattle.brin_summarise.specs.declared.course.Standing.{Standing}
 use Rattle.brin_summarise.specs.declared.course.Standing.TheVariants as standings
+use Rattle.map_growth.specs.declared.stage.Stage.{Stage as GrowthStage}
 use Rattle.range_summarise.specs.declared.stage.Stage.{Stage}
 use Rattle.range_summarise.specs.declared.stage.Stage.TheVariants as stages
 use Rattle.brin_summarise.specs.declared.wish.Wish.{Wish}
 use Rattle.brin_summarise.specs.declared.wish.Wish.TheVariants as wishes
 use Rattle.range_summarise.specs.StageLocks.{held_at, taken_at}
-use Rattle.range_summarise.specs.SummariseHands.{IsHandOf, SummariseHand}
+use Rattle.range_summarise.specs.SummariseHands.{IsHandOf, SummariseHand, begun}
 use Rattle.range_summarise.specs.SummariseSteps.{IsAtWork, IsDone, made_at}
 use Rattle.brin_summarise.specs.Summarises.{ComesTo, GivesBy, GoesOver, IsExactNow, IsSummariseOf, NoneIsLeft, RangeIsNext, SummariseState, TakesRight, after_range, at_first, first_of, held_by, held_in, in_range_of, state_of, step_of, taken_by, taken_in}
 
@@ -49,7 +50,7 @@ pub comes_well : (layout : DiskLayout) (in_range : ℕ) (a b : SummariseState) (
     → a.extent ≤ layout.sizes.heap_blocks → layout.sizes.heap_blocks ≤ 131072 → a.made ≤ a.range → a.made ≤ 131072 → ComesTo in_range a point b answer → IsSummariseOf layout b
 comes_well layout in_range a _ point _ per some index hand extent few made small (RangeIsNext goes) = record {
   index = index;
-  hand = record { running = hand.running; united = hand.united; room = hand.room; extent = hand.extent };
+  hand = record { running = hand.running; united = hand.united; room = hand.room; extent = hand.extent; growth = hand.growth };
   extent = extent;
   few = small;
   at_range = λ at. (
@@ -82,7 +83,7 @@ comes_free in_range a _ point _ (RangeIsNext goes) = refl
 comes_free in_range a _ point _ (NoneIsLeft lacks) = refl
 
 -- it comes to its range, with work begun there; or no range is left
-pub comes_next : (in_range index : ℕ) (course : Course) (hand next : SummariseHand) (point : Point) → GoesOver course.wish in_range course.extent course.range → next ≡ record hand { stage = stages.Map }
+pub comes_next : (in_range index : ℕ) (course : Course) (hand next : SummariseHand) (point : Point) → GoesOver course.wish in_range course.extent course.range → next ≡ begun hand
     → ComesTo in_range (state_of index course hand) point (state_of index (record course { standing = standings.AtRange }) next) (did.Moved point)
 comes_next in_range index course hand next point goes is =
     subst (λ (h : SummariseHand). ComesTo in_range (state_of index course hand) point (state_of index (record course { standing = standings.AtRange }) h) (did.Moved point)) (sym is) (RangeIsNext goes)
@@ -126,14 +127,14 @@ begins_own a b n begins none few = let own : held_by a ≡ 0 = ap (λ (q : Stand
 
 -- at a range it takes, has and gives those of its work
 module _ (a : SummariseState) (at : a.standing ≡ standings.AtRange) where
-  pub taken_is : taken_by a ≡ taken_at a.hand.stage
+  pub taken_is : taken_by a ≡ taken_at a.hand.growth.stage a.hand.stage
   taken_is = ap (λ (q : Standing). taken_in a q) at
 
-  pub held_is : held_by a ≡ held_at a.hand.stage
+  pub held_is : held_by a ≡ held_at a.hand.growth.stage a.hand.stage
   held_is = ap (λ (q : Standing). held_in a q) at
 
 -- a range that is done holds no page lock
-pub done_free : (stage : Stage) → IsDone stage → held_at stage ≡ 0
-done_free stages.Had done = refl
-done_free stages.Made done = refl
-done_free stage done = absurd done
+pub done_free : (growth : GrowthStage) (stage : Stage) → IsDone stage → held_at growth stage ≡ 0
+done_free growth stages.Had done = refl
+done_free growth stages.Made done = refl
+done_free growth stage done = absurd done

@@ -32,7 +32,7 @@ use Rattle.range_summarise.specs.SummariseHands.{SummariseHand, table_of}
 use Rattle.range_summarise.specs.SummariseSteps.{phase_of}
 use Rattle.brin_summarise.specs.Summarises.{Begins, ComesTo, EndsRange, FullAt, IsSummariseOf, LacksRight, NoneIsLeft, RangeIsNext, StoreStep, SummariseDoes, SummariseState, TakesRight, Waits, WorksAt, after_range, at_first, first_of, in_range_of}
 use Rattle.brin_summarise.specs.Summarises.{GoesOn as StepGoesOn}
-use Rattle.brin_summarise.specs.TableSteps.{DoesInTable, HasCounted, IsSummariseFull, LeavesTheRest, account_by, job_of, lock_turned, shown_after, shown_before, task_of}
+use Rattle.brin_summarise.specs.TableSteps.{DoesInTable, HasCounted, IsSummariseFull, LeavesTheRest, account_by, job_of, lock_turned, shown_after, shown_before, task_of, unnamed_turned}
 use Rattle.brin_summarise.proofs.Settling.{comes_to_range, pick_other, pick_same, replies, stays_there}
 use Rattle.brin_summarise.proofs.Shown.{each_here, shows_here}
 use Rattle.brin_summarise.proofs.Tables.{IndexHere, MaintainCompletes, MaintainGoes, MaintainKnows, OtherIndexes, ends_there, goes_there, waits_there}
@@ -107,11 +107,14 @@ module _ (goes : MaintainGoes) (completes : MaintainCompletes) (knows : Maintain
       stays hand point works = (
         works.0.0,
         omega (arith, works.0.2),
-        λ u task held kept. (
-          Maintains job at a.range (phase_of (shape_of step.layout a.index) hand),
-          goes_there goes completes knows here others step a at there small u task kept rest hand point works.0.0 works.0.1 works.1,
-          stays_there s new u (Some s) job at a.range (phase_of (shape_of step.layout a.index) hand),
-        ),
+        λ u task held kept.
+            let does = goes_there goes completes knows here others step a at there small u task kept rest hand point works.0.0 works.0.1 works.1 in (
+              does.0,
+              does.1,
+              Maintains job at a.range (phase_of (shape_of step.layout a.index) hand),
+              does.2,
+              stays_there s new (unnamed_turned does.0 u) (Some s) job at a.range (phase_of (shape_of step.layout a.index) hand),
+            ),
       )
 
       ends : (hand : SummariseHand) (point : Point) (b : SummariseState) (answer : Did) → WorksAt step at_range hand (did.Finished point) → ComesTo in_range (after_range a hand) point b answer
@@ -119,22 +122,28 @@ module _ (goes : MaintainGoes) (completes : MaintainCompletes) (knows : Maintain
       ends hand point _ _ works (RangeIsNext next) = (
         works.0.0,
         omega (arith, works.0.2),
-        λ u task held kept. (
-          Considers job at (a.range + 1),
-          subst (λ (m : ℕ). DoesAt s (table_state old u) (table_state new (lock_turned (Some s) (task_turned s (Considers job at m) u))) point (with_ranges works.0.0)) (omega arith)
-              (ends_there goes completes knows here others step a at there small u task kept rest hand point works.0.0 works.0.1 works.1),
-          comes_to_range s new u (Some s) a.wish in_range a.extent at (a.range + 1) (each_here step.layout step.paged step.locked step.blocks a.index at there u) next,
-        ),
+        λ u task held kept.
+            let does = ends_there goes completes knows here others step a at there small u task kept rest hand point works.0.0 works.0.1 works.1 in
+            let after : Unseen = unnamed_turned does.0 u in (
+              does.0,
+              does.1,
+              Considers job at (a.range + 1),
+              subst (λ (m : ℕ). DoesAt s (table_state old u) (table_state new (lock_turned (Some s) (task_turned s (Considers job at m) after))) point (with_ranges works.0.0)) (omega arith) does.2,
+              comes_to_range s new after (Some s) a.wish in_range a.extent at (a.range + 1) (each_here step.layout step.paged step.locked step.blocks a.index at there after) next,
+            ),
       )
       ends hand point _ _ works (NoneIsLeft lacks) = (
         works.0.0,
         omega (arith, works.0.2),
-        λ u task held kept. (
-          Considers job at (a.range + 1),
-          subst (λ (m : ℕ). DoesAt s (table_state old u) (table_state new (lock_turned (Some s) (task_turned s (Considers job at m) u))) point (with_ranges works.0.0)) (omega arith)
-              (ends_there goes completes knows here others step a at there small u task kept rest hand point works.0.0 works.0.1 works.1),
-          replies s new u (Some s) a.wish in_range a.extent at (a.range + 1) (each_here step.layout step.paged step.locked step.blocks a.index at there u) lacks,
-        ),
+        λ u task held kept.
+            let does = ends_there goes completes knows here others step a at there small u task kept rest hand point works.0.0 works.0.1 works.1 in
+            let after : Unseen = unnamed_turned does.0 u in (
+              does.0,
+              does.1,
+              Considers job at (a.range + 1),
+              subst (λ (m : ℕ). DoesAt s (table_state old u) (table_state new (lock_turned (Some s) (task_turned s (Considers job at m) after))) point (with_ranges works.0.0)) (omega arith) does.2,
+              replies s new after (Some s) a.wish in_range a.extent at (a.range + 1) (each_here step.layout step.paged step.locked step.blocks a.index at there after) lacks,
+            ),
       )
 
       waits : (hand : SummariseHand) (held : Held) → WorksAt step at_range hand (did.Blocked held) → DoesInTable step at at_range (record at_range { hand = hand }) (did.Blocked held)
@@ -158,6 +167,8 @@ module _ (goes : MaintainGoes) (completes : MaintainCompletes) (knows : Maintain
       0,
       refl,
       λ u rests lock kept. (
+        u.unnamed,
+        (λ i x is. is),
         Considers (job_of a.wish in_range (length step.blocks)) at (first_of a.wish in_range),
         takes s at in_range old (slice_get_within (indexes_of step.layout table) at a.index there) u rests kept (λ n is. right.free n (sym lock ∙ is)) a.wish,
         comes_to_range s old u (Some s) a.wish in_range (length step.blocks) at (first_of a.wish in_range) (each_here step.layout step.pages step.locks step.blocks a.index at there u) next,
@@ -167,6 +178,8 @@ module _ (goes : MaintainGoes) (completes : MaintainCompletes) (knows : Maintain
       0,
       refl,
       λ u rests lock kept. (
+        u.unnamed,
+        (λ i x is. is),
         Considers (job_of a.wish in_range (length step.blocks)) at (first_of a.wish in_range),
         takes s at in_range old (slice_get_within (indexes_of step.layout table) at a.index there) u rests kept (λ n is. right.free n (sym lock ∙ is)) a.wish,
         replies s old u (Some s) a.wish in_range (length step.blocks) at (first_of a.wish in_range) (each_here step.layout step.pages step.locks step.blocks a.index at there u) lacks,

@@ -6,13 +6,13 @@ use Rattle.store_layout.specs.DiskLayout.{DiskLayout}
 use Rattle.page_layout.specs.PageContents.{Slot}
 use Rattle.page_locks.specs.LockHolders.{LockState}
 use Rattle.page_store.specs.PageMap.{PageMap}
-use Rattle.coverage.specs.IndexView.{IsPastMap}
+use Rattle.opened_pages.specs.PageOrder.{IsIndexInOrder}
 use Rattle.coverage.specs.IsCovered.{IndexState, IsIndexKept, index_view}
 use Rattle.coverage.specs.Statements.{Holding, Maintaining, Phase}
 use Rattle.table_coverage.specs.Machines.{Unseen, table_state}
 use Rattle.table_coverage.specs.Table.{Task, TableState, index_state, seen_by}
 use Rattle.table_coverage.specs.TableCovered.{IsTableKept}
-use Rattle.index_contents.specs.IndexContents.{IndexContents, contents}
+use Rattle.index_contents.specs.IndexContents.{IndexContents, contents, index_page}
 use Rattle.index_steps.specs.IndexTuples.{IndexShape, shape_of}
 use Rattle.index_steps.specs.ShownIndex.{Shows, lock_in}
 use Rattle.index_steps.specs.ShownRows.{shown_by}
@@ -30,10 +30,10 @@ use Rattle.brin_summarise.proofs.Shown.{shows_here}
 -- what the laws of one index say
 abbrev pub TakesReady : Type 0
 TakesReady = (shape : IndexShape) (c : IndexContents) (lock : ℕ → Option ℕ) (w : IndexState) (s range : ℕ) (hand : SummariseHand) → Shows shape c lock (index_view w) → IsIndexKept w
-    → w.statement s ≡ Maintaining range (phase_of shape hand) → (hand.stage ≡ stages.Place → IsPastMap c.pages range → ⊥) → IsReady shape c range hand.stage
+    → w.statement s ≡ Maintaining range (phase_of shape hand) → IsReady shape c range hand.growth.stage hand.stage
 
 abbrev pub TakesSound : Type 0
-TakesSound = (layout : DiskLayout) (pages : PageMap) (index : ℕ) (lock : ℕ → Option ℕ) (w : IndexState) (s range : ℕ) (hand : SummariseHand) → Shows (shape_of layout index) (contents layout pages index) lock (index_view w) → IsIndexKept w
+TakesSound = (layout : DiskLayout) (pages : PageMap) (index : ℕ) (lock : ℕ → Option ℕ) (w : IndexState) (s range : ℕ) (hand : SummariseHand) → (hand.stage ≡ stages.Place → IsIndexInOrder layout.sizes.index_blocks (index_page layout pages index)) → Shows (shape_of layout index) (contents layout pages index) lock (index_view w) → IsIndexKept w
     → w.statement s ≡ Maintaining range (phase_of (shape_of layout index) hand) → DamageAt layout pages index range hand hand.stage → ⊥
 
 module _ (layout : DiskLayout) (pages : PageMap) (locks : LockState) (blocks : List (List Slot)) (s at : ℕ) (a : SummariseState) (u : Unseen) (there : slice_get (indexes_of layout (table_of layout a.index)) at ≡ Some a.index)
@@ -54,8 +54,8 @@ module _ (layout : DiskLayout) (pages : PageMap) (locks : LockState) (blocks : L
   statement_is is =
       ap (λ (t : Task). seen_by at t) (task ∙ ap (task_at layout at a) is) ∙ pick_same at (Maintaining a.range phase) Holding
 
-  pub ready_there : TakesReady → (a.hand.stage ≡ stages.Place → IsPastMap (contents layout pages a.index).pages a.range → ⊥) → ReadyAt layout pages a
-  ready_there takes long is = takes (shape_of layout a.index) (contents layout pages a.index) (lock_in layout locks a.index) (index_state at w) s a.range a.hand shows index_kept (statement_is is) long
+  pub ready_there : TakesReady → ReadyAt layout pages a
+  ready_there takes is = takes (shape_of layout a.index) (contents layout pages a.index) (lock_in layout locks a.index) (index_state at w) s a.range a.hand shows index_kept (statement_is is)
 
-  pub sound_there : TakesSound → DamageIn layout pages a → ⊥
-  sound_there takes damage = takes layout pages a.index (lock_in layout locks a.index) (index_state at w) s a.range a.hand shows index_kept (statement_is damage.0) damage.1
+  pub sound_there : TakesSound → (a.hand.stage ≡ stages.Place → IsIndexInOrder layout.sizes.index_blocks (index_page layout pages a.index)) → DamageIn layout pages a → ⊥
+  sound_there takes order damage = takes layout pages a.index (lock_in layout locks a.index) (index_state at w) s a.range a.hand order shows index_kept (statement_is damage.0) damage.1

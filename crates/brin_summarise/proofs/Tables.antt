@@ -1,8 +1,9 @@
 -- a step of a summarise at its range, in its table
 use Rattle.std.proofs.Common.{◌≡◌, ◌≢◌, inl, inr, ℕ, suc, ◌*◌, ◌^◌, ◌<◌, List, length, Option, None, Some, refl, sym, ap, subst, ◌∙◌, arith}
-use Rattle.std.specs.Prelude.{slice_get}
+use Rattle.std.specs.Prelude.{Bool, IsTrue, slice_get}
 use Rattle.std.proofs.lemmas.Bool.{cases_eq}
 use Rattle.std.proofs.lemmas.Option.{slice_get_within}
+use Rattle.block_model.specs.declared.place.Spot.{Spot}
 use Rattle.block_model.specs.declared.reply.Point.{Point}
 use Rattle.page_locks.specs.LockChanges.{page_of}
 use Rattle.page_locks.specs.LockHolders.{holder}
@@ -12,7 +13,7 @@ use Rattle.coverage.specs.Knowing.{Knows}
 use Rattle.coverage.specs.PageOrder.{KnowsPages}
 use Rattle.coverage.specs.Statements.{Holding, Maintaining, Phase, Statement}
 use Rattle.table_coverage.specs.InOneIndex.{DoesAt, JobMakes, index_with, with_index, with_ranges}
-use Rattle.table_coverage.specs.Machines.{ShownTable, Unseen, table_state, task_turned}
+use Rattle.table_coverage.specs.Machines.{IsFewer, ShownTable, Unseen, table_state, task_turned}
 use Rattle.table_coverage.specs.Table.{Considers, Job, Maintains, Task, TableState, index_view_at, pick, seen_by}
 use Rattle.table_coverage.specs.TableCovered.{IsInTable, IsMaintenance, IsTableKept}
 use Rattle.table_coverage.specs.TablePoints.{PageLock, waits_for}
@@ -21,6 +22,7 @@ use Rattle.index_contents.specs.IndexContents.{contents, relation_of}
 use Rattle.index_steps.specs.IndexTuples.{IndexShape, contents_of, shape_of}
 use Rattle.index_steps.specs.ShownIndex.{Shows, lock_in, shown_part}
 use Rattle.index_steps.specs.ShownTable.{indexes_of, shown_at}
+use Rattle.map_growth.specs.GrowthSteps.{IsFewer as Fewer}
 use Rattle.range_summarise.specs.declared.stage.Stage.{Stage}
 use Rattle.range_summarise.specs.declared.stage.Stage.TheVariants as stages
 use Rattle.brin_summarise.specs.declared.wish.Wish.{Wish}
@@ -29,8 +31,8 @@ use Rattle.range_summarise.specs.ShownHeap.{heap_of}
 use Rattle.range_summarise.specs.SummariseHands.{SummariseHand, table_of}
 use Rattle.range_summarise.specs.SummariseSteps.{IsAtWork, IsDone, StepMakes, StepWaits, phase_at, phase_of, statement_at, summarise_at}
 use Rattle.brin_summarise.specs.Summarises.{StoreStep, SummariseState, in_range_of}
-use Rattle.brin_summarise.specs.TableSteps.{LeavesTheRest, job_of, lock_turned, shown_after, shown_before}
-use Rattle.brin_summarise.proofs.Settling.{pick_other}
+use Rattle.brin_summarise.specs.TableSteps.{LeavesTheRest, job_of, lock_turned, shown_after, shown_before, unnamed_turned}
+use Rattle.brin_summarise.proofs.Settling.{pick_other, pick_same}
 use Rattle.brin_summarise.proofs.Shown.{apart_numbers, heap_here, same_one, shown_one, shows_here}
 
 -- the laws of the table that are taken up
@@ -135,11 +137,23 @@ module _ (goes : MaintainGoes) (completes : MaintainCompletes) (knows : Maintain
   abbrev phase : Phase
   phase = phase_of shape a.hand
 
-  abbrev part : IndexPart
-  part = shown_part shape (contents step.layout step.paged n) (lock_in step.layout step.locked n) (u.unnamed at)
+  abbrev part : (Spot → Bool) → IndexPart
+  part unnamed = shown_part shape (contents step.layout step.paged n) (lock_in step.layout step.locked n) unnamed
 
-  abbrev after : Task → TableState
-  after task = table_state new (lock_turned (Some s) (task_turned s task u))
+  -- the unnamed tuples of each index, where these are those of this one
+  abbrev with_these : (Spot → Bool) → ℕ → Spot → Bool
+  with_these unnamed i = pick i at unnamed (u.unnamed i)
+
+  abbrev after : (ℕ → Spot → Bool) → Task → TableState
+  after unnamed task = table_state new (lock_turned (Some s) (task_turned s task (unnamed_turned unnamed u)))
+
+  fewer_in_all : (unnamed : Spot → Bool) → Fewer (u.unnamed at) unnamed → IsFewer u.unnamed (with_these unnamed)
+  fewer_in_all unnamed fewer i x is = elim (cases_eq i at) [
+    | inl same ↦
+        subst (λ (m : ℕ). IsTrue (with_these unnamed m x) → IsTrue (u.unnamed m x)) (sym same)
+        (λ now. fewer x (subst (λ (f : Spot → Bool). IsTrue (f x)) (pick_same at unnamed (u.unnamed at)) now)) is
+    | inr apart ↦ subst (λ (f : Spot → Bool). IsTrue (f x)) (pick_other i at unnamed (u.unnamed i) apart) is
+  ]
 
   below : at < length numbers
   below = slice_get_within numbers at n there
@@ -162,11 +176,11 @@ module _ (goes : MaintainGoes) (completes : MaintainCompletes) (knows : Maintain
 
     made : (hand : SummariseHand) (point : Point) (count : ℕ)
         → StepMakes shape (heap_of step.layout n step.blocks) s a.range (summarise_at step.layout step.pages step.locks n a.hand) (summarise_at step.layout step.paged step.locked n hand) point count
-        → SummariseMakes s a.range (index_view_at at w) part phase (statement_at shape a.range hand hand.stage) point count
+        → (unnamed : Spot → Bool) × Fewer (u.unnamed at) unnamed × SummariseMakes s a.range (index_view_at at w) (part unnamed) phase (statement_at shape a.range hand hand.stage) point count
     made hand point count makes = makes (index_view_at at w) shows (heap_here step.layout step.pages step.locks step.blocks n at there u) its known.0 known.1
 
-    at_here : index_with part (w.index at) ≡ shown_one step.layout step.paged step.locked (u.unnamed at) (slice_get numbers at)
-    at_here = subst (λ (o : Option ℕ). index_with part (shown_one step.layout step.pages step.locks (u.unnamed at) o) ≡ shown_one step.layout step.paged step.locked (u.unnamed at) o) (sym there) refl
+    at_here : (unnamed : Spot → Bool) → index_with (part unnamed) (w.index at) ≡ shown_one step.layout step.paged step.locked unnamed (slice_get numbers at)
+    at_here unnamed = subst (λ (o : Option ℕ). index_with (part unnamed) (shown_one step.layout step.pages step.locks (u.unnamed at) o) ≡ shown_one step.layout step.paged step.locked unnamed o) (sym there) refl
 
     -- it locks no page of another index
     locks_free : (i m : ℕ) → i ≢ at → slice_get numbers i ≡ Some m → (page : ℕ) → holder step.locks (page_of (relation_of step.layout m) page) ≢ Some s
@@ -183,38 +197,51 @@ module _ (goes : MaintainGoes) (completes : MaintainCompletes) (knows : Maintain
           same_one step.layout step.pages step.paged step.locks step.locked (u.unnamed i) m (rest.others m other)
           (λ page. rest.locks.elsewhere (page_of (relation_of step.layout m) page) (λ same. other (omega (arith, same))) (locks_free i m apart is page))
 
-      index_is : (next : Task) (i : ℕ) → (with_index at part s next w).index i ≡ shown_one step.layout step.paged step.locked (u.unnamed i) (slice_get numbers i)
-      index_is next i = elim (cases_eq i at) [
-        | inl same ↦ subst (λ (m : ℕ). (with_index at part s next w).index m ≡ shown_one step.layout step.paged step.locked (u.unnamed m) (slice_get numbers m)) (sym same) (here at s part next w ∙ at_here)
-        | inr apart ↦ others at s i part next w apart ∙ by_number i apart (slice_get numbers i) refl
+      index_is : (unnamed : Spot → Bool) (next : Task) (i : ℕ) → (with_index at (part unnamed) s next w).index i ≡ shown_one step.layout step.paged step.locked (with_these unnamed i) (slice_get numbers i)
+      index_is unnamed next i = elim (cases_eq i at) [
+        | inl same ↦
+            subst (λ (m : ℕ). (with_index at (part unnamed) s next w).index m ≡ shown_one step.layout step.paged step.locked (with_these unnamed m) (slice_get numbers m)) (sym same)
+            (here at s (part unnamed) next w ∙ at_here unnamed
+            ∙ ap (λ (f : Spot → Bool). shown_one step.layout step.paged step.locked f (slice_get numbers at)) (sym (pick_same at unnamed (u.unnamed at))))
+        | inr apart ↦
+            others at s i (part unnamed) next w apart ∙ by_number i apart (slice_get numbers i) refl
+            ∙ ap (λ (f : Spot → Bool). shown_one step.layout step.paged step.locked f (slice_get numbers i)) (sym (pick_other i at unnamed (u.unnamed i) apart))
       ]
 
-      table_is : (next : Task) → with_index at part s next w ≡ table_state new (task_turned s next u)
-      table_is next = λ j. record w { index = λ i. index_is next i j; task = λ m. pick m s next (u.task m) }
+      table_is : (unnamed : Spot → Bool) (next : Task) → with_index at (part unnamed) s next w ≡ table_state new (task_turned s next (unnamed_turned (with_these unnamed) u))
+      table_is unnamed next = λ j. record w { index = λ i. index_is unnamed next i j; task = λ m. pick m s next (u.task m) }
 
-      held_is : (next : Task) → table_state new (task_turned s next u) ≡ after next
-      held_is next = ap (λ (held : Option ℕ). table_state new (lock_turned held (task_turned s next u))) (locked_is s old u job at a.range phase task kept)
+      held_is : (unnamed : ℕ → Spot → Bool) (next : Task) → table_state new (task_turned s next (unnamed_turned unnamed u)) ≡ after unnamed next
+      held_is unnamed next = ap (λ (held : Option ℕ). table_state new (lock_turned held (task_turned s next (unnamed_turned unnamed u)))) (locked_is s old u job at a.range phase task kept)
 
-      does_after : (next : Task) (point : Point) (count : ℕ) → DoesAt s w (with_index at part s next w) point (with_ranges count) → DoesAt s w (after next) point (with_ranges count)
-      does_after next point count does = subst (λ (z : TableState). DoesAt s w z point (with_ranges count)) (table_is next ∙ held_is next) does
+      does_after : (unnamed : Spot → Bool) (next : Task) (point : Point) (count : ℕ) → DoesAt s w (with_index at (part unnamed) s next w) point (with_ranges count) → DoesAt s w (after (with_these unnamed) next) point (with_ranges count)
+      does_after unnamed next point count does = subst (λ (z : TableState). DoesAt s w z point (with_ranges count)) (table_is unnamed next ∙ held_is (with_these unnamed) next) does
 
       pub goes_there : (hand : SummariseHand) (point : Point) (count : ℕ)
           → StepMakes shape (heap_of step.layout n step.blocks) s a.range (summarise_at step.layout step.pages step.locks n a.hand) (summarise_at step.layout step.paged step.locked n hand) point count
-          → IsAtWork hand.stage → DoesAt s w (after (Maintains job at a.range (phase_of shape hand))) point (with_ranges count)
+          → IsAtWork hand.stage → (unnamed : ℕ → Spot → Bool) × IsFewer u.unnamed unnamed × DoesAt s w (after unnamed (Maintains job at a.range (phase_of shape hand))) point (with_ranges count)
       goes_there hand point count makes work =
-          does_after (Maintains job at a.range (phase_of shape hand)) point count
-          (goes s job at a.range w part phase (phase_of shape hand) point count below task
-          (of_job a.wish (in_range_of step.layout n) a.extent s a.range (index_view_at at w) part phase (Maintaining a.range (phase_of shape hand)) point count
-          (subst (λ (q : Statement). SummariseMakes s a.range (index_view_at at w) part phase q point count) (at_work shape a.range hand hand.stage work) (made hand point count makes))))
+          let step_is = made hand point count makes in (
+            with_these step_is.0,
+            fewer_in_all step_is.0 step_is.1,
+            does_after step_is.0 (Maintains job at a.range (phase_of shape hand)) point count
+                (goes s job at a.range w (part step_is.0) phase (phase_of shape hand) point count below task
+                (of_job a.wish (in_range_of step.layout n) a.extent s a.range (index_view_at at w) (part step_is.0) phase (Maintaining a.range (phase_of shape hand)) point count
+                (subst (λ (q : Statement). SummariseMakes s a.range (index_view_at at w) (part step_is.0) phase q point count) (at_work shape a.range hand hand.stage work) step_is.2))),
+          )
 
       pub ends_there : (hand : SummariseHand) (point : Point) (count : ℕ)
           → StepMakes shape (heap_of step.layout n step.blocks) s a.range (summarise_at step.layout step.pages step.locks n a.hand) (summarise_at step.layout step.paged step.locked n hand) point count
-          → IsDone hand.stage → DoesAt s w (after (Considers job at (suc a.range))) point (with_ranges count)
+          → IsDone hand.stage → (unnamed : ℕ → Spot → Bool) × IsFewer u.unnamed unnamed × DoesAt s w (after unnamed (Considers job at (suc a.range))) point (with_ranges count)
       ends_there hand point count makes done =
-          does_after (Considers job at (suc a.range)) point count
-          (completes s job at a.range w part phase point count below task
-          (of_job a.wish (in_range_of step.layout n) a.extent s a.range (index_view_at at w) part phase Holding point count
-          (subst (λ (q : Statement). SummariseMakes s a.range (index_view_at at w) part phase q point count) (when_done shape a.range hand hand.stage done) (made hand point count makes))))
+          let step_is = made hand point count makes in (
+            with_these step_is.0,
+            fewer_in_all step_is.0 step_is.1,
+            does_after step_is.0 (Considers job at (suc a.range)) point count
+                (completes s job at a.range w (part step_is.0) phase point count below task
+                (of_job a.wish (in_range_of step.layout n) a.extent s a.range (index_view_at at w) (part step_is.0) phase Holding point count
+                (subst (λ (q : Statement). SummariseMakes s a.range (index_view_at at w) (part step_is.0) phase q point count) (when_done shape a.range hand hand.stage done) step_is.2))),
+          )
 
     pub waits_there : (page : ℕ) → StepWaits shape (heap_of step.layout n step.blocks) s a.range (summarise_at step.layout step.pages step.locks n a.hand) page
         → (blocked : IsBlocked w s (Maintains job at a.range phase)) × (waits_for w s (Maintains job at a.range phase) blocked ≡ PageLock at page)

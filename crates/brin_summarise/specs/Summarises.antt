@@ -15,14 +15,13 @@ use Rattle.index_steps.specs.IndexTuples.{index_at, shape_of}
 use Rattle.brin_summarise.specs.declared.course.Course.{Course}
 use Rattle.brin_summarise.specs.declared.course.Standing.{Standing}
 use Rattle.brin_summarise.specs.declared.course.Standing.TheVariants as standings
-use Rattle.range_summarise.specs.declared.stage.Stage.TheVariants as stages
 use Rattle.brin_summarise.specs.declared.wish.Wish.{Wish}
 use Rattle.brin_summarise.specs.declared.wish.Wish.TheVariants as wishes
 use Rattle.range_summarise.specs.ShownHeap.{heap_of}
 use Rattle.range_summarise.specs.ExactSummaries.{IsExactAt}
 use Rattle.range_summarise.specs.StageLocks.{GivesAt, held_at, taken_at}
 use Rattle.range_summarise.specs.StepCauses.{DamageAt, IsReady}
-use Rattle.range_summarise.specs.SummariseHands.{IsHandOf, SummariseHand, table_of}
+use Rattle.range_summarise.specs.SummariseHands.{IsHandOf, SummariseHand, begun, table_of}
 use Rattle.range_summarise.specs.SummariseSteps.{IsAtWork, RestsAt, StepFull, StepsAt, made_at, summarise_at}
 
 -- A summarise: its index; what is asked for; where it stands; the extent that it read; the range that it is at, and to how many ranges
@@ -82,26 +81,26 @@ count_of a = count_at a a.standing
 abbrev pub StandsThen : (old new : SummariseState) → Did → Type 0
 StandsThen old new (did.Moved point) = new.standing ≡ standings.AtRange
 StandsThen old new (did.Finished point) = new.standing ≡ standings.Done
-StandsThen old new (did.Blocked held) = (old.standing ≡ standings.AtRange) × (0 < taken_at old.hand.stage) × (new ≡ record old { hand = new.hand }) × RestsAt old.hand.stage old.hand new.hand
+StandsThen old new (did.Blocked held) = (old.standing ≡ standings.AtRange) × (0 < taken_at old.hand.growth.stage old.hand.stage) × (new ≡ record old { hand = new.hand }) × RestsAt old.hand.stage old.hand new.hand
 StandsThen old new (did.NoRight by) = (old.standing ≡ standings.Begins) × (new ≡ old)
 
 -- at most so many page locks does its next step take, and at most so many are its own before it; and that step gives all
 abbrev pub taken_in : SummariseState → Standing → ℕ
-taken_in a standings.AtRange = taken_at a.hand.stage
+taken_in a standings.AtRange = taken_at a.hand.growth.stage a.hand.stage
 taken_in a standing = 0
 
 abbrev pub taken_by : SummariseState → ℕ
 taken_by a = taken_in a a.standing
 
 abbrev pub held_in : SummariseState → Standing → ℕ
-held_in a standings.AtRange = held_at a.hand.stage
+held_in a standings.AtRange = held_at a.hand.growth.stage a.hand.stage
 held_in a standing = 0
 
 abbrev pub held_by : SummariseState → ℕ
 held_by a = held_in a a.standing
 
 abbrev pub GivesBy : SummariseState → Type 0
-GivesBy a = (a.standing ≡ standings.AtRange) × GivesAt a.hand.stage
+GivesBy a = (a.standing ≡ standings.AtRange) × GivesAt a.hand.growth.stage a.hand.stage
 
 -- a store, its page locks and its summarise locks before a step of an actor and after it, and the blocks of the heap
 pub record StoreStep : Type 0 where
@@ -137,7 +136,7 @@ WorksAt step a hand answer =
 -- under this point it comes to its range, if that is one that it goes over; else it is done
 pub data ComesTo (in_range : ℕ) (a : SummariseState) (point : Point) : SummariseState → Did → Type 0 where
   RangeIsNext : GoesOver a.wish in_range a.extent a.range
-      → ComesTo in_range a point (record a { standing = standings.AtRange; hand = record a.hand { stage = stages.Map } }) (did.Moved point)
+      → ComesTo in_range a point (record a { standing = standings.AtRange; hand = begun a.hand }) (did.Moved point)
   NoneIsLeft : (GoesOver a.wish in_range a.extent a.range → ⊥) → ComesTo in_range a point (record a { standing = standings.Done }) (did.Finished point)
 
 -- the extent is read, and its first range comes; or a range is done, and the one behind it comes
@@ -187,7 +186,7 @@ RightAnswers table actor rights righted standing answer = righted ≡ rights
 
 -- what its step needs of the pages, where it finds the index full, and where it finds damage: as its work at the range does
 abbrev pub ReadyAt : DiskLayout → PageMap → SummariseState → Type 0
-ReadyAt layout pages a = a.standing ≡ standings.AtRange → IsReady (shape_of layout a.index) (contents layout pages a.index) a.range a.hand.stage
+ReadyAt layout pages a = a.standing ≡ standings.AtRange → IsReady (shape_of layout a.index) (contents layout pages a.index) a.range a.hand.growth.stage a.hand.stage
 
 abbrev pub FullAt : DiskLayout → PageMap → LockState → (actor : ℕ) → SummariseState → (number : ℕ) → Type 0
 FullAt layout pages locks actor a number =

@@ -1,5 +1,6 @@
 -- what a step of a summarise is in the table of its index
-use Rattle.std.specs.Prelude.{◌≡◌, ◌≢◌, ℕ, ◌+◌, ◌/◌, Option, Some, None}
+use Rattle.std.specs.Prelude.{◌≡◌, ◌≢◌, ℕ, ◌+◌, ◌/◌, Bool, Option, Some, None}
+use Rattle.block_model.specs.declared.place.Spot.{Spot}
 use Rattle.block_model.specs.declared.reply.Point.{Point}
 use Rattle.store_layout.specs.DiskLayout.{DiskLayout}
 use Rattle.page_locks.specs.declared.did.Did.{Did}
@@ -8,7 +9,7 @@ use Rattle.page_locks.specs.LockHolders.{holder}
 use Rattle.page_locks.specs.RightHolders.{right_of}
 use Rattle.table_coverage.specs.Accounts.{Account, no_account}
 use Rattle.table_coverage.specs.InOneIndex.{DoesAt, with_ranges}
-use Rattle.table_coverage.specs.Machines.{ShownTable, Unseen, table_state, task_turned}
+use Rattle.table_coverage.specs.Machines.{IsFewer, ShownTable, Unseen, table_state, task_turned}
 use Rattle.table_coverage.specs.Refusals.{IsTaskFull}
 use Rattle.table_coverage.specs.Table.{EachRange, Job, Maintains, OneRange, Resting, Task}
 use Rattle.table_coverage.specs.TableCovered.{IsTableKept}
@@ -55,12 +56,19 @@ HasCounted standing before count after = after ≡ before + count
 abbrev pub lock_turned : Option ℕ → Unseen → Unseen
 lock_turned held u = record u { summarise_lock = held }
 
+-- and with these tuples unnamed
+abbrev pub unnamed_turned : (ℕ → Spot → Bool) → Unseen → Unseen
+unnamed_turned unnamed u = record u { unnamed = unnamed }
+
 -- Whatever pages and locks don't show, and with the summarise lock held so, this is a step of the table: the session comes from one task to
--- the other, under this point, with this made of its account; and it holds the summarise lock until it replies.
+-- the other, under this point, with this made of its account; and it holds the summarise lock until it replies. Tuples that were unnamed at
+-- the opening may be dropped.
 abbrev pub SummariseGoesTo : (s : ℕ) → (old new : ShownTable) → (held held_then : Option ℕ) → (before after : Task) → Point → (Account → Account) → Type 0
 SummariseGoesTo s old new held held_then before after point account = (u : Unseen) → u.task s ≡ before → u.summarise_lock ≡ held → IsTableKept (table_state old u)
-    → (between : Task) × DoesAt s (table_state old u) (table_state new (lock_turned (Some s) (task_turned s between u))) point account
-    × Settles s (table_state new (lock_turned (Some s) (task_turned s between u))) (table_state new (lock_turned held_then (task_turned s after u)))
+    → (unnamed : ℕ → Spot → Bool) × IsFewer u.unnamed unnamed × (between : Task)
+    × DoesAt s (table_state old u) (table_state new (lock_turned (Some s) (task_turned s between (unnamed_turned unnamed u)))) point account
+    × Settles s (table_state new (lock_turned (Some s) (task_turned s between (unnamed_turned unnamed u))))
+    (table_state new (lock_turned held_then (task_turned s after (unnamed_turned unnamed u))))
 
 -- it waits, for this
 abbrev pub SummariseWaitsFor : (s : ℕ) → ShownTable → (held : Option ℕ) → Task → WaitedFor → Type 0

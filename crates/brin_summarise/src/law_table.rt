@@ -1,6 +1,7 @@
 //! What the steps of a summarise are in the table of its index, as laws.
 
-ghost use Rattle.std.specs.Prelude.{◌≡◌, ◌≢◌, ◌≤◌, ℕ, List, Option, Some, slice_get};
+ghost use Rattle.std.specs.Prelude.{◌≡◌, ◌≢◌, ◌≤◌, ℕ, Bool, List, Option, Some, slice_get};
+ghost use Rattle.block_model.specs.declared.place.Spot.{Spot};
 ghost use Rattle.block_model.specs.declared.reply.Point.{Point};
 ghost use Rattle.page_layout.specs.PageContents.{Slot};
 ghost use Rattle.page_locks.specs.declared.did.Did.{Did};
@@ -8,14 +9,14 @@ ghost use Rattle.page_locks.specs.LockHolders.{LockState};
 ghost use Rattle.page_store.specs.PageMap.{PageMap};
 ghost use Rattle.store_layout.specs.DiskLayout.{DiskLayout};
 ghost use Rattle.table_coverage.specs.Accounts.{Account};
-ghost use Rattle.table_coverage.specs.Machines.{MachineWaits, ShownTable, Unseen, table_state, task_turned};
+ghost use Rattle.table_coverage.specs.Machines.{IsFewer, MachineWaits, ShownTable, Unseen, table_state, task_turned};
 ghost use Rattle.table_coverage.specs.StepsLeft.{HasAtMostTuples, IsSummarise, summarise_steps};
 ghost use Rattle.table_coverage.specs.Table.{Job, Maintains, Task};
 ghost use Rattle.table_coverage.specs.TableCovered.{IsTableKept};
 ghost use Rattle.table_coverage.specs.TablePoints.{WaitedFor};
-ghost use Rattle.coverage.specs.IndexView.{IsPastMap};
+ghost use Rattle.opened_pages.specs.PageOrder.{IsIndexInOrder};
 ghost use Rattle.coverage.specs.Statements.{Phase};
-ghost use Rattle.index_contents.specs.IndexContents.{contents};
+ghost use Rattle.index_contents.specs.IndexContents.{index_page};
 ghost use Rattle.index_steps.specs.ShownRows.{shown_by};
 ghost use Rattle.index_steps.specs.ShownTable.{indexes_of};
 ghost use Rattle.brin_summarise.specs.declared.course.Standing.TheVariants as standings;
@@ -23,7 +24,7 @@ ghost use Rattle.brin_summarise.specs.SummariseCalls.{SummariseCalls};
 ghost use Rattle.range_summarise.specs.SummariseHands.{table_of};
 ghost use Rattle.range_summarise.specs.declared.stage.Stage.TheVariants as stages;
 ghost use Rattle.brin_summarise.specs.Summarises.{DamageIn, FullAt, IsSummariseOf, ReadyAt, StoreStep, SummariseDoes, SummariseState, count_of};
-ghost use Rattle.brin_summarise.specs.TableSteps.{DoesInTable, HasCounted, IsSummariseFull, LeavesTheRest, SummariseGoesTo, SummariseWaitsFor, account_by, lock_turned, task_of};
+ghost use Rattle.brin_summarise.specs.TableSteps.{DoesInTable, HasCounted, IsSummariseFull, LeavesTheRest, SummariseGoesTo, SummariseWaitsFor, account_by, lock_turned, task_of, unnamed_turned};
 
 use range_summarise::a_kept_index_takes_a_summarise;
 use table_coverage::{
@@ -45,23 +46,25 @@ pub fn a_summarise_steps_in_its_table()
     a_table_steps_with_its_index();
 }
 
-/// The table stays kept by a step of a summarise, and where the summarise lock is given with the last one; and a summarise that waits at its
+/// The table stays kept by a step of a summarise, of whose growth of the map unnamed tuples may be dropped, and where the summarise lock is given with the last one; and a summarise that waits at its
 /// range is a machine that waits. Does nothing.
 pub fn a_summarise_keeps_its_table()
     ensures keeps { (s : ℕ) (old new : ShownTable) (held held_then : Option ℕ) (before after : Task) (point : Point) (account : Account → Account) (u : Unseen) → SummariseGoesTo s old new held held_then before after point account → u.task s ≡ before
-        → u.summarise_lock ≡ held → IsTableKept (table_state old u) → IsTableKept (table_state new (lock_turned held_then (task_turned s after u))) }
+        → u.summarise_lock ≡ held → IsTableKept (table_state old u)
+        → (unnamed : ℕ → Spot → Bool) × IsFewer u.unnamed unnamed × IsTableKept (table_state new (lock_turned held_then (task_turned s after (unnamed_turned unnamed u)))) }
     ensures waits { (s at range : ℕ) (shown : ShownTable) (job : Job) (phase : Phase) (what : WaitedFor) → SummariseWaitsFor s shown (Some s) (Maintains job at range phase) what → MachineWaits s shown (Maintains job at range phase) }
 {
     table_stays_covered();
 }
 
-/// In a table that is kept, a summarise at a range of it is ready for its next step, if the map has a page for the range's entry where a
-/// placeholder is to be put; and nothing that the step reads is damaged. Does nothing.
+/// In a table that is kept, a summarise at a range of it is ready for its next step; and nothing that the step reads is damaged, if the
+/// index's pages stand in order where the map may have to grow. Does nothing.
 pub fn a_kept_table_takes_a_summarise()
     ensures ready { (layout : DiskLayout) (pages : PageMap) (locks : LockState) (blocks : List (List Slot)) (s at : ℕ) (a : SummariseState) (u : Unseen) → slice_get (indexes_of layout (table_of layout a.index)) at ≡ Some a.index
-        → u.task s ≡ task_of layout at a → IsTableKept (table_state (shown_by layout pages locks (table_of layout a.index) blocks) u) → (a.hand.stage ≡ stages.Place → IsPastMap (contents layout pages a.index).pages a.range → ⊥) → ReadyAt layout pages a }
+        → u.task s ≡ task_of layout at a → IsTableKept (table_state (shown_by layout pages locks (table_of layout a.index) blocks) u) → ReadyAt layout pages a }
     ensures sound { (layout : DiskLayout) (pages : PageMap) (locks : LockState) (blocks : List (List Slot)) (s at : ℕ) (a : SummariseState) (u : Unseen) → slice_get (indexes_of layout (table_of layout a.index)) at ≡ Some a.index
-        → u.task s ≡ task_of layout at a → IsTableKept (table_state (shown_by layout pages locks (table_of layout a.index) blocks) u) → DamageIn layout pages a → ⊥ }
+        → u.task s ≡ task_of layout at a → IsTableKept (table_state (shown_by layout pages locks (table_of layout a.index) blocks) u)
+        → (a.hand.stage ≡ stages.Place → IsIndexInOrder layout.sizes.index_blocks (index_page layout pages a.index)) → DamageIn layout pages a → ⊥ }
 {
     a_kept_index_takes_a_summarise();
 }

@@ -1,7 +1,6 @@
 //! A summarise of an index, by steps. It takes the table's summarise lock, reads the extent, and goes over its ranges one after the other: at
 //! each it works as range_summarise does, to the final tuple. Each step is one of the table (specs/TableSteps), and what it has made of a
-//! range is exact. Where a placeholder is to be put, the map has a page for the range's entry: a map that is too short is no work of this
-//! crate yet. No step takes memory. It stands on range_summarise, index_steps, heap_rows and table_coverage.
+//! range is exact. No step takes memory. It stands on range_summarise, index_steps, heap_rows and table_coverage.
 #![tactic(auto)]
 
 mod course;

@@ -8,6 +8,7 @@ ghost use Rattle.page_locks.specs.LockHolders.{LockState, count_of as locks_held
 ghost use Rattle.heap_rows.specs.HeapBlocks.{OfBlocks};
 ghost use Rattle.index_contents.specs.IndexContents.{relation_of};
 ghost use Rattle.index_contents.specs.IndexChanges.{LeavesOthers};
+ghost use Rattle.index_order.specs.KeepsOrder.{KeepsOrder};
 ghost use Rattle.index_steps.specs.StepAnswers.{BlockedWell, IsOfStore, NeverBlocked};
 ghost use Rattle.index_steps.specs.SwapAnswers.{LeavesLocks, MachineOutcome, SaysFullIn, StaysWhereFull, TakesAtMost};
 ghost use Rattle.range_summarise.specs.SummariseHands.{table_of};
@@ -109,11 +110,12 @@ impl Summarise {
         ensures full { IfErr result (SaysFullIn pages.old.layout self.old.index (λ number. Tells D.told pages.old → FullAt pages.old.layout pages.old.pages locks.old actor self.old number)) }
         ensures at_full { IfErr result (StaysWhereFull locks.old locks.new) }
         ensures others { LeavesOthers D.told self.old.index pages.old pages.new }
+        ensures order { KeepsOrder D.told self.old.index pages.old pages.new }
         ensures locks { LeavesLocks (holder locks.old) (holder locks.new) (relation_of pages.old.layout self.old.index) actor }
         ensures counts { TakesAtMost (taken_by self.old) locks.old locks.new actor }
         ensures given { OnOk result (GivesBy self.old → locks_of locks.new actor ≡ 0) }
         ensures own { OnOk result (locks_of locks.old actor ≤ held_by self.old → locks_of locks.new actor ≤ held_by self.new) }
-        ensures stays { OnErr result ((self.new ≡ record self.old { hand = self.new.hand }) × (self.new.hand.stage ≡ self.old.hand.stage)) }
+        ensures stays { OnErr result ((self.new ≡ record self.old { hand = self.new.hand }) × (self.new.hand.stage ≡ self.old.hand.stage) × (self.new.hand.growth.stage ≡ self.old.hand.growth.stage)) }
         // The changes themselves aren't sure before the next flush.
         ensures survives { Survives D.told (λ passed. passed ≡ pages.old.pages) pages.old pages.new }
         ensures kept { OnErr result (Keeps D.told pages.old pages.new) }
@@ -164,7 +166,7 @@ fn begin<D: Disk + Drop>(
     ensures exact { IfOk result (λ did. OfBlocks D.told pages.now (table_of pages.now.layout index) (λ blocks. KeepsExact pages.now.layout blocks (state_of index course.old work.old) (state_of index course.new work.new))) }
     ensures stands { IfOk result (StandsThen (state_of index course.old work.old) (state_of index course.new work.new)) }
     ensures holds_none { held_by (state_of index course.new work.new) ≡ 0 }
-    ensures stays { OnErr result ((state_of index course.new work.new ≡ record (state_of index course.old work.old) { hand = work.new }) × (work.new.stage ≡ work.old.stage)) }
+    ensures stays { OnErr result ((state_of index course.new work.new ≡ record (state_of index course.old work.old) { hand = work.new }) × (work.new.stage ≡ work.old.stage) × (work.new.growth.stage ≡ work.old.growth.stage)) }
     ensures of { IsSummariseOf pages.now.layout (state_of index course.new work.new) }
     ensures right { IfOk result (RightAnswers (table_of pages.now.layout index) actor rights.old rights.new Standing.Begins) }
     ensures rights { OnErr result (rights.new ≡ rights.old) }
@@ -218,11 +220,12 @@ fn go_on<D: Disk + Drop>(
     ensures full { IfErr result (SaysFullIn pages.old.layout index (λ number. Tells D.told pages.old → FullAt pages.old.layout pages.old.pages locks.old actor (state_of index course.old work.old) number)) }
     ensures at_full { IfErr result (StaysWhereFull locks.old locks.new) }
     ensures others { LeavesOthers D.told index pages.old pages.new }
+    ensures order { KeepsOrder D.told index pages.old pages.new }
     ensures locks { LeavesLocks (holder locks.old) (holder locks.new) (relation_of pages.old.layout index) actor }
     ensures counts { TakesAtMost (taken_by (state_of index course.old work.old)) locks.old locks.new actor }
     ensures given { OnOk result (GivesBy (state_of index course.old work.old) → locks_of locks.new actor ≡ 0) }
     ensures own { OnOk result (locks_of locks.old actor ≤ held_by (state_of index course.old work.old) → locks_of locks.new actor ≤ held_by (state_of index course.new work.new)) }
-    ensures stays { OnErr result ((state_of index course.new work.new ≡ record (state_of index course.old work.old) { hand = work.new }) × (work.new.stage ≡ work.old.stage)) }
+    ensures stays { OnErr result ((state_of index course.new work.new ≡ record (state_of index course.old work.old) { hand = work.new }) × (work.new.stage ≡ work.old.stage) × (work.new.growth.stage ≡ work.old.growth.stage)) }
     ensures survives { Survives D.told (λ passed. passed ≡ pages.old.pages) pages.old pages.new }
     ensures kept { OnErr result (Keeps D.told pages.old pages.new) }
     ensures undamaged { OnOk result (Tells D.told pages.old → DamageIn pages.old.layout pages.old.pages (state_of index course.old work.old) → ⊥) }

@@ -1,11 +1,9 @@
 -- what is read of the block behind the map
-use Rattle.std.proofs.Common.{◌≡◌, ◌≢◌, inl, inr, ⊎_elim, ℕ, ◌+◌, ◌<◌, ◌≤◌, List, length, refl, sym, ap, subst, ◌∙◌, arith}
-use Rattle.std.specs.Prelude.{◌==◌, slice_index, replicate, Bool, Option, None, Some, if◌then◌else◌}
+use Rattle.std.proofs.Common.{◌≡◌, ◌≢◌, inl, inr, ⊎_elim, ℕ, ◌<◌, ◌≤◌, List, refl, sym, ap, subst, ◌∙◌, arith}
+use Rattle.std.specs.Prelude.{slice_index, replicate, Bool, Option, None, Some, if◌then◌else◌}
 use Rattle.std.proofs.lemmas.Bool.{cases_lt, eq-eqb, ne_eqb}
 use Rattle.std.proofs.lemmas.List.{get_or-replicate}
 use Rattle.std.proofs.lemmas.Option.{none-some}
-use Rattle.block_model.specs.declared.place.Place.{Place}
-use Rattle.block_model.specs.declared.place.Spot.{Spot}
 use Rattle.store_layout.specs.DiskLayout.{DiskLayout, page_offset}
 use Rattle.page_store.specs.PageMap.{PageMap, block_at}
 use Rattle.page_layout.specs.IndexLaws.{meta_front, regular_front}
@@ -13,7 +11,6 @@ use Rattle.index_layout.specs.declared.format.TheConstants.{UNSTARTED, META, MAP
 use Rattle.index_layout.specs.IndexPages.{IsIndexPage, Map, Meta, Regular, Unstarted}
 use Rattle.index_layout.specs.IndexReading.{map_pages_of}
 use Rattle.coverage.specs.IndexView.{Pages, next_map_page}
-use Rattle.coverage.specs.Waiting.{IsNextTuple}
 use Rattle.index_contents.specs.IndexContents.{contents, index_page, relation_of, tuple_on}
 use Rattle.index_contents.specs.MapLaws.{is_of_map}
 use Rattle.map_pages.specs.FirstTuples.{IsFirst, IsFirstOn}

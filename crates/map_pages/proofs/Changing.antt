@@ -1,6 +1,6 @@
 -- the page behind the map, and the metapage, as the changes of the log make them
-use Rattle.std.proofs.Common.{◌≡◌, ◌≢◌, inl, inr, ℕ, zero, suc, ◌+◌, ◌<◌, List, [], ◌∷◌, refl, sym, ap, subst, ◌∙◌, arith}
-use Rattle.std.specs.Prelude.{nat_le, slice_index, slice_index_or, length, replicate, Bool, true, false, Option, None, Some, if◌then◌else◌}
+use Rattle.std.proofs.Common.{◌≡◌, ◌≢◌, inl, inr, ℕ, suc, ◌+◌, ◌<◌, List, [], ◌∷◌, refl, sym, ap, subst, ◌∙◌, arith}
+use Rattle.std.specs.Prelude.{slice_index, slice_index_or, length, replicate, Bool, true, None, Some, if◌then◌else◌}
 use Rattle.std.proofs.lemmas.Bool.{cases_eq, ne_eqb}
 use Rattle.std.proofs.lemmas.Option.{none-some}
 use Rattle.block_model.specs.declared.place.Place.{Place}
@@ -19,17 +19,16 @@ use Rattle.page_store.specs.Keeps.{Leaves, Tells}
 use Rattle.page_store.specs.PageMap.{PageMap, View, block_at, page_at}
 use Rattle.wal_record.specs.Changes.{Evacuate, LoggedChange, MapPage, MetaSet, PageStart}
 use Rattle.opened_pages.specs.PageOrder.{IsIndexInOrder, kind_of}
-use Rattle.index_layout.specs.declared.format.TheConstants.{UNSTARTED, META, MAP, REGULAR, EVACUATED, MAP_ENTRIES}
+use Rattle.index_layout.specs.declared.format.TheConstants.{UNSTARTED, META, MAP, EVACUATED, MAP_ENTRIES}
 use Rattle.index_layout.specs.IndexPages.{IsLastUsed, IsMeta, IsRegular, Slot}
 use Rattle.index_layout.specs.IndexReading.{is_regular, map_pages_of, number_at, slots_of}
 use Rattle.coverage.specs.IndexView.{Emptying, Mapping}
 use Rattle.index_contents.specs.IndexContents.{contents, index_page, relation_of, tuple_on}
-use Rattle.index_contents.specs.IndexChanges.{LeavesOtherPages, LeavesOthers}
+use Rattle.index_contents.specs.IndexChanges.{LeavesOtherPages}
 use Rattle.index_contents.specs.MapLaws.{is_of_map}
-use Rattle.index_contents.specs.PageLaws.{StayBeside, blocks_stay, leaves_others}
-use Rattle.index_order.specs.KeepsOrder.{KeepsOrder}
+use Rattle.index_contents.specs.PageLaws.{StayBeside}
 use Rattle.map_pages.specs.MapChanges.{CountsBlock, TurnsBlock}
-use Rattle.map_pages.specs.NextPages.{IsEmptyMap, StandsNext, place_in}
+use Rattle.map_pages.specs.NextPages.{IsEmptyMap, StandsNext}
 use Rattle.map_pages.specs.declared.next.PageState.{PageState}
 use Rattle.map_pages.specs.declared.next.PageState.TheVariants as states
 use Rattle.map_pages.proofs.Counted.{counts_block, no_entry_behind}

@@ -1,10 +1,10 @@
 -- the metapage counts one page more
-use Rattle.std.proofs.Common.{◌≡◌, ◌≢◌, inl, inr, ℕ, zero, suc, ◌+◌, ◌<◌, ◌≤◌, Bool, true, false, List, [], refl, sym, ap, subst, ◌∙◌, arith}
-use Rattle.std.specs.Prelude.{◌==◌, ◌%◌, drop, nat_le, slice_index, slice_index_or, replicate, Option, None, Some, if◌then◌else◌}
+use Rattle.std.proofs.Common.{◌≡◌, inl, inr, ℕ, ◌+◌, Bool, List, [], sym, ap, ◌∙◌, arith}
+use Rattle.std.specs.Prelude.{◌==◌, ◌%◌, drop, nat_le, slice_index, slice_index_or, Option, None, if◌then◌else◌}
 use Rattle.std.proofs.lemmas.Bool.{cases_eq, cases_lt, le-leb, lt-leb}
 use Rattle.block_model.specs.declared.place.Spot.{Spot}
 use Rattle.index_layout.specs.declared.format.TheConstants.{META, REGULAR, MAP_ENTRIES}
-use Rattle.index_layout.specs.IndexPages.{IsMeta, Slot}
+use Rattle.index_layout.specs.IndexPages.{Slot}
 use Rattle.index_layout.specs.IndexReading.{free_of, is_regular, map_pages_of, number_at, slots_in, slots_of}
 use Rattle.index_layout.specs.IndexWrites.{room_for_further, room_on}
 use Rattle.coverage.specs.IndexView.{map_page_of, next_map_page}

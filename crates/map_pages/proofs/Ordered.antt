@@ -1,18 +1,18 @@
 -- the order of an index's pages, where its map grows
-use Rattle.std.proofs.Common.{◌≡◌, ◌≢◌, ◌⊎◌, inl, inr, ⊎_elim, ℕ, zero, suc, ◌+◌, ◌<◌, ◌≤◌, List, refl, sym, ap, subst, ◌∙◌, arith}
-use Rattle.std.specs.Prelude.{◌==◌, slice_index, if◌then◌else◌}
-use Rattle.std.proofs.lemmas.Bool.{cases_eq, cases_lt}
+use Rattle.std.proofs.Common.{◌≡◌, ◌≢◌, ◌⊎◌, inl, inr, ℕ, zero, suc, ◌+◌, ◌<◌, ◌≤◌, List, refl, sym, ap, subst, ◌∙◌, arith}
+use Rattle.std.specs.Prelude.{◌==◌, if◌then◌else◌}
+use Rattle.std.proofs.lemmas.Bool.{cases_eq}
 use Rattle.store_layout.specs.DiskLayout.{DiskLayout}
 use Rattle.page_store.specs.PageMap.{PageMap}
 use Rattle.opened_pages.specs.PageOrder.{IsIndexInOrder, IsOfTuples, empty_page, kind_of, map_pages}
-use Rattle.index_layout.specs.declared.format.TheConstants.{META, MAP}
+use Rattle.index_layout.specs.declared.format.TheConstants.{META}
 use Rattle.index_layout.specs.IndexReading.{map_pages_of, number_at}
 use Rattle.coverage.specs.IndexView.{Mapping, next_map_page}
 use Rattle.index_contents.specs.IndexContents.{contents, index_page}
 use Rattle.index_contents.specs.Kinds.{is_map_page}
 use Rattle.index_contents.specs.PageLaws.{StayBeside}
 use Rattle.index_contents.specs.Reading.{map_byte}
-use Rattle.map_pages.specs.NextPages.{HasEntry, IsEmptyMap, IsNextDamaged, IsStray, StandsNext}
+use Rattle.map_pages.specs.NextPages.{IsEmptyMap, IsNextDamaged, IsStray, StandsNext}
 use Rattle.map_pages.specs.declared.next.PageState.TheVariants as states
 use Rattle.map_pages.proofs.EmptyMaps.{HasOneMap, map_is_empty, no_entries}
 

@@ -1,11 +1,11 @@
 -- the page behind the map of another kind
-use Rattle.std.proofs.Common.{◌≡◌, ◌≢◌, inl, inr, ℕ, zero, suc, ◌+◌, ◌<◌, ◌≤◌, Bool, true, false, List, [], refl, sym, ap, subst, ◌∙◌, arith}
-use Rattle.std.specs.Prelude.{◌==◌, drop, nat_le, slice_index, slice_index_or, replicate, Option, None, Some, if◌then◌else◌}
-use Rattle.std.proofs.lemmas.Bool.{cases_eq, cases_lt, le-leb, lt-leb, ne_eqb}
+use Rattle.std.proofs.Common.{◌≡◌, inl, inr, ℕ, ◌+◌, ◌<◌, Bool, List, [], sym, ap, ◌∙◌, arith}
+use Rattle.std.specs.Prelude.{◌==◌, drop, nat_le, slice_index, slice_index_or, replicate, Option, None, if◌then◌else◌}
+use Rattle.std.proofs.lemmas.Bool.{cases_lt, lt-leb}
 use Rattle.block_model.specs.declared.place.Spot.{Spot}
-use Rattle.index_layout.specs.declared.format.TheConstants.{UNSTARTED, META, MAP, REGULAR, EVACUATED, MAP_ENTRIES}
+use Rattle.index_layout.specs.declared.format.TheConstants.{UNSTARTED, MAP, EVACUATED, MAP_ENTRIES}
 use Rattle.index_layout.specs.IndexPages.{HasSlots, IsRegular, Slot}
-use Rattle.index_layout.specs.IndexReading.{entries_of, is_regular, map_pages_of, number_at, slots_in, slots_of}
+use Rattle.index_layout.specs.IndexReading.{is_regular, map_pages_of, number_at, slots_in, slots_of}
 use Rattle.page_layout.specs.IndexLaws.{regular_front}
 use Rattle.coverage.specs.IndexView.{Emptying, Mapping, PageKind, map_page_of}
 use Rattle.index_contents.specs.IndexContents.{contents_in, entry_in, entry_on, kind_at, tuple_on}

@@ -1,5 +1,5 @@
 -- what the growth of a map makes of what the index has
-use Rattle.std.specs.Prelude.{◌≡◌, ℕ, Option}
+use Rattle.std.specs.Prelude.{◌≡◌, ℕ}
 use Rattle.block_model.specs.declared.place.Spot.{Spot}
 use Rattle.coverage.specs.IndexView.{PageKind, next_map_page}
 use Rattle.coverage.specs.Steps.{TurnsPage}

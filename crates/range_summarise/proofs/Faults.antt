@@ -1,6 +1,5 @@
 -- faults of steps
-use Rattle.std.proofs.Common.{◌≡◌, ℕ, false, sym}
-use Rattle.std.proofs.lemmas.Bool.{false≢true}
+use Rattle.std.proofs.Common.{ℕ}
 use Rattle.std.specs.Prelude.{Err}
 use Rattle.disk_trait.specs.Told.{Told}
 use Rattle.store_layout.specs.DiskLayout.{DiskLayout}
@@ -9,15 +8,10 @@ use Rattle.page_store.specs.declared.faults.MachineFault.TheVariants as faults
 use Rattle.page_store.specs.declared.faults.StoreError.{StoreError}
 use Rattle.page_store.specs.declared.faults.StoreError.TheVariants as errors
 use Rattle.page_store.specs.Outcome.{Refused}
-use Rattle.page_store.specs.PageMap.{PageMap, View}
+use Rattle.page_store.specs.PageMap.{View}
 use Rattle.index_steps.specs.StepAnswers.{IsOfStore}
 use Rattle.index_steps.specs.SwapAnswers.{MachineOutcome, SaysFullIn, StaysWhereFull}
 use Rattle.page_locks.specs.LockHolders.{LockState}
-use Rattle.range_summarise.specs.declared.stage.Stage.{Stage}
-use Rattle.range_summarise.specs.declared.stage.Stage.TheVariants as stages
-use Rattle.range_summarise.specs.StepCauses.{DamageAt}
-use Rattle.range_summarise.specs.SummariseHands.{SummariseHand}
-use Rattle.range_summarise.specs.SummariseSteps.{only_reads}
 
 -- what the page store refuses is no full index
 pub of_store : (layout : DiskLayout) (index : ℕ) (P : ℕ → Type 0) (fault : MachineFault) → IsOfStore fault → SaysFullIn layout index P fault
@@ -47,18 +41,3 @@ pub fault_for : {D : Type 0} (T U : Type 0) (told : D → Told) (Cause Other : T
 fault_for T U told Cause Other old new (faults.Full relation number) follows outcome = outcome
 fault_for T U told Cause Other old new (faults.Store error) follows outcome = refused_for told Cause Other old new error follows outcome
 fault_for T U told Cause Other old new faults.Memory follows never = absurd never
-
--- a step that changes pages finds no damage
-pub changes_find_none : (layout : DiskLayout) (pages : PageMap) (index range : ℕ) (hand : SummariseHand) (stage : Stage) → only_reads stage ≡ false → DamageAt layout pages index range hand stage → ⊥
-changes_find_none layout pages index range hand stages.Map changes damage = false≢true (sym changes)
-changes_find_none layout pages index range hand (stages.Tuple x) changes damage = false≢true (sym changes)
-changes_find_none layout pages index range hand stages.Place changes damage = damage
-changes_find_none layout pages index range hand (stages.Name x) changes damage = damage
-changes_find_none layout pages index range hand stages.Extent changes damage = damage
-changes_find_none layout pages index range hand stages.Pass changes damage = false≢true (sym changes)
-changes_find_none layout pages index range hand (stages.Copy x) changes damage = false≢true (sym changes)
-changes_find_none layout pages index range hand (stages.Swap x) changes damage = damage
-changes_find_none layout pages index range hand (stages.Set x y) changes damage = damage
-changes_find_none layout pages index range hand (stages.Drop x) changes damage = damage
-changes_find_none layout pages index range hand stages.Had changes damage = damage
-changes_find_none layout pages index range hand stages.Made changes damage = damage

@@ -5,7 +5,7 @@ use Rattle.block_model.specs.declared.place.Spot.{Spot}
 use Rattle.store_layout.specs.DiskLayout.{DiskLayout}
 use Rattle.page_store.specs.PageMap.{PageMap}
 use Rattle.coverage.specs.GoesOn.{IsHeld}
-use Rattle.coverage.specs.IndexView.{IndexTuple, IsPastMap, IsTupleOf}
+use Rattle.coverage.specs.IndexView.{IndexTuple, IsTupleOf}
 use Rattle.coverage.specs.IsCovered.{IndexState, IsIndexKept, index_view}
 use Rattle.coverage.specs.Knowing.{Knows}
 use Rattle.coverage.specs.PageOrder.{KnowsPages}
@@ -16,6 +16,8 @@ use Rattle.index_steps.specs.Readings.{IsMisnamed, IsMisread}
 use Rattle.index_steps.specs.ShownIndex.{Shows}
 use Rattle.range_summarise.specs.declared.stage.Stage.{Stage}
 use Rattle.range_summarise.specs.declared.stage.Stage.TheVariants as stages
+use Rattle.map_growth.specs.GrowthSteps.{phase_of as growth_phase}
+use Rattle.map_growth.specs.StepCauses.{DamageAt as DamageToGrow, IsReady as IsReadyToGrow}
 use Rattle.range_summarise.specs.StepCauses.{DamageAt, IsReady}
 use Rattle.range_summarise.specs.SummariseHands.{SummariseHand}
 use Rattle.range_summarise.specs.SummariseSteps.{phase_at}
@@ -27,24 +29,24 @@ module _ (shape : IndexShape) (c : IndexContents) (lock : ℕ → Option ℕ) (w
   pages_at : (statement : Statement) → w.statement s ≡ statement → KnowsPages (index_view w) s statement
   pages_at statement is = subst (λ (q : Statement). KnowsPages (index_view w) s q) is (kept.knows_pages s)
 
-  pub ready_at : (stage : Stage) → w.statement s ≡ Maintaining range (phase_at shape hand stage) → (stage ≡ stages.Place → IsPastMap c.pages range → ⊥) → IsReady shape c range stage
-  ready_at stages.Map is long = tt
-  ready_at (stages.Tuple x) is long = tt
-  ready_at stages.Place is long = long refl
-  ready_at (stages.Name x) is long =
+  pub ready_at : (w.statement s ≡ Maintaining range (growth_phase shape hand.growth) → IsReadyToGrow shape c hand.growth.stage) → (stage : Stage) → w.statement s ≡ Maintaining range (phase_at shape hand stage) → IsReady shape c range hand.growth.stage stage
+  ready_at grows stages.Map is = tt
+  ready_at grows (stages.Tuple x) is = tt
+  ready_at grows stages.Place is = grows is
+  ready_at grows (stages.Name x) is =
       let knows = knows_at (Maintaining range (phase_at shape hand (stages.Name x))) is in
       let pages = pages_at (Maintaining range (phase_at shape hand (stages.Name x))) is in
       record { view = index_view w; lock = lock; shows = shows; ordered = kept.ordered; none = knows.1.0; within = pages.0; put = (knows.1.1.1.0, knows.1.1.1.1) }
-  ready_at stages.Extent is long = tt
-  ready_at stages.Pass is long = tt
-  ready_at (stages.Copy x) is long = tt
-  ready_at (stages.Swap x) is long = tt
-  ready_at (stages.Set x y) is long =
+  ready_at grows stages.Extent is = tt
+  ready_at grows stages.Pass is = tt
+  ready_at grows (stages.Copy x) is = tt
+  ready_at grows (stages.Swap x) is = tt
+  ready_at grows (stages.Set x y) is =
       let knows = knows_at (Maintaining range (phase_at shape hand (stages.Set x y))) is in
       record { view = index_view w; lock = lock; shows = shows; ordered = kept.ordered; named = knows.1.0.2; put = (_, knows.1.0.4) }
-  ready_at (stages.Drop x) is long = tt
-  ready_at stages.Had is long = tt
-  ready_at stages.Made is long = tt
+  ready_at grows (stages.Drop x) is = tt
+  ready_at grows stages.Had is = tt
+  ready_at grows stages.Made is = tt
 
   -- a tuple of the range at a place that the map named is one of the index
   held_is_one : (x : Spot) → IsHeld (index_view w) range x → (t : IndexTuple) → w.tuple x ≡ Some t → t.range ≡ range → IsTupleOf (index_view w) t
@@ -72,19 +74,19 @@ module _ (layout : DiskLayout) (pages : PageMap) (index : ℕ) (lock : ℕ → O
     knows stage is = knows_at shape c lock w s range hand shows kept (Maintaining range (phase_at shape hand stage)) is
 
     -- no step finds damage
-    pub sound_at : (stage : Stage) → w.statement s ≡ Maintaining range (phase_at shape hand stage) → DamageAt layout pages index range hand stage → ⊥
-    sound_at stages.Map is damage = misnamed damage
-    sound_at (stages.Tuple x) is damage = misread x (held x (knows (stages.Tuple x) is).1.1) damage
-    sound_at stages.Place is damage = damage
-    sound_at (stages.Name x) is damage = damage
-    sound_at stages.Extent is damage = damage
-    sound_at stages.Pass is (all, inl damage) = misnamed damage
-    sound_at stages.Pass is (all, inr none) =
+    pub sound_at : (stage : Stage) → (stage ≡ stages.Place → w.statement s ≡ Maintaining range (growth_phase shape hand.growth) → DamageToGrow layout pages index hand.growth.stage → ⊥) → w.statement s ≡ Maintaining range (phase_at shape hand stage) → DamageAt layout pages index range hand stage → ⊥
+    sound_at stages.Map grows is damage = misnamed damage
+    sound_at (stages.Tuple x) grows is damage = misread x (held x (knows (stages.Tuple x) is).1.1) damage
+    sound_at stages.Place grows is damage = grows refl is damage.1
+    sound_at (stages.Name x) grows is damage = damage
+    sound_at stages.Extent grows is damage = damage
+    sound_at stages.Pass grows is (all, inl damage) = misnamed damage
+    sound_at stages.Pass grows is (all, inr none) =
         let placeholder = (pages_at shape c lock w s range hand shows kept (Maintaining range (phase_at shape hand stages.Pass)) is).1 in
         none-some placeholder.0 (sym none ∙ sym (shows.entry range) ∙ placeholder.2)
-    sound_at (stages.Copy x) is damage = misread x (held x (knows (stages.Copy x) is).1.0.1) damage
-    sound_at (stages.Swap x) is damage = damage
-    sound_at (stages.Set x y) is damage = damage
-    sound_at (stages.Drop x) is damage = damage
-    sound_at stages.Had is damage = damage
-    sound_at stages.Made is damage = damage
+    sound_at (stages.Copy x) grows is damage = misread x (held x (knows (stages.Copy x) is).1.0.1) damage
+    sound_at (stages.Swap x) grows is damage = damage
+    sound_at (stages.Set x y) grows is damage = damage
+    sound_at (stages.Drop x) grows is damage = damage
+    sound_at stages.Had grows is damage = damage
+    sound_at stages.Made grows is damage = damage

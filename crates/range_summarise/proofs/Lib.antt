@@ -9,3 +9,4 @@ pub mod Declared
 pub mod Exact
 pub mod Locking
 pub mod Joined
+pub mod Grown

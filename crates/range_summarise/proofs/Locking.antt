@@ -13,10 +13,12 @@ use Rattle.page_store.specs.Outcome.{IsReopen}
 use Rattle.index_steps.specs.Readings.{NamesPageOf}
 use Rattle.index_steps.specs.StepAnswers.{NeverBlocked}
 use Rattle.index_steps.specs.SwapAnswers.{LeavesLocks, TakesAtMost}
+use Rattle.map_growth.specs.declared.stage.Stage.{Stage as GrowthStage}
+use Rattle.map_growth.specs.declared.stage.Stage.TheVariants as growth
 use Rattle.range_summarise.specs.declared.stage.Stage.{Stage}
 use Rattle.range_summarise.specs.declared.stage.Stage.TheVariants as stages
 use Rattle.range_summarise.specs.StageLocks.{GivesAt, held_at}
-use Rattle.range_summarise.specs.SummariseHands.{SummariseHand}
+use Rattle.range_summarise.specs.SummariseHands.{GrowsToPlace, SummariseHand}
 use Rattle.range_summarise.specs.SummariseSteps.{RestsBlocked, only_reads}
 
 -- locks that stay
@@ -27,33 +29,33 @@ pub takes_none : (n : ℕ) (locks : LockState) (s : ℕ) → TakesAtMost n locks
 takes_none n locks s = record { limit = refl; adds = record { own = omega arith; others = λ a other. refl; all = omega arith } }
 
 -- a step that only reads has no locks and gives none
-pub reads_hold_none : (stage : Stage) → only_reads stage ≡ true → held_at stage ≡ 0
-reads_hold_none stages.Map reads = refl
-reads_hold_none (stages.Tuple x) reads = refl
-reads_hold_none stages.Place reads = refl
-reads_hold_none (stages.Name x) reads = absurd (false≢true reads)
-reads_hold_none stages.Extent reads = refl
-reads_hold_none stages.Pass reads = refl
-reads_hold_none (stages.Copy x) reads = refl
-reads_hold_none (stages.Swap x) reads = refl
-reads_hold_none (stages.Set x y) reads = absurd (false≢true reads)
-reads_hold_none (stages.Drop x) reads = absurd (false≢true reads)
-reads_hold_none stages.Had reads = refl
-reads_hold_none stages.Made reads = refl
+pub reads_hold_none : (at : GrowthStage) (stage : Stage) → only_reads stage ≡ true → held_at at stage ≡ 0
+reads_hold_none at stages.Map reads = refl
+reads_hold_none at (stages.Tuple x) reads = refl
+reads_hold_none at stages.Place reads = absurd (false≢true reads)
+reads_hold_none at (stages.Name x) reads = absurd (false≢true reads)
+reads_hold_none at stages.Extent reads = refl
+reads_hold_none at stages.Pass reads = refl
+reads_hold_none at (stages.Copy x) reads = refl
+reads_hold_none at (stages.Swap x) reads = refl
+reads_hold_none at (stages.Set x y) reads = absurd (false≢true reads)
+reads_hold_none at (stages.Drop x) reads = absurd (false≢true reads)
+reads_hold_none at stages.Had reads = refl
+reads_hold_none at stages.Made reads = refl
 
-pub reads_give_none : (stage : Stage) → only_reads stage ≡ true → GivesAt stage → ⊥
-reads_give_none stages.Map reads gives = gives
-reads_give_none (stages.Tuple x) reads gives = gives
-reads_give_none stages.Place reads gives = gives
-reads_give_none (stages.Name x) reads gives = absurd (false≢true reads)
-reads_give_none stages.Extent reads gives = gives
-reads_give_none stages.Pass reads gives = gives
-reads_give_none (stages.Copy x) reads gives = gives
-reads_give_none (stages.Swap x) reads gives = gives
-reads_give_none (stages.Set x y) reads gives = gives
-reads_give_none (stages.Drop x) reads gives = absurd (false≢true reads)
-reads_give_none stages.Had reads gives = gives
-reads_give_none stages.Made reads gives = gives
+pub reads_give_none : (at : GrowthStage) (stage : Stage) → only_reads stage ≡ true → GivesAt at stage → ⊥
+reads_give_none at stages.Map reads gives = gives
+reads_give_none at (stages.Tuple x) reads gives = gives
+reads_give_none at stages.Place reads gives = absurd (false≢true reads)
+reads_give_none at (stages.Name x) reads gives = absurd (false≢true reads)
+reads_give_none at stages.Extent reads gives = gives
+reads_give_none at stages.Pass reads gives = gives
+reads_give_none at (stages.Copy x) reads gives = gives
+reads_give_none at (stages.Swap x) reads gives = gives
+reads_give_none at (stages.Set x y) reads gives = gives
+reads_give_none at (stages.Drop x) reads gives = absurd (false≢true reads)
+reads_give_none at stages.Had reads gives = gives
+reads_give_none at stages.Made reads gives = gives
 
 -- so many locks more than none
 pub few_more : (n held some : ℕ) (old new : LockState) (s : ℕ) → TakesAtMost n old new s → locks_of old s ≤ held → held + n ≤ some → locks_of new s ≤ some
@@ -79,3 +81,40 @@ pub reopen_names : (layout : DiskLayout) (index : ℕ) (error : StoreError) → 
 reopen_names layout index errors.Disk never = absurd never
 reopen_names layout index (errors.Reopen faults) is = tt
 reopen_names layout index (errors.Damaged at) never = absurd never
+
+-- where no growth is under way, it is at rest everywhere
+pub grows_nowhere : (at : GrowthStage) (stage : Stage) → at ≡ growth.Judge → GrowsToPlace at stage
+grows_nowhere at stages.Map rests = rests
+grows_nowhere at (stages.Tuple x) rests = rests
+grows_nowhere at stages.Place rests = tt
+grows_nowhere at (stages.Name x) rests = rests
+grows_nowhere at stages.Extent rests = rests
+grows_nowhere at stages.Pass rests = rests
+grows_nowhere at (stages.Copy x) rests = rests
+grows_nowhere at (stages.Swap x) rests = rests
+grows_nowhere at (stages.Set x y) rests = rests
+grows_nowhere at (stages.Drop x) rests = rests
+grows_nowhere at stages.Had rests = rests
+grows_nowhere at stages.Made rests = rests
+
+-- a step that only reads begins with no growth under way
+pub reads_at_rest : (at : GrowthStage) (stage : Stage) → only_reads stage ≡ true → GrowsToPlace at stage → at ≡ growth.Judge
+reads_at_rest at stages.Map reads grows = grows
+reads_at_rest at (stages.Tuple x) reads grows = grows
+reads_at_rest at stages.Place reads grows = absurd (false≢true reads)
+reads_at_rest at (stages.Name x) reads grows = grows
+reads_at_rest at stages.Extent reads grows = grows
+reads_at_rest at stages.Pass reads grows = grows
+reads_at_rest at (stages.Copy x) reads grows = grows
+reads_at_rest at (stages.Swap x) reads grows = grows
+reads_at_rest at (stages.Set x y) reads grows = grows
+reads_at_rest at (stages.Drop x) reads grows = grows
+reads_at_rest at stages.Had reads grows = grows
+reads_at_rest at stages.Made reads grows = grows
+
+-- so many locks are at most more
+pub few_taken : (n some : ℕ) (old new : LockState) (s : ℕ) → n ≤ some → TakesAtMost n old new s → TakesAtMost some old new s
+few_taken n some old new s fits takes = record {
+  limit = takes.limit;
+  adds = record { own = omega (arith, takes.adds.own, fits); others = takes.adds.others; all = omega (arith, takes.adds.all, fits) };
+}

@@ -8,7 +8,7 @@ use Rattle.range_tuple.specs.TupleBytes.{tuple_bytes}
 use Rattle.range_tuple.specs.Tuples.{Tuple, parts_of, restarted}
 use Rattle.coverage.specs.IndexView.{Building, IndexTuple, IndexView, Pages, Passing, IsPastMap, placeholder_length}
 use Rattle.coverage.specs.Knowing.{LocksNone}
-use Rattle.coverage.specs.Statements.{Vacant, rows_added, HasNoMoreRows}
+use Rattle.coverage.specs.Statements.{rows_added, HasNoMoreRows}
 use Rattle.coverage.specs.Steps.{ReadsIndex}
 use Rattle.coverage.specs.Verdicts.{Full, PutVerdict, SwapVerdict, Verdict, Waits}
 use Rattle.coverage.specs.Waiting.{FinalWaits, IsPhaseFull, PlaceFull, PlaceWaits}
@@ -23,6 +23,8 @@ use Rattle.index_steps.specs.PlaceAnswers.{NamesIn, PlaceMakes}
 use Rattle.index_steps.specs.Readings.{IsReadAs, ShowsGone, ShowsTuple}
 use Rattle.index_steps.specs.ShownIndex.{Shows, shown_part}
 use Rattle.index_steps.specs.SwapAnswers.{SwapMakes, view_after}
+use Rattle.map_growth.specs.declared.stage.Stage.TheVariants as growth
+use Rattle.map_growth.specs.GrowthSteps.{phase_of as growth_phase}
 use Rattle.range_summarise.specs.declared.stage.Stage.TheVariants as stages
 use Rattle.range_summarise.specs.ShownHeap.{Heap, ShowsHeap}
 use Rattle.range_summarise.specs.SummariseHands.{SummariseHand}
@@ -34,6 +36,10 @@ use Rattle.range_summarise.proofs.Stepping.{again, copies, drops, found, gone, i
 abbrev pub at_hand : IndexContents → (ℕ → Option ℕ) → SummariseHand → SummariseAt
 at_hand c lock hand = record { pages = c; lock = lock; hand = hand }
 
+-- what is so while the growth stands before a page, is so of a growth that does
+pub at_rest : (Q : SummariseHand → Type 0) (hand : SummariseHand) → hand.growth.stage ≡ growth.Judge → Q (record hand { growth = record hand.growth { stage = growth.Judge } }) → Q hand
+at_rest Q hand rests proof = subst Q (λ j. record hand { growth = record hand.growth { stage = sym rests j } }) proof
+
 -- what the actor reads of the index stays
 abbrev pub Reads : IndexShape → (c d : IndexContents) (lock : ℕ → Option ℕ) (s : ℕ) → Type 0
 Reads shape c d lock s = (w : IndexView) → Shows shape c lock w → LocksNone w.lock s → (building : ℕ → Option Building) (loose : ℕ → Option Spot) → ReadsIndex s w (view_after shape d lock w building loose)
@@ -41,25 +47,26 @@ Reads shape c d lock s = (w : IndexView) → Shows shape c lock w → LocksNone 
 module _ (shape : IndexShape) (heap : Heap) (s range : ℕ) (c d : IndexContents) (lock : ℕ → Option ℕ) (hand : SummariseHand) (reads : Reads shape c d lock s) where
   pub is_named : (copied : List ℕ) (x : Spot) → c.entry range ≡ Some x
       → Stepped shape heap s range (at_hand c lock (record hand { stage = stages.Map })) (at_hand d lock (record hand { stage = stages.Tuple x; copied = copied })) (did.Moved points.Map)
-  is_named copied x is = ((0, (λ w shows rows its knows pages. looks s range w (shown_part shape d lock w.unnamed) (reads w shows knows.1) x (shows.entry range ∙ is)), refl), tt)
+  is_named copied x is = ((0, (λ w shows rows its knows pages. (w.unnamed, (λ x is. is), looks s range w (shown_part shape d lock w.unnamed) (reads w shows knows.1) x (shows.entry range ∙ is))), refl), tt)
 
-  pub is_unnamed : (copied : List ℕ) → c.entry range ≡ None
+  pub is_unnamed : (copied : List ℕ) → hand.growth.stage ≡ growth.Judge → c.entry range ≡ None
       → Stepped shape heap s range (at_hand c lock (record hand { stage = stages.Map })) (at_hand d lock (record hand { stage = stages.Place; copied = copied })) (did.Moved points.Map)
-  is_unnamed copied is = ((0, (λ w shows rows its knows pages. no_entry s range w (shown_part shape d lock w.unnamed) (reads w shows knows.1) (shows.entry range ∙ is) its), refl), tt)
+  is_unnamed copied rests is = at_rest (λ (h : SummariseHand). Stepped shape heap s range (at_hand c lock (record h { stage = stages.Map })) (at_hand d lock (record h { stage = stages.Place; copied = copied })) (did.Moved points.Map)) hand rests
+      ((0, (λ w shows rows its knows pages. (w.unnamed, (λ x is. is), no_entry s range w (shown_part shape d lock w.unnamed) (reads w shows knows.1) (shows.entry range ∙ is) its)), refl), tt)
 
   pub has_gone : (copied : List ℕ) (united : Tuple) (x : Spot) → ShowsGone shape c range x
       → Stepped shape heap s range (at_hand c lock (record hand { stage = stages.Tuple x })) (at_hand d lock (record hand { stage = stages.Map; copied = copied; united = united })) (did.Moved points.Tuple)
-  has_gone copied united x none = ((0, (λ w shows rows its knows pages. look_gone s range w (shown_part shape d lock w.unnamed) (reads w shows knows.1.0) x (none lock w shows)), refl), tt)
+  has_gone copied united x none = ((0, (λ w shows rows its knows pages. (w.unnamed, (λ x is. is), look_gone s range w (shown_part shape d lock w.unnamed) (reads w shows knows.1.0) x (none lock w shows))), refl), tt)
 
   pub is_taken_up : (bytes : List ℕ) (t : Tuple) (x : Spot) → ShowsTuple shape c range x bytes → IsReadAs shape bytes t → t.placeholder ≡ true
       → Stepped shape heap s range (at_hand c lock (record hand { stage = stages.Tuple x })) (at_hand d lock (record hand { stage = stages.Extent; copied = bytes; united = t })) (did.Moved points.Tuple)
   is_taken_up bytes t x there read flag =
-      ((0, (λ w shows rows its knows pages. found s range w (shown_part shape d lock w.unnamed) (reads w shows knows.1.0) x (seen shape bytes) (there lock w shows) (seen_sort shape bytes t read ∙ flag)), refl), tt)
+      ((0, (λ w shows rows its knows pages. (w.unnamed, (λ x is. is), found s range w (shown_part shape d lock w.unnamed) (reads w shows knows.1.0) x (seen shape bytes) (there lock w shows) (seen_sort shape bytes t read ∙ flag))), refl), tt)
 
   pub had_final : (bytes : List ℕ) (t : Tuple) (x : Spot) → ShowsTuple shape c range x bytes → IsReadAs shape bytes t → t.placeholder ≡ false
       → Stepped shape heap s range (at_hand c lock (record hand { stage = stages.Tuple x })) (at_hand d lock (record hand { stage = stages.Had; copied = bytes; united = t })) (did.Finished points.Tuple)
   had_final bytes t x there read final =
-      ((0, (λ w shows rows its knows pages. is_final s range w (shown_part shape d lock w.unnamed) (reads w shows knows.1.0) x (seen shape bytes) (there lock w shows) (seen_sort shape bytes t read ∙ final)), refl), tt)
+      ((0, (λ w shows rows its knows pages. (w.unnamed, (λ x is. is), is_final s range w (shown_part shape d lock w.unnamed) (reads w shows knows.1.0) x (seen shape bytes) (there lock w shows) (seen_sort shape bytes t read ∙ final))), refl), tt)
 
   pub extent_is : (t u : Tuple) (extent first : ℕ) → parts_of t.columns ≡ classes_of shape → u ≡ restarted range t → extent ≡ min (length heap.blocks) ((range + 1) * heap.pages_per_range) → first ≡ range * heap.pages_per_range
       → Stepped shape heap s range (at_hand c lock (record hand { stage = stages.Extent })) (at_hand d lock (record hand { stage = stages.Pass; extent = extent; next = first; running = u })) (did.Moved points.Extent)
@@ -67,11 +74,13 @@ module _ (shape : IndexShape) (heap : Heap) (s range : ℕ) (c d : IndexContents
     (
       0,
       (
-          λ w shows rows its knows pages.
-          reads_extent s range w (shown_part shape d lock w.unnamed) (reads w shows knows.1.0) extent first (seen shape (tuple_bytes u)) (empty_there shape c lock w range t u shows of started)
-          (is ∙ ap (λ (n : ℕ). min n ((range + 1) * heap.pages_per_range)) (sym rows.blocks) ∙ ap (λ (n : ℕ). min w.blocks ((range + 1) * n)) (sym rows.pages_per_range))
-          (at ∙ ap (λ (n : ℕ). range * n) (sym rows.pages_per_range))
-          ),
+          λ w shows rows its knows pages. (
+            w.unnamed,
+            (λ x is. is),
+            reads_extent s range w (shown_part shape d lock w.unnamed) (reads w shows knows.1.0) extent first (seen shape (tuple_bytes u)) (empty_there shape c lock w range t u shows of started)
+                (is ∙ ap (λ (n : ℕ). min n ((range + 1) * heap.pages_per_range)) (sym rows.blocks) ∙ ap (λ (n : ℕ). min w.blocks ((range + 1) * n)) (sym rows.pages_per_range))
+                (at ∙ ap (λ (n : ℕ). range * n) (sym rows.pages_per_range)),
+          )),
       refl,
     ),
     tt,
@@ -84,9 +93,7 @@ module _ (shape : IndexShape) (heap : Heap) (s range : ℕ) (c d : IndexContents
     (
       0,
       (
-          λ w shows rows its knows pages.
-          passes s range w (shown_part shape d lock w.unnamed) (reads w shows knows.1.0) hand.extent block slots (seen shape (tuple_bytes t)) (seen shape (tuple_bytes u)) below (made w shows rows).0 (made w shows rows).1
-          ),
+          λ w shows rows its knows pages. (w.unnamed, (λ x is. is), passes s range w (shown_part shape d lock w.unnamed) (reads w shows knows.1.0) hand.extent block slots (seen shape (tuple_bytes t)) (seen shape (tuple_bytes u)) below (made w shows rows).0 (made w shows rows).1)),
       refl,
     ),
     tt,
@@ -98,9 +105,7 @@ module _ (shape : IndexShape) (heap : Heap) (s range : ℕ) (c d : IndexContents
     (
       0,
       (
-          λ w shows rows its knows pages.
-          looks_again s range w (shown_part shape d lock w.unnamed) (reads w shows knows.1.0) hand.extent hand.next (seen shape (tuple_bytes hand.running)) all x (shows.entry range ∙ is)
-          ),
+          λ w shows rows its knows pages. (w.unnamed, (λ x is. is), looks_again s range w (shown_part shape d lock w.unnamed) (reads w shows knows.1.0) hand.extent hand.next (seen shape (tuple_bytes hand.running)) all x (shows.entry range ∙ is))),
       refl,
     ),
     tt,
@@ -112,9 +117,7 @@ module _ (shape : IndexShape) (heap : Heap) (s range : ℕ) (c d : IndexContents
     (
       0,
       (
-          λ w shows rows its knows pages.
-          gone s range w (shown_part shape d lock w.unnamed) (reads w shows knows.1.0.0) hand.extent hand.next (seen shape (tuple_bytes hand.running)) pages.3 x (none lock w shows)
-          ),
+          λ w shows rows its knows pages. (w.unnamed, (λ x is. is), gone s range w (shown_part shape d lock w.unnamed) (reads w shows knows.1.0.0) hand.extent hand.next (seen shape (tuple_bytes hand.running)) pages.3 x (none lock w shows))),
       refl,
     ),
     tt,
@@ -126,10 +129,12 @@ module _ (shape : IndexShape) (heap : Heap) (s range : ℕ) (c d : IndexContents
     (
       0,
       (
-          λ w shows rows its knows pages.
-          copies s range w (shown_part shape d lock w.unnamed) (reads w shows knows.1.0.0) hand.extent hand.next (seen shape (tuple_bytes running)) pages.3 x (seen shape bytes) (seen shape (tuple_bytes u)) (there lock w shows)
-          (united_there shape c lock w bytes (tuple_bytes running) t running u shows read read_too is)
-          ),
+          λ w shows rows its knows pages. (
+            w.unnamed,
+            (λ x is. is),
+            copies s range w (shown_part shape d lock w.unnamed) (reads w shows knows.1.0.0) hand.extent hand.next (seen shape (tuple_bytes running)) pages.3 x (seen shape bytes) (seen shape (tuple_bytes u)) (there lock w shows)
+                (united_there shape c lock w bytes (tuple_bytes running) t running u shows read read_too is),
+          )),
       refl,
     ),
     tt,
@@ -137,20 +142,19 @@ module _ (shape : IndexShape) (heap : Heap) (s range : ℕ) (c d : IndexContents
 
 module _ (shape : IndexShape) (heap : Heap) (s range : ℕ) (c d : IndexContents) (lock locked : ℕ → Option ℕ) (hand : SummariseHand) where
   -- a placeholder is put, or its page or the map's is another's
-  module _ (t u : Tuple) (of : parts_of t.columns ≡ classes_of shape) (started : u ≡ restarted range t) (long : IsPastMap c.pages range → ⊥) where
+  module _ (t u : Tuple) (of : parts_of t.columns ≡ classes_of shape) (started : u ≡ restarted range t) (rests : hand.growth.stage ≡ growth.Judge) (long : IsPastMap c.pages range → ⊥) where
     not_past : (w : IndexView) → Shows shape c lock w → IsPastMap w.pages range → ⊥
     not_past w shows = subst (λ (pages : Pages). IsPastMap pages range → ⊥) (sym shows.pages) long
 
     pub is_put : (y : Spot) → PlaceMakes shape c d lock locked s range (seen shape (tuple_bytes u)) (placed.Put y)
         → Stepped shape heap s range (at_hand c lock (record hand { stage = stages.Place })) (at_hand d locked (record hand { stage = stages.Name y; united = u })) (did.Moved points.Put)
-    is_put y makes = (
+    is_put y makes = at_rest (λ (h : SummariseHand). Stepped shape heap s range (at_hand c lock (record h { stage = stages.Place })) (at_hand d locked (record h { stage = stages.Name y; united = u })) (did.Moved points.Put)) hand rests (
       (
         0,
         (
             λ w shows rows its knows pages.
             let made = makes w shows knows.1.0 in
-            puts_new s range w (shown_part shape d locked w.unnamed) y (seen shape (tuple_bytes u)) (empty_there shape c lock w range t u shows of started) (not_past w shows) made.0 made.1 made.2
-            ),
+            (w.unnamed, (λ x is. is), puts_new s range w (shown_part shape d locked w.unnamed) y (seen shape (tuple_bytes u)) (empty_there shape c lock w range t u shows of started) (not_past w shows) made.0 made.1 made.2)),
         refl,
       ),
       tt,
@@ -162,19 +166,19 @@ module _ (shape : IndexShape) (heap : Heap) (s range : ℕ) (c d : IndexContents
 
     pub waits_to_put : (held : Held) → PlaceMakes shape c d lock locked s range (seen shape (tuple_bytes u)) (placed.Waits held)
         → Stepped shape heap s range (at_hand c lock (record hand { stage = stages.Place })) (at_hand d locked (record hand { stage = stages.Place; united = u })) (did.Blocked held)
-    waits_to_put held makes = (
+    waits_to_put held makes = at_rest (λ (h : SummariseHand). Stepped shape heap s range (at_hand c lock (record h { stage = stages.Place })) (at_hand d locked (record h { stage = stages.Place; united = u })) (did.Blocked held)) hand rests (
       (λ w shows rows knows. PlaceWaits held.page.block (not_past w shows) (subst (λ (n : ℕ). PutVerdict w s range n (Waits held.page.block)) (as_long w shows) (makes w shows knows.1.0))),
       refl,
       refl,
     )
 
-    pub full_to_put : (w : IndexView) (number : ℕ) → Shows shape c lock w → PutVerdict w s range (length (seen shape (tuple_bytes u)).bytes) (Full number) → IsPhaseFull w s range Vacant number
-    full_to_put w number shows verdict = PlaceFull number (not_past w shows) (subst (λ (n : ℕ). PutVerdict w s range n (Full number)) (as_long w shows) verdict)
+    pub full_to_put : (w : IndexView) (number : ℕ) → Shows shape c lock w → PutVerdict w s range (length (seen shape (tuple_bytes u)).bytes) (Full number) → IsPhaseFull w s range (growth_phase shape hand.growth) number
+    full_to_put w number shows verdict = at_rest (λ (h : SummariseHand). IsPhaseFull w s range (growth_phase shape h.growth) number) hand rests (PlaceFull number (not_past w shows) (subst (λ (n : ℕ). PutVerdict w s range n (Full number)) (as_long w shows) verdict))
 
   pub is_placed : (y : Spot) → NamesIn shape c d lock locked s range y
       → Stepped shape heap s range (at_hand c lock (record hand { stage = stages.Name y })) (at_hand d locked (record hand { stage = stages.Extent })) (did.Moved points.Set)
   is_placed y named =
-      ((0, (λ w shows rows its knows pages. names s range w (shown_part shape d locked w.unnamed) y (named w shows).0 (named w shows).1), refl), tt)
+      ((0, (λ w shows rows its knows pages. (w.unnamed, (λ x is. is), names s range w (shown_part shape d locked w.unnamed) y (named w shows).0 (named w shows).1)), refl), tt)
 
   -- the final tuple takes the placeholder's place
   module _ (x : Spot) (copied : List ℕ) (united : Tuple) where
@@ -186,8 +190,7 @@ module _ (shape : IndexShape) (heap : Heap) (s range : ℕ) (c d : IndexContents
         (
             λ w shows rows its knows pages.
             let made = makes w shows knows.1.0.0 in
-            swaps_in s range w (shown_part shape d locked w.unnamed) (Passing hand.extent hand.next (seen shape (tuple_bytes hand.running))) x (seen shape copied) (seen shape (tuple_bytes united)) made.0 made.1
-            ),
+            (w.unnamed, (λ x is. is), swaps_in s range w (shown_part shape d locked w.unnamed) (Passing hand.extent hand.next (seen shape (tuple_bytes hand.running))) x (seen shape copied) (seen shape (tuple_bytes united)) made.0 made.1)),
         refl,
       ),
       tt,
@@ -201,8 +204,7 @@ module _ (shape : IndexShape) (heap : Heap) (s range : ℕ) (c d : IndexContents
         (
             λ w shows rows its knows pages.
             let made = makes w shows knows.1.0.0 in
-            again s range w (shown_part shape d locked w.unnamed) made.1 hand.extent hand.next (seen shape (tuple_bytes hand.running)) pages.3 x (seen shape copied) (seen shape (tuple_bytes united)) made.0
-            ),
+            (w.unnamed, (λ x is. is), again s range w (shown_part shape d locked w.unnamed) made.1 hand.extent hand.next (seen shape (tuple_bytes hand.running)) pages.3 x (seen shape copied) (seen shape (tuple_bytes united)) made.0)),
         refl,
       ),
       tt,
@@ -227,8 +229,7 @@ module _ (shape : IndexShape) (heap : Heap) (s range : ℕ) (c d : IndexContents
         (
             λ w shows rows its knows pages.
             let made = makes w shows knows.1.0.0 in
-            moves s range w (shown_part shape d locked w.unnamed) hand.extent hand.next (seen shape (tuple_bytes hand.running)) x y (seen shape copied) (seen shape (tuple_bytes united)) pages.3 made.0 made.1 made.2
-            ),
+            (w.unnamed, (λ x is. is), moves s range w (shown_part shape d locked w.unnamed) hand.extent hand.next (seen shape (tuple_bytes hand.running)) x y (seen shape copied) (seen shape (tuple_bytes united)) pages.3 made.0 made.1 made.2)),
         refl,
       ),
       tt,
@@ -236,7 +237,7 @@ module _ (shape : IndexShape) (heap : Heap) (s range : ℕ) (c d : IndexContents
 
   pub is_dropped : (x : Spot) → DropsIn shape c d lock locked s x
       → Stepped shape heap s range (at_hand c lock (record hand { stage = stages.Drop x })) (at_hand d locked (record hand { stage = stages.Made })) (did.Finished points.Drop)
-  is_dropped x dropped = ((0, (λ w shows rows its knows pages. drops s range w (shown_part shape d locked w.unnamed) x (dropped w shows)), refl), tt)
+  is_dropped x dropped = ((0, (λ w shows rows its knows pages. (w.unnamed, (λ x is. is), drops s range w (shown_part shape d locked w.unnamed) x (dropped w shows))), refl), tt)
 
 pub is_set : (shape : IndexShape) (heap : Heap) (s range : ℕ) (c d : IndexContents) (lock : ℕ → Option ℕ) (hand : SummariseHand) (x y : Spot) → SetsIn shape c d range y
     → Stepped shape heap s range (at_hand c lock (record hand { stage = stages.Set x y })) (at_hand d lock (record hand { stage = stages.Drop x })) (did.Moved points.Set)
@@ -244,10 +245,12 @@ is_set shape heap s range c d lock hand x y named = (
   (
     1,
     (
-        λ w shows rows its knows pages.
-        sets s range w (shown_part shape d lock w.unnamed) (Passing hand.extent hand.next (seen shape (tuple_bytes hand.running))) x y (seen shape hand.copied) (seen shape (tuple_bytes hand.united))
-        (named lock w shows s) (λ page. sym (shows.lock page))
-        ),
+        λ w shows rows its knows pages. (
+          w.unnamed,
+          (λ x is. is),
+          sets s range w (shown_part shape d lock w.unnamed) (Passing hand.extent hand.next (seen shape (tuple_bytes hand.running))) x y (seen shape hand.copied) (seen shape (tuple_bytes hand.united))
+              (named lock w shows s) (λ page. sym (shows.lock page)),
+        )),
     refl,
   ),
   tt,

@@ -6,3 +6,4 @@ pub mod BlockRows
 pub mod Works
 pub mod ExactSummaries
 pub mod StageLocks
+pub mod Growths

@@ -6,30 +6,33 @@ use Rattle.page_store.specs.declared.faults.MachineFault.TheVariants as faults
 use Rattle.page_store.specs.Outcome.{NamesPage}
 use Rattle.page_store.specs.PageMap.{PageMap}
 use Rattle.heap_rows.specs.Heaps.{relation_of}
-use Rattle.coverage.specs.IndexView.{IsPastMap}
 use Rattle.index_contents.specs.IndexContents.{IndexContents, contents}
 use Rattle.index_steps.specs.IndexTuples.{IndexShape, shape_of}
 use Rattle.index_steps.specs.MoveEnds.{IsMoving}
 use Rattle.index_steps.specs.PlaceAnswers.{IsPlacing}
 use Rattle.index_steps.specs.Readings.{IsMisnamed, IsMisread}
 use Rattle.index_steps.specs.SwapAnswers.{FaultNamesPageOf}
+use Rattle.map_growth.specs.declared.stage.Stage.{Stage as GrowthStage}
+use Rattle.map_growth.specs.GrowthSteps.{IsNeeded}
+use Rattle.map_growth.specs.StepCauses.{DamageAt as DamageToGrow, IsReady as IsReadyToGrow}
 use Rattle.range_summarise.specs.declared.stage.Stage.{Stage}
 use Rattle.range_summarise.specs.declared.stage.Stage.TheVariants as stages
 use Rattle.range_summarise.specs.SummariseHands.{SummariseHand, table_of}
 
--- The pages show an index that is where the summarise left it: the map has a page for the placeholder's entry, and still names what it
--- named.
-abbrev pub IsReady : IndexShape → IndexContents → (range : ℕ) → Stage → Type 0
-IsReady shape c range stages.Place = IsPastMap c.pages range → ⊥
-IsReady shape c range (stages.Name x) = IsPlacing shape c range x
-IsReady shape c range (stages.Set x y) = IsMoving shape c range x y
-IsReady shape c range stage = Unit {0}
+-- The pages show an index that is where the summarise left it: the map still names what it named, and has a page for the entry of a
+-- placeholder that is put.
+abbrev pub IsReady : IndexShape → IndexContents → (range : ℕ) → GrowthStage → Stage → Type 0
+IsReady shape c range at stages.Place = IsReadyToGrow shape c at
+IsReady shape c range at (stages.Name x) = IsPlacing shape c range x
+IsReady shape c range at (stages.Set x y) = IsMoving shape c range x y
+IsReady shape c range at stage = Unit {0}
 
--- what is damaged where a step at this stage finds damage: the range's entry; the tuple to be copied; or, once all blocks are passed, the
--- placeholder is gone
+-- what is damaged where a step at this stage finds damage: the range's entry; the tuple to be copied; where the map grows, what the growth
+-- finds; or, once all blocks are passed, the placeholder is gone
 abbrev pub DamageAt : DiskLayout → PageMap → (index range : ℕ) → SummariseHand → Stage → Type 0
 DamageAt layout pages index range hand stages.Map = IsMisnamed (contents layout pages index) range
 DamageAt layout pages index range hand (stages.Tuple x) = IsMisread (shape_of layout index) (contents layout pages index) range x
+DamageAt layout pages index range hand stages.Place = IsNeeded (contents layout pages index).pages range hand.growth.stage × DamageToGrow layout pages index hand.growth.stage
 DamageAt layout pages index range hand stages.Pass = (hand.extent ≤ hand.next) × (IsMisnamed (contents layout pages index) range ⊎ ((contents layout pages index).entry range ≡ None))
 DamageAt layout pages index range hand (stages.Copy x) = IsMisread (shape_of layout index) (contents layout pages index) range x
 DamageAt layout pages index range hand stage = ⊥

@@ -4,10 +4,15 @@ use Rattle.store_layout.specs.DiskLayout.{DiskLayout}
 use Rattle.heap_rows.specs.Heaps.{slots_a_page}
 use Rattle.range_tuple.specs.Tuples.{Tuple, parts_of}
 use Rattle.index_steps.specs.IndexTuples.{classes_of, index_at, shape_of}
+use Rattle.map_growth.specs.declared.stage.Stage.{Stage as GrowthStage}
+use Rattle.map_growth.specs.declared.stage.Stage.TheVariants as growth
+use Rattle.map_growth.specs.GrowthHands.{GrowthHand}
 use Rattle.range_summarise.specs.declared.stage.Stage.{Stage}
+use Rattle.range_summarise.specs.declared.stage.Stage.TheVariants as stages
 
 -- The stage that it is at; the extent that it read, and the next block to be passed; what the rows of the passed blocks made, and the
--- final tuple, where it has them; the bytes of the tuple that it copied; and how many rows of a block it has room for.
+-- final tuple, where it has them; the bytes of the tuple that it copied; how many rows of a block it has room for; and the growth of the
+-- index's map.
 pub record SummariseHand : Type 0 where
   pub stage : Stage
   pub extent : ℕ
@@ -16,6 +21,7 @@ pub record SummariseHand : Type 0 where
   pub united : Tuple
   pub copied : List ℕ
   pub room : ℕ
+  pub growth : GrowthHand
 
 -- the table of the index of that number
 abbrev pub table_of : DiskLayout → ℕ → ℕ
@@ -27,3 +33,13 @@ pub record IsHandOf (layout : DiskLayout) (index : ℕ) (hand : SummariseHand) :
   pub united : parts_of hand.united.columns ≡ classes_of (shape_of layout index)
   pub room : slots_a_page layout (table_of layout index) ≤ hand.room
   pub extent : hand.extent ≤ layout.sizes.heap_blocks
+  pub growth : hand.growth.index ≡ index
+
+-- a growth of the map is under way only where a placeholder is to be put
+abbrev pub GrowsToPlace : GrowthStage → Stage → Type 0
+GrowsToPlace at stages.Place = Unit {0}
+GrowsToPlace at stage = at ≡ growth.Judge
+
+-- it, before its first step at a range, with no growth under way
+abbrev pub begun : SummariseHand → SummariseHand
+begun hand = record hand { stage = stages.Map; growth = record hand.growth { stage = growth.Judge } }

@@ -1,5 +1,6 @@
 -- what a summarise has of an index between its steps at a range, and what each step makes of the index
 use Rattle.std.specs.Prelude.{◌≡◌, ℕ, ◌+◌, ◌<◌, Bool, true, false, Option}
+use Rattle.block_model.specs.declared.place.Spot.{Spot}
 use Rattle.block_model.specs.declared.reply.Point.{Point}
 use Rattle.store_layout.specs.DiskLayout.{DiskLayout}
 use Rattle.page_store.specs.PageMap.{PageMap}
@@ -11,12 +12,14 @@ use Rattle.coverage.specs.IndexPart.{SummariseMakes}
 use Rattle.coverage.specs.IndexView.{IndexView, IsRangeOf, Progress, ExtentUnread, Passing}
 use Rattle.coverage.specs.Knowing.{Knows}
 use Rattle.coverage.specs.PageOrder.{KnowsPages}
-use Rattle.coverage.specs.Statements.{Empty, Held, Copied, Moving, Dropping, Phase, NotBuilding, Vacant, Placing, IsAt, Statement, Holding, Maintaining}
+use Rattle.coverage.specs.Statements.{Empty, Held, Copied, Moving, Dropping, Phase, NotBuilding, Placing, IsAt, Statement, Holding, Maintaining}
 use Rattle.coverage.specs.Waiting.{IsPhaseFull, IsPhaseWaiting}
 use Rattle.index_contents.specs.IndexContents.{IndexContents, contents}
 use Rattle.index_steps.specs.declared.swapping.Within.{Within}
 use Rattle.index_steps.specs.IndexTuples.{IndexShape, seen, shape_of}
 use Rattle.index_steps.specs.ShownIndex.{Shows, lock_in, shown_part}
+use Rattle.map_growth.specs.declared.stage.Stage.{Stage as GrowthStage}
+use Rattle.map_growth.specs.GrowthSteps.{IsFewer, phase_of as growth_phase}
 use Rattle.range_summarise.specs.declared.stage.Stage.{Stage}
 use Rattle.range_summarise.specs.declared.stage.Stage.TheVariants as stages
 use Rattle.range_summarise.specs.ShownHeap.{Heap, ShowsHeap}
@@ -40,7 +43,7 @@ passing_of shape hand = Passing hand.extent hand.next (seen shape (tuple_bytes h
 abbrev pub phase_at : IndexShape → SummariseHand → Stage → Phase
 phase_at shape hand stages.Map = NotBuilding Empty
 phase_at shape hand (stages.Tuple x) = NotBuilding (Held x)
-phase_at shape hand stages.Place = Vacant
+phase_at shape hand stages.Place = growth_phase shape hand.growth
 phase_at shape hand (stages.Name x) = Placing x
 phase_at shape hand stages.Extent = IsAt ExtentUnread Empty
 phase_at shape hand stages.Pass = IsAt (passing_of shape hand) Empty
@@ -74,17 +77,17 @@ IsDone stages.Had = Unit {0}
 IsDone stages.Made = Unit {0}
 IsDone stage = ⊥
 
--- Where it stands after a step, of any disk: with work left, or with none; or where it was, which takes locks. No step lacks the
--- summarise lock.
-abbrev pub StandsAfter : (old new : Stage) → Did → Type 0
-StandsAfter old new (did.Moved point) = IsAtWork new
-StandsAfter old new (did.Finished point) = IsDone new
-StandsAfter old new (did.Blocked held) = (0 < taken_at old) × (new ≡ old)
-StandsAfter old new (did.NoRight by) = ⊥
+-- Where it stands after a step, of any disk: with work left, or with none; or where it was, which takes locks, with the growth at that
+-- stage. No step lacks the summarise lock.
+abbrev pub StandsAfter : GrowthStage → (old new : Stage) → Did → Type 0
+StandsAfter at old new (did.Moved point) = IsAtWork new
+StandsAfter at old new (did.Finished point) = IsDone new
+StandsAfter at old new (did.Blocked held) = (0 < taken_at at old) × (new ≡ old)
+StandsAfter at old new (did.NoRight by) = ⊥
 
--- it has in hand what it had, but that the placeholder which is to be put is made anew
+-- it has in hand what it had, but that the placeholder which is to be put, or the tuple that a growth is to move, is there anew
 abbrev pub RestsAt : Stage → (old new : SummariseHand) → Type 0
-RestsAt stages.Place old new = new ≡ record old { united = new.united }
+RestsAt stages.Place old new = new ≡ record old { united = new.united; growth = record old.growth { moved = new.growth.moved } }
 RestsAt stage old new = new ≡ old
 
 -- so it is, of any disk, where a step is blocked
@@ -108,11 +111,13 @@ made_at stages.Made = 1
 made_at stage = 0
 
 -- Of each index and heap that pages and locks showed, where the range is one of the table and the summarise knows what it has to, this is
--- a step of it, which counts so many ranges.
+-- a step of it, which counts so many ranges. Where the map's growth drops a tuple that was unnamed at the opening, it is none of these any
+-- more.
 abbrev pub StepMakes : IndexShape → Heap → (s range : ℕ) → (old new : SummariseAt) → Point → (count : ℕ) → Type 0
 StepMakes shape heap s range old new point count = (w : IndexView) → Shows shape old.pages old.lock w → ShowsHeap heap w → IsRangeOf w range
     → Knows w s (Maintaining range (phase_of shape old.hand)) → KnowsPages w s (Maintaining range (phase_of shape old.hand))
-    → SummariseMakes s range w (shown_part shape new.pages new.lock w.unnamed) (phase_of shape old.hand) (statement_of shape range new.hand) point count
+    → (unnamed : Spot → Bool) × IsFewer w.unnamed unnamed
+    × SummariseMakes s range w (shown_part shape new.pages new.lock unnamed) (phase_of shape old.hand) (statement_of shape range new.hand) point count
 
 -- the summarise waits for the lock of this page
 abbrev pub StepWaits : IndexShape → Heap → (s range : ℕ) → SummariseAt → (page : ℕ) → Type 0

@@ -12,4 +12,5 @@ hand_of stage work = record {
   united = work.united;
   copied = work.copied;
   room = work.rows.room;
+  growth = work.growth;
 }

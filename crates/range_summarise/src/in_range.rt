@@ -13,6 +13,7 @@ ghost use Rattle.range_tuple.specs.Tuples.{parts_of, tuple_room};
 ghost use Rattle.coverage.specs.IndexView.{IsPastMap};
 ghost use Rattle.index_contents.specs.IndexContents.{contents, relation_of};
 ghost use Rattle.index_contents.specs.IndexChanges.{LeavesOthers};
+ghost use Rattle.index_order.specs.KeepsOrder.{KeepsOrder};
 ghost use Rattle.index_steps.specs.IndexTuples.{IndexShape, classes_of, shape_of};
 ghost use Rattle.index_steps.specs.MoveEnds.{IsMoving};
 ghost use Rattle.index_steps.specs.PlaceAnswers.{IsPlacing};
@@ -20,6 +21,8 @@ ghost use Rattle.index_steps.specs.Readings.{IsMisnamed, IsMisread};
 ghost use Rattle.index_steps.specs.StepAnswers.{BlockedWell, IsOfStore, NeverBlocked};
 ghost use Rattle.index_steps.specs.SwapAnswers.{FaultNamesPageOf, LeavesLocks, MachineOutcome, SaysFullIn, StaysWhereFull, TakesAtMost};
 ghost use Rattle.range_tuple.specs.ExactTuples.{with_rows};
+ghost use Rattle.map_growth.specs.declared.stage.Stage.{Stage as GrowthStage};
+ghost use Rattle.map_growth.specs.declared.stage.Stage.TheVariants as growth;
 ghost use Rattle.range_summarise.specs.ExactSummaries.{HasPassed, IsExactAt, rows_of_block};
 ghost use Rattle.range_summarise.specs.ShownHeap.{Heap, heap_of};
 ghost use Rattle.range_summarise.specs.StepCauses.{FaultNamesHeapPage};
@@ -50,9 +53,9 @@ pub(crate) fn look<D: Disk + Drop>(
     copied: &mut Scratch,
 ) -> Result<(Stage, Did), MachineFault>
     requires index { at.index < length pages.old.layout.schema.indexes }
-    ensures stepped { IfOk result (λ o. Tells D.told pages.old → (locks : LockState) (heap : Heap) (hand : SummariseHand) → StepsAt pages.old.layout pages.old.pages pages.new.pages locks locks at heap (record hand { stage = Stage.Map }) (record hand { stage = o.0; copied = copied.new }) o.1) }
+    ensures stepped { IfOk result (λ o. Tells D.told pages.old → (locks : LockState) (heap : Heap) (hand : SummariseHand) → hand.growth.stage ≡ growth.Judge → StepsAt pages.old.layout pages.old.pages pages.new.pages locks locks at heap (record hand { stage = Stage.Map }) (record hand { stage = o.0; copied = copied.new }) o.1) }
     ensures exact { IfOk result (λ o. (shape : IndexShape) (heap : Heap) (hand : SummariseHand) → IsExactAt shape heap at.range (record hand { stage = Stage.Map }) Stage.Map → IsExactAt shape heap at.range (record hand { stage = o.0; copied = copied.new }) o.0) }
-    ensures stands { IfOk result (λ o. StandsAfter Stage.Map o.0 o.1) }
+    ensures stands { IfOk result (λ o. (growth : GrowthStage) → StandsAfter growth Stage.Map o.0 o.1) }
     ensures kept { Keeps D.told pages.old pages.new }
     ensures survives { Survives D.told (λ passed. passed ≡ pages.old.pages) pages.old pages.new }
     ensures never_blocked { IfOk result (λ o. NeverBlocked o.1) }
@@ -82,7 +85,7 @@ pub(crate) fn take_up<D: Disk + Drop>(
     requires tuple { parts_of united.old.columns ≡ classes_of (shape_of pages.old.layout at.index) }
     ensures stepped { IfOk result (λ o. Tells D.told pages.old → (locks : LockState) (heap : Heap) (hand : SummariseHand) → StepsAt pages.old.layout pages.old.pages pages.new.pages locks locks at heap (record hand { stage = Stage.Tuple spot }) (record hand { stage = o.0; copied = copied.new; united = united.new }) o.1) }
     ensures exact { IfOk result (λ o. (shape : IndexShape) (heap : Heap) (hand : SummariseHand) → IsExactAt shape heap at.range (record hand { stage = Stage.Tuple spot }) (Stage.Tuple spot) → IsExactAt shape heap at.range (record hand { stage = o.0; copied = copied.new; united = united.new }) o.0) }
-    ensures stands { IfOk result (λ o. StandsAfter (Stage.Tuple spot) o.0 o.1) }
+    ensures stands { IfOk result (λ o. (growth : GrowthStage) → StandsAfter growth (Stage.Tuple spot) o.0 o.1) }
     ensures same_index { parts_of united.new.columns ≡ parts_of united.old.columns }
     ensures kept { Keeps D.told pages.old pages.new }
     ensures survives { Survives D.told (λ passed. passed ≡ pages.old.pages) pages.old pages.new }
@@ -117,19 +120,20 @@ pub(crate) fn place<D: Disk + Drop>(
     requires room { tuple_room united.old.columns ≤ length room.old }
     requires locks { count_of locks.old + 2 ≤ locks.old.limit }
     requires ready { Tells D.told pages.old → IsPastMap (contents pages.old.layout pages.old.pages at.index).pages at.range → ⊥ }
-    ensures stepped { IfOk result (λ o. Tells D.told pages.old → (heap : Heap) (hand : SummariseHand) → StepsAt pages.old.layout pages.old.pages pages.new.pages locks.old locks.new at heap (record hand { stage = Stage.Place }) (record hand { stage = o.0; united = united.new }) o.1) }
+    ensures stepped { IfOk result (λ o. Tells D.told pages.old → (heap : Heap) (hand : SummariseHand) → hand.growth.stage ≡ growth.Judge → StepsAt pages.old.layout pages.old.pages pages.new.pages locks.old locks.new at heap (record hand { stage = Stage.Place }) (record hand { stage = o.0; united = united.new }) o.1) }
     ensures exact { IfOk result (λ o. (shape : IndexShape) (heap : Heap) (hand : SummariseHand) → IsExactAt shape heap at.range (record hand { stage = Stage.Place }) Stage.Place → IsExactAt shape heap at.range (record hand { stage = o.0; united = united.new }) o.0) }
     ensures rests { IfOk result (λ o. (hand : SummariseHand) → RestsBlocked (record hand { stage = Stage.Place }) (record hand { stage = o.0; united = united.new }) o.1) }
-    ensures stands { IfOk result (λ o. StandsAfter Stage.Place o.0 o.1) }
+    ensures stands { IfOk result (λ o. StandsAfter growth.Judge Stage.Place o.0 o.1) }
     ensures same_index { parts_of united.new.columns ≡ parts_of united.old.columns }
     ensures same_room { length room.new ≡ length room.old }
     ensures blocked { IfOk result (λ o. BlockedWell D.told at.index at.actor pages.old pages.new locks.old locks.new o.1) }
-    ensures full { IfErr result (SaysFullIn pages.old.layout at.index (λ number. Tells D.told pages.old → (hand : SummariseHand) → StepFull (shape_of pages.old.layout at.index) at.actor at.range (summarise_at pages.old.layout pages.old.pages locks.old at.index (record hand { stage = Stage.Place })) number)) }
+    ensures full { IfErr result (SaysFullIn pages.old.layout at.index (λ number. Tells D.told pages.old → (hand : SummariseHand) → hand.growth.stage ≡ growth.Judge → StepFull (shape_of pages.old.layout at.index) at.actor at.range (summarise_at pages.old.layout pages.old.pages locks.old at.index (record hand { stage = Stage.Place })) number)) }
     ensures at_full { IfErr result (StaysWhereFull locks.old locks.new) }
     ensures others { LeavesOthers D.told at.index pages.old pages.new }
+    ensures order { KeepsOrder D.told at.index pages.old pages.new }
     ensures locks { LeavesLocks (holder locks.old) (holder locks.new) (relation_of pages.old.layout at.index) at.actor }
     ensures counts { TakesAtMost 2 locks.old locks.new at.actor }
-    ensures own { IfOk result (λ o. locks_of locks.old at.actor ≤ held_at Stage.Place → locks_of locks.new at.actor ≤ held_at o.0) }
+    ensures own { IfOk result (λ o. locks_of locks.old at.actor ≤ held_at growth.Judge Stage.Place → locks_of locks.new at.actor ≤ held_at growth.Judge o.0) }
     ensures kept { OnErr result (Keeps D.told pages.old pages.new) }
     ensures survives { Survives D.told (λ passed. passed ≡ pages.old.pages) pages.old pages.new }
     ensures at { IfErr result (FaultNamesPageOf pages.old.layout at.index) }
@@ -156,12 +160,13 @@ pub(crate) fn name<D: Disk + Drop>(
     requires placing { Tells D.told pages.old → IsPlacing (shape_of pages.old.layout at.index) (contents pages.old.layout pages.old.pages at.index) at.range to }
     ensures stepped { IfOk result (λ o. Tells D.told pages.old → (heap : Heap) (hand : SummariseHand) → StepsAt pages.old.layout pages.old.pages pages.new.pages locks.old locks.new at heap (record hand { stage = Stage.Name to }) (record hand { stage = o.0 }) o.1) }
     ensures exact { IfOk result (λ o. (shape : IndexShape) (heap : Heap) (hand : SummariseHand) → IsExactAt shape heap at.range (record hand { stage = Stage.Name to }) (Stage.Name to) → IsExactAt shape heap at.range (record hand { stage = o.0 }) o.0) }
-    ensures stands { IfOk result (λ o. StandsAfter (Stage.Name to) o.0 o.1) }
+    ensures stands { IfOk result (λ o. (growth : GrowthStage) → StandsAfter growth (Stage.Name to) o.0 o.1) }
     ensures others { LeavesOthers D.told at.index pages.old pages.new }
+    ensures order { KeepsOrder D.told at.index pages.old pages.new }
     ensures locks { LeavesLocks (holder locks.old) (holder locks.new) (relation_of pages.old.layout at.index) at.actor }
     ensures counts { TakesAtMost 0 locks.old locks.new at.actor }
     ensures given { OnOk result (locks_of locks.new at.actor ≡ 0) }
-    ensures own { IfOk result (λ o. locks_of locks.old at.actor ≤ held_at (Stage.Name to) → locks_of locks.new at.actor ≤ held_at o.0) }
+    ensures own { IfOk result (λ o. (growth : GrowthStage) → locks_of locks.old at.actor ≤ held_at growth (Stage.Name to) → locks_of locks.new at.actor ≤ held_at growth o.0) }
     ensures kept { OnErr result (Keeps D.told pages.old pages.new) }
     ensures survives { Survives D.told (λ passed. passed ≡ pages.old.pages) pages.old pages.new }
     ensures never_blocked { IfOk result (λ o. NeverBlocked o.1) }
@@ -254,7 +259,7 @@ pub(crate) fn look_again<D: Disk + Drop>(
     requires index { at.index < length pages.old.layout.schema.indexes }
     ensures stepped { IfOk result (λ o. Tells D.told pages.old → (locks : LockState) (heap : Heap) (hand : SummariseHand) → hand.extent ≤ hand.next → StepsAt pages.old.layout pages.old.pages pages.new.pages locks locks at heap (record hand { stage = Stage.Pass }) (record hand { stage = o.0; copied = copied.new }) o.1) }
     ensures exact { IfOk result (λ o. (shape : IndexShape) (heap : Heap) (hand : SummariseHand) → hand.extent ≤ hand.next → IsExactAt shape heap at.range (record hand { stage = Stage.Pass }) Stage.Pass → IsExactAt shape heap at.range (record hand { stage = o.0; copied = copied.new }) o.0) }
-    ensures stands { IfOk result (λ o. StandsAfter Stage.Pass o.0 o.1) }
+    ensures stands { IfOk result (λ o. (growth : GrowthStage) → StandsAfter growth Stage.Pass o.0 o.1) }
     ensures kept { Keeps D.told pages.old pages.new }
     ensures survives { Survives D.told (λ passed. passed ≡ pages.old.pages) pages.old pages.new }
     ensures never_blocked { IfOk result (λ o. NeverBlocked o.1) }
@@ -288,7 +293,7 @@ pub(crate) fn unite<D: Disk + Drop>(
     requires running { parts_of running.now.columns ≡ classes_of (shape_of pages.old.layout at.index) }
     ensures stepped { IfOk result (λ o. Tells D.told pages.old → (locks : LockState) (heap : Heap) (hand : SummariseHand) → StepsAt pages.old.layout pages.old.pages pages.new.pages locks locks at heap (record hand { stage = Stage.Copy spot; running = running.now }) (record hand { stage = o.0; copied = copied.new; running = running.now; united = united.new }) o.1) }
     ensures exact { IfOk result (λ o. (heap : Heap) (hand : SummariseHand) → IsExactAt (shape_of pages.old.layout at.index) heap at.range (record hand { stage = Stage.Copy spot; running = running.now }) (Stage.Copy spot) → IsExactAt (shape_of pages.old.layout at.index) heap at.range (record hand { stage = o.0; copied = copied.new; running = running.now; united = united.new }) o.0) }
-    ensures stands { IfOk result (λ o. StandsAfter (Stage.Copy spot) o.0 o.1) }
+    ensures stands { IfOk result (λ o. (growth : GrowthStage) → StandsAfter growth (Stage.Copy spot) o.0 o.1) }
     ensures same_index { parts_of united.new.columns ≡ parts_of united.old.columns }
     ensures kept { Keeps D.told pages.old pages.new }
     ensures survives { Survives D.told (λ passed. passed ≡ pages.old.pages) pages.old pages.new }
@@ -327,15 +332,16 @@ pub(crate) fn swap_in<D: Disk + Drop>(
     ensures stepped { IfOk result (λ o. Tells D.told pages.old → (heap : Heap) (hand : SummariseHand) → StepsAt pages.old.layout pages.old.pages pages.new.pages locks.old locks.new at heap (record hand { stage = Stage.Swap spot; copied = copied.now; united = united.now }) (record hand { stage = o.0; copied = copied.now; united = united.now }) o.1) }
     ensures exact { IfOk result (λ o. (shape : IndexShape) (heap : Heap) (hand : SummariseHand) → IsExactAt shape heap at.range (record hand { stage = Stage.Swap spot; copied = copied.now; united = united.now }) (Stage.Swap spot) → IsExactAt shape heap at.range (record hand { stage = o.0; copied = copied.now; united = united.now }) o.0) }
     ensures rests { IfOk result (λ o. (hand : SummariseHand) → RestsBlocked (record hand { stage = Stage.Swap spot }) (record hand { stage = o.0 }) o.1) }
-    ensures stands { IfOk result (λ o. StandsAfter (Stage.Swap spot) o.0 o.1) }
+    ensures stands { IfOk result (λ o. (growth : GrowthStage) → StandsAfter growth (Stage.Swap spot) o.0 o.1) }
     ensures same_room { length room.new ≡ length room.old }
     ensures blocked { IfOk result (λ o. BlockedWell D.told at.index at.actor pages.old pages.new locks.old locks.new o.1) }
     ensures full { IfErr result (SaysFullIn pages.old.layout at.index (λ number. Tells D.told pages.old → (hand : SummariseHand) → StepFull (shape_of pages.old.layout at.index) at.actor at.range (summarise_at pages.old.layout pages.old.pages locks.old at.index (record hand { stage = Stage.Swap spot; copied = copied.now; united = united.now })) number)) }
     ensures at_full { IfErr result (StaysWhereFull locks.old locks.new) }
     ensures others { LeavesOthers D.told at.index pages.old pages.new }
+    ensures order { KeepsOrder D.told at.index pages.old pages.new }
     ensures locks { LeavesLocks (holder locks.old) (holder locks.new) (relation_of pages.old.layout at.index) at.actor }
     ensures counts { TakesAtMost 3 locks.old locks.new at.actor }
-    ensures own { IfOk result (λ o. locks_of locks.old at.actor ≤ held_at (Stage.Swap spot) → locks_of locks.new at.actor ≤ held_at o.0) }
+    ensures own { IfOk result (λ o. (growth : GrowthStage) → locks_of locks.old at.actor ≤ held_at growth (Stage.Swap spot) → locks_of locks.new at.actor ≤ held_at growth o.0) }
     ensures kept { OnErr result (Keeps D.told pages.old pages.new) }
     ensures survives { Survives D.told (λ passed. passed ≡ pages.old.pages) pages.old pages.new }
     ensures at { IfErr result (FaultNamesPageOf pages.old.layout at.index) }
@@ -362,9 +368,10 @@ pub(crate) fn set_in<D: Disk + Drop>(
     requires moving { Tells D.told pages.old → IsMoving (shape_of pages.old.layout at.index) (contents pages.old.layout pages.old.pages at.index) at.range from to }
     ensures stepped { IfOk result (λ o. Tells D.told pages.old → (locks : LockState) (heap : Heap) (hand : SummariseHand) → StepsAt pages.old.layout pages.old.pages pages.new.pages locks locks at heap (record hand { stage = Stage.Set from to }) (record hand { stage = o.0 }) o.1) }
     ensures exact { IfOk result (λ o. (shape : IndexShape) (heap : Heap) (hand : SummariseHand) → IsExactAt shape heap at.range (record hand { stage = Stage.Set from to }) (Stage.Set from to) → IsExactAt shape heap at.range (record hand { stage = o.0 }) o.0) }
-    ensures stands { IfOk result (λ o. StandsAfter (Stage.Set from to) o.0 o.1) }
-    ensures own { IfOk result (λ o. held_at (Stage.Set from to) ≤ held_at o.0) }
+    ensures stands { IfOk result (λ o. (growth : GrowthStage) → StandsAfter growth (Stage.Set from to) o.0 o.1) }
+    ensures own { IfOk result (λ o. (growth : GrowthStage) → held_at growth (Stage.Set from to) ≤ held_at growth o.0) }
     ensures others { LeavesOthers D.told at.index pages.old pages.new }
+    ensures order { KeepsOrder D.told at.index pages.old pages.new }
     ensures kept { OnErr result (Keeps D.told pages.old pages.new) }
     ensures survives { Survives D.told (λ passed. passed ≡ pages.old.pages) pages.old pages.new }
     ensures never_blocked { IfOk result (λ o. NeverBlocked o.1) }
@@ -388,12 +395,13 @@ pub(crate) fn drop_in<D: Disk + Drop>(
     requires index { at.index < length pages.old.layout.schema.indexes }
     ensures stepped { IfOk result (λ o. Tells D.told pages.old → (heap : Heap) (hand : SummariseHand) → StepsAt pages.old.layout pages.old.pages pages.new.pages locks.old locks.new at heap (record hand { stage = Stage.Drop from }) (record hand { stage = o.0 }) o.1) }
     ensures exact { IfOk result (λ o. (shape : IndexShape) (heap : Heap) (hand : SummariseHand) → IsExactAt shape heap at.range (record hand { stage = Stage.Drop from }) (Stage.Drop from) → IsExactAt shape heap at.range (record hand { stage = o.0 }) o.0) }
-    ensures stands { IfOk result (λ o. StandsAfter (Stage.Drop from) o.0 o.1) }
+    ensures stands { IfOk result (λ o. (growth : GrowthStage) → StandsAfter growth (Stage.Drop from) o.0 o.1) }
     ensures others { LeavesOthers D.told at.index pages.old pages.new }
+    ensures order { KeepsOrder D.told at.index pages.old pages.new }
     ensures locks { LeavesLocks (holder locks.old) (holder locks.new) (relation_of pages.old.layout at.index) at.actor }
     ensures counts { TakesAtMost 0 locks.old locks.new at.actor }
     ensures given { OnOk result (locks_of locks.new at.actor ≡ 0) }
-    ensures own { IfOk result (λ o. locks_of locks.old at.actor ≤ held_at (Stage.Drop from) → locks_of locks.new at.actor ≤ held_at o.0) }
+    ensures own { IfOk result (λ o. (growth : GrowthStage) → locks_of locks.old at.actor ≤ held_at growth (Stage.Drop from) → locks_of locks.new at.actor ≤ held_at growth o.0) }
     ensures kept { OnErr result (Keeps D.told pages.old pages.new) }
     ensures survives { Survives D.told (λ passed. passed ≡ pages.old.pages) pages.old pages.new }
     ensures never_blocked { IfOk result (λ o. NeverBlocked o.1) }

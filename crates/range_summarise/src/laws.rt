@@ -5,30 +5,32 @@ ghost use Rattle.store_layout.specs.DiskLayout.{DiskLayout};
 ghost use Rattle.page_store.specs.PageMap.{PageMap};
 ghost use Rattle.range_tuple.specs.ExactTuples.{IsExactTuple};
 ghost use Rattle.range_tuple.specs.Tuples.{Tuple, parts_of};
-ghost use Rattle.coverage.specs.IndexView.{IsPastMap};
+ghost use Rattle.opened_pages.specs.PageOrder.{IsIndexInOrder};
 ghost use Rattle.coverage.specs.IsCovered.{IndexState, IsIndexKept, index_view};
 ghost use Rattle.coverage.specs.Statements.{Maintaining};
-ghost use Rattle.index_contents.specs.IndexContents.{IndexContents, contents};
+ghost use Rattle.index_contents.specs.IndexContents.{IndexContents, contents, index_page};
 ghost use Rattle.index_steps.specs.IndexTuples.{IndexShape, classes_of, shape_of};
 ghost use Rattle.index_steps.specs.ShownIndex.{Shows};
 ghost use Rattle.range_summarise.specs.ExactSummaries.{HasPassed, HasPassedAll, IsFinalOf, Unites, first_of_range, rows_of_blocks, rows_of_range};
 ghost use Rattle.range_summarise.specs.ShownHeap.{Heap};
+ghost use Rattle.range_summarise.specs.declared.stage.Stage.TheVariants as stages;
 ghost use Rattle.range_summarise.specs.StepCauses.{DamageAt, IsReady};
 ghost use Rattle.range_summarise.specs.SummariseHands.{SummariseHand};
 ghost use Rattle.range_summarise.specs.SummariseSteps.{phase_of};
 
-use crate::stage::Stage;
 use index_steps::a_sound_index_is_not_misread;
+use map_growth::a_kept_index_takes_a_growth;
 use range_tuple::rows_leave_exact_summaries;
 
-/// An index that is kept is ready for the step of a summarise at a range of it, if the map has a page for the range's entry where a
-/// placeholder is to be put; and no step finds damage there. Does nothing.
+/// An index that is kept is ready for the step of a summarise at a range of it; and where its pages stand in order, no step finds damage
+/// there. Does nothing.
 pub fn a_kept_index_takes_a_summarise()
     ensures ready { (shape : IndexShape) (c : IndexContents) (lock : ℕ → Option ℕ) (w : IndexState) (s range : ℕ) (hand : SummariseHand) → Shows shape c lock (index_view w) → IsIndexKept w
-        → w.statement s ≡ Maintaining range (phase_of shape hand) → (hand.stage ≡ Stage.Place → IsPastMap c.pages range → ⊥) → IsReady shape c range hand.stage }
-    ensures sound { (layout : DiskLayout) (pages : PageMap) (index : ℕ) (lock : ℕ → Option ℕ) (w : IndexState) (s range : ℕ) (hand : SummariseHand) → Shows (shape_of layout index) (contents layout pages index) lock (index_view w) → IsIndexKept w
-        → w.statement s ≡ Maintaining range (phase_of (shape_of layout index) hand) → DamageAt layout pages index range hand hand.stage → ⊥ }
+        → w.statement s ≡ Maintaining range (phase_of shape hand) → IsReady shape c range hand.growth.stage hand.stage }
+    ensures sound { (layout : DiskLayout) (pages : PageMap) (index : ℕ) (lock : ℕ → Option ℕ) (w : IndexState) (s range : ℕ) (hand : SummariseHand) → (hand.stage ≡ stages.Place → IsIndexInOrder layout.sizes.index_blocks (index_page layout pages index))
+        → Shows (shape_of layout index) (contents layout pages index) lock (index_view w) → IsIndexKept w → w.statement s ≡ Maintaining range (phase_of (shape_of layout index) hand) → DamageAt layout pages index range hand hand.stage → ⊥ }
 {
+    a_kept_index_takes_a_growth();
     a_sound_index_is_not_misread();
 }
 

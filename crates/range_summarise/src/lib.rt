@@ -1,11 +1,12 @@
-//! A summarise's work at one range of an index, by steps. At a range without an entry it puts a placeholder; it takes up one that it finds;
-//! then it reads the extent, adds the rows of the range's blocks in order to a running tuple, and has the placeholder, united with that one,
-//! give way to the final tuple, if it still stands there as it was copied; else it reads the map again. Each step is one of coverage's
-//! summariser in the index that the pages, the page locks and the heap show (specs/SummariseSteps), under its point, and what it makes is
-//! exact (specs/ExactSummaries). Where a placeholder is to be put, the map has a page for the range's entry: a map that is too short is no
-//! work of this crate yet. No step takes memory, and one copies a tuple at most. It stands on index_steps and heap_rows.
+//! A summarise's work at one range of an index, by steps. At a range without an entry it has the map grow, if that has no page for one yet, and
+//! puts a placeholder; it takes up one that it finds; then it reads the extent, adds the rows of the range's blocks in order to a running tuple,
+//! and has the placeholder, united with that one, give way to the final tuple, if it still stands there as it was copied; else it reads the map
+//! again. Each step is one of coverage's summariser in the index that the pages, the page locks and the heap show (specs/SummariseSteps), under
+//! its point, and what it makes is exact (specs/ExactSummaries). No step takes memory, and one copies a tuple at most. It stands on index_steps,
+//! map_growth and heap_rows.
 #![tactic(auto)]
 
+mod growing;
 mod in_range;
 mod laws;
 mod range_summarise;

@@ -8,6 +8,7 @@ ghost use Rattle.page_locks.specs.LockHolders.{count_of, holder};
 ghost use Rattle.heap_rows.specs.HeapBlocks.{OfBlocks};
 ghost use Rattle.index_contents.specs.IndexContents.{contents, relation_of};
 ghost use Rattle.index_contents.specs.IndexChanges.{LeavesOthers};
+ghost use Rattle.index_order.specs.KeepsOrder.{KeepsOrder};
 ghost use Rattle.index_steps.specs.IndexTuples.{shape_of};
 ghost use Rattle.index_steps.specs.StepAnswers.{BlockedWell};
 ghost use Rattle.index_steps.specs.SwapAnswers.{LeavesLocks, MachineOutcome, SaysFullIn, StaysWhereFull, TakesAtMost};
@@ -15,7 +16,7 @@ ghost use Rattle.range_summarise.specs.ExactSummaries.{IsExactAt};
 ghost use Rattle.range_summarise.specs.ShownHeap.{heap_of};
 ghost use Rattle.range_summarise.specs.StepCauses.{DamageAt, IsReady, NamesPageAt};
 ghost use Rattle.range_summarise.specs.StageLocks.{GivesAt, held_at, taken_at};
-ghost use Rattle.range_summarise.specs.SummariseHands.{IsHandOf, table_of};
+ghost use Rattle.range_summarise.specs.SummariseHands.{IsHandOf, begun, table_of};
 ghost use Rattle.range_summarise.specs.SummariseSteps.{IsAtWork, RestsBlocked, StandsAfter, StepFull, StepsAt, summarise_at};
 
 use crate::rows::{new_rows, new_tuple};
@@ -25,6 +26,7 @@ use block_model::NoMemory;
 use disk_trait::Disk;
 use engine_pages::PageStore;
 use index_steps::{Within, tuples_of_an_index_need_one_room};
+use map_growth::Extend;
 use page_locks::{Did, Locks};
 use page_store::MachineFault;
 use range_store::Scratch;
@@ -46,14 +48,14 @@ impl Model for RangeSummarise {
     ghost use Rattle.std.specs.Prelude.{◌≤◌, length};
     ghost use Rattle.std.specs.Box.{boxed_slice_items};
     ghost use Rattle.range_tuple.specs.Tuples.{tuple_room};
-    ghost use Rattle.range_summarise.specs.SummariseHands.{SummariseHand};
+    ghost use Rattle.range_summarise.specs.SummariseHands.{GrowsToPlace, SummariseHand};
     ghost use Rattle.range_summarise.specs.Works.{hand_of};
 
     ghost Value = { SummariseHand };
 
     ghost view = { λ a. hand_of a.stage a.work };
 
-    ghost invariant = { λ a. tuple_room a.work.united.columns ≤ length (boxed_slice_items a.room) };
+    ghost invariant = { λ a. (tuple_room a.work.united.columns ≤ length (boxed_slice_items a.room)) × GrowsToPlace a.work.growth.stage a.stage };
 }
 
 impl RangeSummarise {
@@ -67,6 +69,7 @@ impl RangeSummarise {
         let united = new_tuple(alloc, layout, index)?;
         let copied = Scratch::new(alloc)?;
         let rows = new_rows(alloc, layout, index)?;
+        let growth = Extend::new(alloc, index)?;
         let room = vec![in alloc; 0u8; united.greatest_size()]?;
         Ok(RangeSummarise {
             stage: Stage::Map,
@@ -77,16 +80,19 @@ impl RangeSummarise {
                 united,
                 copied,
                 rows,
+                growth,
             },
             room: room.into_boxed_slice(),
         })
     }
 
-    /// Before the first step at another range of the index. Locks that the work has stay: it gives them at the end of the put or the move.
+    /// Before the first step at another range of the index, with no growth of the map under way. Locks that the work has stay: it gives them at
+    /// the end of the put or the move.
     pub fn begin(&mut self)
-        ensures { self.new ≡ record self.old { stage = Stage.Map } }
+        ensures { self.new ≡ begun self.old }
     {
         self.stage = Stage::Map;
+        self.work.growth.begin();
     }
 
     /// The stage that it is at.
@@ -96,9 +102,9 @@ impl RangeSummarise {
         self.stage
     }
 
-    /// The next step at the range, for the holder of the table's summarise lock. A placeholder that is put takes two page locks and a
-    /// final tuple that is put elsewhere three, which the work has up to the end of the put and of the move. Where the step is blocked,
-    /// nothing is changed; after an error no page is, and the stage stays. Takes no memory.
+    /// The next step at the range, for the holder of the table's summarise lock. A placeholder that is put takes two page locks, a final tuple
+    /// that is put elsewhere three, and a growth of the map up to three, which the work has up to the end of the put, of the move and of the
+    /// growth. Where the step is blocked, nothing is changed; after an error no page is, and the stage stays. Takes no memory.
     pub fn step<D: Disk + Drop>(
         &mut self,
         pages: &mut PageStore<D>,
@@ -108,22 +114,24 @@ impl RangeSummarise {
         requires index { at.index < length pages.old.layout.schema.indexes }
         requires work { IsAtWork self.old.stage }
         requires of { IsHandOf pages.old.layout at.index self.old }
-        requires locks { 0 < taken_at self.old.stage → count_of locks.old + taken_at self.old.stage ≤ locks.old.limit }
-        requires ready { Tells D.told pages.old → IsReady (shape_of pages.old.layout at.index) (contents pages.old.layout pages.old.pages at.index) at.range self.old.stage }
+        requires locks { 0 < taken_at self.old.growth.stage self.old.stage → count_of locks.old + taken_at self.old.growth.stage self.old.stage ≤ locks.old.limit }
+        requires ready { Tells D.told pages.old → IsReady (shape_of pages.old.layout at.index) (contents pages.old.layout pages.old.pages at.index) at.range self.old.growth.stage self.old.stage }
         ensures stepped { IfOk result (λ did. OfBlocks D.told pages.old (table_of pages.old.layout at.index) (λ blocks. StepsAt pages.old.layout pages.old.pages pages.new.pages locks.old locks.new at (heap_of pages.old.layout at.index blocks) self.old self.new did)) }
         ensures exact { IfOk result (λ did. OfBlocks D.told pages.old (table_of pages.old.layout at.index) (λ blocks. IsExactAt (shape_of pages.old.layout at.index) (heap_of pages.old.layout at.index blocks) at.range self.old self.old.stage → IsExactAt (shape_of pages.old.layout at.index) (heap_of pages.old.layout at.index blocks) at.range self.new self.new.stage)) }
-        ensures stands { IfOk result (StandsAfter self.old.stage self.new.stage) }
+        ensures stands { IfOk result (StandsAfter self.old.growth.stage self.old.stage self.new.stage) }
         ensures rests { IfOk result (RestsBlocked self.old self.new) }
         ensures of { IsHandOf pages.old.layout at.index self.new }
         ensures blocked { IfOk result (BlockedWell D.told at.index at.actor pages.old pages.new locks.old locks.new) }
         ensures full { IfErr result (SaysFullIn pages.old.layout at.index (λ number. Tells D.told pages.old → StepFull (shape_of pages.old.layout at.index) at.actor at.range (summarise_at pages.old.layout pages.old.pages locks.old at.index self.old) number)) }
         ensures at_full { IfErr result (StaysWhereFull locks.old locks.new) }
         ensures others { LeavesOthers D.told at.index pages.old pages.new }
+        ensures order { KeepsOrder D.told at.index pages.old pages.new }
         ensures locks { LeavesLocks (holder locks.old) (holder locks.new) (relation_of pages.old.layout at.index) at.actor }
-        ensures counts { TakesAtMost (taken_at self.old.stage) locks.old locks.new at.actor }
-        ensures given { OnOk result (GivesAt self.old.stage → locks_of locks.new at.actor ≡ 0) }
-        ensures own { OnOk result (locks_of locks.old at.actor ≤ held_at self.old.stage → locks_of locks.new at.actor ≤ held_at self.new.stage) }
-        ensures stays { OnErr result (self.new.stage ≡ self.old.stage) }
+        ensures counts { TakesAtMost (taken_at self.old.growth.stage self.old.stage) locks.old locks.new at.actor }
+        ensures given { OnOk result (GivesAt self.old.growth.stage self.old.stage → locks_of locks.new at.actor ≡ 0) }
+        ensures own { OnOk result (locks_of locks.old at.actor ≤ held_at self.old.growth.stage self.old.stage → locks_of locks.new at.actor ≤ held_at self.new.growth.stage self.new.stage) }
+        ensures stays { OnErr result ((self.new.stage ≡ self.old.stage) × (self.new.growth.stage ≡ self.old.growth.stage)) }
+        // The changes themselves aren't sure before the next flush.
         ensures survives { Survives D.told (λ passed. passed ≡ pages.old.pages) pages.old pages.new }
         ensures kept { OnErr result (Keeps D.told pages.old pages.new) }
         ensures undamaged { OnOk result (Tells D.told pages.old → DamageAt pages.old.layout pages.old.pages at.index at.range self.old self.old.stage → ⊥) }

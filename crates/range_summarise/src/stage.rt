@@ -9,7 +9,7 @@ pub enum Stage {
     Map,
     /// Read the tuple at the spot that the map named: a final one ends the range, a placeholder is taken up.
     Tuple(Spot),
-    /// Put the placeholder of a range for which the map has no entry.
+    /// Put the placeholder of a range for which the map has no entry; or first a step of the map's growth, where it has no page for the entry.
     Place,
     /// Have the map name the placeholder, which was put at the spot.
     Name(Spot),

@@ -9,17 +9,20 @@ ghost use Rattle.heap_rows.specs.HeapBlocks.{OfBlocks};
 ghost use Rattle.range_tuple.specs.Tuples.{tuple_room};
 ghost use Rattle.index_contents.specs.IndexContents.{contents, relation_of};
 ghost use Rattle.index_contents.specs.IndexChanges.{LeavesOthers};
+ghost use Rattle.index_order.specs.KeepsOrder.{KeepsOrder};
 ghost use Rattle.index_steps.specs.IndexTuples.{shape_of};
 ghost use Rattle.index_steps.specs.StepAnswers.{BlockedWell, IsOfStore, NeverBlocked};
 ghost use Rattle.index_steps.specs.SwapAnswers.{LeavesLocks, MachineOutcome, SaysFullIn, StaysWhereFull, TakesAtMost};
+ghost use Rattle.map_growth.specs.declared.stage.Stage.{Stage as GrowthStage};
 ghost use Rattle.range_summarise.specs.ExactSummaries.{IsExactAt};
 ghost use Rattle.range_summarise.specs.ShownHeap.{Heap, heap_of};
 ghost use Rattle.range_summarise.specs.StepCauses.{DamageAt, IsReady, NamesPageAt};
 ghost use Rattle.range_summarise.specs.StageLocks.{GivesAt, held_at, taken_at};
-ghost use Rattle.range_summarise.specs.SummariseHands.{IsHandOf, table_of};
+ghost use Rattle.range_summarise.specs.SummariseHands.{GrowsToPlace, IsHandOf, table_of};
 ghost use Rattle.range_summarise.specs.SummariseSteps.{IsAtWork, RestsBlocked, StandsAfter, StepFull, StepsAt, only_reads, summarise_at};
 ghost use Rattle.range_summarise.specs.Works.{hand_of};
 
+use crate::growing::{grow, grows};
 use crate::in_range::{
     drop_in, look, look_again, name, pass, place, read_extent, set_in, swap_in, take_up, unite,
 };
@@ -29,13 +32,14 @@ use disk_trait::Disk;
 use engine_pages::PageStore;
 use heap_rows::PageRows;
 use index_steps::Within;
+use map_growth::Extend;
 use page_locks::{Did, Locks};
 use page_store::MachineFault;
 use range_store::Scratch;
 use range_tuple::RangeTuple;
 
 /// The extent that was read, and the next block to be passed; the tuple that the passed blocks made, and the final one; the bytes of the
-/// tuple that was copied; and room for the rows of a block.
+/// tuple that was copied; room for the rows of a block; and the growth of the index's map.
 #[derive(Debug, Drop)]
 pub(crate) struct Work {
     pub(crate) extent: u64,
@@ -44,6 +48,7 @@ pub(crate) struct Work {
     pub(crate) united: RangeTuple,
     pub(crate) copied: Scratch,
     pub(crate) rows: PageRows,
+    pub(crate) growth: Extend,
 }
 
 /// The next step of a summarise at the range at this stage, with the stage after it.
@@ -59,22 +64,26 @@ pub(crate) fn step_in<D: Disk + Drop>(
     requires work { IsAtWork stage }
     requires of { IsHandOf pages.old.layout at.index (hand_of stage work.old) }
     requires room { tuple_room work.old.united.columns ≤ length room.old }
-    requires locks { 0 < taken_at stage → count_of locks.old + taken_at stage ≤ locks.old.limit }
-    requires ready { Tells D.told pages.old → IsReady (shape_of pages.old.layout at.index) (contents pages.old.layout pages.old.pages at.index) at.range stage }
+    requires locks { 0 < taken_at work.old.growth.stage stage → count_of locks.old + taken_at work.old.growth.stage stage ≤ locks.old.limit }
+    requires ready { Tells D.told pages.old → IsReady (shape_of pages.old.layout at.index) (contents pages.old.layout pages.old.pages at.index) at.range work.old.growth.stage stage }
+    requires grows { GrowsToPlace work.old.growth.stage stage }
     ensures stepped { IfOk result (λ o. OfBlocks D.told pages.old (table_of pages.old.layout at.index) (λ blocks. StepsAt pages.old.layout pages.old.pages pages.new.pages locks.old locks.new at (heap_of pages.old.layout at.index blocks) (hand_of stage work.old) (hand_of o.0 work.new) o.1)) }
     ensures exact { IfOk result (λ o. OfBlocks D.told pages.old (table_of pages.old.layout at.index) (λ blocks. IsExactAt (shape_of pages.old.layout at.index) (heap_of pages.old.layout at.index blocks) at.range (hand_of stage work.old) stage → IsExactAt (shape_of pages.old.layout at.index) (heap_of pages.old.layout at.index blocks) at.range (hand_of o.0 work.new) o.0)) }
-    ensures stands { IfOk result (λ o. StandsAfter stage o.0 o.1) }
+    ensures stands { IfOk result (λ o. StandsAfter work.old.growth.stage stage o.0 o.1) }
     ensures rests { IfOk result (λ o. RestsBlocked (hand_of stage work.old) (hand_of o.0 work.new) o.1) }
     ensures of { IsHandOf pages.old.layout at.index (hand_of stage work.new) }
+    ensures grows { IfOk result (λ o. GrowsToPlace work.new.growth.stage o.0) }
+    ensures stays { OnErr result (work.new.growth.stage ≡ work.old.growth.stage) }
     ensures same_room { length room.new ≡ length room.old }
     ensures blocked { IfOk result (λ o. BlockedWell D.told at.index at.actor pages.old pages.new locks.old locks.new o.1) }
     ensures full { IfErr result (SaysFullIn pages.old.layout at.index (λ number. Tells D.told pages.old → StepFull (shape_of pages.old.layout at.index) at.actor at.range (summarise_at pages.old.layout pages.old.pages locks.old at.index (hand_of stage work.old)) number)) }
     ensures at_full { IfErr result (StaysWhereFull locks.old locks.new) }
     ensures others { LeavesOthers D.told at.index pages.old pages.new }
+    ensures order { KeepsOrder D.told at.index pages.old pages.new }
     ensures locks { LeavesLocks (holder locks.old) (holder locks.new) (relation_of pages.old.layout at.index) at.actor }
-    ensures counts { TakesAtMost (taken_at stage) locks.old locks.new at.actor }
-    ensures given { OnOk result (GivesAt stage → locks_of locks.new at.actor ≡ 0) }
-    ensures own { IfOk result (λ o. locks_of locks.old at.actor ≤ held_at stage → locks_of locks.new at.actor ≤ held_at o.0) }
+    ensures counts { TakesAtMost (taken_at work.old.growth.stage stage) locks.old locks.new at.actor }
+    ensures given { OnOk result (GivesAt work.old.growth.stage stage → locks_of locks.new at.actor ≡ 0) }
+    ensures own { IfOk result (λ o. locks_of locks.old at.actor ≤ held_at work.old.growth.stage stage → locks_of locks.new at.actor ≤ held_at work.new.growth.stage o.0) }
     ensures survives { Survives D.told (λ passed. passed ≡ pages.old.pages) pages.old pages.new }
     ensures kept { OnErr result (Keeps D.told pages.old pages.new) }
     ensures undamaged { OnOk result (Tells D.told pages.old → DamageAt pages.old.layout pages.old.pages at.index at.range (hand_of stage work.old) stage → ⊥) }
@@ -123,10 +132,13 @@ fn read_in<D: Disk + Drop>(
     requires index { at.index < length pages.old.layout.schema.indexes }
     requires reads { only_reads stage ≡ true }
     requires of { IsHandOf pages.old.layout at.index (hand_of stage work.old) }
+    requires grows { GrowsToPlace work.old.growth.stage stage }
     ensures stepped { IfOk result (λ o. OfBlocks D.told pages.old (table_of pages.old.layout at.index) (λ blocks. (locks : LockState) → StepsAt pages.old.layout pages.old.pages pages.new.pages locks locks at (heap_of pages.old.layout at.index blocks) (hand_of stage work.old) (hand_of o.0 work.new) o.1)) }
     ensures exact { IfOk result (λ o. OfBlocks D.told pages.old (table_of pages.old.layout at.index) (λ blocks. IsExactAt (shape_of pages.old.layout at.index) (heap_of pages.old.layout at.index blocks) at.range (hand_of stage work.old) stage → IsExactAt (shape_of pages.old.layout at.index) (heap_of pages.old.layout at.index blocks) at.range (hand_of o.0 work.new) o.0)) }
-    ensures stands { IfOk result (λ o. StandsAfter stage o.0 o.1) }
+    ensures stands { IfOk result (λ o. StandsAfter work.old.growth.stage stage o.0 o.1) }
     ensures of { IsHandOf pages.old.layout at.index (hand_of stage work.new) }
+    ensures same_growth { work.new.growth ≡ work.old.growth }
+    ensures grows { IfOk result (λ o. GrowsToPlace work.new.growth.stage o.0) }
     ensures kept { Keeps D.told pages.old pages.new }
     ensures survives { Survives D.told (λ passed. passed ≡ pages.old.pages) pages.old pages.new }
     ensures never_blocked { IfOk result (λ o. NeverBlocked o.1) }
@@ -180,29 +192,34 @@ fn change_in<D: Disk + Drop>(
     requires changes { only_reads stage ≡ false }
     requires of { IsHandOf pages.old.layout at.index (hand_of stage work.old) }
     requires room { tuple_room work.old.united.columns ≤ length room.old }
-    requires locks { 0 < taken_at stage → count_of locks.old + taken_at stage ≤ locks.old.limit }
-    requires ready { Tells D.told pages.old → IsReady (shape_of pages.old.layout at.index) (contents pages.old.layout pages.old.pages at.index) at.range stage }
+    requires locks { 0 < taken_at work.old.growth.stage stage → count_of locks.old + taken_at work.old.growth.stage stage ≤ locks.old.limit }
+    requires ready { Tells D.told pages.old → IsReady (shape_of pages.old.layout at.index) (contents pages.old.layout pages.old.pages at.index) at.range work.old.growth.stage stage }
+    requires grows { GrowsToPlace work.old.growth.stage stage }
     ensures stepped { IfOk result (λ o. OfBlocks D.told pages.old (table_of pages.old.layout at.index) (λ blocks. StepsAt pages.old.layout pages.old.pages pages.new.pages locks.old locks.new at (heap_of pages.old.layout at.index blocks) (hand_of stage work.old) (hand_of o.0 work.new) o.1)) }
     ensures exact { IfOk result (λ o. OfBlocks D.told pages.old (table_of pages.old.layout at.index) (λ blocks. IsExactAt (shape_of pages.old.layout at.index) (heap_of pages.old.layout at.index blocks) at.range (hand_of stage work.old) stage → IsExactAt (shape_of pages.old.layout at.index) (heap_of pages.old.layout at.index blocks) at.range (hand_of o.0 work.new) o.0)) }
-    ensures stands { IfOk result (λ o. StandsAfter stage o.0 o.1) }
+    ensures stands { IfOk result (λ o. StandsAfter work.old.growth.stage stage o.0 o.1) }
     ensures rests { IfOk result (λ o. RestsBlocked (hand_of stage work.old) (hand_of o.0 work.new) o.1) }
     ensures of { IsHandOf pages.old.layout at.index (hand_of stage work.new) }
+    ensures grows { IfOk result (λ o. GrowsToPlace work.new.growth.stage o.0) }
+    ensures stays { OnErr result (work.new.growth.stage ≡ work.old.growth.stage) }
     ensures same_room { length room.new ≡ length room.old }
     ensures blocked { IfOk result (λ o. BlockedWell D.told at.index at.actor pages.old pages.new locks.old locks.new o.1) }
     ensures full { IfErr result (SaysFullIn pages.old.layout at.index (λ number. Tells D.told pages.old → StepFull (shape_of pages.old.layout at.index) at.actor at.range (summarise_at pages.old.layout pages.old.pages locks.old at.index (hand_of stage work.old)) number)) }
     ensures at_full { IfErr result (StaysWhereFull locks.old locks.new) }
     ensures others { LeavesOthers D.told at.index pages.old pages.new }
+    ensures order { KeepsOrder D.told at.index pages.old pages.new }
     ensures locks { LeavesLocks (holder locks.old) (holder locks.new) (relation_of pages.old.layout at.index) at.actor }
-    ensures counts { TakesAtMost (taken_at stage) locks.old locks.new at.actor }
-    ensures given { OnOk result (GivesAt stage → locks_of locks.new at.actor ≡ 0) }
-    ensures own { IfOk result (λ o. locks_of locks.old at.actor ≤ held_at stage → locks_of locks.new at.actor ≤ held_at o.0) }
+    ensures counts { TakesAtMost (taken_at work.old.growth.stage stage) locks.old locks.new at.actor }
+    ensures given { OnOk result (GivesAt work.old.growth.stage stage → locks_of locks.new at.actor ≡ 0) }
+    ensures own { IfOk result (λ o. locks_of locks.old at.actor ≤ held_at work.old.growth.stage stage → locks_of locks.new at.actor ≤ held_at work.new.growth.stage o.0) }
     ensures survives { Survives D.told (λ passed. passed ≡ pages.old.pages) pages.old pages.new }
     ensures kept { OnErr result (Keeps D.told pages.old pages.new) }
+    ensures undamaged { OnOk result (Tells D.told pages.old → DamageAt pages.old.layout pages.old.pages at.index at.range (hand_of stage work.old) stage → ⊥) }
     ensures at { IfErr result (NamesPageAt pages.old.layout at.index stage) }
     ensures outcome { MachineOutcome D.told (Tells D.told pages.old → DamageAt pages.old.layout pages.old.pages at.index at.range (hand_of stage work.old) stage) pages.old pages.new result }
 {
     match stage {
-        Stage::Place => match place(pages, locks, at, &mut work.united, room) {
+        Stage::Place => match place_in(pages, locks, at, work, room) {
             Ok(done) => Ok(done),
             Err(fault) => Err(fault),
         },
@@ -232,6 +249,55 @@ fn change_in<D: Disk + Drop>(
     }
 }
 
+/// The next step where the range has no entry: that of the map's growth, while one is under way or the map has no page for the entry; else the
+/// placeholder is put.
+fn place_in<D: Disk + Drop>(
+    pages: &mut PageStore<D>,
+    locks: &mut Locks,
+    at: Within,
+    work: &mut Work,
+    room: &mut [u8],
+) -> Result<(Stage, Did), MachineFault>
+    requires index { at.index < length pages.old.layout.schema.indexes }
+    requires of { IsHandOf pages.old.layout at.index (hand_of Stage.Place work.old) }
+    requires room { tuple_room work.old.united.columns ≤ length room.old }
+    requires locks { 0 < taken_at work.old.growth.stage Stage.Place → count_of locks.old + taken_at work.old.growth.stage Stage.Place ≤ locks.old.limit }
+    requires ready { Tells D.told pages.old → IsReady (shape_of pages.old.layout at.index) (contents pages.old.layout pages.old.pages at.index) at.range work.old.growth.stage Stage.Place }
+    ensures stepped { IfOk result (λ o. OfBlocks D.told pages.old (table_of pages.old.layout at.index) (λ blocks. StepsAt pages.old.layout pages.old.pages pages.new.pages locks.old locks.new at (heap_of pages.old.layout at.index blocks) (hand_of Stage.Place work.old) (hand_of o.0 work.new) o.1)) }
+    ensures exact { IfOk result (λ o. OfBlocks D.told pages.old (table_of pages.old.layout at.index) (λ blocks. IsExactAt (shape_of pages.old.layout at.index) (heap_of pages.old.layout at.index blocks) at.range (hand_of Stage.Place work.old) Stage.Place → IsExactAt (shape_of pages.old.layout at.index) (heap_of pages.old.layout at.index blocks) at.range (hand_of o.0 work.new) o.0)) }
+    ensures stands { IfOk result (λ o. StandsAfter work.old.growth.stage Stage.Place o.0 o.1) }
+    ensures rests { IfOk result (λ o. RestsBlocked (hand_of Stage.Place work.old) (hand_of o.0 work.new) o.1) }
+    ensures of { IsHandOf pages.old.layout at.index (hand_of Stage.Place work.new) }
+    ensures grows { IfOk result (λ o. GrowsToPlace work.new.growth.stage o.0) }
+    ensures stays { OnErr result (work.new.growth.stage ≡ work.old.growth.stage) }
+    ensures same_room { length room.new ≡ length room.old }
+    ensures blocked { IfOk result (λ o. BlockedWell D.told at.index at.actor pages.old pages.new locks.old locks.new o.1) }
+    ensures full { IfErr result (SaysFullIn pages.old.layout at.index (λ number. Tells D.told pages.old → StepFull (shape_of pages.old.layout at.index) at.actor at.range (summarise_at pages.old.layout pages.old.pages locks.old at.index (hand_of Stage.Place work.old)) number)) }
+    ensures at_full { IfErr result (StaysWhereFull locks.old locks.new) }
+    ensures others { LeavesOthers D.told at.index pages.old pages.new }
+    ensures order { KeepsOrder D.told at.index pages.old pages.new }
+    ensures locks { LeavesLocks (holder locks.old) (holder locks.new) (relation_of pages.old.layout at.index) at.actor }
+    ensures counts { TakesAtMost (taken_at work.old.growth.stage Stage.Place) locks.old locks.new at.actor }
+    ensures given { OnOk result (GivesAt work.old.growth.stage Stage.Place → locks_of locks.new at.actor ≡ 0) }
+    ensures own { IfOk result (λ o. locks_of locks.old at.actor ≤ held_at work.old.growth.stage Stage.Place → locks_of locks.new at.actor ≤ held_at work.new.growth.stage o.0) }
+    ensures survives { Survives D.told (λ passed. passed ≡ pages.old.pages) pages.old pages.new }
+    ensures kept { OnErr result (Keeps D.told pages.old pages.new) }
+    ensures undamaged { OnOk result (Tells D.told pages.old → DamageAt pages.old.layout pages.old.pages at.index at.range (hand_of Stage.Place work.old) Stage.Place → ⊥) }
+    ensures at { IfErr result (NamesPageAt pages.old.layout at.index Stage.Place) }
+    ensures outcome { MachineOutcome D.told (Tells D.told pages.old → DamageAt pages.old.layout pages.old.pages at.index at.range (hand_of Stage.Place work.old) Stage.Place) pages.old pages.new result }
+{
+    if grows(pages, at, &work.growth) {
+        return match grow(pages, locks, at, &mut work.growth) {
+            Ok(done) => Ok(done),
+            Err(fault) => Err(fault),
+        };
+    }
+    match place(pages, locks, at, &mut work.united, room) {
+        Ok(done) => Ok(done),
+        Err(fault) => Err(fault),
+    }
+}
+
 /// Reads the extent of the table: the blocks of the range below it are to be passed.
 fn begin_pass<D: Disk + Drop>(
     pages: &PageStore<D>,
@@ -242,7 +308,8 @@ fn begin_pass<D: Disk + Drop>(
     requires of { IsHandOf pages.now.layout at.index (hand_of Stage.Extent work.old) }
     ensures stepped { IfOk result (λ o. OfBlocks D.told pages.now (table_of pages.now.layout at.index) (λ blocks. (locks : LockState) → StepsAt pages.now.layout pages.now.pages pages.now.pages locks locks at (heap_of pages.now.layout at.index blocks) (hand_of Stage.Extent work.old) (hand_of o.0 work.new) o.1)) }
     ensures exact { IfOk result (λ o. OfBlocks D.told pages.now (table_of pages.now.layout at.index) (λ blocks. IsExactAt (shape_of pages.now.layout at.index) (heap_of pages.now.layout at.index blocks) at.range (hand_of Stage.Extent work.old) Stage.Extent → IsExactAt (shape_of pages.now.layout at.index) (heap_of pages.now.layout at.index blocks) at.range (hand_of o.0 work.new) o.0)) }
-    ensures stands { IfOk result (λ o. StandsAfter Stage.Extent o.0 o.1) }
+    ensures stands { IfOk result (λ o. (growth : GrowthStage) → StandsAfter growth Stage.Extent o.0 o.1) }
+    ensures same_growth { work.new.growth ≡ work.old.growth }
     ensures of { IsHandOf pages.now.layout at.index (hand_of Stage.Extent work.new) }
     ensures united { work.new.united ≡ work.old.united }
     ensures stays { Survives D.told (λ passed. ⊥) pages.now pages.now }
@@ -271,7 +338,8 @@ fn go_on<D: Disk + Drop>(
     requires of { IsHandOf pages.old.layout at.index (hand_of Stage.Pass work.old) }
     ensures stepped { IfOk result (λ o. OfBlocks D.told pages.old (table_of pages.old.layout at.index) (λ blocks. (locks : LockState) → StepsAt pages.old.layout pages.old.pages pages.new.pages locks locks at (heap_of pages.old.layout at.index blocks) (hand_of Stage.Pass work.old) (hand_of o.0 work.new) o.1)) }
     ensures exact { IfOk result (λ o. OfBlocks D.told pages.old (table_of pages.old.layout at.index) (λ blocks. IsExactAt (shape_of pages.old.layout at.index) (heap_of pages.old.layout at.index blocks) at.range (hand_of Stage.Pass work.old) Stage.Pass → IsExactAt (shape_of pages.old.layout at.index) (heap_of pages.old.layout at.index blocks) at.range (hand_of o.0 work.new) o.0)) }
-    ensures stands { IfOk result (λ o. StandsAfter Stage.Pass o.0 o.1) }
+    ensures stands { IfOk result (λ o. (growth : GrowthStage) → StandsAfter growth Stage.Pass o.0 o.1) }
+    ensures same_growth { work.new.growth ≡ work.old.growth }
     ensures of { IsHandOf pages.old.layout at.index (hand_of Stage.Pass work.new) }
     ensures united { work.new.united ≡ work.old.united }
     ensures kept { Keeps D.told pages.old pages.new }
@@ -310,7 +378,8 @@ fn unite_in<D: Disk + Drop>(
     requires of { IsHandOf pages.old.layout at.index (hand_of (Stage.Copy spot) work.old) }
     ensures stepped { IfOk result (λ o. Tells D.told pages.old → (locks : LockState) (heap : Heap) → StepsAt pages.old.layout pages.old.pages pages.new.pages locks locks at heap (hand_of (Stage.Copy spot) work.old) (hand_of o.0 work.new) o.1) }
     ensures exact { IfOk result (λ o. OfBlocks D.told pages.old (table_of pages.old.layout at.index) (λ blocks. IsExactAt (shape_of pages.old.layout at.index) (heap_of pages.old.layout at.index blocks) at.range (hand_of (Stage.Copy spot) work.old) (Stage.Copy spot) → IsExactAt (shape_of pages.old.layout at.index) (heap_of pages.old.layout at.index blocks) at.range (hand_of o.0 work.new) o.0)) }
-    ensures stands { IfOk result (λ o. StandsAfter (Stage.Copy spot) o.0 o.1) }
+    ensures stands { IfOk result (λ o. (growth : GrowthStage) → StandsAfter growth (Stage.Copy spot) o.0 o.1) }
+    ensures same_growth { work.new.growth ≡ work.old.growth }
     ensures of { IsHandOf pages.old.layout at.index (hand_of (Stage.Copy spot) work.new) }
     ensures kept { Keeps D.told pages.old pages.new }
     ensures survives { Survives D.told (λ passed. passed ≡ pages.old.pages) pages.old pages.new }

@@ -30,7 +30,7 @@ returns-in-Ok-Blocked-clause-of g c =
 
 pub returns-in-Err-clause-of : goal.returns-in-Err-clause-of
 returns-in-Err-clause-of g c =
-    stays_well c.args.pages.now.layout (state_of c.args.index c.args.course.now c.args.work.now) c.step.new.self c.requires.of c.step.ensures.of (subst (λ (q : Stage). IsAtWork q) (sym c.in-Err.ensures.stays) (c.requires.of.at_range c.requires.at).3)
+    stays_well c.args.pages.now.layout (state_of c.args.index c.args.course.now c.args.work.now) c.step.new.self c.requires.of c.step.ensures.of (subst (λ (q : Stage). IsAtWork q) (sym c.in-Err.ensures.stays.0) (c.requires.of.at_range c.requires.at).3)
 
 pub returns-in-Ok-Moved-clause-exact : goal.returns-in-Ok-Moved-clause-exact
 returns-in-Ok-Moved-clause-exact g c = λ tells blocks has. record { keeps = λ exact at. c.in-Ok-Moved.ensures.exact tells blocks has (exact at) }
@@ -41,7 +41,7 @@ returns-in-Ok-Blocked-clause-exact g c = λ tells blocks has. record { keeps = �
 pub step-requires-clause-locks : goal.step-requires-clause-locks
 step-requires-clause-locks g c = λ some.
     let a = state_of c.args.index c.args.course.now c.args.work.now in
-    let taken : taken_by a ≡ taken_at c.args.work.now.stage = taken_is a c.requires.at in
+    let taken : taken_by a ≡ taken_at c.args.work.now.growth.stage c.args.work.now.stage = taken_is a c.requires.at in
     let room = c.requires.locks (omega (arith, some, taken)) in
     omega (arith, taken, room)
 
@@ -50,8 +50,8 @@ returns-in-Ok-Moved-clause-given g c = λ gives. c.in-Ok-Moved.ensures.given giv
 
 pub returns-in-Ok-Moved-clause-own : goal.returns-in-Ok-Moved-clause-own
 returns-in-Ok-Moved-clause-own g c = λ few.
-    let was : held_by (state_of c.args.index c.args.course.now c.args.work.now) ≡ held_at c.args.work.now.stage = held_is (state_of c.args.index c.args.course.now c.args.work.now) c.requires.at in
-    let is : held_by (state_of c.args.index c.args.course.now c.step.new.self) ≡ held_at c.step.new.self.stage = held_is (state_of c.args.index c.args.course.now c.step.new.self) c.requires.at in
+    let was : held_by (state_of c.args.index c.args.course.now c.args.work.now) ≡ held_at c.args.work.now.growth.stage c.args.work.now.stage = held_is (state_of c.args.index c.args.course.now c.args.work.now) c.requires.at in
+    let is : held_by (state_of c.args.index c.args.course.now c.step.new.self) ≡ held_at c.step.new.self.growth.stage c.step.new.self.stage = held_is (state_of c.args.index c.args.course.now c.step.new.self) c.requires.at in
     let left = c.in-Ok-Moved.ensures.own (omega (arith, few, was)) in
     omega (arith, left, is)
 
@@ -60,8 +60,8 @@ returns-in-Ok-Blocked-clause-given g c = λ gives. c.in-Ok-Blocked.ensures.given
 
 pub returns-in-Ok-Blocked-clause-own : goal.returns-in-Ok-Blocked-clause-own
 returns-in-Ok-Blocked-clause-own g c = λ few.
-    let was : held_by (state_of c.args.index c.args.course.now c.args.work.now) ≡ held_at c.args.work.now.stage = held_is (state_of c.args.index c.args.course.now c.args.work.now) c.requires.at in
-    let is : held_by (state_of c.args.index c.args.course.now c.step.new.self) ≡ held_at c.step.new.self.stage = held_is (state_of c.args.index c.args.course.now c.step.new.self) c.requires.at in
+    let was : held_by (state_of c.args.index c.args.course.now c.args.work.now) ≡ held_at c.args.work.now.growth.stage c.args.work.now.stage = held_is (state_of c.args.index c.args.course.now c.args.work.now) c.requires.at in
+    let is : held_by (state_of c.args.index c.args.course.now c.step.new.self) ≡ held_at c.step.new.self.growth.stage c.step.new.self.stage = held_is (state_of c.args.index c.args.course.now c.step.new.self) c.requires.at in
     let left = c.in-Ok-Blocked.ensures.own (omega (arith, few, was)) in
     omega (arith, left, is)
 
@@ -70,9 +70,9 @@ returns-then-come_to-clause-given g c = λ gives. c.in-Ok-Finished.ensures.given
 
 pub returns-then-come_to-clause-own : goal.returns-then-come_to-clause-own
 returns-then-come_to-clause-own g c = λ few.
-    let was : held_by (state_of c.args.index c.args.course.now c.args.work.now) ≡ held_at c.args.work.now.stage = held_is (state_of c.args.index c.args.course.now c.args.work.now) c.requires.at in
+    let was : held_by (state_of c.args.index c.args.course.now c.args.work.now) ≡ held_at c.args.work.now.growth.stage c.args.work.now.stage = held_is (state_of c.args.index c.args.course.now c.args.work.now) c.requires.at in
     let stands = rw c.in-Ok-Finished.field-0-is at c.in-Ok-Finished.ensures.stands in
-    let none = done_free c.step.new.self.stage stands in
+    let none = done_free c.step.new.self.growth.stage c.step.new.self.stage stands in
     let left = c.in-Ok-Finished.ensures.own (omega (arith, few, was)) in
     omega (arith, left, none)
 
@@ -81,9 +81,9 @@ returns-else-come_to-clause-given g c = λ gives. c.in-Ok-Finished.ensures.given
 
 pub returns-else-come_to-clause-own : goal.returns-else-come_to-clause-own
 returns-else-come_to-clause-own g c = λ few.
-    let was : held_by (state_of c.args.index c.args.course.now c.args.work.now) ≡ held_at c.args.work.now.stage = held_is (state_of c.args.index c.args.course.now c.args.work.now) c.requires.at in
+    let was : held_by (state_of c.args.index c.args.course.now c.args.work.now) ≡ held_at c.args.work.now.growth.stage c.args.work.now.stage = held_is (state_of c.args.index c.args.course.now c.args.work.now) c.requires.at in
     let stands = rw c.in-Ok-Finished.field-0-is at c.in-Ok-Finished.ensures.stands in
-    let none = done_free c.step.new.self.stage stands in
+    let none = done_free c.step.new.self.growth.stage c.step.new.self.stage stands in
     let left = c.in-Ok-Finished.ensures.own (omega (arith, few, was)) in
     omega (arith, left, none)
 

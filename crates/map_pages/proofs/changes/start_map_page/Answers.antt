@@ -1,10 +1,7 @@
-use Rattle.std.proofs.Common.{List, ℕ, [], ◌∷◌, ap, subst, sym, ◌∙◌, ◌≡◌}
+use Rattle.std.proofs.Common.{[], ◌∷◌, ap, ◌∙◌}
 use Rattle.block_model.specs.declared.place.Place.{Place}
 use Rattle.store_layout.specs.DiskLayout.{DiskLayout}
-use Rattle.page_layout.specs.declared.page.Form.TheVariants as forms
-use Rattle.page_store.specs.Forms.{form_of}
-use Rattle.page_store.specs.PageMap.{block_at}
-use Rattle.wal_record.specs.Changes.{Evacuate, MapPage, MetaSet, PageStart}
+use Rattle.wal_record.specs.Changes.{PageStart}
 use Rattle.index_layout.specs.declared.format.TheConstants.{MAP}
 use Rattle.index_contents.specs.IndexContents.{relation_of}
 use Rattle.index_contents.specs.PageLaws.{leaves_others}

@@ -1,11 +1,10 @@
-use Rattle.std.proofs.Common.{List, ℕ, [], ◌∷◌, ap, subst, sym, ◌∙◌, ◌≡◌}
+use Rattle.std.proofs.Common.{[], ◌∷◌, ap, subst, ◌∙◌, ◌≡◌}
 use Rattle.block_model.specs.declared.place.Place.{Place}
 use Rattle.store_layout.specs.DiskLayout.{DiskLayout}
 use Rattle.page_layout.specs.declared.page.Form.TheVariants as forms
 use Rattle.page_store.specs.Forms.{form_of}
 use Rattle.page_store.specs.PageMap.{block_at}
-use Rattle.wal_record.specs.Changes.{Evacuate, MapPage, MetaSet, PageStart}
-use Rattle.index_layout.specs.declared.format.TheConstants.{MAP}
+use Rattle.wal_record.specs.Changes.{MapPage}
 use Rattle.index_contents.specs.IndexContents.{relation_of}
 use Rattle.index_contents.specs.PageLaws.{leaves_others}
 use Rattle.map_pages.proofs.Changing.{emptied_block, emptied_order, no_slots_left, turn_fits, leaves_pages}

@@ -13,4 +13,4 @@ returns-in-Ok-clause-stepped g c = λ tells heap hand.
     (lock_in store.layout c.args.locks.now at.index) (lock_in store.layout c.drop_moved.new.locks at.index) hand c.args.from (c.in-Ok.ensures.dropped tells)
 
 pub returns-in-Ok-clause-own : goal.returns-in-Ok-clause-own
-returns-in-Ok-clause-own g c = λ few. none_left 0 c.drop_moved.new.locks c.args.at.actor c.in-Ok.ensures.given.none
+returns-in-Ok-clause-own g c = λ growth few. none_left 0 c.drop_moved.new.locks c.args.at.actor c.in-Ok.ensures.given.none

@@ -7,7 +7,7 @@ use Rattle.range_summarise.proofs.Stepped.{is_named, is_unnamed}
 use Rattle.range_summarise.proofs.in_range.look.Goals as goal
 
 pub returns-in-Ok-Some-clause-stepped : goal.returns-in-Ok-Some-clause-stepped
-returns-in-Ok-Some-clause-stepped g c = λ tells locks heap hand.
+returns-in-Ok-Some-clause-stepped g c = λ tells locks heap hand rests.
     let store = c.args.pages.now in
     let at = c.args.at in
     let shape = shape_of store.layout at.index in
@@ -19,7 +19,7 @@ returns-in-Ok-Some-clause-stepped g c = λ tells locks heap hand.
     c.read_map.new.copied c.in-Ok-Some.spot (c.in-Ok-Some.ensures.entry tells ∙ c.in-Ok-Some.field-0-is)
 
 pub returns-in-Ok-None-clause-stepped : goal.returns-in-Ok-None-clause-stepped
-returns-in-Ok-None-clause-stepped g c = λ tells locks heap hand.
+returns-in-Ok-None-clause-stepped g c = λ tells locks heap hand rests.
     let store = c.args.pages.now in
     let at = c.args.at in
     let shape = shape_of store.layout at.index in
@@ -28,4 +28,4 @@ returns-in-Ok-None-clause-stepped g c = λ tells locks heap hand.
     let lock = lock_in store.layout locks at.index in
     let same : is ≡ was = ap (λ (pages : PageMap). contents store.layout pages at.index) (c.read_map.ensures.kept.pages tells) in
     is_unnamed shape heap at.actor at.range was is lock hand (λ w shows none. c.an_index_that_stays_is_read.ensures shape was is lock lock w at.actor shows same refl none)
-    c.read_map.new.copied (c.in-Ok-None.ensures.entry tells ∙ c.in-Ok-None.field-0-is)
+    c.read_map.new.copied rests (c.in-Ok-None.ensures.entry tells ∙ c.in-Ok-None.field-0-is)

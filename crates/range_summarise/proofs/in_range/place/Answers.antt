@@ -13,7 +13,7 @@ use Rattle.range_summarise.proofs.Locking.{as_few, few_more}
 use Rattle.range_summarise.proofs.in_range.place.Goals as goal
 
 pub returns-in-Ok-Put-clause-stepped : goal.returns-in-Ok-Put-clause-stepped
-returns-in-Ok-Put-clause-stepped g c = λ tells heap hand.
+returns-in-Ok-Put-clause-stepped g c = λ tells heap hand rests.
     let store = c.args.pages.now in
     let at = c.args.at in
     let shape = shape_of store.layout at.index in
@@ -22,11 +22,11 @@ returns-in-Ok-Put-clause-stepped g c = λ tells heap hand.
     let lock = lock_in store.layout c.args.locks.now at.index in
     let locked = lock_in store.layout c.put_new.new.locks at.index in
     let made = rw c.in-Ok-Put.field-0-is at c.in-Ok-Put.ensures.placed in
-    is_put shape heap at.actor at.range was is lock locked hand c.args.united.now c.restart.new.self c.requires.tuple c.restart.ensures.restarted (c.requires.ready tells) c.in-Ok-Put.to
+    is_put shape heap at.actor at.range was is lock locked hand c.args.united.now c.restart.new.self c.requires.tuple c.restart.ensures.restarted rests (c.requires.ready tells) c.in-Ok-Put.to
     (placed_as shape at.actor at.range was is lock locked _ (tuple_bytes c.restart.new.self) (placed.Put c.in-Ok-Put.to) c.spell-size.ensures.bytes (made tells))
 
 pub returns-in-Ok-Waits-clause-stepped : goal.returns-in-Ok-Waits-clause-stepped
-returns-in-Ok-Waits-clause-stepped g c = λ tells heap hand.
+returns-in-Ok-Waits-clause-stepped g c = λ tells heap hand rests.
     let store = c.args.pages.now in
     let at = c.args.at in
     let shape = shape_of store.layout at.index in
@@ -35,7 +35,7 @@ returns-in-Ok-Waits-clause-stepped g c = λ tells heap hand.
     let lock = lock_in store.layout c.args.locks.now at.index in
     let locked = lock_in store.layout c.put_new.new.locks at.index in
     let made = rw c.in-Ok-Waits.field-0-is at c.in-Ok-Waits.ensures.placed in
-    waits_to_put shape heap at.actor at.range was is lock locked hand c.args.united.now c.restart.new.self c.requires.tuple c.restart.ensures.restarted (c.requires.ready tells) c.in-Ok-Waits.held
+    waits_to_put shape heap at.actor at.range was is lock locked hand c.args.united.now c.restart.new.self c.requires.tuple c.restart.ensures.restarted rests (c.requires.ready tells) c.in-Ok-Waits.held
     (placed_as shape at.actor at.range was is lock locked _ (tuple_bytes c.restart.new.self) (placed.Waits c.in-Ok-Waits.held) c.spell-size.ensures.bytes (made tells))
 
 pub returns-in-Err-clause-full : goal.returns-in-Err-clause-full
@@ -49,8 +49,8 @@ returns-in-Err-clause-full g c =
     let locked = lock_in store.layout c.put_new.new.locks at.index in
     let no_heap : Heap = record { pages_per_range = 0; table = 0; blocks = [] } in
     full_too store.layout at.index _ _ c.in-Err.fault
-    (λ number full tells hand w shows.
-    full_to_put shape no_heap at.actor at.range was is lock locked hand c.args.united.now c.restart.new.self c.requires.tuple c.restart.ensures.restarted (c.requires.ready tells) w number shows
+    (λ number full tells hand rests w shows.
+    full_to_put shape no_heap at.actor at.range was is lock locked hand c.args.united.now c.restart.new.self c.requires.tuple c.restart.ensures.restarted rests (c.requires.ready tells) w number shows
     (subst (λ (b : List ℕ). PutVerdict w at.actor at.range (length (seen shape b).bytes) (Full number)) c.spell-size.ensures.bytes (full tells w shows)))
     c.in-Err.ensures.full
 
@@ -73,5 +73,5 @@ returns-in-Ok-Waits-clause-rests g c = λ hand. refl
 
 pub returns-in-Ok-Waits-clause-stands : goal.returns-in-Ok-Waits-clause-stands
 returns-in-Ok-Waits-clause-stands g c =
-    let some : 0 < 2 = omega arith in
+    let some : 0 < 3 = omega arith in
     (some, refl)

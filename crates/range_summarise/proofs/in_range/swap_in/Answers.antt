@@ -84,27 +84,27 @@ pub returns-in-Ok-Differs-clause-exact : goal.returns-in-Ok-Differs-clause-exact
 returns-in-Ok-Differs-clause-exact g c = λ shape heap hand exact. exact.0.0
 
 pub returns-in-Ok-InPlace-clause-own : goal.returns-in-Ok-InPlace-clause-own
-returns-in-Ok-InPlace-clause-own g c = λ few.
+returns-in-Ok-InPlace-clause-own g c = λ growth few.
     let same = rw c.in-Ok-InPlace.field-0-is at c.in-Ok-InPlace.ensures.locks in
     as_few 0 0 c.args.locks.now c.swap.new.locks c.args.at.actor same few (omega arith)
 
 pub returns-in-Ok-Differs-clause-own : goal.returns-in-Ok-Differs-clause-own
-returns-in-Ok-Differs-clause-own g c = λ few.
+returns-in-Ok-Differs-clause-own g c = λ growth few.
     let same = rw c.in-Ok-Differs.field-0-is at c.in-Ok-Differs.ensures.locks in
     as_few 0 0 c.args.locks.now c.swap.new.locks c.args.at.actor same few (omega arith)
 
 pub returns-in-Ok-Waits-clause-own : goal.returns-in-Ok-Waits-clause-own
-returns-in-Ok-Waits-clause-own g c = λ few.
+returns-in-Ok-Waits-clause-own g c = λ growth few.
     let same = rw c.in-Ok-Waits.field-0-is at c.in-Ok-Waits.ensures.locks in
     as_few 0 0 c.args.locks.now c.swap.new.locks c.args.at.actor same few (omega arith)
 
 pub returns-in-Ok-Moves-clause-own : goal.returns-in-Ok-Moves-clause-own
-returns-in-Ok-Moves-clause-own g c = λ few. few_more 3 0 3 c.args.locks.now c.swap.new.locks c.args.at.actor c.swap.ensures.counts few (omega arith)
+returns-in-Ok-Moves-clause-own g c = λ growth few. few_more 3 0 3 c.args.locks.now c.swap.new.locks c.args.at.actor c.swap.ensures.counts few (omega arith)
 
 pub returns-in-Ok-Waits-clause-rests : goal.returns-in-Ok-Waits-clause-rests
 returns-in-Ok-Waits-clause-rests g c = λ hand. refl
 
 pub returns-in-Ok-Waits-clause-stands : goal.returns-in-Ok-Waits-clause-stands
-returns-in-Ok-Waits-clause-stands g c =
+returns-in-Ok-Waits-clause-stands g c = λ growth.
     let some : 0 < 3 = omega arith in
     (some, refl)

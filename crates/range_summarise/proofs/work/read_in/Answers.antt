@@ -1,13 +1,15 @@
-use Rattle.std.proofs.Common.{sym, subst}
+use Rattle.std.proofs.Common.{sym, ap, subst, ◌∙◌}
 use Rattle.range_summarise.specs.declared.stage.Stage.{Stage}
 use Rattle.range_summarise.specs.ShownHeap.{heap_of}
+use Rattle.range_summarise.specs.SummariseSteps.{StandsAfter, StepsAt}
 use Rattle.engine_pages.specs.SurvivesLaws.{survives_still}
 use Rattle.page_store.specs.Keeps.{Tells}
 use Rattle.range_summarise.specs.StepCauses.{DamageAt}
-use Rattle.range_summarise.specs.SummariseSteps.{StepsAt}
 use Rattle.range_summarise.specs.Works.{hand_of}
 use Rattle.index_steps.specs.IndexTuples.{shape_of}
 use Rattle.range_summarise.specs.ExactSummaries.{IsExactAt}
+use Rattle.map_growth.specs.GrowthHands.{GrowthHand}
+use Rattle.range_summarise.proofs.Locking.{grows_nowhere, reads_at_rest}
 use Rattle.range_summarise.proofs.work.read_in.Goals as goal
 
 pub returns-in-Ok-clause-stepped : goal.returns-in-Ok-clause-stepped
@@ -15,7 +17,7 @@ returns-in-Ok-clause-stepped g c = λ tells blocks has locks.
     let old = c.args.pages.now in
     let at = c.args.at in
     subst (λ (stage : Stage). StepsAt old.layout old.pages c.look.new.pages.pages locks locks at (heap_of old.layout at.index blocks) (hand_of stage c.args.work.now) (hand_of c.in-Ok.done.0 (record c.args.work.now { copied = c.look.new.copied })) c.in-Ok.done.1) (sym c.in-Map.is)
-    (c.in-Ok.ensures.stepped tells locks (heap_of old.layout at.index blocks) (hand_of c.args.stage c.args.work.now))
+    (c.in-Ok.ensures.stepped tells locks (heap_of old.layout at.index blocks) (hand_of c.args.stage c.args.work.now) (reads_at_rest c.args.work.now.growth.stage c.args.stage c.requires.reads c.requires.grows))
 
 pub returns-in-Ok-take_up-clause-stepped : goal.returns-in-Ok-take_up-clause-stepped
 returns-in-Ok-take_up-clause-stepped g c = λ tells blocks has locks.
@@ -89,6 +91,39 @@ returns-in-Ok-unite_in-clause-exact g c = λ tells blocks has.
     let heap = heap_of old.layout at.index blocks in
     subst (λ (stage : Stage). IsExactAt shape heap at.range (hand_of stage c.args.work.now) stage → IsExactAt shape heap at.range (hand_of c.in-Ok-unite_in.done.0 c.unite_in.new.work) c.in-Ok-unite_in.done.0) (sym c.in-Copy.is)
     (c.in-Ok-unite_in.ensures.exact tells blocks has)
+
+pub returns-in-Ok-clause-stands : goal.returns-in-Ok-clause-stands
+returns-in-Ok-clause-stands g c = subst (λ (stage : Stage). StandsAfter c.args.work.now.growth.stage stage c.in-Ok.done.0 c.in-Ok.done.1) (sym c.in-Map.is) (c.in-Ok.ensures.stands c.args.work.now.growth.stage)
+
+pub returns-in-Ok-clause-grows : goal.returns-in-Ok-clause-grows
+returns-in-Ok-clause-grows g c = grows_nowhere c.args.work.now.growth.stage c.in-Ok.done.0 (reads_at_rest c.args.work.now.growth.stage c.args.stage c.requires.reads c.requires.grows)
+
+pub returns-in-Ok-take_up-clause-stands : goal.returns-in-Ok-take_up-clause-stands
+returns-in-Ok-take_up-clause-stands g c = subst (λ (stage : Stage). StandsAfter c.args.work.now.growth.stage stage c.in-Ok-take_up.done.0 c.in-Ok-take_up.done.1) (sym c.in-Tuple.is) (c.in-Ok-take_up.ensures.stands c.args.work.now.growth.stage)
+
+pub returns-in-Ok-take_up-clause-grows : goal.returns-in-Ok-take_up-clause-grows
+returns-in-Ok-take_up-clause-grows g c = grows_nowhere c.args.work.now.growth.stage c.in-Ok-take_up.done.0 (reads_at_rest c.args.work.now.growth.stage c.args.stage c.requires.reads c.requires.grows)
+
+pub returns-in-Ok-begin_pass-clause-stands : goal.returns-in-Ok-begin_pass-clause-stands
+returns-in-Ok-begin_pass-clause-stands g c = subst (λ (stage : Stage). StandsAfter c.args.work.now.growth.stage stage c.in-Ok-begin_pass.done.0 c.in-Ok-begin_pass.done.1) (sym c.in-Extent.is) (c.in-Ok-begin_pass.ensures.stands c.args.work.now.growth.stage)
+
+pub returns-in-Ok-begin_pass-clause-grows : goal.returns-in-Ok-begin_pass-clause-grows
+returns-in-Ok-begin_pass-clause-grows g c =
+    grows_nowhere c.begin_pass.new.work.growth.stage c.in-Ok-begin_pass.done.0 (ap (λ (h : GrowthHand). h.stage) c.begin_pass.ensures.same_growth ∙ reads_at_rest c.args.work.now.growth.stage c.args.stage c.requires.reads c.requires.grows)
+
+pub returns-in-Ok-go_on-clause-stands : goal.returns-in-Ok-go_on-clause-stands
+returns-in-Ok-go_on-clause-stands g c = subst (λ (stage : Stage). StandsAfter c.args.work.now.growth.stage stage c.in-Ok-go_on.done.0 c.in-Ok-go_on.done.1) (sym c.in-Pass.is) (c.in-Ok-go_on.ensures.stands c.args.work.now.growth.stage)
+
+pub returns-in-Ok-go_on-clause-grows : goal.returns-in-Ok-go_on-clause-grows
+returns-in-Ok-go_on-clause-grows g c =
+    grows_nowhere c.go_on.new.work.growth.stage c.in-Ok-go_on.done.0 (ap (λ (h : GrowthHand). h.stage) c.go_on.ensures.same_growth ∙ reads_at_rest c.args.work.now.growth.stage c.args.stage c.requires.reads c.requires.grows)
+
+pub returns-in-Ok-unite_in-clause-stands : goal.returns-in-Ok-unite_in-clause-stands
+returns-in-Ok-unite_in-clause-stands g c = subst (λ (stage : Stage). StandsAfter c.args.work.now.growth.stage stage c.in-Ok-unite_in.done.0 c.in-Ok-unite_in.done.1) (sym c.in-Copy.is) (c.in-Ok-unite_in.ensures.stands c.args.work.now.growth.stage)
+
+pub returns-in-Ok-unite_in-clause-grows : goal.returns-in-Ok-unite_in-clause-grows
+returns-in-Ok-unite_in-clause-grows g c =
+    grows_nowhere c.unite_in.new.work.growth.stage c.in-Ok-unite_in.done.0 (ap (λ (h : GrowthHand). h.stage) c.unite_in.ensures.same_growth ∙ reads_at_rest c.args.work.now.growth.stage c.args.stage c.requires.reads c.requires.grows)
 
 pub returns-in-Ok-clause-undamaged : goal.returns-in-Ok-clause-undamaged
 returns-in-Ok-clause-undamaged g c =
