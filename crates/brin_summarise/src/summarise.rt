@@ -140,10 +140,7 @@ impl Summarise {
                 }
             }
             Standing::AtRange => {
-                match go_on(&mut self.course, &mut self.work, pages, locks, index, actor) {
-                    Ok(did) => Ok(did),
-                    Err(fault) => Err(fault),
-                }
+                go_on(&mut self.course, &mut self.work, pages, locks, index, actor)
             }
             Standing::Done => unreachable!(),
         }
