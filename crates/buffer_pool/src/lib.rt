@@ -2,7 +2,7 @@
 //! log change that it waits for where it is dirty. `set` lets go at most one page, a clean one; `clean_one` and `clean` write one
 //! whose log is durable. A page is found through buckets of frames, hands that go round the clean and the dirty frames choose
 //! one, and dirty pages are put in order for a checkpoint. All memory is taken by `new`. It stands on page_layout and a disk; the
-//! layer above will read and change its pages through the pool. It sees the pool as the record of specs/PoolState.antt.
+//! layer above reads and changes its pages through the pool. It sees the pool as the record of specs/PoolState.antt.
 #![tactic(auto)]
 
 mod buckets;

@@ -57,7 +57,7 @@ impl Bloom {
         }
     }
 
-    /// The parameters of every class are within their limits.
+    /// Does nothing; tells its caller that the parameters of every class are within their limits.
     pub fn known(&self)
         ensures { AreWithinLimits self.now }
     {

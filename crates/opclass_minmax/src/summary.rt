@@ -52,7 +52,7 @@ impl Summary {
         }
     }
 
-    /// Every summary is in order.
+    /// Does nothing; tells its caller that every summary is in order.
     pub fn known(&self)
         ensures { IsSummary self.now }
     {

@@ -55,7 +55,7 @@ impl Summary {
         })
     }
 
-    /// Every summary is of its limit.
+    /// Does nothing; tells its caller that every summary is of its limit.
     pub fn known(&self)
         ensures { IsSummary self.now.limit self.now }
     {

@@ -2,8 +2,7 @@
 
 use thiserror::Error;
 
-/// Why a call of the page store isn't done. Nothing is changed then. Later: `Disk` and `Reopen`, from a store that writes to
-/// its disk.
+/// Why a call of a store of pages isn't done. Nothing is changed then. A store in memory alone answers neither `Disk` nor `Reopen`.
 #[derive(Clone, Copy, Debug, Error, PartialEq, Eq)]
 pub enum StoreError {
     /// The disk failed in this call.
@@ -17,7 +16,7 @@ pub enum StoreError {
     Damaged { at: u64 },
 }
 
-/// Why a step of a machine over pages isn't done. Later: `Memory`, from the steps that read a whole table.
+/// Why a step of a machine over pages isn't done.
 #[derive(Clone, Copy, Debug, Error, PartialEq, Eq)]
 pub enum MachineFault {
     /// The relation has no room; it has that many slots or blocks.

@@ -127,7 +127,7 @@ impl<D: Disk + Drop> PageStore<D> {
         Ok(())
     }
 
-    /// Makes every change so far durable. Does nothing while the pages stand in memory alone. Later: a commit calls it.
+    /// Makes every change so far durable: nothing is to do, since the pages stand in memory alone.
     pub fn flush(&mut self) -> Result<(), StoreError>
         ensures kept { Keeps D.told self.old self.new }
         ensures outcome { Outcome D.told (Untold D.told self.old) self.old self.new result }
@@ -212,7 +212,7 @@ impl<D: Disk + Drop> PageStore<D> {
         self.relation_at(relation).form()
     }
 
-    /// The disk, as it is. Later: a store that is closed gives it back.
+    /// The disk, as it is.
     pub fn into_disk(self) -> D
         ensures { result ≡ self.disk }
     {

@@ -76,7 +76,7 @@ impl Layout {
         FORMAT
     }
 
-    /// What the layer above may take as known: every limit is kept.
+    /// Does nothing; tells its caller that every limit is kept.
     pub fn known(&self)
         ensures limits { KeepsLimits self.now.schema self.now.sizes }
         ensures sizes { HasBoundedSizes self.now }
