@@ -46,8 +46,8 @@ pub fn a_summarise_steps_in_its_table()
     a_table_steps_with_its_index();
 }
 
-/// The table stays kept by a step of a summarise, of whose growth of the map unnamed tuples may be dropped, and where the summarise lock is given with the last one; and a summarise that waits at its
-/// range is a machine that waits. Does nothing.
+/// The table stays kept by a step of a summarise, and where the summarise lock is given with the last one. Where the map grows, tuples that
+/// were unnamed may be dropped by the step. A summarise that waits at its range is a machine that waits. Does nothing.
 pub fn a_summarise_keeps_its_table()
     ensures keeps { (s : ℕ) (old new : ShownTable) (held held_then : Option ℕ) (before after : Task) (point : Point) (account : Account → Account) (u : Unseen) → SummariseGoesTo s old new held held_then before after point account → u.task s ≡ before
         → u.summarise_lock ≡ held → IsTableKept (table_state old u)

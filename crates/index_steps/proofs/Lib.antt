@@ -1,5 +1,4 @@
 pub mod Views
-pub mod Locking
 pub mod Adding
 pub mod Copying
 pub mod Replacing

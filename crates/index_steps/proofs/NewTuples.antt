@@ -13,7 +13,7 @@ use Rattle.revmap.specs.MapEntries.{HoldsRange}
 use Rattle.index_steps.specs.IndexTuples.{IndexShape, seen}
 use Rattle.index_steps.specs.PlaceAnswers.{IsPlacing, NamesIn}
 use Rattle.index_steps.specs.ShownIndex.{Shows}
-use Rattle.index_steps.proofs.Locking.{first_locked}
+use Rattle.index_steps.specs.LockLaws.{first_locked}
 use Rattle.index_steps.proofs.Views.{free_there, no_bytes_there, none_there, seen_bytes}
 
 module _ (shape : IndexShape) (c : IndexContents) (lock : ℕ → Option ℕ) (s range : ℕ) (bytes : List ℕ) (w : IndexView) (shows : Shows shape c lock w) where

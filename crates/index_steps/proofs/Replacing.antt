@@ -19,7 +19,7 @@ use Rattle.index_steps.specs.IndexTuples.{IndexShape, seen, shape_of}
 use Rattle.index_steps.specs.ShownIndex.{Shows, lock_in}
 use Rattle.index_steps.specs.SwapAnswers.{MustLeave, SwapMakes, view_after}
 use Rattle.index_steps.specs.declared.swapping.Swapped.{Swapped}
-use Rattle.index_steps.proofs.Locking.{first_locked, takes_own}
+use Rattle.index_steps.specs.LockLaws.{first_locked, takes_own}
 use Rattle.index_steps.proofs.Views.{free_there, no_bytes_there, none_there, none_locked, other_there, same_locks, seen_bytes, seen_there, turned_there}
 
 module _ (shape : IndexShape) (c : IndexContents) (lock : ℕ → Option ℕ) (s range : ℕ) (x : Spot) (copied bytes : List ℕ) (w : IndexView) (shows : Shows shape c lock w) where

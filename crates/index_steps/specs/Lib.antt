@@ -7,3 +7,4 @@ pub mod PlaceAnswers
 pub mod StepAnswers
 pub mod ShownTable
 pub mod ShownRows
+pub mod LockLaws

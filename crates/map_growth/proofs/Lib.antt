@@ -1,6 +1,5 @@
 pub mod Arms
 pub mod Onward
-pub mod Locking
 pub mod Refusals
 pub mod Growing
 pub mod Stepped

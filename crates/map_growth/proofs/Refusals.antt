@@ -27,7 +27,7 @@ use Rattle.map_growth.specs.Called.{Called, hand_at}
 use Rattle.map_growth.specs.GrowthHands.{GrowthHand}
 use Rattle.map_growth.specs.GrowthSteps.{StandsAfter, StepFull, StepWaits, StepsAt, growth_at}
 use Rattle.map_growth.specs.StageLocks.{Gives, held_at, taken_at}
-use Rattle.map_growth.proofs.Locking.{same_apart, takes_none}
+use Rattle.index_steps.specs.LockLaws.{same_apart, takes_none}
 
 -- a store that stays
 pub same_leaves : {D : Type 0} (told : D → Told) (store : View D) → Leaves told store store

@@ -30,7 +30,7 @@ use Rattle.map_pages.specs.NextPages.{StandsNext}
 use Rattle.map_growth.specs.declared.stage.Stage.TheVariants as stages
 use Rattle.map_growth.specs.Called.{hand_at}
 use Rattle.map_growth.specs.GrowthSteps.{StepFull, StepWaits, StepsAt, growth_at}
-use Rattle.map_growth.proofs.Locking.{first_rest}
+use Rattle.index_steps.specs.LockLaws.{first_rest}
 use Rattle.map_growth.proofs.Stepped.{count_waits, counts, counts_left_over, evacuate_waits, flag_waits, flags, map_full, moves, put_full, put_waits, start_waits, starts, sweeps, turn_waits, turned}
 
 -- the kind of a page behind the metapage, by its byte

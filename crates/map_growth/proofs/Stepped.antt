@@ -25,7 +25,7 @@ use Rattle.map_growth.specs.declared.stage.Stage.TheVariants as stages
 use Rattle.map_growth.specs.Called.{hand_at}
 use Rattle.map_growth.specs.GrowthSteps.{GrowthAt, StepFull, StepWaits, Stepped}
 use Rattle.map_growth.proofs.Growing.{counts_there, fewer_unnamed, first_there, free_there, grows_there, locked_there, next_there, none_first, own_there, place_there, puts_there, range_there, seen_there, sweeps_there, target_back, target_there, turns_there, unnamed_but}
-use Rattle.map_growth.proofs.Locking.{first_locked, gives_own, takes_own, takes_these}
+use Rattle.index_steps.specs.LockLaws.{first_locked, gives_own, takes_own, takes_these}
 
 -- a growth at a stage, with the bytes of a tuple
 abbrev pub growing : IndexContents → (ℕ → Option ℕ) → (index : ℕ) → Stage → List ℕ → GrowthAt

@@ -1,5 +1,5 @@
 -- the locks of a step, and what it rests on where it is blocked
-use Rattle.std.proofs.Common.{◌≡◌, ℕ, ◌+◌, ◌≤◌, Option, true, refl, sym, subst, arith}
+use Rattle.std.proofs.Common.{◌≡◌, ℕ, ◌+◌, ◌≤◌, true, refl, sym, subst, arith}
 use Rattle.std.proofs.lemmas.Bool.{false≢true}
 use Rattle.block_model.specs.declared.place.Place.{Place}
 use Rattle.page_locks.specs.declared.did.Did.{Did}
@@ -12,7 +12,7 @@ use Rattle.page_store.specs.declared.faults.StoreError.TheVariants as errors
 use Rattle.page_store.specs.Outcome.{IsReopen}
 use Rattle.index_steps.specs.Readings.{NamesPageOf}
 use Rattle.index_steps.specs.StepAnswers.{NeverBlocked}
-use Rattle.index_steps.specs.SwapAnswers.{LeavesLocks, TakesAtMost}
+use Rattle.index_steps.specs.SwapAnswers.{TakesAtMost}
 use Rattle.map_growth.specs.declared.stage.Stage.{Stage as GrowthStage}
 use Rattle.map_growth.specs.declared.stage.Stage.TheVariants as growth
 use Rattle.range_summarise.specs.declared.stage.Stage.{Stage}
@@ -20,13 +20,6 @@ use Rattle.range_summarise.specs.declared.stage.Stage.TheVariants as stages
 use Rattle.range_summarise.specs.StageLocks.{GivesAt, held_at}
 use Rattle.range_summarise.specs.SummariseHands.{GrowsToPlace, SummariseHand}
 use Rattle.range_summarise.specs.SummariseSteps.{RestsBlocked, only_reads}
-
--- locks that stay
-pub same_apart : (relation s : ℕ) (h : Place → Option ℕ) → LeavesLocks h h relation s
-same_apart relation s h = record { elsewhere = λ page other none. refl; others = λ page n other. (λ is. is, λ is. is) }
-
-pub takes_none : (n : ℕ) (locks : LockState) (s : ℕ) → TakesAtMost n locks locks s
-takes_none n locks s = record { limit = refl; adds = record { own = omega arith; others = λ a other. refl; all = omega arith } }
 
 -- a step that only reads has no locks and gives none
 pub reads_hold_none : (at : GrowthStage) (stage : Stage) → only_reads stage ≡ true → held_at at stage ≡ 0

@@ -2,7 +2,7 @@ use Rattle.std.proofs.Common.{refl}
 use Rattle.index_contents.specs.IndexContents.{relation_of}
 use Rattle.page_locks.specs.LockHolders.{holder}
 use Rattle.index_steps.proofs.Copying.{names_page}
-use Rattle.index_steps.proofs.Locking.{gives_apart}
+use Rattle.index_steps.specs.LockLaws.{gives_apart}
 use Rattle.index_steps.proofs.moving.drop_moved.Goals as goal
 
 pub returns-in-Err-clause-at : goal.returns-in-Err-clause-at

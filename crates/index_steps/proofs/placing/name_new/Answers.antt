@@ -2,7 +2,7 @@ use Rattle.index_contents.specs.IndexContents.{contents, relation_of}
 use Rattle.page_locks.specs.LockHolders.{holder}
 use Rattle.index_steps.specs.IndexTuples.{shape_of}
 use Rattle.index_steps.proofs.Copying.{names_map}
-use Rattle.index_steps.proofs.Locking.{gives_apart}
+use Rattle.index_steps.specs.LockLaws.{gives_apart}
 use Rattle.index_steps.proofs.NewTuples.{new_names, placing_holds, placing_past}
 use Rattle.index_steps.proofs.placing.name_new.Goals as goal
 

@@ -10,7 +10,7 @@ use Rattle.engine_pages.specs.SurvivesLaws.{survives_still}
 use Rattle.index_contents.specs.IndexContents.{contents, relation_of}
 use Rattle.index_steps.specs.IndexTuples.{shape_of}
 use Rattle.index_steps.specs.ShownIndex.{lock_in}
-use Rattle.index_steps.proofs.Locking.{takes_apart, takes_these}
+use Rattle.index_steps.specs.LockLaws.{takes_apart, takes_these}
 use Rattle.index_steps.proofs.NewTuples.{new_full, new_goes, new_waits}
 use Rattle.index_steps.proofs.Replacing.{limit_is, move_puts}
 use Rattle.index_steps.proofs.Views.{none_locked}

@@ -10,7 +10,7 @@ use Rattle.engine_pages.specs.SurvivesLaws.{survives_still}
 use Rattle.index_contents.specs.IndexContents.{contents, relation_of}
 use Rattle.index_steps.specs.IndexTuples.{shape_of}
 use Rattle.index_steps.specs.ShownIndex.{lock_in}
-use Rattle.index_steps.proofs.Locking.{first_rest, takes_apart, takes_these}
+use Rattle.index_steps.specs.LockLaws.{first_rest, takes_apart, takes_these}
 use Rattle.index_steps.proofs.Replacing.{limit_is, move_full, move_goes, move_puts, move_waits}
 use Rattle.index_steps.proofs.Views.{none_locked}
 use Rattle.index_steps.proofs.swapping.put_elsewhere.Goals as goal

@@ -9,7 +9,7 @@ use Rattle.engine_pages.specs.SurvivesLaws.{survives_still}
 use Rattle.index_contents.specs.IndexContents.{relation_of}
 use Rattle.map_growth.specs.declared.stage.Stage.TheVariants as stages
 use Rattle.map_growth.specs.Called.{hand_at}
-use Rattle.map_growth.proofs.Locking.{gives_apart, takes_more}
+use Rattle.index_steps.specs.LockLaws.{gives_apart, takes_more}
 use Rattle.map_growth.proofs.Refusals.{done, same_keeps, waits}
 use Rattle.map_growth.proofs.Standing.{count_waits_at, counts_left_over_at}
 use Rattle.map_growth.proofs.counting.count_left_over.Goals as goal

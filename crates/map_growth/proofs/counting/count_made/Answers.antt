@@ -11,7 +11,7 @@ use Rattle.page_store.specs.declared.faults.StoreError.TheVariants as errors
 use Rattle.index_steps.specs.Readings.{NamesPageOf}
 use Rattle.map_growth.specs.StepCauses.{HasLeftOver}
 use Rattle.map_growth.proofs.Found.{left_over_there, names_of, not_left_over, stands_still}
-use Rattle.map_growth.proofs.Locking.{same_apart, takes_none}
+use Rattle.index_steps.specs.LockLaws.{same_apart, takes_none}
 use Rattle.map_growth.proofs.Onward.{called_on, called_too, refused_too}
 use Rattle.map_growth.proofs.Refusals.{refused}
 use Rattle.map_growth.proofs.counting.count_made.Goals as goal

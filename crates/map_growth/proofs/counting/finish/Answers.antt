@@ -6,7 +6,7 @@ use Rattle.page_locks.specs.LockHolders.{holder}
 use Rattle.index_contents.specs.IndexContents.{relation_of}
 use Rattle.map_growth.specs.declared.stage.Stage.TheVariants as stages
 use Rattle.map_growth.specs.Called.{hand_at}
-use Rattle.map_growth.proofs.Locking.{gives_apart, takes_more}
+use Rattle.index_steps.specs.LockLaws.{gives_apart, takes_more}
 use Rattle.map_growth.proofs.Refusals.{done}
 use Rattle.map_growth.proofs.Standing.{counts_at}
 use Rattle.map_growth.proofs.counting.finish.Goals as goal

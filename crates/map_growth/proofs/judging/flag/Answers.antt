@@ -9,7 +9,7 @@ use Rattle.engine_pages.specs.SurvivesLaws.{survives_still}
 use Rattle.index_contents.specs.IndexContents.{relation_of}
 use Rattle.map_growth.specs.declared.stage.Stage.TheVariants as stages
 use Rattle.map_growth.specs.Called.{hand_at}
-use Rattle.map_growth.proofs.Locking.{same_apart, takes_none}
+use Rattle.index_steps.specs.LockLaws.{same_apart, takes_none}
 use Rattle.map_growth.proofs.Refusals.{done, same_keeps, waits}
 use Rattle.map_growth.proofs.Standing.{flag_waits_at, flags_at}
 use Rattle.map_growth.proofs.judging.flag.Goals as goal

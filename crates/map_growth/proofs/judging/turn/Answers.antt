@@ -9,7 +9,7 @@ use Rattle.engine_pages.specs.SurvivesLaws.{survives_still}
 use Rattle.index_contents.specs.IndexContents.{relation_of}
 use Rattle.map_growth.specs.declared.stage.Stage.TheVariants as stages
 use Rattle.map_growth.specs.Called.{Called, hand_at}
-use Rattle.map_growth.proofs.Locking.{few_more, takes_apart, takes_more}
+use Rattle.index_steps.specs.LockLaws.{few_more, takes_apart, takes_more}
 use Rattle.map_growth.proofs.Refusals.{done, same_keeps, waits}
 use Rattle.map_growth.proofs.Standing.{turn_waits_at, turned_at}
 use Rattle.map_growth.proofs.judging.turn.Goals as goal

@@ -7,7 +7,7 @@ use Rattle.page_locks.specs.LockHolders.{holder}
 use Rattle.index_contents.specs.IndexContents.{relation_of}
 use Rattle.map_growth.specs.declared.stage.Stage.TheVariants as stages
 use Rattle.map_growth.specs.Called.{hand_at}
-use Rattle.map_growth.proofs.Locking.{same_apart, takes_none}
+use Rattle.index_steps.specs.LockLaws.{same_apart, takes_none}
 use Rattle.map_growth.proofs.Refusals.{done}
 use Rattle.map_growth.proofs.Standing.{sweeps_at}
 use Rattle.map_growth.proofs.Unnamed.{unnamed_there}

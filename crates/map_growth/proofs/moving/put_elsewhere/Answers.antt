@@ -15,7 +15,7 @@ use Rattle.coverage.specs.Verdicts.{IsTarget}
 use Rattle.index_steps.specs.IndexTuples.{shape_of}
 use Rattle.page_locks.specs.LockChanges.{IsFirstHeld, TakesAll}
 use Rattle.map_growth.specs.GrowthSteps.{StepFull, growth_at}
-use Rattle.map_growth.proofs.Locking.{few_more, takes_apart, takes_more}
+use Rattle.index_steps.specs.LockLaws.{few_more, takes_apart, takes_more}
 use Rattle.map_growth.proofs.Refusals.{done, full, same_keeps, waits}
 use Rattle.map_growth.proofs.Standing.{moves_at, put_full_at, put_waits_at}
 use Rattle.map_growth.proofs.moving.put_elsewhere.Goals as goal

@@ -14,7 +14,8 @@ use Rattle.page_locks.specs.LockHolders.{count_of, holder}
 use Rattle.index_contents.specs.IndexContents.{relation_of}
 use Rattle.range_summarise.specs.StageLocks.{GivesAt, held_at, taken_at}
 use Rattle.index_steps.specs.SwapAnswers.{TakesAtMost}
-use Rattle.range_summarise.proofs.Locking.{grows_nowhere, as_few, never_rests, same_apart, takes_none}
+use Rattle.index_steps.specs.LockLaws.{same_apart, takes_none}
+use Rattle.range_summarise.proofs.Locking.{grows_nowhere, as_few, never_rests}
 use Rattle.range_summarise.proofs.work.change_in.Goals as goal
 
 pub returns-in-Ok-name-clause-stepped : goal.returns-in-Ok-name-clause-stepped

@@ -5,7 +5,8 @@ use Rattle.index_order.specs.OrderLaws.{order_kept}
 use Rattle.range_summarise.specs.StageLocks.{held_at, taken_at}
 use Rattle.range_summarise.specs.Works.{hand_of}
 use Rattle.range_summarise.proofs.Faults.{none_full}
-use Rattle.range_summarise.proofs.Locking.{as_few, never_rests, reads_give_none, reads_hold_none, same_apart, takes_none}
+use Rattle.index_steps.specs.LockLaws.{same_apart, takes_none}
+use Rattle.range_summarise.proofs.Locking.{as_few, never_rests, reads_give_none, reads_hold_none}
 use Rattle.range_summarise.proofs.work.step_in.Goals as goal
 
 pub returns-in-Ok-clause-stepped : goal.returns-in-Ok-clause-stepped
