@@ -1,0 +1,79 @@
+-- what a statement in hand needs of its store on any disk
+use Rattle.std.specs.Prelude.{◌≡◌, ◌≢◌, ℕ, ◌+◌, ◌≤◌, ◌<◌, false, All, List, [], length, Option, None, Some, IsSome, vec_capacity}
+use Rattle.disk_trait.specs.Told.{Told}
+use Rattle.store_layout.specs.DiskLayout.{DiskLayout}
+use Rattle.statements.specs.declared.limits.TheConstants.{MAX_SESSIONS}
+use Rattle.page_layout.specs.RowBytes.{HaveKinds}
+use Rattle.page_locks.specs.LockCounts.{locks_of}
+use Rattle.page_locks.specs.LockHolders.{count_of}
+use Rattle.heap_rows.specs.Heaps.{kinds_at}
+use Rattle.row_versions.specs.declared.sessions.Open.{Open}
+use Rattle.row_versions.specs.StoredVersions.{transaction_of}
+use Rattle.tx_table.specs.TxState.{IsOver}
+use Rattle.brin_insert.specs.Inserts.{AsksNothing, HasStepLeft, IsInsertFor}
+use Rattle.brin_insert.specs.InsertLocks as inserts
+use Rattle.brin_scan.specs.Finds.{IsFindOf, IsScanning}
+use Rattle.brin_scan.specs.ScanHands.{IsJudging, IsScanOf}
+use Rattle.brin_scan.specs.declared.stage.Stage.TheVariants as scan_stages
+use Rattle.brin_summarise.specs.Summarises as summarises
+use Rattle.brin_summarise.specs.Summarises.{IsSummariseOf}
+use Rattle.brin_summarise.specs.declared.course.Standing.TheVariants as standings
+use Rattle.store_parts.specs.declared.hand.Hand.{Hand}
+use Rattle.store_parts.specs.declared.hand.Hand.TheVariants as hands
+use Rattle.store_parts.specs.declared.hand.Hit.{Hit}
+use Rattle.store_parts.specs.declared.hand.Marking.{Marking}
+use Rattle.store_parts.specs.declared.limits.TheConstants.{MAX_LOCKS, LOCKS_A_SESSION}
+use Rattle.store_parts.specs.Shares.{share_of}
+use Rattle.store_parts.specs.StoreStates.{StoreState, hand_at}
+
+-- the session has a transaction that hasn't failed
+abbrev pub IsUnderWay : Option Open → Type 0
+IsUnderWay None = ⊥
+IsUnderWay (Some o) = o.failed ≡ false
+
+-- a row of the insert is one of its session's transaction
+abbrev pub IsOwnRow : Option Open → (t : ℕ) → Type 0
+IsOwnRow None t = ⊥
+IsOwnRow (Some o) t = t ≡ o.t
+
+-- a delete's marks: each row that is left lies on a block that its table may have
+pub record IsMarkingFor (layout : DiskLayout) (marking : Marking) : Type 0 where
+  pub table : marking.query.table < length layout.schema.tables
+  pub within : All (λ (h : Hit). h.spot.block < layout.sizes.heap_blocks) marking.hits.items
+  pub left : marking.next < length marking.hits.items
+
+-- what a statement in hand is fit for: its step is left, its table is one of the layout, and its session's transaction is as it needs it
+abbrev pub IsHandFor : DiskLayout → Option Open → Hand → Type 0
+IsHandFor layout own (hands.Begins numbers) = (own ≡ None) × (numbers.items ≡ []) × (MAX_SESSIONS ≤ vec_capacity numbers)
+IsHandFor layout own hands.Commits = IsSome own
+IsHandFor layout own hands.RollsBack = IsSome own
+IsHandFor layout own (hands.Puts table values) = IsUnderWay own × (table < length layout.schema.tables) × HaveKinds (kinds_at layout table) values × AsksNothing layout table
+IsHandFor layout own (hands.Inserts insert) = IsUnderWay own × IsInsertFor layout insert × HasStepLeft insert × IsSome insert.place × IsOwnRow own insert.row.id.t
+IsHandFor layout own (hands.Selecting query) = IsUnderWay own × (query.table < length layout.schema.tables)
+IsHandFor layout own (hands.Selects scan) = IsUnderWay own × IsFindOf layout scan × IsScanning scan.judging.stage scan.next × (scan.judging.stage ≢ scan_stages.Extent)
+IsHandFor layout own (hands.Deleting query) = IsUnderWay own × (query.table < length layout.schema.tables)
+IsHandFor layout own (hands.Deletes scan) = IsUnderWay own × IsFindOf layout scan × IsScanning scan.judging.stage scan.next × (scan.judging.stage ≢ scan_stages.Extent)
+IsHandFor layout own (hands.Marks marking) = IsUnderWay own × IsMarkingFor layout marking
+IsHandFor layout own (hands.Explains explain) = IsScanOf layout explain.judging × IsJudging explain.judging.stage
+IsHandFor layout own (hands.Summarises a) = IsSummariseOf layout a × (a.standing ≢ standings.Done)
+
+abbrev pub FitsHand : DiskLayout → Option Open → Option Hand → Type 0
+FitsHand layout own None = Unit {0}
+FitsHand layout own (Some hand) = IsHandFor layout own hand
+
+-- how many page locks are a statement's own between its steps
+abbrev pub locks_held : Option Hand → ℕ
+locks_held (Some (hands.Inserts insert)) = inserts.held_by (inserts.stage_of insert)
+locks_held (Some (hands.Summarises a)) = summarises.held_by a
+locks_held hand = 0
+
+-- What holds of a session on any disk: its transactions are those of the pages; what it has in hand is fit for its next step; it holds no more page locks than
+-- that, and the journal has what it is promised.
+pub record FitsStore {D : Type 0} (told : D → Told) (s : StoreState D) (n : ℕ) : Type 0 where
+  pub session : n < MAX_SESSIONS
+  pub over : IsOver told s.transactions.tx s.pages
+  pub hand : FitsHand s.pages.layout (transaction_of s.transactions.opens n) (hand_at s n)
+  pub limit : s.locks.limit ≡ MAX_LOCKS
+  pub own : locks_of s.locks n ≤ locks_held (hand_at s n)
+  pub rights : length s.rights ≡ length s.pages.layout.schema.tables
+  pub share : share_of (hand_at s n) (transaction_of s.transactions.opens n) ≤ s.journal.promised

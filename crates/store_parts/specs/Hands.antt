@@ -1,0 +1,70 @@
+-- what a statement in hand is in the definition of texts
+use Rattle.std.specs.Prelude.{◌≡◌, ℕ, true, false, Bool, List, [], ◌∷◌, drop, map, replicate, Option, None, Some}
+use Rattle.block_model.specs.declared.place.Spot.{Spot}
+use Rattle.block_model.specs.declared.row.Row.{Row}
+use Rattle.block_model.specs.declared.row.RowId.{RowId}
+use Rattle.block_model.specs.RequestEffect.{Answer, Inserted, Found, Marked}
+use Rattle.statements.specs.declared.statement.Statement.{Statement}
+use Rattle.statements.specs.declared.statement.Statement.TheVariants as statements
+use Rattle.table_coverage.specs.Accounts.{Account, no_account}
+use Rattle.brin_summarise.specs.declared.wish.Wish.{Wish}
+use Rattle.brin_summarise.specs.declared.wish.Wish.TheVariants as wishes
+use Rattle.brin_summarise.specs.Summarises.{SummariseState, count_of}
+use Rattle.line_texts.specs.Place.{Hand as HandAt}
+use Rattle.store_parts.specs.declared.hand.Hand.{Hand}
+use Rattle.store_parts.specs.declared.hand.Hand.TheVariants as hands
+use Rattle.store_parts.specs.declared.hand.Hit.{Hit}
+use Rattle.store_parts.specs.declared.hand.Marking.{Marking}
+
+-- the block of a summarise line, if it has one
+abbrev pub block_of : Wish → Option ℕ
+block_of wishes.New = None
+block_of (wishes.Block block) = Some block
+
+-- the statement that it is
+abbrev pub statement_of : Hand → Statement
+statement_of (hands.Begins numbers) = statements.Begin
+statement_of hands.Commits = statements.Commit
+statement_of hands.RollsBack = statements.Rollback
+statement_of (hands.Puts table values) = statements.Insert table values
+statement_of (hands.Inserts insert) = statements.Insert insert.row.table insert.row.values
+statement_of (hands.Selecting query) = statements.Select query
+statement_of (hands.Selects scan) = statements.Select scan.judging.query
+statement_of (hands.Deleting query) = statements.Delete query
+statement_of (hands.Deletes scan) = statements.Delete scan.judging.query
+statement_of (hands.Marks marking) = statements.Delete marking.query
+statement_of (hands.Explains explain) = statements.Explain explain.judging.query
+statement_of (hands.Summarises a) = statements.Summarize a.index (block_of a.wish)
+
+-- the rows that a delete has still to mark
+abbrev pub hits_left : Marking → List Hit
+hits_left marking = drop marking.next marking.hits.items
+
+abbrev pub ids_of : List Hit → List RowId
+ids_of hits = map (λ (h : Hit). h.id) hits
+
+-- a put that was made is answered by its row
+abbrev pub put_answers : Option Spot → RowId → List Answer
+put_answers None id = []
+put_answers (Some x) id = Inserted id ∷ []
+
+-- a delete's look found these rows, and so many are marked; before the look nothing is answered
+abbrev pub MarkAnswers : (looked : Bool) → Marking → List Answer → Type 0
+MarkAnswers false marking answers = (answers ≡ []) × (marking.next ≡ 0)
+MarkAnswers true marking answers = (rows : List Row) × (map (λ (r : Row). r.id) rows ≡ ids_of marking.hits.items) × (answers ≡ Found rows ∷ replicate marking.next Marked)
+
+-- what its requests so far were answered
+abbrev pub AnswersAre : Hand → List Answer → Type 0
+AnswersAre (hands.Inserts insert) answers = answers ≡ put_answers insert.place insert.row.id
+AnswersAre (hands.Marks marking) answers = MarkAnswers marking.looked marking answers
+AnswersAre hand answers = answers ≡ []
+
+-- what it has to tell so far
+abbrev pub TellsSo : Hand → Account → Type 0
+TellsSo (hands.Summarises a) account = account ≡ record no_account { ranges = count_of a }
+TellsSo hand account = account ≡ no_account
+
+-- so it stands in a place of the definition; nothing in hand is nothing there
+abbrev pub HandShows : Option Hand → Option HandAt → Account → Type 0
+HandShows None shown account = shown ≡ None
+HandShows (Some hand) shown account = (at : HandAt) × (shown ≡ Some at) × (at.statement ≡ statement_of hand) × AnswersAre hand at.answers × TellsSo hand account

@@ -1,0 +1,11 @@
+pub mod JournalState
+pub mod StoreFaults
+pub mod StoreStates
+pub mod Hands
+pub mod Shares
+pub mod HandsInTables
+pub mod ShowsPlace
+pub mod StepIs
+pub mod HandFits
+pub mod StepAnswers
+pub mod Stepping

@@ -1,0 +1,78 @@
+-- the place of the definition of texts that a store shows
+use Rattle.std.specs.Prelude.{◌≡◌, ℕ, ◌<◌, Bool, true, false, List, [], length, map, Option, None, Some}
+use Rattle.std.specs.FinMap as finite
+use Rattle.block_model.specs.declared.row.Row.{Row}
+use Rattle.block_model.specs.DatabaseState.{OpenTransaction}
+use Rattle.block_model.specs.RequestEffect.{rows_found}
+use Rattle.block_model.specs.SerialRun.{IsLegal}
+use Rattle.page_layout.specs.PageContents.{Slot}
+use Rattle.page_locks.specs.RightHolders.{right_of}
+use Rattle.opened_pages.specs.PageOrder.{IsIndexInOrder}
+use Rattle.heap_rows.specs.HeapBlocks.{HasBlocks}
+use Rattle.snapshot_core.specs.declared.statuses.Status.{Status}
+use Rattle.row_versions.specs.declared.sessions.Open.{Open}
+use Rattle.row_versions.specs.StoredVersions.{transaction_of}
+use Rattle.transactions.specs.CountedRows.{counts_of}
+use Rattle.transactions.specs.ShowsDatabase.{ShowsDatabase}
+use Rattle.index_contents.specs.IndexContents.{index_page}
+use Rattle.table_coverage.specs.Machines.{Unseen, table_state}
+use Rattle.table_coverage.specs.Table.{TableState}
+use Rattle.table_coverage.specs.TableCovered.{IsTableKept}
+use Rattle.index_steps.specs.ShownRows.{shown_by}
+use Rattle.line_texts.specs.Place.{Place, database_at}
+use Rattle.store_parts.specs.declared.hand.Hand.{Hand}
+use Rattle.store_parts.specs.declared.hand.Hand.TheVariants as hands
+use Rattle.store_parts.specs.Hands.{HandShows, hits_left, ids_of}
+use Rattle.store_parts.specs.HandsInTables.{IsTaskOf}
+use Rattle.store_parts.specs.StoreStates.{StoreState, hand_at}
+
+-- The table that pages, locks and summarise locks show, with each session's statement at its task, and kept. The rows of committed transactions count, and
+-- of open ones that haven't failed.
+pub record ShowsTable {D : Type 0} (s : StoreState D) (stored : List Status) (table : ℕ) (w : TableState) : Type 0 where
+  pub blocks : List (List Slot)
+  pub has : HasBlocks s.pages.layout s.pages.pages table blocks
+  pub unseen : Unseen
+  pub shown : w ≡ table_state (shown_by s.pages.layout s.pages.pages s.locks table blocks) unseen
+  pub lock : unseen.summarise_lock ≡ right_of s.rights table
+  pub counts : (t : ℕ) → unseen.counts t ≡ counts_of s.transactions stored t
+  pub tasks : (n : ℕ) → IsTaskOf s.pages.layout table blocks s.transactions.tx stored (transaction_of s.transactions.opens n) (hand_at s n) (unseen.task n)
+  pub kept : IsTableKept w
+
+-- an insert's row is the next one of its session's transaction, which hasn't failed; once it is put it is one of that transaction's
+pub record IsRowOf (transaction : Option Open) (put : Bool) (t k : ℕ) : Type 0 where
+  pub own : Open
+  pub is : transaction ≡ Some own
+  pub whole : own.failed ≡ false
+  pub number : t ≡ own.t
+  pub next : put ≡ false → k ≡ own.next_k
+
+abbrev pub is_put : {A : Type 0} → Option A → Bool
+is_put None = false
+is_put (Some x) = true
+
+-- what a delete has still to mark is what it finds in its session's copy, in order
+abbrev pub IsLeftToMark : Option OpenTransaction → Hand → Type 0
+IsLeftToMark None hand = Unit {0}
+IsLeftToMark (Some x) (hands.Marks marking) = map (λ (r : Row). r.id) (rows_found x marking.query) ≡ ids_of (hits_left marking)
+IsLeftToMark (Some x) hand = Unit {0}
+
+-- how a statement in hand stands to its session's transaction
+abbrev pub IsOfTransaction : Option Open → Option OpenTransaction → Hand → Type 0
+IsOfTransaction transaction copy (hands.Inserts insert) = IsRowOf transaction (is_put insert.place) insert.row.id.t insert.row.id.k
+IsOfTransaction transaction copy hand = IsLeftToMark copy hand
+
+-- The store shows a place of the definition of texts.
+pub record ShowsPlace {D : Type 0} (s : StoreState D) (p : Place) : Type 0 where
+  pub layout : p.layout ≡ s.pages.layout
+  pub names : p.names ≡ s.names
+  pub queue : p.queue ≡ []
+  pub journal : p.journal ≡ s.journal.entries
+  pub legal : IsLegal p.opening p.journal
+  -- the rows on the pages, their statuses and the open transactions show the database of the journal
+  pub database : ShowsDatabase s.pages.layout s.pages.pages s.transactions (database_at p)
+  -- the statements in hand
+  pub hands : (n : ℕ) → HandShows (hand_at s n) (p.hands n) (p.accounts n)
+  pub own : (n : ℕ) (hand : Hand) → hand_at s n ≡ Some hand → IsOfTransaction (transaction_of s.transactions.opens n) (finite.get (database_at p).sessions n) hand
+  -- the tables, and the order of their indexes' pages
+  pub tables : (table : ℕ) → table < length s.pages.layout.schema.tables → ShowsTable s database.stored table (p.tables table)
+  pub order : (index : ℕ) → index < length s.pages.layout.schema.indexes → IsIndexInOrder s.pages.layout.sizes.index_blocks (index_page s.pages.layout s.pages.pages index)

@@ -1,0 +1,63 @@
+-- what every step of a statement leaves on any disk, and when each fault comes
+use Rattle.std.specs.Prelude.{◌≡◌, ◌≢◌, ℕ, ◌+◌, ◌≤◌, Option, None}
+use Rattle.disk_trait.specs.Told.{Told}
+use Rattle.store_layout.specs.DiskLayout.{DiskLayout, IsPlace, page_offset}
+use Rattle.block_model.specs.declared.place.Place.{Place}
+use Rattle.page_locks.specs.LockCounts.{locks_of}
+use Rattle.page_store.specs.declared.faults.StoreError.TheVariants as errors
+use Rattle.page_store.specs.Keeps.{Keeps, Leaves, Untold}
+use Rattle.page_store.specs.Outcome.{Refused}
+use Rattle.page_store.specs.PageMap.{View}
+use Rattle.row_versions.specs.StoredVersions.{transaction_of}
+use Rattle.store_parts.specs.declared.faults.StoreFault.{StoreFault}
+use Rattle.store_parts.specs.declared.faults.StoreFault.TheVariants as stops
+use Rattle.store_parts.specs.declared.hand.Hand.{Hand}
+use Rattle.store_parts.specs.declared.hand.Stepped.{Stepped}
+use Rattle.store_parts.specs.declared.hand.Stepped.TheVariants as stepped
+use Rattle.store_parts.specs.Hands.{statement_of}
+use Rattle.store_parts.specs.Shares.{share_of}
+use Rattle.store_parts.specs.StoreStates.{StoreState, hand_at}
+
+-- what a step of session n leaves to the others: their transactions, how many locks each holds, and what of the journal is promised beside its own
+pub record LeavesSessions {D : Type 0} (told : D → Told) (old new : StoreState D) (n : ℕ) : Type 0 where
+  pub leaves : Leaves told old.pages new.pages
+  pub transactions : (m : ℕ) → m ≢ n → transaction_of new.transactions.opens m ≡ transaction_of old.transactions.opens m
+  pub locks : (m : ℕ) → m ≢ n → locks_of new.locks m ≡ locks_of old.locks m
+  pub promised : new.journal.promised + share_of (hand_at old n) (transaction_of old.transactions.opens n)
+      ≡ old.journal.promised + share_of (hand_at new n) (transaction_of new.transactions.opens n)
+
+-- where a disk fault wasn't kept, none is now
+abbrev pub StaysReady : {D : Type 0} → View D → View D → Type 0
+StaysReady old new = (old.failed ≡ None) × (new.failed ≡ None)
+
+-- a page of the layout begins there
+abbrev pub IsPageOffset : DiskLayout → ℕ → Type 0
+IsPageOffset layout at = (place : Place) × IsPlace layout place × (at ≡ page_offset layout place)
+
+-- Why a step isn't done, by the pages' disk. A disk fault comes only where the count of faults rose, and is kept with the count; from then
+-- on each step answers it. A page is damaged only where the disk doesn't tell its contents.
+abbrev pub HasFaultCause : {D : Type 0} → (D → Told) → View D → View D → StoreFault → Type 0
+HasFaultCause told old new (stops.Spent entries) = StaysReady old new
+HasFaultCause told old new stops.Disk = Refused told (Untold told old) old new errors.Disk
+HasFaultCause told old new (stops.Reopen faults) = Refused told (Untold told old) old new (errors.Reopen faults)
+HasFaultCause told old new (stops.Damaged at) = Refused told (Untold told old) old new (errors.Damaged at)
+
+abbrev pub HasCause : {D : Type 0} → (D → Told) → View D → View D → Stepped → Type 0
+HasCause told old new (stepped.Undone fault hand) = HasFaultCause told old new fault
+HasCause told old new answer = StaysReady old new
+
+-- nothing changes; the statement in hand may be kept anew, but is the same one at the same step
+pub record StaysAsItWas {D : Type 0} (told : D → Told) (old new : StoreState D) : Type 0 where
+  pub pages : Keeps told old.pages new.pages
+  pub transactions : new.transactions ≡ old.transactions
+  pub locks : new.locks ≡ old.locks
+  pub rights : new.rights ≡ old.rights
+  pub journal : new.journal.entries ≡ old.journal.entries
+
+-- where it waits, and where the journal lacks room, nothing changes; and where the step isn't done it enters nothing
+abbrev pub StaysWhereUndone : {D : Type 0} → (D → Told) → (old new : StoreState D) → Hand → Stepped → Type 0
+StaysWhereUndone told old new was (stepped.Moved point hand) = statement_of hand ≡ statement_of was
+StaysWhereUndone told old new was (stepped.Done reply) = Unit {0}
+StaysWhereUndone told old new was (stepped.Blocked what holder hand) = StaysAsItWas told old new × (statement_of hand ≡ statement_of was)
+StaysWhereUndone told old new was (stepped.Undone (stops.Spent entries) hand) = StaysAsItWas told old new × (statement_of hand ≡ statement_of was)
+StaysWhereUndone told old new was (stepped.Undone fault hand) = (new.journal.entries ≡ old.journal.entries) × (statement_of hand ≡ statement_of was)

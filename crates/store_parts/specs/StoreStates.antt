@@ -1,0 +1,42 @@
+-- what a store of sessions is seen as
+use Rattle.std.specs.Prelude.{ℕ, List, slice_index_or, slice_set, Option, None}
+use Rattle.page_locks.specs.LockHolders.{LockState}
+use Rattle.page_store.specs.PageMap.{View}
+use Rattle.transactions.specs.TransactionsState.{TransactionsState}
+use Rattle.store_parts.specs.declared.hand.Hand.{Hand}
+use Rattle.store_parts.specs.declared.parts.Parts.{Parts}
+use Rattle.store_parts.specs.JournalState.{JournalState}
+
+-- The pages with their disk; the transactions; who locks which page, and who holds which table's summarise lock; the journal; and the sessions by
+-- their numbers: their names, and what each has in hand.
+pub record StoreState (D : Type 0) : Type 0 where
+  pub pages : View D
+  pub transactions : TransactionsState
+  pub locks : LockState
+  pub rights : List (Option ℕ)
+  pub journal : JournalState
+  pub names : List (List ℕ)
+  pub hands : List (Option Hand)
+
+-- the statement that session n has in hand
+abbrev pub hand_in : List (Option Hand) → ℕ → Option Hand
+hand_in hands n = slice_index_or hands n None
+
+abbrev pub hand_at : {D : Type 0} → StoreState D → ℕ → Option Hand
+hand_at s n = hand_in s.hands n
+
+-- the store of these parts, whose sessions have these names and hands
+abbrev pub store_of : {D : Type 0} → Parts D → List (List ℕ) → List (Option Hand) → StoreState D
+store_of parts names hands = record {
+  pages = parts.pages;
+  transactions = parts.transactions;
+  locks = parts.locks;
+  rights = parts.rights;
+  journal = parts.journal;
+  names = names;
+  hands = hands;
+}
+
+-- session n has this in hand, and the others what they had
+abbrev pub with_hand : List (Option Hand) → ℕ → Option Hand → List (Option Hand)
+with_hand hands n hand = slice_set hands n hand

@@ -1,0 +1,54 @@
+//! Statements in hand, each as the machine that makes its steps.
+
+use crate::faults::StoreFault;
+use block_model::{Point, Query, Reply, RowId, Spot, Values, What};
+use brin_insert::Insert;
+use brin_scan::{Explain, Scan};
+use brin_summarise::Summarise;
+
+/// A row that a delete found: its id, and where it stands.
+#[derive(Clone, Copy, Debug, PartialEq, Eq)]
+pub struct Hit {
+    pub id: RowId,
+    pub spot: Spot,
+}
+
+/// A delete that marks what it found, in order of the ids: which row is next, and whether its look is entered.
+#[derive(Debug, Drop)]
+pub struct Marking {
+    pub query: Query,
+    pub hits: Vec<Hit>,
+    pub next: usize,
+    pub looked: bool,
+}
+
+/// A statement in hand. An insert, a select and a delete take their memory with their first step, the others have taken it.
+#[derive(Debug, Drop)]
+pub enum Hand {
+    /// A begin, with an empty list that has room for the number of a transaction of each session.
+    Begins(Vec<u64>),
+    Commits,
+    RollsBack,
+    /// An insert before its first step, and one whose row is put.
+    Puts { table: u8, values: Values },
+    Inserts(Insert),
+    /// A select before its first step, and its scan.
+    Selecting(Query),
+    Selects(Scan),
+    /// A delete before its first step, its scan, and its marks.
+    Deleting(Query),
+    Deletes(Scan),
+    Marks(Marking),
+    Explains(Explain),
+    Summarises(Summarise),
+}
+
+/// What came of a step of a statement in hand: it goes on behind a step of this name; it is done, with its reply; it waits for what that
+/// session holds, and nothing was changed; or the step isn't done. The statement comes back where it stays in hand.
+#[derive(Debug, Drop)]
+pub enum Stepped {
+    Moved { point: Point, hand: Hand },
+    Done(Reply),
+    Blocked { what: What, holder: u32, hand: Hand },
+    Undone { fault: StoreFault, hand: Hand },
+}
