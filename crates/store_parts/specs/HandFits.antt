@@ -2,6 +2,7 @@
 use Rattle.std.specs.Prelude.{◌≡◌, ◌≢◌, ℕ, ◌+◌, ◌≤◌, ◌<◌, false, All, List, [], length, Option, None, Some, IsSome, vec_capacity}
 use Rattle.disk_trait.specs.Told.{Told}
 use Rattle.store_layout.specs.DiskLayout.{DiskLayout}
+use Rattle.block_model.specs.declared.row.Query.{Query}
 use Rattle.statements.specs.declared.limits.TheConstants.{MAX_SESSIONS}
 use Rattle.page_layout.specs.RowBytes.{HaveKinds}
 use Rattle.page_locks.specs.LockCounts.{locks_of}
@@ -36,8 +37,9 @@ abbrev pub IsOwnRow : Option Open → (t : ℕ) → Type 0
 IsOwnRow None t = ⊥
 IsOwnRow (Some o) t = t ≡ o.t
 
--- a delete's marks: each row that is left lies on a block that its table may have
+-- a delete's marks: each row that it found lies on a block that its table may have, one is left, and the copy for the journal is one of its query
 pub record IsMarkingFor (layout : DiskLayout) (marking : Marking) : Type 0 where
+  pub look : (copy : Query) → marking.look ≡ Some copy → copy ≡ marking.query
   pub table : marking.query.table < length layout.schema.tables
   pub within : All (λ (h : Hit). h.spot.block < layout.sizes.heap_blocks) marking.hits.items
   pub left : marking.next < length marking.hits.items

@@ -1,6 +1,7 @@
 -- what a statement in hand is in the definition of texts
-use Rattle.std.specs.Prelude.{◌≡◌, ℕ, true, false, Bool, List, [], ◌∷◌, drop, map, replicate, Option, None, Some}
+use Rattle.std.specs.Prelude.{◌≡◌, ℕ, List, [], ◌∷◌, drop, map, replicate, Option, None, Some}
 use Rattle.block_model.specs.declared.place.Spot.{Spot}
+use Rattle.block_model.specs.declared.row.Query.{Query}
 use Rattle.block_model.specs.declared.row.Row.{Row}
 use Rattle.block_model.specs.declared.row.RowId.{RowId}
 use Rattle.block_model.specs.RequestEffect.{Answer, Inserted, Found, Marked}
@@ -49,14 +50,14 @@ put_answers None id = []
 put_answers (Some x) id = Inserted id ∷ []
 
 -- a delete's look found these rows, and so many are marked; before the look nothing is answered
-abbrev pub MarkAnswers : (looked : Bool) → Marking → List Answer → Type 0
-MarkAnswers false marking answers = (answers ≡ []) × (marking.next ≡ 0)
-MarkAnswers true marking answers = (rows : List Row) × (map (λ (r : Row). r.id) rows ≡ ids_of marking.hits.items) × (answers ≡ Found rows ∷ replicate marking.next Marked)
+abbrev pub MarkAnswers : (look : Option Query) → Marking → List Answer → Type 0
+MarkAnswers (Some look) marking answers = (answers ≡ []) × (marking.next ≡ 0)
+MarkAnswers None marking answers = (rows : List Row) × (map (λ (r : Row). r.id) rows ≡ ids_of marking.hits.items) × (answers ≡ Found rows ∷ replicate marking.next Marked)
 
 -- what its requests so far were answered
 abbrev pub AnswersAre : Hand → List Answer → Type 0
 AnswersAre (hands.Inserts insert) answers = answers ≡ put_answers insert.place insert.row.id
-AnswersAre (hands.Marks marking) answers = MarkAnswers marking.looked marking answers
+AnswersAre (hands.Marks marking) answers = MarkAnswers marking.look marking answers
 AnswersAre hand answers = answers ≡ []
 
 -- what it has to tell so far

@@ -1,5 +1,6 @@
 -- how many entries of the journal a session is promised, so that what it has begun can end without taking memory
-use Rattle.std.specs.Prelude.{ℕ, ◌+◌, length, Bool, true, false, Option, None, Some, if◌then◌else◌}
+use Rattle.std.specs.Prelude.{ℕ, ◌+◌, length, Option, None, Some, if◌then◌else◌}
+use Rattle.block_model.specs.declared.row.Query.{Query}
 use Rattle.row_versions.specs.declared.sessions.Open.{Open}
 use Rattle.store_parts.specs.declared.hand.Hand.{Hand}
 use Rattle.store_parts.specs.declared.hand.Hand.TheVariants as hands
@@ -8,8 +9,12 @@ use Rattle.store_parts.specs.declared.limits.TheConstants.{ENTRIES_A_BEGIN}
 use Rattle.store_parts.specs.Hands.{hits_left}
 
 -- the marks that a delete has still to make, and its look, if that isn't entered
+abbrev pub look_share : Option Query → ℕ
+look_share None = 0
+look_share (Some look) = 1
+
 abbrev pub marks_share : Marking → ℕ
-marks_share marking = length (hits_left marking) + (if marking.looked then 0 else 1)
+marks_share marking = length (hits_left marking) + look_share marking.look
 
 -- by its statement in hand: a begin its three, a scan its look, and a delete its marks
 abbrev pub hand_share : Option Hand → ℕ

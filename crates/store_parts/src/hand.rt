@@ -13,13 +13,14 @@ pub struct Hit {
     pub spot: Spot,
 }
 
-/// A delete that marks what it found, in order of the ids: which row is next, and whether its look is entered.
+/// A delete that marks what it found, in order of the ids: which row is next; and, until its look is entered with the first mark, a copy of
+/// the query for the journal.
 #[derive(Debug, Drop)]
 pub struct Marking {
     pub query: Query,
+    pub look: Option<Query>,
     pub hits: Vec<Hit>,
     pub next: usize,
-    pub looked: bool,
 }
 
 /// A statement in hand. An insert, a select and a delete take their memory with their first step, the others have taken it.
