@@ -50,7 +50,7 @@ PutIsShown = (layout : DiskLayout) (old new : PageMap) (t : TransactionsState) (
 -- The transaction may mark the row: it is in its copy, and whether another stands in the way is as said.
 pub record IsMarking (layout : DiskLayout) (pages : PageMap) (t : TransactionsState) (s : DatabaseState) (session table : ℕ) (o : Open) (row : StoredRow) (conflict : Bool) : Type 0 where
   pub shows : ShowsDatabase layout pages t s
-  pub open : transaction_of t.opens session ≡ Some o
+  pub opened : transaction_of t.opens session ≡ Some o
   pub below : table < length layout.schema.tables
   pub copy : OpenTransaction
   pub under_way : maps.get s.sessions session ≡ Some copy

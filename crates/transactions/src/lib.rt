@@ -16,4 +16,4 @@ pub use laws::{
     a_session_has_its_transaction, a_session_sees_its_copy, ids_of_rows_differ, one_database,
     other_pages_show_alike, others_see_alike, rows_found_are_what_stands, which_rows_count,
 };
-pub use transactions::Transactions;
+pub use transactions::{Never, Transactions};
