@@ -8,3 +8,4 @@ pub mod Tables
 pub mod Steps
 pub mod Places
 pub mod Refusals
+pub mod Undone

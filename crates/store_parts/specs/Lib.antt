@@ -18,3 +18,4 @@ pub mod RefusalLaws
 pub mod RequestLaws
 pub mod ShareLaws
 pub mod StoreLaws
+pub mod UndoneLaws

@@ -15,6 +15,7 @@ mod laws_shares;
 mod laws_steps;
 mod laws_stores;
 mod laws_tables;
+mod laws_undone;
 mod limits;
 mod names;
 mod parts;
@@ -32,6 +33,7 @@ pub use laws_tables::{
     another_table_stays, quiet_statements_lock_nothing, slots_stay_for_others,
     the_own_table_goes_on,
 };
+pub use laws_undone::an_undone_step_changes_nothing;
 pub use limits::{ENTRIES_A_BEGIN, LOCKS_A_SESSION, MAX_LOCKS};
 pub use names::{index_named, lock_waited_for, page_waited_for, spent, table_named};
 pub use parts::Parts;
