@@ -1,0 +1,337 @@
+-- a step of an insert in an index, as a step of the place that the store shows
+use Rattle.std.proofs.Common.{◌≡◌, ◌≢◌, ◌⊎◌, inl, inr, ℕ, ◌<◌, ◌≤◌, List, [], ◌∷◌, length, Option, None, Some, refl, sym, ap, subst, ◌∙◌, arith, ◌+◌}
+use Rattle.std.specs.Prelude.{slice_get}
+use Rattle.std.specs.FinMap as finite
+use Rattle.std.proofs.lemmas.Option.{none-some, same_Some}
+use Rattle.block_model.specs.declared.place.Place.{Place as PagePlace}
+use Rattle.block_model.specs.declared.place.Spot.{Spot}
+use Rattle.block_model.specs.declared.reply.Point.{Point}
+use Rattle.block_model.specs.declared.reply.Point.TheVariants as points
+use Rattle.block_model.specs.declared.reply.Reply.TheVariants as replies
+use Rattle.block_model.specs.declared.request.Entry.{Entry}
+use Rattle.block_model.specs.declared.row.Row.{Row}
+use Rattle.block_model.specs.DatabaseState.{DatabaseState}
+use Rattle.block_model.specs.RequestEffect.{Answer, Inserted}
+use Rattle.block_model.specs.SerialRun.{IsLegal, serial_run}
+use Rattle.store_layout.specs.DiskLayout.{DiskLayout}
+use Rattle.page_layout.specs.PageContents.{Slot}
+use Rattle.page_store.specs.PageMap.{PageMap, block_at, page_at}
+use Rattle.page_locks.specs.declared.did.Did.{Did}
+use Rattle.page_locks.specs.declared.did.Did.TheVariants as did
+use Rattle.page_locks.specs.LockHolders.{holder}
+use Rattle.page_locks.specs.RightHolders.{right_of}
+use Rattle.opened_pages.specs.PageOrder.{IsIndexInOrder}
+use Rattle.heap_rows.specs.HeapBlocks.{HasBlocks}
+use Rattle.heap_rows.specs.Heaps.{relation_of as heap_of}
+use Rattle.row_versions.specs.declared.sessions.Open.{Open}
+use Rattle.row_versions.specs.StoredVersions.{transaction_of}
+use Rattle.statements.specs.declared.limits.TheConstants.{MAX_ENTRIES}
+use Rattle.statements.specs.declared.statement.Statement.{Statement}
+use Rattle.statements.specs.declared.statement.Statement.TheVariants as statements
+use Rattle.snapshot_core.specs.declared.statuses.Status.{Status}
+use Rattle.tx_table.specs.Statuses.{status_relation}
+use Rattle.transactions.specs.CountedRows.{counts as counts_of}
+use Rattle.transactions.specs.Laws.{ShowAlike}
+use Rattle.transactions.specs.ShowsDatabase.{ShowsDatabase}
+use Rattle.transactions.specs.TransactionsState.{TransactionsState}
+use Rattle.coverage.specs.Statements.{OnIndex}
+use Rattle.range_tuple.specs.TupleBytes.{tuple_bytes}
+use Rattle.index_contents.specs.IndexContents.{index_page, relation_of as index_relation}
+use Rattle.table_coverage.specs.Accounts.{Account, no_account}
+use Rattle.table_coverage.specs.GoingOn.{IsInserting}
+use Rattle.table_coverage.specs.InOneIndex.{DoesAt}
+use Rattle.table_coverage.specs.Machines.{Unseen, table_state, task_turned}
+use Rattle.table_coverage.specs.Table.{Inserts, Resting, TableState, Task}
+use Rattle.table_coverage.specs.TableCovered.{IsTableKept}
+use Rattle.table_coverage.specs.TableSteps.{Settles}
+use Rattle.table_coverage.proofs.Views.{pick_other, pick_same}
+use Rattle.index_steps.specs.IndexTuples.{index_at, shape_of}
+use Rattle.index_steps.specs.ShownRows.{shown_by}
+use Rattle.index_steps.specs.ShownTable.{indexes_of}
+use Rattle.index_steps.specs.SwapAnswers.{LeavesLocks}
+use Rattle.line_texts.specs.Place.{Hand as HandAt, Place, database_at}
+use Rattle.line_texts.specs.Requests.{Course, MakesAll, NoneLeft}
+use Rattle.line_texts.specs.StatementSteps.{Ended, MakesAt, Moved, Steps, course_of}
+use Rattle.brin_insert.specs.declared.insert.Insert.{Insert}
+use Rattle.brin_insert.specs.InsertAnswers.{InsertDid, InsertGoesTo, InsertStepped, account_of, heap_after, relation_at}
+use Rattle.brin_insert.specs.InsertHands.{InsertHand}
+use Rattle.brin_insert.specs.InsertSteps.{on_index}
+use Rattle.brin_insert.specs.Inserts.{IsInsertFor, task_of, work_of}
+use Rattle.brin_insert.proofs.Numbers.{number_within, own_table}
+use Rattle.brin_insert.proofs.Outcomes.{index_next}
+use Rattle.brin_insert.proofs.Tasks.{number_there, task_is}
+use Rattle.store_parts.specs.declared.hand.Hand.{Hand}
+use Rattle.store_parts.specs.declared.hand.Hand.TheVariants as hands
+use Rattle.store_parts.specs.Hands.{HandShows, put_answers}
+use Rattle.store_parts.specs.HandsInTables.{IsTaskOf, table_in}
+use Rattle.store_parts.specs.LeadLaws.{NoRequestLeads, NothingLeavesSlots, SameCountsFew}
+use Rattle.store_parts.specs.Leaving.{IsRelationOf, LeavesOthers, LocksIn, StepsInTable}
+use Rattle.store_parts.specs.PlaceLaws.{TableStepIsShown}
+use Rattle.store_parts.specs.PlacesAfter.{TurnsIn, place_after, point_in}
+use Rattle.store_parts.specs.ShowsPlace.{IsOfTransaction, IsPlaceOf, IsRowOf, ShowsTable, is_put}
+use Rattle.store_parts.specs.StepLaws.{MachineTurns, TurnGoesOn, TurnReplies}
+use Rattle.store_parts.specs.StoreStates.{ShownStore, hand_in}
+use Rattle.store_parts.specs.TableLaws.{OwnTableGoesOn}
+use Rattle.store_inserts.proofs.Points.{IsPlain, index_point}
+
+-- what a step of the machine in an index left of the store, which shows a place before it
+pub record InIndex (old new : ShownStore) (n : ℕ) (before after : Insert) (hand : InsertHand) (x : Spot) : Type 0 where
+  pub was : hand_in old.hands n ≡ Some (hands.Inserts before)
+  pub placed : before.place ≡ Some x
+  pub still : after.place ≡ Some x
+  pub got : work_of before ≡ Some hand
+  pub made : IsInsertFor old.layout before
+  pub row : after.row ≡ before.row
+  pub others : LeavesOthers n old new
+  pub pages : (place : PagePlace) → place.relation ≢ relation_at old.layout before → page_at new.pages place ≡ page_at old.pages place
+  pub locks : LeavesLocks (holder old.locks) (holder new.locks) (relation_at old.layout before) n
+  pub order : (index : ℕ) → index < length old.layout.schema.indexes → IsIndexInOrder old.layout.sizes.index_blocks (index_page old.layout old.pages index)
+      → IsIndexInOrder old.layout.sizes.index_blocks (index_page old.layout new.pages index)
+  pub transactions : new.transactions ≡ old.transactions
+  pub rights : new.rights ≡ old.rights
+  pub entries : new.entries ≡ old.entries
+  pub few : length old.entries ≤ MAX_ENTRIES
+
+-- the statement of an insert, and how far the definition has it
+abbrev pub insert_of : Row → Statement
+insert_of r = statements.Insert r.table r.values
+
+abbrev pub put_of : Row → HandAt
+put_of r = record { statement = insert_of r; answers = Inserted r.id ∷ [] }
+
+-- the hand of a row that stands
+pub put_hand : (insert : Insert) (x : Spot) (at : Option HandAt) (account : Account) → insert.place ≡ Some x → HandShows (Some (hands.Inserts insert)) at account
+    → (at ≡ Some (put_of insert.row)) × (account ≡ no_account)
+put_hand insert x at account placed (h, is, statement, answers, tells) = (
+  is ∙ ap Some (λ j. record { statement = statement j; answers = (answers ∙ ap (λ (o : Option Spot). put_answers o insert.row.id) placed) j }),
+  tells,
+)
+
+pub put_shown : (insert : Insert) (r : Row) (x : Spot) (account : Account) → insert.place ≡ Some x → insert.row ≡ r → account ≡ no_account → HandShows (Some (hands.Inserts insert)) (Some (put_of r)) account
+put_shown insert r x account placed row tells =
+    (put_of r, refl, ap insert_of (sym row), ap (λ (q : Row). Inserted q.id ∷ []) (sym row) ∙ ap (λ (o : Option Spot). put_answers o insert.row.id) (sym placed), tells)
+
+-- the row stays one of the transaction's
+row_stays : (was now : Option Open) (before after : Insert) → now ≡ was → after.place ≡ before.place → after.row ≡ before.row → IsRowOf was (is_put before.place) before.row.id.t before.row.id.k
+    → IsRowOf now (is_put after.place) after.row.id.t after.row.id.k
+row_stays was now before after same place row is =
+    subst (λ (o : Option Open). IsRowOf o (is_put after.place) after.row.id.t after.row.id.k) (sym same)
+    (subst (λ (o : Option Spot). IsRowOf was (is_put o) after.row.id.t after.row.id.k) (sym place)
+    (subst (λ (r : Row). IsRowOf was (is_put before.place) r.id.t r.id.k) (sym row) is))
+
+-- an insert at work isn't at nothing
+not_resting : (task : Task) → IsInserting task → task ≢ Resting
+not_resting task inserting is = subst IsInserting is inserting
+
+-- what of the laws of the store's parts its steps take
+pub record InsertLaws : Type 0 where
+  pub machine : MachineTurns
+  pub goes : TurnGoesOn
+  pub replies : TurnReplies
+  pub shown : TableStepIsShown
+  pub own : OwnTableGoesOn
+  pub alike : ShowAlike
+  pub leads : NoRequestLeads
+  pub few : SameCountsFew
+  pub slots : NothingLeavesSlots
+
+-- a step that enters nothing
+plain_enters : (point : Point) (p : Place) (n : ℕ) (hand : HandAt) (c : Course) → IsPlain point → c ≡ course_of p hand → MakesAt point p n hand c
+plain_enters points.Row p n hand c plain is = absurd plain
+plain_enters points.Mark p n hand c plain is = absurd plain
+plain_enters point p n hand c plain is = is
+
+not_pruned : (point : Point) → IsPlain point → point ≢ points.Prune
+not_pruned point plain is = subst IsPlain is plain
+
+is_no_work : (r : Row) → insert_of r ≢ statements.Work
+is_no_work r is = cc
+
+-- the account of a session that is at work
+account_stays : (task : Task) (b k : ℕ) (r : Row) (at : ℕ) (on : OnIndex) (account : Account) → task ≡ Inserts b k r at on → account_of task account ≡ account
+account_stays task b k r at on account is = ap (λ (t : Task). account_of t account) is
+
+at_work : (b k : ℕ) (r : Row) (at : ℕ) (on : OnIndex) → Inserts b k r at on ≢ Resting
+at_work b k r at on is = cc
+
+module _ (old new : ShownStore) (n : ℕ) (before after : Insert) (hand : InsertHand) (x : Spot) (step : InIndex old new n before after hand x) where
+  abbrev table : ℕ
+  table = before.row.table
+
+  abbrev on : OnIndex
+  on = on_index (shape_of old.layout hand.index) hand.stage before.copied (tuple_bytes hand.widened)
+
+  task_before : task_of old.layout before ≡ Inserts x.block x.slot before.row before.at on
+  task_before = task_is old.layout before x hand step.placed step.got
+
+  number : slice_get (indexes_of old.layout table) before.at ≡ Some hand.index
+  number = number_there old.layout before before.at hand step.made step.got
+
+  relation : relation_at old.layout before ≡ index_relation old.layout hand.index
+  relation = index_next old.layout before x hand step.placed step.got
+
+  own_relation : IsRelationOf old.layout table (relation_at old.layout before)
+  own_relation = inr (hand.index, number_within old.layout table before.at hand.index number, own_table old.layout table before.at hand.index number, relation)
+
+  pub in_table : table_in old.layout (hand_in old.hands n) ≡ Some table
+  in_table = ap (table_in old.layout) step.was
+
+  steps_in : ((other : ℕ) → table_in old.layout (hand_in new.hands n) ≡ Some other → other ≡ table) → StepsInTable n table old new
+  steps_in then = record {
+    pages = λ place other. step.pages place (λ same. other (subst (IsRelationOf old.layout table) (sym same) own_relation));
+    locks = LocksIn (relation_at old.layout before) own_relation step.locks;
+    rights = λ other apart. ap (λ (rights : List (Option ℕ)). right_of rights other) step.rights;
+    was_in = λ other is. same_Some other table (sym is ∙ in_table);
+    is_in = then;
+  }
+
+  same_statuses : (block : ℕ) → block_at new.pages status_relation block ≡ block_at old.pages status_relation block
+  same_statuses block = step.pages (record { relation = status_relation; block = block }) (λ same. let e : status_relation ≡ index_relation old.layout hand.index = same ∙ relation in absurd (omega (arith, e)))
+
+  same_heaps : (other block : ℕ) → other < length old.layout.schema.tables → block_at new.pages (heap_of other) block ≡ block_at old.pages (heap_of other) block
+  same_heaps other block below = step.pages (record { relation = heap_of other; block = block }) (λ same. let e : heap_of other ≡ index_relation old.layout hand.index = same ∙ relation in absurd (omega (arith, e, below)))
+
+  module _ (p : Place) (shown : IsPlaceOf old p) where
+    abbrev stored : List Status
+    stored = shown.database.stored
+
+    abbrev shows : ShowsTable old stored table (p.tables table)
+    shows = shown.tables table step.made.table
+
+    abbrev u : Unseen
+    u = shows.unseen
+
+    abbrev w : TableState
+    w = table_state (shown_by old.layout old.pages old.locks table shows.blocks) u
+
+    task_here : u.task n ≡ task_of old.layout before
+    task_here =
+        let it : IsTaskOf old.layout table shows.blocks old.transactions.tx stored (transaction_of old.transactions.opens n) (Some (hands.Inserts before)) (u.task n) =
+        subst (λ (h : Option Hand). IsTaskOf old.layout table shows.blocks old.transactions.tx stored (transaction_of old.transactions.opens n) h (u.task n)) step.was (shows.tasks n) in
+        it.0 refl
+
+    kept : IsTableKept w
+    kept = subst IsTableKept shows.shown shows.kept
+
+    pub hand_here : p.hands n ≡ Some (put_of before.row)
+    hand_here = (put_hand before x (p.hands n) (p.accounts n) step.placed (subst (λ (h : Option Hand). HandShows h (p.hands n) (p.accounts n)) step.was (shown.hands n))).0
+
+    told_here : p.accounts n ≡ no_account
+    told_here = (put_hand before x (p.hands n) (p.accounts n) step.placed (subst (λ (h : Option Hand). HandShows h (p.hands n) (p.accounts n)) step.was (shown.hands n))).1
+
+    -- the account behind the step
+    abbrev account : Account
+    account = account_of (task_of old.layout before) (p.accounts n)
+
+    account_is : account ≡ no_account
+    account_is = account_stays (task_of old.layout before) x.block x.slot before.row before.at on (p.accounts n) task_before ∙ told_here
+
+    journal_is : new.entries ≡ p.journal
+    journal_is = step.entries ∙ sym shown.journal
+
+    abbrev course : Course
+    course = record { journal = new.entries; answers = Inserted before.row.id ∷ [] }
+
+    course_is : course ≡ course_of p (put_of before.row)
+    course_is = λ j. record { journal = journal_is j; answers = Inserted before.row.id ∷ [] }
+
+    fits : length new.entries ≤ MAX_ENTRIES
+    fits = subst (λ (l : List Entry). length l ≤ MAX_ENTRIES) (sym step.entries) step.few
+
+    -- the step of the table
+    module _ (point : Point) (goes : InsertGoesTo n (shown_by old.layout old.pages old.locks table shows.blocks) (shown_by old.layout new.pages new.locks table shows.blocks) (task_of old.layout before) (task_of old.layout after) point)
+        (has : HasBlocks old.layout new.pages table shows.blocks) (laws : InsertLaws) where
+      abbrev then : Unseen
+      then = task_turned n (task_of old.layout after) u
+
+      abbrev v : TableState
+      v = table_state (shown_by old.layout new.pages new.locks table shows.blocks) then
+
+      abbrev between : Task
+      between = (goes u task_here kept).0
+
+      abbrev did_so : DoesAt n w (table_state (shown_by old.layout new.pages new.locks table shows.blocks) (task_turned n between u)) point (account_of (task_of old.layout before))
+      did_so = (goes u task_here kept).1
+
+      plain : IsPlain point
+      plain = index_point n w (table_state (shown_by old.layout new.pages new.locks table shows.blocks) (task_turned n between u)) point x.block x.slot before.row before.at on (task_here ∙ task_before) did_so.does did_so.point_is
+
+      busy : u.task n ≢ Resting
+      busy rests = at_work x.block x.slot before.row before.at on (sym (task_here ∙ task_before) ∙ rests)
+
+      abbrev Turns : Type 0
+      Turns = (turns : TurnsIn p n (insert_of before.row) table v account) × (point_in turns ≡ Some point) × (turns.step.between ≡ table_state (shown_by old.layout new.pages new.locks table shows.blocks) (task_turned n between u))
+
+      turns : Turns
+      turns = laws.machine p n table (insert_of before.row) w (table_state (shown_by old.layout new.pages new.locks table shows.blocks) (task_turned n between u)) v point (account_of (task_of old.layout before))
+          shows.shown shown.queue (is_no_work before.row) refl did_so (not_pruned point plain) (goes u task_here kept).2 (inl busy)
+
+      task_then : v.task n ≡ task_of old.layout after
+      task_then = pick_same n (task_of old.layout after) (u.task n)
+
+      -- so the store shows the place behind it, whatever the session has in hand then
+      abbrev Behind : Option HandAt → Type 0
+      Behind at = IsPlaceOf new (place_after p n table at v account (counts_of new.transactions stored) new.entries)
+
+      behind : (at : Option HandAt) → HandShows (hand_in new.hands n) at account
+          → ((hand : Hand) → hand_in new.hands n ≡ Some hand → IsOfTransaction (transaction_of new.transactions.opens n) (finite.get (database_at p).sessions n) hand)
+          → ((other : ℕ) → table_in old.layout (hand_in new.hands n) ≡ Some other → other ≡ table)
+          → IsTaskOf old.layout table shows.blocks new.transactions.tx stored (transaction_of new.transactions.opens n) (hand_in new.hands n) (then.task n) → Behind at
+      behind at hand_then own_then in_then is_at = laws.shown old new p n table at v account shown step.others (steps_in in_then)
+          (laws.few old new stored stored (λ t. ap (λ (s : TransactionsState). counts_of s stored t) step.transactions))
+          (laws.leads laws.alike old new p n at account shown step.entries step.transactions same_statuses same_heaps (record { hand = hand_then; own = own_then; order = step.order }))
+          (laws.own old new stored n table (p.tables table) v then shows.blocks shows step.others turns.0.step refl has
+          (shows.lock ∙ ap (λ (rights : List (Option ℕ)). right_of rights table) (sym step.rights))
+          (λ t. shows.counts t ∙ ap (λ (s : TransactionsState). counts_of s stored t) (sym step.transactions))
+          (λ m other. pick_other m n (task_of old.layout after) (u.task m) other)
+          is_at (laws.slots old stored n shows.blocks))
+
+      own_row : IsRowOf (transaction_of old.transactions.opens n) (is_put before.place) before.row.id.t before.row.id.k
+      own_row = shown.own n (hands.Inserts before) step.was
+
+      -- it goes on
+      module _ (now : hand_in new.hands n ≡ Some (hands.Inserts after)) (inserting : IsInserting (task_of old.layout after)) where
+        goes_shown : Behind (Some (put_of before.row))
+        goes_shown = behind (Some (put_of before.row))
+            (subst (λ (h : Option Hand). HandShows h (Some (put_of before.row)) account) (sym now) (put_shown after before.row x account step.still step.row account_is))
+            (λ h is. subst (λ (h : Hand). IsOfTransaction (transaction_of new.transactions.opens n) (finite.get (database_at p).sessions n) h) (same_Some (hands.Inserts after) h (sym now ∙ is)) row_then)
+            (λ other is. same_Some other table (sym is ∙ ap (table_in old.layout) now ∙ ap (λ (r : Row). Some r.table) step.row))
+            (subst (λ (h : Option Hand). IsTaskOf old.layout table shows.blocks new.transactions.tx stored (transaction_of new.transactions.opens n) h (then.task n)) (sym now)
+            ((λ own. task_then), (λ apart. absurd (apart (ap (λ (r : Row). r.table) step.row)))))
+          where
+            row_then : IsRowOf (transaction_of new.transactions.opens n) (is_put after.place) after.row.id.t after.row.id.k
+            row_then = row_stays (transaction_of old.transactions.opens n) (transaction_of new.transactions.opens n) before after (ap (λ (s : TransactionsState). transaction_of s.opens n) step.transactions) (step.still ∙ sym step.placed) step.row own_row
+
+        pub goes_on : (q : Place) × IsPlaceOf new q × Steps p n (Moved point) q
+        goes_on = (
+          place_after p n table (Some (put_of before.row)) v account (counts_of new.transactions stored) new.entries,
+          goes_shown,
+          record {
+            hand = put_of before.row;
+            in_hand = hand_here;
+            steps = laws.goes p n table (put_of before.row) v account (counts_of new.transactions stored) point course turns.0 turns.1 (not_resting (v.task n) (subst IsInserting (sym task_then) inserting)) (plain_enters point p n (put_of before.row) course plain course_is);
+            fits = fits;
+          },
+        )
+
+      -- it is done
+      module _ (now : hand_in new.hands n ≡ None) (rests : task_of old.layout after ≡ Resting) where
+        done_shown : Behind None
+        done_shown = behind None
+            (subst (λ (h : Option Hand). HandShows h None account) (sym now) refl)
+            (λ h is. absurd (none-some h (sym now ∙ is)))
+            (λ other is. absurd (none-some other (ap (table_in old.layout) (sym now) ∙ is)))
+            (subst (λ (h : Option Hand). IsTaskOf old.layout table shows.blocks new.transactions.tx stored (transaction_of new.transactions.opens n) h (then.task n)) (sym now) (task_then ∙ rests))
+
+        pub is_done : (q : Place) × IsPlaceOf new q × Steps p n (Ended (replies.Inserted before.row.id)) q
+        is_done = (
+          place_after p n table None v account (counts_of new.transactions stored) new.entries,
+          done_shown,
+          record {
+            hand = put_of before.row;
+            in_hand = hand_here;
+            steps = laws.replies p n table (put_of before.row) v account (counts_of new.transactions stored) point course (replies.Inserted before.row.id) turns.0 turns.1 (task_then ∙ rests)
+                (subst (λ (c : Course). MakesAll p.opening n (insert_of before.row) (course_of p (put_of before.row)) c) (sym course_is) (NoneLeft (course_of p (put_of before.row)) refl)) refl;
+            fits = fits;
+          },
+        )

@@ -1,0 +1,176 @@
+//! The first step of an insert.
+
+ghost use Rattle.std.specs.Prelude.{◌≡◌, ◌+◌, ◌^◌, ◌<◌, ◌≤◌, ◌∷◌, ◌++◌, [], None, Some, length, IfSome, IsSome, IsSomeAnd};
+ghost use Rattle.block_model.specs.declared.request.Request.TheVariants as requests;
+ghost use Rattle.line_texts.specs.Names.{table_name};
+ghost use Rattle.page_locks.specs.LockChanges.{GivesAll};
+ghost use Rattle.page_locks.specs.LockCounts.{AddsAtMost, locks_of};
+ghost use Rattle.statements.specs.StatementRequests.{tagged_entry};
+ghost use Rattle.statements.specs.declared.limits.TheConstants.{MAX_ENTRIES};
+ghost use Rattle.row_versions.specs.StoredVersions.{transaction_of};
+ghost use Rattle.transactions.specs.Sessions.{next_row_of};
+ghost use Rattle.transactions.specs.TransactionsState.{OfOpen, with_failed};
+ghost use Rattle.store_inserts.specs.Promised.{unpromised};
+ghost use Rattle.page_locks.specs.LockHolders.{count_of, holder};
+ghost use Rattle.brin_insert.specs.Inserts.{IsInsertFor};
+ghost use Rattle.store_parts.specs.declared.limits.TheConstants.{LOCKS_A_SESSION, MAX_LOCKS};
+ghost use Rattle.store_parts.specs.StepAnswers.{HasCause};
+ghost use Rattle.store_parts.specs.Stepping.{IsFit, IsShown, LeavesTheOthers, MakesItsStep, StaysFit, StaysUndone};
+
+use crate::entering::{answered, enter_row, refuse};
+use crate::machines::machine_for;
+use block_model::{Refusal, Reply, Row, Tag, Values};
+use brin_insert::Insert;
+use disk_trait::Disk;
+use page_locks::Did;
+use page_store::MachineFault;
+use store_parts::{Hand, Parts, Stepped, fault_of, spent, table_named};
+
+/// The first step of an insert: its row is put. Where memory is short for the step, or the table is full, the put is entered so and the
+/// session's transaction fails; `Spent` comes where the journal has no room for the put. The insert is done with this step where its
+/// table has no index; its machine is spare then.
+pub fn put_row<D: Disk + Drop>(
+    parts: &mut Parts<D>,
+    session: u32,
+    table: u8,
+    values: Values,
+    spare: &mut Option<Insert>,
+) -> Stepped
+    requires fit { IsFit D.told parts.old session (Hand.Puts table values) }
+    requires few { count_of parts.old.locks + LOCKS_A_SESSION ≤ MAX_LOCKS }
+    requires shown { IsShown D.told parts.old session (Hand.Puts table values) }
+    requires spare { IfSome spare.old (IsInsertFor parts.old.pages.layout) }
+    ensures steps { MakesItsStep D.told parts.old parts.new session (Hand.Puts table values) result }
+    ensures fit { StaysFit D.told parts.old parts.new session (Hand.Puts table values) result }
+    ensures others { LeavesTheOthers D.told parts.old parts.new session (Hand.Puts table values) result }
+    ensures stays { StaysUndone D.told parts.old parts.new session (Hand.Puts table values) result }
+    ensures cause { HasCause D.told parts.old.pages parts.new.pages result }
+    ensures spare { IfSome spare.new (IsInsertFor parts.old.pages.layout) }
+{
+    let hand = Hand::Puts { table, values };
+    match parts.pages.ready() {
+        Ok(()) => {}
+        Err(error) => {
+            return Stepped::Undone {
+                fault: fault_of(error),
+                hand,
+            };
+        }
+    }
+    if !parts.journal.fits(1) {
+        return Stepped::Undone {
+            fault: spent(&parts.journal),
+            hand,
+        };
+    }
+    match machine_for(parts, session, table, values, spare) {
+        Ok(insert) => first_step(parts, session, insert, spare),
+        Err(_) => Stepped::Done(refuse(
+            parts,
+            session,
+            table,
+            values,
+            Tag::NoMemory,
+            Refusal::Memory,
+        )),
+    }
+}
+
+/// The machine's first step, for which one entry of the journal is promised beside those of the session.
+fn first_step<D: Disk + Drop>(
+    parts: &mut Parts<D>,
+    session: u32,
+    mut insert: Insert,
+    spare: &mut Option<Insert>,
+) -> Stepped
+    requires made { IsInsertFor parts.old.pages.layout insert }
+    requires nowhere { insert.place ≡ None }
+    requires id { OfOpen parts.old.transactions session (λ o. next_row_of o ≡ Some insert.row.id) }
+    requires number { IsSomeAnd (transaction_of parts.old.transactions.opens session) (λ o. o.next_k + 1 < 2 ^ 32) }
+    requires promised { 0 < parts.old.journal.promised }
+    requires fits { length parts.old.journal.entries < MAX_ENTRIES }
+    requires ready { parts.old.pages.failed ≡ None }
+    requires fit { IsFit D.told (unpromised parts.old) session (Hand.Puts insert.row.table insert.row.values) }
+    requires shown { IsShown D.told (unpromised parts.old) session (Hand.Puts insert.row.table insert.row.values) }
+    requires spare { IfSome spare.old (IsInsertFor parts.old.pages.layout) }
+    ensures steps { MakesItsStep D.told (unpromised parts.old) parts.new session (Hand.Puts insert.row.table insert.row.values) result }
+    ensures fit { StaysFit D.told (unpromised parts.old) parts.new session (Hand.Puts insert.row.table insert.row.values) result }
+    ensures others { LeavesTheOthers D.told (unpromised parts.old) parts.new session (Hand.Puts insert.row.table insert.row.values) result }
+    ensures stays { StaysUndone D.told (unpromised parts.old) parts.new session (Hand.Puts insert.row.table insert.row.values) result }
+    ensures cause { HasCause D.told parts.old.pages parts.new.pages result }
+    ensures spare { IfSome spare.new (IsInsertFor parts.old.pages.layout) }
+{
+    match insert.step(&mut parts.pages, &mut parts.locks, session) {
+        Ok(Did::Moved(point)) => {
+            enter_row(parts, session, insert.row());
+            Stepped::Moved {
+                point,
+                hand: Hand::Inserts(insert),
+            }
+        }
+        Ok(Did::Finished(_)) => {
+            enter_row(parts, session, insert.row());
+            Stepped::Done(answered(insert, spare))
+        }
+        Ok(Did::Blocked(_)) => unreachable!(),
+        Ok(Did::NoRight { .. }) => unreachable!(),
+        Err(MachineFault::Full { number, .. }) => {
+            parts.journal.release(1);
+            let reply = full_table(parts, session, insert.row(), number);
+            *spare = Some(insert);
+            Stepped::Done(reply)
+        }
+        Err(MachineFault::Store(error)) => {
+            parts.journal.release(1);
+            parts.locks.drop_all(session);
+            let hand = hand_again(insert.row());
+            *spare = Some(insert);
+            Stepped::Undone {
+                fault: fault_of(error),
+                hand,
+            }
+        }
+        Err(MachineFault::Memory) => unreachable!(),
+    }
+}
+
+/// The row's table is full: the insert is refused.
+fn full_table<D: Disk + Drop>(
+    parts: &mut Parts<D>,
+    session: u32,
+    row: &Row,
+    number: u64,
+) -> Reply
+    requires table { row.now.table < length parts.old.pages.layout.schema.tables }
+    requires promised { 0 < parts.old.journal.promised }
+    requires open { IsSome (transaction_of parts.old.transactions.opens session) }
+    ensures failed { OfOpen parts.old.transactions session (λ o. parts.new.transactions ≡ with_failed parts.old.transactions session o) }
+    ensures entries { parts.new.journal.entries ≡ parts.old.journal.entries ++ tagged_entry session row.now.table (requests.Put row.now.values) Tag.Full ∷ [] }
+    ensures promised { parts.new.journal.promised + 1 ≡ parts.old.journal.promised }
+    ensures given { GivesAll (holder parts.old.locks) (holder parts.new.locks) session }
+    ensures none { locks_of parts.new.locks session ≡ 0 }
+    ensures limit { parts.new.locks.limit ≡ parts.old.locks.limit }
+    ensures counts { AddsAtMost parts.old.locks parts.new.locks session 0 }
+    ensures rest { parts.new ≡ record parts.old { transactions = parts.new.transactions; locks = parts.new.locks; journal = parts.new.journal } }
+    ensures reply { result ≡ Reply.Refused (Refusal.Full (table_name parts.old.pages.layout row.now.table) number) }
+{
+    let relation = table_named(parts.pages.layout(), row.table);
+    refuse(
+        parts,
+        session,
+        row.table,
+        row.values,
+        Tag::Full,
+        Refusal::Full { relation, number },
+    )
+}
+
+/// The insert of the row before its first step.
+fn hand_again(row: &Row) -> Hand
+    ensures { result ≡ Hand.Puts row.now.table row.now.values }
+{
+    Hand::Puts {
+        table: row.table,
+        values: row.values,
+    }
+}
