@@ -9,3 +9,5 @@ pub mod Steps
 pub mod Places
 pub mod Refusals
 pub mod Undone
+pub mod Leads
+pub mod Opening

@@ -146,10 +146,10 @@ module _ {D : Type 0} (told : D → Told) where
       let was : FitsParts told parts n (Some hand) = fit_of_parts told parts n hand fits in
       record {
         steps = λ names hands is tells before after p shown. (
-            p,
-            subst (λ (l : List (Option Hand)). ShowsPlace (store_of parts names l) p) (sym (same_hands hands n hand is)) shown,
-            (lacks names hands p is tells shown, is_length ∙ ap length (sym shown.journal), refl),
-          );
+          p,
+          subst (λ (l : List (Option Hand)). ShowsPlace (store_of parts names l) p) (sym (same_hands hands n hand is)) shown,
+          (lacks names hands p is tells shown, is_length ∙ ap length (sym shown.journal), refl),
+        );
         fit = λ names hands is. fit_of_stores told parts n (Some hand) names (with_hand hands n (Some hand)) was (kept_hand hands n hand is);
         others = refused_others parts parts n hand fits was.over (no_leaves parts.pages) unchanged (stops.Spent entries);
         stays = λ names hands is. (record { pages = record { leaves = no_leaves parts.pages; pages = λ tells. refl }; transactions = refl; locks = refl; rights = refl; journal = refl }, refl);
