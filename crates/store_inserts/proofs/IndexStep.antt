@@ -72,15 +72,13 @@ use Rattle.store_parts.specs.ShowsPlace.{IsOfTransaction, IsPlaceOf, IsRowOf, Sh
 use Rattle.store_parts.specs.StepLaws.{MachineTurns, TurnGoesOn, TurnReplies}
 use Rattle.store_parts.specs.StoreStates.{ShownStore, hand_in}
 use Rattle.store_parts.specs.TableLaws.{OwnTableGoesOn}
+use Rattle.store_inserts.proofs.AtIndex.{AtIndex, hand_here, in_table, insert_of, kept_here, on_there, own_relation, own_row_here, put_of, relation_here, shows_here, task_before, task_here, told_here}
 use Rattle.store_inserts.proofs.Points.{IsPlain, index_point}
 
 -- what a step of the machine in an index left of the store, which shows a place before it
 pub record InIndex (old new : ShownStore) (n : ℕ) (before after : Insert) (hand : InsertHand) (x : Spot) : Type 0 where
-  pub was : hand_in old.hands n ≡ Some (hands.Inserts before)
-  pub placed : before.place ≡ Some x
+  pub at : AtIndex old n before hand x
   pub still : after.place ≡ Some x
-  pub got : work_of before ≡ Some hand
-  pub made : IsInsertFor old.layout before
   pub row : after.row ≡ before.row
   pub others : LeavesOthers n old new
   pub pages : (place : PagePlace) → place.relation ≢ relation_at old.layout before → page_at new.pages place ≡ page_at old.pages place
@@ -91,21 +89,6 @@ pub record InIndex (old new : ShownStore) (n : ℕ) (before after : Insert) (han
   pub rights : new.rights ≡ old.rights
   pub entries : new.entries ≡ old.entries
   pub few : length old.entries ≤ MAX_ENTRIES
-
--- the statement of an insert, and how far the definition has it
-abbrev pub insert_of : Row → Statement
-insert_of r = statements.Insert r.table r.values
-
-abbrev pub put_of : Row → HandAt
-put_of r = record { statement = insert_of r; answers = Inserted r.id ∷ [] }
-
--- the hand of a row that stands
-pub put_hand : (insert : Insert) (x : Spot) (at : Option HandAt) (account : Account) → insert.place ≡ Some x → HandShows (Some (hands.Inserts insert)) at account
-    → (at ≡ Some (put_of insert.row)) × (account ≡ no_account)
-put_hand insert x at account placed (h, is, statement, answers, tells) = (
-  is ∙ ap Some (λ j. record { statement = statement j; answers = (answers ∙ ap (λ (o : Option Spot). put_answers o insert.row.id) placed) j }),
-  tells,
-)
 
 pub put_shown : (insert : Insert) (r : Row) (x : Spot) (account : Account) → insert.place ≡ Some x → insert.row ≡ r → account ≡ no_account → HandShows (Some (hands.Inserts insert)) (Some (put_of r)) account
 put_shown insert r x account placed row tells =
@@ -159,44 +142,30 @@ module _ (old new : ShownStore) (n : ℕ) (before after : Insert) (hand : Insert
   table = before.row.table
 
   abbrev on : OnIndex
-  on = on_index (shape_of old.layout hand.index) hand.stage before.copied (tuple_bytes hand.widened)
-
-  task_before : task_of old.layout before ≡ Inserts x.block x.slot before.row before.at on
-  task_before = task_is old.layout before x hand step.placed step.got
-
-  number : slice_get (indexes_of old.layout table) before.at ≡ Some hand.index
-  number = number_there old.layout before before.at hand step.made step.got
-
-  relation : relation_at old.layout before ≡ index_relation old.layout hand.index
-  relation = index_next old.layout before x hand step.placed step.got
-
-  own_relation : IsRelationOf old.layout table (relation_at old.layout before)
-  own_relation = inr (hand.index, number_within old.layout table before.at hand.index number, own_table old.layout table before.at hand.index number, relation)
-
-  pub in_table : table_in old.layout (hand_in old.hands n) ≡ Some table
-  in_table = ap (table_in old.layout) step.was
+  on = on_there old n before hand x step.at
 
   steps_in : ((other : ℕ) → table_in old.layout (hand_in new.hands n) ≡ Some other → other ≡ table) → StepsInTable n table old new
   steps_in then = record {
-    pages = λ place other. step.pages place (λ same. other (subst (IsRelationOf old.layout table) (sym same) own_relation));
-    locks = LocksIn (relation_at old.layout before) own_relation step.locks;
+    below = step.at.made.table;
+    pages = λ place other. step.pages place (λ same. other (subst (IsRelationOf old.layout table) (sym same) (own_relation old n before hand x step.at)));
+    locks = LocksIn (relation_at old.layout before) (own_relation old n before hand x step.at) step.locks;
     rights = λ other apart. ap (λ (rights : List (Option ℕ)). right_of rights other) step.rights;
-    was_in = λ other is. same_Some other table (sym is ∙ in_table);
+    was_in = λ other is. same_Some other table (sym is ∙ in_table old n before hand x step.at);
     is_in = then;
   }
 
   same_statuses : (block : ℕ) → block_at new.pages status_relation block ≡ block_at old.pages status_relation block
-  same_statuses block = step.pages (record { relation = status_relation; block = block }) (λ same. let e : status_relation ≡ index_relation old.layout hand.index = same ∙ relation in absurd (omega (arith, e)))
+  same_statuses block = step.pages (record { relation = status_relation; block = block }) (λ same. let e : status_relation ≡ index_relation old.layout hand.index = same ∙ relation_here old n before hand x step.at in absurd (omega (arith, e)))
 
   same_heaps : (other block : ℕ) → other < length old.layout.schema.tables → block_at new.pages (heap_of other) block ≡ block_at old.pages (heap_of other) block
-  same_heaps other block below = step.pages (record { relation = heap_of other; block = block }) (λ same. let e : heap_of other ≡ index_relation old.layout hand.index = same ∙ relation in absurd (omega (arith, e, below)))
+  same_heaps other block below = step.pages (record { relation = heap_of other; block = block }) (λ same. let e : heap_of other ≡ index_relation old.layout hand.index = same ∙ relation_here old n before hand x step.at in absurd (omega (arith, e, below)))
 
   module _ (p : Place) (shown : IsPlaceOf old p) where
     abbrev stored : List Status
     stored = shown.database.stored
 
     abbrev shows : ShowsTable old stored table (p.tables table)
-    shows = shown.tables table step.made.table
+    shows = shows_here old n before hand x step.at p shown
 
     abbrev u : Unseen
     u = shows.unseen
@@ -204,27 +173,15 @@ module _ (old new : ShownStore) (n : ℕ) (before after : Insert) (hand : Insert
     abbrev w : TableState
     w = table_state (shown_by old.layout old.pages old.locks table shows.blocks) u
 
-    task_here : u.task n ≡ task_of old.layout before
-    task_here =
-        let it : IsTaskOf old.layout table shows.blocks old.transactions.tx stored (transaction_of old.transactions.opens n) (Some (hands.Inserts before)) (u.task n) =
-        subst (λ (h : Option Hand). IsTaskOf old.layout table shows.blocks old.transactions.tx stored (transaction_of old.transactions.opens n) h (u.task n)) step.was (shows.tasks n) in
-        it.0 refl
-
-    kept : IsTableKept w
-    kept = subst IsTableKept shows.shown shows.kept
-
-    pub hand_here : p.hands n ≡ Some (put_of before.row)
-    hand_here = (put_hand before x (p.hands n) (p.accounts n) step.placed (subst (λ (h : Option Hand). HandShows h (p.hands n) (p.accounts n)) step.was (shown.hands n))).0
-
-    told_here : p.accounts n ≡ no_account
-    told_here = (put_hand before x (p.hands n) (p.accounts n) step.placed (subst (λ (h : Option Hand). HandShows h (p.hands n) (p.accounts n)) step.was (shown.hands n))).1
+    at_task : u.task n ≡ Inserts x.block x.slot before.row before.at on
+    at_task = task_here old n before hand x step.at p shown ∙ task_before old n before hand x step.at
 
     -- the account behind the step
     abbrev account : Account
     account = account_of (task_of old.layout before) (p.accounts n)
 
     account_is : account ≡ no_account
-    account_is = account_stays (task_of old.layout before) x.block x.slot before.row before.at on (p.accounts n) task_before ∙ told_here
+    account_is = account_stays (task_of old.layout before) x.block x.slot before.row before.at on (p.accounts n) (task_before old n before hand x step.at) ∙ told_here old n before hand x step.at p shown
 
     journal_is : new.entries ≡ p.journal
     journal_is = step.entries ∙ sym shown.journal
@@ -248,23 +205,23 @@ module _ (old new : ShownStore) (n : ℕ) (before after : Insert) (hand : Insert
       v = table_state (shown_by old.layout new.pages new.locks table shows.blocks) then
 
       abbrev between : Task
-      between = (goes u task_here kept).0
+      between = (goes u (task_here old n before hand x step.at p shown) (kept_here old n before hand x step.at p shown)).0
 
       abbrev did_so : DoesAt n w (table_state (shown_by old.layout new.pages new.locks table shows.blocks) (task_turned n between u)) point (account_of (task_of old.layout before))
-      did_so = (goes u task_here kept).1
+      did_so = (goes u (task_here old n before hand x step.at p shown) (kept_here old n before hand x step.at p shown)).1
 
       plain : IsPlain point
-      plain = index_point n w (table_state (shown_by old.layout new.pages new.locks table shows.blocks) (task_turned n between u)) point x.block x.slot before.row before.at on (task_here ∙ task_before) did_so.does did_so.point_is
+      plain = index_point n w (table_state (shown_by old.layout new.pages new.locks table shows.blocks) (task_turned n between u)) point x.block x.slot before.row before.at on at_task did_so.does did_so.point_is
 
       busy : u.task n ≢ Resting
-      busy rests = at_work x.block x.slot before.row before.at on (sym (task_here ∙ task_before) ∙ rests)
+      busy rests = at_work x.block x.slot before.row before.at on (sym at_task ∙ rests)
 
       abbrev Turns : Type 0
       Turns = (turns : TurnsIn p n (insert_of before.row) table v account) × (point_in turns ≡ Some point) × (turns.step.between ≡ table_state (shown_by old.layout new.pages new.locks table shows.blocks) (task_turned n between u))
 
       turns : Turns
       turns = laws.machine p n table (insert_of before.row) w (table_state (shown_by old.layout new.pages new.locks table shows.blocks) (task_turned n between u)) v point (account_of (task_of old.layout before))
-          shows.shown shown.queue (is_no_work before.row) refl did_so (not_pruned point plain) (goes u task_here kept).2 (inl busy)
+          shows.shown shown.queue (is_no_work before.row) refl did_so (not_pruned point plain) (goes u (task_here old n before hand x step.at p shown) (kept_here old n before hand x step.at p shown)).2 (inl busy)
 
       task_then : v.task n ≡ task_of old.layout after
       task_then = pick_same n (task_of old.layout after) (u.task n)
@@ -286,9 +243,6 @@ module _ (old new : ShownStore) (n : ℕ) (before after : Insert) (hand : Insert
           (λ m other. pick_other m n (task_of old.layout after) (u.task m) other)
           is_at (laws.slots old stored n shows.blocks))
 
-      own_row : IsRowOf (transaction_of old.transactions.opens n) (is_put before.place) before.row.id.t before.row.id.k
-      own_row = shown.own n (hands.Inserts before) step.was
-
       -- it goes on
       module _ (now : hand_in new.hands n ≡ Some (hands.Inserts after)) (inserting : IsInserting (task_of old.layout after)) where
         goes_shown : Behind (Some (put_of before.row))
@@ -300,7 +254,7 @@ module _ (old new : ShownStore) (n : ℕ) (before after : Insert) (hand : Insert
             ((λ own. task_then), (λ apart. absurd (apart (ap (λ (r : Row). r.table) step.row)))))
           where
             row_then : IsRowOf (transaction_of new.transactions.opens n) (is_put after.place) after.row.id.t after.row.id.k
-            row_then = row_stays (transaction_of old.transactions.opens n) (transaction_of new.transactions.opens n) before after (ap (λ (s : TransactionsState). transaction_of s.opens n) step.transactions) (step.still ∙ sym step.placed) step.row own_row
+            row_then = row_stays (transaction_of old.transactions.opens n) (transaction_of new.transactions.opens n) before after (ap (λ (s : TransactionsState). transaction_of s.opens n) step.transactions) (step.still ∙ sym step.at.placed) step.row (own_row_here old n before hand x step.at p shown)
 
         pub goes_on : (q : Place) × IsPlaceOf new q × Steps p n (Moved point) q
         goes_on = (
@@ -308,7 +262,7 @@ module _ (old new : ShownStore) (n : ℕ) (before after : Insert) (hand : Insert
           goes_shown,
           record {
             hand = put_of before.row;
-            in_hand = hand_here;
+            in_hand = hand_here old n before hand x step.at p shown;
             steps = laws.goes p n table (put_of before.row) v account (counts_of new.transactions stored) point course turns.0 turns.1 (not_resting (v.task n) (subst IsInserting (sym task_then) inserting)) (plain_enters point p n (put_of before.row) course plain course_is);
             fits = fits;
           },
@@ -329,7 +283,7 @@ module _ (old new : ShownStore) (n : ℕ) (before after : Insert) (hand : Insert
           done_shown,
           record {
             hand = put_of before.row;
-            in_hand = hand_here;
+            in_hand = hand_here old n before hand x step.at p shown;
             steps = laws.replies p n table (put_of before.row) v account (counts_of new.transactions stored) point course (replies.Inserted before.row.id) turns.0 turns.1 (task_then ∙ rests)
                 (subst (λ (c : Course). MakesAll p.opening n (insert_of before.row) (course_of p (put_of before.row)) c) (sym course_is) (NoneLeft (course_of p (put_of before.row)) refl)) refl;
             fits = fits;

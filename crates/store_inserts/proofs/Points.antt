@@ -35,7 +35,7 @@ insert_plain (InsertSwap x old new verdict swap) = tt
 insert_plain (InsertSet x y old new sets same) = tt
 insert_plain (InsertDrop x drops) = tt
 
-abbrev is_at_index : Task → Bool
+abbrev pub is_at_index : Task → Bool
 is_at_index (Inserts b k r at on_index) = true
 is_at_index task = false
 

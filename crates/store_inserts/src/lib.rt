@@ -7,7 +7,9 @@
 mod entering;
 mod in_index;
 mod machines;
+mod probe;
 mod row;
 
 pub use in_index::insert_on;
+pub use probe::probed;
 pub use row::put_row;
