@@ -95,7 +95,7 @@ put_shown insert r x account placed row tells =
     (put_of r, refl, ap insert_of (sym row), ap (λ (q : Row). Inserted q.id ∷ []) (sym row) ∙ ap (λ (o : Option Spot). put_answers o insert.row.id) (sym placed), tells)
 
 -- the row stays one of the transaction's
-row_stays : (was now : Option Open) (before after : Insert) → now ≡ was → after.place ≡ before.place → after.row ≡ before.row → IsRowOf was (is_put before.place) before.row.id.t before.row.id.k
+pub row_stays : (was now : Option Open) (before after : Insert) → now ≡ was → after.place ≡ before.place → after.row ≡ before.row → IsRowOf was (is_put before.place) before.row.id.t before.row.id.k
     → IsRowOf now (is_put after.place) after.row.id.t after.row.id.k
 row_stays was now before after same place row is =
     subst (λ (o : Option Open). IsRowOf o (is_put after.place) after.row.id.t after.row.id.k) (sym same)
@@ -103,7 +103,7 @@ row_stays was now before after same place row is =
     (subst (λ (r : Row). IsRowOf was (is_put before.place) r.id.t r.id.k) (sym row) is))
 
 -- an insert at work isn't at nothing
-not_resting : (task : Task) → IsInserting task → task ≢ Resting
+pub not_resting : (task : Task) → IsInserting task → task ≢ Resting
 not_resting task inserting is = subst IsInserting is inserting
 
 -- what of the laws of the store's parts its steps take
@@ -127,14 +127,14 @@ plain_enters point p n hand c plain is = is
 not_pruned : (point : Point) → IsPlain point → point ≢ points.Prune
 not_pruned point plain is = subst IsPlain is plain
 
-is_no_work : (r : Row) → insert_of r ≢ statements.Work
+pub is_no_work : (r : Row) → insert_of r ≢ statements.Work
 is_no_work r is = cc
 
 -- the account of a session that is at work
 account_stays : (task : Task) (b k : ℕ) (r : Row) (at : ℕ) (on : OnIndex) (account : Account) → task ≡ Inserts b k r at on → account_of task account ≡ account
 account_stays task b k r at on account is = ap (λ (t : Task). account_of t account) is
 
-at_work : (b k : ℕ) (r : Row) (at : ℕ) (on : OnIndex) → Inserts b k r at on ≢ Resting
+pub at_work : (b k : ℕ) (r : Row) (at : ℕ) (on : OnIndex) → Inserts b k r at on ≢ Resting
 at_work b k r at on is = cc
 
 module _ (old new : ShownStore) (n : ℕ) (before after : Insert) (hand : InsertHand) (x : Spot) (step : InIndex old new n before after hand x) where

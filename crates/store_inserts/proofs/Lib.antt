@@ -1,5 +1,11 @@
 pub mod Points
+pub mod Opens
 pub mod AtIndex
 pub mod IndexStep
+pub mod StaysHere
 pub mod Refused
 pub mod FullIndex
+pub mod RowStep
+pub mod Beside
+pub mod OnParts
+pub mod Refusing

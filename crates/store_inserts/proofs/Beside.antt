@@ -1,0 +1,71 @@
+-- what a step is fit for then, and what it leaves to the other sessions, by what its session has in hand
+use Rattle.std.proofs.Common.{◌≡◌, ◌≢◌, ◌+◌, ℕ, List, Option, None, Some, refl, sym, ap, subst, ◌∙◌, false}
+use Rattle.std.specs.Prelude.{IsSome}
+use Rattle.std.proofs.lemmas.Bool.{false≢true}
+use Rattle.disk_trait.specs.Told.{Told}
+use Rattle.block_model.specs.declared.place.Spot.{Spot}
+use Rattle.page_store.specs.Keeps.{Leaves}
+use Rattle.page_locks.specs.LockCounts.{locks_of}
+use Rattle.row_versions.specs.declared.sessions.Open.{Open}
+use Rattle.row_versions.specs.StoredVersions.{transaction_of}
+use Rattle.brin_insert.specs.declared.insert.Insert.{Insert}
+use Rattle.brin_insert.specs.InsertHands.{InsertHand}
+use Rattle.brin_insert.specs.Inserts.{HasStepAt, HasStepLeft, IsAtWorkIn, work_of}
+use Rattle.store_parts.specs.declared.hand.Hand.{Hand}
+use Rattle.store_parts.specs.declared.hand.Stepped.{Stepped}
+use Rattle.store_parts.specs.declared.parts.Parts.{Parts}
+use Rattle.store_parts.specs.HandFits.{IsUnderWay}
+use Rattle.store_parts.specs.Shares.{share_of}
+use Rattle.store_parts.specs.StepIs.{hand_after}
+use Rattle.store_parts.specs.Stepping.{LeavesTheOthers, StaysFit}
+use Rattle.store_parts.specs.StoreLaws.{HandChanges}
+use Rattle.store_parts.specs.UndoneLaws.{FitOfStores, FitsParts}
+
+pub stays_fit : {D : Type 0} (told : D → Told) (changes : HandChanges) (stores : FitOfStores told) (old new : Parts D) (n : ℕ) (hand : Hand) (answer : Stepped) → FitsParts told new n (hand_after answer)
+    → StaysFit told old new n hand answer
+stays_fit told changes stores old new n hand answer fits = λ names hands has. stores new n (hand_after answer) names _ fits (changes hands n hand (hand_after answer) has).own
+
+pub record LeavesWith {D : Type 0} (told : D → Told) (old new : Parts D) (n : ℕ) (was now : Option Hand) : Type 0 where
+  pub leaves : Leaves told old.pages new.pages
+  pub transactions : (m : ℕ) → m ≢ n → transaction_of new.transactions.opens m ≡ transaction_of old.transactions.opens m
+  pub locks : (m : ℕ) → m ≢ n → locks_of new.locks m ≡ locks_of old.locks m
+  pub promised : new.journal.promised + share_of was (transaction_of old.transactions.opens n) ≡ old.journal.promised + share_of now (transaction_of new.transactions.opens n)
+
+pub leaves_others : {D : Type 0} (told : D → Told) (changes : HandChanges) (old new : Parts D) (n : ℕ) (hand : Hand) (answer : Stepped) → LeavesWith told old new n (Some hand) (hand_after answer)
+    → LeavesTheOthers told old new n hand answer
+leaves_others told changes old new n hand answer leaves = λ names hands has. record {
+  leaves = leaves.leaves;
+  transactions = leaves.transactions;
+  locks = leaves.locks;
+  promised =
+      ap (λ (h : Option Hand). new.journal.promised + share_of h (transaction_of old.transactions.opens n)) has ∙ leaves.promised
+      ∙ ap (λ (h : Option Hand). old.journal.promised + share_of h (transaction_of new.transactions.opens n)) (sym (changes hands n hand (hand_after answer) has).own);
+}
+
+-- a transaction that is under way
+pub record UnderWay (transaction : Option Open) : Type 0 where
+  pub own : Open
+  pub is : transaction ≡ Some own
+  pub whole : own.failed ≡ false
+
+pub under_way : (transaction : Option Open) → IsUnderWay transaction → UnderWay transaction
+under_way None under = absurd under
+under_way (Some own) under = record { own = own; is = refl; whole = under }
+
+-- an insert that has put its row and has a step left is at an index
+pub record AtWork (insert : Insert) : Type 0 where
+  pub x : Spot
+  pub placed : insert.place ≡ Some x
+  pub hand : InsertHand
+  pub got : work_of insert ≡ Some hand
+
+pub at_work_of : (insert : Insert) → HasStepLeft insert → IsSome insert.place → AtWork insert
+at_work_of insert left some = by_place insert.place refl some
+  where
+    by_work : (x : Spot) → insert.place ≡ Some x → (o : Option InsertHand) → work_of insert ≡ o → IsAtWorkIn o → AtWork insert
+    by_work x placed None is work = absurd work
+    by_work x placed (Some hand) is work = record { x = x; placed = placed; hand = hand; got = is }
+
+    by_place : (o : Option Spot) → insert.place ≡ o → IsSome o → AtWork insert
+    by_place None is some = absurd (false≢true some)
+    by_place (Some x) is some = by_work x is (work_of insert) refl (subst (λ (o : Option Spot). HasStepAt o (work_of insert)) is left)

@@ -1,0 +1,260 @@
+-- a later step of an insert, over the parts of a store
+use Rattle.std.proofs.Common.{◌≡◌, ◌≢◌, ℕ, ◌+◌, ◌<◌, ◌≤◌, List, [], ◌∷◌, length, Option, None, Some, Ok, refl, sym, ap, subst, ◌∙◌, arith}
+use Rattle.std.specs.Prelude.{IsSome, slice_get}
+use Rattle.disk_trait.specs.Told.{Told}
+use Rattle.block_model.specs.declared.place.Place.{Place as PagePlace}
+use Rattle.block_model.specs.declared.place.Spot.{Spot}
+use Rattle.block_model.specs.declared.reply.Point.{Point}
+use Rattle.block_model.specs.declared.reply.Reply.TheVariants as replies
+use Rattle.block_model.specs.declared.reply.What.{What}
+use Rattle.block_model.specs.declared.reply.What.TheVariants as whats
+use Rattle.block_model.specs.declared.row.Row.{Row}
+use Rattle.store_layout.specs.DiskLayout.{DiskLayout}
+use Rattle.page_layout.specs.PageContents.{Slot}
+use Rattle.page_store.specs.Keeps.{Keeps, Leaves, Tells}
+use Rattle.page_store.specs.PageMap.{PageMap, View, page_at}
+use Rattle.page_locks.specs.declared.did.Did.{Did}
+use Rattle.page_locks.specs.declared.did.Did.TheVariants as did
+use Rattle.page_locks.specs.declared.held.Held.{Held}
+use Rattle.page_locks.specs.LockCounts.{locks_of}
+use Rattle.page_locks.specs.LockHolders.{LockState, holder}
+use Rattle.heap_rows.specs.HeapBlocks.{HasBlocks, OfBlocks}
+use Rattle.row_versions.specs.declared.sessions.Open.{Open}
+use Rattle.row_versions.specs.StoredVersions.{transaction_of}
+use Rattle.statements.specs.declared.limits.TheConstants.{MAX_ENTRIES}
+use Rattle.tx_table.specs.Kept.{over_kept}
+use Rattle.tx_table.specs.Statuses.{status_relation}
+use Rattle.tx_table.specs.TxState.{IsOver}
+use Rattle.index_contents.specs.IndexContents.{relation_of as index_relation}
+use Rattle.index_order.specs.KeepsOrder.{KeepsOrder}
+use Rattle.index_steps.specs.ShownRows.{shown_by}
+use Rattle.index_steps.specs.ShownTable.{indexes_of}
+use Rattle.index_steps.specs.SwapAnswers.{LeavesLocks, TakesAtMost}
+use Rattle.table_coverage.specs.Table.{Resting}
+use Rattle.line_texts.specs.Place.{Place}
+use Rattle.brin_insert.specs.declared.insert.Insert.{Insert}
+use Rattle.brin_insert.specs.InsertAnswers.{BlockedOn, InsertDid, InsertStepped, IsLeftBy, LeavesOtherRelations, StandsPlaced, heap_after, relation_at}
+use Rattle.brin_insert.specs.InsertHands.{InsertHand}
+use Rattle.brin_insert.specs.InsertLocks.{held_by, stage_of, taken_by}
+use Rattle.brin_insert.specs.Inserts.{HasStepLeft, IsInsertFor, task_of, work_of}
+use Rattle.brin_insert.proofs.Outcomes.{index_next}
+use Rattle.store_parts.specs.declared.hand.Hand.{Hand}
+use Rattle.store_parts.specs.declared.hand.Hand.TheVariants as hands
+use Rattle.store_parts.specs.declared.hand.Stepped.{Stepped}
+use Rattle.store_parts.specs.declared.hand.Stepped.TheVariants as stepped
+use Rattle.store_parts.specs.declared.limits.TheConstants.{MAX_LOCKS}
+use Rattle.store_parts.specs.declared.parts.Parts.{Parts}
+use Rattle.store_parts.specs.Hands.{statement_of}
+use Rattle.store_parts.specs.Shares.{share_of}
+use Rattle.store_parts.specs.StepIs.{hand_after}
+use Rattle.store_parts.specs.HandFits.{FitsHand, IsHandFor, IsOwnRow, IsUnderWay, locks_held}
+use Rattle.store_parts.specs.Leaving.{LeavesOthers}
+use Rattle.store_parts.specs.ShowsPlace.{IsPlaceOf}
+use Rattle.store_parts.specs.StepAnswers.{StaysReady}
+use Rattle.store_parts.specs.Stepping.{IsFit, LeavesTheOthers}
+use Rattle.store_parts.specs.StoreLaws.{HandChanges}
+use Rattle.store_parts.specs.StoreStates.{ShownStore, hand_in, shown_of, store_of, with_hand}
+use Rattle.store_parts.specs.UndoneLaws.{FitOfParts, FitOfStores, FitsParts, StepsSo}
+use Rattle.store_inserts.proofs.AtIndex.{AtIndex, insert_of, number_here, shows_here}
+use Rattle.store_inserts.proofs.Beside.{AtWork, at_work_of, leaves_others, stays_fit}
+use Rattle.store_inserts.proofs.IndexStep.{InIndex, InsertLaws, goes_on, is_done}
+use Rattle.store_inserts.proofs.StaysHere.{StaysHere, is_waiting, stays_shown}
+use Rattle.store_parts.specs.LeadLaws.{NoRequestLeads}
+use Rattle.store_parts.specs.PlaceLaws.{PlaceStaysShown}
+use Rattle.store_parts.specs.StepLaws.{TurnWaits}
+use Rattle.transactions.specs.Laws.{ShowAlike}
+use Rattle.block_model.specs.declared.reply.Refusal.TheVariants as refusals
+use Rattle.line_texts.specs.Names.{index_name, name_of}
+use Rattle.line_texts.specs.StatementSteps.{Steps, Waits}
+
+-- what the machine's step told of the pages, the locks and the machine
+pub record MachineLeft {D : Type 0} (told : D → Told) (parts : Parts D) (pages : View D) (locks : LockState) (n : ℕ) (before after : Insert) : Type 0 where
+  pub others : LeavesOtherRelations told (relation_at parts.pages.layout before) parts.pages pages
+  pub order : (m : ℕ) → m < length parts.pages.layout.schema.indexes → KeepsOrder told m parts.pages pages
+  pub leaves : LeavesLocks (holder parts.locks) (holder locks) (relation_at parts.pages.layout before) n
+  pub counts : TakesAtMost (taken_by (stage_of before)) parts.locks locks n
+  pub made : IsInsertFor parts.pages.layout after
+  pub row : after.row ≡ before.row
+  pub ready : StaysReady parts.pages pages
+
+module _ {D : Type 0} (told : D → Told) (changes : HandChanges) (of_parts : FitOfParts told) (of_stores : FitOfStores told) (parts : Parts D) (pages : View D) (locks : LockState) (n : ℕ) (before after : Insert)
+    (fit : IsFit told parts n (hands.Inserts before)) (left : MachineLeft told parts pages locks n before after) where
+  abbrev new : Parts D
+  new = record parts { pages = pages; locks = locks }
+
+  pub fits : FitsParts told parts n (Some (hands.Inserts before))
+  fits = of_parts parts n (hands.Inserts before) fit
+
+  pub work : AtWork before
+  work = at_work_of before fits.in_hand.2 fits.in_hand.3
+
+  relation : relation_at parts.pages.layout before ≡ index_relation parts.pages.layout work.hand.index
+  relation = index_next parts.pages.layout before work.x work.hand work.placed work.got
+
+  over : IsOver told parts.transactions.tx pages
+  over = over_kept told parts.transactions.tx parts.pages pages fits.over left.others.leaves
+      (λ tells block. left.others.pages tells (record { relation = status_relation; block = block })
+      (λ same. let e : status_relation ≡ index_relation parts.pages.layout work.hand.index = same ∙ relation in absurd (omega (arith, e))))
+
+  -- it is fit for the next step, with that in hand
+  fits_then : (h : Option Hand) → FitsHand parts.pages.layout (transaction_of parts.transactions.opens n) h → locks_of locks n ≤ locks_held h
+      → share_of h (transaction_of parts.transactions.opens n) ≡ share_of (Some (hands.Inserts before)) (transaction_of parts.transactions.opens n) → FitsParts told new n h
+  fits_then h in_hand own share = record {
+    session = fits.session;
+    over = over;
+    in_hand = subst (λ (l : DiskLayout). FitsHand l (transaction_of parts.transactions.opens n) h) (sym left.others.leaves.layout) in_hand;
+    limit = left.counts.limit ∙ fits.limit;
+    own = own;
+    rights = fits.rights ∙ ap (λ (l : DiskLayout). length l.schema.tables) (sym left.others.leaves.layout);
+    entries = fits.entries;
+    share = let more = fits.share in omega (arith, more, share);
+  }
+
+  in_hand_then : HasStepLeft after → IsSome after.place → IsHandFor parts.pages.layout (transaction_of parts.transactions.opens n) (hands.Inserts after)
+  in_hand_then step_left some = (fits.in_hand.0, left.made, step_left, some, subst (λ (r : Row). IsOwnRow (transaction_of parts.transactions.opens n) r.id.t) (sym left.row) fits.in_hand.4)
+
+  others_so : (answer : Stepped) → share_of (Some (hands.Inserts before)) (transaction_of parts.transactions.opens n) ≡ share_of (hand_after answer) (transaction_of parts.transactions.opens n)
+      → LeavesTheOthers told parts new n (hands.Inserts before) answer
+  others_so answer share = leaves_others told changes parts new n (hands.Inserts before) answer (record {
+    leaves = left.others.leaves;
+    transactions = λ m other. refl;
+    locks = λ m other. left.counts.adds.others m other;
+    promised = ap (λ (s : ℕ). parts.journal.promised + s) share;
+  })
+
+  same_statement : statement_of (hands.Inserts after) ≡ statement_of (hands.Inserts before)
+  same_statement = ap insert_of left.row
+
+  module _ (names : List (List ℕ)) (hand_list : List (Option Hand)) (has : hand_in hand_list n ≡ Some (hands.Inserts before)) where
+    abbrev before_it : ShownStore
+    before_it = shown_of (store_of parts names hand_list)
+
+    abbrev after_it : Option Hand → ShownStore
+    after_it h = shown_of (store_of new names (with_hand hand_list n h))
+
+    pub at_index : AtIndex before_it n before work.hand work.x
+    at_index = record { was = has; placed = work.placed; got = work.got; made = fits.in_hand.1 }
+
+    pub now_has : (h : Option Hand) → hand_in (with_hand hand_list n h) n ≡ h
+    now_has h = (changes hand_list n (hands.Inserts before) h has).own
+
+    pub left_others : (h : Option Hand) → LeavesOthers n before_it (after_it h)
+    left_others h = record {
+      layout = left.others.leaves.layout;
+      names = refl;
+      first = refl;
+      hands = (changes hand_list n (hands.Inserts before) h has).others;
+      opens = λ m other. refl;
+    }
+
+    in_index : Tells told parts.pages → after.place ≡ Some work.x → (h : Option Hand) → InIndex before_it (after_it h) n before after work.hand work.x
+    in_index tells still h = record {
+      at = at_index;
+      still = still;
+      row = left.row;
+      others = left_others h;
+      pages = left.others.pages tells;
+      locks = left.leaves;
+      order = λ index below ordered. left.order index below tells ordered;
+      transactions = refl;
+      rights = refl;
+      entries = refl;
+      few = fits.entries;
+    }
+
+  -- the row stands where it stood
+  still_there : StandsPlaced before.place after.place → after.place ≡ Some work.x
+  still_there placed = subst (λ (o : Option Spot). StandsPlaced o after.place) work.placed placed
+
+  placed_then : StandsPlaced before.place after.place → IsSome after.place
+  placed_then placed = subst (λ (o : Option Spot). IsSome o) (sym (still_there placed)) refl
+
+  heap_stays : (blocks : List (List Slot)) → heap_after parts.pages.layout before.row before.place after.place blocks ≡ blocks
+  heap_stays blocks = ap (λ (o : Option Spot). heap_after parts.pages.layout before.row o after.place blocks) work.placed
+
+  module _ (answer : Did) (stepped_so : OfBlocks told parts.pages before.row.table (InsertStepped parts.pages.layout parts.pages.pages pages.pages parts.locks locks n before after answer)) (tells : Tells told parts.pages) (blocks : List (List Slot))
+      (has : HasBlocks parts.pages.layout parts.pages.pages before.row.table blocks) where
+    has_then : HasBlocks parts.pages.layout pages.pages before.row.table blocks
+    has_then = subst (HasBlocks parts.pages.layout pages.pages before.row.table) (heap_stays blocks) (stepped_so tells blocks has).has
+
+    pub came : InsertDid n before.at (shown_by parts.pages.layout parts.pages.pages parts.locks before.row.table blocks) (shown_by parts.pages.layout pages.pages locks before.row.table blocks)
+        (task_of parts.pages.layout before) (task_of parts.pages.layout after) answer
+    came = subst (λ (l : List (List Slot)). InsertDid n before.at (shown_by parts.pages.layout parts.pages.pages parts.locks before.row.table blocks) (shown_by parts.pages.layout pages.pages locks before.row.table l)
+        (task_of parts.pages.layout before) (task_of parts.pages.layout after) answer) (heap_stays blocks) (stepped_so tells blocks has).came
+
+  -- it goes on
+  pub moved_so : InsertLaws → (point : Point) → OfBlocks told parts.pages before.row.table (InsertStepped parts.pages.layout parts.pages.pages pages.pages parts.locks locks n before after (did.Moved point))
+      → HasStepLeft after → StandsPlaced before.place after.place → locks_of locks n ≤ held_by (stage_of after)
+      → StepsSo told parts new n (hands.Inserts before) (stepped.Moved point (hands.Inserts after))
+  unfolding in_index at_index
+  moved_so laws point stepped_so step_left placed own = record {
+    steps = λ names hand_list has tells ready then p shown.
+        let at = at_index names hand_list has in
+        let shows = shows_here (before_it names hand_list has) n before work.hand work.x at p shown in
+        let it = came (did.Moved point) stepped_so tells shows.blocks shows.has in
+        goes_on (before_it names hand_list has) (after_it names hand_list has (Some (hands.Inserts after))) n before after work.hand work.x (in_index names hand_list has tells (still_there placed) (Some (hands.Inserts after))) p shown
+        point it.0 (has_then (did.Moved point) stepped_so tells shows.blocks shows.has) laws (now_has names hand_list has (Some (hands.Inserts after))) it.1;
+    fit = stays_fit told changes of_stores parts new n (hands.Inserts before) (stepped.Moved point (hands.Inserts after)) (fits_then (Some (hands.Inserts after)) (in_hand_then step_left (placed_then placed)) own refl);
+    others = others_so (stepped.Moved point (hands.Inserts after)) refl;
+    stays = λ names hand_list has. same_statement;
+    cause = left.ready;
+  }
+
+  -- it is done
+  pub done_so : InsertLaws → (point : Point) → OfBlocks told parts.pages before.row.table (InsertStepped parts.pages.layout parts.pages.pages pages.pages parts.locks locks n before after (did.Finished point))
+      → StandsPlaced before.place after.place → locks_of locks n ≤ 0
+      → StepsSo told parts new n (hands.Inserts before) (stepped.Done (replies.Inserted before.row.id))
+  unfolding in_index at_index
+  done_so laws point stepped_so placed own = record {
+    steps = λ names hand_list has tells ready then p shown.
+        let at = at_index names hand_list has in
+        let shows = shows_here (before_it names hand_list has) n before work.hand work.x at p shown in
+        let it = came (did.Finished point) stepped_so tells shows.blocks shows.has in
+        is_done (before_it names hand_list has) (after_it names hand_list has None) n before after work.hand work.x (in_index names hand_list has tells (still_there placed) None) p shown
+        point it.0 (has_then (did.Finished point) stepped_so tells shows.blocks shows.has) laws (now_has names hand_list has None) it.1;
+    fit = stays_fit told changes of_stores parts new n (hands.Inserts before) (stepped.Done (replies.Inserted before.row.id)) (fits_then None tt own refl);
+    others = others_so (stepped.Done (replies.Inserted before.row.id)) refl;
+    stays = λ names hand_list has. tt;
+    cause = left.ready;
+  }
+
+  -- it waits
+  pub waits_so : TurnWaits → PlaceStaysShown → NoRequestLeads → ShowAlike → (held : Held) → OfBlocks told parts.pages before.row.table (InsertStepped parts.pages.layout parts.pages.pages pages.pages parts.locks locks n before after (did.Blocked held))
+      → HasStepLeft after → StandsPlaced before.place after.place → BlockedOn told (relation_at parts.pages.layout before) n parts.pages pages parts.locks locks (did.Blocked held) → locks_of locks n ≤ held_by (stage_of after)
+      → (what : What) → ((table at : ℕ) → slice_get (indexes_of parts.pages.layout table) at ≡ Some work.hand.index → what ≡ whats.Page (index_name parts.pages.layout table at) held.page.block)
+      → StepsSo told parts new n (hands.Inserts before) (stepped.Blocked what held.by (hands.Inserts after))
+  unfolding in_index at_index
+  waits_so law stays leads alike held stepped_so step_left placed blocked own what named = record {
+    steps = λ names hand_list has tells ready then p shown.
+        let at = at_index names hand_list has in
+        let shows = shows_here (before_it names hand_list has) n before work.hand work.x at p shown in
+        let it = came (did.Blocked held) stepped_so tells shows.blocks shows.has in
+        (
+          p,
+          stays_shown (before_it names hand_list has) (after_it names hand_list has (Some (hands.Inserts after))) n before after work.hand work.x (stays_here names hand_list has tells (still_there placed) (it.1) blocked.3 (blocked.4.pages tells)) p shown stays leads alike,
+          subst (λ (w : What). Steps p n (Waits (refusals.Blocked w (name_of p held.by))) p) (sym (named before.row.table before.at (number_here (before_it names hand_list has) n before work.hand work.x at)))
+              (is_waiting law (before_it names hand_list has) n before work.hand work.x at p shown held.page held.by it.0 blocked.0 blocked.1 fits.entries),
+        );
+    fit = stays_fit told changes of_stores parts new n (hands.Inserts before) (stepped.Blocked what held.by (hands.Inserts after)) (fits_then (Some (hands.Inserts after)) (in_hand_then step_left (placed_then placed)) own refl);
+    others = others_so (stepped.Blocked what held.by (hands.Inserts after)) refl;
+    stays = λ names hand_list has. (record { pages = blocked.4; transactions = refl; locks = blocked.3; rights = refl; journal = refl }, same_statement);
+    cause = left.ready;
+  }
+    where
+      stays_here : (names : List (List ℕ)) (hand_list : List (Option Hand)) (has : hand_in hand_list n ≡ Some (hands.Inserts before)) → Tells told parts.pages → after.place ≡ Some work.x
+          → task_of parts.pages.layout after ≡ task_of parts.pages.layout before → locks ≡ parts.locks → pages.pages ≡ parts.pages.pages
+          → StaysHere (before_it names hand_list has) (after_it names hand_list has (Some (hands.Inserts after))) n before after work.hand work.x
+      stays_here names hand_list has tells still task same_locks same_pages = record {
+        at = at_index names hand_list has;
+        still = still;
+        row = left.row;
+        task = task;
+        now = now_has names hand_list has (Some (hands.Inserts after));
+        others = left_others names hand_list has (Some (hands.Inserts after));
+        pages = λ place. ap (λ (m : PageMap). page_at m place) same_pages;
+        order = λ index below ordered. left.order index below tells ordered;
+        locks = same_locks;
+        transactions = refl;
+        rights = refl;
+        entries = refl;
+      }
