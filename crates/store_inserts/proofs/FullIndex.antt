@@ -32,7 +32,8 @@ use Rattle.store_parts.specs.StoreStates.{ShownStore, hand_in}
 use Rattle.store_parts.specs.TableLaws.{IsQuiet}
 use Rattle.store_inserts.proofs.AtIndex.{AtIndex, hand_here, insert_of, kept_here, on_there, put_of, shows_here, task_before, task_here}
 use Rattle.store_inserts.proofs.Points.{is_at_index}
-use Rattle.store_inserts.proofs.Refused.{RefusalLaws, Refuses, is_refused, no_more, refusal_lacks_room, without}
+use Rattle.store_inserts.proofs.Refused.{Refuses, is_refused, no_more, refusal_lacks_room, without}
+use Rattle.store_inserts.specs.TakenLaws.{RefusalLaws}
 
 abbrev row_at : Row → Task → Row
 row_at d (Inserts b k r at on) = r

@@ -74,6 +74,7 @@ use Rattle.store_parts.specs.StoreStates.{ShownStore, hand_in}
 use Rattle.store_parts.specs.TableLaws.{OwnTableGoesOn}
 use Rattle.store_inserts.proofs.AtIndex.{AtIndex, hand_here, in_table, insert_of, kept_here, on_there, own_relation, own_row_here, put_of, relation_here, shows_here, task_before, task_here, told_here}
 use Rattle.store_inserts.proofs.Points.{IsPlain, index_point}
+use Rattle.store_inserts.specs.TakenLaws.{IndexLaws}
 
 -- what a step of the machine in an index left of the store, which shows a place before it
 pub record InIndex (old new : ShownStore) (n : ℕ) (before after : Insert) (hand : InsertHand) (x : Spot) : Type 0 where
@@ -105,18 +106,6 @@ row_stays was now before after same place row is =
 -- an insert at work isn't at nothing
 pub not_resting : (task : Task) → IsInserting task → task ≢ Resting
 not_resting task inserting is = subst IsInserting is inserting
-
--- what of the laws of the store's parts its steps take
-pub record InsertLaws : Type 0 where
-  pub machine : MachineTurns
-  pub goes : TurnGoesOn
-  pub replies : TurnReplies
-  pub shown : TableStepIsShown
-  pub own : OwnTableGoesOn
-  pub alike : ShowAlike
-  pub leads : NoRequestLeads
-  pub few : SameCountsFew
-  pub slots : NothingLeavesSlots
 
 -- a step that enters nothing
 plain_enters : (point : Point) (p : Place) (n : ℕ) (hand : HandAt) (c : Course) → IsPlain point → c ≡ course_of p hand → MakesAt point p n hand c
@@ -197,7 +186,7 @@ module _ (old new : ShownStore) (n : ℕ) (before after : Insert) (hand : Insert
 
     -- the step of the table
     module _ (point : Point) (goes : InsertGoesTo n (shown_by old.layout old.pages old.locks table shows.blocks) (shown_by old.layout new.pages new.locks table shows.blocks) (task_of old.layout before) (task_of old.layout after) point)
-        (has : HasBlocks old.layout new.pages table shows.blocks) (laws : InsertLaws) where
+        (has : HasBlocks old.layout new.pages table shows.blocks) (laws : IndexLaws) where
       abbrev then : Unseen
       then = task_turned n (task_of old.layout after) u
 

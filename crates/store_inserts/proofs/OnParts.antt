@@ -57,7 +57,7 @@ use Rattle.store_parts.specs.StoreStates.{ShownStore, hand_in, shown_of, store_o
 use Rattle.store_parts.specs.UndoneLaws.{FitOfParts, FitOfStores, FitsParts, StepsSo}
 use Rattle.store_inserts.proofs.AtIndex.{AtIndex, insert_of, number_here, shows_here}
 use Rattle.store_inserts.proofs.Beside.{AtWork, at_work_of, leaves_others, stays_fit}
-use Rattle.store_inserts.proofs.IndexStep.{InIndex, InsertLaws, goes_on, is_done}
+use Rattle.store_inserts.proofs.IndexStep.{InIndex, goes_on, is_done}
 use Rattle.store_inserts.proofs.StaysHere.{StaysHere, is_waiting, stays_shown}
 use Rattle.store_parts.specs.LeadLaws.{NoRequestLeads}
 use Rattle.store_parts.specs.PlaceLaws.{PlaceStaysShown}
@@ -66,6 +66,25 @@ use Rattle.transactions.specs.Laws.{ShowAlike}
 use Rattle.block_model.specs.declared.reply.Refusal.TheVariants as refusals
 use Rattle.line_texts.specs.Names.{index_name, name_of}
 use Rattle.line_texts.specs.StatementSteps.{Steps, Waits}
+use Rattle.std.proofs.lemmas.Option.{same_Some}
+use Rattle.block_model.specs.declared.reply.Reply.{Reply}
+use Rattle.block_model.specs.declared.request.Entry.{Entry}
+use Rattle.block_model.specs.declared.request.Request.TheVariants as requests
+use Rattle.block_model.specs.declared.request.Tag.TheVariants as tags
+use Rattle.page_store.specs.declared.faults.MachineFault.TheVariants as faults
+use Rattle.page_locks.specs.LockChanges.{GivesAll}
+use Rattle.statements.specs.StatementRequests.{tagged_entry}
+use Rattle.transactions.specs.TransactionsState.{TransactionsState}
+use Rattle.brin_insert.specs.declared.stage.Stage.{Stage}
+use Rattle.brin_insert.specs.InsertAnswers.{IsInsertFull, SaysInsertFull}
+use Rattle.line_texts.specs.StatementSteps.{Ended}
+use Rattle.store_parts.specs.declared.faults.StoreFault.TheVariants as stops
+use Rattle.store_parts.specs.HandsInTables.{table_in}
+use Rattle.store_parts.specs.JournalState.{JournalState}
+use Rattle.store_inserts.proofs.FullIndex.{index_lacks_room, index_refused}
+use Rattle.store_inserts.proofs.Refused.{Refuses}
+use Rattle.store_inserts.proofs.Refusing.{LeftRefused, first_is, refused_fits, refused_others, theirs, with_these}
+use Rattle.store_inserts.specs.TakenLaws.{IndexLaws, RefusalLaws}
 
 -- what the machine's step told of the pages, the locks and the machine
 pub record MachineLeft {D : Type 0} (told : D → Told) (parts : Parts D) (pages : View D) (locks : LockState) (n : ℕ) (before after : Insert) : Type 0 where
@@ -183,7 +202,7 @@ module _ {D : Type 0} (told : D → Told) (changes : HandChanges) (of_parts : Fi
         (task_of parts.pages.layout before) (task_of parts.pages.layout after) answer) (heap_stays blocks) (stepped_so tells blocks has).came
 
   -- it goes on
-  pub moved_so : InsertLaws → (point : Point) → OfBlocks told parts.pages before.row.table (InsertStepped parts.pages.layout parts.pages.pages pages.pages parts.locks locks n before after (did.Moved point))
+  pub moved_so : IndexLaws → (point : Point) → OfBlocks told parts.pages before.row.table (InsertStepped parts.pages.layout parts.pages.pages pages.pages parts.locks locks n before after (did.Moved point))
       → HasStepLeft after → StandsPlaced before.place after.place → locks_of locks n ≤ held_by (stage_of after)
       → StepsSo told parts new n (hands.Inserts before) (stepped.Moved point (hands.Inserts after))
   unfolding in_index at_index
@@ -201,7 +220,7 @@ module _ {D : Type 0} (told : D → Told) (changes : HandChanges) (of_parts : Fi
   }
 
   -- it is done
-  pub done_so : InsertLaws → (point : Point) → OfBlocks told parts.pages before.row.table (InsertStepped parts.pages.layout parts.pages.pages pages.pages parts.locks locks n before after (did.Finished point))
+  pub done_so : IndexLaws → (point : Point) → OfBlocks told parts.pages before.row.table (InsertStepped parts.pages.layout parts.pages.pages pages.pages parts.locks locks n before after (did.Finished point))
       → StandsPlaced before.place after.place → locks_of locks n ≤ 0
       → StepsSo told parts new n (hands.Inserts before) (stepped.Done (replies.Inserted before.row.id))
   unfolding in_index at_index
@@ -216,6 +235,25 @@ module _ {D : Type 0} (told : D → Told) (changes : HandChanges) (of_parts : Fi
     others = others_so (stepped.Done (replies.Inserted before.row.id)) refl;
     stays = λ names hand_list has. tt;
     cause = left.ready;
+  }
+
+  -- nothing changed but the machine
+  stays_here : (names : List (List ℕ)) (hand_list : List (Option Hand)) (has : hand_in hand_list n ≡ Some (hands.Inserts before)) → Tells told parts.pages → after.place ≡ Some work.x
+      → task_of parts.pages.layout after ≡ task_of parts.pages.layout before → locks ≡ parts.locks → pages.pages ≡ parts.pages.pages
+      → StaysHere (before_it names hand_list has) (after_it names hand_list has (Some (hands.Inserts after))) n before after work.hand work.x
+  stays_here names hand_list has tells still task same_locks same_pages = record {
+    at = at_index names hand_list has;
+    still = still;
+    row = left.row;
+    task = task;
+    now = now_has names hand_list has (Some (hands.Inserts after));
+    others = left_others names hand_list has (Some (hands.Inserts after));
+    pages = λ place. ap (λ (m : PageMap). page_at m place) same_pages;
+    order = λ index below ordered. left.order index below tells ordered;
+    locks = same_locks;
+    transactions = refl;
+    rights = refl;
+    entries = refl;
   }
 
   -- it waits
@@ -240,21 +278,78 @@ module _ {D : Type 0} (told : D → Told) (changes : HandChanges) (of_parts : Fi
     stays = λ names hand_list has. (record { pages = blocked.4; transactions = refl; locks = blocked.3; rights = refl; journal = refl }, same_statement);
     cause = left.ready;
   }
+
+  -- its index is full, and the journal has no room for that
+  pub spent_so : IndexLaws → RefusalLaws → (relation_told number : ℕ)
+      → SaysInsertFull (relation_at parts.pages.layout before) (λ (number : ℕ). OfBlocks told parts.pages before.row.table (λ (blocks : List (List Slot)). IsInsertFull n before.at (shown_by parts.pages.layout parts.pages.pages parts.locks before.row.table blocks) (task_of parts.pages.layout before) number)) (faults.Full relation_told number)
+      → after.place ≡ before.place → HasStepLeft after → task_of parts.pages.layout after ≡ task_of parts.pages.layout before → stage_of after ≡ stage_of before → locks ≡ parts.locks → Keeps told parts.pages pages
+      → (entries : ℕ) → entries ≡ length parts.journal.entries → MAX_ENTRIES ≤ length parts.journal.entries
+      → StepsSo told parts new n (hands.Inserts before) (stepped.Undone (stops.Spent entries) (hands.Inserts after))
+  unfolding in_index at_index
+  spent_so laws refusals_laws relation_told number says place step_left task stage same_locks keeps entries entries_is full = record {
+    steps = λ names hand_list has tells ready afterwards p shown.
+        let at = at_index names hand_list has in
+        let shows = shows_here (before_it names hand_list has) n before work.hand work.x at p shown in
+        (
+          p,
+          stays_shown (before_it names hand_list has) (after_it names hand_list has (Some (hands.Inserts after))) n before after work.hand work.x (stays_here names hand_list has tells (place ∙ work.placed) task same_locks (keeps.pages tells)) p shown laws.stays laws.leads laws.alike,
+          (
+            index_lacks_room refusals_laws.insert (before_it names hand_list has) n before work.hand work.x at p shown number (says.1 tells shows.blocks shows.has) refusals_laws.refused
+                (subst (λ (l : List Entry). MAX_ENTRIES ≤ length l) (sym shown.journal) full),
+            entries_is ∙ ap (λ (l : List Entry). length l) (sym shown.journal),
+            refl,
+          ),
+        );
+    fit = stays_fit told changes of_stores parts new n (hands.Inserts before) (stepped.Undone (stops.Spent entries) (hands.Inserts after))
+        (fits_then (Some (hands.Inserts after)) (in_hand_then step_left (subst (λ (o : Option Spot). IsSome o) (sym place) fits.in_hand.3)) own refl);
+    others = others_so (stepped.Undone (stops.Spent entries) (hands.Inserts after)) refl;
+    stays = λ names hand_list has. (record { pages = keeps; transactions = refl; locks = same_locks; rights = refl; journal = refl }, same_statement);
+    cause = left.ready;
+  }
     where
-      stays_here : (names : List (List ℕ)) (hand_list : List (Option Hand)) (has : hand_in hand_list n ≡ Some (hands.Inserts before)) → Tells told parts.pages → after.place ≡ Some work.x
-          → task_of parts.pages.layout after ≡ task_of parts.pages.layout before → locks ≡ parts.locks → pages.pages ≡ parts.pages.pages
-          → StaysHere (before_it names hand_list has) (after_it names hand_list has (Some (hands.Inserts after))) n before after work.hand work.x
-      stays_here names hand_list has tells still task same_locks same_pages = record {
-        at = at_index names hand_list has;
-        still = still;
-        row = left.row;
-        task = task;
-        now = now_has names hand_list has (Some (hands.Inserts after));
-        others = left_others names hand_list has (Some (hands.Inserts after));
-        pages = λ place. ap (λ (m : PageMap). page_at m place) same_pages;
-        order = λ index below ordered. left.order index below tells ordered;
-        locks = same_locks;
-        transactions = refl;
+      own : locks_of locks n ≤ held_by (stage_of after)
+      own = subst (λ (o : Option Stage). locks_of locks n ≤ held_by o) (sym stage) (subst (λ (l : LockState). locks_of l n ≤ held_by (stage_of before)) (sym same_locks) fits.own)
+
+  -- its index is full: it is refused
+  pub full_so : RefusalLaws → (relation_told number : ℕ)
+      → SaysInsertFull (relation_at parts.pages.layout before) (λ (number : ℕ). OfBlocks told parts.pages before.row.table (λ (blocks : List (List Slot)). IsInsertFull n before.at (shown_by parts.pages.layout parts.pages.pages parts.locks before.row.table blocks) (task_of parts.pages.layout before) number)) (faults.Full relation_told number)
+      → Keeps told parts.pages pages → (transactions : TransactionsState) (given : LockState) (journal : JournalState) (o : Open)
+      → (refused : LeftRefused told parts pages transactions given journal n (hands.Inserts before) o (tagged_entry n before.row.table (requests.Put before.row.values) tags.Full)) → GivesAll (holder parts.locks) (holder given) n
+      → before.row.id.t ≡ o.t → (reply : Reply) → reply ≡ replies.Refused (refusals.Full (index_name parts.pages.layout before.row.table before.at) number)
+      → StepsSo told parts (with_these parts pages transactions given journal) n (hands.Inserts before) (stepped.Done reply)
+  unfolding at_index
+  full_so laws relation_told number says keeps transactions given journal o refused gives own reply reply_is = record {
+    steps = λ names hand_list has tells ready afterwards p shown.
+        let at = at_index names hand_list has in
+        let shows = shows_here (before_it names hand_list has) n before work.hand work.x at p shown in
+        let it = index_refused laws.insert (before_it names hand_list has) n before work.hand work.x at p shown number (says.1 tells shows.blocks shows.has) laws
+        (shown_of (store_of (with_these parts pages transactions given journal) names (with_hand hand_list n None))) o (refuses names hand_list has tells) own in
+        (it.0, it.1, subst (λ (r : Reply). Steps p n (Ended r) it.0) (sym (reply_is ∙ ap (λ (l : DiskLayout). replies.Refused (refusals.Full (index_name l before.row.table before.at) number)) (sym shown.layout))) it.2);
+    fit = refused_fits told changes of_stores parts pages transactions given journal n (hands.Inserts before) o (tagged_entry n before.row.table (requests.Put before.row.values) tags.Full) refused reply;
+    others = refused_others told changes of_stores parts pages transactions given journal n (hands.Inserts before) o (tagged_entry n before.row.table (requests.Put before.row.values) tags.Full) refused reply;
+    stays = λ names hand_list has. tt;
+    cause = left.ready;
+  }
+    where
+      refuses : (names : List (List ℕ)) (hand_list : List (Option Hand)) (has : hand_in hand_list n ≡ Some (hands.Inserts before)) → Tells told parts.pages
+          → Refuses (before_it names hand_list has) (shown_of (store_of (with_these parts pages transactions given journal) names (with_hand hand_list n None))) n before.row.table before.row.values tags.Full o
+      refuses names hand_list has tells = record {
+        others = record {
+          layout = left.others.leaves.layout;
+          names = refl;
+          first = first_is told changes of_stores parts pages transactions given journal n (hands.Inserts before) o (tagged_entry n before.row.table (requests.Put before.row.values) tags.Full) refused;
+          hands = (changes hand_list n (hands.Inserts before) None has).others;
+          opens = theirs told changes of_stores parts pages transactions given journal n (hands.Inserts before) o (tagged_entry n before.row.table (requests.Put before.row.values) tags.Full) refused;
+        };
+        pages = λ place. ap (λ (m : PageMap). page_at m place) (keeps.pages tells);
+        given = gives;
         rights = refl;
-        entries = refl;
+        open_is = refused.open_is;
+        whole = refused.whole;
+        failed = refused.failed;
+        entries = refused.entries;
+        room = refused.room;
+        now = (changes hand_list n (hands.Inserts before) None has).own;
+        below = fits.in_hand.1.table;
+        was_in = λ other is. same_Some other before.row.table (sym is ∙ ap (table_in parts.pages.layout) has);
       }

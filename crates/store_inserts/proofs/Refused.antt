@@ -55,21 +55,7 @@ use Rattle.store_parts.specs.ShowsPlace.{IsPlaceOf, ShowsTable}
 use Rattle.store_parts.specs.StepLaws.{TurnIsRefused}
 use Rattle.store_parts.specs.StoreStates.{ShownStore, hand_in}
 use Rattle.store_parts.specs.TableLaws.{IsQuiet}
-
--- what of the laws of the store's parts a refusal takes
-pub record RefusalLaws : Type 0 where
-  pub refused : TurnIsRefused
-  pub shown : TableStepIsShown
-  pub table_shown : RefusalIsShown
-  pub leads : RequestLeads
-  pub legal : PutIsLegal
-  pub fewer : FewerCountsFew
-  pub no_more : FailureCountsNoMore
-  pub failure : FailureIsShown
-  pub is_failure : RefusalIsFailure
-  pub counts : FailureCounts
-  pub sessions : SessionsAreShown
-  pub alike : ShowAlike
+use Rattle.store_inserts.specs.TakenLaws.{RefusalLaws}
 
 -- what a refusal left of the store: the session's locks are given, its transaction has failed, and its put is entered with the tag
 pub record Refuses (old new : ShownStore) (n table : ℕ) (values : List Value) (tag : Tag) (o : Open) : Type 0 where

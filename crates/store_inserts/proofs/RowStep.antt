@@ -76,22 +76,7 @@ use Rattle.store_inserts.proofs.AtIndex.{insert_of, put_of}
 use Rattle.store_inserts.proofs.IndexStep.{is_no_work, not_resting, put_shown}
 use Rattle.store_inserts.proofs.Opens.{open_here}
 use Rattle.store_inserts.proofs.Points.{row_point}
-
--- what of the laws of the store's parts the put of a row takes
-pub record RowLaws : Type 0 where
-  pub machine : MachineTurns
-  pub goes : TurnGoesOn
-  pub replies : TurnReplies
-  pub shown : TableStepIsShown
-  pub own : OwnTableGoesOn
-  pub leads : RequestLeads
-  pub legal : PutIsLegal
-  pub few : SameCountsFew
-  pub slots : PutLeavesSlots
-  pub put : PutIsShown
-  pub unseen : PutIsUnseen
-  pub counts : PutCounts
-  pub sessions : SessionsAreShown
+use Rattle.store_inserts.specs.TakenLaws.{RowLaws}
 
 -- the row that the session's transaction puts next
 abbrev pub row_for : (table : ℕ) → List Value → Open → Row

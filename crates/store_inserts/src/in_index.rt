@@ -16,18 +16,21 @@ ghost use Rattle.store_parts.specs.StepAnswers.{HasCause};
 ghost use Rattle.store_parts.specs.Stepping.{IsFit, IsShown, LeavesTheOthers, MakesItsStep, StaysFit, StaysUndone};
 
 use crate::entering::{answered, refuse};
+use crate::laws::steps_of_an_insert;
 use block_model::{Refusal, Reply, Row, Tag};
 use brin_insert::Insert;
 use disk_trait::Disk;
 use page_locks::Did;
 use page_store::MachineFault;
 use store_parts::{
-    Hand, Parts, Stepped, StoreFault, fault_of, index_named, page_waited_for, spent,
+    Hand, Parts, Stepped, StoreFault, an_undone_step_changes_nothing, fault_of, index_named,
+    one_hand_changes, page_waited_for, spent,
 };
 
 /// A later step of an insert: in an index of its table. With the last one the insert is done, and its machine is spare. It waits where
 /// another session locks a page that the step changes. Where no page of the index is left for the tuple with the row, the put is entered
 /// anew so, and the session's transaction fails; `Spent` comes where the journal has no room for that.
+#[tactic(none)]
 pub fn insert_on<D: Disk + Drop>(
     parts: &mut Parts<D>,
     session: u32,
@@ -45,6 +48,9 @@ pub fn insert_on<D: Disk + Drop>(
     ensures cause { HasCause D.told parts.old.pages parts.new.pages result }
     ensures spare { IfSome spare.new (IsInsertFor parts.old.pages.layout) }
 {
+    steps_of_an_insert(parts.transactions.never());
+    one_hand_changes();
+    an_undone_step_changes_nothing(parts);
     match parts.pages.ready() {
         Ok(()) => {}
         Err(error) => return undone(insert, fault_of(error)),

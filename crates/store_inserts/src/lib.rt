@@ -6,6 +6,7 @@
 
 mod entering;
 mod in_index;
+mod laws;
 mod machines;
 mod probe;
 mod row;

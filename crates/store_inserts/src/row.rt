@@ -29,6 +29,7 @@ use store_parts::{Hand, Parts, Stepped, fault_of, spent, table_named};
 /// The first step of an insert: its row is put. Where memory is short for the step, or the table is full, the put is entered so and the
 /// session's transaction fails; `Spent` comes where the journal has no room for the put. The insert is done with this step where its
 /// table has no index; its machine is spare then.
+#[tactic(none)]
 pub fn put_row<D: Disk + Drop>(
     parts: &mut Parts<D>,
     session: u32,
@@ -77,6 +78,7 @@ pub fn put_row<D: Disk + Drop>(
 }
 
 /// The machine's first step, for which one entry of the journal is promised beside those of the session.
+#[tactic(none)]
 fn first_step<D: Disk + Drop>(
     parts: &mut Parts<D>,
     session: u32,

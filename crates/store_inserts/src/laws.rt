@@ -1,0 +1,38 @@
+//! The laws that the steps of an insert take.
+
+ghost use Rattle.store_inserts.specs.TakenLaws.{IndexLaws, RefusalLaws, RowLaws};
+
+use store_parts::{
+    a_machine_turns, a_refusal_is_shown, a_refusal_turns, a_request_leads, a_step_is_shown,
+    a_turn_is_a_step, few_rows_come_to_count, others_see_on, requests_are_legal,
+    the_own_table_goes_on,
+};
+use transactions::{
+    Never, a_failure_is_shown, a_put_is_shown, a_refusal_is_a_failure,
+    a_session_has_its_transaction, other_pages_show_alike, others_see_alike, which_rows_count,
+};
+
+/// What a step in an index, the put of a row and a refusal are in the place that the store shows. Does nothing.
+pub(crate) fn steps_of_an_insert(never: Never)
+    ensures index { IndexLaws }
+    ensures row { RowLaws }
+    ensures refusal { RefusalLaws }
+{
+    a_machine_turns();
+    a_turn_is_a_step();
+    a_step_is_shown();
+    the_own_table_goes_on();
+    a_request_leads();
+    requests_are_legal();
+    few_rows_come_to_count();
+    others_see_on();
+    a_refusal_turns();
+    a_refusal_is_shown();
+    other_pages_show_alike(never);
+    a_put_is_shown(never);
+    a_failure_is_shown(never);
+    a_refusal_is_a_failure(never);
+    which_rows_count(never);
+    others_see_alike(never);
+    a_session_has_its_transaction(never);
+}
