@@ -72,6 +72,15 @@ use Rattle.store_parts.specs.ShowsPlace.{IsOfTransaction, IsPlaceOf, IsRowOf, Sh
 use Rattle.store_parts.specs.StepLaws.{MachineTurns, TurnGoesOn, TurnReplies}
 use Rattle.store_parts.specs.StoreStates.{ShownStore, hand_in}
 use Rattle.store_parts.specs.TableLaws.{OwnTableGoesOn}
+use Rattle.std.specs.Prelude.{IsSome}
+use Rattle.disk_trait.specs.Told.{Told}
+use Rattle.brin_insert.specs.Inserts.{HasStepLeft}
+use Rattle.index_steps.specs.ShownRows.{ShowsKept}
+use Rattle.store_parts.specs.declared.parts.Parts.{Parts}
+use Rattle.store_parts.specs.ShowsPlace.{ShowsPlace}
+use Rattle.store_parts.specs.Stepping.{InSomeStore}
+use Rattle.store_parts.specs.StoreStates.{shown_of, store_of}
+use Rattle.store_inserts.proofs.Beside.{at_work_of}
 
 -- the session's insert has put its row, and has work in this index
 pub record AtIndex (old : ShownStore) (n : ℕ) (before : Insert) (hand : InsertHand) (x : Spot) : Type 0 where
@@ -144,3 +153,13 @@ module _ (old : ShownStore) (n : ℕ) (before : Insert) (hand : InsertHand) (x :
 
     pub own_row_here : IsRowOf (transaction_of old.transactions.opens n) (is_put before.place) before.row.id.t before.row.id.k
     own_row_here = shown.own n (hands.Inserts before) at.was
+
+-- so the machine may step there
+pub kept_at_index : {D : Type 0} (told : D → Told) (parts : Parts D) (n : ℕ) (insert : Insert) → IsInsertFor parts.pages.layout insert → HasStepLeft insert → IsSome insert.place
+    → InSomeStore parts n (hands.Inserts insert) (λ s. (p : Place) × ShowsPlace s p) → ShowsKept parts.pages.layout parts.pages.pages parts.locks n insert.row.table (task_of parts.pages.layout insert)
+kept_at_index told parts n insert made step_left some (names, hand_list, has, (p, shown)) =
+    let work = at_work_of insert step_left some in
+    let s = shown_of (store_of parts names hand_list) in
+    let at : AtIndex s n insert work.hand work.x = record { was = has; placed = work.placed; got = work.got; made = made } in
+    let shows = shows_here s n insert work.hand work.x at p shown in
+    record { blocks = shows.blocks; has = shows.has; unseen = shows.unseen; at = task_here s n insert work.hand work.x at p shown; kept = kept_here s n insert work.hand work.x at p shown }

@@ -1,7 +1,15 @@
 -- what a step is fit for then, and what it leaves to the other sessions, by what its session has in hand
-use Rattle.std.proofs.Common.{◌≡◌, ◌≢◌, ◌+◌, ℕ, List, Option, None, Some, refl, sym, ap, subst, ◌∙◌, false}
+use Rattle.std.proofs.Common.{◌≡◌, ◌≢◌, ◌+◌, ℕ, List, Option, None, Some, refl, sym, ap, subst, ◌∙◌, false, inl, inr, ◌≤◌, arith}
 use Rattle.std.specs.Prelude.{IsSome}
-use Rattle.std.proofs.lemmas.Bool.{false≢true}
+use Rattle.std.proofs.lemmas.Bool.{cases_lt, false≢true}
+use Rattle.store_layout.specs.DiskLayout.{DiskLayout}
+use Rattle.page_store.specs.PageMap.{View}
+use Rattle.tx_table.specs.Kept.{over_kept}
+use Rattle.tx_table.specs.Statuses.{status_relation}
+use Rattle.tx_table.specs.TxState.{IsOver, TxState}
+use Rattle.index_contents.specs.IndexContents.{relation_of as index_relation}
+use Rattle.brin_insert.specs.InsertAnswers.{LeavesOtherRelations, relation_at}
+use Rattle.brin_insert.proofs.Outcomes.{index_next}
 use Rattle.disk_trait.specs.Told.{Told}
 use Rattle.block_model.specs.declared.place.Spot.{Spot}
 use Rattle.page_store.specs.Keeps.{Leaves}
@@ -14,7 +22,7 @@ use Rattle.brin_insert.specs.Inserts.{HasStepAt, HasStepLeft, IsAtWorkIn, work_o
 use Rattle.store_parts.specs.declared.hand.Hand.{Hand}
 use Rattle.store_parts.specs.declared.hand.Stepped.{Stepped}
 use Rattle.store_parts.specs.declared.parts.Parts.{Parts}
-use Rattle.store_parts.specs.HandFits.{IsUnderWay}
+use Rattle.store_parts.specs.HandFits.{IsOwnRow, IsUnderWay}
 use Rattle.store_parts.specs.Shares.{share_of}
 use Rattle.store_parts.specs.StepIs.{hand_after}
 use Rattle.store_parts.specs.Stepping.{LeavesTheOthers, StaysFit}
@@ -69,3 +77,22 @@ at_work_of insert left some = by_place insert.place refl some
     by_place : (o : Option Spot) → insert.place ≡ o → IsSome o → AtWork insert
     by_place None is some = absurd (false≢true some)
     by_place (Some x) is some = by_work x is (work_of insert) refl (subst (λ (o : Option Spot). HasStepAt o (work_of insert)) is left)
+
+-- the transaction of an insert at work
+pub own_of : (transaction : Option Open) → IsUnderWay transaction → (t : ℕ) → IsOwnRow transaction t → (o : Open) → transaction ≡ Some o → t ≡ o.t
+own_of transaction under t own o is = subst (λ (s : Option Open). IsOwnRow s t) is own
+
+-- pages of a relation that isn't that of the statuses
+pub over_beside : {D : Type 0} (told : D → Told) (tx : TxState) (old new : View D) (relation : ℕ) → (status_relation ≡ relation → ⊥) → IsOver told tx old → LeavesOtherRelations told relation old new → IsOver told tx new
+over_beside told tx old new relation other over leaves = over_kept told tx old new over leaves.leaves (λ tells block. leaves.pages tells (record { relation = status_relation; block = block }) other)
+
+-- as those of the index that an insert is at
+pub at_no_status : (layout : DiskLayout) (insert : Insert) → HasStepLeft insert → IsSome insert.place → status_relation ≡ relation_at layout insert → ⊥
+at_no_status layout insert left some same =
+    let work = at_work_of insert left some in
+    let e : status_relation ≡ index_relation layout work.hand.index = same ∙ index_next layout insert work.x work.hand work.placed work.got in
+    omega (arith, e)
+
+-- where one more doesn't fit
+pub past_room : (n limit : ℕ) → (n + 1 ≤ limit → ⊥) → limit ≤ n
+past_room n limit none = elim (cases_lt n limit) [ inl below ↦ absurd (none (omega arith)) | inr past ↦ past ]

@@ -1,6 +1,6 @@
 -- a later step of an insert, over the parts of a store
 use Rattle.std.proofs.Common.{◌≡◌, ◌≢◌, ℕ, ◌+◌, ◌<◌, ◌≤◌, List, [], ◌∷◌, length, Option, None, Some, Ok, refl, sym, ap, subst, ◌∙◌, arith}
-use Rattle.std.specs.Prelude.{IsSome, slice_get}
+use Rattle.std.specs.Prelude.{IfSome, IsSome, slice_get}
 use Rattle.disk_trait.specs.Told.{Told}
 use Rattle.block_model.specs.declared.place.Place.{Place as PagePlace}
 use Rattle.block_model.specs.declared.place.Spot.{Spot}
@@ -35,8 +35,13 @@ use Rattle.line_texts.specs.Place.{Place}
 use Rattle.brin_insert.specs.declared.insert.Insert.{Insert}
 use Rattle.brin_insert.specs.InsertAnswers.{BlockedOn, InsertDid, InsertStepped, IsLeftBy, LeavesOtherRelations, StandsPlaced, heap_after, relation_at}
 use Rattle.brin_insert.specs.InsertHands.{InsertHand}
-use Rattle.brin_insert.specs.InsertLocks.{held_by, stage_of, taken_by}
-use Rattle.brin_insert.specs.Inserts.{HasStepLeft, IsInsertFor, task_of, work_of}
+use Rattle.brin_insert.specs.InsertLocks.{held_by, stage_at, stage_of, taken_by}
+use Rattle.brin_insert.specs.declared.stage.Stage.TheVariants as stages
+use Rattle.brin_insert.specs.InsertSteps.{IsAtWork}
+use Rattle.brin_insert.specs.StageLocks.{held_at}
+use Rattle.brin_insert.proofs.Numbers.{number_within}
+use Rattle.brin_insert.proofs.Tasks.{number_there}
+use Rattle.brin_insert.specs.Inserts.{HasStepAt, HasStepLeft, IsInsertFor, task_of, work_of}
 use Rattle.brin_insert.proofs.Outcomes.{index_next}
 use Rattle.store_parts.specs.declared.hand.Hand.{Hand}
 use Rattle.store_parts.specs.declared.hand.Hand.TheVariants as hands
@@ -95,6 +100,39 @@ pub record MachineLeft {D : Type 0} (told : D → Told) (parts : Parts D) (pages
   pub made : IsInsertFor parts.pages.layout after
   pub row : after.row ≡ before.row
   pub ready : StaysReady parts.pages pages
+
+-- an insert that has no step left has no locks
+pub none_left : (insert : Insert) → (HasStepLeft insert → ⊥) → (locks : LockState) (n : ℕ) → locks_of locks n ≤ held_by (stage_of insert) → locks_of locks n ≤ 0
+none_left insert none locks n few = by_place insert.place (work_of insert) none few
+  where
+    by_stage : (x : Spot) (hand : InsertHand) (stage : Stage) → hand.stage ≡ stage → (IsAtWork hand.stage → ⊥) → locks_of locks n ≤ held_at hand.stage → locks_of locks n ≤ 0
+    by_stage x hand stages.Complete is over few = subst (λ (s : Stage). locks_of locks n ≤ held_at s) is few
+    by_stage x hand stages.Map is over few = absurd (over (subst IsAtWork (sym is) tt))
+    by_stage x hand (stages.Copy y) is over few = absurd (over (subst IsAtWork (sym is) tt))
+    by_stage x hand (stages.Swap y) is over few = absurd (over (subst IsAtWork (sym is) tt))
+    by_stage x hand (stages.Set y z) is over few = absurd (over (subst IsAtWork (sym is) tt))
+    by_stage x hand (stages.Drop y) is over few = absurd (over (subst IsAtWork (sym is) tt))
+
+    by_place : (place : Option Spot) (work : Option InsertHand) → (HasStepAt place work → ⊥) → locks_of locks n ≤ held_by (stage_at place work) → locks_of locks n ≤ 0
+    by_place None work over few = few
+    by_place (Some x) None over few = few
+    by_place (Some x) (Some hand) over few = by_stage x hand hand.stage refl over few
+
+-- the number of the index that is next is one of the layout
+pub number_at : (layout other : DiskLayout) (insert : Insert) → IsInsertFor layout insert → HasStepLeft insert → IsSome insert.place → (index : ℕ) → IfSome (work_of insert) (λ (h : InsertHand). index ≡ h.index) → other ≡ layout
+    → index < length other.schema.indexes
+number_at layout other insert made step_left some index is same =
+    let work = at_work_of insert step_left some in
+    let number : index ≡ work.hand.index = subst (λ (o : Option InsertHand). IfSome o (λ (h : InsertHand). index ≡ h.index)) work.got is in
+    subst (λ (l : DiskLayout). index < length l.schema.indexes) (sym same)
+    (subst (λ (i : ℕ). i < length layout.schema.indexes) (sym number) (number_within layout insert.row.table insert.at work.hand.index (number_there layout insert insert.at work.hand made work.got)))
+
+-- the page that is waited for, by the index's name
+pub waited_there : (layout other : DiskLayout) → other ≡ layout → (index : ℕ) (block : ℕ) (what : What)
+    → ((table at : ℕ) → slice_get (indexes_of other table) at ≡ Some index → what ≡ whats.Page (index_name other table at) block)
+    → (table at : ℕ) → slice_get (indexes_of layout table) at ≡ Some index → what ≡ whats.Page (index_name layout table at) block
+waited_there layout other same index block what named table at there =
+    subst (λ (l : DiskLayout). slice_get (indexes_of l table) at ≡ Some index → what ≡ whats.Page (index_name l table at) block) same (named table at) there
 
 module _ {D : Type 0} (told : D → Told) (changes : HandChanges) (of_parts : FitOfParts told) (of_stores : FitOfStores told) (parts : Parts D) (pages : View D) (locks : LockState) (n : ℕ) (before after : Insert)
     (fit : IsFit told parts n (hands.Inserts before)) (left : MachineLeft told parts pages locks n before after) where
@@ -259,10 +297,11 @@ module _ {D : Type 0} (told : D → Told) (changes : HandChanges) (of_parts : Fi
   -- it waits
   pub waits_so : TurnWaits → PlaceStaysShown → NoRequestLeads → ShowAlike → (held : Held) → OfBlocks told parts.pages before.row.table (InsertStepped parts.pages.layout parts.pages.pages pages.pages parts.locks locks n before after (did.Blocked held))
       → HasStepLeft after → StandsPlaced before.place after.place → BlockedOn told (relation_at parts.pages.layout before) n parts.pages pages parts.locks locks (did.Blocked held) → locks_of locks n ≤ held_by (stage_of after)
-      → (what : What) → ((table at : ℕ) → slice_get (indexes_of parts.pages.layout table) at ≡ Some work.hand.index → what ≡ whats.Page (index_name parts.pages.layout table at) held.page.block)
+      → (index : ℕ) → IfSome (work_of before) (λ (h : InsertHand). index ≡ h.index)
+      → (what : What) → ((table at : ℕ) → slice_get (indexes_of parts.pages.layout table) at ≡ Some index → what ≡ whats.Page (index_name parts.pages.layout table at) held.page.block)
       → StepsSo told parts new n (hands.Inserts before) (stepped.Blocked what held.by (hands.Inserts after))
   unfolding in_index at_index
-  waits_so law stays leads alike held stepped_so step_left placed blocked own what named = record {
+  waits_so law stays leads alike held stepped_so step_left placed blocked own index is what named = record {
     steps = λ names hand_list has tells ready then p shown.
         let at = at_index names hand_list has in
         let shows = shows_here (before_it names hand_list has) n before work.hand work.x at p shown in
@@ -270,7 +309,7 @@ module _ {D : Type 0} (told : D → Told) (changes : HandChanges) (of_parts : Fi
         (
           p,
           stays_shown (before_it names hand_list has) (after_it names hand_list has (Some (hands.Inserts after))) n before after work.hand work.x (stays_here names hand_list has tells (still_there placed) (it.1) blocked.3 (blocked.4.pages tells)) p shown stays leads alike,
-          subst (λ (w : What). Steps p n (Waits (refusals.Blocked w (name_of p held.by))) p) (sym (named before.row.table before.at (number_here (before_it names hand_list has) n before work.hand work.x at)))
+          subst (λ (w : What). Steps p n (Waits (refusals.Blocked w (name_of p held.by))) p) (sym (named before.row.table before.at (number_here (before_it names hand_list has) n before work.hand work.x at ∙ ap Some (sym (subst (λ (o : Option InsertHand). IfSome o (λ (h : InsertHand). index ≡ h.index)) work.got is)))))
               (is_waiting law (before_it names hand_list has) n before work.hand work.x at p shown held.page held.by it.0 blocked.0 blocked.1 fits.entries),
         );
     fit = stays_fit told changes of_stores parts new n (hands.Inserts before) (stepped.Blocked what held.by (hands.Inserts after)) (fits_then (Some (hands.Inserts after)) (in_hand_then step_left (placed_then placed)) own refl);

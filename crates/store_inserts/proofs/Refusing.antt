@@ -55,7 +55,7 @@ pub record LeftRefused {D : Type 0} (told : D → Told) (parts : Parts D) (pages
   pub promised : journal.promised + 1 ≡ parts.journal.promised
   pub room : length parts.journal.entries + 1 ≤ MAX_ENTRIES
 
-share_whole : (was : Option Hand) (transaction : Option Open) (o : Open) → transaction ≡ Some o → o.failed ≡ false → hand_share was ≡ 0 → share_of was transaction ≡ 2
+pub share_whole : (was : Option Hand) (transaction : Option Open) (o : Open) → transaction ≡ Some o → o.failed ≡ false → hand_share was ≡ 0 → share_of was transaction ≡ 2
 share_whole was transaction o is whole free =
     let one : open_share transaction ≡ 2 = ap open_share is ∙ ap (λ (b : Bool). if b then 1 else 2) whole in
     omega (arith, one, free)
@@ -161,3 +161,7 @@ module _ {D : Type 0} (told : D → Told) (changes : HandChanges) (of_stores : F
     stays = λ names hand_list has. enters_none told _ _ was hand error left.entries left.statement;
     cause = has_cause told parts.pages pages error refused;
   }
+
+-- a store that no call changes
+pub leaves_same : {D : Type 0} (told : D → Told) (store : View D) → Leaves told store store
+leaves_same told store = record { layout = refl; tells = refl; faults = omega arith }
