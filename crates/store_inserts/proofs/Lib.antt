@@ -9,3 +9,5 @@ pub mod RowStep
 pub mod Beside
 pub mod OnParts
 pub mod Refusing
+pub mod RowRefused
+pub mod RowParts

@@ -30,7 +30,7 @@ use store_parts::{
 /// A later step of an insert: in an index of its table. With the last one the insert is done, and its machine is spare. It waits where
 /// another session locks a page that the step changes. Where no page of the index is left for the tuple with the row, the put is entered
 /// anew so, and the session's transaction fails; `Spent` comes where the journal has no room for that.
-#[tactic(none)]
+
 pub fn insert_on<D: Disk + Drop>(
     parts: &mut Parts<D>,
     session: u32,

@@ -2,7 +2,7 @@
 
 ghost use Rattle.std.specs.Prelude.{◌≡◌};
 
-#[tactic(auto, using(crate::proofs::OnParts::full_so, crate::proofs::RowStep::row_goes_on, crate::proofs::Refusing::undone_so))]
+#[tactic(auto, using(crate::proofs::RowParts::full_heap_so))]
 pub fn probed(x: u8) -> u8
     ensures { result ≡ x }
 {

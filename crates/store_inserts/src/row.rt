@@ -18,13 +18,17 @@ ghost use Rattle.store_parts.specs.StepAnswers.{HasCause};
 ghost use Rattle.store_parts.specs.Stepping.{IsFit, IsShown, LeavesTheOthers, MakesItsStep, StaysFit, StaysUndone};
 
 use crate::entering::{answered, enter_row, refuse};
+use crate::laws::steps_of_an_insert;
 use crate::machines::machine_for;
 use block_model::{Refusal, Reply, Row, Tag, Values};
 use brin_insert::Insert;
 use disk_trait::Disk;
 use page_locks::Did;
 use page_store::MachineFault;
-use store_parts::{Hand, Parts, Stepped, fault_of, spent, table_named};
+use store_parts::{
+    Hand, Parts, Stepped, an_undone_step_changes_nothing, fault_of, one_hand_changes, spent,
+    table_named,
+};
 
 /// The first step of an insert: its row is put. Where memory is short for the step, or the table is full, the put is entered so and the
 /// session's transaction fails; `Spent` comes where the journal has no room for the put. The insert is done with this step where its
@@ -48,6 +52,9 @@ pub fn put_row<D: Disk + Drop>(
     ensures cause { HasCause D.told parts.old.pages parts.new.pages result }
     ensures spare { IfSome spare.new (IsInsertFor parts.old.pages.layout) }
 {
+    steps_of_an_insert(parts.transactions.never());
+    one_hand_changes();
+    an_undone_step_changes_nothing(parts);
     let hand = Hand::Puts { table, values };
     match parts.pages.ready() {
         Ok(()) => {}
@@ -102,6 +109,9 @@ fn first_step<D: Disk + Drop>(
     ensures cause { HasCause D.told parts.old.pages parts.new.pages result }
     ensures spare { IfSome spare.new (IsInsertFor parts.old.pages.layout) }
 {
+    steps_of_an_insert(parts.transactions.never());
+    one_hand_changes();
+    an_undone_step_changes_nothing(parts);
     match insert.step(&mut parts.pages, &mut parts.locks, session) {
         Ok(Did::Moved(point)) => {
             enter_row(parts, session, insert.row());
