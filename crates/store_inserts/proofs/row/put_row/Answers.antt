@@ -1,0 +1,130 @@
+use Rattle.std.proofs.Common.{◌≡◌, ℕ, [], ◌∷◌, ◌++◌, ◌+◌, ◌-◌, ◌<◌, ◌≤◌, List, length, Option, None, Some, refl, sym, ap, subst, ◌∙◌, arith}
+use Rattle.std.specs.Prelude.{IfSome, IsSome, IsSomeAnd}
+use Rattle.std.proofs.lemmas.Bool.{false≢true}
+use Rattle.block_model.specs.declared.reply.Refusal.TheVariants as refusals
+use Rattle.block_model.specs.declared.reply.Reply.{Reply}
+use Rattle.block_model.specs.declared.reply.Reply.TheVariants as replies
+use Rattle.block_model.specs.declared.request.Entry.{Entry}
+use Rattle.block_model.specs.declared.request.Request.TheVariants as requests
+use Rattle.block_model.specs.declared.request.Tag.TheVariants as tags
+use Rattle.block_model.specs.declared.value.Value.{Value}
+use Rattle.row_versions.specs.declared.sessions.Open.{Open}
+use Rattle.row_versions.specs.StoredVersions.{transaction_of}
+use Rattle.statements.specs.declared.limits.TheConstants.{MAX_ENTRIES}
+use Rattle.statements.specs.StatementRequests.{tagged_entry}
+use Rattle.transactions.specs.Sessions.{next_row_of}
+use Rattle.page_store.specs.Keeps.{Keeps}
+use Rattle.brin_insert.specs.Inserts.{IsInsertFor}
+use Rattle.store_parts.specs.declared.faults.StoreFault.{StoreFault}
+use Rattle.store_parts.specs.declared.faults.StoreFault.TheVariants as stops
+use Rattle.store_parts.specs.declared.hand.Hand.{Hand}
+use Rattle.store_parts.specs.declared.hand.Hand.TheVariants as hands
+use Rattle.store_parts.specs.declared.hand.Stepped.{Stepped}
+use Rattle.store_parts.specs.declared.hand.Stepped.TheVariants as stepped
+use Rattle.store_parts.specs.declared.parts.Parts.{Parts}
+use Rattle.store_parts.specs.StoreFaults.{fault_of}
+use Rattle.store_parts.specs.Stepping.{IsFit, IsShown}
+use Rattle.store_parts.specs.UndoneLaws.{StepsSo}
+use Rattle.store_inserts.specs.Promised.{unpromised}
+use Rattle.store_inserts.proofs.Beside.{past_room, under_way}
+use Rattle.store_inserts.proofs.Refusing.{LeftRefused, leaves_same, share_whole}
+use Rattle.store_inserts.proofs.RowParts.{short_so, unpromised_is}
+use Rattle.store_inserts.proofs.row.put_row.Goals as goal
+
+pub returns-in-Err : goal.returns-in-Err
+returns-in-Err g c =
+    let parts = c.args.parts.now in
+    let hand = hands.Puts c.args.table c.args.values in
+    let fits = c.an_undone_step_changes_nothing.ensures.parts parts c.args.session hand c.requires.fit in
+    let so : StepsSo g.D.Disk.told parts parts c.args.session hand (stepped.Undone c.fault_of.result hand) = subst (λ (f : StoreFault). StepsSo g.D.Disk.told parts parts c.args.session hand (stepped.Undone f hand)) (sym c.fault_of.ensures)
+    (c.an_undone_step_changes_nothing.ensures.refused parts parts c.args.session hand c.in-Err.error c.requires.fit fits.over (leaves_same g.D.Disk.told parts.pages) (record { transactions = refl; locks = refl; rights = refl; journal = refl }) c.in-Err.ensures.outcome) in
+    record { steps = so.steps; fit = so.fit; others = so.others; stays = so.stays; cause = so.cause; spare = c.requires.spare }
+
+pub returns-then-not-fits : goal.returns-then-not-fits
+returns-then-not-fits g c =
+    let parts = c.args.parts.now in
+    let hand = hands.Puts c.args.table c.args.values in
+    let so : StepsSo g.D.Disk.told parts parts c.args.session hand (stepped.Undone c.spent.result hand) = subst (λ (f : StoreFault). StepsSo g.D.Disk.told parts parts c.args.session hand (stepped.Undone f hand)) (sym c.spent.ensures)
+    (c.an_undone_step_changes_nothing.ensures.spent parts c.args.session hand (length parts.journal.entries) c.requires.fit c.in-Ok.ensures.outcome.0 refl ?) in
+    record { steps = so.steps; fit = so.fit; others = so.others; stays = so.stays; cause = so.cause; spare = c.requires.spare }
+
+pub machine_for-requires-clause-open : goal.machine_for-requires-clause-open
+machine_for-requires-clause-open g c =
+    let parts = c.args.parts.now in
+    let fits = c.an_undone_step_changes_nothing.ensures.parts parts c.args.session (hands.Puts c.args.table c.args.values) c.requires.fit in
+    let own = under_way (transaction_of parts.transactions.opens c.args.session) fits.in_hand.0 in
+    subst (λ (t : Option Open). IsSome t) (sym own.is) refl
+
+pub machine_for-requires-clause-table : goal.machine_for-requires-clause-table
+machine_for-requires-clause-table g c = (c.an_undone_step_changes_nothing.ensures.parts c.args.parts.now c.args.session (hands.Puts c.args.table c.args.values) c.requires.fit).in_hand.1
+
+pub machine_for-requires-clause-kinds : goal.machine_for-requires-clause-kinds
+machine_for-requires-clause-kinds g c = (c.an_undone_step_changes_nothing.ensures.parts c.args.parts.now c.args.session (hands.Puts c.args.table c.args.values) c.requires.fit).in_hand.2
+
+pub machine_for-requires-clause-asks : goal.machine_for-requires-clause-asks
+machine_for-requires-clause-asks g c = (c.an_undone_step_changes_nothing.ensures.parts c.args.parts.now c.args.session (hands.Puts c.args.table c.args.values) c.requires.fit).in_hand.3
+
+pub machine_for-requires-clause-spare : goal.machine_for-requires-clause-spare
+machine_for-requires-clause-spare g c = c.requires.spare
+
+pub first_step-requires-clause-made : goal.first_step-requires-clause-made
+first_step-requires-clause-made g c = subst (λ (q : Parts _). IsInsertFor q.pages.layout c.in-Ok-machine_for.insert) (sym c.machine_for.ensures.rest) c.in-Ok-machine_for.ensures.made
+
+pub first_step-requires-clause-nowhere : goal.first_step-requires-clause-nowhere
+first_step-requires-clause-nowhere g c = c.in-Ok-machine_for.ensures.nowhere
+
+pub first_step-requires-clause-id : goal.first_step-requires-clause-id
+first_step-requires-clause-id g c = subst (λ (q : Parts _). (o : Open) → transaction_of q.transactions.opens c.args.session ≡ Some o → next_row_of o ≡ Some c.in-Ok-machine_for.insert.row.id) (sym c.machine_for.ensures.rest) c.in-Ok-machine_for.ensures.id
+
+pub first_step-requires-clause-number : goal.first_step-requires-clause-number
+first_step-requires-clause-number g c = subst (λ (q : Parts _). IsSomeAnd (transaction_of q.transactions.opens c.args.session) (λ (o : Open). o.next_k + 1 < 4294967296)) (sym c.machine_for.ensures.rest) c.in-Ok-machine_for.ensures.number
+
+pub first_step-requires-clause-promised : goal.first_step-requires-clause-promised
+first_step-requires-clause-promised g c = let more = c.in-Ok-machine_for.ensures.promised in omega (arith, more)
+
+pub first_step-requires-clause-fits : goal.first_step-requires-clause-fits
+first_step-requires-clause-fits g c =
+    let room = c.fits.ensures.0 c.if-not-fits.false in
+    let same : length c.machine_for.new.parts.journal.entries ≡ length c.args.parts.now.journal.entries = ap (λ (l : List Entry). length l) c.machine_for.ensures.entries in
+    omega (arith, room, same)
+
+pub first_step-requires-clause-ready : goal.first_step-requires-clause-ready
+first_step-requires-clause-ready g c = subst (λ (q : Parts _). q.pages.failed ≡ None) (sym c.machine_for.ensures.rest) c.in-Ok.ensures.outcome.0
+
+pub first_step-requires-clause-fit : goal.first_step-requires-clause-fit
+first_step-requires-clause-fit g c =
+    let row = c.in-Ok-machine_for.ensures.row in
+    let hand_is : hands.Puts c.args.table c.args.values ≡ hands.Puts c.in-Ok-machine_for.insert.row.table c.in-Ok-machine_for.insert.row.values = λ j. hands.Puts (sym row.0 j) (sym row.1 j) in
+    subst (λ (q : Parts _). IsFit g.D.Disk.told q c.args.session (hands.Puts c.in-Ok-machine_for.insert.row.table c.in-Ok-machine_for.insert.row.values)) (sym (unpromised_is c.args.parts.now c.machine_for.new.parts c.machine_for.ensures.rest c.machine_for.ensures.entries c.in-Ok-machine_for.ensures.promised))
+    (subst (λ (h : Hand). IsFit g.D.Disk.told c.args.parts.now c.args.session h) hand_is c.requires.fit)
+
+pub first_step-requires-clause-shown : goal.first_step-requires-clause-shown
+first_step-requires-clause-shown g c =
+    let row = c.in-Ok-machine_for.ensures.row in
+    let hand_is : hands.Puts c.args.table c.args.values ≡ hands.Puts c.in-Ok-machine_for.insert.row.table c.in-Ok-machine_for.insert.row.values = λ j. hands.Puts (sym row.0 j) (sym row.1 j) in
+    subst (λ (q : Parts _). IsShown g.D.Disk.told q c.args.session (hands.Puts c.in-Ok-machine_for.insert.row.table c.in-Ok-machine_for.insert.row.values)) (sym (unpromised_is c.args.parts.now c.machine_for.new.parts c.machine_for.ensures.rest c.machine_for.ensures.entries c.in-Ok-machine_for.ensures.promised))
+    (subst (λ (h : Hand). IsShown g.D.Disk.told c.args.parts.now c.args.session h) hand_is c.requires.shown)
+
+pub first_step-requires-clause-spare : goal.first_step-requires-clause-spare
+first_step-requires-clause-spare g c = subst (λ (q : Parts _). IfSome c.machine_for.new.spare (IsInsertFor q.pages.layout)) (sym c.machine_for.ensures.rest) c.machine_for.ensures.spare
+
+pub returns-in-Ok-machine_for : goal.returns-in-Ok-machine_for
+returns-in-Ok-machine_for g c =
+    let parts = c.args.parts.now in
+    let row = c.in-Ok-machine_for.ensures.row in
+    let hand_is : hands.Puts c.in-Ok-machine_for.insert.row.table c.in-Ok-machine_for.insert.row.values ≡ hands.Puts c.args.table c.args.values = λ j. hands.Puts (row.0 j) (row.1 j) in
+    let first : StepsSo g.D.Disk.told (unpromised c.machine_for.new.parts) c.first_step.new.parts c.args.session (hands.Puts c.in-Ok-machine_for.insert.row.table c.in-Ok-machine_for.insert.row.values) c.first_step.result =
+    record { steps = c.first_step.ensures.steps; fit = c.first_step.ensures.fit; others = c.first_step.ensures.others; stays = c.first_step.ensures.stays; cause = c.first_step.ensures.cause } in
+    let so : StepsSo g.D.Disk.told parts c.first_step.new.parts c.args.session (hands.Puts c.args.table c.args.values) c.first_step.result =
+    subst (λ (h : Hand). StepsSo g.D.Disk.told parts c.first_step.new.parts c.args.session h c.first_step.result) hand_is
+    (subst (λ (q : Parts _). StepsSo g.D.Disk.told q c.first_step.new.parts c.args.session (hands.Puts c.in-Ok-machine_for.insert.row.table c.in-Ok-machine_for.insert.row.values) c.first_step.result) (unpromised_is parts c.machine_for.new.parts c.machine_for.ensures.rest c.machine_for.ensures.entries c.in-Ok-machine_for.ensures.promised) first) in
+    record { steps = so.steps; fit = so.fit; others = so.others; stays = so.stays; cause = so.cause; spare = subst (λ (q : Parts _). IfSome c.first_step.new.spare (IsInsertFor q.pages.layout)) c.machine_for.ensures.rest c.first_step.ensures.spare }
+
+pub refuse-requires-clause-promised : goal.refuse-requires-clause-promised
+refuse-requires-clause-promised g c = ?
+
+pub refuse-requires-clause-open : goal.refuse-requires-clause-open
+refuse-requires-clause-open g c = ?
+
+pub returns : goal.returns
+returns g c = ?
