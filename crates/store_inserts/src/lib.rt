@@ -8,9 +8,7 @@ mod entering;
 mod in_index;
 mod laws;
 mod machines;
-mod probe;
 mod row;
 
 pub use in_index::insert_on;
-pub use probe::probed;
 pub use row::put_row;

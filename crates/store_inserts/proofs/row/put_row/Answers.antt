@@ -13,7 +13,10 @@ use Rattle.row_versions.specs.StoredVersions.{transaction_of}
 use Rattle.statements.specs.declared.limits.TheConstants.{MAX_ENTRIES}
 use Rattle.statements.specs.StatementRequests.{tagged_entry}
 use Rattle.transactions.specs.Sessions.{next_row_of}
-use Rattle.page_store.specs.Keeps.{Keeps}
+use Rattle.page_locks.specs.LockChanges.{GivesAll}
+use Rattle.page_locks.specs.LockCounts.{locks_of}
+use Rattle.page_locks.specs.LockHolders.{holder}
+use Rattle.transactions.specs.TransactionsState.{with_failed}
 use Rattle.brin_insert.specs.Inserts.{IsInsertFor}
 use Rattle.store_parts.specs.declared.faults.StoreFault.{StoreFault}
 use Rattle.store_parts.specs.declared.faults.StoreFault.TheVariants as stops
@@ -121,10 +124,52 @@ returns-in-Ok-machine_for g c =
     record { steps = so.steps; fit = so.fit; others = so.others; stays = so.stays; cause = so.cause; spare = subst (λ (q : Parts _). IfSome c.first_step.new.spare (IsInsertFor q.pages.layout)) c.machine_for.ensures.rest c.first_step.ensures.spare }
 
 pub refuse-requires-clause-promised : goal.refuse-requires-clause-promised
-refuse-requires-clause-promised g c = ?
+refuse-requires-clause-promised g c =
+    let parts = c.args.parts.now in
+    let hand = hands.Puts c.args.table c.args.values in
+    let fits = c.an_undone_step_changes_nothing.ensures.parts parts c.args.session hand c.requires.fit in
+    let own = under_way (transaction_of parts.transactions.opens c.args.session) fits.in_hand.0 in
+    let two = share_whole (Some hand) (transaction_of parts.transactions.opens c.args.session) own.own own.is own.whole refl in
+    let enough = fits.share in
+    let same = c.in-Err-machine_for.ensures.same in
+    omega (arith, two, enough, same)
 
 pub refuse-requires-clause-open : goal.refuse-requires-clause-open
-refuse-requires-clause-open g c = ?
+refuse-requires-clause-open g c =
+    let parts = c.args.parts.now in
+    let fits = c.an_undone_step_changes_nothing.ensures.parts parts c.args.session (hands.Puts c.args.table c.args.values) c.requires.fit in
+    let own = under_way (transaction_of parts.transactions.opens c.args.session) fits.in_hand.0 in
+    subst (λ (q : Parts _). IsSome (transaction_of q.transactions.opens c.args.session)) (sym c.machine_for.ensures.rest) (subst (λ (t : Option Open). IsSome t) (sym own.is) refl)
 
 pub returns : goal.returns
-returns g c = ?
+returns g c =
+    let parts = c.args.parts.now in
+    let hand = hands.Puts c.args.table c.args.values in
+    let laws = c.an_undone_step_changes_nothing.ensures in
+    let outcome = c.in-Ok.ensures.outcome in
+    let later = c.refuse.new.parts in
+    let mid = c.machine_for.ensures.rest in
+    let fits = laws.parts parts c.args.session hand c.requires.fit in
+    let own = under_way (transaction_of parts.transactions.opens c.args.session) fits.in_hand.0 in
+    let refused : LeftRefused g.D.Disk.told parts parts.pages later.transactions later.locks later.journal c.args.session hand own.own (tagged_entry c.args.session c.args.table (requests.Put c.args.values) tags.NoMemory) = record {
+      fits = fits;
+      free = refl;
+      open_is = own.is;
+      whole = own.whole;
+      leaves = leaves_same g.D.Disk.told parts.pages;
+      over = fits.over;
+      failed = (subst (λ (q : Parts _). (o : Open) → transaction_of q.transactions.opens c.args.session ≡ Some o → later.transactions ≡ with_failed q.transactions c.args.session o) mid c.refuse.ensures.failed) own.own own.is;
+      limit = c.refuse.ensures.limit ∙ ap (λ (q : Parts _). q.locks.limit) mid;
+      none = c.refuse.ensures.none;
+      others = λ m other. c.refuse.ensures.counts.others m other ∙ ap (λ (q : Parts _). locks_of q.locks m) mid;
+      entries = c.refuse.ensures.entries ∙ ap (λ (l : List Entry). l ++ tagged_entry c.args.session c.args.table (requests.Put c.args.values) tags.NoMemory ∷ []) c.machine_for.ensures.entries;
+      promised = let one = c.refuse.ensures.promised in let same = c.in-Err-machine_for.ensures.same in omega (arith, one, same);
+      room = c.fits.ensures.0 c.if-not-fits.false;
+    } in
+    let so : StepsSo g.D.Disk.told parts later c.args.session hand (stepped.Done c.refuse.result) =
+    subst (λ (r : Reply). StepsSo g.D.Disk.told parts later c.args.session hand (stepped.Done r)) (sym c.refuse.ensures.reply)
+    (subst (λ (q : Parts _). StepsSo g.D.Disk.told parts q c.args.session hand (stepped.Done (replies.Refused refusals.Memory)))
+    (sym (c.refuse.ensures.rest ∙ ap (λ (q : Parts _). record q { transactions = later.transactions; locks = later.locks; journal = later.journal }) mid))
+    (short_so g.D.Disk.told c.one_hand_changes.ensures laws.stores c.steps_of_an_insert.ensures.refusal parts parts.pages later.locks later.transactions later.journal c.args.session c.args.table c.args.values tags.NoMemory tt own.own refused
+    (subst (λ (q : Parts _). GivesAll (holder q.locks) (holder later.locks) c.args.session) mid c.refuse.ensures.given) (record { leaves = leaves_same g.D.Disk.told parts.pages; pages = λ tells. refl }) (outcome.0, outcome.1) refl)) in
+    record { steps = so.steps; fit = so.fit; others = so.others; stays = so.stays; cause = so.cause; spare = c.machine_for.ensures.spare }
