@@ -305,8 +305,7 @@ module _ {D : Type 0} (told : D → Told) (changes : HandChanges) (of_parts : Fi
     steps = λ names hand_list has tells ready then p shown.
         let at = at_index names hand_list has in
         let shows = shows_here (before_it names hand_list has) n before work.hand work.x at p shown in
-        let it = came (did.Blocked held) stepped_so tells shows.blocks shows.has in
-        (
+        let it = came (did.Blocked held) stepped_so tells shows.blocks shows.has in (
           p,
           stays_shown (before_it names hand_list has) (after_it names hand_list has (Some (hands.Inserts after))) n before after work.hand work.x (stays_here names hand_list has tells (still_there placed) (it.1) blocked.3 (blocked.4.pages tells)) p shown stays leads alike,
           subst (λ (w : What). Steps p n (Waits (refusals.Blocked w (name_of p held.by))) p) (sym (named before.row.table before.at (number_here (before_it names hand_list has) n before work.hand work.x at ∙ ap Some (sym (subst (λ (o : Option InsertHand). IfSome o (λ (h : InsertHand). index ≡ h.index)) work.got is)))))
@@ -328,8 +327,7 @@ module _ {D : Type 0} (told : D → Told) (changes : HandChanges) (of_parts : Fi
   spent_so laws refusals_laws relation_told number says place step_left task stage same_locks keeps entries entries_is full = record {
     steps = λ names hand_list has tells ready afterwards p shown.
         let at = at_index names hand_list has in
-        let shows = shows_here (before_it names hand_list has) n before work.hand work.x at p shown in
-        (
+        let shows = shows_here (before_it names hand_list has) n before work.hand work.x at p shown in (
           p,
           stays_shown (before_it names hand_list has) (after_it names hand_list has (Some (hands.Inserts after))) n before after work.hand work.x (stays_here names hand_list has tells (place ∙ work.placed) task same_locks (keeps.pages tells)) p shown laws.stays laws.leads laws.alike,
           (

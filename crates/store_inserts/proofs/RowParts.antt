@@ -217,9 +217,13 @@ module _ {D : Type 0} (told : D → Told) (changes : HandChanges) (of_parts : Fi
         let did_so = came laws (before_it names hand_list has) (after_it names hand_list has h) n before.row.table before.row.values before after o at.0 here p shown (did.Moved point) it in
         row_goes_on laws (before_it names hand_list has) (after_it names hand_list has h) n before.row.table before.row.values before after o at.0 here p shown (did.Moved point) it point did_so.0
         (changes hand_list n was h has).own did_so.1;
-    fit = stays_fit told changes of_stores (unpromised parts) new n was (stepped.Moved point (hands.Inserts after)) (fits_then (Some (hands.Inserts after)) refl
-        (subst IsUnderWay (sym now_is) whole, left.made, step_left, subst (λ (place : Option Spot). IsSome place) (sym (placed_at placed).1) refl,
-        subst (λ (t : Option Open). IsOwnRow t after.row.id.t) (sym now_is) (ap (λ (r : Row). r.id.t) (left.row ∙ row_is))) own);
+    fit = stays_fit told changes of_stores (unpromised parts) new n was (stepped.Moved point (hands.Inserts after)) (fits_then (Some (hands.Inserts after)) refl (
+      subst IsUnderWay (sym now_is) whole,
+      left.made,
+      step_left,
+      subst (λ (place : Option Spot). IsSome place) (sym (placed_at placed).1) refl,
+      subst (λ (t : Option Open). IsOwnRow t after.row.id.t) (sym now_is) (ap (λ (r : Row). r.id.t) (left.row ∙ row_is)),
+    ) own);
     others = others_so (stepped.Moved point (hands.Inserts after)) refl;
     stays = λ names hand_list has. ap insert_of left.row;
     cause = left.ready;

@@ -123,7 +123,6 @@ module _ (law : TurnWaits) (old : ShownStore) (n : ℕ) (before : Insert) (hand 
       ap (λ (o : Option ℕ). (shown_at old.layout old.pages old.locks o).lock held.block) (number_here old n before hand x at)
       ∙ ap (λ (page : PagePlace). holder old.locks page) here ∙ holds
 
-
   pub is_waiting : Steps p n (Waits (refusals.Blocked (whats.Page (index_name old.layout table before.at) held.block) (name_of p by))) p
   is_waiting =
       let blocked = waits (shows_here old n before hand x at p shown).unseen (task_here old n before hand x at p shown) (kept_here old n before hand x at p shown) in

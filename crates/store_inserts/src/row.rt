@@ -147,12 +147,7 @@ fn first_step<D: Disk + Drop>(
 }
 
 /// The row's table is full: the insert is refused.
-fn full_table<D: Disk + Drop>(
-    parts: &mut Parts<D>,
-    session: u32,
-    row: &Row,
-    number: u64,
-) -> Reply
+fn full_table<D: Disk + Drop>(parts: &mut Parts<D>, session: u32, row: &Row, number: u64) -> Reply
     requires table { row.now.table < length parts.old.pages.layout.schema.tables }
     requires promised { 0 < parts.old.journal.promised }
     requires open { IsSome (transaction_of parts.old.transactions.opens session) }
