@@ -170,13 +170,13 @@ row_here p n table t values counts queue rests refused no_more = (
 pub row_is_refused : RowIsRefused
 row_is_refused p n table t values w counts is queue =
     subst (λ (x : TableState). x.task n ≡ Resting → (refused : IsRowRefused x) → CountsNoMore x counts t
-        → IsTurnRefused p n table (statements.Insert table values) (refused_in n counts x) no_account (row_refusal x refused)) is
+    → IsTurnRefused p n table (statements.Insert table values) (refused_in n counts x) no_account (row_refusal x refused)) is
     (row_here p n table t values counts queue)
 
 pub insert_is_refused : InsertIsRefused
 insert_is_refused p n table b k r values w task counts is queue =
     subst (λ (x : TableState). x.task n ≡ task → (refused : IsInsertRefused x n b k r task) → CountsNoMore x counts r.id.t
-        → IsTurnRefused p n table (statements.Insert table values) (refused_in n counts x) (p.accounts n) (insert_refusal refused)) is
+    → IsTurnRefused p n table (statements.Insert table values) (refused_in n counts x) (p.accounts n) (insert_refusal refused)) is
     (insert_here p n table (statements.Insert table values) queue insert_other refl counts b k r task)
   where
     insert_other : statements.Insert table values ≢ statements.Work
@@ -195,8 +195,8 @@ mark_is_refused p n table t statement w scan id rest counts is queue other on =
 pub maintenance_is_refused : MaintenanceIsRefused
 maintenance_is_refused p n table at range statement w v job phase is queue other on =
     subst (λ (x : TableState). x.task n ≡ Maintains job at range phase → (refused : IsMaintainRefused (index_view_at at x) n range phase)
-        → TaskTurns n x v (Maintains job at range phase) Resting → StepsIn at x v → SummariseLockPasses n (index_view_at at x) (index_view_at at v) (Some n) None
-        → IsTurnRefused p n table statement v (p.accounts n) (maintain_refusal at refused)) is
+    → TaskTurns n x v (Maintains job at range phase) Resting → StepsIn at x v → SummariseLockPasses n (index_view_at at x) (index_view_at at v) (Some n) None
+    → IsTurnRefused p n table statement v (p.accounts n) (maintain_refusal at refused)) is
     (maintenance_here p n table statement queue other on at range v job phase)
 
 -- ---- the table of a refused statement

@@ -96,8 +96,7 @@ not_pruned p n w v does point is other = tt
 
 pub machine_turns : MachineTurns
 machine_turns p n table statement w between v point account is queue other on does no_prune settles own =
-    let there : DoesAt n (p.tables table) between point account = subst (λ (x : TableState). DoesAt n x between point account) (sym is) does in
-    (
+    let there : DoesAt n (p.tables table) between point account = subst (λ (x : TableState). DoesAt n x between point account) (sym is) does in (
       record {
         on = on;
         step = record { between = between; does = there.does; settles = settles };

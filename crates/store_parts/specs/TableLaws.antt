@@ -1,5 +1,5 @@
 -- how the tables that a store shows stay, and how one of them goes on
-use Rattle.std.specs.Prelude.{◌≡◌, ◌≢◌, ◌⊎◌, ℕ, ◌<◌, Bool, IsTrue, List, length, None, Some}
+use Rattle.std.specs.Prelude.{◌≡◌, ◌≢◌, ◌⊎◌, ℕ, ◌<◌, Bool, false, IsTrue, List, length, None, Some}
 use Rattle.block_model.specs.declared.place.Spot.{Spot}
 use Rattle.block_model.specs.declared.row.Row.{Row}
 use Rattle.page_layout.specs.PageContents.{Slot}
@@ -23,7 +23,7 @@ use Rattle.table_coverage.specs.TableCovered.{IsTableKept}
 use Rattle.table_coverage.specs.TableSteps.{TableStep}
 use Rattle.index_steps.specs.ShownIndex.{lock_in}
 use Rattle.index_steps.specs.ShownRows.{ShowsKept, shown_by}
-use Rattle.brin_scan.specs.Finds.{Sight}
+use Rattle.brin_scan.specs.Finds.{Sight, sees_stored}
 use Rattle.brin_scan.specs.SeenRows.{IsOthersSince, StaysInSlot}
 use Rattle.line_texts.specs.Place.{Place}
 use Rattle.store_parts.specs.HandsInTables.{IsTaskOf, table_in}
@@ -101,6 +101,7 @@ SameSlotsStay = (blocks : List (List Slot)) → AreSameSlots blocks
 pub record IsSlotFilled (row : StoredRow) (old new : List (List Slot)) : Type 0 where
   pub rows : RowsStay old new
   pub seen : (sight : Sight) → IsOthersSince sight row.id.t → SeesSlots sight old new
+  pub unseen : (sight : Sight) → sees_stored sight row ≡ false → SeesSlots sight old new
 
 abbrev pub FilledSlotStays : Type 0
 FilledSlotStays = (count : ℕ) (spot : Spot) (row : StoredRow) (blocks : List (List Slot)) → FillsSlot count spot row blocks
@@ -110,6 +111,7 @@ FilledSlotStays = (count : ℕ) (spot : Spot) (row : StoredRow) (blocks : List (
 pub record IsSlotMarked (row : StoredRow) (deleter : ℕ) (old new : List (List Slot)) : Type 0 where
   pub rows : RowsStay old new
   pub seen : (sight : Sight) → StaysInSlot sight row (marked row deleter) → SeesSlots sight old new
+  pub alike : (sight : Sight) → sees_stored sight (marked row deleter) ≡ sees_stored sight row → SeesSlots sight old new
 
 abbrev pub MarkedSlotStays : Type 0
 MarkedSlotStays = (spot : Spot) (row : StoredRow) (deleter : ℕ) (old new : List (List Slot)) → slot_at old spot ≡ Some row
