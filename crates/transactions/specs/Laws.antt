@@ -23,7 +23,7 @@ use Rattle.heap_rows.specs.HeapBlocks.{HasBlocks}
 use Rattle.heap_rows.specs.RowPlaces.{new_row}
 use Rattle.snapshot_core.specs.declared.statuses.Status.{Status}
 use Rattle.snapshot_core.specs.declared.statuses.Status.TheVariants as status
-use Rattle.snapshot_core.specs.Visibility.{had_ended, is_committed}
+use Rattle.snapshot_core.specs.Visibility.{had_ended, has_done, is_committed}
 use Rattle.row_versions.specs.declared.sessions.Open.{Open}
 use Rattle.row_versions.specs.SessionChanges.{ended}
 use Rattle.row_versions.specs.StoredVersions.{transaction_of}
@@ -50,7 +50,7 @@ PutIsShown = (layout : DiskLayout) (old new : PageMap) (t : TransactionsState) (
 -- The transaction may mark the row: it is in its copy, and whether another stands in the way is as said.
 pub record IsMarking (layout : DiskLayout) (pages : PageMap) (t : TransactionsState) (s : DatabaseState) (session table : ℕ) (o : Open) (row : StoredRow) (conflict : Bool) : Type 0 where
   pub shows : ShowsDatabase layout pages t s
-  pub open : transaction_of t.opens session ≡ Some o
+  pub opened : transaction_of t.opens session ≡ Some o
   pub below : table < length layout.schema.tables
   pub copy : OpenTransaction
   pub under_way : maps.get s.sessions session ≡ Some copy
@@ -191,7 +191,14 @@ MarkIsUnseen = (layout : DiskLayout) (pages : PageMap) (t : TransactionsState) (
     → table < length layout.schema.tables → StandsAt layout pages table spot row → conflicts_with t.tx.first stored o.t row ≡ false
     → sees_row t.tx.first stored p (marked row o.t) ≡ sees_row t.tx.first stored p row
 
--- nor is a put
+-- where a mark is without a conflict, no delete of its row had happened for any of the others
+abbrev pub NoDeleteIsDone : Type 0
+NoDeleteIsDone = (layout : DiskLayout) (pages : PageMap) (t : TransactionsState) (s : DatabaseState) (stored : List Status) (session other table : ℕ) (o p : Open) (spot : Spot) (row : StoredRow)
+    → ShowsDatabase layout pages t s → HasStatuses layout pages stored → transaction_of t.opens session ≡ Some o → transaction_of t.opens other ≡ Some p → other ≢ session
+    → table < length layout.schema.tables → StandsAt layout pages table spot row → conflicts_with t.tx.first stored o.t row ≡ false
+    → has_done p.snapshot p.t row.deleter (given_status t.tx.first stored row.deleter) ≡ false
+
+-- nor is a put seen
 abbrev pub PutIsUnseen : Type 0
 PutIsUnseen = (layout : DiskLayout) (pages : PageMap) (t : TransactionsState) (s : DatabaseState) (stored : List Status) (session other : ℕ) (o p : Open) (row : StoredRow)
     → ShowsDatabase layout pages t s → transaction_of t.opens session ≡ Some o → transaction_of t.opens other ≡ Some p → other ≢ session → row.id.t ≡ o.t

@@ -29,7 +29,7 @@ pub record IsCopyOf (o : Open) (x : OpenTransaction) : Type 0 where
 pub record HaveTransactions (t : TransactionsState) (s : DatabaseState) : Type 0 where
   pub next : s.next ≡ t.tx.next
   pub shown : (session : ℕ) (o : Open) → transaction_of t.opens session ≡ Some o → (x : OpenTransaction) × (map.get s.sessions session ≡ Some x) × IsCopyOf o x
-  pub open : (session : ℕ) (x : OpenTransaction) → map.get s.sessions session ≡ Some x → (o : Open) × (transaction_of t.opens session ≡ Some o) × IsCopyOf o x
+  pub opened : (session : ℕ) (x : OpenTransaction) → map.get s.sessions session ≡ Some x → (o : Open) × (transaction_of t.opens session ≡ Some o) × IsCopyOf o x
   pub none : (session : ℕ) → transaction_of t.opens session ≡ None → map.get s.sessions session ≡ None
   pub idle : (session : ℕ) → map.get s.sessions session ≡ None → transaction_of t.opens session ≡ None
   pub stands : (session : ℕ) → standing_of (map.get s.sessions session) ≡ open_standing (transaction_of t.opens session)

@@ -1,7 +1,7 @@
 //! How pages, numbers and open transactions show a database. Each law is a fact of every layout and of all pages and states, and
 //! stands in specs/Laws.antt.
 
-ghost use Rattle.transactions.specs.Laws.{BeginCounts, BeginIsUnseen, CommitCounts, ConflictIsShown, CopyIsSeen, CopyStands, EndIsUnseen, FailureCounts, FailureIsShown, FoundIsShown, IdsDiffer, IsOneDatabase, LookIsShown, MarkIsShown, MarkIsUnseen, OthersAreApart, PutCounts, PutIsShown, PutIsUnseen, RefusalIsFailure, RollbackCounts, RowIsOfTransactions, SeenRowCounts, SessionsAreShown, ShowAlike};
+ghost use Rattle.transactions.specs.Laws.{BeginCounts, BeginIsUnseen, CommitCounts, ConflictIsShown, CopyIsSeen, CopyStands, EndIsUnseen, FailureCounts, FailureIsShown, FoundIsShown, IdsDiffer, IsOneDatabase, LookIsShown, MarkIsShown, MarkIsUnseen, NoDeleteIsDone, OthersAreApart, PutCounts, PutIsShown, PutIsUnseen, RefusalIsFailure, RollbackCounts, RowIsOfTransactions, SeenRowCounts, SessionsAreShown, ShowAlike};
 
 /// Two databases that the same pages and transactions show are one.
 pub fn one_database()
@@ -82,6 +82,7 @@ pub fn others_see_alike()
     ensures ended { EndIsUnseen }
     ensures apart { OthersAreApart }
     ensures marked { MarkIsUnseen }
+    ensures unmarked { NoDeleteIsDone }
     ensures put { PutIsUnseen }
 {}
 
