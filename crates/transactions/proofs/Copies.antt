@@ -114,7 +114,7 @@ passes p None row e = absurd (cc)
 passes p (Some v) row e = go (p v) refl e
   where
     go : (b : Bool) → p v ≡ b → its_row (cond b (Some v) None) ≡ Some row → (w : Version) × (Some v ≡ Some w) × (w.row ≡ row) × (p w ≡ true)
-    go true yes e = (v, refl, (let same : v.row ≡ row = cc in same), yes)
+    go true so e = (v, refl, (let same : v.row ≡ row = cc in same), so)
     go false not_so e = absurd (cc)
 
 -- the version of a row of a copy

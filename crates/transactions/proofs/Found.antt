@@ -229,6 +229,7 @@ pick : List Version → Row → Version
 pick vs r = version_in (stored vs r.id) r
 
 picked : (vs : List Version) (p : Version → Bool) (r : Row) (has : HasVersion vs p r) → pick vs r ≡ has.version
+unfolding pick version_in
 picked vs p r has = ap (λ (o : Option Version). version_in o r) has.there
 
 abbrev picks : List Version → List Row → List Version
@@ -281,7 +282,7 @@ filtered p None v e = absurd (cc)
 filtered p (Some w) v e = go (p w) refl e
   where
     go : (b : Bool) → p w ≡ b → cond b (Some w) None ≡ Some v → (Some w ≡ Some v) × (p v ≡ true)
-    go true yes e = let same : w ≡ v = cc in (e, ap p (sym same) ∙ yes)
+    go true so e = let same : w ≡ v = cc in (e, ap p (sym same) ∙ so)
     go false not_so e = absurd (cc)
 
 -- rows in order of their ids, of which each has a version that passes, and which are all of them
