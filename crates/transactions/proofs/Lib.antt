@@ -12,3 +12,4 @@ pub mod Others
 pub mod Found
 pub mod Scans
 pub mod Calls
+pub mod Openings

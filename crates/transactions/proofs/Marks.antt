@@ -119,7 +119,7 @@ mark_shown layout old new t s session table o spot row marking marks =
     let same = statuses_stay old new table marks.others in (
       _,
       ap (λ (s : DatabaseState). model.effect s (request_entry session table (requests.Mark row.id))) (sym shows.database)
-      ∙ free_effect vs ws gs t.opens session table o v (whole shows) marking.opened there sees free puts,
+          ∙ free_effect vs ws gs t.opens session table o v (whole shows) marking.opened there sees free puts,
       record {
         stored = shows.stored;
         has = statuses_kept layout old new shows.stored same shows.has;
@@ -153,7 +153,7 @@ conflict_shown layout pages t s session table o spot row marking stands =
     let now = set t.opens session (Some (failed_open o)) in (
       _,
       ap (λ (s : DatabaseState). model.effect s (request_entry session table (requests.Mark row.id))) (sym shows.database)
-      ∙ conflict_effect vs gs t.opens session table o v (whole shows) marking.opened there sees conflict
-      ∙ ap (λ (s : DatabaseState). (s, model.Conflict row.id)) (sym (failed_state vs gs t.opens now session o (failing t session o marking.opened))),
+          ∙ conflict_effect vs gs t.opens session table o v (whole shows) marking.opened there sees conflict
+          ∙ ap (λ (s : DatabaseState). (s, model.Conflict row.id)) (sym (failed_state vs gs t.opens now session o (failing t session o marking.opened))),
       shows_failed layout pages t s session o shows marking.opened,
     )

@@ -1,7 +1,7 @@
 //! How pages, numbers and open transactions show a database. Each law is a fact of every layout and of all pages and states, and
 //! stands in specs/Laws.antt.
 
-ghost use Rattle.transactions.specs.Laws.{BeginCounts, BeginIsUnseen, CommitCounts, ConflictIsShown, CopyIsSeen, CopyStands, EndIsUnseen, FailureCounts, FailureIsShown, FoundIsShown, IdsDiffer, IsOneDatabase, LookIsShown, MarkIsShown, MarkIsUnseen, NoDeleteIsDone, OthersAreApart, PutCounts, PutIsShown, PutIsUnseen, RefusalIsFailure, RollbackCounts, RowIsOfTransactions, SeenRowCounts, SessionsAreShown, ShowAlike};
+ghost use Rattle.transactions.specs.Laws.{BeginCounts, BeginIsUnseen, CommitCounts, ConflictIsShown, CopyIsSeen, CopyStands, EndIsUnseen, FailureCounts, FailureIsShown, FoundIsShown, IdsDiffer, IsOneDatabase, LookIsShown, MarkIsShown, MarkIsUnseen, NewIsShown, NoDeleteIsDone, OpeningIsShown, OthersAreApart, PutCounts, PutIsShown, PutIsUnseen, RefusalIsFailure, RollbackCounts, RowIsOfTransactions, SeenRowCounts, SessionsAreShown, ShowAlike};
 
 /// Two databases that the same pages and transactions show are one.
 pub fn one_database()
@@ -95,4 +95,15 @@ pub fn rows_found_are_what_stands()
 /// A look is answered the rows that the query finds in the copy, and changes nothing.
 pub fn a_look_is_shown()
     ensures { LookIsShown }
+{}
+
+/// What the pages showed before a stop they show to the transactions that are started over them: what was committed. Each
+/// transaction that was under way has ended, and its rows and deletes are void.
+pub fn an_opening_ends_all()
+    ensures { OpeningIsShown }
+{}
+
+/// The pages of a store that was formatted show a new database.
+pub fn a_new_store_shows_nothing()
+    ensures { NewIsShown }
 {}
