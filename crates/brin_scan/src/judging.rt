@@ -1,6 +1,7 @@
 //! How a scan judges the ranges of its table's indexes.
 
-ghost use Rattle.std.specs.Prelude.{◌≡◌, ◌<◌, ◌≤◌, ℕ, Bool, true, false, All, List, length, IfOk, IfErr, OnOk, OnErr};
+ghost use Rattle.std.specs.Prelude.{◌≡◌, ◌<◌, ◌≤◌, ℕ, Bool, true, false, All, List, length, replicate, IfOk, IfErr, OnOk, OnErr};
+ghost use Rattle.std.specs.Box.{boxed_slice_items};
 ghost use Rattle.block_model.specs.declared.limits.TheConstants.{MAX_CONDITIONS};
 ghost use Rattle.block_model.specs.declared.row.Query.{Query as AnyQuery};
 ghost use Rattle.logged_pages.specs.Survives.{Survives};
@@ -66,21 +67,28 @@ impl Model for Judging {
 }
 
 impl Judging {
-    /// Before the first step. Takes all the memory that judging ever needs.
-    pub(crate) fn new(alloc: Global, query: Query, layout: &Layout) -> Result<Judging, NoMemory>
+    /// Before the first step. Takes all the memory that judging ever needs; where there isn't as much the query comes back.
+    pub(crate) fn new(alloc: Global, query: Query, layout: &Layout) -> Result<Judging, Query>
         ensures begins { IfOk result (λ judging. judging ≡ first_hand layout.now query) }
+        ensures back { IfErr result (λ back. back ≡ query) }
     {
-        let readers = readers_of(alloc, layout, query.table)?;
-        let copied = Scratch::new(alloc)?;
+        let Ok(readers) = readers_of(alloc, layout, query.table) else {
+            return Err(query);
+        };
+        let Ok(copied) = Scratch::new(alloc) else {
+            return Err(query);
+        };
         let blocks = layout.sizes().heap_blocks as usize;
-        let candidates = vec![in alloc; false; blocks]?;
+        let Ok(candidates) = no_candidates(alloc, blocks) else {
+            return Err(query);
+        };
         Ok(Judging {
             query,
             readers,
             copied,
             stage: Stage::Extent,
             extent: 0,
-            candidates: candidates.into_boxed_slice(),
+            candidates,
         })
     }
 
@@ -96,6 +104,14 @@ impl Judging {
         ensures { result.now ≡ self.now.query }
     {
         &self.query
+    }
+
+    /// The query, where the judging is over. Takes no memory.
+    pub(crate) fn into_query(self) -> Query
+        ensures { result ≡ self.query }
+    {
+        let Judging { query, .. } = self;
+        query
     }
 
     /// The stage that it is at.
@@ -156,6 +172,14 @@ impl Judging {
             Err(fault) => Err(fault),
         }
     }
+}
+
+/// Of so many blocks none is a candidate.
+pub(crate) fn no_candidates(alloc: Global, blocks: usize) -> Result<BoxedSlice<bool>, NoMemory>
+    ensures { IfOk result (λ candidates. boxed_slice_items candidates ≡ replicate blocks false) }
+{
+    let candidates = vec![in alloc; false; blocks]?;
+    Ok(candidates.into_boxed_slice())
 }
 
 /// The next step at this stage, with the extent and the stage after it.

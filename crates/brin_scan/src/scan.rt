@@ -1,7 +1,9 @@
 //! The scan of a select or a delete.
 
-ghost use Rattle.std.specs.Prelude.{◌≡◌, ◌⊎◌, ◌<◌, ◌≤◌, ◌^◌, ◌++◌, ◌∷◌, [], ℕ, None, Some, length, take, IfErr, IfOk, OnOk, OnErr};
+ghost use Rattle.std.specs.Prelude.{◌≡◌, ◌⊎◌, ◌<◌, ◌≤◌, ◌^◌, ◌++◌, ◌∷◌, [], ℕ, All, None, Some, length, take, IfErr, IfOk, OnOk, OnErr};
 ghost use Rattle.std.specs.List.{list_all};
+ghost use Rattle.block_model.specs.declared.place.Spot.{Spot as AnySpot};
+ghost use Rattle.block_model.specs.declared.row.Row.{Row as AnyRow};
 ghost use Rattle.block_model.specs.RowMatches.{column_matches, row_matches};
 ghost use Rattle.logged_pages.specs.Survives.{Survives};
 ghost use Rattle.page_store.specs.Keeps.{Keeps, Tells, Untold};
@@ -17,7 +19,7 @@ use crate::explain::point_at;
 use crate::judging::Judging;
 use crate::sight::{LastStatuses, is_visible};
 use crate::stage::Stage;
-use block_model::{Cond, NoMemory, Query, Row, Spot, Value, matches};
+use block_model::{Cond, Query, Row, Spot, Value, matches};
 use disk_trait::Disk;
 use engine_pages::PageStore;
 use heap_rows::{PageRows, Stored, rows_of};
@@ -56,14 +58,20 @@ impl Model for Scan {
 
 impl Scan {
     /// Before the first step of a scan for a query of a table of the layout. Takes all the memory that it needs but that of the rows which it
-    /// finds.
-    pub fn new(alloc: Global, query: Query, layout: &Layout) -> Result<Scan, NoMemory>
+    /// finds; where there isn't as much the query comes back.
+    pub fn new(alloc: Global, query: Query, layout: &Layout) -> Result<Scan, Query>
         requires table { query.table < length layout.now.schema.tables }
         ensures begins { IfOk result (λ scan. scan ≡ first_find (first_hand layout.now query) (slots_a_page layout.now query.table)) }
+        ensures back { IfErr result (λ back. back ≡ query) }
     {
         let table = usize::from(query.table);
-        let judging = Judging::new(alloc, query, layout)?;
-        let rows = PageRows::new(alloc, &layout.schema().tables.as_slice()[table])?;
+        let Ok(rows) = PageRows::new(alloc, &layout.schema().tables.as_slice()[table]) else {
+            return Err(query);
+        };
+        let judging = match Judging::new(alloc, query, layout) {
+            Ok(judging) => judging,
+            Err(query) => return Err(query),
+        };
         Ok(Scan {
             judging,
             rows,
@@ -74,9 +82,11 @@ impl Scan {
         })
     }
 
-    /// Does nothing; tells its caller that each row is found once, in the order of the places, and what holds of the judging of its ranges.
+    /// Does nothing; tells its caller that each row is found once, in the order of the places, and in a block that the table may have; and what
+    /// holds of the judging of its ranges.
     pub fn known(&self)
         ensures order { Ascend 0 0 self.now.found }
+        ensures within { All (λ (f : AnyRow × AnySpot). f.1.block < length self.now.judging.candidates) self.now.found }
         ensures hand { IsHand self.now.judging }
     {
         self.judging.known();
@@ -212,6 +222,22 @@ impl Scan {
         ensures { result.now ≡ self.now.found }
     {
         self.found.as_slice()
+    }
+
+    /// The query, and the rows found, with their places, in the order of these. Takes no memory.
+    pub fn into_parts(self) -> (Query, Vec<(Row, Spot)>)
+        ensures { (result.0 ≡ self.judging.query) × (result.1.items ≡ self.found) }
+    {
+        let Scan { judging, found, .. } = self;
+        (judging.into_query(), found)
+    }
+
+    /// The query alone. Takes no memory.
+    pub fn into_query(self) -> Query
+        ensures { result ≡ self.judging.query }
+    {
+        let Scan { judging, .. } = self;
+        judging.into_query()
     }
 }
 
