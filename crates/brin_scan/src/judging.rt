@@ -13,6 +13,7 @@ ghost use Rattle.index_steps.specs.Readings.{IsMisread};
 ghost use Rattle.index_steps.specs.SwapAnswers.{FaultNamesPageOf};
 ghost use Rattle.brin_scan.specs.IndexReaders.{all_scanned, hand_at, scanned};
 ghost use Rattle.brin_scan.specs.Judgings.{SaysOfRange};
+ghost use Rattle.brin_scan.specs.LooksAhead.{ComesTo};
 ghost use Rattle.brin_scan.specs.ScanHands.{IsAtRange, IsBegunAt, IsHand, IsJudging, IsScanOf, first_hand, scanned_indexes};
 ghost use Rattle.brin_scan.specs.ScanAnswers.{IsDamagedAt, NamesPageAt, ReadOutcome};
 ghost use Rattle.brin_scan.specs.ScanSteps.{JudgesTo};
@@ -126,7 +127,7 @@ impl Judging {
         ensures yes { result ≡ true → self.now.stage ≡ Stage.Judged }
         ensures no { result ≡ false → IsJudging self.now.stage }
     {
-        matches!(self.stage, Stage::Judged)
+        is_judged(self.stage)
     }
 
     /// Of each block that the table may have, whether it is a candidate.
@@ -172,9 +173,52 @@ impl Judging {
             Err(fault) => Err(fault),
         }
     }
+
+    /// Whether all ranges are judged after the next step; `ahead` becomes the candidates that there are then. Changes nothing else, and takes no
+    /// memory.
+    pub(crate) fn peek<D: Disk + Drop>(
+        &mut self,
+        pages: &mut PageStore<D>,
+        ahead: &mut [bool],
+    ) -> Result<bool, MachineFault>
+        requires scan { IsScanOf pages.old.layout self.old }
+        requires work { IsJudging self.old.stage }
+        requires room { length ahead.old ≡ length self.old.candidates }
+        ensures comes { IfOk result (λ all. Tells D.told pages.old → ComesTo pages.old.layout pages.old.pages self.old ahead.new all) }
+        ensures room { length ahead.new ≡ length ahead.old }
+        ensures same { self.new ≡ self.old }
+        ensures kept { Keeps D.told pages.old pages.new }
+        ensures survives { Survives D.told (λ passed. passed ≡ pages.old.pages) pages.old pages.new }
+        ensures names { IfErr result (NamesPageAt pages.old.layout self.old.indexes self.old.stage) }
+        ensures outcome { ReadOutcome D.told (Tells D.told pages.old → IsDamagedAt pages.old.layout pages.old.pages self.old.indexes self.old.stage) pages.old pages.new result }
+    {
+        let (extent, stage) = (self.extent, self.stage);
+        ahead.copy_from_slice(&self.candidates);
+        let stage = match judge(
+            pages,
+            &self.query,
+            extent,
+            stage,
+            &mut self.readers,
+            ahead,
+            &mut self.copied,
+        ) {
+            Ok((_, stage)) => stage,
+            Err(fault) => return Err(fault),
+        };
+        Ok(is_judged(stage))
+    }
 }
 
-/// Of so many blocks none is a candidate.
+/// Whether no range is left to judge at this stage.
+fn is_judged(stage: Stage) -> bool
+    ensures yes { result ≡ true → stage ≡ Stage.Judged }
+    ensures no { result ≡ false → IsJudging stage }
+{
+    matches!(stage, Stage::Judged)
+}
+
+/// Of so many blocks none is a candidate. Takes the memory of them.
 pub(crate) fn no_candidates(alloc: Global, blocks: usize) -> Result<BoxedSlice<bool>, NoMemory>
     ensures { IfOk result (λ candidates. boxed_slice_items candidates ≡ replicate blocks false) }
 {
