@@ -1,6 +1,7 @@
 use Rattle.std.proofs.Common.{◌≡◌, ◌≢◌, ℕ, List, [], ◌∷◌, Option, Some, refl, sym, ap, subst, ◌∙◌, arith}
 use Rattle.block_model.specs.declared.place.Place.{Place}
 use Rattle.store_layout.specs.DiskLayout.{DiskLayout}
+use Rattle.page_store.specs.declared.faults.StoreError.{StoreError}
 use Rattle.page_store.specs.PageMap.{PageMap}
 use Rattle.page_locks.specs.LockChanges.{IsFirstHeld, TakesAll}
 use Rattle.page_locks.specs.LockHolders.{holder}
@@ -8,6 +9,7 @@ use Rattle.coverage.specs.IndexView.{map_page_of}
 use Rattle.engine_pages.specs.SurvivesLaws.{survives_still}
 use Rattle.index_contents.specs.IndexContents.{contents, relation_of}
 use Rattle.index_steps.specs.IndexTuples.{shape_of}
+use Rattle.index_steps.specs.Readings.{NamesPageOf}
 use Rattle.index_steps.specs.LockLaws.{few_more, gives_apart, takes_apart}
 use Rattle.brin_desummarise.proofs.Faults.{names_map}
 use Rattle.brin_desummarise.proofs.Locking.{leaves_then, takes_then}
@@ -92,7 +94,9 @@ pub returns-in-Err-Changed-clause-own : goal.returns-in-Err-Changed-clause-own
 returns-in-Err-Changed-clause-own g c = λ few. let none = c.drop_all.ensures.none in omega (arith, none)
 
 pub returns-in-Err-Store-clause-at : goal.returns-in-Err-Store-clause-at
-returns-in-Err-Store-clause-at g c = names_map c.args.pages.now.layout c.args.at.index c.args.at.range c.in-Err-Store.error (rw c.in-Err-Store.field-0-is at c.in-Err-Store.ensures.at)
+returns-in-Err-Store-clause-at g c =
+    subst (λ (e : StoreError). NamesPageOf c.args.pages.now.layout c.args.at.index e) (sym c.in-Err-Store.error-is)
+    (names_map c.args.pages.now.layout c.args.at.index c.args.at.range c.in-Err-Store.error (rw c.in-Err-Store.field-0-is at c.in-Err-Store.ensures.at))
 
 pub returns-in-Err-clause-survives : goal.returns-in-Err-clause-survives
 returns-in-Err-clause-survives g c = survives_still g.D.Disk.told c.args.pages.now c.ready.ensures.stays
