@@ -1,5 +1,5 @@
 -- the page at which damage is told
-use Rattle.std.proofs.Common.{◌≡◌, inl, inr, ℕ, ◌<◌}
+use Rattle.std.proofs.Common.{inl, inr, ℕ}
 use Rattle.std.proofs.lemmas.Bool.{cases_lt}
 use Rattle.store_layout.specs.DiskLayout.{DiskLayout}
 use Rattle.page_store.specs.declared.faults.StoreError.{StoreError}

@@ -3,11 +3,9 @@ use Rattle.std.proofs.Common.{◌≡◌, ◌≢◌, inl, inr, ℕ, suc, ◌+◌,
 use Rattle.std.specs.Prelude.{slice_get}
 use Rattle.std.proofs.lemmas.Bool.{cases_eq}
 use Rattle.std.proofs.lemmas.Option.{slice_get_within}
-use Rattle.block_model.specs.declared.reply.Point.{Point}
 use Rattle.block_model.specs.declared.reply.Point.TheVariants as points
 use Rattle.page_locks.specs.declared.did.Did.{Did}
 use Rattle.page_locks.specs.declared.did.Did.TheVariants as did
-use Rattle.page_locks.specs.declared.held.Held.{Held}
 use Rattle.page_locks.specs.RightHolders.{right_of}
 use Rattle.table_coverage.specs.Accounts.{Account, no_account}
 use Rattle.table_coverage.specs.InOneIndex.{DoesAt, with_ranges}
@@ -15,7 +13,7 @@ use Rattle.table_coverage.specs.Machines.{ShownTable, Unseen, table_state, task_
 use Rattle.table_coverage.specs.Table.{Considers, Desummarising, Maintains, Resting, Task, TableState, index_view_at}
 use Rattle.table_coverage.specs.TableCovered.{IsMaintenance, IsTableKept}
 use Rattle.table_coverage.specs.TablePoints.{PageLock, waits_for}
-use Rattle.table_coverage.specs.TableSteps.{Desummarize, DesummariseWaits, Does, IsBlocked, SameRows, Settles, SummariseLockHeld, TakesLock, TaskTurns}
+use Rattle.table_coverage.specs.TableSteps.{Desummarize, DesummariseWaits, IsBlocked, SameRows, Settles, SummariseLockHeld, TakesLock, TaskTurns}
 use Rattle.index_steps.specs.ShownTable.{indexes_of}
 use Rattle.brin_desummarise.specs.declared.stage.Stage.{Stage}
 use Rattle.brin_desummarise.specs.declared.stage.Stage.TheVariants as stages
@@ -155,9 +153,9 @@ module _ (goes : MaintainGoes) (completes : MaintainCompletes) (knows : Maintain
           let at_range : u.task s ≡ Maintains (Desummarising range) at range (phase_at before) = task ∙ task_is at range before work in (
             Maintains (Desummarising range) at range (phase_at after),
             subst (λ (account : Account → Account). DoesAt s (table_state old u) (table_state new (lock_turned (Some s) (task_turned s (Maintains (Desummarising range) at range (phase_at after)) u))) point account) (sym (account_is before steps.0.0 work))
-            (goes_there goes completes knows here others step n range at there before u at_range kept rest after point steps.0.0 steps.0.1 steps.1),
+                (goes_there goes completes knows here others step n range at there before u at_range kept rest after point steps.0.0 steps.0.1 steps.1),
             subst (λ (t : Task). Settles s (table_state new (lock_turned (Some s) (task_turned s (Maintains (Desummarising range) at range (phase_at after)) u))) (table_state new (lock_turned (Some s) (task_turned s t u)))) (sym (task_is at range after steps.1))
-            (stays_there s new u (Some s) at range (phase_at after)),
+                (stays_there s new u (Some s) at range (phase_at after)),
           ),
     )
     works before after (did.Finished point) work steps = (
@@ -167,9 +165,9 @@ module _ (goes : MaintainGoes) (completes : MaintainCompletes) (knows : Maintain
           let at_range : u.task s ≡ Maintains (Desummarising range) at range (phase_at before) = task ∙ task_is at range before work in (
             Considers (Desummarising range) at (suc range),
             subst (λ (account : Account → Account). DoesAt s (table_state old u) (table_state new (lock_turned (Some s) (task_turned s (Considers (Desummarising range) at (suc range)) u))) point account) (sym (account_is before steps.0.0 work))
-            (ends_there goes completes knows here others step n range at there before u at_range kept rest after point steps.0.0 steps.0.1 steps.1),
+                (ends_there goes completes knows here others step n range at there before u at_range kept rest after point steps.0.0 steps.0.1 steps.1),
             subst (λ (t : Task). Settles s (table_state new (lock_turned (Some s) (task_turned s (Considers (Desummarising range) at (suc range)) u))) (table_state new (lock_turned None (task_turned s t u)))) (sym (task_rests at range after steps.1))
-            (replies s new u (Some s) at range),
+                (replies s new u (Some s) at range),
           ),
     )
     works before after (did.Blocked held) work steps = (

@@ -1,5 +1,5 @@
 -- locks that are taken and given in one step
-use Rattle.std.proofs.Common.{◌≡◌, ◌≢◌, ◌⊎◌, ℕ, ◌+◌, ◌≤◌, Option, Some, refl, sym, ◌∙◌, arith}
+use Rattle.std.proofs.Common.{◌≡◌, ℕ, Option, sym, ◌∙◌, arith}
 use Rattle.block_model.specs.declared.place.Place.{Place}
 use Rattle.page_locks.specs.LockCounts.{AddsAtMost}
 use Rattle.page_locks.specs.LockHolders.{LockState}
@@ -9,7 +9,7 @@ use Rattle.index_steps.specs.SwapAnswers.{LeavesLocks, TakesAtMost}
 pub leaves_then : (h k l : Place → Option ℕ) (relation s : ℕ) → LeavesLocks h k relation s → LeavesLocks k l relation s → LeavesLocks h l relation s
 leaves_then h k l relation s first second = record {
   elsewhere = λ page other none. let same : k page ≡ h page = first.elsewhere page other none in
-  second.elsewhere page other (λ held. none (sym same ∙ held)) ∙ same;
+      second.elsewhere page other (λ held. none (sym same ∙ held)) ∙ same;
   others = λ page n other. (λ is. (first.others page n other).0 ((second.others page n other).0 is), λ is. (second.others page n other).1 ((first.others page n other).1 is));
 }
 

@@ -86,7 +86,7 @@ module _ (shape : IndexShape) (s range : ℕ) (c d : IndexContents) where
           1,
           (λ w shows knows building loose. (
             Clear x (ClearFits (free w shows) (free_map w shows) (shows.entry range ∙ sets.entry.was)) (clears_entry sets w shows building loose)
-            (takes_these relation s h k these w.lock (λ page. shows.lock page) takes knows.1.0),
+                (takes_these relation s h k these w.lock (λ page. shows.lock page) takes knows.1.0),
             refl,
             refl,
           )),
@@ -123,8 +123,7 @@ module _ (shape : IndexShape) (s range : ℕ) (c d : IndexContents) where
         -- it names another spot or none, and the locks are given
         pub is_lost : d ≡ c → c.entry range ≢ Some x → Stepped shape s range (at_stage c (lock_by h) (stages.Clear x)) (at_stage d (lock_by l) stages.Map) (did.Moved points.Again)
         is_lost same other =
-            subst (λ (e : IndexContents). Stepped shape s range (at_stage c (lock_by h) (stages.Clear x)) (at_stage e (lock_by l) stages.Map) (did.Moved points.Again)) (sym same)
-            (
+            subst (λ (e : IndexContents). Stepped shape s range (at_stage c (lock_by h) (stages.Clear x)) (at_stage e (lock_by l) stages.Map) (did.Moved points.Again)) (sym same) (
               (
                 0,
                 (λ w shows knows building loose. (

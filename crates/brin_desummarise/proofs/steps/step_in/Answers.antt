@@ -23,7 +23,7 @@ pub returns-in-Ok-clause-right : goal.returns-in-Ok-clause-right
 returns-in-Ok-clause-right g c = subst (λ (q : Stage). RightAnswers (table_of c.args.pages.now.layout c.args.at.index) c.args.at.actor c.args.rights.now c.take_right.new.rights q c.in-Ok.done.1) (sym c.in-Right.is) c.in-Ok.ensures.right
 
 pub returns-in-Ok-clause-own : goal.returns-in-Ok-clause-own
-returns-in-Ok-clause-own g c = 
+returns-in-Ok-clause-own g c =
     subst (λ (q : Stage). locks_of c.args.locks.now c.args.at.actor ≤ held_at q → locks_of c.args.locks.now c.args.at.actor ≤ held_at c.in-Ok.done.0) (sym c.in-Right.is)
     (λ few. let none = c.in-Ok.ensures.own in omega (arith, few, none))
 
@@ -31,7 +31,7 @@ pub returns-in-Ok-clause-given : goal.returns-in-Ok-clause-given
 returns-in-Ok-clause-given g c = subst (λ (q : Stage). GivesAt q → locks_of c.args.locks.now c.args.at.actor ≡ 0) (sym c.in-Right.is) (λ never. absurd never)
 
 pub returns-in-Ok-clause-undamaged : goal.returns-in-Ok-clause-undamaged
-returns-in-Ok-clause-undamaged g c = 
+returns-in-Ok-clause-undamaged g c =
     subst (λ (q : Stage). Tells g.D.Disk.told c.args.pages.now → DamageAt c.args.pages.now.layout c.args.pages.now.pages c.args.at.index c.args.at.range q → ⊥) (sym c.in-Right.is) (λ tells damage. damage)
 
 pub returns-in-Ok-clause-counts : goal.returns-in-Ok-clause-counts
@@ -64,7 +64,7 @@ pub returns-in-Ok-look-clause-right : goal.returns-in-Ok-look-clause-right
 returns-in-Ok-look-clause-right g c = subst (λ (q : Stage). RightAnswers (table_of c.args.pages.now.layout c.args.at.index) c.args.at.actor c.args.rights.now c.args.rights.now q c.in-Ok-look.done.1) (sym c.in-Map.is) refl
 
 pub returns-in-Ok-look-clause-own : goal.returns-in-Ok-look-clause-own
-returns-in-Ok-look-clause-own g c = 
+returns-in-Ok-look-clause-own g c =
     subst (λ (q : Stage). locks_of c.args.locks.now c.args.at.actor ≤ held_at q → locks_of c.args.locks.now c.args.at.actor ≤ held_at c.in-Ok-look.done.0) (sym c.in-Map.is)
     (λ few. let none = c.in-Ok-look.ensures.own in omega (arith, few, none))
 
@@ -72,7 +72,7 @@ pub returns-in-Ok-look-clause-given : goal.returns-in-Ok-look-clause-given
 returns-in-Ok-look-clause-given g c = subst (λ (q : Stage). GivesAt q → locks_of c.args.locks.now c.args.at.actor ≡ 0) (sym c.in-Map.is) (λ never. absurd never)
 
 pub returns-in-Ok-look-clause-undamaged : goal.returns-in-Ok-look-clause-undamaged
-returns-in-Ok-look-clause-undamaged g c = 
+returns-in-Ok-look-clause-undamaged g c =
     subst (λ (q : Stage). Tells g.D.Disk.told c.args.pages.now → DamageAt c.args.pages.now.layout c.args.pages.now.pages c.args.at.index c.args.at.range q → ⊥) (sym c.in-Map.is) c.in-Ok-look.ensures.undamaged
 
 pub returns-in-Ok-look-clause-counts : goal.returns-in-Ok-look-clause-counts
@@ -105,7 +105,7 @@ pub returns-in-Ok-clear-clause-right : goal.returns-in-Ok-clear-clause-right
 returns-in-Ok-clear-clause-right g c = subst (λ (q : Stage). RightAnswers (table_of c.args.pages.now.layout c.args.at.index) c.args.at.actor c.args.rights.now c.args.rights.now q c.in-Ok-clear.done.1) (sym c.in-Clear.is) refl
 
 pub returns-in-Ok-clear-clause-own : goal.returns-in-Ok-clear-clause-own
-returns-in-Ok-clear-clause-own g c = 
+returns-in-Ok-clear-clause-own g c =
     subst (λ (q : Stage). locks_of c.args.locks.now c.args.at.actor ≤ held_at q → locks_of c.clear.new.locks c.args.at.actor ≤ held_at c.in-Ok-clear.done.0) (sym c.in-Clear.is)
     c.in-Ok-clear.ensures.own
 
@@ -113,7 +113,7 @@ pub returns-in-Ok-clear-clause-given : goal.returns-in-Ok-clear-clause-given
 returns-in-Ok-clear-clause-given g c = subst (λ (q : Stage). GivesAt q → locks_of c.clear.new.locks c.args.at.actor ≡ 0) (sym c.in-Clear.is) (λ never. absurd never)
 
 pub returns-in-Ok-clear-clause-undamaged : goal.returns-in-Ok-clear-clause-undamaged
-returns-in-Ok-clear-clause-undamaged g c = 
+returns-in-Ok-clear-clause-undamaged g c =
     subst (λ (q : Stage). Tells g.D.Disk.told c.args.pages.now → DamageAt c.args.pages.now.layout c.args.pages.now.pages c.args.at.index c.args.at.range q → ⊥) (sym c.in-Clear.is) (λ tells damage. damage)
 
 pub returns-in-Ok-clear-clause-counts : goal.returns-in-Ok-clear-clause-counts
@@ -134,7 +134,7 @@ pub returns-in-Ok-drop_cleared-clause-right : goal.returns-in-Ok-drop_cleared-cl
 returns-in-Ok-drop_cleared-clause-right g c = subst (λ (q : Stage). RightAnswers (table_of c.args.pages.now.layout c.args.at.index) c.args.at.actor c.args.rights.now c.args.rights.now q c.in-Ok-drop_cleared.done.1) (sym c.in-Drop.is) refl
 
 pub returns-in-Ok-drop_cleared-clause-own : goal.returns-in-Ok-drop_cleared-clause-own
-returns-in-Ok-drop_cleared-clause-own g c = 
+returns-in-Ok-drop_cleared-clause-own g c =
     subst (λ (q : Stage). locks_of c.args.locks.now c.args.at.actor ≤ held_at q → locks_of c.drop_cleared.new.locks c.args.at.actor ≤ held_at c.in-Ok-drop_cleared.done.0) (sym c.in-Drop.is)
     (λ few. c.in-Ok-drop_cleared.ensures.own)
 
@@ -142,7 +142,7 @@ pub returns-in-Ok-drop_cleared-clause-given : goal.returns-in-Ok-drop_cleared-cl
 returns-in-Ok-drop_cleared-clause-given g c = subst (λ (q : Stage). GivesAt q → locks_of c.drop_cleared.new.locks c.args.at.actor ≡ 0) (sym c.in-Drop.is) (λ gives. c.in-Ok-drop_cleared.ensures.given)
 
 pub returns-in-Ok-drop_cleared-clause-undamaged : goal.returns-in-Ok-drop_cleared-clause-undamaged
-returns-in-Ok-drop_cleared-clause-undamaged g c = 
+returns-in-Ok-drop_cleared-clause-undamaged g c =
     subst (λ (q : Stage). Tells g.D.Disk.told c.args.pages.now → DamageAt c.args.pages.now.layout c.args.pages.now.pages c.args.at.index c.args.at.range q → ⊥) (sym c.in-Drop.is) (λ tells damage. damage)
 
 pub returns-in-Ok-drop_cleared-clause-counts : goal.returns-in-Ok-drop_cleared-clause-counts
