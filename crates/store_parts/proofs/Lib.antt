@@ -11,3 +11,4 @@ pub mod Refusals
 pub mod Undone
 pub mod Leads
 pub mod Opening
+pub mod Maintenance

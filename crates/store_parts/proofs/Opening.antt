@@ -1,5 +1,5 @@
 -- the place that an opened store shows
-use Rattle.std.proofs.Common.{◌≡◌, ℕ, Option, None, Some, refl, sym, subst, ◌∙◌}
+use Rattle.std.proofs.Common.{Option, None, refl, sym, subst, ◌∙◌}
 use Rattle.std.proofs.lemmas.Option.{none-some}
 use Rattle.row_versions.specs.StoredVersions.{transaction_of}
 use Rattle.table_coverage.specs.Accounts.{no_account}

@@ -3,7 +3,6 @@ use Rattle.std.specs.Prelude.{◌≡◌, ◌≢◌, ◌⊎◌, ℕ, ◌<◌, fal
 use Rattle.std.specs.FinMap as finite
 use Rattle.block_model.specs.declared.place.Place.{Place as PagePlace}
 use Rattle.block_model.specs.declared.place.Spot.{Spot}
-use Rattle.block_model.specs.declared.row.Row.{Row}
 use Rattle.block_model.specs.SerialRun.{IsLegal, serial_run}
 use Rattle.store_layout.specs.DiskLayout.{DiskLayout}
 use Rattle.page_layout.specs.PageContents.{Slot}
@@ -24,7 +23,6 @@ use Rattle.transactions.specs.ShowsDatabase.{ShowsDatabase}
 use Rattle.transactions.specs.StoredRows.{StandsAt}
 use Rattle.index_contents.specs.IndexContents.{contents, index_page, relation_of as index_relation}
 use Rattle.table_coverage.specs.Accounts.{Account}
-use Rattle.table_coverage.specs.Table.{TableState}
 use Rattle.index_steps.specs.IndexTuples.{index_at}
 use Rattle.index_steps.specs.ShownIndex.{lock_in}
 use Rattle.index_steps.specs.SwapAnswers.{LeavesLocks}
