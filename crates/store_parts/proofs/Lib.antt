@@ -8,3 +8,7 @@ pub mod Tables
 pub mod Steps
 pub mod Places
 pub mod Refusals
+pub mod Undone
+pub mod Leads
+pub mod Opening
+pub mod Maintenance

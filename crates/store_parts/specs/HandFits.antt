@@ -1,12 +1,11 @@
 -- what a statement in hand needs of its store on any disk
-use Rattle.std.specs.Prelude.{◌≡◌, ◌≢◌, ℕ, ◌+◌, ◌≤◌, ◌<◌, false, All, List, [], length, Option, None, Some, IsSome, vec_capacity}
+use Rattle.std.specs.Prelude.{◌≡◌, ◌≢◌, ℕ, ◌≤◌, ◌<◌, false, All, [], length, Option, None, Some, IsSome, vec_capacity}
 use Rattle.disk_trait.specs.Told.{Told}
 use Rattle.store_layout.specs.DiskLayout.{DiskLayout}
 use Rattle.block_model.specs.declared.row.Query.{Query}
 use Rattle.statements.specs.declared.limits.TheConstants.{MAX_ENTRIES, MAX_SESSIONS}
 use Rattle.page_layout.specs.RowBytes.{HaveKinds}
 use Rattle.page_locks.specs.LockCounts.{locks_of}
-use Rattle.page_locks.specs.LockHolders.{count_of}
 use Rattle.heap_rows.specs.Heaps.{kinds_at}
 use Rattle.row_versions.specs.declared.sessions.Open.{Open}
 use Rattle.row_versions.specs.StoredVersions.{transaction_of}
@@ -23,7 +22,7 @@ use Rattle.store_parts.specs.declared.hand.Hand.{Hand}
 use Rattle.store_parts.specs.declared.hand.Hand.TheVariants as hands
 use Rattle.store_parts.specs.declared.hand.Hit.{Hit}
 use Rattle.store_parts.specs.declared.hand.Marking.{Marking}
-use Rattle.store_parts.specs.declared.limits.TheConstants.{MAX_LOCKS, LOCKS_A_SESSION}
+use Rattle.store_parts.specs.declared.limits.TheConstants.{MAX_LOCKS}
 use Rattle.store_parts.specs.Shares.{share_of}
 use Rattle.store_parts.specs.StoreStates.{StoreState, hand_at}
 

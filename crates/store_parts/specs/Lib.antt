@@ -18,3 +18,6 @@ pub mod RefusalLaws
 pub mod RequestLaws
 pub mod ShareLaws
 pub mod StoreLaws
+pub mod UndoneLaws
+pub mod LeadLaws
+pub mod OpeningLaws

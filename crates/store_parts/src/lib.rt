@@ -8,6 +8,8 @@
 mod faults;
 mod hand;
 mod journal;
+mod laws_leads;
+mod laws_opening;
 mod laws_places;
 mod laws_refusals;
 mod laws_requests;
@@ -15,6 +17,7 @@ mod laws_shares;
 mod laws_steps;
 mod laws_stores;
 mod laws_tables;
+mod laws_undone;
 mod limits;
 mod names;
 mod parts;
@@ -22,6 +25,8 @@ mod parts;
 pub use faults::{Step, StoreFault, fault_of};
 pub use hand::{Hand, Hit, Marking, Stepped};
 pub use journal::Journal;
+pub use laws_leads::{a_request_leads, few_rows_come_to_count, others_see_on};
+pub use laws_opening::an_opened_store_is_shown;
 pub use laws_places::{a_step_is_shown, places_after_a_step};
 pub use laws_refusals::{a_refusal_is_shown, a_refusal_turns};
 pub use laws_requests::{one_more_request, others_copies_stay, requests_are_legal};
@@ -32,6 +37,7 @@ pub use laws_tables::{
     another_table_stays, quiet_statements_lock_nothing, slots_stay_for_others,
     the_own_table_goes_on,
 };
+pub use laws_undone::an_undone_step_changes_nothing;
 pub use limits::{ENTRIES_A_BEGIN, LOCKS_A_SESSION, MAX_LOCKS};
 pub use names::{index_named, lock_waited_for, page_waited_for, spent, table_named};
 pub use parts::Parts;
