@@ -18,6 +18,7 @@ use Rattle.brin_scan.specs.declared.stage.Stage.TheVariants as scan_stages
 use Rattle.brin_summarise.specs.Summarises as summarises
 use Rattle.brin_summarise.specs.Summarises.{IsSummariseOf}
 use Rattle.brin_summarise.specs.declared.course.Standing.TheVariants as standings
+use Rattle.brin_summarise.specs.declared.wish.Wish.TheVariants as wishes
 use Rattle.store_parts.specs.declared.hand.Hand.{Hand}
 use Rattle.store_parts.specs.declared.hand.Hand.TheVariants as hands
 use Rattle.store_parts.specs.declared.hand.Hit.{Hit}
@@ -56,7 +57,7 @@ IsHandFor layout own (hands.Deleting query) = IsUnderWay own × (query.table < l
 IsHandFor layout own (hands.Deletes scan) = IsUnderWay own × IsFindOf layout scan × IsScanning scan.judging.stage scan.next × (scan.judging.stage ≢ scan_stages.Extent)
 IsHandFor layout own (hands.Marks marking) = IsUnderWay own × IsMarkingFor layout marking
 IsHandFor layout own (hands.Explains explain) = IsScanOf layout explain.judging × IsJudging explain.judging.stage
-IsHandFor layout own (hands.Summarises a) = IsSummariseOf layout a × (a.standing ≢ standings.Done)
+IsHandFor layout own (hands.Summarises a) = IsSummariseOf layout a × (a.standing ≢ standings.Done) × (a.wish ≢ wishes.Complete)
 
 abbrev pub FitsHand : DiskLayout → Option Open → Option Hand → Type 0
 FitsHand layout own None = Unit {0}

@@ -21,6 +21,7 @@ use Rattle.store_parts.specs.declared.hand.Marking.{Marking}
 abbrev pub block_of : Wish → Option ℕ
 block_of wishes.New = None
 block_of (wishes.Block block) = Some block
+block_of wishes.Complete = None
 
 -- the statement that it is
 abbrev pub statement_of : Hand → Statement
