@@ -17,7 +17,7 @@ use Rattle.brin_scan.specs.declared.stage.Stage.{Stage}
 use Rattle.brin_scan.specs.Explains.{explaining}
 use Rattle.brin_scan.specs.TableScans as scans
 use Rattle.brin_summarise.specs.declared.course.Standing.{Standing}
-use Rattle.brin_summarise.specs.Summarises.{SummariseState, count_at}
+use Rattle.brin_summarise.specs.Summarises.{count_at}
 use Rattle.brin_summarise.specs.declared.wish.Wish.{Wish}
 use Rattle.brin_summarise.specs.declared.wish.Wish.TheVariants as wishes
 use Rattle.brin_summarise.specs.TableSteps as summarises
