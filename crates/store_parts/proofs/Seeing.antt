@@ -120,8 +120,8 @@ marks_go_on blocks now marking task rows at = record {
   stand = All-weaker (λ (h : Hit). (row : StoredRow) × (slot_at blocks h.spot ≡ Some row) × (row.id ≡ h.id) × IsTrue (at.scan.sees h.spot.block h.spot.slot))
       (λ (h : Hit). (row : StoredRow) × (slot_at now h.spot ≡ Some row) × (row.id ≡ h.id) × IsTrue (at.scan.sees h.spot.block h.spot.slot))
       (λ h stood.
-          let stays = rows h.spot stood.0 (subst (SeesPlace h.spot.block h.spot.slot) (sym at.task_is) stood.3) stood.1 in
-          (stays.0, stays.1, stays.2 ∙ stood.2, stood.3)) (hits_left marking) at.stand;
+      let stays = rows h.spot stood.0 (subst (SeesPlace h.spot.block h.spot.slot) (sym at.task_is) stood.3) stood.1 in
+      (stays.0, stays.1, stays.2 ∙ stood.2, stood.3)) (hits_left marking) at.stand;
 }
 
 -- what holds in its own table may change
