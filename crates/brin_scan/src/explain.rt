@@ -1,6 +1,6 @@
 //! An explain.
 
-ghost use Rattle.std.specs.Prelude.{◌≡◌, ◌+◌, ◌<◌, ◌≤◌, ◌^◌, ◌++◌, [], ◌∷◌, if◌then◌else◌, length, vec_capacity, IfOk, IfErr, OnOk, OnErr};
+ghost use Rattle.std.specs.Prelude.{◌≡◌, ◌≢◌, ◌+◌, ◌<◌, ◌≤◌, ◌^◌, ◌++◌, [], ◌∷◌, if◌then◌else◌, length, vec_capacity, IfOk, IfErr, OnOk, OnErr};
 ghost use Rattle.logged_pages.specs.Survives.{Survives};
 ghost use Rattle.page_store.specs.Keeps.{Keeps, Tells};
 ghost use Rattle.brin_scan.specs.Explains.{ExplainSteps, IsPointOf, ListsBlocks, candidate_blocks};
@@ -44,10 +44,12 @@ impl Explain {
     pub fn new(alloc: Global, query: Query, layout: &Layout) -> Result<Explain, NoMemory>
         ensures begins { IfOk result (λ explain. explain ≡ record { judging = first_hand layout.now query; blocks = [] }) }
     {
-        let judging = Judging::new(alloc, query, layout)?;
         let room = layout.sizes().heap_blocks as usize;
         let blocks = Vec::with_capacity(alloc, room)?;
-        Ok(Explain { judging, blocks })
+        match Judging::new(alloc, query, layout) {
+            Ok(judging) => Ok(Explain { judging, blocks }),
+            Err(_) => Err(NoMemory),
+        }
     }
 
     /// Does nothing; tells its caller what holds of the judging of its ranges.
@@ -70,6 +72,7 @@ impl Explain {
         requires work { IsJudging self.old.judging.stage }
         ensures stepped { IfOk result (λ did. Tells D.told pages.old → ExplainSteps pages.old.layout pages.old.pages self.old.judging self.new.judging did) }
         ensures point { IfOk result (IsPointOf self.old.judging.stage self.new.judging.stage) }
+        ensures begun { OnOk result (self.new.judging.stage ≢ Stage.Extent) }
         ensures blocks { IfOk result (ListsBlocks self.old self.new) }
         ensures scan { IsScanOf pages.old.layout self.new.judging }
         ensures query { self.new.judging.query ≡ self.old.judging.query }
@@ -99,6 +102,14 @@ impl Explain {
         ensures { result.now ≡ self.now.blocks }
     {
         self.blocks.as_slice()
+    }
+
+    /// The candidate blocks, in ascending order; none before the last step. Takes no memory.
+    pub fn into_blocks(self) -> Vec<u32>
+        ensures { result.items ≡ self.blocks }
+    {
+        let Explain { blocks, .. } = self;
+        blocks
     }
 }
 

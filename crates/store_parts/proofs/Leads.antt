@@ -1,17 +1,15 @@
 -- what requests and changes of transactions lead to
-use Rattle.std.proofs.Common.{◌≡◌, ◌≢◌, ◌⊎◌, inl, inr, ℕ, ◌<◌, ◌==◌, Bool, true, false, not, ◌&&◌, ◌||◌, List, [], ◌∷◌, ◌++◌, length, set, Option, Some, refl, sym, ap, subst, ◌∙◌, arith}
+use Rattle.std.proofs.Common.{◌≡◌, ◌≢◌, ◌⊎◌, inl, inr, ℕ, ◌<◌, ◌==◌, Bool, true, false, not, ◌&&◌, ◌||◌, List, [], ◌∷◌, ◌++◌, set, Option, refl, sym, ap, subst, ◌∙◌, arith}
 use Rattle.std.specs.Prelude.{IsTrue}
 use Rattle.std.specs.FinMap as finite
 use Rattle.std.proofs.lemmas.Bool.{eq-eqb, eqb-true}
 use Rattle.block_model.specs.declared.request.Entry.{Entry}
-use Rattle.block_model.specs.DatabaseState.{DatabaseState, OpenTransaction}
+use Rattle.block_model.specs.DatabaseState.{DatabaseState}
 use Rattle.block_model.specs.RequestEffect.{Answer, IsLegalRequest, after_request}
 use Rattle.block_model.specs.RequestLaws.{others_stay}
 use Rattle.block_model.specs.SerialRun.{IsLegal, serial_run}
-use Rattle.snapshot_core.specs.declared.statuses.Status.{Status}
 use Rattle.snapshot_core.specs.declared.statuses.Status.TheVariants as statuses
 use Rattle.snapshot_core.specs.Visibility.{is_committed}
-use Rattle.heap_rows.specs.RowPlaces.{with_row}
 use Rattle.row_versions.specs.StoredVersions.{transaction_of}
 use Rattle.transactions.specs.CountedRows.{counts as counts_of}
 use Rattle.transactions.specs.GivenStatuses.{given_status}
@@ -23,7 +21,7 @@ use Rattle.line_texts.specs.Place.{Hand as HandAt, Place, database_at}
 use Rattle.store_parts.specs.HandsInTables.{sight_of}
 use Rattle.store_parts.specs.Leaving.{HasNoRows, LeadsTo}
 use Rattle.store_parts.specs.LeadLaws.{BeginSeesAlike, EndSeesAlike, FailureCountsNoMore, FewerCountsFew, HasInHand, MarkLeavesSlots, MoreCountsFew, NextHasNoRows, NoRequestLeads, NothingLeavesSlots, PutLeavesSlots, RequestLeads, SameCountsFew, SameSeesAlike, TwoRequestsLead}
-use Rattle.store_parts.specs.ShowsPlace.{IsOfTransaction, IsPlaceOf}
+use Rattle.store_parts.specs.ShowsPlace.{IsOfTransaction}
 use Rattle.store_parts.specs.StoreStates.{ShownStore}
 use Rattle.store_parts.proofs.Requests.{one_more_is_legal, one_more_is_run}
 use Rattle.store_parts.proofs.Slots.{filled_slot, marked_slot, same_slots}

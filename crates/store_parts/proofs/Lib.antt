@@ -11,3 +11,5 @@ pub mod Refusals
 pub mod Undone
 pub mod Leads
 pub mod Opening
+pub mod Maintenance
+pub mod Submits

@@ -1,5 +1,5 @@
 -- the place that an opened store shows
-use Rattle.std.proofs.Common.{◌≡◌, ℕ, Option, None, Some, refl, sym, subst, ◌∙◌}
+use Rattle.std.proofs.Common.{Option, None, refl, sym, subst, ◌∙◌}
 use Rattle.std.proofs.lemmas.Option.{none-some}
 use Rattle.row_versions.specs.StoredVersions.{transaction_of}
 use Rattle.table_coverage.specs.Accounts.{no_account}
@@ -18,7 +18,7 @@ opened_is_shown s opening tables empty none database opened order = record {
   journal = sym empty;
   legal = refl;
   database = database;
-  hands = λ n. subst (λ (h : Option Hand). HandShows h None no_account) (sym (none n)) refl;
+  hands = λ n. subst (λ (h : Option Hand). HandShows h None no_account) (sym (none n)) (refl, refl);
   own = λ n hand is. absurd (none-some hand (sym (none n) ∙ is));
   tables = λ table below. record {
     blocks = (opened table below).blocks;

@@ -1,17 +1,17 @@
 -- what stays of the slots of a table
-use Rattle.std.proofs.Common.{◌≡◌, ◌≢◌, ◌⊎◌, inl, inr, ℕ, Bool, false, List, Option, None, Some, refl, sym, ap, subst, ◌∙◌}
+use Rattle.std.proofs.Common.{◌≡◌, ◌≢◌, ◌⊎◌, inl, inr, ℕ, false, List, None, Some, refl, sym, ap, ◌∙◌}
 use Rattle.std.proofs.lemmas.Bool.{cases_eq}
 use Rattle.std.proofs.lemmas.Option.{none-some, same_Some}
 use Rattle.block_model.specs.declared.place.Spot.{Spot}
 use Rattle.page_layout.specs.PageContents.{Slot}
 use Rattle.page_layout.specs.PageWrites.{marked}
 use Rattle.page_layout.specs.RowBytes.{StoredRow}
-use Rattle.heap_rows.specs.RowPlaces.{ChangesSlot, FillsSlot, slot_at, with_row}
+use Rattle.heap_rows.specs.RowPlaces.{ChangesSlot, slot_at, with_row}
 use Rattle.brin_scan.specs.Finds.{Sight, sees_stored}
-use Rattle.brin_scan.specs.SeenRows.{SeesLater, StaysInSlot}
+use Rattle.brin_scan.specs.SeenRows.{SeesLater}
 use Rattle.brin_scan.proofs.Seen.{since_unseen, stays_seen}
 use Rattle.store_parts.specs.Leaving.{RowsStay, SeesSlots}
-use Rattle.store_parts.specs.TableLaws.{AreSameSlots, FilledSlotStays, IsSlotFilled, IsSlotMarked, MarkedSlotStays, SameSlotsStay}
+use Rattle.store_parts.specs.TableLaws.{FilledSlotStays, MarkedSlotStays, SameSlotsStay}
 
 -- a transaction sees by the same sight
 sees_itself : (sight : Sight) → SeesLater sight sight

@@ -1,5 +1,5 @@
 -- how the tables that a store shows stay, and how one of them goes on
-use Rattle.std.specs.Prelude.{◌≡◌, ◌≢◌, ◌⊎◌, ℕ, ◌<◌, Bool, false, IsTrue, List, length, None, Some}
+use Rattle.std.specs.Prelude.{◌≡◌, ◌≢◌, ◌⊎◌, ℕ, ◌<◌, Bool, false, IsTrue, List, Some}
 use Rattle.block_model.specs.declared.place.Spot.{Spot}
 use Rattle.block_model.specs.declared.row.Row.{Row}
 use Rattle.page_layout.specs.PageContents.{Slot}
@@ -8,7 +8,7 @@ use Rattle.page_layout.specs.RowBytes.{StoredRow}
 use Rattle.page_locks.specs.LockChanges.{GivesAll}
 use Rattle.page_locks.specs.LockHolders.{LockState, holder}
 use Rattle.page_locks.specs.RightHolders.{right_of}
-use Rattle.page_store.specs.PageMap.{PageMap, page_at}
+use Rattle.page_store.specs.PageMap.{page_at}
 use Rattle.block_model.specs.declared.place.Place.{Place as PagePlace}
 use Rattle.store_layout.specs.DiskLayout.{DiskLayout}
 use Rattle.heap_rows.specs.HeapBlocks.{HasBlocks}
@@ -18,18 +18,17 @@ use Rattle.row_versions.specs.StoredVersions.{transaction_of}
 use Rattle.transactions.specs.CountedRows.{counts as counts_of}
 use Rattle.coverage.specs.Statements.{Copied, Empty, Held}
 use Rattle.table_coverage.specs.Machines.{Unseen, table_state}
-use Rattle.table_coverage.specs.Table.{Inserts, Marks, Resting, Scans, TableState, Task, pick}
+use Rattle.table_coverage.specs.Table.{Inserts, Marks, Resting, Scans, TableState, Task}
 use Rattle.table_coverage.specs.TableCovered.{IsTableKept}
 use Rattle.table_coverage.specs.TableSteps.{TableStep}
 use Rattle.index_steps.specs.ShownIndex.{lock_in}
 use Rattle.index_steps.specs.ShownRows.{ShowsKept, shown_by}
 use Rattle.brin_scan.specs.Finds.{Sight, sees_stored}
 use Rattle.brin_scan.specs.SeenRows.{IsOthersSince, StaysInSlot}
-use Rattle.line_texts.specs.Place.{Place}
 use Rattle.store_parts.specs.HandsInTables.{IsTaskOf, table_in}
-use Rattle.store_parts.specs.Leaving.{LeavesOthers, LeavesTable, RowsStay, SeeAlike, SeesSlots, SlotsStay}
+use Rattle.store_parts.specs.Leaving.{LeavesOthers, LeavesTable, RowsStay, SeeAlike, SeenSlotsStay, SeesSlots, SlotsStay}
 use Rattle.store_parts.specs.PlacesAfter.{recounted}
-use Rattle.store_parts.specs.ShowsPlace.{IsPlaceOf, ShowsTable}
+use Rattle.store_parts.specs.ShowsPlace.{ShowsTable}
 use Rattle.store_parts.specs.StoreStates.{ShownStore, hand_in}
 
 -- a statement at this locks no page between its steps
@@ -74,6 +73,16 @@ OwnTableGoesOn = (old new : ShownStore) (stored : List Status) (n table : ℕ) (
     → ((m : ℕ) → m ≢ n → u.task m ≡ shows.unseen.task m)
     → IsTaskOf old.layout table now new.transactions.tx stored (transaction_of new.transactions.opens n) (hand_in new.hands n) (u.task n)
     → SlotsStay n old stored shows.blocks now → ShowsTable new stored table v
+
+-- So is the table of a step that drops rows which no other session's statement sees.
+abbrev pub OwnTableIsPruned : Type 0
+OwnTableIsPruned = (old new : ShownStore) (stored : List Status) (n table : ℕ) (w v : TableState) (u : Unseen) (now : List (List Slot)) → (shows : ShowsTable old stored table w)
+    → LeavesOthers n old new → TableStep n w v
+    → v ≡ table_state (shown_by old.layout new.pages new.locks table now) u → HasBlocks old.layout new.pages table now
+    → u.summarise_lock ≡ right_of new.rights table → ((t : ℕ) → u.counts t ≡ counts_of new.transactions stored t)
+    → ((m : ℕ) → m ≢ n → u.task m ≡ shows.unseen.task m)
+    → IsTaskOf old.layout table now new.transactions.tx stored (transaction_of new.transactions.opens n) (hand_in new.hands n) (u.task n)
+    → SeenSlotsStay n old shows.unseen.task stored shows.blocks now → ShowsTable new stored table v
 
 -- what a machine needs of the table that is shown
 abbrev pub TableIsKept : Type 0

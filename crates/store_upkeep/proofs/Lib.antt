@@ -1,0 +1,4 @@
+pub mod ExplainTurns
+pub mod ExplainShown
+pub mod Explained
+pub mod ExplainSteps
