@@ -30,6 +30,7 @@ use Rattle.store_parts.specs.ShowsPlace.{IsPlaceOf}
 use Rattle.store_parts.specs.StepLaws.{TurnIsRefused}
 use Rattle.store_parts.specs.StoreStates.{ShownStore, hand_in}
 use Rattle.store_parts.specs.TableLaws.{IsQuiet}
+use Rattle.store_parts.proofs.Submits.{nothing_is_dropped}
 use Rattle.store_inserts.proofs.AtIndex.{AtIndex, hand_here, insert_of, kept_here, on_there, put_of, shows_here, task_before, task_here}
 use Rattle.store_inserts.proofs.Points.{is_at_index}
 use Rattle.store_inserts.proofs.Refused.{Refuses, is_refused, no_more, refusal_lacks_room, without}
@@ -100,7 +101,8 @@ module _ (law : InsertIsRefused) (old : ShownStore) (n : ℕ) (before : Insert) 
   index_refused laws new o refuses own =
       let counted = no_more laws old new n table before.row.values tags.Full o refuses tt p shown in
       let it = turns (counts_of new.transactions shown.database.stored) (subst (λ (t : ℕ). CountsNoMore w (counts_of new.transactions shown.database.stored) t) (sym own) counted) in
-      is_refused laws old new n table before.row.values tags.Full o refuses tt p shown (put_of before.row) (hand_here old n before hand x at p shown) refl (p.accounts n) (IsFull (IndexNumber before.at) number) told
+      is_refused laws old new n table before.row.values tags.Full o refuses tt p shown (put_of before.row) (hand_here old n before hand x at p shown) refl (p.accounts n)
+      (nothing_is_dropped (hand_in old.hands n) (p.hands n) (p.accounts n) (shown.hands n)) (IsFull (IndexNumber before.at) number) told
       it.0 it.1 (IndexIsFull before.at number) (subst IsQuiet (sym task_is) there.quiet)
 
   pub index_lacks_room : TurnIsRefused → MAX_ENTRIES ≤ length p.journal → LacksRoom p n
@@ -108,11 +110,4 @@ module _ (law : InsertIsRefused) (old : ShownStore) (n : ℕ) (before : Insert) 
       let fewer = without w before.row.id.t in
       let it = turns fewer.counts fewer.no_more in
       refusal_lacks_room refused p n table before.row.values tags.Full (put_of before.row) (hand_here old n before hand x at p shown) refl (p.accounts n) fewer.counts (IsFull (IndexNumber before.at) number) told
-      (refused_in n fewer.counts w) it.0 it.1 (IndexIsFull before.at number) (λ is. no_memory is) full
-    where
-      is_full : Refusal → Bool
-      is_full (refusals.Full relation number) = true
-      is_full refusal = false
-
-      no_memory : told ≡ refusals.Memory → ⊥
-      no_memory is = false≢true (sym (ap is_full is))
+      (refused_in n fewer.counts w) it.0 it.1 (IndexIsFull before.at number) full

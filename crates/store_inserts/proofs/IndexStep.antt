@@ -261,7 +261,7 @@ module _ (old new : ShownStore) (n : ℕ) (before after : Insert) (hand : Insert
       module _ (now : hand_in new.hands n ≡ None) (rests : task_of old.layout after ≡ Resting) where
         done_shown : Behind None
         done_shown = behind None
-            (subst (λ (h : Option Hand). HandShows h None account) (sym now) refl)
+            (subst (λ (h : Option Hand). HandShows h None account) (sym now) (refl, ap (λ (a : Account). a.dropped) account_is))
             (λ h is. absurd (none-some h (sym now ∙ is)))
             (λ other is. absurd (none-some other (ap (table_in old.layout) (sym now) ∙ is)))
             (subst (λ (h : Option Hand). IsTaskOf old.layout table shows.blocks new.transactions.tx stored (transaction_of new.transactions.opens n) h (then.task n)) (sym now) (task_then ∙ rests))

@@ -147,7 +147,7 @@ module _ (laws : RefusalLaws) (old new : ShownStore) (n table : ℕ) (values : L
   journal_is = r.entries ∙ ap (λ (l : List Entry). l ++ e ∷ []) (sym shown.journal)
 
   -- the refusal of a statement whose turn it is
-  module _ (h : HandAt) (in_hand : p.hands n ≡ Some h) (makes : refused_request n tag h.statement ≡ e ∷ []) (account : Account) (why : causes.Refusal) (told : Refusal)
+  module _ (h : HandAt) (in_hand : p.hands n ≡ Some h) (makes : refused_request n tag h.statement ≡ e ∷ []) (account : Account) (nothing : account.dropped ≡ []) (why : causes.Refusal) (told : Refusal)
       (turns : TurnsIn p n h.statement table (refused_in n counts (p.tables table)) account) (because : refusal_in turns ≡ Some why) (so : RefusesSo p table h.statement why tag told) (quiet : IsQuiet ((p.tables table).task n)) where
     abbrev q : Place
     q = place_after p n table None (refused_in n counts (p.tables table)) account counts new.entries
@@ -168,7 +168,7 @@ module _ (laws : RefusalLaws) (old new : ShownStore) (n table : ℕ) (values : L
           (laws.leads old new p n None account e (fails_so (database_at p) n table copy.0 values tag failing (laws.is_failure (database_at p) n table copy.0 copy.1)).0 shown refl
           (laws.legal (database_at p) n table copy.0 values tag copy.1 copy.2) r.entries does
           (record {
-            hand = subst (λ (o : Option Hand). HandShows o None account) (sym r.now) refl;
+            hand = subst (λ (o : Option Hand). HandShows o None account) (sym r.now) (refl, nothing);
             own = λ hand is. absurd (none-some hand (sym r.now ∙ is));
             order = λ index below. same_order old new r.pages index;
           }))
@@ -179,7 +179,7 @@ module _ (laws : RefusalLaws) (old new : ShownStore) (n table : ℕ) (values : L
 -- where the journal has no room for that put, the same refusal would pass it
 module _ (law : TurnIsRefused) (p : Place) (n table : ℕ) (values : List Value) (tag : Tag) (h : HandAt) (in_hand : p.hands n ≡ Some h)
     (makes : refused_request n tag h.statement ≡ tagged_entry n table (requests.Put values) tag ∷ []) (account : Account) (counts : ℕ → Bool) (why : causes.Refusal) (told : Refusal) (v : TableState)
-    (turns : TurnsIn p n h.statement table v account) (because : refusal_in turns ≡ Some why) (so : RefusesSo p table h.statement why tag told) (not_memory : told ≢ refusals.Memory) (full : MAX_ENTRIES ≤ length p.journal) where
+    (turns : TurnsIn p n h.statement table v account) (because : refusal_in turns ≡ Some why) (so : RefusesSo p table h.statement why tag told) (full : MAX_ENTRIES ≤ length p.journal) where
   past : MAX_ENTRIES < length (p.journal ++ refused_request n tag h.statement)
   past =
       let many : length (p.journal ++ refused_request n tag h.statement) ≡ length (p.journal ++ tagged_entry n table (requests.Put values) tag ∷ []) = ap (λ (l : List Entry). length (p.journal ++ l)) makes in
@@ -190,18 +190,10 @@ module _ (law : TurnIsRefused) (p : Place) (n table : ℕ) (values : List Value)
     hand = h;
     in_hand = in_hand;
     outcome = Ended (replies.Refused told);
-    not_memory = λ is. not_memory (told_in (Ended (replies.Refused told)) is);
     further = place_after p n table None v account counts (p.journal ++ refused_request n tag h.statement);
     steps = law p n table h v account counts why tag told turns because so;
     past = past;
   }
-    where
-      told_of : Outcome → Refusal
-      told_of (Ended (replies.Refused other)) = other
-      told_of outcome = told
-
-      told_in : (outcome : Outcome) → outcome ≡ Ended (replies.Refused refusals.Memory) → told_of outcome ≡ refusals.Memory
-      told_in outcome is = ap told_of is
 
 -- the rows that count when one transaction's don't any more
 pub record IsFewer (w : TableState) (t : ℕ) : Type 0 where

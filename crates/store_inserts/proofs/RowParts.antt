@@ -43,7 +43,7 @@ use Rattle.table_coverage.specs.TableSteps.{HeapFull, IsHeapFull, RowLacksMemory
 use Rattle.index_steps.specs.ShownRows.{shown_by}
 use Rattle.line_texts.specs.Names.{table_name}
 use Rattle.line_texts.specs.Place.{Place}
-use Rattle.line_texts.specs.StatementSteps.{Ended, ForMemory, HeapIsFull, RefusesSo, Steps}
+use Rattle.line_texts.specs.StatementSteps.{Ended, ForMemory, HeapIsFull, LacksRoom, RefusesSo, Steps}
 use Rattle.brin_insert.specs.declared.insert.Insert.{Insert}
 use Rattle.brin_insert.specs.InsertAnswers.{InsertStepped, IsInsertFull, SaysInsertFull, StandsPlaced, relation_at, relation_in}
 use Rattle.brin_insert.specs.InsertLocks.{held_by, stage_of}
@@ -74,7 +74,7 @@ use Rattle.store_inserts.proofs.OnParts.{MachineLeft}
 use Rattle.store_inserts.proofs.Opens.{open_here, open_there}
 use Rattle.store_inserts.proofs.Refused.{IsFailing, Refuses}
 use Rattle.store_inserts.proofs.Refusing.{LeftRefused, first_is, refused_fits, refused_others, share_whole, theirs, with_these}
-use Rattle.store_inserts.proofs.RowRefused.{rests_here, row_refused}
+use Rattle.store_inserts.proofs.RowRefused.{rests_here, row_lacks_room, row_refused}
 use Rattle.store_inserts.proofs.RowStep.{PutsHere, came, row_for, row_goes_on, row_is_done}
 use Rattle.store_inserts.specs.Promised.{unpromised}
 use Rattle.store_inserts.specs.TakenLaws.{RefusalLaws, RowLaws}
@@ -246,6 +246,12 @@ module _ {D : Type 0} (told : D → Told) (changes : HandChanges) (of_parts : Fi
     stays = λ names hand_list has. tt;
     cause = left.ready;
   }
+
+-- where the journal has no room for the put
+pub no_room_so : {D : Type 0} (laws : RefusalLaws) (parts : Parts D) (n table : ℕ) (values : List Value) → table < length parts.pages.layout.schema.tables → MAX_ENTRIES ≤ length parts.journal.entries
+    → (names : List (List ℕ)) (hand_list : List (Option Hand)) (p : Place) → hand_in hand_list n ≡ Some (hands.Puts table values) → ShowsPlace (store_of parts names hand_list) p → LacksRoom p n
+no_room_so laws parts n table values below full names hand_list p has shown =
+    row_lacks_room (shown_of (store_of parts names hand_list)) n table values has p shown (shown.tables table below) laws.row laws.refused (subst (λ (l : List Entry). MAX_ENTRIES ≤ length l) (sym shown.journal) full)
 
 -- the table is full, or memory is short
 module _ {D : Type 0} (told : D → Told) (changes : HandChanges) (of_stores : FitOfStores told) (laws : RefusalLaws) (parts : Parts D) (pages : View D) (locks : LockState) (transactions : TransactionsState) (journal : JournalState) (n table : ℕ) (values : List Value) (tag : Tag) (failing : IsFailing tag) (o : Open)

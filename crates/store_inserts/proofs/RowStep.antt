@@ -314,7 +314,7 @@ module _ (laws : RowLaws) (old new : ShownStore) (n table : ℕ) (values : List 
         module _ (is_now : hand_in new.hands n ≡ None) (done : task_of old.layout after ≡ Resting) where
           done_shown : Behind None
           done_shown = behind None
-              (subst (λ (h : Option Hand). HandShows h None no_account) (sym is_now) refl)
+              (subst (λ (h : Option Hand). HandShows h None no_account) (sym is_now) (refl, refl))
               (λ h is. absurd (none-some h (sym is_now ∙ is)))
               (λ other is. absurd (none-some other (ap (table_in old.layout) (sym is_now) ∙ is)))
               (subst (λ (h : Option Hand). IsTaskOf old.layout table now new.transactions.tx stored (transaction_of new.transactions.opens n) h (then.task n)) (sym is_now) (task_then ∙ done))

@@ -48,7 +48,7 @@ pub fn insert_on<D: Disk + Drop>(
     ensures cause { HasCause D.told parts.old.pages parts.new.pages result }
     ensures spare { IfSome spare.new (IsInsertFor parts.old.pages.layout) }
 {
-    steps_of_an_insert(parts.transactions.never());
+    steps_of_an_insert();
     one_hand_changes();
     an_undone_step_changes_nothing(parts);
     match parts.pages.ready() {

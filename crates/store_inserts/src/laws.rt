@@ -8,12 +8,12 @@ use store_parts::{
     the_own_table_goes_on,
 };
 use transactions::{
-    Never, a_failure_is_shown, a_put_is_shown, a_refusal_is_a_failure,
+    a_failure_is_shown, a_put_is_shown, a_refusal_is_a_failure,
     a_session_has_its_transaction, other_pages_show_alike, others_see_alike, which_rows_count,
 };
 
 /// What a step in an index, the put of a row and a refusal are in the place that the store shows. Does nothing.
-pub(crate) fn steps_of_an_insert(never: Never)
+pub(crate) fn steps_of_an_insert()
     ensures index { IndexLaws }
     ensures row { RowLaws }
     ensures refusal { RefusalLaws }
@@ -28,11 +28,11 @@ pub(crate) fn steps_of_an_insert(never: Never)
     others_see_on();
     a_refusal_turns();
     a_refusal_is_shown();
-    other_pages_show_alike(never);
-    a_put_is_shown(never);
-    a_failure_is_shown(never);
-    a_refusal_is_a_failure(never);
-    which_rows_count(never);
-    others_see_alike(never);
-    a_session_has_its_transaction(never);
+    other_pages_show_alike();
+    a_put_is_shown();
+    a_failure_is_shown();
+    a_refusal_is_a_failure();
+    which_rows_count();
+    others_see_alike();
+    a_session_has_its_transaction();
 }

@@ -52,7 +52,7 @@ pub fn put_row<D: Disk + Drop>(
     ensures cause { HasCause D.told parts.old.pages parts.new.pages result }
     ensures spare { IfSome spare.new (IsInsertFor parts.old.pages.layout) }
 {
-    steps_of_an_insert(parts.transactions.never());
+    steps_of_an_insert();
     one_hand_changes();
     an_undone_step_changes_nothing(parts);
     let hand = Hand::Puts { table, values };
@@ -109,7 +109,7 @@ fn first_step<D: Disk + Drop>(
     ensures cause { HasCause D.told parts.old.pages parts.new.pages result }
     ensures spare { IfSome spare.new (IsInsertFor parts.old.pages.layout) }
 {
-    steps_of_an_insert(parts.transactions.never());
+    steps_of_an_insert();
     one_hand_changes();
     an_undone_step_changes_nothing(parts);
     match insert.step(&mut parts.pages, &mut parts.locks, session) {

@@ -31,7 +31,7 @@ use Rattle.store_parts.specs.UndoneLaws.{StepsSo}
 use Rattle.store_inserts.specs.Promised.{unpromised}
 use Rattle.store_inserts.proofs.Beside.{past_room, under_way}
 use Rattle.store_inserts.proofs.Refusing.{LeftRefused, leaves_same, share_whole}
-use Rattle.store_inserts.proofs.RowParts.{short_so, unpromised_is}
+use Rattle.store_inserts.proofs.RowParts.{no_room_so, short_so, unpromised_is}
 use Rattle.store_inserts.proofs.row.put_row.Goals as goal
 
 pub returns-in-Err : goal.returns-in-Err
@@ -47,8 +47,11 @@ pub returns-then-not-fits : goal.returns-then-not-fits
 returns-then-not-fits g c =
     let parts = c.args.parts.now in
     let hand = hands.Puts c.args.table c.args.values in
+    let fits = c.an_undone_step_changes_nothing.ensures.parts parts c.args.session hand c.requires.fit in
+    let full = past_room (length parts.journal.entries) MAX_ENTRIES (λ (within : length parts.journal.entries + 1 ≤ MAX_ENTRIES). false≢true (sym c.if-not-fits.true ∙ c.fits.ensures.1 within)) in
     let so : StepsSo g.D.Disk.told parts parts c.args.session hand (stepped.Undone c.spent.result hand) = subst (λ (f : StoreFault). StepsSo g.D.Disk.told parts parts c.args.session hand (stepped.Undone f hand)) (sym c.spent.ensures)
-    (c.an_undone_step_changes_nothing.ensures.spent parts c.args.session hand (length parts.journal.entries) c.requires.fit c.in-Ok.ensures.outcome.0 refl ?) in
+    (c.an_undone_step_changes_nothing.ensures.spent parts c.args.session hand (length parts.journal.entries) c.requires.fit c.in-Ok.ensures.outcome.0 refl
+    (λ names hand_list p has tells shown. no_room_so c.steps_of_an_insert.ensures.refusal parts c.args.session c.args.table c.args.values fits.in_hand.1 full names hand_list p has shown)) in
     record { steps = so.steps; fit = so.fit; others = so.others; stays = so.stays; cause = so.cause; spare = c.requires.spare }
 
 pub machine_for-requires-clause-open : goal.machine_for-requires-clause-open
