@@ -1,0 +1,10 @@
+pub mod TransactionsState
+pub mod GivenStatuses
+pub mod ShowsDatabase
+pub mod Sessions
+pub mod StoredRows
+pub mod CountedRows
+pub mod FoundRows
+pub mod StartAnswers
+pub mod BeginAnswers
+pub mod Laws

@@ -1,0 +1,19 @@
+//! The open transactions of all sessions, over statuses that stand on pages, and which database they show: one whose transactions
+//! each work on a copy of the tables (specs/ShowsDatabase.antt). The pages are handed to each call. The layer above puts and marks
+//! rows on the pages of tables itself, and keeps indexes on others; the laws say what each such change is in the database, what a
+//! session sees of the rows in their slots, and what no other session sees of it. It stands on tx_table, on heap_rows, and on
+//! row_versions and heap_versions for the database that row versions show.
+#![tactic(auto)]
+
+mod faults;
+mod laws;
+mod transactions;
+
+pub use faults::Unbegun;
+pub use laws::{
+    a_conflict_is_shown, a_failure_is_shown, a_look_is_shown, a_mark_is_shown, a_put_is_shown,
+    a_refusal_is_a_failure, a_row_is_of_transactions, a_row_of_a_copy_stands_once,
+    a_session_has_its_transaction, a_session_sees_its_copy, ids_of_rows_differ, one_database,
+    other_pages_show_alike, others_see_alike, rows_found_are_what_stands, which_rows_count,
+};
+pub use transactions::{Never, Transactions};

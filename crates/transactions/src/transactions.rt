@@ -1,0 +1,219 @@
+//! The open transactions of the sessions.
+
+ghost use Rattle.std.specs.Prelude.{◌≡◌, ◌+◌, ◌^◌, ◌<◌, ◌≤◌, ◌∷◌, ℕ, [], not, true, None, Some, IsSome, IsSomeAnd, IfOk, IfErr, OnOk, OnErr, replicate, set, take, vec_capacity, false, if◌then◌else◌};
+ghost use Rattle.block_model.specs.declared.request.Request.TheVariants as requests;
+ghost use Rattle.block_model.specs.RequestEffect.{Begun, Committed, RolledBack};
+ghost use Rattle.statements.specs.declared.limits.TheConstants.{MAX_SESSIONS};
+ghost use Rattle.statements.specs.StatementRequests.{request_entry};
+ghost use Rattle.logged_pages.specs.Survives.{Survives};
+ghost use Rattle.page_store.specs.Keeps.{Keeps, Tells, Untold};
+ghost use Rattle.page_store.specs.Outcome.{Outcome};
+ghost use Rattle.row_versions.specs.StoredVersions.{transaction_of};
+ghost use Rattle.snapshot_core.specs.declared.statuses.Status.TheVariants.{Begun as BegunStatus, Committed as CommittedStatus, RolledBack as RolledBackStatus};
+ghost use Rattle.tx_table.specs.BeginAnswers.{BeginOutcome, NamesStatusPage};
+ghost use Rattle.tx_table.specs.Durable.{HasPart, IsBefore, IsDurable};
+ghost use Rattle.tx_table.specs.LeavesRest.{KeepsUnlessDisk, LeavesRest, NamesStatuses};
+ghost use Rattle.tx_table.specs.Statuses.{HasStatuses, OfStatuses, with_all};
+ghost use Rattle.tx_table.specs.TxState.{IsOver, IsOwn};
+ghost use Rattle.transactions.specs.BeginAnswers.{without_list};
+ghost use Rattle.transactions.specs.Sessions.{next_row_of, open_standing};
+ghost use Rattle.transactions.specs.ShowsDatabase.{DoesRequest, OfDatabase, ShowsSome};
+ghost use Rattle.transactions.specs.StartAnswers.{FaultNamesStatuses, StartOutcome};
+ghost use Rattle.transactions.specs.TransactionsState.{AreOpen, OfOpen, next_open, with_begun, with_failed, with_open, with_row_counted};
+
+use crate::faults::Unbegun;
+use block_model::RowId;
+use disk_trait::Disk;
+use engine_pages::PageStore;
+use page_store::{MachineFault, StoreError};
+use row_versions::{Open, Standing};
+use std::alloc::Global;
+use std::marker::Model;
+use tx_table::TxTable;
+
+/// The numbers of transactions, and the open transaction of each session.
+#[derive(Drop)]
+pub struct Transactions {
+    never: Never,
+}
+
+/// No value is of this type.
+#[derive(Clone, Copy)]
+pub enum Never {}
+
+impl Model for Transactions {
+    ghost use Rattle.std.specs.Prelude.{[]};
+    ghost use Rattle.transactions.specs.TransactionsState.{TransactionsState};
+
+    ghost Value = { TransactionsState };
+
+    ghost view = { λ a. record { tx = record { first = 0; next = 0 }; opens = [] } };
+}
+
+impl Transactions {
+    /// Nobody has one.
+    pub fn never(&self) -> Never {
+        self.never
+    }
+
+    /// No open transactions, over the pages of a store that was opened. Reads each page of statuses once, and no other. Takes memory
+    /// for the places of the sessions, first.
+    pub fn start<D: Disk + Drop>(
+        alloc: Global,
+        pages: &mut PageStore<D>,
+    ) -> Result<Transactions, MachineFault>
+        ensures over { IfOk result (λ t. IsOver D.told t.tx pages.new) }
+        ensures opened { IfOk result (λ t. t.tx.first ≡ t.tx.next) }
+        ensures opens { IfOk result (λ t. t.opens ≡ replicate MAX_SESSIONS None) }
+        ensures kept { Keeps D.told pages.old pages.new }
+        ensures survives { Survives D.told (IsBefore pages.old) pages.old pages.new }
+        ensures at { IfErr result (FaultNamesStatuses pages.old.layout) }
+        ensures outcome { StartOutcome D.told pages.old pages.new result }
+    {
+        match pages.ready() {
+            Ok(()) => Err(MachineFault::Memory),
+            Err(error) => Err(MachineFault::Store(error)),
+        }
+    }
+
+    /// Does nothing; tells its caller what holds of the open transactions on any disk.
+    pub fn known(&self)
+        ensures { AreOpen self.now }
+    {
+        match self.never {}
+    }
+
+    /// The numbers of transactions, and how each stands.
+    pub fn tx(&self) -> &TxTable
+        ensures { result.now ≡ self.now.tx }
+    {
+        match self.never {}
+    }
+
+    /// How the session stands.
+    pub fn standing(&self, session: u32) -> Standing
+        ensures { result ≡ open_standing (transaction_of self.now.opens session) }
+    {
+        match self.never {}
+    }
+
+    /// The session's open transaction.
+    pub fn open(&self, session: u32) -> &Open
+        requires { IsSome (transaction_of self.now.opens session) }
+        ensures { transaction_of self.now.opens session ≡ Some result.now }
+    {
+        match self.never {}
+    }
+
+    /// The id of the row that the session's transaction puts next: none where it has put as many as its numbers reach.
+    pub fn next_row(&self, session: u32) -> Option<RowId>
+        requires { IsSome (transaction_of self.now.opens session) }
+        ensures { OfOpen self.now session (λ o. result ≡ next_row_of o) }
+    {
+        match self.never {}
+    }
+
+    /// Begins a transaction of the session, and answers its number, the next one. Spent exactly where each number has been given.
+    /// `active` is empty, with room for a number of each session. After an error nothing is changed, and `active` comes back. Takes no
+    /// memory.
+    pub fn begin<D: Disk + Drop>(
+        &mut self,
+        pages: &mut PageStore<D>,
+        session: u32,
+        active: Vec<u64>,
+    ) -> Result<u64, Unbegun>
+        requires over { IsOver D.told self.old.tx pages.old }
+        requires shown { ShowsSome D.told pages.old self.old }
+        requires session { session < MAX_SESSIONS }
+        requires idle { transaction_of self.old.opens session ≡ None }
+        requires empty { active.items ≡ [] }
+        requires room { MAX_SESSIONS ≤ vec_capacity active }
+        ensures number { IfOk result (λ t. t ≡ self.old.tx.next) }
+        ensures begun { OnOk result (self.new ≡ with_begun self.old session) }
+        ensures same { OnErr result (self.new ≡ self.old) }
+        ensures database { IfOk result (λ t. OfDatabase D.told pages.old self.old (λ s. DoesRequest pages.old.layout pages.new.pages self.new s (request_entry session 0 requests.Begin) (Begun t))) }
+        // By the statuses that the pages have.
+        ensures statuses { OnOk result (OfStatuses D.told pages.old (λ stored. HasStatuses pages.old.layout pages.new.pages (set stored self.old.tx.next BegunStatus))) }
+        ensures shown { ShowsSome D.told pages.new self.new }
+        ensures over { IsOver D.told self.new.tx pages.new }
+        ensures kept { OnErr result (Keeps D.told pages.old pages.new) }
+        ensures survives { Survives D.told (IsBefore pages.old) pages.old pages.new }
+        ensures rest { LeavesRest D.told pages.old pages.new }
+        ensures back { IfErr result (λ unbegun. unbegun.active ≡ active) }
+        ensures names { IfErr result (λ unbegun. NamesStatusPage pages.old.layout unbegun.fault) }
+        ensures outcome { BeginOutcome D.told self.old.tx.next pages.old pages.new (without_list result) }
+    {
+        match self.never {}
+    }
+
+    /// The session's transaction has put one row more.
+    pub fn count_row(&mut self, session: u32)
+        requires { IsSomeAnd (transaction_of self.old.opens session) (λ o. o.next_k + 1 < 2 ^ 32) }
+        ensures { OfOpen self.old session (λ o. self.new ≡ with_row_counted self.old session o) }
+    {
+        match self.never {}
+    }
+
+    /// The session's transaction fails: from now on it can only end.
+    pub fn fail(&mut self, session: u32)
+        requires { IsSome (transaction_of self.old.opens session) }
+        ensures { OfOpen self.old session (λ o. self.new ≡ with_failed self.old session o) }
+    {
+        match self.never {}
+    }
+
+    /// Commits the session's transaction, or rolls it back where it has failed; whether it was committed, which it is only behind
+    /// a flush. After an error the transaction is open as before, and nothing is changed, but for a disk fault: it may come
+    /// between the change and the end of the flush. Takes no memory.
+    pub fn commit<D: Disk + Drop>(
+        &mut self,
+        pages: &mut PageStore<D>,
+        session: u32,
+    ) -> Result<bool, StoreError>
+        requires over { IsOver D.told self.old.tx pages.old }
+        requires shown { ShowsSome D.told pages.old self.old }
+        requires open { IsSome (transaction_of self.old.opens session) }
+        ensures answer { IfOk result (λ committed. OfOpen self.old session (λ o. committed ≡ not o.failed)) }
+        ensures ended { OnOk result (self.new ≡ with_open self.old session None) }
+        ensures same { OnErr result (self.new ≡ self.old) }
+        ensures database { IfOk result (λ committed. OfDatabase D.told pages.old self.old (λ s. DoesRequest pages.old.layout pages.new.pages self.new s (request_entry session 0 requests.Commit) (if committed then Committed else RolledBack))) }
+        ensures durable { IfOk result (λ committed. committed ≡ true → IsDurable D.told pages.new) }
+        // By the statuses that the pages have.
+        ensures statuses { IfOk result (λ committed. OfOpen self.old session (λ o. OfStatuses D.told pages.old (λ stored. HasStatuses pages.old.layout pages.new.pages (set stored o.t (if committed then CommittedStatus else RolledBackStatus))))) }
+        ensures shown { OnOk result (ShowsSome D.told pages.new self.new) }
+        ensures over { IsOver D.told self.new.tx pages.new }
+        ensures kept { IfErr result (KeepsUnlessDisk D.told pages.old pages.new) }
+        // At every moment of the call each image opens to what one did before it, or to these.
+        ensures survives { OfOpen self.old session (λ o. Survives D.told (HasPart pages.old.layout pages.old.pages (o.t ∷ []) CommittedStatus) pages.old pages.new) }
+        ensures rest { LeavesRest D.told pages.old pages.new }
+        ensures at { IfErr result (NamesStatuses pages.old.layout) }
+        ensures outcome { Outcome D.told (Untold D.told pages.old) pages.old pages.new result }
+    {
+        match self.never {}
+    }
+
+    /// Rolls the session's transaction back. After an error nothing is changed. Takes no memory.
+    pub fn rollback<D: Disk + Drop>(
+        &mut self,
+        pages: &mut PageStore<D>,
+        session: u32,
+    ) -> Result<(), StoreError>
+        requires over { IsOver D.told self.old.tx pages.old }
+        requires shown { ShowsSome D.told pages.old self.old }
+        requires open { IsSome (transaction_of self.old.opens session) }
+        ensures ended { OnOk result (self.new ≡ with_open self.old session None) }
+        ensures same { OnErr result (self.new ≡ self.old) }
+        ensures database { OnOk result (OfDatabase D.told pages.old self.old (λ s. DoesRequest pages.old.layout pages.new.pages self.new s (request_entry session 0 requests.Rollback) RolledBack)) }
+        // By the statuses that the pages have.
+        ensures statuses { OnOk result (OfOpen self.old session (λ o. OfStatuses D.told pages.old (λ stored. HasStatuses pages.old.layout pages.new.pages (set stored o.t RolledBackStatus)))) }
+        ensures shown { ShowsSome D.told pages.new self.new }
+        ensures over { IsOver D.told self.new.tx pages.new }
+        ensures kept { OnErr result (Keeps D.told pages.old pages.new) }
+        ensures survives { Survives D.told (IsBefore pages.old) pages.old pages.new }
+        ensures rest { LeavesRest D.told pages.old pages.new }
+        ensures at { IfErr result (NamesStatuses pages.old.layout) }
+        ensures outcome { Outcome D.told (Untold D.told pages.old) pages.old pages.new result }
+    {
+        match self.never {}
+    }
+}
