@@ -44,7 +44,7 @@ module _ {D : Type 0} (told : D → Told) where
   parts_of_store parts n names hands fit = record {
     session = fit.session;
     over = fit.over;
-    hand = fit.hand;
+    in_hand = fit.hand;
     limit = fit.limit;
     own = fit.own;
     rights = fit.rights;
@@ -56,7 +56,7 @@ module _ {D : Type 0} (told : D → Told) where
   store_of_parts parts n names hands fit = record {
     session = fit.session;
     over = fit.over;
-    hand = fit.hand;
+    hand = fit.in_hand;
     limit = fit.limit;
     own = fit.own;
     rights = fit.rights;
@@ -107,8 +107,8 @@ module _ {D : Type 0} (told : D → Told) where
     still = record {
       session = was.session;
       over = over;
-      hand = subst (λ (layout : DiskLayout). FitsHand layout (transaction_of new.transactions.opens n) (Some hand)) (sym leaves.layout)
-          (subst (λ (o : Option Open). FitsHand old.pages.layout o (Some hand)) (sym (opens_same n)) was.hand);
+      in_hand = subst (λ (layout : DiskLayout). FitsHand layout (transaction_of new.transactions.opens n) (Some hand)) (sym leaves.layout)
+          (subst (λ (o : Option Open). FitsHand old.pages.layout o (Some hand)) (sym (opens_same n)) was.in_hand);
       limit = ap (λ (l : LockState). l.limit) same.locks ∙ was.limit;
       own = subst (λ (l : LockState). locks_of l n ≤ locks_held (Some hand)) (sym same.locks) was.own;
       rights = ap length same.rights ∙ was.rights ∙ ap (λ (layout : DiskLayout). length layout.schema.tables) (sym leaves.layout);

@@ -28,7 +28,7 @@ use Rattle.store_parts.specs.StoreStates.{hand_in, store_of}
 pub record FitsParts {D : Type 0} (told : D → Told) (parts : Parts D) (n : ℕ) (hand : Option Hand) : Type 0 where
   pub session : n < MAX_SESSIONS
   pub over : IsOver told parts.transactions.tx parts.pages
-  pub hand : FitsHand parts.pages.layout (transaction_of parts.transactions.opens n) hand
+  pub in_hand : FitsHand parts.pages.layout (transaction_of parts.transactions.opens n) hand
   pub limit : parts.locks.limit ≡ MAX_LOCKS
   pub own : locks_of parts.locks n ≤ locks_held hand
   pub rights : length parts.rights ≡ length parts.pages.layout.schema.tables
