@@ -1,0 +1,4 @@
+pub mod AtOnce
+pub mod Ends
+pub mod Rooms
+pub mod Begins

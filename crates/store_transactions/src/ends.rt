@@ -1,0 +1,212 @@
+//! The end of a transaction.
+
+ghost use Rattle.std.specs.Prelude.{◌≡◌, ◌+◌, ◌<◌, ◌≤◌, IsSome, None, Some, length, if◌then◌else◌};
+ghost use Rattle.statements.specs.declared.limits.TheConstants.{MAX_ENTRIES};
+ghost use Rattle.row_versions.specs.StoredVersions.{transaction_of};
+ghost use Rattle.transactions.specs.TransactionsState.{OfOpen};
+ghost use Rattle.store_parts.specs.Shares.{open_share};
+ghost use Rattle.store_parts.specs.StepAnswers.{HasCause};
+ghost use Rattle.store_parts.specs.Stepping.{IsFit, IsShown, LeavesTheOthers, MakesItsStep, StaysFit, StaysUndone};
+
+use block_model::{Reply, Request, Tag};
+use disk_trait::Disk;
+use row_versions::Standing;
+use store_parts::{
+    Hand, Parts, Stepped, a_step_is_shown, an_undone_step_changes_nothing, fault_of,
+    one_hand_changes, one_more_request, one_request_is_a_step, others_copies_stay,
+    requests_are_legal, spent,
+};
+use transactions::{
+    Transactions, a_session_has_its_transaction, others_see_alike, which_rows_count,
+};
+
+/// How many entries a session with an open transaction was promised beside that of its end.
+fn entries_unneeded(transactions: &Transactions, session: u32) -> usize
+    requires open { IsSome (transaction_of transactions.now.opens session) }
+    ensures { OfOpen transactions.now session (λ o. result + 1 ≡ open_share (Some o)) }
+{
+    match transactions.standing(session) {
+        Standing::UnderWay => 1,
+        Standing::Failed | Standing::Idle => 0,
+    }
+}
+
+/// The reply to a commit, which is a rollback where the transaction had failed.
+fn end_reply(committed: bool) -> Reply
+    ensures { result ≡ (if committed then Reply.Committed else Reply.RolledBack) }
+{
+    if committed {
+        Reply::Committed
+    } else {
+        Reply::RolledBack
+    }
+}
+
+/// Commits the session's transaction, and replies so behind the flush that makes it sure; one that has failed is rolled back, and that is replied.
+/// Where it isn't done the transaction is open as before.
+pub fn commit<D: Disk + Drop>(parts: &mut Parts<D>, session: u32) -> Stepped
+    requires fit { IsFit D.told parts.old session Hand.Commits }
+    requires shown { IsShown D.told parts.old session Hand.Commits }
+    ensures steps { MakesItsStep D.told parts.old parts.new session Hand.Commits result }
+    ensures fit { StaysFit D.told parts.old parts.new session Hand.Commits result }
+    ensures others { LeavesTheOthers D.told parts.old parts.new session Hand.Commits result }
+    ensures stays { StaysUndone D.told parts.old parts.new session Hand.Commits result }
+    ensures cause { HasCause D.told parts.old.pages parts.new.pages result }
+{
+    an_undone_step_changes_nothing(parts);
+    match parts.pages.ready() {
+        Ok(()) => {}
+        Err(error) => {
+            return Stepped::Undone {
+                fault: fault_of(error),
+                hand: Hand::Commits,
+            };
+        }
+    }
+    if !parts.journal.fits(1) {
+        return no_commit(parts, session);
+    }
+    commit_now(parts, session)
+}
+
+/// The journal has no room for the commit.
+fn no_commit<D: Disk + Drop>(parts: &Parts<D>, session: u32) -> Stepped
+    requires fit { IsFit D.told parts.now session Hand.Commits }
+    requires ready { parts.now.pages.failed ≡ None }
+    requires full { MAX_ENTRIES ≤ length parts.now.journal.entries }
+    ensures steps { MakesItsStep D.told parts.now parts.now session Hand.Commits result }
+    ensures fit { StaysFit D.told parts.now parts.now session Hand.Commits result }
+    ensures others { LeavesTheOthers D.told parts.now parts.now session Hand.Commits result }
+    ensures stays { StaysUndone D.told parts.now parts.now session Hand.Commits result }
+    ensures cause { HasCause D.told parts.now.pages parts.now.pages result }
+{
+    let never = parts.transactions.never();
+    a_session_has_its_transaction(never);
+    one_request_is_a_step(never);
+    an_undone_step_changes_nothing(parts);
+    Stepped::Undone {
+        fault: spent(&parts.journal),
+        hand: Hand::Commits,
+    }
+}
+
+/// There is room for the commit.
+fn commit_now<D: Disk + Drop>(parts: &mut Parts<D>, session: u32) -> Stepped
+    requires fit { IsFit D.told parts.old session Hand.Commits }
+    requires shown { IsShown D.told parts.old session Hand.Commits }
+    requires ready { parts.old.pages.failed ≡ None }
+    requires room { length parts.old.journal.entries + 1 ≤ MAX_ENTRIES }
+    ensures steps { MakesItsStep D.told parts.old parts.new session Hand.Commits result }
+    ensures fit { StaysFit D.told parts.old parts.new session Hand.Commits result }
+    ensures others { LeavesTheOthers D.told parts.old parts.new session Hand.Commits result }
+    ensures stays { StaysUndone D.told parts.old parts.new session Hand.Commits result }
+    ensures cause { HasCause D.told parts.old.pages parts.new.pages result }
+{
+    let never = parts.transactions.never();
+    a_session_has_its_transaction(never);
+    a_step_is_shown(never);
+    one_hand_changes(never);
+    one_more_request(never);
+    one_request_is_a_step(never);
+    others_copies_stay(never);
+    others_see_alike(never);
+    requests_are_legal(never);
+    which_rows_count(never);
+    an_undone_step_changes_nothing(parts);
+    let unneeded = entries_unneeded(&parts.transactions, session);
+    match parts.transactions.commit(&mut parts.pages, session) {
+        Ok(committed) => {
+            parts.journal.enter(session, 0, Request::Commit, Tag::Ok);
+            parts.journal.release(unneeded);
+            Stepped::Done(end_reply(committed))
+        }
+        Err(error) => Stepped::Undone {
+            fault: fault_of(error),
+            hand: Hand::Commits,
+        },
+    }
+}
+
+/// Rolls the session's transaction back. Where it isn't done the transaction is open as before.
+pub fn roll_back<D: Disk + Drop>(parts: &mut Parts<D>, session: u32) -> Stepped
+    requires fit { IsFit D.told parts.old session Hand.RollsBack }
+    requires shown { IsShown D.told parts.old session Hand.RollsBack }
+    ensures steps { MakesItsStep D.told parts.old parts.new session Hand.RollsBack result }
+    ensures fit { StaysFit D.told parts.old parts.new session Hand.RollsBack result }
+    ensures others { LeavesTheOthers D.told parts.old parts.new session Hand.RollsBack result }
+    ensures stays { StaysUndone D.told parts.old parts.new session Hand.RollsBack result }
+    ensures cause { HasCause D.told parts.old.pages parts.new.pages result }
+{
+    an_undone_step_changes_nothing(parts);
+    match parts.pages.ready() {
+        Ok(()) => {}
+        Err(error) => {
+            return Stepped::Undone {
+                fault: fault_of(error),
+                hand: Hand::RollsBack,
+            };
+        }
+    }
+    if !parts.journal.fits(1) {
+        return no_rollback(parts, session);
+    }
+    roll_back_now(parts, session)
+}
+
+/// The journal has no room for the rollback.
+fn no_rollback<D: Disk + Drop>(parts: &Parts<D>, session: u32) -> Stepped
+    requires fit { IsFit D.told parts.now session Hand.RollsBack }
+    requires ready { parts.now.pages.failed ≡ None }
+    requires full { MAX_ENTRIES ≤ length parts.now.journal.entries }
+    ensures steps { MakesItsStep D.told parts.now parts.now session Hand.RollsBack result }
+    ensures fit { StaysFit D.told parts.now parts.now session Hand.RollsBack result }
+    ensures others { LeavesTheOthers D.told parts.now parts.now session Hand.RollsBack result }
+    ensures stays { StaysUndone D.told parts.now parts.now session Hand.RollsBack result }
+    ensures cause { HasCause D.told parts.now.pages parts.now.pages result }
+{
+    let never = parts.transactions.never();
+    a_session_has_its_transaction(never);
+    one_request_is_a_step(never);
+    an_undone_step_changes_nothing(parts);
+    Stepped::Undone {
+        fault: spent(&parts.journal),
+        hand: Hand::RollsBack,
+    }
+}
+
+/// There is room for the rollback.
+fn roll_back_now<D: Disk + Drop>(parts: &mut Parts<D>, session: u32) -> Stepped
+    requires fit { IsFit D.told parts.old session Hand.RollsBack }
+    requires shown { IsShown D.told parts.old session Hand.RollsBack }
+    requires ready { parts.old.pages.failed ≡ None }
+    requires room { length parts.old.journal.entries + 1 ≤ MAX_ENTRIES }
+    ensures steps { MakesItsStep D.told parts.old parts.new session Hand.RollsBack result }
+    ensures fit { StaysFit D.told parts.old parts.new session Hand.RollsBack result }
+    ensures others { LeavesTheOthers D.told parts.old parts.new session Hand.RollsBack result }
+    ensures stays { StaysUndone D.told parts.old parts.new session Hand.RollsBack result }
+    ensures cause { HasCause D.told parts.old.pages parts.new.pages result }
+{
+    let never = parts.transactions.never();
+    a_session_has_its_transaction(never);
+    a_step_is_shown(never);
+    one_hand_changes(never);
+    one_more_request(never);
+    one_request_is_a_step(never);
+    others_copies_stay(never);
+    others_see_alike(never);
+    requests_are_legal(never);
+    which_rows_count(never);
+    an_undone_step_changes_nothing(parts);
+    let unneeded = entries_unneeded(&parts.transactions, session);
+    match parts.transactions.rollback(&mut parts.pages, session) {
+        Ok(()) => {
+            parts.journal.enter(session, 0, Request::Rollback, Tag::Ok);
+            parts.journal.release(unneeded);
+            Stepped::Done(Reply::RolledBack)
+        }
+        Err(error) => Stepped::Undone {
+            fault: fault_of(error),
+            hand: Hand::RollsBack,
+        },
+    }
+}
