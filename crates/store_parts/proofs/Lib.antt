@@ -1,1 +1,11 @@
+pub mod Requests
+pub mod Shares
+pub mod Stores
+pub mod Slots
+pub mod Seeing
+pub mod Locks
+pub mod Tables
+pub mod Steps
+pub mod Places
+pub mod Refusals
 pub mod Undone

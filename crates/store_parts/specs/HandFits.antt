@@ -3,7 +3,7 @@ use Rattle.std.specs.Prelude.{◌≡◌, ◌≢◌, ℕ, ◌+◌, ◌≤◌, ◌
 use Rattle.disk_trait.specs.Told.{Told}
 use Rattle.store_layout.specs.DiskLayout.{DiskLayout}
 use Rattle.block_model.specs.declared.row.Query.{Query}
-use Rattle.statements.specs.declared.limits.TheConstants.{MAX_SESSIONS}
+use Rattle.statements.specs.declared.limits.TheConstants.{MAX_ENTRIES, MAX_SESSIONS}
 use Rattle.page_layout.specs.RowBytes.{HaveKinds}
 use Rattle.page_locks.specs.LockCounts.{locks_of}
 use Rattle.page_locks.specs.LockHolders.{count_of}
@@ -70,7 +70,7 @@ locks_held (Some (hands.Summarises a)) = summarises.held_by a
 locks_held hand = 0
 
 -- What holds of a session on any disk: its transactions are those of the pages; what it has in hand is fit for its next step; it holds no more page locks than
--- that, and the journal has what it is promised.
+-- that; and the journal has what it is promised, and no more entries than it may have.
 pub record FitsStore {D : Type 0} (told : D → Told) (s : StoreState D) (n : ℕ) : Type 0 where
   pub session : n < MAX_SESSIONS
   pub over : IsOver told s.transactions.tx s.pages
@@ -78,4 +78,5 @@ pub record FitsStore {D : Type 0} (told : D → Told) (s : StoreState D) (n : �
   pub limit : s.locks.limit ≡ MAX_LOCKS
   pub own : locks_of s.locks n ≤ locks_held (hand_at s n)
   pub rights : length s.rights ≡ length s.pages.layout.schema.tables
+  pub entries : length s.journal.entries ≤ MAX_ENTRIES
   pub share : share_of (hand_at s n) (transaction_of s.transactions.opens n) ≤ s.journal.promised

@@ -75,3 +75,13 @@ IsTaskOf layout table blocks tx stored transaction (Some (hands.Marks marking)) 
 IsTaskOf layout table blocks tx stored transaction (Some (hands.Explains explain)) task = InItsTable explain.judging.query.table table (IsExplainAt layout explain.judging task) task
 IsTaskOf layout table blocks tx stored transaction (Some (hands.Summarises a)) task = InItsTable (index_at layout a.index).table table (IsSummariseAt layout a task) task
 IsTaskOf layout table blocks tx stored transaction hand task = task ≡ Resting
+
+-- the table in which the statement makes its steps, if there is one; one that has made no step is in none
+abbrev pub table_in : DiskLayout → Option Hand → Option ℕ
+table_in layout (Some (hands.Inserts insert)) = Some insert.row.table
+table_in layout (Some (hands.Selects scan)) = Some scan.judging.query.table
+table_in layout (Some (hands.Deletes scan)) = Some scan.judging.query.table
+table_in layout (Some (hands.Marks marking)) = Some marking.query.table
+table_in layout (Some (hands.Explains explain)) = Some explain.judging.query.table
+table_in layout (Some (hands.Summarises a)) = Some (index_at layout a.index).table
+table_in layout hand = None

@@ -9,3 +9,13 @@ pub mod StepIs
 pub mod HandFits
 pub mod StepAnswers
 pub mod Stepping
+pub mod Leaving
+pub mod PlacesAfter
+pub mod TableLaws
+pub mod PlaceLaws
+pub mod StepLaws
+pub mod RefusalLaws
+pub mod RequestLaws
+pub mod ShareLaws
+pub mod StoreLaws
+pub mod UndoneLaws

@@ -12,7 +12,7 @@ use Rattle.heap_rows.specs.HeapBlocks.{HasBlocks}
 use Rattle.snapshot_core.specs.declared.statuses.Status.{Status}
 use Rattle.row_versions.specs.declared.sessions.Open.{Open}
 use Rattle.row_versions.specs.StoredVersions.{transaction_of}
-use Rattle.transactions.specs.CountedRows.{counts_of}
+use Rattle.transactions.specs.CountedRows.{counts as counts_of}
 use Rattle.transactions.specs.ShowsDatabase.{ShowsDatabase}
 use Rattle.index_contents.specs.IndexContents.{index_page}
 use Rattle.table_coverage.specs.Machines.{Unseen, table_state}
@@ -24,18 +24,18 @@ use Rattle.store_parts.specs.declared.hand.Hand.{Hand}
 use Rattle.store_parts.specs.declared.hand.Hand.TheVariants as hands
 use Rattle.store_parts.specs.Hands.{HandShows, hits_left, ids_of}
 use Rattle.store_parts.specs.HandsInTables.{IsTaskOf}
-use Rattle.store_parts.specs.StoreStates.{StoreState, hand_at}
+use Rattle.store_parts.specs.StoreStates.{ShownStore, StoreState, hand_in, shown_of}
 
 -- The table that pages, locks and summarise locks show, with each session's statement at its task, and kept. The rows of committed transactions count, and
 -- of open ones that haven't failed.
-pub record ShowsTable {D : Type 0} (s : StoreState D) (stored : List Status) (table : ℕ) (w : TableState) : Type 0 where
+pub record ShowsTable (s : ShownStore) (stored : List Status) (table : ℕ) (w : TableState) : Type 0 where
   pub blocks : List (List Slot)
-  pub has : HasBlocks s.pages.layout s.pages.pages table blocks
+  pub has : HasBlocks s.layout s.pages table blocks
   pub unseen : Unseen
-  pub shown : w ≡ table_state (shown_by s.pages.layout s.pages.pages s.locks table blocks) unseen
+  pub shown : w ≡ table_state (shown_by s.layout s.pages s.locks table blocks) unseen
   pub lock : unseen.summarise_lock ≡ right_of s.rights table
   pub counts : (t : ℕ) → unseen.counts t ≡ counts_of s.transactions stored t
-  pub tasks : (n : ℕ) → IsTaskOf s.pages.layout table blocks s.transactions.tx stored (transaction_of s.transactions.opens n) (hand_at s n) (unseen.task n)
+  pub tasks : (n : ℕ) → IsTaskOf s.layout table blocks s.transactions.tx stored (transaction_of s.transactions.opens n) (hand_in s.hands n) (unseen.task n)
   pub kept : IsTableKept w
 
 -- an insert's row is the next one of its session's transaction, which hasn't failed; once it is put it is one of that transaction's
@@ -61,18 +61,22 @@ abbrev pub IsOfTransaction : Option Open → Option OpenTransaction → Hand →
 IsOfTransaction transaction copy (hands.Inserts insert) = IsRowOf transaction (is_put insert.place) insert.row.id.t insert.row.id.k
 IsOfTransaction transaction copy hand = IsLeftToMark copy hand
 
--- The store shows a place of the definition of texts.
-pub record ShowsPlace {D : Type 0} (s : StoreState D) (p : Place) : Type 0 where
-  pub layout : p.layout ≡ s.pages.layout
+-- These parts of a store show a place of the definition of texts.
+pub record IsPlaceOf (s : ShownStore) (p : Place) : Type 0 where
+  pub layout : p.layout ≡ s.layout
   pub names : p.names ≡ s.names
   pub queue : p.queue ≡ []
-  pub journal : p.journal ≡ s.journal.entries
+  pub journal : p.journal ≡ s.entries
   pub legal : IsLegal p.opening p.journal
   -- the rows on the pages, their statuses and the open transactions show the database of the journal
-  pub database : ShowsDatabase s.pages.layout s.pages.pages s.transactions (database_at p)
+  pub database : ShowsDatabase s.layout s.pages s.transactions (database_at p)
   -- the statements in hand
-  pub hands : (n : ℕ) → HandShows (hand_at s n) (p.hands n) (p.accounts n)
-  pub own : (n : ℕ) (hand : Hand) → hand_at s n ≡ Some hand → IsOfTransaction (transaction_of s.transactions.opens n) (finite.get (database_at p).sessions n) hand
+  pub hands : (n : ℕ) → HandShows (hand_in s.hands n) (p.hands n) (p.accounts n)
+  pub own : (n : ℕ) (hand : Hand) → hand_in s.hands n ≡ Some hand → IsOfTransaction (transaction_of s.transactions.opens n) (finite.get (database_at p).sessions n) hand
   -- the tables, and the order of their indexes' pages
-  pub tables : (table : ℕ) → table < length s.pages.layout.schema.tables → ShowsTable s database.stored table (p.tables table)
-  pub order : (index : ℕ) → index < length s.pages.layout.schema.indexes → IsIndexInOrder s.pages.layout.sizes.index_blocks (index_page s.pages.layout s.pages.pages index)
+  pub tables : (table : ℕ) → table < length s.layout.schema.tables → ShowsTable s database.stored table (p.tables table)
+  pub order : (index : ℕ) → index < length s.layout.schema.indexes → IsIndexInOrder s.layout.sizes.index_blocks (index_page s.layout s.pages index)
+
+-- the store shows the place
+abbrev pub ShowsPlace : {D : Type 0} → StoreState D → Place → Type 0
+ShowsPlace s p = IsPlaceOf (shown_of s) p

@@ -1,7 +1,9 @@
 -- what a store of sessions is seen as
 use Rattle.std.specs.Prelude.{ℕ, List, slice_index_or, slice_set, Option, None}
 use Rattle.page_locks.specs.LockHolders.{LockState}
-use Rattle.page_store.specs.PageMap.{View}
+use Rattle.store_layout.specs.DiskLayout.{DiskLayout}
+use Rattle.block_model.specs.declared.request.Entry.{Entry}
+use Rattle.page_store.specs.PageMap.{PageMap, View}
 use Rattle.transactions.specs.TransactionsState.{TransactionsState}
 use Rattle.store_parts.specs.declared.hand.Hand.{Hand}
 use Rattle.store_parts.specs.declared.parts.Parts.{Parts}
@@ -17,6 +19,29 @@ pub record StoreState (D : Type 0) : Type 0 where
   pub journal : JournalState
   pub names : List (List ℕ)
   pub hands : List (Option Hand)
+
+-- what of a store its place depends on: all but its disk, and what of the journal is promised
+pub record ShownStore : Type 0 where
+  pub layout : DiskLayout
+  pub pages : PageMap
+  pub transactions : TransactionsState
+  pub locks : LockState
+  pub rights : List (Option ℕ)
+  pub entries : List Entry
+  pub names : List (List ℕ)
+  pub hands : List (Option Hand)
+
+abbrev pub shown_of : {D : Type 0} → StoreState D → ShownStore
+shown_of s = record {
+  layout = s.pages.layout;
+  pages = s.pages.pages;
+  transactions = s.transactions;
+  locks = s.locks;
+  rights = s.rights;
+  entries = s.journal.entries;
+  names = s.names;
+  hands = s.hands;
+}
 
 -- the statement that session n has in hand
 abbrev pub hand_in : List (Option Hand) → ℕ → Option Hand

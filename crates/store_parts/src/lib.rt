@@ -8,11 +8,32 @@
 mod faults;
 mod hand;
 mod journal;
+mod laws_places;
+mod laws_refusals;
+mod laws_requests;
+mod laws_shares;
+mod laws_steps;
+mod laws_stores;
+mod laws_tables;
+mod laws_undone;
 mod limits;
+mod names;
 mod parts;
 
 pub use faults::{Step, StoreFault, fault_of};
 pub use hand::{Hand, Hit, Marking, Stepped};
 pub use journal::Journal;
+pub use laws_places::{a_step_is_shown, places_after_a_step};
+pub use laws_refusals::{a_refusal_is_shown, a_refusal_turns};
+pub use laws_requests::{one_more_request, others_copies_stay, requests_are_legal};
+pub use laws_shares::{few_locks_are_held, shares_are_summed};
+pub use laws_steps::{a_machine_turns, a_turn_is_a_step, one_request_is_a_step};
+pub use laws_stores::{a_fit_step_fits_everywhere, one_hand_changes};
+pub use laws_tables::{
+    another_table_stays, quiet_statements_lock_nothing, slots_stay_for_others,
+    the_own_table_goes_on,
+};
+pub use laws_undone::an_undone_step_changes_nothing;
 pub use limits::{ENTRIES_A_BEGIN, LOCKS_A_SESSION, MAX_LOCKS};
+pub use names::{index_named, lock_waited_for, page_waited_for, spent, table_named};
 pub use parts::Parts;

@@ -1,0 +1,187 @@
+-- what a statement in hand is at in a table, as others change rows and statuses
+use Rattle.std.proofs.Common.{◌≡◌, ◌≢◌, ◌⊎◌, inl, inr, ℕ, ◌==◌, Bool, true, false, List, [], ◌∷◌, Option, None, Some, All, refl, sym, ap, subst, ◌∙◌}
+use Rattle.std.specs.Prelude.{IsTrue}
+use Rattle.std.proofs.lemmas.List.Elements.{All-weaker}
+use Rattle.std.proofs.lemmas.Option.{none-some, same_Some}
+use Rattle.block_model.specs.declared.place.Spot.{Spot}
+use Rattle.block_model.specs.declared.row.Row.{Row}
+use Rattle.store_layout.specs.DiskLayout.{DiskLayout}
+use Rattle.page_layout.specs.PageContents.{Slot}
+use Rattle.page_layout.specs.RowBytes.{StoredRow}
+use Rattle.heap_rows.specs.RowPlaces.{slot_at}
+use Rattle.snapshot_core.specs.declared.statuses.Status.{Status}
+use Rattle.row_versions.specs.declared.sessions.Open.{Open}
+use Rattle.tx_table.specs.TxState.{TxState}
+use Rattle.table_coverage.specs.Table.{Resting, Scans, TableScan, Task}
+use Rattle.index_steps.specs.IndexTuples.{index_at}
+use Rattle.index_steps.specs.ShownRows.{row_in}
+use Rattle.brin_scan.specs.declared.stage.Stage.{Stage}
+use Rattle.brin_scan.specs.declared.stage.Stage.TheVariants as stages
+use Rattle.brin_scan.specs.Finds.{FindHand, Sight, scanning, sees_stored}
+use Rattle.brin_scan.specs.ScanHands.{ScanHand}
+use Rattle.brin_scan.specs.SeenRows.{IsOthersSince, SeesLater, StaysInSlot}
+use Rattle.brin_scan.specs.TableScans.{Beside, table_scan, task_of}
+use Rattle.brin_scan.proofs.Remembered.{stands_later}
+use Rattle.brin_scan.proofs.Seen.{since_unseen, stays_seen}
+use Rattle.store_parts.specs.declared.hand.Hand.{Hand}
+use Rattle.store_parts.specs.declared.hand.Hand.TheVariants as hands
+use Rattle.store_parts.specs.declared.hand.Hit.{Hit}
+use Rattle.store_parts.specs.declared.hand.Marking.{Marking}
+use Rattle.store_parts.specs.Hands.{hits_left}
+use Rattle.store_parts.specs.HandsInTables.{InItsTable, IsMarkingAt, IsScanAt, IsScanBy, IsTaskOf, sight_of, table_in}
+use Rattle.store_parts.specs.Leaving.{RowsStay, SeesSlots}
+
+-- each row that a scan's session sees stands in a slot
+abbrev pub SeesStanding : List (List Slot) → Task → Type 0
+SeesStanding blocks task = (scan : TableScan) (b k : ℕ) → task ≡ Scans scan → IsTrue (scan.sees b k) → slot_at blocks (record { block = b; slot = k }) ≢ None
+
+-- a scan at this stage has begun
+abbrev IsBegun : Stage → Type 0
+IsBegun stage = (layout : DiskLayout) (hand : ScanHand) (beside : Beside) → task_of layout stage hand beside ≡ Scans (table_scan layout hand beside)
+
+begun_or_not : (stage : Stage) → (stage ≡ stages.Extent) ⊎ IsBegun stage
+begun_or_not stages.Extent = inl refl
+begun_or_not (stages.Map at range) = inr (λ layout hand beside. refl)
+begun_or_not (stages.Tuple at range spot) = inr (λ layout hand beside. refl)
+begun_or_not stages.Judged = inr (λ layout hand beside. refl)
+
+-- what is seen of a slot
+abbrev seen_in : Sight → Slot → Bool
+seen_in sight None = false
+seen_in sight (Some row) = sees_stored sight row
+
+module _ (sight later : Sight) (blocks now : List (List Slot)) (lasts : SeesLater sight later) (rows : RowsStay blocks now) (slots : SeesSlots sight blocks now) where
+  same_row : (row : StoredRow) → StaysInSlot sight row row
+  same_row row = record { id = refl; deleter = inl refl }
+
+  -- one that is of a transaction since isn't seen later either
+  unseen_later : (row : StoredRow) → IsOthersSince sight row.id.t → sees_stored later row ≡ false
+  unseen_later row since = stays_seen sight later lasts row row (same_row row) ∙ since_unseen sight row since
+
+  found_stands : (table : ℕ) (f : Row × Spot) → row_in table (slot_at blocks f.1) ≡ Some f.0 → row_in table (slot_at now f.1) ≡ Some f.0
+  found_stands table f is = by_slot (slot_at blocks f.1) refl is
+    where
+      by_slot : (slot : Slot) → slot_at blocks f.1 ≡ slot → row_in table slot ≡ Some f.0 → row_in table (slot_at now f.1) ≡ Some f.0
+      by_slot None there is = absurd (none-some f.0 is)
+      by_slot (Some row) there is =
+          let stays = rows f.1 row there in
+          ap (row_in table) stays.1 ∙ (λ i. Some (record { table = table; id = stays.2 i; values = stays.3 i })) ∙ is
+
+  not_true : (b : Bool) → (IsTrue b → ⊥) → b ≡ false
+  not_true true h = absurd (h refl)
+  not_true false h = refl
+
+  module _ (layout : DiskLayout) (deletes : Bool) (hand : FindHand) (task : Task) (at : IsScanAt layout blocks sight deletes hand task) where
+    stands_then : All (λ (f : Row × Spot). row_in hand.judging.query.table (slot_at now f.1) ≡ Some f.0) hand.found
+    stands_then = All-weaker (λ (f : Row × Spot). row_in hand.judging.query.table (slot_at blocks f.1) ≡ Some f.0) (λ (f : Row × Spot). row_in hand.judging.query.table (slot_at now f.1) ≡ Some f.0)
+        (found_stands hand.judging.query.table) hand.found at.stand
+
+    -- before its first step the scan's session may see anything
+    not_begun : hand.judging.stage ≡ stages.Extent → IsScanAt layout now later deletes hand task
+    not_begun is = record {
+      sees = λ b k. seen_in later (slot_at now (record { block = b; slot = k }));
+      judged = at.judged;
+      task_is = at.task_is ∙ ap (λ (s : Stage). task_of layout s hand.judging (scanning at.sees at.judged deletes hand)) is
+          ∙ sym (ap (λ (s : Stage). task_of layout s hand.judging (scanning (λ b k. seen_in later (slot_at now (record { block = b; slot = k }))) at.judged deletes hand)) is);
+      now = λ b k row there. ap (seen_in later) there;
+      stand = stands_then;
+      remembers = stands_later sight later lasts hand.last at.remembers;
+    }
+
+    begun_goes_on : SeesStanding blocks task → IsBegun hand.judging.stage → IsScanAt layout now later deletes hand task
+    begun_goes_on standing begun = record {
+      sees = at.sees;
+      judged = at.judged;
+      task_is = at.task_is;
+      now = λ b k row there. elim (slots (record { block = b; slot = k }) row there) [
+        | inl stays ↦ at.now b k stays.0 stays.1 ∙ sym (stays_seen sight later lasts stays.0 row stays.2)
+        | inr came ↦ not_true (at.sees b k) (λ (seen : IsTrue (at.sees b k)). standing (table_scan layout hand.judging (scanning at.sees at.judged deletes hand)) b k
+            (at.task_is ∙ begun layout hand.judging (scanning at.sees at.judged deletes hand)) seen came.0) ∙ sym (unseen_later row came.1)
+      ];
+      stand = stands_then;
+      remembers = stands_later sight later lasts hand.last at.remembers;
+    }
+
+    pub scan_goes_on : SeesStanding blocks task → IsScanAt layout now later deletes hand task
+    scan_goes_on standing = elim (begun_or_not hand.judging.stage) [
+      | inl is ↦ not_begun is
+      | inr begun ↦ begun_goes_on standing begun
+    ]
+
+-- a delete's marks go on where rows stay
+marks_go_on : (blocks now : List (List Slot)) (marking : Marking) (task : Task) → RowsStay blocks now → IsMarkingAt blocks marking task → IsMarkingAt now marking task
+marks_go_on blocks now marking task rows at = record {
+  scan = at.scan;
+  task_is = at.task_is;
+  stand = All-weaker (λ (h : Hit). (row : StoredRow) × (slot_at blocks h.spot ≡ Some row) × (row.id ≡ h.id) × IsTrue (at.scan.sees h.spot.block h.spot.slot))
+      (λ (h : Hit). (row : StoredRow) × (slot_at now h.spot ≡ Some row) × (row.id ≡ h.id) × IsTrue (at.scan.sees h.spot.block h.spot.slot))
+      (λ h stood. let stays = rows h.spot stood.0 stood.1 in (stays.0, stays.1, stays.2 ∙ stood.2, stood.3)) (hits_left marking) at.stand;
+}
+
+-- what holds in its own table may change
+in_its_table : (own table : ℕ) (Here There : Type 0) (task : Task) → (Here → There) → InItsTable own table Here task → InItsTable own table There task
+in_its_table own table Here There task leads at = (λ is. leads (at.0 is), at.1)
+
+module _ (layout : DiskLayout) (table : ℕ) (blocks now : List (List Slot)) (tx then : TxState) (stored later : List Status) (task : Task) (rows : RowsStay blocks now) (standing : SeesStanding blocks task) where
+  -- an open transaction sees on
+  abbrev pub SeesOn : Option Open → Type 0
+  SeesOn transaction = (o : Open) → transaction ≡ Some o → SeesLater (sight_of tx stored o) (sight_of then later o) × SeesSlots (sight_of tx stored o) blocks now
+
+  scan_by : (transaction : Option Open) (deletes : Bool) (hand : FindHand) → SeesOn transaction → IsScanBy layout blocks tx stored transaction deletes hand task → IsScanBy layout now then later transaction deletes hand task
+  scan_by None deletes hand on at = at
+  scan_by (Some o) deletes hand on at = scan_goes_on (sight_of tx stored o) (sight_of then later o) blocks now (on o refl).0 rows (on o refl).1 layout deletes hand task at standing
+
+  pub task_goes_on : (transaction : Option Open) (hand : Option Hand) → SeesOn transaction → IsTaskOf layout table blocks tx stored transaction hand task → IsTaskOf layout table now then later transaction hand task
+  task_goes_on transaction None on at = at
+  task_goes_on transaction (Some (hands.Begins numbers)) on at = at
+  task_goes_on transaction (Some hands.Commits) on at = at
+  task_goes_on transaction (Some hands.RollsBack) on at = at
+  task_goes_on transaction (Some (hands.Puts number values)) on at = at
+  task_goes_on transaction (Some (hands.Inserts insert)) on at = at
+  task_goes_on transaction (Some (hands.Selecting query)) on at = at
+  task_goes_on transaction (Some (hands.Selects scan)) on at = in_its_table scan.judging.query.table table (IsScanBy layout blocks tx stored transaction false scan task) (IsScanBy layout now then later transaction false scan task) task (scan_by transaction false scan on) at
+  task_goes_on transaction (Some (hands.Deleting query)) on at = at
+  task_goes_on transaction (Some (hands.Deletes scan)) on at = in_its_table scan.judging.query.table table (IsScanBy layout blocks tx stored transaction true scan task) (IsScanBy layout now then later transaction true scan task) task (scan_by transaction true scan on) at
+  task_goes_on transaction (Some (hands.Marks marking)) on at = in_its_table marking.query.table table (IsMarkingAt blocks marking task) (IsMarkingAt now marking task) task (marks_go_on blocks now marking task rows) at
+  task_goes_on transaction (Some (hands.Explains explain)) on at = at
+  task_goes_on transaction (Some (hands.Summarises a)) on at = at
+
+-- ---- in another table
+
+-- a table that isn't its own
+other_table : (own table : ℕ) → Some own ≢ Some table → own ≢ table
+other_table own table apart is = apart (ap Some is)
+
+rests_there : (own table : ℕ) (Here : Type 0) → Some own ≢ Some table → InItsTable own table Here Resting
+rests_there own table Here apart = (λ is. absurd (apart (ap Some is)), λ away. refl)
+
+module _ (layout : DiskLayout) (table : ℕ) (blocks : List (List Slot)) (tx : TxState) (stored : List Status) (transaction : Option Open) where
+  pub rests_elsewhere : (hand : Option Hand) → table_in layout hand ≢ Some table → IsTaskOf layout table blocks tx stored transaction hand Resting
+  rests_elsewhere None apart = refl
+  rests_elsewhere (Some (hands.Begins numbers)) apart = refl
+  rests_elsewhere (Some hands.Commits) apart = refl
+  rests_elsewhere (Some hands.RollsBack) apart = refl
+  rests_elsewhere (Some (hands.Puts number values)) apart = refl
+  rests_elsewhere (Some (hands.Inserts insert)) apart = rests_there insert.row.table table _ apart
+  rests_elsewhere (Some (hands.Selecting query)) apart = refl
+  rests_elsewhere (Some (hands.Selects scan)) apart = rests_there scan.judging.query.table table _ apart
+  rests_elsewhere (Some (hands.Deleting query)) apart = refl
+  rests_elsewhere (Some (hands.Deletes scan)) apart = rests_there scan.judging.query.table table _ apart
+  rests_elsewhere (Some (hands.Marks marking)) apart = rests_there marking.query.table table _ apart
+  rests_elsewhere (Some (hands.Explains explain)) apart = rests_there explain.judging.query.table table _ apart
+  rests_elsewhere (Some (hands.Summarises a)) apart = rests_there (index_at layout a.index).table table _ apart
+
+  pub task_elsewhere : (hand : Option Hand) (task : Task) → table_in layout hand ≢ Some table → IsTaskOf layout table blocks tx stored transaction hand task → task ≡ Resting
+  task_elsewhere None task apart at = at
+  task_elsewhere (Some (hands.Begins numbers)) task apart at = at
+  task_elsewhere (Some hands.Commits) task apart at = at
+  task_elsewhere (Some hands.RollsBack) task apart at = at
+  task_elsewhere (Some (hands.Puts number values)) task apart at = at
+  task_elsewhere (Some (hands.Inserts insert)) task apart at = at.1 (other_table insert.row.table table apart)
+  task_elsewhere (Some (hands.Selecting query)) task apart at = at
+  task_elsewhere (Some (hands.Selects scan)) task apart at = at.1 (other_table scan.judging.query.table table apart)
+  task_elsewhere (Some (hands.Deleting query)) task apart at = at
+  task_elsewhere (Some (hands.Deletes scan)) task apart at = at.1 (other_table scan.judging.query.table table apart)
+  task_elsewhere (Some (hands.Marks marking)) task apart at = at.1 (other_table marking.query.table table apart)
+  task_elsewhere (Some (hands.Explains explain)) task apart at = at.1 (other_table explain.judging.query.table table apart)
+  task_elsewhere (Some (hands.Summarises a)) task apart at = at.1 (other_table (index_at layout a.index).table table apart)

@@ -1,0 +1,203 @@
+-- which step of the definition of texts a step is
+use Rattle.std.proofs.Common.{◌≡◌, ◌≢◌, ◌⊎◌, inl, inr, ℕ, ◌==◌, Bool, true, false, if◌then◌else◌, List, [], ◌∷◌, ◌++◌, Option, None, Some, refl, sym, ap, subst, ◌∙◌}
+use Rattle.std.specs.Prelude.{IsTrue}
+use Rattle.std.proofs.lemmas.Bool.{cases_eq, eq-eqb, ne_eqb}
+use Rattle.std.proofs.lemmas.Option.{none-some, same_Some}
+use Rattle.block_model.specs.declared.reply.Point.{Point}
+use Rattle.block_model.specs.declared.reply.Point.TheVariants as points
+use Rattle.block_model.specs.declared.reply.Refusal.{Refusal}
+use Rattle.block_model.specs.declared.reply.Refusal.TheVariants as refusals
+use Rattle.block_model.specs.declared.request.Entry.{Entry}
+use Rattle.statements.specs.declared.statement.Statement.{Statement}
+use Rattle.statements.specs.declared.statement.Statement.TheVariants as statements
+use Rattle.table_coverage.specs.Accounts.{Account, AccountIs, Accounts, AccountsStep, Adds, Asked}
+use Rattle.table_coverage.specs.InOneIndex.{DoesAt}
+use Rattle.table_coverage.specs.Table.{Resting, TableState, Task}
+use Rattle.table_coverage.specs.TablePoints.{IsHeldBy, WaitedFor, does_point, waits_for}
+use Rattle.table_coverage.specs.TableSteps.{Does, IsBlocked, PrunesBlock, Settles, TableStep}
+use Rattle.line_texts.specs.Beginnings.{Begins, IsIn, TakesUp, takes_lock}
+use Rattle.line_texts.specs.Names.{name_of}
+use Rattle.line_texts.specs.Place.{Hand as HandAt, Place, accounts_at, updated}
+use Rattle.line_texts.specs.Requests.{Course}
+use Rattle.line_texts.specs.StatementSteps.{AtOnce, GoesOn, IsRefused, IsWaiting, LacksMemoryAtOnce, MeetsConflict, NoNumber, Replies, StepsTo, Waits, WaitsFor, reply_after, what_of}
+use Rattle.line_texts.specs.Turns.{Leads, PrunesTheDead, Recounts, TablesStay, Turn}
+use Rattle.store_parts.specs.PlaceLaws.{AfterLeads, AtOnceLeads, IsAtOnceAfter, TableAfter}
+use Rattle.store_parts.specs.PlacesAfter.{TurnsIn, place_after, place_at_once, recounted}
+use Rattle.store_parts.specs.StepLaws.{IsOneRequest, LacksMemoryThere, LacksNumber, MachineTurns, TurnConflicts, TurnGoesOn, TurnIsRefused, TurnReplies, TurnWaits}
+
+-- ---- what is updated
+
+pub updated_here : {A : Type 0} (f : ℕ → A) (n : ℕ) (x : A) → updated f n x n ≡ x
+updated_here f n x = ap (λ (b : Bool). if b then x else f n) (eq-eqb n n refl)
+
+pub updated_apart : {A : Type 0} (f : ℕ → A) (n : ℕ) (x : A) (m : ℕ) → m ≢ n → updated f n x m ≡ f m
+updated_apart f n x m apart = ap (λ (b : Bool). if b then x else f m) (ne_eqb m n apart)
+
+pub updated_or : {A : Type 0} (f : ℕ → A) (n : ℕ) (x : A) (m : ℕ) → (m ≡ n) ⊎ (updated f n x m ≡ f m)
+updated_or f n x m = elim (cases_eq m n) [
+  | inl is ↦ inl is
+  | inr apart ↦ inr (updated_apart f n x m apart)
+]
+
+pub table_after : TableAfter
+table_after p n table at v account counts entries = ap (λ (b : Bool). if b then v else recounted (p.tables table) counts) (eq-eqb table table refl)
+
+pub other_after : (p : Place) (n table : ℕ) (at : Option HandAt) (v : TableState) (account : Account) (counts : ℕ → Bool) (entries : List Entry) (i : ℕ) → i ≢ table
+    → (place_after p n table at v account counts entries).tables i ≡ recounted (p.tables i) counts
+other_after p n table at v account counts entries i apart = ap (λ (b : Bool). if b then v else recounted (p.tables i) counts) (ne_eqb i table apart)
+
+pub after_leads : AfterLeads
+after_leads p n table at v account counts entries = record {
+  layout = refl;
+  opening = refl;
+  names = refl;
+  hand = updated_here p.hands n at;
+  others = updated_or p.hands n at;
+  journal = refl;
+}
+
+pub at_once_leads : AtOnceLeads
+at_once_leads p n counts entries = record {
+  leads = record {
+    layout = refl;
+    opening = refl;
+    names = refl;
+    hand = updated_here p.hands n None;
+    others = updated_or p.hands n None;
+    journal = refl;
+  };
+  stay = record { tables = λ i. (counts, refl); accounts = refl; queue = refl };
+}
+
+-- ---- a machine's step
+
+not_asked : (queue : List Asked) → queue ≡ [] → (asked : Asked) → queue ≡ asked ∷ queue → ⊥
+not_asked queue empty asked is =
+    let impossible : [] ≡ asked ∷ queue = sym empty ∙ is in
+    cc
+
+pub takes_none : (statement : Statement) (task : Task) (queue : List Asked) → queue ≡ [] → statement ≢ statements.Work → TakesUp statement task queue queue
+takes_none statements.Begin task queue empty other = not_asked queue empty
+takes_none statements.Commit task queue empty other = not_asked queue empty
+takes_none statements.Rollback task queue empty other = not_asked queue empty
+takes_none (statements.Insert table values) task queue empty other = not_asked queue empty
+takes_none (statements.Select q) task queue empty other = not_asked queue empty
+takes_none (statements.Delete q) task queue empty other = not_asked queue empty
+takes_none (statements.Explain q) task queue empty other = not_asked queue empty
+takes_none (statements.Summarize index block) task queue empty other = not_asked queue empty
+takes_none (statements.Desummarize index block) task queue empty other = not_asked queue empty
+takes_none (statements.Vacuum table) task queue empty other = not_asked queue empty
+takes_none statements.Work task queue empty other = absurd (other refl)
+
+-- a step of another name prunes nothing
+not_pruned : (p : Place) (n : ℕ) (w v : TableState) (does : Does n w v) (point : Point) → does_point n w v does ≡ Some point → point ≢ points.Prune → PrunesTheDead p does
+not_pruned p n w v (PrunesBlock extent next dropped inside spared turns drops) point is other = absurd (other (sym (same_Some points.Prune point is)))
+not_pruned p n w v does point is other = tt
+
+pub machine_turns : MachineTurns
+machine_turns p n table statement w between v point account is queue other on does no_prune settles own =
+    let there : DoesAt n (p.tables table) between point account = subst (λ (x : TableState). DoesAt n x between point account) (sym is) does in
+    (
+      record {
+        on = on;
+        step = record { between = between; does = there.does; settles = settles };
+        own = subst (λ (x : TableState). (x.task n ≢ Resting) ⊎ Begins p n x statement (between.task n)) (sym is) own;
+        dead = not_pruned p n (p.tables table) between there.does point there.point_is no_prune;
+        adds = λ b has. there.adds (accounts_at p table) b has;
+        takes = takes_none statement ((p.tables table).task n) p.queue queue other;
+      },
+      there.point_is,
+      refl,
+    )
+
+-- ---- a turn
+
+module _ (p : Place) (n table : ℕ) (statement : Statement) (at : Option HandAt) (v : TableState) (account : Account) (counts : ℕ → Bool) (entries : List Entry)
+    (turns : TurnsIn p n statement table v account) where
+  abbrev pub led : Place
+  led = place_after p n table at v account counts entries
+
+  abbrev pub turned : Turn p n statement led
+  turned = record {
+    table = table;
+    on = turns.on;
+    step = record {
+      between = turns.step.between;
+      does = turns.step.does;
+      settles = subst (Settles n turns.step.between) (sym (table_after p n table at v account counts entries)) turns.step.settles;
+    };
+    own = turns.own;
+    dead = turns.dead;
+    accounts = record {
+      table = refl;
+      others = updated_or p.accounts n account;
+      adds = turns.adds (accounts_at led table) (record { account = updated_here p.accounts n account; queue = refl });
+    };
+    takes = turns.takes;
+    others = λ i. elim (cases_eq i table) [
+      | inl is ↦ inl is
+      | inr apart ↦ inr (counts, other_after p n table at v account counts entries i apart)
+    ];
+  }
+
+pub turn_goes_on : TurnGoesOn
+turn_goes_on p n table hand v account counts point c turns named busy makes =
+    let at : Option HandAt = Some (record hand { answers = c.answers }) in
+    GoesOn point c (led p n table hand.statement at v account counts c.journal turns) (turned p n table hand.statement at v account counts c.journal turns) named
+    (λ rests. busy (sym (ap (λ (w : TableState). w.task n) (table_after p n table at v account counts c.journal)) ∙ rests))
+    makes (after_leads p n table at v account counts c.journal)
+
+pub turn_replies : TurnReplies
+turn_replies p n table hand v account counts point c reply turns named rests makes said =
+    Replies point c reply (led p n table hand.statement None v account counts c.journal turns) (turned p n table hand.statement None v account counts c.journal turns) named
+    (ap (λ (w : TableState). w.task n) (table_after p n table None v account counts c.journal) ∙ rests) makes
+    (said ∙ ap (λ (a : Account). reply_after p.layout table (turns.step.between.task n) a c.answers hand.statement) (sym (updated_here p.accounts n account)))
+    (after_leads p n table None v account counts c.journal)
+
+pub turn_conflicts : TurnConflicts
+turn_conflicts p n table hand v account counts id c turns refused makes said =
+    MeetsConflict id c (led p n table hand.statement None v account counts c.journal turns) (turned p n table hand.statement None v account counts c.journal turns) refused makes said
+    (after_leads p n table None v account counts c.journal)
+
+pub turn_is_refused : TurnIsRefused
+turn_is_refused p n table hand v account counts why tag told turns refused so =
+    IsRefused why tag told (led p n table hand.statement None v account counts _ turns) (turned p n table hand.statement None v account counts _ turns) refused so
+    (after_leads p n table None v account counts _)
+
+pub one_request : IsOneRequest
+one_request p n hand counts c reply once makes said =
+    let after = at_once_leads p n counts c.journal in
+    AtOnce c reply (place_at_once p n counts c.journal) once makes said after.stay after.leads
+
+pub lacks_memory : LacksMemoryThere
+lacks_memory p n hand counts looking rests =
+    let after = at_once_leads p n counts _ in
+    LacksMemoryAtOnce (place_at_once p n counts _) looking rests after.stay after.leads
+
+pub lacks_number : LacksNumber
+lacks_number p n hand counts begins full =
+    let after = at_once_leads p n counts p.journal in
+    NoNumber (place_at_once p n counts p.journal) begins full after.stay after.leads
+
+-- ---- one that waits
+
+-- it is blocked in this table, at what it is at, for this
+record IsBlockedFor (x : TableState) (n : ℕ) (statement : Statement) (waited : WaitedFor) (by : ℕ) : Type 0 where
+  blocked : IsBlocked x n (x.task n)
+  waits : waits_for x n (x.task n) blocked ≡ waited
+  held : IsHeldBy x waited by
+  own : (x.task n ≢ Resting) ⊎ IsTrue (takes_lock statement)
+
+-- at a task
+abbrev IsBlockedAt : TableState → ℕ → Task → Statement → WaitedFor → Type 0
+IsBlockedAt x n task statement waited = ((blocked : IsBlocked x n task) × (waits_for x n task blocked ≡ waited)) × ((task ≢ Resting) ⊎ IsTrue (takes_lock statement))
+
+pub turn_waits : TurnWaits
+turn_waits p n table hand w task waited by is on at own blocked waits held =
+    let told : Refusal = refusals.Blocked (what_of p.layout table waited) (name_of p by) in
+    let here : IsBlockedAt w n (w.task n) hand.statement waited =
+    subst (λ (q : Task). IsBlockedAt w n q hand.statement waited) (sym at) ((blocked, waits), own) in
+    let there : IsBlockedFor (p.tables table) n hand.statement waited by =
+    subst (λ (x : TableState). IsBlockedFor x n hand.statement waited by) (sym is) (record { blocked = here.0.0; waits = here.0.1; held = held; own = here.1 }) in
+    IsWaiting table told on there.own there.blocked
+    (subst (λ (q : WaitedFor). WaitsFor p table q told) (sym there.waits) (by, there.held, refl))

@@ -1,0 +1,42 @@
+-- stores with the same parts
+use Rattle.std.proofs.Common.{◌≡◌, ◌≢◌, ℕ, zero, suc, ◌+◌, ◌<◌, ◌≤◌, List, [], ◌∷◌, length, get_or-set_same, get_or-set_other, Option, None, Some, refl, sym, ap, subst, ◌∙◌, arith}
+use Rattle.std.proofs.lemmas.Option.{none-some}
+use Rattle.disk_trait.specs.Told.{Told}
+use Rattle.store_layout.specs.DiskLayout.{DiskLayout}
+use Rattle.page_locks.specs.LockCounts.{locks_of}
+use Rattle.row_versions.specs.declared.sessions.Open.{Open}
+use Rattle.row_versions.specs.StoredVersions.{transaction_of}
+use Rattle.store_parts.specs.declared.hand.Hand.{Hand}
+use Rattle.store_parts.specs.declared.parts.Parts.{Parts}
+use Rattle.store_parts.specs.HandFits.{FitsHand, FitsStore, locks_held}
+use Rattle.store_parts.specs.Shares.{share_of}
+use Rattle.store_parts.specs.Stepping.{IsFit}
+use Rattle.store_parts.specs.StoreLaws.{FitEverywhere, HandChanges, HasHand}
+use Rattle.store_parts.specs.StoreStates.{hand_in, store_of, with_hand}
+
+pub fits_everywhere : {D : Type 0} (told : D → Told) → FitEverywhere told
+fits_everywhere told parts n hand names hands fit is =
+    let s = fit.3 in
+    let same : hand_in fit.1 n ≡ hand_in hands n = fit.2 ∙ sym is in
+    record {
+      session = s.session;
+      over = s.over;
+      hand = subst (λ (h : Option Hand). FitsHand parts.pages.layout (transaction_of parts.transactions.opens n) h) same s.hand;
+      limit = s.limit;
+      own = subst (λ (h : Option Hand). locks_of parts.locks n ≤ locks_held h) same s.own;
+      rights = s.rights;
+      entries = s.entries;
+      share = subst (λ (h : Option Hand). share_of h (transaction_of parts.transactions.opens n) ≤ parts.journal.promised) same s.share;
+    }
+
+-- a statement that is in hand stands in the list
+inside : (hands : List (Option Hand)) (n : ℕ) (was : Hand) → hand_in hands n ≡ Some was → n < length hands
+inside [] n was is = absurd (none-some was is)
+inside (hand ∷ hands) zero was is = omega arith
+inside (hand ∷ hands) (suc n) was is = omega (arith, inside hands n was is)
+
+pub hand_changes : HandChanges
+hand_changes hands n was hand is = record {
+  own = get_or-set_same hands n hand None (inside hands n was is);
+  others = λ m other. get_or-set_other hands n m hand None other;
+}

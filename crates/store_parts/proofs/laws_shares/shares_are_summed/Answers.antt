@@ -1,0 +1,8 @@
+use Rattle.store_parts.proofs.Shares.{share_is_within, shares_change}
+use Rattle.store_parts.proofs.laws_shares.shares_are_summed.Goals as goal
+
+pub returns-clause-change : goal.returns-clause-change
+returns-clause-change c = shares_change
+
+pub returns-clause-within : goal.returns-clause-within
+returns-clause-within c = share_is_within

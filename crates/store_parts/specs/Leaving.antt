@@ -1,0 +1,128 @@
+-- what a step of a session leaves of the parts of a store
+use Rattle.std.specs.Prelude.{◌≡◌, ◌≢◌, ◌⊎◌, ℕ, ◌<◌, IsTrue, List, length, Option, None, Some}
+use Rattle.std.specs.FinMap as finite
+use Rattle.block_model.specs.declared.place.Place.{Place as PagePlace}
+use Rattle.block_model.specs.declared.place.Spot.{Spot}
+use Rattle.block_model.specs.declared.row.Row.{Row}
+use Rattle.block_model.specs.SerialRun.{IsLegal, serial_run}
+use Rattle.store_layout.specs.DiskLayout.{DiskLayout}
+use Rattle.page_layout.specs.PageContents.{Slot}
+use Rattle.page_layout.specs.RowBytes.{StoredRow}
+use Rattle.page_locks.specs.LockChanges.{GivesAll}
+use Rattle.page_locks.specs.LockHolders.{holder}
+use Rattle.page_locks.specs.RightHolders.{right_of}
+use Rattle.page_store.specs.PageMap.{block_at, page_at}
+use Rattle.opened_pages.specs.PageOrder.{IsIndexInOrder}
+use Rattle.heap_rows.specs.Heaps.{relation_of as heap_of}
+use Rattle.heap_rows.specs.RowPlaces.{slot_at}
+use Rattle.snapshot_core.specs.declared.statuses.Status.{Status}
+use Rattle.row_versions.specs.declared.sessions.Open.{Open}
+use Rattle.row_versions.specs.StoredVersions.{transaction_of}
+use Rattle.tx_table.specs.Statuses.{status_relation}
+use Rattle.transactions.specs.CountedRows.{counts as counts_of}
+use Rattle.transactions.specs.ShowsDatabase.{ShowsDatabase}
+use Rattle.transactions.specs.StoredRows.{StandsAt}
+use Rattle.index_contents.specs.IndexContents.{contents, index_page, relation_of as index_relation}
+use Rattle.table_coverage.specs.Accounts.{Account}
+use Rattle.table_coverage.specs.Table.{TableState}
+use Rattle.index_steps.specs.IndexTuples.{index_at}
+use Rattle.index_steps.specs.ShownIndex.{lock_in}
+use Rattle.index_steps.specs.SwapAnswers.{LeavesLocks}
+use Rattle.brin_scan.specs.Finds.{Sight}
+use Rattle.brin_scan.specs.SeenRows.{IsOthersSince, SeesLater, StaysInSlot}
+use Rattle.line_texts.specs.Place.{Hand as HandAt, Place, database_at}
+use Rattle.store_parts.specs.declared.hand.Hand.{Hand}
+use Rattle.store_parts.specs.Hands.{HandShows}
+use Rattle.store_parts.specs.HandsInTables.{sight_of, table_in}
+use Rattle.store_parts.specs.ShowsPlace.{IsOfTransaction}
+use Rattle.store_parts.specs.StoreStates.{ShownStore, hand_in}
+
+-- A step of session n leaves the layout, the names, the first number of this opening, and what the other sessions have in hand and as transactions.
+pub record LeavesOthers (n : ℕ) (old new : ShownStore) : Type 0 where
+  pub layout : new.layout ≡ old.layout
+  pub names : new.names ≡ old.names
+  pub first : new.transactions.tx.first ≡ old.transactions.tx.first
+  pub hands : (m : ℕ) → m ≢ n → hand_in new.hands m ≡ hand_in old.hands m
+  pub opens : (m : ℕ) → m ≢ n → transaction_of new.transactions.opens m ≡ transaction_of old.transactions.opens m
+
+-- the relation is the table's heap, or one of its indexes
+abbrev pub IsRelationOf : DiskLayout → (table relation : ℕ) → Type 0
+IsRelationOf layout table relation = (relation ≡ heap_of table)
+    ⊎ ((index : ℕ) × (index < length layout.schema.indexes) × ((index_at layout index).table ≡ table) × (relation ≡ index_relation layout index))
+
+-- The locks are as they were; or they changed as a step in a relation of this table changes them; or session n gave all of its own.
+pub data ChangesLocks (n table : ℕ) (old new : ShownStore) : Type 0 where
+  SameLocks : new.locks ≡ old.locks → ChangesLocks n table old new
+  LocksIn : (relation : ℕ) → IsRelationOf old.layout table relation → LeavesLocks (holder old.locks) (holder new.locks) relation n → ChangesLocks n table old new
+  GivesLocks : GivesAll (holder old.locks) (holder new.locks) n → ChangesLocks n table old new
+
+-- A step of session n in this table changes no page of a relation that isn't the table's, and no summarise lock but the table's; and the session is
+-- at nothing in any other table, before it and after it.
+pub record StepsInTable (n table : ℕ) (old new : ShownStore) : Type 0 where
+  pub below : table < length old.layout.schema.tables
+  pub pages : (place : PagePlace) → (IsRelationOf old.layout table place.relation → ⊥) → page_at new.pages place ≡ page_at old.pages place
+  pub locks : ChangesLocks n table old new
+  pub rights : (other : ℕ) → other ≢ table → right_of new.rights other ≡ right_of old.rights other
+  pub was_in : (other : ℕ) → table_in old.layout (hand_in old.hands n) ≡ Some other → other ≡ table
+  pub is_in : (other : ℕ) → table_in old.layout (hand_in new.hands n) ≡ Some other → other ≡ table
+
+-- A step in no table changes no page but those of statuses, no lock, and the session is at nothing in any table, before it and after it.
+pub record StepsAtOnce (n : ℕ) (old new : ShownStore) : Type 0 where
+  pub pages : (place : PagePlace) → place.relation ≢ status_relation → page_at new.pages place ≡ page_at old.pages place
+  pub locks : new.locks ≡ old.locks
+  pub rights : new.rights ≡ old.rights
+  pub was_in : (table : ℕ) → table_in old.layout (hand_in old.hands n) ≡ Some table → ⊥
+  pub is_in : (table : ℕ) → table_in old.layout (hand_in new.hands n) ≡ Some table → ⊥
+
+-- no row of a table is of that transaction
+abbrev pub HasNoRows : ShownStore → (t : ℕ) → Type 0
+HasNoRows s t = (table : ℕ) (spot : Spot) (row : StoredRow) → table < length s.layout.schema.tables → StandsAt s.layout s.pages table spot row → row.id.t ≢ t
+
+-- rows come to count only where there are none
+abbrev pub CountsFew : (old new : ShownStore) → (stored later : List Status) → Type 0
+CountsFew old new stored later = (t : ℕ) → IsTrue (counts_of new.transactions later t) → IsTrue (counts_of old.transactions stored t) ⊎ HasNoRows old t
+
+-- each other session's transaction sees by these statuses as it did
+abbrev pub SeeAlike : (n : ℕ) → (old new : ShownStore) → (stored later : List Status) → Type 0
+SeeAlike n old new stored later = (m : ℕ) (o : Open) → m ≢ n → transaction_of old.transactions.opens m ≡ Some o
+    → SeesLater (sight_of old.transactions.tx stored o) (sight_of new.transactions.tx later o)
+
+-- each row that stands in a slot stays there, marked perhaps
+abbrev pub RowsStay : (old new : List (List Slot)) → Type 0
+RowsStay old new = (spot : Spot) (row : StoredRow) → slot_at old spot ≡ Some row
+    → (now : StoredRow) × (slot_at new spot ≡ Some now) × (now.id ≡ row.id) × (now.values ≡ row.values)
+
+-- What stands in a slot stood there, as far as the one that sees can tell; or it came to a free slot, and is of a transaction that hadn't ended when the snapshot
+-- was taken.
+abbrev pub SeesSlots : Sight → (old new : List (List Slot)) → Type 0
+SeesSlots sight old new = (spot : Spot) (now : StoredRow) → slot_at new spot ≡ Some now
+    → ((row : StoredRow) × (slot_at old spot ≡ Some row) × StaysInSlot sight row now) ⊎ ((slot_at old spot ≡ None) × IsOthersSince sight now.id.t)
+
+-- rows stay, and each other session's transaction sees of the slots what it saw
+pub record SlotsStay (n : ℕ) (s : ShownStore) (stored : List Status) (old new : List (List Slot)) : Type 0 where
+  pub rows : RowsStay old new
+  pub seen : (m : ℕ) (o : Open) → m ≢ n → transaction_of s.transactions.opens m ≡ Some o → SeesSlots (sight_of s.transactions.tx stored o) old new
+
+-- What a step of session n leads to: the parts show the database of the journal then, which is legal; the other sessions' copies stay; the session has
+-- this in hand, with this to tell; and the pages of each index stay in order.
+pub record LeadsTo (old new : ShownStore) (p : Place) (n : ℕ) (at : Option HandAt) (account : Account) : Type 0 where
+  pub database : ShowsDatabase old.layout new.pages new.transactions (serial_run p.opening new.entries)
+  pub legal : IsLegal p.opening new.entries
+  pub copies : (m : ℕ) → m ≢ n → finite.get (serial_run p.opening new.entries).sessions m ≡ finite.get (database_at p).sessions m
+  pub hand : HandShows (hand_in new.hands n) at account
+  pub own : (hand : Hand) → hand_in new.hands n ≡ Some hand
+      → IsOfTransaction (transaction_of new.transactions.opens n) (finite.get (serial_run p.opening new.entries).sessions n) hand
+  pub order : (index : ℕ) → index < length old.layout.schema.indexes → IsIndexInOrder old.layout.sizes.index_blocks (index_page old.layout old.pages index)
+      → IsIndexInOrder old.layout.sizes.index_blocks (index_page old.layout new.pages index)
+
+-- A step of session n leaves a table: the pages of its heap, what its indexes have and who locks their pages, and who holds its summarise lock; and the session is
+-- at nothing there, before it and after it.
+pub record LeavesTable (n table : ℕ) (old new : ShownStore) : Type 0 where
+  pub heap : (block : ℕ) → block_at new.pages (heap_of table) block ≡ block_at old.pages (heap_of table) block
+  pub indexes : (index : ℕ) → index < length old.layout.schema.indexes → (index_at old.layout index).table ≡ table
+      → contents old.layout new.pages index ≡ contents old.layout old.pages index
+  pub locks : (index page : ℕ) → index < length old.layout.schema.indexes → (index_at old.layout index).table ≡ table
+      → lock_in old.layout new.locks index page ≡ lock_in old.layout old.locks index page
+  pub right : right_of new.rights table ≡ right_of old.rights table
+  pub was_in : table_in old.layout (hand_in old.hands n) ≢ Some table
+  pub is_in : table_in old.layout (hand_in new.hands n) ≢ Some table

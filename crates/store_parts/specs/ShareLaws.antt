@@ -1,0 +1,23 @@
+-- what is promised to all sessions, and how many locks they hold
+use Rattle.std.specs.Prelude.{◌≡◌, ◌≢◌, ℕ, zero, suc, ◌+◌, ◌<◌, ◌≤◌, List, Option}
+use Rattle.statements.specs.declared.limits.TheConstants.{MAX_SESSIONS}
+use Rattle.row_versions.specs.declared.sessions.Open.{Open}
+use Rattle.row_versions.specs.StoredVersions.{transaction_of}
+use Rattle.store_parts.specs.declared.hand.Hand.{Hand}
+use Rattle.store_parts.specs.Shares.{share_of}
+use Rattle.store_parts.specs.StoreStates.{hand_in}
+
+-- the shares of the sessions below this number
+abbrev pub shares_below : (count : ℕ) → List (Option Hand) → List (Option Open) → ℕ
+shares_below zero hands opens = 0
+shares_below (suc n) hands opens = shares_below n hands opens + share_of (hand_in hands n) (transaction_of opens n)
+
+-- where one session's share changes, the sum changes by as much
+abbrev pub SharesChange : Type 0
+SharesChange = (count n : ℕ) (hands now : List (Option Hand)) (opens then : List (Option Open)) → n < count
+    → ((m : ℕ) → m ≢ n → hand_in now m ≡ hand_in hands m) → ((m : ℕ) → m ≢ n → transaction_of then m ≡ transaction_of opens m)
+    → shares_below count now then + share_of (hand_in hands n) (transaction_of opens n) ≡ shares_below count hands opens + share_of (hand_in now n) (transaction_of then n)
+
+-- each share is one of them
+abbrev pub ShareIsWithin : Type 0
+ShareIsWithin = (count n : ℕ) (hands : List (Option Hand)) (opens : List (Option Open)) → n < count → share_of (hand_in hands n) (transaction_of opens n) ≤ shares_below count hands opens

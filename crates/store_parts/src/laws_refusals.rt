@@ -1,0 +1,18 @@
+//! Laws of refusals. None does anything.
+
+ghost use Rattle.store_parts.specs.RefusalLaws.{InsertIsRefused, MaintenanceIsRefused, MarkIsRefused, RefusalIsShown, RowIsRefused, ScanIsRefused};
+
+/// A refusal is a turn of its statement: of an insert without a row or with a full index, of a scan for memory, of a mark for a conflict, and of
+/// maintenance with a full index.
+pub fn a_refusal_turns()
+    ensures row { RowIsRefused }
+    ensures insert { InsertIsRefused }
+    ensures scan { ScanIsRefused }
+    ensures mark { MarkIsRefused }
+    ensures maintenance { MaintenanceIsRefused }
+{}
+
+/// The table of a refused statement is shown when its session has given its locks and its transaction has failed.
+pub fn a_refusal_is_shown()
+    ensures { RefusalIsShown }
+{}
