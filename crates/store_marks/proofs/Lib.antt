@@ -1,2 +1,8 @@
 pub mod Copies
 pub mod Entries
+pub mod Hits
+pub mod Turns
+pub mod Definition
+pub mod Standing
+pub mod Refusing
+pub mod Making

@@ -51,6 +51,10 @@ use Rattle.store_parts.specs.Stepping.{IsFit, LeavesTheOthers, MakesItsStep, Sta
 use Rattle.store_parts.specs.StoreLaws.{HandChanges, HasHand}
 use Rattle.store_parts.specs.StoreStates.{ShownStore, hand_in, shown_of, store_of, with_hand}
 use Rattle.store_parts.specs.UndoneLaws.{FitsParts, StepsSo}
+use Rattle.store_parts.proofs.Places.{step_at_once_is_shown}
+use Rattle.store_parts.proofs.Requests.{copies_stay, one_more_is_legal, one_more_is_run}
+use Rattle.store_parts.proofs.Steps.{one_request}
+use Rattle.store_parts.proofs.Stores.{hand_changes}
 use Rattle.store_parts.proofs.Undone.{fit_of_parts, fit_of_stores}
 
 -- the laws that it takes
@@ -61,6 +65,16 @@ pub record Laws : Type 0 where
   pub legal : OneMoreIsLegal
   pub run : OneMoreIsRun
   pub copies : OthersCopiesStay
+
+pub the_laws : Laws
+the_laws = record {
+  shown = step_at_once_is_shown;
+  request = one_request;
+  changes = hand_changes;
+  legal = one_more_is_legal;
+  run = one_more_is_run;
+  copies = copies_stay;
+}
 
 -- what of a store matters to transactions
 abbrev pub shown_parts : {D : Type 0} → Parts D → ShownStore

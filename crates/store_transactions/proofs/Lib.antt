@@ -1,4 +1,4 @@
 pub mod AtOnce
-pub mod Ends
+pub mod Ending
 pub mod Rooms
-pub mod Begins
+pub mod Beginning

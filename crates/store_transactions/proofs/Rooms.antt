@@ -31,7 +31,7 @@ use Rattle.store_parts.specs.PlacesAfter.{place_at_once}
 use Rattle.store_parts.specs.ShowsPlace.{IsPlaceOf, ShowsPlace}
 use Rattle.store_parts.specs.StoreStates.{hand_in, shown_of, store_of}
 use Rattle.store_transactions.proofs.AtOnce.{IsOnly, Laws, in_hand, is_step}
-use Rattle.store_transactions.proofs.Ends.{commit_only, rollback_only}
+use Rattle.store_transactions.proofs.Ending.{commit_only, rollback_only, some_open}
 
 -- a refusal isn't one of these replies
 abbrev refuses : Outcome → Bool
@@ -70,10 +70,6 @@ commit_fine : (committed : Bool) → refuses (Ended (if committed then replies.C
 commit_fine true = refl
 commit_fine false = refl
 
-some_of : {A : Type 0} (o : Option A) → IsSome o → (a : A) × (o ≡ Some a)
-some_of None is = absurd is
-some_of (Some a) is = (a, refl)
-
 module _ {D : Type 0} (laws : Laws) (sessions : SessionsAreShown) (parts : Parts D) (n : ℕ) (full : MAX_ENTRIES ≤ length parts.journal.entries) where
   commit_answered : (s : DatabaseState) (x : OpenTransaction) → finite.get s.sessions n ≡ Some x → reply_to s (request_entry n 0 requests.Commit) ≡ (if not x.failed then Committed else RolledBack)
   commit_answered s x got = ap (λ (r : DatabaseState × Answer). r.1) (effect_is s (request_entry n 0 requests.Commit) ∙ ap (λ (o : Option OpenTransaction). effect_at o s (request_entry n 0 requests.Commit)) got)
@@ -81,7 +77,7 @@ module _ {D : Type 0} (laws : Laws) (sessions : SessionsAreShown) (parts : Parts
 
   pub no_commit : IsSome (transaction_of parts.transactions.opens n) → (names : List (List ℕ)) (hands_ : List (Option Hand)) (p : Place) → hand_in hands_ n ≡ Some hands.Commits → ShowsPlace (store_of parts names hands_) p → LacksRoom p n
   no_commit open names hands_ p is shown =
-      let own = some_of (transaction_of parts.transactions.opens n) open in
+      let own = some_open (transaction_of parts.transactions.opens n) open in
       let found = (sessions parts.pages.layout parts.pages.pages parts.transactions (database_at p) shown.database).shown n own.0 own.1 in
       lacks laws parts n hands.Commits full names hands_ p is shown (request_entry n 0 requests.Commit) _ _ (commit_only n (not found.0.failed) p.layout)
           (commit_answered (database_at p) found.0 found.1) steps.Commit (commit_fine (not found.0.failed))
@@ -91,7 +87,7 @@ module _ {D : Type 0} (laws : Laws) (sessions : SessionsAreShown) (parts : Parts
 
   pub no_rollback : IsSome (transaction_of parts.transactions.opens n) → (names : List (List ℕ)) (hands_ : List (Option Hand)) (p : Place) → hand_in hands_ n ≡ Some hands.RollsBack → ShowsPlace (store_of parts names hands_) p → LacksRoom p n
   no_rollback open names hands_ p is shown =
-      let own = some_of (transaction_of parts.transactions.opens n) open in
+      let own = some_open (transaction_of parts.transactions.opens n) open in
       let found = (sessions parts.pages.layout parts.pages.pages parts.transactions (database_at p) shown.database).shown n own.0 own.1 in
       lacks laws parts n hands.RollsBack full names hands_ p is shown (request_entry n 0 requests.Rollback) RolledBack replies.RolledBack (rollback_only n p.layout)
           (rollback_answered (database_at p) found.0 found.1) steps.Rollback refl

@@ -6,16 +6,12 @@ ghost use Rattle.tx_table.specs.Statuses.{number_limit};
 ghost use Rattle.store_parts.specs.StepAnswers.{HasCause};
 ghost use Rattle.store_parts.specs.Stepping.{IsFit, IsShown, LeavesTheOthers, MakesItsStep, StaysFit, StaysUndone};
 
+use crate::needs::laws_of_transactions;
 use block_model::{Name, Refusal, Reply, Request, Tag};
 use disk_trait::Disk;
 use page_layout::STATUS_ENTRIES;
 use store_layout::Layout;
-use store_parts::{
-    ENTRIES_A_BEGIN, Hand, Parts, Stepped, a_step_is_shown, an_undone_step_changes_nothing,
-    fault_of, one_hand_changes, one_more_request, one_request_is_a_step, others_copies_stay,
-    requests_are_legal, spent,
-};
-use transactions::{a_session_has_its_transaction, others_see_alike, which_rows_count};
+use store_parts::{ENTRIES_A_BEGIN, Hand, Parts, Stepped, fault_of, spent};
 use tx_table::BeginFault;
 
 /// Begins a transaction of the session, and replies its number; it is refused where each number has been given. `numbers` is empty, with room for a
@@ -29,7 +25,6 @@ pub fn begin<D: Disk + Drop>(parts: &mut Parts<D>, session: u32, numbers: Vec<u6
     ensures stays { StaysUndone D.told parts.old parts.new session (Hand.Begins numbers) result }
     ensures cause { HasCause D.told parts.old.pages parts.new.pages result }
 {
-    an_undone_step_changes_nothing(parts);
     match parts.pages.ready() {
         Ok(()) => {}
         Err(error) => {
@@ -67,12 +62,7 @@ fn refused<D: Disk + Drop>(parts: &mut Parts<D>, session: u32, numbers: Vec<u64>
     ensures stays { StaysUndone D.told parts.old parts.new session (Hand.Begins numbers) result }
     ensures cause { HasCause D.told parts.old.pages parts.new.pages result }
 {
-    let never = parts.transactions.never();
-    a_session_has_its_transaction(never);
-    a_step_is_shown(never);
-    one_hand_changes(never);
-    one_request_is_a_step(never);
-    an_undone_step_changes_nothing(parts);
+    laws_of_transactions();
     let number = parts.transactions.tx().next();
     parts.journal.release(ENTRIES_A_BEGIN);
     Stepped::Done(Reply::Refused(Refusal::Full {
@@ -103,10 +93,7 @@ fn no_room<D: Disk + Drop>(parts: &Parts<D>, session: u32, numbers: Vec<u64>) ->
     ensures stays { StaysUndone D.told parts.now parts.now session (Hand.Begins numbers) result }
     ensures cause { HasCause D.told parts.now.pages parts.now.pages result }
 {
-    let never = parts.transactions.never();
-    a_session_has_its_transaction(never);
-    one_request_is_a_step(never);
-    an_undone_step_changes_nothing(parts);
+    laws_of_transactions();
     Stepped::Undone {
         fault: spent(&parts.journal),
         hand: Hand::Begins(numbers),
@@ -126,17 +113,7 @@ fn begin_now<D: Disk + Drop>(parts: &mut Parts<D>, session: u32, numbers: Vec<u6
     ensures stays { StaysUndone D.told parts.old parts.new session (Hand.Begins numbers) result }
     ensures cause { HasCause D.told parts.old.pages parts.new.pages result }
 {
-    let never = parts.transactions.never();
-    a_session_has_its_transaction(never);
-    a_step_is_shown(never);
-    one_hand_changes(never);
-    one_more_request(never);
-    one_request_is_a_step(never);
-    others_copies_stay(never);
-    others_see_alike(never);
-    requests_are_legal(never);
-    which_rows_count(never);
-    an_undone_step_changes_nothing(parts);
+    laws_of_transactions();
     match parts.transactions.begin(&mut parts.pages, session, numbers) {
         Ok(t) => {
             parts.journal.enter(session, 0, Request::Begin, Tag::Ok);

@@ -8,17 +8,12 @@ ghost use Rattle.store_parts.specs.Shares.{open_share};
 ghost use Rattle.store_parts.specs.StepAnswers.{HasCause};
 ghost use Rattle.store_parts.specs.Stepping.{IsFit, IsShown, LeavesTheOthers, MakesItsStep, StaysFit, StaysUndone};
 
+use crate::needs::laws_of_transactions;
 use block_model::{Reply, Request, Tag};
 use disk_trait::Disk;
 use row_versions::Standing;
-use store_parts::{
-    Hand, Parts, Stepped, a_step_is_shown, an_undone_step_changes_nothing, fault_of,
-    one_hand_changes, one_more_request, one_request_is_a_step, others_copies_stay,
-    requests_are_legal, spent,
-};
-use transactions::{
-    Transactions, a_session_has_its_transaction, others_see_alike, which_rows_count,
-};
+use store_parts::{Hand, Parts, Stepped, fault_of, spent};
+use transactions::Transactions;
 
 /// How many entries a session with an open transaction was promised beside that of its end.
 fn entries_unneeded(transactions: &Transactions, session: u32) -> usize
@@ -53,7 +48,6 @@ pub fn commit<D: Disk + Drop>(parts: &mut Parts<D>, session: u32) -> Stepped
     ensures stays { StaysUndone D.told parts.old parts.new session Hand.Commits result }
     ensures cause { HasCause D.told parts.old.pages parts.new.pages result }
 {
-    an_undone_step_changes_nothing(parts);
     match parts.pages.ready() {
         Ok(()) => {}
         Err(error) => {
@@ -80,10 +74,7 @@ fn no_commit<D: Disk + Drop>(parts: &Parts<D>, session: u32) -> Stepped
     ensures stays { StaysUndone D.told parts.now parts.now session Hand.Commits result }
     ensures cause { HasCause D.told parts.now.pages parts.now.pages result }
 {
-    let never = parts.transactions.never();
-    a_session_has_its_transaction(never);
-    one_request_is_a_step(never);
-    an_undone_step_changes_nothing(parts);
+    laws_of_transactions();
     Stepped::Undone {
         fault: spent(&parts.journal),
         hand: Hand::Commits,
@@ -102,17 +93,7 @@ fn commit_now<D: Disk + Drop>(parts: &mut Parts<D>, session: u32) -> Stepped
     ensures stays { StaysUndone D.told parts.old parts.new session Hand.Commits result }
     ensures cause { HasCause D.told parts.old.pages parts.new.pages result }
 {
-    let never = parts.transactions.never();
-    a_session_has_its_transaction(never);
-    a_step_is_shown(never);
-    one_hand_changes(never);
-    one_more_request(never);
-    one_request_is_a_step(never);
-    others_copies_stay(never);
-    others_see_alike(never);
-    requests_are_legal(never);
-    which_rows_count(never);
-    an_undone_step_changes_nothing(parts);
+    laws_of_transactions();
     let unneeded = entries_unneeded(&parts.transactions, session);
     match parts.transactions.commit(&mut parts.pages, session) {
         Ok(committed) => {
@@ -137,7 +118,6 @@ pub fn roll_back<D: Disk + Drop>(parts: &mut Parts<D>, session: u32) -> Stepped
     ensures stays { StaysUndone D.told parts.old parts.new session Hand.RollsBack result }
     ensures cause { HasCause D.told parts.old.pages parts.new.pages result }
 {
-    an_undone_step_changes_nothing(parts);
     match parts.pages.ready() {
         Ok(()) => {}
         Err(error) => {
@@ -164,10 +144,7 @@ fn no_rollback<D: Disk + Drop>(parts: &Parts<D>, session: u32) -> Stepped
     ensures stays { StaysUndone D.told parts.now parts.now session Hand.RollsBack result }
     ensures cause { HasCause D.told parts.now.pages parts.now.pages result }
 {
-    let never = parts.transactions.never();
-    a_session_has_its_transaction(never);
-    one_request_is_a_step(never);
-    an_undone_step_changes_nothing(parts);
+    laws_of_transactions();
     Stepped::Undone {
         fault: spent(&parts.journal),
         hand: Hand::RollsBack,
@@ -186,17 +163,7 @@ fn roll_back_now<D: Disk + Drop>(parts: &mut Parts<D>, session: u32) -> Stepped
     ensures stays { StaysUndone D.told parts.old parts.new session Hand.RollsBack result }
     ensures cause { HasCause D.told parts.old.pages parts.new.pages result }
 {
-    let never = parts.transactions.never();
-    a_session_has_its_transaction(never);
-    a_step_is_shown(never);
-    one_hand_changes(never);
-    one_more_request(never);
-    one_request_is_a_step(never);
-    others_copies_stay(never);
-    others_see_alike(never);
-    requests_are_legal(never);
-    which_rows_count(never);
-    an_undone_step_changes_nothing(parts);
+    laws_of_transactions();
     let unneeded = entries_unneeded(&parts.transactions, session);
     match parts.transactions.rollback(&mut parts.pages, session) {
         Ok(()) => {

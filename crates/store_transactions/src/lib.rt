@@ -5,6 +5,7 @@
 
 mod begins;
 mod ends;
+mod needs;
 
 pub use begins::begin;
 pub use ends::{commit, roll_back};

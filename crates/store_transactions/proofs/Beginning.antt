@@ -3,7 +3,7 @@ use Rattle.std.proofs.Common.{◌≡◌, ◌≢◌, ◌⊎◌, inl, inr, ℕ, �
 use Rattle.std.specs.Prelude.{IsTrue, codes}
 use Rattle.std.specs.Global.{Vec}
 use Rattle.std.specs.FinMap as finite
-use Rattle.std.proofs.lemmas.List.{get_or-set_other}
+use Rattle.std.proofs.lemmas.List.{get_or-set_other, get_or-set_same}
 use Rattle.std.proofs.lemmas.Bool.{eqb-true}
 use Rattle.std.proofs.lemmas.Option.{none-some}
 use Rattle.block_model.specs.declared.reply.Refusal.TheVariants as refusals
@@ -27,6 +27,7 @@ use Rattle.statements.specs.StatementRequests.{request_entry}
 use Rattle.row_versions.specs.declared.sessions.Open.{Open}
 use Rattle.row_versions.specs.StoredVersions.{transaction_of}
 use Rattle.tx_table.specs.LeavesRest.{LeavesRest}
+use Rattle.tx_table.specs.TxState.{IsOver}
 use Rattle.tx_table.specs.Statuses.{HasStatuses, OfStatuses, number_limit}
 use Rattle.transactions.specs.CountedRows.{counts as counts_of}
 use Rattle.transactions.specs.Laws.{BeginCounts, BeginIsUnseen, RowIsOfTransactions, SessionsAreShown}
@@ -44,12 +45,16 @@ use Rattle.store_parts.specs.Hands.{HandShows, statement_of}
 use Rattle.store_parts.specs.HandsInTables.{sight_of, table_in}
 use Rattle.store_parts.specs.PlacesAfter.{place_at_once}
 use Rattle.store_parts.specs.RequestLaws.{BeginIsLegal}
-use Rattle.store_parts.specs.Shares.{share_of}
+use Rattle.store_parts.specs.Shares.{open_share, share_of}
 use Rattle.store_parts.specs.ShowsPlace.{IsPlaceOf, ShowsPlace}
 use Rattle.store_parts.specs.StepLaws.{LacksNumber}
-use Rattle.store_parts.specs.Stepping.{MakesItsStep}
+use Rattle.store_parts.specs.JournalState.{JournalState}
+use Rattle.store_parts.specs.Stepping.{IsFit, MakesItsStep}
 use Rattle.store_parts.specs.StoreStates.{hand_in, shown_of, store_of}
-use Rattle.store_parts.specs.UndoneLaws.{StepsSo}
+use Rattle.store_parts.specs.UndoneLaws.{FitsParts, StepsSo}
+use Rattle.store_parts.proofs.Requests.{begin_is_legal}
+use Rattle.store_parts.proofs.Steps.{lacks_number as no_number}
+use Rattle.store_parts.proofs.Undone.{fit_of_parts}
 use Rattle.store_transactions.proofs.AtOnce.{DoesRequestNow, IsOnly, Laws, Leaves_, Restates, StaysBeside, done, makes_its_step, shown_parts, shown_then}
 use Rattle.store_transactions.proofs.Rooms.{lacks}
 
@@ -219,3 +224,76 @@ module _ {D : Type 0} (with_laws : BeginLaws) (parts : Parts D) (n : ℕ) (numbe
       lacks with_laws.laws parts n (hands.Begins numbers) full names hands_ p is shown (request_entry n 0 requests.Begin) (Begun (database_at p).next) (replies.Begun (database_at p).next)
           (begin_only n (database_at p).next numbers p.layout) (begin_answered (database_at p) (has.none n idle))
           (steps.Begin (subst (λ (next : ℕ). next < numbers_of p.layout) (sym has.next) (subst (λ (layout : DiskLayout). parts.transactions.tx.next < numbers_of layout) (sym shown.layout) some))) refl
+
+-- ---- by what the calls ensure
+
+begin_promised : (new old : ℕ) → new + 1 ≡ old → new + (3 + 0) ≡ old + (0 + 2)
+begin_promised new old entered = omega arith
+
+refused_promised : (new old : ℕ) → new + 3 ≡ old → new + (3 + 0) ≡ old + (0 + 0)
+refused_promised new old released = omega arith
+
+module _ {D : Type 0} (told : D → Told) (laws : BeginLaws) (old : Parts D) (n : ℕ) (numbers : Vec ℕ) (fits : IsFit told old n (hands.Begins numbers)) (ready : old.pages.failed ≡ None) where
+  was : FitsParts told old n (Some (hands.Begins numbers))
+  was = fit_of_parts told old n (hands.Begins numbers) fits
+
+  pub idle : transaction_of old.transactions.opens n ≡ None
+  idle = was.in_hand.0
+
+  pub begun : (pages : View D) (tx : TransactionsState) (j : JournalState) (t : ℕ) → pages.failed ≡ None → IsOver told tx.tx pages → LeavesRest told old.pages pages → length old.transactions.opens ≡ MAX_SESSIONS
+      → t ≡ old.transactions.tx.next → old.transactions.tx.next < number_limit old.pages.layout → tx ≡ with_begun old.transactions n
+      → OfStatuses told old.pages (λ stored. HasStatuses old.pages.layout pages.pages (set stored old.transactions.tx.next status.Begun))
+      → OfDatabase told old.pages old.transactions (λ s. DoesRequest old.pages.layout pages.pages tx s (request_entry n 0 requests.Begin) (Begun t))
+      → j.entries ≡ old.journal.entries ++ request_entry n 0 requests.Begin ∷ [] → j.promised + 1 ≡ old.journal.promised → length old.journal.entries + 1 ≤ MAX_ENTRIES
+      → StepsSo told old (record old { pages = pages; transactions = tx; journal = j }) n (hands.Begins numbers) (stepped.Done (replies.Begun t))
+  begun pages tx j t still over rest places number some is statuses does longer entered room =
+      let new : Parts D = record old { pages = pages; transactions = tx; journal = j } in
+      let more : length j.entries ≤ MAX_ENTRIES = omega (arith, room, ap length longer, length-append old.journal.entries (request_entry n 0 requests.Begin ∷ [])) in
+      let now_open : transaction_of tx.opens n ≡ Some (next_open old.transactions) =
+          ap (λ (x : TransactionsState). transaction_of x.opens n) is ∙ get_or-set_same old.transactions.opens n (Some (next_open old.transactions)) None (omega (arith, was.session, places)) in
+      let so : BeginsSo told old new n t = record {
+        session = was.session;
+        idle = idle;
+        number = number;
+        some = some;
+        begun = is;
+        rest = rest;
+        statuses = statuses;
+        does = does;
+        entries = longer;
+        room = more;
+        locks = refl;
+        rights = refl;
+      } in
+      begins told laws old new n t numbers so (record {
+        fits = fits;
+        ready = ready;
+        still = still;
+        leaves = rest.leaves;
+        over = over;
+        locks = refl;
+        rights = refl;
+        entries = more;
+        none_held = refl;
+        promised = (λ i. j.promised + (3 + open_share (idle i))) ∙ begin_promised j.promised old.journal.promised entered ∙ (λ i. old.journal.promised + (0 + open_share (sym now_open i)));
+        opens = others_same told laws old new n t numbers so;
+      })
+
+  pub refused : (j : JournalState) → old.transactions.tx.next ≡ number_limit old.pages.layout → j.entries ≡ old.journal.entries → j.promised + 3 ≡ old.journal.promised
+      → StepsSo told old (record old { journal = j }) n (hands.Begins numbers) (stepped.Done (replies.Refused (refusals.Full (codes "status") old.transactions.tx.next)))
+  refused j spent same released =
+      let new : Parts D = record old { journal = j } in
+      let room : length j.entries ≤ MAX_ENTRIES = omega (arith, was.entries, ap length same) in
+      is_refused told laws old new n numbers (record { pages = refl; transactions = refl; locks = refl; rights = refl; entries = same }) spent room (record {
+        fits = fits;
+        ready = ready;
+        still = ready;
+        leaves = record { layout = refl; tells = refl; faults = omega arith };
+        over = was.over;
+        locks = refl;
+        rights = refl;
+        entries = room;
+        none_held = refl;
+        promised = (λ i. j.promised + (3 + open_share (idle i))) ∙ refused_promised j.promised old.journal.promised released ∙ (λ i. old.journal.promised + (0 + open_share (sym idle i)));
+        opens = λ m apart. refl;
+      })
