@@ -120,6 +120,11 @@ BlockedOn told relation actor old new before after (did.Blocked held) =
     (held.page.relation ≡ relation) × (holder before held.page ≡ Some held.by) × (held.by ≢ actor) × (after ≡ before) × Keeps told old new
 BlockedOn told relation actor old new before after answer = Unit {0}
 
+-- the step that puts the row waits for no lock
+abbrev pub WaitsForNoRow : Option Spot → Did → Type 0
+WaitsForNoRow None (did.Blocked held) = ⊥
+WaitsForNoRow place answer = Unit {0}
+
 -- no place is left for the row, of so many; or no page of the index for the tuple with the row, of so many
 abbrev pub IsInsertFull : (s at : ℕ) → ShownTable → Task → (number : ℕ) → Type 0
 IsInsertFull s at shown Resting number = (number ≡ shown.heap_limit * shown.rows_per_page) × ((u : Unseen) → IsHeapFull (table_state shown u))

@@ -1,6 +1,6 @@
 //! An insert over all indexes of its table.
 
-ghost use Rattle.std.specs.Prelude.{◌≡◌, ◌+◌, ◌<◌, ◌≤◌, All, ℕ, None, Some, length, slice_get, IfOk, IfErr, OnOk, OnErr};
+ghost use Rattle.std.specs.Prelude.{◌≡◌, ◌+◌, ◌<◌, ◌≤◌, All, ℕ, None, Some, IsSome, length, slice_get, IfOk, IfErr, IfSome, OnOk, OnErr};
 ghost use Rattle.block_model.specs.declared.place.Spot.{Spot as AnySpot};
 ghost use Rattle.store_layout.specs.DiskLayout.{DiskLayout};
 ghost use Rattle.page_layout.specs.RowBytes.{HaveKinds};
@@ -14,7 +14,7 @@ ghost use Rattle.index_order.specs.KeepsOrder.{KeepsOrder};
 ghost use Rattle.index_steps.specs.IndexTuples.{TakesValues, shape_of};
 ghost use Rattle.index_steps.specs.SwapAnswers.{LeavesLocks, MachineOutcome, StaysWhereFull, TakesAtMost};
 ghost use Rattle.brin_insert.specs.declared.stage.Stage.TheVariants as stages;
-ghost use Rattle.brin_insert.specs.InsertAnswers.{BlockedOn, FaultNamesRelation, InsertStepped, IsInsertFull, IsLeftBy, LeavesOtherRelations, SaysInsertFull, StandsPlaced, TakesFirstPlace, TakesPlaceWithin, relation_at};
+ghost use Rattle.brin_insert.specs.InsertAnswers.{BlockedOn, FaultNamesRelation, InsertStepped, IsInsertFull, IsLeftBy, LeavesOtherRelations, SaysInsertFull, StandsPlaced, TakesFirstPlace, TakesPlaceWithin, WaitsForNoRow, relation_at};
 ghost use Rattle.brin_insert.specs.InsertLocks.{held_by, stage_of, taken_by};
 ghost use Rattle.brin_insert.specs.Inserts.{AsksNothing, HasReached, HasStepLeft, IsInsertFor, IsOfItsIndex, numbers_in, task_of, work_of};
 ghost use Rattle.index_steps.specs.ShownRows.{ShowsKept, shown_by};
@@ -86,6 +86,23 @@ impl Insert {
         self.place
     }
 
+    /// The row.
+    pub fn row(&self) -> &Row
+        ensures { result.now ≡ self.now.row }
+    {
+        &self.row
+    }
+
+    /// The number of the index that is next, among all indexes.
+    pub fn index(&self) -> u8
+        requires { IsSome (work_of self.now) }
+        ensures { IfSome (work_of self.now) (λ hand. result ≡ hand.index) }
+    {
+        let at = self.at;
+        let works = &self.works;
+        works[at].index()
+    }
+
     /// The next step, over any pages that show a kept table in which the session has this insert in hand: the row is put, or the next
     /// step in the index that is next is made. `Finished` comes with the last one. Blocked, by page and holder, where another session
     /// locks a page that the step changes; Full, with its number, exactly where no place is left for the row, or no page of the index
@@ -107,6 +124,7 @@ impl Insert {
         ensures placed { OnOk result (StandsPlaced self.old.place self.new.place) }
         ensures first_place { OnOk result (OfBlocks D.told pages.old self.old.row.table (TakesFirstPlace pages.old.layout self.old.place self.new.place)) }
         ensures within { OnOk result (TakesPlaceWithin pages.old.layout self.old.row.table self.old.place self.new.place) }
+        ensures first { IfOk result (WaitsForNoRow self.old.place) }
         ensures blocked { IfOk result (BlockedOn D.told (relation_at pages.old.layout self.old) actor pages.old pages.new locks.old locks.new) }
         ensures full { IfErr result (SaysInsertFull (relation_at pages.old.layout self.old) (λ number. OfBlocks D.told pages.old self.old.row.table (λ blocks. IsInsertFull actor self.old.at (shown_by pages.old.layout pages.old.pages locks.old self.old.row.table blocks) (task_of pages.old.layout self.old) number))) }
         ensures made { IsInsertFor pages.old.layout self.new }

@@ -22,3 +22,4 @@ pub mod VisibleRows
 pub mod Behind
 pub mod Next
 pub mod Honest
+pub mod Ahead

@@ -1,5 +1,5 @@
 -- the candidate that a scan reads next
-use Rattle.std.proofs.Common.{◌≡◌, inl, inr, ℕ, ◌+◌, ◌<◌, Bool, true, false, List, length, Option, Some, refl, sym, subst, ◌∙◌}
+use Rattle.std.proofs.Common.{◌≡◌, inl, inr, ℕ, ◌+◌, ◌<◌, Bool, true, false, List, length, Option, Some, refl, sym, subst, ◌∙◌, arith}
 use Rattle.std.proofs.lemmas.Bool.{cases_lt, false≢true}
 use Rattle.std.proofs.lemmas.List.{get_or_past}
 use Rattle.std.proofs.lemmas.Option.{none-some}
@@ -44,6 +44,7 @@ read_on hand b next found last reads finding finds first =
     let ordered = ascend_more b hand.read hand.found found finding.ascend finding.read reads.first.unread finds in
     record {
       at = subst (λ (stage : Stage). IsFindingAt stage (record hand { read = b + 1; next = next; found = found; last = last })) (sym reads.all) first;
+      read_within = omega (arith, candidate_within hand.judging.candidates b reads.first.candidate);
       ascend = ordered.0;
       read = ordered.1;
     }

@@ -1,5 +1,5 @@
 -- what a scan finds on the pages of its candidate blocks, and what its steps do
-use Rattle.std.specs.Prelude.{◌≡◌, ℕ, ◌⊎◌, ◌+◌, ◌≤◌, ◌<◌, ◌==◌, if◌then◌else◌, Bool, true, false, ◌&&◌, All, List, [], ◌∷◌, ◌++◌, map, Option, None, Some, Result, Err}
+use Rattle.std.specs.Prelude.{◌≡◌, ℕ, ◌⊎◌, ◌+◌, ◌≤◌, ◌<◌, ◌==◌, if◌then◌else◌, Bool, true, false, ◌&&◌, All, List, [], ◌∷◌, ◌++◌, length, map, Option, None, Some, Result, Err}
 use Rattle.std.specs.List.{filter, list_any}
 use Rattle.block_model.specs.declared.place.Spot.{Spot}
 use Rattle.block_model.specs.declared.reply.Point.{Point}
@@ -188,8 +188,9 @@ abbrev pub IsFindingAt : Stage → FindHand → Type 0
 IsFindingAt stages.Judged hand = IsNext hand.judging.candidates hand.read hand.next
 IsFindingAt stage hand = ReadsNothing hand
 
--- what holds of every scan: what it found stands in blocks that are read, each row once, in order of place
+-- what holds of every scan: what it found stands in blocks that are read, which the table may have, each row once, in order of place
 pub record IsFinding (hand : FindHand) : Type 0 where
   pub at : IsFindingAt hand.judging.stage hand
+  pub read_within : hand.read ≤ length hand.judging.candidates
   pub ascend : Ascend 0 0 hand.found
   pub read : All (λ (f : Row × Spot). f.1.block < hand.read) hand.found

@@ -9,5 +9,6 @@ pub mod Finds
 pub mod ReadableIndexes
 pub mod Judgings
 pub mod LastStatuses
+pub mod LooksAhead
 pub mod ScanLaws
 pub mod SeenRows

@@ -44,10 +44,12 @@ impl Explain {
     pub fn new(alloc: Global, query: Query, layout: &Layout) -> Result<Explain, NoMemory>
         ensures begins { IfOk result (λ explain. explain ≡ record { judging = first_hand layout.now query; blocks = [] }) }
     {
-        let judging = Judging::new(alloc, query, layout)?;
         let room = layout.sizes().heap_blocks as usize;
         let blocks = Vec::with_capacity(alloc, room)?;
-        Ok(Explain { judging, blocks })
+        match Judging::new(alloc, query, layout) {
+            Ok(judging) => Ok(Explain { judging, blocks }),
+            Err(_) => Err(NoMemory),
+        }
     }
 
     /// Does nothing; tells its caller what holds of the judging of its ranges.
@@ -99,6 +101,14 @@ impl Explain {
         ensures { result.now ≡ self.now.blocks }
     {
         self.blocks.as_slice()
+    }
+
+    /// The candidate blocks, in ascending order; none before the last step. Takes no memory.
+    pub fn into_blocks(self) -> Vec<u32>
+        ensures { result.items ≡ self.blocks }
+    {
+        let Explain { blocks, .. } = self;
+        blocks
     }
 }
 

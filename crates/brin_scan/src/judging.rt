@@ -1,6 +1,7 @@
 //! How a scan judges the ranges of its table's indexes.
 
-ghost use Rattle.std.specs.Prelude.{◌≡◌, ◌<◌, ◌≤◌, ℕ, Bool, true, false, All, List, length, IfOk, IfErr, OnOk, OnErr};
+ghost use Rattle.std.specs.Prelude.{◌≡◌, ◌<◌, ◌≤◌, ℕ, Bool, true, false, All, List, length, replicate, IfOk, IfErr, OnOk, OnErr};
+ghost use Rattle.std.specs.Box.{boxed_slice_items};
 ghost use Rattle.block_model.specs.declared.limits.TheConstants.{MAX_CONDITIONS};
 ghost use Rattle.block_model.specs.declared.row.Query.{Query as AnyQuery};
 ghost use Rattle.logged_pages.specs.Survives.{Survives};
@@ -12,6 +13,7 @@ ghost use Rattle.index_steps.specs.Readings.{IsMisread};
 ghost use Rattle.index_steps.specs.SwapAnswers.{FaultNamesPageOf};
 ghost use Rattle.brin_scan.specs.IndexReaders.{all_scanned, hand_at, scanned};
 ghost use Rattle.brin_scan.specs.Judgings.{SaysOfRange};
+ghost use Rattle.brin_scan.specs.LooksAhead.{ComesTo};
 ghost use Rattle.brin_scan.specs.ScanHands.{IsAtRange, IsBegunAt, IsHand, IsJudging, IsScanOf, first_hand, scanned_indexes};
 ghost use Rattle.brin_scan.specs.ScanAnswers.{IsDamagedAt, NamesPageAt, ReadOutcome};
 ghost use Rattle.brin_scan.specs.ScanSteps.{JudgesTo};
@@ -66,21 +68,28 @@ impl Model for Judging {
 }
 
 impl Judging {
-    /// Before the first step. Takes all the memory that judging ever needs.
-    pub(crate) fn new(alloc: Global, query: Query, layout: &Layout) -> Result<Judging, NoMemory>
+    /// Before the first step. Takes all the memory that judging ever needs; where there isn't as much the query comes back.
+    pub(crate) fn new(alloc: Global, query: Query, layout: &Layout) -> Result<Judging, Query>
         ensures begins { IfOk result (λ judging. judging ≡ first_hand layout.now query) }
+        ensures back { IfErr result (λ back. back ≡ query) }
     {
-        let readers = readers_of(alloc, layout, query.table)?;
-        let copied = Scratch::new(alloc)?;
+        let Ok(readers) = readers_of(alloc, layout, query.table) else {
+            return Err(query);
+        };
+        let Ok(copied) = Scratch::new(alloc) else {
+            return Err(query);
+        };
         let blocks = layout.sizes().heap_blocks as usize;
-        let candidates = vec![in alloc; false; blocks]?;
+        let Ok(candidates) = no_candidates(alloc, blocks) else {
+            return Err(query);
+        };
         Ok(Judging {
             query,
             readers,
             copied,
             stage: Stage::Extent,
             extent: 0,
-            candidates: candidates.into_boxed_slice(),
+            candidates,
         })
     }
 
@@ -98,6 +107,14 @@ impl Judging {
         &self.query
     }
 
+    /// The query, where the judging is over. Takes no memory.
+    pub(crate) fn into_query(self) -> Query
+        ensures { result ≡ self.query }
+    {
+        let Judging { query, .. } = self;
+        query
+    }
+
     /// The stage that it is at.
     pub(crate) fn stage(&self) -> Stage
         ensures { result ≡ self.now.stage }
@@ -110,7 +127,7 @@ impl Judging {
         ensures yes { result ≡ true → self.now.stage ≡ Stage.Judged }
         ensures no { result ≡ false → IsJudging self.now.stage }
     {
-        matches!(self.stage, Stage::Judged)
+        is_judged(self.stage)
     }
 
     /// Of each block that the table may have, whether it is a candidate.
@@ -156,6 +173,57 @@ impl Judging {
             Err(fault) => Err(fault),
         }
     }
+
+    /// Whether all ranges are judged after the next step; `ahead` becomes the candidates that there are then. Changes nothing else, and takes no
+    /// memory.
+    pub(crate) fn peek<D: Disk + Drop>(
+        &mut self,
+        pages: &mut PageStore<D>,
+        ahead: &mut [bool],
+    ) -> Result<bool, MachineFault>
+        requires scan { IsScanOf pages.old.layout self.old }
+        requires work { IsJudging self.old.stage }
+        requires room { length ahead.old ≡ length self.old.candidates }
+        ensures comes { IfOk result (λ all. Tells D.told pages.old → ComesTo pages.old.layout pages.old.pages self.old ahead.new all) }
+        ensures room { length ahead.new ≡ length ahead.old }
+        ensures same { self.new ≡ self.old }
+        ensures kept { Keeps D.told pages.old pages.new }
+        ensures survives { Survives D.told (λ passed. passed ≡ pages.old.pages) pages.old pages.new }
+        ensures names { IfErr result (NamesPageAt pages.old.layout self.old.indexes self.old.stage) }
+        ensures outcome { ReadOutcome D.told (Tells D.told pages.old → IsDamagedAt pages.old.layout pages.old.pages self.old.indexes self.old.stage) pages.old pages.new result }
+    {
+        let (extent, stage) = (self.extent, self.stage);
+        ahead.copy_from_slice(&self.candidates);
+        let stage = match judge(
+            pages,
+            &self.query,
+            extent,
+            stage,
+            &mut self.readers,
+            ahead,
+            &mut self.copied,
+        ) {
+            Ok((_, stage)) => stage,
+            Err(fault) => return Err(fault),
+        };
+        Ok(is_judged(stage))
+    }
+}
+
+/// Whether no range is left to judge at this stage.
+fn is_judged(stage: Stage) -> bool
+    ensures yes { result ≡ true → stage ≡ Stage.Judged }
+    ensures no { result ≡ false → IsJudging stage }
+{
+    matches!(stage, Stage::Judged)
+}
+
+/// Of so many blocks none is a candidate. Takes the memory of them.
+pub(crate) fn no_candidates(alloc: Global, blocks: usize) -> Result<BoxedSlice<bool>, NoMemory>
+    ensures { IfOk result (λ candidates. boxed_slice_items candidates ≡ replicate blocks false) }
+{
+    let candidates = vec![in alloc; false; blocks]?;
+    Ok(candidates.into_boxed_slice())
 }
 
 /// The next step at this stage, with the extent and the stage after it.

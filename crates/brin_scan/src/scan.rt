@@ -1,23 +1,27 @@
 //! The scan of a select or a delete.
 
-ghost use Rattle.std.specs.Prelude.{◌≡◌, ◌⊎◌, ◌<◌, ◌≤◌, ◌^◌, ◌++◌, ◌∷◌, [], ℕ, None, Some, length, take, IfErr, IfOk, OnOk, OnErr};
+ghost use Rattle.std.specs.Prelude.{◌≡◌, ◌⊎◌, ◌<◌, ◌≤◌, ◌^◌, ◌++◌, ◌∷◌, [], ℕ, All, None, Some, true, false, length, take, IfErr, IfOk, OnOk, OnErr};
 ghost use Rattle.std.specs.List.{list_all};
+ghost use Rattle.block_model.specs.declared.place.Spot.{Spot as AnySpot};
+ghost use Rattle.block_model.specs.declared.row.Row.{Row as AnyRow};
 ghost use Rattle.block_model.specs.RowMatches.{column_matches, row_matches};
 ghost use Rattle.logged_pages.specs.Survives.{Survives};
 ghost use Rattle.page_store.specs.Keeps.{Keeps, Tells, Untold};
+ghost use Rattle.page_locks.specs.declared.did.Did.TheVariants as did;
 ghost use Rattle.heap_rows.specs.Heaps.{slots_a_page};
 ghost use Rattle.heap_rows.specs.HeapBlocks.{OfBlocks, slots_of};
 ghost use Rattle.heap_rows.specs.StoredRows.{SlotsAscend, stored_rows};
 ghost use Rattle.brin_scan.specs.Finds.{Ascend, FaultNamesNext, FaultNamesRead, FaultNamesStatuses, FindOutcome, FindSteps, FindsIn, FindsThere, IsFindOf, IsNext, IsPointIn, IsScanning, OfSight, Sight, did_at, first_find, found_at, visible_matches};
 ghost use Rattle.brin_scan.specs.LastStatuses.{Remembers};
+ghost use Rattle.brin_scan.specs.LooksAhead.{NextIs};
 ghost use Rattle.brin_scan.specs.ScanAnswers.{IsDamagedAt, NamesPageAt, ReadOutcome};
 ghost use Rattle.brin_scan.specs.ScanHands.{IsHand, IsJudging, first_hand};
 
 use crate::explain::point_at;
-use crate::judging::Judging;
+use crate::judging::{Judging, no_candidates};
 use crate::sight::{LastStatuses, is_visible};
 use crate::stage::Stage;
-use block_model::{Cond, NoMemory, Query, Row, Spot, Value, matches};
+use block_model::{Cond, Query, Row, Spot, Value, matches};
 use disk_trait::Disk;
 use engine_pages::PageStore;
 use heap_rows::{PageRows, Stored, rows_of};
@@ -25,6 +29,7 @@ use page_locks::{Did, Point};
 use page_store::MachineFault;
 use snapshot_core::Snapshot;
 use std::alloc::Global;
+use std::boxed::BoxedSlice;
 use std::marker::Model;
 use store_layout::Layout;
 use tx_table::TxTable;
@@ -41,29 +46,41 @@ pub struct Scan {
     found: Vec<(Row, Spot)>,
     /// What it remembers of transactions that had ended at its snapshot.
     last: LastStatuses,
+    /// Room for the candidates that there are after a step which it only looks at.
+    ahead: BoxedSlice<bool>,
 }
 
 impl Model for Scan {
-    ghost use Rattle.std.specs.Prelude.{◌≡◌, [], None};
+    ghost use Rattle.std.specs.Prelude.{◌≡◌, [], None, length};
+    ghost use Rattle.std.specs.Box.{boxed_slice_items};
     ghost use Rattle.brin_scan.specs.Finds.{FindHand, IsFinding};
 
     ghost Value = { FindHand };
 
     ghost view = { λ a. record { judging = a.judging; read = a.read; next = a.next; found = a.found.items; last = a.last; room = a.rows.room } };
 
-    ghost invariant = { λ a. IsFinding (record { judging = a.judging; read = a.read; next = a.next; found = a.found.items; last = a.last; room = a.rows.room }) };
+    ghost invariant = { λ a. IsFinding (record { judging = a.judging; read = a.read; next = a.next; found = a.found.items; last = a.last; room = a.rows.room }) × (length (boxed_slice_items a.ahead) ≡ length a.judging.candidates) };
 }
 
 impl Scan {
     /// Before the first step of a scan for a query of a table of the layout. Takes all the memory that it needs but that of the rows which it
-    /// finds.
-    pub fn new(alloc: Global, query: Query, layout: &Layout) -> Result<Scan, NoMemory>
+    /// finds; where there isn't as much the query comes back.
+    pub fn new(alloc: Global, query: Query, layout: &Layout) -> Result<Scan, Query>
         requires table { query.table < length layout.now.schema.tables }
         ensures begins { IfOk result (λ scan. scan ≡ first_find (first_hand layout.now query) (slots_a_page layout.now query.table)) }
+        ensures back { IfErr result (λ back. back ≡ query) }
     {
         let table = usize::from(query.table);
-        let judging = Judging::new(alloc, query, layout)?;
-        let rows = PageRows::new(alloc, &layout.schema().tables.as_slice()[table])?;
+        let Ok(rows) = PageRows::new(alloc, &layout.schema().tables.as_slice()[table]) else {
+            return Err(query);
+        };
+        let Ok(ahead) = no_candidates(alloc, layout.sizes().heap_blocks as usize) else {
+            return Err(query);
+        };
+        let judging = match Judging::new(alloc, query, layout) {
+            Ok(judging) => judging,
+            Err(query) => return Err(query),
+        };
         Ok(Scan {
             judging,
             rows,
@@ -71,12 +88,15 @@ impl Scan {
             next: None,
             found: Vec::new(alloc),
             last: LastStatuses::new(),
+            ahead,
         })
     }
 
-    /// Does nothing; tells its caller that each row is found once, in the order of the places, and what holds of the judging of its ranges.
+    /// Does nothing; tells its caller that each row is found once, in the order of the places, and in a block that the table may have; and what
+    /// holds of the judging of its ranges.
     pub fn known(&self)
         ensures order { Ascend 0 0 self.now.found }
+        ensures within { All (λ (f : AnyRow × AnySpot). f.1.block < length self.now.judging.candidates) self.now.found }
         ensures hand { IsHand self.now.judging }
     {
         self.judging.known();
@@ -126,6 +146,82 @@ impl Scan {
                 Err(fault) => Err(fault),
             },
         }
+    }
+
+    /// Whether the next step is the last one, over the pages of a store of the layout. Changes nothing, and takes no memory; it reads what the
+    /// step reads of an index, and no block.
+    pub fn peek<D: Disk + Drop>(&mut self, pages: &mut PageStore<D>) -> Result<bool, MachineFault>
+        requires scan { IsFindOf pages.old.layout self.old }
+        requires work { IsScanning self.old.judging.stage self.old.next }
+        ensures same { self.new ≡ self.old }
+        ensures ends { IfOk result (λ last. last ≡ true → Tells D.told pages.old → NextIs pages.old.layout pages.old.pages self.old did.Finished) }
+        ensures goes { IfOk result (λ last. last ≡ false → Tells D.told pages.old → NextIs pages.old.layout pages.old.pages self.old did.Moved) }
+        ensures kept { Keeps D.told pages.old pages.new }
+        ensures survives { Survives D.told (λ passed. passed ≡ pages.old.pages) pages.old pages.new }
+        ensures names { IfErr result (FaultNamesNext pages.old.layout self.old self.old.next) }
+        ensures outcome { ReadOutcome D.told (Tells D.told pages.old → IsDamagedAt pages.old.layout pages.old.pages self.old.judging.indexes self.old.judging.stage) pages.old pages.new result }
+    {
+        match self.next {
+            Some(block) => match self.peek_block(pages, block) {
+                Ok(last) => Ok(last),
+                Err(fault) => Err(fault),
+            },
+            None => match self.peek_range(pages) {
+                Ok(last) => Ok(last),
+                Err(fault) => Err(fault),
+            },
+        }
+    }
+
+    /// Whether no candidate stands behind the next one. Reads no page.
+    fn peek_block<D: Disk + Drop>(
+        &self,
+        pages: &PageStore<D>,
+        block: u32,
+    ) -> Result<bool, MachineFault>
+        requires scan { IsFindOf pages.now.layout self.now }
+        requires next { self.now.next ≡ Some block }
+        ensures ends { IfOk result (λ last. last ≡ true → NextIs pages.now.layout pages.now.pages self.now did.Finished) }
+        ensures goes { IfOk result (λ last. last ≡ false → NextIs pages.now.layout pages.now.pages self.now did.Moved) }
+        ensures survives { Survives D.told (λ passed. passed ≡ pages.now.pages) pages.now pages.now }
+        ensures names { IfErr result (FaultNamesRead pages.now.layout self.now.judging.query.table block) }
+        ensures outcome { ReadOutcome D.told ⊥ pages.now pages.now result }
+    {
+        match pages.ready() {
+            Ok(()) => {}
+            Err(error) => return Err(MachineFault::Store(error)),
+        }
+        self.judging.known();
+        match next_candidate(self.judging.candidates(), block + 1) {
+            Some(_) => return Ok(false),
+            None => {}
+        }
+        Ok(true)
+    }
+
+    /// Whether no range and no candidate is left after the step that reads the block count, or judges a range.
+    fn peek_range<D: Disk + Drop>(&mut self, pages: &mut PageStore<D>) -> Result<bool, MachineFault>
+        requires scan { IsFindOf pages.old.layout self.old }
+        requires work { IsJudging self.old.judging.stage }
+        ensures same { self.new ≡ self.old }
+        ensures ends { IfOk result (λ last. last ≡ true → Tells D.told pages.old → NextIs pages.old.layout pages.old.pages self.old did.Finished) }
+        ensures goes { IfOk result (λ last. last ≡ false → Tells D.told pages.old → NextIs pages.old.layout pages.old.pages self.old did.Moved) }
+        ensures kept { Keeps D.told pages.old pages.new }
+        ensures survives { Survives D.told (λ passed. passed ≡ pages.old.pages) pages.old pages.new }
+        ensures names { IfErr result (NamesPageAt pages.old.layout self.old.judging.indexes self.old.judging.stage) }
+        ensures outcome { ReadOutcome D.told (Tells D.told pages.old → IsDamagedAt pages.old.layout pages.old.pages self.old.judging.indexes self.old.judging.stage) pages.old pages.new result }
+    {
+        self.judging.known();
+        match self.judging.peek(pages, &mut self.ahead) {
+            Ok(true) => {}
+            Ok(false) => return Ok(false),
+            Err(fault) => return Err(fault),
+        }
+        match next_candidate(&self.ahead, 0) {
+            Some(_) => return Ok(false),
+            None => {}
+        }
+        Ok(true)
     }
 
     /// The step that reads the next candidate block.
@@ -212,6 +308,22 @@ impl Scan {
         ensures { result.now ≡ self.now.found }
     {
         self.found.as_slice()
+    }
+
+    /// The query, and the rows found, with their places, in the order of these. Takes no memory.
+    pub fn into_parts(self) -> (Query, Vec<(Row, Spot)>)
+        ensures { (result.0 ≡ self.judging.query) × (result.1.items ≡ self.found) }
+    {
+        let Scan { judging, found, .. } = self;
+        (judging.into_query(), found)
+    }
+
+    /// The query alone. Takes no memory.
+    pub fn into_query(self) -> Query
+        ensures { result ≡ self.judging.query }
+    {
+        let Scan { judging, .. } = self;
+        judging.into_query()
     }
 }
 

@@ -1,19 +1,19 @@
 -- calls of a summarise's step as steps of its session alone
-use Rattle.std.proofs.Common.{◌≡◌, ℕ, suc, ◌≤◌, List, [], ◌∷◌, Option, Some, refl, sym, subst, ◌∙◌}
+use Rattle.std.proofs.Common.{◌≡◌, ℕ, suc, ◌<◌, ◌≤◌, List, [], ◌∷◌, Option, Some, refl, sym, subst, ◌∙◌}
 use Rattle.block_model.specs.declared.reply.Point.{Point}
 use Rattle.coverage.specs.Statements.{Phase}
 use Rattle.table_coverage.specs.Accounts.{Account}
 use Rattle.table_coverage.specs.GoingOn.{LastAlone, OneMoreAlone, StepsAlone}
 use Rattle.table_coverage.specs.Machines.{MachineWaits, ShownTable, Unseen, table_state, task_turned}
-use Rattle.table_coverage.specs.StepsLeft.{HasAtMostTuples, IsSummarise, summarise_steps}
-use Rattle.table_coverage.specs.Table.{Job, Maintains, Task, TableState}
+use Rattle.table_coverage.specs.StepsLeft.{HasAtMostTuples, IsSummarise, summarise_steps, vacuum_steps}
+use Rattle.table_coverage.specs.Table.{Job, Maintains, Restarts, Task, TableState}
 use Rattle.table_coverage.specs.TableCovered.{IsMaintenance, IsTableKept}
 use Rattle.table_coverage.specs.TablePoints.{WaitedFor}
 use Rattle.table_coverage.specs.TableSteps.{TableDone, TableNext, TableRun, TableStep}
-use Rattle.brin_summarise.specs.SummariseCalls.{LastCall, OneMoreCall, SummariseCalls}
+use Rattle.brin_summarise.specs.SummariseCalls.{LastCall, NextIndexCall, OneMoreCall, SummariseCalls}
 use Rattle.brin_summarise.specs.TableSteps.{SummariseGoesTo, SummariseWaitsFor, lock_turned, unnamed_turned}
 use Rattle.brin_summarise.proofs.Settling.{pick_same}
-use Rattle.brin_summarise.proofs.Tables.{locked_is}
+use Rattle.brin_summarise.proofs.Tables.{locked_by, locked_is}
 
 -- what the laws of tables say of runs, and of a summarise
 abbrev pub RunsKeep : Type 0
@@ -22,6 +22,10 @@ RunsKeep = (steps : List ℕ) (w v : TableState) → IsTableKept w → TableRun 
 abbrev pub SummarisesEnd : Type 0
 SummarisesEnd = (s n at range tuples : ℕ) (w : TableState) (job : Job) (phase : Phase) → IsTableKept w → w.task s ≡ Maintains job at range phase
     → IsSummarise job → HasAtMostTuples w at tuples → StepsAlone s n w → n ≤ summarise_steps w job at range phase tuples
+
+abbrev pub VacuumsEnd : Type 0
+VacuumsEnd = (s n at : ℕ) (tuples : ℕ → ℕ) (w : TableState) → IsTableKept w → w.task s ≡ Restarts at → ((i : ℕ) → i < w.indexes → HasAtMostTuples w i (tuples i)) → StepsAlone s n w
+    → n ≤ vacuum_steps w at tuples
 
 module _ (keep : RunsKeep) (s : ℕ) where
   module _ (old new : ShownTable) (held held_then : Option ℕ) (before after : Task) (point : Point) (account : Account → Account) (goes : SummariseGoesTo s old new held held_then before after point account)
@@ -55,12 +59,22 @@ module _ (keep : RunsKeep) (s : ℕ) where
       (steps_alone calls new (Maintains job place range phase) rest (lock_turned (Some s) (task_turned s (Maintains job place range phase) (unnamed_turned (goes u at lock kept).0 u))) (pick_same s (Maintains job place range phase) (u.task s)) refl
       (kept_then old new (Some s) (Some s) before (Maintains job place range phase) point account goes u at lock kept))
 
+  steps_alone _ _ _ (NextIndexCall calls next old new before point account goes rest) u at lock kept =
+      is_one_more old new (Some s) (Some s) before (Restarts next) point account goes u at lock kept calls tt
+      (steps_alone calls new (Restarts next) rest (lock_turned (Some s) (task_turned s (Restarts next) (unnamed_turned (goes u at lock kept).0 u))) (pick_same s (Restarts next) (u.task s)) refl
+      (kept_then old new (Some s) (Some s) before (Restarts next) point account goes u at lock kept))
+
   -- so they are as few as the table's steps
   pub calls_end : SummarisesEnd → (calls at range tuples : ℕ) (shown : ShownTable) (job : Job) (phase : Phase) (u : Unseen) → SummariseCalls s calls shown (Maintains job at range phase) → IsSummarise job → u.task s ≡ Maintains job at range phase
       → IsTableKept (table_state shown u) → HasAtMostTuples (table_state shown u) at tuples → calls ≤ summarise_steps (table_state shown u) job at range phase tuples
   calls_end ends calls at range tuples shown job phase u run is task kept few =
       ends s calls at range tuples (table_state shown u) job phase kept task is few
       (steps_alone calls shown (Maintains job at range phase) run u task (locked_is s shown u job at range phase task kept) kept)
+
+  pub vacuums_end : VacuumsEnd → (calls at : ℕ) (tuples : ℕ → ℕ) (shown : ShownTable) (u : Unseen) → SummariseCalls s calls shown (Restarts at) → u.task s ≡ Restarts at → IsTableKept (table_state shown u)
+      → ((i : ℕ) → i < shown.indexes → HasAtMostTuples (table_state shown u) i (tuples i)) → calls ≤ vacuum_steps (table_state shown u) at tuples
+  vacuums_end ends calls at tuples shown u run task kept few =
+      ends s calls at tuples (table_state shown u) kept task few (steps_alone calls shown (Restarts at) run u task (locked_by s shown u (Restarts at) tt task kept) kept)
 
 -- where it waits at its range, it is a machine that waits
 pub machine_waits : (s at range : ℕ) (shown : ShownTable) (job : Job) (phase : Phase) (what : WaitedFor) → SummariseWaitsFor s shown (Some s) (Maintains job at range phase) what → MachineWaits s shown (Maintains job at range phase)

@@ -24,13 +24,14 @@ use Rattle.range_summarise.specs.SummariseSteps.{IsAtWork, IsDone, made_at}
 use Rattle.brin_summarise.specs.Summarises.{ComesTo, GivesBy, GoesOver, IsExactNow, IsSummariseOf, NoneIsLeft, RangeIsNext, SummariseState, TakesRight, after_range, at_first, first_of, held_by, held_in, in_range_of, state_of, step_of, taken_by, taken_in}
 
 -- the first block of a range that it goes over is below the extent, and so is the range
-pub over_below : (wish : Wish) (in_range extent range : ℕ) → GoesOver wish in_range extent range → range * in_range < extent
-over_below wishes.New in_range extent range goes = goes
-over_below (wishes.Block block) in_range extent range goes = goes.1
+pub over_below : (wish : Wish) (in_range extent range : ℕ) → 0 < in_range → GoesOver wish in_range extent range → range * in_range < extent
+over_below wishes.New in_range extent range some goes = goes
+over_below (wishes.Block block) in_range extent range some goes = goes.1
+over_below wishes.Complete in_range extent range some goes = omega (arith, some, goes)
 
 pub range_below : (wish : Wish) (in_range extent range : ℕ) → 0 < in_range → GoesOver wish in_range extent range → range < extent
 range_below wish in_range extent range some goes =
-    let first : range * in_range < extent = over_below wish in_range extent range goes in
+    let first : range * in_range < extent = over_below wish in_range extent range some goes in
     let least : range * 1 ≤ range * in_range = mul-le range 1 range in_range (omega arith) (omega (arith, some)) in
     omega (arith, first, least)
 

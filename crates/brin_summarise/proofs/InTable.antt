@@ -2,7 +2,7 @@
 use Rattle.std.proofs.Common.{◌≡◌, ◌≢◌, inl, inr, ℕ, ◌+◌, ◌/◌, ◌^◌, ◌<◌, List, length, Option, None, Some, refl, sym, ap, subst, ◌∙◌, arith}
 use Rattle.std.specs.Prelude.{slice_get}
 use Rattle.std.proofs.lemmas.Bool.{cases_eq}
-use Rattle.std.proofs.lemmas.Option.{slice_get_within}
+use Rattle.std.proofs.lemmas.Option.{same_Some, slice_get_within}
 use Rattle.block_model.specs.declared.reply.Point.{Point}
 use Rattle.block_model.specs.declared.reply.Point.TheVariants as points
 use Rattle.store_layout.specs.DiskLayout.{DiskLayout}
@@ -18,9 +18,10 @@ use Rattle.table_coverage.specs.Accounts.{Account, no_account}
 use Rattle.table_coverage.specs.InOneIndex.{DoesAt, with_ranges}
 use Rattle.table_coverage.specs.Machines.{ShownTable, Unseen, table_state, task_turned}
 use Rattle.table_coverage.specs.Refusals.{MaintainFull}
-use Rattle.table_coverage.specs.Table.{Considers, EachRange, Job, Maintains, OneRange, Resting, Task, TableState, index_view_at}
+use Rattle.table_coverage.specs.Table.{Considers, EachRange, Job, Maintains, OneRange, Restarts, Resting, Task, TableState, WholeRanges, index_view_at}
 use Rattle.table_coverage.specs.TableCovered.{IsMaintenance, IsTableKept}
-use Rattle.table_coverage.specs.TableSteps.{BeginsWith, Does, NoPage, SameRows, Summarize, SummarizeOne, SummariseLockHeld, TakesLock, TaskTurns}
+use Rattle.table_coverage.specs.TablePoints.{SummariseLock, waits_for}
+use Rattle.table_coverage.specs.TableSteps.{BeginsWith, Does, IsBlocked, NoPage, RestartsIndex, SameRows, Summarize, SummarizeOne, SummariseLockHeld, TakesLock, TaskTurns}
 use Rattle.index_steps.specs.IndexTuples.{shape_of}
 use Rattle.index_steps.specs.ShownRows.{shown_by}
 use Rattle.index_steps.specs.ShownTable.{indexes_of}
@@ -30,32 +31,33 @@ use Rattle.brin_summarise.specs.declared.wish.Wish.{Wish}
 use Rattle.brin_summarise.specs.declared.wish.Wish.TheVariants as wishes
 use Rattle.range_summarise.specs.SummariseHands.{SummariseHand, table_of}
 use Rattle.range_summarise.specs.SummariseSteps.{phase_of}
-use Rattle.brin_summarise.specs.Summarises.{Begins, ComesTo, EndsRange, FullAt, IsSummariseOf, LacksRight, NoneIsLeft, RangeIsNext, StoreStep, SummariseDoes, SummariseState, TakesRight, Waits, WorksAt, after_range, at_first, first_of, in_range_of}
+use Rattle.brin_summarise.specs.Summarises.{Begins, ComesTo, EndsRange, FullAt, IsSummariseOf, LacksRight, NoneIsLeft, RangeIsNext, StoreStep, SummariseDoes, SummariseState, TakesRight, Waits, WorksAt, after_range, at_first, count_at, count_of, first_of, in_range_of}
 use Rattle.brin_summarise.specs.Summarises.{GoesOn as StepGoesOn}
-use Rattle.brin_summarise.specs.TableSteps.{DoesInTable, HasCounted, IsSummariseFull, LeavesTheRest, account_by, job_of, lock_turned, shown_after, shown_before, task_of, unnamed_turned}
-use Rattle.brin_summarise.proofs.Settling.{comes_to_range, pick_other, pick_same, replies, stays_there}
+use Rattle.brin_summarise.specs.TableSteps.{DoesInTable, HasCounted, IsSummariseFull, LeavesTheRest, account_by, account_first, before_first, indexes_left, job_of, lock_turned, shown_after, shown_before, task_of, unnamed_turned}
+use Rattle.brin_summarise.proofs.Settling.{comes_behind_last, comes_to_range, pick_other, pick_same, stays_there}
 use Rattle.brin_summarise.proofs.Shown.{each_here, shows_here}
-use Rattle.brin_summarise.proofs.Tables.{IndexHere, MaintainCompletes, MaintainGoes, MaintainKnows, OtherIndexes, ends_there, goes_there, waits_there}
+use Rattle.brin_summarise.proofs.Tables.{IndexHere, MaintainCompletes, MaintainGoes, MaintainKnows, OtherIndexes, ends_there, goes_there, locked_by, waits_there}
 
 -- what it is of the summarise where this is where it stands
 standing_as : (Q : SummariseState → Type 0) (a : SummariseState) (standing : Standing) → a.standing ≡ standing → Q (record a { standing = standing }) → Q a
 standing_as Q a standing is proof = subst Q (λ j. record a { standing = sym is j }) proof
 
--- a session that rests takes the lock, which nobody holds, and comes before that range, with an empty account
-module _ (s at in_range : ℕ) (shown : ShownTable) (below : at < shown.indexes) (u : Unseen) (rests : u.task s ≡ Resting) (kept : IsTableKept (table_state shown u))
+-- A session that rests takes the lock, which nobody holds, and comes before that range, with an empty account; a vacuum's, which has the lock,
+-- comes there with its own.
+module _ (s at in_range : ℕ) (shown : ShownTable) (below : at < shown.indexes) (u : Unseen) (kept : IsTableKept (table_state shown u))
     (free : (n : ℕ) → u.summarise_lock ≡ Some n → n ≡ s) where
-  nobody : (held : Option ℕ) → u.summarise_lock ≡ held → u.summarise_lock ≡ None
-  nobody None is = is
-  nobody (Some n) is =
+  nobody : u.task s ≡ Resting → (held : Option ℕ) → u.summarise_lock ≡ held → u.summarise_lock ≡ None
+  nobody rests None is = is
+  nobody rests (Some n) is =
       let own : u.summarise_lock ≡ Some s = is ∙ ap Some (free n is) in
       absurd (subst (λ (t : Task). IsMaintenance t) rests ((kept.summarise_lock s).0 own))
 
   abbrev taken : Task → TableState
   taken first = table_state shown (lock_turned (Some s) (task_turned s first u))
 
-  turns : (first : Task) → TaskTurns s (table_state shown u) (taken first) Resting first
-  turns first = record {
-    was = rests;
+  turns : (old first : Task) → u.task s ≡ old → TaskTurns s (table_state shown u) (taken first) old first
+  turns old first was = record {
+    was = was;
     now = pick_same s first (u.task s);
     others = λ n. elim (cases_eq n s) [
       | inl is ↦ inl is
@@ -66,17 +68,29 @@ module _ (s at in_range : ℕ) (shown : ShownTable) (below : at < shown.indexes)
   rows : (first : Task) → SameRows (table_state shown u) (taken first)
   rows first = record { layout = record { indexes = refl; rows_per_page = refl; heap_limit = refl }; blocks = refl; row = λ b k. refl; counts = λ t. refl }
 
-  takes_lock : (first : Task) → BeginsWith (table_state shown u) first → Does s (table_state shown u) (taken first)
-  takes_lock first begins = TakesLock first begins (turns first) (nobody u.summarise_lock refl) refl (rows first) (record { index = λ i. refl })
+  takes_lock : (first : Task) → BeginsWith (table_state shown u) first → u.task s ≡ Resting → Does s (table_state shown u) (taken first)
+  takes_lock first begins rests = TakesLock first begins (turns Resting first rests) (nobody rests u.summarise_lock refl) refl (rows first) (record { index = λ i. refl })
 
-  takes : (wish : Wish) → DoesAt s (table_state shown u) (taken (Considers (job_of wish in_range shown.blocks) at (first_of wish in_range))) points.Right (λ account. no_account)
-  unfolding takes_lock
-  takes wishes.New = record { does = takes_lock (Considers (EachRange shown.blocks) at 0) (Summarize at below); point_is = refl; adds = λ x y is. is }
-  takes (wishes.Block block) = record {
-    does = takes_lock (Considers (OneRange shown.blocks (block / in_range)) at (block / in_range)) (SummarizeOne at (block / in_range) below);
+  restarts : u.task s ≡ Restarts at → Does s (table_state shown u) (taken (Considers (WholeRanges shown.blocks) at 0))
+  restarts task = RestartsIndex at (turns (Restarts at) (Considers (WholeRanges shown.blocks) at 0) task)
+      (record { rows = rows (Considers (WholeRanges shown.blocks) at 0); indexes = record { index = λ i. refl }; summarise_lock = sym (locked_by s shown u (Restarts at) tt task kept) })
+
+  takes : (wish : Wish) → u.task s ≡ before_first wish at → DoesAt s (table_state shown u) (taken (Considers (job_of wish in_range shown.blocks) at (first_of wish in_range))) points.Right (account_first wish)
+  unfolding takes_lock restarts
+  takes wishes.New rests = record { does = takes_lock (Considers (EachRange shown.blocks) at 0) (Summarize at below) rests; point_is = refl; adds = λ x y is. is }
+  takes (wishes.Block block) rests = record {
+    does = takes_lock (Considers (OneRange shown.blocks (block / in_range)) at (block / in_range)) (SummarizeOne at (block / in_range) below) rests;
     point_is = refl;
     adds = λ x y is. is;
   }
+  takes wishes.Complete task = record { does = restarts task; point_is = refl; adds = λ x y is. is }
+
+-- a session that rests waits for the lock that another holds; a vacuum's has it
+lock_held : (s at : ℕ) (shown : ShownTable) (u : Unseen) (wish : Wish) (by : ℕ) → u.task s ≡ before_first wish at → u.summarise_lock ≡ Some by → by ≢ s → IsTableKept (table_state shown u)
+    → (blocked : IsBlocked (table_state shown u) s (before_first wish at)) × (waits_for (table_state shown u) s (before_first wish at) blocked ≡ SummariseLock)
+lock_held s at shown u wishes.New by task held other kept = (SummariseLockHeld by held other, refl)
+lock_held s at shown u (wishes.Block block) by task held other kept = (SummariseLockHeld by held other, refl)
+lock_held s at shown u wishes.Complete by task held other kept = absurd (other (same_Some by s (sym held ∙ locked_by s shown u (Restarts at) tt task kept)))
 
 module _ (goes : MaintainGoes) (completes : MaintainCompletes) (knows : MaintainKnows) (here : IndexHere) (others : OtherIndexes)
     (step : StoreStep) (at : ℕ) where
@@ -142,7 +156,8 @@ module _ (goes : MaintainGoes) (completes : MaintainCompletes) (knows : Maintain
               does.1,
               Considers job at (a.range + 1),
               subst (λ (m : ℕ). DoesAt s (table_state old u) (table_state new (lock_turned (Some s) (task_turned s (Considers job at m) after))) point (with_ranges works.0.0)) (omega arith) does.2,
-              replies s new after (Some s) a.wish in_range a.extent at (a.range + 1) (each_here step.layout step.paged step.locked step.blocks a.index at there after) lacks,
+              comes_behind_last s new after a.wish in_range a.extent at (a.range + 1) (indexes_left step.layout a.index at) (each_here step.layout step.paged step.locked step.blocks a.index at there after)
+                  (slice_get_within (indexes_of step.layout table) at a.index there) refl lacks,
             ),
       )
 
@@ -156,7 +171,7 @@ module _ (goes : MaintainGoes) (completes : MaintainCompletes) (knows : Maintain
     begins = record a { standing = standings.Begins }
 
     lacks_right : (by : ℕ) → right_of step.rights table ≡ Some by → by ≢ s → DoesInTable step at begins begins (did.NoRight by)
-    lacks_right by held other = (λ u rests lock kept. (SummariseLockHeld by (lock ∙ held) other, refl), held, other, refl)
+    lacks_right by held other = (λ u task lock kept. lock_held s at old u a.wish by task (lock ∙ held) other kept, held, other, refl)
 
     -- where the step changed no page and no lock
     abbrev quiet : StoreStep
@@ -166,23 +181,24 @@ module _ (goes : MaintainGoes) (completes : MaintainCompletes) (knows : Maintain
     begins_quietly right _ _ (RangeIsNext next) = (
       0,
       refl,
-      λ u rests lock kept. (
+      λ u task lock kept. (
         u.unnamed,
         (λ i x is. is),
         Considers (job_of a.wish in_range (length step.blocks)) at (first_of a.wish in_range),
-        takes s at in_range old (slice_get_within (indexes_of step.layout table) at a.index there) u rests kept (λ n is. right.free n (sym lock ∙ is)) a.wish,
+        takes s at in_range old (slice_get_within (indexes_of step.layout table) at a.index there) u kept (λ n is. right.free n (sym lock ∙ is)) a.wish task,
         comes_to_range s old u (Some s) a.wish in_range (length step.blocks) at (first_of a.wish in_range) (each_here step.layout step.pages step.locks step.blocks a.index at there u) next,
       ),
     )
     begins_quietly right _ _ (NoneIsLeft lacks) = (
       0,
       refl,
-      λ u rests lock kept. (
+      λ u task lock kept. (
         u.unnamed,
         (λ i x is. is),
         Considers (job_of a.wish in_range (length step.blocks)) at (first_of a.wish in_range),
-        takes s at in_range old (slice_get_within (indexes_of step.layout table) at a.index there) u rests kept (λ n is. right.free n (sym lock ∙ is)) a.wish,
-        replies s old u (Some s) a.wish in_range (length step.blocks) at (first_of a.wish in_range) (each_here step.layout step.pages step.locks step.blocks a.index at there u) lacks,
+        takes s at in_range old (slice_get_within (indexes_of step.layout table) at a.index there) u kept (λ n is. right.free n (sym lock ∙ is)) a.wish task,
+        comes_behind_last s old u a.wish in_range (length step.blocks) at (first_of a.wish in_range) (indexes_left step.layout a.index at) (each_here step.layout step.pages step.locks step.blocks a.index at there u)
+            (slice_get_within (indexes_of step.layout table) at a.index there) refl lacks,
       ),
     )
 
@@ -223,7 +239,21 @@ begun_apart : (standing : Standing) → IsBegun standing → standing ≡ standi
 begun_apart standing begun is = subst (λ (q : Standing). IsBegun q) is begun
 
 -- so the session's account tells what is counted
-pub tells_count : (standing : Standing) (before count after : ℕ) (account : Account) → HasCounted standing before count after → ((standing ≡ standings.Begins → ⊥) → account.ranges ≡ before) → (account_by standing count account).ranges ≡ after
-tells_count standings.Begins before count after account counted told = sym counted
-tells_count standings.AtRange before count after account counted told = ap (λ (n : ℕ). n + count) (told (begun_apart standings.AtRange tt)) ∙ sym counted
-tells_count standings.Done before count after account counted told = ap (λ (n : ℕ). n + count) (told (begun_apart standings.Done tt)) ∙ sym counted
+pub tells_count : (wish : Wish) (standing : Standing) (before count after : ℕ) (account : Account) → wish ≢ wishes.Complete → HasCounted standing before count after → ((standing ≡ standings.Begins → ⊥) → account.ranges ≡ before) → (account_by wish standing count account).ranges ≡ after
+tells_count wishes.New standings.Begins before count after account other counted told = sym counted
+tells_count (wishes.Block block) standings.Begins before count after account other counted told = sym counted
+tells_count wishes.Complete standings.Begins before count after account other counted told = absurd (other refl)
+tells_count wish standings.AtRange before count after account other counted told = ap (λ (n : ℕ). n + count) (told (begun_apart standings.AtRange tt)) ∙ sym counted
+tells_count wish standings.Done before count after account other counted told = ap (λ (n : ℕ). n + count) (told (begun_apart standings.Done tt)) ∙ sym counted
+
+-- a vacuum's tells it beside what it told at the index
+adds_by : (standing : Standing) (a : SummariseState) (count before after : ℕ) (account : Account) → HasCounted standing (count_at a standing) count after → account.ranges ≡ before + count_at a standing
+    → (account_by wishes.Complete standing count account).ranges ≡ before + after
+adds_by standings.Begins a count before after account counted told = omega (arith, counted, told)
+adds_by standings.AtRange a count before after account counted told = omega (arith, counted, told)
+adds_by standings.Done a count before after account counted told = omega (arith, counted, told)
+
+pub adds_count : (a : SummariseState) (count before after : ℕ) (account : Account) → a.wish ≡ wishes.Complete → HasCounted a.standing (count_of a) count after → account.ranges ≡ before + count_of a
+    → (account_by a.wish a.standing count account).ranges ≡ before + after
+adds_count a count before after account is counted told =
+    subst (λ (wish : Wish). (account_by wish a.standing count account).ranges ≡ before + after) (sym is) (adds_by a.standing a count before after account counted told)

@@ -1,14 +1,14 @@
 -- where a summarise comes by a step in its table
-use Rattle.std.proofs.Common.{◌≡◌, ◌≢◌, inl, inr, ℕ, zero, suc, ◌*◌, ◌<◌, Option, None, refl, sym, ap, subst, ◌∙◌}
+use Rattle.std.proofs.Common.{◌≡◌, ◌≢◌, inl, inr, ℕ, zero, suc, ◌+◌, ◌-◌, ◌*◌, ◌≤◌, ◌<◌, Option, None, Some, refl, sym, ap, subst, ◌∙◌, arith}
 use Rattle.std.proofs.lemmas.Bool.{cases_eq}
 use Rattle.coverage.specs.Statements.{Empty, NotBuilding, Phase}
 use Rattle.table_coverage.specs.Machines.{ShownTable, Unseen, table_state, task_turned}
-use Rattle.table_coverage.specs.Table.{Considers, Job, Maintains, Resting, Task, TableState, pick}
-use Rattle.table_coverage.specs.TableSteps.{GivesLock, GoesOn, HasRange, IsLastIndex, Onward, RangesDone, SameRows, Settles, Stays, TaskTurns, ToRange}
+use Rattle.table_coverage.specs.Table.{Considers, Job, Maintains, Restarts, Resting, Task, TableState, WholeRanges, pick}
+use Rattle.table_coverage.specs.TableSteps.{GivesLock, GoesOn, HasRange, IsLastIndex, NextIndex, Onward, RangesDone, SameRows, Settles, Stays, TaskTurns, ToRange}
 use Rattle.brin_summarise.specs.declared.wish.Wish.{Wish}
 use Rattle.brin_summarise.specs.declared.wish.Wish.TheVariants as wishes
 use Rattle.brin_summarise.specs.Summarises.{GoesOver}
-use Rattle.brin_summarise.specs.TableSteps.{job_of, lock_turned}
+use Rattle.brin_summarise.specs.TableSteps.{behind_last, held_behind, job_of, lock_turned}
 
 pub pick_same : (i : ℕ) → {A : Type 0} → (a b : A) → pick i i a b ≡ a
 pick_same zero a b = refl
@@ -27,15 +27,13 @@ has_range w (wishes.Block block) in_range extent at range each goes = (
   goes.0,
   subst (λ (n : ℕ). n * (w.index at).pages_per_range < extent) goes.0 (subst (λ (n : ℕ). range * n < extent) (sym each) goes.1),
 )
+has_range w wishes.Complete in_range extent at range each goes = subst (λ (n : ℕ). (range + 1) * n ≤ extent) (sym each) goes
 
 pub lacks_range : (w : TableState) (wish : Wish) (in_range extent at range : ℕ) → (w.index at).pages_per_range ≡ in_range → (GoesOver wish in_range extent range → ⊥) → HasRange w (job_of wish in_range extent) at range → ⊥
 lacks_range w wishes.New in_range extent at range each lacks has = lacks (subst (λ (n : ℕ). range * n < extent) each has)
 lacks_range w (wishes.Block block) in_range extent at range each lacks has =
     lacks (has.0, subst (λ (n : ℕ). range * n < extent) each (subst (λ (n : ℕ). n * (w.index at).pages_per_range < extent) (sym has.0) has.1))
-
-last_index : (w : TableState) (wish : Wish) (in_range extent at : ℕ) → IsLastIndex w (job_of wish in_range extent) at
-last_index w wishes.New in_range extent at = tt
-last_index w (wishes.Block block) in_range extent at = tt
+lacks_range w wishes.Complete in_range extent at range each lacks has = lacks (subst (λ (n : ℕ). (range + 1) * n ≤ extent) each has)
 
 module _ (s : ℕ) (shown : ShownTable) (u : Unseen) (held : Option ℕ) where
   abbrev at_task : Task → TableState
@@ -72,7 +70,17 @@ module _ (s : ℕ) (shown : ShownTable) (u : Unseen) (held : Option ℕ) where
         (ToRange (job_of wish in_range extent) at range (has_range (at_task before) wish in_range extent at range each goes))
 
     -- no range is left: it replies, and gives the summarise lock
-    pub replies : (GoesOver wish in_range extent range → ⊥) → Settles s (at_task before) (table_state shown (lock_turned None (task_turned s Resting u)))
-    replies lacks = GivesLock before
-        (RangesDone (job_of wish in_range extent) at range (lacks_range (at_task before) wish in_range extent at range each lacks) (last_index (at_task before) wish in_range extent at))
+    replies : (GoesOver wish in_range extent range → ⊥) → IsLastIndex (at_task before) (job_of wish in_range extent) at → Settles s (at_task before) (table_state shown (lock_turned None (task_turned s Resting u)))
+    replies lacks last = GivesLock before
+        (RangesDone (job_of wish in_range extent) at range (lacks_range (at_task before) wish in_range extent at range each lacks) last)
         (turns_by before Resting None) refl (same_rows before Resting None) (record { index = λ i. refl })
+
+-- behind the last range it replies, or, where it is a vacuum's, comes before the next index
+pub comes_behind_last : (s : ℕ) (shown : ShownTable) (u : Unseen) (wish : Wish) (in_range extent at range left : ℕ) (each : (shown.index at).pages_per_range ≡ in_range) → at < shown.indexes → left ≡ shown.indexes - (at + 1)
+    → (GoesOver wish in_range extent range → ⊥) → Settles s (at_task s shown u (Some s) (Considers (job_of wish in_range extent) at range)) (table_state shown (lock_turned (held_behind wish s left) (task_turned s (behind_last wish at left) u)))
+comes_behind_last s shown u wishes.New in_range extent at range left each below is lacks = replies s shown u (Some s) wishes.New in_range extent at range each lacks tt
+comes_behind_last s shown u (wishes.Block block) in_range extent at range left each below is lacks = replies s shown u (Some s) (wishes.Block block) in_range extent at range each lacks tt
+comes_behind_last s shown u wishes.Complete in_range extent at range zero each below is lacks = replies s shown u (Some s) wishes.Complete in_range extent at range each lacks (omega (arith, below, is))
+comes_behind_last s shown u wishes.Complete in_range extent at range (suc left) each below is lacks =
+    settles_by s shown u (Some s) (Considers (WholeRanges extent) at range) (Restarts (suc at))
+    (NextIndex extent at range (lacks_range (at_task s shown u (Some s) (Considers (WholeRanges extent) at range)) wishes.Complete in_range extent at range each lacks) (omega (arith, below, is)))

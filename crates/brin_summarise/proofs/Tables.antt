@@ -67,12 +67,14 @@ of_job : (wish : Wish) (in_range extent s range : ℕ) (w : IndexView) (p : Inde
     → JobMakes (job_of wish in_range extent) s range w p old new point count
 of_job wishes.New in_range extent s range w p old new point count makes = makes
 of_job (wishes.Block block) in_range extent s range w p old new point count makes = makes
+of_job wishes.Complete in_range extent s range w p old new point count makes = makes
 
 -- its range is one of the table
-below_blocks : (w : TableState) (wish : Wish) (in_range extent at range : ℕ) (phase : Phase) → IsInTable w (Maintains (job_of wish in_range extent) at range phase) → range * (w.index at).pages_per_range < w.blocks
-below_blocks w wishes.New in_range extent at range phase inside = omega (arith, inside.1, inside.2)
-below_blocks w (wishes.Block block) in_range extent at range phase inside =
+below_blocks : (w : TableState) (wish : Wish) (in_range extent at range : ℕ) (phase : Phase) → 0 < (w.index at).pages_per_range → IsInTable w (Maintains (job_of wish in_range extent) at range phase) → range * (w.index at).pages_per_range < w.blocks
+below_blocks w wishes.New in_range extent at range phase some inside = omega (arith, inside.1, inside.2)
+below_blocks w (wishes.Block block) in_range extent at range phase some inside =
     subst (λ (m : ℕ). m * (w.index at).pages_per_range < w.blocks) (sym inside.2.0) (omega (arith, inside.1, inside.2.1))
+below_blocks w wishes.Complete in_range extent at range phase some inside = omega (arith, some, inside.1, inside.2)
 
 -- the statement that it is, while it has work at the range, and once it has none
 at_work : (shape : IndexShape) (range : ℕ) (hand : SummariseHand) (stage : Stage) → IsAtWork stage → statement_at shape range hand stage ≡ Maintaining range (phase_at shape hand stage)
@@ -103,9 +105,12 @@ when_done shape range hand (stages.Drop x) done = absurd done
 when_done shape range hand stages.Had done = refl
 when_done shape range hand stages.Made done = refl
 
--- the session holds the summarise lock while it is at a range
+-- the session holds the summarise lock while a maintenance statement of it is in hand
+pub locked_by : (s : ℕ) (shown : ShownTable) (u : Unseen) (task : Task) → IsMaintenance task → u.task s ≡ task → IsTableKept (table_state shown u) → u.summarise_lock ≡ Some s
+locked_by s shown u task is at kept = (kept.summarise_lock s).1 (subst (λ (t : Task). IsMaintenance t) (sym at) is)
+
 pub locked_is : (s : ℕ) (shown : ShownTable) (u : Unseen) (job : Job) (at range : ℕ) (phase : Phase) → u.task s ≡ Maintains job at range phase → IsTableKept (table_state shown u) → u.summarise_lock ≡ Some s
-locked_is s shown u job at range phase task kept = (kept.summarise_lock s).1 (subst (λ (t : Task). IsMaintenance t) (sym task) tt)
+locked_is s shown u job at range phase task kept = locked_by s shown u (Maintains job at range phase) tt task kept
 
 module _ (goes : MaintainGoes) (completes : MaintainCompletes) (knows : MaintainKnows) (here : IndexHere) (others : OtherIndexes)
     (step : StoreStep) (a : SummariseState) (at : ℕ) (there : slice_get (indexes_of step.layout (table_of step.layout a.index)) at ≡ Some a.index) (small : a.range < 2 ^ 32)
@@ -170,7 +175,7 @@ module _ (goes : MaintainGoes) (completes : MaintainCompletes) (knows : Maintain
 
     its : IsRangeOf (index_view_at at w) a.range
     its = (
-      below_blocks w a.wish (in_range_of step.layout n) a.extent at a.range phase inside,
+      below_blocks w a.wish (in_range_of step.layout n) a.extent at a.range phase (kept.indexes at below).sound.ranged inside,
       subst (λ (contents : Contents). a.range < contents.ranges) (sym shows.contents) (omega (arith, ranges_are shape, small)),
     )
 

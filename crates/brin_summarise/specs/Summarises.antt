@@ -54,11 +54,13 @@ in_range_of layout index = (index_at layout index).pages_per_range
 abbrev pub first_of : Wish → (in_range : ℕ) → ℕ
 first_of wishes.New in_range = 0
 first_of (wishes.Block block) in_range = block / in_range
+first_of wishes.Complete in_range = 0
 
--- it goes over this range: its first block is below the extent, and it is the one that is asked for, if one is
+-- it goes over this range: its first block is below the extent, and it is the one that is asked for, if one is; or all its blocks are below
 abbrev pub GoesOver : Wish → (in_range extent range : ℕ) → Type 0
 GoesOver wishes.New in_range extent range = range * in_range < extent
 GoesOver (wishes.Block block) in_range extent range = (range ≡ block / in_range) × (range * in_range < extent)
+GoesOver wishes.Complete in_range extent range = (range + 1) * in_range ≤ extent
 
 -- It is one of an index of the layout. Where it is at a range, it goes over that one, and has work there.
 pub record IsSummariseOf (layout : DiskLayout) (a : SummariseState) : Type 0 where

@@ -1,5 +1,5 @@
 -- what a step of a summarise is in the table of its index
-use Rattle.std.specs.Prelude.{◌≡◌, ◌≢◌, ℕ, ◌+◌, ◌/◌, Bool, Option, Some, None}
+use Rattle.std.specs.Prelude.{◌≡◌, ◌≢◌, ℕ, zero, suc, ◌+◌, ◌-◌, ◌/◌, Bool, Option, Some, None, length}
 use Rattle.block_model.specs.declared.place.Spot.{Spot}
 use Rattle.block_model.specs.declared.reply.Point.{Point}
 use Rattle.store_layout.specs.DiskLayout.{DiskLayout}
@@ -11,13 +11,14 @@ use Rattle.table_coverage.specs.Accounts.{Account, no_account}
 use Rattle.table_coverage.specs.InOneIndex.{DoesAt, with_ranges}
 use Rattle.table_coverage.specs.Machines.{IsFewer, ShownTable, Unseen, table_state, task_turned}
 use Rattle.table_coverage.specs.Refusals.{IsTaskFull}
-use Rattle.table_coverage.specs.Table.{EachRange, Job, Maintains, OneRange, Resting, Task}
+use Rattle.table_coverage.specs.Table.{EachRange, Job, Maintains, OneRange, Restarts, Resting, Task, WholeRanges}
 use Rattle.table_coverage.specs.TableCovered.{IsTableKept}
 use Rattle.table_coverage.specs.TablePoints.{PageLock, SummariseLock, WaitedFor, waits_for}
 use Rattle.table_coverage.specs.TableSteps.{IsBlocked, Settles}
 use Rattle.index_contents.specs.IndexContents.{contents, relation_of}
 use Rattle.index_steps.specs.IndexTuples.{shape_of}
 use Rattle.index_steps.specs.ShownRows.{shown_by}
+use Rattle.index_steps.specs.ShownTable.{indexes_of}
 use Rattle.index_steps.specs.SwapAnswers.{LeavesLocks}
 use Rattle.brin_summarise.specs.declared.course.Standing.{Standing}
 use Rattle.brin_summarise.specs.declared.course.Standing.TheVariants as standings
@@ -31,21 +32,54 @@ use Rattle.brin_summarise.specs.Summarises.{StoreStep, SummariseState, count_of,
 abbrev pub job_of : Wish → (in_range extent : ℕ) → Job
 job_of wishes.New in_range extent = EachRange extent
 job_of (wishes.Block block) in_range extent = OneRange extent (block / in_range)
+job_of wishes.Complete in_range extent = WholeRanges extent
 
--- What the summarise is at, with its index at that place among the table's: nothing before its first step, and once it is done; else its
--- range.
+-- Before its first step its session is at nothing; a vacuum's is before the index.
+abbrev pub before_first : Wish → (at : ℕ) → Task
+before_first wishes.Complete at = Restarts at
+before_first wish at = Resting
+
+-- so many indexes of the table come behind its own
+abbrev pub indexes_left : DiskLayout → (index at : ℕ) → ℕ
+indexes_left layout index at = length (indexes_of layout (table_of layout index)) - (at + 1)
+
+-- a vacuum comes before the next index, if there is one; else it replies, and gives the summarise lock
+abbrev pub next_index : (at left : ℕ) → Task
+next_index at zero = Resting
+next_index at (suc left) = Restarts (suc at)
+
+abbrev pub held_next : (s left : ℕ) → Option ℕ
+held_next s zero = None
+held_next s (suc left) = Some s
+
+-- so does a vacuum's behind the last range; any other statement replies
+abbrev pub behind_last : Wish → (at left : ℕ) → Task
+behind_last wishes.Complete at left = next_index at left
+behind_last wish at left = Resting
+
+abbrev pub held_behind : Wish → (s left : ℕ) → Option ℕ
+held_behind wishes.Complete s left = held_next s left
+held_behind wish s left = None
+
+-- What the summarise is at, with its index at that place among the table's: its range; or what its session is at before its first step, and
+-- behind its last range.
 abbrev pub task_at : DiskLayout → (at : ℕ) → SummariseState → Standing → Task
-task_at layout at a standings.Begins = Resting
+task_at layout at a standings.Begins = before_first a.wish at
 task_at layout at a standings.AtRange = Maintains (job_of a.wish (in_range_of layout a.index) a.extent) at a.range (phase_of (shape_of layout a.index) a.hand)
-task_at layout at a standings.Done = Resting
+task_at layout at a standings.Done = behind_last a.wish at (indexes_left layout a.index at)
 
 abbrev pub task_of : DiskLayout → (at : ℕ) → SummariseState → Task
 task_of layout at a = task_at layout at a a.standing
 
--- a statement begins with an empty account, and each later step adds the ranges that it counts
-abbrev pub account_by : Standing → (count : ℕ) → Account → Account
-account_by standings.Begins count account = no_account
-account_by standing count account = with_ranges count account
+-- a statement begins with an empty account, a vacuum with the one that it has at the index
+abbrev pub account_first : Wish → Account → Account
+account_first wishes.Complete account = account
+account_first wish account = no_account
+
+-- and each later step adds the ranges that it counts
+abbrev pub account_by : Wish → Standing → (count : ℕ) → Account → Account
+account_by wish standings.Begins count account = account_first wish account
+account_by wish standing count account = with_ranges count account
 
 -- with the first step nothing is counted, and each later one adds what it counts
 abbrev pub HasCounted : Standing → (before count after : ℕ) → Type 0
@@ -82,9 +116,10 @@ IsSummariseFull s at shown task number = (u : Unseen) → u.task s ≡ task → 
 -- A step that goes on, or replies, counts the ranges that it gives a final tuple; one that waits tells for what.
 abbrev pub SummariseDid : (s at : ℕ) → (old new : ShownTable) → (held : Option ℕ) → DiskLayout → (a b : SummariseState) → Did → Type 0
 SummariseDid s at old new held layout a b (did.Moved point) = (count : ℕ) × HasCounted a.standing (count_of a) count (count_of b)
-    × SummariseGoesTo s old new held (Some s) (task_of layout at a) (task_of layout at b) point (account_by a.standing count)
+    × SummariseGoesTo s old new held (Some s) (task_of layout at a) (task_of layout at b) point (account_by a.wish a.standing count)
 SummariseDid s at old new held layout a b (did.Finished point) = (count : ℕ) × HasCounted a.standing (count_of a) count (count_of b)
-    × SummariseGoesTo s old new held None (task_of layout at a) (task_of layout at b) point (account_by a.standing count)
+    × SummariseGoesTo s old new held (held_behind a.wish s (indexes_left layout a.index at)) (task_of layout at a) (task_of layout at b) point
+    (account_by a.wish a.standing count)
 SummariseDid s at old new held layout a b (did.Blocked waited) =
     SummariseWaitsFor s old held (task_of layout at a) (PageLock at waited.page.block) × (task_of layout at b ≡ task_of layout at a)
 SummariseDid s at old new held layout a b (did.NoRight by) =

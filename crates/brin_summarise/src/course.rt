@@ -71,6 +71,10 @@ fn goes_over(course: &Course, in_range: u32) -> bool
             }
             first < course.extent
         }
+        Wish::Complete => {
+            let behind = first + u64::from(in_range);
+            behind <= course.extent
+        }
     }
 }
 
@@ -80,7 +84,7 @@ pub(crate) fn first_of(wish: Wish, in_range: u32) -> u32
     ensures { result ≡ first_of wish in_range }
 {
     match wish {
-        Wish::New => 0,
+        Wish::New | Wish::Complete => 0,
         Wish::Block(block) => block / in_range,
     }
 }

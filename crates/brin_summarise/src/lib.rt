@@ -1,6 +1,7 @@
 //! A summarise of an index, by steps. It takes the table's summarise lock, reads the extent, and goes over its ranges one after the other: at
-//! each it works as range_summarise does, to the final tuple. Each step is one of the table (specs/TableSteps), and what it has made of a
-//! range is exact. No step takes memory. It stands on range_summarise, index_steps, heap_rows and table_coverage.
+//! each it works as range_summarise does, to the final tuple. A vacuum has it go over the ranges whose blocks are all below the extent, of one
+//! index after the other. Each step is one of the table (specs/TableSteps), and what it has made of a range is exact. No step takes memory.
+//! It stands on range_summarise, index_steps, heap_rows and table_coverage.
 #![tactic(auto)]
 
 mod course;

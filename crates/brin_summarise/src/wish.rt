@@ -7,4 +7,6 @@ pub enum Wish {
     New,
     /// The range of this block alone, if its first block is below the extent.
     Block(u32),
+    /// Those whose blocks are all below the extent, as a vacuum asks for.
+    Complete,
 }

@@ -1,15 +1,14 @@
 -- who locks the pages of a table
-use Rattle.std.proofs.Common.{◌≡◌, ◌≢◌, ◌⊎◌, inl, inr, ℕ, zero, suc, ◌<◌, List, length, Option, None, Some, refl, sym, ap, subst, ◌∙◌}
-use Rattle.std.proofs.lemmas.Bool.{cases_eq}
-use Rattle.std.proofs.lemmas.Option.{none-some, same_Some}
+use Rattle.std.proofs.Common.{◌≡◌, ◌≢◌, ℕ, zero, suc, Option, None, Some, refl, sym, ap, ◌∙◌}
+use Rattle.std.proofs.lemmas.Option.{none-some}
 use Rattle.block_model.specs.declared.place.Place.{Place as PagePlace}
 use Rattle.block_model.specs.declared.row.Row.{Row}
 use Rattle.page_locks.specs.LockChanges.{GivesAll}
-use Rattle.page_locks.specs.LockHolders.{LockState, holder}
+use Rattle.page_locks.specs.LockHolders.{holder}
 use Rattle.coverage.specs.IndexView.{IndexView}
 use Rattle.coverage.specs.Knowing.{Knows, LocksNone}
 use Rattle.coverage.specs.Statements.{Copied, Empty, Held, OnIndex}
-use Rattle.table_coverage.specs.Table.{Inserts, Marks, Resting, Scans, TableState, Task, index_view_at, inserting_of, on_index_by, seen_by}
+use Rattle.table_coverage.specs.Table.{Inserts, Marks, Resting, Scans, Task, index_view_at, inserting_of, on_index_by, seen_by}
 use Rattle.store_parts.specs.TableLaws.{GivesNone, IsQuiet, QuietOnesLockNone}
 
 -- an insert before its move locks no page of any index

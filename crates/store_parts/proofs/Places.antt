@@ -1,21 +1,18 @@
 -- the place that a store shows behind a step
-use Rattle.std.proofs.Common.{◌≡◌, ◌≢◌, ◌⊎◌, inl, inr, ℕ, ◌+◌, ◌<◌, ◌/◌, ◌%◌, ◌==◌, Bool, true, false, List, [], length, Option, None, Some, refl, sym, ap, subst, ◌∙◌, arith}
+use Rattle.std.proofs.Common.{◌≡◌, ◌≢◌, ◌⊎◌, inl, inr, ℕ, ◌<◌, ◌/◌, ◌%◌, Bool, List, length, Option, None, Some, refl, sym, ap, subst, ◌∙◌, arith}
 use Rattle.std.specs.Prelude.{IsTrue}
 use Rattle.std.specs.FinMap as finite
 use Rattle.std.proofs.lemmas.Bool.{cases_eq}
 use Rattle.std.proofs.lemmas.Option.{none-some, same_Some}
-use Rattle.block_model.specs.declared.place.Place.{Place as PagePlace}
-use Rattle.block_model.specs.declared.place.Spot.{Spot}
 use Rattle.block_model.specs.declared.request.Entry.{Entry}
 use Rattle.block_model.specs.declared.row.Row.{Row}
 use Rattle.block_model.specs.DatabaseState.{OpenTransaction}
 use Rattle.block_model.specs.SerialRun.{serial_run}
 use Rattle.store_layout.specs.DiskLayout.{DiskLayout}
 use Rattle.page_layout.specs.PageContents.{Slot}
-use Rattle.page_layout.specs.RowBytes.{StoredRow}
 use Rattle.page_layout.specs.declared.format.TheConstants.{STATUS_ENTRIES}
 use Rattle.page_locks.specs.LockChanges.{page_of}
-use Rattle.page_locks.specs.LockHolders.{LockState, holder}
+use Rattle.page_locks.specs.LockHolders.{LockState}
 use Rattle.page_locks.specs.RightHolders.{right_of}
 use Rattle.page_store.specs.PageMap.{PageMap, block_at}
 use Rattle.heap_rows.specs.HeapBlocks.{HasBlocks}
@@ -32,17 +29,17 @@ use Rattle.transactions.specs.ShowsDatabase.{ShowsDatabase}
 use Rattle.index_contents.specs.IndexContents.{relation_of}
 use Rattle.table_coverage.specs.Accounts.{Account}
 use Rattle.table_coverage.specs.Machines.{ShownTable, table_state}
-use Rattle.table_coverage.specs.Table.{Resting, TableState, Task}
+use Rattle.table_coverage.specs.Table.{Resting, TableState}
 use Rattle.index_steps.specs.IndexTuples.{index_at}
 use Rattle.index_steps.specs.ShownIndex.{lock_in}
-use Rattle.index_steps.specs.ShownRows.{row_in, shown_by}
-use Rattle.line_texts.specs.Place.{Hand as HandAt, Place, database_at, updated}
+use Rattle.index_steps.specs.ShownRows.{row_in}
+use Rattle.line_texts.specs.Place.{Hand as HandAt, Place, database_at}
 use Rattle.store_parts.specs.declared.hand.Hand.{Hand}
 use Rattle.store_parts.specs.Hands.{HandShows}
 use Rattle.store_parts.specs.HandsInTables.{IsTaskOf, table_in}
 use Rattle.store_parts.specs.Leaving.{ChangesLocks, CountsFew, GivesLocks, HasNoRows, IsRelationOf, LeadsTo, LeavesOthers, LeavesTable, LocksIn, SameLocks, SeeAlike, StepsAtOnce, StepsInTable}
 use Rattle.store_parts.specs.PlaceLaws.{PlaceStaysShown, StaysShown, StepAtOnceIsShown, TableStepIsShown}
-use Rattle.store_parts.specs.PlacesAfter.{place_after, place_at_once, recounted}
+use Rattle.store_parts.specs.PlacesAfter.{place_after, place_at_once}
 use Rattle.store_parts.specs.ShowsPlace.{IsOfTransaction, IsPlaceOf, ShowsTable}
 use Rattle.store_parts.specs.StoreStates.{ShownStore, hand_in}
 use Rattle.store_parts.specs.TableLaws.{CountsFewIn, IsQuiet}

@@ -1,11 +1,9 @@
 -- refusals in their tables
-use Rattle.std.proofs.Common.{◌≡◌, ◌≢◌, ◌⊎◌, inl, inr, ℕ, ◌<◌, Bool, true, false, List, [], ◌∷◌, length, Option, None, Some, refl, sym, ap, subst, ◌∙◌}
-use Rattle.std.specs.Prelude.{IsTrue}
+use Rattle.std.proofs.Common.{◌≡◌, ◌≢◌, inl, inr, ℕ, Bool, false, List, [], ◌∷◌, Option, None, Some, refl, sym, ap, subst, ◌∙◌}
 use Rattle.block_model.specs.declared.place.Place.{Place as PagePlace}
 use Rattle.block_model.specs.declared.row.Row.{Row}
 use Rattle.block_model.specs.declared.row.RowId.{RowId}
 use Rattle.block_model.specs.declared.value.Value.{Value}
-use Rattle.store_layout.specs.DiskLayout.{DiskLayout}
 use Rattle.page_locks.specs.LockChanges.{GivesAll}
 use Rattle.page_locks.specs.LockHolders.{holder}
 use Rattle.page_locks.specs.RightHolders.{right_of}
@@ -19,16 +17,15 @@ use Rattle.transactions.specs.CountedRows.{counts as counts_of}
 use Rattle.index_contents.specs.IndexContents.{relation_of}
 use Rattle.coverage.specs.Statements.{Phase}
 use Rattle.coverage.specs.Steps.{SummariseLockPasses}
-use Rattle.table_coverage.specs.Accounts.{Account, AccountIs, Accounts, Adds, no_account}
+use Rattle.table_coverage.specs.Accounts.{Account, no_account}
 use Rattle.table_coverage.specs.Machines.{ShownTable, Unseen, table_state, task_turned}
-use Rattle.table_coverage.specs.Refusals.{HasConflict, LacksMemory, Refusal, does_refusal, insert_refusal, maintain_refusal, row_refusal}
-use Rattle.table_coverage.specs.Table.{Inserts, Job, Maintains, Marks, Resting, Scans, TableScan, TableState, Task, index_view_at, pick}
-use Rattle.table_coverage.specs.TableSteps.{Conflicts, Does, Fails, GoesOn, IndexFull, IsInsertRefused, IsMaintainRefused, IsRowRefused, RefusesInsert, RefusesMaintain, RefusesRow, RefusesScan, Settles, Stays, StepsIn, TableStep, TaskTurns}
+use Rattle.table_coverage.specs.Refusals.{HasConflict, LacksMemory, Refusal, insert_refusal, maintain_refusal, row_refusal}
+use Rattle.table_coverage.specs.Table.{Job, Maintains, Marks, Resting, Scans, TableScan, TableState, Task, index_view_at}
+use Rattle.table_coverage.specs.TableSteps.{Conflicts, Fails, GoesOn, IndexFull, IsInsertRefused, IsMaintainRefused, IsRowRefused, RefusesInsert, RefusesMaintain, RefusesRow, RefusesScan, Settles, Stays, StepsIn, TableStep, TaskTurns}
 use Rattle.table_coverage.proofs.Views.{pick_other, pick_same, pick_there}
 use Rattle.index_steps.specs.ShownRows.{shown_by}
-use Rattle.line_texts.specs.Beginnings.{Begins, IsIn}
-use Rattle.line_texts.specs.Place.{Place, accounts_at}
-use Rattle.line_texts.specs.Turns.{PrunesTheDead}
+use Rattle.line_texts.specs.Beginnings.{IsIn}
+use Rattle.line_texts.specs.Place.{Place}
 use Rattle.store_parts.specs.HandsInTables.{IsTaskOf, sight_of, table_in}
 use Rattle.store_parts.specs.Leaving.{LeavesOthers}
 use Rattle.store_parts.specs.PlacesAfter.{TurnsIn, refusal_in}
@@ -170,13 +167,13 @@ row_here p n table t values counts queue rests refused no_more = (
 pub row_is_refused : RowIsRefused
 row_is_refused p n table t values w counts is queue =
     subst (λ (x : TableState). x.task n ≡ Resting → (refused : IsRowRefused x) → CountsNoMore x counts t
-        → IsTurnRefused p n table (statements.Insert table values) (refused_in n counts x) no_account (row_refusal x refused)) is
+    → IsTurnRefused p n table (statements.Insert table values) (refused_in n counts x) no_account (row_refusal x refused)) is
     (row_here p n table t values counts queue)
 
 pub insert_is_refused : InsertIsRefused
 insert_is_refused p n table b k r values w task counts is queue =
     subst (λ (x : TableState). x.task n ≡ task → (refused : IsInsertRefused x n b k r task) → CountsNoMore x counts r.id.t
-        → IsTurnRefused p n table (statements.Insert table values) (refused_in n counts x) (p.accounts n) (insert_refusal refused)) is
+    → IsTurnRefused p n table (statements.Insert table values) (refused_in n counts x) (p.accounts n) (insert_refusal refused)) is
     (insert_here p n table (statements.Insert table values) queue insert_other refl counts b k r task)
   where
     insert_other : statements.Insert table values ≢ statements.Work
@@ -195,8 +192,8 @@ mark_is_refused p n table t statement w scan id rest counts is queue other on =
 pub maintenance_is_refused : MaintenanceIsRefused
 maintenance_is_refused p n table at range statement w v job phase is queue other on =
     subst (λ (x : TableState). x.task n ≡ Maintains job at range phase → (refused : IsMaintainRefused (index_view_at at x) n range phase)
-        → TaskTurns n x v (Maintains job at range phase) Resting → StepsIn at x v → SummariseLockPasses n (index_view_at at x) (index_view_at at v) (Some n) None
-        → IsTurnRefused p n table statement v (p.accounts n) (maintain_refusal at refused)) is
+    → TaskTurns n x v (Maintains job at range phase) Resting → StepsIn at x v → SummariseLockPasses n (index_view_at at x) (index_view_at at v) (Some n) None
+    → IsTurnRefused p n table statement v (p.accounts n) (maintain_refusal at refused)) is
     (maintenance_here p n table statement queue other on at range v job phase)
 
 -- ---- the table of a refused statement

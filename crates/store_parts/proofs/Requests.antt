@@ -1,7 +1,6 @@
 -- requests that are legal, and what they leave
-use Rattle.std.proofs.Common.{◌≡◌, ℕ, Bool, true, false, ◌&&◌, List, [], ◌∷◌, Option, None, Some, refl, ap, ◌∙◌}
+use Rattle.std.proofs.Common.{true, ◌&&◌, [], ◌∷◌, Option, ap, ◌∙◌}
 use Rattle.std.specs.Prelude.{not}
-use Rattle.block_model.specs.declared.request.Entry.{Entry}
 use Rattle.block_model.specs.declared.request.Request.TheVariants as requests
 use Rattle.block_model.specs.declared.request.Tag.TheVariants as tags
 use Rattle.block_model.specs.DatabaseState.{OpenTransaction}

@@ -1,8 +1,8 @@
 -- what a statement in hand is at in a table, as others change rows and statuses
-use Rattle.std.proofs.Common.{◌≡◌, ◌≢◌, ◌⊎◌, inl, inr, ℕ, ◌==◌, Bool, true, false, List, [], ◌∷◌, Option, None, Some, All, refl, sym, ap, subst, ◌∙◌}
+use Rattle.std.proofs.Common.{◌≡◌, ◌≢◌, ◌⊎◌, inl, inr, ℕ, Bool, true, false, List, Option, None, Some, All, refl, sym, ap, ◌∙◌}
 use Rattle.std.specs.Prelude.{IsTrue}
 use Rattle.std.proofs.lemmas.List.Elements.{All-weaker}
-use Rattle.std.proofs.lemmas.Option.{none-some, same_Some}
+use Rattle.std.proofs.lemmas.Option.{none-some}
 use Rattle.block_model.specs.declared.place.Spot.{Spot}
 use Rattle.block_model.specs.declared.row.Row.{Row}
 use Rattle.store_layout.specs.DiskLayout.{DiskLayout}
@@ -19,10 +19,10 @@ use Rattle.brin_scan.specs.declared.stage.Stage.{Stage}
 use Rattle.brin_scan.specs.declared.stage.Stage.TheVariants as stages
 use Rattle.brin_scan.specs.Finds.{FindHand, Sight, scanning, sees_stored}
 use Rattle.brin_scan.specs.ScanHands.{ScanHand}
-use Rattle.brin_scan.specs.SeenRows.{IsOthersSince, SeesLater, StaysInSlot}
+use Rattle.brin_scan.specs.SeenRows.{SeesLater}
 use Rattle.brin_scan.specs.TableScans.{Beside, table_scan, task_of}
 use Rattle.brin_scan.proofs.Remembered.{stands_later}
-use Rattle.brin_scan.proofs.Seen.{since_unseen, stays_seen}
+use Rattle.brin_scan.proofs.Seen.{stays_seen}
 use Rattle.store_parts.specs.declared.hand.Hand.{Hand}
 use Rattle.store_parts.specs.declared.hand.Hand.TheVariants as hands
 use Rattle.store_parts.specs.declared.hand.Hit.{Hit}
@@ -51,12 +51,9 @@ seen_in sight None = false
 seen_in sight (Some row) = sees_stored sight row
 
 module _ (sight later : Sight) (blocks now : List (List Slot)) (lasts : SeesLater sight later) (rows : RowsStay blocks now) (slots : SeesSlots sight blocks now) where
-  same_row : (row : StoredRow) → StaysInSlot sight row row
-  same_row row = record { id = refl; deleter = inl refl }
-
-  -- one that is of a transaction since isn't seen later either
-  unseen_later : (row : StoredRow) → IsOthersSince sight row.id.t → sees_stored later row ≡ false
-  unseen_later row since = stays_seen sight later lasts row row (same_row row) ∙ since_unseen sight row since
+  -- a row is seen later as it was
+  seen_later : (row : StoredRow) → sees_stored later row ≡ sees_stored sight row
+  seen_later row = stays_seen sight later lasts row row (record { id = refl; deleter = inl refl })
 
   found_stands : (table : ℕ) (f : Row × Spot) → row_in table (slot_at blocks f.1) ≡ Some f.0 → row_in table (slot_at now f.1) ≡ Some f.0
   found_stands table f is = by_slot (slot_at blocks f.1) refl is
@@ -94,9 +91,9 @@ module _ (sight later : Sight) (blocks now : List (List Slot)) (lasts : SeesLate
       judged = at.judged;
       task_is = at.task_is;
       now = λ b k row there. elim (slots (record { block = b; slot = k }) row there) [
-        | inl stays ↦ at.now b k stays.0 stays.1 ∙ sym (stays_seen sight later lasts stays.0 row stays.2)
+        | inl stays ↦ at.now b k stays.0 stays.1 ∙ sym (seen_later row ∙ stays.2)
         | inr came ↦ not_true (at.sees b k) (λ (seen : IsTrue (at.sees b k)). standing (table_scan layout hand.judging (scanning at.sees at.judged deletes hand)) b k
-            (at.task_is ∙ begun layout hand.judging (scanning at.sees at.judged deletes hand)) seen came.0) ∙ sym (unseen_later row came.1)
+            (at.task_is ∙ begun layout hand.judging (scanning at.sees at.judged deletes hand)) seen came.0) ∙ sym (seen_later row ∙ came.1)
       ];
       stand = stands_then;
       remembers = stands_later sight later lasts hand.last at.remembers;

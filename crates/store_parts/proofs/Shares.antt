@@ -1,5 +1,5 @@
 -- the sum of shares
-use Rattle.std.proofs.Common.{◌≡◌, ◌≢◌, ℕ, zero, suc, ◌+◌, ◌<◌, ◌≤◌, inl, inr, List, Option, refl, sym, ap, subst, ◌∙◌, arith}
+use Rattle.std.proofs.Common.{◌≡◌, ◌≢◌, ℕ, zero, suc, ◌+◌, ◌<◌, ◌≤◌, inl, inr, List, Option, refl, subst, arith}
 use Rattle.std.proofs.lemmas.Bool.{cases_eq}
 use Rattle.row_versions.specs.declared.sessions.Open.{Open}
 use Rattle.row_versions.specs.StoredVersions.{transaction_of}
@@ -24,7 +24,7 @@ module _ (n : ℕ) (hands now : List (Option Hand)) (opens then : List (Option O
     | inl is ↦
         let rest : shares_below m now then ≡ shares_below m hands opens = below_stays m (omega (arith, is)) in
         subst (λ (k : ℕ). shares_below m now then + share_of (hand_in now m) (transaction_of then m) + share_of (hand_in hands k) (transaction_of opens k)
-            ≡ shares_below m hands opens + share_of (hand_in hands m) (transaction_of opens m) + share_of (hand_in now k) (transaction_of then k)) is (omega (arith, rest))
+        ≡ shares_below m hands opens + share_of (hand_in hands m) (transaction_of opens m) + share_of (hand_in now k) (transaction_of then k)) is (omega (arith, rest))
     | inr other ↦
         let rest : shares_below m now then + share_of (hand_in hands n) (transaction_of opens n) ≡ shares_below m hands opens + share_of (hand_in now n) (transaction_of then n) = changes m (omega (arith, other)) in
         let own : share_of (hand_in now m) (transaction_of then m) ≡ share_of (hand_in hands m) (transaction_of opens m) = share_stays m other in

@@ -1,24 +1,26 @@
 -- what stays of the slots of a table
-use Rattle.std.proofs.Common.{◌≡◌, ◌≢◌, ◌⊎◌, inl, inr, ℕ, Bool, List, Option, None, Some, refl, sym, ap, subst, ◌∙◌}
+use Rattle.std.proofs.Common.{◌≡◌, ◌≢◌, ◌⊎◌, inl, inr, ℕ, false, List, None, Some, refl, sym, ap, ◌∙◌}
 use Rattle.std.proofs.lemmas.Bool.{cases_eq}
 use Rattle.std.proofs.lemmas.Option.{none-some, same_Some}
 use Rattle.block_model.specs.declared.place.Spot.{Spot}
 use Rattle.page_layout.specs.PageContents.{Slot}
 use Rattle.page_layout.specs.PageWrites.{marked}
 use Rattle.page_layout.specs.RowBytes.{StoredRow}
-use Rattle.heap_rows.specs.RowPlaces.{ChangesSlot, FillsSlot, slot_at, with_row}
-use Rattle.brin_scan.specs.Finds.{Sight}
-use Rattle.brin_scan.specs.SeenRows.{IsOthersSince, StaysInSlot}
+use Rattle.heap_rows.specs.RowPlaces.{ChangesSlot, slot_at, with_row}
+use Rattle.brin_scan.specs.Finds.{Sight, sees_stored}
+use Rattle.brin_scan.specs.SeenRows.{SeesLater}
+use Rattle.brin_scan.proofs.Seen.{since_unseen, stays_seen}
 use Rattle.store_parts.specs.Leaving.{RowsStay, SeesSlots}
-use Rattle.store_parts.specs.TableLaws.{AreSameSlots, FilledSlotStays, IsSlotFilled, IsSlotMarked, MarkedSlotStays, SameSlotsStay}
+use Rattle.store_parts.specs.TableLaws.{FilledSlotStays, MarkedSlotStays, SameSlotsStay}
 
-stays_itself : (sight : Sight) (row : StoredRow) → StaysInSlot sight row row
-stays_itself sight row = record { id = refl; deleter = inl refl }
+-- a transaction sees by the same sight
+sees_itself : (sight : Sight) → SeesLater sight sight
+sees_itself sight = record { snapshot = refl; own = refl; ended = λ t is. refl }
 
 pub same_slots : SameSlotsStay
 same_slots blocks = record {
   rows = λ spot row there. (row, there, refl, refl);
-  seen = λ sight spot now there. inl (now, there, stays_itself sight now);
+  seen = λ sight spot now there. inl (now, there, refl);
 }
 
 -- the spot is the one, or another
@@ -35,45 +37,47 @@ module _ (spot : Spot) (row : StoredRow) (old new : List (List Slot)) (free : sl
   filled_rows : RowsStay old new
   filled_rows at there is = (there, changes.others at (λ same. none-some there (sym free ∙ ap (slot_at old) (sym same) ∙ is)) ∙ is, refl, refl)
 
-  filled_seen : (sight : Sight) → IsOthersSince sight row.id.t → SeesSlots sight old new
-  filled_seen sight since at now is = elim (spot_cases at spot) [
+  filled_unseen : (sight : Sight) → sees_stored sight row ≡ false → SeesSlots sight old new
+  filled_unseen sight unseen at now is = elim (spot_cases at spot) [
     | inl same ↦ inr (
-        ap (slot_at old) same ∙ free,
-        subst (λ (r : StoredRow). IsOthersSince sight r.id.t) (same_Some row now (sym changes.there ∙ ap (slot_at new) (sym same) ∙ is)) since,
-      )
-    | inr other ↦ inl (now, sym (changes.others at other) ∙ is, stays_itself sight now)
+      ap (slot_at old) same ∙ free,
+      ap (sees_stored sight) (sym (same_Some row now (sym changes.there ∙ ap (slot_at new) (sym same) ∙ is))) ∙ unseen,
+    )
+    | inr other ↦ inl (now, sym (changes.others at other) ∙ is, refl)
   ]
 
 pub filled_slot : FilledSlotStays
 filled_slot count spot row blocks fills = record {
   rows = filled_rows spot row blocks (with_row count blocks spot row) fills.0 fills.1;
-  seen = filled_seen spot row blocks (with_row count blocks spot row) fills.0 fills.1;
+  seen = λ sight since. filled_unseen spot row blocks (with_row count blocks spot row) fills.0 fills.1 sight (since_unseen sight row since);
+  unseen = filled_unseen spot row blocks (with_row count blocks spot row) fills.0 fills.1;
 }
 
 module _ (spot : Spot) (row : StoredRow) (deleter : ℕ) (old new : List (List Slot)) (there : slot_at old spot ≡ Some row) (changes : ChangesSlot old new spot (Some (marked row deleter))) where
   marked_rows : RowsStay old new
   marked_rows at was is = elim (spot_cases at spot) [
     | inl same ↦ (
-        marked row deleter,
-        ap (slot_at new) same ∙ changes.there,
-        ap (λ (r : StoredRow). r.id) (same_Some row was (sym there ∙ ap (slot_at old) (sym same) ∙ is)),
-        ap (λ (r : StoredRow). r.values) (same_Some row was (sym there ∙ ap (slot_at old) (sym same) ∙ is)),
-      )
+      marked row deleter,
+      ap (slot_at new) same ∙ changes.there,
+      ap (λ (r : StoredRow). r.id) (same_Some row was (sym there ∙ ap (slot_at old) (sym same) ∙ is)),
+      ap (λ (r : StoredRow). r.values) (same_Some row was (sym there ∙ ap (slot_at old) (sym same) ∙ is)),
+    )
     | inr other ↦ (was, changes.others at other ∙ is, refl, refl)
   ]
 
-  marked_seen : (sight : Sight) → StaysInSlot sight row (marked row deleter) → SeesSlots sight old new
-  marked_seen sight stays at now is = elim (spot_cases at spot) [
+  marked_alike : (sight : Sight) → sees_stored sight (marked row deleter) ≡ sees_stored sight row → SeesSlots sight old new
+  marked_alike sight alike at now is = elim (spot_cases at spot) [
     | inl same ↦ inl (
-        row,
-        ap (slot_at old) same ∙ there,
-        subst (StaysInSlot sight row) (same_Some (marked row deleter) now (sym changes.there ∙ ap (slot_at new) (sym same) ∙ is)) stays,
-      )
-    | inr other ↦ inl (now, sym (changes.others at other) ∙ is, stays_itself sight now)
+      row,
+      ap (slot_at old) same ∙ there,
+      ap (sees_stored sight) (sym (same_Some (marked row deleter) now (sym changes.there ∙ ap (slot_at new) (sym same) ∙ is))) ∙ alike,
+    )
+    | inr other ↦ inl (now, sym (changes.others at other) ∙ is, refl)
   ]
 
 pub marked_slot : MarkedSlotStays
 marked_slot spot row deleter old new there changes = record {
   rows = marked_rows spot row deleter old new there changes;
-  seen = marked_seen spot row deleter old new there changes;
+  seen = λ sight stays. marked_alike spot row deleter old new there changes sight (stays_seen sight sight (sees_itself sight) row (marked row deleter) stays);
+  alike = marked_alike spot row deleter old new there changes;
 }

@@ -1,8 +1,8 @@
 -- which step of the definition of texts a step is
-use Rattle.std.proofs.Common.{◌≡◌, ◌≢◌, ◌⊎◌, inl, inr, ℕ, ◌==◌, Bool, true, false, if◌then◌else◌, List, [], ◌∷◌, ◌++◌, Option, None, Some, refl, sym, ap, subst, ◌∙◌}
+use Rattle.std.proofs.Common.{◌≡◌, ◌≢◌, ◌⊎◌, inl, inr, ℕ, Bool, if◌then◌else◌, List, [], ◌∷◌, Option, None, Some, refl, sym, ap, subst, ◌∙◌}
 use Rattle.std.specs.Prelude.{IsTrue}
 use Rattle.std.proofs.lemmas.Bool.{cases_eq, eq-eqb, ne_eqb}
-use Rattle.std.proofs.lemmas.Option.{none-some, same_Some}
+use Rattle.std.proofs.lemmas.Option.{same_Some}
 use Rattle.block_model.specs.declared.reply.Point.{Point}
 use Rattle.block_model.specs.declared.reply.Point.TheVariants as points
 use Rattle.block_model.specs.declared.reply.Refusal.{Refusal}
@@ -10,18 +10,17 @@ use Rattle.block_model.specs.declared.reply.Refusal.TheVariants as refusals
 use Rattle.block_model.specs.declared.request.Entry.{Entry}
 use Rattle.statements.specs.declared.statement.Statement.{Statement}
 use Rattle.statements.specs.declared.statement.Statement.TheVariants as statements
-use Rattle.table_coverage.specs.Accounts.{Account, AccountIs, Accounts, AccountsStep, Adds, Asked}
+use Rattle.table_coverage.specs.Accounts.{Account, Asked}
 use Rattle.table_coverage.specs.InOneIndex.{DoesAt}
 use Rattle.table_coverage.specs.Table.{Resting, TableState, Task}
 use Rattle.table_coverage.specs.TablePoints.{IsHeldBy, WaitedFor, does_point, waits_for}
-use Rattle.table_coverage.specs.TableSteps.{Does, IsBlocked, PrunesBlock, Settles, TableStep}
-use Rattle.line_texts.specs.Beginnings.{Begins, IsIn, TakesUp, takes_lock}
+use Rattle.table_coverage.specs.TableSteps.{Does, IsBlocked, PrunesBlock, Settles}
+use Rattle.line_texts.specs.Beginnings.{Begins, TakesUp, takes_lock}
 use Rattle.line_texts.specs.Names.{name_of}
 use Rattle.line_texts.specs.Place.{Hand as HandAt, Place, accounts_at, updated}
-use Rattle.line_texts.specs.Requests.{Course}
-use Rattle.line_texts.specs.StatementSteps.{AtOnce, GoesOn, IsRefused, IsWaiting, LacksMemoryAtOnce, MeetsConflict, NoNumber, Replies, StepsTo, Waits, WaitsFor, reply_after, what_of}
-use Rattle.line_texts.specs.Turns.{Leads, PrunesTheDead, Recounts, TablesStay, Turn}
-use Rattle.store_parts.specs.PlaceLaws.{AfterLeads, AtOnceLeads, IsAtOnceAfter, TableAfter}
+use Rattle.line_texts.specs.StatementSteps.{AtOnce, GoesOn, IsRefused, IsWaiting, LacksMemoryAtOnce, MeetsConflict, NoNumber, Replies, WaitsFor, reply_after, what_of}
+use Rattle.line_texts.specs.Turns.{PrunesTheDead, Turn}
+use Rattle.store_parts.specs.PlaceLaws.{AfterLeads, AtOnceLeads, TableAfter}
 use Rattle.store_parts.specs.PlacesAfter.{TurnsIn, place_after, place_at_once, recounted}
 use Rattle.store_parts.specs.StepLaws.{IsOneRequest, LacksMemoryThere, LacksNumber, MachineTurns, TurnConflicts, TurnGoesOn, TurnIsRefused, TurnReplies, TurnWaits}
 
@@ -96,8 +95,7 @@ not_pruned p n w v does point is other = tt
 
 pub machine_turns : MachineTurns
 machine_turns p n table statement w between v point account is queue other on does no_prune settles own =
-    let there : DoesAt n (p.tables table) between point account = subst (λ (x : TableState). DoesAt n x between point account) (sym is) does in
-    (
+    let there : DoesAt n (p.tables table) between point account = subst (λ (x : TableState). DoesAt n x between point account) (sym is) does in (
       record {
         on = on;
         step = record { between = between; does = there.does; settles = settles };

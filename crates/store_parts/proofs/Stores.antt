@@ -1,18 +1,14 @@
 -- stores with the same parts
-use Rattle.std.proofs.Common.{◌≡◌, ◌≢◌, ℕ, zero, suc, ◌+◌, ◌<◌, ◌≤◌, List, [], ◌∷◌, length, get_or-set_same, get_or-set_other, Option, None, Some, refl, sym, ap, subst, ◌∙◌, arith}
+use Rattle.std.proofs.Common.{◌≡◌, ℕ, zero, suc, ◌<◌, ◌≤◌, List, [], ◌∷◌, length, get_or-set_same, get_or-set_other, Option, None, Some, sym, subst, ◌∙◌, arith}
 use Rattle.std.proofs.lemmas.Option.{none-some}
 use Rattle.disk_trait.specs.Told.{Told}
-use Rattle.store_layout.specs.DiskLayout.{DiskLayout}
 use Rattle.page_locks.specs.LockCounts.{locks_of}
-use Rattle.row_versions.specs.declared.sessions.Open.{Open}
 use Rattle.row_versions.specs.StoredVersions.{transaction_of}
 use Rattle.store_parts.specs.declared.hand.Hand.{Hand}
-use Rattle.store_parts.specs.declared.parts.Parts.{Parts}
-use Rattle.store_parts.specs.HandFits.{FitsHand, FitsStore, locks_held}
+use Rattle.store_parts.specs.HandFits.{FitsHand, locks_held}
 use Rattle.store_parts.specs.Shares.{share_of}
-use Rattle.store_parts.specs.Stepping.{IsFit}
-use Rattle.store_parts.specs.StoreLaws.{FitEverywhere, HandChanges, HasHand}
-use Rattle.store_parts.specs.StoreStates.{hand_in, store_of, with_hand}
+use Rattle.store_parts.specs.StoreLaws.{FitEverywhere, HandChanges}
+use Rattle.store_parts.specs.StoreStates.{hand_in}
 
 pub fits_everywhere : {D : Type 0} (told : D → Told) → FitEverywhere told
 fits_everywhere told parts n hand names hands fit is =

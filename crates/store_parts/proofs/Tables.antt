@@ -1,32 +1,27 @@
 -- a table that a step leaves, and one in which it steps
-use Rattle.std.proofs.Common.{◌≡◌, ◌≢◌, ◌⊎◌, inl, inr, ℕ, ◌+◌, ◌<◌, ◌≤◌, ◌==◌, Bool, true, false, List, [], ◌∷◌, length, Option, None, Some, refl, sym, ap, subst, ◌∙◌, arith}
-use Rattle.std.specs.Prelude.{IsTrue, slice_get}
+use Rattle.std.proofs.Common.{◌≡◌, ◌≢◌, inl, inr, ℕ, ◌<◌, Bool, List, [], ◌∷◌, length, Option, None, Some, refl, sym, ap, subst, ◌∙◌, arith}
+use Rattle.std.specs.Prelude.{slice_get}
 use Rattle.std.proofs.lemmas.Bool.{cases_eq}
 use Rattle.std.proofs.lemmas.Option.{none-some, slice_get_within}
-use Rattle.block_model.specs.declared.place.Place.{Place as PagePlace}
-use Rattle.block_model.specs.declared.place.Spot.{Spot}
-use Rattle.block_model.specs.declared.row.Row.{Row}
 use Rattle.store_layout.specs.DiskLayout.{DiskLayout}
 use Rattle.page_layout.specs.PageContents.{HasSlots, IsUnstarted, Slot}
 use Rattle.page_locks.specs.LockHolders.{LockState}
-use Rattle.page_locks.specs.RightHolders.{right_of}
-use Rattle.page_store.specs.PageMap.{PageMap, block_at, page_at}
+use Rattle.page_store.specs.PageMap.{PageMap, block_at}
 use Rattle.heap_rows.specs.HeapBlocks.{HasBlocks, slots_of}
 use Rattle.heap_rows.specs.Heaps.{form_at, relation_of as heap_of}
-use Rattle.heap_rows.specs.RowPlaces.{slot_at}
 use Rattle.snapshot_core.specs.declared.statuses.Status.{Status}
 use Rattle.row_versions.specs.declared.sessions.Open.{Open}
 use Rattle.row_versions.specs.StoredVersions.{transaction_of}
 use Rattle.transactions.specs.CountedRows.{counts as counts_of}
-use Rattle.index_contents.specs.IndexContents.{IndexContents, contents, contents_in, index_page, relation_of}
-use Rattle.table_coverage.specs.Machines.{ShownIndex, ShownTable, Unseen, table_state}
-use Rattle.table_coverage.specs.Table.{Resting, Scans, TableScan, TableState, Task}
+use Rattle.index_contents.specs.IndexContents.{contents, contents_in, relation_of}
+use Rattle.table_coverage.specs.Machines.{ShownTable, Unseen, table_state}
+use Rattle.table_coverage.specs.Table.{Resting, Scans, TableState, Task}
 use Rattle.table_coverage.specs.TableCovered.{IsTableKept}
 use Rattle.table_coverage.specs.TableSteps.{TableDone, TableNext, TableStep, Transacts}
 use Rattle.table_coverage.proofs.TableSeen.{table_between_kept, table_run_kept}
 use Rattle.index_steps.specs.IndexTuples.{contents_of, index_at, shape_of}
 use Rattle.index_steps.specs.ShownIndex.{lock_in, tuple_in_place}
-use Rattle.index_steps.specs.ShownRows.{ShowsKept, row_in, shown_by}
+use Rattle.index_steps.specs.ShownRows.{row_in, shown_by}
 use Rattle.index_steps.specs.ShownTable.{indexes_of, shown_at}
 use Rattle.index_steps.proofs.Listed.{is_counted, is_listed}
 use Rattle.snapshot_core.specs.Visibility.{is_committed}
@@ -34,13 +29,13 @@ use Rattle.brin_scan.specs.Finds.{stands_by}
 use Rattle.brin_scan.specs.SeenRows.{SeesLater}
 use Rattle.store_parts.specs.declared.hand.Hand.{Hand}
 use Rattle.store_parts.specs.HandsInTables.{IsTaskOf, sight_of, table_in}
-use Rattle.store_parts.specs.Leaving.{LeavesOthers, LeavesTable, RowsStay, SeeAlike, SeesSlots, SlotsStay}
+use Rattle.store_parts.specs.Leaving.{LeavesOthers, LeavesTable, RowsStay, SeeAlike, SeesSlots}
 use Rattle.store_parts.specs.PlacesAfter.{recounted}
 use Rattle.store_parts.specs.ShowsPlace.{ShowsTable}
 use Rattle.store_parts.specs.StoreStates.{ShownStore, hand_in}
 use Rattle.store_parts.specs.TableLaws.{AnotherTableStays, CountsFewIn, IsQuiet, OwnTableGoesOn, RestsElsewhere, TableIsKept, TableShowsAlike}
 use Rattle.store_parts.proofs.Locks.{quiet_ones_lock_none}
-use Rattle.store_parts.proofs.Seeing.{SeesOn, SeesStanding, rests_elsewhere, task_elsewhere, task_goes_on}
+use Rattle.store_parts.proofs.Seeing.{SeesStanding, rests_elsewhere, task_elsewhere, task_goes_on}
 use Rattle.store_parts.proofs.Slots.{same_slots}
 
 -- an index that a table lists is one of the layout, and of the table

@@ -1,5 +1,5 @@
 -- Steps that aren't done, and steps behind a call that changes no page.
-use Rattle.std.proofs.Common.{◌≡◌, ◌≢◌, ℕ, ◌+◌, ◌<◌, ◌≤◌, List, length, Option, None, Some, refl, sym, ap, ◌∙◌, subst, arith}
+use Rattle.std.proofs.Common.{◌≡◌, ℕ, ◌+◌, ◌≤◌, List, length, Option, None, Some, refl, sym, ap, ◌∙◌, subst, arith}
 use Rattle.std.proofs.lemmas.List.{set-get_or}
 use Rattle.std.proofs.lemmas.Option.{none-some}
 use Rattle.block_model.specs.Causes.{rose_earlier}
@@ -10,15 +10,13 @@ use Rattle.page_store.specs.declared.faults.StoreError.{StoreError}
 use Rattle.page_store.specs.declared.faults.StoreError.TheVariants as errors
 use Rattle.page_store.specs.Keeps.{Keeps, Leaves, Tells, Untold, keeps_then, keeps_on}
 use Rattle.page_store.specs.Outcome.{Refused}
-use Rattle.page_store.specs.PageMap.{PageMap, View}
+use Rattle.page_store.specs.PageMap.{View}
 use Rattle.statements.specs.declared.limits.TheConstants.{MAX_ENTRIES}
 use Rattle.store_layout.specs.DiskLayout.{DiskLayout}
 use Rattle.row_versions.specs.declared.sessions.Open.{Open}
 use Rattle.row_versions.specs.StoredVersions.{transaction_of}
 use Rattle.transactions.specs.TransactionsState.{TransactionsState}
 use Rattle.tx_table.specs.TxState.{IsOver}
-use Rattle.line_texts.specs.Place.{Place}
-use Rattle.line_texts.specs.StatementSteps.{LacksRoom}
 use Rattle.store_parts.specs.declared.faults.StoreFault.{StoreFault}
 use Rattle.store_parts.specs.declared.faults.StoreFault.TheVariants as stops
 use Rattle.store_parts.specs.declared.hand.Hand.{Hand}
@@ -26,16 +24,15 @@ use Rattle.store_parts.specs.declared.hand.Stepped.{Stepped}
 use Rattle.store_parts.specs.declared.hand.Stepped.TheVariants as stepped
 use Rattle.store_parts.specs.declared.parts.Parts.{Parts}
 use Rattle.store_parts.specs.HandFits.{FitsHand, FitsStore, locks_held}
-use Rattle.store_parts.specs.Hands.{statement_of}
 use Rattle.store_parts.specs.JournalState.{JournalState}
 use Rattle.store_parts.specs.Shares.{share_of}
 use Rattle.store_parts.specs.ShowsPlace.{IsPlaceOf, ShowsPlace}
-use Rattle.store_parts.specs.StepAnswers.{HasCause, HasFaultCause, LeavesSessions, StaysAsItWas, StaysReady, StaysWhereUndone}
-use Rattle.store_parts.specs.StepIs.{LeadsOn, StepIs, answer_of, hand_after}
-use Rattle.store_parts.specs.Stepping.{IsFit, LeavesTheOthers, MakesItsStep, StaysFit, StaysUndone}
+use Rattle.store_parts.specs.StepAnswers.{HasCause, LeavesSessions, StaysAsItWas, StaysWhereUndone}
+use Rattle.store_parts.specs.StepIs.{hand_after}
+use Rattle.store_parts.specs.Stepping.{IsFit, LeavesTheOthers}
 use Rattle.store_parts.specs.StoreFaults.{fault_of}
 use Rattle.store_parts.specs.StoreStates.{ShownStore, StoreState, hand_in, shown_of, store_of, with_hand}
-use Rattle.store_parts.specs.UndoneLaws.{FitOfParts, FitOfStores, FitsParts, RefusedIsUndone, SameBesidePages, SpentIsUndone, StepsBehind, StepsSo}
+use Rattle.store_parts.specs.UndoneLaws.{FitOfParts, FitOfStores, FitsParts, RefusedIsUndone, SameBesidePages, SpentIsUndone, StepsBehind}
 
 -- ---- what is fit
 
@@ -146,10 +143,10 @@ module _ {D : Type 0} (told : D → Told) where
       let was : FitsParts told parts n (Some hand) = fit_of_parts told parts n hand fits in
       record {
         steps = λ names hands is tells before after p shown. (
-            p,
-            subst (λ (l : List (Option Hand)). ShowsPlace (store_of parts names l) p) (sym (same_hands hands n hand is)) shown,
-            (lacks names hands p is tells shown, is_length ∙ ap length (sym shown.journal), refl),
-          );
+          p,
+          subst (λ (l : List (Option Hand)). ShowsPlace (store_of parts names l) p) (sym (same_hands hands n hand is)) shown,
+          (lacks names hands p is tells shown, is_length ∙ ap length (sym shown.journal), refl),
+        );
         fit = λ names hands is. fit_of_stores told parts n (Some hand) names (with_hand hands n (Some hand)) was (kept_hand hands n hand is);
         others = refused_others parts parts n hand fits was.over (no_leaves parts.pages) unchanged (stops.Spent entries);
         stays = λ names hands is. (record { pages = record { leaves = no_leaves parts.pages; pages = λ tells. refl }; transactions = refl; locks = refl; rights = refl; journal = refl }, refl);

@@ -1,12 +1,11 @@
 -- what a statement in hand needs of its store on any disk
-use Rattle.std.specs.Prelude.{◌≡◌, ◌≢◌, ℕ, ◌+◌, ◌≤◌, ◌<◌, false, All, List, [], length, Option, None, Some, IsSome, vec_capacity}
+use Rattle.std.specs.Prelude.{◌≡◌, ◌≢◌, ℕ, ◌≤◌, ◌<◌, false, All, [], length, Option, None, Some, IsSome, vec_capacity}
 use Rattle.disk_trait.specs.Told.{Told}
 use Rattle.store_layout.specs.DiskLayout.{DiskLayout}
 use Rattle.block_model.specs.declared.row.Query.{Query}
 use Rattle.statements.specs.declared.limits.TheConstants.{MAX_ENTRIES, MAX_SESSIONS}
 use Rattle.page_layout.specs.RowBytes.{HaveKinds}
 use Rattle.page_locks.specs.LockCounts.{locks_of}
-use Rattle.page_locks.specs.LockHolders.{count_of}
 use Rattle.heap_rows.specs.Heaps.{kinds_at}
 use Rattle.row_versions.specs.declared.sessions.Open.{Open}
 use Rattle.row_versions.specs.StoredVersions.{transaction_of}
@@ -19,11 +18,12 @@ use Rattle.brin_scan.specs.declared.stage.Stage.TheVariants as scan_stages
 use Rattle.brin_summarise.specs.Summarises as summarises
 use Rattle.brin_summarise.specs.Summarises.{IsSummariseOf}
 use Rattle.brin_summarise.specs.declared.course.Standing.TheVariants as standings
+use Rattle.brin_summarise.specs.declared.wish.Wish.TheVariants as wishes
 use Rattle.store_parts.specs.declared.hand.Hand.{Hand}
 use Rattle.store_parts.specs.declared.hand.Hand.TheVariants as hands
 use Rattle.store_parts.specs.declared.hand.Hit.{Hit}
 use Rattle.store_parts.specs.declared.hand.Marking.{Marking}
-use Rattle.store_parts.specs.declared.limits.TheConstants.{MAX_LOCKS, LOCKS_A_SESSION}
+use Rattle.store_parts.specs.declared.limits.TheConstants.{MAX_LOCKS}
 use Rattle.store_parts.specs.Shares.{share_of}
 use Rattle.store_parts.specs.StoreStates.{StoreState, hand_at}
 
@@ -57,7 +57,7 @@ IsHandFor layout own (hands.Deleting query) = IsUnderWay own × (query.table < l
 IsHandFor layout own (hands.Deletes scan) = IsUnderWay own × IsFindOf layout scan × IsScanning scan.judging.stage scan.next × (scan.judging.stage ≢ scan_stages.Extent)
 IsHandFor layout own (hands.Marks marking) = IsUnderWay own × IsMarkingFor layout marking
 IsHandFor layout own (hands.Explains explain) = IsScanOf layout explain.judging × IsJudging explain.judging.stage
-IsHandFor layout own (hands.Summarises a) = IsSummariseOf layout a × (a.standing ≢ standings.Done)
+IsHandFor layout own (hands.Summarises a) = IsSummariseOf layout a × (a.standing ≢ standings.Done) × (a.wish ≢ wishes.Complete)
 
 abbrev pub FitsHand : DiskLayout → Option Open → Option Hand → Type 0
 FitsHand layout own None = Unit {0}

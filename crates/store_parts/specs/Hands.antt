@@ -10,7 +10,7 @@ use Rattle.statements.specs.declared.statement.Statement.TheVariants as statemen
 use Rattle.table_coverage.specs.Accounts.{Account, no_account}
 use Rattle.brin_summarise.specs.declared.wish.Wish.{Wish}
 use Rattle.brin_summarise.specs.declared.wish.Wish.TheVariants as wishes
-use Rattle.brin_summarise.specs.Summarises.{SummariseState, count_of}
+use Rattle.brin_summarise.specs.Summarises.{count_of}
 use Rattle.line_texts.specs.Place.{Hand as HandAt}
 use Rattle.store_parts.specs.declared.hand.Hand.{Hand}
 use Rattle.store_parts.specs.declared.hand.Hand.TheVariants as hands
@@ -21,6 +21,7 @@ use Rattle.store_parts.specs.declared.hand.Marking.{Marking}
 abbrev pub block_of : Wish → Option ℕ
 block_of wishes.New = None
 block_of (wishes.Block block) = Some block
+block_of wishes.Complete = None
 
 -- the statement that it is
 abbrev pub statement_of : Hand → Statement

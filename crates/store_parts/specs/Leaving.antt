@@ -1,9 +1,8 @@
 -- what a step of a session leaves of the parts of a store
-use Rattle.std.specs.Prelude.{◌≡◌, ◌≢◌, ◌⊎◌, ℕ, ◌<◌, IsTrue, List, length, Option, None, Some}
+use Rattle.std.specs.Prelude.{◌≡◌, ◌≢◌, ◌⊎◌, ℕ, ◌<◌, false, IsTrue, List, length, Option, None, Some}
 use Rattle.std.specs.FinMap as finite
 use Rattle.block_model.specs.declared.place.Place.{Place as PagePlace}
 use Rattle.block_model.specs.declared.place.Spot.{Spot}
-use Rattle.block_model.specs.declared.row.Row.{Row}
 use Rattle.block_model.specs.SerialRun.{IsLegal, serial_run}
 use Rattle.store_layout.specs.DiskLayout.{DiskLayout}
 use Rattle.page_layout.specs.PageContents.{Slot}
@@ -24,12 +23,11 @@ use Rattle.transactions.specs.ShowsDatabase.{ShowsDatabase}
 use Rattle.transactions.specs.StoredRows.{StandsAt}
 use Rattle.index_contents.specs.IndexContents.{contents, index_page, relation_of as index_relation}
 use Rattle.table_coverage.specs.Accounts.{Account}
-use Rattle.table_coverage.specs.Table.{TableState}
 use Rattle.index_steps.specs.IndexTuples.{index_at}
 use Rattle.index_steps.specs.ShownIndex.{lock_in}
 use Rattle.index_steps.specs.SwapAnswers.{LeavesLocks}
-use Rattle.brin_scan.specs.Finds.{Sight}
-use Rattle.brin_scan.specs.SeenRows.{IsOthersSince, SeesLater, StaysInSlot}
+use Rattle.brin_scan.specs.Finds.{Sight, sees_stored}
+use Rattle.brin_scan.specs.SeenRows.{SeesLater}
 use Rattle.line_texts.specs.Place.{Hand as HandAt, Place, database_at}
 use Rattle.store_parts.specs.declared.hand.Hand.{Hand}
 use Rattle.store_parts.specs.Hands.{HandShows}
@@ -92,11 +90,10 @@ abbrev pub RowsStay : (old new : List (List Slot)) → Type 0
 RowsStay old new = (spot : Spot) (row : StoredRow) → slot_at old spot ≡ Some row
     → (now : StoredRow) × (slot_at new spot ≡ Some now) × (now.id ≡ row.id) × (now.values ≡ row.values)
 
--- What stands in a slot stood there, as far as the one that sees can tell; or it came to a free slot, and is of a transaction that hadn't ended when the snapshot
--- was taken.
+-- A row that stands in a slot stood there, and is seen where it was; or it came to a free slot, and isn't seen.
 abbrev pub SeesSlots : Sight → (old new : List (List Slot)) → Type 0
 SeesSlots sight old new = (spot : Spot) (now : StoredRow) → slot_at new spot ≡ Some now
-    → ((row : StoredRow) × (slot_at old spot ≡ Some row) × StaysInSlot sight row now) ⊎ ((slot_at old spot ≡ None) × IsOthersSince sight now.id.t)
+    → ((row : StoredRow) × (slot_at old spot ≡ Some row) × (sees_stored sight now ≡ sees_stored sight row)) ⊎ ((slot_at old spot ≡ None) × (sees_stored sight now ≡ false))
 
 -- rows stay, and each other session's transaction sees of the slots what it saw
 pub record SlotsStay (n : ℕ) (s : ShownStore) (stored : List Status) (old new : List (List Slot)) : Type 0 where

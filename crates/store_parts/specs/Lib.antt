@@ -19,3 +19,5 @@ pub mod RequestLaws
 pub mod ShareLaws
 pub mod StoreLaws
 pub mod UndoneLaws
+pub mod LeadLaws
+pub mod OpeningLaws

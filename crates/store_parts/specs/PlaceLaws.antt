@@ -1,5 +1,5 @@
 -- which place a store shows behind a step
-use Rattle.std.specs.Prelude.{◌≡◌, ◌≢◌, ℕ, Bool, List, Option, None}
+use Rattle.std.specs.Prelude.{◌≡◌, ℕ, Bool, List, Option, None}
 use Rattle.block_model.specs.declared.request.Entry.{Entry}
 use Rattle.block_model.specs.declared.place.Place.{Place as PagePlace}
 use Rattle.page_layout.specs.PageContents.{Slot}
@@ -12,11 +12,10 @@ use Rattle.table_coverage.specs.Accounts.{Account}
 use Rattle.table_coverage.specs.Table.{TableState, Task}
 use Rattle.line_texts.specs.Place.{Hand as HandAt, Place}
 use Rattle.line_texts.specs.Turns.{Leads, TablesStay}
-use Rattle.store_parts.specs.Hands.{HandShows}
 use Rattle.store_parts.specs.HandsInTables.{IsTaskOf}
 use Rattle.store_parts.specs.Leaving.{CountsFew, LeadsTo, LeavesOthers, SeeAlike, StepsAtOnce, StepsInTable}
 use Rattle.store_parts.specs.PlacesAfter.{place_after, place_at_once}
-use Rattle.store_parts.specs.ShowsPlace.{IsOfTransaction, IsPlaceOf, ShowsTable}
+use Rattle.store_parts.specs.ShowsPlace.{IsPlaceOf, ShowsTable}
 use Rattle.store_parts.specs.StoreStates.{ShownStore, hand_in}
 
 -- behind a step in one table

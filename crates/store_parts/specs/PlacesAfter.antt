@@ -1,5 +1,5 @@
 -- the place to which a step of a session leads
-use Rattle.std.specs.Prelude.{◌≡◌, ◌≢◌, ◌⊎◌, ℕ, ◌==◌, Bool, List, Option, None, if◌then◌else◌}
+use Rattle.std.specs.Prelude.{◌≢◌, ◌⊎◌, ℕ, ◌==◌, Bool, List, Option, None, if◌then◌else◌}
 use Rattle.block_model.specs.declared.reply.Point.{Point}
 use Rattle.block_model.specs.declared.request.Entry.{Entry}
 use Rattle.statements.specs.declared.statement.Statement.{Statement}

@@ -6,6 +6,7 @@ use Rattle.block_model.specs.declared.row.RowId.{RowId}
 use Rattle.block_model.specs.declared.value.Value.{Value}
 use Rattle.page_locks.specs.LockChanges.{GivesAll}
 use Rattle.page_locks.specs.LockHolders.{holder}
+use Rattle.page_locks.specs.RightHolders.{right_of}
 use Rattle.page_store.specs.PageMap.{page_at}
 use Rattle.snapshot_core.specs.declared.statuses.Status.{Status}
 use Rattle.statements.specs.declared.statement.Statement.{Statement}
@@ -14,7 +15,7 @@ use Rattle.transactions.specs.CountedRows.{counts as counts_of}
 use Rattle.coverage.specs.Statements.{Phase}
 use Rattle.coverage.specs.Steps.{SummariseLockPasses}
 use Rattle.table_coverage.specs.Accounts.{no_account}
-use Rattle.table_coverage.specs.Refusals.{HasConflict, LacksMemory, insert_refusal, maintain_refusal, row_refusal}
+use Rattle.table_coverage.specs.Refusals.{HasConflict, LacksMemory, Refusal, insert_refusal, maintain_refusal, row_refusal}
 use Rattle.table_coverage.specs.Table.{Job, Maintains, Marks, Resting, Scans, TableScan, TableState, Task, index_view_at, pick}
 use Rattle.table_coverage.specs.TableSteps.{IsInsertRefused, IsMaintainRefused, IsRowRefused, StepsIn, TableStep, TaskTurns}
 use Rattle.line_texts.specs.Beginnings.{IsIn}
@@ -72,3 +73,19 @@ RefusalIsShown = (old new : ShownStore) (stored : List Status) (n table : ℕ) (
     → ((place : PagePlace) → page_at new.pages place ≡ page_at old.pages place) → GivesAll (holder old.locks) (holder new.locks) n → new.rights ≡ old.rights
     → IsQuiet (w.task n) → table_in old.layout (hand_in new.hands n) ≢ Some table → TableStep n w (refused_in n (counts_of new.transactions stored) w)
     → ShowsTable new stored table (refused_in n (counts_of new.transactions stored) w)
+
+-- a maintenance statement whose index is full has this state of its table behind it, which is shown
+pub record IsMaintenanceShown (new : ShownStore) (stored : List Status) (p : Place) (n table : ℕ) (statement : Statement) (why : Refusal) : Type 0 where
+  pub after : TableState
+  pub shows : ShowsTable new stored table after
+  pub turns : TurnsIn p n statement table after (p.accounts n)
+  pub refused : refusal_in turns ≡ Some why
+
+-- No page changes; its session gave its page locks and the table's summarise lock.
+abbrev pub MaintenanceRefusalIsShown : Type 0
+MaintenanceRefusalIsShown = (old new : ShownStore) (stored : List Status) (p : Place) (n table at range : ℕ) (statement : Statement) (w : TableState) (job : Job) (phase : Phase) → ShowsTable old stored table w
+    → LeavesOthers n old new → ((place : PagePlace) → page_at new.pages place ≡ page_at old.pages place) → GivesAll (holder old.locks) (holder new.locks) n
+    → right_of new.rights table ≡ None → ((t : ℕ) → counts_of new.transactions stored t ≡ counts_of old.transactions stored t)
+    → table_in old.layout (hand_in new.hands n) ≢ Some table → p.tables table ≡ w → p.queue ≡ [] → statement ≢ statements.Work → IsIn p n statement table
+    → w.task n ≡ Maintains job at range phase → (refused : IsMaintainRefused (index_view_at at w) n range phase)
+    → IsMaintenanceShown new stored p n table statement (maintain_refusal at refused)

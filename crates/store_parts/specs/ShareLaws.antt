@@ -1,6 +1,5 @@
 -- what is promised to all sessions, and how many locks they hold
 use Rattle.std.specs.Prelude.{◌≡◌, ◌≢◌, ℕ, zero, suc, ◌+◌, ◌<◌, ◌≤◌, List, Option}
-use Rattle.statements.specs.declared.limits.TheConstants.{MAX_SESSIONS}
 use Rattle.row_versions.specs.declared.sessions.Open.{Open}
 use Rattle.row_versions.specs.StoredVersions.{transaction_of}
 use Rattle.store_parts.specs.declared.hand.Hand.{Hand}

@@ -1,5 +1,5 @@
 -- what every step of a statement leaves on any disk, and when each fault comes
-use Rattle.std.specs.Prelude.{◌≡◌, ◌≢◌, ℕ, ◌+◌, ◌≤◌, Option, None}
+use Rattle.std.specs.Prelude.{◌≡◌, ◌≢◌, ℕ, ◌+◌, None}
 use Rattle.disk_trait.specs.Told.{Told}
 use Rattle.store_layout.specs.DiskLayout.{DiskLayout, IsPlace, page_offset}
 use Rattle.block_model.specs.declared.place.Place.{Place}

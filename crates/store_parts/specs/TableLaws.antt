@@ -1,5 +1,5 @@
 -- how the tables that a store shows stay, and how one of them goes on
-use Rattle.std.specs.Prelude.{◌≡◌, ◌≢◌, ◌⊎◌, ℕ, ◌<◌, Bool, IsTrue, List, length, None, Some}
+use Rattle.std.specs.Prelude.{◌≡◌, ◌≢◌, ◌⊎◌, ℕ, ◌<◌, Bool, false, IsTrue, List, Some}
 use Rattle.block_model.specs.declared.place.Spot.{Spot}
 use Rattle.block_model.specs.declared.row.Row.{Row}
 use Rattle.page_layout.specs.PageContents.{Slot}
@@ -8,7 +8,7 @@ use Rattle.page_layout.specs.RowBytes.{StoredRow}
 use Rattle.page_locks.specs.LockChanges.{GivesAll}
 use Rattle.page_locks.specs.LockHolders.{LockState, holder}
 use Rattle.page_locks.specs.RightHolders.{right_of}
-use Rattle.page_store.specs.PageMap.{PageMap, page_at}
+use Rattle.page_store.specs.PageMap.{page_at}
 use Rattle.block_model.specs.declared.place.Place.{Place as PagePlace}
 use Rattle.store_layout.specs.DiskLayout.{DiskLayout}
 use Rattle.heap_rows.specs.HeapBlocks.{HasBlocks}
@@ -18,18 +18,17 @@ use Rattle.row_versions.specs.StoredVersions.{transaction_of}
 use Rattle.transactions.specs.CountedRows.{counts as counts_of}
 use Rattle.coverage.specs.Statements.{Copied, Empty, Held}
 use Rattle.table_coverage.specs.Machines.{Unseen, table_state}
-use Rattle.table_coverage.specs.Table.{Inserts, Marks, Resting, Scans, TableState, Task, pick}
+use Rattle.table_coverage.specs.Table.{Inserts, Marks, Resting, Scans, TableState, Task}
 use Rattle.table_coverage.specs.TableCovered.{IsTableKept}
 use Rattle.table_coverage.specs.TableSteps.{TableStep}
 use Rattle.index_steps.specs.ShownIndex.{lock_in}
 use Rattle.index_steps.specs.ShownRows.{ShowsKept, shown_by}
-use Rattle.brin_scan.specs.Finds.{Sight}
+use Rattle.brin_scan.specs.Finds.{Sight, sees_stored}
 use Rattle.brin_scan.specs.SeenRows.{IsOthersSince, StaysInSlot}
-use Rattle.line_texts.specs.Place.{Place}
 use Rattle.store_parts.specs.HandsInTables.{IsTaskOf, table_in}
 use Rattle.store_parts.specs.Leaving.{LeavesOthers, LeavesTable, RowsStay, SeeAlike, SeesSlots, SlotsStay}
 use Rattle.store_parts.specs.PlacesAfter.{recounted}
-use Rattle.store_parts.specs.ShowsPlace.{IsPlaceOf, ShowsTable}
+use Rattle.store_parts.specs.ShowsPlace.{ShowsTable}
 use Rattle.store_parts.specs.StoreStates.{ShownStore, hand_in}
 
 -- a statement at this locks no page between its steps
@@ -101,6 +100,7 @@ SameSlotsStay = (blocks : List (List Slot)) → AreSameSlots blocks
 pub record IsSlotFilled (row : StoredRow) (old new : List (List Slot)) : Type 0 where
   pub rows : RowsStay old new
   pub seen : (sight : Sight) → IsOthersSince sight row.id.t → SeesSlots sight old new
+  pub unseen : (sight : Sight) → sees_stored sight row ≡ false → SeesSlots sight old new
 
 abbrev pub FilledSlotStays : Type 0
 FilledSlotStays = (count : ℕ) (spot : Spot) (row : StoredRow) (blocks : List (List Slot)) → FillsSlot count spot row blocks
@@ -110,6 +110,7 @@ FilledSlotStays = (count : ℕ) (spot : Spot) (row : StoredRow) (blocks : List (
 pub record IsSlotMarked (row : StoredRow) (deleter : ℕ) (old new : List (List Slot)) : Type 0 where
   pub rows : RowsStay old new
   pub seen : (sight : Sight) → StaysInSlot sight row (marked row deleter) → SeesSlots sight old new
+  pub alike : (sight : Sight) → sees_stored sight (marked row deleter) ≡ sees_stored sight row → SeesSlots sight old new
 
 abbrev pub MarkedSlotStays : Type 0
 MarkedSlotStays = (spot : Spot) (row : StoredRow) (deleter : ℕ) (old new : List (List Slot)) → slot_at old spot ≡ Some row

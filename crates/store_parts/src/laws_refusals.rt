@@ -1,6 +1,6 @@
 //! Laws of refusals. None does anything.
 
-ghost use Rattle.store_parts.specs.RefusalLaws.{InsertIsRefused, MaintenanceIsRefused, MarkIsRefused, RefusalIsShown, RowIsRefused, ScanIsRefused};
+ghost use Rattle.store_parts.specs.RefusalLaws.{InsertIsRefused, MaintenanceIsRefused, MaintenanceRefusalIsShown, MarkIsRefused, RefusalIsShown, RowIsRefused, ScanIsRefused};
 
 /// A refusal is a turn of its statement: of an insert without a row or with a full index, of a scan for memory, of a mark for a conflict, and of
 /// maintenance with a full index.
@@ -12,7 +12,9 @@ pub fn a_refusal_turns()
     ensures maintenance { MaintenanceIsRefused }
 {}
 
-/// The table of a refused statement is shown when its session has given its locks and its transaction has failed.
+/// The table of a refused statement is shown when its session has given its locks and its transaction has failed; and that of maintenance when
+/// its session has given its page locks and the summarise lock.
 pub fn a_refusal_is_shown()
-    ensures { RefusalIsShown }
+    ensures transaction { RefusalIsShown }
+    ensures maintenance { MaintenanceRefusalIsShown }
 {}

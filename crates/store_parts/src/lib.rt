@@ -8,6 +8,8 @@
 mod faults;
 mod hand;
 mod journal;
+mod laws_leads;
+mod laws_opening;
 mod laws_places;
 mod laws_refusals;
 mod laws_requests;
@@ -23,6 +25,8 @@ mod parts;
 pub use faults::{Step, StoreFault, fault_of};
 pub use hand::{Hand, Hit, Marking, Stepped};
 pub use journal::Journal;
+pub use laws_leads::{a_request_leads, few_rows_come_to_count, others_see_on};
+pub use laws_opening::an_opened_store_is_shown;
 pub use laws_places::{a_step_is_shown, places_after_a_step};
 pub use laws_refusals::{a_refusal_is_shown, a_refusal_turns};
 pub use laws_requests::{one_more_request, others_copies_stay, requests_are_legal};

@@ -1,5 +1,5 @@
 use Rattle.brin_summarise.specs.Summarises.{count_of}
-use Rattle.brin_summarise.proofs.InTable.{does_in_table, full_in_table, tells_count}
+use Rattle.brin_summarise.proofs.InTable.{adds_count, does_in_table, full_in_table, tells_count}
 use Rattle.brin_summarise.proofs.law_table.a_summarise_steps_in_its_table.Goals as goal
 
 pub returns-clause-steps : goal.returns-clause-steps
@@ -11,4 +11,7 @@ pub returns-clause-full : goal.returns-clause-full
 returns-clause-full c = λ layout pages locks blocks s at number a there full. full_in_table layout pages locks blocks s at number a there full
 
 pub returns-clause-counted : goal.returns-clause-counted
-returns-clause-counted c = λ a b count account counted told. tells_count a.standing (count_of a) count (count_of b) account counted told
+returns-clause-counted c = λ a b count account other counted told. tells_count a.wish a.standing (count_of a) count (count_of b) account other counted told
+
+pub returns-clause-added : goal.returns-clause-added
+returns-clause-added c = λ a b count before account is counted told. adds_count a count before (count_of b) account is counted told

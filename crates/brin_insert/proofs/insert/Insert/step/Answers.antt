@@ -21,10 +21,11 @@ use Rattle.brin_insert.specs.StepAnswers.{DamageAt}
 use Rattle.brin_insert.proofs.InTable.{blocked, finished, moved, row_stepped, stepped_here}
 use Rattle.brin_insert.proofs.Numbers.{number_within}
 use Rattle.brin_insert.specs.InsertLocks.{held_by, stage_of, taken_by}
+use Rattle.brin_insert.specs.Inserts.{work_of}
 use Rattle.brin_insert.proofs.OwnLocks.{given_there, no_more, no_stage_drops, none_held, own_complete, own_there, stage_there, taken_there}
 use Rattle.brin_insert.proofs.Outcomes.{index_full, index_names, index_next, index_others, machine_for}
 use Rattle.brin_insert.proofs.Ordered.{keeps_by_heap, keeps_by_index}
-use Rattle.brin_insert.proofs.Placed.{first_free, first_within, not_first, not_within, placed_first, placed_still}
+use Rattle.brin_insert.proofs.Placed.{first_free, first_within, not_first, not_within, placed_first, placed_still, waits_later, waits_not}
 use Rattle.brin_insert.proofs.Reaching.{left_by}
 use Rattle.brin_insert.proofs.Tasks.{got_set, is_at_work, kept_at, left_with, made_then, made_with, number_there, own_then, range_is, same_numbers, task_stays, tuple_there, tuples_then, work_there}
 use Rattle.brin_insert.proofs.insert.Insert.step.Goals as goal
@@ -372,6 +373,18 @@ returns-in-Ok-clause-made g c =
     let store = c.args.pages.now in
     let old = c.args.self.now in
     made_then store.layout old c.reach-did.new.self c.requires.made c.reach-did.ensures.rest.0 c.reach-did.ensures.numbers (c.reach-did.ensures.tuples store.layout c.requires.made.tuples)
+
+pub returns-in-Ok-clause-first : goal.returns-in-Ok-clause-first
+returns-in-Ok-clause-first g c = waits_not c.args.self.now.place points.Row c.reach-did.result (work_of c.reach-did.new.self) c.in-None.is c.reach-did.ensures.reached
+
+pub returns-in-Ok-Moved-clause-first : goal.returns-in-Ok-Moved-clause-first
+returns-in-Ok-Moved-clause-first g c = waits_later c.args.self.now.place c.in-Some.spot (did.Moved c.in-Ok-Moved.point) c.in-Some.is
+
+pub returns-in-Ok-Blocked-clause-first : goal.returns-in-Ok-Blocked-clause-first
+returns-in-Ok-Blocked-clause-first g c = waits_later c.args.self.now.place c.in-Some.spot (did.Blocked c.in-Ok-Blocked.held) c.in-Some.is
+
+pub returns-in-Ok-Finished-clause-first : goal.returns-in-Ok-Finished-clause-first
+returns-in-Ok-Finished-clause-first g c = waits_later c.args.self.now.place c.in-Some.spot c.reach-answer.result c.in-Some.is
 
 pub returns-in-Ok-clause-left : goal.returns-in-Ok-clause-left
 returns-in-Ok-clause-left g c = left_by c.reach-did.new.self c.in-Ok.spot points.Row c.reach-did.result c.reach-did.ensures.rest.1 c.reach-did.ensures.reached

@@ -17,7 +17,7 @@ returns-then-is_judged-clause-stepped g c = λ tells sight.
     let old : FindHand = record { judging = self.judging; read = self.read; next = self.next; found = self.found.items; last = self.last; room = self.rows.room } in
     let new : FindHand = record { judging = judging; read = self.read; next = next; found = self.found.items; last = self.last; room = self.rows.room } in
     let work : IsJudging self.judging.stage = subst (λ (h : FindHand). IsJudging h.judging.stage) (sym c.self.view_is) c.requires.work in
-    let none : self.read ≡ 0 = reads_none self.judging.stage old work c.self.invariant.at in
+    let none : self.read ≡ 0 = reads_none self.judging.stage old work c.self.invariant.0.at in
     let first : IsNext judging.candidates 0 next = subst (λ (l : List Bool). IsNext l 0 next) c.candidates.ensures c.next_candidate-self-inside.ensures in
     let point = c.point_at-point.ensures ∙ ap point_at c.stage.ensures in
     subst (λ (h : FindHand). FindSteps store.layout store.pages sight h new c.did_at.result) c.self.view_is

@@ -17,10 +17,10 @@ invariant_of-self-2 g c =
     let next = c.next_candidate-self-inside.result in
     let was : FindHand = record { judging = self.judging; read = self.read; next = self.next; found = self.found.items; last = self.last; room = self.rows.room } in
     let hand : FindHand = record was { room = c.find_on.new.rows.room } in
-    let finding : IsFinding hand = subst (λ (n : ℕ). IsFinding (record was { room = n })) (sym c.find_on.ensures.room) c.self.invariant in
+    let finding : IsFinding hand = subst (λ (n : ℕ). IsFinding (record was { room = n })) (sym c.find_on.ensures.room) c.self.invariant.0 in
     let is : self.next ≡ Some b = ap (λ (h : FindHand). h.next) c.self.view_is ∙ c.requires.next in
     let first : IsNext self.judging.candidates (b + 1) next = subst (λ (l : List Bool). IsNext l (b + 1) next) c.candidates.ensures c.next_candidate-self-inside.ensures in
-    read_on hand b next c.find_on.new.found.items c.find_on.new.last (reads_next hand b is finding) finding c.in-Ok.ensures.order first
+    (read_on hand b next c.find_on.new.found.items c.find_on.new.last (reads_next hand b is finding) finding c.in-Ok.ensures.order first, c.self.invariant.1)
 
 pub returns-clause-stepped : goal.returns-clause-stepped
 returns-clause-stepped g c = λ tells statuses had.
@@ -33,7 +33,7 @@ returns-clause-stepped g c = λ tells statuses had.
     let old : FindHand = record { judging = self.judging; read = self.read; next = self.next; found = self.found.items; last = self.last; room = self.rows.room } in
     let new : FindHand = record { judging = self.judging; read = b + 1; next = next; found = found; last = c.find_on.new.last; room = self.rows.room } in
     let is : self.next ≡ Some b = ap (λ (h : FindHand). h.next) c.self.view_is ∙ c.requires.next in
-    let reads = reads_next old b is c.self.invariant in
+    let reads = reads_next old b is c.self.invariant.0 in
     let first : IsNext self.judging.candidates (b + 1) next = subst (λ (l : List Bool). IsNext l (b + 1) next) c.candidates.ensures c.next_candidate-self-inside.ensures in
     let of = subst (λ (h : FindHand). IsFindOf store.layout h) (sym c.self.view_is) c.requires.scan in
     let finds = subst (λ (q : Query). (blocks : List (List Slot)) → HasBlocks store.layout store.pages q.table blocks → found ≡ self.found.items ++ visible_matches sight q b (stored_rows (slots_of blocks b))) c.query-query.ensures

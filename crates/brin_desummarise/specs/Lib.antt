@@ -1,0 +1,3 @@
+pub mod Desummarises
+pub mod TableSteps
+pub mod DesummariseCalls

@@ -1,0 +1,4 @@
+pub mod SessionLists
+pub mod StoreCode
+pub mod StoreKept
+pub mod Sessions

@@ -1,0 +1,34 @@
+-- the place that an opened store shows
+use Rattle.std.proofs.Common.{Option, None, refl, sym, subst, ◌∙◌}
+use Rattle.std.proofs.lemmas.Option.{none-some}
+use Rattle.row_versions.specs.StoredVersions.{transaction_of}
+use Rattle.table_coverage.specs.Accounts.{no_account}
+use Rattle.table_coverage.specs.Table.{Resting}
+use Rattle.transactions.specs.CountedRows.{counts as counts_of}
+use Rattle.store_parts.specs.declared.hand.Hand.{Hand}
+use Rattle.store_parts.specs.Hands.{HandShows}
+use Rattle.store_parts.specs.HandsInTables.{IsTaskOf}
+use Rattle.store_parts.specs.OpeningLaws.{OpenedIsShown, unseen_at_rest}
+
+pub opened_is_shown : OpenedIsShown
+opened_is_shown s opening tables empty none database opened order = record {
+  layout = refl;
+  names = refl;
+  queue = refl;
+  journal = sym empty;
+  legal = refl;
+  database = database;
+  hands = λ n. subst (λ (h : Option Hand). HandShows h None no_account) (sym (none n)) refl;
+  own = λ n hand is. absurd (none-some hand (sym (none n) ∙ is));
+  tables = λ table below. record {
+    blocks = (opened table below).blocks;
+    has = (opened table below).has;
+    unseen = unseen_at_rest (counts_of s.transactions database.stored) (opened table below).unnamed;
+    shown = (opened table below).is;
+    lock = sym (opened table below).free;
+    counts = λ t. refl;
+    tasks = λ n. subst (λ (h : Option Hand). IsTaskOf s.layout table (opened table below).blocks s.transactions.tx database.stored (transaction_of s.transactions.opens n) h Resting) (sym (none n)) refl;
+    kept = (opened table below).kept;
+  };
+  order = order;
+}
