@@ -6,3 +6,8 @@ pub mod Definition
 pub mod Standing
 pub mod Refusing
 pub mod Making
+pub mod Frames
+pub mod Finals
+pub mod Undoing
+pub mod Lacking
+pub mod Behind

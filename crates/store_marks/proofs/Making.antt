@@ -49,7 +49,7 @@ use Rattle.transactions.specs.Laws.{CopyStands, IsMarking, MarkIsShown, MarkIsUn
 use Rattle.transactions.specs.StoredRows.{MarksRowAt, StandsAt, conflicts_with}
 use Rattle.transactions.specs.ShowsDatabase.{DoesRequest, ShowsDatabase}
 use Rattle.table_coverage.specs.Accounts.{Account}
-use Rattle.table_coverage.specs.Machines.{Unseen, table_state, task_turned}
+use Rattle.table_coverage.specs.Machines.{ShownTable, Unseen, table_state, task_turned}
 use Rattle.table_coverage.specs.Refusals.{HasConflict}
 use Rattle.table_coverage.specs.TableSteps.{OnlyTurns}
 use Rattle.table_coverage.specs.Table.{Marks, Resting, TableScan, TableState, Task, pick}
@@ -106,7 +106,7 @@ marked_or answer = false
 copy_then : (d after : DatabaseState) (n table : ℕ) (id : RowId) (x : OpenTransaction) → finite.get d.sessions n ≡ Some x
     → effect d (request_entry n table (requests.Mark id)) ≡ (after, Marked) → finite.get after.sessions n ≡ Some (after_mark x id)
 unfolding marked_or
-copy_then d after n table id x got does = by (is_conflict d n x id) (sym (effect_is d (request_entry n table (requests.Mark id)) ∙ ap (λ o. effect_at o d (request_entry n table (requests.Mark id))) got) ∙ does)
+copy_then d after n table id x got does = by (is_conflict d n x id) (sym (effect_is d (request_entry n table (requests.Mark id)) ∙ ap (λ (o : Option OpenTransaction). effect_at o d (request_entry n table (requests.Mark id))) got) ∙ does)
   where
     by : (b : Bool) → (if b then (after_failure d n x, Conflict id) else (with_transaction d n (after_mark x id), Marked)) ≡ (after, Marked) → finite.get after.sessions n ≡ Some (after_mark x id)
     by true is = absurd (true≢false (sym (ap (λ (r : DatabaseState × Answer). marked_or r.1) is)))
@@ -241,7 +241,7 @@ module _ {D : Type 0} (told : D → Told) (laws : MarkLaws) (old : Parts D) (pag
         row = same_rows table at.table.blocks now hit.spot at.row o.t at.there changes;
         counts = λ t. refl;
       };
-      indexes = record { index = λ i. ap (λ shown_. (table_state shown_ at.table.unseen).index i) alike };
+      indexes = record { index = λ i. ap (λ (shown_ : ShownTable). (table_state shown_ at.table.unseen).index i) alike };
       summarise_lock = refl;
     }
 
@@ -300,7 +300,7 @@ module _ {D : Type 0} (told : D → Told) (laws : MarkLaws) (old : Parts D) (pag
       copies = λ m apart. ap (λ (d : DatabaseState). finite.get d.sessions m) (run ∙ sym (ap (λ (r : DatabaseState × Answer). r.0) made.1))
           ∙ copies_stay (database_at p) (request_entry n table (requests.Mark at.row.id)) m apart;
       hand = subst (λ (h : Option Hand). HandShows h at_then (p.accounts n)) (sym has_hand.own) shows_then;
-      own = λ hand there. subst (λ copy. IsOfTransaction (transaction_of s.transactions.opens n) copy hand)
+      own = λ hand there. subst (λ (copy : Option OpenTransaction). IsOfTransaction (transaction_of s.transactions.opens n) copy hand)
           (sym (ap (λ (d : DatabaseState). finite.get d.sessions n) run ∙ copy_is)) (own_then hand (sym has_hand.own ∙ there));
       order = λ index below order. subst (IsIndexInOrder s.layout.sizes.index_blocks)
           (λ i block. sym (others.pages tells (record { relation = index_relation s.layout index; block = block }) (apart_from_heap s.layout index table fits.table)) i) order;

@@ -14,7 +14,7 @@ ghost use Rattle.snapshot_core.specs.declared.statuses.Status.{Status as AnyStat
 ghost use Rattle.transactions.specs.TransactionsState.{OfOpen};
 ghost use Rattle.store_marks.specs.HitConflicts.{HitConflicts};
 
-use crate::needs::deleter_of;
+use heap_rows::deleter_of;
 use disk_trait::Disk;
 use engine_pages::PageStore;
 use page_store::StoreError;
@@ -44,7 +44,7 @@ pub(crate) fn hit_conflicts<D: Disk + Drop>(
     if hit.id.t == own {
         return Ok(false);
     }
-    match deleter_of(pages, table, hit.spot, transactions.never()) {
+    match deleter_of(pages, table, hit.spot) {
         Ok(deleter) => {
             if deleter == own {
                 return Ok(false);

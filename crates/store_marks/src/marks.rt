@@ -13,14 +13,11 @@ ghost use Rattle.store_parts.specs.StepAnswers.{HasCause};
 ghost use Rattle.store_parts.specs.Stepping.{IsFit, IsShown, LeavesTheOthers, MakesItsStep, StaysFit, StaysUndone};
 
 use crate::conflicts::hit_conflicts;
+use crate::needs::laws_of_transactions;
 use block_model::{Point, Query, Refusal, Reply, Request, Tag};
 use disk_trait::Disk;
 use store_parts::{
-    Hand, Hit, Journal, Marking, Parts, Stepped, an_undone_step_changes_nothing, fault_of, spent,
-};
-use transactions::{
-    a_conflict_is_shown, a_mark_is_shown, a_session_has_its_transaction, others_see_alike,
-    which_rows_count,
+    Hand, Hit, Journal, Marking, Parts, Stepped, fault_of, spent,
 };
 
 /// Marks the next row of the delete, and goes on where one is left; else it replies how many are marked. At a conflict the session's transaction
@@ -34,7 +31,7 @@ pub fn mark<D: Disk + Drop>(parts: &mut Parts<D>, session: u32, marking: Marking
     ensures stays { StaysUndone D.told parts.old parts.new session (Hand.Marks marking) result }
     ensures cause { HasCause D.told parts.old.pages parts.new.pages result }
 {
-    an_undone_step_changes_nothing(parts);
+    laws_of_transactions();
     match parts.pages.ready() {
         Ok(()) => {}
         Err(error) => {
@@ -76,6 +73,14 @@ fn next_hit(marking: &Marking) -> Hit
     marking.hits.as_slice()[marking.next]
 }
 
+/// How many rows are left to mark.
+fn hits_left(marking: &Marking) -> usize
+    requires { marking.now.next < length marking.now.hits.items }
+    ensures { result + marking.now.next ≡ length marking.now.hits.items }
+{
+    marking.hits.len() - marking.next
+}
+
 /// Enters the look, if it isn't entered yet.
 fn enter_look(journal: &mut Journal, session: u32, look: Option<Query>)
     requires { look_share look ≤ journal.old.promised }
@@ -99,7 +104,7 @@ fn no_room<D: Disk + Drop>(parts: &Parts<D>, session: u32, marking: Marking) -> 
     ensures stays { StaysUndone D.told parts.now parts.now session (Hand.Marks marking) result }
     ensures cause { HasCause D.told parts.now.pages parts.now.pages result }
 {
-    a_session_has_its_transaction(parts.transactions.never());
+    laws_of_transactions();
     Stepped::Undone {
         fault: spent(&parts.journal),
         hand: Hand::Marks(marking),
@@ -118,12 +123,9 @@ fn refuse<D: Disk + Drop>(parts: &mut Parts<D>, session: u32, marking: Marking) 
     ensures stays { StaysUndone D.told parts.old parts.new session (Hand.Marks marking) result }
     ensures cause { HasCause D.told parts.old.pages parts.new.pages result }
 {
-    let never = parts.transactions.never();
-    a_conflict_is_shown(never);
-    a_session_has_its_transaction(never);
-    which_rows_count(never);
+    laws_of_transactions();
     let hit = next_hit(&marking);
-    let left = marking.hits.len() - marking.next;
+    let left = hits_left(&marking);
     let table = marking.query.table;
     enter_look(&mut parts.journal, session, marking.look);
     parts
@@ -147,11 +149,7 @@ fn mark_hit<D: Disk + Drop>(parts: &mut Parts<D>, session: u32, marking: Marking
     ensures stays { StaysUndone D.told parts.old parts.new session (Hand.Marks marking) result }
     ensures cause { HasCause D.told parts.old.pages parts.new.pages result }
 {
-    let never = parts.transactions.never();
-    a_mark_is_shown(never);
-    a_session_has_its_transaction(never);
-    others_see_alike(never);
-    which_rows_count(never);
+    laws_of_transactions();
     let hit = next_hit(&marking);
     let table = marking.query.table;
     let own = parts.transactions.open(session).t;

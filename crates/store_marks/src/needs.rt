@@ -1,34 +1,25 @@
-//! What lower crates are to have.
+//! Laws of transactions, until they are proved.
 
-ghost use Rattle.std.specs.Prelude.{◌≡◌, ◌<◌, Some, length, IfOk, IfErr};
-ghost use Rattle.page_layout.specs.RowBytes.{StoredRow};
-ghost use Rattle.page_store.specs.Keeps.{Keeps, Tells, Untold};
-ghost use Rattle.page_store.specs.Outcome.{NamesPage, Outcome};
-ghost use Rattle.heap_rows.specs.Heaps.{relation_of};
-ghost use Rattle.heap_rows.specs.HeapBlocks.{OfBlocks};
-ghost use Rattle.heap_rows.specs.RowPlaces.{IsInUse, slot_at};
+ghost use Rattle.transactions.specs.Laws.{ConflictIsShown, CopyStands, FailureCounts, MarkIsShown, MarkIsUnseen, SessionsAreShown};
 
-use block_model::Spot;
-use disk_trait::Disk;
-use engine_pages::PageStore;
-use page_store::StoreError;
-use transactions::Never;
+use transactions::{
+    a_conflict_is_shown, a_mark_is_shown, a_row_of_a_copy_stands_once,
+    a_session_has_its_transaction, others_see_alike, which_rows_count,
+};
 
-/// The transaction that deleted the row at the spot, 0 for none. Copies no page.
-pub(crate) fn deleter_of<D: Disk + Drop>(
-    pages: &mut PageStore<D>,
-    table: u8,
-    spot: Spot,
-    never: Never,
-) -> Result<u64, StoreError>
-    requires table { table < length pages.old.layout.schema.tables }
-    requires block { spot.block < pages.old.layout.sizes.heap_blocks }
-    requires used { Tells D.told pages.old → IsInUse pages.old.layout pages.old.pages table spot }
-    // By the blocks that the table has.
-    ensures deleter { IfOk result (λ deleter. OfBlocks D.told pages.old table (λ blocks. (row : StoredRow) → slot_at blocks spot ≡ Some row → deleter ≡ row.deleter)) }
-    ensures kept { Keeps D.told pages.old pages.new }
-    ensures at { IfErr result (NamesPage pages.old.layout (record { relation = relation_of table; block = spot.block })) }
-    ensures outcome { Outcome D.told (Untold D.told pages.old) pages.old pages.new result }
+/// The laws of transactions. Does nothing.
+pub(crate) fn laws_of_transactions()
+    ensures sessions { SessionsAreShown }
+    ensures copies { CopyStands }
+    ensures mark { MarkIsShown }
+    ensures conflict { ConflictIsShown }
+    ensures unseen { MarkIsUnseen }
+    ensures failed { FailureCounts }
 {
-    match never {}
+    a_conflict_is_shown();
+    a_mark_is_shown();
+    a_row_of_a_copy_stands_once();
+    a_session_has_its_transaction();
+    others_see_alike();
+    which_rows_count();
 }

@@ -105,7 +105,7 @@ module _ {D : Type 0} (told : D → Told) (changes : HandChanges) (old new : Par
   now = record {
     session = was.session;
     over = left.over;
-    hand = tt;
+    in_hand = tt;
     limit = ap (λ (l : LockState). l.limit) left.locks ∙ was.limit;
     own = subst (λ (l : LockState). locks_of l n ≤ 0) (sym left.locks) (subst (λ (count : ℕ). locks_of old.locks n ≤ count) left.none_held was.own);
     rights = ap length left.rights ∙ was.rights ∙ ap (λ (layout : DiskLayout). length layout.schema.tables) (sym left.leaves.layout);

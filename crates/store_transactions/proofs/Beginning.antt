@@ -4,7 +4,7 @@ use Rattle.std.specs.Prelude.{IsTrue, codes}
 use Rattle.std.specs.Global.{Vec}
 use Rattle.std.specs.FinMap as finite
 use Rattle.std.proofs.lemmas.List.{get_or-set_other, get_or-set_same}
-use Rattle.std.proofs.lemmas.Bool.{eqb-true}
+use Rattle.std.proofs.lemmas.Bool.{eqb-true, true≢false}
 use Rattle.std.proofs.lemmas.Option.{none-some}
 use Rattle.block_model.specs.declared.reply.Refusal.TheVariants as refusals
 use Rattle.block_model.specs.declared.reply.Reply.{Reply}
@@ -55,7 +55,7 @@ use Rattle.store_parts.specs.UndoneLaws.{FitsParts, StepsSo}
 use Rattle.store_parts.proofs.Requests.{begin_is_legal}
 use Rattle.store_parts.proofs.Steps.{lacks_number as no_number}
 use Rattle.store_parts.proofs.Undone.{fit_of_parts}
-use Rattle.store_transactions.proofs.AtOnce.{DoesRequestNow, IsOnly, Laws, Leaves_, Restates, StaysBeside, done, makes_its_step, shown_parts, shown_then}
+use Rattle.store_transactions.proofs.AtOnce.{DoesRequestNow, IsOnly, Laws, Leaves_, Restates, StaysBeside, done, makes_its_step, shown_parts, shown_then, the_laws}
 use Rattle.store_transactions.proofs.Rooms.{lacks}
 
 -- ---- a begin is one request
@@ -65,10 +65,10 @@ begin_only n t numbers layout = record { own = refl; none_answered = λ answers 
 
 -- a begin adds one number
 one_more : (b : Bool) (u t : ℕ) → IsTrue (b || (u == t)) → IsTrue b ⊎ (u ≡ t)
-one_more true u t h = inl tt
+one_more true u t h = inl refl
 one_more false u t h = elim (u == t) as (λ (c : Bool). (u == t) ≡ c → IsTrue c → IsTrue false ⊎ (u ≡ t)) [
   | true ↦ λ is _. inr (eqb-true u t is)
-  | false ↦ λ _ none. absurd none
+  | false ↦ λ _ none. absurd (true≢false (sym none))
 ] refl h
 
 -- the laws that it takes
@@ -159,7 +159,7 @@ pub record RefusesSo {D : Type 0} (old new : Parts D) : Type 0 where
 
 module _ {D : Type 0} (told : D → Told) (with_laws : BeginLaws) (old new : Parts D) (n : ℕ) (numbers : Vec ℕ) (so : RefusesSo old new) (spent : old.transactions.tx.next ≡ number_limit old.pages.layout)
     (room : length new.journal.entries ≤ MAX_ENTRIES) where
-  same_statuses : {s : DatabaseState} (shows : ShowsDatabase old.pages.layout old.pages.pages old.transactions s) → Restates old new n shows.stored
+  abbrev same_statuses : {s : DatabaseState} (shows : ShowsDatabase old.pages.layout old.pages.pages old.transactions s) → Restates old new n shows.stored
   same_statuses {s} shows = record {
     later = shows.stored;
     has = subst (λ (view : View D). HasStatuses old.pages.layout view.pages shows.stored) (sym so.pages) shows.has;
@@ -297,3 +297,15 @@ module _ {D : Type 0} (told : D → Told) (laws : BeginLaws) (old : Parts D) (n 
         promised = (λ i. j.promised + (3 + open_share (idle i))) ∙ refused_promised j.promised old.journal.promised released ∙ (λ i. old.journal.promised + (0 + open_share (sym idle i)));
         opens = λ m apart. refl;
       })
+
+  -- with the name and the number as they are told
+  pub refused_as : (name : List ℕ) (number : ℕ) (j : JournalState) → name ≡ codes "status" → number ≡ old.transactions.tx.next → old.transactions.tx.next ≡ number_limit old.pages.layout
+      → j.entries ≡ old.journal.entries → j.promised + 3 ≡ old.journal.promised
+      → StepsSo told old (record old { journal = j }) n (hands.Begins numbers) (stepped.Done (replies.Refused (refusals.Full name number)))
+  refused_as name number j is_name is_number spent same released =
+      subst (λ (name : List ℕ). StepsSo told old (record old { journal = j }) n (hands.Begins numbers) (stepped.Done (replies.Refused (refusals.Full name number)))) (sym is_name)
+      (subst (λ (number : ℕ). StepsSo told old (record old { journal = j }) n (hands.Begins numbers) (stepped.Done (replies.Refused (refusals.Full (codes "status") number)))) (sym is_number)
+      (refused j spent same released))
+
+pub the_begin_laws : SessionsAreShown → BeginIsUnseen → BeginCounts → RowIsOfTransactions → BeginLaws
+the_begin_laws sessions unseen counts rows = record { laws = the_laws; legal = begin_is_legal; number = no_number; sessions = sessions; unseen = unseen; counts = counts; rows = rows }

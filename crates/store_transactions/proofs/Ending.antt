@@ -3,6 +3,7 @@ use Rattle.std.proofs.Common.{◌≡◌, ◌≢◌, ◌⊎◌, inl, ℕ, zero, s
 use Rattle.std.specs.Prelude.{IsSome, IsTrue, if◌then◌else◌}
 use Rattle.std.specs.FinMap as finite
 use Rattle.std.proofs.lemmas.List.{get_or-set_other}
+use Rattle.std.proofs.lemmas.Bool.{true≢false}
 use Rattle.std.proofs.lemmas.Option.{none-some}
 use Rattle.block_model.specs.declared.reply.Reply.{Reply}
 use Rattle.block_model.specs.declared.reply.Reply.TheVariants as replies
@@ -170,7 +171,7 @@ end_promised : (new mid old unneeded share : ℕ) → new + unneeded ≡ mid →
 end_promised new mid old unneeded share released entered shared = omega arith
 
 pub some_open : (own : Option Open) → IsSome own → (o : Open) × (own ≡ Some o)
-some_open None is = absurd is
+some_open None is = absurd (true≢false (sym is))
 some_open (Some o) is = (o, refl)
 
 status_is : (failed : Bool) → (if not failed then status.Committed else status.RolledBack) ≡ ended failed
@@ -178,11 +179,11 @@ status_is true = refl
 status_is false = refl
 
 both_true : (a b : Bool) → IsTrue (a && b) → IsTrue a
-both_true true b h = tt
+both_true true b h = refl
 both_true false b h = h
 
 module _ {D : Type 0} (told : D → Told) (laws : TransactionLaws) (old : Parts D) (pages : View D) (tx : TransactionsState) (mid j : JournalState) (n unneeded : ℕ)
-    (ready : old.pages.failed ≡ None) (still : pages.failed ≡ None) (over : IsOver told tx pages) (rest : LeavesRest told old.pages pages) (ended_is : tx ≡ with_open old.transactions n None)
+    (ready : old.pages.failed ≡ None) (still : pages.failed ≡ None) (over : IsOver told tx.tx pages) (rest : LeavesRest told old.pages pages) (ended_is : tx ≡ with_open old.transactions n None)
     (room : length old.journal.entries + 1 ≤ MAX_ENTRIES) (shared : OfOpen old.transactions n (λ o. unneeded + 1 ≡ open_share (Some o))) (entered : mid.promised + 1 ≡ old.journal.promised) (released : j.promised + unneeded ≡ mid.promised)
     (same_entries : j.entries ≡ mid.entries) where
   abbrev new : Parts D
@@ -223,8 +224,8 @@ module _ {D : Type 0} (told : D → Told) (laws : TransactionLaws) (old : Parts 
       → OfOpen old.transactions n (λ o. OfStatuses told old.pages (λ stored. HasStatuses old.pages.layout pages.pages (set stored o.t (if committed then status.Committed else status.RolledBack))))
       → mid.entries ≡ old.journal.entries ++ request_entry n 0 requests.Commit ∷ []
       → StepsSo told old new n hands.Commits (stepped.Done (if committed then replies.Committed else replies.RolledBack))
-  commits fits committed open answered does statuses longer =
-      let own = some_open (transaction_of old.transactions.opens n) open in
+  commits fits committed is_open answered does statuses longer =
+      let own = some_open (transaction_of old.transactions.opens n) is_open in
       let is : (if committed then status.Committed else status.RolledBack) ≡ ended own.0.failed = ap (λ (c : Bool). if c then status.Committed else status.RolledBack) (answered own.0 own.1) ∙ status_is own.0.failed in
       ends_so hands.Commits fits refl refl (request_entry n 0 requests.Commit) (if committed then Committed else RolledBack) (if committed then replies.Committed else replies.RolledBack) (record {
         own = own.0;
@@ -251,8 +252,8 @@ module _ {D : Type 0} (told : D → Told) (laws : TransactionLaws) (old : Parts 
       → OfOpen old.transactions n (λ o. OfStatuses told old.pages (λ stored. HasStatuses old.pages.layout pages.pages (set stored o.t status.RolledBack)))
       → mid.entries ≡ old.journal.entries ++ request_entry n 0 requests.Rollback ∷ []
       → StepsSo told old new n hands.RollsBack (stepped.Done replies.RolledBack)
-  rolls_back fits open does statuses longer =
-      let own = some_open (transaction_of old.transactions.opens n) open in
+  rolls_back fits is_open does statuses longer =
+      let own = some_open (transaction_of old.transactions.opens n) is_open in
       ends_so hands.RollsBack fits refl refl (request_entry n 0 requests.Rollback) RolledBack replies.RolledBack (record {
         own = own.0;
         opened = own.1;

@@ -2,3 +2,4 @@ pub mod AtOnce
 pub mod Ending
 pub mod Rooms
 pub mod Beginning
+pub mod Undoing

@@ -49,7 +49,7 @@ module _ {D : Type 0} (laws : Laws) (parts : Parts D) (n : ℕ) (hand : Hand) (f
   past : (e : Entry) → MAX_ENTRIES < length (p.journal ++ e ∷ [])
   past e = omega (arith, full, ap length shown.journal, length-append p.journal (e ∷ []))
 
-  lacks : (e : Entry) (answer : Answer) (reply : Reply) → IsOnly n hand e answer reply p.layout → reply_to (database_at p) e ≡ answer → IsAtOnce p (statement_of hand) → refuses (Ended reply) ≡ false → LacksRoom p n
+  pub lacks : (e : Entry) (answer : Answer) (reply : Reply) → IsOnly n hand e answer reply p.layout → reply_to (database_at p) e ≡ answer → IsAtOnce p (statement_of hand) → refuses (Ended reply) ≡ false → LacksRoom p n
   lacks e answer reply only answered may fine = record {
     hand = record { statement = statement_of hand; answers = [] };
     in_hand = in_hand laws n hand e answer reply p only answered may shows;
@@ -76,8 +76,8 @@ module _ {D : Type 0} (laws : Laws) (sessions : SessionsAreShown) (parts : Parts
       ∙ commit_answer x.failed
 
   pub no_commit : IsSome (transaction_of parts.transactions.opens n) → (names : List (List ℕ)) (hands_ : List (Option Hand)) (p : Place) → hand_in hands_ n ≡ Some hands.Commits → ShowsPlace (store_of parts names hands_) p → LacksRoom p n
-  no_commit open names hands_ p is shown =
-      let own = some_open (transaction_of parts.transactions.opens n) open in
+  no_commit is_open names hands_ p is shown =
+      let own = some_open (transaction_of parts.transactions.opens n) is_open in
       let found = (sessions parts.pages.layout parts.pages.pages parts.transactions (database_at p) shown.database).shown n own.0 own.1 in
       lacks laws parts n hands.Commits full names hands_ p is shown (request_entry n 0 requests.Commit) _ _ (commit_only n (not found.0.failed) p.layout)
           (commit_answered (database_at p) found.0 found.1) steps.Commit (commit_fine (not found.0.failed))
@@ -86,8 +86,8 @@ module _ {D : Type 0} (laws : Laws) (sessions : SessionsAreShown) (parts : Parts
   rollback_answered s x got = ap (λ (r : DatabaseState × Answer). r.1) (effect_is s (request_entry n 0 requests.Rollback) ∙ ap (λ (o : Option OpenTransaction). effect_at o s (request_entry n 0 requests.Rollback)) got)
 
   pub no_rollback : IsSome (transaction_of parts.transactions.opens n) → (names : List (List ℕ)) (hands_ : List (Option Hand)) (p : Place) → hand_in hands_ n ≡ Some hands.RollsBack → ShowsPlace (store_of parts names hands_) p → LacksRoom p n
-  no_rollback open names hands_ p is shown =
-      let own = some_open (transaction_of parts.transactions.opens n) open in
+  no_rollback is_open names hands_ p is shown =
+      let own = some_open (transaction_of parts.transactions.opens n) is_open in
       let found = (sessions parts.pages.layout parts.pages.pages parts.transactions (database_at p) shown.database).shown n own.0 own.1 in
       lacks laws parts n hands.RollsBack full names hands_ p is shown (request_entry n 0 requests.Rollback) RolledBack replies.RolledBack (rollback_only n p.layout)
           (rollback_answered (database_at p) found.0 found.1) steps.Rollback refl

@@ -114,6 +114,7 @@ fn begin_now<D: Disk + Drop>(parts: &mut Parts<D>, session: u32, numbers: Vec<u6
     ensures cause { HasCause D.told parts.old.pages parts.new.pages result }
 {
     laws_of_transactions();
+    parts.transactions.known();
     match parts.transactions.begin(&mut parts.pages, session, numbers) {
         Ok(t) => {
             parts.journal.enter(session, 0, Request::Begin, Tag::Ok);

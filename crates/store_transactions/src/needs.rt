@@ -2,6 +2,10 @@
 
 ghost use Rattle.transactions.specs.Laws.{BeginCounts, BeginIsUnseen, CommitCounts, EndIsUnseen, RollbackCounts, RowIsOfTransactions, SessionsAreShown};
 
+use transactions::{
+    a_row_is_of_transactions, a_session_has_its_transaction, others_see_alike, which_rows_count,
+};
+
 /// The laws of transactions. Does nothing.
 pub(crate) fn laws_of_transactions()
     ensures sessions { SessionsAreShown }
@@ -11,4 +15,9 @@ pub(crate) fn laws_of_transactions()
     ensures committed { CommitCounts }
     ensures rolled_back { RollbackCounts }
     ensures rows { RowIsOfTransactions }
-{}
+{
+    a_row_is_of_transactions();
+    a_session_has_its_transaction();
+    others_see_alike();
+    which_rows_count();
+}
