@@ -12,3 +12,4 @@ pub mod Undone
 pub mod Leads
 pub mod Opening
 pub mod Maintenance
+pub mod Submits

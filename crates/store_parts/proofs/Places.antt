@@ -45,7 +45,7 @@ use Rattle.store_parts.specs.StoreStates.{ShownStore, hand_in}
 use Rattle.store_parts.specs.TableLaws.{CountsFewIn, IsQuiet}
 use Rattle.store_parts.proofs.Locks.{gives_none}
 use Rattle.store_parts.proofs.Steps.{other_after, table_after, updated_apart, updated_here}
-use Rattle.store_parts.proofs.Tables.{at_layout, locks_none, own_rests, same_blocks, same_contents, sees_same, shown_alike, table_stays}
+use Rattle.store_parts.proofs.Tables.{all_rows_stay, at_layout, locks_none, own_rests, same_blocks, same_contents, sees_same, shown_alike, table_stays}
 use Rattle.store_parts.proofs.Slots.{same_slots}
 
 -- pages of statuses that stay have the same statuses
@@ -126,7 +126,7 @@ module _ (old new : ShownStore) (p : Place) (n table : ℕ) (shown : IsPlaceOf o
 
     rests_there : (p.tables i).task n ≡ Resting
     rests_there = ap (λ (x : TableState). x.task n) there.shown
-        ∙ own_rests old new stored stored n i (p.tables i) there leaves there.blocks (same_slots there.blocks).rows was_elsewhere
+        ∙ own_rests old new stored stored n i (p.tables i) there leaves there.blocks (λ m away. all_rows_stay (there.unseen.task m) there.blocks there.blocks (same_slots there.blocks).rows) was_elsewhere
 
     quiet_there : IsQuiet ((p.tables i).task n)
     quiet_there = subst IsQuiet (sym rests_there) tt

@@ -1,7 +1,8 @@
 -- what a statement in hand is at in a table, as others change rows and statuses
-use Rattle.std.proofs.Common.{◌≡◌, ◌≢◌, ◌⊎◌, inl, inr, ℕ, Bool, true, false, List, Option, None, Some, All, refl, sym, ap, ◌∙◌}
+use Rattle.std.proofs.Common.{◌≡◌, ◌≢◌, ◌⊎◌, inl, inr, ℕ, zero, suc, ◌<◌, ◌==◌, Bool, true, false, ◌&&◌, ◌||◌, List, [], ◌∷◌, length, get_or, Option, None, Some, All, refl, sym, ap, subst, ◌∙◌, arith}
 use Rattle.std.specs.Prelude.{IsTrue}
 use Rattle.std.proofs.lemmas.List.Elements.{All-weaker}
+use Rattle.std.proofs.lemmas.Bool.{eq-eqb}
 use Rattle.std.proofs.lemmas.Option.{none-some}
 use Rattle.block_model.specs.declared.place.Spot.{Spot}
 use Rattle.block_model.specs.declared.row.Row.{Row}
@@ -13,11 +14,12 @@ use Rattle.snapshot_core.specs.declared.statuses.Status.{Status}
 use Rattle.row_versions.specs.declared.sessions.Open.{Open}
 use Rattle.tx_table.specs.TxState.{TxState}
 use Rattle.table_coverage.specs.Table.{Resting, Scans, TableScan, Task}
+use Rattle.table_coverage.specs.TableSteps.{SeesPlace}
 use Rattle.index_steps.specs.IndexTuples.{index_at}
 use Rattle.index_steps.specs.ShownRows.{row_in}
 use Rattle.brin_scan.specs.declared.stage.Stage.{Stage}
 use Rattle.brin_scan.specs.declared.stage.Stage.TheVariants as stages
-use Rattle.brin_scan.specs.Finds.{FindHand, Sight, scanning, sees_stored}
+use Rattle.brin_scan.specs.Finds.{FindHand, Sight, is_found, scanning, sees_stored}
 use Rattle.brin_scan.specs.ScanHands.{ScanHand}
 use Rattle.brin_scan.specs.SeenRows.{SeesLater}
 use Rattle.brin_scan.specs.TableScans.{Beside, table_scan, task_of}
@@ -29,11 +31,16 @@ use Rattle.store_parts.specs.declared.hand.Hit.{Hit}
 use Rattle.store_parts.specs.declared.hand.Marking.{Marking}
 use Rattle.store_parts.specs.Hands.{hits_left}
 use Rattle.store_parts.specs.HandsInTables.{InItsTable, IsMarkingAt, IsScanAt, IsScanBy, IsTaskOf, sight_of, table_in}
-use Rattle.store_parts.specs.Leaving.{RowsStay, SeesSlots}
+use Rattle.store_parts.specs.Leaving.{SeenRowsStay, SeesSlots}
 
 -- each row that a scan's session sees stands in a slot
 abbrev pub SeesStanding : List (List Slot) → Task → Type 0
 SeesStanding blocks task = (scan : TableScan) (b k : ℕ) → task ≡ Scans scan → IsTrue (scan.sees b k) → slot_at blocks (record { block = b; slot = k }) ≢ None
+
+-- and what it found, its session sees
+pub record ScansWell (blocks : List (List Slot)) (task : Task) : Type 0 where
+  pub standing : SeesStanding blocks task
+  pub finds : (scan : TableScan) (b k : ℕ) → task ≡ Scans scan → IsTrue (scan.found b k) → IsTrue (scan.sees b k)
 
 -- a scan at this stage has begun
 abbrev IsBegun : Stage → Type 0
@@ -45,88 +52,90 @@ begun_or_not (stages.Map at range) = inr (λ layout hand beside. refl)
 begun_or_not (stages.Tuple at range spot) = inr (λ layout hand beside. refl)
 begun_or_not stages.Judged = inr (λ layout hand beside. refl)
 
--- what is seen of a slot
-abbrev seen_in : Sight → Slot → Bool
-seen_in sight None = false
-seen_in sight (Some row) = sees_stored sight row
+-- what is found stands among the places found
+or_right : (a b : Bool) → IsTrue b → IsTrue (a || b)
+or_right true b h = refl
+or_right false b h = h
 
-module _ (sight later : Sight) (blocks now : List (List Slot)) (lasts : SeesLater sight later) (rows : RowsStay blocks now) (slots : SeesSlots sight blocks now) where
+found_at : (found : List (Row × Spot)) (k : ℕ) (d : Row × Spot) → k < length found → IsTrue (is_found found (get_or found k d).1.block (get_or found k d).1.slot)
+found_at [] k d below = absurd (omega arith)
+found_at (x ∷ found) zero d below = λ i. (eq-eqb x.1.block x.1.block refl i && eq-eqb x.1.slot x.1.slot refl i) || is_found found x.1.block x.1.slot
+found_at (x ∷ found) (suc k) d below = or_right ((x.1.block == (get_or found k d).1.block) && (x.1.slot == (get_or found k d).1.slot))
+    (is_found found (get_or found k d).1.block (get_or found k d).1.slot) (found_at found k d (omega arith))
+
+module _ (sight later : Sight) (blocks now : List (List Slot)) (task : Task) (lasts : SeesLater sight later) (rows : SeenRowsStay task blocks now) (slots : SeesSlots sight blocks now)
+    (well : ScansWell blocks task) where
   -- a row is seen later as it was
   seen_later : (row : StoredRow) → sees_stored later row ≡ sees_stored sight row
   seen_later row = stays_seen sight later lasts row row (record { id = refl; deleter = inl refl })
 
-  found_stands : (table : ℕ) (f : Row × Spot) → row_in table (slot_at blocks f.1) ≡ Some f.0 → row_in table (slot_at now f.1) ≡ Some f.0
-  found_stands table f is = by_slot (slot_at blocks f.1) refl is
+  found_stands : (table : ℕ) (f : Row × Spot) → SeesPlace f.1.block f.1.slot task → row_in table (slot_at blocks f.1) ≡ Some f.0 → row_in table (slot_at now f.1) ≡ Some f.0
+  found_stands table f seen is = by_slot (slot_at blocks f.1) refl is
     where
       by_slot : (slot : Slot) → slot_at blocks f.1 ≡ slot → row_in table slot ≡ Some f.0 → row_in table (slot_at now f.1) ≡ Some f.0
       by_slot None there is = absurd (none-some f.0 is)
       by_slot (Some row) there is =
-          let stays = rows f.1 row there in
+          let stays = rows f.1 row seen there in
           ap (row_in table) stays.1 ∙ (λ i. Some (record { table = table; id = stays.2 i; values = stays.3 i })) ∙ is
 
   not_true : (b : Bool) → (IsTrue b → ⊥) → b ≡ false
   not_true true h = absurd (h refl)
   not_true false h = refl
 
-  module _ (layout : DiskLayout) (deletes : Bool) (hand : FindHand) (task : Task) (at : IsScanAt layout blocks sight deletes hand task) where
+  module _ (layout : DiskLayout) (deletes : Bool) (hand : FindHand) (at : IsScanAt layout blocks sight deletes hand task) where
+    abbrev scan : TableScan
+    scan = table_scan layout hand.judging (scanning at.sees at.judged deletes hand)
+
+    is_scan : task ≡ Scans scan
+    is_scan = elim (begun_or_not hand.judging.stage) [
+      | inl is ↦ absurd (at.begun is)
+      | inr begun ↦ at.task_is ∙ begun layout hand.judging (scanning at.sees at.judged deletes hand)
+    ]
+
     stands_then : All (λ (f : Row × Spot). row_in hand.judging.query.table (slot_at now f.1) ≡ Some f.0) hand.found
-    stands_then = All-weaker (λ (f : Row × Spot). row_in hand.judging.query.table (slot_at blocks f.1) ≡ Some f.0) (λ (f : Row × Spot). row_in hand.judging.query.table (slot_at now f.1) ≡ Some f.0)
-        (found_stands hand.judging.query.table) hand.found at.stand
+    stands_then = λ k d below.
+        let f : Row × Spot = get_or hand.found k d in
+        let seen : IsTrue (at.sees f.1.block f.1.slot) = well.finds scan f.1.block f.1.slot is_scan (found_at hand.found k d below) in
+        found_stands hand.judging.query.table f (subst (SeesPlace f.1.block f.1.slot) (sym is_scan) seen) (at.stand k d below)
 
-    -- before its first step the scan's session may see anything
-    not_begun : hand.judging.stage ≡ stages.Extent → IsScanAt layout now later deletes hand task
-    not_begun is = record {
-      sees = λ b k. seen_in later (slot_at now (record { block = b; slot = k }));
-      judged = at.judged;
-      task_is = at.task_is ∙ ap (λ (s : Stage). task_of layout s hand.judging (scanning at.sees at.judged deletes hand)) is
-          ∙ sym (ap (λ (s : Stage). task_of layout s hand.judging (scanning (λ b k. seen_in later (slot_at now (record { block = b; slot = k }))) at.judged deletes hand)) is);
-      now = λ b k row there. ap (seen_in later) there;
-      stand = stands_then;
-      remembers = stands_later sight later lasts hand.last at.remembers;
-    }
-
-    begun_goes_on : SeesStanding blocks task → IsBegun hand.judging.stage → IsScanAt layout now later deletes hand task
-    begun_goes_on standing begun = record {
+    pub scan_goes_on : IsScanAt layout now later deletes hand task
+    scan_goes_on = record {
+      begun = at.begun;
       sees = at.sees;
       judged = at.judged;
       task_is = at.task_is;
       now = λ b k row there. elim (slots (record { block = b; slot = k }) row there) [
         | inl stays ↦ at.now b k stays.0 stays.1 ∙ sym (seen_later row ∙ stays.2)
-        | inr came ↦ not_true (at.sees b k) (λ (seen : IsTrue (at.sees b k)). standing (table_scan layout hand.judging (scanning at.sees at.judged deletes hand)) b k
-            (at.task_is ∙ begun layout hand.judging (scanning at.sees at.judged deletes hand)) seen came.0) ∙ sym (seen_later row ∙ came.1)
+        | inr came ↦ not_true (at.sees b k) (λ (seen : IsTrue (at.sees b k)). well.standing scan b k is_scan seen came.0) ∙ sym (seen_later row ∙ came.1)
       ];
       stand = stands_then;
       remembers = stands_later sight later lasts hand.last at.remembers;
     }
 
-    pub scan_goes_on : SeesStanding blocks task → IsScanAt layout now later deletes hand task
-    scan_goes_on standing = elim (begun_or_not hand.judging.stage) [
-      | inl is ↦ not_begun is
-      | inr begun ↦ begun_goes_on standing begun
-    ]
-
--- a delete's marks go on where rows stay
-marks_go_on : (blocks now : List (List Slot)) (marking : Marking) (task : Task) → RowsStay blocks now → IsMarkingAt blocks marking task → IsMarkingAt now marking task
+-- a delete's marks go on where the rows that it saw stay
+marks_go_on : (blocks now : List (List Slot)) (marking : Marking) (task : Task) → SeenRowsStay task blocks now → IsMarkingAt blocks marking task → IsMarkingAt now marking task
 marks_go_on blocks now marking task rows at = record {
   scan = at.scan;
   task_is = at.task_is;
   stand = All-weaker (λ (h : Hit). (row : StoredRow) × (slot_at blocks h.spot ≡ Some row) × (row.id ≡ h.id) × IsTrue (at.scan.sees h.spot.block h.spot.slot))
       (λ (h : Hit). (row : StoredRow) × (slot_at now h.spot ≡ Some row) × (row.id ≡ h.id) × IsTrue (at.scan.sees h.spot.block h.spot.slot))
-      (λ h stood. let stays = rows h.spot stood.0 stood.1 in (stays.0, stays.1, stays.2 ∙ stood.2, stood.3)) (hits_left marking) at.stand;
+      (λ h stood.
+      let stays = rows h.spot stood.0 (subst (SeesPlace h.spot.block h.spot.slot) (sym at.task_is) stood.3) stood.1 in
+      (stays.0, stays.1, stays.2 ∙ stood.2, stood.3)) (hits_left marking) at.stand;
 }
 
 -- what holds in its own table may change
 in_its_table : (own table : ℕ) (Here There : Type 0) (task : Task) → (Here → There) → InItsTable own table Here task → InItsTable own table There task
 in_its_table own table Here There task leads at = (λ is. leads (at.0 is), at.1)
 
-module _ (layout : DiskLayout) (table : ℕ) (blocks now : List (List Slot)) (tx then : TxState) (stored later : List Status) (task : Task) (rows : RowsStay blocks now) (standing : SeesStanding blocks task) where
+module _ (layout : DiskLayout) (table : ℕ) (blocks now : List (List Slot)) (tx then : TxState) (stored later : List Status) (task : Task) (rows : SeenRowsStay task blocks now) (well : ScansWell blocks task) where
   -- an open transaction sees on
   abbrev pub SeesOn : Option Open → Type 0
   SeesOn transaction = (o : Open) → transaction ≡ Some o → SeesLater (sight_of tx stored o) (sight_of then later o) × SeesSlots (sight_of tx stored o) blocks now
 
   scan_by : (transaction : Option Open) (deletes : Bool) (hand : FindHand) → SeesOn transaction → IsScanBy layout blocks tx stored transaction deletes hand task → IsScanBy layout now then later transaction deletes hand task
   scan_by None deletes hand on at = at
-  scan_by (Some o) deletes hand on at = scan_goes_on (sight_of tx stored o) (sight_of then later o) blocks now (on o refl).0 rows (on o refl).1 layout deletes hand task at standing
+  scan_by (Some o) deletes hand on at = scan_goes_on (sight_of tx stored o) (sight_of then later o) blocks now task (on o refl).0 rows (on o refl).1 well layout deletes hand at
 
   pub task_goes_on : (transaction : Option Open) (hand : Option Hand) → SeesOn transaction → IsTaskOf layout table blocks tx stored transaction hand task → IsTaskOf layout table now then later transaction hand task
   task_goes_on transaction None on at = at

@@ -5,7 +5,7 @@ use Rattle.row_versions.specs.declared.sessions.Open.{Open}
 use Rattle.row_versions.specs.StoredVersions.{transaction_of}
 use Rattle.store_parts.specs.declared.hand.Hand.{Hand}
 use Rattle.store_parts.specs.Shares.{share_of}
-use Rattle.store_parts.specs.ShareLaws.{ShareIsWithin, SharesChange, shares_below}
+use Rattle.store_parts.specs.ShareLaws.{PromisesStay, ShareIsWithin, SharesChange, shares_below}
 use Rattle.store_parts.specs.StoreStates.{hand_in}
 
 module _ (n : ℕ) (hands now : List (Option Hand)) (opens then : List (Option Open)) (same : (m : ℕ) → m ≢ n → hand_in now m ≡ hand_in hands m)
@@ -40,3 +40,9 @@ share_is_within (suc m) n hands opens below = elim (cases_eq m n) [
   | inl is ↦ subst (λ (k : ℕ). share_of (hand_in hands k) (transaction_of opens k) ≤ shares_below m hands opens + share_of (hand_in hands m) (transaction_of opens m)) is (omega arith)
   | inr other ↦ omega (arith, share_is_within m n hands opens (omega (arith, other)))
 ]
+
+pub promises_stay : PromisesStay
+promises_stay count n promised after hands now opens then below same alike changes sum =
+    let changed : shares_below count now then + share_of (hand_in hands n) (transaction_of opens n) ≡ shares_below count hands opens + share_of (hand_in now n) (transaction_of then n) =
+    shares_change count n hands now opens then below same alike in
+    omega (arith, changed, changes, sum)

@@ -1,6 +1,6 @@
 -- a table that a step leaves, and one in which it steps
 use Rattle.std.proofs.Common.{◌≡◌, ◌≢◌, inl, inr, ℕ, ◌<◌, Bool, List, [], ◌∷◌, length, Option, None, Some, refl, sym, ap, subst, ◌∙◌, arith}
-use Rattle.std.specs.Prelude.{slice_get}
+use Rattle.std.specs.Prelude.{IsTrue, slice_get}
 use Rattle.std.proofs.lemmas.Bool.{cases_eq}
 use Rattle.std.proofs.lemmas.Option.{none-some, slice_get_within}
 use Rattle.store_layout.specs.DiskLayout.{DiskLayout}
@@ -15,7 +15,7 @@ use Rattle.row_versions.specs.StoredVersions.{transaction_of}
 use Rattle.transactions.specs.CountedRows.{counts as counts_of}
 use Rattle.index_contents.specs.IndexContents.{contents, contents_in, relation_of}
 use Rattle.table_coverage.specs.Machines.{ShownTable, Unseen, table_state}
-use Rattle.table_coverage.specs.Table.{Resting, Scans, TableState, Task}
+use Rattle.table_coverage.specs.Table.{Resting, Scans, TableScan, TableState, Task}
 use Rattle.table_coverage.specs.TableCovered.{IsTableKept}
 use Rattle.table_coverage.specs.TableSteps.{TableDone, TableNext, TableStep, Transacts}
 use Rattle.table_coverage.proofs.TableSeen.{table_between_kept, table_run_kept}
@@ -29,13 +29,13 @@ use Rattle.brin_scan.specs.Finds.{stands_by}
 use Rattle.brin_scan.specs.SeenRows.{SeesLater}
 use Rattle.store_parts.specs.declared.hand.Hand.{Hand}
 use Rattle.store_parts.specs.HandsInTables.{IsTaskOf, sight_of, table_in}
-use Rattle.store_parts.specs.Leaving.{LeavesOthers, LeavesTable, RowsStay, SeeAlike, SeesSlots}
+use Rattle.store_parts.specs.Leaving.{LeavesOthers, LeavesTable, RowsStay, SeeAlike, SeenRowsStay, SeesSlots}
 use Rattle.store_parts.specs.PlacesAfter.{recounted}
 use Rattle.store_parts.specs.ShowsPlace.{ShowsTable}
 use Rattle.store_parts.specs.StoreStates.{ShownStore, hand_in}
-use Rattle.store_parts.specs.TableLaws.{AnotherTableStays, CountsFewIn, IsQuiet, OwnTableGoesOn, RestsElsewhere, TableIsKept, TableShowsAlike}
+use Rattle.store_parts.specs.TableLaws.{AnotherTableStays, CountsFewIn, IsQuiet, OwnTableGoesOn, OwnTableIsPruned, RestsElsewhere, TableIsKept, TableShowsAlike}
 use Rattle.store_parts.proofs.Locks.{quiet_ones_lock_none}
-use Rattle.store_parts.proofs.Seeing.{SeesStanding, rests_elsewhere, task_elsewhere, task_goes_on}
+use Rattle.store_parts.proofs.Seeing.{ScansWell, SeesStanding, rests_elsewhere, task_elsewhere, task_goes_on}
 use Rattle.store_parts.proofs.Slots.{same_slots}
 
 -- an index that a table lists is one of the layout, and of the table
@@ -86,18 +86,30 @@ module _ (layout : DiskLayout) (pages paged : PageMap) (locks locked : LockState
   pub shown_alike : shown_by layout paged locked table blocks ≡ shown_by layout pages locks table blocks
   shown_alike = λ j. record (shown_by layout pages locks table blocks) { index = λ at. by_number at (slice_get (indexes_of layout table) at) refl j }
 
--- what a scan's session sees stands in a slot
-sees_standing : (s : ShownStore) (stored : List Status) (table m : ℕ) (w : TableState) → (shows : ShowsTable s stored table w) → SeesStanding shows.blocks (shows.unseen.task m)
-sees_standing s stored table m w shows scan b k is seen none =
-    let task : w.task m ≡ Scans scan = ap (λ (x : TableState). x.task m) shows.shown ∙ is in
-    let there = shows.kept.scans m scan task b k seen in
-    none-some there.0 (sym (ap (row_in table) none) ∙ sym (ap (λ (x : TableState). x.row b k) shows.shown) ∙ there.1)
+-- what a scan's session sees stands in a slot, and it sees what it found
+scans_well : (s : ShownStore) (stored : List Status) (table m : ℕ) (w : TableState) → (shows : ShowsTable s stored table w) → ScansWell shows.blocks (shows.unseen.task m)
+scans_well s stored table m w shows = record { standing = standing; finds = finds }
+  where
+    task : (scan : TableScan) → shows.unseen.task m ≡ Scans scan → w.task m ≡ Scans scan
+    task scan is = ap (λ (x : TableState). x.task m) shows.shown ∙ is
+
+    standing : SeesStanding shows.blocks (shows.unseen.task m)
+    standing scan b k is seen none =
+        let there = shows.kept.scans m scan (task scan is) b k seen in
+        none-some there.0 (sym (ap (row_in table) none) ∙ sym (ap (λ (x : TableState). x.row b k) shows.shown) ∙ there.1)
+
+    finds : (scan : TableScan) (b k : ℕ) → shows.unseen.task m ≡ Scans scan → IsTrue (scan.found b k) → IsTrue (scan.sees b k)
+    finds scan b k is found = (shows.kept.finds m scan (task scan is) b k found).2
+
+-- rows that stay do so for all
+pub all_rows_stay : (task : Task) (old new : List (List Slot)) → RowsStay old new → SeenRowsStay task old new
+all_rows_stay task old new rows = λ spot row seen there. rows spot row there
 
 -- the same layout, said of the new store
 abbrev pub at_layout : (new : ShownStore) → DiskLayout → ShownStore
 at_layout new layout = record new { layout = layout }
 
-module _ (old new : ShownStore) (stored later : List Status) (n table : ℕ) (w : TableState) (shows : ShowsTable old stored table w) (leaves : LeavesOthers n old new) (now : List (List Slot)) (rows : RowsStay shows.blocks now) where
+module _ (old new : ShownStore) (stored later : List Status) (n table : ℕ) (w : TableState) (shows : ShowsTable old stored table w) (leaves : LeavesOthers n old new) (now : List (List Slot)) (rows : (m : ℕ) → m ≢ n → SeenRowsStay (shows.unseen.task m) shows.blocks now) where
   -- what each other session sees
   abbrev pub OthersSeeOn : Type 0
   OthersSeeOn = (m : ℕ) (o : Open) → m ≢ n → transaction_of old.transactions.opens m ≡ Some o
@@ -108,7 +120,7 @@ module _ (old new : ShownStore) (stored later : List Status) (n table : ℕ) (w 
   other_task on m other =
       subst (λ (o : Option Open). IsTaskOf old.layout table now new.transactions.tx later o (hand_in new.hands m) (shows.unseen.task m)) (sym (leaves.opens m other))
       (subst (λ (h : Option Hand). IsTaskOf old.layout table now new.transactions.tx later (transaction_of old.transactions.opens m) h (shows.unseen.task m)) (sym (leaves.hands m other))
-      (task_goes_on old.layout table shows.blocks now old.transactions.tx new.transactions.tx stored later (shows.unseen.task m) rows (sees_standing old stored table m w shows)
+      (task_goes_on old.layout table shows.blocks now old.transactions.tx new.transactions.tx stored later (shows.unseen.task m) (rows m other) (scans_well old stored table m w shows)
       (transaction_of old.transactions.opens m) (hand_in old.hands m) (λ o is. on m o other is) (shows.tasks m)))
 
   -- a task that was elsewhere is nothing
@@ -130,7 +142,7 @@ module _ (old new : ShownStore) (stored later : List Status) (n table : ℕ) (w 
   shown_then = ap (λ (x : TableState). recounted x counts) shows.shown ∙ ap (λ (t : ShownTable). table_state t unseen_then) (sym alike_there)
 
   rests : shows.unseen.task n ≡ Resting
-  rests = own_rests old new stored later n table w shows leaves shows.blocks (same_slots shows.blocks).rows left.was_in
+  rests = own_rests old new stored later n table w shows leaves shows.blocks (λ m other. all_rows_stay (shows.unseen.task m) shows.blocks shows.blocks (same_slots shows.blocks).rows) left.was_in
 
   rests_in_w : w.task n ≡ Resting
   rests_in_w = ap (λ (x : TableState). x.task n) shows.shown ∙ rests
@@ -142,7 +154,7 @@ module _ (old new : ShownStore) (stored later : List Status) (n table : ℕ) (w 
   tasks_then : (m : ℕ) → IsTaskOf old.layout table shows.blocks new.transactions.tx later (transaction_of new.transactions.opens m) (hand_in new.hands m) (shows.unseen.task m)
   tasks_then m = elim (cases_eq m n) [
     | inl same ↦ subst (λ (k : ℕ). IsTaskOf old.layout table shows.blocks new.transactions.tx later (transaction_of new.transactions.opens k) (hand_in new.hands k) (shows.unseen.task k)) (sym same) own_task
-    | inr other ↦ other_task old new stored later n table w shows leaves shows.blocks (same_slots shows.blocks).rows
+    | inr other ↦ other_task old new stored later n table w shows leaves shows.blocks (λ k away. all_rows_stay (shows.unseen.task k) shows.blocks shows.blocks (same_slots shows.blocks).rows)
         (λ k o away is. (alike k o away is, (same_slots shows.blocks).seen (sight_of old.transactions.tx stored o))) m other
   ]
 
@@ -183,8 +195,8 @@ sees_same old new stored o first = record {
     committed_by : ℕ → ℕ → Bool
     committed_by f t = is_committed (stands_by f stored t)
 
-pub own_table_goes_on : OwnTableGoesOn
-own_table_goes_on old new stored n table w v u now shows leaves step shown has lock counts others own slots =
+pub own_table_is_pruned : OwnTableIsPruned
+own_table_is_pruned old new stored n table w v u now shows leaves step shown has lock counts others own slots =
     subst (λ (l : DiskLayout). ShowsTable (at_layout new l) stored table v) (sym leaves.layout) (record {
       blocks = now;
       has = has;
@@ -203,6 +215,11 @@ own_table_goes_on old new stored n table w v u now shows leaves step shown has l
           (other_task old new stored stored n table w shows leaves now slots.rows (λ k o away is. (sees_same old new stored o leaves.first, slots.seen k o away is)) m other)
     ]
 
+pub own_table_goes_on : OwnTableGoesOn
+own_table_goes_on old new stored n table w v u now shows leaves step shown has lock counts others own slots =
+    own_table_is_pruned old new stored n table w v u now shows leaves step shown has lock counts others own
+    (record { rows = λ m away. all_rows_stay (shows.unseen.task m) shows.blocks now slots.rows; seen = slots.seen })
+
 pub table_is_kept : TableIsKept
 table_is_kept s stored n table w task shows at = record {
   blocks = shows.blocks;
@@ -218,7 +235,7 @@ table_shows_alike n table old new blocks pages held = shown_alike old.layout old
     (λ index page below of. held index page)
 
 -- a session whose statement is quiet in a table locks no page of an index of it
-unlisted : (layout : DiskLayout) (i index : ℕ) → index < length layout.schema.indexes → (index_at layout index).table ≡ i → (at : ℕ) × (slice_get (indexes_of layout i) at ≡ Some index)
+pub unlisted : (layout : DiskLayout) (i index : ℕ) → index < length layout.schema.indexes → (index_at layout index).table ≡ i → (at : ℕ) × (slice_get (indexes_of layout i) at ≡ Some index)
 unfolding indexes_of
 unlisted layout i index below of =
     let found = is_listed i 0 layout.schema.indexes index below of in

@@ -13,6 +13,7 @@ use Rattle.table_coverage.specs.Table.{Task, Resting, Marks, TableScan}
 use Rattle.index_steps.specs.IndexTuples.{index_at}
 use Rattle.index_steps.specs.ShownRows.{row_in}
 use Rattle.brin_insert.specs.Inserts as inserts
+use Rattle.brin_scan.specs.declared.stage.Stage.TheVariants as stages
 use Rattle.brin_scan.specs.Explains.{explaining}
 use Rattle.brin_scan.specs.Finds.{FindHand, Sight, scanning, sees_stored, stands_by}
 use Rattle.brin_scan.specs.LastStatuses.{Remembers}
@@ -31,9 +32,10 @@ use Rattle.store_parts.specs.Hands.{hits_left, ids_of}
 abbrev pub sight_of : TxState → List Status → Open → Sight
 sight_of tx stored o = record { snapshot = o.snapshot; own = o.t; status = stands_by tx.first stored }
 
--- A scan in its table: its session sees what its transaction sees in each slot now; what it found stands there, and its session sees it; and what it remembers of
+-- A scan in its table, which has begun: its session sees what its transaction sees in each slot now; what it found stands there, and its session sees it; and what it remembers of
 -- transactions stands.
 pub record IsScanAt (layout : DiskLayout) (blocks : List (List Slot)) (sight : Sight) (deletes : Bool) (hand : FindHand) (task : Task) : Type 0 where
+  pub begun : hand.judging.stage ≢ stages.Extent
   pub sees : ℕ → ℕ → Bool
   pub judged : ℕ → ℕ → Option Bool
   pub task_is : task ≡ scans.task_of layout hand.judging.stage hand.judging (scanning sees judged deletes hand)

@@ -23,6 +23,8 @@ use Rattle.transactions.specs.ShowsDatabase.{ShowsDatabase}
 use Rattle.transactions.specs.StoredRows.{StandsAt}
 use Rattle.index_contents.specs.IndexContents.{contents, index_page, relation_of as index_relation}
 use Rattle.table_coverage.specs.Accounts.{Account}
+use Rattle.table_coverage.specs.Table.{Task}
+use Rattle.table_coverage.specs.TableSteps.{SeesPlace}
 use Rattle.index_steps.specs.IndexTuples.{index_at}
 use Rattle.index_steps.specs.ShownIndex.{lock_in}
 use Rattle.index_steps.specs.SwapAnswers.{LeavesLocks}
@@ -94,6 +96,16 @@ RowsStay old new = (spot : Spot) (row : StoredRow) → slot_at old spot ≡ Some
 abbrev pub SeesSlots : Sight → (old new : List (List Slot)) → Type 0
 SeesSlots sight old new = (spot : Spot) (now : StoredRow) → slot_at new spot ≡ Some now
     → ((row : StoredRow) × (slot_at old spot ≡ Some row) × (sees_stored sight now ≡ sees_stored sight row)) ⊎ ((slot_at old spot ≡ None) × (sees_stored sight now ≡ false))
+
+-- each row that a statement at this task sees stays so
+abbrev pub SeenRowsStay : Task → (old new : List (List Slot)) → Type 0
+SeenRowsStay task old new = (spot : Spot) (row : StoredRow) → SeesPlace spot.block spot.slot task → slot_at old spot ≡ Some row
+    → (now : StoredRow) × (slot_at new spot ≡ Some now) × (now.id ≡ row.id) × (now.values ≡ row.values)
+
+-- what each other session's statement sees stays, and its transaction sees of the slots what it saw
+pub record SeenSlotsStay (n : ℕ) (s : ShownStore) (tasks : ℕ → Task) (stored : List Status) (old new : List (List Slot)) : Type 0 where
+  pub rows : (m : ℕ) → m ≢ n → SeenRowsStay (tasks m) old new
+  pub seen : (m : ℕ) (o : Open) → m ≢ n → transaction_of s.transactions.opens m ≡ Some o → SeesSlots (sight_of s.transactions.tx stored o) old new
 
 -- rows stay, and each other session's transaction sees of the slots what it saw
 pub record SlotsStay (n : ℕ) (s : ShownStore) (stored : List Status) (old new : List (List Slot)) : Type 0 where

@@ -21,3 +21,4 @@ pub mod StoreLaws
 pub mod UndoneLaws
 pub mod LeadLaws
 pub mod OpeningLaws
+pub mod SubmitLaws

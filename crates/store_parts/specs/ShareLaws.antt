@@ -20,3 +20,10 @@ SharesChange = (count n : ℕ) (hands now : List (Option Hand)) (opens then : Li
 -- each share is one of them
 abbrev pub ShareIsWithin : Type 0
 ShareIsWithin = (count n : ℕ) (hands : List (Option Hand)) (opens : List (Option Open)) → n < count → share_of (hand_in hands n) (transaction_of opens n) ≤ shares_below count hands opens
+
+-- so what is promised stays the sum, as a step leaves it
+abbrev pub PromisesStay : Type 0
+PromisesStay = (count n promised after : ℕ) (hands now : List (Option Hand)) (opens then : List (Option Open)) → n < count
+    → ((m : ℕ) → m ≢ n → hand_in now m ≡ hand_in hands m) → ((m : ℕ) → m ≢ n → transaction_of then m ≡ transaction_of opens m)
+    → after + share_of (hand_in hands n) (transaction_of opens n) ≡ promised + share_of (hand_in now n) (transaction_of then n)
+    → promised ≡ shares_below count hands opens → after ≡ shares_below count now then

@@ -26,7 +26,7 @@ use Rattle.index_steps.specs.ShownRows.{ShowsKept, shown_by}
 use Rattle.brin_scan.specs.Finds.{Sight, sees_stored}
 use Rattle.brin_scan.specs.SeenRows.{IsOthersSince, StaysInSlot}
 use Rattle.store_parts.specs.HandsInTables.{IsTaskOf, table_in}
-use Rattle.store_parts.specs.Leaving.{LeavesOthers, LeavesTable, RowsStay, SeeAlike, SeesSlots, SlotsStay}
+use Rattle.store_parts.specs.Leaving.{LeavesOthers, LeavesTable, RowsStay, SeeAlike, SeenSlotsStay, SeesSlots, SlotsStay}
 use Rattle.store_parts.specs.PlacesAfter.{recounted}
 use Rattle.store_parts.specs.ShowsPlace.{ShowsTable}
 use Rattle.store_parts.specs.StoreStates.{ShownStore, hand_in}
@@ -73,6 +73,16 @@ OwnTableGoesOn = (old new : ShownStore) (stored : List Status) (n table : ℕ) (
     → ((m : ℕ) → m ≢ n → u.task m ≡ shows.unseen.task m)
     → IsTaskOf old.layout table now new.transactions.tx stored (transaction_of new.transactions.opens n) (hand_in new.hands n) (u.task n)
     → SlotsStay n old stored shows.blocks now → ShowsTable new stored table v
+
+-- So is the table of a step that drops rows which no other session's statement sees.
+abbrev pub OwnTableIsPruned : Type 0
+OwnTableIsPruned = (old new : ShownStore) (stored : List Status) (n table : ℕ) (w v : TableState) (u : Unseen) (now : List (List Slot)) → (shows : ShowsTable old stored table w)
+    → LeavesOthers n old new → TableStep n w v
+    → v ≡ table_state (shown_by old.layout new.pages new.locks table now) u → HasBlocks old.layout new.pages table now
+    → u.summarise_lock ≡ right_of new.rights table → ((t : ℕ) → u.counts t ≡ counts_of new.transactions stored t)
+    → ((m : ℕ) → m ≢ n → u.task m ≡ shows.unseen.task m)
+    → IsTaskOf old.layout table now new.transactions.tx stored (transaction_of new.transactions.opens n) (hand_in new.hands n) (u.task n)
+    → SeenSlotsStay n old shows.unseen.task stored shows.blocks now → ShowsTable new stored table v
 
 -- what a machine needs of the table that is shown
 abbrev pub TableIsKept : Type 0

@@ -4,16 +4,18 @@ ghost use Rattle.std.specs.Prelude.{◌≡◌, ◌+◌, ◌≤◌, ℕ};
 ghost use Rattle.page_locks.specs.LockCounts.{locks_of};
 ghost use Rattle.page_locks.specs.LockHolders.{count_of};
 ghost use Rattle.statements.specs.declared.limits.TheConstants.{MAX_SESSIONS as SESSIONS};
-ghost use Rattle.store_parts.specs.ShareLaws.{ShareIsWithin, SharesChange};
+ghost use Rattle.store_parts.specs.ShareLaws.{PromisesStay, ShareIsWithin, SharesChange};
 
 use crate::limits::{LOCKS_A_SESSION, MAX_LOCKS};
 use page_locks::{Locks, few_locks_are_held as few_locks};
 use statements::MAX_SESSIONS;
 
-/// Where the share of one session changes, the sum of all changes by as much, and holds each of them. Does nothing.
+/// Where the share of one session changes, the sum of all changes by as much, and holds each of them; so what is promised stays that sum. Does
+/// nothing.
 pub fn shares_are_summed()
     ensures change { SharesChange }
     ensures within { ShareIsWithin }
+    ensures promised { PromisesStay }
 {}
 
 /// Where no session holds more locks than one may, there is room for the locks of one more move. Does nothing.

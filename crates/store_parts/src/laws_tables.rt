@@ -1,6 +1,6 @@
 //! Laws of the tables that a store shows. None does anything.
 
-ghost use Rattle.store_parts.specs.TableLaws.{AnotherTableStays, FilledSlotStays, GivesNone, MarkedSlotStays, OwnTableGoesOn, QuietOnesLockNone, RestsElsewhere, SameSlotsStay, TableIsKept, TableShowsAlike};
+ghost use Rattle.store_parts.specs.TableLaws.{AnotherTableStays, FilledSlotStays, GivesNone, MarkedSlotStays, OwnTableGoesOn, OwnTableIsPruned, QuietOnesLockNone, RestsElsewhere, SameSlotsStay, TableIsKept, TableShowsAlike};
 
 /// A session whose statement is between the steps of another table, or of a scan, or of an insert that moves no tuple, locks no page of the
 /// table's indexes; and where it gives its locks, those of the others stay.
@@ -20,6 +20,7 @@ pub fn another_table_stays()
 /// machine may step in.
 pub fn the_own_table_goes_on()
     ensures goes_on { OwnTableGoesOn }
+    ensures pruned { OwnTableIsPruned }
     ensures kept { TableIsKept }
     ensures alike { TableShowsAlike }
 {}

@@ -16,6 +16,7 @@ mod laws_requests;
 mod laws_shares;
 mod laws_steps;
 mod laws_stores;
+mod laws_submits;
 mod laws_tables;
 mod laws_undone;
 mod limits;
@@ -33,6 +34,7 @@ pub use laws_requests::{one_more_request, others_copies_stay, requests_are_legal
 pub use laws_shares::{few_locks_are_held, shares_are_summed};
 pub use laws_steps::{a_machine_turns, a_turn_is_a_step, one_request_is_a_step};
 pub use laws_stores::{a_fit_step_fits_everywhere, one_hand_changes};
+pub use laws_submits::a_submitted_statement_is_shown;
 pub use laws_tables::{
     another_table_stays, quiet_statements_lock_nothing, slots_stay_for_others,
     the_own_table_goes_on,

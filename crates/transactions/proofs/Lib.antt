@@ -1,0 +1,15 @@
+pub mod Given
+pub mod PageSlots
+pub mod Shown
+pub mod Alike
+pub mod Failures
+pub mod Puts
+pub mod Marks
+pub mod Standing
+pub mod Copies
+pub mod Counts
+pub mod Others
+pub mod Found
+pub mod Scans
+pub mod Calls
+pub mod Openings

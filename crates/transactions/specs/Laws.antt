@@ -1,5 +1,5 @@
 -- how pages, numbers and open transactions show a database, whatever pages they are
-use Rattle.std.specs.Prelude.{◌≡◌, ◌≢◌, ℕ, ◌+◌, ◌<◌, ◌⊎◌, Bool, true, false, not, ◌&&◌, ◌||◌, ◌==◌, List, map, set, length, Option, None, Some, IsPermutation, IsSorted, if◌then◌else◌}
+use Rattle.std.specs.Prelude.{◌≡◌, ◌≢◌, ℕ, ◌+◌, ◌<◌, ◌⊎◌, Bool, true, false, not, ◌&&◌, ◌||◌, ◌==◌, List, map, set, length, replicate, Option, None, Some, IsPermutation, IsSorted, if◌then◌else◌}
 use Rattle.std.specs.FinMap as maps
 use Rattle.block_model.specs.declared.place.Spot.{Spot}
 use Rattle.block_model.specs.declared.request.Request.TheVariants as requests
@@ -8,13 +8,13 @@ use Rattle.block_model.specs.declared.row.Query.{Query}
 use Rattle.block_model.specs.declared.row.Row.{Row}
 use Rattle.block_model.specs.declared.row.RowId.{RowId}
 use Rattle.block_model.specs.declared.value.Value.{Value}
-use Rattle.block_model.specs.DatabaseState.{DatabaseState, OpenTransaction}
+use Rattle.block_model.specs.DatabaseState.{DatabaseState, OpenTransaction, initial_state}
 use Rattle.block_model.specs.RequestEffect as model
 use Rattle.block_model.specs.TableState.{id_cmp}
 use Rattle.statements.specs.declared.limits.TheConstants.{MAX_SESSIONS}
 use Rattle.statements.specs.StatementRequests.{request_entry, tagged_entry}
 use Rattle.store_layout.specs.DiskLayout.{DiskLayout}
-use Rattle.page_layout.specs.PageContents.{Slot}
+use Rattle.page_layout.specs.PageContents.{IsUnstarted, Slot}
 use Rattle.page_layout.specs.PageWrites.{marked}
 use Rattle.page_layout.specs.RowBytes.{StoredRow}
 use Rattle.page_store.specs.PageMap.{PageMap, block_at}
@@ -23,11 +23,13 @@ use Rattle.heap_rows.specs.HeapBlocks.{HasBlocks}
 use Rattle.heap_rows.specs.RowPlaces.{new_row}
 use Rattle.snapshot_core.specs.declared.statuses.Status.{Status}
 use Rattle.snapshot_core.specs.declared.statuses.Status.TheVariants as status
-use Rattle.snapshot_core.specs.Visibility.{had_ended, is_committed}
+use Rattle.snapshot_core.specs.Visibility.{had_ended, has_done, is_committed}
 use Rattle.row_versions.specs.declared.sessions.Open.{Open}
 use Rattle.row_versions.specs.SessionChanges.{ended}
 use Rattle.row_versions.specs.StoredVersions.{transaction_of}
+use Rattle.tx_table.specs.LeavesRest.{AreStarted}
 use Rattle.tx_table.specs.Statuses.{HasStatuses, number_limit, status_relation}
+use Rattle.tx_table.specs.TxState.{IsNext}
 use Rattle.transactions.specs.CountedRows.{counts}
 use Rattle.transactions.specs.FoundRows.{AreFound}
 use Rattle.transactions.specs.GivenStatuses.{given_status}
@@ -191,7 +193,14 @@ MarkIsUnseen = (layout : DiskLayout) (pages : PageMap) (t : TransactionsState) (
     → table < length layout.schema.tables → StandsAt layout pages table spot row → conflicts_with t.tx.first stored o.t row ≡ false
     → sees_row t.tx.first stored p (marked row o.t) ≡ sees_row t.tx.first stored p row
 
--- nor is a put
+-- where a mark is without a conflict, no delete of its row had happened for any of the others
+abbrev pub NoDeleteIsDone : Type 0
+NoDeleteIsDone = (layout : DiskLayout) (pages : PageMap) (t : TransactionsState) (s : DatabaseState) (stored : List Status) (session other table : ℕ) (o p : Open) (spot : Spot) (row : StoredRow)
+    → ShowsDatabase layout pages t s → HasStatuses layout pages stored → transaction_of t.opens session ≡ Some o → transaction_of t.opens other ≡ Some p → other ≢ session
+    → table < length layout.schema.tables → StandsAt layout pages table spot row → conflicts_with t.tx.first stored o.t row ≡ false
+    → has_done p.snapshot p.t row.deleter (given_status t.tx.first stored row.deleter) ≡ false
+
+-- nor is a put seen
 abbrev pub PutIsUnseen : Type 0
 PutIsUnseen = (layout : DiskLayout) (pages : PageMap) (t : TransactionsState) (s : DatabaseState) (stored : List Status) (session other : ℕ) (o p : Open) (row : StoredRow)
     → ShowsDatabase layout pages t s → transaction_of t.opens session ≡ Some o → transaction_of t.opens other ≡ Some p → other ≢ session → row.id.t ≡ o.t
@@ -211,3 +220,26 @@ FoundIsShown = (layout : DiskLayout) (pages : PageMap) (t : TransactionsState) (
 abbrev pub LookIsShown : Type 0
 LookIsShown = (s : DatabaseState) (session : ℕ) (x : OpenTransaction) (query : Query) → maps.get s.sessions session ≡ Some x
     → model.effect s (request_entry session query.table (requests.Look query)) ≡ (s, model.Found (model.rows_found x query))
+
+-- ---- what an opened store shows
+
+-- the same database without its transactions that were under way
+abbrev pub without_sessions : DatabaseState → DatabaseState
+without_sessions s = record s { sessions = maps.empty }
+
+-- the transactions as they are started over a store
+pub record IsOpened (t : TransactionsState) : Type 0 where
+  pub first : t.tx.first ≡ t.tx.next
+  pub opens : t.opens ≡ replicate MAX_SESSIONS None
+
+-- what pages showed before a stop they show without the transactions that were under way
+abbrev pub OpeningIsShown : Type 0
+OpeningIsShown = (layout : DiskLayout) (pages : PageMap) (t now : TransactionsState) (s : DatabaseState) (stored : List Status)
+    → ShowsDatabase layout pages t s → HasStatuses layout pages stored → IsNext stored now.tx.next → IsOpened now → ShowsDatabase layout pages now (without_sessions s)
+
+-- pages on which no transaction has a status and no table has a started page show a new database
+abbrev pub NewIsShown : Type 0
+NewIsShown = (layout : DiskLayout) (pages : PageMap) (now : TransactionsState) (stored : List Status)
+    → HasStatuses layout pages stored → IsNext stored 1 → AreStarted layout pages
+    → ((table block : ℕ) → table < length layout.schema.tables → block < layout.sizes.heap_blocks → IsUnstarted (block_at pages (relation_of table) block))
+    → IsOpened now → now.tx.next ≡ 1 → ShowsDatabase layout pages now initial_state

@@ -22,40 +22,41 @@ ghost use Rattle.transactions.specs.StartAnswers.{FaultNamesStatuses, StartOutco
 ghost use Rattle.transactions.specs.TransactionsState.{AreOpen, OfOpen, next_open, with_begun, with_failed, with_open, with_row_counted};
 
 use crate::faults::Unbegun;
-use block_model::RowId;
+use block_model::{Numbers, RowId};
 use disk_trait::Disk;
 use engine_pages::PageStore;
 use page_store::{MachineFault, StoreError};
-use row_versions::{Open, Standing};
+use row_versions::{
+    Open, Standing, count_row, fail_open, no_transactions, numbers_of, open_of, set_open,
+    take_open, transaction_of,
+};
+use snapshot_core::Snapshot;
 use std::alloc::Global;
 use std::marker::Model;
 use tx_table::TxTable;
 
+/// The place that no row of a transaction has: its rows have the `u32` places below it.
+const NO_PLACE: u32 = u32::MAX;
+
 /// The numbers of transactions, and the open transaction of each session.
 #[derive(Drop)]
 pub struct Transactions {
-    never: Never,
+    tx: TxTable,
+    /// At the place of each session.
+    sessions: Vec<Option<Open>>,
 }
 
-/// No value is of this type.
-#[derive(Clone, Copy)]
-pub enum Never {}
-
 impl Model for Transactions {
-    ghost use Rattle.std.specs.Prelude.{[]};
-    ghost use Rattle.transactions.specs.TransactionsState.{TransactionsState};
+    ghost use Rattle.transactions.specs.TransactionsState.{AreOpen, TransactionsState};
 
     ghost Value = { TransactionsState };
 
-    ghost view = { λ a. record { tx = record { first = 0; next = 0 }; opens = [] } };
+    ghost view = { λ a. record { tx = a.tx; opens = a.sessions.items } };
+
+    ghost invariant = { λ a. AreOpen (record { tx = a.tx; opens = a.sessions.items }) };
 }
 
 impl Transactions {
-    /// Nobody has one.
-    pub fn never(&self) -> Never {
-        self.never
-    }
-
     /// No open transactions, over the pages of a store that was opened. Reads each page of statuses once, and no other. Takes memory
     /// for the places of the sessions, first.
     pub fn start<D: Disk + Drop>(
@@ -71,7 +72,14 @@ impl Transactions {
         ensures outcome { StartOutcome D.told pages.old pages.new result }
     {
         match pages.ready() {
-            Ok(()) => Err(MachineFault::Memory),
+            Ok(()) => {}
+            Err(error) => return Err(MachineFault::Store(error)),
+        }
+        let Ok(sessions) = no_transactions(alloc) else {
+            return Err(MachineFault::Memory);
+        };
+        match TxTable::start(pages) {
+            Ok(tx) => Ok(Transactions { tx, sessions }),
             Err(error) => Err(MachineFault::Store(error)),
         }
     }
@@ -80,21 +88,31 @@ impl Transactions {
     pub fn known(&self)
         ensures { AreOpen self.now }
     {
-        match self.never {}
+        // The toolchain opens the invariant where a field is read.
+        let _ = &self.sessions;
     }
 
     /// The numbers of transactions, and how each stands.
     pub fn tx(&self) -> &TxTable
         ensures { result.now ≡ self.now.tx }
     {
-        match self.never {}
+        &self.tx
     }
 
     /// How the session stands.
     pub fn standing(&self, session: u32) -> Standing
         ensures { result ≡ open_standing (transaction_of self.now.opens session) }
     {
-        match self.never {}
+        match transaction_of(self.sessions.as_slice(), session) {
+            Some(open) => {
+                if open.failed {
+                    Standing::Failed
+                } else {
+                    Standing::UnderWay
+                }
+            }
+            None => Standing::Idle,
+        }
     }
 
     /// The session's open transaction.
@@ -102,7 +120,7 @@ impl Transactions {
         requires { IsSome (transaction_of self.now.opens session) }
         ensures { transaction_of self.now.opens session ≡ Some result.now }
     {
-        match self.never {}
+        open_of(self.sessions.as_slice(), session)
     }
 
     /// The id of the row that the session's transaction puts next: none where it has put as many as its numbers reach.
@@ -110,7 +128,14 @@ impl Transactions {
         requires { IsSome (transaction_of self.now.opens session) }
         ensures { OfOpen self.now session (λ o. result ≡ next_row_of o) }
     {
-        match self.never {}
+        let open = open_of(self.sessions.as_slice(), session);
+        if open.next_k == NO_PLACE {
+            return None;
+        }
+        Some(RowId {
+            t: open.t,
+            k: open.next_k,
+        })
     }
 
     /// Begins a transaction of the session, and answers its number, the next one. Spent exactly where each number has been given.
@@ -143,7 +168,14 @@ impl Transactions {
         ensures names { IfErr result (λ unbegun. NamesStatusPage pages.old.layout unbegun.fault) }
         ensures outcome { BeginOutcome D.told self.old.tx.next pages.old pages.new (without_list result) }
     {
-        match self.never {}
+        match self.tx.begin(pages) {
+            Ok(t) => {
+                let numbers = numbers_of(self.sessions.as_slice(), active);
+                set_open(&mut self.sessions, session, new_open(t, numbers));
+                Ok(t)
+            }
+            Err(fault) => Err(Unbegun { fault, active }),
+        }
     }
 
     /// The session's transaction has put one row more.
@@ -151,7 +183,7 @@ impl Transactions {
         requires { IsSomeAnd (transaction_of self.old.opens session) (λ o. o.next_k + 1 < 2 ^ 32) }
         ensures { OfOpen self.old session (λ o. self.new ≡ with_row_counted self.old session o) }
     {
-        match self.never {}
+        count_row(&mut self.sessions, session);
     }
 
     /// The session's transaction fails: from now on it can only end.
@@ -159,7 +191,7 @@ impl Transactions {
         requires { IsSome (transaction_of self.old.opens session) }
         ensures { OfOpen self.old session (λ o. self.new ≡ with_failed self.old session o) }
     {
-        match self.never {}
+        fail_open(&mut self.sessions, session);
     }
 
     /// Commits the session's transaction, or rolls it back where it has failed; whether it was committed, which it is only behind
@@ -189,7 +221,50 @@ impl Transactions {
         ensures at { IfErr result (NamesStatuses pages.old.layout) }
         ensures outcome { Outcome D.told (Untold D.told pages.old) pages.old pages.new result }
     {
-        match self.never {}
+        if open_of(self.sessions.as_slice(), session).failed {
+            match self.rollback(pages, session) {
+                Ok(()) => Ok(false),
+                Err(error) => Err(error),
+            }
+        } else {
+            match self.commit_unfailed(pages, session) {
+                Ok(()) => Ok(true),
+                Err(error) => Err(error),
+            }
+        }
+    }
+
+    /// Commits the session's transaction, which hasn't failed.
+    fn commit_unfailed<D: Disk + Drop>(
+        &mut self,
+        pages: &mut PageStore<D>,
+        session: u32,
+    ) -> Result<(), StoreError>
+        requires over { IsOver D.told self.old.tx pages.old }
+        requires shown { ShowsSome D.told pages.old self.old }
+        requires open { IsSome (transaction_of self.old.opens session) }
+        requires unfailed { OfOpen self.old session (λ o. o.failed ≡ false) }
+        ensures ended { OnOk result (self.new ≡ with_open self.old session None) }
+        ensures same { OnErr result (self.new ≡ self.old) }
+        ensures database { OnOk result (OfDatabase D.told pages.old self.old (λ s. DoesRequest pages.old.layout pages.new.pages self.new s (request_entry session 0 requests.Commit) Committed)) }
+        ensures durable { OnOk result (IsDurable D.told pages.new) }
+        ensures statuses { OnOk result (OfOpen self.old session (λ o. OfStatuses D.told pages.old (λ stored. HasStatuses pages.old.layout pages.new.pages (set stored o.t CommittedStatus)))) }
+        ensures shown { OnOk result (ShowsSome D.told pages.new self.new) }
+        ensures over { IsOver D.told self.new.tx pages.new }
+        ensures kept { IfErr result (KeepsUnlessDisk D.told pages.old pages.new) }
+        ensures survives { OfOpen self.old session (λ o. Survives D.told (HasPart pages.old.layout pages.old.pages (o.t ∷ []) CommittedStatus) pages.old pages.new) }
+        ensures rest { LeavesRest D.told pages.old pages.new }
+        ensures at { IfErr result (NamesStatuses pages.old.layout) }
+        ensures outcome { Outcome D.told (Untold D.told pages.old) pages.old pages.new result }
+    {
+        let t = open_of(self.sessions.as_slice(), session).t;
+        match self.tx.commit(pages, t) {
+            Ok(()) => {
+                take_open(&mut self.sessions, session);
+                Ok(())
+            }
+            Err(error) => Err(error),
+        }
     }
 
     /// Rolls the session's transaction back. After an error nothing is changed. Takes no memory.
@@ -214,6 +289,28 @@ impl Transactions {
         ensures at { IfErr result (NamesStatuses pages.old.layout) }
         ensures outcome { Outcome D.told (Untold D.told pages.old) pages.old pages.new result }
     {
-        match self.never {}
+        let t = open_of(self.sessions.as_slice(), session).t;
+        match self.tx.rollback(pages, t) {
+            Ok(()) => {
+                take_open(&mut self.sessions, session);
+                Ok(())
+            }
+            Err(error) => Err(error),
+        }
+    }
+}
+
+/// A transaction that begins with the number, where these are under way.
+fn new_open(t: u64, active: Vec<u64>) -> Open
+    ensures { result ≡ record { t = t; next_k = 0; snapshot = record { next = t; active = active.items }; failed = false } }
+{
+    Open {
+        t,
+        next_k: 0,
+        snapshot: Snapshot {
+            next: t,
+            active: Numbers::from_vec(active),
+        },
+        failed: false,
     }
 }

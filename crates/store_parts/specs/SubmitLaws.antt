@@ -1,0 +1,36 @@
+-- which place a store shows behind a statement that is taken, and behind a session that is made
+use Rattle.std.specs.Prelude.{◌≡◌, ◌≢◌, ℕ, ◌<◌, List, length, Option, None, Some}
+use Rattle.store_layout.specs.DiskLayout.{DiskLayout}
+use Rattle.brin_scan.specs.declared.stage.Stage.TheVariants as stages
+use Rattle.brin_summarise.specs.declared.course.Standing.TheVariants as standings
+use Rattle.brin_summarise.specs.declared.wish.Wish.TheVariants as wishes
+use Rattle.line_texts.specs.LineTexts.{with_statement}
+use Rattle.line_texts.specs.Place.{Place}
+use Rattle.store_parts.specs.declared.hand.Hand.{Hand}
+use Rattle.store_parts.specs.declared.hand.Hand.TheVariants as hands
+use Rattle.store_parts.specs.Hands.{statement_of}
+use Rattle.store_parts.specs.ShowsPlace.{IsPlaceOf}
+use Rattle.store_parts.specs.StoreLaws.{HasHand}
+use Rattle.store_parts.specs.StoreStates.{ShownStore, hand_in}
+
+-- the statement has made no step
+abbrev pub HasNotBegun : DiskLayout → Hand → Type 0
+HasNotBegun layout (hands.Begins numbers) = Unit {0}
+HasNotBegun layout hands.Commits = Unit {0}
+HasNotBegun layout hands.RollsBack = Unit {0}
+HasNotBegun layout (hands.Puts table values) = Unit {0}
+HasNotBegun layout (hands.Selecting query) = Unit {0}
+HasNotBegun layout (hands.Deleting query) = Unit {0}
+HasNotBegun layout (hands.Explains explain) = explain.judging.stage ≡ stages.Extent
+HasNotBegun layout (hands.Summarises a) = (a.standing ≡ standings.Begins) × (a.index < length layout.schema.indexes) × (a.wish ≢ wishes.Complete)
+HasNotBegun layout hand = ⊥
+
+-- a session without a statement in hand has this one then
+abbrev pub SubmittedIsShown : Type 0
+SubmittedIsShown = (s : ShownStore) (p : Place) (n : ℕ) (new : List (Option Hand)) (hand : Hand) → IsPlaceOf s p → hand_in s.hands n ≡ None
+    → HasHand s.hands new n (Some hand) → HasNotBegun s.layout hand → IsPlaceOf (record s { hands = new }) (with_statement p n (statement_of hand))
+
+-- sessions have other names, and in hand what they had
+abbrev pub NamedIsShown : Type 0
+NamedIsShown = (s : ShownStore) (p : Place) (names : List (List ℕ)) (new : List (Option Hand)) → IsPlaceOf s p → ((m : ℕ) → hand_in new m ≡ hand_in s.hands m)
+    → IsPlaceOf (record s { names = names; hands = new }) (record p { names = names })
