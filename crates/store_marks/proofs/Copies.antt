@@ -89,9 +89,9 @@ all_stay id (e ∷ es) h =
 at_ids : (es : List (RowId × Row)) → T (is_sorted id_cmp es) → ((id : RowId) (r : Row) → find id_cmp id es ≡ Some r → r.id ≡ id) → AtTheirIds es
 at_ids [] h found = tt
 at_ids (e ∷ es) h found = (
-    found e.0 e.1 (ap (λ b. cond b (Some e.1) (find id_cmp e.0 es)) (id_ties_itself e.0)),
-    at_ids es (second _ _ h) (λ id r is. found id r (behind id r is)),
-  )
+  found e.0 e.1 (ap (λ b. cond b (Some e.1) (find id_cmp e.0 es)) (id_ties_itself e.0)),
+  at_ids es (second _ _ h) (λ id r is. found id r (behind id r is)),
+)
   where
     behind : (id : RowId) (r : Row) → find id_cmp id es ≡ Some r → find id_cmp id (e ∷ es) ≡ Some r
     behind id r is =
@@ -144,7 +144,7 @@ entries_left m id =
     let rises = is_sorted-where_key id_cmp p (entries m) (entries_sorted m) in
     let alike : (q x : RowId) → id_cmp q x ≡ Equal → p x ≡ p q = λ q x ties. ap p (sym (ids_exact q x ties)) in
     ap entries (same_map ids_total ids_exact (remove m id) (from_sorted left) (λ q.
-        get-remove ids_total m id q ∙ turned q ∙ sym (find-where_key id_cmp p q (alike q) (entries m)) ∙ sym (get-from_sorted id_cmp left q rises)))
+    get-remove ids_total m id q ∙ turned q ∙ sym (find-where_key id_cmp p q (alike q) (entries m)) ∙ sym (get-from_sorted id_cmp left q rises)))
     ∙ entries-from_sorted id_cmp left rises
   where
     turned : (q : RowId) → cond (same q id) None (maps.get m q) ≡ cond (not (same id q)) (find id_cmp q (entries m)) None

@@ -149,7 +149,7 @@ module _ (p : Place) (n : ℕ) (query : Query) (answers : List Answer) (first : 
     lacks_for_conflict : (after : DatabaseState) → effect (database_at p) (mark_entry n query.table stands.row) ≡ (after, Conflict stands.row.id) → LacksRoom p n
     lacks_for_conflict after does =
         let refused = mark_is_refused p n query.table 0 (statements.Delete query) (p.tables query.table) stands.scan stands.row.id (map (λ (r : Row). r.id) stands.more) (λ t. false) refl stands.queue
-            delete_only refl stands.at (record { failed = refl; fewer = λ u none. absurd (true≢false (sym none)) }) in
+        delete_only refl stands.at (record { failed = refl; fewer = λ u none. absurd (true≢false (sym none)) }) in
         record {
           hand = at;
           in_hand = stands.in_hand;

@@ -129,8 +129,11 @@ module _ (opening : DatabaseState) (n : ℕ) (q : Query) (c : Course) (x : OpenT
     pub one_mark : (first : Bool) (k : ℕ) → HasMarked first (rows_found x q) rows k c.answers → drop k rows ≡ row ∷ more
         → (f : Course) × IsMarked opening n q c rows (entries_of first n q row) (replicate k Marked ++ answer ∷ []) after f
     one_mark false k answers left = (entered opening c mark, further k answers left)
-    one_mark true k has left = (entered opening looked mark, subst (λ j. IsMarked opening n q c rows (look ∷ mark ∷ []) (replicate j Marked ++ answer ∷ []) after (entered opening looked mark)) (sym has.2)
-        (first_mark has.0 has.1 (subst (λ j. drop j rows ≡ row ∷ more) has.2 left)))
+    one_mark true k has left = (
+      entered opening looked mark,
+      subst (λ j. IsMarked opening n q c rows (look ∷ mark ∷ []) (replicate j Marked ++ answer ∷ []) after (entered opening looked mark)) (sym has.2)
+          (first_mark has.0 has.1 (subst (λ j. drop j rows ≡ row ∷ more) has.2 left)),
+    )
 
   -- the entries are legal where the row is in the copy of a transaction that hasn't failed
   legal_request : (e : Entry) (s : DatabaseState) → s ≡ now → e.session ≡ n → is_legal_at (Some x) e.request e.tag ≡ true → is_legal_request s e ≡ true

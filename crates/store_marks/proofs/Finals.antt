@@ -125,7 +125,7 @@ module _ {D : Type 0} (told : D → Told) (old : Parts D) (n : ℕ) (marking : M
     goes_on_so : (h : Hit) (hs : List Hit) → drop (suc marking.next) marking.hits.items ≡ h ∷ hs → StepsSo told old now n (hands.Marks marking) (stepped.Moved points.Mark (hands.Marks then))
     goes_on_so h hs more =
         let one_less : length (drop marking.next marking.hits.items) ≡ length (drop (marking.next + 1) marking.hits.items) + 1 =
-            omega (arith, length-drop marking.next marking.hits.items, length-drop (marking.next + 1) marking.hits.items, was.in_hand.1.left) in
+        omega (arith, length-drop marking.next marking.hits.items, length-drop (marking.next + 1) marking.hits.items, was.in_hand.1.left) in
         let left : marking.next + 1 < length marking.hits.items = omega (arith, ap length more, length-drop (suc marking.next) marking.hits.items) in
         moved_so told old now n marking then refl (record {
           fits = fits;
@@ -147,7 +147,7 @@ module _ {D : Type 0} (told : D → Told) (old : Parts D) (n : ℕ) (marking : M
     ends_so : drop (suc marking.next) marking.hits.items ≡ [] → StepsSo told old now n (hands.Marks marking) (stepped.Done (replies.Deleted (marking.next + 1)))
     ends_so none =
         let last : length (drop marking.next marking.hits.items) ≡ 0 + 1 =
-            omega (arith, length-drop marking.next marking.hits.items, length-drop (suc marking.next) marking.hits.items, ap length none, was.in_hand.1.left) in
+        omega (arith, length-drop marking.next marking.hits.items, length-drop (suc marking.next) marking.hits.items, ap length none, was.in_hand.1.left) in
         done_so told old now n marking (replies.Deleted (marking.next + 1)) (record {
           fits = fits;
           ready = ready;

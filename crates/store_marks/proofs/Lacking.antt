@@ -45,4 +45,4 @@ lacks told sessions copies parts n marking fits full names hands_ p is shown =
     let hit = some_at marking.hits.items marking.next was.in_hand.1.left in
     let at : MarksAt (shown_of (store_of parts names hands_)) p n marking hit.0 own.0 shown = marks_at sessions copies (shown_of (store_of parts names hands_)) p n marking hit.0 is was.in_hand.1 own.0 own.1 own.2 hit.1 shown in
     lacks_room p n marking.query at.answers (is_first marking.look) marking.next at.stands
-        (omega (arith, full, ap length shown.journal, length-append p.journal (entries_of (is_first marking.look) n marking.query at.stands.row), count_entries marking.look n marking.query at.stands.row))
+    (omega (arith, full, ap length shown.journal, length-append p.journal (entries_of (is_first marking.look) n marking.query at.stands.row), count_entries marking.look n marking.query at.stands.row))

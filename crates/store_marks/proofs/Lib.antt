@@ -11,3 +11,4 @@ pub mod Finals
 pub mod Undoing
 pub mod Lacking
 pub mod Behind
+pub mod Judging

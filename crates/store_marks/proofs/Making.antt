@@ -446,9 +446,11 @@ module _ {D : Type 0} (told : D → Told) (laws : MarkLaws) (old : Parts D) (pag
       }
 
   pub moves : (h : Hit) (hs : List Hit) → drop (suc marking.next) marking.hits.items ≡ h ∷ hs → MakesItsStep told old new n (hands.Marks marking) (stepped.Moved points.Mark (hands.Marks marking_then))
-  moves h hs one_more names hands_ is tells before after p shown =
-      (place_then (Some (hands.Marks marking_then)) names hands_ is tells p shown (Some (at_then names hands_ is tells p shown h hs one_more)),
-      shown_moved names hands_ is tells p shown h hs one_more, steps_moved names hands_ is tells p shown h hs one_more)
+  moves h hs one_more names hands_ is tells before after p shown = (
+    place_then (Some (hands.Marks marking_then)) names hands_ is tells p shown (Some (at_then names hands_ is tells p shown h hs one_more)),
+    shown_moved names hands_ is tells p shown h hs one_more,
+    steps_moved names hands_ is tells p shown h hs one_more,
+  )
 
   pub replies_so : drop (suc marking.next) marking.hits.items ≡ [] → MakesItsStep told old new n (hands.Marks marking) (stepped.Done (replies.Deleted (marking.next + 1)))
   replies_so no_more names hands_ is tells before after p shown =

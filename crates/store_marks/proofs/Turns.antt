@@ -27,8 +27,12 @@ left_at scan (id ∷ ids) = Marks scan (id ∷ ids)
 -- nothing changes but what statements are at
 only_at : (n : ℕ) (w v : TableState) (task : Task) → OnlyTurns w v → OnlyTurns w (at_task n v task)
 only_at n w v task only = record {
-  rows = record { layout = record { indexes = only.rows.layout.indexes; rows_per_page = only.rows.layout.rows_per_page; heap_limit = only.rows.layout.heap_limit };
-    blocks = only.rows.blocks; row = only.rows.row; counts = only.rows.counts };
+  rows = record {
+    layout = record { indexes = only.rows.layout.indexes; rows_per_page = only.rows.layout.rows_per_page; heap_limit = only.rows.layout.heap_limit };
+    blocks = only.rows.blocks;
+    row = only.rows.row;
+    counts = only.rows.counts;
+  };
   indexes = record { index = only.indexes.index };
   summarise_lock = only.summarise_lock;
 }
@@ -84,7 +88,7 @@ pub mark_turns : (p : Place) (n : ℕ) (query : Query) (v : TableState) (scan : 
     → OnlyTurns (p.tables query.table) v → ((m : ℕ) → v.task m ≡ (p.tables query.table).task m) → IsMarkTurn p n query (at_task n v (left_at scan rest))
 mark_turns p n query v scan id rest queue was only same =
     let made = machine_turns p n query.table (statements.Delete query) (p.tables query.table) (at_task n v (Marks scan rest)) (at_task n v (left_at scan rest)) points.Mark (λ account. account)
-        refl queue delete_only refl (marks_at n (p.tables query.table) v scan id rest was only same) not_prune (settles n v scan rest) (inl (λ resting. not_resting (sym was ∙ resting))) in
+    refl queue delete_only refl (marks_at n (p.tables query.table) v scan id rest was only same) not_prune (settles n v scan rest) (inl (λ resting. not_resting (sym was ∙ resting))) in
     (made.0, made.1)
   where
     delete_only : statements.Delete query ≢ statements.Work

@@ -14,9 +14,9 @@ ghost use Rattle.snapshot_core.specs.declared.statuses.Status.{Status as AnyStat
 ghost use Rattle.transactions.specs.TransactionsState.{OfOpen};
 ghost use Rattle.store_marks.specs.HitConflicts.{HitConflicts};
 
-use heap_rows::deleter_of;
 use disk_trait::Disk;
 use engine_pages::PageStore;
+use heap_rows::deleter_of;
 use page_store::StoreError;
 use snapshot_core::Status;
 use store_parts::Hit;

@@ -5,7 +5,7 @@
 #![tactic(auto)]
 
 mod conflicts;
+mod laws;
 mod marks;
-mod needs;
 
 pub use marks::mark;

@@ -13,12 +13,10 @@ ghost use Rattle.store_parts.specs.StepAnswers.{HasCause};
 ghost use Rattle.store_parts.specs.Stepping.{IsFit, IsShown, LeavesTheOthers, MakesItsStep, StaysFit, StaysUndone};
 
 use crate::conflicts::hit_conflicts;
-use crate::needs::laws_of_transactions;
+use crate::laws::laws_of_transactions;
 use block_model::{Point, Query, Refusal, Reply, Request, Tag};
 use disk_trait::Disk;
-use store_parts::{
-    Hand, Hit, Journal, Marking, Parts, Stepped, fault_of, spent,
-};
+use store_parts::{Hand, Hit, Journal, Marking, Parts, Stepped, fault_of, spent};
 
 /// Marks the next row of the delete, and goes on where one is left; else it replies how many are marked. At a conflict the session's transaction
 /// fails, and that is replied. Where it isn't done nothing is changed.
@@ -45,7 +43,13 @@ pub fn mark<D: Disk + Drop>(parts: &mut Parts<D>, session: u32, marking: Marking
         return no_room(parts, session, marking);
     }
     let hit = next_hit(&marking);
-    match hit_conflicts(&mut parts.pages, &parts.transactions, session, marking.query.table, hit) {
+    match hit_conflicts(
+        &mut parts.pages,
+        &parts.transactions,
+        session,
+        marking.query.table,
+        hit,
+    ) {
         Ok(true) => refuse(parts, session, marking),
         Ok(false) => mark_hit(parts, session, marking),
         Err(error) => Stepped::Undone {

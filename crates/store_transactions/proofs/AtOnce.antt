@@ -1,13 +1,12 @@
 -- A request of a transaction that touches no table, as a step of its session.
-use Rattle.std.proofs.Common.{◌≡◌, ◌≢◌, ℕ, ◌+◌, ◌<◌, ◌≤◌, Bool, List, [], ◌∷◌, ◌++◌, length, length-append, Option, None, Some, refl, sym, ap, ◌∙◌, subst, arith}
+use Rattle.std.proofs.Common.{◌≡◌, ◌≢◌, ℕ, ◌+◌, ◌<◌, ◌≤◌, Bool, List, [], ◌∷◌, ◌++◌, length, Option, None, Some, refl, sym, ap, ◌∙◌, subst, arith}
 use Rattle.std.specs.FinMap as finite
 use Rattle.std.proofs.lemmas.Option.{none-some}
 use Rattle.block_model.specs.declared.place.Place.{Place as PagePlace}
 use Rattle.block_model.specs.declared.reply.Reply.{Reply}
 use Rattle.block_model.specs.declared.request.Entry.{Entry}
-use Rattle.block_model.specs.declared.request.Request.{Request}
 use Rattle.block_model.specs.DatabaseState.{DatabaseState}
-use Rattle.block_model.specs.RequestEffect.{Answer, IsLegalRequest, after_request, effect, reply_to}
+use Rattle.block_model.specs.RequestEffect.{Answer, IsLegalRequest, after_request, reply_to}
 use Rattle.block_model.specs.SerialRun.{IsLegal, serial_run}
 use Rattle.disk_trait.specs.Told.{Told}
 use Rattle.store_layout.specs.DiskLayout.{DiskLayout}
@@ -18,10 +17,8 @@ use Rattle.page_store.specs.Keeps.{Leaves, Tells}
 use Rattle.page_store.specs.PageMap.{page_at}
 use Rattle.snapshot_core.specs.declared.statuses.Status.{Status}
 use Rattle.statements.specs.declared.limits.TheConstants.{MAX_ENTRIES}
-use Rattle.statements.specs.declared.statement.Statement.{Statement}
 use Rattle.statements.specs.HeapRoom.{full_table}
-use Rattle.statements.specs.StatementRequests.{reply_to_statement, request_entry}
-use Rattle.row_versions.specs.declared.sessions.Open.{Open}
+use Rattle.statements.specs.StatementRequests.{reply_to_statement}
 use Rattle.row_versions.specs.StoredVersions.{transaction_of}
 use Rattle.tx_table.specs.Statuses.{HasStatuses, status_relation}
 use Rattle.tx_table.specs.TxState.{IsOver}
@@ -31,21 +28,19 @@ use Rattle.index_contents.specs.IndexContents.{index_page, relation_of as index_
 use Rattle.table_coverage.specs.Accounts.{Account}
 use Rattle.line_texts.specs.Place.{Hand as HandAt, Place, database_at}
 use Rattle.line_texts.specs.Requests.{Course, Enters, MakesAll, NoneLeft, OneMore, entered, next_request}
-use Rattle.line_texts.specs.StatementSteps.{Ended, IsAtOnce, Steps, StepsTo, course_of}
+use Rattle.line_texts.specs.StatementSteps.{Ended, IsAtOnce, StepsTo, course_of}
 use Rattle.store_parts.specs.declared.hand.Hand.{Hand}
 use Rattle.store_parts.specs.declared.hand.Stepped.TheVariants as stepped
 use Rattle.store_parts.specs.declared.parts.Parts.{Parts}
 use Rattle.store_parts.specs.HandFits.{locks_held}
 use Rattle.store_parts.specs.Hands.{AnswersAre, HandShows, statement_of}
 use Rattle.store_parts.specs.HandsInTables.{table_in}
-use Rattle.store_parts.specs.JournalState.{JournalState}
 use Rattle.store_parts.specs.Leaving.{CountsFew, LeadsTo, LeavesOthers, SeeAlike, StepsAtOnce}
 use Rattle.store_parts.specs.PlaceLaws.{StepAtOnceIsShown}
 use Rattle.store_parts.specs.PlacesAfter.{place_at_once}
 use Rattle.store_parts.specs.RequestLaws.{OneMoreIsLegal, OneMoreIsRun, OthersCopiesStay}
 use Rattle.store_parts.specs.Shares.{share_of}
-use Rattle.store_parts.specs.ShowsPlace.{IsPlaceOf, ShowsPlace}
-use Rattle.store_parts.specs.StepIs.{LeadsOn, StepIs}
+use Rattle.store_parts.specs.ShowsPlace.{IsPlaceOf}
 use Rattle.store_parts.specs.StepLaws.{IsOneRequest}
 use Rattle.store_parts.specs.Stepping.{IsFit, LeavesTheOthers, MakesItsStep, StaysFit}
 use Rattle.store_parts.specs.StoreLaws.{HandChanges, HasHand}
@@ -81,7 +76,7 @@ abbrev pub shown_parts : {D : Type 0} → Parts D → ShownStore
 shown_parts parts = shown_of (store_of parts [] [])
 
 -- on any disk: what the step leaves of the parts
-pub record Leaves_ {D : Type 0} (told : D → Told) (old new : Parts D) (n : ℕ) (hand : Hand) : Type 0 where
+pub record LeavesParts {D : Type 0} (told : D → Told) (old new : Parts D) (n : ℕ) (hand : Hand) : Type 0 where
   pub fits : IsFit told old n hand
   pub ready : old.pages.failed ≡ None
   pub still : new.pages.failed ≡ None
@@ -97,7 +92,7 @@ pub record Leaves_ {D : Type 0} (told : D → Told) (old new : Parts D) (n : ℕ
 less_share : (new old was now : ℕ) → new + was ≡ old + now → was ≤ old → now ≤ new
 less_share new old was now is within = omega arith
 
-module _ {D : Type 0} (told : D → Told) (changes : HandChanges) (old new : Parts D) (n : ℕ) (hand : Hand) (left : Leaves_ told old new n hand) where
+module _ {D : Type 0} (told : D → Told) (changes : HandChanges) (old new : Parts D) (n : ℕ) (hand : Hand) (left : LeavesParts told old new n hand) where
   was : FitsParts told old n (Some hand)
   was = fit_of_parts told old n hand left.fits
 
@@ -256,16 +251,15 @@ module _ {D : Type 0} (told : D → Told) (laws : Laws) (old new : Parts D) (n :
       let longer : new.journal.entries ≡ p.journal ++ e ∷ [] = now.entries ∙ ap (λ (l : List Entry). l ++ e ∷ []) (sym shown.journal) in
       let run : serial_run p.opening new.journal.entries ≡ after_request d e = ap (serial_run p.opening) longer ∙ laws.run p.opening p.journal e in
       let database : ShowsDatabase old.pages.layout new.pages.pages new.transactions (serial_run p.opening new.journal.entries) =
-          subst (ShowsDatabase old.pages.layout new.pages.pages new.transactions) (sym (run ∙ ap (λ (r : DatabaseState × Answer). r.0) does.1)) does.2 in
+      subst (ShowsDatabase old.pages.layout new.pages.pages new.transactions) (sym (run ∙ ap (λ (r : DatabaseState × Answer). r.0) does.1)) does.2 in
       let legal : IsLegal p.opening new.journal.entries = subst (IsLegal p.opening) (sym longer) (laws.legal p.opening p.journal e shown.legal (now.legal d shown.database)) in
       let only : IsOnly n hand e answer reply p.layout = now.only p.layout in
       let copies : (m : ℕ) → m ≢ n → finite.get (serial_run p.opening new.journal.entries).sessions m ≡ finite.get d.sessions m =
-          λ m apart. ap (λ (s : DatabaseState). finite.get s.sessions m) run ∙ laws.copies d e m (λ same. apart (same ∙ only.own)) in
+      λ m apart. ap (λ (s : DatabaseState). finite.get s.sessions m) run ∙ laws.copies d e m (λ same. apart (same ∙ only.own)) in
       let restates : Restates old new n shown.database.stored = now.restates tells d shown.database in
       let shows : HandShows (Some hand) (p.hands n) (p.accounts n) = subst (λ (h : Option Hand). HandShows h (p.hands n) (p.accounts n)) is (shown.hands n) in
       let answered : reply_to d e ≡ answer = ap (λ (r : DatabaseState × Answer). r.1) does.1 in
-      let may : IsAtOnce p (statement_of hand) = now.may p shown.database shown.layout in
-      (
+      let may : IsAtOnce p (statement_of hand) = now.may p shown.database shown.layout in (
         place_at_once p n (counts_of new.transactions restates.later) new.journal.entries,
         shown_then laws old new n hand (now.stays tells) now.in_none names hands is p shown restates database legal copies,
         record {

@@ -1,5 +1,5 @@
 -- The begin of a transaction as a step of its session.
-use Rattle.std.proofs.Common.{◌≡◌, ◌≢◌, ◌⊎◌, inl, inr, ℕ, ◌+◌, ◌*◌, ◌<◌, ◌≤◌, ◌==◌, Bool, true, false, ◌||◌, List, [], ◌∷◌, ◌++◌, length, length-append, set, Option, None, Some, refl, sym, ap, ◌∙◌, subst, arith}
+use Rattle.std.proofs.Common.{◌≡◌, ◌≢◌, ◌⊎◌, inl, inr, ℕ, ◌+◌, ◌<◌, ◌≤◌, ◌==◌, Bool, true, false, ◌||◌, List, [], ◌∷◌, ◌++◌, length, length-append, set, Option, None, Some, refl, sym, ap, ◌∙◌, subst, arith}
 use Rattle.std.specs.Prelude.{IsTrue, codes}
 use Rattle.std.specs.Global.{Vec}
 use Rattle.std.specs.FinMap as finite
@@ -7,24 +7,20 @@ use Rattle.std.proofs.lemmas.List.{get_or-set_other, get_or-set_same}
 use Rattle.std.proofs.lemmas.Bool.{eqb-true, true≢false}
 use Rattle.std.proofs.lemmas.Option.{none-some}
 use Rattle.block_model.specs.declared.reply.Refusal.TheVariants as refusals
-use Rattle.block_model.specs.declared.reply.Reply.{Reply}
 use Rattle.block_model.specs.declared.reply.Reply.TheVariants as replies
 use Rattle.block_model.specs.declared.request.Entry.{Entry}
 use Rattle.block_model.specs.declared.request.Request.TheVariants as requests
 use Rattle.block_model.specs.DatabaseState.{DatabaseState, OpenTransaction}
-use Rattle.block_model.specs.RequestEffect.{Answer, Begun, IsLegalRequest, effect_at, effect_is, reply_to}
+use Rattle.block_model.specs.RequestEffect.{Answer, Begun, effect_at, effect_is, reply_to}
 use Rattle.block_model.specs.SerialRun.{IsLegal, serial_run}
 use Rattle.disk_trait.specs.Told.{Told}
 use Rattle.store_layout.specs.DiskLayout.{DiskLayout}
-use Rattle.page_layout.specs.declared.format.TheConstants.{STATUS_ENTRIES}
-use Rattle.page_store.specs.Keeps.{Leaves, Tells}
+use Rattle.page_store.specs.Keeps.{Tells}
 use Rattle.page_store.specs.PageMap.{View, page_at}
-use Rattle.snapshot_core.specs.declared.statuses.Status.{Status}
 use Rattle.snapshot_core.specs.declared.statuses.Status.TheVariants as status
-use Rattle.snapshot_core.specs.Visibility.{had_ended, is_committed}
+use Rattle.snapshot_core.specs.Visibility.{is_committed}
 use Rattle.statements.specs.declared.limits.TheConstants.{MAX_ENTRIES, MAX_SESSIONS}
 use Rattle.statements.specs.StatementRequests.{request_entry}
-use Rattle.row_versions.specs.declared.sessions.Open.{Open}
 use Rattle.row_versions.specs.StoredVersions.{transaction_of}
 use Rattle.tx_table.specs.LeavesRest.{LeavesRest}
 use Rattle.tx_table.specs.TxState.{IsOver}
@@ -34,28 +30,27 @@ use Rattle.transactions.specs.Laws.{BeginCounts, BeginIsUnseen, RowIsOfTransacti
 use Rattle.transactions.specs.ShowsDatabase.{DoesRequest, OfDatabase, ShowsDatabase}
 use Rattle.transactions.specs.TransactionsState.{TransactionsState, next_open, with_begun}
 use Rattle.brin_scan.specs.Finds.{stands_by}
-use Rattle.line_texts.specs.Place.{Hand as HandAt, Place, database_at}
+use Rattle.line_texts.specs.Place.{Place, database_at}
 use Rattle.line_texts.specs.StatementSteps as steps
 use Rattle.line_texts.specs.StatementSteps.{Ended, IsAtOnce, LacksRoom, StepsTo, numbers_of}
 use Rattle.store_parts.specs.declared.hand.Hand.{Hand}
 use Rattle.store_parts.specs.declared.hand.Hand.TheVariants as hands
 use Rattle.store_parts.specs.declared.hand.Stepped.TheVariants as stepped
 use Rattle.store_parts.specs.declared.parts.Parts.{Parts}
-use Rattle.store_parts.specs.Hands.{HandShows, statement_of}
-use Rattle.store_parts.specs.HandsInTables.{sight_of, table_in}
+use Rattle.store_parts.specs.Hands.{HandShows}
 use Rattle.store_parts.specs.PlacesAfter.{place_at_once}
 use Rattle.store_parts.specs.RequestLaws.{BeginIsLegal}
-use Rattle.store_parts.specs.Shares.{open_share, share_of}
-use Rattle.store_parts.specs.ShowsPlace.{IsPlaceOf, ShowsPlace}
+use Rattle.store_parts.specs.Shares.{open_share}
+use Rattle.store_parts.specs.ShowsPlace.{ShowsPlace}
 use Rattle.store_parts.specs.StepLaws.{LacksNumber}
 use Rattle.store_parts.specs.JournalState.{JournalState}
 use Rattle.store_parts.specs.Stepping.{IsFit, MakesItsStep}
-use Rattle.store_parts.specs.StoreStates.{hand_in, shown_of, store_of}
+use Rattle.store_parts.specs.StoreStates.{hand_in, store_of}
 use Rattle.store_parts.specs.UndoneLaws.{FitsParts, StepsSo}
 use Rattle.store_parts.proofs.Requests.{begin_is_legal}
 use Rattle.store_parts.proofs.Steps.{lacks_number as no_number}
 use Rattle.store_parts.proofs.Undone.{fit_of_parts}
-use Rattle.store_transactions.proofs.AtOnce.{DoesRequestNow, IsOnly, Laws, Leaves_, Restates, StaysBeside, done, makes_its_step, shown_parts, shown_then, the_laws}
+use Rattle.store_transactions.proofs.AtOnce.{DoesRequestNow, IsOnly, Laws, LeavesParts, Restates, StaysBeside, done, makes_its_step, shown_then, the_laws}
 use Rattle.store_transactions.proofs.Rooms.{lacks}
 
 -- ---- a begin is one request
@@ -116,11 +111,11 @@ module _ {D : Type 0} (told : D → Told) (with_laws : BeginLaws) (old new : Par
     few = λ u counts. elim (one_more (counts_of old.transactions shows.stored u) u old.transactions.tx.next
         (subst (λ (b : Bool). IsTrue b) (with_laws.counts old.pages.layout old.pages.pages old.transactions s shows.stored n u shows shows.has so.session so.idle so.some)
         (subst (λ (t : TransactionsState). IsTrue (counts_of t (set shows.stored old.transactions.tx.next status.Begun) u)) so.begun counts))) [
-      | inl counted ↦ inl counted
-      | inr is ↦ inr (λ table spot row below stands same.
-          let put : row.id.t < old.transactions.tx.next = (with_laws.rows old.pages.layout old.pages.pages old.transactions s shows.stored table spot row shows shows.has below stands).put in
-          omega (arith, put, same, is))
-    ];
+          | inl counted ↦ inl counted
+          | inr is ↦ inr (λ table spot row below stands same.
+              let put : row.id.t < old.transactions.tx.next = (with_laws.rows old.pages.layout old.pages.pages old.transactions s shows.stored table spot row shows shows.has below stands).put in
+              omega (arith, put, same, is))
+        ];
   }
 
   request : DoesRequestNow told old new n (hands.Begins numbers) (request_entry n 0 requests.Begin) (Begun t) (replies.Begun t)
@@ -145,7 +140,7 @@ module _ {D : Type 0} (told : D → Told) (with_laws : BeginLaws) (old new : Par
     restates = restates;
   }
 
-  pub begins : Leaves_ told old new n (hands.Begins numbers) → StepsSo told old new n (hands.Begins numbers) (stepped.Done (replies.Begun t))
+  pub begins : LeavesParts told old new n (hands.Begins numbers) → StepsSo told old new n (hands.Begins numbers) (stepped.Done (replies.Begun t))
   begins left = done told with_laws.laws.changes old new n (hands.Begins numbers) left (replies.Begun t) (makes_its_step told with_laws.laws old new n (hands.Begins numbers) _ _ _ request)
 
 -- ---- no number is left: nothing changes but what is promised
@@ -188,8 +183,7 @@ module _ {D : Type 0} (told : D → Told) (with_laws : BeginLaws) (old new : Par
       let shows : HandShows (Some (hands.Begins numbers)) (p.hands n) (p.accounts n) = subst (λ (h : Option Hand). HandShows h (p.hands n) (p.accounts n)) is (shown.hands n) in
       let next_is : (database_at p).next ≡ old.transactions.tx.next = (with_laws.sessions old.pages.layout old.pages.pages old.transactions (database_at p) shown.database).next in
       let all_given : (database_at p).next ≡ numbers_of p.layout = next_is ∙ spent ∙ ap numbers_of (sym shown.layout) in
-      let restates : Restates old new n shown.database.stored = same_statuses shown.database in
-      (
+      let restates : Restates old new n shown.database.stored = same_statuses shown.database in (
         place_at_once p n (counts_of new.transactions shown.database.stored) new.journal.entries,
         shown_then with_laws.laws old new n (hands.Begins numbers) beside (λ table there. none-some table there) names hands_ is p shown restates
             (subst (λ (view : View D). ShowsDatabase old.pages.layout view.pages new.transactions (serial_run p.opening new.journal.entries)) (sym so.pages)
@@ -208,7 +202,7 @@ module _ {D : Type 0} (told : D → Told) (with_laws : BeginLaws) (old new : Par
         },
       )
 
-  pub is_refused : Leaves_ told old new n (hands.Begins numbers) → StepsSo told old new n (hands.Begins numbers) (stepped.Done (replies.Refused (refusals.Full (codes "status") old.transactions.tx.next)))
+  pub is_refused : LeavesParts told old new n (hands.Begins numbers) → StepsSo told old new n (hands.Begins numbers) (stepped.Done (replies.Refused (refusals.Full (codes "status") old.transactions.tx.next)))
   is_refused left = done told with_laws.laws.changes old new n (hands.Begins numbers) left (replies.Refused (refusals.Full (codes "status") old.transactions.tx.next)) lacks_number
 
 -- ---- no room
@@ -222,8 +216,8 @@ module _ {D : Type 0} (with_laws : BeginLaws) (parts : Parts D) (n : ℕ) (numbe
   no_begin names hands_ p is shown =
       let has = with_laws.sessions parts.pages.layout parts.pages.pages parts.transactions (database_at p) shown.database in
       lacks with_laws.laws parts n (hands.Begins numbers) full names hands_ p is shown (request_entry n 0 requests.Begin) (Begun (database_at p).next) (replies.Begun (database_at p).next)
-          (begin_only n (database_at p).next numbers p.layout) (begin_answered (database_at p) (has.none n idle))
-          (steps.Begin (subst (λ (next : ℕ). next < numbers_of p.layout) (sym has.next) (subst (λ (layout : DiskLayout). parts.transactions.tx.next < numbers_of layout) (sym shown.layout) some))) refl
+      (begin_only n (database_at p).next numbers p.layout) (begin_answered (database_at p) (has.none n idle))
+      (steps.Begin (subst (λ (next : ℕ). next < numbers_of p.layout) (sym has.next) (subst (λ (layout : DiskLayout). parts.transactions.tx.next < numbers_of layout) (sym shown.layout) some))) refl
 
 -- ---- by what the calls ensure
 
@@ -250,7 +244,7 @@ module _ {D : Type 0} (told : D → Told) (laws : BeginLaws) (old : Parts D) (n 
       let new : Parts D = record old { pages = pages; transactions = tx; journal = j } in
       let more : length j.entries ≤ MAX_ENTRIES = omega (arith, room, ap length longer, length-append old.journal.entries (request_entry n 0 requests.Begin ∷ [])) in
       let now_open : transaction_of tx.opens n ≡ Some (next_open old.transactions) =
-          ap (λ (x : TransactionsState). transaction_of x.opens n) is ∙ get_or-set_same old.transactions.opens n (Some (next_open old.transactions)) None (omega (arith, was.session, places)) in
+      ap (λ (x : TransactionsState). transaction_of x.opens n) is ∙ get_or-set_same old.transactions.opens n (Some (next_open old.transactions)) None (omega (arith, was.session, places)) in
       let so : BeginsSo told old new n t = record {
         session = was.session;
         idle = idle;

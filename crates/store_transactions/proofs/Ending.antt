@@ -1,20 +1,18 @@
 -- The end of a transaction as a step of its session.
-use Rattle.std.proofs.Common.{◌≡◌, ◌≢◌, ◌⊎◌, inl, ℕ, zero, suc, ◌+◌, ◌<◌, ◌≤◌, Bool, true, false, not, ◌&&◌, List, [], ◌∷◌, ◌++◌, length, length-append, set, Option, None, Some, refl, sym, ap, ◌∙◌, subst, arith}
+use Rattle.std.proofs.Common.{◌≡◌, ◌≢◌, inl, ℕ, zero, suc, ◌+◌, ◌≤◌, Bool, true, false, not, ◌&&◌, List, [], ◌∷◌, ◌++◌, length, length-append, set, Option, None, Some, refl, sym, ap, ◌∙◌, subst, arith}
 use Rattle.std.specs.Prelude.{IsSome, IsTrue, if◌then◌else◌}
-use Rattle.std.specs.FinMap as finite
 use Rattle.std.proofs.lemmas.List.{get_or-set_other}
 use Rattle.std.proofs.lemmas.Bool.{true≢false}
 use Rattle.std.proofs.lemmas.Option.{none-some}
 use Rattle.block_model.specs.declared.reply.Reply.{Reply}
 use Rattle.block_model.specs.declared.reply.Reply.TheVariants as replies
 use Rattle.block_model.specs.declared.request.Entry.{Entry}
-use Rattle.block_model.specs.declared.request.Request.{Request}
 use Rattle.block_model.specs.declared.request.Request.TheVariants as requests
-use Rattle.block_model.specs.DatabaseState.{DatabaseState, OpenTransaction}
-use Rattle.block_model.specs.RequestEffect.{Answer, Committed, IsLegalRequest, RolledBack, effect}
+use Rattle.block_model.specs.DatabaseState.{DatabaseState}
+use Rattle.block_model.specs.RequestEffect.{Answer, Committed, IsLegalRequest, RolledBack}
 use Rattle.disk_trait.specs.Told.{Told}
 use Rattle.store_layout.specs.DiskLayout.{DiskLayout}
-use Rattle.page_store.specs.Keeps.{Leaves, Tells}
+use Rattle.page_store.specs.Keeps.{Tells}
 use Rattle.page_store.specs.PageMap.{View}
 use Rattle.tx_table.specs.TxState.{IsOver}
 use Rattle.row_versions.specs.SessionChanges.{ended}
@@ -23,9 +21,8 @@ use Rattle.store_parts.specs.JournalState.{JournalState}
 use Rattle.store_parts.specs.Stepping.{IsFit}
 use Rattle.store_parts.proofs.Requests.{end_is_legal}
 use Rattle.snapshot_core.specs.declared.statuses.Status.{Status}
-use Rattle.snapshot_core.specs.Visibility.{had_ended, is_committed}
+use Rattle.snapshot_core.specs.Visibility.{is_committed}
 use Rattle.statements.specs.declared.limits.TheConstants.{MAX_ENTRIES}
-use Rattle.statements.specs.declared.statement.Statement.{Statement}
 use Rattle.statements.specs.StatementRequests.{request_entry}
 use Rattle.row_versions.specs.declared.sessions.Open.{Open}
 use Rattle.row_versions.specs.StoredVersions.{transaction_of}
@@ -36,8 +33,7 @@ use Rattle.transactions.specs.Laws.{CommitCounts, EndIsUnseen, RollbackCounts, S
 use Rattle.transactions.specs.ShowsDatabase.{DoesRequest, OfDatabase, ShowsDatabase}
 use Rattle.transactions.specs.TransactionsState.{OfOpen, TransactionsState, with_open}
 use Rattle.brin_scan.specs.Finds.{stands_by}
-use Rattle.brin_scan.specs.SeenRows.{SeesLater}
-use Rattle.line_texts.specs.Place.{Place, database_at}
+use Rattle.line_texts.specs.Place.{Place}
 use Rattle.line_texts.specs.StatementSteps as steps
 use Rattle.line_texts.specs.StatementSteps.{Ended, IsAtOnce, LacksRoom}
 use Rattle.store_parts.specs.declared.hand.Hand.{Hand}
@@ -46,12 +42,11 @@ use Rattle.store_parts.specs.declared.hand.Stepped.TheVariants as stepped
 use Rattle.store_parts.specs.declared.parts.Parts.{Parts}
 use Rattle.store_parts.specs.HandFits.{locks_held}
 use Rattle.store_parts.specs.Hands.{statement_of}
-use Rattle.store_parts.specs.HandsInTables.{sight_of, table_in}
-use Rattle.store_parts.specs.Leaving.{CountsFew, SeeAlike}
+use Rattle.store_parts.specs.HandsInTables.{table_in}
 use Rattle.store_parts.specs.RequestLaws.{EndIsLegal}
 use Rattle.store_parts.specs.Shares.{hand_share, open_share, share_of}
 use Rattle.store_parts.specs.UndoneLaws.{StepsSo}
-use Rattle.store_transactions.proofs.AtOnce.{the_laws, DoesRequestNow, IsOnly, Laws, Leaves_, Restates, StaysBeside, done, makes_its_step, shown_parts}
+use Rattle.store_transactions.proofs.AtOnce.{the_laws, DoesRequestNow, IsOnly, Laws, LeavesParts, Restates, StaysBeside, done, makes_its_step}
 
 -- ---- the session has none then, and the others theirs
 
@@ -155,7 +150,7 @@ module _ {D : Type 0} (told : D → Told) (with_laws : EndLaws) (old new : Parts
     restates = restates;
   }
 
-  pub ends : Leaves_ told old new n hand → StepsSo told old new n hand (stepped.Done reply)
+  pub ends : LeavesParts told old new n hand → StepsSo told old new n hand (stepped.Done reply)
   ends left = done told with_laws.laws.changes old new n hand left reply (makes_its_step told with_laws.laws old new n hand e answer reply request)
 
 -- ---- a commit and a rollback, by what they ensure
@@ -198,7 +193,7 @@ module _ {D : Type 0} (told : D → Told) (laws : TransactionLaws) (old : Parts 
     promised = (λ i. j.promised + (no_share i + open_share (so.opened i))) ∙ end_promised j.promised mid.promised old.journal.promised unneeded (open_share (Some so.own)) released entered (shared so.own so.opened)
         ∙ (λ i. old.journal.promised + (0 + open_share (sym (none_now told with_laws old new n hand e answer reply so) i)))
 
-    left : Leaves_ told old new n hand
+    left : LeavesParts told old new n hand
     left = record {
       fits = fits;
       ready = ready;

@@ -1,5 +1,5 @@
 -- A begin, a commit and a rollback for whose request the journal has no room.
-use Rattle.std.proofs.Common.{◌≡◌, ◌≢◌, ℕ, ◌+◌, ◌<◌, ◌≤◌, Bool, true, false, not, List, [], ◌∷◌, ◌++◌, length, length-append, Option, None, Some, refl, sym, ap, ◌∙◌, subst, arith}
+use Rattle.std.proofs.Common.{◌≡◌, ◌≢◌, ℕ, ◌<◌, ◌≤◌, Bool, true, false, not, List, [], ◌∷◌, ◌++◌, length, length-append, Option, Some, refl, sym, ap, ◌∙◌, subst, arith}
 use Rattle.std.specs.Prelude.{IsSome, if◌then◌else◌}
 use Rattle.std.specs.FinMap as finite
 use Rattle.std.proofs.lemmas.Bool.{true≢false}
@@ -9,17 +9,11 @@ use Rattle.block_model.specs.declared.reply.Reply.TheVariants as replies
 use Rattle.block_model.specs.declared.request.Entry.{Entry}
 use Rattle.block_model.specs.declared.request.Request.TheVariants as requests
 use Rattle.block_model.specs.DatabaseState.{DatabaseState, OpenTransaction}
-use Rattle.block_model.specs.RequestEffect.{Answer, Begun, Committed, RolledBack, effect_at, effect_is, reply_to}
-use Rattle.disk_trait.specs.Told.{Told}
-use Rattle.page_store.specs.Keeps.{Tells}
+use Rattle.block_model.specs.RequestEffect.{Answer, Committed, RolledBack, effect_at, effect_is, reply_to}
 use Rattle.statements.specs.declared.limits.TheConstants.{MAX_ENTRIES}
 use Rattle.statements.specs.StatementRequests.{request_entry}
-use Rattle.row_versions.specs.declared.sessions.Open.{Open}
 use Rattle.row_versions.specs.StoredVersions.{transaction_of}
-use Rattle.store_layout.specs.DiskLayout.{DiskLayout}
-use Rattle.tx_table.specs.Statuses.{number_limit}
 use Rattle.transactions.specs.Laws.{SessionsAreShown}
-use Rattle.transactions.specs.ShowsDatabase.{ShowsDatabase}
 use Rattle.line_texts.specs.Place.{Place, database_at}
 use Rattle.line_texts.specs.StatementSteps as steps
 use Rattle.line_texts.specs.StatementSteps.{Ended, IsAtOnce, LacksRoom, Moved, Outcome, Waits}
@@ -28,8 +22,8 @@ use Rattle.store_parts.specs.declared.hand.Hand.TheVariants as hands
 use Rattle.store_parts.specs.declared.parts.Parts.{Parts}
 use Rattle.store_parts.specs.Hands.{HandShows, statement_of}
 use Rattle.store_parts.specs.PlacesAfter.{place_at_once}
-use Rattle.store_parts.specs.ShowsPlace.{IsPlaceOf, ShowsPlace}
-use Rattle.store_parts.specs.StoreStates.{hand_in, shown_of, store_of}
+use Rattle.store_parts.specs.ShowsPlace.{ShowsPlace}
+use Rattle.store_parts.specs.StoreStates.{hand_in, store_of}
 use Rattle.store_transactions.proofs.AtOnce.{IsOnly, Laws, in_hand, is_step}
 use Rattle.store_transactions.proofs.Ending.{commit_only, rollback_only, some_open}
 
@@ -80,7 +74,7 @@ module _ {D : Type 0} (laws : Laws) (sessions : SessionsAreShown) (parts : Parts
       let own = some_open (transaction_of parts.transactions.opens n) is_open in
       let found = (sessions parts.pages.layout parts.pages.pages parts.transactions (database_at p) shown.database).shown n own.0 own.1 in
       lacks laws parts n hands.Commits full names hands_ p is shown (request_entry n 0 requests.Commit) _ _ (commit_only n (not found.0.failed) p.layout)
-          (commit_answered (database_at p) found.0 found.1) steps.Commit (commit_fine (not found.0.failed))
+      (commit_answered (database_at p) found.0 found.1) steps.Commit (commit_fine (not found.0.failed))
 
   rollback_answered : (s : DatabaseState) (x : OpenTransaction) → finite.get s.sessions n ≡ Some x → reply_to s (request_entry n 0 requests.Rollback) ≡ RolledBack
   rollback_answered s x got = ap (λ (r : DatabaseState × Answer). r.1) (effect_is s (request_entry n 0 requests.Rollback) ∙ ap (λ (o : Option OpenTransaction). effect_at o s (request_entry n 0 requests.Rollback)) got)
@@ -90,4 +84,4 @@ module _ {D : Type 0} (laws : Laws) (sessions : SessionsAreShown) (parts : Parts
       let own = some_open (transaction_of parts.transactions.opens n) is_open in
       let found = (sessions parts.pages.layout parts.pages.pages parts.transactions (database_at p) shown.database).shown n own.0 own.1 in
       lacks laws parts n hands.RollsBack full names hands_ p is shown (request_entry n 0 requests.Rollback) RolledBack replies.RolledBack (rollback_only n p.layout)
-          (rollback_answered (database_at p) found.0 found.1) steps.Rollback refl
+      (rollback_answered (database_at p) found.0 found.1) steps.Rollback refl

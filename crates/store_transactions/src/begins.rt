@@ -6,7 +6,7 @@ ghost use Rattle.tx_table.specs.Statuses.{number_limit};
 ghost use Rattle.store_parts.specs.StepAnswers.{HasCause};
 ghost use Rattle.store_parts.specs.Stepping.{IsFit, IsShown, LeavesTheOthers, MakesItsStep, StaysFit, StaysUndone};
 
-use crate::needs::laws_of_transactions;
+use crate::laws::laws_of_transactions;
 use block_model::{Name, Refusal, Reply, Request, Tag};
 use disk_trait::Disk;
 use page_layout::STATUS_ENTRIES;

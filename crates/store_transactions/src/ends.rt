@@ -8,7 +8,7 @@ ghost use Rattle.store_parts.specs.Shares.{open_share};
 ghost use Rattle.store_parts.specs.StepAnswers.{HasCause};
 ghost use Rattle.store_parts.specs.Stepping.{IsFit, IsShown, LeavesTheOthers, MakesItsStep, StaysFit, StaysUndone};
 
-use crate::needs::laws_of_transactions;
+use crate::laws::laws_of_transactions;
 use block_model::{Reply, Request, Tag};
 use disk_trait::Disk;
 use row_versions::Standing;

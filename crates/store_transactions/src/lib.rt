@@ -5,7 +5,7 @@
 
 mod begins;
 mod ends;
-mod needs;
+mod laws;
 
 pub use begins::begin;
 pub use ends::{commit, roll_back};

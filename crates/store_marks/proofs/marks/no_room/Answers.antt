@@ -7,5 +7,5 @@ pub returns : goal.returns
 returns g c =
     let laws = c.laws_of_transactions.ensures in
     let r = no_room_for g.D.Disk.told c.args.parts.now c.args.session (hands.Marks c.args.marking) c.spent.result c.requires.fit c.requires.ready c.spent.ensures
-        (lacks g.D.Disk.told laws.sessions laws.copies c.args.parts.now c.args.session c.args.marking c.requires.fit c.requires.full) in
+    (lacks g.D.Disk.told laws.sessions laws.copies c.args.parts.now c.args.session c.args.marking c.requires.fit c.requires.full) in
     record { steps = r.steps; fit = r.fit; others = r.others; stays = r.stays; cause = r.cause }

@@ -8,5 +8,5 @@ use Rattle.store_transactions.proofs.ends.no_commit.Goals as goal
 pub returns : goal.returns
 returns g c =
     let r = no_room_for g.D.Disk.told c.args.parts.now c.args.session hands.Commits c.spent.result c.requires.fit c.requires.ready c.spent.ensures
-        (no_commit the_laws c.laws_of_transactions.ensures.sessions c.args.parts.now c.args.session c.requires.full (fit_of_parts g.D.Disk.told c.args.parts.now c.args.session hands.Commits c.requires.fit).in_hand) in
+    (no_commit the_laws c.laws_of_transactions.ensures.sessions c.args.parts.now c.args.session c.requires.full (fit_of_parts g.D.Disk.told c.args.parts.now c.args.session hands.Commits c.requires.fit).in_hand) in
     record { steps = r.steps; fit = r.fit; others = r.others; stays = r.stays; cause = r.cause }

@@ -1,4 +1,4 @@
-//! Laws of transactions, until they are proved.
+//! What a begin and the end of a transaction rest on.
 
 ghost use Rattle.transactions.specs.Laws.{BeginCounts, BeginIsUnseen, CommitCounts, EndIsUnseen, RollbackCounts, RowIsOfTransactions, SessionsAreShown};
 
@@ -6,7 +6,7 @@ use transactions::{
     a_row_is_of_transactions, a_session_has_its_transaction, others_see_alike, which_rows_count,
 };
 
-/// The laws of transactions. Does nothing.
+/// Does nothing; tells its caller which database transactions show, whose rows count, and what others see.
 pub(crate) fn laws_of_transactions()
     ensures sessions { SessionsAreShown }
     ensures begin_unseen { BeginIsUnseen }

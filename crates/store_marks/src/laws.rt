@@ -1,4 +1,4 @@
-//! Laws of transactions, until they are proved.
+//! What a mark rests on.
 
 ghost use Rattle.transactions.specs.Laws.{ConflictIsShown, CopyStands, FailureCounts, MarkIsShown, MarkIsUnseen, SessionsAreShown};
 
@@ -7,7 +7,7 @@ use transactions::{
     a_session_has_its_transaction, others_see_alike, which_rows_count,
 };
 
-/// The laws of transactions. Does nothing.
+/// Does nothing; tells its caller which database transactions show, what a mark is there, and what others see of it.
 pub(crate) fn laws_of_transactions()
     ensures sessions { SessionsAreShown }
     ensures copies { CopyStands }
